@@ -1,0 +1,6 @@
+pub mod Written
+pub mod Traced
+pub mod Kept
+pub mod Answering
+pub mod Feeding
+pub mod Endings

@@ -1,0 +1,19 @@
+use Rattle.std.proofs.Common.{◌≡◌, ◌++◌, ◌∷◌, [], sym, ◌∙◌}
+use Rattle.run_rules.proofs.Cutting.{lines_with, lines_without, wholes_are}
+use Rattle.run_rules.specs.Readings.{sent_lines}
+use Rattle.grbl_app.proofs.reading.answer_last.Goals as goal
+
+pub returns-in-Failed : goal.returns-in-Failed
+returns-in-Failed g c = λ was text is. rw (c.in-Failed.is, wholes_are text is.lines is.open_line is.cuts) is.has_answered
+
+pub returns-in-Large : goal.returns-in-Large
+returns-in-Large g c = λ was text is. rw (c.in-Large.is, wholes_are text is.lines is.open_line is.cuts) is.has_answered
+
+pub returns-then-not-line : goal.returns-then-not-line
+returns-then-not-line g c = λ was text is.
+    rw (c.in-Ended.is, lines_without text is.lines is.open_line is.cuts (sym is.line_is.begun ∙ c.if-not-line.true)) is.has_answered
+
+pub returns : goal.returns
+returns g c = λ was text is.
+    rw (c.in-Ended.is, lines_with text is.lines is.open_line is.cuts (sym is.line_is.begun ∙ c.if-not-line.false))
+        (c.answer.ensures.answered was is.lines is.open_line is.has_answered is.line_is)

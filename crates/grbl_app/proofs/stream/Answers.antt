@@ -1,0 +1,38 @@
+use Rattle.std.proofs.Common.{◌≡◌, ◌∙◌, ℕ, Bool, [], ap}
+use Rattle.run_rules.specs.declared.Reading.{Reading}
+use Rattle.grbl_app.specs.declared.status.Status.{Status}
+use Rattle.run_rules.proofs.Cutting.{cut_none}
+use Rattle.grbl_app.specs.Ends.{first_cause}
+use Rattle.grbl_app.proofs.Answering.{greeted}
+use Rattle.grbl_app.proofs.Endings.{has_causes}
+use Rattle.grbl_app.proofs.stream.Goals as goal
+
+status_of : (steps_failed console_failed : Bool) (reading : Reading) (errors counted : ℕ) (status : Status) → status ≡ first_cause steps_failed console_failed reading errors → errors ≡ counted
+    → status ≡ first_cause steps_failed console_failed reading counted
+status_of steps_failed console_failed reading errors counted status is e = is ∙ ap (first_cause steps_failed console_failed reading) e
+
+pub returns-clause-run : goal.returns-clause-run
+returns-clause-run g c =
+    let begun = greeted _ _ _ c.new-engine.result c.greet.new.self c.new-engine.ensures.state c.new-engine.ensures.errors c.new-engine.ensures.console c.new-engine.ensures.steps c.greet.ensures.banner c.greet.ensures.same in
+    let i = c.read_job-reading.ensures.fed _ (record { lines = []; open_line = []; cuts = cut_none; has_answered = begun; line_is = c.new-line.ensures }) in
+    let end = c.finish.ensures _ _ i.4 in
+    record {
+      read = i.0;
+      reading = c.read_job-reading.result;
+      answers = end.answers;
+      events = end.events;
+      last = c.finish.new.engine.state;
+      console_failed = c.finish.new.engine.console.failed;
+      steps_failed = c.finish.new.engine.steps.failed;
+      taken = i.1;
+      fits = i.2;
+      at_end = i.3;
+      source = c.read_job-reading.ensures.cause;
+      answered = end.answered;
+      console = end.console;
+      steps = end.steps;
+      status_is = status_of _ _ _ _ _ _ c.first_cause.ensures end.errors;
+    }
+
+pub returns-clause-causes : goal.returns-clause-causes
+returns-clause-causes g c = has_causes _ _ _ _ _ (returns-clause-run g c)

@@ -1,0 +1,132 @@
+-- What a line of words does, on lines of the first form.
+use Rattle.std.specs.Prelude.{◌≡◌, ℕ, ◌+◌, ◌≤◌, ◌<◌, IfSome, IsTrue, Bool, true, false, cond, not, ◌&&◌, ◌||◌, List, [], ◌∷◌, ◌==◌, nat_eq, nat_le, nat_lt, length, ℤ, pos, negsuc, int_le, int_lt, nat_abs, Some, None, Ok, Err, is_some}
+use Rattle.std.specs.List.{list_all, count_by, find}
+use Rattle.std.specs.declared.option.Option.{Option}
+use Rattle.std.specs.declared.result.Result.{Result}
+use Rattle.units.specs.declared.Nm3.{Nm3}
+use Rattle.units.specs.declared.Steps3.{Steps3}
+use Rattle.units.specs.declared.Move.{Move}
+use Rattle.units.specs.Steps.{steps}
+use Rattle.gcode_words.specs.declared.Word.{Word}
+use Rattle.gcode_words.specs.declared.WordFault.{WordFault}
+use Rattle.gcode_words.specs.Words.{words_of}
+use Rattle.run_rules.specs.declared.State.{State}
+use Rattle.run_rules.specs.declared.MotionMode.{MotionMode}
+use Rattle.run_rules.specs.declared.MotionMode.TheVariants.{G0, G1}
+use Rattle.run_rules.specs.declared.Verdict.{Verdict}
+use Rattle.run_rules.specs.declared.Verdict.TheVariants.{Accept, Refuse}
+use Rattle.run_rules.specs.Lines.{plain}
+use Rattle.step_line.specs.Counting.{IsShort}
+
+-- the word of a letter
+abbrev pub named : ℕ → List Word → Option Word
+named letter ws = find (λ w. nat_eq w.letter letter) ws
+
+-- F, G, X, Y or Z
+abbrev pub may_stand : ℕ → Bool
+may_stand c = nat_eq c 70 || nat_eq c 71 || nat_eq c 88 || nat_eq c 89 || nat_eq c 90
+
+abbrev pub at_most_once : ℕ → List Word → Bool
+at_most_once letter ws = nat_le (count_by (λ w. nat_eq w.letter letter) ws) 1
+
+-- the value of a letter, or else another
+abbrev pub value_or : ℤ → Option Word → ℤ
+value_or d None = d
+value_or d (Some w) = w.value.micro
+
+abbrev pub in_reach : ℤ → Bool
+in_reach z = nat_le (nat_abs z) 10000000000
+
+abbrev pub is_g0_or_g1 : ℤ → Bool
+is_g0_or_g1 (pos n) = nat_eq n 0 || nat_eq n 1000000
+is_g0_or_g1 (negsuc n) = false
+
+unfoldable pub letters_stand_once : List Word → Bool
+letters_stand_once ws = at_most_once 70 ws && at_most_once 71 ws && at_most_once 88 ws && at_most_once 89 ws && at_most_once 90 ws
+
+unfoldable pub axes_in_reach : List Word → Bool
+axes_in_reach ws = in_reach (value_or (pos 0) (named 88 ws)) && in_reach (value_or (pos 0) (named 89 ws)) && in_reach (value_or (pos 0) (named 90 ws))
+
+pub record AxesReach (ws : List Word) : Type 0 where
+  pub x : IsTrue (in_reach (value_or (pos 0) (named 88 ws)))
+  pub y : IsTrue (in_reach (value_or (pos 0) (named 89 ws)))
+  pub z : IsTrue (in_reach (value_or (pos 0) (named 90 ws)))
+
+-- what the words of a line say
+unfoldable pub is_first_form : List Word → Bool
+is_first_form ws =
+    list_all (λ w. may_stand w.letter) ws && letters_stand_once ws
+    && is_g0_or_g1 (value_or (pos 0) (named 71 ws))
+    && int_le (pos 0) (value_or (pos 0) (named 70 ws))
+    && axes_in_reach ws
+
+abbrev pub has_axis : List Word → Bool
+has_axis ws = is_some (named 88 ws) || is_some (named 89 ws) || is_some (named 90 ws)
+
+abbrev pub is_zero : ℤ → Bool
+is_zero (pos n) = nat_eq n 0
+is_zero (negsuc n) = false
+
+-- G1 where the word says 1, else G0
+abbrev pub motion_of : ℤ → MotionMode
+motion_of (pos n) = cond (nat_eq n 1000000) G1 G0
+motion_of (negsuc n) = G0
+
+abbrev pub motion_after : State → Option Word → MotionMode
+motion_after s None = s.motion
+motion_after s (Some w) = motion_of w.value.micro
+
+abbrev pub is_g1 : MotionMode → Bool
+is_g1 G0 = false
+is_g1 G1 = true
+
+abbrev pub target : State → List Word → Nm3
+target s ws = record { x = value_or s.pos_nm.x (named 88 ws); y = value_or s.pos_nm.y (named 89 ws); z = value_or s.pos_nm.z (named 90 ws) }
+
+abbrev pub in_steps : Nm3 → Steps3
+in_steps p = record { x = steps p.x 250000; y = steps p.y 250000; z = steps p.z 250000 }
+
+-- the state that an accepted line leaves
+unfoldable pub after_line : State → List Word → State
+after_line s ws = record {
+  motion = motion_after s (named 71 ws);
+  feed = value_or s.feed (named 70 ws);
+  pos_nm = target s ws;
+  pos_steps = cond (has_axis ws) (in_steps (target s ws)) s.pos_steps;
+}
+
+unfoldable pub moves_of : State → List Word → Option Move
+moves_of s ws = cond (has_axis ws) (Some (record { from = s.pos_steps; to = in_steps (target s ws) })) None
+
+-- a line that wants a feed and has none
+unfoldable pub wants_feed : State → List Word → Bool
+wants_feed s ws = (is_some (named 71 ws) || has_axis ws) && is_g1 (after_line s ws).motion && is_zero (after_line s ws).feed
+
+abbrev pub by_words : State → Result (List Word) WordFault → Verdict
+by_words s (Err e) = Refuse 20
+by_words s (Ok ws) = cond (is_first_form ws) (cond (wants_feed s ws) (Refuse 22) (Accept (after_line s ws) (moves_of s ws))) (Refuse 20)
+
+-- the verdict on a line's kept bytes
+unfoldable pub verdict_on : State → List ℕ → Verdict
+verdict_on s kept = cond (nat_lt 79 (length kept)) (Refuse 11) (cond (nat_eq (length kept) 0) (Accept s None) (by_words s (words_of kept)))
+
+abbrev pub verdict : State → List ℕ → Verdict
+verdict s line = verdict_on s (plain line)
+
+abbrev pub zero3 : Steps3
+zero3 = record { x = pos 0; y = pos 0; z = pos 0 }
+
+abbrev pub opening : State
+opening = record { motion = G0; feed = pos 0; pos_nm = record { x = pos 0; y = pos 0; z = pos 0 }; pos_steps = zero3 }
+
+pub record IsState (s : State) : Type 0 where
+  pub nm_x : nat_abs s.pos_nm.x ≤ 10000000000
+  pub nm_y : nat_abs s.pos_nm.y ≤ 10000000000
+  pub nm_z : nat_abs s.pos_nm.z ≤ 10000000000
+  pub steps_x : nat_abs s.pos_steps.x ≤ 100000000
+  pub steps_y : nat_abs s.pos_steps.y ≤ 100000000
+  pub steps_z : nat_abs s.pos_steps.z ≤ 100000000
+
+abbrev pub IsGood : Verdict → Type 0
+IsGood (Refuse n) = n < 256
+IsGood (Accept next mv) = IsState next × IfSome mv IsShort

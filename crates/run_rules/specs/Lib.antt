@@ -1,0 +1,4 @@
+pub mod Lines
+pub mod FirstForm
+pub mod Runs
+pub mod Readings
