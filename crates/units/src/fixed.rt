@@ -1,0 +1,52 @@
+//! Numbers as texts with three decimals.
+
+ghost use Rattle.std.specs.Prelude.{◌≡◌, ◌+◌, ◌≤◌, ◌++◌, length};
+ghost use Rattle.arrayvec.specs.ArrayVec.{array_vec_len};
+ghost use Rattle.units.specs.Fixed.{fixed3, minus_sign, three_digits};
+
+use crate::Text;
+use itoa::Buffer;
+
+/// A minus exactly where a number is negative.
+fn minus_sign(v: i64) -> &'static [u8]
+    ensures sign { result.now ≡ minus_sign v }
+    ensures short { length result.now ≤ 1 }
+{
+    if v < 0 { b"-" } else { b"" }
+}
+
+/// The last three digits of a number.
+fn three_digits(n: u64) -> [u8; 3]
+    ensures { result ≡ three_digits n }
+{
+    [
+        b'0' + (n / 100 % 10) as u8,
+        b'0' + (n / 10 % 10) as u8,
+        b'0' + (n % 10) as u8,
+    ]
+}
+
+/// Appends a text for which there is room.
+fn append(out: &mut Text, text: &[u8])
+    requires { array_vec_len out.old + length text.now ≤ 192 }
+    ensures items { out.new.items ≡ out.old.items ++ text.now }
+    ensures len { array_vec_len out.new ≡ array_vec_len out.old + length text.now }
+{
+    let _ = out.try_extend_from_slice(text);
+}
+
+/// Appends thousandths with three decimals, behind a minus sign exactly where they are negative.
+/// 24 bytes must be free.
+#[tactic(auto, using(crate::proofs::Short::whole_short, crate::proofs::Short::fixed_short), unfolding(crate::specs::Fixed::fixed3))]
+pub fn put_fixed3(v: i64, out: &mut Text)
+    requires { array_vec_len out.old + 24 ≤ 192 }
+    ensures text { out.new.items ≡ out.old.items ++ fixed3 v }
+    ensures short { length (fixed3 v) ≤ 21 }
+{
+    let magnitude = v.unsigned_abs();
+    append(out, minus_sign(v));
+    let mut buffer = Buffer::new();
+    append(out, buffer.format(magnitude / 1000).as_bytes());
+    out.push(b'.');
+    append(out, &three_digits(magnitude));
+}
