@@ -1,0 +1,26 @@
+//! What holds of the events of every move.
+
+ghost use Rattle.std.specs.Prelude.{◌≡◌, ℕ, ◌+◌, ◌<◌, ◌++◌, ◌≤◌, length, slice_get, Some};
+ghost use Rattle.units.specs.declared.Move.{Move};
+ghost use Rattle.units.specs.Lengths.{IsPlace, IsMove};
+ghost use Rattle.step_line.specs.Counting.{events_of};
+ghost use Rattle.step_line.specs.Events.{event_of, events_after, line_events, IsEvent};
+ghost use Rattle.step_line.specs.Places.{place_after, stepped_by};
+
+/// A move's events are as many as its longest axis has steps, each steps some axis, and they may be taken
+/// one by one or in parts.
+pub fn events_in_order()
+    ensures all { (m : Move) → length (line_events m) ≡ events_of m }
+    ensures one { (m : Move) (k : ℕ) → k < events_of m → slice_get (line_events m) k ≡ Some (event_of m (k + 1)) }
+    ensures parts { (m : Move) (k i j : ℕ) → events_after m k (i + j) ≡ events_after m k i ++ events_after m (k + i) j }
+    ensures step { (m : Move) (k : ℕ) → k < events_of m → IsEvent (event_of m (k + 1)) }
+{}
+
+/// A move begins at its start, after all its events it is at its end, and between two moments it goes by
+/// the sum of the events between them. It stays among the places that coordinates name.
+pub fn places_are_sums()
+    ensures start { (m : Move) → place_after m 0 ≡ m.from }
+    ensures end { (m : Move) → place_after m (events_of m) ≡ m.to }
+    ensures sums { (m : Move) (k n : ℕ) → place_after m (k + n) ≡ stepped_by (place_after m k) (events_after m k n) }
+    ensures within { (m : Move) (k : ℕ) → IsMove m → k ≤ events_of m → IsPlace (place_after m k) }
+{}
