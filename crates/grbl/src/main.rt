@@ -1,26 +1,34 @@
-//! The Grbl interpreter: a job from standard input, replies to standard output, steps to `steps.out`.
+//! The Grbl interpreter: a job from standard input, replies to standard output, step events to `steps.out`.
 #![tactic(auto)]
 
-use grbl_app::{Status, run_grbl};
+use grbl_app::{Status, put_fault, run_grbl};
 use outside::{Failed, OpenGate, ReadSource, Sink, WriteSink};
 use std::env;
 use std::fs::{self, File};
 use std::io::{self, Write};
 use std::process::ExitCode;
+use units::Text;
 
-/// The file of the steps, where it could be made. It tells no content.
+/// The file `steps.out`, made at the first write. It tells no content, and where it could not be made each
+/// write fails.
 #[derive(Drop)]
-struct StepsFile {
+struct StepsFile<'a> {
+    rt: &'a HostRuntime,
     file: Option<File>,
+    begun: bool,
     faults: u64,
 }
 
-impl Sink for StepsFile {
+impl Sink for StepsFile<'_> {
     ghost use Rattle.std.specs.Prelude.{None};
 
     ghost state = { λ s. record { held = None; faults = s.faults } };
 
     fn write(&mut self, piece: &[u8]) -> Result<usize, Failed> {
+        if !self.begun {
+            self.begun = true;
+            self.file = fs::create(self.rt, "steps.out").ok();
+        }
         if let Some(file) = &mut self.file {
             if let Ok(count) = file.write(piece) {
                 if count > 0 || piece.is_empty() {
@@ -50,10 +58,11 @@ fn exit_number(status: &Status) -> u8 {
     }
 }
 
-fn main(rt: HostRuntime) -> io::Result<ExitCode> {
+/// Runs the words that the program was called with.
+fn run(rt: &HostRuntime) -> io::Result<Status> {
     let alloc = rt.alloc();
     let mut owned = Vec::new(alloc);
-    for word in env::args(&rt)?.skip(1) {
+    for word in env::args(rt)?.skip(1) {
         owned.push(word)?;
     }
     let mut words = Vec::new(alloc);
@@ -63,17 +72,27 @@ fn main(rt: HostRuntime) -> io::Result<ExitCode> {
     let mut job = ReadSource::new(rt.stdin());
     let mut console = WriteSink::new(rt.stdout());
     let mut steps = StepsFile {
-        file: fs::create(&rt, "steps.out").ok(),
+        rt,
+        file: None,
+        begun: false,
         faults: 0,
     };
-    let status = run_grbl(
-        &rt,
+    Ok(run_grbl(
+        rt,
         alloc,
         words.as_slice(),
         &mut job,
         &mut console,
         &mut steps,
         &OpenGate,
-    );
-    Ok(ExitCode::from(exit_number(&status)))
+    ))
+}
+
+fn main(rt: HostRuntime) -> ExitCode {
+    // Words that could not be read are wrong words.
+    let status = run(&rt).unwrap_or(Status::Usage);
+    let mut text = Text::new();
+    put_fault(&status, &mut text);
+    let _ = rt.stderr().write_all(text.as_slice());
+    ExitCode::from(exit_number(&status))
 }

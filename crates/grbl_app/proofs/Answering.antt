@@ -50,12 +50,12 @@ answers_more was before now old new lines line v a is ve may good se ee console 
 pub greeted : (old new steps : SinkState) (fresh engine : Engine) → fresh.state ≡ opening → fresh.errors ≡ 0 → IsEmpty fresh.console → IsEmpty fresh.steps
     → WritesOn old fresh.console new engine.console banner → (engine.state ≡ fresh.state) × (engine.errors ≡ fresh.errors) × (engine.steps ≡ fresh.steps)
     → HasAnswered (record { console = old; steps = steps }) (record { console = new; steps = steps }) engine []
-greeted old new steps fresh engine se ee console steps_are banner same = record {
+greeted old new steps fresh engine se ee console steps_are greets same = record {
   answers = [];
   events = [];
   answered = (refl, same.0 ∙ se);
-  good = rw (same.0, se) (record { nm_x = lit≤ tt; nm_y = lit≤ tt; nm_z = lit≤ tt; steps_x = lit≤ tt; steps_y = lit≤ tt; steps_z = lit≤ tt });
+  good = rw (same.0, se) (record { nm_x = lit≤ tt; nm_y = lit≤ tt; nm_z = lit≤ tt; steps = record { x = lit≤ tt; y = lit≤ tt; z = lit≤ tt } });
   errors = same.1 ∙ ee;
-  console = banner.on old [] (wrote_nothing old fresh.console console.well console.nothing);
+  console = greets.on old [] (wrote_nothing old fresh.console console.well console.nothing);
   steps = rw same.2 (wrote_nothing steps fresh.steps steps_are.well steps_are.nothing);
 }

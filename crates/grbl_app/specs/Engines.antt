@@ -2,7 +2,9 @@
 use Rattle.std.specs.Prelude.{◌≡◌, ℕ, ◌≤◌, ◌<◌, Bool, List, [], ◌∷◌, ◌++◌, take, length, nat_lt}
 use Rattle.outside.specs.Causes.{SinkState}
 use Rattle.step_line.specs.declared.Bits.{Bits}
-use Rattle.run_rules.specs.Lines.{plain, CutsInto}
+use Rattle.gcode_words.specs.Comments.{comment_after}
+use Rattle.gcode_words.specs.Stripping.{plain}
+use Rattle.run_rules.specs.Lines.{CutsInto}
 use Rattle.run_rules.specs.FirstForm.{opening, IsState}
 use Rattle.run_rules.specs.Runs.{Answered, console_text, events_text, errors_in}
 use Rattle.run_rules.specs.declared.Answer.{Answer}
@@ -12,6 +14,7 @@ use Rattle.grbl_app.specs.declared.engine.Engine.{Engine}
 
 -- what has come of a line
 pub record IsOpen (line : OpenLine) (bytes : List ℕ) : Type 0 where
+  pub stripper : line.stripper ≡ comment_after bytes
   pub kept : line.kept.items ≡ take 79 (plain bytes)
   pub over : line.over ≡ nat_lt 79 (length (plain bytes))
   pub begun : line.begun ≡ nat_lt 0 (length bytes)

@@ -17,7 +17,7 @@ use engine::Engine;
 use open_line::OpenLine;
 use outside::{Gate, Sink, Source};
 use reading::{finish, read_job};
-pub use status::Status;
+pub use status::{Status, put_fault};
 use status::first_cause;
 use std::alloc::Global;
 use std::sync::Wait;

@@ -2,8 +2,9 @@
 
 ghost use Rattle.std.specs.Prelude.{◌≡◌, ℕ, ◌+◌, ◌≤◌, ◌++◌, [], length, false, IfSome};
 ghost use Rattle.arrayvec.specs.ArrayVec.{array_vec_len};
-ghost use Rattle.step_line.specs.Counting.{IsShort};
-ghost use Rattle.run_rules.specs.Runs.{answer_text, axis_text, event_text, events_text, move_events, events_of_move};
+ghost use Rattle.units.specs.Lengths.{IsMove};
+ghost use Rattle.step_line.specs.Events.{line_events};
+ghost use Rattle.run_rules.specs.Runs.{answer_text, axis_text, event_text, events_text, events_of_move};
 ghost use Rattle.grbl_app.specs.Writing.{Took, WritesOn};
 
 use arrayvec::ArrayVec;
@@ -149,8 +150,8 @@ impl Output {
 
     /// Writes the events of a move.
     pub(crate) fn put_events<S: Sink>(&mut self, sink: &mut S, mv: Move)
-        requires { IsShort mv }
-        ensures { WritesOn (S.state sink.old) self.old (S.state sink.new) self.new (events_text (move_events mv)) }
+        requires { IsMove mv }
+        ensures { WritesOn (S.state sink.old) self.old (S.state sink.new) self.new (events_text (line_events mv)) }
     {
         let mut tracer = Tracer::new(mv);
         while let Some(bits) = tracer.next() {
@@ -161,7 +162,7 @@ impl Output {
 
     /// Writes the events of a line's move, if it has one.
     pub(crate) fn put_move<S: Sink>(&mut self, sink: &mut S, mv: Option<Move>)
-        requires { IfSome mv IsShort }
+        requires { IfSome mv IsMove }
         ensures { WritesOn (S.state sink.old) self.old (S.state sink.new) self.new (events_text (events_of_move mv)) }
     {
         if let Some(mv) = mv {

@@ -1,10 +1,14 @@
 //! How a run ends, in numbers and in words.
 
-ghost use Rattle.std.specs.Prelude.{◌≡◌};
+ghost use Rattle.std.specs.Prelude.{◌≡◌, ◌≤◌, ◌+◌, ◌++◌, length, codes, decimal};
+ghost use Rattle.arrayvec.specs.ArrayVec.{array_vec_len};
 ghost use Rattle.grbl_app.specs.Ends.{first_cause, by_errors};
+ghost use Rattle.grbl_app.specs.Faults.{fault_text};
 
 use crate::engine::Engine;
+use itoa::Buffer;
 use run_rules::Reading;
+use units::Text;
 
 /// How a run ended. Where several hold, the first of `Usage`, `OutOfMemory`, `StepsFault`, `ConsoleFault`,
 /// `SourceFault`, `TooLarge`, `LongLine`, `Reset`, `Alarm` and `LineErrors` is told.
@@ -59,5 +63,51 @@ pub(crate) fn first_cause(engine: &Engine, reading: Reading) -> Status
         Reading::Failed => Status::SourceFault,
         Reading::Large => Status::TooLarge,
         Reading::Ended => by_errors(engine.errors),
+    }
+}
+
+/// Appends a short text for which there is room.
+fn append(text: &[u8], out: &mut Text)
+    requires { array_vec_len out.old + length text.now ≤ 192 }
+    ensures items { out.new.items ≡ out.old.items ++ text.now }
+    ensures len { array_vec_len out.new ≡ array_vec_len out.old + length text.now }
+{
+    match out.try_extend_from_slice(text) {
+        Ok(()) => {}
+        Err(_) => unreachable!(),
+    }
+}
+
+/// Puts a number between two short texts.
+fn put_numbered(before: &[u8], number: u32, behind: &[u8], out: &mut Text)
+    requires room { array_vec_len out.old + length before.now + length behind.now + 40 ≤ 192 }
+    ensures { out.new.items ≡ out.old.items ++ before.now ++ decimal number ++ behind.now }
+{
+    let mut buffer = Buffer::new();
+    append(before, out);
+    append(buffer.format(number).as_bytes(), out);
+    append(behind, out);
+}
+
+/// Puts what the program says of a status on standard error: nothing where all went well, else one line ended
+/// by LF.
+pub fn put_fault(s: &Status, out: &mut Text)
+    ensures { out.new.items ≡ fault_text s.now }
+{
+    out.clear();
+    match s {
+        Status::Done => {}
+        Status::LineErrors(count) => put_numbered(b"", *count, b" lines refused\n", out),
+        Status::Usage => append(b"usage: grbl stream [--lockstep SEED] | grbl demo N\n", out),
+        Status::SourceFault => append(b"fault: the job could not be read\n", out),
+        Status::ConsoleFault => append(b"fault: the console could not be written\n", out),
+        Status::StepsFault => append(b"fault: the steps could not be written\n", out),
+        Status::LongLine(line) => {
+            put_numbered(b"fault: line ", *line, b" is longer than 127 bytes\n", out)
+        }
+        Status::Reset => append(b"stopped: reset\n", out),
+        Status::Alarm(line) => put_numbered(b"stopped: soft limit at line ", *line, b"\n", out),
+        Status::TooLarge => append(b"fault: the job is larger than 16777216 bytes\n", out),
+        Status::OutOfMemory => append(b"fault: out of memory\n", out),
     }
 }

@@ -6,7 +6,7 @@ use Rattle.std.specs.declared.result.Result.{Result}
 use Rattle.units.specs.declared.Nm3.{Nm3}
 use Rattle.units.specs.declared.Steps3.{Steps3}
 use Rattle.units.specs.declared.Move.{Move}
-use Rattle.units.specs.Steps.{steps}
+use Rattle.units.specs.Lengths.{steps_of, IsInReach, IsPlace, IsMove}
 use Rattle.gcode_words.specs.declared.Word.{Word}
 use Rattle.gcode_words.specs.declared.WordFault.{WordFault}
 use Rattle.gcode_words.specs.Words.{words_of}
@@ -15,8 +15,7 @@ use Rattle.run_rules.specs.declared.MotionMode.{MotionMode}
 use Rattle.run_rules.specs.declared.MotionMode.TheVariants.{G0, G1}
 use Rattle.run_rules.specs.declared.Verdict.{Verdict}
 use Rattle.run_rules.specs.declared.Verdict.TheVariants.{Accept, Refuse}
-use Rattle.run_rules.specs.Lines.{plain}
-use Rattle.step_line.specs.Counting.{IsShort}
+use Rattle.gcode_words.specs.Stripping.{plain}
 
 -- the word of a letter
 abbrev pub named : ℕ → List Word → Option Word
@@ -84,7 +83,7 @@ abbrev pub target : State → List Word → Nm3
 target s ws = record { x = value_or s.pos_nm.x (named 88 ws); y = value_or s.pos_nm.y (named 89 ws); z = value_or s.pos_nm.z (named 90 ws) }
 
 abbrev pub in_steps : Nm3 → Steps3
-in_steps p = record { x = steps p.x 250000; y = steps p.y 250000; z = steps p.z 250000 }
+in_steps p = record { x = steps_of p.x 250000; y = steps_of p.y 250000; z = steps_of p.z 250000 }
 
 -- the state that an accepted line leaves
 unfoldable pub after_line : State → List Word → State
@@ -119,14 +118,13 @@ zero3 = record { x = pos 0; y = pos 0; z = pos 0 }
 abbrev pub opening : State
 opening = record { motion = G0; feed = pos 0; pos_nm = record { x = pos 0; y = pos 0; z = pos 0 }; pos_steps = zero3 }
 
+-- a position within 10,000 mm of zero on each axis
 pub record IsState (s : State) : Type 0 where
-  pub nm_x : nat_abs s.pos_nm.x ≤ 10000000000
-  pub nm_y : nat_abs s.pos_nm.y ≤ 10000000000
-  pub nm_z : nat_abs s.pos_nm.z ≤ 10000000000
-  pub steps_x : nat_abs s.pos_steps.x ≤ 100000000
-  pub steps_y : nat_abs s.pos_steps.y ≤ 100000000
-  pub steps_z : nat_abs s.pos_steps.z ≤ 100000000
+  pub nm_x : IsInReach s.pos_nm.x
+  pub nm_y : IsInReach s.pos_nm.y
+  pub nm_z : IsInReach s.pos_nm.z
+  pub steps : IsPlace s.pos_steps
 
 abbrev pub IsGood : Verdict → Type 0
 IsGood (Refuse n) = n < 256
-IsGood (Accept next mv) = IsState next × IfSome mv IsShort
+IsGood (Accept next mv) = IsState next × IfSome mv IsMove

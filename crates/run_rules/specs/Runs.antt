@@ -1,10 +1,10 @@
 -- A run of lines: what they are answered, what they trace, and the texts that say so.
-use Rattle.std.specs.Prelude.{◌≡◌, ℕ, ◌+◌, Bool, true, false, cond, List, [], ◌∷◌, ◌++◌, map, nat_eq, ℤ, pos, negsuc, codes, decimal, Some, None}
-use Rattle.std.specs.List.{flat_map, range_with_len, count_by}
+use Rattle.std.specs.Prelude.{◌≡◌, ℕ, ◌+◌, Bool, true, false, cond, List, [], ◌∷◌, ◌++◌, nat_eq, ℤ, pos, negsuc, codes, decimal, Some, None}
+use Rattle.std.specs.List.{flat_map, count_by}
 use Rattle.std.specs.declared.option.Option.{Option}
 use Rattle.units.specs.declared.Move.{Move}
 use Rattle.step_line.specs.declared.Bits.{Bits}
-use Rattle.step_line.specs.Counting.{events_of, bits_at}
+use Rattle.step_line.specs.Events.{line_events}
 use Rattle.run_rules.specs.declared.State.{State}
 use Rattle.run_rules.specs.declared.Verdict.{Verdict}
 use Rattle.run_rules.specs.declared.Verdict.TheVariants.{Accept, Refuse}
@@ -28,13 +28,9 @@ abbrev pub state_behind : State → Verdict → Answer → State
 state_behind s v Accepted = applied s v
 state_behind s v (Refused n) = s
 
--- the events of a move, in order, by the closed count
-unfoldable pub move_events : Move → List Bits
-move_events m = map (bits_at m) (range_with_len 1 (events_of m))
-
 abbrev pub events_of_move : Option Move → List Bits
 events_of_move None = []
-events_of_move (Some m) = move_events m
+events_of_move (Some m) = line_events m
 
 -- the step events of a line's move
 abbrev pub events_in : Verdict → List Bits
@@ -56,16 +52,12 @@ Answered s (l ∷ ls) (a ∷ others) events last =
 Answered s [] (a ∷ others) events last = ⊥
 Answered s (l ∷ ls) [] events last = ⊥
 
--- CR LF
-abbrev pub line_end : List ℕ
-line_end = 13 ∷ 10 ∷ []
-
 abbrev pub banner : List ℕ
-banner = line_end ++ codes "Grbl 1.1h ['$' for help]" ++ line_end
+banner = codes "\r\nGrbl 1.1h ['$' for help]\r\n"
 
 abbrev pub answer_text : Answer → List ℕ
-answer_text Accepted = codes "ok" ++ line_end
-answer_text (Refused n) = codes "error:" ++ decimal n ++ line_end
+answer_text Accepted = codes "ok\r\n"
+answer_text (Refused n) = codes "error:" ++ decimal n ++ codes "\r\n"
 
 -- the console's text: the banner, and an answer for each line
 abbrev pub console_text : List Answer → List ℕ

@@ -3,7 +3,7 @@
 
 ghost use Rattle.std.specs.Prelude.{◌≡◌, ℕ, ◌+◌, ◌≤◌, ◌<◌, length, nat_eq, nat_abs, nat_le, IsTrue, pos, Some, None, is_some, int_le, if◌then◌else◌, ◌&&◌, ◌||◌, IfSome, OnOk, MatchResult, Ok, Err};
 ghost use Rattle.std.specs.List.{count_by, list_all, find, All};
-ghost use Rattle.step_line.specs.Counting.{IsShort};
+ghost use Rattle.units.specs.Lengths.{IsMove, IsPlace, IsInReach};
 ghost use Rattle.std.specs.Prelude.{take, nat_lt};
 ghost use Rattle.std.specs.Prelude.{List, [], ◌∷◌, ◌++◌};
 ghost use Rattle.gcode_words.specs.Words.{words_of};
@@ -11,7 +11,6 @@ ghost use Rattle.step_line.specs.declared.Bits.{Bits};
 ghost use Rattle.run_rules.specs.declared.State.{State as LineState};
 ghost use Rattle.run_rules.specs.Runs.{Answered, MayAnswer, state_behind, events_behind};
 ghost use Rattle.run_rules.specs.Lines.{CutsInto, lines_of, whole_lines};
-ghost use Rattle.run_rules.specs.Lines.{plain};
 ghost use Rattle.run_rules.specs.declared.Verdict.TheVariants.{Refuse, Accept};
 ghost use Rattle.run_rules.specs.FirstForm.{
   is_first_form,
@@ -197,9 +196,9 @@ fn target_of(state: &State, words: &[Word]) -> Nm3
     requires state { IsState state.now }
     requires reach { AxesReach words.now }
     ensures target { result ≡ target state.now words.now }
-    ensures x { nat_abs result.x ≤ 10000000000 }
-    ensures y { nat_abs result.y ≤ 10000000000 }
-    ensures z { nat_abs result.z ≤ 10000000000 }
+    ensures x { IsInReach result.x }
+    ensures y { IsInReach result.y }
+    ensures z { IsInReach result.z }
 {
     let x = axis_target(words, b'X', state.pos_nm.x);
     let y = axis_target(words, b'Y', state.pos_nm.y);
@@ -209,13 +208,11 @@ fn target_of(state: &State, words: &[Word]) -> Nm3
 
 /// A place in steps.
 fn place_in_steps(place: &Nm3) -> Steps3
-    requires x { nat_abs place.now.x ≤ 10000000000 }
-    requires y { nat_abs place.now.y ≤ 10000000000 }
-    requires z { nat_abs place.now.z ≤ 10000000000 }
+    requires x { IsInReach place.now.x }
+    requires y { IsInReach place.now.y }
+    requires z { IsInReach place.now.z }
     ensures place { result ≡ in_steps place.now }
-    ensures x { nat_abs result.x ≤ 100000000 }
-    ensures y { nat_abs result.y ≤ 100000000 }
-    ensures z { nat_abs result.z ≤ 100000000 }
+    ensures near { IsPlace result }
 {
     Steps3 {
         x: to_steps(place.x, 250_000),
@@ -275,7 +272,7 @@ fn move_of(state: &State, words: &[Word]) -> Option<Move>
     requires state { IsState state.now }
     requires reach { AxesReach words.now }
     ensures mv { result ≡ moves_of state.now words.now }
-    ensures short { IfSome result IsShort }
+    ensures short { IfSome result IsMove }
 {
     if !names_axis(words) {
         return None;

@@ -1,5 +1,5 @@
 use Rattle.std.proofs.Common.{◌≡◌, ◌+◌, ◌≤◌, ◌<◌, [], ◌∷◌, ◌++◌, take, refl, ap, sym, ◌∙◌, arith, length, nat_lt, List, ℕ}
-use Rattle.run_rules.specs.Lines.{plain}
+use Rattle.gcode_words.specs.Stripping.{plain}
 use Rattle.run_rules.specs.FirstForm.{verdict_on, verdict}
 use Rattle.grbl_app.specs.Engines.{IsOpen}
 use Rattle.grbl_app.proofs.Kept.{kept_whole}

@@ -1,8 +1,7 @@
-use Rattle.std.proofs.Common.{◌≡◌, [], take, refl}
-use Rattle.run_rules.specs.Lines.{plain}
-use Rattle.grbl_app.specs.Engines.{IsOpen}
+use Rattle.std.proofs.Common.{refl}
+use Rattle.gcode_words.specs.Comments.{cut_within}
 use Rattle.grbl_app.proofs.open_line.OpenLine.clear.Goals as goal
 
 pub returns : goal.returns
-unfolding plain
-returns c = record { kept = c.clear.ensures; over = refl; begun = refl }
+unfolding cut_within
+returns c = record { stripper = c.new-self.ensures; kept = c.clear.ensures; over = refl; begun = refl }

@@ -1,13 +1,27 @@
-use Rattle.std.proofs.Common.{refl}
-use Rattle.grbl_app.proofs.Traced.{event_written, all_written}
+use Rattle.std.proofs.Common.{◌≡◌, ◌≢◌, ◌+◌, ◌<◌, ◌≤◌, ℕ, Some, None, refl, sym, ap, ◌∙◌, inl, inr, arith}
+use Rattle.std.proofs.lemmas.Bool.{cases_lt}
+use Rattle.step_line.specs.Counting.{events_of}
+use Rattle.step_line.specs.Events.{event_of}
+use Rattle.run_rules.specs.Runs.{event_text}
+use Rattle.grbl_app.proofs.Traced.{event_written, all_written, goes_on, is_over}
 use Rattle.grbl_app.proofs.Written.{room_then}
 use Rattle.grbl_app.proofs.output.Output.put_events.Goals as goal
 
 pub loop-bits-preserved : goal.loop-bits-preserved
 loop-bits-preserved g c =
+    let more = goes_on c.args.mv c.loop-bits.tracer c.in-Some.bits c.loop-bits.invariant.same c.in-Some.ensures.event c.in-Some.ensures.none in
+    let after = c.next.ensures.one_more more.0 in
     let written = room_then _ _ c.make_room.ensures.writes refl c.push_event.ensures in
-    let all = event_written c.args.mv c.loop-bits.tracer c.next.new.self c.in-Some.bits c.loop-bits.invariant.writes written c.in-Some.ensures.event c.next.ensures.after c.loop-bits.invariant.same in
-    record { same = all.0; some = all.1; writes = all.2 }
+    record {
+      same = ap (λ t. t.mv) after ∙ c.loop-bits.invariant.same;
+      writes = rw (ap (λ t. t.done) after) (event_written c.args.mv c.loop-bits.tracer.done c.loop-bits.invariant.writes (rw more.1 at written));
+    }
+
+pub loop-bits-smaller : goal.loop-bits-smaller
+loop-bits-smaller g c =
+    let more = goes_on c.args.mv c.loop-bits.tracer c.in-Some.bits c.loop-bits.invariant.same c.in-Some.ensures.event c.in-Some.ensures.none in
+    let after = c.next.ensures.one_more more.0 in
+    rw (ap (λ t. t.mv) after, ap (λ t. t.done) after) (omega (arith, more.0))
 
 pub returns : goal.returns
-returns g c = all_written c.args.mv c.loop-bits.tracer c.in_default.ensures.event c.loop-bits.invariant.same c.loop-bits.invariant.some c.loop-bits.invariant.writes
+returns g c = all_written c.args.mv c.loop-bits.tracer c.loop-bits.invariant.same (is_over c.loop-bits.tracer c.in_default.ensures.event) c.next.ensures.within c.loop-bits.invariant.writes
