@@ -46,7 +46,7 @@ take_over n xs ys few = ap (λ k. take k (xs ++ ys)) (omega arith) ∙ take-appe
 
 take_twice : (room count : ℕ) (b : List ℕ) → take room (take count b) ≡ take (min count room) b
 take_twice room count b = (elim (cases_lt room count) as (λ _. take room (take count b) ≡ take (min count room) b) [
-    inl h ↦ take-take room count b (omega arith) ∙ ap (λ n. take n b) (omega arith)
+  | inl h ↦ take-take room count b (omega arith) ∙ ap (λ n. take n b) (omega arith)
   | inr h ↦ take_all room (take count b) (omega (arith, length-take count b)) ∙ ap (λ n. take n b) (omega arith)
 ])
 

@@ -36,7 +36,7 @@ pub goes_on : (m : Move) (t : Trace) (b : Bits) → t.mv ≡ m
     → (t.done < events_of t.mv → Some b ≡ Some (event_of t.mv (t.done + 1))) → (events_of t.mv ≤ t.done → Some b ≡ None)
     → (t.done < events_of t.mv) × (b ≡ event_of m (t.done + 1))
 goes_on m t b same some none = elim (cases_lt t.done (events_of t.mv)) [
-    inl more ↦ (more, some_is b _ (some more) ∙ ap (λ x. event_of x (t.done + 1)) same)
+  | inl more ↦ (more, some_is b _ (some more) ∙ ap (λ x. event_of x (t.done + 1)) same)
   | inr over ↦ absurd (let e = none over in cc)
 ]
 

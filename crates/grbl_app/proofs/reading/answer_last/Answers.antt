@@ -16,4 +16,4 @@ returns-then-not-line g c = λ was text is.
 pub returns : goal.returns
 returns g c = λ was text is.
     rw (c.in-Ended.is, lines_with text is.lines is.open_line is.cuts (sym is.line_is.begun ∙ c.if-not-line.false))
-        (c.answer.ensures.answered was is.lines is.open_line is.has_answered is.line_is)
+    (c.answer.ensures.answered was is.lines is.open_line is.has_answered is.line_is)

@@ -23,9 +23,13 @@ pub returns-then-room-count-clause-fed : goal.returns-then-room-count-clause-fed
 returns-then-room-count-clause-fed g c = λ was is.
     let i = c.loop-count.invariant.fed was is in
     let got = take c.in-Ok.count c.read.new.buf in
-    let size : c.in-Ok.count ≡ length got = c.in-Ok.ensures.bound.1 in
-    (i.0 ++ got, Consumes-trans _ _ _ i.0 got i.1 c.in-Ok.ensures.bytes.0, omega (arith, length-append i.0 got, i.2, size, c.if-room-count.true),
-      (λ e. absurd cc), rw (piece_over i.0 c.read.new.buf c.loop-count.fed c.in-Ok.count c.min-part.result i.2 c.loop-count.invariant.most c.min-part.ensures) (c.feed_and_show.ensures.fed was (job_of i.0) i.3))
+    let size : c.in-Ok.count ≡ length got = c.in-Ok.ensures.bound.1 in (
+      i.0 ++ got,
+      Consumes-trans _ _ _ i.0 got i.1 c.in-Ok.ensures.bytes.0,
+      omega (arith, length-append i.0 got, i.2, size, c.if-room-count.true),
+      (λ e. absurd cc),
+      rw (piece_over i.0 c.read.new.buf c.loop-count.fed c.in-Ok.count c.min-part.result i.2 c.loop-count.invariant.most c.min-part.ensures) (c.feed_and_show.ensures.fed was (job_of i.0) i.3),
+    )
 
 pub loop-count-preserved : goal.loop-count-preserved
 loop-count-preserved g c =
@@ -37,7 +41,10 @@ loop-count-preserved g c =
       few = omega (arith, c.feed_and_show.ensures.few, length-take c.min-part.result c.read.new.buf, c.loop-count.invariant.few);
       later = omega (arith, c.in-Ok.ensures.cause.later, c.loop-count.invariant.later);
       fed = λ was is.
-          let i = c.loop-count.invariant.fed was is in
-          (i.0 ++ got, Consumes-trans _ _ _ i.0 got i.1 c.in-Ok.ensures.bytes.0, length-append i.0 got ∙ ap (λ n. n + length got) i.2 ∙ ap (λ n. c.loop-count.fed + n) (sym size),
-            rw (piece_over i.0 c.read.new.buf c.loop-count.fed c.in-Ok.count c.min-part.result i.2 c.loop-count.invariant.most c.min-part.ensures) (c.feed_and_show.ensures.fed was (job_of i.0) i.3));
+          let i = c.loop-count.invariant.fed was is in (
+            i.0 ++ got,
+            Consumes-trans _ _ _ i.0 got i.1 c.in-Ok.ensures.bytes.0,
+            length-append i.0 got ∙ ap (λ n. n + length got) i.2 ∙ ap (λ n. c.loop-count.fed + n) (sym size),
+            rw (piece_over i.0 c.read.new.buf c.loop-count.fed c.in-Ok.count c.min-part.result i.2 c.loop-count.invariant.most c.min-part.ensures) (c.feed_and_show.ensures.fed was (job_of i.0) i.3),
+          );
     }
