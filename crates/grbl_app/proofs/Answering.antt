@@ -1,17 +1,16 @@
 -- Lines answered one after another.
-use Rattle.std.proofs.Common.{◌≡◌, ℕ, ◌+◌, Bool, true, false, cond, List, [], ◌∷◌, ◌++◌, refl, sym, ap, ◌∙◌, arith, append-nil, append_assoc, lit≤}
-use Rattle.std.specs.List.{flat_map, count_by}
+use Rattle.std.proofs.Common.{◌≡◌, ℕ, ◌+◌, cond, List, [], ◌∷◌, ◌++◌, refl, sym, ap, ◌∙◌, append-nil, append_assoc, lit≤}
+use Rattle.std.specs.List.{flat_map}
 use Rattle.std.proofs.lemmas.Grind.{flat_map-append}
 use Rattle.std.proofs.lemmas.List.Sums.{sum_by-append}
 use Rattle.outside.specs.Causes.{SinkState}
-use Rattle.step_line.specs.declared.Bits.{Bits}
 use Rattle.run_rules.specs.declared.Answer.{Answer}
 use Rattle.run_rules.specs.declared.Answer.TheVariants.{Accepted, Refused}
 use Rattle.run_rules.specs.declared.Verdict.{Verdict}
 use Rattle.run_rules.specs.FirstForm.{verdict, opening, IsState}
-use Rattle.run_rules.specs.Runs.{Answered, MayAnswer, state_behind, events_behind, banner, answer_text, console_text, event_text, events_text, errors_in, is_error}
+use Rattle.run_rules.specs.Runs.{MayAnswer, state_behind, events_behind, banner, answer_text, console_text, event_text, events_text, errors_in, is_error}
 use Rattle.run_rules.proofs.Going.{goes_on}
-use Rattle.grbl_app.specs.Writing.{Wrote, WritesOn, IsEmpty}
+use Rattle.grbl_app.specs.Writing.{WritesOn, IsEmpty}
 use Rattle.grbl_app.specs.Engines.{Sinks, HasAnswered}
 use Rattle.grbl_app.proofs.Written.{wrote_nothing}
 use Rattle.grbl_app.specs.declared.engine.Engine.{Engine}

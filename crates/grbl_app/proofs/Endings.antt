@@ -1,22 +1,17 @@
 -- How a run ends, from what was read and written.
-use Rattle.std.proofs.Common.{◌≡◌, ◌≢◌, ℕ, zero, suc, ◌+◌, ◌≤◌, ◌<◌, Bool, true, false, cond, List, [], ◌∷◌, ◌++◌, length, refl, sym, ap, ◌∙◌, arith, append-nil, subst}
-use Rattle.std.specs.declared.option.Option.{Option}
-use Rattle.std.specs.Io.KnownBytes.{Appends, Consumes, IsAtEnd}
-use Rattle.outside.specs.Causes.{Rose, SourceState, SinkState}
-use Rattle.step_line.specs.declared.Bits.{Bits}
-use Rattle.run_rules.specs.declared.Answer.{Answer}
-use Rattle.run_rules.specs.declared.State.{State}
+use Rattle.std.proofs.Common.{◌≡◌, ◌≢◌, ℕ, zero, suc, ◌≤◌, Bool, true, false, List, length, refl, ap, ◌∙◌, append-nil, subst}
+use Rattle.std.specs.Io.KnownBytes.{Appends}
+use Rattle.outside.specs.Causes.{SourceState, SinkState}
 use Rattle.run_rules.specs.declared.Reading.{Reading}
 use Rattle.run_rules.specs.declared.Reading.TheVariants.{Ended, Failed, Large}
-use Rattle.run_rules.specs.FirstForm.{opening}
 use Rattle.run_rules.specs.Lines.{lines_of}
 use Rattle.run_rules.specs.Readings.{FitsReading, job_of, sent_lines}
-use Rattle.run_rules.specs.Runs.{Answered, console_text, steps_text, errors_in}
+use Rattle.run_rules.specs.Runs.{errors_in}
 use Rattle.grbl_app.specs.Writing.{Took}
 use Rattle.grbl_app.specs.Engines.{Sinks}
-use Rattle.grbl_app.specs.Ends.{IsRun, IsWholeRun, IsWhole, TookMore, HasCauses, first_cause, by_reading, by_errors}
+use Rattle.grbl_app.specs.Ends.{IsRun, HasCauses, first_cause, by_errors}
 use Rattle.grbl_app.specs.declared.status.Status.{Status}
-use Rattle.grbl_app.specs.declared.status.Status.TheVariants.{Done, LineErrors, Usage, SourceFault, ConsoleFault, StepsFault, LongLine, Reset, Alarm, TooLarge, OutOfMemory}
+use Rattle.grbl_app.specs.declared.status.Status.TheVariants.{Usage, SourceFault, ConsoleFault, StepsFault, TooLarge, OutOfMemory}
 use Rattle.grbl_app.proofs.Feeding.{whole_job}
 
 whole_text : (a b : SinkState) (failed : Bool) (text : List ℕ) → failed ≡ false → Took a b failed text → Appends a.held b.held text

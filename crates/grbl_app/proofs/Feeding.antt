@@ -1,15 +1,13 @@
 -- A job that is fed.
-use Rattle.std.proofs.Common.{◌≡◌, ℕ, ◌+◌, ◌-◌, ◌≤◌, ◌<◌, ◌⊎◌, inl, inr, min, List, [], ◌∷◌, ◌++◌, take, drop, length, refl, sym, ap, ◌∙◌, arith, append-nil, length-append}
+use Rattle.std.proofs.Common.{◌≡◌, ℕ, ◌-◌, ◌≤◌, inl, inr, min, List, [], ◌++◌, take, length, sym, ap, ◌∙◌, arith, append-nil}
 use Rattle.std.proofs.lemmas.List.{take_all, length-take, take-take}
 use Rattle.std.proofs.Math.Seq.{take-append-add}
 use Rattle.std.proofs.lemmas.Bool.{cases_lt}
-use Rattle.outside.specs.Causes.{SinkState}
 use Rattle.run_rules.specs.Readings.{job_of, largest_job}
 use Rattle.grbl_app.specs.Engines.{Sinks, HasAnswered, HasFed}
-use Rattle.grbl_app.specs.Writing.{Wrote, WritesOn}
+use Rattle.grbl_app.specs.Writing.{WritesOn}
 use Rattle.grbl_app.specs.declared.engine.Engine.{Engine}
 use Rattle.grbl_app.specs.declared.open_line.OpenLine.{OpenLine}
-use Rattle.grbl_app.specs.declared.output.Output.{Output}
 
 -- the answers that wait are shown
 pub shown : (was before now : Sinks) (old new : Engine) (lines : List (List ℕ)) → HasAnswered was before old lines

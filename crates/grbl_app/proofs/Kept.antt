@@ -1,5 +1,5 @@
 -- The kept bytes of a line, one more at a time.
-use Rattle.std.proofs.Common.{◌≡◌, ℕ, ◌≤◌, ◌<◌, true, false, List, [], ◌∷◌, ◌++◌, take, length, nat_lt, refl, sym, ap, ◌∙◌, arith, length-append, min}
+use Rattle.std.proofs.Common.{◌≡◌, ℕ, ◌≤◌, ◌<◌, true, false, List, [], ◌∷◌, ◌++◌, take, length, nat_lt, sym, ap, ◌∙◌, arith, length-append, min}
 use Rattle.std.proofs.lemmas.Bool.Decides.{nat_tests}
 use Rattle.std.proofs.lemmas.List.{take-append-le, take_all, length-take}
 

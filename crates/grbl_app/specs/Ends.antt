@@ -1,8 +1,7 @@
 -- How a run ends.
 use Rattle.std.specs.Prelude.{◌≡◌, ◌≢◌, ℕ, zero, suc, ◌≤◌, ◌<◌, Bool, cond, List, length}
-use Rattle.std.specs.declared.option.Option.{Option}
 use Rattle.std.specs.Io.KnownBytes.{Appends, Consumes, IsAtEnd}
-use Rattle.outside.specs.Causes.{Rose, SourceState, SinkState}
+use Rattle.outside.specs.Causes.{Rose, SourceState}
 use Rattle.step_line.specs.declared.Bits.{Bits}
 use Rattle.run_rules.specs.Lines.{lines_of}
 use Rattle.run_rules.specs.FirstForm.{opening}
@@ -13,7 +12,7 @@ use Rattle.grbl_app.specs.Writing.{Took}
 use Rattle.grbl_app.specs.Engines.{Sinks}
 use Rattle.grbl_app.specs.declared.engine.Engine.{Engine}
 use Rattle.grbl_app.specs.declared.status.Status.{Status}
-use Rattle.grbl_app.specs.declared.status.Status.TheVariants.{Done, LineErrors, Usage, SourceFault, ConsoleFault, StepsFault, LongLine, Reset, Alarm, TooLarge, OutOfMemory}
+use Rattle.grbl_app.specs.declared.status.Status.TheVariants.{Done, LineErrors, Usage, SourceFault, ConsoleFault, StepsFault, TooLarge, OutOfMemory}
 use Rattle.run_rules.specs.declared.Reading.{Reading}
 use Rattle.run_rules.specs.declared.Reading.TheVariants.{Ended, Failed, Large}
 use Rattle.run_rules.specs.Readings.{largest_job, FitsReading, job_of, sent_lines}

@@ -1,5 +1,5 @@
 -- What the engine holds, and the job that it stands for.
-use Rattle.std.specs.Prelude.{◌≡◌, ℕ, ◌≤◌, ◌<◌, Bool, List, [], ◌∷◌, ◌++◌, take, length, nat_lt}
+use Rattle.std.specs.Prelude.{◌≡◌, ℕ, List, take, length, nat_lt}
 use Rattle.outside.specs.Causes.{SinkState}
 use Rattle.step_line.specs.declared.Bits.{Bits}
 use Rattle.gcode_words.specs.Comments.{comment_after}

@@ -1,5 +1,5 @@
 -- What a line of words does, on lines of the first form.
-use Rattle.std.specs.Prelude.{◌≡◌, ℕ, ◌+◌, ◌≤◌, ◌<◌, IfSome, IsTrue, Bool, true, false, cond, not, ◌&&◌, ◌||◌, List, [], ◌∷◌, ◌==◌, nat_eq, nat_le, nat_lt, length, ℤ, pos, negsuc, int_le, int_lt, nat_abs, Some, None, Ok, Err, is_some}
+use Rattle.std.specs.Prelude.{ℕ, ◌<◌, IfSome, IsTrue, Bool, true, false, cond, ◌&&◌, ◌||◌, List, nat_eq, nat_le, nat_lt, length, ℤ, pos, negsuc, int_le, nat_abs, Some, None, Ok, Err, is_some}
 use Rattle.std.specs.List.{list_all, count_by, find}
 use Rattle.std.specs.declared.option.Option.{Option}
 use Rattle.std.specs.declared.result.Result.{Result}

@@ -1,5 +1,5 @@
 -- What was read of a job, and which of its lines are answered.
-use Rattle.std.specs.Prelude.{ℕ, ◌≤◌, ◌<◌, List, length, take}
+use Rattle.std.specs.Prelude.{ℕ, ◌≤◌, ◌<◌, List, take}
 use Rattle.run_rules.specs.Lines.{lines_of, whole_lines}
 use Rattle.run_rules.specs.declared.Reading.{Reading}
 use Rattle.run_rules.specs.declared.Reading.TheVariants.{Ended, Failed, Large}

@@ -1,5 +1,5 @@
 -- A run of lines: what they are answered, what they trace, and the texts that say so.
-use Rattle.std.specs.Prelude.{◌≡◌, ℕ, ◌+◌, Bool, true, false, cond, List, [], ◌∷◌, ◌++◌, nat_eq, ℤ, pos, negsuc, codes, decimal, Some, None}
+use Rattle.std.specs.Prelude.{◌≡◌, ℕ, Bool, true, false, cond, List, [], ◌∷◌, ◌++◌, nat_eq, ℤ, pos, negsuc, codes, decimal, Some, None}
 use Rattle.std.specs.List.{flat_map, count_by}
 use Rattle.std.specs.declared.option.Option.{Option}
 use Rattle.units.specs.declared.Move.{Move}
@@ -10,7 +10,7 @@ use Rattle.run_rules.specs.declared.Verdict.{Verdict}
 use Rattle.run_rules.specs.declared.Verdict.TheVariants.{Accept, Refuse}
 use Rattle.run_rules.specs.declared.Answer.{Answer}
 use Rattle.run_rules.specs.declared.Answer.TheVariants.{Accepted, Refused}
-use Rattle.run_rules.specs.FirstForm.{verdict, opening}
+use Rattle.run_rules.specs.FirstForm.{verdict}
 
 -- a line may be answered so: `ok` where it is accepted, and the number where it is refused
 abbrev pub MayAnswer : Verdict → Answer → Type 0

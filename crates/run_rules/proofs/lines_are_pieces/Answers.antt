@@ -1,5 +1,4 @@
-use Rattle.std.proofs.Common.{ℕ, List, [], ◌∷◌, refl, arith}
-use Rattle.std.proofs.lemmas.Bool.Decides.{nat_tests}
+use Rattle.std.proofs.Common.{[], ◌∷◌, refl}
 use Rattle.run_rules.proofs.Cutting.{wholes_are, lines_without, lines_with, some_bytes}
 use Rattle.run_rules.proofs.lines_are_pieces.Goals as goal
 

@@ -1,7 +1,6 @@
-use Rattle.std.proofs.Common.{◌≡◌, ◌+◌, ◌≤◌, ◌<◌, [], ◌∷◌, ◌++◌, take, refl, ap, sym, ◌∙◌, arith, length, nat_lt, List, ℕ}
+use Rattle.std.proofs.Common.{refl, ap, sym, ◌∙◌}
 use Rattle.gcode_words.specs.Stripping.{plain}
-use Rattle.run_rules.specs.FirstForm.{verdict_on, verdict}
-use Rattle.grbl_app.specs.Engines.{IsOpen}
+use Rattle.run_rules.specs.FirstForm.{verdict_on}
 use Rattle.grbl_app.proofs.Kept.{kept_whole}
 use Rattle.grbl_app.proofs.engine.verdict_on.Goals as goal
 

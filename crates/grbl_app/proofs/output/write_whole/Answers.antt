@@ -1,4 +1,4 @@
-use Rattle.std.proofs.Common.{◌≡◌, ℕ, ◌++◌, true, false, List, [], length, take, drop, refl, arith}
+use Rattle.std.proofs.Common.{◌≡◌, ◌++◌, [], length, take, refl, arith}
 use Rattle.std.proofs.lemmas.Bool.Decides.{nat_tests}
 use Rattle.grbl_app.proofs.Written.{took_nothing, took_some, took_failed, took_all, cut_more}
 use Rattle.grbl_app.proofs.output.write_whole.Goals as goal

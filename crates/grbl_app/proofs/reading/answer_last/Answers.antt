@@ -1,6 +1,5 @@
-use Rattle.std.proofs.Common.{◌≡◌, ◌++◌, ◌∷◌, [], sym, ◌∙◌}
+use Rattle.std.proofs.Common.{sym, ◌∙◌}
 use Rattle.run_rules.proofs.Cutting.{lines_with, lines_without, wholes_are}
-use Rattle.run_rules.specs.Readings.{sent_lines}
 use Rattle.grbl_app.proofs.reading.answer_last.Goals as goal
 
 pub returns-in-Failed : goal.returns-in-Failed

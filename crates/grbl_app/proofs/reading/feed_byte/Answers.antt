@@ -1,5 +1,4 @@
 use Rattle.std.proofs.Common.{◌++◌, ◌∷◌, []}
-use Rattle.grbl_app.specs.Engines.{HasFed}
 use Rattle.run_rules.proofs.Cutting.{cut_byte, cut_line, is_no_lf}
 use Rattle.grbl_app.proofs.reading.feed_byte.Goals as goal
 

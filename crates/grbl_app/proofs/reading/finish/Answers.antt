@@ -1,7 +1,5 @@
-use Rattle.std.proofs.Common.{◌++◌, append-nil, refl}
-use Rattle.run_rules.specs.Readings.{sent_lines}
+use Rattle.std.proofs.Common.{append-nil}
 use Rattle.run_rules.specs.Runs.{events_text, console_text, steps_text}
-use Rattle.grbl_app.specs.Engines.{Sinks}
 use Rattle.grbl_app.proofs.Written.{taken}
 use Rattle.grbl_app.proofs.reading.finish.Goals as goal
 

@@ -1,8 +1,7 @@
-use Rattle.std.proofs.Common.{◌≡◌, ◌≢◌, ℕ, ◌+◌, ◌-◌, ◌≤◌, ◌<◌, ◌++◌, [], List, length, take, arith, refl, sym, ap, ◌∙◌, append-nil, length-append, min}
+use Rattle.std.proofs.Common.{◌≡◌, ◌+◌, ◌++◌, [], length, take, arith, sym, ap, ◌∙◌, append-nil, length-append}
 use Rattle.std.proofs.lemmas.List.{length-take}
-use Rattle.std.proofs.KnownBytes.{Consumes-nil, Consumes-trans, Consumes-kept}
-use Rattle.run_rules.specs.Readings.{job_of, largest_job}
-use Rattle.grbl_app.specs.Engines.{Sinks, HasFed}
+use Rattle.std.proofs.KnownBytes.{Consumes-trans, Consumes-kept}
+use Rattle.run_rules.specs.Readings.{job_of}
 use Rattle.grbl_app.proofs.Feeding.{piece_over}
 use Rattle.grbl_app.proofs.reading.read_job.Goals as goal
 

@@ -1,7 +1,6 @@
-use Rattle.std.proofs.Common.{◌≡◌, ◌+◌, List, ℕ, refl, arith}
+use Rattle.std.proofs.Common.{refl, arith}
 use Rattle.run_rules.specs.declared.Answer.TheVariants.{Accepted, Refused}
 use Rattle.run_rules.specs.declared.Verdict.TheVariants.{Accept, Refuse}
-use Rattle.run_rules.specs.FirstForm.{IsGood, IsState}
 use Rattle.grbl_app.proofs.Answering.{answers_more}
 use Rattle.grbl_app.proofs.Written.{writes_nothing}
 use Rattle.grbl_app.proofs.engine.Engine.answer.Goals as goal

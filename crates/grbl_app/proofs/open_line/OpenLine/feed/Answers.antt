@@ -1,4 +1,4 @@
-use Rattle.std.proofs.Common.{◌≡◌, ◌≢◌, ◌++◌, ◌∷◌, [], ap, sym, ◌∙◌, append-nil}
+use Rattle.std.proofs.Common.{◌≡◌, ◌++◌, ◌∷◌, [], ap, ◌∙◌, append-nil}
 use Rattle.gcode_words.specs.Stripping.{plain, kept_by}
 use Rattle.gcode_words.proofs.Fed.{not_kept}
 use Rattle.grbl_app.proofs.Kept.{begun_more}

@@ -1,4 +1,4 @@
-use Rattle.std.proofs.Common.{◌≡◌, ◌<◌, ◌≤◌, ◌∙◌, arith}
+use Rattle.std.proofs.Common.{◌∙◌, arith}
 use Rattle.grbl_app.proofs.Kept.{room_for, no_room}
 use Rattle.grbl_app.proofs.open_line.OpenLine.keep.Goals as goal
 

@@ -1,5 +1,3 @@
-use Rattle.std.proofs.Common.{◌≡◌, [], ap, sym, ◌∙◌}
-use Rattle.grbl_app.specs.Writing.{Took, WritesOn}
 use Rattle.grbl_app.proofs.Written.{handed_over, dropped}
 use Rattle.grbl_app.proofs.output.Output.flush.Goals as goal
 

@@ -1,8 +1,4 @@
-use Rattle.std.proofs.Common.{◌≡◌, ◌≢◌, ◌+◌, ◌<◌, ◌≤◌, ℕ, Some, None, refl, sym, ap, ◌∙◌, inl, inr, arith}
-use Rattle.std.proofs.lemmas.Bool.{cases_lt}
-use Rattle.step_line.specs.Counting.{events_of}
-use Rattle.step_line.specs.Events.{event_of}
-use Rattle.run_rules.specs.Runs.{event_text}
+use Rattle.std.proofs.Common.{refl, ap, ◌∙◌, arith}
 use Rattle.grbl_app.proofs.Traced.{event_written, all_written, goes_on, is_over}
 use Rattle.grbl_app.proofs.Written.{room_then}
 use Rattle.grbl_app.proofs.output.Output.put_events.Goals as goal
