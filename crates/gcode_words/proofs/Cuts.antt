@@ -1,7 +1,7 @@
 -- How comments cut a line.
-use Rattle.std.proofs.Common.{◌≡◌, ℕ, Bool, false, List, [], ◌∷◌, ◌++◌, length, refl, sym, ◌∙◌, ap, arith, append_assoc, append-nil}
+use Rattle.std.proofs.Common.{◌≡◌, ℕ, false, List, ◌∷◌, ◌++◌, length, sym, ◌∙◌, ap, arith, append_assoc, append-nil}
 use Rattle.std.specs.List.{list_any}
-use Rattle.gcode_words.specs.Comments.{Cut, begins_comment, ends_comment, cut}
+use Rattle.gcode_words.specs.Comments.{begins_comment, ends_comment, cut}
 use Rattle.gcode_words.specs.declared.stripping.Comment.TheVariants.{Outside, Paren, Semicolon}
 use Rattle.gcode_words.proofs.Scanning.{scan, behind, scan-append, scan_plain, scan_paren, scan_semicolon, cut_scan}
 

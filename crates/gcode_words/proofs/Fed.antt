@@ -1,13 +1,13 @@
 -- What one byte more does to what is kept of a line.
-use Rattle.std.proofs.Common.{◌≡◌, ◌≢◌, ℕ, ◌≤◌, ◌<◌, Bool, true, false, cond, not, ◌&&◌, ◌||◌, List, [], ◌∷◌, ◌++◌, length, map, nat_eq, nat_le, nat_lt, refl, sym, ◌∙◌, ap, arith, append-nil, append_assoc, ◌+◌, get_or, take, drop, take-append-drop, length-append}
+use Rattle.std.proofs.Common.{◌≡◌, ◌≢◌, ℕ, ◌≤◌, ◌<◌, Bool, true, false, cond, List, [], ◌∷◌, ◌++◌, length, map, nat_eq, refl, sym, ◌∙◌, ap, arith, append-nil, append_assoc, ◌+◌, get_or, take, drop, take-append-drop, length-append}
 use Rattle.std.proofs.Math.Seq.{take-append_seam}
 use Rattle.std.specs.List.{All, filter, flat_map}
 use Rattle.std.proofs.lemmas.List.{map-append, take_more, take_all}
 use Rattle.std.proofs.lemmas.List.Elements.{All-head, All-tail, All-get_or, filter-append}
-use Rattle.gcode_words.specs.Comments.{Cut, cut, cut_within, comment_after, begins_comment}
+use Rattle.gcode_words.specs.Comments.{cut, cut_within, comment_after}
 use Rattle.gcode_words.specs.Stripping.{is_plain, is_realtime, capital, plain, realtime, kept_by, taken_by, Feeds, FeedsAll}
 use Rattle.gcode_words.specs.declared.stripping.Comment.{Comment}
-use Rattle.gcode_words.specs.declared.stripping.Comment.TheVariants.{Outside, Paren, Semicolon}
+use Rattle.gcode_words.specs.declared.stripping.Comment.TheVariants.{Outside, Paren}
 use Rattle.gcode_words.specs.declared.stripping.Stripped.{Stripped}
 use Rattle.gcode_words.specs.declared.stripping.Stripped.TheVariants.{Nothing, Keep, Realtime, LineEnd}
 use Rattle.gcode_words.proofs.Scanning.{next, seen, after, shown, scan, cut_scan, after-append, shown-append}
@@ -82,10 +82,11 @@ fed front (b ∷ line) (a ∷ answers) before later at none all =
     let ne = All-head (λ x. x ≢ 10) b line none in
     let one = all.1 in
     let rest = fed (front ++ b ∷ []) line answers all.0 later (one.comment front ne at) (All-tail (λ x. x ≢ 10) b line none) all.2 in
-    let joined : (front ++ b ∷ []) ++ line ≡ front ++ b ∷ line = append_assoc front (b ∷ []) line in
-    (ap plain (sym joined) ∙ rest.0 ∙ ap (λ l. l ++ flat_map kept_by answers) (one.kept front ne at) ∙ append_assoc (plain front) (kept_by a) (flat_map kept_by answers),
-    ap realtime (sym joined) ∙ rest.1 ∙ ap (λ l. l ++ flat_map taken_by answers) (one.taken front ne at) ∙ append_assoc (realtime front) (taken_by a) (flat_map taken_by answers),
-    rest.2 ∙ ap comment_after joined)
+    let joined : (front ++ b ∷ []) ++ line ≡ front ++ b ∷ line = append_assoc front (b ∷ []) line in (
+      ap plain (sym joined) ∙ rest.0 ∙ ap (λ l. l ++ flat_map kept_by answers) (one.kept front ne at) ∙ append_assoc (plain front) (kept_by a) (flat_map kept_by answers),
+      ap realtime (sym joined) ∙ rest.1 ∙ ap (λ l. l ++ flat_map taken_by answers) (one.taken front ne at) ∙ append_assoc (realtime front) (taken_by a) (flat_map taken_by answers),
+      rest.2 ∙ ap comment_after joined,
+    )
 
 pub fed_line : (line : List ℕ) (answers : List Stripped) (later : Comment) → All (λ b. b ≢ 10) line → FeedsAll Outside line answers later
     → (plain line ≡ flat_map kept_by answers) × (realtime line ≡ flat_map taken_by answers) × (later ≡ comment_after line)

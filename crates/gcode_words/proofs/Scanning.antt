@@ -1,7 +1,7 @@
 -- The cut of a line, found byte by byte.
-use Rattle.std.proofs.Common.{◌≡◌, ◌≢◌, ℕ, zero, suc, ◌+◌, ◌-◌, ◌≤◌, ◌<◌, Bool, true, false, cond, not, ◌&&◌, ◌||◌, List, [], ◌∷◌, ◌++◌, length, take, drop, map, nat_eq, refl, sym, ◌∙◌, ap, arith, append_assoc, append-nil, add-one, length-drop}
-use Rattle.std.specs.List.{All, AllPass, filter, before_first, after_first, list_any, position_or_len, prefix_len}
-use Rattle.gcode_words.specs.Comments.{Cut, begins_comment, ends_comment, cut_comment, cut_within, cut, comment_after}
+use Rattle.std.proofs.Common.{◌≡◌, ℕ, zero, suc, ◌+◌, ◌≤◌, ◌<◌, Bool, true, false, cond, ◌||◌, List, [], ◌∷◌, ◌++◌, length, take, drop, nat_eq, refl, sym, ◌∙◌, ap, arith, append_assoc, add-one, length-drop}
+use Rattle.std.specs.List.{before_first, after_first, list_any, position_or_len}
+use Rattle.gcode_words.specs.Comments.{Cut, begins_comment, ends_comment, cut_comment, cut_within}
 use Rattle.gcode_words.specs.declared.stripping.Comment.{Comment}
 use Rattle.gcode_words.specs.declared.stripping.Comment.TheVariants.{Outside, Paren, Semicolon}
 

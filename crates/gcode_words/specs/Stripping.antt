@@ -1,5 +1,5 @@
 -- What is kept of a line, and what is taken off it.
-use Rattle.std.specs.Prelude.{◌≡◌, ◌≢◌, ◌↔◌, ℕ, ◌-◌, Bool, cond, not, ◌&&◌, ◌||◌, List, [], ◌∷◌, ◌++◌, map, filter, flat_map, nat_eq, nat_le, nat_lt}
+use Rattle.std.specs.Prelude.{◌≡◌, ◌≢◌, ◌↔◌, ℕ, ◌-◌, Bool, cond, not, ◌&&◌, ◌||◌, List, [], ◌∷◌, ◌++◌, map, filter, nat_eq, nat_le, nat_lt}
 use Rattle.gcode_words.specs.Comments.{cut, comment_after}
 use Rattle.gcode_words.specs.declared.stripping.Comment.{Comment}
 use Rattle.gcode_words.specs.declared.stripping.Comment.TheVariants.{Outside}

@@ -1,4 +1,4 @@
-use Rattle.std.proofs.Common.{◌≡◌, ◌∙◌, sym, ap, arith, length, refl, append-nil, ◌++◌, ◌∷◌, [], ◌≤◌, take}
+use Rattle.std.proofs.Common.{◌≡◌, ◌∙◌, sym, ap, arith, length, refl, append-nil, ◌++◌, ◌∷◌, [], take}
 use Rattle.std.proofs.lemmas.Bool.Decides.{nat_tests}
 use Rattle.std.proofs.lemmas.Grind.{common_steps}
 use Rattle.gcode_words.specs.Comments.{cut_within}
@@ -18,11 +18,13 @@ loop-byte-preserved c =
     record {
       comment = one.0;
       kept = elim c.match-feed.branch [
-        in-Keep+else-is_full w ↦ ap (λ o. o.items) w.out-is ∙ w.push.ensures.items ∙ ap (λ k. l.out.items ++ k) (sym (ap kept_by w.in-Keep.is)) ∙ ap (λ k. k ++ kept_by c.feed.result) l.invariant.kept ∙ sym one.1
-      | in_default w ↦ ap (λ o. o.items) w.out-is ∙ l.invariant.kept ∙ sym (append-nil (plain (take l.byte-index c.args.raw.now))) ∙ ap (λ k. plain (take l.byte-index c.args.raw.now) ++ k) (sym (not_kept c.feed.result w.in_default.not-Keep)) ∙ sym one.1 ];
+        | in-Keep+else-is_full w ↦ ap (λ o. o.items) w.out-is ∙ w.push.ensures.items ∙ ap (λ k. l.out.items ++ k) (sym (ap kept_by w.in-Keep.is)) ∙ ap (λ k. k ++ kept_by c.feed.result) l.invariant.kept ∙ sym one.1
+        | in_default w ↦ ap (λ o. o.items) w.out-is ∙ l.invariant.kept ∙ sym (append-nil (plain (take l.byte-index c.args.raw.now))) ∙ ap (λ k. plain (take l.byte-index c.args.raw.now) ++ k) (sym (not_kept c.feed.result w.in_default.not-Keep)) ∙ sym one.1
+      ];
       few = elim c.match-feed.branch [
-        in-Keep+else-is_full w ↦ grind (arith, common_steps, nat_tests, w.is_full.ensures, w.if-is_full.false, w.push.ensures.len, w.out-is)
-      | in_default w ↦ rw w.out-is l.invariant.few ];
+        | in-Keep+else-is_full w ↦ grind (arith, common_steps, nat_tests, w.is_full.ensures, w.if-is_full.false, w.push.ensures.len, w.out-is)
+        | in_default w ↦ rw w.out-is l.invariant.few
+      ];
     }
 
 pub returns-then-is_full : goal.returns-then-is_full

@@ -1,6 +1,6 @@
-use Rattle.std.proofs.Common.{◌≡◌, ◌≢◌, refl, sym, ◌∙◌, arith}
+use Rattle.std.proofs.Common.{refl, sym, ◌∙◌, arith}
 use Rattle.gcode_words.specs.declared.stripping.Comment.TheVariants.{Outside, Paren, Semicolon}
-use Rattle.gcode_words.specs.declared.stripping.Stripped.TheVariants.{Nothing, LineEnd}
+use Rattle.gcode_words.specs.declared.stripping.Stripped.TheVariants.{Nothing}
 use Rattle.gcode_words.proofs.Fed.{feeds, feeds_outside, feeds_paren}
 use Rattle.gcode_words.proofs.stripping.Stripper.feed.Goals as goal
 

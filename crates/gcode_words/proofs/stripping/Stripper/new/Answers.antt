@@ -1,6 +1,5 @@
 use Rattle.std.proofs.Common.{refl}
 use Rattle.gcode_words.specs.Comments.{cut_within}
-use Rattle.gcode_words.proofs.Scanning.{scan-append}
 use Rattle.gcode_words.proofs.stripping.Stripper.new.Goals as goal
 
 pub returns : goal.returns
