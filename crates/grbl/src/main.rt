@@ -3,6 +3,7 @@
 
 use grbl_app::{Status, put_fault, run_grbl};
 use outside::{Failed, OpenGate, ReadSource, Sink, WriteSink};
+use std::alloc::{AllocError, Global};
 use std::env;
 use std::fs::{self, File};
 use std::io::{self, Write};
@@ -58,39 +59,46 @@ fn exit_number(status: &Status) -> u8 {
     }
 }
 
-/// Runs the words that the program was called with.
-fn run(rt: &HostRuntime) -> io::Result<Status> {
-    let alloc = rt.alloc();
-    let mut owned = Vec::new(alloc);
+/// The words that the program was called with, without its own name.
+fn read_words(rt: &HostRuntime) -> io::Result<Vec<String>> {
+    let mut words = Vec::new(rt.alloc());
     for word in env::args(rt)?.skip(1) {
-        owned.push(word)?;
+        words.push(word)?;
     }
+    Ok(words)
+}
+
+/// The same words, borrowed.
+fn as_strs<'a>(alloc: Global, owned: &'a [String]) -> Result<Vec<&'a str>, AllocError> {
     let mut words = Vec::new(alloc);
-    for word in &owned {
+    for word in owned {
         words.push(word.as_str())?;
     }
+    Ok(words)
+}
+
+fn main(rt: HostRuntime) -> ExitCode {
+    let alloc = rt.alloc();
+    // Words that could not be read are no command.
+    let owned = read_words(&rt).unwrap_or(Vec::new(alloc));
+    let words = as_strs(alloc, owned.as_slice()).unwrap_or(Vec::new(alloc));
     let mut job = ReadSource::new(rt.stdin());
     let mut console = WriteSink::new(rt.stdout());
     let mut steps = StepsFile {
-        rt,
+        rt: &rt,
         file: None,
         begun: false,
         faults: 0,
     };
-    Ok(run_grbl(
-        rt,
+    let status = run_grbl(
+        &rt,
         alloc,
         words.as_slice(),
         &mut job,
         &mut console,
         &mut steps,
         &OpenGate,
-    ))
-}
-
-fn main(rt: HostRuntime) -> ExitCode {
-    // Words that could not be read are wrong words.
-    let status = run(&rt).unwrap_or(Status::Usage);
+    );
     let mut text = Text::new();
     put_fault(&status, &mut text);
     let _ = rt.stderr().write_all(text.as_slice());
