@@ -282,7 +282,12 @@ fn steps_that_fail_in_mid_stream_hold_a_front_of_their_text(rt: HostRuntime) {
     assert!(rt; console.held().len() == 32);
     let held = steps.held().len();
     assert!(rt; held > 2000 && held < 7500);
-    assert!(rt; steps.held().chunks(3).all(|event| event == b"X+\n".as_slice()));
+    assert!(rt;
+        steps
+            .held()
+            .chunks(3)
+            .all(|event| event == b"X+\n".as_slice())
+    );
 }
 
 #[test]
