@@ -17,13 +17,29 @@ use Rattle.run_rules.specs.declared.Verdict.{Verdict}
 use Rattle.run_rules.specs.declared.Verdict.TheVariants.{Accept, Refuse}
 use Rattle.gcode_words.specs.Stripping.{plain}
 
+-- the letters that may stand
+abbrev pub letter_f : ℕ
+letter_f = 70
+
+abbrev pub letter_g : ℕ
+letter_g = 71
+
+abbrev pub letter_x : ℕ
+letter_x = 88
+
+abbrev pub letter_y : ℕ
+letter_y = 89
+
+abbrev pub letter_z : ℕ
+letter_z = 90
+
 -- the word of a letter
 abbrev pub named : ℕ → List Word → Option Word
 named letter ws = find (λ w. nat_eq w.letter letter) ws
 
 -- F, G, X, Y or Z
 abbrev pub may_stand : ℕ → Bool
-may_stand c = nat_eq c 70 || nat_eq c 71 || nat_eq c 88 || nat_eq c 89 || nat_eq c 90
+may_stand c = nat_eq c letter_f || nat_eq c letter_g || nat_eq c letter_x || nat_eq c letter_y || nat_eq c letter_z
 
 abbrev pub at_most_once : ℕ → List Word → Bool
 at_most_once letter ws = nat_le (count_by (λ w. nat_eq w.letter letter) ws) 1
@@ -34,33 +50,33 @@ value_or d None = d
 value_or d (Some w) = w.value.micro
 
 abbrev pub in_reach : ℤ → Bool
-in_reach z = nat_le (nat_abs z) 10000000000
+in_reach nm = nat_le (nat_abs nm) 10000000000
 
 abbrev pub is_g0_or_g1 : ℤ → Bool
 is_g0_or_g1 (pos n) = nat_eq n 0 || nat_eq n 1000000
 is_g0_or_g1 (negsuc n) = false
 
 unfoldable pub letters_stand_once : List Word → Bool
-letters_stand_once ws = at_most_once 70 ws && at_most_once 71 ws && at_most_once 88 ws && at_most_once 89 ws && at_most_once 90 ws
+letters_stand_once ws = at_most_once letter_f ws && at_most_once letter_g ws && at_most_once letter_x ws && at_most_once letter_y ws && at_most_once letter_z ws
 
 unfoldable pub axes_in_reach : List Word → Bool
-axes_in_reach ws = in_reach (value_or (pos 0) (named 88 ws)) && in_reach (value_or (pos 0) (named 89 ws)) && in_reach (value_or (pos 0) (named 90 ws))
+axes_in_reach ws = in_reach (value_or (pos 0) (named letter_x ws)) && in_reach (value_or (pos 0) (named letter_y ws)) && in_reach (value_or (pos 0) (named letter_z ws))
 
 pub record AxesReach (ws : List Word) : Type 0 where
-  pub x : IsTrue (in_reach (value_or (pos 0) (named 88 ws)))
-  pub y : IsTrue (in_reach (value_or (pos 0) (named 89 ws)))
-  pub z : IsTrue (in_reach (value_or (pos 0) (named 90 ws)))
+  pub x : IsTrue (in_reach (value_or (pos 0) (named letter_x ws)))
+  pub y : IsTrue (in_reach (value_or (pos 0) (named letter_y ws)))
+  pub z : IsTrue (in_reach (value_or (pos 0) (named letter_z ws)))
 
 -- what the words of a line say
 unfoldable pub is_first_form : List Word → Bool
 is_first_form ws =
     list_all (λ w. may_stand w.letter) ws && letters_stand_once ws
-    && is_g0_or_g1 (value_or (pos 0) (named 71 ws))
-    && int_le (pos 0) (value_or (pos 0) (named 70 ws))
+    && is_g0_or_g1 (value_or (pos 0) (named letter_g ws))
+    && int_le (pos 0) (value_or (pos 0) (named letter_f ws))
     && axes_in_reach ws
 
 abbrev pub has_axis : List Word → Bool
-has_axis ws = is_some (named 88 ws) || is_some (named 89 ws) || is_some (named 90 ws)
+has_axis ws = is_some (named letter_x ws) || is_some (named letter_y ws) || is_some (named letter_z ws)
 
 abbrev pub is_zero : ℤ → Bool
 is_zero (pos n) = nat_eq n 0
@@ -80,7 +96,7 @@ is_g1 G0 = false
 is_g1 G1 = true
 
 abbrev pub target : State → List Word → Nm3
-target s ws = record { x = value_or s.pos_nm.x (named 88 ws); y = value_or s.pos_nm.y (named 89 ws); z = value_or s.pos_nm.z (named 90 ws) }
+target s ws = record { x = value_or s.pos_nm.x (named letter_x ws); y = value_or s.pos_nm.y (named letter_y ws); z = value_or s.pos_nm.z (named letter_z ws) }
 
 abbrev pub in_steps : Nm3 → Steps3
 in_steps p = record { x = steps_of p.x 250000; y = steps_of p.y 250000; z = steps_of p.z 250000 }
@@ -88,8 +104,8 @@ in_steps p = record { x = steps_of p.x 250000; y = steps_of p.y 250000; z = step
 -- the state that an accepted line leaves
 unfoldable pub after_line : State → List Word → State
 after_line s ws = record {
-  motion = motion_after s (named 71 ws);
-  feed = value_or s.feed (named 70 ws);
+  motion = motion_after s (named letter_g ws);
+  feed = value_or s.feed (named letter_f ws);
   pos_nm = target s ws;
   pos_steps = cond (has_axis ws) (in_steps (target s ws)) s.pos_steps;
 }
@@ -99,15 +115,20 @@ moves_of s ws = cond (has_axis ws) (Some (record { from = s.pos_steps; to = in_s
 
 -- a line that wants a feed and has none
 unfoldable pub wants_feed : State → List Word → Bool
-wants_feed s ws = (is_some (named 71 ws) || has_axis ws) && is_g1 (after_line s ws).motion && is_zero (after_line s ws).feed
+wants_feed s ws = (is_some (named letter_g ws) || has_axis ws) && is_g1 (after_line s ws).motion && is_zero (after_line s ws).feed
 
 abbrev pub by_words : State → Result (List Word) WordFault → Verdict
 by_words s (Err e) = Refuse 20
 by_words s (Ok ws) = cond (is_first_form ws) (cond (wants_feed s ws) (Refuse 22) (Accept (after_line s ws) (moves_of s ws))) (Refuse 20)
 
--- the verdict on a line's kept bytes
+-- so many bytes are kept of a line at most
+abbrev pub most_kept : ℕ
+most_kept = 79
+
+-- the verdict on a line's kept bytes, the first that holds: too many are kept, none is, they are not of the first form,
+-- a feed is wanting
 unfoldable pub verdict_on : State → List ℕ → Verdict
-verdict_on s kept = cond (nat_lt 79 (length kept)) (Refuse 11) (cond (nat_eq (length kept) 0) (Accept s None) (by_words s (words_of kept)))
+verdict_on s kept = cond (nat_lt most_kept (length kept)) (Refuse 11) (cond (nat_eq (length kept) 0) (Accept s None) (by_words s (words_of kept)))
 
 abbrev pub verdict : State → List ℕ → Verdict
 verdict s line = verdict_on s (plain line)

@@ -15,6 +15,7 @@ ghost use Rattle.run_rules.specs.declared.Verdict.TheVariants.{Refuse, Accept};
 ghost use Rattle.run_rules.specs.FirstForm.{
   is_first_form,
   named,
+  letter_g,
   at_most_once,
   value_or,
   may_stand,
@@ -234,7 +235,7 @@ fn motion_named(micro: i64) -> MotionMode
 
 /// The motion mode behind a line.
 fn motion_behind(state: &State, words: &[Word]) -> MotionMode
-    ensures { result ≡ motion_after state.now (named 71 words.now) }
+    ensures { result ≡ motion_after state.now (named letter_g words.now) }
 {
     match word_of(words, b'G') {
         Some(word) => motion_named(word.value.micro),
