@@ -1,0 +1,3 @@
+pub mod Squares
+pub mod Lines
+pub mod Geometries
