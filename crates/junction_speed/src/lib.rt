@@ -1,0 +1,130 @@
+//! How fast the machine may go from one move into the next.
+#![tactic(auto)]
+
+ghost use Rattle.std.specs.Prelude.{◌≡◌, ◌+◌, ◌-◌, ◌*◌, ◌/◌, ◌≤◌, ◌<◌, min, nat_abs, ◌≤ℤ◌, pos, neg_ℤ, ◌-ℤ◌, ◌*ℤ◌, ◌+ℤ◌};
+ghost use Rattle.units.specs.Roots.{root_of};
+ghost use Rattle.junction_speed.specs.Junctions.{turn_of, corner_of, junction_of};
+
+pub mod laws;
+
+use line_geom::{Cap, Geom};
+use units::isqrt;
+
+/// Two units multiplied.
+fn product(prev: i32, next: i32) -> i128
+    ensures value { result ≡ prev *ℤ next }
+    ensures small { nat_abs result ≤ 4611686018427387904 }
+{
+    prev as i128 * next as i128
+}
+
+/// Two directions multiplied.
+fn dot(prev: &Geom, next: &Geom) -> i128
+    ensures value { result ≡ prev.now.ux *ℤ next.now.ux +ℤ prev.now.uy *ℤ next.now.uy +ℤ prev.now.uz *ℤ next.now.uz }
+    ensures small { nat_abs result ≤ 13835058055282163712 }
+{
+    let x = product(prev.ux, next.ux);
+    let y = product(prev.uy, next.uy);
+    let z = product(prev.uz, next.uz);
+    x + y + z
+}
+
+/// The cosine of the turn from one move to the next, in millionths: -1,000,000 where the next goes on straight.
+fn turn(prev: &Geom, next: &Geom) -> i128
+    ensures { result ≡ turn_of prev.now next.now }
+{
+    let dot = dot(prev, next);
+    (-dot).div_euclid(1_000_000)
+}
+
+/// How far a turn is from going straight back, in millionths.
+fn gap(turn: i128) -> u64
+    requires back { turn ≤ℤ pos 999999 }
+    requires on { neg_ℤ (pos 999999) ≤ℤ turn }
+    ensures gap { result ≡ nat_abs (pos 1000000 -ℤ turn) }
+    ensures some { 1 ≤ result }
+    ensures small { result ≤ 1999999 }
+{
+    (1_000_000 - turn) as u64
+}
+
+/// The sine of half the angle between two moves, in millionths.
+#[tactic(auto, using(units::proofs::Places::one_root))]
+fn half_sine(gap: u64) -> u64
+    requires { gap ≤ 1999999 }
+    ensures sine { result ≡ root_of (gap * 1000000 / 2) }
+    ensures small { result < 1000000 }
+{
+    isqrt((gap * 1_000_000 / 2) as u128)
+}
+
+/// The acceleration that both moves allow, in µm/s².
+fn lesser_accel(prev: &Geom, next: &Geom) -> u64
+    ensures { result ≡ min prev.now.accel next.now.accel }
+{
+    prev.accel.min(next.accel)
+}
+
+/// The squared speed, in µm²/s², at which a corner is rounded at an acceleration, off it by at most the deviation.
+fn corner(accel: u64, deviation: u32, sine: u64) -> u64
+    requires { sine < 1000000 }
+    ensures { result ≡ min (corner_of accel deviation sine) 18446744073709551615 }
+{
+    let squared = accel as u128 * deviation as u128 * sine as u128 / (1_000_000 - sine) as u128;
+    squared.min(u64::MAX as u128) as u64
+}
+
+/// The cap on the squared speed where `prev` ends and `next` begins, for a deviation in µm.
+///
+/// With `c = -(upx * unx + upy * uny + upz * unz) div 10^6`, rounded down, the cap is `At(0)` where `c > 999999`, and
+/// `Free` where `c < -999999`. Else it is `At(J)` with `J = a * d * s div (10^6 - s)`, at most `u64::MAX`, where a is
+/// the lesser acceleration, d the deviation, and s the root of `(10^6 - c) * 10^6 div 2`, rounded down.
+pub fn junction(prev: &Geom, next: &Geom, deviation: u32) -> Cap
+    ensures { result ≡ junction_of prev.now next.now deviation }
+{
+    let turn = turn(prev, next);
+    if turn > 999_999 {
+        return Cap::At(0);
+    }
+    if turn < -999_999 {
+        return Cap::Free;
+    }
+    let accel = lesser_accel(prev, next);
+    Cap::At(corner(accel, deviation, half_sine(gap(turn))))
+}
+
+#[cfg(test)]
+mod tests {
+    use super::*;
+
+    /// A move of 250 steps at 250 steps per mm, in a direction, with an acceleration of 10 mm/s².
+    fn towards(ux: i32, uy: i32) -> Geom {
+        Geom {
+            n: 250,
+            length: 1_000_000,
+            ux,
+            uy,
+            uz: 0,
+            accel: 10_000,
+            rapid: 8333,
+            q: 80_000,
+        }
+    }
+
+    #[test]
+    fn caps_the_speed_by_the_turn(rt: HostRuntime) {
+        let right = towards(1_000_000, 0);
+        let left = towards(-1_000_000, 0);
+        let up = towards(0, 1_000_000);
+        assert_eq!(rt; junction(&right, &right, 10), Cap::Free);
+        assert_eq!(rt; junction(&right, &up, 10), Cap::At(241_420));
+        assert_eq!(rt; junction(&right, &left, 10), Cap::At(0));
+    }
+
+    #[test]
+    fn nearly_stops_where_a_slanting_move_turns_back(rt: HostRuntime) {
+        let there = towards(707_106, 707_106);
+        let back = towards(-707_106, -707_106);
+        assert_eq!(rt; junction(&there, &back, 10), Cap::At(122));
+    }
+}
