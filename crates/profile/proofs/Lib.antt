@@ -1,0 +1,6 @@
+pub mod Leasts
+pub mod Places
+pub mod Passes
+pub mod Caps
+pub mod Slowing
+pub mod Kept

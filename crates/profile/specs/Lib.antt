@@ -1,0 +1,4 @@
+pub mod Profiles
+pub mod Passes
+pub mod Caps
+pub mod Slowing
