@@ -1,0 +1,6 @@
+pub mod Appended
+pub mod Digits
+pub mod Events
+pub mod Fields
+pub mod Lines
+pub mod Whole

@@ -1,0 +1,32 @@
+-- Which records are recorded.
+use Rattle.std.specs.Prelude.{◌≡◌, ◌^◌, ◌<◌, ◌≤◌}
+use Rattle.step_line.specs.declared.Head.{Head}
+use Rattle.step_line.specs.declared.Mark.{Mark}
+use Rattle.step_line.specs.declared.Mark.TheVariants.{Dwell, Spindle, Coolant, Cut}
+use Rattle.step_line.specs.declared.SpindleCode.TheVariants.{M3, M4, M5}
+use Rattle.step_line.specs.declared.Record.{Record}
+use Rattle.step_line.specs.declared.Record.TheVariants as kinds
+use Rattle.step_line.specs.Events.{IsEvent}
+
+-- lines and events are counted from 1, and each number is one that its field has room for
+pub record IsHead (h : Head) : Type 0 where
+  pub line : (1 ≤ h.line) × (h.line < 2 ^ 32)
+  pub n : (1 ≤ h.n) × (h.n < 2 ^ 32)
+  pub w : h.w < 2 ^ 64
+  pub cycles : h.cycles < 2 ^ 64
+
+-- a spindle that stands has the speed 0, and each number is one that its field has room for
+abbrev pub IsMark : Mark → Type 0
+IsMark (Dwell ms) = ms < 2 ^ 64
+IsMark (Spindle M3 speed) = speed < 2 ^ 32
+IsMark (Spindle M4 speed) = speed < 2 ^ 32
+IsMark (Spindle M5 speed) = speed ≡ 0
+IsMark (Coolant on) = Unit {0}
+IsMark (Cut line) = line < 2 ^ 32
+
+-- a record that has a line
+abbrev pub IsRecord : Record → Type 0
+IsRecord (kinds.Head h) = IsHead h
+IsRecord (kinds.Event b) = IsEvent b
+IsRecord (kinds.Mark m) = IsMark m
+IsRecord kinds.End = Unit {0}

@@ -1,0 +1,32 @@
+//! Step records as text, and back.
+//!
+//! Each record is one line, ended by LF. Numbers are decimal, without leading zeros.
+//!
+//! - The head of a segment is `s line n w cycles`, parted by one blank: its line and how many events it has, both at
+//!   least 1, the squared speed at which it begins, and its cycles.
+//! - An event has for each axis that steps, in the order X, Y, Z, its letter and `+` or `-`. Some axis steps.
+//! - A dwell is `D ms`, a spindle that turns `M3 speed` or `M4 speed`, one that stands `M5 0`, the coolant `M8 0` and
+//!   `M9 0`, and a cut `X line`, with a blank that no event has.
+//! - The end is `E`.
+#![tactic(auto)]
+
+mod laws;
+mod numbers;
+mod reading;
+mod records;
+#[cfg(test)]
+mod tests;
+mod writing;
+
+pub use laws::one_reading;
+pub use reading::next_record;
+pub use records::has_line;
+use thiserror::Error;
+pub use writing::{LONGEST_EVENT, LONGEST_LINE, push_event, push_record, put_record};
+
+/// No record's line begins at this place of a text.
+#[derive(Clone, Copy, Debug, PartialEq, Eq, Error)]
+#[error("no step record at byte {at}")]
+pub struct BadRecord {
+    pub at: usize,
+}

@@ -1,0 +1,97 @@
+use super::*;
+use arrayvec::ArrayVec;
+use step_line::{Bits, Head, Mark, Record, SpindleCode};
+
+fn head(line: u32, n: u32, w: u64, cycles: u64) -> Record {
+    Record::Head(Head { line, n, w, cycles })
+}
+
+fn event(x: i8, y: i8, z: i8) -> Record {
+    Record::Event(Bits { x, y, z })
+}
+
+fn spindle(code: SpindleCode, speed: u32) -> Record {
+    Record::Mark(Mark::Spindle(code, speed))
+}
+
+#[test]
+fn each_record_is_put_and_read_back(rt: HostRuntime) {
+    for (record, line) in [
+        (head(7, 12, 250_000, 320_000), "s 7 12 250000 320000\n"),
+        (head(1, 1, 0, 0), "s 1 1 0 0\n"),
+        (
+            head(u32::MAX, u32::MAX, u64::MAX, u64::MAX),
+            "s 4294967295 4294967295 18446744073709551615 18446744073709551615\n",
+        ),
+        (event(1, 0, 0), "X+\n"),
+        (event(0, -1, 0), "Y-\n"),
+        (event(-1, 1, -1), "X-Y+Z-\n"),
+        (Record::Mark(Mark::Dwell(0)), "D 0\n"),
+        (
+            Record::Mark(Mark::Dwell(u64::MAX)),
+            "D 18446744073709551615\n",
+        ),
+        (spindle(SpindleCode::M3, 1000), "M3 1000\n"),
+        (spindle(SpindleCode::M4, u32::MAX), "M4 4294967295\n"),
+        (spindle(SpindleCode::M5, 0), "M5 0\n"),
+        (Record::Mark(Mark::Coolant(true)), "M8 0\n"),
+        (Record::Mark(Mark::Coolant(false)), "M9 0\n"),
+        (Record::Mark(Mark::Cut(0)), "X 0\n"),
+        (Record::Mark(Mark::Cut(u32::MAX)), "X 4294967295\n"),
+        (Record::End, "E\n"),
+    ] {
+        assert!(rt; has_line(record), "{line:?}");
+        let mut text = ArrayVec::new();
+        put_record(&record, &mut text);
+        assert!(rt; text.as_slice() == line.as_bytes(), "{line:?}");
+        push_record(&record, &mut text);
+        let place = line.len();
+        assert!(rt; place <= text.len());
+        assert!(rt;
+            next_record(text.as_slice(), 0) == Ok(Some((record, place))),
+            "{line:?}"
+        );
+        assert!(rt;
+            next_record(text.as_slice(), place) == Ok(Some((record, 2 * place))),
+            "{line:?}"
+        );
+        assert!(rt; next_record(text.as_slice(), text.len()) == Ok(None));
+    }
+}
+
+#[test]
+fn no_other_line_is_read(rt: HostRuntime) {
+    for (text, at) in [
+        ("X\n", 0),
+        ("X+X+\n", 0),
+        ("s 0 1 0 1\n", 0),
+        ("M8 1\n", 0),
+        ("\n", 0),
+        ("Y+X+\n", 0),
+        ("X+", 0),
+        ("X+ \n", 0),
+        ("x+\n", 0),
+        ("X \n", 0),
+        ("X -1\n", 0),
+        ("X 4294967296\n", 0),
+        ("s 1 0 0 1\n", 0),
+        ("s 1 01 0 1\n", 0),
+        ("s 1 1 0\n", 0),
+        ("s  1 1 0 1\n", 0),
+        ("s 4294967296 1 0 1\n", 0),
+        ("s 1 1 18446744073709551616 1\n", 0),
+        ("D +5\n", 0),
+        ("D 00\n", 0),
+        ("D 99999999999999999999999\n", 0),
+        ("M3\n", 0),
+        ("M5 7\n", 0),
+        ("M9 0\r\n", 0),
+        ("E", 0),
+        ("E\nX+\n\nE\n", 5),
+        ("X+\n", 1),
+    ] {
+        let bytes = text.as_bytes();
+        assert!(rt; at <= bytes.len());
+        assert!(rt; next_record(bytes, at) == Err(BadRecord { at }), "{text:?}");
+    }
+}

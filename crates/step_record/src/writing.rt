@@ -1,0 +1,135 @@
+//! Records, written as lines.
+
+ghost use Rattle.std.specs.Prelude.{◌≡◌, ℕ, ◌+◌, ◌≤◌, [], ◌∷◌, ◌++◌, ◌↔◌, length, decimal, IsTrue};
+ghost use Rattle.arrayvec.specs.ArrayVec.{array_vec_len};
+ghost use Rattle.step_record.specs.Records.{IsHead, IsMark, IsRecord};
+ghost use Rattle.step_record.specs.Texts.{axis_text, event_text, head_text, mark_text, record_text};
+
+use arrayvec::ArrayVec;
+use itoa::Buffer;
+use step_line::{Bits, Head, Mark, Record, SpindleCode};
+use units::Text;
+
+/// The most bytes that the line of a record has.
+pub const LONGEST_LINE: usize = 66;
+
+/// The most bytes that the line of an event has.
+pub const LONGEST_EVENT: usize = 7;
+
+/// Appends a text for which there is room.
+fn push_text<const N: usize>(text: &[u8], out: &mut ArrayVec<u8, N>)
+    requires { array_vec_len out.old + length text.now ≤ N }
+    ensures text { out.new.items ≡ out.old.items ++ text.now }
+    ensures room { array_vec_len out.new ≡ array_vec_len out.old + length text.now }
+{
+    let _ = out.try_extend_from_slice(text);
+}
+
+/// Appends a number, and the byte that ends it.
+fn push_number<const N: usize>(n: u64, end: u8, out: &mut ArrayVec<u8, N>)
+    requires { array_vec_len out.old + length (decimal n) + 1 ≤ N }
+    ensures text { out.new.items ≡ out.old.items ++ (decimal n ++ end ∷ []) }
+    ensures room { array_vec_len out.new ≡ array_vec_len out.old + length (decimal n) + 1 }
+{
+    let mut buffer = Buffer::new();
+    push_text(buffer.format(n).as_bytes(), out);
+    out.push(end);
+}
+
+/// Appends the letter and the sign of an axis that steps.
+#[inline]
+fn push_axis<const N: usize>(letter: u8, step: i8, out: &mut ArrayVec<u8, N>)
+    requires { array_vec_len out.old + 2 ≤ N }
+    ensures text { out.new.items ≡ out.old.items ++ axis_text letter step }
+    ensures room { array_vec_len out.new ≤ array_vec_len out.old + 2 }
+{
+    if step == 0 {
+        return;
+    }
+    out.push(letter);
+    out.push(if step < 0 { b'-' } else { b'+' });
+}
+
+/// Appends the line of an event: for each axis that steps, in the order X, Y, Z, its letter and `+` or `-`.
+/// `LONGEST_EVENT` bytes must be free.
+#[inline]
+pub fn push_event<const N: usize>(bits: &Bits, out: &mut ArrayVec<u8, N>)
+    requires { array_vec_len out.old + LONGEST_EVENT ≤ N }
+    ensures text { out.new.items ≡ out.old.items ++ event_text bits.now }
+    ensures room { array_vec_len out.new ≤ array_vec_len out.old + LONGEST_EVENT }
+{
+    push_axis(b'X', bits.x, out);
+    push_axis(b'Y', bits.y, out);
+    push_axis(b'Z', bits.z, out);
+    out.push(b'\n');
+}
+
+/// Appends the line of a segment's head.
+#[tactic(auto, using(crate::proofs::Appended::short_numbers))]
+fn push_head<const N: usize>(head: &Head, out: &mut ArrayVec<u8, N>)
+    requires head { IsHead head.now }
+    requires room { array_vec_len out.old + LONGEST_LINE ≤ N }
+    ensures text { out.new.items ≡ out.old.items ++ head_text head.now }
+    ensures room { array_vec_len out.new ≤ array_vec_len out.old + LONGEST_LINE }
+{
+    push_text(b"s ", out);
+    push_number(head.line as u64, b' ', out);
+    push_number(head.n as u64, b' ', out);
+    push_number(head.w, b' ', out);
+    push_number(head.cycles, b'\n', out);
+}
+
+/// Appends a number behind what says what it is.
+#[tactic(auto, using(crate::proofs::Appended::short_numbers))]
+fn push_named<const N: usize>(name: &[u8], n: u64, out: &mut ArrayVec<u8, N>)
+    requires name { length name.now ≤ 3 }
+    requires room { array_vec_len out.old + 24 ≤ N }
+    ensures text { out.new.items ≡ out.old.items ++ (name.now ++ decimal n ++ 10 ∷ []) }
+    ensures room { array_vec_len out.new ≤ array_vec_len out.old + 24 }
+{
+    push_text(name, out);
+    push_number(n, b'\n', out);
+}
+
+/// Appends the line of a mark.
+#[tactic(auto, unfolding(crate::specs::Texts::mark_text))]
+fn push_mark<const N: usize>(mark: &Mark, out: &mut ArrayVec<u8, N>)
+    requires { array_vec_len out.old + 24 ≤ N }
+    ensures text { out.new.items ≡ out.old.items ++ mark_text mark.now }
+    ensures room { array_vec_len out.new ≤ array_vec_len out.old + 24 }
+{
+    match mark {
+        Mark::Dwell(ms) => push_named(b"D ", *ms, out),
+        Mark::Spindle(SpindleCode::M3, speed) => push_named(b"M3 ", *speed as u64, out),
+        Mark::Spindle(SpindleCode::M4, speed) => push_named(b"M4 ", *speed as u64, out),
+        Mark::Spindle(SpindleCode::M5, _) => push_text(b"M5 0\n", out),
+        Mark::Coolant(true) => push_text(b"M8 0\n", out),
+        Mark::Coolant(false) => push_text(b"M9 0\n", out),
+        Mark::Cut(line) => push_named(b"X ", *line as u64, out),
+    }
+}
+
+/// Appends the line of a record. `LONGEST_LINE` bytes must be free.
+#[inline]
+pub fn push_record<const N: usize>(r: &Record, out: &mut ArrayVec<u8, N>)
+    requires record { IsRecord r.now }
+    requires room { array_vec_len out.old + LONGEST_LINE ≤ N }
+    ensures text { out.new.items ≡ out.old.items ++ record_text r.now }
+    ensures room { array_vec_len out.new ≤ array_vec_len out.old + LONGEST_LINE }
+{
+    match r {
+        Record::Event(bits) => push_event(bits, out),
+        Record::Head(head) => push_head(head, out),
+        Record::Mark(mark) => push_mark(mark, out),
+        Record::End => push_text(b"E\n", out),
+    }
+}
+
+/// Puts the line of a record, in place of what stood there before.
+pub fn put_record(r: &Record, out: &mut Text)
+    requires { IsRecord r.now }
+    ensures { out.new.items ≡ record_text r.now }
+{
+    out.clear();
+    push_record(r, out);
+}
