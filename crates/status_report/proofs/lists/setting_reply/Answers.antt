@@ -1,0 +1,13 @@
+use Rattle.std.proofs.Common.{◌≡◌, Bool, true, false, refl}
+use Rattle.settings.specs.Numbers.{one_if}
+use Rattle.status_report.specs.Lists.{setting_replies}
+use Rattle.status_report.proofs.lists.setting_reply.Goals as goal
+use mir.Val.{bool_byte}
+
+one : (b : Bool) → one_if b ≡ bool_byte b
+one true = refl
+one false = refl
+
+pub returns-in-2-clause-listed : goal.returns-in-2-clause-listed
+unfolding setting_replies
+returns-in-2-clause-listed c = rw (c.in-2.is, c.setting-in-2.ensures, c.from-in-2.ensures, one) refl

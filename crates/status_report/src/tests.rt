@@ -1,0 +1,158 @@
+//! Worked rows of the replies.
+
+ghost use Rattle.status_report.specs.Replies.{IsReply};
+
+use super::*;
+use modal_state::{Modal, MotionMode, Parser, SpindleMode};
+use settings::Settings;
+use std::process::Abort;
+use units::Decimal;
+
+/// Checks the text of a reply that is put over another.
+fn assert_puts(rt: &impl Abort, reply: Reply, text: &str)
+    requires { IsReply reply }
+{
+    let mut out = Text::new();
+    out.push(b'?');
+    put_reply(&reply, &mut out);
+    assert!(rt; out.as_slice() == text.as_bytes(), "{text}");
+}
+
+#[test]
+fn each_answer_and_message_has_its_text(rt: HostRuntime) {
+    assert_puts(&rt, Reply::Banner, "\r\nGrbl 1.1h ['$' for help]\r\n");
+    assert_puts(&rt, Reply::Ok, "ok\r\n");
+    assert_puts(&rt, Reply::Error(20), "error:20\r\n");
+    assert_puts(&rt, Reply::Alarm(2), "ALARM:2\r\n");
+    for (message, text) in [
+        (Message::Unlocked, "[MSG:Caution: Unlocked]\r\n"),
+        (Message::ProgramEnd, "[MSG:Pgm End]\r\n"),
+        (Message::ResetToContinue, "[MSG:Reset to continue]\r\n"),
+    ] {
+        assert_puts(&rt, Reply::Message(message), text);
+    }
+    assert_puts(&rt, Reply::Bye, "");
+}
+
+#[test]
+fn settings_are_listed_by_number(rt: HostRuntime) {
+    let mut settings = Settings::generic();
+    assert!(rt; settings.set(11, Decimal { micro: 500_000 }).is_ok());
+    for (place, text) in [
+        "$10=1\r\n",
+        "$11=0.500\r\n",
+        "$20=0\r\n",
+        "$100=250.000\r\n",
+        "$101=250.000\r\n",
+        "$102=250.000\r\n",
+        "$110=500.000\r\n",
+        "$111=500.000\r\n",
+        "$112=500.000\r\n",
+        "$120=10.000\r\n",
+        "$121=10.000\r\n",
+        "$122=10.000\r\n",
+        "$130=200.000\r\n",
+        "$131=200.000\r\n",
+        "$132=200.000\r\n",
+    ]
+    .iter()
+    .enumerate()
+    {
+        assert!(rt; place < SETTING_REPLIES);
+        assert_puts(&rt, setting_reply(&settings, place), text);
+    }
+}
+
+#[test]
+fn offsets_are_listed_in_mm(rt: HostRuntime) {
+    let mut offsets = Parser::opening().offsets;
+    offsets.g92.x = -5_000_000;
+    offsets.s2.y = 1_499;
+    offsets.home30.z = -1_500;
+    for (place, text) in [
+        "[G54:0.000,0.000,0.000]\r\n",
+        "[G55:0.000,0.001,0.000]\r\n",
+        "[G56:0.000,0.000,0.000]\r\n",
+        "[G57:0.000,0.000,0.000]\r\n",
+        "[G58:0.000,0.000,0.000]\r\n",
+        "[G59:0.000,0.000,0.000]\r\n",
+        "[G28:0.000,0.000,0.000]\r\n",
+        "[G30:0.000,0.000,-0.002]\r\n",
+        "[G92:-5.000,0.000,0.000]\r\n",
+        "[TLO:0.000]\r\n",
+        "[PRB:0.000,0.000,0.000:0]\r\n",
+    ]
+    .iter()
+    .enumerate()
+    {
+        assert!(rt; place < OFFSET_REPLIES);
+        assert_puts(&rt, offset_reply(&offsets, place), text);
+    }
+}
+
+#[test]
+fn modes_are_told_in_one_line(rt: HostRuntime) {
+    let opening = Modes::of(&Parser::opening());
+    assert_puts(
+        &rt,
+        Reply::Modes(opening),
+        "[GC:G0 G54 G17 G21 G90 G94 M5 M9 T0 F0 S0]\r\n",
+    );
+    let modal = Modal {
+        motion: MotionMode::G80,
+        plane: 19,
+        inch: true,
+        relative: true,
+        system: 6,
+        spindle: SpindleMode::Ccw,
+        flood: true,
+    };
+    for (feed, text) in [
+        (
+            499_999,
+            "[GC:G80 G59 G19 G20 G91 G94 M4 M8 T255 F0 S999999999]\r\n",
+        ),
+        (
+            500_000,
+            "[GC:G80 G59 G19 G20 G91 G94 M4 M8 T255 F1 S999999999]\r\n",
+        ),
+        (
+            30_000_000_000_000_000,
+            "[GC:G80 G59 G19 G20 G91 G94 M4 M8 T255 F30000000000 S999999999]\r\n",
+        ),
+    ] {
+        assert!(rt; 0 <= feed && feed <= 30_000_000_000_000_000);
+        assert_puts(
+            &rt,
+            Reply::Modes(Modes {
+                modal,
+                tool: 255,
+                feed,
+                rpm: 999_999_999,
+            }),
+            text,
+        );
+    }
+}
+
+#[test]
+fn the_longest_place_fits(rt: HostRuntime) {
+    let at = Nm3 {
+        x: i64::MIN,
+        y: i64::MIN,
+        z: i64::MAX,
+    };
+    assert_puts(
+        &rt,
+        Reply::Offset { row: 5, at },
+        "[G59:-9223372036854.776,-9223372036854.776,9223372036854.776]\r\n",
+    );
+    assert_puts(
+        &rt,
+        Reply::Setting {
+            n: u16::MAX,
+            value: i64::MAX as u64,
+        },
+        "$65535=9223372036854775.807\r\n",
+    );
+}
