@@ -11,7 +11,8 @@ use Rattle.units.specs.Roots.{root_of}
 use Rattle.units.proofs.Places.{root_is}
 use Rattle.line_geom.specs.declared.Geom.{Geom}
 use Rattle.line_geom.specs.declared.Cap.TheVariants.{At}
-use Rattle.line_geom.specs.Geometry.{axis_length, way, IsGeomOf, line_length}
+use Rattle.step_line.specs.Counting.{way}
+use Rattle.line_geom.specs.Geometry.{axis_length, IsGeomOf, line_length}
 use Rattle.line_geom.proofs.Squares.{root_below}
 use Rattle.line_geom.proofs.Geometries.{bounded, unit_size}
 use Rattle.junction_speed.specs.Junctions.{turn_of, sine_of, corner_of, cap_at, junction_of, squared, IsReversed}

@@ -1,7 +1,6 @@
 -- The geometry of a straight move, by floors and roots.
-use Rattle.std.specs.Prelude.{◌≡◌, ℕ, ◌+◌, ◌*◌, ◌/◌, ◌≤◌, ◌<◌, ◌⊎◌, min, max, cond, nat_eq, ℤ, ◌-ℤ◌, nat_abs, List, [], ◌∷◌, ◌++◌, Some, None}
+use Rattle.std.specs.Prelude.{◌≡◌, ℕ, ◌+◌, ◌*◌, ◌/◌, ◌≤◌, ◌<◌, ◌⊎◌, min, max, cond, nat_eq, ℤ, nat_abs, List, [], ◌∷◌, ◌++◌, Some, None}
 use Rattle.std.specs.declared.option.Option.{Option}
-use Rattle.units.specs.declared.Steps3.{Steps3}
 use Rattle.units.specs.declared.Per3.{Per3}
 use Rattle.units.specs.declared.Move.{Move}
 use Rattle.units.specs.declared.Limits.{Limits}
@@ -9,15 +8,8 @@ use Rattle.units.specs.Rounding.{with_sign_of}
 use Rattle.units.specs.Roots.{root_of}
 use Rattle.units.specs.Lengths.{IsMove}
 use Rattle.units.specs.Limits.{IsLimits}
+use Rattle.step_line.specs.Counting.{way, events_of}
 use Rattle.line_geom.specs.declared.Geom.{Geom}
-
--- how far a move goes on each axis, in steps
-abbrev pub way : Move → Steps3
-way mv = record { x = mv.to.x -ℤ mv.from.x; y = mv.to.y -ℤ mv.from.y; z = mv.to.z -ℤ mv.from.z }
-
--- the largest axis count
-unfoldable pub events_of : Move → ℕ
-events_of mv = max (nat_abs (way mv).x) (max (nat_abs (way mv).y) (nat_abs (way mv).z))
 
 -- how far a steps go at p thousandths of a step per mm, in nm
 abbrev pub axis_length : ℕ → ℕ → ℕ

@@ -1,1 +1,4 @@
 pub mod Geometry
+pub use Rattle.units.specs.Lengths
+pub use Rattle.units.specs.Limits
+pub use Rattle.step_line.specs.Counting

@@ -4,9 +4,11 @@ ghost use Rattle.std.specs.Prelude.{◌≡◌, ◌+◌, ◌-◌, ◌*◌, ◌/�
 ghost use Rattle.units.specs.Rounding.{with_sign_of};
 ghost use Rattle.units.specs.Lengths.{IsCoordinate, IsMove, IsScale};
 ghost use Rattle.units.specs.Limits.{IsLimits, OnEachAxis};
-ghost use Rattle.line_geom.specs.Geometry.{way, events_of, axis_length, line_length, length_of, unit_of, IsAxisCap, axis_cap, axis_caps, least, IsShare, geom_of, IsGeom, IsDirection, IsBounded};
+ghost use Rattle.step_line.specs.Counting.{way, events_of};
+ghost use Rattle.line_geom.specs.Geometry.{axis_length, line_length, length_of, unit_of, IsAxisCap, axis_cap, axis_caps, least, IsShare, geom_of, IsGeom, IsDirection, IsBounded};
 
 use crate::Geom;
+use step_line::events;
 use units::{Limits, Move, Per3, isqrt};
 
 /// How many steps a move makes on each axis.
@@ -51,17 +53,6 @@ impl Counts {
             z: axis_count(mv.from.z, mv.to.z),
         }
     }
-}
-
-/// How many step events a move has: its largest axis count.
-#[tactic(auto, unfolding(crate::specs::Geometry::events_of))]
-fn events(mv: &Move) -> u32
-    requires { IsMove mv.now }
-    ensures events { result ≡ events_of mv.now }
-    ensures few { result ≤ 200000000 }
-{
-    let counts = Counts::of(mv);
-    counts.x.max(counts.y.max(counts.z))
 }
 
 /// How far an axis goes in a number of steps, in nm.
