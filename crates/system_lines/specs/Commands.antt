@@ -1,0 +1,93 @@
+-- What a `$` line asks for.
+use Rattle.std.specs.Prelude.{ℕ, ◌+◌, ◌/◌, ◌%◌, Bool, false, not, ◌&&◌, ◌==◌, nat_le, if◌then◌else◌, pos, int_le, nat_abs, List, [], ◌∷◌, length, drop, slice_get, codes, is_ok, Ok, Err, Some, None}
+use Rattle.std.specs.List.{list_any}
+use Rattle.std.specs.Map.{lookup}
+use Rattle.std.specs.Option.{option_map_or, ok_or}
+use Rattle.std.specs.Str.{bytes_eq}
+use Rattle.std.specs.declared.option.Option.{Option}
+use Rattle.std.specs.declared.result.Result.{Result}
+use Rattle.units.specs.Reading.{decimal_from}
+use Rattle.units.specs.declared.Decimal.{Decimal}
+use Rattle.units.specs.declared.NumFault.{NumFault}
+use Rattle.code_table.specs.Refusals.{first_refusal}
+use Rattle.code_table.specs.declared.Code.{Code}
+use Rattle.system_lines.specs.declared.Command.{Command}
+use Rattle.system_lines.specs.declared.Command.TheVariants.{ListSettings, ListModes, ListOffsets, Unlock, Set}
+
+abbrev pub code : ℕ → Code
+code n = record { 0 = n }
+
+-- the lines that are commands as they stand
+abbrev pub whole_commands : List (List ℕ × Command)
+whole_commands = (codes "$$", ListSettings) ∷ (codes "$G", ListModes) ∷ (codes "$X", Unlock) ∷ (codes "$#", ListOffsets) ∷ []
+
+-- ---- setting lines, `$n=v`
+
+-- the second bytes that begin lines of other kinds
+abbrev pub other_kinds : List ℕ
+other_kinds = codes "$#CGHIJNRSX"
+
+-- a setting line has a second byte, and that is none of these
+abbrev pub is_setting_line : List ℕ → Bool
+is_setting_line line = option_map_or (λ c. not (list_any (λ kind. kind == c) other_kinds)) (slice_get line 1) false
+
+-- the longest number that begins at a place of a line, and the place behind it
+abbrev pub number_at : List ℕ → ℕ → Result (Decimal × ℕ) NumFault
+number_at line at = decimal_from at (drop at line)
+
+-- a number that was read, and the place behind it; zeros where none was read
+abbrev pub zero_number : Decimal × ℕ
+zero_number = (record { micro = pos 0 }, 0)
+
+abbrev pub read_or_zero : Result (Decimal × ℕ) NumFault → Decimal × ℕ
+read_or_zero (Ok x) = x
+read_or_zero (Err fault) = zero_number
+
+-- a whole number from 0 to 255
+abbrev pub is_setting_number : Decimal → Bool
+is_setting_number n = int_le (pos 0) n.micro && (nat_abs n.micro % 1000000 == 0) && nat_le (nat_abs n.micro) 255000000
+
+-- the parts of a setting line: what is read behind `$`, and what is read behind the byte that follows it
+abbrev pub n_of : List ℕ → Result (Decimal × ℕ) NumFault
+n_of line = number_at line 1
+
+abbrev pub equals_place : List ℕ → ℕ
+equals_place line = (read_or_zero (n_of line)).1
+
+abbrev pub v_of : List ℕ → Result (Decimal × ℕ) NumFault
+v_of line = number_at line (equals_place line + 1)
+
+-- whether a byte stands at a place
+abbrev pub stands_at : ℕ → List ℕ → ℕ → Bool
+stands_at c line at = option_map_or (λ b. b == c) (slice_get line at) false
+
+-- the first that holds
+abbrev pub setting_refusal : List ℕ → Option Code
+setting_refusal line = first_refusal (
+    -- no number stands behind `$`
+    (2, not (is_ok (n_of line)))
+    -- no `=` stands behind it
+    ∷ (3, not (stands_at 61 line (equals_place line)))
+    -- no number stands behind the `=`
+    ∷ (2, not (is_ok (v_of line)))
+    -- the line goes on behind that
+    ∷ (3, not ((read_or_zero (v_of line)).1 == length line))
+    -- the first number is none of a setting
+    ∷ (3, not (is_setting_number (read_or_zero (n_of line)).0))
+    ∷ [])
+
+abbrev pub asked : List ℕ → Command
+asked line = Set (nat_abs (read_or_zero (n_of line)).0.micro / 1000000) (read_or_zero (v_of line)).0
+
+-- a command, if nothing refuses it
+abbrev pub unless : Option Code → Command → Result Command Code
+unless (Some refusal) command = Err refusal
+unless None command = Ok command
+
+-- ---- all lines
+
+-- what a line that begins with `$` asks for
+unfoldable pub command_of : List ℕ → Result Command Code
+command_of line =
+    if is_setting_line line then unless (setting_refusal line) (asked line) else
+    ok_or (lookup (bytes_eq line) whole_commands) (code 3)

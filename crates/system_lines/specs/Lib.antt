@@ -1,0 +1,7 @@
+pub mod Commands
+pub mod Setting
+pub use Rattle.units.specs.Decimals
+pub use Rattle.units.specs.Reading
+pub use Rattle.code_table.specs.Refusals
+pub use Rattle.code_table.specs.Tables
+pub use Rattle.settings.specs.Numbers

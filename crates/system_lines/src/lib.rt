@@ -1,0 +1,126 @@
+//! Lines that begin with `$`: what they ask for, and the settings that they set.
+#![tactic(auto)]
+
+ghost use Rattle.std.specs.Prelude.{◌≡◌, ◌<◌, ◌≤◌, ◌*◌, ◌/◌, ◌%◌, false, IfOk, IfErr, IfSome, IfNone, OnOk, OnErr, Some, None, Ok, Err, IsErr, is_some, IsTrue, length, slice_get, nat_abs};
+ghost use Rattle.code_table.specs.Tables.{value_of};
+ghost use Rattle.settings.specs.Numbers.{values, value_set, with_value, IsSettings};
+ghost use Rattle.system_lines.specs.Commands.{number_at, is_setting_number, setting_refusal, asked, unless, command_of};
+ghost use Rattle.system_lines.specs.Setting.{turns_soft_limits_on, apply_refusal};
+
+#[cfg(test)]
+mod tests;
+
+use code_table::Code;
+use settings::Settings;
+use units::{Decimal, read_decimal};
+
+/// What a `$` line asks for.
+#[derive(Clone, Copy, Debug, PartialEq, Eq)]
+pub enum Command {
+    /// `$$`: to list the settings.
+    ListSettings,
+    /// `$G`: to list the modes.
+    ListModes,
+    /// `$#`: to list the offsets.
+    ListOffsets,
+    /// `$X`: to end the alarm lock.
+    Unlock,
+    /// `$n=v`: to set a setting.
+    Set { n: u8, value: Decimal },
+}
+
+/// The number that begins at a place of a line, and the place behind it, or error 2.
+fn read_number(line: &[u8], at: usize) -> Result<(Decimal, usize), Code>
+    requires { at ≤ length line.now }
+    ensures read { IfOk result (λ x. number_at line.now at ≡ Ok x) }
+    ensures place { IfOk result (λ x. (at < x.1) × (x.1 ≤ length line.now)) }
+    ensures refused { IfErr result (λ refusal. refusal ≡ record { 0 = 2 }) }
+    ensures not_read { OnErr result (IsErr (number_at line.now at)) }
+{
+    read_decimal(line, at).map_err(|_| Code(2))
+}
+
+/// The number of a setting: a whole number from 0 to 255.
+fn setting_number(n: Decimal) -> Option<u8>
+    ensures whole { IfSome result (λ number. number ≡ nat_abs n.micro / 1000000) }
+    ensures some { is_some result ≡ is_setting_number n }
+{
+    if n.micro < 0 {
+        return None;
+    }
+    let micro = n.micro.unsigned_abs();
+    if micro % 1_000_000 != 0 || 255_000_000 < micro {
+        return None;
+    }
+    Some((micro / 1_000_000) as u8)
+}
+
+/// What a line asks for that is none of the other kinds.
+fn read_setting(line: &[u8]) -> Result<Command, Code>
+    requires { 0 < length line.now }
+    ensures { result ≡ unless (setting_refusal line.now) (asked line.now) }
+{
+    let (n, equals) = read_number(line, 1)?;
+    if line.get(equals) != Some(&b'=') {
+        return Err(Code(3));
+    }
+    let (value, end) = read_number(line, equals + 1)?;
+    if end != line.len() {
+        return Err(Code(3));
+    }
+    match setting_number(n) {
+        Some(n) => Ok(Command::Set { n, value }),
+        None => Err(Code(3)),
+    }
+}
+
+/// What a line asks for, given the bytes that are kept of it, the first of which is `$`.
+///
+/// `$$`, `$G`, `$#` and `$X` are commands as they stand. A line whose second byte is none of `$`, `#`, `C`, `G`, `H`,
+/// `I`, `J`, `N`, `R`, `S` and `X` is a setting line, `$n=v`.
+///
+/// # Errors
+///
+/// In a setting line the first of these: 2 where no number stands behind the `$`; 3 where no `=` stands behind
+/// that; 2 where no number stands behind the `=`; 3 where the line goes on; 3 where n isn't a whole number from 0
+/// to 255. Every other line is refused with 3.
+#[tactic(auto, unfolding(crate::specs::Commands::command_of))]
+pub fn read_command(line: &[u8]) -> Result<Command, Code>
+    requires { slice_get line.now 0 ≡ Some 36 }
+    ensures { result ≡ command_of line.now }
+{
+    match line {
+        b"$$" => Ok(Command::ListSettings),
+        b"$G" => Ok(Command::ListModes),
+        b"$#" => Ok(Command::ListOffsets),
+        b"$X" => Ok(Command::Unlock),
+        [] | [_] => Err(Code(3)),
+        [
+            _,
+            b'$' | b'#' | b'C' | b'G' | b'H' | b'I' | b'J' | b'N' | b'R' | b'S' | b'X',
+            ..
+        ] => Err(Code(3)),
+        _ => read_setting(line),
+    }
+}
+
+/// Sets what a setting line asks for; soft limits stay off.
+///
+/// # Errors
+///
+/// 3 where the line asks for soft limits, by setting 20 and a value whose whole part isn't 0; else what
+/// `Settings::set` refuses with. Then nothing changes.
+pub fn apply_setting(settings: &mut Settings, n: u8, value: Decimal) -> Result<(), Code>
+    requires { IsSettings settings.old }
+    ensures refused { IfErr result (λ refusal. apply_refusal n value ≡ Some refusal) }
+    ensures unchanged { OnErr result (settings.new ≡ settings.old) }
+    ensures passed { OnOk result (apply_refusal n value ≡ None) }
+    ensures values { OnOk result (values settings.new ≡ with_value n (value_set n value) settings.old) }
+    ensures soft { settings.old.soft ≡ false → settings.new.soft ≡ false }
+    ensures valid { IsSettings settings.new }
+{
+    if n == 20 && value.micro.unsigned_abs() >= 1_000_000 {
+        return Err(Code(3));
+    }
+    settings.set(u16::from(n), value)
+}
