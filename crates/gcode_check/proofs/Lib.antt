@@ -1,0 +1,5 @@
+pub mod Nearness
+pub mod Lasts
+pub mod Sound
+pub mod Causes
+pub mod Moves

@@ -1,0 +1,207 @@
+//! What refuses a line whose words pass.
+
+ghost use Rattle.std.specs.Prelude.{◌≡◌, ℕ, ◌+◌, ◌*◌, ◌/◌, ◌≤◌, ◌<◌, ◌^◌, nat_abs, ◌||◌, ◌&&◌, length, All, IfNone, IfSome, false};
+ghost use Rattle.std.specs.List.{list_any};
+ghost use Rattle.modal_state.specs.Modes.{IsParser};
+ghost use Rattle.line_words.specs.Given.{is_over};
+ghost use Rattle.line_words.specs.Targets.{targets};
+ghost use Rattle.gcode_check.specs.NewOffsets.{new_offset};
+ghost use Rattle.gcode_check.specs.Conditions.{is_g80, is_g1, line_number_out_of_range, dwell_without_time, system_offset_without_axis, system_offset_without_system, system_out_of_range, system_offset_unsupported, shift_without_axis, machine_coordinates_without_motion, axis_words_without_motion, motion_without_feed, unused_words, IsNear, is_far, sets_far, target_out_of_range, is_off_axis, is_outside, line_refusal};
+
+use crate::offsets::{has_l, new_offset};
+use code_table::{Code, first_refusal};
+use line_words::commands::{G4, G10, G53, G92};
+use line_words::{Line, feed_of, motion_of, moves, names_axis, whole_given};
+use modal_state::{MotionMode, Parser};
+use settings::Settings;
+use units::{Nm3, Per3};
+
+/// Whether a number stands that is over a bound.
+fn is_over(bound: u32, number: Option<u32>) -> bool
+    ensures { result ≡ is_over bound number }
+{
+    match number {
+        Some(number) => number > bound,
+        None => false,
+    }
+}
+
+/// Whether a mode is G80.
+fn is_g80(motion: MotionMode) -> bool
+    ensures { result ≡ is_g80 motion }
+{
+    matches!(motion, MotionMode::G80)
+}
+
+/// Whether a mode is G1.
+pub fn is_g1(motion: MotionMode) -> bool
+    ensures { result ≡ is_g1 motion }
+{
+    matches!(motion, MotionMode::G1)
+}
+
+fn line_number_out_of_range(line: &Line<'_>) -> bool
+    ensures { result ≡ line_number_out_of_range line.now }
+{
+    is_over(10_000_000, whole_given(b'N', line))
+}
+
+fn dwell_without_time(line: &Line<'_>) -> bool
+    ensures { result ≡ dwell_without_time line.now }
+{
+    line.has(G4) && !line.stands(b'P')
+}
+
+fn system_offset_without_axis(line: &Line<'_>) -> bool
+    ensures { result ≡ system_offset_without_axis line.now }
+{
+    line.has(G10) && !names_axis(line)
+}
+
+fn system_offset_without_system(line: &Line<'_>) -> bool
+    ensures { result ≡ system_offset_without_system line.now }
+{
+    line.has(G10) && !line.stands(b'P') && !line.stands(b'L')
+}
+
+fn system_out_of_range(line: &Line<'_>) -> bool
+    ensures { result ≡ system_out_of_range line.now }
+{
+    line.has(G10) && is_over(6, whole_given(b'P', line))
+}
+
+fn system_offset_unsupported(line: &Line<'_>) -> bool
+    ensures { result ≡ system_offset_unsupported line.now }
+{
+    line.has(G10) && !has_l(20, line) && (!has_l(2, line) || line.stands(b'R'))
+}
+
+fn shift_without_axis(line: &Line<'_>) -> bool
+    ensures { result ≡ shift_without_axis line.now }
+{
+    line.has(G92) && !names_axis(line)
+}
+
+fn machine_coordinates_without_motion(p: &Parser, line: &Line<'_>) -> bool
+    ensures { result ≡ machine_coordinates_without_motion p.now line.now }
+{
+    line.has(G53) && is_g80(motion_of(p, line))
+}
+
+fn axis_words_without_motion(p: &Parser, line: &Line<'_>) -> bool
+    ensures { result ≡ axis_words_without_motion p.now line.now }
+{
+    is_g80(motion_of(p, line)) && names_axis(line)
+}
+
+fn motion_without_feed(p: &Parser, line: &Line<'_>) -> bool
+    requires { IsParser p.now }
+    ensures { result ≡ motion_without_feed p.now line.now }
+{
+    moves(line) && is_g1(motion_of(p, line)) && feed_of(p, line).unsigned_abs() == 0
+}
+
+fn unused_words(line: &Line<'_>) -> bool
+    ensures { result ≡ unused_words line.now }
+{
+    let unused_p = line.stands(b'P') && !(line.has(G4) || line.has(G10));
+    let unused_l = line.stands(b'L') && !line.has(G10);
+    unused_p
+        || unused_l
+        || line.stands(b'I')
+        || line.stands(b'J')
+        || line.stands(b'K')
+        || line.stands(b'R')
+}
+
+/// Whether a point is beyond 10,000 mm on some axis.
+fn is_far(at: &Nm3) -> bool
+    ensures { result ≡ is_far at.now }
+{
+    at.x.unsigned_abs() > 10_000_000_000
+        || at.y.unsigned_abs() > 10_000_000_000
+        || at.z.unsigned_abs() > 10_000_000_000
+}
+
+fn any_far(points: &[Nm3]) -> bool
+    ensures { result ≡ list_any is_far points.now }
+{
+    points.iter().any(|point| is_far(point))
+}
+
+fn sets_far(offset: Option<Nm3>) -> bool
+    ensures { result ≡ sets_far offset }
+{
+    match offset {
+        Some(offset) => is_far(&offset),
+        None => false,
+    }
+}
+
+fn target_out_of_range(p: &Parser, line: &Line<'_>, points: &[Nm3]) -> bool
+    requires valid { IsParser p.now }
+    requires points { points.now ≡ targets p.now line.now }
+    ensures { result ≡ target_out_of_range p.now line.now }
+{
+    any_far(points) || sets_far(new_offset(p, line))
+}
+
+/// The first of the errors of a line.
+#[tactic(auto, unfolding(crate::specs::Conditions::line_refusal))]
+fn first_error(p: &Parser, line: &Line<'_>, points: &[Nm3]) -> Option<Code>
+    requires valid { IsParser p.now }
+    requires points { points.now ≡ targets p.now line.now }
+    ensures { result ≡ line_refusal p.now line.now }
+{
+    first_refusal(&[
+        (27, line_number_out_of_range(line)),
+        (28, dwell_without_time(line)),
+        (26, system_offset_without_axis(line)),
+        (28, system_offset_without_system(line)),
+        (29, system_out_of_range(line)),
+        (20, system_offset_unsupported(line)),
+        (26, shift_without_axis(line)),
+        (30, machine_coordinates_without_motion(p, line)),
+        (31, axis_words_without_motion(p, line)),
+        (22, motion_without_feed(p, line)),
+        (36, unused_words(line)),
+        (33, target_out_of_range(p, line, points)),
+    ])
+}
+
+/// What refuses a line whose words pass. What nothing refuses stays near.
+pub fn line_refusal(p: &Parser, line: &Line<'_>, points: &[Nm3]) -> Option<Code>
+    requires valid { IsParser p.now }
+    requires points { points.now ≡ targets p.now line.now }
+    ensures refusal { result ≡ line_refusal p.now line.now }
+    ensures near { IfNone result (All (IsNear) (targets p.now line.now)) }
+    ensures offset { IfNone result (IfSome (new_offset p.now line.now) (IsNear)) }
+{
+    first_error(p, line, points)
+}
+
+/// Whether a coordinate is above 0 or below minus the travel, which is in µm.
+fn is_off_axis(travel: u32, z: i64) -> bool
+    ensures { result ≡ is_off_axis travel z }
+{
+    z > 0 || z < -(travel as i64 * 1000)
+}
+
+fn is_outside(travel: &Per3, at: &Nm3) -> bool
+    ensures { result ≡ is_outside travel.now at.now }
+{
+    is_off_axis(travel.x, at.x) || is_off_axis(travel.y, at.y) || is_off_axis(travel.z, at.z)
+}
+
+fn any_outside(travel: &Per3, points: &[Nm3]) -> bool
+    ensures { result ≡ list_any (is_outside travel.now) points.now }
+{
+    points.iter().any(|point| is_outside(travel, point))
+}
+
+/// Whether soft limits are on and one of these points lies outside travel.
+pub fn leaves_travel(s: &Settings, points: &[Nm3]) -> bool
+    ensures { result ≡ (s.now.soft && list_any (is_outside s.now.travel) points.now) }
+{
+    s.soft && any_outside(&s.travel, points)
+}

@@ -1,0 +1,16 @@
+pub mod Letters
+pub mod Codes
+pub mod Given
+pub mod WordRefusals
+pub mod Slots
+pub mod Index
+pub mod Passing
+pub mod LineModes
+pub mod Targets
+pub mod Laws
+pub use Rattle.units.specs.Lengths
+pub use Rattle.units.specs.Limits
+pub use Rattle.gcode_words.specs.Words
+pub use Rattle.code_table.specs.Tables
+pub use Rattle.code_table.specs.Refusals
+pub use Rattle.modal_state.specs.Modes
