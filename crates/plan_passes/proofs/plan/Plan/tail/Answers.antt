@@ -1,0 +1,10 @@
+use Rattle.std.proofs.Common.{IfSome, subst}
+use Rattle.plan_passes.specs.Plans.{Planned, IsTail}
+use Rattle.plan_passes.proofs.Reached.{plan_of, tail_if}
+use Rattle.plan_passes.proofs.plan.Plan.tail.Goals as goal
+
+pub returns-clause-some : goal.returns-clause-some
+returns-clause-some g c =
+    let p : Planned = plan_of c.self.inside.ring c.self.inside.speed c.self.inside.overrides in
+    subst (λ (p : Planned). IfSome c.tail.result (λ b. IsTail p b.now)) c.self.view_is
+    (tail_if c.tail.result p c.tail.ensures.some c.self.invariant.reached)

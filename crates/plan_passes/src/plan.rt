@@ -1,0 +1,198 @@
+//! The plan.
+
+ghost use Rattle.std.specs.Prelude.{◌≡◌, ◌<◌, ◌≤◌, ◌-◌, ◌*◌, List, ◌∷◌, length};
+ghost use Rattle.std.specs.List.{All};
+ghost use Rattle.planner_ring.specs.declared.Block.{Block};
+ghost use Rattle.plan_passes.specs.Blocks.{IsBlock, left_of};
+ghost use Rattle.plan_passes.specs.Plans.{entry_at};
+ghost use Rattle.plan_passes.specs.Segments.{moved};
+
+use crate::passes::{block_at, plan_all};
+use junction_speed::junction;
+use line_geom::Cap;
+use overrides::Overrides;
+use planner_ring::{Block, Ring};
+use std::marker::Model;
+
+/// The blocks that are planned, the present squared speed, and the overrides that they are planned for.
+#[derive(Drop)]
+pub struct Plan<const N: usize> {
+    ring: Ring<N>,
+    speed: u64,
+    overrides: Overrides,
+    /// The planned squared speed at each point ahead.
+    planned: [u64; N],
+    /// Which place of `planned` is that of the present point: behind it lie the junctions and the end.
+    first: usize,
+}
+
+impl<const N: usize> Model for Plan<N> {
+    ghost use Rattle.plan_passes.specs.Plans.{Planned, IsKept};
+
+    ghost Value = { Planned };
+
+    ghost view = { λ p. record { blocks = p.ring; speed = p.speed; overrides = p.overrides } };
+
+    ghost invariant = { λ p. IsKept N (record { blocks = p.ring; speed = p.speed; overrides = p.overrides }) p.first p.planned };
+}
+
+/// The cap of a block's junction with the last one that stands.
+fn entry_cap<const N: usize>(ring: &Ring<N>, b: &Block, deviation: u32) -> Cap
+    ensures { result ≡ entry_at ring.now b.now deviation }
+{
+    let count = ring.len();
+    if count == 0 {
+        return Cap::At(0);
+    }
+    junction(&block_at(ring, count - 1).geom, &b.geom, deviation)
+}
+
+/// Marks n more events of the tail as prepared, and takes it away where none is left. How much the squared speed may
+/// change over what is left of it is answered: 0 exactly where it goes.
+#[tactic(auto, using(crate::proofs::Bounds::bounds_of))]
+fn prepare<const N: usize>(ring: &mut Ring<N>, n: u32) -> u128
+    requires some { 0 < length ring.old }
+    requires blocks { All IsBlock ring.old }
+    requires left { (b : Block) (bs : List Block) → ring.old ≡ b ∷ bs → n ≤ left_of b }
+    ensures moved { ring.new ≡ moved n ring.old }
+    ensures gap { (b : Block) (bs : List Block) → ring.old ≡ b ∷ bs → result ≡ b.geom.q * (left_of b - n) }
+{
+    let Some(tail) = ring.tail_mut() else {
+        unreachable!()
+    };
+    tail.prepared += n;
+    let left = tail.geom.n - tail.prepared;
+    let gap = tail.geom.q as u128 * left as u128;
+    if left == 0 {
+        ring.drop_tail();
+    }
+    gap
+}
+
+impl<const N: usize> Plan<N> {
+    ghost use Rattle.std.specs.Prelude.{◌≡◌, ◌≤◌, ◌<◌, ◌+◌, ◌↔◌, [], length, get_or};
+    ghost use Rattle.std.specs.Prelude.{IsOk, OnOk, OnErr, IfErr, IfSome, IsNone};
+    ghost use Rattle.units.specs.Limits.{IsRate};
+    ghost use Rattle.line_geom.specs.Geometry.{IsGeomOf};
+    ghost use Rattle.overrides.specs.Percents.{IsOverrides};
+    ghost use Rattle.plan_passes.specs.Plans.{IsReached, IsTail, IsGreatest, exit_of, profile_of, added};
+    ghost use Rattle.plan_passes.specs.Segments.{IsSegment, advanced, IsLegalStep};
+
+    /// A plan of at most N - 1 blocks, at rest. N is from 2 to 64.
+    pub fn new() -> Plan<N>
+        requires { (2 ≤ N) × (N ≤ 64) }
+        ensures blocks { result.blocks ≡ [] }
+        ensures speed { result.speed ≡ 0 }
+        ensures overrides { result.overrides ≡ record { feed = 100; rapid = 100; spindle = 100 } }
+    {
+        Plan {
+            ring: Ring::new(),
+            speed: 0,
+            overrides: Overrides::normal(),
+            planned: [0; N],
+            first: 0,
+        }
+    }
+
+    /// How many blocks stand.
+    pub fn len(&self) -> usize
+        ensures { result ≡ length self.now.blocks }
+    {
+        self.ring.len()
+    }
+
+    /// The block that is run, or None exactly where no block stands.
+    pub fn tail(&self) -> Option<&Block>
+        ensures none { IsNone result ↔ (self.now.blocks ≡ []) }
+        ensures some { IfSome result (λ b. IsTail self.now b.now) }
+    {
+        self.ring.tail()
+    }
+
+    /// The present squared speed, in µm²/s². From it the plan can slow down to each hard cap ahead, and stop at its end.
+    pub fn speed(&self) -> u64
+        ensures speed { result ≡ self.now.speed }
+        ensures reached { IsReached self.now }
+    {
+        self.speed
+    }
+
+    /// The planned squared speed at the end of the tail, in µm²/s²: that of the greatest profile within the limits. A
+    /// profile has a speed for the present place, for each junction and for the end. It is within the limits where each
+    /// speed is at most its point's cap, and changes over a block by no more than what is left of the block allows.
+    pub fn exit_of_tail(&self) -> u64
+        requires { 0 < length self.now.blocks }
+        ensures exit { result ≡ exit_of self.now }
+        ensures profile { result ≡ get_or (profile_of self.now) 1 0 }
+        ensures greatest { IsGreatest self.now }
+        ensures reached { IsReached self.now }
+    {
+        self.planned[self.first + 1]
+    }
+
+    /// Puts a block behind the others and plans, or hands it back exactly where N - 1 blocks stand.
+    ///
+    /// Its entry cap becomes that of its junction with the last block, for a deviation in µm, or `At(0)` where no block
+    /// stands. The plan keeps the overrides; where blocks stand they are the ones that it has.
+    pub fn add(&mut self, b: Block, deviation: u32, o: &Overrides) -> Result<(), Block>
+        requires rate { IsRate b.rate }
+        requires geom { IsGeomOf b.mv b.geom }
+        requires fresh { b.prepared ≡ 0 }
+        requires overrides { IsOverrides o.now }
+        requires same { 0 < length self.old.blocks → o.now ≡ self.old.overrides }
+        ensures room { IsOk result ↔ (length self.old.blocks + 1 < N) }
+        ensures ok { OnOk result (self.new ≡ added self.old b deviation o.now) }
+        ensures full { OnErr result (self.new ≡ self.old) }
+        ensures back { IfErr result (λ block. block ≡ b) }
+    {
+        let entry = entry_cap(&self.ring, &b, deviation);
+        match self.ring.push(Block { entry, ..b }) {
+            Err(_) => Err(b),
+            Ok(()) => {
+                self.overrides = *o;
+                self.first = 0;
+                plan_all(&self.ring, self.speed, o, &mut self.planned);
+                Ok(())
+            }
+        }
+    }
+
+    /// Plans for other overrides.
+    pub fn replan(&mut self, o: &Overrides)
+        requires { IsOverrides o.now }
+        ensures { self.new ≡ record self.old { overrides = o.now } }
+    {
+        self.overrides = *o;
+        self.first = 0;
+        plan_all(&self.ring, self.speed, &self.overrides, &mut self.planned);
+    }
+
+    /// Marks n events of the tail as prepared, with the squared speed w behind them, and takes the tail away where no
+    /// event of it is left. The events and the speed are those of a segment.
+    ///
+    /// Where the planned speed at the tail's end stays within reach, as it does in mode Go, no planned speed changes. Else
+    /// the plan is made anew.
+    pub fn advance(&mut self, n: u32, w: u64)
+        requires { IsSegment self.old n w }
+        ensures advanced { self.new ≡ advanced self.old n w }
+        ensures legal { IsLegalStep self.old.blocks self.old.speed n w }
+    {
+        let gap = prepare(&mut self.ring, n);
+        let exit = self.planned[self.first + 1];
+        self.speed = w;
+        if w.abs_diff(exit) as u128 > gap {
+            self.first = 0;
+            plan_all(&self.ring, w, &self.overrides, &mut self.planned);
+        } else if gap == 0 {
+            self.first += 1;
+        }
+    }
+
+    /// Takes all blocks away, and stops.
+    pub fn clear(&mut self)
+        ensures { self.new ≡ record self.old { blocks = []; speed = 0 } }
+    {
+        self.ring.clear();
+        self.speed = 0;
+    }
+}
