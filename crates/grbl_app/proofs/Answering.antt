@@ -8,7 +8,8 @@ use Rattle.run_rules.specs.declared.Answer.{Answer}
 use Rattle.run_rules.specs.declared.Answer.TheVariants.{Accepted, Refused}
 use Rattle.run_rules.specs.declared.Verdict.{Verdict}
 use Rattle.run_rules.specs.FirstForm.{verdict, opening, IsState}
-use Rattle.run_rules.specs.Runs.{MayAnswer, state_behind, events_behind, banner, answer_text, console_text, event_text, events_text, errors_in, is_error}
+use Rattle.run_rules.specs.Runs.{MayAnswer, state_behind, events_behind, banner, answer_text, console_text, events_text, errors_in, is_error}
+use Rattle.step_record.specs.Texts.{event_text}
 use Rattle.run_rules.proofs.Going.{goes_on}
 use Rattle.grbl_app.specs.Writing.{WritesOn, IsEmpty}
 use Rattle.grbl_app.specs.Engines.{Sinks, HasAnswered}

@@ -9,7 +9,8 @@ use Rattle.step_line.specs.Tracing.{Trace}
 use Rattle.step_line.specs.Events.{event_of, events_after, line_events}
 use Rattle.step_line.proofs.Order.{in_parts}
 use Rattle.outside.specs.Causes.{SinkState}
-use Rattle.run_rules.specs.Runs.{event_text, events_text}
+use Rattle.run_rules.specs.Runs.{events_text}
+use Rattle.step_record.specs.Texts.{event_text}
 use Rattle.grbl_app.specs.Writing.{WritesOn}
 use Rattle.grbl_app.specs.declared.output.Output.{Output}
 use Rattle.grbl_app.proofs.Written.{writes_both}

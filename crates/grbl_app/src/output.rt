@@ -4,14 +4,15 @@ ghost use Rattle.std.specs.Prelude.{◌≡◌, ℕ, ◌+◌, ◌≤◌, ◌++◌
 ghost use Rattle.arrayvec.specs.ArrayVec.{array_vec_len};
 ghost use Rattle.units.specs.Lengths.{IsMove};
 ghost use Rattle.step_line.specs.Events.{line_events};
-ghost use Rattle.run_rules.specs.Runs.{answer_text, axis_text, event_text, events_text, events_of_move};
+ghost use Rattle.run_rules.specs.Runs.{answer_text, events_text, events_of_move};
 ghost use Rattle.grbl_app.specs.Writing.{Took, WritesOn};
 
 use arrayvec::ArrayVec;
 use itoa::Buffer;
 use outside::Sink;
 use run_rules::Answer;
-use step_line::{Bits, Tracer};
+use step_line::Tracer;
+use step_record::{LONGEST_EVENT, push_event};
 use units::Move;
 
 /// Bytes that wait to be written at once.
@@ -35,33 +36,6 @@ fn append(text: &[u8], out: &mut Waiting)
         Ok(()) => {}
         Err(_) => unreachable!(),
     }
-}
-
-/// Appends the letter and the sign of an axis that steps.
-#[inline]
-fn push_axis(letter: u8, step: i8, out: &mut Waiting)
-    requires { array_vec_len out.old + 2 ≤ 4096 }
-    ensures text { out.new.items ≡ out.old.items ++ axis_text letter step }
-    ensures room { array_vec_len out.new ≤ array_vec_len out.old + 2 }
-{
-    if step == 0 {
-        return;
-    }
-    out.push(letter);
-    out.push(if step < 0 { b'-' } else { b'+' });
-}
-
-/// Appends the line of an event.
-#[inline]
-#[tactic(auto, unfolding(run_rules::specs::Runs::event_text))]
-fn push_event(bits: &Bits, out: &mut Waiting)
-    requires { array_vec_len out.old + 8 ≤ 4096 }
-    ensures { out.new.items ≡ out.old.items ++ event_text bits.now }
-{
-    push_axis(b'X', bits.x, out);
-    push_axis(b'Y', bits.y, out);
-    push_axis(b'Z', bits.z, out);
-    out.push(b'\n');
 }
 
 /// Appends an answer, ended by CR LF.
@@ -155,7 +129,7 @@ impl Output {
     {
         let mut tracer = Tracer::new(mv);
         while let Some(bits) = tracer.next() {
-            self.make_room(sink, 8);
+            self.make_room(sink, LONGEST_EVENT);
             push_event(&bits, &mut self.waiting);
         }
     }

@@ -1,10 +1,11 @@
 -- A run of lines: what they are answered, what they trace, and the texts that say so.
-use Rattle.std.specs.Prelude.{◌≡◌, ℕ, Bool, true, false, cond, List, [], ◌∷◌, ◌++◌, nat_eq, ℤ, pos, negsuc, codes, decimal, Some, None}
+use Rattle.std.specs.Prelude.{◌≡◌, ℕ, Bool, true, false, List, [], ◌∷◌, ◌++◌, codes, decimal, Some, None}
 use Rattle.std.specs.List.{flat_map, count_by}
 use Rattle.std.specs.declared.option.Option.{Option}
 use Rattle.units.specs.declared.Move.{Move}
 use Rattle.step_line.specs.declared.Bits.{Bits}
 use Rattle.step_line.specs.Events.{line_events}
+use Rattle.step_record.specs.Texts.{event_text}
 use Rattle.run_rules.specs.declared.State.{State}
 use Rattle.run_rules.specs.declared.Verdict.{Verdict}
 use Rattle.run_rules.specs.declared.Verdict.TheVariants.{Accept, Refuse}
@@ -63,20 +64,12 @@ answer_text (Refused n) = codes "error:" ++ decimal n ++ codes "\r\n"
 abbrev pub console_text : List Answer → List ℕ
 console_text answers = banner ++ flat_map answer_text answers
 
-abbrev pub axis_text : ℕ → ℤ → List ℕ
-axis_text letter (pos n) = cond (nat_eq n 0) [] (letter ∷ 43 ∷ [])
-axis_text letter (negsuc n) = letter ∷ 45 ∷ []
-
--- a letter and a sign for each axis that steps, ended by LF
-unfoldable pub event_text : Bits → List ℕ
-event_text b = axis_text 88 b.x ++ axis_text 89 b.y ++ axis_text 90 b.z ++ 10 ∷ []
-
 abbrev pub events_text : List Bits → List ℕ
 events_text events = flat_map event_text events
 
 -- the steps' text: a line for each event, and `E`
 abbrev pub steps_text : List Bits → List ℕ
-steps_text events = events_text events ++ 69 ∷ 10 ∷ []
+steps_text events = events_text events ++ codes "E\n"
 
 abbrev pub is_error : Answer → Bool
 is_error Accepted = false

@@ -7,7 +7,7 @@ pub loop-bits-preserved : goal.loop-bits-preserved
 loop-bits-preserved g c =
     let more = goes_on c.args.mv c.loop-bits.tracer c.in-Some.bits c.loop-bits.invariant.same c.in-Some.ensures.event c.in-Some.ensures.none in
     let after = c.next.ensures.one_more more.0 in
-    let written = room_then _ _ c.make_room.ensures.writes refl c.push_event.ensures in
+    let written = room_then _ _ c.make_room.ensures.writes refl c.push_event.ensures.text in
     record {
       same = ap (λ t. t.mv) after ∙ c.loop-bits.invariant.same;
       writes = rw (ap (λ t. t.done) after) (event_written c.args.mv c.loop-bits.tracer.done c.loop-bits.invariant.writes (rw more.1 at written));
