@@ -1,7 +1,7 @@
 //! The Grbl interpreter: a job from standard input, replies to standard output, step events to `steps.out`.
 #![tactic(auto)]
 
-use grbl_app::{Status, put_fault, run_grbl};
+use grbl_app::{exit_number, put_fault, run_grbl};
 use outside::{Failed, OpenGate, ReadSource, Sink, WriteSink};
 use std::alloc::{AllocError, Global};
 use std::env;
@@ -39,23 +39,6 @@ impl Sink for StepsFile<'_> {
         }
         self.faults = self.faults.saturating_add(1);
         Err(Failed)
-    }
-}
-
-/// The number that a status ends the program with.
-fn exit_number(status: &Status) -> u8 {
-    match status {
-        Status::Done => 0,
-        Status::LineErrors(_) => 1,
-        Status::Usage => 2,
-        Status::SourceFault => 3,
-        Status::ConsoleFault => 4,
-        Status::StepsFault => 5,
-        Status::LongLine(_) => 6,
-        Status::Reset => 7,
-        Status::Alarm(_) => 8,
-        Status::TooLarge => 9,
-        Status::OutOfMemory => 10,
     }
 }
 

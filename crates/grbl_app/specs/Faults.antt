@@ -1,4 +1,4 @@
--- What the program says where a run did not go well.
+-- What the program ends with, and what it says where a run did not go well.
 use Rattle.std.specs.Prelude.{ℕ, List, [], ◌++◌, codes, decimal}
 use Rattle.grbl_app.specs.declared.status.Status.{Status}
 use Rattle.grbl_app.specs.declared.status.Status.TheVariants.{Done, LineErrors, Usage, SourceFault, ConsoleFault, StepsFault, LongLine, Reset, Alarm, TooLarge, OutOfMemory}
@@ -15,3 +15,17 @@ fault_text Reset = codes "stopped: reset\n"
 fault_text (Alarm k) = codes "stopped: soft limit at line " ++ decimal k ++ codes "\n"
 fault_text TooLarge = codes "fault: the job is larger than 16777216 bytes\n"
 fault_text OutOfMemory = codes "fault: out of memory\n"
+
+-- the number that the program ends with
+abbrev pub exit_number_of : Status → ℕ
+exit_number_of Done = 0
+exit_number_of (LineErrors n) = 1
+exit_number_of Usage = 2
+exit_number_of SourceFault = 3
+exit_number_of ConsoleFault = 4
+exit_number_of StepsFault = 5
+exit_number_of (LongLine k) = 6
+exit_number_of Reset = 7
+exit_number_of (Alarm k) = 8
+exit_number_of TooLarge = 9
+exit_number_of OutOfMemory = 10

@@ -18,7 +18,7 @@ use open_line::OpenLine;
 use outside::{Gate, Sink, Source};
 use reading::{finish, read_job};
 use status::first_cause;
-pub use status::{Status, put_fault};
+pub use status::{Status, exit_number, put_fault};
 use std::alloc::Global;
 use std::sync::Wait;
 use std::thread::Threads;

@@ -3,7 +3,7 @@
 ghost use Rattle.std.specs.Prelude.{◌≡◌, ◌≤◌, ◌+◌, ◌++◌, length, codes, decimal};
 ghost use Rattle.arrayvec.specs.ArrayVec.{array_vec_len};
 ghost use Rattle.grbl_app.specs.Ends.{first_cause, by_errors};
-ghost use Rattle.grbl_app.specs.Faults.{fault_text};
+ghost use Rattle.grbl_app.specs.Faults.{fault_text, exit_number_of};
 
 use crate::engine::Engine;
 use itoa::Buffer;
@@ -63,6 +63,25 @@ pub(crate) fn first_cause(engine: &Engine, reading: Reading) -> Status
         Reading::Failed => Status::SourceFault,
         Reading::Large => Status::TooLarge,
         Reading::Ended => by_errors(engine.errors),
+    }
+}
+
+/// The number that the program ends with.
+pub fn exit_number(s: &Status) -> u8
+    ensures { result ≡ exit_number_of s.now }
+{
+    match s {
+        Status::Done => 0,
+        Status::LineErrors(_) => 1,
+        Status::Usage => 2,
+        Status::SourceFault => 3,
+        Status::ConsoleFault => 4,
+        Status::StepsFault => 5,
+        Status::LongLine(_) => 6,
+        Status::Reset => 7,
+        Status::Alarm(_) => 8,
+        Status::TooLarge => 9,
+        Status::OutOfMemory => 10,
     }
 }
 
