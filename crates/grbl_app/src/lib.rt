@@ -2,7 +2,6 @@
 #![tactic(auto)]
 
 ghost use Rattle.std.specs.Prelude.{◌≡◌, ◌≢◌, ℕ, ◌≤◌, [], ◌∷◌, map, codes};
-ghost use Rattle.std.specs.Io.KnownBytes.{Keeps};
 ghost use Rattle.outside.specs.Causes.{Rose};
 ghost use Rattle.grbl_app.specs.Ends.{IsWhole, IsRun, IsWholeRun, TookMore, HasCauses};
 ghost use Rattle.grbl_app.specs.Engines.{Sinks};
@@ -63,9 +62,7 @@ pub fn run_grbl<
     ensures refused { map (λ w. w.now) words.now ≢ codes "stream" ∷ [] → result ≡ Status.Usage }
     ensures usage { result ≡ Status.Usage → map (λ w. w.now) words.now ≢ codes "stream" ∷ [] }
     ensures untouched { result ≡ Status.Usage →
-        Keeps (So.state job.old).left (So.state job.new).left
-        × Keeps (Co.state console.old).held (Co.state console.new).held
-        × Keeps (St.state steps.old).held (St.state steps.new).held }
+        (So.state job.new ≡ So.state job.old) × (Co.state console.new ≡ Co.state console.old) × (St.state steps.new ≡ St.state steps.old) }
 
     // A fault comes only where its device's count of faults rose.
     ensures source_fault { result ≡ Status.SourceFault → Rose (So.state job.old).faults (So.state job.new).faults }
