@@ -97,16 +97,6 @@ fn all_may_stand(words: &[Word]) -> bool
         .all(|w| matches!(w.letter, b'F' | b'G' | b'X' | b'Y' | b'Z'))
 }
 
-/// The value of a word, or another where there is none.
-fn value_of(word: Option<Word>, otherwise: i64) -> i64
-    ensures { result ≡ value_or otherwise word }
-{
-    match word {
-        Some(word) => word.value.micro,
-        None => otherwise,
-    }
-}
-
 /// Whether each letter stands at most once.
 #[tactic(auto, unfolding(crate::specs::FirstForm::letters_stand_once))]
 fn all_stand_once(words: &[Word]) -> bool
