@@ -13,7 +13,7 @@ use outside::Sink;
 use run_rules::Answer;
 use step_line::Tracer;
 use step_record::{LONGEST_EVENT, push_event};
-use units::Move;
+use units::{Move, append};
 
 /// Bytes that wait to be written at once.
 pub(crate) type Waiting = ArrayVec<u8, 4096>;
@@ -24,18 +24,6 @@ pub(crate) type Waiting = ArrayVec<u8, 4096>;
 pub(crate) struct Output {
     pub(crate) waiting: Waiting,
     pub(crate) failed: bool,
-}
-
-/// Appends a text for which there is room.
-fn append(text: &[u8], out: &mut Waiting)
-    requires { array_vec_len out.old + length text.now ≤ 4096 }
-    ensures text { out.new.items ≡ out.old.items ++ text.now }
-    ensures room { array_vec_len out.new ≡ array_vec_len out.old + length text.now }
-{
-    match out.try_extend_from_slice(text) {
-        Ok(()) => {}
-        Err(_) => unreachable!(),
-    }
 }
 
 /// Appends an answer, ended by CR LF.

@@ -8,7 +8,7 @@ ghost use Rattle.grbl_app.specs.Faults.{fault_text, exit_number_of};
 use crate::engine::Engine;
 use itoa::Buffer;
 use run_rules::Reading;
-use units::Text;
+use units::{Text, append};
 
 /// How a run ended. Where several hold, the first of `Usage`, `OutOfMemory`, `StepsFault`, `ConsoleFault`,
 /// `SourceFault`, `TooLarge`, `LongLine`, `Reset`, `Alarm` and `LineErrors` is told.
@@ -82,18 +82,6 @@ pub fn exit_number(s: &Status) -> u8
         Status::Alarm(_) => 8,
         Status::TooLarge => 9,
         Status::OutOfMemory => 10,
-    }
-}
-
-/// Appends a short text for which there is room.
-fn append(text: &[u8], out: &mut Text)
-    requires { array_vec_len out.old + length text.now ≤ 192 }
-    ensures items { out.new.items ≡ out.old.items ++ text.now }
-    ensures len { array_vec_len out.new ≡ array_vec_len out.old + length text.now }
-{
-    match out.try_extend_from_slice(text) {
-        Ok(()) => {}
-        Err(_) => unreachable!(),
     }
 }
 

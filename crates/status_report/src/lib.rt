@@ -11,8 +11,8 @@ mod texts;
 
 pub use lists::{OFFSET_REPLIES, SETTING_REPLIES, lists_are_whole, offset_reply, setting_reply};
 use modal_state::Modal;
-use texts::{append, line_end, put_words};
-use units::{Nm3, Text};
+use texts::{line_end, put_words};
+use units::{Nm3, Text, append};
 
 /// What the board tells beside its answers.
 #[derive(Clone, Copy, Debug, PartialEq, Eq)]

@@ -9,16 +9,7 @@ ghost use Rattle.status_report.specs.Replies.{message_text, setting_text, motion
 use crate::{Message, Modes, Reply};
 use itoa::Buffer;
 use modal_state::{Modal, MotionMode, SpindleMode};
-use units::{Nm3, Text, nm_to_thousandths, put_fixed3};
-
-/// Appends a text for which there is room.
-pub(crate) fn append(text: &[u8], out: &mut Text)
-    requires { array_vec_len out.old + length text.now ≤ 192 }
-    ensures items { out.new.items ≡ out.old.items ++ text.now }
-    ensures len { array_vec_len out.new ≡ array_vec_len out.old + length text.now }
-{
-    let _ = out.try_extend_from_slice(text);
-}
+use units::{Nm3, Text, append, nm_to_thousandths, put_fixed3};
 
 /// Appends a blank and a word for which there is room.
 fn put_word(word: &[u8], out: &mut Text)

@@ -8,22 +8,13 @@ ghost use Rattle.step_record.specs.Texts.{axis_text, event_text, head_text, mark
 use arrayvec::ArrayVec;
 use itoa::Buffer;
 use step_line::{Bits, Head, Mark, Record, SpindleCode};
-use units::Text;
+use units::{Text, append};
 
 /// The most bytes that the line of a record has.
 pub const LONGEST_LINE: usize = 66;
 
 /// The most bytes that the line of an event has.
 pub const LONGEST_EVENT: usize = 7;
-
-/// Appends a text for which there is room.
-fn push_text<const N: usize>(text: &[u8], out: &mut ArrayVec<u8, N>)
-    requires { array_vec_len out.old + length text.now ≤ N }
-    ensures text { out.new.items ≡ out.old.items ++ text.now }
-    ensures room { array_vec_len out.new ≡ array_vec_len out.old + length text.now }
-{
-    let _ = out.try_extend_from_slice(text);
-}
 
 /// Appends a number, and the byte that ends it.
 fn push_number<const N: usize>(n: u64, end: u8, out: &mut ArrayVec<u8, N>)
@@ -32,7 +23,7 @@ fn push_number<const N: usize>(n: u64, end: u8, out: &mut ArrayVec<u8, N>)
     ensures room { array_vec_len out.new ≡ array_vec_len out.old + length (decimal n) + 1 }
 {
     let mut buffer = Buffer::new();
-    push_text(buffer.format(n).as_bytes(), out);
+    append(buffer.format(n).as_bytes(), out);
     out.push(end);
 }
 
@@ -72,7 +63,7 @@ fn push_head<const N: usize>(head: &Head, out: &mut ArrayVec<u8, N>)
     ensures text { out.new.items ≡ out.old.items ++ head_text head.now }
     ensures room { array_vec_len out.new ≤ array_vec_len out.old + LONGEST_LINE }
 {
-    push_text(b"s ", out);
+    append(b"s ", out);
     push_number(head.line as u64, b' ', out);
     push_number(head.n as u64, b' ', out);
     push_number(head.w, b' ', out);
@@ -87,7 +78,7 @@ fn push_named<const N: usize>(name: &[u8], n: u64, out: &mut ArrayVec<u8, N>)
     ensures text { out.new.items ≡ out.old.items ++ (name.now ++ decimal n ++ 10 ∷ []) }
     ensures room { array_vec_len out.new ≤ array_vec_len out.old + 24 }
 {
-    push_text(name, out);
+    append(name, out);
     push_number(n, b'\n', out);
 }
 
@@ -102,9 +93,9 @@ fn push_mark<const N: usize>(mark: &Mark, out: &mut ArrayVec<u8, N>)
         Mark::Dwell(ms) => push_named(b"D ", *ms, out),
         Mark::Spindle(SpindleCode::M3, speed) => push_named(b"M3 ", *speed as u64, out),
         Mark::Spindle(SpindleCode::M4, speed) => push_named(b"M4 ", *speed as u64, out),
-        Mark::Spindle(SpindleCode::M5, _) => push_text(b"M5 0\n", out),
-        Mark::Coolant(true) => push_text(b"M8 0\n", out),
-        Mark::Coolant(false) => push_text(b"M9 0\n", out),
+        Mark::Spindle(SpindleCode::M5, _) => append(b"M5 0\n", out),
+        Mark::Coolant(true) => append(b"M8 0\n", out),
+        Mark::Coolant(false) => append(b"M9 0\n", out),
         Mark::Cut(line) => push_named(b"X ", *line as u64, out),
     }
 }
@@ -121,7 +112,7 @@ pub fn push_record<const N: usize>(r: &Record, out: &mut ArrayVec<u8, N>)
         Record::Event(bits) => push_event(bits, out),
         Record::Head(head) => push_head(head, out),
         Record::Mark(mark) => push_mark(mark, out),
-        Record::End => push_text(b"E\n", out),
+        Record::End => append(b"E\n", out),
     }
 }
 

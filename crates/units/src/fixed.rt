@@ -4,7 +4,7 @@ ghost use Rattle.std.specs.Prelude.{◌≡◌, ◌+◌, ◌≤◌, ◌++◌, len
 ghost use Rattle.arrayvec.specs.ArrayVec.{array_vec_len};
 ghost use Rattle.units.specs.Fixed.{fixed3, minus_sign, three_digits};
 
-use crate::Text;
+use crate::{Text, append};
 use itoa::Buffer;
 
 /// A minus exactly where a number is negative.
@@ -26,15 +26,6 @@ fn three_digits(n: u64) -> [u8; 3]
     ]
 }
 
-/// Appends a text for which there is room.
-fn append(out: &mut Text, text: &[u8])
-    requires { array_vec_len out.old + length text.now ≤ 192 }
-    ensures items { out.new.items ≡ out.old.items ++ text.now }
-    ensures len { array_vec_len out.new ≡ array_vec_len out.old + length text.now }
-{
-    let _ = out.try_extend_from_slice(text);
-}
-
 /// Appends thousandths with three decimals, behind a minus sign exactly where they are negative.
 /// 24 bytes must be free.
 #[tactic(auto, using(crate::proofs::Short::whole_short, crate::proofs::Short::fixed_short), unfolding(crate::specs::Fixed::fixed3))]
@@ -44,9 +35,9 @@ pub fn put_fixed3(v: i64, out: &mut Text)
     ensures short { length (fixed3 v) ≤ 21 }
 {
     let magnitude = v.unsigned_abs();
-    append(out, minus_sign(v));
+    append(minus_sign(v), out);
     let mut buffer = Buffer::new();
-    append(out, buffer.format(magnitude / 1000).as_bytes());
+    append(buffer.format(magnitude / 1000).as_bytes(), out);
     out.push(b'.');
-    append(out, &three_digits(magnitude));
+    append(&three_digits(magnitude), out);
 }
