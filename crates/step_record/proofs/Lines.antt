@@ -10,7 +10,7 @@ use Rattle.step_line.specs.declared.SpindleCode.{SpindleCode}
 use Rattle.step_line.specs.declared.SpindleCode.TheVariants.{M3, M4, M5}
 use Rattle.step_line.specs.declared.Record.{Record}
 use Rattle.step_line.specs.declared.Record.TheVariants as kinds
-use Rattle.step_record.specs.Records.{IsHead, IsMark, IsRecord}
+use Rattle.step_line.specs.Records.{IsHead, IsMark, IsRecord}
 use Rattle.step_record.specs.Texts.{head_text, mark_text, record_text}
 use Rattle.step_record.specs.Reading.{Read, ◌>>=◌, ◌or◌, after, number_at, short_number_at, head_at, event_at, axis_at, dwell_at, turn_at, plain_at, cut_at, mark_at, as_record, end_at, record_at}
 use Rattle.step_record.proofs.Fields.{bound, after_takes, number_takes, number_again, short_takes, short_again}

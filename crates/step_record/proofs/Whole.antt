@@ -7,7 +7,7 @@ use Rattle.std.proofs.lemmas.List.Elements.{recursion_from_All}
 use Rattle.std.proofs.lemmas.List.Concat.{flat_map-cons}
 use Rattle.std.proofs.lemmas.Option.{some_pair_parts, none-some}
 use Rattle.step_line.specs.declared.Record.{Record}
-use Rattle.step_record.specs.Records.{IsRecord}
+use Rattle.step_line.specs.Records.{IsRecord}
 use Rattle.step_record.specs.Texts.{IsLineOf, record_text}
 use Rattle.step_record.specs.Reading.{record_at, event_at, axis_at, head_at, mark_at, dwell_at, turn_at, plain_at, cut_at}
 use Rattle.step_record.proofs.Lines.{record_takes, record_again}

@@ -1,4 +1,4 @@
 pub mod Reading
-pub mod Records
 pub mod Texts
 pub use Rattle.step_line.specs.Events
+pub use Rattle.step_line.specs.Records

@@ -7,7 +7,7 @@ use Rattle.step_line.specs.declared.Mark.TheVariants.{Dwell, Spindle, Coolant, C
 use Rattle.step_line.specs.declared.SpindleCode.TheVariants.{M3, M4, M5}
 use Rattle.step_line.specs.declared.Record.{Record}
 use Rattle.step_line.specs.declared.Record.TheVariants as kinds
-use Rattle.step_record.specs.Records.{IsRecord}
+use Rattle.step_line.specs.Records.{IsRecord}
 
 -- an axis that steps is written by its letter, and `+` or `-`
 abbrev pub axis_text : ℕ → ℤ → List ℕ

@@ -3,7 +3,7 @@
 ghost use Rattle.std.specs.Prelude.{◌≡◌, ℕ, ◌<◌, ◌++◌, List, length, All};
 ghost use Rattle.std.specs.List.{flat_map};
 ghost use Rattle.step_line.specs.declared.Record.{Record};
-ghost use Rattle.step_record.specs.Records.{IsRecord};
+ghost use Rattle.step_line.specs.Records.{IsRecord};
 ghost use Rattle.step_record.specs.Texts.{record_text};
 
 /// At most one record's line begins a text, and a text is that of at most one list of records.

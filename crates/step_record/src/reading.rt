@@ -2,7 +2,7 @@
 
 ghost use Rattle.std.specs.Prelude.{◌≡◌, ◌≢◌, ℕ, ◌+◌, ◌<◌, ◌≤◌, ◌++◌, ◌↔◌, List, length, drop, Some, None, Ok, IsErr, IfOk, IfErr, IfSome};
 ghost use Rattle.step_line.specs.declared.Record.{Record};
-ghost use Rattle.step_record.specs.Records.{IsRecord};
+ghost use Rattle.step_line.specs.Records.{IsRecord};
 ghost use Rattle.step_record.specs.Texts.{IsLineOf, record_text};
 ghost use Rattle.step_record.specs.Reading.{seen, head_at, axis_at, event_at, dwell_at, turn_at, plain_at, cut_at, mark_at, record_at};
 

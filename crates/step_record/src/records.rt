@@ -2,7 +2,7 @@
 
 ghost use Rattle.std.specs.Prelude.{◌≡◌, ◌≤◌, ◌↔◌, IsTrue};
 ghost use Rattle.step_line.specs.Events.{IsEvent};
-ghost use Rattle.step_record.specs.Records.{IsHead, IsMark, IsRecord};
+ghost use Rattle.step_line.specs.Records.{IsHead, IsMark, IsRecord};
 
 use step_line::{Bits, Mark, Record, SpindleCode};
 

@@ -2,7 +2,7 @@
 
 ghost use Rattle.std.specs.Prelude.{◌≡◌, ℕ, ◌+◌, ◌≤◌, [], ◌∷◌, ◌++◌, ◌↔◌, length, decimal, IsTrue};
 ghost use Rattle.arrayvec.specs.ArrayVec.{array_vec_len};
-ghost use Rattle.step_record.specs.Records.{IsHead, IsMark, IsRecord};
+ghost use Rattle.step_line.specs.Records.{IsHead, IsMark, IsRecord};
 ghost use Rattle.step_record.specs.Texts.{axis_text, event_text, head_text, mark_text, record_text};
 
 use arrayvec::ArrayVec;

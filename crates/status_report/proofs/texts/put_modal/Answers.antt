@@ -18,7 +18,7 @@ returns-clause-text c =
     ∷ [])
     c.put_word-5.new.out.items (
       _,
-      c.append.ensures.items ∙ ap (λ w. c.args.out.now.items ++ w) c.motion_word.ensures.text,
+      c.append.ensures.text ∙ ap (λ w. c.args.out.now.items ++ w) c.motion_word.ensures.text,
       (
         _,
         c.put_numbered.ensures.items ∙ ap (λ n. c.append.new.out.items ++ 32 ∷ 71 ∷ decimal n) c.from.ensures,

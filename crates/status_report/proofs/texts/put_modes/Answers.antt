@@ -8,4 +8,4 @@ use Rattle.status_report.proofs.texts.put_modes.Goals as goal
 pub returns-clause-text : goal.returns-clause-text
 returns-clause-text c =
     grown c.args.out.now.items (codes "[GC:") (join_with_byte 32 (mode_words c.args.modes.now) ∷ codes "]" ∷ [])
-    c.append-2.new.out.items (_, c.append.ensures.items, (_, c.put_mode_words.ensures.text, c.append-2.ensures.items))
+    c.append-2.new.out.items (_, c.append.ensures.text, (_, c.put_mode_words.ensures.text, c.append-2.ensures.text))

@@ -10,4 +10,4 @@ returns-clause-text c =
     let y : c.put_length-2.new.out.items ≡ c.append.new.out.items ++ length_text at.y = search rules in
     let z : c.put_length-3.new.out.items ≡ c.append-2.new.out.items ++ length_text at.z = search rules in
     grown c.args.out.now.items (length_text at.x) ((44 ∷ []) ∷ length_text at.y ∷ (44 ∷ []) ∷ length_text at.z ∷ [])
-    c.put_length-3.new.out.items (_, x, (_, c.append.ensures.items, (_, y, (_, c.append-2.ensures.items, z))))
+    c.put_length-3.new.out.items (_, x, (_, c.append.ensures.text, (_, y, (_, c.append-2.ensures.text, z))))
