@@ -14,8 +14,9 @@ pub shown : (was before now : Sinks) (old new : Engine) (lines : List (List ℕ)
     → new.state ≡ old.state → new.errors ≡ old.errors → new.steps ≡ old.steps → now.steps ≡ before.steps
     → WritesOn before.console old.console now.console new.console [] → HasAnswered was now new lines
 shown was before now old new lines is se ee te ts console = record {
-  answers = is.answers;
-  events = is.events;
+  first = is.first;
+  opening = is.opening;
+  outcomes = is.outcomes;
   answered = rw se is.answered;
   good = rw se is.good;
   errors = ee ∙ is.errors;

@@ -1,12 +1,11 @@
 -- How a run ends.
-use Rattle.std.specs.Prelude.{◌≡◌, ◌≢◌, ℕ, zero, suc, ◌≤◌, ◌<◌, Bool, cond, List, length}
+use Rattle.std.specs.Prelude.{◌≡◌, Some, ℕ, zero, suc, ◌≤◌, ◌<◌, Bool, cond, List, length}
 use Rattle.std.specs.Io.KnownBytes.{Appends, Consumes, IsAtEnd}
 use Rattle.outside.specs.Causes.{Rose, SourceState}
-use Rattle.step_line.specs.declared.Bits.{Bits}
 use Rattle.run_rules.specs.Lines.{lines_of}
-use Rattle.run_rules.specs.FirstForm.{opening}
-use Rattle.run_rules.specs.Runs.{Answered, console_text, steps_text, errors_in}
-use Rattle.run_rules.specs.declared.Answer.{Answer}
+use Rattle.run_rules.specs.States.{IsOpening}
+use Rattle.run_rules.specs.Outcomes.{Outcome, Answered}
+use Rattle.run_rules.specs.Told.{replies_in, replies_text, records_in, records_text, errors_in}
 use Rattle.run_rules.specs.declared.State.{State}
 use Rattle.grbl_app.specs.Writing.{Took}
 use Rattle.grbl_app.specs.Engines.{Sinks}
@@ -33,13 +32,13 @@ first_cause steps_failed console_failed reading errors =
     cond steps_failed StepsFault (cond console_failed ConsoleFault (by_reading reading errors))
 
 -- A run of a job, whatever failed. The lines of what was read are answered in order, each once. The console
--- takes the banner and the answers, and the steps the events of the lines answered `ok` and the end; each is
--- whole where its sink did not fail. The status is the first cause that holds.
+-- takes the banner and what is told of each line, and the steps the ticks of the lines answered `ok` and the end;
+-- each is whole where its sink did not fail. The status is the first cause that holds.
 pub record IsRun (job_old job_new : SourceState) (old new : Sinks) (status : Status) : Type 0 where
   pub read : List ℕ
   pub reading : Reading
-  pub answers : List Answer
-  pub events : List Bits
+  pub first : State
+  pub outcomes : List Outcome
   pub last : State
   pub console_failed : Bool
   pub steps_failed : Bool
@@ -47,30 +46,32 @@ pub record IsRun (job_old job_new : SourceState) (old new : Sinks) (status : Sta
   pub fits : FitsReading reading (length read)
   pub at_end : reading ≡ Ended → IsAtEnd job_new.left
   pub source : reading ≡ Failed → Rose job_old.faults job_new.faults
-  pub answered : Answered opening (sent_lines reading (job_of read)) answers events last
-  pub console : Took old.console new.console console_failed (console_text answers)
-  pub steps : Took old.steps new.steps steps_failed (steps_text events)
-  pub status_is : status ≡ first_cause steps_failed console_failed reading (errors_in answers)
+  pub opening : IsOpening first
+  pub answered : Answered first (sent_lines reading (job_of read)) outcomes last
+  pub console : Took old.console new.console console_failed (replies_text (replies_in outcomes))
+  pub steps : Took old.steps new.steps steps_failed (records_text (records_in outcomes))
+  pub status_is : status ≡ first_cause steps_failed console_failed reading (errors_in outcomes)
 
 abbrev pub IsWhole : Status → Type 0
 IsWhole Done = Unit {0}
 IsWhole (LineErrors n) = Unit {0}
 IsWhole _ = ⊥
 
--- A run that went to its end: the bytes read are the job, the console has the banner and an answer for each
--- line, and the steps have the events of the lines answered `ok`, in order and each once, and the end.
+-- A run that went to its end: the bytes read are the job, the console has the banner and what is told of each
+-- line, and the steps have the ticks of the lines answered `ok`, in order and each once, and the end.
 pub record IsWholeRun (job_old job_new : SourceState) (old new : Sinks) (status : Status) : Type 0 where
   pub job : List ℕ
-  pub answers : List Answer
-  pub events : List Bits
+  pub first : State
+  pub outcomes : List Outcome
   pub last : State
   pub taken : Consumes job_old.left job_new.left job
   pub whole : IsAtEnd job_new.left
   pub few : length job ≤ largest_job
-  pub answered : Answered opening (lines_of job) answers events last
-  pub console : Appends old.console.held new.console.held (console_text answers)
-  pub steps : Appends old.steps.held new.steps.held (steps_text events)
-  pub status_is : status ≡ by_errors (errors_in answers)
+  pub opening : IsOpening first
+  pub answered : Answered first (lines_of job) outcomes last
+  pub console : Appends old.console.held new.console.held (replies_text (replies_in outcomes))
+  pub steps : Appends old.steps.held new.steps.held (records_text (records_in outcomes))
+  pub status_is : status ≡ by_errors (errors_in outcomes)
 
 -- more bytes were read than a job may have
 pub record TookMore (job_old job_new : SourceState) : Type 0 where
@@ -80,19 +81,45 @@ pub record TookMore (job_old job_new : SourceState) : Type 0 where
 
 -- a run whose lines are answered and whose texts are handed over, after it read a text
 pub record HasFinished (was now : Sinks) (engine : Engine) (lines : List (List ℕ)) : Type 0 where
-  pub answers : List Answer
-  pub events : List Bits
-  pub answered : Answered opening lines answers events engine.state
-  pub errors : engine.errors ≡ errors_in answers
-  pub console : Took was.console now.console engine.console.failed (console_text answers)
-  pub steps : Took was.steps now.steps engine.steps.failed (steps_text events)
+  pub first : State
+  pub opening : IsOpening first
+  pub outcomes : List Outcome
+  pub answered : Answered first lines outcomes engine.state
+  pub errors : engine.errors ≡ errors_in outcomes
+  pub console : Took was.console now.console engine.console.failed (replies_text (replies_in outcomes))
+  pub steps : Took was.steps now.steps engine.steps.failed (records_text (records_in outcomes))
 
--- a status and its cause, and what a run to the end has done
+-- a job of at most 16,777,216 bytes, which its source tells, and whose lines are all accepted
+pub record IsAcceptedJob (job : SourceState) : Type 0 where
+  pub bytes : List ℕ
+  pub told : job.left ≡ Some bytes
+  pub few : length bytes ≤ largest_job
+  pub first : State
+  pub outcomes : List Outcome
+  pub last : State
+  pub opening : IsOpening first
+  pub answered : Answered first (lines_of bytes) outcomes last
+  pub accepted : errors_in outcomes ≡ 0
+
+-- the words were refused, or there was no memory to read them
+abbrev pub HasNotBegun : Status → Type 0
+HasNotBegun Usage = Unit {0}
+HasNotBegun OutOfMemory = Unit {0}
+HasNotBegun _ = ⊥
+
+-- a job was run
+abbrev pub HasRun : Status → Type 0
+HasRun Usage = ⊥
+HasRun OutOfMemory = ⊥
+HasRun _ = Unit {0}
+
+-- a status and its cause, what a run to the end has done, and which runs end with `Done`
 pub record HasCauses (job_old job_new : SourceState) (old new : Sinks) (status : Status) : Type 0 where
-  pub usage : status ≢ Usage
-  pub memory : status ≢ OutOfMemory
+  pub has_run : HasRun status
   pub source : status ≡ SourceFault → Rose job_old.faults job_new.faults
   pub console : status ≡ ConsoleFault → Rose old.console.faults new.console.faults
   pub steps : status ≡ StepsFault → Rose old.steps.faults new.steps.faults
   pub large : status ≡ TooLarge → TookMore job_old job_new
   pub whole : IsWhole status → IsWholeRun job_old job_new old new status
+  pub complete : IsAcceptedJob job_old → ¬ Rose job_old.faults job_new.faults
+      → ¬ Rose old.console.faults new.console.faults → ¬ Rose old.steps.faults new.steps.faults → status ≡ Done

@@ -1,14 +1,14 @@
 -- What the engine holds, and the job that it stands for.
-use Rattle.std.specs.Prelude.{◌≡◌, ℕ, List, take, length, nat_lt}
+use Rattle.std.specs.Prelude.{◌≡◌, ℕ, ◌+◌, List, [], ◌∷◌, take, length, nat_lt}
 use Rattle.outside.specs.Causes.{SinkState}
-use Rattle.step_line.specs.declared.Bits.{Bits}
 use Rattle.gcode_words.specs.Comments.{comment_after}
 use Rattle.gcode_words.specs.Stripping.{plain}
 use Rattle.run_rules.specs.Lines.{CutsInto}
-use Rattle.run_rules.specs.FirstForm.{opening, IsState}
-use Rattle.run_rules.specs.Runs.{Answered, console_text, events_text, errors_in}
-use Rattle.run_rules.specs.declared.Answer.{Answer}
-use Rattle.grbl_app.specs.Writing.{Wrote}
+use Rattle.run_rules.specs.States.{IsOpening, IsState}
+use Rattle.run_rules.specs.Outcomes.{Outcome, Answered}
+use Rattle.run_rules.specs.Told.{replies_of, replies_in, replies_text, ticks_in, records_text, errors_in}
+use Rattle.run_rules.specs.declared.State.{State}
+use Rattle.grbl_app.specs.Writing.{Wrote, WritesOn}
 use Rattle.grbl_app.specs.declared.open_line.OpenLine.{OpenLine}
 use Rattle.grbl_app.specs.declared.engine.Engine.{Engine}
 
@@ -24,15 +24,23 @@ pub record Sinks : Type 0 where
   pub console : SinkState
   pub steps : SinkState
 
--- lines are answered, and the events of those answered `ok` are written
+-- a line is answered: what was told and recorded of it, and the state and the count of errors behind it
+pub record HasDone (before : Sinks) (old : Engine) (now : Sinks) (new : Engine) (o : Outcome) : Type 0 where
+  pub console : WritesOn before.console old.console now.console new.console (replies_text (replies_of o))
+  pub steps : WritesOn before.steps old.steps now.steps new.steps (records_text o.ticks)
+  pub state : new.state ≡ o.next
+  pub errors : new.errors ≡ old.errors + errors_in (o ∷ [])
+
+-- lines are answered since the start, and the ticks of those answered `ok` are written
 pub record HasAnswered (was now : Sinks) (engine : Engine) (lines : List (List ℕ)) : Type 0 where
-  pub answers : List Answer
-  pub events : List Bits
-  pub answered : Answered opening lines answers events engine.state
+  pub first : State
+  pub opening : IsOpening first
+  pub outcomes : List Outcome
+  pub answered : Answered first lines outcomes engine.state
   pub good : IsState engine.state
-  pub errors : engine.errors ≡ errors_in answers
-  pub console : Wrote was.console now.console engine.console (console_text answers)
-  pub steps : Wrote was.steps now.steps engine.steps (events_text events)
+  pub errors : engine.errors ≡ errors_in outcomes
+  pub console : Wrote was.console now.console engine.console (replies_text (replies_in outcomes))
+  pub steps : Wrote was.steps now.steps engine.steps (records_text (ticks_in outcomes))
 
 -- a text was fed: its lines ended by LF are answered, and the rest is open
 pub record HasFed (was now : Sinks) (engine : Engine) (line : OpenLine) (text : List ℕ) : Type 0 where

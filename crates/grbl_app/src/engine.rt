@@ -1,18 +1,29 @@
-//! The engine: lines are answered, and their events are written.
+//! The engine: lines are answered, and what they do is told and recorded.
 
-ghost use Rattle.std.specs.Prelude.{◌≡◌, ℕ, ◌+◌, ◌≤◌, ◌<◌, ◌^◌, ◌++◌, ◌∷◌, [], List};
-ghost use Rattle.run_rules.specs.FirstForm.{IsGood, IsState, verdict, opening};
-ghost use Rattle.run_rules.specs.Runs.{banner};
-ghost use Rattle.grbl_app.specs.Engines.{IsOpen, Sinks, HasAnswered};
+ghost use Rattle.std.specs.Prelude.{◌≡◌, ◌≢◌, ℕ, ◌+◌, ◌≤◌, ◌<◌, ◌^◌, ◌++◌, ◌∷◌, [], List, All, length, Ok, Some, slice_get};
+ghost use Rattle.outside.specs.Causes.{SinkState};
+ghost use Rattle.gcode_words.specs.Words.{IsSmallWord, words_of};
+ghost use Rattle.gcode_check.specs.Verdicts.{verdict};
+ghost use Rattle.system_lines.specs.Commands.{command_of};
+ghost use Rattle.system_lines.specs.Setting.{apply_refusal};
+ghost use Rattle.status_report.specs.Replies.{reply_text};
+ghost use Rattle.run_rules.specs.States.{IsState, IsOpening};
+ghost use Rattle.run_rules.specs.Outcomes.{Outcome, refused, fault_number, BySetting, ByCommand, ByVerdict, ByWords, ByKept, Becomes};
+ghost use Rattle.grbl_app.specs.Engines.{IsOpen, Sinks, HasDone, HasAnswered};
 ghost use Rattle.grbl_app.specs.Writing.{WritesOn, IsEmpty};
 
+use crate::items::execute;
 use crate::open_line::OpenLine;
 use crate::output::Output;
+use gcode_check::{Verdict, check};
+use gcode_words::{WordFault, Words, words};
 use outside::Sink;
-use run_rules::{Answer, MotionMode, State, Verdict, line_verdict};
-use units::{Nm3, Steps3};
+use run_rules::State;
+use status_report::{Modes, Reply};
+use system_lines::{Command, apply_setting, read_command};
+use units::Decimal;
 
-/// What the lines answered so far leave, and the texts on their way.
+/// The state that the lines answered so far leave, how many of them were refused, and the texts on their way.
 #[derive(Drop)]
 pub(crate) struct Engine {
     pub(crate) state: State,
@@ -21,33 +32,27 @@ pub(crate) struct Engine {
     pub(crate) steps: Output,
 }
 
-/// What a line does.
-fn verdict_on(state: &State, line: &OpenLine) -> Verdict
-    requires { IsState state.now }
-    ensures verdict { (bytes : List ℕ) → IsOpen line.now bytes → result ≡ verdict state.now bytes }
-    ensures good { IsGood result }
+/// The error of words that can't be read.
+fn fault_number(fault: WordFault) -> u8
+    ensures { result ≡ fault_number fault }
 {
-    if line.over {
-        return Verdict::Refuse(11);
+    match fault {
+        WordFault::Letter => 1,
+        WordFault::Number => 2,
     }
-    line_verdict(state, line.kept.as_slice())
 }
 
 impl Engine {
     /// No line is answered yet.
     pub(crate) fn new() -> Engine
-        ensures state { result.state ≡ opening }
+        ensures opening { IsOpening result.state }
+        ensures valid { IsState result.state }
         ensures errors { result.errors ≡ 0 }
         ensures console { IsEmpty result.console }
         ensures steps { IsEmpty result.steps }
     {
         Engine {
-            state: State {
-                motion: MotionMode::G0,
-                feed: 0,
-                pos_nm: Nm3 { x: 0, y: 0, z: 0 },
-                pos_steps: Steps3 { x: 0, y: 0, z: 0 },
-            },
+            state: State::opening(),
             errors: 0,
             console: Output::new(),
             steps: Output::new(),
@@ -56,14 +61,173 @@ impl Engine {
 
     /// Writes the banner.
     pub(crate) fn greet<Co: Sink>(&mut self, console: &mut Co)
-        ensures banner { WritesOn (Co.state console.old) self.old.console (Co.state console.new) self.new.console banner }
+        ensures banner { WritesOn (Co.state console.old) self.old.console (Co.state console.new) self.new.console (reply_text Reply.Banner) }
         ensures same { (self.new.state ≡ self.old.state) × (self.new.errors ≡ self.old.errors) × (self.new.steps ≡ self.old.steps) }
     {
-        self.console
-            .put(console, b"\r\nGrbl 1.1h ['$' for help]\r\n");
+        self.console.put_reply(console, &Reply::Banner);
     }
 
-    /// Answers a line, and writes its events.
+    /// Answers a line with an error.
+    fn refuse<Co: Sink>(&mut self, console: &mut Co, number: u8)
+        requires few { self.old.errors + 1 < 2 ^ 32 }
+        ensures done { (steps : SinkState) → HasDone (record { console = Co.state console.old; steps = steps }) self.old
+            (record { console = Co.state console.new; steps = steps }) self.new (refused self.old.state number) }
+        ensures same { self.new.state ≡ self.old.state }
+        ensures more { self.new.errors ≡ self.old.errors + 1 }
+    {
+        self.console.put_reply(console, &Reply::Error(number));
+        self.errors += 1;
+    }
+
+    /// Answers a line with `ok`.
+    fn accept<Co: Sink>(&mut self, console: &mut Co)
+        ensures answer { WritesOn (Co.state console.old) self.old.console (Co.state console.new) self.new.console (reply_text Reply.Ok) }
+        ensures same { (self.new.state ≡ self.old.state) × (self.new.errors ≡ self.old.errors) × (self.new.steps ≡ self.old.steps) }
+    {
+        self.console.put_reply(console, &Reply::Ok);
+    }
+
+    /// Sets a setting, and answers.
+    fn set<Co: Sink>(&mut self, n: u8, value: Decimal, console: &mut Co)
+        requires few { self.old.errors + 1 < 2 ^ 32 }
+        requires valid { IsState self.old.state }
+        ensures done { (o : Outcome) × BySetting self.old.state n value (apply_refusal n value) o
+            × ((steps : SinkState) → HasDone (record { console = Co.state console.old; steps = steps }) self.old
+            (record { console = Co.state console.new; steps = steps }) self.new o) }
+        ensures valid { IsState self.new.state }
+    {
+        match apply_setting(&mut self.state.settings, n, value) {
+            Ok(()) => self.accept(console),
+            Err(code) => self.refuse(console, code.0),
+        }
+    }
+
+    /// Does what a `$` line asks for, and answers.
+    fn obey<Co: Sink>(&mut self, command: Command, console: &mut Co)
+        requires few { self.old.errors + 1 < 2 ^ 32 }
+        requires valid { IsState self.old.state }
+        ensures done { (o : Outcome) × ByCommand self.old.state (Ok command) o
+            × ((steps : SinkState) → HasDone (record { console = Co.state console.old; steps = steps }) self.old
+            (record { console = Co.state console.new; steps = steps }) self.new o) }
+        ensures valid { IsState self.new.state }
+    {
+        match command {
+            Command::Set { n, value } => self.set(n, value, console),
+            Command::Unlock => self.accept(console),
+            Command::ListSettings => {
+                self.console.put_settings(console, &self.state.settings);
+                self.accept(console);
+            }
+            Command::ListModes => {
+                let modes = Modes::of(&self.state.parser);
+                self.console.put_reply(console, &Reply::Modes(modes));
+                self.accept(console);
+            }
+            Command::ListOffsets => {
+                self.console
+                    .put_offsets(console, &self.state.parser.offsets);
+                self.accept(console);
+            }
+        }
+    }
+
+    /// Answers a line that begins with `$`.
+    fn answer_command<Co: Sink>(&mut self, kept: &[u8], console: &mut Co)
+        requires dollar { slice_get kept.now 0 ≡ Some 36 }
+        requires few { self.old.errors + 1 < 2 ^ 32 }
+        requires valid { IsState self.old.state }
+        ensures done { (o : Outcome) × ByCommand self.old.state (command_of kept.now) o
+            × ((steps : SinkState) → HasDone (record { console = Co.state console.old; steps = steps }) self.old
+            (record { console = Co.state console.new; steps = steps }) self.new o) }
+        ensures valid { IsState self.new.state }
+    {
+        match read_command(kept) {
+            Ok(command) => self.obey(command, console),
+            Err(code) => self.refuse(console, code.0),
+        }
+    }
+
+    /// Does what a line of G-code says, and answers.
+    fn answer_words<Co: Sink, St: Sink>(&mut self, words: &Words, console: &mut Co, steps: &mut St)
+        requires words { All IsSmallWord words.now.items }
+        requires few { self.old.errors + 1 < 2 ^ 32 }
+        requires valid { IsState self.old.state }
+        ensures done { (o : Outcome) × ByVerdict self.old.state (verdict self.old.state.parser self.old.state.settings words.now.items) o
+            × HasDone (record { console = Co.state console.old; steps = St.state steps.old }) self.old
+            (record { console = Co.state console.new; steps = St.state steps.new }) self.new o }
+        ensures valid { IsState self.new.state }
+    {
+        match check(&self.state.parser, &self.state.settings, words) {
+            Verdict::Accept(accept) => {
+                let modal = self.state.parser.modal;
+                execute(
+                    accept.items.as_slice(),
+                    &modal,
+                    &mut self.console,
+                    &mut self.steps,
+                    console,
+                    steps,
+                );
+                self.state.parser = accept.next;
+                self.accept(console);
+            }
+            Verdict::Refuse(code) => self.refuse(console, code.0),
+            // No soft limit is on.
+            Verdict::Limit => unreachable!(),
+        }
+    }
+
+    /// Answers a line of G-code.
+    fn answer_code<Co: Sink, St: Sink>(&mut self, kept: &[u8], console: &mut Co, steps: &mut St)
+        requires short { length kept.now ≤ 79 }
+        requires few { self.old.errors + 1 < 2 ^ 32 }
+        requires valid { IsState self.old.state }
+        ensures done { (o : Outcome) × ByWords self.old.state (words_of kept.now) o
+            × HasDone (record { console = Co.state console.old; steps = St.state steps.old }) self.old
+            (record { console = Co.state console.new; steps = St.state steps.new }) self.new o }
+        ensures valid { IsState self.new.state }
+    {
+        match words(kept) {
+            Ok(words) => self.answer_words(&words, console, steps),
+            Err(fault) => self.refuse(console, fault_number(fault)),
+        }
+    }
+
+    /// Answers a line of which these bytes are kept.
+    fn answer_kept<Co: Sink, St: Sink>(&mut self, kept: &[u8], console: &mut Co, steps: &mut St)
+        requires short { length kept.now ≤ 79 }
+        requires few { self.old.errors + 1 < 2 ^ 32 }
+        requires valid { IsState self.old.state }
+        ensures done { (o : Outcome) × ByKept self.old.state kept.now o
+            × HasDone (record { console = Co.state console.old; steps = St.state steps.old }) self.old
+            (record { console = Co.state console.new; steps = St.state steps.new }) self.new o }
+        ensures valid { IsState self.new.state }
+    {
+        match kept.first() {
+            None => self.accept(console),
+            Some(b'$') => self.answer_command(kept, console),
+            Some(_) => self.answer_code(kept, console, steps),
+        }
+    }
+
+    /// Answers a line.
+    fn answer_line<Co: Sink, St: Sink>(&mut self, line: &OpenLine, console: &mut Co, steps: &mut St)
+        requires few { self.old.errors + 1 < 2 ^ 32 }
+        requires valid { IsState self.old.state }
+        ensures done { (bytes : List ℕ) → IsOpen line.now bytes → (o : Outcome) × Becomes self.old.state bytes o
+            × HasDone (record { console = Co.state console.old; steps = St.state steps.old }) self.old
+            (record { console = Co.state console.new; steps = St.state steps.new }) self.new o }
+        ensures valid { IsState self.new.state }
+        ensures few { self.new.errors ≤ self.old.errors + 1 }
+    {
+        if line.over {
+            self.refuse(console, 11);
+        } else {
+            self.answer_kept(line.kept.as_slice(), console, steps);
+        }
+    }
+
+    /// Answers a line behind those answered before.
     pub(crate) fn answer<Co: Sink, St: Sink>(
         &mut self,
         line: &OpenLine,
@@ -78,16 +242,6 @@ impl Engine {
         ensures good { IsState self.new.state }
         ensures few { self.new.errors ≤ self.old.errors + 1 }
     {
-        match verdict_on(&self.state, line) {
-            Verdict::Accept(next, mv) => {
-                self.steps.put_move(steps, mv);
-                self.console.put_answer(console, &Answer::Accepted);
-                self.state = next;
-            }
-            Verdict::Refuse(number) => {
-                self.console.put_answer(console, &Answer::Refused(number));
-                self.errors += 1;
-            }
-        }
+        self.answer_line(line, console, steps);
     }
 }

@@ -1,19 +1,26 @@
 //! A text on its way to a sink.
 
-ghost use Rattle.std.specs.Prelude.{◌≡◌, ℕ, ◌+◌, ◌≤◌, ◌++◌, [], length, false, IfSome};
+ghost use Rattle.std.specs.Prelude.{◌≡◌, ◌+◌, ◌≤◌, [], length, map, false};
 ghost use Rattle.arrayvec.specs.ArrayVec.{array_vec_len};
 ghost use Rattle.units.specs.Lengths.{IsMove};
 ghost use Rattle.step_line.specs.Events.{line_events};
-ghost use Rattle.run_rules.specs.Runs.{answer_text, events_text, events_of_move};
+ghost use Rattle.step_line.specs.Records.{IsMark};
+ghost use Rattle.step_record.specs.Texts.{record_text};
+ghost use Rattle.status_report.specs.Lists.{setting_replies, offset_replies};
+ghost use Rattle.status_report.specs.Replies.{reply_text, IsReply};
+ghost use Rattle.run_rules.specs.Told.{replies_text, records_text};
 ghost use Rattle.grbl_app.specs.Writing.{Took, WritesOn};
 
 use arrayvec::ArrayVec;
-use itoa::Buffer;
+use modal_state::Offsets;
 use outside::Sink;
-use run_rules::Answer;
-use step_line::Tracer;
-use step_record::{LONGEST_EVENT, push_event};
-use units::{Move, append};
+use settings::Settings;
+use status_report::{
+    OFFSET_REPLIES, Reply, SETTING_REPLIES, offset_reply, put_reply, setting_reply,
+};
+use step_line::{Mark, Record, Tracer};
+use step_record::{LONGEST_EVENT, LONGEST_LINE, push_event, push_record};
+use units::{Move, Text, append};
 
 /// Bytes that wait to be written at once.
 pub(crate) type Waiting = ArrayVec<u8, 4096>;
@@ -24,22 +31,6 @@ pub(crate) type Waiting = ArrayVec<u8, 4096>;
 pub(crate) struct Output {
     pub(crate) waiting: Waiting,
     pub(crate) failed: bool,
-}
-
-/// Appends an answer, ended by CR LF.
-fn push_answer(answer: &Answer, out: &mut Waiting)
-    requires { array_vec_len out.old + 64 ≤ 4096 }
-    ensures { out.new.items ≡ out.old.items ++ answer_text answer.now }
-{
-    match answer {
-        Answer::Accepted => append(b"ok\r\n", out),
-        Answer::Refused(number) => {
-            let mut buffer = Buffer::new();
-            append(b"error:", out);
-            append(buffer.format(*number).as_bytes(), out);
-            append(b"\r\n", out);
-        }
-    }
 }
 
 /// Writes a whole text. Answers whether a call failed.
@@ -102,33 +93,52 @@ impl Output {
         append(text, &mut self.waiting);
     }
 
-    /// Writes an answer.
-    pub(crate) fn put_answer<S: Sink>(&mut self, sink: &mut S, answer: &Answer)
-        ensures { WritesOn (S.state sink.old) self.old (S.state sink.new) self.new (answer_text answer.now) }
+    /// Writes the text of a reply.
+    pub(crate) fn put_reply<S: Sink>(&mut self, sink: &mut S, reply: &Reply)
+        requires { IsReply reply.now }
+        ensures { WritesOn (S.state sink.old) self.old (S.state sink.new) self.new (reply_text reply.now) }
     {
-        self.make_room(sink, 64);
-        push_answer(answer, &mut self.waiting);
+        let mut text = Text::new();
+        put_reply(reply, &mut text);
+        self.put(sink, text.as_slice());
+    }
+
+    /// Writes the settings, one by one.
+    pub(crate) fn put_settings<S: Sink>(&mut self, sink: &mut S, settings: &Settings)
+        ensures { WritesOn (S.state sink.old) self.old (S.state sink.new) self.new (replies_text (setting_replies settings.now)) }
+    {
+        for place in 0..SETTING_REPLIES {
+            self.put_reply(sink, &setting_reply(settings, place));
+        }
+    }
+
+    /// Writes the offsets, one by one.
+    pub(crate) fn put_offsets<S: Sink>(&mut self, sink: &mut S, offsets: &Offsets)
+        ensures { WritesOn (S.state sink.old) self.old (S.state sink.new) self.new (replies_text (offset_replies offsets.now)) }
+    {
+        for place in 0..OFFSET_REPLIES {
+            self.put_reply(sink, &offset_reply(offsets, place));
+        }
+    }
+
+    /// Writes a mark.
+    pub(crate) fn put_mark<S: Sink>(&mut self, sink: &mut S, mark: Mark)
+        requires { IsMark mark }
+        ensures { WritesOn (S.state sink.old) self.old (S.state sink.new) self.new (record_text (Record.Mark mark)) }
+    {
+        self.make_room(sink, LONGEST_LINE);
+        push_record(&Record::Mark(mark), &mut self.waiting);
     }
 
     /// Writes the events of a move.
     pub(crate) fn put_events<S: Sink>(&mut self, sink: &mut S, mv: Move)
         requires { IsMove mv }
-        ensures { WritesOn (S.state sink.old) self.old (S.state sink.new) self.new (events_text (line_events mv)) }
+        ensures { WritesOn (S.state sink.old) self.old (S.state sink.new) self.new (records_text (map Record.Event (line_events mv))) }
     {
         let mut tracer = Tracer::new(mv);
         while let Some(bits) = tracer.next() {
             self.make_room(sink, LONGEST_EVENT);
             push_event(&bits, &mut self.waiting);
-        }
-    }
-
-    /// Writes the events of a line's move, if it has one.
-    pub(crate) fn put_move<S: Sink>(&mut self, sink: &mut S, mv: Option<Move>)
-        requires { IfSome mv IsMove }
-        ensures { WritesOn (S.state sink.old) self.old (S.state sink.new) self.new (events_text (events_of_move mv)) }
-    {
-        if let Some(mv) = mv {
-            self.put_events(sink, mv);
         }
     }
 }

@@ -3,7 +3,7 @@
 ghost use Rattle.std.specs.Prelude.{◌≡◌, ℕ, ◌+◌, ◌≤◌, ◌<◌, ◌^◌, ◌++◌, ◌∷◌, [], List, length};
 ghost use Rattle.std.specs.Io.KnownBytes.{Consumes, IsAtEnd};
 ghost use Rattle.outside.specs.Causes.{Rose};
-ghost use Rattle.run_rules.specs.FirstForm.{IsState};
+ghost use Rattle.run_rules.specs.States.{IsState};
 ghost use Rattle.run_rules.specs.Readings.{FitsReading, job_of, sent_lines};
 ghost use Rattle.grbl_app.specs.Engines.{IsOpen, Sinks, HasFed, HasAnswered};
 ghost use Rattle.grbl_app.specs.Ends.{HasFinished};

@@ -13,14 +13,14 @@ status_of steps_failed console_failed reading errors counted status is e = is âˆ
 
 pub returns-clause-run : goal.returns-clause-run
 returns-clause-run g c =
-    let begun = greeted _ _ _ c.new-engine.result c.greet.new.self c.new-engine.ensures.state c.new-engine.ensures.errors c.new-engine.ensures.console c.new-engine.ensures.steps c.greet.ensures.banner c.greet.ensures.same in
+    let begun = greeted _ _ _ c.new-engine.result c.greet.new.self c.new-engine.ensures.opening c.new-engine.ensures.valid c.new-engine.ensures.errors c.new-engine.ensures.console c.new-engine.ensures.steps c.greet.ensures.banner c.greet.ensures.same in
     let i = c.read_job-reading.ensures.fed _ (record { lines = []; open_line = []; cuts = cut_none; has_answered = begun; line_is = c.new-line.ensures }) in
     let end = c.finish.ensures _ _ i.4 in
     record {
       read = i.0;
       reading = c.read_job-reading.result;
-      answers = end.answers;
-      events = end.events;
+      first = end.first;
+      outcomes = end.outcomes;
       last = c.finish.new.engine.state;
       console_failed = c.finish.new.engine.console.failed;
       steps_failed = c.finish.new.engine.steps.failed;
@@ -28,6 +28,7 @@ returns-clause-run g c =
       fits = i.2;
       at_end = i.3;
       source = c.read_job-reading.ensures.cause;
+      opening = end.opening;
       answered = end.answered;
       console = end.console;
       steps = end.steps;

@@ -1,5 +1,5 @@
 use Rattle.std.proofs.Common.{ℕ, ◌+◌, ◌≤◌, ◌++◌, take, List}
-use Rattle.run_rules.specs.FirstForm.{IsState}
+use Rattle.run_rules.specs.States.{IsState}
 use Rattle.grbl_app.specs.Engines.{Sinks, HasFed}
 use Rattle.grbl_app.proofs.reading.feed.Given as goal
 

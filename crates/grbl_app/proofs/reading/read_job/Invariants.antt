@@ -1,6 +1,6 @@
 use Rattle.std.proofs.Common.{◌≡◌, ℕ, ◌-◌, ◌≤◌, [], List, length}
 use Rattle.std.specs.Io.KnownBytes.{Consumes}
-use Rattle.run_rules.specs.FirstForm.{IsState}
+use Rattle.run_rules.specs.States.{IsState}
 use Rattle.run_rules.specs.Readings.{job_of}
 use Rattle.grbl_app.specs.Engines.{Sinks, HasFed}
 use Rattle.grbl_app.proofs.reading.read_job.Given as goal

@@ -1,7 +1,8 @@
-use Rattle.std.proofs.Common.{◌≡◌, ◌-◌}
+use Rattle.std.proofs.Common.{◌≡◌, ◌-◌, map}
 use Rattle.step_line.specs.Counting.{events_of}
 use Rattle.step_line.specs.Events.{events_after}
-use Rattle.run_rules.specs.Runs.{events_text}
+use Rattle.step_line.specs.declared.Record.TheVariants.{Event}
+use Rattle.run_rules.specs.Told.{records_text}
 use Rattle.grbl_app.specs.Writing.{WritesOn}
 use Rattle.grbl_app.proofs.output.Output.put_events.Given as goal
 
@@ -10,7 +11,7 @@ invariant-loop-bits g l =
     let state = g.S.Sink.state in
     record {
       same : l.tracer.mv ≡ l.fn.mv;
-      writes : WritesOn (state l.fn.sink) l.fn.self (state l.sink) l.self (events_text (events_after l.fn.mv 0 l.tracer.done));
+      writes : WritesOn (state l.fn.sink) l.fn.self (state l.sink) l.self (records_text (map Event (events_after l.fn.mv 0 l.tracer.done)));
     }
 
 abbrev pub decreases-loop-bits : goal.decreases-loop-bits

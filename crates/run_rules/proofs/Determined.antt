@@ -1,0 +1,120 @@
+-- What becomes of a line is determined by the state before it.
+use Rattle.std.proofs.Common.{◌≡◌, ℕ, Bool, true, false, List, [], ◌∷◌, length, nat_eq, nat_lt, get_or, refl, sym, ap, ◌∙◌, Ok, Err, Some, None, subst}
+use Rattle.std.specs.declared.option.Option.{Option}
+use Rattle.std.specs.declared.result.Result.{Result}
+use Rattle.units.specs.declared.Decimal.{Decimal}
+use Rattle.units.specs.declared.Per3.{Per3}
+use Rattle.gcode_words.specs.declared.Word.{Word}
+use Rattle.gcode_words.specs.declared.WordFault.{WordFault}
+use Rattle.gcode_words.specs.Stripping.{plain}
+use Rattle.gcode_words.specs.Words.{words_of}
+use Rattle.code_table.specs.declared.Code.{Code}
+use Rattle.gcode_check.specs.Verdicts.{verdict}
+use Rattle.gcode_check.specs.declared.Verdict.{Verdict}
+use Rattle.gcode_check.specs.declared.Verdict.TheVariants.{Accept, Refuse, Limit}
+use Rattle.settings.specs.declared.Settings.{Settings}
+use Rattle.code_table.specs.Tables.{Row}
+use Rattle.settings.specs.Numbers.{values, one_if}
+use Rattle.system_lines.specs.Commands.{command_of}
+use Rattle.system_lines.specs.Setting.{apply_refusal}
+use Rattle.system_lines.specs.declared.Command.{Command}
+use Rattle.system_lines.specs.declared.Command.TheVariants.{ListSettings, ListModes, ListOffsets, Unlock, Set}
+use Rattle.run_rules.specs.declared.State.{State}
+use Rattle.run_rules.specs.States.{IsOpening}
+use Rattle.run_rules.specs.Outcomes.{Outcome, HasSet, told, either, ByVerdict, ByWords, BySetting, ByCommand, ByKept, Becomes, Answered, most_kept}
+
+same_switch : (a b : Bool) → one_if a ≡ one_if b → a ≡ b
+same_switch true true e = refl
+same_switch true false e = absurd cc
+same_switch false true e = absurd cc
+same_switch false false e = refl
+
+same_axes : (a b : Per3) → a.x ≡ b.x → a.y ≡ b.y → a.z ≡ b.z → a ≡ b
+same_axes a b x y z = ap (λ n. record a { x = n }) x ∙ ap (λ n. record a { x = b.x; y = n }) y ∙ ap (λ n. record b { z = n }) z
+
+abbrev value_at : ℕ → List Row → ℕ
+value_at place rows = let row : Row = get_or rows place (0, 0) in row.1
+
+-- the values of all settings are all that settings are
+values_determine : (s t : Settings) → values s ≡ values t → s ≡ t
+values_determine s t e =
+    let at : (place : ℕ) → value_at place (values s) ≡ value_at place (values t) = λ place. ap (value_at place) e in
+    let report : s.report ≡ t.report = at 0 in
+    let deviation : s.deviation ≡ t.deviation = at 1 in
+    let soft : s.soft ≡ t.soft = same_switch s.soft t.soft (at 2) in
+    let per_mm : s.limits.per_mm ≡ t.limits.per_mm = same_axes s.limits.per_mm t.limits.per_mm (at 3) (at 4) (at 5) in
+    let rate : s.limits.rate ≡ t.limits.rate = same_axes s.limits.rate t.limits.rate (at 6) (at 7) (at 8) in
+    let accel : s.limits.accel ≡ t.limits.accel = same_axes s.limits.accel t.limits.accel (at 9) (at 10) (at 11) in
+    let travel : s.travel ≡ t.travel = same_axes s.travel t.travel (at 12) (at 13) (at 14) in
+    ap (λ n. record s { report = n }) report
+    ∙ ap (λ n. record s { report = t.report; deviation = n }) deviation
+    ∙ ap (λ b. record s { report = t.report; deviation = t.deviation; soft = b }) soft
+    ∙ ap (λ l. record t { limits = record s.limits { per_mm = l }; travel = s.travel }) per_mm
+    ∙ ap (λ l. record t { limits = record s.limits { per_mm = t.limits.per_mm; rate = l }; travel = s.travel }) rate
+    ∙ ap (λ l. record t { limits = record t.limits { accel = l }; travel = s.travel }) accel
+    ∙ ap (λ l. record t { travel = l }) travel
+
+-- two outcomes that are the same third one
+both : {A : Type 0} {a b c : A} → a ≡ c → b ≡ c → a ≡ b
+both e f = e ∙ sym f
+
+by_verdict : (s : State) (v : Verdict) (a b : Outcome) → ByVerdict s v a → ByVerdict s v b → a ≡ b
+by_verdict s (Accept x) a b e f = both e f
+by_verdict s (Refuse code) a b e f = both e f
+by_verdict s Limit a b e f = absurd e
+
+by_words : (s : State) (r : Result (List Word) WordFault) (a b : Outcome) → ByWords s r a → ByWords s r b → a ≡ b
+by_words s (Err fault) a b e f = both e f
+by_words s (Ok ws) a b e f = by_verdict s (verdict s.parser s.settings ws) a b e f
+
+by_set : (s : State) (n : ℕ) (value : Decimal) (a b : Outcome) → HasSet s n value a → HasSet s n value b → a ≡ b
+by_set s n value a b e f =
+    let same : a.next.settings ≡ b.next.settings = values_determine a.next.settings b.next.settings (e.settings ∙ sym f.settings) in
+    e.outcome ∙ ap (λ settings. told (record { parser = s.parser; settings = settings }) []) same ∙ sym f.outcome
+
+by_setting : (s : State) (n : ℕ) (value : Decimal) (r : Option Code) (a b : Outcome) → BySetting s n value r a → BySetting s n value r b → a ≡ b
+by_setting s n value (Some code) a b e f = both e f
+by_setting s n value None a b e f = by_set s n value a b e f
+
+by_command : (s : State) (r : Result Command Code) (a b : Outcome) → ByCommand s r a → ByCommand s r b → a ≡ b
+by_command s (Err code) a b e f = both e f
+by_command s (Ok ListSettings) a b e f = both e f
+by_command s (Ok ListModes) a b e f = both e f
+by_command s (Ok ListOffsets) a b e f = both e f
+by_command s (Ok Unlock) a b e f = both e f
+by_command s (Ok (Set n value)) a b e f = by_setting s n value (apply_refusal n value) a b e f
+
+by_choice : (t : Bool) (A B : Outcome → Type 0) → ((a b : Outcome) → A a → A b → a ≡ b) → ((a b : Outcome) → B a → B b → a ≡ b)
+    → (a b : Outcome) → either t (A a) (B a) → either t (A b) (B b) → a ≡ b
+by_choice true A B first second a b e f = first a b e f
+by_choice false A B first second a b e f = second a b e f
+
+by_kept : (s : State) (kept : List ℕ) (a b : Outcome) → ByKept s kept a → ByKept s kept b → a ≡ b
+by_kept s [] a b e f = both e f
+by_kept s (c ∷ cs) a b e f =
+    by_choice (nat_eq c 36) (λ o. ByCommand s (command_of (c ∷ cs)) o) (λ o. ByWords s (words_of (c ∷ cs)) o)
+    (by_command s (command_of (c ∷ cs))) (by_words s (words_of (c ∷ cs))) a b e f
+
+pub one_outcome : (s : State) (line : List ℕ) (a b : Outcome) → Becomes s line a → Becomes s line b → a ≡ b
+one_outcome s line a b e f =
+    by_choice (nat_lt most_kept (length (plain line))) (λ o. o ≡ _) (λ o. ByKept s (plain line) o)
+    (λ a b e f. both e f) (by_kept s (plain line)) a b e f
+
+pub one_run : (s t u : State) (ls : List (List ℕ)) (os ps : List Outcome) → Answered s ls os t → Answered s ls ps u → (os ≡ ps) × (t ≡ u)
+one_run s t u [] [] [] e f = (refl, both e f)
+one_run s t u (l ∷ ls) (a ∷ os) (b ∷ ps) e f =
+    let first : a ≡ b = one_outcome s l a b e.0 f.0 in
+    let P : Outcome → Type 0 = λ o. Answered o.next ls ps u in
+    let rest = one_run a.next t u ls os ps e.1 (subst P (sym first) f.1) in
+    (ap (λ o. o ∷ os) first ∙ ap (λ xs. b ∷ xs) rest.0, rest.1)
+one_run s t u [] (a ∷ os) ps e f = absurd e
+one_run s t u [] [] (b ∷ ps) e f = absurd f
+one_run s t u (l ∷ ls) [] ps e f = absurd e
+one_run s t u (l ∷ ls) (a ∷ os) [] e f = absurd f
+
+-- there is one state before the first line
+pub one_opening : (s t : State) → IsOpening s → IsOpening t → s ≡ t
+one_opening s t a b =
+    let parser : s.parser ≡ t.parser = both a.parser b.parser in
+    let settings : s.settings ≡ t.settings = values_determine s.settings t.settings (both a.settings b.settings) in
+    ap (λ p. record { parser = p; settings = s.settings }) parser ∙ ap (λ v. record { parser = t.parser; settings = v }) settings

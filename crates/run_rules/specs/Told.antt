@@ -1,0 +1,40 @@
+-- What a run tells and records.
+use Rattle.std.specs.Prelude.{ℕ, Bool, true, false, List, [], ◌∷◌, ◌++◌}
+use Rattle.std.specs.List.{flat_map, count_by, AllByRecursion}
+use Rattle.step_line.specs.declared.Record.{Record}
+use Rattle.step_line.specs.declared.Record.TheVariants as kinds
+use Rattle.step_record.specs.Texts.{record_text}
+use Rattle.status_report.specs.Replies.{reply_text}
+use Rattle.status_report.specs.declared.Reply.{Reply}
+use Rattle.status_report.specs.declared.Reply.TheVariants.{Banner, Error}
+use Rattle.run_rules.specs.Outcomes.{Outcome}
+
+-- what was told of a line: its body, and then its answer
+abbrev pub replies_of : Outcome → List Reply
+replies_of o = o.body ++ o.answer ∷ []
+
+-- all that is told: the banner, and then line by line
+abbrev pub replies_in : List Outcome → List Reply
+replies_in outcomes = Banner ∷ flat_map replies_of outcomes
+
+-- the ticks of the lines, in order
+abbrev pub ticks_in : List Outcome → List Record
+ticks_in outcomes = flat_map (λ o. o.ticks) outcomes
+
+-- all that is recorded: the ticks and the end
+abbrev pub records_in : List Outcome → List Record
+records_in outcomes = ticks_in outcomes ++ kinds.End ∷ []
+
+abbrev pub replies_text : List Reply → List ℕ
+replies_text replies = flat_map reply_text replies
+
+abbrev pub records_text : List Record → List ℕ
+records_text records = flat_map record_text records
+
+abbrev pub is_error : Reply → Bool
+is_error (Error n) = true
+is_error _ = false
+
+-- how many lines are refused
+abbrev pub errors_in : List Outcome → ℕ
+errors_in outcomes = count_by (λ o. is_error o.answer) outcomes
