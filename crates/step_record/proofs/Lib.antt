@@ -4,3 +4,5 @@ pub mod Events
 pub mod Fields
 pub mod Lines
 pub mod Whole
+pub mod Turns
+pub mod Written

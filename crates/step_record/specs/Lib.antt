@@ -1,4 +1,9 @@
+pub mod Holding
 pub mod Reading
+pub mod Recording
+pub mod Taking
 pub mod Texts
+pub mod Writing
+pub use Rattle.outside.specs.Causes
 pub use Rattle.step_line.specs.Events
 pub use Rattle.step_line.specs.Records

@@ -8,18 +8,24 @@
 //! - A dwell is `D ms`, a spindle that turns `M3 speed` or `M4 speed`, one that stands `M5 0`, the coolant `M8 0` and
 //!   `M9 0`, and a cut `X line`, with a blank that no event has.
 //! - The end is `E`.
+//!
+//! A `Recorder` takes records, one a turn, and writes their lines to a sink.
 #![tactic(auto)]
 
 mod laws;
 mod numbers;
 mod reading;
+mod recorder;
+#[cfg(test)]
+mod recorder_tests;
 mod records;
 #[cfg(test)]
 mod tests;
 mod writing;
 
-pub use laws::one_reading;
+pub use laws::{one_reading, recorded};
 pub use reading::next_record;
+pub use recorder::{RecordIn, Recorder};
 pub use records::has_line;
 use thiserror::Error;
 pub use writing::{LONGEST_EVENT, LONGEST_LINE, push_event, push_record, put_record};

@@ -1,0 +1,4 @@
+pub mod Ticks
+pub mod Moves
+pub mod Whole
+pub mod Tried

@@ -1,0 +1,124 @@
+-- What one step of a pulse makes of what it has done.
+use Rattle.std.proofs.Common.{◌≡◌, ℕ, ◌+◌, inl, inr, true, false, List, [], ◌∷◌, ◌++◌, refl, ap, sym, ◌∙◌, arith, append_assoc}
+use Rattle.std.proofs.lemmas.List.{append-nil}
+use Rattle.units.specs.declared.Move.{Move}
+use Rattle.step_line.specs.declared.Piece.{Piece}
+use Rattle.step_line.specs.declared.Piece.TheVariants as pieces
+use Rattle.step_line.specs.declared.Record.{Record}
+use Rattle.step_line.specs.declared.Record.TheVariants as kinds
+use Rattle.step_line.specs.Pieces.{records_of}
+use Rattle.step_line.specs.Tracing.{Trace}
+use Rattle.pulse_engine.specs.Ordering.{ComesNext}
+use Rattle.pulse_engine.specs.Logs.{PieceLog, RecordLog, pieces_of, counted, records_put, ticks_in, is_tick, is_end, one_if, IsCounted}
+use Rattle.pulse_engine.specs.Logs.PieceEvent.{got}
+use Rattle.pulse_engine.specs.Logs.RecordEvent.{put}
+use Rattle.pulse_engine.specs.declared.pulse.Step.{Step}
+use Rattle.pulse_engine.specs.declared.pulse.Step.TheVariants.{Get, Put, Count, Over}
+use Rattle.pulse_engine.specs.Steps.{Pulsing, IsKept, IsStep, MayBegin, pulsing, coming, gone, reached_after}
+use Rattle.pulse_engine.specs.Turns.{Fits, Reaches}
+use Rattle.pulse_engine.proofs.Ticks.{ticks_in_piece, ticks-append}
+
+-- the pulse gets pieces only where it owes nothing, and counts a tick only where it owes one
+pub may_get : (p : Pulsing) (h : PieceLog) (k : RecordLog) → p.waiting ≡ [] → p.owes ≡ false → Fits p h k → IsCounted h
+may_get p h k w o f = omega (arith, f.left, ap ticks_in w, ap one_if o)
+
+same_trace : (m n : Move) (i j : ℕ) → m ≡ n → i ≡ j → Path Trace (record { mv = m; done = i }) (record { mv = n; done = j })
+same_trace m n i j e f = cc
+
+reaches_next : (ps : List Piece) (t : Trace) (p : Piece) → Reaches ps t → ComesNext ps p → MayBegin t p
+reaches_next [] t (pieces.Segment s) r n = (n.follows.0, inl n.follows.1)
+reaches_next (pieces.Segment s ∷ ps) t (pieces.Segment u) r n = (
+  n.follows.0,
+  elim n.follows.1 [
+    | inl first ↦ inl first
+    | inr on ↦ inr (r ∙ same_trace _ _ _ _ (sym on.mv) (sym on.first))
+  ],
+)
+reaches_next (pieces.Mark m ∷ ps) t (pieces.Segment s) r n = (n.follows.0, inl n.follows.1)
+reaches_next (pieces.End ∷ ps) t (pieces.Segment s) r n = (n.follows.0, inl n.follows.1)
+reaches_next ps t (pieces.Mark m) r n = n.follows
+reaches_next ps t pieces.End r n = tt
+
+reaches_piece : (ps : List Piece) (t : Trace) (p : Piece) → Reaches (p ∷ ps) (reached_after t p)
+reaches_piece ps t (pieces.Segment s) = refl
+reaches_piece ps t (pieces.Mark m) = tt
+reaches_piece ps t pieces.End = tt
+
+-- a piece is got
+pub fits_got : (p q : Pulsing) (t : Trace) (h : PieceLog) (k : RecordLog) (x : Piece) → p.waiting ≡ [] → p.owes ≡ false → p.over ≡ false → p.reached ≡ t
+    → q.waiting ≡ records_of x → q.owes ≡ false → q.over ≡ false → q.reached ≡ reached_after t x
+    → ComesNext (pieces_of h) x → Fits p h k → Fits q (got x ∷ h) k
+fits_got p q t h k x w o v e w' o' v' r n f = record {
+  turns = (n, f.turns);
+  records = ap (λ rs. rs ++ records_of x) (f.records ∙ ap (λ rs. records_put k ++ rs) w ∙ append-nil (records_put k)) ∙ ap (λ rs. records_put k ++ rs) (sym w');
+  ticks = f.ticks ∙ ap (λ b. counted h + one_if b) (o ∙ sym o');
+  left = rw (w', o') (omega (arith, ticks_in_piece x));
+  reach = rw r (reaches_piece (pieces_of h) t x);
+  end = v' ∙ sym v ∙ f.end;
+  last = λ e'. absurd cc;
+}
+
+-- a record is put
+no_tick : (r : Record) → is_end r ≡ true → is_tick r ≡ false
+no_tick (kinds.Head h) e = refl
+no_tick (kinds.Event b) e = absurd cc
+no_tick (kinds.Mark m) e = absurd cc
+no_tick kinds.End e = refl
+
+pub fits_put : (p q : Pulsing) (t : Trace) (h : PieceLog) (k : RecordLog) (r : Record) (rest : List Record) → p.waiting ≡ r ∷ rest → p.owes ≡ false → p.reached ≡ t
+    → q.waiting ≡ rest → q.owes ≡ is_tick r → q.over ≡ is_end r → q.reached ≡ t → (is_end r ≡ true → rest ≡ [])
+    → Fits p h k → Fits q h (put r ∷ k)
+fits_put p q t h k r rest w o e w' o' v' e' l f = record {
+  turns = f.turns;
+  records = f.records ∙ ap (λ rs. records_put k ++ rs) (w ∙ ap (λ rs. r ∷ rs) (sym w')) ∙ sym (append_assoc (records_put k) (r ∷ []) q.waiting);
+  ticks = omega (arith, ticks-append (records_put k) (r ∷ []), f.ticks, ap one_if o, ap one_if o');
+  left = omega (arith, f.left, ap ticks_in w, ap ticks_in w', ap one_if o, ap one_if o');
+  reach = rw e' (rw e at f.reach);
+  end = v';
+  last = λ s. let ends = sym v' ∙ s in (w' ∙ l ends, o' ∙ no_tick r ends);
+}
+
+-- what is seen of a pulse that gets a piece next
+gone_none : (t : Trace) (n : ℕ) → n ≡ 0 → gone t n ≡ t
+gone_none t n e = same_trace _ _ _ _ refl (omega arith)
+
+coming_none : (t : Trace) (n : ℕ) → n ≡ 0 → coming t n ≡ []
+coming_none t n e = rw e refl
+
+pub record Gets (p : Pulsing) (t : Trace) : Type 0 where
+  pub waiting : p.waiting ≡ []
+  pub owes : p.owes ≡ false
+  pub over : p.over ≡ false
+  pub reached : p.reached ≡ t
+
+pub gets : (s : Step) (t : Trace) (n : ℕ) (p : Pulsing) → s ≡ Get → IsKept s t n → pulsing s t n ≡ p → Gets p t
+gets Get t n p e i v = record {
+  waiting = rw (← v) (coming_none t n i.step);
+  owes = rw (← v) refl;
+  over = rw (← v) refl;
+  reached = rw (← v) (gone_none t n i.step);
+}
+gets (Put r) t n p e i v = absurd cc
+gets Count t n p e i v = absurd cc
+gets Over t n p e i v = absurd cc
+
+-- what is seen of a pulse that puts a record next
+pub record Puts (p : Pulsing) (t : Trace) (n : ℕ) (r : Record) : Type 0 where
+  pub waiting : p.waiting ≡ r ∷ coming t n
+  pub owes : p.owes ≡ false
+  pub reached : p.reached ≡ gone t n
+  pub last : is_end r ≡ true → coming t n ≡ []
+
+none_after : (r : Record) (t : Trace) (n : ℕ) → IsStep (Put r) n → is_end r ≡ true → coming t n ≡ []
+none_after (kinds.Head h) t n i e = absurd cc
+none_after (kinds.Event b) t n i e = absurd cc
+none_after (kinds.Mark m) t n i e = absurd cc
+none_after kinds.End t n i e = coming_none t n i
+
+pub puts : (s : Step) (t : Trace) (n : ℕ) (p : Pulsing) (r : Record) → s ≡ Put r → IsKept s t n → pulsing s t n ≡ p → Puts p t n r
+puts s t n p r e i v = let i' : IsKept (Put r) t n = (rw e at i) in let v' : pulsing (Put r) t n ≡ p = (rw e at v) in record {
+  waiting = rw (← v') refl;
+  owes = rw (← v') refl;
+  reached = rw (← v') refl;
+  last = none_after r t n i'.step;
+}

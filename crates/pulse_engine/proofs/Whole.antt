@@ -1,0 +1,149 @@
+-- What is recorded of all pieces, and what is put of it.
+use Rattle.std.proofs.Common.{◌≡◌, ℕ, zero, suc, ◌+◌, ◌≤◌, ◌⊎◌, inl, inr, Bool, true, false, List, [], ◌∷◌, ◌++◌, map, reverse, Option, Some, None, append_assoc, refl, ap, sym, ◌∙◌, arith, All}
+use Rattle.std.specs.List.{flat_map}
+use Rattle.std.proofs.lemmas.List.{append-nil, map-append, reverse-append}
+use Rattle.std.proofs.lemmas.List.Concat.{flat_map-cons}
+use Rattle.std.proofs.lemmas.List.Elements.{All-nil, All-cons, All-append}
+use Rattle.std.proofs.lemmas.Grind.{flat_map-append}
+use Rattle.units.specs.declared.Move.{Move}
+use Rattle.step_line.specs.declared.Segment.{Segment}
+use Rattle.step_line.specs.declared.Piece.{Piece}
+use Rattle.step_line.specs.declared.Piece.TheVariants as pieces
+use Rattle.step_line.specs.declared.Record.{Record}
+use Rattle.step_line.specs.declared.Record.TheVariants as kinds
+use Rattle.step_line.specs.Counting.{events_of}
+use Rattle.step_line.specs.Events.{event_of, events_after}
+use Rattle.step_line.specs.Pieces.{GoesOn, records_of, ticks_of, head_of, Follows}
+use Rattle.step_line.specs.Records.{IsRecord}
+use Rattle.step_line.proofs.Order.{in_parts, is_event}
+use Rattle.pulse_engine.specs.Ordering.{has_ended, InTurn, recorded}
+use Rattle.pulse_engine.specs.Logs.{PieceLog, RecordLog, pieces_of, records_put, ticks_in, counted, uncounted, one_if, is_end, end_is_put}
+use Rattle.pulse_engine.specs.Logs.RecordEvent.{put, full}
+use Rattle.pulse_engine.specs.Steps.{Pulsing}
+use Rattle.pulse_engine.specs.Turns.{Fits}
+use Rattle.pulse_engine.proofs.Ticks.{ticks-append}
+use Rattle.pulse_engine.specs.Slots.{Offered, Runs, as_list}
+
+-- the records of each piece, in order
+pub recorded_each : (ps : List Piece) → recorded ps ≡ flat_map records_of (reverse ps)
+recorded_each [] = refl
+recorded_each (p ∷ ps) =
+    let one : flat_map records_of (p ∷ []) ≡ records_of p = flat_map-cons records_of p [] ∙ append-nil (records_of p) in
+    let all : flat_map records_of (reverse (p ∷ ps)) ≡ flat_map records_of (reverse ps) ++ flat_map records_of (p ∷ []) =
+    ap (flat_map records_of) (reverse-append (p ∷ []) ps) ∙ flat_map-append records_of (reverse ps) (p ∷ []) in
+    ap (λ rs. rs ++ records_of p) (recorded_each ps) ∙ sym (all ∙ ap (λ rs. flat_map records_of (reverse ps) ++ rs) one)
+
+-- each has a line
+pub events_have_lines : (m : Move) (k n : ℕ) → k + n ≤ events_of m → All IsRecord (map kinds.Event (events_after m k n))
+events_have_lines m k zero h = All-nil IsRecord
+events_have_lines m k (suc n) h = All-cons IsRecord _ _ (is_event m k (omega arith)) (events_have_lines m (k + 1) n (omega arith))
+
+pub piece_has_lines : (before : List Piece) (p : Piece) → Follows before p → All IsRecord (records_of p)
+piece_has_lines before (pieces.Segment s) f = All-cons IsRecord _ _ f.0.head (events_have_lines s.mv s.first s.n f.0.within)
+piece_has_lines before (pieces.Mark m) f = All-cons IsRecord (kinds.Mark m) [] f (All-nil IsRecord)
+piece_has_lines before pieces.End f = All-cons IsRecord kinds.End [] tt (All-nil IsRecord)
+
+pub all_have_lines : (ps : List Piece) → InTurn ps → All IsRecord (recorded ps)
+all_have_lines [] t = All-nil IsRecord
+all_have_lines (p ∷ ps) t = All-append IsRecord (recorded ps) (records_of p) (all_have_lines ps t.1) (piece_has_lines ps p t.0.follows)
+
+-- a segment that goes on where another ends has the events after its events
+pub goes_on : (s u : Segment) → GoesOn s u → ticks_of (pieces.Segment s) ++ ticks_of (pieces.Segment u) ≡ map kinds.Event (events_after s.mv s.first (s.n + u.n))
+goes_on s u g =
+    let joined = ap (map kinds.Event) (in_parts s.mv s.first s.n u.n) ∙ map-append kinds.Event (events_after s.mv s.first s.n) (events_after s.mv (s.first + s.n) u.n) in
+    rw (g.mv, g.first) (sym joined)
+
+-- whether the last of some records is the end
+abbrev ends : List Record → Bool
+ends [] = false
+ends (r ∷ []) = is_end r
+ends (r ∷ (s ∷ rs)) = ends (s ∷ rs)
+
+ends-append : (rs : List Record) (s : Record) (ss : List Record) → ends (rs ++ s ∷ ss) ≡ ends (s ∷ ss)
+ends-append [] s ss = refl
+ends-append (r ∷ []) s ss = refl
+ends-append (r ∷ (q ∷ rs)) s ss = ends-append (q ∷ rs) s ss
+
+events_do_not_end : (m : Move) (k n : ℕ) (r : Record) → is_end r ≡ false → ends (r ∷ map kinds.Event (events_after m k n)) ≡ false
+events_do_not_end m k zero r e = e
+events_do_not_end m k (suc n) r e = events_do_not_end m (k + 1) n (kinds.Event (event_of m (k + 1))) refl
+
+end_is_last : (ps : List Piece) (rest : List Record) → recorded ps ≡ rest ++ kinds.End ∷ [] → (before : List Piece) × (ps ≡ pieces.End ∷ before)
+end_is_last [] rest e = let f : false ≡ true = ap ends e ∙ ends-append rest kinds.End [] in absurd cc
+end_is_last (pieces.Segment s ∷ ps) rest e =
+    let a = ends-append (recorded ps) (kinds.Head (head_of s)) (map kinds.Event (events_after s.mv s.first s.n)) in
+    let b = events_do_not_end s.mv s.first s.n (kinds.Head (head_of s)) refl in
+    let f : false ≡ true = sym (a ∙ b) ∙ ap ends e ∙ ends-append rest kinds.End [] in absurd cc
+end_is_last (pieces.Mark m ∷ ps) rest e =
+    let f : false ≡ true = sym (ends-append (recorded ps) (kinds.Mark m) []) ∙ ap ends e ∙ ends-append rest kinds.End [] in absurd cc
+end_is_last (pieces.End ∷ ps) rest e = (ps, refl)
+
+put_last : (k : RecordLog) → end_is_put k ≡ true → (rest : List Record) × (records_put k ≡ rest ++ kinds.End ∷ [])
+put_last [] e = absurd cc
+put_last (put (kinds.Head h) ∷ k) e = absurd cc
+put_last (put (kinds.Event b) ∷ k) e = absurd cc
+put_last (put (kinds.Mark m) ∷ k) e = absurd cc
+put_last (put kinds.End ∷ k) e = (records_put k, refl)
+put_last (full r ∷ k) e = put_last k e
+
+pub prefix_put : (p : Pulsing) (h : PieceLog) (k : RecordLog) → Fits p h k → (rest : List Record) × (recorded (pieces_of h) ≡ records_put k ++ rest)
+prefix_put p h k f = (p.waiting, f.records)
+
+pub whole_put : (p : Pulsing) (h : PieceLog) (k : RecordLog) → Fits p h k → p.waiting ≡ [] → records_put k ≡ recorded (pieces_of h)
+whole_put p h k f w = sym (f.records ∙ ap (λ rs. records_put k ++ rs) w ∙ append-nil (records_put k))
+
+one_more : (b : Bool) (m n : ℕ) → m ≡ n + one_if b → (m ≡ n) ⊎ (m ≡ n + 1)
+one_more true m n e = inr e
+one_more false m n e = inl (omega arith)
+
+pub ticks_put : (p : Pulsing) (h : PieceLog) (k : RecordLog) → Fits p h k → (ticks_in (records_put k) ≡ counted h) ⊎ (ticks_in (records_put k) ≡ counted h + 1)
+ticks_put p h k f = one_more p.owes (ticks_in (records_put k)) (counted h) f.ticks
+
+pub all_counts : (p : Pulsing) (h : PieceLog) (k : RecordLog) → Fits p h k → counted h + uncounted h ≡ ticks_in (recorded (pieces_of h))
+all_counts p h k f = omega (arith, f.ticks, f.left, ap ticks_in f.records, ticks-append (records_put k) p.waiting)
+
+pub done_put : (p : Pulsing) (h : PieceLog) (k : RecordLog) → Fits p h k → end_is_put k ≡ true
+    → (records_put k ≡ recorded (pieces_of h)) × ((before : List Piece) × (pieces_of h ≡ pieces.End ∷ before)) × ((rest : List Record) × (records_put k ≡ rest ++ kinds.End ∷ [])) × (ticks_in (records_put k) ≡ counted h)
+done_put p h k f e =
+    let last = f.last (f.end ∙ e) in
+    let whole = whole_put p h k f last.0 in
+    let put_is = put_last k e in
+    (whole, end_is_last (pieces_of h) put_is.0 (sym whole ∙ put_is.1), put_is, omega (arith, f.ticks, ap one_if last.1))
+
+-- between two slots
+gone_through : (ps : List Piece) (taken waiting rest : List Record) (records : List Record) → records ≡ taken ++ waiting → recorded ps ≡ records ++ rest
+    → recorded ps ≡ taken ++ (waiting ++ rest)
+gone_through ps taken waiting rest records e f = f ∙ ap (λ rs. rs ++ rest) e ∙ append_assoc taken waiting rest
+
+offered_begins : (o : Option Piece) (ps : List Piece) (taken rest : List Record) → recorded ps ≡ taken ++ rest → (more : List Record) × (recorded (as_list o ++ ps) ≡ taken ++ more)
+offered_begins None ps taken rest e = (rest, e)
+offered_begins (Some p) ps taken rest e = (rest ++ records_of p, ap (λ rs. rs ++ records_of p) e ∙ append_assoc taken rest (records_of p))
+
+pub begins_offered : (offered : List Piece) (taken : List Record) (p : Pulsing) (q : Offered) (waiting : List Record) → Runs offered taken p q waiting
+    → (rest : List Record) × (recorded offered ≡ taken ++ rest)
+begins_offered offered taken p q waiting r =
+    let through = gone_through (pieces_of r.pieces) taken waiting p.waiting (records_put r.records) r.takes r.fits.records in
+    let more = offered_begins q.waiting (pieces_of r.pieces) taken (waiting ++ p.waiting) through in
+    (more.0, ap recorded r.gives.pieces ∙ more.1)
+
+pub is_offered : (offered : List Piece) (taken : List Record) (p : Pulsing) (q : Offered) (waiting : List Record) → Runs offered taken p q waiting
+    → q.waiting ≡ None → p.waiting ≡ [] → waiting ≡ [] → taken ≡ recorded offered
+is_offered offered taken p q waiting r none all empty =
+    let put_is = whole_put p r.pieces r.records r.fits all in
+    let taken_is = r.takes ∙ ap (λ rs. taken ++ rs) empty ∙ append-nil taken in
+    let offered_is = ap recorded (r.gives.pieces ∙ ap (λ o. as_list o ++ pieces_of r.pieces) none) in
+    sym taken_is ∙ put_is ∙ sym offered_is
+
+nothing_waits : (o : Option Piece) (ps offered before : List Piece) → offered ≡ as_list o ++ ps → InTurn offered → ps ≡ pieces.End ∷ before → o ≡ None
+nothing_waits None ps offered before e t f = refl
+nothing_waits (Some p) ps offered before e t f =
+    let turns : InTurn (p ∷ ps) = rw e at t in
+    let ended : true ≡ false = sym (ap has_ended f) ∙ turns.0.going in absurd cc
+
+pub done_offered : (offered : List Piece) (taken : List Record) (p : Pulsing) (q : Offered) (waiting : List Record) → Runs offered taken p q waiting
+    → p.over ≡ true → taken ++ waiting ≡ recorded offered
+done_offered offered taken p q waiting r over =
+    let done = done_put p r.pieces r.records r.fits (sym r.fits.end ∙ over) in
+    let none = nothing_waits q.waiting (pieces_of r.pieces) offered done.1.0 r.gives.pieces r.gives.turns done.1.1 in
+    let offered_is = ap recorded (r.gives.pieces ∙ ap (λ o. as_list o ++ pieces_of r.pieces) none) in
+    sym r.takes ∙ done.0 ∙ sym offered_is

@@ -1,0 +1,5 @@
+pub mod Ordering
+pub mod Logs
+pub mod Steps
+pub mod Turns
+pub mod Slots

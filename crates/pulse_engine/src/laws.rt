@@ -1,0 +1,51 @@
+//! What holds of the records of every pulse.
+
+ghost use Rattle.std.specs.Prelude.{◌≡◌, ℕ, ◌+◌, ◌⊎◌, List, [], ◌∷◌, ◌++◌, reverse, map, true, None};
+ghost use Rattle.std.specs.List.{All, flat_map};
+ghost use Rattle.step_line.specs.declared.Segment.{Segment};
+ghost use Rattle.step_line.specs.declared.Piece.{Piece};
+ghost use Rattle.step_line.specs.declared.Record.{Record};
+ghost use Rattle.step_line.specs.Pieces.{GoesOn, records_of, ticks_of};
+ghost use Rattle.step_line.specs.Events.{events_after};
+ghost use Rattle.step_line.specs.Records.{IsRecord};
+ghost use Rattle.pulse_engine.specs.Ordering.{InTurn, recorded};
+ghost use Rattle.pulse_engine.specs.Logs.{PieceLog, RecordLog, pieces_of, records_put, ticks_in, counted, uncounted, end_is_put};
+ghost use Rattle.pulse_engine.specs.Steps.{Pulsing};
+ghost use Rattle.pulse_engine.specs.Turns.{Fits};
+ghost use Rattle.pulse_engine.specs.Slots.{Offered, Runs};
+
+use step_line::{Piece, Record};
+
+/// What is recorded of pieces that came in turn: the records of each, in order, and each has a line. The events run on
+/// over the segments of a move: two that join have together the events of their move from the first's first on.
+#[tactic(auto, using(crate::proofs::Whole::recorded_each, crate::proofs::Whole::goes_on, crate::proofs::Whole::all_have_lines))]
+pub fn pieces_in_order()
+    ensures each { (ps : List Piece) → recorded ps ≡ flat_map records_of (reverse ps) }
+    ensures lines { (ps : List Piece) → InTurn ps → All IsRecord (recorded ps) }
+    ensures runs_on { (s t : Segment) → GoesOn s t → ticks_of (Piece.Segment s) ++ ticks_of (Piece.Segment t) ≡ map Record.Event (events_after s.mv s.first (s.n + t.n)) }
+{}
+
+/// What a pulse has put begins what is recorded of the pieces that it got, and is all of it between pieces and once the
+/// end was put, which then is the last. The ticks that it put are those that it counted, or one more. The ticks of the
+/// pieces that it got are those that are counted, and those of the last one that are not.
+#[tactic(auto, using(crate::proofs::Whole::whole_put, crate::proofs::Whole::ticks_put, crate::proofs::Whole::all_counts, crate::proofs::Whole::done_put))]
+pub fn records_in_order()
+    ensures prefix { (p : Pulsing) (h : PieceLog) (k : RecordLog) → Fits p h k → (rest : List Record) × (recorded (pieces_of h) ≡ records_put k ++ rest) }
+    ensures whole { (p : Pulsing) (h : PieceLog) (k : RecordLog) → Fits p h k → p.waiting ≡ [] → records_put k ≡ recorded (pieces_of h) }
+    ensures ticks { (p : Pulsing) (h : PieceLog) (k : RecordLog) → Fits p h k
+        → (ticks_in (records_put k) ≡ counted h) ⊎ (ticks_in (records_put k) ≡ counted h + 1) }
+    ensures counts { (p : Pulsing) (h : PieceLog) (k : RecordLog) → Fits p h k → counted h + uncounted h ≡ ticks_in (recorded (pieces_of h)) }
+    ensures done { (p : Pulsing) (h : PieceLog) (k : RecordLog) → Fits p h k → end_is_put k ≡ true
+        → (records_put k ≡ recorded (pieces_of h)) × ((before : List Piece) × (pieces_of h ≡ Piece.End ∷ before)) × ((rest : List Record) × (records_put k ≡ rest ++ Record.End ∷ [])) × (ticks_in (records_put k) ≡ counted h) }
+{}
+
+/// What was taken from a pulse between two slots begins what is recorded of the pieces that were offered, and is all of it
+/// where nothing waits. Once the end was put, only records wait.
+pub fn slots_in_order()
+    ensures prefix { (offered : List Piece) (taken : List Record) (p : Pulsing) (q : Offered) (waiting : List Record) → Runs offered taken p q waiting
+        → (rest : List Record) × (recorded offered ≡ taken ++ rest) }
+    ensures whole { (offered : List Piece) (taken : List Record) (p : Pulsing) (q : Offered) (waiting : List Record) → Runs offered taken p q waiting
+        → q.waiting ≡ None → p.waiting ≡ [] → waiting ≡ [] → taken ≡ recorded offered }
+    ensures done { (offered : List Piece) (taken : List Record) (p : Pulsing) (q : Offered) (waiting : List Record) → Runs offered taken p q waiting
+        → p.over ≡ true → taken ++ waiting ≡ recorded offered }
+{}
