@@ -2,4 +2,14 @@
 #![tactic(auto)]
 
 #[cfg(test)]
+mod dialect;
+#[cfg(test)]
+mod faults;
+#[cfg(test)]
+mod offsets;
+#[cfg(test)]
 mod rows;
+#[cfg(test)]
+mod runs;
+#[cfg(test)]
+mod system;

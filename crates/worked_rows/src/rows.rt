@@ -1,74 +1,8 @@
 //! Whole runs over a source and sinks in memory.
 
+use crate::runs::{BANNER, Row, Run, expect, expect_row};
 use grbl_app::{Status, run_grbl};
 use outside::{MemSink, MemSource, OpenGate};
-use std::alloc::Global;
-use std::process::Abort;
-use std::sync::Wait;
-use std::thread::Threads;
-
-/// A job, and what its run must give: the console behind the banner, the steps, and the status.
-#[derive(Clone, Copy)]
-struct Row<'a> {
-    job: &'a [u8],
-    answers: &'a [u8],
-    steps: &'a [u8],
-    status: Status,
-}
-
-/// A run in memory: the words, the job, how many bytes a read gives, and which calls fail.
-#[derive(Clone, Copy)]
-struct Run<'a> {
-    words: &'a [&'a str],
-    job: &'a [u8],
-    piece: usize,
-    source_fails: &'a [u64],
-    console_fails: &'a [u64],
-    steps_fails: &'a [u64],
-}
-
-const BANNER: &[u8] = b"\r\nGrbl 1.1h ['$' for help]\r\n";
-
-/// Makes a run, and compares what the sinks hold and the status.
-fn expect<R: Threads + Wait + Sync + Abort>(
-    rt: &R,
-    alloc: Global,
-    run: &Run,
-    console: &[u8],
-    steps: &[u8],
-    status: Status,
-) {
-    let mut source = MemSource::new(run.job, run.piece.max(1), run.source_fails);
-    let mut out = MemSink::new(alloc, 10_000, run.console_fails).expect(rt, "memory");
-    let mut recorder = MemSink::new(alloc, 10_000, run.steps_fails).expect(rt, "memory");
-    let got = run_grbl(
-        rt,
-        alloc,
-        run.words,
-        &mut source,
-        &mut out,
-        &mut recorder,
-        &OpenGate,
-    );
-    assert_eq!(rt; got, status);
-    assert!(rt; out.held() == console);
-    assert!(rt; recorder.held() == steps);
-}
-
-/// Runs a row's job in pieces of seven bytes.
-fn expect_row<R: Threads + Wait + Sync + Abort>(rt: &R, alloc: Global, row: &Row) {
-    let run = Run {
-        words: &["stream"],
-        job: row.job,
-        piece: 7,
-        source_fails: &[],
-        console_fails: &[],
-        steps_fails: &[],
-    };
-    let mut console = Vec::from_slice(alloc, BANNER).expect(rt, "memory");
-    console.extend_from_slice(row.answers).expect(rt, "memory");
-    expect(rt, alloc, &run, console.as_slice(), row.steps, row.status);
-}
 
 #[test]
 fn jobs_give_their_answers_and_their_events(rt: HostRuntime) {
@@ -136,7 +70,7 @@ fn jobs_give_their_answers_and_their_events(rt: HostRuntime) {
         },
         Row {
             job: b"G1X0.004F100\nG0X0.012F-1\nX0",
-            answers: b"ok\r\nerror:20\r\nok\r\n",
+            answers: b"ok\r\nerror:4\r\nok\r\n",
             steps: b"X+\nX-\nE\n",
             status: Status::LineErrors(1),
         },
@@ -156,9 +90,9 @@ fn jobs_give_their_answers_and_their_events(rt: HostRuntime) {
         },
         Row {
             job: b"X10000.001\nG0X-10000.0001\nG0G0\nN1\nG\n1X\nG0.5",
-            answers: b"error:20\r\nerror:20\r\nerror:20\r\nerror:20\r\nerror:20\r\nerror:20\r\nerror:20\r\n",
+            answers: b"error:33\r\nerror:33\r\nerror:24\r\nok\r\nerror:2\r\nerror:1\r\nerror:23\r\n",
             steps: b"E\n",
-            status: Status::LineErrors(7),
+            status: Status::LineErrors(6),
         },
     ];
     for row in &rows {
