@@ -1,7 +1,9 @@
-use Rattle.std.proofs.Common.{refl, sym, ◌∙◌, ap}
+use Rattle.std.proofs.Common.{◌≡◌, refl, sym, ◌∙◌, ap}
 use Rattle.gcode_check.specs.Verdicts.{verdict_of}
 use Rattle.gcode_check.specs.declared.Accept.{Accept as Accepted}
 use Rattle.gcode_check.specs.declared.Verdict.TheVariants.{Accept, Refuse}
+use Rattle.modal_state.specs.declared.Parser.{Parser}
+use Rattle.run_rules.specs.declared.State.{State}
 use Rattle.run_rules.specs.Outcomes.{refused, executed}
 use Rattle.grbl_app.proofs.Answering.{has_executed, by_verdict, no_limit}
 use Rattle.grbl_app.proofs.engine.Engine.answer_words.Goals as goal
@@ -22,8 +24,10 @@ returns-in-Ok-clause-done g c =
 pub returns-in-Err-Error-clause-done : goal.returns-in-Err-Error-clause-done
 returns-in-Err-Error-clause-done g c =
     let s = c.args.self.now.state in
-    let code = c.in-Err-Error.code in (
+    let code = c.in-Err-Error.code in
+    let done = rw c.in-Err-Error.code-is at (c.refuse.ensures.done (g.St.Sink.state c.args.steps.now)) in
+    let same : record { parser = c.take_line.new.p; settings = s.settings } ≡ s = ap (λ (p : Parser). let next : State = record { parser = p; settings = s.settings } in next) c.in-Err-Error.ensures.same in (
       refused s code.0,
       by_verdict s _ (Refuse code) (refused s code.0) (sym (c.in-Err-Error.ensures.refused ∙ ap verdict_of c.in-Err-Error.field-0-is)) refl,
-      rw c.in-Err-Error.ensures.same at (c.refuse.ensures.done _),
+      record { console = done.console; steps = done.steps; state = done.state ∙ same; errors = done.errors },
     )
