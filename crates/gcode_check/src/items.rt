@@ -8,10 +8,9 @@ ghost use Rattle.modal_state.specs.Modes.{IsParser};
 ghost use Rattle.line_words.specs.Codes.{has_g};
 ghost use Rattle.gcode_check.specs.Items.{is_same_spindle, is_on, spindle_changes, coolant_changes, speed_of, item_if, spindle_items, coolant_items, dwell_time, dwell_items, rate_of, moves_through, flow_items, items_of, IsMoveAt, IsItem};
 
-use crate::Item;
 use crate::conditions::is_g1;
 use crate::effects::ends_program;
-use arrayvec::ArrayVec;
+use crate::{Item, Items};
 use line_words::commands::{G4, M0};
 use line_words::{Line, feed_of, flood_of, motion_of, moves, rpm_of, spindle_of};
 use modal_state::{Parser, SpindleMode};
@@ -91,9 +90,6 @@ fn rate_of(p: &Parser, line: &Line<'_>) -> Rate
         Rate::Rapid
     }
 }
-
-/// The items of a line.
-pub type Items = ArrayVec<Item, 5>;
 
 /// Appends an item where a condition holds.
 #[tactic(auto, using(crate::proofs::Sound::pushed))]

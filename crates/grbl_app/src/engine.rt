@@ -15,7 +15,7 @@ ghost use Rattle.grbl_app.specs.Writing.{WritesOn, IsEmpty};
 use crate::items::execute;
 use crate::open_line::OpenLine;
 use crate::output::Output;
-use gcode_check::{Verdict, check};
+use gcode_check::{Items, Refusal, take_line};
 use gcode_words::{WordFault, Words, words};
 use outside::Sink;
 use run_rules::State;
@@ -157,23 +157,28 @@ impl Engine {
             (record { console = Co.state console.new; steps = St.state steps.new }) self.new o }
         ensures valid { IsState self.new.state }
     {
-        match check(&self.state.parser, &self.state.settings, words) {
-            Verdict::Accept(accept) => {
-                let modal = self.state.parser.modal;
+        let modal = self.state.parser.modal;
+        let mut items = Items::new();
+        match take_line(
+            &mut self.state.parser,
+            &self.state.settings,
+            words,
+            &mut items,
+        ) {
+            Ok(()) => {
                 execute(
-                    accept.items.as_slice(),
+                    items.as_slice(),
                     &modal,
                     &mut self.console,
                     &mut self.steps,
                     console,
                     steps,
                 );
-                self.state.parser = accept.next;
                 self.accept(console);
             }
-            Verdict::Refuse(code) => self.refuse(console, code.0),
+            Err(Refusal::Error(code)) => self.refuse(console, code.0),
             // No soft limit is on.
-            Verdict::Limit => unreachable!(),
+            Err(Refusal::SoftLimit) => unreachable!(),
         }
     }
 

@@ -1,28 +1,33 @@
-use Rattle.std.proofs.Common.{[], refl, sym, Ok, Err}
-use Rattle.gcode_check.specs.declared.Verdict.TheVariants.{Accept, Refuse, Limit}
+use Rattle.std.proofs.Common.{◌≡◌, refl, sym, ◌∙◌, ap}
+use Rattle.gcode_check.specs.Verdicts.{verdict_of}
+use Rattle.gcode_check.specs.declared.Accept.{Accept as Accepted}
+use Rattle.gcode_check.specs.declared.Verdict.TheVariants.{Accept, Refuse}
+use Rattle.modal_state.specs.declared.Parser.{Parser}
+use Rattle.run_rules.specs.declared.State.{State}
 use Rattle.run_rules.specs.Outcomes.{refused, executed}
 use Rattle.grbl_app.proofs.Answering.{has_executed, by_verdict, no_limit}
 use Rattle.grbl_app.proofs.engine.Engine.answer_words.Goals as goal
 
 pub unreachable-requires : goal.unreachable-requires
-unreachable-requires g c = no_limit _ _ _ c.requires.valid.soft (sym c.in-Limit.ensures.verdict)
+unreachable-requires g c = no_limit _ _ _ c.requires.valid.soft (c.in-Err-SoftLimit.ensures.refused ∙ ap verdict_of c.in-Err-SoftLimit.field-0-is)
 
-pub returns-in-Accept-clause-done : goal.returns-in-Accept-clause-done
-returns-in-Accept-clause-done g c =
+pub returns-in-Ok-clause-done : goal.returns-in-Ok-clause-done
+returns-in-Ok-clause-done g c =
     let s = c.args.self.now.state in
-    let a = c.in-Accept.accept in (
+    let a : Accepted = record { next = c.take_line.new.p; items = c.take_line.new.items } in (
       executed s a,
-      by_verdict s _ (Accept a) (executed s a) c.in-Accept.ensures.verdict refl,
+      by_verdict s _ (Accept a) (executed s a) (sym c.in-Ok.ensures.accepted) refl,
       has_executed _ _ _ c.args.self.now _ _ a (rw c.as_slice.ensures.value at c.execute.ensures.told) c.accept.ensures.answer
           (rw (c.accept.ensures.same.2, ← c.as_slice.ensures.value) c.execute.ensures.recorded) c.accept.ensures.same.0 c.accept.ensures.same.1,
     )
 
-pub returns-in-Refuse-clause-done : goal.returns-in-Refuse-clause-done
-returns-in-Refuse-clause-done g c = (
-  refused c.args.self.now.state c.in-Refuse.code.0,
-  by_verdict c.args.self.now.state _ (Refuse c.in-Refuse.code) _ c.in-Refuse.ensures.verdict refl,
-  c.refuse.ensures.done _,
-)
-
-pub returns-in-Refuse-clause-valid : goal.returns-in-Refuse-clause-valid
-returns-in-Refuse-clause-valid g c = rw c.refuse.ensures.same c.requires.valid
+pub returns-in-Err-Error-clause-done : goal.returns-in-Err-Error-clause-done
+returns-in-Err-Error-clause-done g c =
+    let s = c.args.self.now.state in
+    let code = c.in-Err-Error.code in
+    let done = rw c.in-Err-Error.code-is at (c.refuse.ensures.done (g.St.Sink.state c.args.steps.now)) in
+    let same : record { parser = c.take_line.new.p; settings = s.settings } ≡ s = ap (λ (p : Parser). let next : State = record { parser = p; settings = s.settings } in next) c.in-Err-Error.ensures.same in (
+      refused s code.0,
+      by_verdict s _ (Refuse code) (refused s code.0) (sym (c.in-Err-Error.ensures.refused ∙ ap verdict_of c.in-Err-Error.field-0-is)) refl,
+      record { console = done.console; steps = done.steps; state = done.state ∙ same; errors = done.errors },
+    )
