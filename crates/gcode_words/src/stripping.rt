@@ -47,6 +47,8 @@ fn answer_outside(byte: u8) -> Stripped
     ensures goes_on { result ≢ Stripped.LineEnd }
 {
     match byte {
+        // Most bytes of a line.
+        b'-' | b'.' | b'0'..=b'9' | b'A'..=b'Z' => Stripped::Keep(byte),
         0x18 | b'?' | b'!' | b'~' | 0x80.. => Stripped::Realtime(byte),
         0..=b' ' | b'/' => Stripped::Nothing,
         _ => Stripped::Keep(byte.to_ascii_uppercase()),
