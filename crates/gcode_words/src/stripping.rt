@@ -1,6 +1,6 @@
 //! Lines without their comments and realtime bytes, byte by byte.
 
-ghost use Rattle.std.specs.Prelude.{◌≡◌, ◌≢◌, ℕ, false, List, [], ◌∷◌, ◌++◌, if◌then◌else◌, flat_map};
+ghost use Rattle.std.specs.Prelude.{◌≡◌, ◌≢◌, ℕ, true, false, List, [], ◌∷◌, ◌++◌, if◌then◌else◌, flat_map};
 ghost use Rattle.std.specs.List.{All, list_any};
 ghost use Rattle.gcode_words.specs.Comments.{begins_comment, ends_comment, cut, comment_after};
 ghost use Rattle.gcode_words.specs.Stripping.{is_plain, is_realtime, capital, kept_by, taken_by, plain, realtime, FeedsAll};
@@ -40,6 +40,16 @@ enum Comment {
     Semicolon,
 }
 
+/// Whether a byte is one of those that most lines are made of. Outside comments these are kept as they are.
+#[inline]
+fn is_common(byte: u8) -> bool
+    ensures kept { result ≡ true → byte ∷ [] ≡ (if is_plain byte then capital byte ∷ [] else []) }
+    ensures taken { result ≡ true → [] ≡ (if is_realtime byte then byte ∷ [] else []) }
+    ensures begins { result ≡ true → (byte ≢ 40) × (byte ≢ 59) }
+{
+    byte.is_ascii_digit() || byte.is_ascii_uppercase() || byte == b'.'
+}
+
 /// What becomes of a byte that stands outside comments and begins none.
 fn answer_outside(byte: u8) -> Stripped
     ensures kept { kept_by result ≡ (if is_plain byte then capital byte ∷ [] else []) }
@@ -47,8 +57,6 @@ fn answer_outside(byte: u8) -> Stripped
     ensures goes_on { result ≢ Stripped.LineEnd }
 {
     match byte {
-        // Most bytes of a line.
-        b'-' | b'.' | b'0'..=b'9' | b'A'..=b'Z' => Stripped::Keep(byte),
         0x18 | b'?' | b'!' | b'~' | 0x80.. => Stripped::Realtime(byte),
         0..=b' ' | b'/' => Stripped::Nothing,
         _ => Stripped::Keep(byte.to_ascii_uppercase()),
@@ -99,6 +107,7 @@ impl Stripper {
             return Stripped::LineEnd;
         }
         match self.comment {
+            Comment::Outside if is_common(byte) => Stripped::Keep(byte),
             Comment::Outside => match byte {
                 b'(' => {
                     self.comment = Comment::Paren;
