@@ -16,20 +16,22 @@ use crate::items::execute;
 use crate::open_line::OpenLine;
 use crate::output::Output;
 use gcode_check::{Items, Refusal, take_line};
-use gcode_words::{WordFault, Words, words};
+use gcode_words::{WordFault, Words, read_words};
 use outside::Sink;
 use run_rules::State;
 use status_report::{Modes, Reply};
 use system_lines::{Command, apply_setting, read_command};
 use units::Decimal;
 
-/// The state that the lines answered so far leave, how many of them were refused, and the texts on their way.
+/// The state that the lines answered so far leave, how many of them were refused, and the texts on their way. The
+/// words of each line are read into the same list.
 #[derive(Drop)]
 pub(crate) struct Engine {
     pub(crate) state: State,
     pub(crate) errors: u32,
     pub(crate) console: Output,
     pub(crate) steps: Output,
+    pub(crate) words: Words,
 }
 
 /// The error of words that can't be read.
@@ -56,6 +58,7 @@ impl Engine {
             errors: 0,
             console: Output::new(),
             steps: Output::new(),
+            words: Words::new(),
         }
     }
 
@@ -147,12 +150,12 @@ impl Engine {
         }
     }
 
-    /// Does what a line of G-code says, and answers.
-    fn answer_words<Co: Sink, St: Sink>(&mut self, words: &Words, console: &mut Co, steps: &mut St)
-        requires words { All IsSmallWord words.now.items }
+    /// Does what the words of a line of G-code say, and answers.
+    fn answer_words<Co: Sink, St: Sink>(&mut self, console: &mut Co, steps: &mut St)
+        requires words { All IsSmallWord self.old.words.items }
         requires few { self.old.errors + 1 < 2 ^ 32 }
         requires valid { IsState self.old.state }
-        ensures done { (o : Outcome) × ByVerdict self.old.state (verdict self.old.state.parser self.old.state.settings words.now.items) o
+        ensures done { (o : Outcome) × ByVerdict self.old.state (verdict self.old.state.parser self.old.state.settings self.old.words.items) o
             × HasDone (record { console = Co.state console.old; steps = St.state steps.old }) self.old
             (record { console = Co.state console.new; steps = St.state steps.new }) self.new o }
         ensures valid { IsState self.new.state }
@@ -162,7 +165,7 @@ impl Engine {
         match take_line(
             &mut self.state.parser,
             &self.state.settings,
-            words,
+            &self.words,
             &mut items,
         ) {
             Ok(()) => {
@@ -192,8 +195,8 @@ impl Engine {
             (record { console = Co.state console.new; steps = St.state steps.new }) self.new o }
         ensures valid { IsState self.new.state }
     {
-        match words(kept) {
-            Ok(words) => self.answer_words(&words, console, steps),
+        match read_words(kept, &mut self.words) {
+            Ok(()) => self.answer_words(console, steps),
             Err(fault) => self.refuse(console, fault_number(fault)),
         }
     }
