@@ -23,13 +23,15 @@ use status_report::{Modes, Reply};
 use system_lines::{Command, apply_setting, read_command};
 use units::Decimal;
 
-/// The state that the lines answered so far leave, how many of them were refused, and the texts on their way.
+/// The state that the lines answered so far leave, how many of them were refused, and the texts on their way. The
+/// items of each line are put into the same list.
 #[derive(Drop)]
 pub(crate) struct Engine {
     pub(crate) state: State,
     pub(crate) errors: u32,
     pub(crate) console: Output,
     pub(crate) steps: Output,
+    pub(crate) items: Items,
 }
 
 /// The error of words that can't be read.
@@ -56,6 +58,7 @@ impl Engine {
             errors: 0,
             console: Output::new(),
             steps: Output::new(),
+            items: Items::new(),
         }
     }
 
@@ -158,16 +161,15 @@ impl Engine {
         ensures valid { IsState self.new.state }
     {
         let modal = self.state.parser.modal;
-        let mut items = Items::new();
         match take_line(
             &mut self.state.parser,
             &self.state.settings,
             words,
-            &mut items,
+            &mut self.items,
         ) {
             Ok(()) => {
                 execute(
-                    items.as_slice(),
+                    self.items.as_slice(),
                     &modal,
                     &mut self.console,
                     &mut self.steps,
