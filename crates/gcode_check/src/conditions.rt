@@ -5,6 +5,7 @@ ghost use Rattle.std.specs.List.{list_any};
 ghost use Rattle.code_table.specs.Refusals.{first_refusal};
 ghost use Rattle.modal_state.specs.Modes.{IsParser};
 ghost use Rattle.line_words.specs.Given.{is_over};
+ghost use Rattle.line_words.specs.LineModes.{motion_of};
 ghost use Rattle.line_words.specs.Targets.{targets};
 ghost use Rattle.gcode_check.specs.NewOffsets.{new_offset};
 ghost use Rattle.gcode_check.specs.Conditions.{is_g80, is_g1, line_number_out_of_range, dwell_without_time, system_offset_without_axis, system_offset_without_system, system_out_of_range, system_offset_unsupported, shift_without_axis, machine_coordinates_without_motion, axis_words_without_motion, motion_without_feed, unused_words, IsNear, is_far, sets_far, target_out_of_range, is_off_axis, is_outside, command_rows, value_rows, line_refusal};
@@ -89,17 +90,19 @@ fn machine_coordinates_without_motion(p: &Parser, line: &Line<'_>) -> bool
     line.has(G53) && is_g80(motion_of(p, line))
 }
 
-fn axis_words_without_motion(p: &Parser, line: &Line<'_>) -> bool
+fn axis_words_without_motion(p: &Parser, line: &Line<'_>, motion: MotionMode) -> bool
+    requires { motion ≡ motion_of p.now line.now }
     ensures { result ≡ axis_words_without_motion p.now line.now }
 {
-    is_g80(motion_of(p, line)) && names_axis(line)
+    is_g80(motion) && names_axis(line)
 }
 
-fn motion_without_feed(p: &Parser, line: &Line<'_>) -> bool
-    requires { IsParser p.now }
+fn motion_without_feed(p: &Parser, line: &Line<'_>, motion: MotionMode) -> bool
+    requires valid { IsParser p.now }
+    requires motion { motion ≡ motion_of p.now line.now }
     ensures { result ≡ motion_without_feed p.now line.now }
 {
-    moves(line) && is_g1(motion_of(p, line)) && feed_of(p, line).unsigned_abs() == 0
+    moves(line) && is_g1(motion) && feed_of(p, line).unsigned_abs() == 0
 }
 
 fn unused_words(line: &Line<'_>) -> bool
@@ -184,10 +187,11 @@ fn value_error(p: &Parser, line: &Line<'_>, points: &[Nm3]) -> Option<Code>
     requires points { points.now ≡ targets p.now line.now }
     ensures { result ≡ first_refusal (value_rows p.now line.now) }
 {
-    if axis_words_without_motion(p, line) {
+    let motion = motion_of(p, line);
+    if axis_words_without_motion(p, line, motion) {
         return Some(Code(31));
     }
-    if motion_without_feed(p, line) {
+    if motion_without_feed(p, line, motion) {
         return Some(Code(22));
     }
     if unused_words(line) {

@@ -137,6 +137,22 @@ fn push_moves(items: &mut Items, at: &Steps3, stops: &[Steps3], rate: Rate)
     }
 }
 
+/// Appends the moves of a line, where it moves.
+fn push_motion(items: &mut Items, p: &Parser, line: &Line<'_>, stops: &[Steps3])
+    requires valid { IsParser p.now }
+    requires near { All IsPlace stops.now }
+    requires room { length items.old.items + length stops.now ≤ 5 }
+    requires sound { All IsItem items.old.items }
+    ensures items { items.new.items ≡ items.old.items ++ moves_through p.now.pos_steps stops.now (rate_of p.now line.now) }
+    ensures count { length items.new.items ≡ length items.old.items + length stops.now }
+    ensures sound { All IsItem items.new.items }
+{
+    if stops.is_empty() {
+        return;
+    }
+    push_moves(items, &p.pos_steps, stops, rate_of(p, line));
+}
+
 /// Appends what a line does to spindle and coolant.
 fn push_outputs(items: &mut Items, p: &Parser, line: &Line<'_>)
     requires valid { IsParser p.now }
@@ -165,7 +181,7 @@ fn push_ways(items: &mut Items, p: &Parser, line: &Line<'_>, stops: &[Steps3])
     ensures sound { All IsItem items.new.items }
 {
     push_if(items, line.has(G4), Item::Dwell(dwell_time(line)));
-    push_moves(items, &p.pos_steps, stops, rate_of(p, line));
+    push_motion(items, p, line, stops);
 }
 
 /// Appends a pause or the end of the program.

@@ -24,7 +24,7 @@ use system_lines::{Command, apply_setting, read_command};
 use units::Decimal;
 
 /// The state that the lines answered so far leave, how many of them were refused, and the texts on their way. The
-/// words of each line are read into the same list.
+/// words of each line are read into the same list, and its items put into another.
 #[derive(Drop)]
 pub(crate) struct Engine {
     pub(crate) state: State,
@@ -32,6 +32,7 @@ pub(crate) struct Engine {
     pub(crate) console: Output,
     pub(crate) steps: Output,
     pub(crate) words: Words,
+    pub(crate) items: Items,
 }
 
 /// The error of words that can't be read.
@@ -59,6 +60,7 @@ impl Engine {
             console: Output::new(),
             steps: Output::new(),
             words: Words::new(),
+            items: Items::new(),
         }
     }
 
@@ -161,16 +163,15 @@ impl Engine {
         ensures valid { IsState self.new.state }
     {
         let modal = self.state.parser.modal;
-        let mut items = Items::new();
         match take_line(
             &mut self.state.parser,
             &self.state.settings,
             &self.words,
-            &mut items,
+            &mut self.items,
         ) {
             Ok(()) => {
                 execute(
-                    items.as_slice(),
+                    self.items.as_slice(),
                     &modal,
                     &mut self.console,
                     &mut self.steps,
