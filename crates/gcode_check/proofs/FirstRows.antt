@@ -1,5 +1,5 @@
 -- The first error of a line.
-use Rattle.std.proofs.Common.{◌≡◌, ℕ, Bool, true, false, cond, List, [], ◌∷◌, ◌++◌, refl, sym, ◌∙◌, ap, Option, Some, None}
+use Rattle.std.proofs.Common.{◌≡◌, ℕ, Bool, true, false, cond, List, [], ◌∷◌, ◌++◌, refl, ◌∙◌, ap, Option, Some, None}
 use Rattle.code_table.specs.declared.Code.{Code}
 use Rattle.code_table.specs.Refusals.{first_refusal, or_else}
 use Rattle.gcode_words.specs.declared.Word.{Word}

@@ -1,5 +1,5 @@
 -- Lines answered one after another.
-use Rattle.std.proofs.Common.{◌≡◌, ℕ, ◌+◌, Bool, cond, List, [], ◌∷◌, ◌++◌, refl, sym, ap, ◌∙◌, append-nil, arith, lit≤, false, true, Ok, Err, Some, None, inl, inr, ◌≤◌, subst, nat_eq, nat_lt, length, ◌&&◌, if◌then◌else◌}
+use Rattle.std.proofs.Common.{◌≡◌, ℕ, ◌+◌, Bool, cond, List, [], ◌∷◌, ◌++◌, refl, sym, ap, ◌∙◌, append-nil, arith, lit≤, false, true, Some, None, inl, inr, ◌≤◌, subst, nat_eq, nat_lt, length, ◌&&◌, if◌then◌else◌}
 use Rattle.std.specs.List.{flat_map, slice_get}
 use Rattle.std.proofs.lemmas.Bool.{cases_Bool}
 use Rattle.std.proofs.lemmas.Bool.Decides.{nat_tests}
@@ -20,7 +20,7 @@ use Rattle.settings.specs.declared.Settings.{Settings}
 use Rattle.gcode_check.specs.Conditions.{leaves_travel}
 use Rattle.gcode_check.specs.Verdicts.{verdict, verdict_by, refusal_of, accepted}
 use Rattle.gcode_check.specs.declared.Verdict.{Verdict}
-use Rattle.gcode_check.specs.declared.Verdict.TheVariants.{Accept, Refuse, Limit}
+use Rattle.gcode_check.specs.declared.Verdict.TheVariants.{Accept, Limit}
 use Rattle.system_lines.specs.declared.Command.{Command}
 use Rattle.gcode_check.specs.declared.Accept.{Accept as Accepted}
 use Rattle.status_report.specs.declared.Reply.{Reply}
@@ -30,7 +30,7 @@ use Rattle.step_record.specs.Texts.{record_text}
 use Rattle.run_rules.specs.declared.State.{State}
 use Rattle.run_rules.specs.States.{IsOpening, IsState}
 use Rattle.run_rules.specs.Ticks.{ticks_of, replies_to}
-use Rattle.run_rules.specs.Outcomes.{Outcome, HasSet, refused, told, executed, BySetting, ByCommand, ByVerdict, ByWords, ByKept, Becomes, Answered, either, most_kept}
+use Rattle.run_rules.specs.Outcomes.{Outcome, HasSet, refused, told, executed, BySetting, ByCommand, ByVerdict, ByWords, ByKept, Becomes, either, most_kept}
 use Rattle.run_rules.specs.Told.{replies_of, replies_in, replies_text, ticks_in, records_text, errors_in, is_error}
 use Rattle.run_rules.proofs.Going.{goes_on}
 use Rattle.grbl_app.specs.Writing.{WritesOn, IsEmpty}

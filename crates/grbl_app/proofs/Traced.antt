@@ -10,7 +10,6 @@ use Rattle.step_line.specs.Tracing.{Trace}
 use Rattle.step_line.specs.Events.{event_of, events_after, line_events}
 use Rattle.step_line.proofs.Order.{in_parts}
 use Rattle.outside.specs.Causes.{SinkState}
-use Rattle.step_line.specs.declared.Record.{Record}
 use Rattle.step_line.specs.declared.Record.TheVariants.{Event}
 use Rattle.step_record.specs.Texts.{record_text, event_text}
 use Rattle.run_rules.specs.Told.{records_text}

@@ -1,6 +1,6 @@
 -- What a run tells and records.
 use Rattle.std.specs.Prelude.{ℕ, Bool, true, false, List, [], ◌∷◌, ◌++◌}
-use Rattle.std.specs.List.{flat_map, count_by, AllByRecursion}
+use Rattle.std.specs.List.{flat_map, count_by}
 use Rattle.step_line.specs.declared.Record.{Record}
 use Rattle.step_line.specs.declared.Record.TheVariants as kinds
 use Rattle.step_record.specs.Texts.{record_text}

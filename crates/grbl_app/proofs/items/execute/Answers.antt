@@ -1,7 +1,4 @@
-use Rattle.std.proofs.Common.{◌≡◌, [], refl, take, append-nil, length, ap, sym, ◌∙◌, arith}
-use Rattle.std.proofs.lemmas.List.{take_all, drop_all}
-use Rattle.run_rules.specs.Ticks.{ticks_of, replies_to}
-use Rattle.run_rules.specs.Told.{records_text, replies_text}
+use Rattle.std.proofs.Common.{[], refl}
 use Rattle.grbl_app.proofs.Written.{writes_nothing}
 use Rattle.grbl_app.proofs.Executing.{told_more, recorded_more}
 use Rattle.grbl_app.proofs.items.execute.Goals as goal

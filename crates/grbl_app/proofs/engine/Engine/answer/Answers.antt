@@ -1,5 +1,4 @@
-use Rattle.std.proofs.Common.{arith}
-use Rattle.grbl_app.proofs.Answering.{answers_more, one_error}
+use Rattle.grbl_app.proofs.Answering.{answers_more}
 use Rattle.grbl_app.proofs.engine.Engine.answer.Goals as goal
 
 pub returns-clause-answered : goal.returns-clause-answered
