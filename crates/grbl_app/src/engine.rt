@@ -9,10 +9,11 @@ ghost use Rattle.system_lines.specs.Setting.{apply_refusal};
 ghost use Rattle.status_report.specs.Replies.{reply_text};
 ghost use Rattle.run_rules.specs.States.{IsState, IsOpening};
 ghost use Rattle.run_rules.specs.Outcomes.{Outcome, refused, fault_number, BySetting, ByCommand, ByVerdict, ByWords, ByKept, Becomes};
-ghost use Rattle.grbl_app.specs.Engines.{IsOpen, Sinks, HasDone, HasAnswered};
+ghost use Rattle.step_drive.specs.Driving.{HasDriven, IsRunning};
+ghost use Rattle.grbl_app.specs.Engines.{IsOpen, Sinks, HasDone, GoesOn, IsReady, HasAnswered};
 ghost use Rattle.grbl_app.specs.Writing.{WritesOn, IsEmpty};
 
-use crate::items::execute;
+use crate::items::{ask, tell};
 use crate::open_line::OpenLine;
 use crate::output::Output;
 use gcode_check::{Verdict, check};
@@ -20,16 +21,19 @@ use gcode_words::{WordFault, Words, words};
 use outside::Sink;
 use run_rules::State;
 use status_report::{Modes, Reply};
+use step_drive::Drive;
 use system_lines::{Command, apply_setting, read_command};
 use units::Decimal;
 
-/// The state that the lines answered so far leave, how many of them were refused, and the texts on their way.
+/// The state that the lines answered so far leave, how many they are, how many of them were refused, the text on its
+/// way to the console, and the drive.
 #[derive(Drop)]
 pub(crate) struct Engine {
     pub(crate) state: State,
+    pub(crate) lines: u32,
     pub(crate) errors: u32,
     pub(crate) console: Output,
-    pub(crate) steps: Output,
+    pub(crate) drive: Drive,
 }
 
 /// The error of words that can't be read.
@@ -47,24 +51,27 @@ impl Engine {
     pub(crate) fn new() -> Engine
         ensures opening { IsOpening result.state }
         ensures valid { IsState result.state }
+        ensures lines { result.lines ≡ 0 }
         ensures errors { result.errors ≡ 0 }
         ensures console { IsEmpty result.console }
-        ensures steps { IsEmpty result.steps }
+        ensures drive { (sink : SinkState) → HasDriven sink sink result.drive [] }
     {
         Engine {
             state: State::opening(),
+            lines: 0,
             errors: 0,
             console: Output::new(),
-            steps: Output::new(),
+            drive: Drive::new(),
         }
     }
 
-    /// Writes the banner.
+    /// Writes the banner, and shows it.
     pub(crate) fn greet<Co: Sink>(&mut self, console: &mut Co)
         ensures banner { WritesOn (Co.state console.old) self.old.console (Co.state console.new) self.new.console (reply_text Reply.Banner) }
-        ensures same { (self.new.state ≡ self.old.state) × (self.new.errors ≡ self.old.errors) × (self.new.steps ≡ self.old.steps) }
+        ensures same { self.new ≡ record self.old { console = self.new.console } }
     {
         self.console.put_reply(console, &Reply::Banner);
+        self.console.flush(console);
     }
 
     /// Answers a line with an error.
@@ -72,8 +79,7 @@ impl Engine {
         requires few { self.old.errors + 1 < 2 ^ 32 }
         ensures done { (steps : SinkState) → HasDone (record { console = Co.state console.old; steps = steps }) self.old
             (record { console = Co.state console.new; steps = steps }) self.new (refused self.old.state number) }
-        ensures same { self.new.state ≡ self.old.state }
-        ensures more { self.new.errors ≡ self.old.errors + 1 }
+        ensures same { self.new ≡ record self.old { console = self.new.console; errors = self.old.errors + 1 } }
     {
         self.console.put_reply(console, &Reply::Error(number));
         self.errors += 1;
@@ -82,7 +88,7 @@ impl Engine {
     /// Answers a line with `ok`.
     fn accept<Co: Sink>(&mut self, console: &mut Co)
         ensures answer { WritesOn (Co.state console.old) self.old.console (Co.state console.new) self.new.console (reply_text Reply.Ok) }
-        ensures same { (self.new.state ≡ self.old.state) × (self.new.errors ≡ self.old.errors) × (self.new.steps ≡ self.old.steps) }
+        ensures same { self.new ≡ record self.old { console = self.new.console } }
     {
         self.console.put_reply(console, &Reply::Ok);
     }
@@ -148,26 +154,25 @@ impl Engine {
     }
 
     /// Does what a line of G-code says, and answers.
-    fn answer_words<Co: Sink, St: Sink>(&mut self, words: &Words, console: &mut Co, steps: &mut St)
+    fn answer_words<Co: Sink, St: Sink>(
+        &mut self,
+        words: &Words,
+        console: &mut Co,
+        steps: &mut St,
+    )
         requires words { All IsSmallWord words.now.items }
-        requires few { self.old.errors + 1 < 2 ^ 32 }
+        requires line { (1 ≤ self.old.lines) × (self.old.errors + 1 < 2 ^ 32) }
         requires valid { IsState self.old.state }
-        ensures done { (o : Outcome) × ByVerdict self.old.state (verdict self.old.state.parser self.old.state.settings words.now.items) o
+        requires running { IsRunning (St.state steps.old) self.old.drive }
+        ensures done { (o : Outcome) × ByVerdict self.old.lines self.old.state (verdict self.old.state.parser self.old.state.settings words.now.items) o
             × HasDone (record { console = Co.state console.old; steps = St.state steps.old }) self.old
-            (record { console = Co.state console.new; steps = St.state steps.new }) self.new o }
+                (record { console = Co.state console.new; steps = St.state steps.new }) self.new o }
         ensures valid { IsState self.new.state }
     {
         match check(&self.state.parser, &self.state.settings, words) {
             Verdict::Accept(accept) => {
-                let modal = self.state.parser.modal;
-                execute(
-                    accept.items.as_slice(),
-                    &modal,
-                    &mut self.console,
-                    &mut self.steps,
-                    console,
-                    steps,
-                );
+                tell(accept.items.as_slice(), &mut self.console, console);
+                ask(accept.items.as_slice(), self.lines, &self.state, &mut self.drive, steps);
                 self.state.parser = accept.next;
                 self.accept(console);
             }
@@ -178,13 +183,19 @@ impl Engine {
     }
 
     /// Answers a line of G-code.
-    fn answer_code<Co: Sink, St: Sink>(&mut self, kept: &[u8], console: &mut Co, steps: &mut St)
+    fn answer_code<Co: Sink, St: Sink>(
+        &mut self,
+        kept: &[u8],
+        console: &mut Co,
+        steps: &mut St,
+    )
         requires short { length kept.now ≤ 79 }
-        requires few { self.old.errors + 1 < 2 ^ 32 }
+        requires line { (1 ≤ self.old.lines) × (self.old.errors + 1 < 2 ^ 32) }
         requires valid { IsState self.old.state }
-        ensures done { (o : Outcome) × ByWords self.old.state (words_of kept.now) o
+        requires running { IsRunning (St.state steps.old) self.old.drive }
+        ensures done { (o : Outcome) × ByWords self.old.lines self.old.state (words_of kept.now) o
             × HasDone (record { console = Co.state console.old; steps = St.state steps.old }) self.old
-            (record { console = Co.state console.new; steps = St.state steps.new }) self.new o }
+                (record { console = Co.state console.new; steps = St.state steps.new }) self.new o }
         ensures valid { IsState self.new.state }
     {
         match words(kept) {
@@ -194,13 +205,19 @@ impl Engine {
     }
 
     /// Answers a line of which these bytes are kept.
-    fn answer_kept<Co: Sink, St: Sink>(&mut self, kept: &[u8], console: &mut Co, steps: &mut St)
+    fn answer_kept<Co: Sink, St: Sink>(
+        &mut self,
+        kept: &[u8],
+        console: &mut Co,
+        steps: &mut St,
+    )
         requires short { length kept.now ≤ 79 }
-        requires few { self.old.errors + 1 < 2 ^ 32 }
+        requires line { (1 ≤ self.old.lines) × (self.old.errors + 1 < 2 ^ 32) }
         requires valid { IsState self.old.state }
-        ensures done { (o : Outcome) × ByKept self.old.state kept.now o
+        requires running { IsRunning (St.state steps.old) self.old.drive }
+        ensures done { (o : Outcome) × ByKept self.old.lines self.old.state kept.now o
             × HasDone (record { console = Co.state console.old; steps = St.state steps.old }) self.old
-            (record { console = Co.state console.new; steps = St.state steps.new }) self.new o }
+                (record { console = Co.state console.new; steps = St.state steps.new }) self.new o }
         ensures valid { IsState self.new.state }
     {
         match kept.first() {
@@ -210,15 +227,20 @@ impl Engine {
         }
     }
 
-    /// Answers a line.
-    fn answer_line<Co: Sink, St: Sink>(&mut self, line: &OpenLine, console: &mut Co, steps: &mut St)
-        requires few { self.old.errors + 1 < 2 ^ 32 }
+    /// Answers the line that was counted last.
+    fn answer_line<Co: Sink, St: Sink>(
+        &mut self,
+        line: &OpenLine,
+        console: &mut Co,
+        steps: &mut St,
+    )
+        requires line { (1 ≤ self.old.lines) × (self.old.errors + 1 < 2 ^ 32) }
         requires valid { IsState self.old.state }
-        ensures done { (bytes : List ℕ) → IsOpen line.now bytes → (o : Outcome) × Becomes self.old.state bytes o
+        requires running { IsRunning (St.state steps.old) self.old.drive }
+        ensures done { (bytes : List ℕ) → IsOpen line.now bytes → (o : Outcome) × Becomes self.old.lines self.old.state bytes o
             × HasDone (record { console = Co.state console.old; steps = St.state steps.old }) self.old
-            (record { console = Co.state console.new; steps = St.state steps.new }) self.new o }
-        ensures valid { IsState self.new.state }
-        ensures few { self.new.errors ≤ self.old.errors + 1 }
+                (record { console = Co.state console.new; steps = St.state steps.new }) self.new o }
+        ensures goes_on { GoesOn (St.state steps.old) self.old (St.state steps.new) self.new }
     {
         if line.over {
             self.refuse(console, 11);
@@ -234,14 +256,15 @@ impl Engine {
         console: &mut Co,
         steps: &mut St,
     )
-        requires good { IsState self.old.state }
-        requires few { self.old.errors + 1 < 2 ^ 32 }
+        requires ready { IsReady (St.state steps.old) self.old }
+        requires few { self.old.lines + 1 < 2 ^ 32 }
         ensures answered { (was : Sinks) (lines : List (List ℕ)) (bytes : List ℕ) →
             HasAnswered was (record { console = Co.state console.old; steps = St.state steps.old }) self.old lines → IsOpen line.now bytes →
             HasAnswered was (record { console = Co.state console.new; steps = St.state steps.new }) self.new (lines ++ bytes ∷ []) }
-        ensures good { IsState self.new.state }
-        ensures few { self.new.errors ≤ self.old.errors + 1 }
+        ensures ready { IsReady (St.state steps.new) self.new }
+        ensures few { self.new.lines ≡ self.old.lines + 1 }
     {
+        self.lines += 1;
         self.answer_line(line, console, steps);
     }
 }

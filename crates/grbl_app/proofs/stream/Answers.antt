@@ -13,7 +13,7 @@ status_of steps_failed console_failed reading errors counted status is e = is âˆ
 
 pub returns-clause-run : goal.returns-clause-run
 returns-clause-run g c =
-    let begun = greeted _ _ _ c.new-engine.result c.greet.new.self c.new-engine.ensures.opening c.new-engine.ensures.valid c.new-engine.ensures.errors c.new-engine.ensures.console c.new-engine.ensures.steps c.greet.ensures.banner c.greet.ensures.same in
+    let begun = greeted _ _ _ c.new-engine.result c.greet.new.self c.new-engine.ensures.opening c.new-engine.ensures.lines c.new-engine.ensures.errors c.new-engine.ensures.console (c.new-engine.ensures.drive _) c.greet.ensures.banner c.greet.ensures.same in
     let i = c.read_job-reading.ensures.fed _ (record { lines = []; open_line = []; cuts = cut_none; has_answered = begun; line_is = c.new-line.ensures }) in
     let end = c.finish.ensures _ _ i.4 in
     record {
@@ -23,7 +23,7 @@ returns-clause-run g c =
       outcomes = end.outcomes;
       last = c.finish.new.engine.state;
       console_failed = c.finish.new.engine.console.failed;
-      steps_failed = c.finish.new.engine.steps.failed;
+      steps_failed = c.finish.new.engine.drive.recorder.failed;
       taken = i.1;
       fits = i.2;
       at_end = i.3;
@@ -31,7 +31,9 @@ returns-clause-run g c =
       opening = end.opening;
       answered = end.answered;
       console = end.console;
-      steps = end.steps;
+      records = end.steps.records;
+      driven = end.steps.driven;
+      steps = end.steps.took;
       status_is = status_of _ _ _ _ _ _ c.first_cause.ensures end.errors;
     }
 

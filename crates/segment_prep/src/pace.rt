@@ -1,0 +1,60 @@
+//! How long a segment's events take.
+
+ghost use Rattle.std.specs.Prelude.{◌≡◌, ◌≤◌, ◌<◌, ◌*◌, ◌^◌, max};
+ghost use Rattle.units.specs.Roots.{root_of};
+ghost use Rattle.plan_passes.specs.Blocks.{IsBlock, left_of, squared};
+ghost use Rattle.plan_passes.specs.Segments.{pace_of, cycles_of};
+
+use planner_ring::Block;
+use units::isqrt;
+
+/// The greatest speed on the way from a squared speed on, in µm/s: the nominal one, or that of the beginning where it was
+/// higher.
+#[inline]
+#[tactic(auto, using(crate::proofs::Sizes::root_below, units::proofs::Places::one_root))]
+fn top(nominal: u64, w: u64) -> u64
+    requires nominal { nominal < 2 ^ 32 }
+    ensures top { result ≡ max nominal (root_of w) }
+{
+    if w <= nominal * nominal {
+        return nominal;
+    }
+    nominal.max(isqrt(w as u128))
+}
+
+/// How fast n events go that change the squared speed from w to v, in µm/s: never below 1, and at most at the nominal
+/// speed, unless it was higher before.
+#[inline]
+#[tactic(auto, using(crate::proofs::Sizes::square_le, crate::proofs::Sizes::root_below, crate::proofs::Sizes::root_square, plan_passes::proofs::Bounds::bounds_of, plan_passes::proofs::Bounds::rapid_small, units::proofs::Places::one_root))]
+fn pace(b: &Block, nominal: u64, w: u64, v: u64, n: u32) -> u64
+    requires block { IsBlock b.now }
+    requires nominal { nominal ≤ b.now.geom.rapid }
+    requires begins { w ≤ squared b.now.geom.rapid }
+    requires ends { v ≤ squared b.now.geom.rapid }
+    ensures pace { result ≡ pace_of b.now nominal w v n }
+    ensures some { 0 < result }
+    ensures rapid { result ≤ b.now.geom.rapid }
+{
+    let top = top(nominal, w);
+    let square = (top * top) as u128;
+    let mean = (w as u128 + v as u128 + b.geom.q as u128 * n as u128) / 2;
+    if square <= mean {
+        return top.max(1);
+    }
+    isqrt(mean).max(1)
+}
+
+/// The cycles of a clock of 16 MHz from one of them to the next, rounded up.
+#[inline]
+#[tactic(auto, using(crate::proofs::Sizes::product_small, crate::proofs::Sizes::product_some, crate::proofs::Sizes::some_rounded_up, plan_passes::proofs::Bounds::bounds_of))]
+pub(crate) fn cycles(b: &Block, nominal: u64, w: u64, v: u64, n: u32) -> u64
+    requires block { IsBlock b.now }
+    requires nominal { nominal ≤ b.now.geom.rapid }
+    requires begins { w ≤ squared b.now.geom.rapid }
+    requires ends { v ≤ squared b.now.geom.rapid }
+    ensures cycles { result ≡ cycles_of b.now (pace_of b.now nominal w v n) }
+    ensures some { 0 < result }
+{
+    let per_length = b.geom.n as u64 * pace(b, nominal, w, v, n);
+    (16_000 * b.geom.length + per_length - 1) / per_length
+}

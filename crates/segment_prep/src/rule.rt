@@ -1,0 +1,139 @@
+//! The segment rule: how many events are taken, and the speed behind them.
+
+ghost use Rattle.std.specs.Prelude.{◌≡◌, ◌≤◌, ◌<◌, ◌+◌, ◌-◌, ◌*◌, ◌/◌, ◌↔◌, IsNone, IfSome, IsTrue};
+ghost use Rattle.units.specs.Roots.{root_of};
+ghost use Rattle.overrides.specs.Percents.{nominal_of};
+ghost use Rattle.profile.specs.Slowing.{speed_after};
+ghost use Rattle.plan_passes.specs.Blocks.{IsBlock, left_of, squared};
+ghost use Rattle.plan_passes.specs.Plans.{IsTail};
+ghost use Rattle.plan_passes.specs.Segments.{count_of, IsGoing, IsHolding};
+ghost use Rattle.segment_prep.specs.Taking.{ByMode, nominal};
+
+use crate::Mode;
+use plan_passes::Plan;
+use planner_ring::Block;
+use units::isqrt;
+
+/// Some events of a block, and the squared speed behind them.
+#[derive(Clone, Copy)]
+pub(crate) struct Stretch {
+    pub(crate) n: u32,
+    pub(crate) w_out: u64,
+}
+
+/// Whether fewer than two events of a block take 10 ms at a squared speed: told by squares, without a root.
+#[inline]
+#[tactic(auto, using(crate::proofs::Sizes::events_squared_small, crate::proofs::Sizes::length_squared_small, crate::proofs::Sizes::slow_product_small, crate::proofs::Sizes::one_event, plan_passes::proofs::Bounds::bounds_of, plan_passes::proofs::Bounds::rapid_small))]
+fn is_slow(b: &Block, w: u64) -> bool
+    requires block { IsBlock b.now }
+    requires speed { w ≤ squared b.now.geom.rapid }
+    ensures { IsTrue result → root_of (w + b.now.geom.q) * 10 * b.now.geom.n / b.now.geom.length < 2 }
+{
+    let n = b.geom.n as u64;
+    let length = b.geom.length as u128;
+    let square = (w + b.geom.q) as u128 * (25 * n * n) as u128;
+    square < length * length
+}
+
+/// How many events of a block are taken at a squared speed: those of about 10 ms, but one at least, and no more than are
+/// left.
+#[inline]
+#[tactic(auto, using(plan_passes::proofs::Bounds::bounds_of, plan_passes::proofs::Bounds::rapid_small, units::proofs::Places::one_root))]
+fn count(b: &Block, w: u64) -> u32
+    requires block { IsBlock b.now }
+    requires speed { w ≤ squared b.now.geom.rapid }
+    ensures count { result ≡ count_of b.now w }
+    ensures some { 0 < result }
+    ensures within { result ≤ left_of b.now }
+{
+    let left = b.geom.n - b.prepared;
+    if left == 1 {
+        return 1;
+    }
+    if is_slow(b, w) {
+        return 1;
+    }
+    let root = isqrt((w + b.geom.q) as u128);
+    let events = root * 10 * b.geom.n as u64 / b.geom.length;
+    events.min(left as u64).max(1) as u32
+}
+
+/// The squared speed behind n events of a block in mode Go, where its nominal speed and the plan's speed at its end are
+/// these.
+#[inline]
+#[tactic(auto, using(crate::proofs::Sizes::square_le, plan_passes::proofs::Bounds::rapid_small))]
+fn speed_going(b: &Block, w: u64, n: u32, exit: u64, nominal: u64) -> u64
+    requires block { IsBlock b.now }
+    requires speed { w ≤ squared b.now.geom.rapid }
+    requires within { n ≤ left_of b.now }
+    requires nominal { nominal ≤ b.now.geom.rapid }
+    ensures speed { result ≡ speed_after w b.now.geom.q n (left_of b.now - n) exit (squared nominal) }
+    ensures rapid { result ≤ squared b.now.geom.rapid }
+{
+    let q = b.geom.q as u128;
+    let change = q * n as u128;
+    let rest = b.geom.n - b.prepared - n;
+    let for_exit = exit as u128 + q * rest as u128;
+    let fastest = (w as u128 + change).min((nominal * nominal) as u128);
+    let slowest = (w as u128).saturating_sub(change);
+    for_exit.min(fastest.max(slowest)) as u64
+}
+
+/// What is taken of the tail in mode Go.
+#[inline]
+#[tactic(auto, using(crate::proofs::Sizes::tail_nominal), unfolding(plan_passes::specs::Blocks::top_of))]
+fn going<const N: usize>(plan: &Plan<N>, b: &Block, nominal: u64) -> Stretch
+    requires tail { IsTail plan.now b.now }
+    requires nominal { nominal ≡ nominal_of plan.now.overrides b.now.rate b.now.geom.rapid }
+    ensures rule { IsGoing plan.now b.now result.n result.w_out }
+    ensures some { 0 < result.n }
+    ensures within { result.n ≤ left_of b.now }
+    ensures rapid { result.w_out ≤ squared b.now.geom.rapid }
+{
+    let w = plan.speed();
+    let n = count(b, w);
+    let w_out = speed_going(b, w, n, plan.exit_of_tail(), nominal);
+    Stretch { n, w_out }
+}
+
+/// What is taken of the tail in mode Hold.
+#[inline]
+#[tactic(auto, using(crate::proofs::Sizes::some_rounded_up, plan_passes::proofs::Bounds::bounds_of, plan_passes::proofs::Bounds::rapid_small))]
+fn holding<const N: usize>(plan: &Plan<N>, b: &Block) -> Stretch
+    requires tail { IsTail plan.now b.now }
+    requires moves { 0 < plan.now.speed }
+    ensures rule { IsHolding plan.now b.now result.n result.w_out }
+    ensures some { 0 < result.n }
+    ensures within { result.n ≤ left_of b.now }
+    ensures rapid { result.w_out ≤ squared b.now.geom.rapid }
+{
+    let w = plan.speed();
+    let q = b.geom.q;
+    let stop = (w + q - 1) / q;
+    let n = (count(b, w) as u64).min(stop) as u32;
+    let w_out = (w as u128).saturating_sub(q as u128 * n as u128) as u64;
+    Stretch { n, w_out }
+}
+
+/// What is taken of the tail in a mode, or None exactly where it is Hold and the plan stands still.
+#[inline]
+pub(crate) fn next_stretch<const N: usize>(
+    plan: &Plan<N>,
+    b: &Block,
+    nominal: u64,
+    mode: Mode,
+) -> Option<Stretch>
+    requires tail { IsTail plan.now b.now }
+    requires nominal { nominal ≡ nominal_of plan.now.overrides b.now.rate b.now.geom.rapid }
+    ensures none { IsNone result ↔ ((mode ≡ Mode.Hold) × (plan.now.speed ≡ 0)) }
+    ensures rule { IfSome result (λ s. ByMode plan.now b.now mode s.n s.w_out) }
+    ensures some { IfSome result (λ s. 0 < s.n) }
+    ensures within { IfSome result (λ s. s.n ≤ left_of b.now) }
+    ensures rapid { IfSome result (λ s. s.w_out ≤ squared b.now.geom.rapid) }
+{
+    match mode {
+        Mode::Go => Some(going(plan, b, nominal)),
+        Mode::Hold if plan.speed() == 0 => None,
+        Mode::Hold => Some(holding(plan, b)),
+    }
+}
