@@ -43,8 +43,12 @@ fn segment_of(b: &Block, nominal: u64, w_in: u64, stretch: Stretch) -> Segment
     }
 }
 
-/// The next segment of a plan, in a mode, and advances the plan by it. None comes exactly where no block stands, or where
-/// the mode is Hold and the plan stands still; then the plan stays as it is.
+/// Takes the next segment of a plan in a mode, and advances the plan by it. Where a block stands, `o` are the overrides
+/// that the plan is made for.
+///
+/// In mode Go the segment has the tail's events of about 10 ms, one at least, and ends as fast as the plan allows. In mode
+/// Hold it has no more of them than it takes to stop, and each slows the plan down. None comes exactly where no block
+/// stands, or where the mode is Hold and the plan stands still; then the plan stays as it is.
 #[inline]
 #[tactic(auto, using(crate::proofs::Sizes::tail_nominal, plan_passes::proofs::Bounds::bounds_of))]
 pub fn next_segment<const N: usize>(

@@ -1,6 +1,6 @@
 //! Lines of G-code: what they are refused with, how they are cut, and what they record.
 
-use crate::runs::{Row, expect_answers, expect_done, expect_row, text_of};
+use crate::runs::{Row, append_times, expect_answers, expect_done, expect_row, text_of};
 use grbl_app::Status;
 
 #[test]
@@ -170,4 +170,62 @@ fn a_pocket_is_cut_in_eight_thousand_events(rt: HostRuntime) {
         ],
     );
     expect_done(&rt, alloc, &[(job, answers.as_slice(), steps.as_slice())]);
+}
+
+#[test]
+fn a_job_with_every_code_of_the_dialect_is_done(rt: HostRuntime) {
+    let alloc = rt.alloc();
+    let lines: [&[u8]; 43] = [
+        b"",
+        b"(only a comment)",
+        b"N1",
+        b"T255",
+        b"F100",
+        b"G17",
+        b"G18",
+        b"G19",
+        b"G91",
+        b"G90",
+        b"G91.1",
+        b"G94",
+        b"G20",
+        b"G21",
+        b"G40",
+        b"G49",
+        b"G55",
+        b"G56",
+        b"G57",
+        b"G58",
+        b"G59",
+        b"G54",
+        b"G61",
+        b"G80",
+        b"G1",
+        b"G0",
+        b"G4P0",
+        b"G10L2P1X0",
+        b"G10L20P0Y0",
+        b"G28.1",
+        b"G30.1",
+        b"G28",
+        b"G30",
+        b"G53",
+        b"G92X0",
+        b"G92.1",
+        b"M0",
+        b"M1",
+        b"M3",
+        b"M4",
+        b"M5",
+        b"M8",
+        b"M9",
+    ];
+    let mut job = Vec::new(alloc);
+    for line in &lines {
+        append_times(&rt, &mut job, line, 1);
+        append_times(&rt, &mut job, b"\n", 1);
+    }
+    let answers = text_of(&rt, alloc, &[(b"ok\r\n", lines.len())]);
+    let steps = b"D 0\nM3 0\nM4 0\nM5 0\nM8 0\nM9 0\nE\n";
+    expect_done(&rt, alloc, &[(job.as_slice(), answers.as_slice(), steps)]);
 }
