@@ -3,3 +3,4 @@ pub mod Lasts
 pub mod Sound
 pub mod Causes
 pub mod Moves
+pub mod FirstRows

@@ -1,5 +1,5 @@
 -- What refuses a line whose words pass.
-use Rattle.std.specs.Prelude.{ℕ, ◌*◌, Bool, true, false, not, ◌&&◌, ◌||◌, ◌==◌, nat_lt, List, [], ◌∷◌, ℤ, pos, neg_ℤ, int_lt, nat_abs, Some, None}
+use Rattle.std.specs.Prelude.{ℕ, ◌*◌, Bool, true, false, not, ◌&&◌, ◌||◌, ◌==◌, nat_lt, List, [], ◌∷◌, ◌++◌, ℤ, pos, neg_ℤ, int_lt, nat_abs, Some, None}
 use Rattle.std.specs.List.{list_any}
 use Rattle.std.specs.declared.option.Option.{Option}
 use Rattle.units.specs.declared.Nm3.{Nm3}
@@ -93,22 +93,30 @@ sets_far (Some offset) = is_far offset
 abbrev pub target_out_of_range : Parser → List Word → Bool
 target_out_of_range p ws = list_any is_far (targets p ws) || sets_far (new_offset p ws)
 
--- the errors of a line, in their order
-abbrev pub line_rows : Parser → List Word → List (ℕ × Bool)
-line_rows p ws =
-    (27, line_number_out_of_range ws)
-    ∷ (28, dwell_without_time ws)
+-- the errors of G4, G10, G92 and G53, in their order
+abbrev pub command_rows : Parser → List Word → List (ℕ × Bool)
+command_rows p ws =
+    (28, dwell_without_time ws)
     ∷ (26, system_offset_without_axis ws)
     ∷ (28, system_offset_without_system ws)
     ∷ (29, system_out_of_range ws)
     ∷ (20, system_offset_unsupported ws)
     ∷ (26, shift_without_axis ws)
     ∷ (30, machine_coordinates_without_motion p ws)
-    ∷ (31, axis_words_without_motion p ws)
+    ∷ []
+
+-- the errors of the axis words and of the other values, in their order
+abbrev pub value_rows : Parser → List Word → List (ℕ × Bool)
+value_rows p ws =
+    (31, axis_words_without_motion p ws)
     ∷ (22, motion_without_feed p ws)
     ∷ (36, unused_words ws)
     ∷ (33, target_out_of_range p ws)
     ∷ []
+
+-- the errors of a line, in their order
+abbrev pub line_rows : Parser → List Word → List (ℕ × Bool)
+line_rows p ws = (27, line_number_out_of_range ws) ∷ command_rows p ws ++ value_rows p ws
 
 unfoldable pub line_refusal : Parser → List Word → Option Code
 line_refusal p ws = first_refusal (line_rows p ws)

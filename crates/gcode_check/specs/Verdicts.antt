@@ -14,6 +14,8 @@ use Rattle.gcode_check.specs.Conditions.{line_refusal, leaves_travel}
 use Rattle.gcode_check.specs.Effects.{stops, parser_after}
 use Rattle.gcode_check.specs.Items.{items_of, IsItem}
 use Rattle.gcode_check.specs.declared.Accept.{Accept as Accepted}
+use Rattle.gcode_check.specs.declared.Refusal.{Refusal}
+use Rattle.gcode_check.specs.declared.Refusal.TheVariants.{Error, SoftLimit}
 use Rattle.gcode_check.specs.declared.Verdict.{Verdict}
 use Rattle.gcode_check.specs.declared.Verdict.TheVariants.{Accept, Refuse, Limit}
 
@@ -32,6 +34,11 @@ verdict_by None p s ws = if leaves_travel p s ws then Limit else Accept (accepte
 
 unfoldable pub verdict : Parser → Settings → List Word → Verdict
 verdict p s ws = verdict_by (refusal_of p ws) p s ws
+
+-- the verdict on a line that is not accepted
+abbrev pub verdict_of : Refusal → Verdict
+verdict_of (Error code) = Refuse code
+verdict_of SoftLimit = Limit
 
 -- a refusal as a result
 abbrev pub unless_refused : Option Code → Result (Unit {0}) Code

@@ -2,14 +2,16 @@
 
 ghost use Rattle.std.specs.Prelude.{◌≡◌, ℕ, ◌+◌, ◌*◌, ◌/◌, ◌≤◌, ◌<◌, ◌^◌, nat_abs, ◌||◌, ◌&&◌, length, All, IfNone, IfSome, false};
 ghost use Rattle.std.specs.List.{list_any};
+ghost use Rattle.code_table.specs.Refusals.{first_refusal};
 ghost use Rattle.modal_state.specs.Modes.{IsParser};
 ghost use Rattle.line_words.specs.Given.{is_over};
+ghost use Rattle.line_words.specs.LineModes.{motion_of};
 ghost use Rattle.line_words.specs.Targets.{targets};
 ghost use Rattle.gcode_check.specs.NewOffsets.{new_offset};
-ghost use Rattle.gcode_check.specs.Conditions.{is_g80, is_g1, line_number_out_of_range, dwell_without_time, system_offset_without_axis, system_offset_without_system, system_out_of_range, system_offset_unsupported, shift_without_axis, machine_coordinates_without_motion, axis_words_without_motion, motion_without_feed, unused_words, IsNear, is_far, sets_far, target_out_of_range, is_off_axis, is_outside, line_refusal};
+ghost use Rattle.gcode_check.specs.Conditions.{is_g80, is_g1, line_number_out_of_range, dwell_without_time, system_offset_without_axis, system_offset_without_system, system_out_of_range, system_offset_unsupported, shift_without_axis, machine_coordinates_without_motion, axis_words_without_motion, motion_without_feed, unused_words, IsNear, is_far, sets_far, target_out_of_range, is_off_axis, is_outside, command_rows, value_rows, line_refusal};
 
 use crate::offsets::{has_l, new_offset};
-use code_table::{Code, first_refusal};
+use code_table::Code;
 use line_words::commands::{G4, G10, G53, G92};
 use line_words::{Line, feed_of, motion_of, moves, names_axis, whole_given};
 use modal_state::{MotionMode, Parser};
@@ -88,17 +90,19 @@ fn machine_coordinates_without_motion(p: &Parser, line: &Line<'_>) -> bool
     line.has(G53) && is_g80(motion_of(p, line))
 }
 
-fn axis_words_without_motion(p: &Parser, line: &Line<'_>) -> bool
+fn axis_words_without_motion(p: &Parser, line: &Line<'_>, motion: MotionMode) -> bool
+    requires { motion ≡ motion_of p.now line.now }
     ensures { result ≡ axis_words_without_motion p.now line.now }
 {
-    is_g80(motion_of(p, line)) && names_axis(line)
+    is_g80(motion) && names_axis(line)
 }
 
-fn motion_without_feed(p: &Parser, line: &Line<'_>) -> bool
-    requires { IsParser p.now }
+fn motion_without_feed(p: &Parser, line: &Line<'_>, motion: MotionMode) -> bool
+    requires valid { IsParser p.now }
+    requires motion { motion ≡ motion_of p.now line.now }
     ensures { result ≡ motion_without_feed p.now line.now }
 {
-    moves(line) && is_g1(motion_of(p, line)) && feed_of(p, line).unsigned_abs() == 0
+    moves(line) && is_g1(motion) && feed_of(p, line).unsigned_abs() == 0
 }
 
 fn unused_words(line: &Line<'_>) -> bool
@@ -146,27 +150,72 @@ fn target_out_of_range(p: &Parser, line: &Line<'_>, points: &[Nm3]) -> bool
     any_far(points) || sets_far(new_offset(p, line))
 }
 
+/// The first of the errors of G4, G10, G92 and G53. A line has them only where a command of no modal group stands.
+fn command_error(p: &Parser, line: &Line<'_>) -> Option<Code>
+    ensures { result ≡ first_refusal (command_rows p.now line.now) }
+{
+    if !line.has_group_of(G4) {
+        return None;
+    }
+    if dwell_without_time(line) {
+        return Some(Code(28));
+    }
+    if system_offset_without_axis(line) {
+        return Some(Code(26));
+    }
+    if system_offset_without_system(line) {
+        return Some(Code(28));
+    }
+    if system_out_of_range(line) {
+        return Some(Code(29));
+    }
+    if system_offset_unsupported(line) {
+        return Some(Code(20));
+    }
+    if shift_without_axis(line) {
+        return Some(Code(26));
+    }
+    if machine_coordinates_without_motion(p, line) {
+        return Some(Code(30));
+    }
+    None
+}
+
+/// The first of the errors of the axis words and of the other values.
+fn value_error(p: &Parser, line: &Line<'_>, points: &[Nm3]) -> Option<Code>
+    requires valid { IsParser p.now }
+    requires points { points.now ≡ targets p.now line.now }
+    ensures { result ≡ first_refusal (value_rows p.now line.now) }
+{
+    let motion = motion_of(p, line);
+    if axis_words_without_motion(p, line, motion) {
+        return Some(Code(31));
+    }
+    if motion_without_feed(p, line, motion) {
+        return Some(Code(22));
+    }
+    if unused_words(line) {
+        return Some(Code(36));
+    }
+    if target_out_of_range(p, line, points) {
+        return Some(Code(33));
+    }
+    None
+}
+
 /// The first of the errors of a line.
-#[tactic(auto, unfolding(crate::specs::Conditions::line_refusal))]
 fn first_error(p: &Parser, line: &Line<'_>, points: &[Nm3]) -> Option<Code>
     requires valid { IsParser p.now }
     requires points { points.now ≡ targets p.now line.now }
     ensures { result ≡ line_refusal p.now line.now }
 {
-    first_refusal(&[
-        (27, line_number_out_of_range(line)),
-        (28, dwell_without_time(line)),
-        (26, system_offset_without_axis(line)),
-        (28, system_offset_without_system(line)),
-        (29, system_out_of_range(line)),
-        (20, system_offset_unsupported(line)),
-        (26, shift_without_axis(line)),
-        (30, machine_coordinates_without_motion(p, line)),
-        (31, axis_words_without_motion(p, line)),
-        (22, motion_without_feed(p, line)),
-        (36, unused_words(line)),
-        (33, target_out_of_range(p, line, points)),
-    ])
+    if line_number_out_of_range(line) {
+        return Some(Code(27));
+    }
+    match command_error(p, line) {
+        Some(code) => Some(code),
+        None => value_error(p, line, points),
+    }
 }
 
 /// What refuses a line whose words pass. What nothing refuses stays near.

@@ -109,29 +109,27 @@ pub fn stops(points: &[Nm3], per_mm: &Per3) -> Stops
     stops
 }
 
-/// The last of some points, or where one stands.
-fn last_point(at: &Nm3, points: &[Nm3]) -> Nm3
-    requires here { IsWithin farthest at.now }
+/// Goes to the last of some points.
+fn go_to_last(at: &mut Nm3, points: &[Nm3])
+    requires here { IsWithin farthest at.old }
     requires near { All (IsNear) points.now }
-    ensures last { result ≡ last_of at.now points.now }
-    ensures near { IsWithin farthest result }
+    ensures last { at.new ≡ last_of at.old points.now }
+    ensures near { IsWithin farthest at.new }
 {
-    match points {
-        [] => *at,
-        [.., last] => *last,
+    if let [.., last] = points {
+        *at = *last;
     }
 }
 
-/// The last of some places in steps, or where one stands.
-fn last_stop(at: &Steps3, stops: &[Steps3]) -> Steps3
-    requires here { IsPlace at.now }
+/// Goes to the last of some places in steps.
+fn step_to_last(at: &mut Steps3, stops: &[Steps3])
+    requires here { IsPlace at.old }
     requires near { All IsPlace stops.now }
-    ensures last { result ≡ last_of at.now stops.now }
-    ensures near { IsPlace result }
+    ensures last { at.new ≡ last_of at.old stops.now }
+    ensures near { IsPlace at.new }
 {
-    match stops {
-        [] => *at,
-        [.., last] => *last,
+    if let [.., last] = stops {
+        *at = *last;
     }
 }
 
@@ -156,8 +154,8 @@ fn move_parser(p: &mut Parser, line: &Line<'_>, points: &[Nm3], stops: &[Steps3]
     let feed = feed_of(p, line);
     set_offsets(p, line);
     p.modal = modal;
-    p.pos_nm = last_point(&p.pos_nm, points);
-    p.pos_steps = last_stop(&p.pos_steps, stops);
+    go_to_last(&mut p.pos_nm, points);
+    step_to_last(&mut p.pos_steps, stops);
     p.feed = feed;
     p.rpm = rpm_of(p, line);
     p.tool = tool_of(p, line);

@@ -8,10 +8,9 @@ ghost use Rattle.modal_state.specs.Modes.{IsParser};
 ghost use Rattle.line_words.specs.Codes.{has_g};
 ghost use Rattle.gcode_check.specs.Items.{is_same_spindle, is_on, spindle_changes, coolant_changes, speed_of, item_if, spindle_items, coolant_items, dwell_time, dwell_items, rate_of, moves_through, flow_items, items_of, IsMoveAt, IsItem};
 
-use crate::Item;
 use crate::conditions::is_g1;
 use crate::effects::ends_program;
-use arrayvec::ArrayVec;
+use crate::{Item, Items};
 use line_words::commands::{G4, M0};
 use line_words::{Line, feed_of, flood_of, motion_of, moves, rpm_of, spindle_of};
 use modal_state::{Parser, SpindleMode};
@@ -92,9 +91,6 @@ fn rate_of(p: &Parser, line: &Line<'_>) -> Rate
     }
 }
 
-/// The items of a line.
-pub type Items = ArrayVec<Item, 5>;
-
 /// Appends an item where a condition holds.
 #[tactic(auto, using(crate::proofs::Sound::pushed))]
 fn push_if(items: &mut Items, holds: bool, item: Item)
@@ -141,6 +137,22 @@ fn push_moves(items: &mut Items, at: &Steps3, stops: &[Steps3], rate: Rate)
     }
 }
 
+/// Appends the moves of a line, where it moves.
+fn push_motion(items: &mut Items, p: &Parser, line: &Line<'_>, stops: &[Steps3])
+    requires valid { IsParser p.now }
+    requires near { All IsPlace stops.now }
+    requires room { length items.old.items + length stops.now ≤ 5 }
+    requires sound { All IsItem items.old.items }
+    ensures items { items.new.items ≡ items.old.items ++ moves_through p.now.pos_steps stops.now (rate_of p.now line.now) }
+    ensures count { length items.new.items ≡ length items.old.items + length stops.now }
+    ensures sound { All IsItem items.new.items }
+{
+    if stops.is_empty() {
+        return;
+    }
+    push_moves(items, &p.pos_steps, stops, rate_of(p, line));
+}
+
 /// Appends what a line does to spindle and coolant.
 fn push_outputs(items: &mut Items, p: &Parser, line: &Line<'_>)
     requires valid { IsParser p.now }
@@ -169,7 +181,7 @@ fn push_ways(items: &mut Items, p: &Parser, line: &Line<'_>, stops: &[Steps3])
     ensures sound { All IsItem items.new.items }
 {
     push_if(items, line.has(G4), Item::Dwell(dwell_time(line)));
-    push_moves(items, &p.pos_steps, stops, rate_of(p, line));
+    push_motion(items, p, line, stops);
 }
 
 /// Appends a pause or the end of the program.

@@ -1,7 +1,7 @@
 //! What becomes of a line of G-code: the first error that refuses it, a soft limit, or what it does.
 #![tactic(auto)]
 
-ghost use Rattle.std.specs.Prelude.{◌≡◌, ℕ, ◌<◌, ◌≤◌, All, length, map, IfSome, IfErr, OnOk, None, true};
+ghost use Rattle.std.specs.Prelude.{◌≡◌, ℕ, ◌<◌, ◌≤◌, All, length, map, IfSome, IfErr, OnOk, OnErr, None, true, []};
 ghost use Rattle.units.specs.Lengths.{IsPlace};
 ghost use Rattle.gcode_words.specs.Words.{IsSmallWord};
 ghost use Rattle.code_table.specs.Tables.{code};
@@ -12,7 +12,8 @@ ghost use Rattle.line_words.specs.WordRefusals.{words_refusal, refusal_at, IsFir
 ghost use Rattle.line_words.specs.Targets.{targets};
 ghost use Rattle.gcode_check.specs.NewOffsets.{new_offset};
 ghost use Rattle.gcode_check.specs.Conditions.{IsNear, line_refusal};
-ghost use Rattle.gcode_check.specs.Verdicts.{verdict, unless_refused, IsSoundVerdict};
+ghost use Rattle.gcode_check.specs.Verdicts.{verdict, verdict_of, unless_refused, IsSoundVerdict};
+ghost use Rattle.gcode_check.specs.Items.{IsItem};
 
 mod conditions;
 mod effects;
@@ -57,13 +58,16 @@ impl Default for Item {
     }
 }
 
+/// What a line gives to do, in this order.
+pub type Items = ArrayVec<Item, 5>;
+
 /// What an accepted line leaves and gives.
 #[derive(Clone, Debug, Drop, PartialEq, Eq)]
 pub struct Accept {
     /// The state behind the line.
     pub next: Parser,
-    /// What is to be done, in this order.
-    pub items: ArrayVec<Item, 5>,
+    /// What is to be done.
+    pub items: Items,
 }
 
 /// What becomes of a line.
@@ -89,9 +93,65 @@ pub fn check_words(w: &Words) -> Result<(), Code>
     }
 }
 
+/// Why a line is not accepted.
+#[derive(Clone, Copy, Debug, PartialEq, Eq)]
+pub enum Refusal {
+    /// The number of the first error that holds.
+    Error(Code),
+    /// No error holds, and a soft limit forbids a target.
+    SoftLimit,
+}
+
+impl Refusal {
+    /// The verdict on a line that is not accepted.
+    fn verdict(self) -> Verdict
+        ensures verdict { result ≡ verdict_of self }
+        ensures valid { IsSoundVerdict result }
+    {
+        match self {
+            Refusal::Error(code) => Verdict::Refuse(code),
+            Refusal::SoftLimit => Verdict::Limit,
+        }
+    }
+}
+
+/// Takes a line: an accepted line leaves its state in the parser and gives its items. Where the error of the first word
+/// that does not pass, or else the first error of the line, or else a soft limit refuses it, the parser stays as it was
+/// and there are no items. Nothing is copied: a program that goes on with the state behind the line calls this.
+#[tactic(auto, unfolding(crate::specs::Verdicts::verdict))]
+pub fn take_line(p: &mut Parser, s: &Settings, w: &Words, items: &mut Items) -> Result<(), Refusal>
+    requires words { All IsSmallWord w.now.items }
+    requires parser { IsParser p.old }
+    requires settings { IsSettings s.now }
+    ensures accepted { OnOk result (verdict p.old s.now w.now.items ≡ Verdict.Accept (record { next = p.new; items = items.new })) }
+    ensures refused { IfErr result (λ refusal. verdict p.old s.now w.now.items ≡ verdict_of refusal) }
+    ensures same { OnErr result (p.new ≡ p.old) }
+    ensures none { OnErr result (items.new.items ≡ []) }
+    ensures valid { IsParser p.new }
+    ensures sound { All IsItem items.new.items }
+{
+    items.clear();
+    let line = match Line::read(w.as_slice()) {
+        Ok(line) => line,
+        Err(code) => return Err(Refusal::Error(code)),
+    };
+    let points = targets(p, &line);
+    let points = points.as_slice();
+    if let Some(code) = line_refusal(p, &line, points) {
+        return Err(Refusal::Error(code));
+    }
+    if leaves_travel(s, points) {
+        return Err(Refusal::SoftLimit);
+    }
+    let stops = stops(points, &s.limits.per_mm);
+    let stops = stops.as_slice();
+    push_items(items, p, &line, stops);
+    take_effects(p, &line, points, stops);
+    Ok(())
+}
+
 /// What becomes of a line: the error of the first word that does not pass, or else the first error of the line, or else
 /// a soft limit, or else what the line leaves and gives.
-#[tactic(auto, unfolding(crate::specs::Verdicts::verdict))]
 pub fn check(p: &Parser, s: &Settings, w: &Words) -> Verdict
     requires words { All IsSmallWord w.now.items }
     requires parser { IsParser p.now }
@@ -99,27 +159,12 @@ pub fn check(p: &Parser, s: &Settings, w: &Words) -> Verdict
     ensures verdict { result ≡ verdict p.now s.now w.now.items }
     ensures valid { IsSoundVerdict result }
 {
-    let line = match Line::read(w.as_slice()) {
-        Ok(line) => line,
-        Err(code) => return Verdict::Refuse(code),
-    };
-    let points = targets(p, &line);
-    let points = points.as_slice();
-    if let Some(code) = line_refusal(p, &line, points) {
-        return Verdict::Refuse(code);
+    let mut next = *p;
+    let mut items = Items::new();
+    match take_line(&mut next, s, w, &mut items) {
+        Ok(()) => Verdict::Accept(Accept { next, items }),
+        Err(refusal) => refusal.verdict(),
     }
-    if leaves_travel(s, points) {
-        return Verdict::Limit;
-    }
-    let stops = stops(points, &s.limits.per_mm);
-    let stops = stops.as_slice();
-    let mut accept = Accept {
-        next: *p,
-        items: ArrayVec::new(),
-    };
-    take_effects(&mut accept.next, &line, points, stops);
-    push_items(&mut accept.items, p, &line, stops);
-    Verdict::Accept(accept)
 }
 
 #[cfg(test)]

@@ -1,6 +1,6 @@
 //! Lines without their comments and realtime bytes, byte by byte.
 
-ghost use Rattle.std.specs.Prelude.{◌≡◌, ◌≢◌, ℕ, false, List, [], ◌∷◌, ◌++◌, if◌then◌else◌, flat_map};
+ghost use Rattle.std.specs.Prelude.{◌≡◌, ◌≢◌, ℕ, true, false, List, [], ◌∷◌, ◌++◌, if◌then◌else◌, flat_map};
 ghost use Rattle.std.specs.List.{All, list_any};
 ghost use Rattle.gcode_words.specs.Comments.{begins_comment, ends_comment, cut, comment_after};
 ghost use Rattle.gcode_words.specs.Stripping.{is_plain, is_realtime, capital, kept_by, taken_by, plain, realtime, FeedsAll};
@@ -38,6 +38,16 @@ enum Comment {
     Outside,
     Paren,
     Semicolon,
+}
+
+/// Whether a byte is one of those that most lines are made of. Outside comments these are kept as they are.
+#[inline]
+fn is_common(byte: u8) -> bool
+    ensures kept { result ≡ true → byte ∷ [] ≡ (if is_plain byte then capital byte ∷ [] else []) }
+    ensures taken { result ≡ true → [] ≡ (if is_realtime byte then byte ∷ [] else []) }
+    ensures begins { result ≡ true → (byte ≢ 40) × (byte ≢ 59) }
+{
+    byte.is_ascii_digit() || byte.is_ascii_uppercase() || byte == b'.'
 }
 
 /// What becomes of a byte that stands outside comments and begins none.
@@ -97,6 +107,7 @@ impl Stripper {
             return Stripped::LineEnd;
         }
         match self.comment {
+            Comment::Outside if is_common(byte) => Stripped::Keep(byte),
             Comment::Outside => match byte {
                 b'(' => {
                     self.comment = Comment::Paren;

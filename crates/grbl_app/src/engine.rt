@@ -16,8 +16,8 @@ ghost use Rattle.grbl_app.specs.Writing.{WritesOn, IsEmpty};
 use crate::items::{ask, tell};
 use crate::open_line::OpenLine;
 use crate::output::Output;
-use gcode_check::{Verdict, check};
-use gcode_words::{WordFault, Words, words};
+use gcode_check::{Items, Refusal, take_line};
+use gcode_words::{WordFault, Words, read_words};
 use outside::Sink;
 use run_rules::State;
 use status_report::{Modes, Reply};
@@ -26,7 +26,8 @@ use system_lines::{Command, apply_setting, read_command};
 use units::Decimal;
 
 /// The state that the lines answered so far leave, how many they are, how many of them were refused, the text on its
-/// way to the console, and the drive.
+/// way to the console, and the drive. The words of each line are read into the same list, and its items put into
+/// another.
 #[derive(Drop)]
 pub(crate) struct Engine {
     pub(crate) state: State,
@@ -34,6 +35,8 @@ pub(crate) struct Engine {
     pub(crate) errors: u32,
     pub(crate) console: Output,
     pub(crate) drive: Drive,
+    pub(crate) words: Words,
+    pub(crate) items: Items,
 }
 
 /// The error of words that can't be read.
@@ -62,6 +65,8 @@ impl Engine {
             errors: 0,
             console: Output::new(),
             drive: Drive::new(),
+            words: Words::new(),
+            items: Items::new(),
         }
     }
 
@@ -153,32 +158,39 @@ impl Engine {
         }
     }
 
-    /// Does what a line of G-code says, and answers.
-    fn answer_words<Co: Sink, St: Sink>(
-        &mut self,
-        words: &Words,
-        console: &mut Co,
-        steps: &mut St,
-    )
-        requires words { All IsSmallWord words.now.items }
+    /// Does what the words of a line of G-code say, and answers.
+    fn answer_words<Co: Sink, St: Sink>(&mut self, console: &mut Co, steps: &mut St)
+        requires words { All IsSmallWord self.old.words.items }
         requires line { (1 ≤ self.old.lines) × (self.old.errors + 1 < 2 ^ 32) }
         requires valid { IsState self.old.state }
         requires running { IsRunning (St.state steps.old) self.old.drive }
-        ensures done { (o : Outcome) × ByVerdict self.old.lines self.old.state (verdict self.old.state.parser self.old.state.settings words.now.items) o
+        ensures done { (o : Outcome) × ByVerdict self.old.lines self.old.state (verdict self.old.state.parser self.old.state.settings self.old.words.items) o
             × HasDone (record { console = Co.state console.old; steps = St.state steps.old }) self.old
                 (record { console = Co.state console.new; steps = St.state steps.new }) self.new o }
         ensures valid { IsState self.new.state }
     {
-        match check(&self.state.parser, &self.state.settings, words) {
-            Verdict::Accept(accept) => {
-                tell(accept.items.as_slice(), &mut self.console, console);
-                ask(accept.items.as_slice(), self.lines, &self.state, &mut self.drive, steps);
-                self.state.parser = accept.next;
+        let modal = self.state.parser.modal;
+        match take_line(
+            &mut self.state.parser,
+            &self.state.settings,
+            &self.words,
+            &mut self.items,
+        ) {
+            Ok(()) => {
+                tell(self.items.as_slice(), &mut self.console, console);
+                ask(
+                    self.items.as_slice(),
+                    self.lines,
+                    &self.state.settings,
+                    &modal,
+                    &mut self.drive,
+                    steps,
+                );
                 self.accept(console);
             }
-            Verdict::Refuse(code) => self.refuse(console, code.0),
+            Err(Refusal::Error(code)) => self.refuse(console, code.0),
             // No soft limit is on.
-            Verdict::Limit => unreachable!(),
+            Err(Refusal::SoftLimit) => unreachable!(),
         }
     }
 
@@ -198,8 +210,8 @@ impl Engine {
                 (record { console = Co.state console.new; steps = St.state steps.new }) self.new o }
         ensures valid { IsState self.new.state }
     {
-        match words(kept) {
-            Ok(words) => self.answer_words(&words, console, steps),
+        match read_words(kept, &mut self.words) {
+            Ok(()) => self.answer_words(console, steps),
             Err(fault) => self.refuse(console, fault_number(fault)),
         }
     }

@@ -14,9 +14,9 @@ ghost use Rattle.grbl_app.specs.Writing.{WritesOn};
 use crate::output::Output;
 use gcode_check::Item;
 use legal_speeds::PlannedMove;
-use modal_state::SpindleMode;
+use modal_state::{Modal, SpindleMode};
 use outside::Sink;
-use run_rules::{State, spindle_mark};
+use run_rules::spindle_mark;
 use settings::Settings;
 use status_report::{Message, Reply};
 use step_drive::Drive;
@@ -165,28 +165,29 @@ fn ask_item<St: Sink>(
     }
 }
 
-/// Asks for what the items of a line ask for, from the state that stands before the line.
+/// Asks for what the items of a line ask for, under the settings and from the modes that stand before the line.
 pub(crate) fn ask<St: Sink>(
     items: &[Item],
     line: u32,
-    state: &State,
+    settings: &Settings,
+    modal: &Modal,
     drive: &mut Drive,
     steps: &mut St,
 )
     requires items { All IsItem items.now }
     requires line { 1 ≤ line }
-    requires settings { IsSettings state.now.settings }
+    requires settings { IsSettings settings.now }
     requires running { IsRunning (St.state steps.old) drive.old }
     ensures asked { DrivesOn (St.state steps.old) drive.old (St.state steps.new) drive.new
-        (asks_of line state.now.settings state.now.parser.modal.spindle state.now.parser.modal.flood items.now) }
+        (asks_of line settings.now modal.now.spindle modal.now.flood items.now) }
     ensures running { IsRunning (St.state steps.new) drive.new }
 {
     let mut running = Running {
-        spindle: state.parser.modal.spindle,
-        flood: state.parser.modal.flood,
+        spindle: modal.spindle,
+        flood: modal.flood,
     };
     for item in items {
-        ask_item(item, line, &state.settings, running, drive, steps);
+        ask_item(item, line, settings, running, drive, steps);
         running = running.after(item);
     }
 }

@@ -80,6 +80,7 @@ impl Output {
     }
 
     /// Writes a short text.
+    #[inline]
     pub(crate) fn put<S: Sink>(&mut self, sink: &mut S, text: &[u8])
         requires { length text.now ≤ 4096 }
         ensures { WritesOn (S.state sink.old) self.old (S.state sink.new) self.new text.now }
@@ -88,14 +89,27 @@ impl Output {
         append(text, &mut self.waiting);
     }
 
-    /// Writes the text of a reply.
-    pub(crate) fn put_reply<S: Sink>(&mut self, sink: &mut S, reply: &Reply)
+    /// Makes the text of a reply, and writes it.
+    fn put_made<S: Sink>(&mut self, sink: &mut S, reply: &Reply)
         requires { IsReply reply.now }
         ensures { WritesOn (S.state sink.old) self.old (S.state sink.new) self.new (reply_text reply.now) }
     {
         let mut text = Text::new();
         put_reply(reply, &mut text);
         self.put(sink, text.as_slice());
+    }
+
+    /// Writes the text of a reply.
+    #[inline]
+    pub(crate) fn put_reply<S: Sink>(&mut self, sink: &mut S, reply: &Reply)
+        requires { IsReply reply.now }
+        ensures { WritesOn (S.state sink.old) self.old (S.state sink.new) self.new (reply_text reply.now) }
+    {
+        match reply {
+            // So most lines are answered.
+            Reply::Ok => self.put(sink, b"ok\r\n"),
+            _ => self.put_made(sink, reply),
+        }
     }
 
     /// Writes the settings, one by one.

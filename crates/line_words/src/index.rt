@@ -13,7 +13,7 @@ use crate::words::{
     command_not_whole, group_of, is_axis_command, negative_value, tool_out_of_range,
     unsupported_command,
 };
-use code_table::{Code, first_refusal};
+use code_table::Code;
 use gcode_words::Word;
 
 /// The slot of a letter that is that of a value.
@@ -92,15 +92,28 @@ impl Index {
         requires small { IfSome group (λ g. g < 23) }
         ensures { (all before : List Word) → IsPassed self.now all before → result ≡ word_refusal before word.now }
     {
-        first_refusal(&[
-            (23, command_not_whole(word)),
-            (20, unsupported_command(word, group, slot)),
-            (24, self.second_axis_command(word)),
-            (21, self.group_stands(group)),
-            (38, tool_out_of_range(word)),
-            (25, self.repeated_word(word, slot)),
-            (4, negative_value(word)),
-        ])
+        if command_not_whole(word) {
+            return Some(Code(23));
+        }
+        if unsupported_command(word, group, slot) {
+            return Some(Code(20));
+        }
+        if self.second_axis_command(word) {
+            return Some(Code(24));
+        }
+        if self.group_stands(group) {
+            return Some(Code(21));
+        }
+        if tool_out_of_range(word) {
+            return Some(Code(38));
+        }
+        if self.repeated_word(word, slot) {
+            return Some(Code(25));
+        }
+        if negative_value(word) {
+            return Some(Code(4));
+        }
+        None
     }
 
     /// Adds a command that passed.

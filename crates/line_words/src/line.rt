@@ -3,7 +3,8 @@
 ghost use Rattle.std.specs.Prelude.{◌≡◌, ◌≢◌, ℕ, ◌<◌, ◌≤◌, All, length, IfOk, IfErr, IfSome, OnOk, Some, None, List, true, false, is_some};
 ghost use Rattle.gcode_words.specs.Words.{IsSmallWord};
 ghost use Rattle.code_table.specs.Tables.{value_of};
-ghost use Rattle.line_words.specs.Codes.{rows_of, has};
+ghost use Rattle.std.specs.List.{list_any};
+ghost use Rattle.line_words.specs.Codes.{rows_of, has, is_of_group};
 ghost use Rattle.line_words.specs.Given.{is_value_letter, stands, given, IsSoundValue};
 ghost use Rattle.line_words.specs.Index.{is_number};
 ghost use Rattle.line_words.specs.WordRefusals.{words_refusal, refusal_at, IsFirstRefused};
@@ -86,6 +87,16 @@ impl<'a> Line<'a> {
             self.slots.get(self.words, group_slot(command.group)),
             command.key as u64 * 100_000,
         )
+    }
+
+    /// Whether a command of the group of this one stands in the line. Where none does, neither does any command of the
+    /// group: so one test tells of all of them.
+    pub fn has_group_of(&self, command: Command) -> bool
+        requires { value_of command.key (rows_of command.letter) ≡ Some command.group }
+        ensures group { result ≡ list_any (is_of_group command.group) self.now }
+        ensures none { result ≡ false → (letter key : ℕ) → value_of key (rows_of letter) ≡ Some command.group → has letter key self.now ≡ false }
+    {
+        self.slots.is_filled(group_slot(command.group))
     }
 
     /// Whether a value stands in the line.

@@ -7,7 +7,6 @@ ghost use Rattle.line_words.specs.Codes.{is_one_of, is_negative, is_whole, whole
 ghost use Rattle.line_words.specs.Index.{IsValueSlot};
 ghost use Rattle.line_words.specs.WordRefusals.{is_lone_g_number, command_not_whole, unsupported_command, is_command, is_axis_command, tool_out_of_range, negative_value};
 
-use code_table::{g_codes, m_codes};
 use gcode_words::Word;
 use units::Decimal;
 
@@ -56,10 +55,20 @@ fn g_group(key: u64) -> Option<u16>
     ensures group { result ≡ value_of key g_rows }
     ensures small { IfSome result (λ group. group < 23) }
 {
-    if key > 1000 {
-        return None;
+    match key {
+        0 | 10 | 800 => Some(1),
+        40 | 100 | 280 | 281 | 300 | 301 | 530 | 920 | 921 => Some(0),
+        170 | 180 | 190 => Some(2),
+        900 | 910 => Some(3),
+        911 => Some(4),
+        940 => Some(5),
+        200 | 210 => Some(6),
+        400 => Some(7),
+        490 => Some(8),
+        540 | 550 | 560 | 570 | 580 | 590 => Some(12),
+        610 => Some(13),
+        _ => None,
     }
-    g_codes().find(key as u16)
 }
 
 /// The group of the M code with a key.
@@ -67,10 +76,12 @@ fn m_group(key: u64) -> Option<u16>
     ensures group { result ≡ value_of key m_rows }
     ensures small { IfSome result (λ group. group < 23) }
 {
-    if key > 1000 {
-        return None;
+    match key {
+        0 | 10 | 20 | 300 => Some(20),
+        30 | 40 | 50 => Some(21),
+        80 | 90 => Some(22),
+        _ => None,
     }
-    m_codes().find(key as u16)
 }
 
 /// The group of the code with a letter and a key.

@@ -1,6 +1,6 @@
 -- What a run tells, and what it asks of the machine.
 use Rattle.std.specs.Prelude.{ℕ, Bool, true, false, List, [], ◌∷◌, ◌++◌}
-use Rattle.std.specs.List.{flat_map, count_by, AllByRecursion}
+use Rattle.std.specs.List.{flat_map, count_by}
 use Rattle.step_line.specs.declared.Record.{Record}
 use Rattle.step_record.specs.Texts.{record_text}
 use Rattle.step_drive.specs.Asking.{Asked}

@@ -1,5 +1,5 @@
 -- A drive, and what it has done.
-use Rattle.std.specs.Prelude.{◌≡◌, ℕ, ◌≤◌, Bool, false, List, [], reverse, None}
+use Rattle.std.specs.Prelude.{◌≡◌, ℕ, ◌+◌, ◌≤◌, ◌<◌, ◌⊎◌, Bool, true, false, List, [], ◌∷◌, length, drop, reverse, None}
 use Rattle.std.specs.List.{flat_map}
 use Rattle.outside.specs.Causes.{SinkState}
 use Rattle.units.specs.Lengths.{IsMove}
@@ -10,12 +10,16 @@ use Rattle.step_record.specs.Texts.{record_text}
 use Rattle.step_record.specs.Writing.{Wrote, Took}
 use Rattle.step_record.specs.Recording.{Recording}
 use Rattle.pulse_engine.specs.Ordering.{has_ended, recorded}
-use Rattle.pulse_engine.specs.Slots.{Offered}
+use Rattle.pulse_engine.specs.Slots.{Offered, IsFree}
 use Rattle.pulse_engine.specs.Steps.{Pulsing}
+use Rattle.planner_ring.specs.declared.Block.{Block}
+use Rattle.overrides.specs.declared.Overrides.{Overrides}
+use Rattle.overrides.specs.Percents.{IsOverrides}
+use Rattle.plan_passes.specs.Blocks.{left_of}
 use Rattle.plan_passes.specs.Plans.{Planned}
 use Rattle.legal_speeds.specs.declared.PlannedMove.{PlannedMove}
 use Rattle.legal_speeds.specs.declared.Action.{Action}
-use Rattle.legal_speeds.specs.Runs.{IsPlannerRun, IsUndisturbed}
+use Rattle.legal_speeds.specs.Runs.{IsPlannerRun, IsUndisturbed, IsAtRest}
 use Rattle.step_drive.specs.Asking.{Asked, all_asked, IsDriven}
 use Rattle.step_drive.specs.Working.{IsSettled}
 
@@ -35,6 +39,28 @@ pub record MayAsk (m : PlannedMove) : Type 0 where
 -- nothing waits in the slot for pieces
 abbrev pub free_slot : Offered
 free_slot = record { waiting = None; left = 0 }
+
+-- what the fields of a drive keep: its overrides are the plan's, and its slots are empty
+pub record IsReady (planned mine : Overrides) (pieces : Offered) (records : List Record) : Type 0 where
+  pub same : planned ≡ mine
+  pub range : IsOverrides mine
+  pub free : IsFree pieces
+  pub empty : records ≡ []
+
+-- how many events blocks have left
+abbrev pub events_left : List Block → ℕ
+events_left [] = 0
+events_left (b ∷ bs) = left_of b + events_left bs
+
+-- some events of the first block were run: the blocks behind it stay, and it goes where none is left
+abbrev pub FirstIsRun : List Block → List Block → Type 0
+FirstIsRun blocks after = (after ≡ drop 1 blocks) ⊎ ((drop 1 after ≡ drop 1 blocks) × (length after ≡ length blocks))
+
+-- a segment of a plan was run; or none, where no block stands
+pub record SegmentRun (did : Bool) (p after : Planned) : Type 0 where
+  pub falls : did ≡ true → events_left after.blocks < events_left p.blocks
+  pub first : did ≡ true → FirstIsRun p.blocks after.blocks
+  pub rests : did ≡ false → (p.blocks ≡ []) × IsAtRest after
 
 -- A drive was asked for this, in order, and has not ended. Its plan is left by a planner run that no hand disturbs, to which
 -- these moves are added, and these marks. Of the records of the pieces that the run gave, the latest piece first, the sink

@@ -1,5 +1,5 @@
 -- The slots of a drive. What they answer is so: one that has nothing to give is empty, and one without room is full.
-use Rattle.std.specs.Prelude.{◌≡◌, ◌≢◌, ℕ, List, [], ◌∷◌, ◌++◌}
+use Rattle.std.specs.Prelude.{◌≡◌, ◌≢◌, List, [], ◌∷◌, ◌++◌}
 use Rattle.step_line.specs.declared.Piece.{Piece}
 use Rattle.step_line.specs.declared.Record.{Record}
 use Rattle.step_record.specs.Taking.{Log, HasNoEnd, records}

@@ -1,5 +1,5 @@
 -- A pulse and a recorder that take turns, and the slots between them.
-use Rattle.std.specs.Prelude.{◌≡◌, ℕ, ◌+◌, ◌<◌, Bool, true, false, List, [], ◌++◌, length, Option, None}
+use Rattle.std.specs.Prelude.{◌≡◌, ℕ, ◌+◌, ◌<◌, Bool, true, false, List, [], ◌++◌, length}
 use Rattle.std.specs.List.{flat_map}
 use Rattle.outside.specs.Causes.{SinkState}
 use Rattle.step_line.specs.declared.Piece.{Piece}
@@ -30,7 +30,13 @@ text_left waiting v = length waiting + (length v.waiting + length (flat_map reco
 pub record RecordTurned (did : Bool) (given : List Record) (before now : SinkState) (waiting : List Record) (v : Recording) (more : List Record) (w : Recording) : Type 0 where
   pub records : Records given before now more w
   pub falls : did ≡ true → text_left more w < text_left waiting v
-  pub rests : did ≡ false → (more ≡ []) × (is_due w ≡ false)
+  pub rests : did ≡ false → (waiting ≡ []) × (more ≡ []) × (is_due w ≡ false)
+
+-- a recorder that has taken all records, and has nothing to write yet
+pub record HasRested (given : List Record) (before now : SinkState) (waiting : List Record) (v : Recording) : Type 0 where
+  pub records : Records given before now waiting v
+  pub taken : waiting ≡ []
+  pub due : is_due v ≡ false
 
 -- a pulse and a recorder behind it, to which these pieces were offered, the latest first: where one waits in its slot, the
 -- pulse has not got it yet
@@ -49,21 +55,19 @@ work_left p q =
     length (as_list q.waiting) + (length p.waiting + length (recorded (as_list q.waiting)))
     + (q.left + ticks_in (recorded (as_list q.waiting)))
 
--- all that was offered is traced and taken, and no text is to be written yet
+-- all that was offered is traced and taken
 pub record IsSettled (offered : List Piece) (before now : SinkState) (p : Pulsing) (q : Offered) (waiting : List Record) (v : Recording) : Type 0 where
   pub works : Works offered before now p q waiting v
   pub free : IsFree q
   pub between : p.waiting ≡ []
   pub taken : waiting ≡ []
-  pub due : is_due v ≡ false
 
--- the recorder waits, while the pulse may be at work
+-- all that the pulse put is taken, and it may be at work
 pub record IsTracing (offered : List Piece) (before now : SinkState) (p : Pulsing) (q : Offered) (waiting : List Record) (v : Recording) : Type 0 where
   pub works : Works offered before now p q waiting v
   pub taken : waiting ≡ []
-  pub due : is_due v ≡ false
 
--- what a turn of the pulse makes, and then of the recorder until it waits
+-- what a turn of the pulse makes, and then of the recorder until none waits
 pub record Turned (did : Bool) (offered : List Piece) (before now : SinkState) (p : Pulsing) (q : Offered) (p' : Pulsing) (q' : Offered) (waiting : List Record) (v : Recording) : Type 0 where
   pub tracing : IsTracing offered before now p' q' waiting v
   pub falls : did ≡ true → work_left p' q' < work_left p q

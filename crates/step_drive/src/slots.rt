@@ -1,6 +1,6 @@
 //! The slots between a drive, its pulse and its recorder. Each holds one piece or record at most.
 
-ghost use Rattle.std.specs.Prelude.{◌≡◌, ◌∷◌, [], List, IfSome, IfNone, OnOk, OnErr, IfErr};
+ghost use Rattle.std.specs.Prelude.{◌≡◌, ◌≢◌, ◌↔◌, ◌∷◌, [], List, IsTrue, IfSome, IfNone, OnOk, OnErr, IfErr};
 ghost use Rattle.step_line.specs.declared.Piece.{Piece as AnyPiece};
 ghost use Rattle.step_line.specs.declared.Record.{Record as AnyRecord};
 ghost use Rattle.step_line.specs.Records.{IsRecord};
@@ -10,7 +10,8 @@ ghost use Rattle.pulse_engine.specs.Logs.{PieceLog, RecordLog, IsCounted, HasTic
 ghost use Rattle.pulse_engine.specs.Slots.{IsFree};
 ghost use Rattle.step_drive.specs.Polls.{GivesPieces, HoldsRecords, HandsOver};
 
-use pulse_engine::{PieceSlot, PulsePort, RecordSlot, TickOut};
+use pulse_engine::{PieceSlot, PulsePort, TickOut};
+use std::marker::Model;
 use step_line::{Piece, Record};
 use step_record::RecordIn;
 
@@ -51,7 +52,8 @@ impl PulsePort for Pieces {
     ghost stands = { λ pieces offered h. GivesPieces pieces.slot offered h };
 
     fn piece(&mut self) -> Option<Piece> {
-        self.slot.piece()
+        let piece = self.slot.piece()?;
+        Some(piece)
     }
 
     #[inline]
@@ -64,17 +66,63 @@ impl PulsePort for Pieces {
 /// where the pulse finds no room, it is not.
 #[derive(Drop)]
 pub(crate) struct Records {
-    pub(crate) slot: RecordSlot,
+    held: Option<Record>,
+}
+
+impl Model for Records {
+    ghost use Rattle.std.specs.Prelude.{List};
+    ghost use Rattle.std.specs.List.{All};
+    ghost use Rattle.step_line.specs.declared.Record.{Record as AnyRecord};
+    ghost use Rattle.step_line.specs.Records.{IsRecord};
+    ghost use Rattle.pulse_engine.specs.Slots.{as_list};
+
+    ghost Value = { List AnyRecord };
+
+    ghost view = { λ s. as_list s.held };
+
+    ghost invariant = { λ s. All IsRecord (as_list s.held) };
 }
 
 impl Records {
     /// An empty slot.
     pub(crate) fn new() -> Records
-        ensures { result.slot ≡ [] }
+        ensures { result ≡ [] }
     {
-        Records {
-            slot: RecordSlot::new(),
+        Records { held: None }
+    }
+
+    /// Whether no record waits.
+    #[inline]
+    pub(crate) fn is_empty(&self) -> bool
+        ensures { IsTrue result ↔ (self.now ≡ []) }
+    {
+        self.held.is_none()
+    }
+
+    /// Holds a record, or hands it back where one waits.
+    #[inline]
+    fn hold(&mut self, r: Record) -> Result<(), Record>
+        requires { IsRecord r }
+        ensures ok { OnOk result ((self.old ≡ []) × (self.new ≡ r ∷ [])) }
+        ensures full { OnErr result ((self.old ≢ []) × (self.new ≡ self.old)) }
+        ensures back { IfErr result (λ handed. handed ≡ r) }
+    {
+        if self.held.is_some() {
+            return Err(r);
         }
+        self.held = Some(r);
+        Ok(())
+    }
+
+    /// Lets go the record that waits.
+    #[inline]
+    fn let_go(&mut self) -> Option<Record>
+        ensures some { IfSome result (λ r. IsRecord r × (self.old ≡ r ∷ []) × (self.new ≡ [])) }
+        ensures none { IfNone result ((self.old ≡ []) × (self.new ≡ [])) }
+    {
+        let record = self.held?;
+        self.held = None;
+        Some(record)
     }
 }
 
@@ -86,11 +134,11 @@ impl TickOut for Records {
     /// The records that were taken, in order.
     ghost Rest = { List AnyRecord };
 
-    ghost stands = { λ records taken k. HoldsRecords records.slot taken k };
+    ghost stands = { HoldsRecords };
 
     #[inline]
     fn put(&mut self, r: Record) -> Result<(), Record> {
-        self.slot.put(r)
+        self.hold(r)
     }
 }
 
@@ -102,10 +150,10 @@ impl RecordIn for Records {
     /// The records that were put, in order.
     ghost Rest = { List AnyRecord };
 
-    ghost stands = { λ records all log. HandsOver records.slot all log };
+    ghost stands = { HandsOver };
 
     #[inline]
     fn take(&mut self) -> Option<Record> {
-        self.slot.take()
+        self.let_go()
     }
 }

@@ -11,6 +11,6 @@ loop-item-preserved g c =
     let now = c.loop-item.running in
     let after = c.after-running in record {
       running = c.ask_item.ensures.running;
-      asked = asked_more _ i.asked.0 c.args.line c.args.state.now.settings c.args.items.now c.loop-item.item-index _ now.spindle after.result.spindle
+      asked = asked_more _ i.asked.0 c.args.line c.args.settings.now c.args.items.now c.loop-item.item-index _ now.spindle after.result.spindle
           now.flood after.result.flood c.loop-item-test.true i.asked.1 i.asked.2 c.ask_item.ensures.asked after.ensures.spindle after.ensures.flood;
     }

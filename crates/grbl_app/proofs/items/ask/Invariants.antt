@@ -8,10 +8,9 @@ use Rattle.grbl_app.proofs.items.ask.Given as goal
 abbrev pub invariant-loop-item : goal.invariant-loop-item
 invariant-loop-item g l =
     let steps = g.St.Sink.state in
-    let state = l.fn.state in
     record {
       running : IsRunning (steps l.steps) l.drive;
       asked : (asked : List Asked) × DrivesOn (steps l.fn.steps) l.fn.drive (steps l.steps) l.drive asked
-          × (asks_of l.line state.settings state.parser.modal.spindle state.parser.modal.flood l.items
-              ≡ asked ++ asks_of l.line state.settings l.running.spindle l.running.flood (drop l.item-index l.items));
+          × (asks_of l.line l.fn.settings l.fn.modal.spindle l.fn.modal.flood l.items
+              ≡ asked ++ asks_of l.line l.fn.settings l.running.spindle l.running.flood (drop l.item-index l.items));
     }

@@ -1,8 +1,14 @@
 use Rattle.std.proofs.Common.{refl, sym, ◌∙◌, arith}
 use Rattle.gcode_words.specs.declared.stripping.Comment.TheVariants.{Outside, Paren, Semicolon}
-use Rattle.gcode_words.specs.declared.stripping.Stripped.TheVariants.{Nothing}
+use Rattle.gcode_words.specs.declared.stripping.Stripped.TheVariants.{Nothing, Keep}
 use Rattle.gcode_words.proofs.Fed.{feeds, feeds_outside, feeds_paren}
 use Rattle.gcode_words.proofs.stripping.Stripper.feed.Goals as goal
+
+pub returns-in-Outside : goal.returns-in-Outside
+returns-in-Outside c =
+    let common = c.if-is_common.ensures in
+    feeds_outside c.args.self.now c.args.byte (Keep c.args.byte) (sym c.self.view_is ∙ c.in-Outside.is) c.if-byte-eq10.false (common.begins refl).0 (common.begins refl).1
+    (λ h. cc) (common.kept refl) (common.taken refl)
 
 pub returns-in-40 : goal.returns-in-40
 returns-in-40 c =
