@@ -49,7 +49,7 @@ asked_more all asked line s items i x spindle after flood flows inside first lef
       asked ++ item_asks line s spindle flood item,
       drives_both first second,
       left ∙ ap (λ rest. asked ++ asks_of line s spindle flood rest) (drop_more items i x inside)
-      ∙ sym (append_assoc asked (item_asks line s spindle flood item) (asks_of line s (spindle_after spindle item) (flood_after flood item) (drop (i + 1) items)))
-      ∙ ap (λ m. (asked ++ item_asks line s spindle flood item) ++ asks_of line s m (flood_after flood item) (drop (i + 1) items)) (sym turns)
-      ∙ ap (λ f. (asked ++ item_asks line s spindle flood item) ++ asks_of line s after f (drop (i + 1) items)) (sym runs),
+          ∙ sym (append_assoc asked (item_asks line s spindle flood item) (asks_of line s (spindle_after spindle item) (flood_after flood item) (drop (i + 1) items)))
+          ∙ ap (λ m. (asked ++ item_asks line s spindle flood item) ++ asks_of line s m (flood_after flood item) (drop (i + 1) items)) (sym turns)
+          ∙ ap (λ f. (asked ++ item_asks line s spindle flood item) ++ asks_of line s after f (drop (i + 1) items)) (sym runs),
     )

@@ -18,7 +18,7 @@ shown was before now old new lines is same steps console = record {
   opening = is.opening;
   outcomes = is.outcomes;
   answered = rw (ap (λ e. e.state) same) is.answered;
-  lines = ap (λ e. e.lines) same ∙ is.lines;
+  counted = ap (λ e. e.lines) same ∙ is.counted;
   errors = ap (λ e. e.errors) same ∙ is.errors;
   console = let more = console.on was.console _ is.console in rw append-nil at more;
   steps = rw (ap (λ e. e.drive) same, steps) is.steps;

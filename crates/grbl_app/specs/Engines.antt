@@ -58,7 +58,7 @@ pub record HasAnswered (was now : Sinks) (engine : Engine) (lines : List (List �
   pub opening : IsOpening first
   pub outcomes : List Outcome
   pub answered : Answered first lines outcomes engine.state
-  pub lines : engine.lines ≡ length lines
+  pub counted : engine.lines ≡ length lines
   pub errors : engine.errors ≡ errors_in outcomes
   pub console : Wrote was.console now.console engine.console (replies_text (replies_in outcomes))
   pub steps : HasDriven was.steps now.steps engine.drive (asked_in outcomes)

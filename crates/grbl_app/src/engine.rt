@@ -166,7 +166,7 @@ impl Engine {
         requires running { IsRunning (St.state steps.old) self.old.drive }
         ensures done { (o : Outcome) × ByVerdict self.old.lines self.old.state (verdict self.old.state.parser self.old.state.settings self.old.words.items) o
             × HasDone (record { console = Co.state console.old; steps = St.state steps.old }) self.old
-                (record { console = Co.state console.new; steps = St.state steps.new }) self.new o }
+            (record { console = Co.state console.new; steps = St.state steps.new }) self.new o }
         ensures valid { IsState self.new.state }
     {
         let modal = self.state.parser.modal;
@@ -195,19 +195,14 @@ impl Engine {
     }
 
     /// Answers a line of G-code.
-    fn answer_code<Co: Sink, St: Sink>(
-        &mut self,
-        kept: &[u8],
-        console: &mut Co,
-        steps: &mut St,
-    )
+    fn answer_code<Co: Sink, St: Sink>(&mut self, kept: &[u8], console: &mut Co, steps: &mut St)
         requires short { length kept.now ≤ 79 }
         requires line { (1 ≤ self.old.lines) × (self.old.errors + 1 < 2 ^ 32) }
         requires valid { IsState self.old.state }
         requires running { IsRunning (St.state steps.old) self.old.drive }
         ensures done { (o : Outcome) × ByWords self.old.lines self.old.state (words_of kept.now) o
             × HasDone (record { console = Co.state console.old; steps = St.state steps.old }) self.old
-                (record { console = Co.state console.new; steps = St.state steps.new }) self.new o }
+            (record { console = Co.state console.new; steps = St.state steps.new }) self.new o }
         ensures valid { IsState self.new.state }
     {
         match read_words(kept, &mut self.words) {
@@ -217,19 +212,14 @@ impl Engine {
     }
 
     /// Answers a line of which these bytes are kept.
-    fn answer_kept<Co: Sink, St: Sink>(
-        &mut self,
-        kept: &[u8],
-        console: &mut Co,
-        steps: &mut St,
-    )
+    fn answer_kept<Co: Sink, St: Sink>(&mut self, kept: &[u8], console: &mut Co, steps: &mut St)
         requires short { length kept.now ≤ 79 }
         requires line { (1 ≤ self.old.lines) × (self.old.errors + 1 < 2 ^ 32) }
         requires valid { IsState self.old.state }
         requires running { IsRunning (St.state steps.old) self.old.drive }
         ensures done { (o : Outcome) × ByKept self.old.lines self.old.state kept.now o
             × HasDone (record { console = Co.state console.old; steps = St.state steps.old }) self.old
-                (record { console = Co.state console.new; steps = St.state steps.new }) self.new o }
+            (record { console = Co.state console.new; steps = St.state steps.new }) self.new o }
         ensures valid { IsState self.new.state }
     {
         match kept.first() {
@@ -240,18 +230,13 @@ impl Engine {
     }
 
     /// Answers the line that was counted last.
-    fn answer_line<Co: Sink, St: Sink>(
-        &mut self,
-        line: &OpenLine,
-        console: &mut Co,
-        steps: &mut St,
-    )
+    fn answer_line<Co: Sink, St: Sink>(&mut self, line: &OpenLine, console: &mut Co, steps: &mut St)
         requires line { (1 ≤ self.old.lines) × (self.old.errors + 1 < 2 ^ 32) }
         requires valid { IsState self.old.state }
         requires running { IsRunning (St.state steps.old) self.old.drive }
         ensures done { (bytes : List ℕ) → IsOpen line.now bytes → (o : Outcome) × Becomes self.old.lines self.old.state bytes o
             × HasDone (record { console = Co.state console.old; steps = St.state steps.old }) self.old
-                (record { console = Co.state console.new; steps = St.state steps.new }) self.new o }
+            (record { console = Co.state console.new; steps = St.state steps.new }) self.new o }
         ensures goes_on { GoesOn (St.state steps.old) self.old (St.state steps.new) self.new }
     {
         if line.over {

@@ -1,6 +1,6 @@
 //! The items of an accepted line: what they tell, and what they ask of the machine.
 
-ghost use Rattle.std.specs.Prelude.{◌≡◌, ◌≤◌, All};
+ghost use Rattle.std.specs.Prelude.{◌≡◌, ◌≤◌, [], ◌∷◌, ◌++◌, All};
 ghost use Rattle.step_line.specs.Records.{IsMark};
 ghost use Rattle.gcode_check.specs.Items.{IsItem};
 ghost use Rattle.settings.specs.Numbers.{IsSettings};

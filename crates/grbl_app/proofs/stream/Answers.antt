@@ -1,4 +1,4 @@
-use Rattle.std.proofs.Common.{◌≡◌, ◌∙◌, ℕ, Bool, [], ap}
+use Rattle.std.proofs.Common.{◌≡◌, ◌∙◌, ℕ, Bool, [], ap, arith}
 use Rattle.run_rules.specs.declared.Reading.{Reading}
 use Rattle.grbl_app.specs.declared.status.Status.{Status}
 use Rattle.run_rules.proofs.Cutting.{cut_none}
@@ -10,6 +10,14 @@ use Rattle.grbl_app.proofs.stream.Goals as goal
 status_of : (steps_failed console_failed : Bool) (reading : Reading) (errors counted : ℕ) (status : Status) → status ≡ first_cause steps_failed console_failed reading errors → errors ≡ counted
     → status ≡ first_cause steps_failed console_failed reading counted
 status_of steps_failed console_failed reading errors counted status is e = is ∙ ap (first_cause steps_failed console_failed reading) e
+
+pub read_job-reading-requires-clause-ready : goal.read_job-reading-requires-clause-ready
+read_job-reading-requires-clause-ready g c =
+    let same = c.greet.ensures.same in record {
+      state = rw (ap (λ e. e.state) same) c.new-engine.ensures.valid;
+      running = rw (ap (λ e. e.drive) same) (record { before = _; asked = []; driven = c.new-engine.ensures.drive (g.St.Sink.state c.args.steps.now) });
+      few = rw (ap (λ e. e.errors) same, ap (λ e. e.lines) same, c.new-engine.ensures.errors) (omega arith);
+    }
 
 pub returns-clause-run : goal.returns-clause-run
 returns-clause-run g c =

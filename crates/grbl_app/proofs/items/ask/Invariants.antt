@@ -12,5 +12,5 @@ invariant-loop-item g l =
       running : IsRunning (steps l.steps) l.drive;
       asked : (asked : List Asked) × DrivesOn (steps l.fn.steps) l.fn.drive (steps l.steps) l.drive asked
           × (asks_of l.line l.fn.settings l.fn.modal.spindle l.fn.modal.flood l.items
-              ≡ asked ++ asks_of l.line l.fn.settings l.running.spindle l.running.flood (drop l.item-index l.items));
+          ≡ asked ++ asks_of l.line l.fn.settings l.running.spindle l.running.flood (drop l.item-index l.items));
     }

@@ -1,4 +1,4 @@
-use Rattle.std.proofs.Common.{sym, ◌∙◌, arith}
+use Rattle.std.proofs.Common.{refl, sym, ◌∙◌, ap, arith}
 use Rattle.run_rules.specs.Outcomes.{refused}
 use Rattle.grbl_app.proofs.Answering.{becomes_too_long, becomes_kept, one_error}
 use Rattle.grbl_app.proofs.Driven.{still_running}

@@ -19,7 +19,7 @@ returns-in-Ok-clause-done g c =
       executed e.lines e.state a,
       by_verdict e.lines e.state _ (Accept a) (executed e.lines e.state a) (sym c.in-Ok.ensures.accepted) refl,
       has_executed _ _ _ e _ _ a (rw c.as_slice.ensures.value at c.tell.ensures) c.accept.ensures.answer
-          (rw (ap (λ x. x.drive) same, ← c.as_slice-2.ensures.value) c.ask.ensures.asked)
+          (rw (ap (λ x. x.drive) same, ← c.as_slice-in-Ok.ensures.value) c.ask.ensures.asked)
           (ap (λ x. x.state) same) (ap (λ x. x.lines) same) (ap (λ x. x.errors) same),
     )
 

@@ -1,4 +1,3 @@
-use Rattle.std.proofs.Common.{refl}
 use Rattle.step_drive.proofs.Tracing.{settled_first}
 use Rattle.step_drive.proofs.writer.Writer.new.Goals as goal
 
