@@ -10,7 +10,7 @@ use Rattle.run_rules.specs.Readings.{largest_job, FitsReading, job_of, sent_line
 use Rattle.run_rules.specs.Outcomes.{Answered}
 use Rattle.run_rules.specs.Told.{errors_in}
 use Rattle.run_rules.proofs.Determined.{one_opening, one_run}
-use Rattle.grbl_app.specs.Writing.{Took}
+use Rattle.step_record.specs.Writing.{Took}
 use Rattle.grbl_app.specs.Engines.{Sinks}
 use Rattle.grbl_app.specs.Ends.{IsRun, HasRun, HasCauses, first_cause, by_errors}
 use Rattle.grbl_app.specs.declared.status.Status.{Status}
@@ -117,6 +117,8 @@ by_cases a b old new status run false false Ended es ec er =
         opening = run.opening;
         answered = rw (← lines) run.answered;
         console = whole_text _ _ run.console_failed _ ec run.console;
+        records = run.records;
+        driven = run.driven;
         steps = whole_text _ _ run.steps_failed _ es run.steps;
         status_is = refl;
       };

@@ -11,27 +11,27 @@ use Rattle.grbl_app.specs.declared.open_line.OpenLine.{OpenLine}
 
 -- the answers that wait are shown
 pub shown : (was before now : Sinks) (old new : Engine) (lines : List (List ℕ)) → HasAnswered was before old lines
-    → new.state ≡ old.state → new.errors ≡ old.errors → new.steps ≡ old.steps → now.steps ≡ before.steps
+    → new ≡ record old { console = new.console } → now.steps ≡ before.steps
     → WritesOn before.console old.console now.console new.console [] → HasAnswered was now new lines
-shown was before now old new lines is se ee te ts console = record {
+shown was before now old new lines is same steps console = record {
   first = is.first;
   opening = is.opening;
   outcomes = is.outcomes;
-  answered = rw se is.answered;
-  good = rw se is.good;
-  errors = ee ∙ is.errors;
+  answered = rw (ap (λ e. e.state) same) is.answered;
+  counted = ap (λ e. e.lines) same ∙ is.counted;
+  errors = ap (λ e. e.errors) same ∙ is.errors;
   console = let more = console.on was.console _ is.console in rw append-nil at more;
-  steps = rw (te, ts) is.steps;
+  steps = rw (ap (λ e. e.drive) same, steps) is.steps;
 }
 
 pub still_fed : (was before now : Sinks) (old new : Engine) (line : OpenLine) (text : List ℕ) → HasFed was before old line text
-    → new.state ≡ old.state → new.errors ≡ old.errors → new.steps ≡ old.steps → now.steps ≡ before.steps
+    → new ≡ record old { console = new.console } → now.steps ≡ before.steps
     → WritesOn before.console old.console now.console new.console [] → HasFed was now new line text
-still_fed was before now old new line text is se ee te ts console = record {
+still_fed was before now old new line text is same steps console = record {
   lines = is.lines;
   open_line = is.open_line;
   cuts = is.cuts;
-  has_answered = shown was before now old new is.lines is.has_answered se ee te ts console;
+  has_answered = shown was before now old new is.lines is.has_answered same steps console;
   line_is = is.line_is;
 }
 

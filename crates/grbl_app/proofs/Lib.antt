@@ -1,8 +1,8 @@
 pub mod CommandLine
 pub mod Written
-pub mod Traced
+pub mod Driven
 pub mod Kept
-pub mod Executing
+pub mod Telling
 pub mod Answering
 pub mod Feeding
 pub mod Endings

@@ -4,7 +4,8 @@ use Rattle.std.specs.Io.KnownBytes.{Appends, Keeps}
 use Rattle.std.proofs.KnownBytes.{Appends-nil, Appends-trans, Appends-kept}
 use Rattle.std.proofs.lemmas.List.{take-append-drop}
 use Rattle.outside.specs.Causes.{Rose, SinkState}
-use Rattle.grbl_app.specs.Writing.{Wrote, WritesOn, Took}
+use Rattle.step_record.specs.Writing.{Took}
+use Rattle.grbl_app.specs.Writing.{Wrote, WritesOn}
 use Rattle.grbl_app.specs.declared.output.Output.{Output}
 
 pub took_nothing : (s : SinkState) → Took s s false []

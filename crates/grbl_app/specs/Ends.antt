@@ -5,9 +5,12 @@ use Rattle.outside.specs.Causes.{Rose, SourceState}
 use Rattle.run_rules.specs.Lines.{lines_of}
 use Rattle.run_rules.specs.States.{IsOpening}
 use Rattle.run_rules.specs.Outcomes.{Outcome, Answered}
-use Rattle.run_rules.specs.Told.{replies_in, replies_text, records_in, records_text, errors_in}
+use Rattle.run_rules.specs.Told.{replies_in, replies_text, asked_in, records_text, errors_in}
+use Rattle.step_line.specs.declared.Record.{Record}
+use Rattle.step_drive.specs.Asking.{IsDriven}
+use Rattle.step_drive.specs.Driving.{HasEnded}
 use Rattle.run_rules.specs.declared.State.{State}
-use Rattle.grbl_app.specs.Writing.{Took}
+use Rattle.step_record.specs.Writing.{Took}
 use Rattle.grbl_app.specs.Engines.{Sinks}
 use Rattle.grbl_app.specs.declared.engine.Engine.{Engine}
 use Rattle.grbl_app.specs.declared.status.Status.{Status}
@@ -32,8 +35,9 @@ first_cause steps_failed console_failed reading errors =
     cond steps_failed StepsFault (cond console_failed ConsoleFault (by_reading reading errors))
 
 -- A run of a job, whatever failed. The lines of what was read are answered in order, each once. The console
--- takes the banner and what is told of each line, and the steps the ticks of the lines answered `ok` and the end;
--- each is whole where its sink did not fail. The status is the first cause that holds.
+-- takes the banner and what is told of each line. The steps take the records of a drive that was asked for the moves
+-- and marks of the lines answered `ok`: their events and marks, in order and each once, heads with legal speeds, and the
+-- end. Each text is whole where its sink did not fail. The status is the first cause that holds.
 pub record IsRun (job_old job_new : SourceState) (old new : Sinks) (status : Status) : Type 0 where
   pub read : List ℕ
   pub reading : Reading
@@ -49,7 +53,9 @@ pub record IsRun (job_old job_new : SourceState) (old new : Sinks) (status : Sta
   pub opening : IsOpening first
   pub answered : Answered first (sent_lines reading (job_of read)) outcomes last
   pub console : Took old.console new.console console_failed (replies_text (replies_in outcomes))
-  pub steps : Took old.steps new.steps steps_failed (records_text (records_in outcomes))
+  pub records : List Record
+  pub driven : IsDriven (asked_in outcomes) records
+  pub steps : Took old.steps new.steps steps_failed (records_text records)
   pub status_is : status ≡ first_cause steps_failed console_failed reading (errors_in outcomes)
 
 abbrev pub IsWhole : Status → Type 0
@@ -58,7 +64,8 @@ IsWhole (LineErrors n) = Unit {0}
 IsWhole _ = ⊥
 
 -- A run that went to its end: the bytes read are the job, the console has the banner and what is told of each
--- line, and the steps have the ticks of the lines answered `ok`, in order and each once, and the end.
+-- line, and the steps have the records of a drive that was asked for the moves and marks of the lines answered `ok`:
+-- their events and marks, in order and each once, heads with legal speeds, and the end.
 pub record IsWholeRun (job_old job_new : SourceState) (old new : Sinks) (status : Status) : Type 0 where
   pub job : List ℕ
   pub first : State
@@ -70,7 +77,9 @@ pub record IsWholeRun (job_old job_new : SourceState) (old new : Sinks) (status 
   pub opening : IsOpening first
   pub answered : Answered first (lines_of job) outcomes last
   pub console : Appends old.console.held new.console.held (replies_text (replies_in outcomes))
-  pub steps : Appends old.steps.held new.steps.held (records_text (records_in outcomes))
+  pub records : List Record
+  pub driven : IsDriven (asked_in outcomes) records
+  pub steps : Appends old.steps.held new.steps.held (records_text records)
   pub status_is : status ≡ by_errors (errors_in outcomes)
 
 -- more bytes were read than a job may have
@@ -87,7 +96,7 @@ pub record HasFinished (was now : Sinks) (engine : Engine) (lines : List (List �
   pub answered : Answered first lines outcomes engine.state
   pub errors : engine.errors ≡ errors_in outcomes
   pub console : Took was.console now.console engine.console.failed (replies_text (replies_in outcomes))
-  pub steps : Took was.steps now.steps engine.steps.failed (records_text (records_in outcomes))
+  pub steps : HasEnded was.steps now.steps engine.drive.recorder.failed (asked_in outcomes)
 
 -- a job of at most 16,777,216 bytes, which its source tells, and whose lines are all accepted
 pub record IsAcceptedJob (job : SourceState) : Type 0 where

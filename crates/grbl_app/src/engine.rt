@@ -9,10 +9,11 @@ ghost use Rattle.system_lines.specs.Setting.{apply_refusal};
 ghost use Rattle.status_report.specs.Replies.{reply_text};
 ghost use Rattle.run_rules.specs.States.{IsState, IsOpening};
 ghost use Rattle.run_rules.specs.Outcomes.{Outcome, refused, fault_number, BySetting, ByCommand, ByVerdict, ByWords, ByKept, Becomes};
-ghost use Rattle.grbl_app.specs.Engines.{IsOpen, Sinks, HasDone, HasAnswered};
+ghost use Rattle.step_drive.specs.Driving.{HasDriven, IsRunning};
+ghost use Rattle.grbl_app.specs.Engines.{IsOpen, Sinks, HasDone, GoesOn, IsReady, HasAnswered};
 ghost use Rattle.grbl_app.specs.Writing.{WritesOn, IsEmpty};
 
-use crate::items::execute;
+use crate::items::{ask, tell};
 use crate::open_line::OpenLine;
 use crate::output::Output;
 use gcode_check::{Items, Refusal, take_line};
@@ -20,17 +21,20 @@ use gcode_words::{WordFault, Words, read_words};
 use outside::Sink;
 use run_rules::State;
 use status_report::{Modes, Reply};
+use step_drive::Drive;
 use system_lines::{Command, apply_setting, read_command};
 use units::Decimal;
 
-/// The state that the lines answered so far leave, how many of them were refused, and the texts on their way. The
-/// words of each line are read into the same list, and its items put into another.
+/// The state that the lines answered so far leave, how many they are, how many of them were refused, the text on its
+/// way to the console, and the drive. The words of each line are read into the same list, and its items put into
+/// another.
 #[derive(Drop)]
 pub(crate) struct Engine {
     pub(crate) state: State,
+    pub(crate) lines: u32,
     pub(crate) errors: u32,
     pub(crate) console: Output,
-    pub(crate) steps: Output,
+    pub(crate) drive: Drive,
     pub(crate) words: Words,
     pub(crate) items: Items,
 }
@@ -50,26 +54,29 @@ impl Engine {
     pub(crate) fn new() -> Engine
         ensures opening { IsOpening result.state }
         ensures valid { IsState result.state }
+        ensures lines { result.lines ≡ 0 }
         ensures errors { result.errors ≡ 0 }
         ensures console { IsEmpty result.console }
-        ensures steps { IsEmpty result.steps }
+        ensures drive { (sink : SinkState) → HasDriven sink sink result.drive [] }
     {
         Engine {
             state: State::opening(),
+            lines: 0,
             errors: 0,
             console: Output::new(),
-            steps: Output::new(),
+            drive: Drive::new(),
             words: Words::new(),
             items: Items::new(),
         }
     }
 
-    /// Writes the banner.
+    /// Writes the banner, and shows it.
     pub(crate) fn greet<Co: Sink>(&mut self, console: &mut Co)
         ensures banner { WritesOn (Co.state console.old) self.old.console (Co.state console.new) self.new.console (reply_text Reply.Banner) }
-        ensures same { (self.new.state ≡ self.old.state) × (self.new.errors ≡ self.old.errors) × (self.new.steps ≡ self.old.steps) }
+        ensures same { self.new ≡ record self.old { console = self.new.console } }
     {
         self.console.put_reply(console, &Reply::Banner);
+        self.console.flush(console);
     }
 
     /// Answers a line with an error.
@@ -77,8 +84,7 @@ impl Engine {
         requires few { self.old.errors + 1 < 2 ^ 32 }
         ensures done { (steps : SinkState) → HasDone (record { console = Co.state console.old; steps = steps }) self.old
             (record { console = Co.state console.new; steps = steps }) self.new (refused self.old.state number) }
-        ensures same { self.new.state ≡ self.old.state }
-        ensures more { self.new.errors ≡ self.old.errors + 1 }
+        ensures same { self.new ≡ record self.old { console = self.new.console; errors = self.old.errors + 1 } }
     {
         self.console.put_reply(console, &Reply::Error(number));
         self.errors += 1;
@@ -87,7 +93,7 @@ impl Engine {
     /// Answers a line with `ok`.
     fn accept<Co: Sink>(&mut self, console: &mut Co)
         ensures answer { WritesOn (Co.state console.old) self.old.console (Co.state console.new) self.new.console (reply_text Reply.Ok) }
-        ensures same { (self.new.state ≡ self.old.state) × (self.new.errors ≡ self.old.errors) × (self.new.steps ≡ self.old.steps) }
+        ensures same { self.new ≡ record self.old { console = self.new.console } }
     {
         self.console.put_reply(console, &Reply::Ok);
     }
@@ -155,9 +161,10 @@ impl Engine {
     /// Does what the words of a line of G-code say, and answers.
     fn answer_words<Co: Sink, St: Sink>(&mut self, console: &mut Co, steps: &mut St)
         requires words { All IsSmallWord self.old.words.items }
-        requires few { self.old.errors + 1 < 2 ^ 32 }
+        requires line { (1 ≤ self.old.lines) × (self.old.errors + 1 < 2 ^ 32) }
         requires valid { IsState self.old.state }
-        ensures done { (o : Outcome) × ByVerdict self.old.state (verdict self.old.state.parser self.old.state.settings self.old.words.items) o
+        requires running { IsRunning (St.state steps.old) self.old.drive }
+        ensures done { (o : Outcome) × ByVerdict self.old.lines self.old.state (verdict self.old.state.parser self.old.state.settings self.old.words.items) o
             × HasDone (record { console = Co.state console.old; steps = St.state steps.old }) self.old
             (record { console = Co.state console.new; steps = St.state steps.new }) self.new o }
         ensures valid { IsState self.new.state }
@@ -170,12 +177,13 @@ impl Engine {
             &mut self.items,
         ) {
             Ok(()) => {
-                execute(
+                tell(self.items.as_slice(), &mut self.console, console);
+                ask(
                     self.items.as_slice(),
+                    self.lines,
+                    &self.state.settings,
                     &modal,
-                    &mut self.console,
-                    &mut self.steps,
-                    console,
+                    &mut self.drive,
                     steps,
                 );
                 self.accept(console);
@@ -189,9 +197,10 @@ impl Engine {
     /// Answers a line of G-code.
     fn answer_code<Co: Sink, St: Sink>(&mut self, kept: &[u8], console: &mut Co, steps: &mut St)
         requires short { length kept.now ≤ 79 }
-        requires few { self.old.errors + 1 < 2 ^ 32 }
+        requires line { (1 ≤ self.old.lines) × (self.old.errors + 1 < 2 ^ 32) }
         requires valid { IsState self.old.state }
-        ensures done { (o : Outcome) × ByWords self.old.state (words_of kept.now) o
+        requires running { IsRunning (St.state steps.old) self.old.drive }
+        ensures done { (o : Outcome) × ByWords self.old.lines self.old.state (words_of kept.now) o
             × HasDone (record { console = Co.state console.old; steps = St.state steps.old }) self.old
             (record { console = Co.state console.new; steps = St.state steps.new }) self.new o }
         ensures valid { IsState self.new.state }
@@ -205,9 +214,10 @@ impl Engine {
     /// Answers a line of which these bytes are kept.
     fn answer_kept<Co: Sink, St: Sink>(&mut self, kept: &[u8], console: &mut Co, steps: &mut St)
         requires short { length kept.now ≤ 79 }
-        requires few { self.old.errors + 1 < 2 ^ 32 }
+        requires line { (1 ≤ self.old.lines) × (self.old.errors + 1 < 2 ^ 32) }
         requires valid { IsState self.old.state }
-        ensures done { (o : Outcome) × ByKept self.old.state kept.now o
+        requires running { IsRunning (St.state steps.old) self.old.drive }
+        ensures done { (o : Outcome) × ByKept self.old.lines self.old.state kept.now o
             × HasDone (record { console = Co.state console.old; steps = St.state steps.old }) self.old
             (record { console = Co.state console.new; steps = St.state steps.new }) self.new o }
         ensures valid { IsState self.new.state }
@@ -219,15 +229,15 @@ impl Engine {
         }
     }
 
-    /// Answers a line.
+    /// Answers the line that was counted last.
     fn answer_line<Co: Sink, St: Sink>(&mut self, line: &OpenLine, console: &mut Co, steps: &mut St)
-        requires few { self.old.errors + 1 < 2 ^ 32 }
+        requires line { (1 ≤ self.old.lines) × (self.old.errors + 1 < 2 ^ 32) }
         requires valid { IsState self.old.state }
-        ensures done { (bytes : List ℕ) → IsOpen line.now bytes → (o : Outcome) × Becomes self.old.state bytes o
+        requires running { IsRunning (St.state steps.old) self.old.drive }
+        ensures done { (bytes : List ℕ) → IsOpen line.now bytes → (o : Outcome) × Becomes self.old.lines self.old.state bytes o
             × HasDone (record { console = Co.state console.old; steps = St.state steps.old }) self.old
             (record { console = Co.state console.new; steps = St.state steps.new }) self.new o }
-        ensures valid { IsState self.new.state }
-        ensures few { self.new.errors ≤ self.old.errors + 1 }
+        ensures goes_on { GoesOn (St.state steps.old) self.old (St.state steps.new) self.new }
     {
         if line.over {
             self.refuse(console, 11);
@@ -243,14 +253,15 @@ impl Engine {
         console: &mut Co,
         steps: &mut St,
     )
-        requires good { IsState self.old.state }
-        requires few { self.old.errors + 1 < 2 ^ 32 }
+        requires ready { IsReady (St.state steps.old) self.old }
+        requires few { self.old.lines + 1 < 2 ^ 32 }
         ensures answered { (was : Sinks) (lines : List (List ℕ)) (bytes : List ℕ) →
             HasAnswered was (record { console = Co.state console.old; steps = St.state steps.old }) self.old lines → IsOpen line.now bytes →
             HasAnswered was (record { console = Co.state console.new; steps = St.state steps.new }) self.new (lines ++ bytes ∷ []) }
-        ensures good { IsState self.new.state }
-        ensures few { self.new.errors ≤ self.old.errors + 1 }
+        ensures ready { IsReady (St.state steps.new) self.new }
+        ensures few { self.new.lines ≡ self.old.lines + 1 }
     {
+        self.lines += 1;
         self.answer_line(line, console, steps);
     }
 }

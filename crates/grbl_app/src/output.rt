@@ -1,15 +1,12 @@
 //! A text on its way to a sink.
 
-ghost use Rattle.std.specs.Prelude.{◌≡◌, ◌+◌, ◌≤◌, [], length, map, false};
+ghost use Rattle.std.specs.Prelude.{◌≡◌, ◌+◌, ◌≤◌, [], length, false};
 ghost use Rattle.arrayvec.specs.ArrayVec.{array_vec_len};
-ghost use Rattle.units.specs.Lengths.{IsMove};
-ghost use Rattle.step_line.specs.Events.{line_events};
-ghost use Rattle.step_line.specs.Records.{IsMark};
-ghost use Rattle.step_record.specs.Texts.{record_text};
 ghost use Rattle.status_report.specs.Lists.{setting_replies, offset_replies};
 ghost use Rattle.status_report.specs.Replies.{reply_text, IsReply};
-ghost use Rattle.run_rules.specs.Told.{replies_text, records_text};
-ghost use Rattle.grbl_app.specs.Writing.{Took, WritesOn};
+ghost use Rattle.run_rules.specs.Told.{replies_text};
+ghost use Rattle.step_record.specs.Writing.{Took};
+ghost use Rattle.grbl_app.specs.Writing.{WritesOn};
 
 use arrayvec::ArrayVec;
 use modal_state::Offsets;
@@ -18,9 +15,7 @@ use settings::Settings;
 use status_report::{
     OFFSET_REPLIES, Reply, SETTING_REPLIES, offset_reply, put_reply, setting_reply,
 };
-use step_line::{Mark, Record, Tracer};
-use step_record::{LONGEST_EVENT, LONGEST_LINE, push_event, push_record};
-use units::{Move, Text, append};
+use units::{Text, append};
 
 /// Bytes that wait to be written at once.
 pub(crate) type Waiting = ArrayVec<u8, 4096>;
@@ -132,27 +127,6 @@ impl Output {
     {
         for place in 0..OFFSET_REPLIES {
             self.put_reply(sink, &offset_reply(offsets, place));
-        }
-    }
-
-    /// Writes a mark.
-    pub(crate) fn put_mark<S: Sink>(&mut self, sink: &mut S, mark: Mark)
-        requires { IsMark mark }
-        ensures { WritesOn (S.state sink.old) self.old (S.state sink.new) self.new (record_text (Record.Mark mark)) }
-    {
-        self.make_room(sink, LONGEST_LINE);
-        push_record(&Record::Mark(mark), &mut self.waiting);
-    }
-
-    /// Writes the events of a move.
-    pub(crate) fn put_events<S: Sink>(&mut self, sink: &mut S, mv: Move)
-        requires { IsMove mv }
-        ensures { WritesOn (S.state sink.old) self.old (S.state sink.new) self.new (records_text (map Record.Event (line_events mv))) }
-    {
-        let mut tracer = Tracer::new(mv);
-        while let Some(bits) = tracer.next() {
-            self.make_room(sink, LONGEST_EVENT);
-            push_event(&bits, &mut self.waiting);
         }
     }
 }

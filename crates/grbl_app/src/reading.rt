@@ -3,9 +3,8 @@
 ghost use Rattle.std.specs.Prelude.{◌≡◌, ℕ, ◌+◌, ◌≤◌, ◌<◌, ◌^◌, ◌++◌, ◌∷◌, [], List, length};
 ghost use Rattle.std.specs.Io.KnownBytes.{Consumes, IsAtEnd};
 ghost use Rattle.outside.specs.Causes.{Rose};
-ghost use Rattle.run_rules.specs.States.{IsState};
 ghost use Rattle.run_rules.specs.Readings.{FitsReading, job_of, sent_lines};
-ghost use Rattle.grbl_app.specs.Engines.{IsOpen, Sinks, HasFed, HasAnswered};
+ghost use Rattle.grbl_app.specs.Engines.{IsOpen, Sinks, IsReady, HasFed, HasAnswered};
 ghost use Rattle.grbl_app.specs.Ends.{HasFinished};
 
 use crate::engine::Engine;
@@ -25,10 +24,10 @@ fn feed_byte<Co: Sink, St: Sink>(
     console: &mut Co,
     steps: &mut St,
 )
-    requires good { IsState engine.old.state }
-    requires few { engine.old.errors + 1 < 2 ^ 32 }
-    ensures good { IsState engine.new.state }
-    ensures few { engine.new.errors ≤ engine.old.errors + 1 }
+    requires ready { IsReady (St.state steps.old) engine.old }
+    requires few { engine.old.lines + 1 < 2 ^ 32 }
+    ensures ready { IsReady (St.state steps.new) engine.new }
+    ensures few { engine.new.lines ≤ engine.old.lines + 1 }
     ensures fed { (was : Sinks) (text : List ℕ) →
         HasFed was (record { console = Co.state console.old; steps = St.state steps.old }) engine.old line.old text →
         HasFed was (record { console = Co.state console.new; steps = St.state steps.new }) engine.new line.new (text ++ byte ∷ []) }
@@ -49,10 +48,10 @@ fn feed<Co: Sink, St: Sink>(
     console: &mut Co,
     steps: &mut St,
 )
-    requires good { IsState engine.old.state }
-    requires few { engine.old.errors + length piece.now < 2 ^ 32 }
-    ensures good { IsState engine.new.state }
-    ensures few { engine.new.errors ≤ engine.old.errors + length piece.now }
+    requires ready { IsReady (St.state steps.old) engine.old }
+    requires few { engine.old.lines + length piece.now < 2 ^ 32 }
+    ensures ready { IsReady (St.state steps.new) engine.new }
+    ensures few { engine.new.lines ≤ engine.old.lines + length piece.now }
     ensures fed { (was : Sinks) (text : List ℕ) →
         HasFed was (record { console = Co.state console.old; steps = St.state steps.old }) engine.old line.old text →
         HasFed was (record { console = Co.state console.new; steps = St.state steps.new }) engine.new line.new (text ++ piece.now) }
@@ -70,10 +69,10 @@ fn feed_and_show<Co: Sink, St: Sink>(
     console: &mut Co,
     steps: &mut St,
 )
-    requires good { IsState engine.old.state }
-    requires few { engine.old.errors + length piece.now < 2 ^ 32 }
-    ensures good { IsState engine.new.state }
-    ensures few { engine.new.errors ≤ engine.old.errors + length piece.now }
+    requires ready { IsReady (St.state steps.old) engine.old }
+    requires few { engine.old.lines + length piece.now < 2 ^ 32 }
+    ensures ready { IsReady (St.state steps.new) engine.new }
+    ensures few { engine.new.lines ≤ engine.old.lines + length piece.now }
     ensures fed { (was : Sinks) (text : List ℕ) →
         HasFed was (record { console = Co.state console.old; steps = St.state steps.old }) engine.old line.old text →
         HasFed was (record { console = Co.state console.new; steps = St.state steps.new }) engine.new line.new (text ++ piece.now) }
@@ -90,10 +89,10 @@ pub(crate) fn read_job<So: Source, Co: Sink, St: Sink>(
     console: &mut Co,
     steps: &mut St,
 ) -> Reading
-    requires good { IsState engine.old.state }
-    requires few { engine.old.errors ≡ 0 }
-    ensures good { IsState engine.new.state }
-    ensures few { engine.new.errors ≤ 16777216 }
+    requires ready { IsReady (St.state steps.old) engine.old }
+    requires few { engine.old.lines ≡ 0 }
+    ensures ready { IsReady (St.state steps.new) engine.new }
+    ensures few { engine.new.lines ≤ 16777216 }
     ensures later { (So.state job.old).faults ≤ (So.state job.new).faults }
     ensures cause { result ≡ Reading.Failed → Rose (So.state job.old).faults (So.state job.new).faults }
     ensures fed { (was : Sinks) →
@@ -129,11 +128,12 @@ fn answer_last<Co: Sink, St: Sink>(
     console: &mut Co,
     steps: &mut St,
 )
-    requires good { IsState engine.old.state }
-    requires few { engine.old.errors + 1 < 2 ^ 32 }
-    ensures { (was : Sinks) (text : List ℕ) →
+    requires ready { IsReady (St.state steps.old) engine.old }
+    requires few { engine.old.lines + 1 < 2 ^ 32 }
+    ensures answered { (was : Sinks) (text : List ℕ) →
         HasFed was (record { console = Co.state console.old; steps = St.state steps.old }) engine.old line.now text →
         HasAnswered was (record { console = Co.state console.new; steps = St.state steps.new }) engine.new (sent_lines reading text) }
+    ensures ready { IsReady (St.state steps.new) engine.new }
 {
     match reading {
         Reading::Failed => return,
@@ -154,14 +154,13 @@ pub(crate) fn finish<Co: Sink, St: Sink>(
     console: &mut Co,
     steps: &mut St,
 )
-    requires good { IsState engine.old.state }
-    requires few { engine.old.errors + 1 < 2 ^ 32 }
+    requires ready { IsReady (St.state steps.old) engine.old }
+    requires few { engine.old.lines + 1 < 2 ^ 32 }
     ensures { (was : Sinks) (text : List ℕ) →
         HasFed was (record { console = Co.state console.old; steps = St.state steps.old }) engine.old line.now text →
         HasFinished was (record { console = Co.state console.new; steps = St.state steps.new }) engine.new (sent_lines reading text) }
 {
     answer_last(line, engine, reading, console, steps);
-    engine.steps.put(steps, b"E\n");
-    engine.steps.flush(steps);
+    engine.drive.end(steps);
     engine.console.flush(console);
 }

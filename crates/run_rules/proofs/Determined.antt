@@ -1,5 +1,5 @@
 -- What becomes of a line is determined by the state before it.
-use Rattle.std.proofs.Common.{◌≡◌, ℕ, Bool, true, false, List, [], ◌∷◌, length, nat_eq, nat_lt, get_or, refl, sym, ap, ◌∙◌, Ok, Err, Some, None, subst}
+use Rattle.std.proofs.Common.{◌≡◌, ℕ, ◌+◌, Bool, true, false, List, [], ◌∷◌, length, nat_eq, nat_lt, get_or, refl, sym, ap, ◌∙◌, Ok, Err, Some, None, subst}
 use Rattle.std.specs.declared.option.Option.{Option}
 use Rattle.std.specs.declared.result.Result.{Result}
 use Rattle.units.specs.declared.Decimal.{Decimal}
@@ -21,7 +21,7 @@ use Rattle.system_lines.specs.declared.Command.{Command}
 use Rattle.system_lines.specs.declared.Command.TheVariants.{ListSettings, ListModes, ListOffsets, Unlock, Set}
 use Rattle.run_rules.specs.declared.State.{State}
 use Rattle.run_rules.specs.States.{IsOpening}
-use Rattle.run_rules.specs.Outcomes.{Outcome, HasSet, told, either, ByVerdict, ByWords, BySetting, ByCommand, ByKept, Becomes, Answered, most_kept}
+use Rattle.run_rules.specs.Outcomes.{Outcome, HasSet, told, either, ByVerdict, ByWords, BySetting, ByCommand, ByKept, Becomes, AnsweredFrom, Answered, most_kept}
 
 same_switch : (a b : Bool) → one_if a ≡ one_if b → a ≡ b
 same_switch true true e = refl
@@ -58,14 +58,14 @@ values_determine s t e =
 both : {A : Type 0} {a b c : A} → a ≡ c → b ≡ c → a ≡ b
 both e f = e ∙ sym f
 
-by_verdict : (s : State) (v : Verdict) (a b : Outcome) → ByVerdict s v a → ByVerdict s v b → a ≡ b
-by_verdict s (Accept x) a b e f = both e f
-by_verdict s (Refuse code) a b e f = both e f
-by_verdict s Limit a b e f = absurd e
+by_verdict : (n : ℕ) (s : State) (v : Verdict) (a b : Outcome) → ByVerdict n s v a → ByVerdict n s v b → a ≡ b
+by_verdict n s (Accept x) a b e f = both e f
+by_verdict n s (Refuse code) a b e f = both e f
+by_verdict n s Limit a b e f = absurd e
 
-by_words : (s : State) (r : Result (List Word) WordFault) (a b : Outcome) → ByWords s r a → ByWords s r b → a ≡ b
-by_words s (Err fault) a b e f = both e f
-by_words s (Ok ws) a b e f = by_verdict s (verdict s.parser s.settings ws) a b e f
+by_words : (n : ℕ) (s : State) (r : Result (List Word) WordFault) (a b : Outcome) → ByWords n s r a → ByWords n s r b → a ≡ b
+by_words n s (Err fault) a b e f = both e f
+by_words n s (Ok ws) a b e f = by_verdict n s (verdict s.parser s.settings ws) a b e f
 
 by_set : (s : State) (n : ℕ) (value : Decimal) (a b : Outcome) → HasSet s n value a → HasSet s n value b → a ≡ b
 by_set s n value a b e f =
@@ -89,28 +89,31 @@ by_choice : (t : Bool) (A B : Outcome → Type 0) → ((a b : Outcome) → A a �
 by_choice true A B first second a b e f = first a b e f
 by_choice false A B first second a b e f = second a b e f
 
-by_kept : (s : State) (kept : List ℕ) (a b : Outcome) → ByKept s kept a → ByKept s kept b → a ≡ b
-by_kept s [] a b e f = both e f
-by_kept s (c ∷ cs) a b e f =
-    by_choice (nat_eq c 36) (λ o. ByCommand s (command_of (c ∷ cs)) o) (λ o. ByWords s (words_of (c ∷ cs)) o)
-    (by_command s (command_of (c ∷ cs))) (by_words s (words_of (c ∷ cs))) a b e f
+by_kept : (n : ℕ) (s : State) (kept : List ℕ) (a b : Outcome) → ByKept n s kept a → ByKept n s kept b → a ≡ b
+by_kept n s [] a b e f = both e f
+by_kept n s (c ∷ cs) a b e f =
+    by_choice (nat_eq c 36) (λ o. ByCommand s (command_of (c ∷ cs)) o) (λ o. ByWords n s (words_of (c ∷ cs)) o)
+    (by_command s (command_of (c ∷ cs))) (by_words n s (words_of (c ∷ cs))) a b e f
 
-pub one_outcome : (s : State) (line : List ℕ) (a b : Outcome) → Becomes s line a → Becomes s line b → a ≡ b
-one_outcome s line a b e f =
-    by_choice (nat_lt most_kept (length (plain line))) (λ o. o ≡ _) (λ o. ByKept s (plain line) o)
-    (λ a b e f. both e f) (by_kept s (plain line)) a b e f
+pub one_outcome : (n : ℕ) (s : State) (line : List ℕ) (a b : Outcome) → Becomes n s line a → Becomes n s line b → a ≡ b
+one_outcome n s line a b e f =
+    by_choice (nat_lt most_kept (length (plain line))) (λ o. o ≡ _) (λ o. ByKept n s (plain line) o)
+    (λ a b e f. both e f) (by_kept n s (plain line)) a b e f
+
+one_run_from : (n : ℕ) (s t u : State) (ls : List (List ℕ)) (os ps : List Outcome) → AnsweredFrom n s ls os t → AnsweredFrom n s ls ps u → (os ≡ ps) × (t ≡ u)
+one_run_from n s t u [] [] [] e f = (refl, both e f)
+one_run_from n s t u (l ∷ ls) (a ∷ os) (b ∷ ps) e f =
+    let first : a ≡ b = one_outcome n s l a b e.0 f.0 in
+    let P : Outcome → Type 0 = λ o. AnsweredFrom (n + 1) o.next ls ps u in
+    let rest = one_run_from (n + 1) a.next t u ls os ps e.1 (subst P (sym first) f.1) in
+    (ap (λ o. o ∷ os) first ∙ ap (λ xs. b ∷ xs) rest.0, rest.1)
+one_run_from n s t u [] (a ∷ os) ps e f = absurd e
+one_run_from n s t u [] [] (b ∷ ps) e f = absurd f
+one_run_from n s t u (l ∷ ls) [] ps e f = absurd e
+one_run_from n s t u (l ∷ ls) (a ∷ os) [] e f = absurd f
 
 pub one_run : (s t u : State) (ls : List (List ℕ)) (os ps : List Outcome) → Answered s ls os t → Answered s ls ps u → (os ≡ ps) × (t ≡ u)
-one_run s t u [] [] [] e f = (refl, both e f)
-one_run s t u (l ∷ ls) (a ∷ os) (b ∷ ps) e f =
-    let first : a ≡ b = one_outcome s l a b e.0 f.0 in
-    let P : Outcome → Type 0 = λ o. Answered o.next ls ps u in
-    let rest = one_run a.next t u ls os ps e.1 (subst P (sym first) f.1) in
-    (ap (λ o. o ∷ os) first ∙ ap (λ xs. b ∷ xs) rest.0, rest.1)
-one_run s t u [] (a ∷ os) ps e f = absurd e
-one_run s t u [] [] (b ∷ ps) e f = absurd f
-one_run s t u (l ∷ ls) [] ps e f = absurd e
-one_run s t u (l ∷ ls) (a ∷ os) [] e f = absurd f
+one_run s t u ls os ps e f = one_run_from 1 s t u ls os ps e f
 
 -- there is one state before the first line
 pub one_opening : (s t : State) → IsOpening s → IsOpening t → s ≡ t

@@ -1,7 +1,7 @@
 pub mod Lines
 pub mod Readings
 pub mod States
-pub mod Ticks
+pub mod Asks
 pub mod Outcomes
 pub mod Told
 pub use Rattle.gcode_words.specs.Stripping
@@ -11,6 +11,9 @@ pub use Rattle.modal_state.specs.Modes
 pub use Rattle.settings.specs.Numbers
 pub use Rattle.step_line.specs.Events
 pub use Rattle.step_record.specs.Texts
+pub use Rattle.step_drive.specs.Asking
+pub use Rattle.legal_speeds.specs.Speeds
+pub use Rattle.legal_speeds.specs.Runs
 pub use Rattle.system_lines.specs.Commands
 pub use Rattle.system_lines.specs.Setting
 pub use Rattle.status_report.specs.Lists

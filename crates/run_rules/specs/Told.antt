@@ -1,9 +1,9 @@
--- What a run tells and records.
+-- What a run tells, and what it asks of the machine.
 use Rattle.std.specs.Prelude.{ℕ, Bool, true, false, List, [], ◌∷◌, ◌++◌}
 use Rattle.std.specs.List.{flat_map, count_by}
 use Rattle.step_line.specs.declared.Record.{Record}
-use Rattle.step_line.specs.declared.Record.TheVariants as kinds
 use Rattle.step_record.specs.Texts.{record_text}
+use Rattle.step_drive.specs.Asking.{Asked}
 use Rattle.status_report.specs.Replies.{reply_text}
 use Rattle.status_report.specs.declared.Reply.{Reply}
 use Rattle.status_report.specs.declared.Reply.TheVariants.{Banner, Error}
@@ -17,13 +17,9 @@ replies_of o = o.body ++ o.answer ∷ []
 abbrev pub replies_in : List Outcome → List Reply
 replies_in outcomes = Banner ∷ flat_map replies_of outcomes
 
--- the ticks of the lines, in order
-abbrev pub ticks_in : List Outcome → List Record
-ticks_in outcomes = flat_map (λ o. o.ticks) outcomes
-
--- all that is recorded: the ticks and the end
-abbrev pub records_in : List Outcome → List Record
-records_in outcomes = ticks_in outcomes ++ kinds.End ∷ []
+-- what the lines ask of the machine, in order: their moves and marks
+abbrev pub asked_in : List Outcome → List Asked
+asked_in outcomes = flat_map (λ o. o.asked) outcomes
 
 abbrev pub replies_text : List Reply → List ℕ
 replies_text replies = flat_map reply_text replies

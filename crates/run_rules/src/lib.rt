@@ -1,10 +1,11 @@
-//! What a run of lines is: what becomes of each line, what is told and recorded of it, and what it leaves for the next.
+//! What a run of lines is: what becomes of each line, what is told of it, what it asks of the machine, and what it
+//! leaves for the next.
 #![tactic(auto)]
 
 ghost use Rattle.std.specs.Prelude.{◌≡◌, ◌<◌};
 ghost use Rattle.step_line.specs.Records.{IsMark};
 ghost use Rattle.run_rules.specs.States.{IsOpening, IsState};
-ghost use Rattle.run_rules.specs.Ticks.{spindle_mark};
+ghost use Rattle.run_rules.specs.Asks.{spindle_mark};
 
 mod laws;
 

@@ -6,6 +6,8 @@ mod dialect;
 #[cfg(test)]
 mod faults;
 #[cfg(test)]
+mod heads;
+#[cfg(test)]
 mod offsets;
 #[cfg(test)]
 mod rows;

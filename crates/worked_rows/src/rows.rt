@@ -1,6 +1,6 @@
 //! Whole runs over a source and sinks in memory.
 
-use crate::runs::{BANNER, Row, Run, expect, expect_row};
+use crate::runs::{BANNER, Row, Run, expect, expect_row, without_heads};
 use grbl_app::{Status, run_grbl};
 use outside::{MemSink, MemSource, OpenGate};
 
@@ -216,11 +216,12 @@ fn steps_that_fail_in_mid_stream_hold_a_front_of_their_text(rt: HostRuntime) {
     assert!(rt; console.held().len() == 32);
     let held = steps.held().len();
     assert!(rt; held > 2000 && held < 7500);
+    let events = without_heads(&rt, alloc, steps.held());
     assert!(rt;
-        steps
-            .held()
+        events
+            .as_slice()
             .chunks(3)
-            .all(|event| event == b"X+\n".as_slice())
+            .all(|event| b"X+\n".starts_with(event))
     );
 }
 

@@ -1,4 +1,4 @@
-use Rattle.std.proofs.Common.{◌≡◌, ◌∙◌, ℕ, Bool, [], ap}
+use Rattle.std.proofs.Common.{◌≡◌, ◌∙◌, ℕ, Bool, [], ap, arith}
 use Rattle.run_rules.specs.declared.Reading.{Reading}
 use Rattle.grbl_app.specs.declared.status.Status.{Status}
 use Rattle.run_rules.proofs.Cutting.{cut_none}
@@ -11,9 +11,17 @@ status_of : (steps_failed console_failed : Bool) (reading : Reading) (errors cou
     → status ≡ first_cause steps_failed console_failed reading counted
 status_of steps_failed console_failed reading errors counted status is e = is ∙ ap (first_cause steps_failed console_failed reading) e
 
+pub read_job-reading-requires-clause-ready : goal.read_job-reading-requires-clause-ready
+read_job-reading-requires-clause-ready g c =
+    let same = c.greet.ensures.same in record {
+      state = rw (ap (λ e. e.state) same) c.new-engine.ensures.valid;
+      running = rw (ap (λ e. e.drive) same) (record { before = _; asked = []; driven = c.new-engine.ensures.drive (g.St.Sink.state c.args.steps.now) });
+      few = rw (ap (λ e. e.errors) same, ap (λ e. e.lines) same, c.new-engine.ensures.errors) (omega arith);
+    }
+
 pub returns-clause-run : goal.returns-clause-run
 returns-clause-run g c =
-    let begun = greeted _ _ _ c.new-engine.result c.greet.new.self c.new-engine.ensures.opening c.new-engine.ensures.valid c.new-engine.ensures.errors c.new-engine.ensures.console c.new-engine.ensures.steps c.greet.ensures.banner c.greet.ensures.same in
+    let begun = greeted _ _ _ c.new-engine.result c.greet.new.self c.new-engine.ensures.opening c.new-engine.ensures.lines c.new-engine.ensures.errors c.new-engine.ensures.console (c.new-engine.ensures.drive _) c.greet.ensures.banner c.greet.ensures.same in
     let i = c.read_job-reading.ensures.fed _ (record { lines = []; open_line = []; cuts = cut_none; has_answered = begun; line_is = c.new-line.ensures }) in
     let end = c.finish.ensures _ _ i.4 in
     record {
@@ -23,7 +31,7 @@ returns-clause-run g c =
       outcomes = end.outcomes;
       last = c.finish.new.engine.state;
       console_failed = c.finish.new.engine.console.failed;
-      steps_failed = c.finish.new.engine.steps.failed;
+      steps_failed = c.finish.new.engine.drive.recorder.failed;
       taken = i.1;
       fits = i.2;
       at_end = i.3;
@@ -31,7 +39,9 @@ returns-clause-run g c =
       opening = end.opening;
       answered = end.answered;
       console = end.console;
-      steps = end.steps;
+      records = end.steps.records;
+      driven = end.steps.driven;
+      steps = end.steps.took;
       status_is = status_of _ _ _ _ _ _ c.first_cause.ensures end.errors;
     }
 

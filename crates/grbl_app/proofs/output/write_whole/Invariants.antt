@@ -1,5 +1,5 @@
 use Rattle.std.proofs.Common.{◌≡◌, ℕ, ◌++◌, false, List, length}
-use Rattle.grbl_app.specs.Writing.{Took}
+use Rattle.step_record.specs.Writing.{Took}
 use Rattle.grbl_app.proofs.output.write_whole.Given as goal
 
 abbrev pub invariant-loop-rest : goal.invariant-loop-rest

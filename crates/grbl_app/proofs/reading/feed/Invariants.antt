@@ -1,6 +1,5 @@
 use Rattle.std.proofs.Common.{ℕ, ◌+◌, ◌≤◌, ◌++◌, take, List}
-use Rattle.run_rules.specs.States.{IsState}
-use Rattle.grbl_app.specs.Engines.{Sinks, HasFed}
+use Rattle.grbl_app.specs.Engines.{Sinks, IsReady, HasFed}
 use Rattle.grbl_app.proofs.reading.feed.Given as goal
 
 abbrev pub invariant-loop-byte : goal.invariant-loop-byte
@@ -8,8 +7,8 @@ invariant-loop-byte g l =
     let console = g.Co.Sink.state in
     let steps = g.St.Sink.state in
     record {
-      good : IsState l.engine.state;
-      few : l.engine.errors ≤ l.fn.engine.errors + l.byte-index;
+      ready : IsReady (steps l.steps) l.engine;
+      few : l.engine.lines ≤ l.fn.engine.lines + l.byte-index;
       fed : (was : Sinks) (text : List ℕ) →
           HasFed was (record { console = console l.fn.console; steps = steps l.fn.steps }) l.fn.engine l.fn.line text →
           HasFed was (record { console = console l.console; steps = steps l.steps }) l.engine l.line (text ++ take l.byte-index l.piece);

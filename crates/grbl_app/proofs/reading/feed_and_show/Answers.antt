@@ -4,4 +4,4 @@ use Rattle.grbl_app.proofs.reading.feed_and_show.Goals as goal
 
 pub returns-clause-fed : goal.returns-clause-fed
 returns-clause-fed g c = λ was text is.
-    still_fed was _ _ c.feed.new.engine _ c.feed.new.line (text ++ c.args.piece.now) (c.feed.ensures.fed was text is) refl refl refl refl c.flush.ensures.writes
+    still_fed was _ _ c.feed.new.engine _ c.feed.new.line (text ++ c.args.piece.now) (c.feed.ensures.fed was text is) refl refl c.flush.ensures.writes

@@ -36,7 +36,7 @@ loop-count-preserved g c =
     let size : c.in-Ok.count ≡ length got = c.in-Ok.ensures.bound.1 in
     record {
       most = omega (arith, c.if-room-count.false);
-      good = c.feed_and_show.ensures.good;
+      ready = c.feed_and_show.ensures.ready;
       few = omega (arith, c.feed_and_show.ensures.few, length-take c.min-part.result c.read.new.buf, c.loop-count.invariant.few);
       later = omega (arith, c.in-Ok.ensures.cause.later, c.loop-count.invariant.later);
       fed = λ was is.

@@ -1,8 +1,7 @@
 use Rattle.std.proofs.Common.{◌≡◌, ℕ, ◌-◌, ◌≤◌, [], List, length}
 use Rattle.std.specs.Io.KnownBytes.{Consumes}
-use Rattle.run_rules.specs.States.{IsState}
 use Rattle.run_rules.specs.Readings.{job_of}
-use Rattle.grbl_app.specs.Engines.{Sinks, HasFed}
+use Rattle.grbl_app.specs.Engines.{Sinks, IsReady, HasFed}
 use Rattle.grbl_app.proofs.reading.read_job.Given as goal
 
 abbrev pub invariant-loop-count : goal.invariant-loop-count
@@ -12,8 +11,8 @@ invariant-loop-count g l =
     let steps = g.St.Sink.state in
     record {
       most : l.fed ≤ 16777216;
-      good : IsState l.engine.state;
-      few : l.engine.errors ≤ l.fed;
+      ready : IsReady (steps l.steps) l.engine;
+      few : l.engine.lines ≤ l.fed;
       later : (source l.fn.job).faults ≤ (source l.job).faults;
       fed : (was : Sinks) →
           HasFed was (record { console = console l.fn.console; steps = steps l.fn.steps }) l.fn.engine l.fn.line [] →

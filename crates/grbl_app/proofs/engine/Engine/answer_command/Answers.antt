@@ -1,4 +1,4 @@
-use Rattle.std.proofs.Common.{refl, Ok, Err}
+use Rattle.std.proofs.Common.{refl, ap, Ok, Err}
 use Rattle.run_rules.specs.Outcomes.{refused}
 use Rattle.grbl_app.proofs.Answering.{by_command}
 use Rattle.grbl_app.proofs.engine.Engine.answer_command.Goals as goal
@@ -16,4 +16,4 @@ returns-in-Err-clause-done g c = (
 )
 
 pub returns-in-Err-clause-valid : goal.returns-in-Err-clause-valid
-returns-in-Err-clause-valid g c = rw c.refuse.ensures.same c.requires.valid
+returns-in-Err-clause-valid g c = rw (ap (λ e. e.state) c.refuse.ensures.same) c.requires.valid

@@ -13,21 +13,24 @@ unreachable-requires g c = no_limit _ _ _ c.requires.valid.soft (c.in-Err-SoftLi
 
 pub returns-in-Ok-clause-done : goal.returns-in-Ok-clause-done
 returns-in-Ok-clause-done g c =
-    let s = c.args.self.now.state in
-    let a : Accepted = record { next = c.take_line.new.p; items = c.take_line.new.items } in (
-      executed s a,
-      by_verdict s _ (Accept a) (executed s a) (sym c.in-Ok.ensures.accepted) refl,
-      has_executed _ _ _ c.args.self.now _ _ a (rw c.as_slice.ensures.value at c.execute.ensures.told) c.accept.ensures.answer
-          (rw (c.accept.ensures.same.2, ← c.as_slice.ensures.value) c.execute.ensures.recorded) c.accept.ensures.same.0 c.accept.ensures.same.1,
+    let e = c.args.self.now in
+    let a : Accepted = record { next = c.take_line.new.p; items = c.take_line.new.items } in
+    let same = c.accept.ensures.same in (
+      executed e.lines e.state a,
+      by_verdict e.lines e.state _ (Accept a) (executed e.lines e.state a) (sym c.in-Ok.ensures.accepted) refl,
+      has_executed _ _ _ e _ _ a (rw c.as_slice.ensures.value at c.tell.ensures) c.accept.ensures.answer
+          (rw (ap (λ x. x.drive) same, ← c.as_slice-in-Ok.ensures.value) c.ask.ensures.asked)
+          (ap (λ x. x.state) same) (ap (λ x. x.lines) same) (ap (λ x. x.errors) same),
     )
 
 pub returns-in-Err-Error-clause-done : goal.returns-in-Err-Error-clause-done
 returns-in-Err-Error-clause-done g c =
-    let s = c.args.self.now.state in
+    let e = c.args.self.now in
+    let s = e.state in
     let code = c.in-Err-Error.code in
     let done = rw c.in-Err-Error.code-is at (c.refuse.ensures.done (g.St.Sink.state c.args.steps.now)) in
     let same : record { parser = c.take_line.new.p; settings = s.settings } ≡ s = ap (λ (p : Parser). let next : State = record { parser = p; settings = s.settings } in next) c.in-Err-Error.ensures.same in (
       refused s code.0,
-      by_verdict s _ (Refuse code) (refused s code.0) (sym (c.in-Err-Error.ensures.refused ∙ ap verdict_of c.in-Err-Error.field-0-is)) refl,
-      record { console = done.console; steps = done.steps; state = done.state ∙ same; errors = done.errors },
+      by_verdict e.lines s _ (Refuse code) (refused s code.0) (sym (c.in-Err-Error.ensures.refused ∙ ap verdict_of c.in-Err-Error.field-0-is)) refl,
+      record { console = done.console; steps = done.steps; state = done.state ∙ same; lines = done.lines; errors = done.errors },
     )

@@ -1,4 +1,4 @@
-use Rattle.std.proofs.Common.{[], refl}
+use Rattle.std.proofs.Common.{[], refl, ap}
 use Rattle.run_rules.specs.declared.State.{State}
 use Rattle.run_rules.specs.Outcomes.{refused, told}
 use Rattle.grbl_app.proofs.Answering.{has_accepted, by_setting_set, by_setting_refused}
@@ -9,7 +9,7 @@ returns-in-Ok-clause-done g c =
     let next : State = record { parser = c.args.self.now.state.parser; settings = c.apply_setting.new.settings } in (
       told next [],
       by_setting_set _ _ _ _ (told next []) c.in-Ok.ensures.passed (record { outcome = refl; settings = c.in-Ok.ensures.values }),
-      λ steps. has_accepted _ _ steps c.args.self.now _ next c.accept.ensures.answer c.accept.ensures.same.0 c.accept.ensures.same.1 c.accept.ensures.same.2,
+      λ steps. has_accepted _ _ steps c.args.self.now _ next c.accept.ensures.answer c.accept.ensures.same,
     )
 
 pub returns-in-Err-clause-done : goal.returns-in-Err-clause-done
@@ -20,4 +20,4 @@ returns-in-Err-clause-done g c = (
 )
 
 pub returns-in-Err-clause-valid : goal.returns-in-Err-clause-valid
-returns-in-Err-clause-valid g c = rw (c.refuse.ensures.same, c.in-Err.ensures.unchanged) c.requires.valid
+returns-in-Err-clause-valid g c = rw (ap (λ e. e.state) c.refuse.ensures.same, c.in-Err.ensures.unchanged) c.requires.valid

@@ -1,6 +1,6 @@
 use Rattle.std.proofs.Common.{arith}
 use Rattle.grbl_app.proofs.Written.{writes_nothing}
-use Rattle.grbl_app.proofs.Executing.{listed_more, whole_offsets}
+use Rattle.grbl_app.proofs.Telling.{listed_more, whole_offsets}
 use Rattle.status_report.specs.Lists.{offset_replies}
 use Rattle.grbl_app.proofs.output.Output.put_offsets.Goals as goal
 

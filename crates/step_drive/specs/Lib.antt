@@ -1,0 +1,4 @@
+pub mod Asking
+pub mod Polls
+pub mod Working
+pub mod Driving

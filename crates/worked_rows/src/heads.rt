@@ -1,0 +1,48 @@
+//! Whole steps texts, with the heads of their segments.
+
+use crate::runs::plain_run;
+use grbl_app::{Status, run_grbl};
+use outside::{MemSink, MemSource, OpenGate};
+
+#[test]
+fn segments_are_told_with_their_speeds_and_cycles(rt: HostRuntime) {
+    let alloc = rt.alloc();
+    let rows: [(&[u8], &[u8]); 7] = [
+        (b"G0X0.004", b"s 1 1 0 320000\nX+\nE\n"),
+        (
+            b"G0X0.012Y0.008",
+            b"s 1 1 0 226895\nX+Y+\ns 1 1 115549 184898\nX+\ns 1 1 115549 226895\nX+Y+\nE\n",
+        ),
+        (
+            b"G0X0.008Y0.004",
+            b"s 1 1 0 226431\nX+\ns 1 1 99993 226431\nX+Y+\nE\n",
+        ),
+        (b"G0X0", b"E\n"),
+        (b"G20\nG0X0.0001", b"s 2 1 0 320000\nX+\nE\n"),
+        // A mark parts stretches: each begins and ends at rest.
+        (
+            b"G0X0.004\nM3S100\nX0.008",
+            b"s 1 1 0 320000\nX+\nM3 100\ns 3 1 0 320000\nX+\nE\n",
+        ),
+        (
+            b"G0X0.004\nM8\nM2\n(empty)\nX0",
+            b"s 1 1 0 320000\nX+\nM8 0\nM9 0\nE\n",
+        ),
+    ];
+    for &(job, steps) in &rows {
+        let run = plain_run(job);
+        let mut source = MemSource::new(run.job, run.piece.max(1), &[]);
+        let mut console = MemSink::new(alloc, 1_000, &[]).expect(&rt, "memory");
+        let mut recorder = MemSink::new(alloc, 1_000, &[]).expect(&rt, "memory");
+        run_grbl(
+            &rt,
+            alloc,
+            run.words,
+            &mut source,
+            &mut console,
+            &mut recorder,
+            &OpenGate,
+        );
+        assert_eq!(rt; recorder.held(), steps);
+    }
+}
