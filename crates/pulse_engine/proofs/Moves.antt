@@ -1,6 +1,7 @@
 -- What one step of a pulse makes of what it has done.
-use Rattle.std.proofs.Common.{◌≡◌, ℕ, ◌+◌, inl, inr, true, false, List, [], ◌∷◌, ◌++◌, refl, ap, sym, ◌∙◌, arith, append_assoc}
+use Rattle.std.proofs.Common.{◌≡◌, ℕ, ◌+◌, inl, inr, Bool, true, false, Option, None, List, [], ◌∷◌, ◌++◌, refl, ap, sym, ◌∙◌, arith, append_assoc}
 use Rattle.std.proofs.lemmas.List.{append-nil}
+use Rattle.std.specs.Option.{option_to_list}
 use Rattle.units.specs.declared.Move.{Move}
 use Rattle.step_line.specs.declared.Piece.{Piece}
 use Rattle.step_line.specs.declared.Piece.TheVariants as pieces
@@ -12,9 +13,7 @@ use Rattle.pulse_engine.specs.Ordering.{ComesNext}
 use Rattle.pulse_engine.specs.Logs.{PieceLog, RecordLog, pieces_of, counted, records_put, ticks_in, is_tick, is_end, one_if, IsCounted}
 use Rattle.pulse_engine.specs.Logs.PieceEvent.{got}
 use Rattle.pulse_engine.specs.Logs.RecordEvent.{put}
-use Rattle.pulse_engine.specs.declared.pulse.Step.{Step}
-use Rattle.pulse_engine.specs.declared.pulse.Step.TheVariants.{Get, Put, Count, Over}
-use Rattle.pulse_engine.specs.Steps.{Pulsing, IsKept, IsStep, MayBegin, pulsing, coming, gone, reached_after}
+use Rattle.pulse_engine.specs.Steps.{Pulsing, IsFirst, MayBegin, pulsing, coming, gone, reached_after}
 use Rattle.pulse_engine.specs.Turns.{Fits, Reaches}
 use Rattle.pulse_engine.proofs.Ticks.{ticks_in_piece, ticks-append}
 
@@ -78,47 +77,26 @@ fits_put p q t h k r rest w o e w' o' v' e' l f = record {
   last = λ s. let ends = sym v' ∙ s in (w' ∙ l ends, o' ∙ no_tick r ends);
 }
 
--- what is seen of a pulse that gets a piece next
-gone_none : (t : Trace) (n : ℕ) → n ≡ 0 → gone t n ≡ t
+-- what is seen of a pulse by its fields
+pub seen : (hand : Option Record) (t : Trace) (n : ℕ) (owes over : Bool) (p : Pulsing) → pulsing hand t n owes over ≡ p
+    → (p.waiting ≡ option_to_list hand ++ coming t n) × (p.owes ≡ owes) × (p.over ≡ over) × (p.reached ≡ gone t n)
+seen hand t n owes over p v = rw (← v) (refl, refl, refl, refl)
+
+-- nothing is in hand
+pub gone_none : (t : Trace) (n : ℕ) → n ≡ 0 → gone t n ≡ t
 gone_none t n e = same_trace _ _ _ _ refl (omega arith)
 
-coming_none : (t : Trace) (n : ℕ) → n ≡ 0 → coming t n ≡ []
-coming_none t n e = rw e refl
+pub nothing_waits : (hand : Option Record) (t : Trace) (n : ℕ) → hand ≡ None → n ≡ 0 → option_to_list hand ++ coming t n ≡ []
+nothing_waits hand t n e f = rw (e, f) refl
 
-pub record Gets (p : Pulsing) (t : Trace) : Type 0 where
-  pub waiting : p.waiting ≡ []
-  pub owes : p.owes ≡ false
-  pub over : p.over ≡ false
-  pub reached : p.reached ≡ t
-
-pub gets : (s : Step) (t : Trace) (n : ℕ) (p : Pulsing) → s ≡ Get → IsKept s t n → pulsing s t n ≡ p → Gets p t
-gets Get t n p e i v = record {
-  waiting = rw (← v) (coming_none t n i.step);
-  owes = rw (← v) refl;
-  over = rw (← v) refl;
-  reached = rw (← v) (gone_none t n i.step);
-}
-gets (Put r) t n p e i v = absurd cc
-gets Count t n p e i v = absurd cc
-gets Over t n p e i v = absurd cc
-
--- what is seen of a pulse that puts a record next
-pub record Puts (p : Pulsing) (t : Trace) (n : ℕ) (r : Record) : Type 0 where
-  pub waiting : p.waiting ≡ r ∷ coming t n
-  pub owes : p.owes ≡ false
-  pub reached : p.reached ≡ gone t n
-  pub last : is_end r ≡ true → coming t n ≡ []
-
-none_after : (r : Record) (t : Trace) (n : ℕ) → IsStep (Put r) n → is_end r ≡ true → coming t n ≡ []
+-- nothing comes behind the end
+pub none_after : (r : Record) (t : Trace) (n : ℕ) → IsFirst r n → is_end r ≡ true → coming t n ≡ []
 none_after (kinds.Head h) t n i e = absurd cc
 none_after (kinds.Event b) t n i e = absurd cc
 none_after (kinds.Mark m) t n i e = absurd cc
-none_after kinds.End t n i e = coming_none t n i
+none_after kinds.End t n i e = rw i refl
 
-pub puts : (s : Step) (t : Trace) (n : ℕ) (p : Pulsing) (r : Record) → s ≡ Put r → IsKept s t n → pulsing s t n ≡ p → Puts p t n r
-puts s t n p r e i v = let i' : IsKept (Put r) t n = (rw e at i) in let v' : pulsing (Put r) t n ≡ p = (rw e at v) in record {
-  waiting = rw (← v') refl;
-  owes = rw (← v') refl;
-  reached = rw (← v') refl;
-  last = none_after r t n i'.step;
-}
+-- where events are left, the end was not put
+pub not_over : {hand : Option Record} {n : ℕ} {owes : Bool} (over : Bool) → (over ≡ true → (hand ≡ None) × (n ≡ 0) × (owes ≡ false)) → (n ≡ 0 → ⊥) → over ≡ false
+not_over true last some = absurd (some (last refl).1)
+not_over false last some = refl

@@ -22,7 +22,8 @@ use Rattle.pulse_engine.specs.Logs.RecordEvent.{put, full}
 use Rattle.pulse_engine.specs.Steps.{Pulsing}
 use Rattle.pulse_engine.specs.Turns.{Fits}
 use Rattle.pulse_engine.proofs.Ticks.{ticks-append}
-use Rattle.pulse_engine.specs.Slots.{Offered, Runs, as_list}
+use Rattle.std.specs.Option.{option_to_list}
+use Rattle.pulse_engine.specs.Slots.{Offered, Runs}
 
 -- the records of each piece, in order
 pub recorded_each : (ps : List Piece) → recorded ps ≡ flat_map records_of (reverse ps)
@@ -115,7 +116,7 @@ gone_through : (ps : List Piece) (taken waiting rest : List Record) (records : L
     → recorded ps ≡ taken ++ (waiting ++ rest)
 gone_through ps taken waiting rest records e f = f ∙ ap (λ rs. rs ++ rest) e ∙ append_assoc taken waiting rest
 
-offered_begins : (o : Option Piece) (ps : List Piece) (taken rest : List Record) → recorded ps ≡ taken ++ rest → (more : List Record) × (recorded (as_list o ++ ps) ≡ taken ++ more)
+offered_begins : (o : Option Piece) (ps : List Piece) (taken rest : List Record) → recorded ps ≡ taken ++ rest → (more : List Record) × (recorded (option_to_list o ++ ps) ≡ taken ++ more)
 offered_begins None ps taken rest e = (rest, e)
 offered_begins (Some p) ps taken rest e = (rest ++ records_of p, ap (λ rs. rs ++ records_of p) e ∙ append_assoc taken rest (records_of p))
 
@@ -131,10 +132,10 @@ pub is_offered : (offered : List Piece) (taken : List Record) (p : Pulsing) (q :
 is_offered offered taken p q waiting r none all empty =
     let put_is = whole_put p r.pieces r.records r.fits all in
     let taken_is = r.takes ∙ ap (λ rs. taken ++ rs) empty ∙ append-nil taken in
-    let offered_is = ap recorded (r.gives.pieces ∙ ap (λ o. as_list o ++ pieces_of r.pieces) none) in
+    let offered_is = ap recorded (r.gives.pieces ∙ ap (λ o. option_to_list o ++ pieces_of r.pieces) none) in
     sym taken_is ∙ put_is ∙ sym offered_is
 
-nothing_waits : (o : Option Piece) (ps offered before : List Piece) → offered ≡ as_list o ++ ps → InTurn offered → ps ≡ pieces.End ∷ before → o ≡ None
+nothing_waits : (o : Option Piece) (ps offered before : List Piece) → offered ≡ option_to_list o ++ ps → InTurn offered → ps ≡ pieces.End ∷ before → o ≡ None
 nothing_waits None ps offered before e t f = refl
 nothing_waits (Some p) ps offered before e t f =
     let turns : InTurn (p ∷ ps) = rw e at t in
@@ -145,5 +146,5 @@ pub done_offered : (offered : List Piece) (taken : List Record) (p : Pulsing) (q
 done_offered offered taken p q waiting r over =
     let done = done_put p r.pieces r.records r.fits (sym r.fits.end ∙ over) in
     let none = nothing_waits q.waiting (pieces_of r.pieces) offered done.1.0 r.gives.pieces r.gives.turns done.1.1 in
-    let offered_is = ap recorded (r.gives.pieces ∙ ap (λ o. as_list o ++ pieces_of r.pieces) none) in
+    let offered_is = ap recorded (r.gives.pieces ∙ ap (λ o. option_to_list o ++ pieces_of r.pieces) none) in
     sym r.takes ∙ done.0 ∙ sym offered_is

@@ -1,9 +1,10 @@
 -- The plain ports of one thread, and what both their sides have done.
-use Rattle.std.specs.Prelude.{◌≡◌, ℕ, List, [], ◌∷◌, ◌++◌, Option, Some, None}
+use Rattle.std.specs.Prelude.{◌≡◌, ℕ, List, ◌++◌, Option, None}
 use Rattle.step_line.specs.declared.Piece.{Piece}
 use Rattle.step_line.specs.declared.Record.{Record}
 use Rattle.pulse_engine.specs.Ordering.{InTurn}
 use Rattle.pulse_engine.specs.Logs.{PieceLog, RecordLog, pieces_of, uncounted, records_put}
+use Rattle.std.specs.Option.{option_to_list}
 use Rattle.pulse_engine.specs.Steps.{Pulsing}
 use Rattle.pulse_engine.specs.Turns.{Fits}
 
@@ -12,11 +13,6 @@ pub record Offered : Type 0 where
   pub waiting : Option Piece
   pub left : ℕ
 
--- an option as a list
-abbrev pub as_list : {X : Type 0} → Option X → List X
-as_list None = []
-as_list (Some x) = x ∷ []
-
 -- nothing waits, and each tick is counted
 pub record IsFree (q : Offered) : Type 0 where
   pub nothing : q.waiting ≡ None
@@ -24,7 +20,7 @@ pub record IsFree (q : Offered) : Type 0 where
 
 -- a slot to which these pieces were offered, the latest first: all were got but the one that waits, and they came in turn
 pub record Gives (q : Offered) (offered : List Piece) (h : PieceLog) : Type 0 where
-  pub pieces : offered ≡ as_list q.waiting ++ pieces_of h
+  pub pieces : offered ≡ option_to_list q.waiting ++ pieces_of h
   pub ticks : q.left ≡ uncounted h
   pub turns : InTurn offered
 

@@ -1,5 +1,6 @@
--- What a pulse does next, and what it has in hand.
-use Rattle.std.specs.Prelude.{◌≡◌, ℕ, ◌+◌, ◌≤◌, ◌⊎◌, Bool, true, false, List, [], ◌∷◌, ◌++◌, map}
+-- What a pulse has in hand.
+use Rattle.std.specs.Prelude.{◌≡◌, ℕ, ◌+◌, ◌≤◌, ◌⊎◌, Bool, true, false, List, ◌++◌, map, Option, Some, None}
+use Rattle.std.specs.Option.{option_to_list}
 use Rattle.step_line.specs.declared.Piece.{Piece}
 use Rattle.step_line.specs.declared.Piece.TheVariants as pieces
 use Rattle.step_line.specs.declared.Record.{Record}
@@ -9,8 +10,6 @@ use Rattle.step_line.specs.Events.{events_after, IsEvent}
 use Rattle.step_line.specs.Pieces.{IsTraceable}
 use Rattle.step_line.specs.Records.{IsHead, IsMark}
 use Rattle.step_line.specs.Tracing.{Trace}
-use Rattle.pulse_engine.specs.declared.pulse.Step.{Step}
-use Rattle.pulse_engine.specs.declared.pulse.Step.TheVariants.{Get, Put, Count, Over}
 
 -- what callers see of a pulse: the records of the piece in hand that are still to be put, in order; whether a tick was
 -- put and is not counted; whether the end was put; and the move that was traced last, with the number of its events that
@@ -21,25 +20,6 @@ pub record Pulsing : Type 0 where
   pub over : Bool
   pub reached : Trace
 
--- the record that is put next, where one is at hand
-abbrev pub at_hand : Step → List Record
-at_hand Get = []
-at_hand (Put r) = r ∷ []
-at_hand Count = []
-at_hand Over = []
-
-abbrev pub is_count : Step → Bool
-is_count Get = false
-is_count (Put r) = false
-is_count Count = true
-is_count Over = false
-
-abbrev pub is_over : Step → Bool
-is_over Get = false
-is_over (Put r) = false
-is_over Count = false
-is_over Over = true
-
 -- the next n events of a move that is traced
 abbrev pub coming : Trace → ℕ → List Record
 coming t n = map kinds.Event (events_after t.mv t.done n)
@@ -48,27 +28,25 @@ coming t n = map kinds.Event (events_after t.mv t.done n)
 abbrev pub gone : Trace → ℕ → Trace
 gone t n = record { mv = t.mv; done = t.done + n }
 
-abbrev pub pulsing : Step → Trace → ℕ → Pulsing
-pulsing s t n = record { waiting = at_hand s ++ coming t n; owes = is_count s; over = is_over s; reached = gone t n }
+abbrev pub pulsing : Option Record → Trace → ℕ → Bool → Bool → Pulsing
+pulsing hand t n owes over = record { waiting = option_to_list hand ++ coming t n; owes = owes; over = over; reached = gone t n }
 
--- a step may stand before n events of a segment: events come only after its head, an event or the count of one
-abbrev pub IsStep : Step → ℕ → Type 0
-IsStep Get n = n ≡ 0
-IsStep (Put (kinds.Head h)) n = IsHead h
-IsStep (Put (kinds.Event b)) n = IsEvent b
-IsStep (Put (kinds.Mark m)) n = IsMark m × (n ≡ 0)
-IsStep (Put kinds.End) n = n ≡ 0
-IsStep Count n = Unit {0}
-IsStep Over n = n ≡ 0
+-- a record may stand before n events of a segment: a head, or an event, which has a line; any other comes before none
+abbrev pub IsFirst : Record → ℕ → Type 0
+IsFirst (kinds.Head h) n = IsHead h
+IsFirst (kinds.Event b) n = IsEvent b
+IsFirst (kinds.Mark m) n = IsMark m × (n ≡ 0)
+IsFirst kinds.End n = n ≡ 0
+
+abbrev pub IsHand : Option Record → ℕ → Type 0
+IsHand None n = Unit {0}
+IsHand (Some r) n = IsFirst r n
 
 -- what the fields of a pulse keep
-pub record IsKept (s : Step) (t : Trace) (n : ℕ) : Type 0 where
-  pub step : IsStep s n
+pub record IsKept (hand : Option Record) (t : Trace) (n : ℕ) (owes over : Bool) : Type 0 where
+  pub first : IsHand hand n
   pub within : t.done + n ≤ events_of t.mv
-
--- a step of a pulse that neither owes a tick nor is over
-abbrev pub IsOn : Step → Type 0
-IsOn s = (is_count s ≡ false) × (is_over s ≡ false)
+  pub last : over ≡ true → (hand ≡ None) × (n ≡ 0) × (owes ≡ false)
 
 -- a segment may be traced that begins its move, or goes on from here
 abbrev pub MayBegin : Trace → Piece → Type 0

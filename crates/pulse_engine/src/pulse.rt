@@ -1,40 +1,33 @@
 //! The pulse.
 
-ghost use Rattle.std.specs.Prelude.{◌≡◌, ◌+◌, ◌≤◌, ◌++◌, List, ◌∷◌, []};
+ghost use Rattle.std.specs.Prelude.{◌≡◌, ◌+◌, ◌≤◌, ◌<◌, ◌++◌, ◌∷◌};
 ghost use Rattle.step_line.specs.Counting.{events_of};
+ghost use Rattle.step_line.specs.Events.{IsEvent};
 ghost use Rattle.step_line.specs.Pieces.{records_of};
-ghost use Rattle.step_line.specs.Records.{IsRecord};
+ghost use Rattle.step_line.specs.declared.Record.TheVariants.{Event};
 ghost use Rattle.pulse_engine.specs.Logs.{is_tick, is_end};
-ghost use Rattle.pulse_engine.specs.Steps.{IsKept, IsOn, MayBegin, at_hand, coming, gone, reached_after, is_count, is_over};
+ghost use Rattle.pulse_engine.specs.Steps.{IsFirst, IsKept, MayBegin, coming, gone, reached_after};
 
 use crate::{PulsePort, TickOut};
 use outside::{On, Turn};
 use std::marker::Model;
-use step_line::{Head, Piece, Record, Segment, Tracer};
+use step_line::{Bits, Head, Piece, Record, Segment, Tracer};
 use units::{Move, Steps3};
-
-/// What a pulse does next.
-#[derive(Clone, Copy)]
-enum Step {
-    /// It gets a piece.
-    Get,
-    /// It puts this record.
-    Put(Record),
-    /// It counts the tick that it put last.
-    Count,
-    /// Nothing: the end was put.
-    Over,
-}
 
 /// Traces pieces into records.
 ///
-/// It keeps the move that it traces from one segment to the next, and how many events of the segment in hand are to come
-/// after the step.
+/// It keeps the move that it traces from one segment to the next.
 #[derive(Drop)]
 pub struct Pulse {
-    step: Step,
-    tracer: Tracer,
+    /// The record that is put next: the first of a piece, or an event for which there was no room.
+    hand: Option<Record>,
+    /// How many events of the segment in hand come behind it.
     left: u32,
+    tracer: Tracer,
+    /// The tick that was put last is to be counted.
+    owes: bool,
+    /// The end was put.
+    over: bool,
 }
 
 impl Model for Pulse {
@@ -42,28 +35,48 @@ impl Model for Pulse {
 
     ghost Value = { Pulsing };
 
-    ghost view = { λ p. pulsing p.step p.tracer p.left };
+    ghost view = { λ p. pulsing p.hand p.tracer p.left p.owes p.over };
 
-    ghost invariant = { λ p. IsKept p.step p.tracer p.left };
+    ghost invariant = { λ p. IsKept p.hand p.tracer p.left p.owes p.over };
 }
 
-/// The step to the next of the events that are left, or to the next piece.
+/// Whether a record is a tick: a step event or a mark.
 #[inline]
-fn next_step(tracer: &mut Tracer, left: &mut u32) -> Step
-    requires { tracer.old.done + left.old ≤ events_of tracer.old.mv }
-    ensures waiting { at_hand result ++ coming tracer.new left.new ≡ coming tracer.old left.old }
-    ensures reached { gone tracer.new left.new ≡ gone tracer.old left.old }
-    ensures kept { IsKept result tracer.new left.new }
-    ensures on { IsOn result }
+fn is_tick(r: &Record) -> bool
+    ensures { result ≡ is_tick r.now }
 {
-    if *left == 0 {
-        return Step::Get;
+    match r {
+        Record::Event(_) | Record::Mark(_) => true,
+        Record::Head(_) | Record::End => false,
     }
+}
+
+/// Whether a record is the end.
+#[inline]
+fn is_end(r: &Record) -> bool
+    ensures { result ≡ is_end r.now }
+{
+    match r {
+        Record::End => true,
+        _ => false,
+    }
+}
+
+/// The next of the events that are left.
+#[inline]
+fn next_event(tracer: &mut Tracer, left: &mut u32) -> Bits
+    requires some { 0 < left.old }
+    requires within { tracer.old.done + left.old ≤ events_of tracer.old.mv }
+    ensures event { IsEvent result }
+    ensures waiting { Event result ∷ coming tracer.new left.new ≡ coming tracer.old left.old }
+    ensures reached { gone tracer.new left.new ≡ gone tracer.old left.old }
+    ensures within { tracer.new.done + left.new ≤ events_of tracer.new.mv }
+{
     *left -= 1;
     let Some(bits) = tracer.next() else {
         unreachable!()
     };
-    Step::Put(Record::Event(bits))
+    bits
 }
 
 /// Traces from the beginning of a segment, which begins its move or goes on where the tracer is.
@@ -76,45 +89,29 @@ fn trace(tracer: &mut Tracer, segment: &Segment)
     }
 }
 
-/// The step to the first record of a piece, where the tracer is at the end of the piece before it.
-fn begin(piece: &Piece, tracer: &mut Tracer, left: &mut u32) -> Step
+/// The first record of a piece, where the tracer is at the end of the piece before it.
+fn begin(piece: &Piece, tracer: &mut Tracer, left: &mut u32) -> Record
     requires may { MayBegin tracer.old piece.now }
-    requires kept { IsKept Step.Get tracer.old left.old }
-    ensures waiting { at_hand result ++ coming tracer.new left.new ≡ records_of piece.now }
+    requires none { left.old ≡ 0 }
+    requires within { tracer.old.done ≤ events_of tracer.old.mv }
+    ensures waiting { result ∷ coming tracer.new left.new ≡ records_of piece.now }
     ensures reached { gone tracer.new left.new ≡ reached_after tracer.old piece.now }
-    ensures kept { IsKept result tracer.new left.new }
-    ensures on { IsOn result }
+    ensures first { IsFirst result left.new }
+    ensures within { tracer.new.done + left.new ≤ events_of tracer.new.mv }
 {
     match piece {
         Piece::Segment(segment) => {
             trace(tracer, segment);
             *left = segment.n;
-            Step::Put(Record::Head(Head {
+            Record::Head(Head {
                 line: segment.line,
                 n: segment.n,
                 w: segment.w_in,
                 cycles: segment.cycles,
-            }))
+            })
         }
-        Piece::Mark(mark) => Step::Put(Record::Mark(*mark)),
-        Piece::End => Step::Put(Record::End),
-    }
-}
-
-/// The step that comes after a record was put: a tick is counted.
-#[inline]
-fn step_after(last: Record, tracer: &mut Tracer, left: &mut u32) -> Step
-    requires { IsKept (Step.Put last) tracer.old left.old }
-    ensures waiting { at_hand result ++ coming tracer.new left.new ≡ coming tracer.old left.old }
-    ensures reached { gone tracer.new left.new ≡ gone tracer.old left.old }
-    ensures kept { IsKept result tracer.new left.new }
-    ensures owes { is_count result ≡ is_tick last }
-    ensures over { is_over result ≡ is_end last }
-{
-    match last {
-        Record::Head(_) => next_step(tracer, left),
-        Record::Event(_) | Record::Mark(_) => Step::Count,
-        Record::End => Step::Over,
+        Piece::Mark(mark) => Record::Mark(*mark),
+        Piece::End => Record::End,
     }
 }
 
@@ -130,12 +127,14 @@ impl Pulse {
     {
         let start = Steps3 { x: 0, y: 0, z: 0 };
         Pulse {
-            step: Step::Get,
+            hand: None,
+            left: 0,
             tracer: Tracer::new(Move {
                 from: start,
                 to: start,
             }),
-            left: 0,
+            owes: false,
+            over: false,
         }
     }
 
@@ -152,27 +151,40 @@ impl Pulse {
         ensures done { (result ≡ Turn.Done) ↔ (self.old.over ≡ true) }
         ensures still { self.old.over ≡ true → (self.new ≡ self.old) × (pieces.new ≡ pieces.old) × (records.new ≡ records.old) }
     {
-        match self.step {
-            Step::Get => {
-                let Some(piece) = pieces.piece() else {
-                    return Turn::Wait(On::Piece);
-                };
-                self.step = begin(&piece, &mut self.tracer, &mut self.left);
+        if self.owes {
+            pieces.tick_done();
+            self.owes = false;
+            return Turn::Did;
+        }
+        if let Some(record) = self.hand {
+            let Ok(()) = records.put(record) else {
+                return Turn::Wait(On::RecordRoom);
+            };
+            self.hand = None;
+            self.owes = is_tick(&record);
+            self.over = is_end(&record);
+            return Turn::Did;
+        }
+        if self.left == 0 {
+            if self.over {
+                return Turn::Done;
+            }
+            let Some(piece) = pieces.piece() else {
+                return Turn::Wait(On::Piece);
+            };
+            self.hand = Some(begin(&piece, &mut self.tracer, &mut self.left));
+            return Turn::Did;
+        }
+        let event = next_event(&mut self.tracer, &mut self.left);
+        match records.put(Record::Event(event)) {
+            Err(record) => {
+                self.hand = Some(record);
+                Turn::Wait(On::RecordRoom)
+            }
+            Ok(()) => {
+                self.owes = true;
                 Turn::Did
             }
-            Step::Put(record) => match records.put(record) {
-                Err(_) => Turn::Wait(On::RecordRoom),
-                Ok(()) => {
-                    self.step = step_after(record, &mut self.tracer, &mut self.left);
-                    Turn::Did
-                }
-            },
-            Step::Count => {
-                pieces.tick_done();
-                self.step = next_step(&mut self.tracer, &mut self.left);
-                Turn::Did
-            }
-            Step::Over => Turn::Done,
         }
     }
 }

@@ -112,13 +112,13 @@ impl Model for RecordSlot {
     ghost use Rattle.std.specs.List.{All};
     ghost use Rattle.step_line.specs.declared.Record.{Record};
     ghost use Rattle.step_line.specs.Records.{IsRecord};
-    ghost use Rattle.pulse_engine.specs.Slots.{as_list};
+    ghost use Rattle.std.specs.Option.{option_to_list};
 
     ghost Value = { List Record };
 
-    ghost view = { λ s. as_list s.held };
+    ghost view = { λ s. option_to_list s.held };
 
-    ghost invariant = { λ s. All IsRecord (as_list s.held) };
+    ghost invariant = { λ s. All IsRecord (option_to_list s.held) };
 }
 
 impl RecordSlot {

@@ -1,3 +1,4 @@
 pub mod Sizes
 pub mod Taken
 pub mod Joins
+pub mod Newton

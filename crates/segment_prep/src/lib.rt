@@ -7,6 +7,7 @@
 
 pub mod laws;
 mod pace;
+mod root;
 mod rule;
 mod taking;
 #[cfg(test)]

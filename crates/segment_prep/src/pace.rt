@@ -5,8 +5,8 @@ ghost use Rattle.units.specs.Roots.{root_of};
 ghost use Rattle.plan_passes.specs.Blocks.{IsBlock, left_of, squared};
 ghost use Rattle.plan_passes.specs.Segments.{pace_of, cycles_of};
 
+use crate::root::root_near;
 use planner_ring::Block;
-use units::isqrt;
 
 /// The greatest speed on the way from a squared speed on, in µm/s: the nominal one, or that of the beginning where it was
 /// higher.
@@ -14,12 +14,13 @@ use units::isqrt;
 #[tactic(auto, using(crate::proofs::Sizes::root_below, units::proofs::Places::one_root))]
 fn top(nominal: u64, w: u64) -> u64
     requires nominal { nominal < 2 ^ 32 }
+    requires speed { w < 2 ^ 62 }
     ensures top { result ≡ max nominal (root_of w) }
 {
     if w <= nominal * nominal {
         return nominal;
     }
-    nominal.max(isqrt(w as u128))
+    nominal.max(root_near(w, nominal))
 }
 
 /// How fast n events go that change the squared speed from w to v, in µm/s: never below 1, and at most at the nominal
@@ -41,7 +42,7 @@ fn pace(b: &Block, nominal: u64, w: u64, v: u64, n: u32) -> u64
     if square <= mean {
         return top.max(1);
     }
-    isqrt(mean).max(1)
+    root_near(mean as u64, top).max(1)
 }
 
 /// The cycles of a clock of 16 MHz from one of them to the next, rounded up.

@@ -10,9 +10,9 @@ ghost use Rattle.plan_passes.specs.Segments.{count_of, IsGoing, IsHolding};
 ghost use Rattle.segment_prep.specs.Taking.{ByMode, nominal};
 
 use crate::Mode;
+use crate::root::root_near;
 use plan_passes::Plan;
 use planner_ring::Block;
-use units::isqrt;
 
 /// Some events of a block, and the squared speed behind them.
 #[derive(Clone, Copy)]
@@ -36,12 +36,13 @@ fn is_slow(b: &Block, w: u64) -> bool
 }
 
 /// How many events of a block are taken at a squared speed: those of about 10 ms, but one at least, and no more than are
-/// left.
+/// left. A speed that may be near, in µm/s, helps to find the root.
 #[inline]
 #[tactic(auto, using(plan_passes::proofs::Bounds::bounds_of, plan_passes::proofs::Bounds::rapid_small, units::proofs::Places::one_root))]
-fn count(b: &Block, w: u64) -> u32
+fn count(b: &Block, w: u64, near: u64) -> u32
     requires block { IsBlock b.now }
     requires speed { w ≤ squared b.now.geom.rapid }
+    requires near { near ≤ b.now.geom.rapid }
     ensures count { result ≡ count_of b.now w }
     ensures some { 0 < result }
     ensures within { result ≤ left_of b.now }
@@ -53,7 +54,7 @@ fn count(b: &Block, w: u64) -> u32
     if is_slow(b, w) {
         return 1;
     }
-    let root = isqrt((w + b.geom.q) as u128);
+    let root = root_near(w + b.geom.q, near);
     let events = root * 10 * b.geom.n as u64 / b.geom.length;
     events.min(left as u64).max(1) as u32
 }
@@ -91,7 +92,7 @@ fn going<const N: usize>(plan: &Plan<N>, b: &Block, nominal: u64) -> Stretch
     ensures rapid { result.w_out ≤ squared b.now.geom.rapid }
 {
     let w = plan.speed();
-    let n = count(b, w);
+    let n = count(b, w, nominal);
     let w_out = speed_going(b, w, n, plan.exit_of_tail(), nominal);
     Stretch { n, w_out }
 }
@@ -110,7 +111,7 @@ fn holding<const N: usize>(plan: &Plan<N>, b: &Block) -> Stretch
     let w = plan.speed();
     let q = b.geom.q;
     let stop = (w + q - 1) / q;
-    let n = (count(b, w) as u64).min(stop) as u32;
+    let n = (count(b, w, b.geom.rapid) as u64).min(stop) as u32;
     let w_out = (w as u128).saturating_sub(q as u128 * n as u128) as u64;
     Stretch { n, w_out }
 }

@@ -16,9 +16,10 @@ use Rattle.step_record.specs.Taking.{records}
 use Rattle.step_record.specs.Texts.{record_text}
 use Rattle.step_record.specs.Writing.{Wrote}
 use Rattle.step_record.specs.Recording.{Recording}
-use Rattle.pulse_engine.specs.Ordering.{InTurn, has_ended, recorded, ComesNext}
+use Rattle.pulse_engine.specs.Ordering.{has_ended, recorded, ComesNext}
 use Rattle.pulse_engine.specs.Logs.{pieces_of, records_put}
-use Rattle.pulse_engine.specs.Slots.{Offered, as_list}
+use Rattle.std.specs.Option.{option_to_list}
+use Rattle.pulse_engine.specs.Slots.{Offered}
 use Rattle.pulse_engine.specs.Steps.{Pulsing}
 use Rattle.pulse_engine.proofs.Whole.{whole_put}
 use Rattle.planner_ring.specs.declared.Block.{Block}
@@ -45,16 +46,13 @@ pub records_are : (given : List Piece) (before now : SinkState) (p : Pulsing) (q
     → records s.works.records.log ≡ recorded given
 records_are given before now p q w v s =
     let taken_all : records_put s.works.puts ≡ records s.works.records.log = s.works.records.all ∙ ap (λ x. records s.works.records.log ++ x) s.taken ∙ append-nil (records s.works.records.log) in
-    let got_all : given ≡ pieces_of s.works.got = s.works.gives.pieces ∙ ap (λ o. as_list o ++ pieces_of s.works.got) s.free.nothing in
+    let got_all : given ≡ pieces_of s.works.got = s.works.gives.pieces ∙ ap (λ o. option_to_list o ++ pieces_of s.works.got) s.free.nothing in
     sym taken_all ∙ whole_put p s.works.got s.works.puts s.works.traced s.between ∙ ap recorded (sym got_all)
 
 pub settled_wrote : (given : List Piece) (before now : SinkState) (p : Pulsing) (q : Offered) (w : List Record) (v : Recording) (s : IsSettled given before now p q w v)
     → Wrote before now v.failed v.waiting (flat_map record_text (recorded given))
 settled_wrote given before now p q w v s =
     subst (λ rs. Wrote before now v.failed v.waiting (flat_map record_text rs)) (records_are given before now p q w v s) s.works.records.written.wrote
-
-pub settled_turns : (given : List Piece) (before now : SinkState) (p : Pulsing) (q : Offered) (w : List Record) (v : Recording) (s : IsSettled given before now p q w v) → InTurn given
-settled_turns given before now p q w v s = s.works.gives.turns
 
 -- ---- an action more
 

@@ -15,7 +15,8 @@ use Rattle.pulse_engine.specs.Ordering.{InTurn, has_ended, recorded, ComesNext}
 use Rattle.pulse_engine.specs.Logs.{PieceLog, RecordLog, pieces_of, counted, records_put, ticks_in, one_if, end_is_put}
 use Rattle.pulse_engine.specs.Logs.PieceEvent.{none}
 use Rattle.pulse_engine.specs.Logs.RecordEvent.{full}
-use Rattle.pulse_engine.specs.Slots.{Offered, IsFree, Gives, as_list}
+use Rattle.std.specs.Option.{option_to_list}
+use Rattle.pulse_engine.specs.Slots.{Offered, IsFree, Gives}
 use Rattle.pulse_engine.specs.Steps.{Pulsing}
 use Rattle.pulse_engine.specs.Turns.{Fits, Turned as PulseTurned}
 use Rattle.pulse_engine.proofs.Ticks.{ticks-append}
@@ -36,15 +37,15 @@ to_do offered = length offered + length (recorded offered) + ticks_in (recorded 
 one_recorded : (p : Piece) → recorded (p ∷ []) ≡ records_of p
 one_recorded p = refl
 
-in_sum : (o : Option Piece) (ps : List Piece) → to_do (as_list o ++ ps)
-    ≡ length (as_list o) + length (recorded (as_list o)) + ticks_in (recorded (as_list o)) + to_do ps
+in_sum : (o : Option Piece) (ps : List Piece) → to_do (option_to_list o ++ ps)
+    ≡ length (option_to_list o) + length (recorded (option_to_list o)) + ticks_in (recorded (option_to_list o)) + to_do ps
 in_sum None ps = omega arith
 in_sum (Some p) ps = omega (arith, length-append (recorded ps) (records_of p), ticks-append (recorded ps) (records_of p))
 
 all_done : (offered : List Piece) (p : Pulsing) (q : Offered) (h : PieceLog) (k : RecordLog) → Gives q offered h → Fits p h k
     → work_left p q + done h k ≡ to_do offered
 all_done offered p q h k gives fits =
-    let offered_is : to_do offered ≡ to_do (as_list q.waiting ++ pieces_of h) = ap to_do gives.pieces in
+    let offered_is : to_do offered ≡ to_do (option_to_list q.waiting ++ pieces_of h) = ap to_do gives.pieces in
     let parts = in_sum q.waiting (pieces_of h) in
     let lengths : length (recorded (pieces_of h)) ≡ length (records_put k) + length p.waiting = ap length fits.records ∙ length-append (records_put k) p.waiting in
     let counts = all_counts p h k fits in
@@ -152,7 +153,7 @@ traced_waits offered before now p p' q q' w w' v t h' k' on.RecordRoom gives hol
     absurd (never_full t.works.puts (records t.works.records.log) w w' k' turned.0 t.works.records.all t.taken holds turned.2)
 traced_waits offered before now p p' q q' w w' v t h' k' what gives holds fits turned same between = absurd turned
 
-nothing_waits : (o : Option Piece) (ps offered before : List Piece) → offered ≡ as_list o ++ ps → InTurn offered → ps ≡ pieces.End ∷ before → o ≡ None
+nothing_waits : (o : Option Piece) (ps offered before : List Piece) → offered ≡ option_to_list o ++ ps → InTurn offered → ps ≡ pieces.End ∷ before → o ≡ None
 nothing_waits None ps offered before e t f = refl
 nothing_waits (Some p) ps offered before e t f =
     let turns : InTurn (p ∷ ps) = rw e at t in
@@ -238,7 +239,7 @@ settled_written offered before mid now p q w w' v v' s r = (
 pub offered_next : (offered : List Piece) (before now : SinkState) (p : Pulsing) (q : Offered) (w : List Record) (v : Recording) (piece : Piece)
     → ComesNext offered piece → IsSettled offered before now p q w v → IsTracing (piece ∷ offered) before now p (record { waiting = Some piece; left = 0 }) w v
 offered_next offered before now p q w v piece next s =
-    let got_all : offered ≡ pieces_of s.works.got = s.works.gives.pieces ∙ ap (λ o. as_list o ++ pieces_of s.works.got) s.free.nothing in
+    let got_all : offered ≡ pieces_of s.works.got = s.works.gives.pieces ∙ ap (λ o. option_to_list o ++ pieces_of s.works.got) s.free.nothing in
     record {
       works = record {
         got = s.works.got;
@@ -269,7 +270,7 @@ settled_first sink p q w v fits free empty written = record {
   works = record {
     got = [];
     puts = [];
-    gives = record { pieces = ap (λ o. as_list o ++ []) (sym free.nothing); ticks = free.counted; turns = tt };
+    gives = record { pieces = ap (λ o. option_to_list o ++ []) (sym free.nothing); ticks = free.counted; turns = tt };
     traced = fits;
     asked = λ f. f;
     room = λ f. f;

@@ -1,4 +1,5 @@
 pub mod Asking
+pub mod Held
 pub mod Polls
 pub mod Working
 pub mod Driving

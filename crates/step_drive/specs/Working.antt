@@ -9,7 +9,8 @@ use Rattle.step_record.specs.Texts.{record_text}
 use Rattle.step_record.specs.Recording.{Recording, is_due, Fits as Written}
 use Rattle.pulse_engine.specs.Ordering.{recorded}
 use Rattle.pulse_engine.specs.Logs.{PieceLog, RecordLog, records_put, ticks_in}
-use Rattle.pulse_engine.specs.Slots.{Offered, IsFree, Gives, as_list}
+use Rattle.std.specs.Option.{option_to_list}
+use Rattle.pulse_engine.specs.Slots.{Offered, IsFree, Gives}
 use Rattle.pulse_engine.specs.Steps.{Pulsing}
 use Rattle.pulse_engine.specs.Turns.{Fits as Traced}
 use Rattle.step_drive.specs.Polls.{FoundNone, FoundFull, TookNone, EndsOnce}
@@ -52,8 +53,8 @@ pub record Works (offered : List Piece) (before now : SinkState) (p : Pulsing) (
 -- how much the pulse has left to do: a piece to get, records to put, and ticks to count
 abbrev pub work_left : Pulsing → Offered → ℕ
 work_left p q =
-    length (as_list q.waiting) + (length p.waiting + length (recorded (as_list q.waiting)))
-    + (q.left + ticks_in (recorded (as_list q.waiting)))
+    length (option_to_list q.waiting) + (length p.waiting + length (recorded (option_to_list q.waiting)))
+    + (q.left + ticks_in (recorded (option_to_list q.waiting)))
 
 -- all that was offered is traced and taken
 pub record IsSettled (offered : List Piece) (before now : SinkState) (p : Pulsing) (q : Offered) (waiting : List Record) (v : Recording) : Type 0 where

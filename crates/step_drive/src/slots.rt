@@ -12,7 +12,7 @@ ghost use Rattle.step_drive.specs.Polls.{GivesPieces, HoldsRecords, HandsOver};
 
 use pulse_engine::{PieceSlot, PulsePort, TickOut};
 use std::marker::Model;
-use step_line::{Piece, Record};
+use step_line::{Bits, Piece, Record};
 use step_record::RecordIn;
 
 /// The slot through which pieces go to the pulse. Where the pulse finds none in it, it is free.
@@ -62,25 +62,35 @@ impl PulsePort for Pieces {
     }
 }
 
+/// What a slot for records holds.
+#[derive(Clone, Copy)]
+enum Held {
+    Nothing,
+    Event,
+    Other,
+}
+
 /// The slot through which records go from the pulse to the recorder. Where the recorder finds none in it, it is empty, and
 /// where the pulse finds no room, it is not.
+///
+/// Nearly all records are events. One is held apart from the others, so that no more than its bytes are moved.
 #[derive(Drop)]
 pub(crate) struct Records {
-    held: Option<Record>,
+    held: Held,
+    event: Bits,
+    other: Record,
 }
 
 impl Model for Records {
     ghost use Rattle.std.specs.Prelude.{List};
-    ghost use Rattle.std.specs.List.{All};
     ghost use Rattle.step_line.specs.declared.Record.{Record as AnyRecord};
-    ghost use Rattle.step_line.specs.Records.{IsRecord};
-    ghost use Rattle.pulse_engine.specs.Slots.{as_list};
+    ghost use Rattle.step_drive.specs.Held.{waiting, HasLine};
 
     ghost Value = { List AnyRecord };
 
-    ghost view = { λ s. as_list s.held };
+    ghost view = { λ s. waiting s.held s.event s.other };
 
-    ghost invariant = { λ s. All IsRecord (as_list s.held) };
+    ghost invariant = { λ s. HasLine s.held s.event s.other };
 }
 
 impl Records {
@@ -88,7 +98,11 @@ impl Records {
     pub(crate) fn new() -> Records
         ensures { result ≡ [] }
     {
-        Records { held: None }
+        Records {
+            held: Held::Nothing,
+            event: Bits::default(),
+            other: Record::End,
+        }
     }
 
     /// Whether no record waits.
@@ -96,7 +110,10 @@ impl Records {
     pub(crate) fn is_empty(&self) -> bool
         ensures { IsTrue result ↔ (self.now ≡ []) }
     {
-        self.held.is_none()
+        match self.held {
+            Held::Nothing => true,
+            Held::Event | Held::Other => false,
+        }
     }
 
     /// Holds a record, or hands it back where one waits.
@@ -107,10 +124,16 @@ impl Records {
         ensures full { OnErr result ((self.old ≢ []) × (self.new ≡ self.old)) }
         ensures back { IfErr result (λ handed. handed ≡ r) }
     {
-        if self.held.is_some() {
+        if !self.is_empty() {
             return Err(r);
         }
-        self.held = Some(r);
+        if let Record::Event(bits) = r {
+            self.event = bits;
+            self.held = Held::Event;
+        } else {
+            self.other = r;
+            self.held = Held::Other;
+        }
         Ok(())
     }
 
@@ -120,8 +143,12 @@ impl Records {
         ensures some { IfSome result (λ r. IsRecord r × (self.old ≡ r ∷ []) × (self.new ≡ [])) }
         ensures none { IfNone result ((self.old ≡ []) × (self.new ≡ [])) }
     {
-        let record = self.held?;
-        self.held = None;
+        let record = match self.held {
+            Held::Nothing => return None,
+            Held::Event => Record::Event(self.event),
+            Held::Other => self.other,
+        };
+        self.held = Held::Nothing;
         Some(record)
     }
 }

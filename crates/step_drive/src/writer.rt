@@ -24,7 +24,7 @@ pub(crate) struct Writer {
 }
 
 /// A turn of the recorder. Answers whether it did something.
-#[inline]
+#[inline(always)]
 fn record_once<S: Sink>(recorder: &mut Recorder, records: &mut Records, steps: &mut S) -> bool
     requires { (given : List AnyRecord) × (before : SinkState) × IsRecording given before (S.state steps.old) records.old recorder.old }
     ensures { (given : List AnyRecord) (before : SinkState) → IsRecording given before (S.state steps.old) records.old recorder.old

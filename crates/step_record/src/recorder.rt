@@ -3,16 +3,18 @@
 ghost use Rattle.std.specs.Prelude.{◌≡◌, ◌≢◌, ◌<◌, ◌≤◌, ◌+◌, ◌↔◌, List, [], ◌∷◌, length, true, false, IfSome, IfNone};
 ghost use Rattle.outside.specs.Causes.{SinkState};
 ghost use Rattle.outside.specs.declared.On.TheVariants.{Records};
+ghost use Rattle.step_line.specs.Events.{IsEvent};
 ghost use Rattle.step_line.specs.Records.{IsRecord};
+ghost use Rattle.step_line.specs.declared.Record.TheVariants.{Event};
 ghost use Rattle.step_record.specs.Taking.Event.{took, none};
 ghost use Rattle.step_record.specs.Taking.{Log, MayFollow, records};
 ghost use Rattle.step_record.specs.Recording.{Writes, Takes, Rests, WroteOnce, Fits, Turned, is_end, with_record, with_written, given_up};
 
-use crate::push_record;
+use crate::{push_event, push_record};
 use arrayvec::ArrayVec;
 use outside::{On, Sink, Turn};
 use std::marker::Model;
-use step_line::Record;
+use step_line::{Bits, Record};
 
 /// So many bytes must be free for the next record.
 const RESERVE: usize = 192;
@@ -92,19 +94,34 @@ impl Recorder {
         self.failed
     }
 
-    /// Holds the line of a record.
+    /// Holds the line of an event. Nearly all records are events.
     #[inline]
-    fn hold(&mut self, r: &Record)
-        requires line { IsRecord r.now }
+    fn hold_event(&mut self, bits: Bits)
+        requires event { IsEvent bits }
         requires takes { Takes self.old }
-        ensures held { self.new ≡ with_record self.old r.now }
+        ensures held { self.new ≡ with_record self.old (Event bits) }
         ensures few { length self.new.waiting ≤ 4096 }
     {
-        self.ended = is_end(r);
         if self.failed {
             return;
         }
-        push_record(r, &mut self.held);
+        push_event(&bits, &mut self.held);
+        self.due = self.held.remaining_capacity() < RESERVE;
+    }
+
+    /// Holds the line of a record.
+    #[inline(never)]
+    fn hold(&mut self, r: Record)
+        requires line { IsRecord r }
+        requires takes { Takes self.old }
+        ensures held { self.new ≡ with_record self.old r }
+        ensures few { length self.new.waiting ≤ 4096 }
+    {
+        self.ended = is_end(&r);
+        if self.failed {
+            return;
+        }
+        push_record(&r, &mut self.held);
         self.due = self.ended || self.held.remaining_capacity() < RESERVE;
     }
 
@@ -135,6 +152,7 @@ impl Recorder {
     }
 
     /// Writes some of what waits.
+    #[inline(never)]
     fn write<S: Sink>(&mut self, s: &mut S)
         requires { Writes self.old }
         ensures { WroteOnce self.old self.new (S.state s.old) (S.state s.new) }
@@ -151,7 +169,7 @@ impl Recorder {
     /// failed; from then on nothing changes.
     ///
     /// What the sink is given is the text of the records taken, up to its first failure.
-    #[inline]
+    #[inline(always)]
     pub fn turn<R: RecordIn, S: Sink>(&mut self, r: &mut R, s: &mut S) -> Turn
         requires { (rest : R.Rest) × (log : Log) × R.stands r.old rest log }
         ensures goes_on { (rest : R.Rest) (log : Log) (before : SinkState) → R.stands r.old rest log → Fits self.old log before (S.state s.old) →
@@ -171,11 +189,15 @@ impl Recorder {
             return Turn::Done;
         }
         match r.take() {
-            Some(record) => {
-                self.hold(&record);
+            None => Turn::Wait(On::Records),
+            Some(Record::Event(bits)) => {
+                self.hold_event(bits);
                 Turn::Did
             }
-            None => Turn::Wait(On::Records),
+            Some(record) => {
+                self.hold(record);
+                Turn::Did
+            }
         }
     }
 }

@@ -16,6 +16,18 @@ pub const LONGEST_LINE: usize = 66;
 /// The most bytes that the line of an event has.
 pub const LONGEST_EVENT: usize = 7;
 
+/// Appends the few digits of a number.
+#[inline]
+fn push_digits<const N: usize>(digits: &[u8], out: &mut ArrayVec<u8, N>)
+    requires { array_vec_len out.old + length digits.now ≤ N }
+    ensures text { out.new.items ≡ out.old.items ++ digits.now }
+    ensures room { array_vec_len out.new ≡ array_vec_len out.old + length digits.now }
+{
+    for digit in digits {
+        out.push(*digit);
+    }
+}
+
 /// Appends a number, and the byte that ends it.
 fn push_number<const N: usize>(n: u64, end: u8, out: &mut ArrayVec<u8, N>)
     requires { array_vec_len out.old + length (decimal n) + 1 ≤ N }
@@ -23,7 +35,7 @@ fn push_number<const N: usize>(n: u64, end: u8, out: &mut ArrayVec<u8, N>)
     ensures room { array_vec_len out.new ≡ array_vec_len out.old + length (decimal n) + 1 }
 {
     let mut buffer = Buffer::new();
-    append(buffer.format(n).as_bytes(), out);
+    push_digits(buffer.format(n).as_bytes(), out);
     out.push(end);
 }
 

@@ -6,7 +6,7 @@ use Rattle.segment_prep.proofs.pace.pace.Goals as goal
 pub returns-clause-rapid : goal.returns-clause-rapid
 returns-clause-rapid c =
     let b = c.args.b.now in
-    let root = root_under _ c.isqrt.result c.top-top.result c.isqrt.ensures (omega arith) in
+    let root = root_under _ c.root_near.result c.top-top.result c.root_near.ensures (omega arith) in
     let begins = root_below c.args.w b.geom.rapid c.requires.begins in
     let low = (bounds_of b c.requires.block).rapid_low in
     omega (arith, root, begins, low)

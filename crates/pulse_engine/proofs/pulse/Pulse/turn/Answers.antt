@@ -1,36 +1,62 @@
-use Rattle.std.proofs.Common.{◌∷◌, inl, inr, refl}
+use Rattle.std.proofs.Common.{◌∷◌, ◌++◌, ◌∙◌, inl, inr, refl, sym, ap}
+use Rattle.std.specs.Option.{option_to_list}
+use Rattle.step_line.specs.declared.Record.TheVariants.{Event}
 use Rattle.pulse_engine.specs.Logs.PieceEvent.{got}
 use Rattle.pulse_engine.specs.Logs.RecordEvent.{put}
-use Rattle.pulse_engine.proofs.Moves.{gets, puts, may_get, fits_got, fits_put}
+use Rattle.pulse_engine.specs.Steps.{IsFirst, coming, gone}
+use Rattle.pulse_engine.proofs.Moves.{seen, gone_none, nothing_waits, none_after, not_over, may_get, fits_got, fits_put}
 use Rattle.pulse_engine.proofs.pulse.Pulse.turn.Goals as goal
 
 pub returns-in-Some-clause-logs : goal.returns-in-Some-clause-logs
 returns-in-Some-clause-logs g c rest back h k stands out fits =
     let i = c.self.inside in
     let p = c.args.self.now in
-    let x = c.in-Some.piece in
-    let was = gets i.step i.tracer i.left p c.in-Get.is c.self.invariant c.self.view_is in
-    let counted = may_get p h k was.waiting was.owes fits in
-    let now = c.begin-self-inside.ensures in (
-      got x ∷ h,
-      k,
-      c.in-Some.ensures.some rest h stands counted,
-      out,
-      fits_got p _ i.tracer h k x was.waiting was.owes was.over was.reached now.waiting now.on.0 now.on.1 now.reached (c.in-Some.ensures.next rest h stands counted) fits,
-      inl (x, refl, refl),
-    )
-
-pub returns-in-Ok-clause-logs : goal.returns-in-Ok-clause-logs
-returns-in-Ok-clause-logs g c rest back h k stands out fits =
-    let i = c.self.inside in
-    let p = c.args.self.now in
-    let r = c.in-Put.record in
-    let was = puts i.step i.tracer i.left p r c.in-Put.is c.self.invariant c.self.view_is in
-    let now = c.step_after-self-inside.ensures in (
+    let r = c.in-Some.record in
+    let was = seen i.hand i.tracer i.left i.owes i.over p c.self.view_is in
+    let first : IsFirst r i.left = (rw c.in-Some.is at c.self.invariant.first) in (
       h,
       put r ∷ k,
       stands,
       c.in-Ok.ensures.ok back k out,
-      fits_put p _ _ h k r _ was.waiting was.owes was.reached now.waiting now.owes now.over now.reached was.last fits,
+      fits_put p _ (gone i.tracer i.left) h k r (coming i.tracer i.left) (was.0 ∙ ap (λ o. option_to_list o ++ coming i.tracer i.left) c.in-Some.is) (was.1 ∙ c.if-self.false) was.3
+          refl c.is_tick-self-inside.ensures c.is_end-self-inside.ensures refl (none_after r i.tracer i.left first) fits,
+      inr (inl (r, refl, refl)),
+    )
+
+pub returns-then-self-eq0-clause-logs : goal.returns-then-self-eq0-clause-logs
+returns-then-self-eq0-clause-logs g c rest back h k stands out fits =
+    let i = c.self.inside in
+    let p = c.args.self.now in
+    let x = c.in-Some-piece.piece in
+    let was = seen i.hand i.tracer i.left i.owes i.over p c.self.view_is in
+    let waits = was.0 ∙ nothing_waits i.hand i.tracer i.left c.in_default.is c.if-self-eq0.true in
+    let owes = was.1 ∙ c.if-self.false in
+    let counted = may_get p h k waits owes fits in
+    let now = c.begin.ensures in (
+      got x ∷ h,
+      k,
+      c.in-Some-piece.ensures.some rest h stands counted,
+      out,
+      fits_got p _ i.tracer h k x waits owes (was.2 ∙ c.if-self-2.false) (was.3 ∙ gone_none i.tracer i.left c.if-self-eq0.true)
+          now.waiting c.if-self.false c.if-self-2.false now.reached (c.in-Some-piece.ensures.next rest h stands counted) fits,
+      inl (x, refl, refl),
+    )
+
+pub returns-in-Ok-put-clause-logs : goal.returns-in-Ok-put-clause-logs
+returns-in-Ok-put-clause-logs g c rest back h k stands out fits =
+    let i = c.self.inside in
+    let p = c.args.self.now in
+    let r = Event c.next_event-event.result in
+    let was = seen i.hand i.tracer i.left i.owes i.over p c.self.view_is in
+    let empty = ap (λ o. option_to_list o ++ coming i.tracer i.left) c.in_default.is in
+    let t = c.next_event-event.new.tracer in
+    let n = c.next_event-event.new.left in
+    let now = c.next_event-event.ensures in (
+      h,
+      put r ∷ k,
+      stands,
+      c.in-Ok-put.ensures.ok back k out,
+      fits_put p _ (gone i.tracer i.left) h k r (coming t n) (was.0 ∙ empty ∙ sym now.waiting) (was.1 ∙ c.if-self.false) was.3
+          (ap (λ o. option_to_list o ++ coming t n) c.in_default.is) refl (not_over i.over c.self.invariant.last c.if-self-eq0.false) now.reached (λ e. absurd cc) fits,
       inr (inl (r, refl, refl)),
     )
