@@ -53,7 +53,9 @@ pub enum Item {
 
 // What stands in the free room of a list of items: all its bytes are zero.
 impl Default for Item {
-    fn default() -> Item {
+    fn default() -> Item
+        ensures { result ≡ Item.Spindle SpindleMode.Off 0 }
+    {
         Item::Spindle(SpindleMode::Off, 0)
     }
 }
