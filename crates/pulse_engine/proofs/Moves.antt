@@ -9,8 +9,9 @@ use Rattle.step_line.specs.declared.Record.{Record}
 use Rattle.step_line.specs.declared.Record.TheVariants as kinds
 use Rattle.step_line.specs.Pieces.{records_of}
 use Rattle.step_line.specs.Tracing.{Trace}
-use Rattle.pulse_engine.specs.Ordering.{ComesNext}
-use Rattle.pulse_engine.specs.Logs.{PieceLog, RecordLog, pieces_of, counted, records_put, ticks_in, is_tick, is_end, one_if, IsCounted}
+use Rattle.step_line.specs.Ordering.{ComesNext}
+use Rattle.pulse_engine.specs.Logs.{PieceLog, RecordLog, pieces_of, counted, records_put, ticks_in, one_if, IsCounted}
+use Rattle.step_line.specs.Records.{is_tick, is_end}
 use Rattle.pulse_engine.specs.Logs.PieceEvent.{got}
 use Rattle.pulse_engine.specs.Logs.RecordEvent.{put}
 use Rattle.pulse_engine.specs.Steps.{Pulsing, IsFirst, MayBegin, pulsing, coming, gone, reached_after}

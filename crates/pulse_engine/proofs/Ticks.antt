@@ -1,5 +1,5 @@
 -- The ticks of a piece.
-use Rattle.std.proofs.Common.{◌≡◌, ℕ, zero, suc, ◌+◌, ◌<◌, List, [], ◌∷◌, ◌++◌, length, map, Some, refl, arith}
+use Rattle.std.proofs.Common.{◌≡◌, ℕ, zero, suc, ◌+◌, ◌<◌, List, [], ◌∷◌, ◌++◌, length, map, refl, arith}
 use Rattle.units.specs.declared.Move.{Move}
 use Rattle.step_line.specs.declared.Piece.{Piece}
 use Rattle.step_line.specs.declared.Piece.TheVariants.{Segment, Mark, End}
@@ -13,8 +13,8 @@ use Rattle.step_line.specs.Pieces.{ticks_of, records_of}
 use Rattle.pulse_engine.specs.Logs.{ticks_in}
 
 -- an event that is made within its move
-pub is_made : (m : Move) (k : ℕ) (b : Bits) → Some b ≡ Some (event_of m (k + 1)) → k < events_of m → IsEvent b
-is_made m k b e h = let same : b ≡ event_of m (k + 1) = cc in rw same (is_event m k h)
+pub is_made : (m : Move) (k : ℕ) (b : Bits) → b ≡ event_of m (k + 1) → k < events_of m → IsEvent b
+is_made m k b e h = rw e (is_event m k h)
 
 -- n events are n ticks
 pub length_events : (m : Move) (k n : ℕ) → n ≡ length (map kinds.Event (events_after m k n))

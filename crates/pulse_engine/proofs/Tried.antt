@@ -9,7 +9,7 @@ use Rattle.step_line.specs.declared.SpindleCode.TheVariants.{M3}
 use Rattle.step_line.specs.declared.Record.{Record}
 use Rattle.step_line.specs.Counting.{events_of}
 use Rattle.step_line.specs.Pieces.{IsTraceable}
-use Rattle.pulse_engine.specs.Ordering.{ComesNext}
+use Rattle.step_line.specs.Ordering.{ComesNext}
 use Rattle.pulse_engine.specs.Logs.{records_put}
 use Rattle.pulse_engine.specs.Steps.{Pulsing}
 use Rattle.pulse_engine.specs.Slots.{Offered, Runs}

@@ -14,10 +14,10 @@ use Rattle.step_line.specs.declared.Record.TheVariants as kinds
 use Rattle.step_line.specs.Counting.{events_of}
 use Rattle.step_line.specs.Events.{event_of, events_after}
 use Rattle.step_line.specs.Pieces.{GoesOn, records_of, ticks_of, head_of, Follows}
-use Rattle.step_line.specs.Records.{IsRecord}
+use Rattle.step_line.specs.Records.{IsRecord, is_end}
 use Rattle.step_line.proofs.Order.{in_parts, is_event}
-use Rattle.pulse_engine.specs.Ordering.{has_ended, InTurn, recorded}
-use Rattle.pulse_engine.specs.Logs.{PieceLog, RecordLog, pieces_of, records_put, ticks_in, counted, uncounted, one_if, is_end, end_is_put}
+use Rattle.step_line.specs.Ordering.{has_ended, InTurn, recorded}
+use Rattle.pulse_engine.specs.Logs.{PieceLog, RecordLog, pieces_of, records_put, ticks_in, counted, uncounted, one_if, end_is_put}
 use Rattle.pulse_engine.specs.Logs.RecordEvent.{put, full}
 use Rattle.pulse_engine.specs.Steps.{Pulsing}
 use Rattle.pulse_engine.specs.Turns.{Fits}

@@ -1,4 +1,3 @@
-pub mod Ordering
 pub mod Logs
 pub mod Steps
 pub mod Turns

@@ -1,8 +1,8 @@
 -- What one side of a port has done, the latest first.
-use Rattle.std.specs.Prelude.{◌≡◌, ℕ, ◌+◌, ◌-◌, ◌<◌, Bool, true, false, List, [], ◌∷◌, ◌++◌, length, cond}
+use Rattle.std.specs.Prelude.{◌≡◌, ℕ, ◌+◌, ◌-◌, ◌<◌, Bool, false, List, [], ◌∷◌, ◌++◌, length, cond}
 use Rattle.step_line.specs.declared.Piece.{Piece}
 use Rattle.step_line.specs.declared.Record.{Record}
-use Rattle.step_line.specs.declared.Record.TheVariants.{Head, Event, Mark, End}
+use Rattle.step_line.specs.Records.{is_tick, is_end}
 use Rattle.step_line.specs.Pieces.{ticks_of}
 
 -- a piece was got; there was none; a tick was counted
@@ -57,13 +57,6 @@ records_put [] = []
 records_put (put r ∷ k) = records_put k ++ r ∷ []
 records_put (full r ∷ k) = records_put k
 
--- whether a record is a tick: a step event or a mark
-abbrev pub is_tick : Record → Bool
-is_tick (Head h) = false
-is_tick (Event b) = true
-is_tick (Mark m) = true
-is_tick End = false
-
 abbrev pub one_if : Bool → ℕ
 one_if b = cond b 1 0
 
@@ -71,12 +64,6 @@ one_if b = cond b 1 0
 abbrev pub ticks_in : List Record → ℕ
 ticks_in [] = 0
 ticks_in (r ∷ rs) = one_if (is_tick r) + ticks_in rs
-
-abbrev pub is_end : Record → Bool
-is_end (Head h) = false
-is_end (Event b) = false
-is_end (Mark m) = false
-is_end End = true
 
 -- whether the last record put is the end
 abbrev pub end_is_put : RecordLog → Bool

@@ -2,7 +2,7 @@
 use Rattle.std.specs.Prelude.{◌≡◌, ℕ, List, ◌++◌, Option, None}
 use Rattle.step_line.specs.declared.Piece.{Piece}
 use Rattle.step_line.specs.declared.Record.{Record}
-use Rattle.pulse_engine.specs.Ordering.{InTurn}
+use Rattle.step_line.specs.Ordering.{InTurn}
 use Rattle.pulse_engine.specs.Logs.{PieceLog, RecordLog, pieces_of, uncounted, records_put}
 use Rattle.std.specs.Option.{option_to_list}
 use Rattle.pulse_engine.specs.Steps.{Pulsing}

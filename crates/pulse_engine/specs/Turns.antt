@@ -7,7 +7,7 @@ use Rattle.step_line.specs.declared.Piece.{Piece}
 use Rattle.step_line.specs.declared.Piece.TheVariants as pieces
 use Rattle.step_line.specs.declared.Record.{Record}
 use Rattle.step_line.specs.Tracing.{Trace}
-use Rattle.pulse_engine.specs.Ordering.{InTurn, recorded}
+use Rattle.step_line.specs.Ordering.{InTurn, recorded}
 use Rattle.pulse_engine.specs.Logs.{PieceLog, RecordLog, pieces_of, counted, uncounted, records_put, ticks_in, one_if, end_is_put}
 use Rattle.pulse_engine.specs.Logs.PieceEvent.{got, none, ticked}
 use Rattle.pulse_engine.specs.Logs.RecordEvent.{put, full}

@@ -8,7 +8,7 @@ ghost use Rattle.step_line.specs.declared.Record.{Record};
 ghost use Rattle.step_line.specs.Pieces.{GoesOn, records_of, ticks_of};
 ghost use Rattle.step_line.specs.Events.{events_after};
 ghost use Rattle.step_line.specs.Records.{IsRecord};
-ghost use Rattle.pulse_engine.specs.Ordering.{InTurn, recorded};
+ghost use Rattle.step_line.specs.Ordering.{InTurn, recorded};
 ghost use Rattle.pulse_engine.specs.Logs.{PieceLog, RecordLog, pieces_of, records_put, ticks_in, counted, uncounted, end_is_put};
 ghost use Rattle.pulse_engine.specs.Steps.{Pulsing};
 ghost use Rattle.pulse_engine.specs.Turns.{Fits};

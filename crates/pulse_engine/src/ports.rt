@@ -2,7 +2,7 @@
 
 ghost use Rattle.std.specs.Prelude.{◌≡◌, ◌∷◌, IfSome, IfNone, OnOk, OnErr, IfErr};
 ghost use Rattle.step_line.specs.Records.{IsRecord};
-ghost use Rattle.pulse_engine.specs.Ordering.{ComesNext};
+ghost use Rattle.step_line.specs.Ordering.{ComesNext};
 ghost use Rattle.pulse_engine.specs.Logs.{PieceLog, RecordLog, IsCounted, HasTick, pieces_of};
 ghost use Rattle.pulse_engine.specs.Logs.PieceEvent.{got, none, ticked};
 ghost use Rattle.pulse_engine.specs.Logs.RecordEvent.{put, full};

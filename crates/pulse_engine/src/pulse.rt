@@ -5,7 +5,6 @@ ghost use Rattle.step_line.specs.Counting.{events_of};
 ghost use Rattle.step_line.specs.Events.{IsEvent};
 ghost use Rattle.step_line.specs.Pieces.{records_of};
 ghost use Rattle.step_line.specs.declared.Record.TheVariants.{Event};
-ghost use Rattle.pulse_engine.specs.Logs.{is_tick, is_end};
 ghost use Rattle.pulse_engine.specs.Steps.{IsFirst, IsKept, MayBegin, coming, gone, reached_after};
 
 use crate::{PulsePort, TickOut};
@@ -40,28 +39,6 @@ impl Model for Pulse {
     ghost invariant = { λ p. IsKept p.hand p.tracer p.left p.owes p.over };
 }
 
-/// Whether a record is a tick: a step event or a mark.
-#[inline]
-fn is_tick(r: &Record) -> bool
-    ensures { result ≡ is_tick r.now }
-{
-    match r {
-        Record::Event(_) | Record::Mark(_) => true,
-        Record::Head(_) | Record::End => false,
-    }
-}
-
-/// Whether a record is the end.
-#[inline]
-fn is_end(r: &Record) -> bool
-    ensures { result ≡ is_end r.now }
-{
-    match r {
-        Record::End => true,
-        _ => false,
-    }
-}
-
 /// The next of the events that are left.
 #[inline]
 fn next_event(tracer: &mut Tracer, left: &mut u32) -> Bits
@@ -73,10 +50,7 @@ fn next_event(tracer: &mut Tracer, left: &mut u32) -> Bits
     ensures within { tracer.new.done + left.new ≤ events_of tracer.new.mv }
 {
     *left -= 1;
-    let Some(bits) = tracer.next() else {
-        unreachable!()
-    };
-    bits
+    tracer.step()
 }
 
 /// Traces from the beginning of a segment, which begins its move or goes on where the tracer is.
@@ -161,8 +135,8 @@ impl Pulse {
                 return Turn::Wait(On::RecordRoom);
             };
             self.hand = None;
-            self.owes = is_tick(&record);
-            self.over = is_end(&record);
+            self.owes = record.is_tick();
+            self.over = record.is_end();
             return Turn::Did;
         }
         if self.left == 0 {

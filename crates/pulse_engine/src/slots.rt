@@ -4,7 +4,7 @@ ghost use Rattle.std.specs.Prelude.{◌≡◌, ◌↔◌, ◌∷◌, ◌++◌, L
 ghost use Rattle.step_line.specs.Pieces.{ticks_of};
 ghost use Rattle.step_line.specs.Records.{IsRecord};
 ghost use Rattle.step_line.specs.declared.Piece.{Piece};
-ghost use Rattle.pulse_engine.specs.Ordering.{ComesNext};
+ghost use Rattle.step_line.specs.Ordering.{ComesNext};
 ghost use Rattle.pulse_engine.specs.Logs.{PieceLog, RecordLog};
 ghost use Rattle.pulse_engine.specs.Slots.{IsFree, Gives, Takes};
 ghost use Rattle.step_line.specs.declared.Record.{Record};
@@ -71,7 +71,7 @@ impl PieceSlot {
 impl PulsePort for PieceSlot {
     ghost use Rattle.std.specs.Prelude.{◌≡◌, ◌↔◌, ◌∷◌, List, IsNone, IfSome, IfNone};
     ghost use Rattle.step_line.specs.declared.Piece.{Piece};
-    ghost use Rattle.pulse_engine.specs.Ordering.{ComesNext};
+    ghost use Rattle.step_line.specs.Ordering.{ComesNext};
     ghost use Rattle.pulse_engine.specs.Logs.{PieceLog, IsCounted, pieces_of};
     ghost use Rattle.pulse_engine.specs.Logs.PieceEvent.{got, none};
     ghost use Rattle.pulse_engine.specs.Slots.{Gives};

@@ -1,7 +1,7 @@
 ghost use Rattle.std.specs.Prelude.{◌≡◌, ℕ, ◌<◌, List, [], ◌∷◌, ◌++◌, pos};
 ghost use Rattle.step_line.specs.declared.Piece.{Piece};
 ghost use Rattle.step_line.specs.declared.Record.{Record};
-ghost use Rattle.pulse_engine.specs.Ordering.{ComesNext};
+ghost use Rattle.step_line.specs.Ordering.{ComesNext};
 ghost use Rattle.pulse_engine.specs.Slots.{IsFree, Runs};
 
 use super::*;

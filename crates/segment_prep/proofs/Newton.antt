@@ -1,8 +1,8 @@
 -- Newton's steps towards a square root.
 use Rattle.std.proofs.Common.{◌≡◌, ℕ, ◌+◌, ◌-◌, ◌*◌, ◌/◌, ◌≤◌, ◌<◌, inl, inr, arith}
-use Rattle.std.proofs.Math.Nat.{lt-mul-div-succ, mul-div-le}
+use Rattle.std.proofs.Math.Nat.{lt-mul-div-succ}
 use Rattle.std.proofs.lemmas.Bool.{cases_lt}
-use Rattle.std.proofs.lemmas.Nat.{mul-le}
+use Rattle.std.proofs.lemmas.Nat.{mul-le, div_below}
 
 -- four times a product is at most the square of the sum
 four_apart : (b k : ℕ) → 4 * ((b + k) * b) ≤ ((b + k) + b) * ((b + k) + b)
@@ -26,10 +26,6 @@ not_below x g some =
     let all : (2 * (m + 1)) * (2 * (m + 1)) ≡ 4 * ((m + 1) * (m + 1)) = omega arith in
     omega (arith, high, four, square, all)
 
--- where it leads no lower, the root is reached
-pub not_above : (x g : ℕ) → g ≤ (g + x / g) / 2 → g * g ≤ x
-not_above x g stays =
-    let below : g ≤ x / g = omega arith in
-    let square = mul-le g g g (x / g) (omega arith) below in
-    let part = mul-div-le x g in
-    omega (arith, square, part)
+-- from above the root it leads lower
+pub falls_above : (x g : ℕ) → 0 < g → x < g * g → (g + x / g) / 2 < g
+falls_above x g some above = let less = div_below x g g some above in omega (arith, less)

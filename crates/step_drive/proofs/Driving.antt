@@ -9,17 +9,14 @@ use Rattle.outside.specs.Causes.{SinkState}
 use Rattle.step_line.specs.declared.Mark.{Mark as AnyMark}
 use Rattle.step_line.specs.declared.Piece.{Piece}
 use Rattle.step_line.specs.declared.Piece.TheVariants as pieces
-use Rattle.step_line.specs.declared.Record.{Record}
 use Rattle.step_line.specs.declared.Segment.{Segment}
 use Rattle.step_line.specs.Records.{IsMark}
 use Rattle.step_record.specs.Taking.{records}
 use Rattle.step_record.specs.Texts.{record_text}
 use Rattle.step_record.specs.Writing.{Wrote}
 use Rattle.step_record.specs.Recording.{Recording}
-use Rattle.pulse_engine.specs.Ordering.{has_ended, recorded, ComesNext}
+use Rattle.step_line.specs.Ordering.{has_ended, recorded, ComesNext}
 use Rattle.pulse_engine.specs.Logs.{pieces_of, records_put}
-use Rattle.std.specs.Option.{option_to_list}
-use Rattle.pulse_engine.specs.Slots.{Offered}
 use Rattle.pulse_engine.specs.Steps.{Pulsing}
 use Rattle.pulse_engine.proofs.Whole.{whole_put}
 use Rattle.planner_ring.specs.declared.Block.{Block}
@@ -38,21 +35,21 @@ use Rattle.legal_speeds.proofs.Following.{next_follows}
 use Rattle.step_drive.specs.Asking.{Asked, all_asked, asked_by}
 use Rattle.step_drive.specs.Asking.Asked.{a_move, a_mark}
 use Rattle.step_drive.specs.Working.{IsSettled}
-use Rattle.step_drive.specs.Driving.{Driving, HasDriven, SegmentRun, FirstIsRun, events_left, free_slot}
+use Rattle.step_drive.specs.Driving.{Driving, HasDriven, SegmentRun, FirstIsRun, events_left}
 
 -- ---- what the sink has
 
-pub records_are : (given : List Piece) (before now : SinkState) (p : Pulsing) (q : Offered) (w : List Record) (v : Recording) (s : IsSettled given before now p q w v)
+pub records_are : (given : List Piece) (before now : SinkState) (p : Pulsing) (v : Recording) (s : IsSettled given before now p v)
     → records s.works.records.log ≡ recorded given
-records_are given before now p q w v s =
-    let taken_all : records_put s.works.puts ≡ records s.works.records.log = s.works.records.all ∙ ap (λ x. records s.works.records.log ++ x) s.taken ∙ append-nil (records s.works.records.log) in
-    let got_all : given ≡ pieces_of s.works.got = s.works.gives.pieces ∙ ap (λ o. option_to_list o ++ pieces_of s.works.got) s.free.nothing in
+records_are given before now p v s =
+    let taken_all : records_put s.works.puts ≡ records s.works.records.log = s.works.records.all ∙ append-nil (records s.works.records.log) in
+    let got_all : given ≡ pieces_of s.works.got = s.works.gives.pieces in
     sym taken_all ∙ whole_put p s.works.got s.works.puts s.works.traced s.between ∙ ap recorded (sym got_all)
 
-pub settled_wrote : (given : List Piece) (before now : SinkState) (p : Pulsing) (q : Offered) (w : List Record) (v : Recording) (s : IsSettled given before now p q w v)
+pub settled_wrote : (given : List Piece) (before now : SinkState) (p : Pulsing) (v : Recording) (s : IsSettled given before now p v)
     → Wrote before now v.failed v.waiting (flat_map record_text (recorded given))
-settled_wrote given before now p q w v s =
-    subst (λ rs. Wrote before now v.failed v.waiting (flat_map record_text rs)) (records_are given before now p q w v s) s.works.records.written.wrote
+settled_wrote given before now p v s =
+    subst (λ rs. Wrote before now v.failed v.waiting (flat_map record_text rs)) (records_are given before now p v s) s.works.records.written.wrote
 
 -- ---- an action more
 
@@ -65,7 +62,7 @@ reverse_on given p = reverse-append (p ∷ []) given
 
 one_more : (before now now' : SinkState) (d e : Driving) (asked : List Asked) (x : HasDriven before now d asked) (a : Action) (p : Piece)
     → NeedsNoHand a → IsPlannerRun (x.actions ++ a ∷ []) (reverse x.given ++ p ∷ []) e.plan → has_ended (p ∷ x.given) ≡ false
-    → IsSettled (p ∷ x.given) before now' e.pulse free_slot [] e.recorder → HasDriven before now' e (asked ++ asked_by a)
+    → IsSettled (p ∷ x.given) before now' e.pulse e.recorder → HasDriven before now' e (asked ++ asked_by a)
 one_more before now now' d e asked x a p hand run going settled = record {
   actions = x.actions ++ a ∷ [];
   given = p ∷ x.given;
@@ -74,7 +71,7 @@ one_more before now now' d e asked x a p hand run going settled = record {
   asks = asked_on x.actions a asked x.asks;
   going = going;
   settled = settled;
-  wrote = settled_wrote (p ∷ x.given) before now' e.pulse free_slot [] e.recorder settled;
+  wrote = settled_wrote (p ∷ x.given) before now' e.pulse e.recorder settled;
 }
 
 pub segment_next : (before now : SinkState) (d : Driving) (asked : List Asked) (x : HasDriven before now d asked) (s : Segment) → IsNext d.plan Go s
@@ -82,7 +79,7 @@ pub segment_next : (before now : SinkState) (d : Driving) (asked : List Asked) (
 segment_next before now d asked x s next = record { going = x.going; follows = next_follows x.given x.actions d.plan Go s x.run next }
 
 pub drove_segment : (before now now' : SinkState) (d e : Driving) (asked : List Asked) (x : HasDriven before now d asked) (s : Segment) → IsNext d.plan Go s
-    → e.plan ≡ advanced d.plan s.n s.w_out → IsSettled (pieces.Segment s ∷ x.given) before now' e.pulse free_slot [] e.recorder → HasDriven before now' e asked
+    → e.plan ≡ advanced d.plan s.n s.w_out → IsSettled (pieces.Segment s ∷ x.given) before now' e.pulse e.recorder → HasDriven before now' e asked
 drove_segment before now now' d e asked x s next plan settled =
     let run = grows_by_segment fresh_plan d.plan x.actions (reverse x.given) Go s x.run next in
     subst (λ a. HasDriven before now' e a) (append-nil asked)
@@ -92,7 +89,7 @@ pub mark_next : (before now : SinkState) (d : Driving) (asked : List Asked) (x :
 mark_next before now d asked x m is = record { going = x.going; follows = is }
 
 pub drove_mark : (before now now' : SinkState) (d e : Driving) (asked : List Asked) (x : HasDriven before now d asked) (m : AnyMark) → IsMark m → IsAtRest d.plan
-    → e.plan ≡ d.plan → IsSettled (pieces.Mark m ∷ x.given) before now' e.pulse free_slot [] e.recorder → HasDriven before now' e (asked ++ a_mark m ∷ [])
+    → e.plan ≡ d.plan → IsSettled (pieces.Mark m ∷ x.given) before now' e.pulse e.recorder → HasDriven before now' e (asked ++ a_mark m ∷ [])
 drove_mark before now now' d e asked x m is rest plan settled =
     let run = grows_by_mark fresh_plan d.plan x.actions (reverse x.given) m x.run is rest in
     one_more before now now' d e asked x (Mark m) (pieces.Mark m) tt (subst (λ p. IsPlannerRun (x.actions ++ Mark m ∷ []) (reverse x.given ++ pieces.Mark m ∷ []) p) (sym plan) run) refl settled
@@ -118,7 +115,7 @@ drove_move before now d e asked x m is room plan =
 pub driven_reached : (before now : SinkState) (d : Driving) (asked : List Asked) → HasDriven before now d asked → IsReached d.plan
 driven_reached before now d asked x = reached_by fresh_plan d.plan x.actions (reverse x.given) fresh_reached x.run
 
-pub driven_first : (sink : SinkState) (d : Driving) → d.plan ≡ fresh_plan → IsSettled [] sink sink d.pulse free_slot [] d.recorder → HasDriven sink sink d []
+pub driven_first : (sink : SinkState) (d : Driving) → d.plan ≡ fresh_plan → IsSettled [] sink sink d.pulse d.recorder → HasDriven sink sink d []
 driven_first sink d plan settled = record {
   actions = [];
   given = [];
@@ -127,7 +124,7 @@ driven_first sink d plan settled = record {
   asks = refl;
   going = refl;
   settled = settled;
-  wrote = settled_wrote [] sink sink d.pulse free_slot [] d.recorder settled;
+  wrote = settled_wrote [] sink sink d.pulse d.recorder settled;
 }
 
 -- ---- a segment is run

@@ -17,8 +17,8 @@ use Rattle.units.specs.declared.Move.{Move}
 use Rattle.step_record.specs.Taking.{HasNoEnd}
 use Rattle.step_record.specs.Writing.{Wrote, Took}
 use Rattle.step_record.specs.Recording.{Recording, is_due}
-use Rattle.pulse_engine.specs.Ordering.{InTurn, recorded, ComesNext}
-use Rattle.pulse_engine.specs.Logs.{is_tick}
+use Rattle.step_line.specs.Ordering.{InTurn, recorded, ComesNext}
+use Rattle.step_line.specs.Records.{is_tick}
 use Rattle.pulse_engine.proofs.Whole.{recorded_each}
 use Rattle.legal_speeds.specs.declared.Action.{Action}
 use Rattle.legal_speeds.specs.declared.Action.TheVariants.{Add, Take, Override, Mark, End, Clear}
@@ -30,7 +30,7 @@ use Rattle.legal_speeds.proofs.Legal.{heads_are_legal}
 use Rattle.step_drive.specs.Asking.{Asked, all_asked, asked_by, ticks_of_all, ticks_of_one, ticks_among, moves_of, move_of}
 use Rattle.step_drive.specs.Asking.Asked.{a_move, a_mark}
 use Rattle.step_drive.specs.Working.{IsSettled}
-use Rattle.step_drive.specs.Driving.{Driving, HasDriven, HasEnded, free_slot}
+use Rattle.step_drive.specs.Driving.{Driving, HasDriven, HasEnded}
 use Rattle.step_drive.proofs.Ends.{recorded_no_end, has_end_in}
 use Rattle.step_drive.proofs.Driving.{settled_wrote, records_are, asked_on, reverse_on}
 
@@ -119,7 +119,7 @@ pub end_next : (before now : SinkState) (d : Driving) (asked : List Asked) (x : 
 end_next before now d asked x = record { going = x.going; follows = tt }
 
 pub drove_end : (before now now' : SinkState) (d e : Driving) (asked : List Asked) (x : HasDriven before now d asked) → IsAtRest d.plan
-    → IsSettled (pieces.End ∷ x.given) before now' e.pulse free_slot [] e.recorder → is_due e.recorder ≡ false → HasEnded before now' e.recorder.failed asked
+    → IsSettled (pieces.End ∷ x.given) before now' e.pulse e.recorder → is_due e.recorder ≡ false → HasEnded before now' e.recorder.failed asked
 drove_end before now now' d e asked x rest settled due =
     let actions = x.actions ++ End ∷ [] in
     let given = reverse x.given ++ pieces.End ∷ [] in
@@ -135,7 +135,7 @@ drove_end before now now' d e asked x rest settled due =
     let moves : moves_added actions ≡ moves_of asked = moves_asked_for actions ∙ ap moves_of asks in
     let turns : InTurn (pieces.End ∷ x.given) = settled.works.gives.turns in
     let over : e.recorder.ended ≡ true = is_true e.recorder.ended (λ f.
-    has_end_in (recorded x.given) (subst HasNoEnd (records_are (pieces.End ∷ x.given) before now' e.pulse free_slot [] e.recorder settled) (settled.works.records.written.going f))) in
+    has_end_in (recorded x.given) (subst HasNoEnd (records_are (pieces.End ∷ x.given) before now' e.pulse e.recorder settled) (settled.works.records.written.going f))) in
     record {
       records = recorded (pieces.End ∷ x.given);
       driven = record {
@@ -150,5 +150,5 @@ drove_end before now now' d e asked x rest settled due =
         ticks = ap ticks_among all ∙ ticks_of_pieces given ∙ sym ticks ∙ ticks_asked_for actions ∙ ap ticks_of_all asks;
         heads = subst (λ (ms : List _). HasLegalHeads ms (recorded (pieces.End ∷ x.given))) moves (subst (λ rs. HasLegalHeads (moves_added actions) rs) (sym all) heads);
       };
-      took = took_all before now' e.recorder _ (settled_wrote (pieces.End ∷ x.given) before now' e.pulse free_slot [] e.recorder settled) due over;
+      took = took_all before now' e.recorder _ (settled_wrote (pieces.End ∷ x.given) before now' e.pulse e.recorder settled) due over;
     }

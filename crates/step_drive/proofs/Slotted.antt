@@ -1,43 +1,22 @@
 -- A drive between calls, by its fields.
-use Rattle.std.proofs.Common.{◌≡◌, ℕ, ◌<◌, ◌≤◌, Bool, true, false, List, [], length, Option, None, refl, sym, ap, ◌∙◌, subst, arith}
+use Rattle.std.proofs.Common.{◌≡◌, ℕ, ◌<◌, ◌≤◌, Bool, true, false, List, [], length, refl, sym, ap, ◌∙◌, subst, arith}
 use Rattle.outside.specs.Causes.{SinkState}
 use Rattle.step_line.specs.declared.Piece.{Piece}
-use Rattle.step_line.specs.declared.Record.{Record}
-use Rattle.step_record.specs.Recording.{Recording}
 use Rattle.line_geom.specs.declared.Cap.TheVariants.{Free}
 use Rattle.line_geom.specs.declared.Geom.{Geom}
 use Rattle.line_geom.specs.Geometry.{IsGeom}
 use Rattle.overrides.specs.declared.Overrides.{Overrides}
-use Rattle.pulse_engine.specs.Slots.{Offered, IsFree}
-use Rattle.pulse_engine.specs.Steps.{Pulsing}
 use Rattle.planner_ring.specs.declared.Block.{Block}
 use Rattle.plan_passes.specs.Plans.{Planned, added}
 use Rattle.legal_speeds.specs.declared.PlannedMove.{PlannedMove}
 use Rattle.legal_speeds.specs.Runs.{with_move, fresh_plan, most_blocks}
 use Rattle.legal_speeds.proofs.Runs.{geometry_is}
 use Rattle.step_drive.specs.Working.{IsSettled}
-use Rattle.step_drive.specs.Driving.{Driving, SegmentRun, free_slot}
-
-same_slot : (a b : Option Piece) (i j : ℕ) → a ≡ b → i ≡ j → Path Offered (record { waiting = a; left = i }) (record { waiting = b; left = j })
-same_slot a b i j e f = cc
-
-free_is : (q : Offered) → IsFree q → q ≡ free_slot
-free_is q f = same_slot q.waiting None q.left 0 f.nothing f.counted
-
-pub settled_free : (given : List Piece) (before now : SinkState) (p : Pulsing) (q : Offered) (w : List Record) (v : Recording)
-    → IsSettled given before now p q w v → IsSettled given before now p free_slot [] v
-settled_free given before now p q w v s =
-    subst (λ (x : Offered). IsSettled given before now p x [] v) (free_is q s.free) (subst (λ (x : List Record). IsSettled given before now p q x v) s.taken s)
+use Rattle.step_drive.specs.Driving.{Driving, SegmentRun}
 
 pub settled_at : (given : List Piece) (before now : SinkState) (d e : Driving) → d ≡ e
-    → IsSettled given before now e.pulse free_slot [] e.recorder → IsSettled given before now d.pulse free_slot [] d.recorder
-settled_at given before now d e same s = subst (λ (x : Driving). IsSettled given before now x.pulse free_slot [] x.recorder) (sym same) s
-
-pub settled_inside : (given : List Piece) (before now : SinkState) (d e : Driving) (q : Offered) (w : List Record) → d ≡ e → IsFree q → w ≡ []
-    → IsSettled given before now e.pulse free_slot [] e.recorder → IsSettled given before now d.pulse q w d.recorder
-settled_inside given before now d e q w same free empty s =
-    subst (λ (x : List Record). IsSettled given before now d.pulse q x d.recorder) (sym empty)
-    (subst (λ (x : Offered). IsSettled given before now d.pulse x [] d.recorder) (sym (free_is q free)) (settled_at given before now d e same s))
+    → IsSettled given before now e.pulse e.recorder → IsSettled given before now d.pulse d.recorder
+settled_at given before now d e same s = subst (λ (x : Driving). IsSettled given before now x.pulse x.recorder) (sym same) s
 
 same_plan : (a b : List Block) (v w : ℕ) (o u : Overrides) → a ≡ b → v ≡ w → o ≡ u → Path Planned (record { blocks = a; speed = v; overrides = o }) (record { blocks = b; speed = w; overrides = u })
 same_plan a b v w o u e f g = cc

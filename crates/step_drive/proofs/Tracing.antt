@@ -11,7 +11,7 @@ use Rattle.step_line.specs.declared.Record.{Record}
 use Rattle.step_line.specs.Pieces.{records_of}
 use Rattle.step_record.specs.Taking.{records}
 use Rattle.step_record.specs.Recording.{Recording, is_due, Fits as Written}
-use Rattle.pulse_engine.specs.Ordering.{InTurn, has_ended, recorded, ComesNext}
+use Rattle.step_line.specs.Ordering.{InTurn, has_ended, recorded, ComesNext}
 use Rattle.pulse_engine.specs.Logs.{PieceLog, RecordLog, pieces_of, counted, records_put, ticks_in, one_if, end_is_put}
 use Rattle.pulse_engine.specs.Logs.PieceEvent.{none}
 use Rattle.pulse_engine.specs.Logs.RecordEvent.{full}
@@ -22,7 +22,7 @@ use Rattle.pulse_engine.specs.Turns.{Fits, Turned as PulseTurned}
 use Rattle.pulse_engine.proofs.Ticks.{ticks-append}
 use Rattle.pulse_engine.proofs.Whole.{all_counts, done_put}
 use Rattle.step_drive.specs.Polls.{FoundNone, FoundFull, GivesPieces, HoldsRecords}
-use Rattle.step_drive.specs.Working.{Records, HasRested, Works, IsTracing, IsSettled, Turned, work_left}
+use Rattle.step_drive.specs.Working.{Records, HasRested, Works, IsTracing, IsSettled, Turned, work_left, free_slot}
 use Rattle.step_drive.proofs.Ends.{recorded_once, front_once}
 
 -- ---- how much was done
@@ -215,9 +215,13 @@ turned_did offered before mid now p p' q q' w w' v v' x r = record {
   rests = λ f. absurd cc;
 }
 
-pub settled_written : (offered : List Piece) (before mid now : SinkState) (p : Pulsing) (q : Offered) (w w' : List Record) (v v' : Recording) (s : IsSettled offered before mid p q w v)
-    → HasRested (records_put s.works.puts) before now w' v' → IsSettled offered before now p q w' v' × (is_due v' ≡ false)
-settled_written offered before mid now p q w w' v v' s r = (
+-- those of a writer at rest, in an empty slot
+pub records_at : (given : List Record) (before now : SinkState) (w : List Record) (v : Recording) → w ≡ [] → Records given before now [] v → Records given before now w v
+records_at given before now w v empty r = same_records given given before now [] w v refl (sym empty) r
+
+pub settled_written : (offered : List Piece) (before mid now : SinkState) (p : Pulsing) (w : List Record) (v v' : Recording) (s : IsSettled offered before mid p v)
+    → HasRested (records_put s.works.puts) before now w v' → IsSettled offered before now p v' × (is_due v' ≡ false)
+settled_written offered before mid now p w v v' s r = (
   record {
     works = record {
       got = s.works.got;
@@ -226,57 +230,58 @@ settled_written offered before mid now p q w w' v v' s r = (
       traced = s.works.traced;
       asked = s.works.asked;
       room = s.works.room;
-      records = r.records;
+      records = same_records _ _ before now w [] v' refl r.taken r.records;
     };
-    free = s.free;
     between = s.between;
-    taken = r.taken;
   },
   r.due,
 )
 
 -- a piece is offered
-pub offered_next : (offered : List Piece) (before now : SinkState) (p : Pulsing) (q : Offered) (w : List Record) (v : Recording) (piece : Piece)
-    → ComesNext offered piece → IsSettled offered before now p q w v → IsTracing (piece ∷ offered) before now p (record { waiting = Some piece; left = 0 }) w v
-offered_next offered before now p q w v piece next s =
-    let got_all : offered ≡ pieces_of s.works.got = s.works.gives.pieces ∙ ap (λ o. option_to_list o ++ pieces_of s.works.got) s.free.nothing in
+pub offered_next : (offered : List Piece) (before now : SinkState) (p : Pulsing) (w : List Record) (v : Recording) (piece : Piece)
+    → ComesNext offered piece → IsSettled offered before now p v → w ≡ [] → IsTracing (piece ∷ offered) before now p (record { waiting = Some piece; left = 0 }) w v
+offered_next offered before now p w v piece next s empty =
     record {
       works = record {
         got = s.works.got;
         puts = s.works.puts;
         gives = record {
-          pieces = ap (λ (ps : List Piece). piece ∷ ps) got_all;
-          ticks = sym s.free.counted ∙ s.works.gives.ticks;
+          pieces = ap (λ (ps : List Piece). piece ∷ ps) s.works.gives.pieces;
+          ticks = s.works.gives.ticks;
           turns = (next, s.works.gives.turns);
         };
         traced = s.works.traced;
         asked = s.works.asked;
         room = s.works.room;
-        records = s.works.records;
+        records = same_records _ _ before now [] w v refl (sym empty) s.works.records;
       };
-      taken = s.taken;
+      taken = empty;
     }
 
+same_slot : (a b : Option Piece) (i j : ℕ) → a ≡ b → i ≡ j → Path Offered (record { waiting = a; left = i }) (record { waiting = b; left = j })
+same_slot a b i j e f = cc
+
+free_is : (q : Offered) → IsFree q → q ≡ free_slot
+free_is q f = same_slot q.waiting None q.left 0 f.nothing f.counted
+
 pub settled_by : (offered : List Piece) (before now : SinkState) (p p' : Pulsing) (q q' : Offered) (w : List Record) (v : Recording)
-    → Turned false offered before now p q p' q' w v → IsSettled offered before now p' q' w v
+    → Turned false offered before now p q p' q' w v → IsSettled offered before now p' v
 settled_by offered before now p p' q q' w v t =
     let rest = t.rests refl in
-    record { works = t.tracing.works; free = rest.0; between = rest.1; taken = t.tracing.taken }
+    let works : Works offered before now p' free_slot w v = subst (λ (x : Offered). Works offered before now p' x w v) (free_is q' rest.0) t.tracing.works in
+    record { works = subst (λ (x : List Record). Works offered before now p' free_slot x v) t.tracing.taken works; between = rest.1 }
 
 -- a pulse and a recorder that did nothing
-pub settled_first : (sink : SinkState) (p : Pulsing) (q : Offered) (w : List Record) (v : Recording) → Fits p [] [] → IsFree q → w ≡ []
-    → Written v [] sink sink → IsSettled [] sink sink p q w v
-settled_first sink p q w v fits free empty written = record {
+pub settled_first : (sink : SinkState) (p : Pulsing) (v : Recording) → Fits p [] [] → Written v [] sink sink → IsSettled [] sink sink p v
+settled_first sink p v fits written = record {
   works = record {
     got = [];
     puts = [];
-    gives = record { pieces = ap (λ o. option_to_list o ++ []) (sym free.nothing); ticks = free.counted; turns = tt };
+    gives = record { pieces = refl; ticks = refl; turns = tt };
     traced = fits;
     asked = λ f. f;
     room = λ f. f;
-    records = record { log = []; all = sym empty; once = recorded_once [] tt; polled = λ f. f; written = written };
+    records = record { log = []; all = refl; once = recorded_once [] tt; polled = λ f. f; written = written };
   };
-  free = free;
   between = sym fits.records;
-  taken = empty;
 }

@@ -8,7 +8,7 @@ use Rattle.step_line.specs.declared.Record.TheVariants as kinds
 use Rattle.step_line.specs.Events.{line_events}
 use Rattle.step_line.specs.Pieces.{records_of}
 use Rattle.step_record.specs.Recording.{IsEnded}
-use Rattle.pulse_engine.specs.Logs.{is_tick}
+use Rattle.step_line.specs.Records.{is_tick}
 use Rattle.plan_passes.specs.Plans.{Planned}
 use Rattle.legal_speeds.specs.declared.PlannedMove.{PlannedMove}
 use Rattle.legal_speeds.specs.declared.Action.{Action}

@@ -1,5 +1,5 @@
 -- A drive, and what it has done.
-use Rattle.std.specs.Prelude.{◌≡◌, ℕ, ◌+◌, ◌≤◌, ◌<◌, ◌⊎◌, Bool, true, false, List, [], ◌∷◌, length, drop, reverse, None}
+use Rattle.std.specs.Prelude.{◌≡◌, ℕ, ◌+◌, ◌≤◌, ◌<◌, ◌⊎◌, Bool, true, false, List, [], ◌∷◌, length, drop, reverse}
 use Rattle.std.specs.List.{flat_map}
 use Rattle.outside.specs.Causes.{SinkState}
 use Rattle.units.specs.Lengths.{IsMove}
@@ -9,8 +9,7 @@ use Rattle.step_line.specs.declared.Record.{Record}
 use Rattle.step_record.specs.Texts.{record_text}
 use Rattle.step_record.specs.Writing.{Wrote, Took}
 use Rattle.step_record.specs.Recording.{Recording}
-use Rattle.pulse_engine.specs.Ordering.{has_ended, recorded}
-use Rattle.pulse_engine.specs.Slots.{Offered, IsFree}
+use Rattle.step_line.specs.Ordering.{has_ended, recorded}
 use Rattle.pulse_engine.specs.Steps.{Pulsing}
 use Rattle.planner_ring.specs.declared.Block.{Block}
 use Rattle.overrides.specs.declared.Overrides.{Overrides}
@@ -36,16 +35,10 @@ pub record MayAsk (m : PlannedMove) : Type 0 where
   pub rate : IsRate m.rate
   pub limits : IsLimits m.limits
 
--- nothing waits in the slot for pieces
-abbrev pub free_slot : Offered
-free_slot = record { waiting = None; left = 0 }
-
--- what the fields of a drive keep: its overrides are the plan's, and its slots are empty
-pub record IsReady (planned mine : Overrides) (pieces : Offered) (records : List Record) : Type 0 where
+-- what the fields of a drive keep: its overrides are the plan's
+pub record IsReady (planned mine : Overrides) : Type 0 where
   pub same : planned ≡ mine
   pub range : IsOverrides mine
-  pub free : IsFree pieces
-  pub empty : records ≡ []
 
 -- how many events blocks have left
 abbrev pub events_left : List Block → ℕ
@@ -72,7 +65,7 @@ pub record HasDriven (before now : SinkState) (d : Driving) (asked : List Asked)
   pub undisturbed : IsUndisturbed actions
   pub asks : all_asked actions ≡ asked
   pub going : has_ended given ≡ false
-  pub settled : IsSettled given before now d.pulse free_slot [] d.recorder
+  pub settled : IsSettled given before now d.pulse d.recorder
   pub wrote : Wrote before now d.recorder.failed d.recorder.waiting (flat_map record_text (recorded given))
 
 -- a drive that has not ended

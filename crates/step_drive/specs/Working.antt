@@ -1,5 +1,5 @@
 -- A pulse and a recorder that take turns, and the slots between them.
-use Rattle.std.specs.Prelude.{◌≡◌, ℕ, ◌+◌, ◌<◌, Bool, true, false, List, [], ◌++◌, length}
+use Rattle.std.specs.Prelude.{◌≡◌, ℕ, ◌+◌, ◌<◌, Bool, true, false, List, [], ◌++◌, length, None}
 use Rattle.std.specs.List.{flat_map}
 use Rattle.outside.specs.Causes.{SinkState}
 use Rattle.step_line.specs.declared.Piece.{Piece}
@@ -7,7 +7,7 @@ use Rattle.step_line.specs.declared.Record.{Record}
 use Rattle.step_record.specs.Taking.{Log, records}
 use Rattle.step_record.specs.Texts.{record_text}
 use Rattle.step_record.specs.Recording.{Recording, is_due, Fits as Written}
-use Rattle.pulse_engine.specs.Ordering.{recorded}
+use Rattle.step_line.specs.Ordering.{recorded}
 use Rattle.pulse_engine.specs.Logs.{PieceLog, RecordLog, records_put, ticks_in}
 use Rattle.std.specs.Option.{option_to_list}
 use Rattle.pulse_engine.specs.Slots.{Offered, IsFree, Gives}
@@ -56,12 +56,14 @@ work_left p q =
     length (option_to_list q.waiting) + (length p.waiting + length (recorded (option_to_list q.waiting)))
     + (q.left + ticks_in (recorded (option_to_list q.waiting)))
 
+-- nothing waits in the slot for pieces
+abbrev pub free_slot : Offered
+free_slot = record { waiting = None; left = 0 }
+
 -- all that was offered is traced and taken
-pub record IsSettled (offered : List Piece) (before now : SinkState) (p : Pulsing) (q : Offered) (waiting : List Record) (v : Recording) : Type 0 where
-  pub works : Works offered before now p q waiting v
-  pub free : IsFree q
+pub record IsSettled (offered : List Piece) (before now : SinkState) (p : Pulsing) (v : Recording) : Type 0 where
+  pub works : Works offered before now p free_slot [] v
   pub between : p.waiting ≡ []
-  pub taken : waiting ≡ []
 
 -- all that the pulse put is taken, and it may be at work
 pub record IsTracing (offered : List Piece) (before now : SinkState) (p : Pulsing) (q : Offered) (waiting : List Record) (v : Recording) : Type 0 where

@@ -9,14 +9,14 @@ ghost use Rattle.step_line.specs.declared.Piece.{Piece as AnyPiece};
 ghost use Rattle.plan_passes.specs.Plans.{entered};
 ghost use Rattle.plan_passes.specs.Segments.{advanced};
 ghost use Rattle.segment_prep.specs.Taking.{IsNext};
-ghost use Rattle.pulse_engine.specs.Ordering.{ComesNext};
+ghost use Rattle.step_line.specs.Ordering.{ComesNext};
 ghost use Rattle.legal_speeds.specs.Moves.{IsPlannedMove};
 ghost use Rattle.legal_speeds.specs.Runs.{IsAtRest, with_move, block_of, most_blocks};
 ghost use Rattle.step_drive.specs.Asking.{Asked};
 ghost use Rattle.step_drive.specs.Asking.Asked.{a_move, a_mark};
 ghost use Rattle.step_record.specs.Recording.{is_due};
 ghost use Rattle.step_drive.specs.Working.{IsSettled};
-ghost use Rattle.step_drive.specs.Driving.{HasDriven, HasEnded, IsRunning, MayAsk, SegmentRun, free_slot};
+ghost use Rattle.step_drive.specs.Driving.{HasDriven, HasEnded, IsRunning, MayAsk, SegmentRun};
 
 use crate::writer::Writer;
 use legal_speeds::PlannedMove;
@@ -48,7 +48,7 @@ impl Model for Drive {
 
     ghost view = { λ d. record { plan = d.plan; pulse = d.writer.pulse; recorder = d.writer.recorder } };
 
-    ghost invariant = { λ d. IsReady d.plan.overrides d.overrides d.writer.pieces.slot d.writer.records };
+    ghost invariant = { λ d. IsReady d.plan.overrides d.overrides };
 }
 
 impl Drive {
@@ -82,11 +82,11 @@ impl Drive {
     /// Traces and records a piece that may come next.
     fn publish<S: Sink>(&mut self, piece: Piece, steps: &mut S)
         requires { (offered : List AnyPiece) × (before : SinkState) × ComesNext offered piece
-            × IsSettled offered before (S.state steps.old) self.old.pulse free_slot [] self.old.recorder }
+            × IsSettled offered before (S.state steps.old) self.old.pulse self.old.recorder }
         ensures plan { self.new.plan ≡ self.old.plan }
         ensures settled { (offered : List AnyPiece) (before : SinkState) → ComesNext offered piece
-            → IsSettled offered before (S.state steps.old) self.old.pulse free_slot [] self.old.recorder
-            → IsSettled (piece ∷ offered) before (S.state steps.new) self.new.pulse free_slot [] self.new.recorder }
+            → IsSettled offered before (S.state steps.old) self.old.pulse self.old.recorder
+            → IsSettled (piece ∷ offered) before (S.state steps.new) self.new.pulse self.new.recorder }
     {
         self.writer.publish(piece, steps);
     }
@@ -94,11 +94,11 @@ impl Drive {
     /// Writes what waits, where it is to be written: all of it once the end is recorded.
     fn finish<S: Sink>(&mut self, steps: &mut S)
         requires { (offered : List AnyPiece) × (before : SinkState)
-            × IsSettled offered before (S.state steps.old) self.old.pulse free_slot [] self.old.recorder }
+            × IsSettled offered before (S.state steps.old) self.old.pulse self.old.recorder }
         ensures plan { self.new.plan ≡ self.old.plan }
         ensures settled { (offered : List AnyPiece) (before : SinkState)
-            → IsSettled offered before (S.state steps.old) self.old.pulse free_slot [] self.old.recorder
-            → IsSettled offered before (S.state steps.new) self.new.pulse free_slot [] self.new.recorder × (is_due self.new.recorder ≡ false) }
+            → IsSettled offered before (S.state steps.old) self.old.pulse self.old.recorder
+            → IsSettled offered before (S.state steps.new) self.new.pulse self.new.recorder × (is_due self.new.recorder ≡ false) }
     {
         self.writer.finish(steps);
     }

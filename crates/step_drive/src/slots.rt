@@ -5,7 +5,7 @@ ghost use Rattle.step_line.specs.declared.Piece.{Piece as AnyPiece};
 ghost use Rattle.step_line.specs.declared.Record.{Record as AnyRecord};
 ghost use Rattle.step_line.specs.Records.{IsRecord};
 ghost use Rattle.step_record.specs.Taking.{Log, MayFollow, records};
-ghost use Rattle.pulse_engine.specs.Ordering.{ComesNext};
+ghost use Rattle.step_line.specs.Ordering.{ComesNext};
 ghost use Rattle.pulse_engine.specs.Logs.{PieceLog, RecordLog, IsCounted, HasTick};
 ghost use Rattle.pulse_engine.specs.Slots.{IsFree};
 ghost use Rattle.step_drive.specs.Polls.{GivesPieces, HoldsRecords, HandsOver};

@@ -1,5 +1,5 @@
--- Which records are recorded.
-use Rattle.std.specs.Prelude.{◌≡◌, ◌^◌, ◌<◌, ◌≤◌}
+-- What kind a record is of, and which are recorded.
+use Rattle.std.specs.Prelude.{◌≡◌, ◌^◌, ◌<◌, ◌≤◌, Bool, true, false}
 use Rattle.step_line.specs.declared.Head.{Head}
 use Rattle.step_line.specs.declared.Mark.{Mark}
 use Rattle.step_line.specs.declared.Mark.TheVariants.{Dwell, Spindle, Coolant, Cut}
@@ -7,6 +7,19 @@ use Rattle.step_line.specs.declared.SpindleCode.TheVariants.{M3, M4, M5}
 use Rattle.step_line.specs.declared.Record.{Record}
 use Rattle.step_line.specs.declared.Record.TheVariants as kinds
 use Rattle.step_line.specs.Events.{IsEvent}
+
+-- whether a record is a tick: a step event or a mark
+abbrev pub is_tick : Record → Bool
+is_tick (kinds.Head h) = false
+is_tick (kinds.Event b) = true
+is_tick (kinds.Mark m) = true
+is_tick kinds.End = false
+
+abbrev pub is_end : Record → Bool
+is_end (kinds.Head h) = false
+is_end (kinds.Event b) = false
+is_end (kinds.Mark m) = false
+is_end kinds.End = true
 
 -- lines and events are counted from 1, and each number is one that its field has room for
 pub record IsHead (h : Head) : Type 0 where

@@ -8,13 +8,13 @@ use Rattle.std.proofs.lemmas.List.Elements.{All-append, All-cons, All-nil}
 use Rattle.outside.specs.Causes.{SinkState}
 use Rattle.step_line.specs.declared.Record.{Record}
 use Rattle.step_line.specs.declared.Record.TheVariants as kinds
-use Rattle.step_line.specs.Records.{IsRecord}
+use Rattle.step_line.specs.Records.{IsRecord, is_end}
 use Rattle.step_record.specs.Taking.Event.{took}
 use Rattle.step_record.specs.Taking.{Log, HasNoEnd, MayFollow, records}
 use Rattle.step_record.specs.Texts.{record_text}
 use Rattle.step_record.specs.Writing.{Wrote}
 use Rattle.step_record.proofs.Written.{more_waits, some_taken, none_taken}
-use Rattle.step_record.specs.Recording.{Recording, Writes, Rests, is_end, with_record, WroteOnce, Fits, text_of, HasFront, HasAll, HasFailed}
+use Rattle.step_record.specs.Recording.{Recording, Writes, Rests, with_record, WroteOnce, Fits, text_of, HasFront, HasAll, HasFailed}
 
 -- ---- the steps of a recorder
 

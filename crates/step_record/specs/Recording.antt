@@ -8,7 +8,7 @@ use Rattle.outside.specs.declared.Turn.TheVariants.{Did, Wait, Done}
 use Rattle.outside.specs.declared.On.TheVariants as polls
 use Rattle.step_line.specs.declared.Record.{Record}
 use Rattle.step_line.specs.declared.Record.TheVariants as kinds
-use Rattle.step_line.specs.Records.{IsRecord}
+use Rattle.step_line.specs.Records.{IsRecord, is_end}
 use Rattle.step_record.specs.Taking.Event.{took, none}
 use Rattle.step_record.specs.Taking.{Log, HasNoEnd, records}
 use Rattle.step_record.specs.Texts.{record_text}
@@ -40,12 +40,6 @@ Takes v = (is_due v ≡ false) × (v.ended ≡ false)
 
 abbrev pub Rests : Recording → Type 0
 Rests v = is_done v ≡ true
-
-abbrev pub is_end : Record → Bool
-is_end (kinds.Head h) = false
-is_end (kinds.Event b) = false
-is_end (kinds.Mark m) = false
-is_end kinds.End = true
 
 -- a record taken: its line waits behind the others, unless the sink has failed
 abbrev pub with_record : Recording → Record → Recording

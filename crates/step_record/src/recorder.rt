@@ -8,7 +8,7 @@ ghost use Rattle.step_line.specs.Records.{IsRecord};
 ghost use Rattle.step_line.specs.declared.Record.TheVariants.{Event};
 ghost use Rattle.step_record.specs.Taking.Event.{took, none};
 ghost use Rattle.step_record.specs.Taking.{Log, MayFollow, records};
-ghost use Rattle.step_record.specs.Recording.{Writes, Takes, Rests, WroteOnce, Fits, Turned, is_end, with_record, with_written, given_up};
+ghost use Rattle.step_record.specs.Recording.{Writes, Takes, Rests, WroteOnce, Fits, Turned, with_record, with_written, given_up};
 
 use crate::{push_event, push_record};
 use arrayvec::ArrayVec;
@@ -60,17 +60,6 @@ impl Model for Recorder {
     ghost invariant = { λ r. IsHeld r.held.items r.written r.due r.failed r.ended };
 }
 
-/// Whether a record is the end.
-#[inline]
-pub(crate) fn is_end(r: &Record) -> bool
-    ensures { result ≡ is_end r.now }
-{
-    match r {
-        Record::End => true,
-        _ => false,
-    }
-}
-
 impl Recorder {
     /// A recorder that has taken nothing.
     pub fn new() -> Recorder
@@ -117,7 +106,7 @@ impl Recorder {
         ensures held { self.new ≡ with_record self.old r }
         ensures few { length self.new.waiting ≤ 4096 }
     {
-        self.ended = is_end(&r);
+        self.ended = r.is_end();
         if self.failed {
             return;
         }

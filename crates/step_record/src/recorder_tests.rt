@@ -26,7 +26,7 @@ impl RecordIn for Tape<'_> {
         if self.ended || !has_line(*first) {
             return None;
         }
-        self.ended = recorder::is_end(first);
+        self.ended = first.is_end();
         self.rest = rest;
         Some(*first)
     }

@@ -1,7 +1,7 @@
 use Rattle.std.proofs.Common.{List, ◌∷◌}
 use Rattle.step_line.specs.declared.Piece.{Piece}
 use Rattle.step_line.specs.declared.Record.{Record}
-use Rattle.pulse_engine.specs.Ordering.{ComesNext}
+use Rattle.step_line.specs.Ordering.{ComesNext}
 use Rattle.pulse_engine.specs.Slots.{Runs}
 use Rattle.pulse_engine.proofs.tests.Line.trace.Given as goal
 

@@ -1,21 +1,8 @@
-use Rattle.step_drive.proofs.Slotted.{settled_free, settled_inside}
+use Rattle.step_drive.proofs.Slotted.{settled_at}
 use Rattle.step_drive.proofs.drive.Drive.finish.Goals as goal
 
 pub finish-requires : goal.finish-requires
-finish-requires g c =
-    let r = c.requires in
-    let i = c.self.invariant in
-    (r.0, r.1, settled_inside r.0 r.1 _ _ _ _ _ c.self.view_is i.free i.empty r.2)
-
-pub invariant_of-self : goal.invariant_of-self
-invariant_of-self g c =
-    let r = c.requires in
-    let i = c.self.invariant in
-    let s = (c.finish.ensures r.0 r.1 (settled_inside r.0 r.1 _ _ _ _ _ c.self.view_is i.free i.empty r.2)).0 in
-    record { same = i.same; range = i.range; free = s.free; empty = s.taken }
+finish-requires g c = let r = c.requires in (r.0, r.1, settled_at r.0 r.1 _ _ _ c.self.view_is r.2)
 
 pub returns-clause-settled : goal.returns-clause-settled
-returns-clause-settled g c offered before settled =
-    let i = c.self.invariant in
-    let s = c.finish.ensures offered before (settled_inside offered before _ _ _ _ _ c.self.view_is i.free i.empty settled) in
-    (settled_free _ _ _ _ _ _ _ s.0, s.1)
+returns-clause-settled g c offered before settled = c.finish.ensures offered before (settled_at offered before _ _ _ c.self.view_is settled)

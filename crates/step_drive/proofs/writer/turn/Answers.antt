@@ -1,6 +1,6 @@
 use Rattle.step_drive.proofs.Tracing.{gives_pieces, holds_records, traced_did, traced_waits, traced_done, turned_did}
 use Rattle.std.proofs.Common.{refl}
-use Rattle.step_drive.proofs.writer.Writer.turn.Goals as goal
+use Rattle.step_drive.proofs.writer.turn.Goals as goal
 
 pub turn-requires : goal.turn-requires
 turn-requires g c =

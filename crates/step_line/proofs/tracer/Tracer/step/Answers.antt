@@ -1,18 +1,19 @@
-use Rattle.std.proofs.Common.{◌+◌, arith, rules, ap, ◌∙◌, Some, FitsSigned, w8, to_z-of_z}
-use Rattle.step_line.specs.Counting.{way}
+use Rattle.std.proofs.Common.{◌+◌, ◌<◌, arith, rules, ap, sym, subst, ◌∙◌, FitsSigned, w8, to_z-of_z}
+use Rattle.step_line.specs.Counting.{way, events_of}
 use Rattle.step_line.specs.Events.{event_of}
 use Rattle.step_line.specs.Tracing.{Trace}
 use Rattle.step_line.proofs.Order.{event_by_axes}
-use Rattle.step_line.proofs.tracer.Tracer.next.Goals as goal
+use Rattle.step_line.proofs.tracer.Tracer.step.Goals as goal
 
 pub invariant_of-self : goal.invariant_of-self
 invariant_of-self c =
     let i = c.self.invariant in
-    let k = c.self.inside.done in (
+    let k = c.self.inside.done in
+    let left : c.self.inside.done < events_of c.self.inside.mv = subst (λ (t : Trace). t.done < events_of t.mv) (sym c.self.view_is) c.requires in (
       i.0,
       i.1,
       i.2,
-      omega (arith, i.3, c.if-self.false),
+      omega (arith, i.1, left),
       c.next-x.ensures.count ∙ i.4,
       c.next-y.ensures.count ∙ i.5,
       c.next-z.ensures.count ∙ i.6,
@@ -35,4 +36,4 @@ returns-clause-event c =
     let x = to_z-of_z fits_x ∙ c.next-x.ensures.bit (way m).x k i.4 i.7 i.10 in
     let y = to_z-of_z fits_y ∙ c.next-y.ensures.bit (way m).y k i.5 i.8 i.11 in
     let z = to_z-of_z fits_z ∙ c.next-z.ensures.bit (way m).z k i.6 i.9 i.12 in
-    λ _. ap Some (event_by_axes m c.self.inside.n (k + 1) _ _ _ i.1 x y z) ∙ ap (λ (t : Trace). Some (event_of t.mv (t.done + 1))) c.self.view_is
+    event_by_axes m c.self.inside.n (k + 1) _ _ _ i.1 x y z ∙ ap (λ (t : Trace). event_of t.mv (t.done + 1)) c.self.view_is
