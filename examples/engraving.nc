@@ -1,6 +1,9 @@
-(Engraving: a name plate of 110 x 40 mm in straight strokes, V bit, 0.2 mm deep)
-; zero: lower left corner of the plate
+(Engraving: a name plate of 110 x 40 mm in straight strokes, V bit, 0.2 mm deep, dry)
+(Zero: lower left corner, face of the plate)
+G21 G90 G94 G54
 G0 Z2
+T1 M3 S12000
+G4 P3      ; the spindle comes up to speed
 (border 1)
 G0 X1.000 Y1.000
 G1 Z-0.2 F100
@@ -312,4 +315,6 @@ G1 X98.760 Y8.320
 G1 X97.440 Y7.000
 G1 X96.120 Y7.000
 G0 Z2
+M5 M9
 G0 X0 Y0
+M30

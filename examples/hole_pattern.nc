@@ -1,6 +1,10 @@
-(Hole pattern: a bolt circle of 12 holes and a grid of 6 x 5, drilled by pecks)
-; drill 3 mm, depth 9 mm in three pecks, clearance plane Z3
+(Hole pattern: a bolt circle of 12 holes and a grid of 6 x 5 in aluminium, drilled by pecks)
+(Drill 3 mm, depth 9 mm in three pecks, clearance plane Z3. Zero: lower left corner, top of the plate.)
+G21 G90 G94 G54
 G0 Z3
+T1 M3 S3000
+G4 P3      ; the spindle comes up to speed
+M8
 (hole 1)
 G0 X80.000 Y40.000
 G0 Z0.5
@@ -505,4 +509,6 @@ G0 Z-5.8
 G1 Z-9 F120
 G0 Z0.5
 G0 Z3
+M5 M9
 G0 X0 Y0
+M30

@@ -1,8 +1,10 @@
 (Two motor plates, size 23: the drawing is in inches, the fixture in millimetres)
 (Blanks of 2.6 x 2.6 in, 6 mm aluminium: G54 the left one, G55 the right one, Z0 their face)
+(G56 is the right blank again, for the engraver, which stands 3 mm shorter than the drill)
 G17 G21 G40 G49 G90 G94
-G28.1                   ; the tool parks where it stands now
+G28.1                   ; the tool parks where it is now
 G10 L2 P1 X40 Y30 Z-25  ; left blank, lower left corner, from the machine's zero
+G10 L2 P3 X140 Y30 Z-28
 G53 G0 X140 Y30         ; over the corner of the right blank, 25 mm above its face
 G10 L20 P2 X0 Y0 Z25
 T1 M3 S1800             (drill 0.201 in)
@@ -39,21 +41,26 @@ G0 Z0.4
 X-1.856
 G1 Z-0.4
 G0 Z0.4
+M5 M9
+G28 Z0                  ; up first, then over to the parking place
+G28 X0 Y0
+M0                      (the engraver comes in: 60 degrees)
+T2 M3 S9000
+G4 P3
 (a cross in the middle of the right blank, in millimetres from the middle)
-G90 X1.3 Y1.3
+G20 G90 G56 G0 X1.3 Y1.3
 G92 X0 Y0
-G21 X-5 Y0
+G21 Z2
+X-5 Y0 M8
 G1 Z-0.2 F60
-X5
+X5 F120
 G0 Z2
 X0 Y-5
-G1 Z-0.2
-Y5
+G1 Z-0.2 F60
+Y5 F120
 G0 Z2
 G92.1
-M9 M5
-M4 S300                 ; slings the chips off
-G4 P0.5
-G91 G28 Z0 M5           ; up first, then over to the parking place
+M5 M9
+G91 G28 Z0
 G28 X0 Y0
 M30

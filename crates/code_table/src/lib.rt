@@ -1,14 +1,14 @@
-//! Tables of rows that answer a key with its value, the four tables of the controller, the flags that
-//! realtime bytes raise, and the first refusal of several.
+//! Tables of rows that answer a key with its value, the four tables of the controller, and the flags that realtime
+//! bytes raise.
 #![tactic(auto)]
 
 ghost use Rattle.std.specs.Prelude.{◌≡◌, List, zip, nat_eq, IsTrue, ◌↔◌, IsSome, IsNone, IfSome};
 ghost use Rattle.std.specs.List.{IsDistinct};
 ghost use Rattle.std.specs.Map.{keys_of, values_of};
-ghost use Rattle.code_table.specs.Refusals.{first_refusal};
 ghost use Rattle.code_table.specs.Tables.{Row, value_of, rises, IsReordered, AnswersAs};
 
 mod flags;
+pub mod groups;
 mod laws;
 mod standard;
 #[cfg(test)]
@@ -16,24 +16,12 @@ mod tests;
 
 pub use flags::{Exec, Ovr};
 pub use laws::{codes_have_one_group, rows_are_found, values_are_small};
-pub use standard::{g_codes, m_codes, realtime_rows, setting_rows};
+pub use standard::{g_codes, g_group, m_codes, m_group, realtime_rows, setting_rows};
 use std::marker::Model;
 
 /// The number of an error, as `error:20` prints it.
 #[derive(Clone, Copy, Debug, PartialEq, Eq)]
 pub struct Code(pub u8);
-
-/// The first code whose condition holds.
-pub fn first_refusal(rows: &[(u8, bool)]) -> Option<Code>
-    ensures { result ≡ first_refusal rows.now }
-{
-    for row in rows {
-        if row.1 {
-            return Some(Code(row.0));
-        }
-    }
-    None
-}
 
 /// Rows of a key and a value, in which each key stands once. Contracts see the list of the rows.
 ///

@@ -1,16 +1,58 @@
 //! The four tables of the controller. Each is written as constants in the order of the keys, so that a
 //! call copies them and sorts and compares nothing.
 
-ghost use Rattle.std.specs.Prelude.{◌≡◌};
-ghost use Rattle.code_table.specs.Tables.{g_rows, m_rows, rows_of_settings, rows_of_bytes};
+ghost use Rattle.std.specs.Prelude.{◌≡◌, ◌≤◌, IfSome};
+ghost use Rattle.code_table.specs.Tables.{value_of, g_rows, m_rows, rows_of_settings, rows_of_bytes};
 
 use crate::Table;
+use crate::groups::{
+    ARC_DISTANCE, COOLANT, CUTTER, DISTANCE, FEED_MODE, FLOW, MOTION, NOT_MODAL, PATH, PLANE,
+    SPINDLE, SYSTEM, TOOL_LENGTH, UNITS,
+};
 
+/// A table of rows.
 macro_rules! rows {
-    ($($key:literal => $value:literal),+ $(,)?) => {
+    ($($key:literal => $value:expr),+ $(,)?) => {
         Table {
             keys: [$($key),+],
             values: [$($value),+],
+        }
+    };
+}
+
+/// The value of the row with a key.
+macro_rules! find {
+    ($wanted:ident; $($key:literal => $value:expr),+ $(,)?) => {
+        match $wanted {
+            $($key => Some($value),)+
+            _ => None,
+        }
+    };
+}
+
+/// The G codes: ten times the number of each, and its modal group. From this list come the table and the search in it.
+macro_rules! g_rows {
+    ($with:ident $($before:tt)*) => {
+        $with! { $($before)*
+            0 => MOTION, 10 => MOTION, 40 => NOT_MODAL, 100 => NOT_MODAL,
+            170 => PLANE, 180 => PLANE, 190 => PLANE, 200 => UNITS, 210 => UNITS,
+            280 => NOT_MODAL, 281 => NOT_MODAL, 300 => NOT_MODAL, 301 => NOT_MODAL,
+            400 => CUTTER, 490 => TOOL_LENGTH, 530 => NOT_MODAL,
+            540 => SYSTEM, 550 => SYSTEM, 560 => SYSTEM, 570 => SYSTEM, 580 => SYSTEM, 590 => SYSTEM,
+            610 => PATH, 800 => MOTION,
+            900 => DISTANCE, 910 => DISTANCE, 911 => ARC_DISTANCE, 920 => NOT_MODAL, 921 => NOT_MODAL, 940 => FEED_MODE,
+        }
+    };
+}
+
+/// The M codes, likewise.
+macro_rules! m_rows {
+    ($with:ident $($before:tt)*) => {
+        $with! { $($before)*
+            0 => FLOW, 10 => FLOW, 20 => FLOW,
+            30 => SPINDLE, 40 => SPINDLE, 50 => SPINDLE,
+            80 => COOLANT, 90 => COOLANT,
+            300 => FLOW,
         }
     };
 }
@@ -20,15 +62,7 @@ macro_rules! rows {
 pub fn g_codes() -> Table<30>
     ensures { result ≡ g_rows }
 {
-    rows! {
-        0 => 1, 10 => 1, 40 => 0, 100 => 0,
-        170 => 2, 180 => 2, 190 => 2, 200 => 6, 210 => 6,
-        280 => 0, 281 => 0, 300 => 0, 301 => 0,
-        400 => 7, 490 => 8, 530 => 0,
-        540 => 12, 550 => 12, 560 => 12, 570 => 12, 580 => 12, 590 => 12,
-        610 => 13, 800 => 1,
-        900 => 3, 910 => 3, 911 => 4, 920 => 0, 921 => 0, 940 => 5,
-    }
+    g_rows!(rows)
 }
 
 /// The M codes, by ten times their number, and the group of each.
@@ -36,12 +70,25 @@ pub fn g_codes() -> Table<30>
 pub fn m_codes() -> Table<9>
     ensures { result ≡ m_rows }
 {
-    rows! {
-        0 => 20, 10 => 20, 20 => 20,
-        30 => 21, 40 => 21, 50 => 21,
-        80 => 22, 90 => 22,
-        300 => 20,
-    }
+    m_rows!(rows)
+}
+
+/// The modal group of the G code that is a tenth of a key; None where there is none.
+#[inline]
+pub fn g_group(key: u64) -> Option<u16>
+    ensures group { result ≡ value_of key g_rows }
+    ensures small { IfSome result (λ group. group ≤ 13) }
+{
+    g_rows!(find key;)
+}
+
+/// The group of the M code that is a tenth of a key; None where there is none.
+#[inline]
+pub fn m_group(key: u64) -> Option<u16>
+    ensures group { result ≡ value_of key m_rows }
+    ensures range { IfSome result (λ group. (20 ≤ group) × (group ≤ 22)) }
+{
+    m_rows!(find key;)
 }
 
 /// The numbers of the settings, and the place of each among them, from 0.

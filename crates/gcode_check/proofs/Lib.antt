@@ -4,3 +4,5 @@ pub mod Sound
 pub mod Causes
 pub mod Moves
 pub mod FirstRows
+pub mod Joining
+pub mod Readings

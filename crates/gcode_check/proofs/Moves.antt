@@ -14,8 +14,8 @@ use Rattle.line_words.specs.Codes.{has_g, has_m}
 use Rattle.line_words.specs.LineModes.{spindle_of, flood_of}
 use Rattle.line_words.specs.Targets.{targets}
 use Rattle.gcode_check.specs.Effects.{steps3, stops, last_of, ends_program, parser_moved, parser_after}
-use Rattle.gcode_check.specs.Items.{items_of, item_if, moves_through, rate_of, spindle_items, coolant_items, dwell_items, move_items, flow_items, spindle_changes, coolant_changes, speed_of, dwell_time}
-use Rattle.gcode_check.specs.Laws.{moves_axes, is_move}
+use Rattle.gcode_check.specs.Items.{is_move, items_of, item_if, moves_through, rate_of, spindle_items, coolant_items, dwell_items, move_items, flow_items, spindle_changes, coolant_changes, speed_of, dwell_time}
+use Rattle.gcode_check.specs.Laws.{moves_axes}
 use Rattle.gcode_check.specs.declared.Item.{Item}
 use Rattle.gcode_check.specs.declared.Item.TheVariants.{Spindle, Coolant, Dwell, Pause, ProgramEnd}
 
@@ -51,7 +51,7 @@ moves_are p ws places =
         ∙ if_no_move (has_m (code 0 0) ws) Pause refl
 
 -- the position behind a line
-after_nm : (p : Parser) (ws : List Word) (points : List Nm3) (places : List Steps3) → (parser_after p ws points places).pos_nm ≡ last_of p.pos_nm points
+pub after_nm : (p : Parser) (ws : List Word) (points : List Nm3) (places : List Steps3) → (parser_after p ws points places).pos_nm ≡ last_of p.pos_nm points
 unfolding parser_after parser_moved
 after_nm p ws points places = either (ends_program ws)
   where
@@ -59,7 +59,7 @@ after_nm p ws points places = either (ends_program ws)
     either true = refl
     either false = refl
 
-after_steps : (p : Parser) (ws : List Word) (points : List Nm3) (places : List Steps3) → (parser_after p ws points places).pos_steps ≡ last_of p.pos_steps places
+pub after_steps : (p : Parser) (ws : List Word) (points : List Nm3) (places : List Steps3) → (parser_after p ws points places).pos_steps ≡ last_of p.pos_steps places
 unfolding parser_after parser_moved
 after_steps p ws points places = either (ends_program ws)
   where

@@ -11,7 +11,7 @@ use Rattle.line_words.proofs.Tests.{or_false, row_passes}
 use Rattle.gcode_check.specs.NewOffsets.{new_offset}
 use Rattle.gcode_check.specs.Conditions.{IsNear, line_refusal, line_rows, target_out_of_range, is_far, sets_far}
 
-near_is : (at : Nm3) → is_far at ≡ false → IsNear at
+pub near_is : (at : Nm3) → is_far at ≡ false → IsNear at
 near_is at e =
     let outer = or_false (nat_lt 10000000000 (nat_abs at.x) || nat_lt 10000000000 (nat_abs at.y)) (nat_lt 10000000000 (nat_abs at.z)) e in
     let inner = or_false (nat_lt 10000000000 (nat_abs at.x)) (nat_lt 10000000000 (nat_abs at.y)) outer.0 in

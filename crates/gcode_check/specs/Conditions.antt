@@ -128,6 +128,9 @@ is_off_axis travel z = int_lt (pos 0) z || int_lt z (neg_ℤ (pos (travel * 1000
 abbrev pub is_outside : Per3 → Nm3 → Bool
 is_outside travel at = is_off_axis travel.x at.x || is_off_axis travel.y at.y || is_off_axis travel.z at.z
 
--- soft limits are on, and a target lies outside travel on some axis
+-- soft limits are on, and one of these points lies outside travel on some axis
+abbrev pub leave_travel : Settings → List Nm3 → Bool
+leave_travel s points = s.soft && list_any (is_outside s.travel) points
+
 abbrev pub leaves_travel : Parser → Settings → List Word → Bool
-leaves_travel p s ws = s.soft && list_any (is_outside s.travel) (targets p ws)
+leaves_travel p s ws = leave_travel s (targets p ws)

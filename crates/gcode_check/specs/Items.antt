@@ -1,11 +1,13 @@
 -- What an accepted line gives to do.
-use Rattle.std.specs.Prelude.{ℕ, ◌/◌, ◌<◌, Bool, true, false, not, ◌&&◌, ◌||◌, ◌==◌, if◌then◌else◌, List, [], ◌∷◌, ◌++◌, nat_abs, unwrap_or, option_map}
+use Rattle.std.specs.Prelude.{ℕ, ◌/◌, ◌<◌, Bool, true, false, not, ◌&&◌, ◌||◌, ◌==◌, nat_lt, if◌then◌else◌, List, [], ◌∷◌, ◌++◌, nat_abs, unwrap_or, option_map}
+use Rattle.std.specs.List.{list_any}
 use Rattle.units.specs.declared.Steps3.{Steps3}
 use Rattle.units.specs.declared.Rate.{Rate}
 use Rattle.units.specs.declared.Rate.TheVariants.{Rapid, Feed}
 use Rattle.units.specs.declared.Move.{Move as Way}
 use Rattle.units.specs.Lengths.{IsMove}
 use Rattle.units.specs.Limits.{IsRate}
+use Rattle.step_line.specs.Counting.{events_of}
 use Rattle.gcode_words.specs.declared.Word.{Word}
 use Rattle.code_table.specs.Tables.{code}
 use Rattle.modal_state.specs.declared.SpindleMode.{SpindleMode}
@@ -85,6 +87,33 @@ flow_items ws = item_if (has_m (code 0 0) ws) Pause ++ item_if (ends_program ws)
 -- the items of a line that moves through these places, in their order
 unfoldable pub items_of : Parser → List Word → List Steps3 → List Item
 items_of p ws places = spindle_items p ws ++ coolant_items p ws ++ dwell_items ws ++ move_items p ws places ++ flow_items ws
+
+abbrev pub is_move : Item → Bool
+is_move (Spindle mode speed) = false
+is_move (Coolant on) = false
+is_move (Dwell ms) = false
+is_move (Move way rate) = true
+is_move Pause = false
+is_move ProgramEnd = false
+
+-- a move of at least one event
+abbrev pub is_motion : Item → Bool
+is_motion (Spindle mode speed) = false
+is_motion (Coolant on) = false
+is_motion (Dwell ms) = false
+is_motion (Move way rate) = nat_lt 0 (events_of way)
+is_motion Pause = false
+is_motion ProgramEnd = false
+
+-- among the items of a line is a move of at least one event
+abbrev pub has_events : List Item → Bool
+has_events items = list_any is_motion items
+
+-- a line settles where it has items and the last is no move
+abbrev pub settling : List Item → Bool
+settling [] = false
+settling (item ∷ []) = not (is_move item)
+settling (item ∷ next ∷ items) = settling (next ∷ items)
 
 -- a move between places in reach, at a rate in range
 pub record IsMoveAt (way : Way) (rate : Rate) : Type 0 where

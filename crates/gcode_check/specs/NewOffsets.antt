@@ -3,6 +3,7 @@ use Rattle.std.specs.Prelude.{ℕ, ◌*◌, Bool, false, not, ◌&&◌, ◌==◌
 use Rattle.std.specs.declared.option.Option.{Option}
 use Rattle.units.specs.declared.Decimal.{Decimal}
 use Rattle.units.specs.declared.Nm3.{Nm3}
+use Rattle.units.specs.Lengths.{minus}
 use Rattle.gcode_words.specs.declared.Word.{Word}
 use Rattle.code_table.specs.Tables.{code}
 use Rattle.modal_state.specs.declared.Parser.{Parser}
@@ -25,9 +26,6 @@ has_l n ws = is_exactly n (given L ws)
 -- the system that a G10 sets: that of P, and with P0 or no P the line's
 abbrev pub set_system : Parser → List Word → ℕ
 set_system p ws = let n = unwrap_or (whole_given P ws) 0 in if n == 0 then system_of p ws else n
-
-abbrev pub minus : Nm3 → Nm3 → Nm3
-minus a b = record { x = a.x -ℤ b.x; y = a.y -ℤ b.y; z = a.z -ℤ b.z }
 
 -- a point less the length on each named axis
 abbrev pub less : Nm3 → Lengths → Lengths

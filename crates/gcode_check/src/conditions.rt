@@ -8,7 +8,7 @@ ghost use Rattle.line_words.specs.Given.{is_over};
 ghost use Rattle.line_words.specs.LineModes.{motion_of};
 ghost use Rattle.line_words.specs.Targets.{targets};
 ghost use Rattle.gcode_check.specs.NewOffsets.{new_offset};
-ghost use Rattle.gcode_check.specs.Conditions.{is_g80, is_g1, line_number_out_of_range, dwell_without_time, system_offset_without_axis, system_offset_without_system, system_out_of_range, system_offset_unsupported, shift_without_axis, machine_coordinates_without_motion, axis_words_without_motion, motion_without_feed, unused_words, IsNear, is_far, sets_far, target_out_of_range, is_off_axis, is_outside, command_rows, value_rows, line_refusal};
+ghost use Rattle.gcode_check.specs.Conditions.{is_g80, is_g1, line_number_out_of_range, dwell_without_time, system_offset_without_axis, system_offset_without_system, system_out_of_range, system_offset_unsupported, shift_without_axis, machine_coordinates_without_motion, axis_words_without_motion, motion_without_feed, unused_words, IsNear, is_far, sets_far, target_out_of_range, is_off_axis, is_outside, leave_travel, command_rows, value_rows, line_refusal};
 
 use crate::offsets::{has_l, new_offset};
 use code_table::Code;
@@ -42,7 +42,8 @@ pub fn is_g1(motion: MotionMode) -> bool
     matches!(motion, MotionMode::G1)
 }
 
-fn line_number_out_of_range(line: &Line<'_>) -> bool
+/// Whether the line number, the whole part of N, is over 10,000,000, which is error 27.
+pub fn line_number_out_of_range(line: &Line<'_>) -> bool
     ensures { result ≡ line_number_out_of_range line.now }
 {
     is_over(10_000_000, whole_given(b'N', line))
@@ -118,8 +119,8 @@ fn unused_words(line: &Line<'_>) -> bool
         || line.stands(b'R')
 }
 
-/// Whether a point is beyond 10,000 mm on some axis.
-fn is_far(at: &Nm3) -> bool
+/// Whether a point is beyond 10,000 mm of the machine's zero on some axis, which is error 33 of a target.
+pub fn is_far(at: &Nm3) -> bool
     ensures { result ≡ is_far at.now }
 {
     at.x.unsigned_abs() > 10_000_000_000
@@ -248,9 +249,10 @@ fn any_outside(travel: &Per3, points: &[Nm3]) -> bool
     points.iter().any(|point| is_outside(travel, point))
 }
 
-/// Whether soft limits are on and one of these points lies outside travel.
-pub fn leaves_travel(s: &Settings, points: &[Nm3]) -> bool
-    ensures { result ≡ (s.now.soft && list_any (is_outside s.now.travel) points.now) }
+/// Whether soft limits are on and one of these points lies outside travel, which is above 0 or below minus the travel, on
+/// some axis.
+pub fn leave_travel(s: &Settings, points: &[Nm3]) -> bool
+    ensures { result ≡ leave_travel s.now points.now }
 {
     s.soft && any_outside(&s.travel, points)
 }

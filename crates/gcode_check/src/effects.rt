@@ -77,8 +77,8 @@ fn set_offsets(p: &mut Parser, line: &Line<'_>)
     }
 }
 
-/// A point in steps.
-fn steps3(at: &Nm3, per_mm: &Per3) -> Steps3
+/// A point in steps: on each axis the nearest step.
+pub fn steps3(at: &Nm3, per_mm: &Per3) -> Steps3
     requires near { IsNear at.now }
     requires scales { OnEachAxis IsScale per_mm.now }
     ensures steps { result ≡ steps3 per_mm.now at.now }

@@ -5,13 +5,17 @@ ghost use Rattle.gcode_words.specs.declared.Word.{Word};
 ghost use Rattle.code_table.specs.declared.Code.{Code};
 ghost use Rattle.code_table.specs.Tables.{code};
 ghost use Rattle.modal_state.specs.declared.Parser.{Parser};
+ghost use Rattle.modal_state.specs.Modes.{IsParser, offset_of};
 ghost use Rattle.settings.specs.declared.Settings.{Settings};
 ghost use Rattle.line_words.specs.Codes.{has_g};
 ghost use Rattle.line_words.specs.Given.{names_axis};
+ghost use Rattle.line_words.specs.LineModes.{system_of};
+ghost use Rattle.line_words.specs.Targets.{named};
 ghost use Rattle.gcode_check.specs.Conditions.{leaves_travel};
 ghost use Rattle.gcode_check.specs.Effects.{steps3};
 ghost use Rattle.gcode_check.specs.Verdicts.{verdict, refusal_of, accepted};
-ghost use Rattle.gcode_check.specs.Laws.{parser_behind, moves_axes};
+ghost use Rattle.gcode_check.specs.NewOffsets.{has_l, set_system};
+ghost use Rattle.gcode_check.specs.Laws.{parser_behind, moves_axes, Join, reading, IsAsSaid};
 ghost use Rattle.gcode_check.specs.declared.Accept.{Accept as Accepted};
 ghost use Rattle.gcode_check.specs.declared.Verdict.TheVariants.{Accept, Refuse, Limit};
 
@@ -47,4 +51,23 @@ pub fn lines_without_axes_stay()
 pub fn moves_end_at_the_position()
     ensures { (p : Parser) (s : Settings) (ws : List Word) (a : Accepted) → verdict p s ws ≡ Accept a →
         moves_axes a.items.items ≡ true → a.next.pos_steps ≡ steps3 s.limits.per_mm a.next.pos_nm }
+{}
+
+/// The moves of an accepted line join: the first begins at the position, each other where the one before ends, and the
+/// last ends at the position behind the line.
+pub fn moves_join()
+    ensures { (p : Parser) (s : Settings) (ws : List Word) (a : Accepted) → verdict p s ws ≡ Accept a →
+        Join p.pos_steps a.items.items a.next.pos_steps }
+{}
+
+/// An offset reads as its line says. Behind a G92 the position, less the offsets, is the value said on each named axis, in
+/// the line's system; behind a G10 L20 it is so in the system that the line sets, that of P or else the line's; and behind
+/// a G10 L2 the offset of that system has the values said.
+pub fn offsets_read_as_said()
+    ensures shift { (p : Parser) (s : Settings) (ws : List Word) (a : Accepted) → IsParser p → has_g (code 92 0) ws ≡ true →
+        verdict p s ws ≡ Accept a → IsAsSaid (named p ws) (reading a.next (system_of p ws)) }
+    ensures here { (p : Parser) (s : Settings) (ws : List Word) (a : Accepted) → IsParser p → has_g (code 10 0) ws ≡ true → has_l 20 ws ≡ true →
+        verdict p s ws ≡ Accept a → IsAsSaid (named p ws) (reading a.next (set_system p ws)) }
+    ensures there { (p : Parser) (s : Settings) (ws : List Word) (a : Accepted) → IsParser p → has_g (code 10 0) ws ≡ true → has_l 2 ws ≡ true →
+        verdict p s ws ≡ Accept a → IsAsSaid (named p ws) (offset_of a.next.offsets (set_system p ws)) }
 {}

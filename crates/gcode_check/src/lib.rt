@@ -23,13 +23,15 @@ mod offsets;
 
 use arrayvec::ArrayVec;
 use code_table::Code;
-use conditions::{leaves_travel, line_refusal};
+use conditions::line_refusal;
+pub use conditions::{is_far, leave_travel, line_number_out_of_range};
+pub use effects::steps3;
 use effects::{stops, take_effects};
 use gcode_words::Words;
 use items::push_items;
 pub use laws::{
-    lines_without_axes_stay, moves_end_at_the_position, refused_lines_change_nothing,
-    verdicts_have_one_cause,
+    lines_without_axes_stay, moves_end_at_the_position, moves_join, offsets_read_as_said,
+    refused_lines_change_nothing, verdicts_have_one_cause,
 };
 use line_words::{Line, targets};
 use modal_state::{Parser, SpindleMode};
@@ -142,7 +144,7 @@ pub fn take_line(p: &mut Parser, s: &Settings, w: &Words, items: &mut Items) -> 
     if let Some(code) = line_refusal(p, &line, points) {
         return Err(Refusal::Error(code));
     }
-    if leaves_travel(s, points) {
+    if leave_travel(s, points) {
         return Err(Refusal::SoftLimit);
     }
     let stops = stops(points, &s.limits.per_mm);

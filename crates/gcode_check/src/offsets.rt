@@ -1,10 +1,11 @@
 //! The offsets that a line sets.
 
 ghost use Rattle.std.specs.Prelude.{◌≡◌, ◌*◌, ◌≤◌, ◌<◌, ◌-ℤ◌, nat_abs, true, IfSome, option_map};
+ghost use Rattle.units.specs.Lengths.{minus};
 ghost use Rattle.units.specs.declared.Decimal.{Decimal};
 ghost use Rattle.modal_state.specs.Modes.{IsParser, IsWithin, farthest, offset_of};
 ghost use Rattle.line_words.specs.Targets.{longest, IsLength, AreLengths};
-ghost use Rattle.gcode_check.specs.NewOffsets.{is_exactly, has_l, set_system, minus, less, new_system_offset, new_g92, new_offset};
+ghost use Rattle.gcode_check.specs.NewOffsets.{is_exactly, has_l, set_system, less, new_system_offset, new_g92, new_offset};
 
 use line_words::commands::{G10, G92};
 use line_words::{Lengths, Line, ORIGIN, line_offset, named, replaced, system_of, whole_given};

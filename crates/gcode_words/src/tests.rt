@@ -128,3 +128,17 @@ fn the_first_place_without_a_word_is_the_fault(rt: HostRuntime) {
         }
     }
 }
+
+#[test]
+fn faults_have_texts(rt: HostRuntime) -> Result<(), Fail> {
+    for (fault, text) in [
+        (WordFault::Letter, "a word begins with a letter from A to Z"),
+        (
+            WordFault::Number,
+            "a letter is followed by a number below 1,000,000,000",
+        ),
+    ] {
+        assert_eq!(rt; format!(in rt.alloc(); "{fault}")?.as_str(), text);
+    }
+    Ok(())
+}

@@ -1,12 +1,18 @@
 //! The Grbl interpreter: a job from standard input, replies to standard output, step events to `steps.out`.
 #![tactic(auto)]
 
-use grbl_app::{exit_number, put_fault, run_grbl};
+ghost use Rattle.std.specs.Prelude.{◌≡◌, ◌↔◌};
+ghost use Rattle.std.specs.IoError.{error_kind};
+
+mod limited;
+
+use grbl_app::{Status, exit_number, put_fault, run_grbl};
+use limited::Limited;
 use outside::{Failed, OpenGate, ReadSource, Sink, WriteSink};
 use std::alloc::{AllocError, Global};
 use std::env;
-use std::fs::{self, File};
-use std::io::{self, Write};
+use std::fs::File;
+use std::io::{self, ErrorKind, Write};
 use std::process::ExitCode;
 use units::Text;
 
@@ -15,7 +21,7 @@ use units::Text;
 #[derive(Drop)]
 struct StepsFile<'a> {
     rt: &'a HostRuntime,
-    file: Option<File>,
+    file: Option<Limited<File>>,
     begun: bool,
     faults: u64,
 }
@@ -28,7 +34,7 @@ impl Sink for StepsFile<'_> {
     fn write(&mut self, piece: &[u8]) -> Result<usize, Failed> {
         if !self.begun {
             self.begun = true;
-            self.file = fs::create(self.rt, "steps.out").ok();
+            self.file = Limited::create(self.rt, "steps.out").ok();
         }
         if let Some(file) = &mut self.file {
             if let Ok(count) = file.write(piece) {
@@ -60,28 +66,42 @@ fn as_strs<'a>(alloc: Global, owned: &'a [String]) -> Result<Vec<&'a str>, Alloc
     Ok(words)
 }
 
+/// How a run ends whose words could not be read. Words that are no text are no command.
+fn words_fault(error: &io::Error) -> Status
+    ensures memory { result ≡ Status.OutOfMemory ↔ error_kind error.now ≡ ErrorKind.OutOfMemory }
+    ensures refused { (error_kind error.now ≡ ErrorKind.OutOfMemory → ⊥) → result ≡ Status.Usage }
+{
+    match error.kind() {
+        ErrorKind::OutOfMemory => Status::OutOfMemory,
+        _ => Status::Usage,
+    }
+}
+
 fn main(rt: HostRuntime) -> ExitCode {
     let alloc = rt.alloc();
-    // Words that could not be read are no command.
-    let owned = read_words(&rt).unwrap_or(Vec::new(alloc));
-    let words = as_strs(alloc, owned.as_slice()).unwrap_or(Vec::new(alloc));
     let mut job = ReadSource::new(rt.stdin());
-    let mut console = WriteSink::new(rt.stdout());
+    let mut console = WriteSink::new(Limited::stdout(&rt));
     let mut steps = StepsFile {
         rt: &rt,
         file: None,
         begun: false,
         faults: 0,
     };
-    let status = run_grbl(
-        &rt,
-        alloc,
-        words.as_slice(),
-        &mut job,
-        &mut console,
-        &mut steps,
-        &OpenGate,
-    );
+    let status = match read_words(&rt) {
+        Err(error) => words_fault(&error),
+        Ok(owned) => match as_strs(alloc, owned.as_slice()) {
+            Err(AllocError) => Status::OutOfMemory,
+            Ok(words) => run_grbl(
+                &rt,
+                alloc,
+                words.as_slice(),
+                &mut job,
+                &mut console,
+                &mut steps,
+                &OpenGate,
+            ),
+        },
+    };
     let mut text = Text::new();
     put_fault(&status, &mut text);
     let _ = rt.stderr().write_all(text.as_slice());

@@ -1,5 +1,5 @@
 -- How a run ends, from what was read and written.
-use Rattle.std.proofs.Common.{◌≡◌, ◌≢◌, ℕ, zero, suc, ◌+◌, ◌≤◌, ◌<◌, Bool, true, false, Some, None, List, ◌++◌, length, refl, sym, ap, ◌∙◌, append-nil, length-append, arith, subst}
+use Rattle.std.proofs.Common.{◌≡◌, ◌≢◌, ℕ, zero, suc, ◌+◌, ◌≤◌, ◌<◌, Bool, true, false, Some, None, List, [], ◌∷◌, ◌++◌, length, map, refl, sym, ap, ◌∙◌, append-nil, length-append, arith, subst}
 use Rattle.std.specs.declared.option.Option.{Option}
 use Rattle.std.specs.Io.KnownBytes.{Appends, Consumes, IsAtEnd}
 use Rattle.outside.specs.Causes.{SourceState, SinkState}
@@ -7,10 +7,13 @@ use Rattle.run_rules.specs.declared.Reading.{Reading}
 use Rattle.run_rules.specs.declared.Reading.TheVariants.{Ended, Failed, Large}
 use Rattle.run_rules.specs.Lines.{lines_of}
 use Rattle.run_rules.specs.Readings.{largest_job, FitsReading, job_of, sent_lines}
-use Rattle.run_rules.specs.Outcomes.{Answered}
+use Rattle.gcode_words.specs.Stripping.{plain}
+use Rattle.run_rules.specs.Work.{Outcome}
+use Rattle.run_rules.specs.Outcomes.{Passed, Follows, start}
+use Rattle.run_rules.specs.Outcomes.Passed.{a_line}
 use Rattle.run_rules.specs.Told.{errors_in}
 use Rattle.run_rules.proofs.Determined.{one_opening, one_run}
-use Rattle.step_record.specs.Writing.{Took}
+use Rattle.outside.specs.Writing.{Took}
 use Rattle.grbl_app.specs.Engines.{Sinks}
 use Rattle.grbl_app.specs.Ends.{IsRun, HasRun, HasCauses, first_cause, by_errors}
 use Rattle.grbl_app.specs.declared.status.Status.{Status}
@@ -48,6 +51,16 @@ read_fits (Some xs) (Some ys) bytes read told taken =
 fits_at : (reading other : Reading) (n : ℕ) → reading ≡ other → FitsReading reading n → FitsReading other n
 fits_at reading other n e fits = let P : Reading → Type 0 = λ r. FitsReading r n in subst P e fits
 
+-- the outcomes among what was passed
+outcomes_in : List Passed → List Outcome
+outcomes_in [] = []
+outcomes_in (a_line o ∷ ps) = o ∷ outcomes_in ps
+
+outcomes_back : (os : List Outcome) → outcomes_in (map a_line os) ≡ os
+unfolding outcomes_in
+outcomes_back [] = refl
+outcomes_back (o ∷ os) = ap (λ xs. o ∷ xs) (outcomes_back os)
+
 -- the causes, by what failed and how the reading ended
 by_cases : (a b : SourceState) (old new : Sinks) (status : Status) (run : IsRun a b old new status) (sf cf : Bool) (reading : Reading)
     → run.steps_failed ≡ sf → run.console_failed ≡ cf → run.reading ≡ reading
@@ -81,7 +94,7 @@ by_cases a b old new status run false false Failed es ec er = record {
 }
 by_cases a b old new status run false false Large es ec er = record {
   complete = λ job source console steps.
-      let more : largest_job < length run.read = fits_at run.reading Large (length run.read) er run.fits in
+      let more : largest_job < length run.read = (fits_at run.reading Large (length run.read) er run.fits).0 in
       absurd (omega (arith, more, job.few, read_fits a.left b.left job.bytes run.read job.told run.taken));
   has_run = tt;
   source = λ e. absurd cc;
@@ -98,9 +111,11 @@ by_cases a b old new status run false false Ended es ec er =
       has_run = errors_have_run (errors_in run.outcomes);
       complete = λ job source console steps.
           let read : run.read ≡ job.bytes = read_whole a.left b.left job.bytes run.read job.told run.taken (run.at_end er) in
-          let answered : Answered run.first (lines_of job.bytes) run.outcomes run.last = rw (← read, ← lines) run.answered in
+          let answered : Follows false (start run.first) (map plain (lines_of job.bytes)) (map a_line run.outcomes) run.last = rw (← read, ← lines) run.answered in
           let first : run.first ≡ job.first = one_opening run.first job.first run.opening job.opening in
-          let same : run.outcomes ≡ job.outcomes = (one_run job.first run.last job.last (lines_of job.bytes) run.outcomes job.outcomes (rw first at answered) job.answered).0 in
+          let passed : map a_line run.outcomes ≡ map a_line job.outcomes =
+          (one_run (start job.first) run.last job.last (map plain (lines_of job.bytes)) (map a_line run.outcomes) (map a_line job.outcomes) (rw first at answered) job.answered).0 in
+          let same : run.outcomes ≡ job.outcomes = sym (outcomes_back run.outcomes) ∙ ap outcomes_in passed ∙ outcomes_back job.outcomes in
           ap by_errors (ap errors_in same ∙ job.accepted);
       source = λ e. absurd (not.0 e);
       console = λ e. absurd (not.1 e);

@@ -1,8 +1,10 @@
 -- A job that is fed.
-use Rattle.std.proofs.Common.{◌≡◌, ℕ, ◌-◌, ◌≤◌, inl, inr, min, List, [], ◌++◌, take, length, sym, ap, ◌∙◌, arith, append-nil}
+use Rattle.std.proofs.Common.{◌≡◌, ℕ, ◌-◌, ◌≤◌, inl, inr, min, true, List, [], ◌∷◌, ◌++◌, take, length, map, nat_lt, sym, ap, ◌∙◌, arith, append-nil, length-append}
 use Rattle.std.proofs.lemmas.List.{take_all, length-take, take-take}
 use Rattle.std.proofs.Math.Seq.{take-append-add}
 use Rattle.std.proofs.lemmas.Bool.{cases_lt}
+use Rattle.std.proofs.lemmas.Bool.Decides.{nat_tests}
+use Rattle.gcode_words.specs.Stripping.{plain}
 use Rattle.run_rules.specs.Readings.{job_of, largest_job}
 use Rattle.grbl_app.specs.Engines.{Sinks, HasAnswered, HasFed}
 use Rattle.grbl_app.specs.Writing.{WritesOn}
@@ -17,8 +19,8 @@ shown was before now old new lines is same steps console = record {
   first = is.first;
   opening = is.opening;
   outcomes = is.outcomes;
-  answered = rw (ap (λ e. e.state) same) is.answered;
-  counted = ap (λ e. e.lines) same ∙ is.counted;
+  moved = is.moved;
+  follows = rw (ap (λ e. e.interpreter) same) is.follows;
   errors = ap (λ e. e.errors) same ∙ is.errors;
   console = let more = console.on was.console _ is.console in rw append-nil at more;
   steps = rw (ap (λ e. e.drive) same, steps) is.steps;
@@ -31,7 +33,7 @@ still_fed was before now old new line text is same steps console = record {
   lines = is.lines;
   open_line = is.open_line;
   cuts = is.cuts;
-  has_answered = shown was before now old new is.lines is.has_answered same steps console;
+  has_answered = shown was before now old new (map plain is.lines) is.has_answered same steps console;
   line_is = is.line_is;
 }
 
@@ -58,3 +60,7 @@ piece_over read buffer fed count part size few is =
     ∙ ap (λ x. x ++ take (largest_job - length read) (take count buffer)) (sym (whole_job read short))
     ∙ ap (λ x. job_of read ++ x) (take_twice (largest_job - length read) count buffer)
     ∙ ap (λ n. job_of read ++ take n buffer) (omega arith)
+
+-- a byte more has come of a line
+pub begun_more : (xs : List ℕ) (b : ℕ) → true ≡ nat_lt 0 (length (xs ++ b ∷ []))
+begun_more xs b = simp length-append (grind (arith, nat_tests))

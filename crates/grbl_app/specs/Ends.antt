@@ -1,16 +1,19 @@
 -- How a run ends.
-use Rattle.std.specs.Prelude.{◌≡◌, Some, ℕ, zero, suc, ◌≤◌, ◌<◌, Bool, cond, List, length}
+use Rattle.std.specs.Prelude.{◌≡◌, Some, ℕ, zero, suc, ◌≤◌, ◌<◌, Bool, cond, false, List, length, map}
 use Rattle.std.specs.Io.KnownBytes.{Appends, Consumes, IsAtEnd}
 use Rattle.outside.specs.Causes.{Rose, SourceState}
 use Rattle.run_rules.specs.Lines.{lines_of}
 use Rattle.run_rules.specs.States.{IsOpening}
-use Rattle.run_rules.specs.Outcomes.{Outcome, Answered}
+use Rattle.gcode_words.specs.Stripping.{plain}
+use Rattle.run_rules.specs.Work.{Outcome}
+use Rattle.run_rules.specs.Outcomes.{Before, Follows, start}
+use Rattle.run_rules.specs.Outcomes.Passed.{a_line}
 use Rattle.run_rules.specs.Told.{replies_in, replies_text, asked_in, records_text, errors_in}
 use Rattle.step_line.specs.declared.Record.{Record}
-use Rattle.step_drive.specs.Asking.{IsDriven}
+use Rattle.planner_runs.specs.Driven.{IsDriven}
 use Rattle.step_drive.specs.Driving.{HasEnded}
 use Rattle.run_rules.specs.declared.State.{State}
-use Rattle.step_record.specs.Writing.{Took}
+use Rattle.outside.specs.Writing.{Took}
 use Rattle.grbl_app.specs.Engines.{Sinks}
 use Rattle.grbl_app.specs.declared.engine.Engine.{Engine}
 use Rattle.grbl_app.specs.declared.status.Status.{Status}
@@ -43,7 +46,7 @@ pub record IsRun (job_old job_new : SourceState) (old new : Sinks) (status : Sta
   pub reading : Reading
   pub first : State
   pub outcomes : List Outcome
-  pub last : State
+  pub last : Before
   pub console_failed : Bool
   pub steps_failed : Bool
   pub taken : Consumes job_old.left job_new.left read
@@ -51,7 +54,7 @@ pub record IsRun (job_old job_new : SourceState) (old new : Sinks) (status : Sta
   pub at_end : reading ≡ Ended → IsAtEnd job_new.left
   pub source : reading ≡ Failed → Rose job_old.faults job_new.faults
   pub opening : IsOpening first
-  pub answered : Answered first (sent_lines reading (job_of read)) outcomes last
+  pub answered : Follows false (start first) (map plain (sent_lines reading (job_of read))) (map a_line outcomes) last
   pub console : Took old.console new.console console_failed (replies_text (replies_in outcomes))
   pub records : List Record
   pub driven : IsDriven (asked_in outcomes) records
@@ -70,32 +73,33 @@ pub record IsWholeRun (job_old job_new : SourceState) (old new : Sinks) (status 
   pub job : List ℕ
   pub first : State
   pub outcomes : List Outcome
-  pub last : State
+  pub last : Before
   pub taken : Consumes job_old.left job_new.left job
   pub whole : IsAtEnd job_new.left
   pub few : length job ≤ largest_job
   pub opening : IsOpening first
-  pub answered : Answered first (lines_of job) outcomes last
+  pub answered : Follows false (start first) (map plain (lines_of job)) (map a_line outcomes) last
   pub console : Appends old.console.held new.console.held (replies_text (replies_in outcomes))
   pub records : List Record
   pub driven : IsDriven (asked_in outcomes) records
   pub steps : Appends old.steps.held new.steps.held (records_text records)
   pub status_is : status ≡ by_errors (errors_in outcomes)
 
--- more bytes were read than a job may have
+-- more bytes were read than a job may have, and no more than the rest of the piece that has the first of them
 pub record TookMore (job_old job_new : SourceState) : Type 0 where
   pub read : List ℕ
   pub taken : Consumes job_old.left job_new.left read
-  pub more : largest_job < length read
+  pub more : FitsReading Large (length read)
 
 -- a run whose lines are answered and whose texts are handed over, after it read a text
 pub record HasFinished (was now : Sinks) (engine : Engine) (lines : List (List ℕ)) : Type 0 where
   pub first : State
   pub opening : IsOpening first
   pub outcomes : List Outcome
-  pub answered : Answered first lines outcomes engine.state
+  pub last : Before
+  pub answered : Follows false (start first) (map plain lines) (map a_line outcomes) last
   pub errors : engine.errors ≡ errors_in outcomes
-  pub console : Took was.console now.console engine.console.failed (replies_text (replies_in outcomes))
+  pub console : Took was.console now.console engine.console.text.failed (replies_text (replies_in outcomes))
   pub steps : HasEnded was.steps now.steps engine.drive.recorder.failed (asked_in outcomes)
 
 -- a job of at most 16,777,216 bytes, which its source tells, and whose lines are all accepted
@@ -105,9 +109,9 @@ pub record IsAcceptedJob (job : SourceState) : Type 0 where
   pub few : length bytes ≤ largest_job
   pub first : State
   pub outcomes : List Outcome
-  pub last : State
+  pub last : Before
   pub opening : IsOpening first
-  pub answered : Answered first (lines_of bytes) outcomes last
+  pub answered : Follows false (start first) (map plain (lines_of bytes)) (map a_line outcomes) last
   pub accepted : errors_in outcomes ≡ 0
 
 -- the words were refused, or there was no memory to read them

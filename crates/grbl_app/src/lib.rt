@@ -9,7 +9,6 @@ ghost use Rattle.grbl_app.specs.Engines.{Sinks};
 
 mod command;
 mod engine;
-mod items;
 mod open_line;
 mod output;
 mod reading;
@@ -38,7 +37,7 @@ fn stream<So: Source, Co: Sink, St: Sink>(job: &mut So, console: &mut Co, steps:
 {
     let mut engine = Engine::new();
     let mut line = OpenLine::new();
-    engine.greet(console);
+    engine.greet(console, steps);
     let reading = read_job(job, &mut line, &mut engine, console, steps);
     finish(&line, &mut engine, reading, console, steps);
     first_cause(&engine, reading)

@@ -1,18 +1,16 @@
 //! A line as it comes.
 
-ghost use Rattle.std.specs.Prelude.{◌≡◌, ◌≢◌, ℕ, ◌++◌, ◌∷◌, [], List, take, length, nat_lt};
+ghost use Rattle.std.specs.Prelude.{◌≡◌, ◌≢◌, ℕ, ◌++◌, ◌∷◌, [], List};
 ghost use Rattle.grbl_app.specs.Engines.{IsOpen};
 
-use arrayvec::ArrayVec;
-use gcode_words::{LineBuf, Stripped, Stripper};
+use gcode_words::{Stripped, Stripper};
+use line_interpreter::KeptLine;
 
-/// What has come of a line: where the stripper stands in it, the first 79 kept bytes, whether there were more,
-/// and whether any byte came.
+/// What has come of a line: where the stripper stands in it, what is kept, and whether any byte came.
 #[derive(Drop)]
 pub(crate) struct OpenLine {
     pub(crate) stripper: Stripper,
-    pub(crate) kept: LineBuf,
-    pub(crate) over: bool,
+    pub(crate) kept: KeptLine,
     pub(crate) begun: bool,
 }
 
@@ -23,8 +21,7 @@ impl OpenLine {
     {
         OpenLine {
             stripper: Stripper::new(),
-            kept: ArrayVec::new(),
-            over: false,
+            kept: KeptLine::new(),
             begun: false,
         }
     }
@@ -35,22 +32,7 @@ impl OpenLine {
     {
         self.stripper = Stripper::new();
         self.kept.clear();
-        self.over = false;
         self.begun = false;
-    }
-
-    /// One kept byte more.
-    fn keep(&mut self, byte: u8)
-        ensures kept { (all : List ℕ) → self.old.kept.items ≡ take 79 all → self.new.kept.items ≡ take 79 (all ++ byte ∷ []) }
-        ensures over { (all : List ℕ) → self.old.kept.items ≡ take 79 all → self.old.over ≡ nat_lt 79 (length all) → self.new.over ≡ nat_lt 79 (length (all ++ byte ∷ [])) }
-        ensures same { self.new.stripper ≡ self.old.stripper }
-        ensures begun { self.new.begun ≡ self.old.begun }
-    {
-        if self.kept.len() < 79 {
-            self.kept.push(byte);
-        } else {
-            self.over = true;
-        }
     }
 
     /// One byte more, no line feed.
@@ -61,7 +43,7 @@ impl OpenLine {
         self.begun = true;
         let stripped = self.stripper.feed(byte);
         if let Stripped::Keep(kept) = stripped {
-            self.keep(kept);
+            self.kept.push(kept);
         }
     }
 }

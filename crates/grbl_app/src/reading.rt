@@ -1,15 +1,19 @@
 //! A job that is read and fed to the engine.
 
-ghost use Rattle.std.specs.Prelude.{◌≡◌, ℕ, ◌+◌, ◌≤◌, ◌<◌, ◌^◌, ◌++◌, ◌∷◌, [], List, length};
-ghost use Rattle.std.specs.Io.KnownBytes.{Consumes, IsAtEnd};
-ghost use Rattle.outside.specs.Causes.{Rose};
+ghost use Rattle.std.specs.Prelude.{◌≡◌, ℕ, ◌+◌, ◌≤◌, ◌<◌, ◌^◌, ◌++◌, ◌∷◌, [], List, OnOk, length, map};
+ghost use Rattle.std.specs.Io.{ReadsAtMost};
+ghost use Rattle.std.specs.Io.KnownBytes.{Consumes, ReadConsumes, IsAtEnd};
+ghost use Rattle.outside.specs.Causes.{Rose, HasCause};
+ghost use Rattle.gcode_words.specs.Stripping.{plain};
 ghost use Rattle.run_rules.specs.Readings.{FitsReading, job_of, sent_lines};
 ghost use Rattle.grbl_app.specs.Engines.{IsOpen, Sinks, IsReady, HasFed, HasAnswered};
 ghost use Rattle.grbl_app.specs.Ends.{HasFinished};
+ghost use Rattle.grbl_app.specs.Writing.{IsShown};
 
 use crate::engine::Engine;
 use crate::open_line::OpenLine;
-use outside::{Sink, Source};
+use crate::output::Output;
+use outside::{Failed, Sink, Source};
 use run_rules::Reading;
 
 /// So many bytes at most are a job.
@@ -25,15 +29,15 @@ fn feed_byte<Co: Sink, St: Sink>(
     steps: &mut St,
 )
     requires ready { IsReady (St.state steps.old) engine.old }
-    requires few { engine.old.lines + 1 < 2 ^ 32 }
+    requires few { engine.old.interpreter.number + 1 < 2 ^ 32 }
     ensures ready { IsReady (St.state steps.new) engine.new }
-    ensures few { engine.new.lines ≤ engine.old.lines + 1 }
+    ensures few { engine.new.interpreter.number ≤ engine.old.interpreter.number + 1 }
     ensures fed { (was : Sinks) (text : List ℕ) →
         HasFed was (record { console = Co.state console.old; steps = St.state steps.old }) engine.old line.old text →
         HasFed was (record { console = Co.state console.new; steps = St.state steps.new }) engine.new line.new (text ++ byte ∷ []) }
 {
     if byte == b'\n' {
-        engine.answer(line, console, steps);
+        engine.answer(&line.kept, console, steps);
         line.clear();
     } else {
         line.feed(byte);
@@ -49,9 +53,9 @@ fn feed<Co: Sink, St: Sink>(
     steps: &mut St,
 )
     requires ready { IsReady (St.state steps.old) engine.old }
-    requires few { engine.old.lines + length piece.now < 2 ^ 32 }
+    requires few { engine.old.interpreter.number + length piece.now < 2 ^ 32 }
     ensures ready { IsReady (St.state steps.new) engine.new }
-    ensures few { engine.new.lines ≤ engine.old.lines + length piece.now }
+    ensures few { engine.new.interpreter.number ≤ engine.old.interpreter.number + length piece.now }
     ensures fed { (was : Sinks) (text : List ℕ) →
         HasFed was (record { console = Co.state console.old; steps = St.state steps.old }) engine.old line.old text →
         HasFed was (record { console = Co.state console.new; steps = St.state steps.new }) engine.new line.new (text ++ piece.now) }
@@ -70,15 +74,29 @@ fn feed_and_show<Co: Sink, St: Sink>(
     steps: &mut St,
 )
     requires ready { IsReady (St.state steps.old) engine.old }
-    requires few { engine.old.lines + length piece.now < 2 ^ 32 }
+    requires few { engine.old.interpreter.number + length piece.now < 2 ^ 32 }
     ensures ready { IsReady (St.state steps.new) engine.new }
-    ensures few { engine.new.lines ≤ engine.old.lines + length piece.now }
+    ensures few { engine.new.interpreter.number ≤ engine.old.interpreter.number + length piece.now }
     ensures fed { (was : Sinks) (text : List ℕ) →
         HasFed was (record { console = Co.state console.old; steps = St.state steps.old }) engine.old line.old text →
         HasFed was (record { console = Co.state console.new; steps = St.state steps.new }) engine.new line.new (text ++ piece.now) }
+    ensures shown { IsShown engine.new.console }
 {
     feed(piece, line, engine, console, steps);
-    engine.console.flush(console);
+    let told = &mut engine.console;
+    told.flush(console);
+}
+
+/// Reads the next piece, once all that was told is shown: a sender that waits for an answer is not kept waiting.
+#[inline]
+fn read_piece<So: Source>(job: &mut So, told: &Output, buffer: &mut [u8]) -> Result<usize, Failed>
+    requires shown { IsShown told.now }
+    ensures bound { ReadsAtMost result buffer.new }
+    ensures bytes { ReadConsumes (So.state job.old).left (So.state job.new).left result buffer.new }
+    ensures cause { HasCause (So.state job.old).faults (So.state job.new).faults result }
+    ensures faultless { OnOk result ((So.state job.new).faults ≡ (So.state job.old).faults) }
+{
+    job.read(buffer)
 }
 
 /// Reads a job in pieces of up to 4,096 bytes, and feeds its first 16,777,216 bytes to the engine.
@@ -90,9 +108,10 @@ pub(crate) fn read_job<So: Source, Co: Sink, St: Sink>(
     steps: &mut St,
 ) -> Reading
     requires ready { IsReady (St.state steps.old) engine.old }
-    requires few { engine.old.lines ≡ 0 }
+    requires shown { IsShown engine.old.console }
+    requires few { engine.old.interpreter.number ≡ 1 }
     ensures ready { IsReady (St.state steps.new) engine.new }
-    ensures few { engine.new.lines ≤ 16777216 }
+    ensures few { engine.new.interpreter.number ≤ 16777217 }
     ensures later { (So.state job.old).faults ≤ (So.state job.new).faults }
     ensures cause { result ≡ Reading.Failed → Rose (So.state job.old).faults (So.state job.new).faults }
     ensures fed { (was : Sinks) →
@@ -104,7 +123,7 @@ pub(crate) fn read_job<So: Source, Co: Sink, St: Sink>(
     let mut buffer = [0u8; 4096];
     let mut fed: usize = 0;
     loop {
-        let Ok(count) = job.read(&mut buffer) else {
+        let Ok(count) = read_piece(job, &engine.console, &mut buffer) else {
             return Reading::Failed;
         };
         if count == 0 {
@@ -129,10 +148,10 @@ fn answer_last<Co: Sink, St: Sink>(
     steps: &mut St,
 )
     requires ready { IsReady (St.state steps.old) engine.old }
-    requires few { engine.old.lines + 1 < 2 ^ 32 }
+    requires few { engine.old.interpreter.number + 1 < 2 ^ 32 }
     ensures answered { (was : Sinks) (text : List ℕ) →
         HasFed was (record { console = Co.state console.old; steps = St.state steps.old }) engine.old line.now text →
-        HasAnswered was (record { console = Co.state console.new; steps = St.state steps.new }) engine.new (sent_lines reading text) }
+        HasAnswered was (record { console = Co.state console.new; steps = St.state steps.new }) engine.new (map plain (sent_lines reading text)) }
     ensures ready { IsReady (St.state steps.new) engine.new }
 {
     match reading {
@@ -143,7 +162,7 @@ fn answer_last<Co: Sink, St: Sink>(
     if !line.begun {
         return;
     }
-    engine.answer(line, console, steps);
+    engine.answer(&line.kept, console, steps);
 }
 
 /// Answers the last line, ends the steps, and writes what waits.
@@ -155,7 +174,7 @@ pub(crate) fn finish<Co: Sink, St: Sink>(
     steps: &mut St,
 )
     requires ready { IsReady (St.state steps.old) engine.old }
-    requires few { engine.old.lines + 1 < 2 ^ 32 }
+    requires few { engine.old.interpreter.number + 1 < 2 ^ 32 }
     ensures { (was : Sinks) (text : List ℕ) →
         HasFed was (record { console = Co.state console.old; steps = St.state steps.old }) engine.old line.now text →
         HasFinished was (record { console = Co.state console.new; steps = St.state steps.new }) engine.new (sent_lines reading text) }

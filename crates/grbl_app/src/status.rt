@@ -51,12 +51,12 @@ fn by_errors(errors: u32) -> Status
 
 /// The status of a run: the first cause that holds.
 pub(crate) fn first_cause(engine: &Engine, reading: Reading) -> Status
-    ensures { result ≡ first_cause engine.now.drive.recorder.failed engine.now.console.failed reading engine.now.errors }
+    ensures { result ≡ first_cause engine.now.drive.recorder.failed engine.now.console.text.failed reading engine.now.errors }
 {
     if engine.drive.failed() {
         return Status::StepsFault;
     }
-    if engine.console.failed {
+    if engine.console.failed() {
         return Status::ConsoleFault;
     }
     match reading {

@@ -15,7 +15,7 @@ use Rattle.step_line.specs.Counting.{way}
 use Rattle.line_geom.specs.Geometry.{axis_length, IsGeomOf, line_length}
 use Rattle.line_geom.proofs.Squares.{root_below}
 use Rattle.line_geom.proofs.Geometries.{bounded, unit_size}
-use Rattle.junction_speed.specs.Junctions.{turn_of, sine_of, corner_of, cap_at, junction_of, squared, IsReversed}
+use Rattle.junction_speed.specs.Junctions.{turn_of, sine_of, corner_of, cap_at, junction_of, squared_length, IsReversed}
 use Rattle.junction_speed.proofs.Caps.{cap_back, cap_corner}
 
 turn_swapped : (p n : Geom) → turn_of p n ≡ turn_of n p
@@ -37,7 +37,7 @@ square_back (negsuc n) v e = rw e refl
 sum_back : (a b c : ℕ) → neg_ℤ (neg_ℤ (pos a) +ℤ neg_ℤ (pos b) +ℤ neg_ℤ (pos c)) ≡ pos (a + b + c)
 sum_back a b c = omega (arith, ints)
 
-turn_back : (p n : Geom) → IsReversed p n → turn_of p n ≡ pos (squared p / 1000000)
+turn_back : (p n : Geom) → IsReversed p n → turn_of p n ≡ pos (squared_length p / 1000000)
 turn_back p n is =
     ap (λ x. int_div_euclid (neg_ℤ (x +ℤ p.uy *ℤ n.uy +ℤ p.uz *ℤ n.uz)) (pos 1000000)) (square_back p.ux n.ux is.x)
     ∙ ap (λ y. int_div_euclid (neg_ℤ (neg_ℤ (pos (nat_abs p.ux * nat_abs p.ux)) +ℤ y +ℤ p.uz *ℤ n.uz)) (pos 1000000)) (square_back p.uy n.uy is.y)
@@ -47,11 +47,11 @@ turn_back p n is =
 far_back : (c : ℕ) → 1000000 ≤ c → int_lt (pos 999999) (pos c) ≡ true
 far_back c h = grind (arith, ints)
 
-pub reversal_stops : (p n : Geom) (d : ℕ) → IsReversed p n → 1000000000000 ≤ squared p → junction_of p n d ≡ At 0
+pub reversal_stops : (p n : Geom) (d : ℕ) → IsReversed p n → 1000000000000 ≤ squared_length p → junction_of p n d ≡ At 0
 unfolding junction_of
 reversal_stops p n d is long =
     ap (λ t. cap_at t (min p.accel n.accel) d) (turn_back p n is)
-    ∙ cap_back (pos (squared p / 1000000)) (min p.accel n.accel) d (far_back (squared p / 1000000) (le-div 1000000 (squared p) 1000000 (omega arith) (omega arith)))
+    ∙ cap_back (pos (squared_length p / 1000000)) (min p.accel n.accel) d (far_back (squared_length p / 1000000) (le-div 1000000 (squared_length p) 1000000 (omega arith) (omega arith)))
 
 -- a line of 2 nm or more is no longer than its axes say
 line_square : (x y z L : ℕ) → L ≡ line_length x y z → 2 ≤ L → L * L ≤ x * x + y * y + z * z
@@ -82,7 +82,7 @@ units_long x y z L u v w is two ux uy uz =
     le_of_mul-le-mul_left {k = L * L} (omega (arith, line, px, py, pz)) square
 
 -- so the direction of any move is nearly of length 1
-squared_low : (mv : Move) (p : Geom) → IsGeomOf mv p → 999993000000 ≤ squared p
+squared_low : (mv : Move) (p : Geom) → IsGeomOf mv p → 999993000000 ≤ squared_length p
 squared_low mv p of =
     let is = of.geom in
     let bounds = bounded mv of.limits p of.places of.in_range is in
@@ -116,10 +116,10 @@ sine_back c low high =
 pub reversal_nearly_stops : (mv : Move) (p n : Geom) (d : ℕ) → IsGeomOf mv p → IsReversed p n → (cap : ℕ) × (junction_of p n d ≡ At cap) × (500 * cap ≤ min p.accel n.accel * d)
 unfolding junction_of
 reversal_nearly_stops mv p n d of is =
-    let c : ℕ = squared p / 1000000 in
+    let c : ℕ = squared_length p / 1000000 in
     let a : ℕ = min p.accel n.accel in
     let turn = ap (λ t. cap_at t a d) (turn_back p n is) in
-    let low : 999993 ≤ c = le-div 999993 (squared p) 1000000 (omega arith) (omega (arith, squared_low mv p of)) in
+    let low : 999993 ≤ c = le-div 999993 (squared_length p) 1000000 (omega arith) (omega (arith, squared_low mv p of)) in
     elim (cases_lt 999999 c) [
       | inl back ↦ (0, turn ∙ cap_back (pos c) a d (far_back c back), omega arith)
       | inr near ↦

@@ -35,5 +35,5 @@ pub record IsReversed (p n : Geom) : Type 0 where
   pub z : n.uz ≡ neg_ℤ p.uz
 
 -- the square of a direction's length, in millionths of millionths: 1,000,000,000,000 but for what rounding took
-abbrev pub squared : Geom → ℕ
-squared g = nat_abs g.ux * nat_abs g.ux + nat_abs g.uy * nat_abs g.uy + nat_abs g.uz * nat_abs g.uz
+abbrev pub squared_length : Geom → ℕ
+squared_length g = nat_abs g.ux * nat_abs g.ux + nat_abs g.uy * nat_abs g.uy + nat_abs g.uz * nat_abs g.uz

@@ -5,7 +5,7 @@ ghost use Rattle.units.specs.declared.Move.{Move};
 ghost use Rattle.line_geom.specs.declared.Geom.{Geom};
 ghost use Rattle.line_geom.specs.declared.Cap.TheVariants.{At};
 ghost use Rattle.line_geom.specs.Geometry.{IsGeomOf};
-ghost use Rattle.junction_speed.specs.Junctions.{junction_of, squared, IsReversed};
+ghost use Rattle.junction_speed.specs.Junctions.{junction_of, squared_length, IsReversed};
 
 /// Two moves have the same cap in either order.
 pub fn same_in_either_order()
@@ -14,7 +14,7 @@ pub fn same_in_either_order()
 
 /// The machine stops where the next move goes straight back, unless rounding made the direction too short.
 pub fn stops_at_a_reversal()
-    ensures { (p n : Geom) (deviation : ℕ) → IsReversed p n → 1000000000000 ≤ squared p → junction_of p n deviation ≡ At 0 }
+    ensures { (p n : Geom) (deviation : ℕ) → IsReversed p n → 1000000000000 ≤ squared_length p → junction_of p n deviation ≡ At 0 }
 {}
 
 /// Rounding takes so little from a direction that the machine all but stops where any move is followed by one straight

@@ -22,7 +22,8 @@ rebuilt : (N L₀ : ℕ) (U V W : ℕ → ℤ) (A R : ℤ → ℤ → ℤ → �
     let given : Geom = record { n = n; length = L; ux = ux; uy = uy; uz = uz; accel = a; rapid = r; q = q } in built ≡ given
 rebuilt N L₀ U V W A R Q n L ux uy uz a r q en eL ex ey ez ea er eq = cc
 
-geometry_is : (mv : Move) (l : Limits) (g : Geom) → IsGeom mv l g → geometry mv l ≡ g
+-- the geometry that is told field by field
+pub geometry_is : (mv : Move) (l : Limits) (g : Geom) → IsGeom mv l g → geometry mv l ≡ g
 unfolding geometry
 geometry_is mv l g is =
     rebuilt (events_of mv) (length_of mv l.per_mm)
@@ -34,7 +35,7 @@ pub geom_of_is : (mv : Move) (l : Limits) (g : Geom) → IsGeom mv l g → geom_
 unfolding geom_of
 geom_of_is mv l g is = rw (some_geometry (events_of mv) (geometry mv l) is.moves, geometry_is mv l g is) refl
 
-geometry_has : (mv : Move) (l : Limits) → 0 < events_of mv → IsGeom mv l (geometry mv l)
+pub geometry_has : (mv : Move) (l : Limits) → 0 < events_of mv → IsGeom mv l (geometry mv l)
 unfolding geometry
 geometry_has mv l some = record { moves = some; n = refl; length = refl; ux = refl; uy = refl; uz = refl; accel = refl; rapid = refl; q = refl }
 

@@ -6,3 +6,4 @@ pub mod Pushing
 pub mod Told
 pub mod Places
 pub mod Fixed
+pub mod Alone

@@ -5,7 +5,7 @@ use Rattle.gcode_words.specs.declared.Word.{Word}
 use Rattle.line_words.specs.declared.index.Index.{Index}
 use Rattle.line_words.specs.Passing.{IsPassed}
 use Rattle.code_table.specs.declared.Code.{Code}
-use Rattle.code_table.specs.Refusals.{first_below}
+use Rattle.code_table.specs.Refusals.{first_below, or_else}
 use Rattle.line_words.specs.WordRefusals.{refusal_at, word_refusal, words_refusal}
 
 found : {A : Type 0} (xs : List A) (k : ℕ) (d : A) → k < length xs → slice_get xs k ≡ Some (get_or xs k d)
@@ -53,3 +53,18 @@ got ws place d h = found ws place d h
 -- one more word has passed
 pub grown : (index : Index) (ws : List Word) (place : ℕ) (d : Word) → place < length ws → IsPassed index ws (take place ws ++ get_or ws place d ∷ []) → IsPassed index ws (take (place + 1) ws)
 grown index ws place d h passed = rw (take_more ws place d h) passed
+
+neither : (first second : Option Code) → or_else first second ≡ None → (first ≡ None) × (second ≡ None)
+neither (Some code) second e = absurd cc
+neither None second e = (refl, e)
+
+-- where nothing refuses at all places, nothing does at each
+pub none_each : (n k : ℕ) (f : ℕ → Option Code) → first_below n f ≡ None → k < n → f k ≡ None
+none_each zero k f none h = absurd (omega arith)
+none_each (suc n) k f none h =
+    let both = neither (first_below n f) (f n) none in
+    elim (here_or_below n k h) [ inl below ↦ none_each n k f both.0 below | inr same ↦ ap f same ∙ both.1 ]
+
+pub each_passes : (ws : List Word) (k : ℕ) → words_refusal ws ≡ None → k < length ws → refusal_at ws k ≡ None
+unfolding words_refusal
+each_passes ws k none h = none_each (length ws) k (refusal_at ws) none h

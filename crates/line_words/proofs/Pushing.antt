@@ -26,14 +26,14 @@ pub record Fills (old new : Slots) (all : List Word) (slot : ℕ) (micro : ℤ) 
   pub others : (other : ℕ) → other ≢ slot → value_in new all other ≡ value_in old all other
 
 -- what passing a word says
-record Passes (before : List Word) (w : Word) : Type 0 where
-  supported : unsupported_command w ≡ false
-  new_group : modal_group_violation before w ≡ false
-  tool : tool_out_of_range w ≡ false
-  new_letter : repeated_word before w ≡ false
-  sign : negative_value w ≡ false
+pub record Passes (before : List Word) (w : Word) : Type 0 where
+  pub supported : unsupported_command w ≡ false
+  pub new_group : modal_group_violation before w ≡ false
+  pub tool : tool_out_of_range w ≡ false
+  pub new_letter : repeated_word before w ≡ false
+  pub sign : negative_value w ≡ false
 
-passes : (before : List Word) (w : Word) → word_refusal before w ≡ None → Passes before w
+pub passes : (before : List Word) (w : Word) → word_refusal before w ≡ None → Passes before w
 unfolding word_refusal
 passes before w e = record {
   supported = row_passes (word_rows before w) 1 (0, false) e (omega arith);

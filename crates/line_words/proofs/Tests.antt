@@ -1,5 +1,5 @@
 -- Tests that compute.
-use Rattle.std.proofs.Common.{◌≡◌, ◌≢◌, ℕ, zero, suc, ◌<◌, Bool, true, false, cond, ◌&&◌, ◌||◌, ◌==◌, List, [], ◌∷◌, length, get_or, refl, arith, Some, None, Option}
+use Rattle.std.proofs.Common.{◌≡◌, ℕ, zero, suc, ◌<◌, Bool, true, false, cond, ◌&&◌, ◌||◌, ◌==◌, List, [], ◌∷◌, length, get_or, refl, arith, Some, None, Option}
 use Rattle.std.proofs.lemmas.Bool.Decides.{nat_tests}
 use Rattle.code_table.specs.declared.Code.{Code}
 use Rattle.code_table.specs.Refusals.{first_refusal}
@@ -14,9 +14,6 @@ and_true false b e = absurd cc
 
 pub is_same : (a b : ℕ) → (a == b) ≡ true → a ≡ b
 is_same a b e = grind (arith, nat_tests)
-
-pub is_other : (a b : ℕ) → a ≢ b → (a == b) ≡ false
-is_other a b differ = grind (arith, nat_tests)
 
 passes : (b : Bool) (code : Code) (rest : Option Code) → cond b (Some code) rest ≡ None → (b ≡ false) × (rest ≡ None)
 passes true code rest e = absurd cc

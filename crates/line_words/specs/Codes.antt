@@ -1,5 +1,5 @@
 -- G and M codes among words.
-use Rattle.std.specs.Prelude.{ℕ, ◌/◌, ◌%◌, Bool, false, not, ◌&&◌, ◌||◌, ◌==◌, if◌then◌else◌, List, [], pos, int_lt, nat_abs, Some, None, option_and_then}
+use Rattle.std.specs.Prelude.{ℕ, ◌/◌, ◌%◌, Bool, false, not, ◌&&◌, ◌||◌, ◌==◌, if◌then◌else◌, List, [], find, pos, int_lt, nat_abs, Some, None, option_and_then}
 use Rattle.std.specs.List.{list_any}
 use Rattle.std.specs.declared.option.Option.{Option}
 use Rattle.units.specs.declared.Decimal.{Decimal}
@@ -46,6 +46,10 @@ is_of_group group w = is_key group (group_of w)
 -- the word is the code of this letter and this key
 abbrev pub is_code : ℕ → ℕ → Word → Bool
 is_code letter key w = (w.letter == letter) && is_key key (key_of w.value)
+
+-- the key of the line's code in a group, which is that of its first word of the group
+unfoldable pub code_in : ℕ → List Word → Option ℕ
+code_in group ws = option_and_then (λ w. key_of w.value) (find (is_of_group group) ws)
 
 -- the code stands among the words
 abbrev pub has : ℕ → ℕ → List Word → Bool

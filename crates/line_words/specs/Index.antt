@@ -1,5 +1,5 @@
 -- Words by the slots that they fill: a value the slot of its letter, a command that of its group.
-use Rattle.std.specs.Prelude.{◌≡◌, ℕ, ◌+◌, ◌-◌, ◌*◌, ◌<◌, Bool, true, false, ◌==◌, List, ℤ, nat_abs, Some, None, option_map, IfSome}
+use Rattle.std.specs.Prelude.{◌≡◌, ℕ, ◌+◌, ◌-◌, ◌*◌, ◌/◌, ◌<◌, Bool, true, false, ◌==◌, List, ℤ, nat_abs, Some, None, option_map, IfSome}
 use Rattle.std.specs.List.{list_any}
 use Rattle.std.specs.declared.option.Option.{Option}
 use Rattle.code_table.specs.Tables.{value_of}
@@ -18,6 +18,10 @@ group_slot group = 26 + group
 abbrev pub is_number : ℕ → Option ℤ → Bool
 is_number n None = false
 is_number n (Some z) = nat_abs z == n
+
+-- the key of the code with a value in millionths
+abbrev pub key_held : Option ℤ → Option ℕ
+key_held held = option_map (λ z. nat_abs z / 100000) held
 
 -- the slot of a letter that is that of a value
 abbrev pub IsValueSlot : ℕ → Option ℕ → Type 0

@@ -1,5 +1,9 @@
 //! The G and M codes that a line is asked for.
 
+use code_table::groups::{
+    COOLANT, DISTANCE, FLOW, MOTION, NOT_MODAL, PLANE, SPINDLE, SYSTEM, UNITS,
+};
+
 /// A G or M code: its letter, ten times its number, and its modal group.
 #[derive(Clone, Copy, Debug, PartialEq, Eq)]
 pub struct Command {
@@ -7,24 +11,6 @@ pub struct Command {
     pub(crate) key: u16,
     pub(crate) group: u16,
 }
-
-const NOT_MODAL: u16 = 0;
-
-const MOTION: u16 = 1;
-
-const PLANE: u16 = 2;
-
-const DISTANCE: u16 = 3;
-
-const UNITS: u16 = 6;
-
-const SYSTEM: u16 = 12;
-
-const FLOW: u16 = 20;
-
-const SPINDLE: u16 = 21;
-
-const COOLANT: u16 = 22;
 
 macro_rules! g {
     ($key:literal, $group:ident) => {

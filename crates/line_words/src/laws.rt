@@ -1,15 +1,26 @@
-//! What holds of the target of every line.
+//! What holds of the codes and the target of every line.
 
-ghost use Rattle.std.specs.Prelude.{◌≡◌, List, true, false, []};
+ghost use Rattle.std.specs.Prelude.{◌≡◌, ◌≢◌, ℕ, List, true, false, [], Some, None};
 ghost use Rattle.units.specs.declared.Nm3.{Nm3};
 ghost use Rattle.gcode_words.specs.declared.Word.{Word};
-ghost use Rattle.code_table.specs.Tables.{code};
+ghost use Rattle.code_table.specs.Tables.{code, value_of};
 ghost use Rattle.modal_state.specs.declared.Parser.{Parser};
 ghost use Rattle.line_words.specs.Letters.{X, Y, Z};
-ghost use Rattle.line_words.specs.Codes.{has_g};
+ghost use Rattle.line_words.specs.Codes.{rows_of, has, has_g, code_in};
 ghost use Rattle.line_words.specs.Given.{stands, names_axis};
+ghost use Rattle.line_words.specs.WordRefusals.{words_refusal};
 ghost use Rattle.line_words.specs.Targets.{target, targets};
 ghost use Rattle.line_words.specs.Laws.{is_absolute, at};
+
+/// Of words that pass, no two are different codes of one group; and the one that stands is the line's code of the group,
+/// from which its mode comes.
+pub fn groups_have_one_code()
+    ensures alone { (ws : List Word) (letter key other_letter other_key group : ℕ) → words_refusal ws ≡ None
+        → value_of key (rows_of letter) ≡ Some group → value_of other_key (rows_of other_letter) ≡ Some group → key ≢ other_key
+        → has letter key ws ≡ true → has other_letter other_key ws ≡ false }
+    ensures code { (ws : List Word) (letter key group : ℕ) → words_refusal ws ≡ None
+        → value_of key (rows_of letter) ≡ Some group → has letter key ws ≡ true → code_in group ws ≡ Some key }
+{}
 
 /// An absolute target does not depend on the position, on the axes that are named.
 pub fn absolute_targets_are_fixed()

@@ -12,10 +12,13 @@ mod words;
 
 pub use axes::{Lengths, ORIGIN, Targets, line_offset, moves, named, replaced, target, targets};
 pub use commands::Command;
-pub use laws::{absolute_targets_are_fixed, lines_without_axes_have_no_target, other_axes_stay};
+pub use laws::{
+    absolute_targets_are_fixed, groups_have_one_code, lines_without_axes_have_no_target,
+    other_axes_stay,
+};
 pub use line::Line;
 pub use modes::{
     feed_of, flood_of, inch_of, length_given, motion_of, names_axis, plane_of, relative_of, rpm_of,
     spindle_of, system_of, tool_of, whole_given,
 };
-pub use words::whole_part;
+pub use words::is_code;

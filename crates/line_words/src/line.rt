@@ -4,9 +4,9 @@ ghost use Rattle.std.specs.Prelude.{◌≡◌, ◌≢◌, ℕ, ◌<◌, ◌≤�
 ghost use Rattle.gcode_words.specs.Words.{IsSmallWord};
 ghost use Rattle.code_table.specs.Tables.{value_of};
 ghost use Rattle.std.specs.List.{list_any};
-ghost use Rattle.line_words.specs.Codes.{rows_of, has, is_of_group};
+ghost use Rattle.line_words.specs.Codes.{rows_of, has, is_of_group, code_in};
 ghost use Rattle.line_words.specs.Given.{is_value_letter, stands, given, IsSoundValue};
-ghost use Rattle.line_words.specs.Index.{is_number};
+ghost use Rattle.line_words.specs.Index.{is_number, key_held};
 ghost use Rattle.line_words.specs.WordRefusals.{words_refusal, refusal_at, IsFirstRefused};
 
 use crate::commands::Command;
@@ -24,6 +24,16 @@ fn is_number(held: Option<i64>, number: u64) -> bool
     match held {
         Some(held) => held.unsigned_abs() == number,
         None => false,
+    }
+}
+
+/// The key of the code whose value a slot holds, in millionths.
+fn key_held(held: Option<i64>) -> Option<u64>
+    ensures { result ≡ key_held held }
+{
+    match held {
+        Some(held) => Some(held.unsigned_abs() / 100_000),
+        None => None,
     }
 }
 
@@ -97,6 +107,14 @@ impl<'a> Line<'a> {
         ensures none { result ≡ false → (letter key : ℕ) → value_of key (rows_of letter) ≡ Some command.group → has letter key self.now ≡ false }
     {
         self.slots.is_filled(group_slot(command.group))
+    }
+
+    /// The key of the line's code of a modal group, which has one code at most; None where no code of the group stands.
+    pub fn code_in(&self, group: u16) -> Option<u64>
+        requires { group < 23 }
+        ensures { result ≡ code_in group self.now }
+    {
+        key_held(self.slots.get(self.words, group_slot(group)))
     }
 
     /// Whether a value stands in the line.

@@ -1,34 +1,51 @@
 //! The modes of a line, by its words and the parser.
 
-ghost use Rattle.std.specs.Prelude.{◌≡◌, ◌≤◌, ◌<◌, pos, ◌≤ℤ◌, true, false, IfSome, option_map};
+ghost use Rattle.std.specs.Prelude.{◌≡◌, ◌≤◌, ◌<◌, nat_eq, pos, ◌≤ℤ◌, true, false, IfSome, unwrap_or, option_map};
+ghost use Rattle.std.specs.Map.{lookup};
 ghost use Rattle.units.specs.Limits.{IsFeed};
 ghost use Rattle.modal_state.specs.Modes.{IsParser};
 ghost use Rattle.line_words.specs.Codes.{is_negative};
 ghost use Rattle.line_words.specs.Given.{is_value_letter, given, whole_given, names_axis, IsSoundValue};
-ghost use Rattle.line_words.specs.LineModes.{motion_of, plane_of, inch_of, relative_of, system_of, spindle_of, flood_of, length_in, feed_of, rpm_of, tool_of};
+ghost use Rattle.line_words.specs.LineModes.{motions, planes, inches, distances, coordinates, spindles, coolants, motion_of, plane_of, inch_of, relative_of, system_of, spindle_of, flood_of, length_in, feed_of, rpm_of, tool_of};
 ghost use Rattle.line_words.specs.Targets.{IsLength};
 
-use crate::commands::{
-    G0, G1, G17, G18, G19, G20, G21, G54, G55, G56, G57, G58, G59, G80, G90, G91, M3, M4, M5, M8,
-    M9,
-};
 use crate::line::Line;
 use crate::words::whole_part;
+use code_table::groups::{COOLANT, DISTANCE, MOTION, PLANE, SPINDLE, SYSTEM, UNITS};
 use modal_state::{MotionMode, Parser, SpindleMode};
 use units::{Decimal, inch_to_nm};
+
+/// The motion mode that a code of its group asks for, or else the mode before.
+fn motion_at(key: u64, before: MotionMode) -> MotionMode
+    ensures { result ≡ unwrap_or (lookup (nat_eq key) motions) before }
+{
+    match key {
+        0 => MotionMode::G0,
+        10 => MotionMode::G1,
+        800 => MotionMode::G80,
+        _ => before,
+    }
+}
 
 /// The motion mode of a line.
 pub fn motion_of(p: &Parser, line: &Line<'_>) -> MotionMode
     ensures { result ≡ motion_of p.now line.now }
 {
-    if line.has(G0) {
-        MotionMode::G0
-    } else if line.has(G1) {
-        MotionMode::G1
-    } else if line.has(G80) {
-        MotionMode::G80
-    } else {
-        p.modal.motion
+    match line.code_in(MOTION) {
+        Some(key) => motion_at(key, p.modal.motion),
+        None => p.modal.motion,
+    }
+}
+
+/// The plane that a code of its group asks for, or else the one before.
+fn plane_at(key: u64, before: u8) -> u8
+    ensures { result ≡ unwrap_or (lookup (nat_eq key) planes) before }
+{
+    match key {
+        170 => 17,
+        180 => 18,
+        190 => 19,
+        _ => before,
     }
 }
 
@@ -39,14 +56,20 @@ pub fn plane_of(p: &Parser, line: &Line<'_>) -> u8
     ensures first { 17 ≤ result }
     ensures last { result ≤ 19 }
 {
-    if line.has(G17) {
-        17
-    } else if line.has(G18) {
-        18
-    } else if line.has(G19) {
-        19
-    } else {
-        p.modal.plane
+    match line.code_in(PLANE) {
+        Some(key) => plane_at(key, p.modal.plane),
+        None => p.modal.plane,
+    }
+}
+
+/// Whether a code of its group asks for inches, or else whether lengths were in inches before.
+fn inch_at(key: u64, before: bool) -> bool
+    ensures { result ≡ unwrap_or (lookup (nat_eq key) inches) before }
+{
+    match key {
+        200 => true,
+        210 => false,
+        _ => before,
     }
 }
 
@@ -54,12 +77,20 @@ pub fn plane_of(p: &Parser, line: &Line<'_>) -> u8
 pub fn inch_of(p: &Parser, line: &Line<'_>) -> bool
     ensures { result ≡ inch_of p.now line.now }
 {
-    if line.has(G20) {
-        true
-    } else if line.has(G21) {
-        false
-    } else {
-        p.modal.inch
+    match line.code_in(UNITS) {
+        Some(key) => inch_at(key, p.modal.inch),
+        None => p.modal.inch,
+    }
+}
+
+/// Whether a code of its group asks for lengths from the position, or else whether they counted so before.
+fn relative_at(key: u64, before: bool) -> bool
+    ensures { result ≡ unwrap_or (lookup (nat_eq key) distances) before }
+{
+    match key {
+        900 => false,
+        910 => true,
+        _ => before,
     }
 }
 
@@ -67,12 +98,24 @@ pub fn inch_of(p: &Parser, line: &Line<'_>) -> bool
 pub fn relative_of(p: &Parser, line: &Line<'_>) -> bool
     ensures { result ≡ relative_of p.now line.now }
 {
-    if line.has(G91) {
-        true
-    } else if line.has(G90) {
-        false
-    } else {
-        p.modal.relative
+    match line.code_in(DISTANCE) {
+        Some(key) => relative_at(key, p.modal.relative),
+        None => p.modal.relative,
+    }
+}
+
+/// The system that a code of its group asks for, or else the one before.
+fn system_at(key: u64, before: u8) -> u8
+    ensures { result ≡ unwrap_or (lookup (nat_eq key) coordinates) before }
+{
+    match key {
+        540 => 1,
+        550 => 2,
+        560 => 3,
+        570 => 4,
+        580 => 5,
+        590 => 6,
+        _ => before,
     }
 }
 
@@ -83,20 +126,21 @@ pub fn system_of(p: &Parser, line: &Line<'_>) -> u8
     ensures first { 1 ≤ result }
     ensures last { result ≤ 6 }
 {
-    if line.has(G54) {
-        1
-    } else if line.has(G55) {
-        2
-    } else if line.has(G56) {
-        3
-    } else if line.has(G57) {
-        4
-    } else if line.has(G58) {
-        5
-    } else if line.has(G59) {
-        6
-    } else {
-        p.modal.system
+    match line.code_in(SYSTEM) {
+        Some(key) => system_at(key, p.modal.system),
+        None => p.modal.system,
+    }
+}
+
+/// How a code of its group has the spindle turn, or else how it turned before.
+fn spindle_at(key: u64, before: SpindleMode) -> SpindleMode
+    ensures { result ≡ unwrap_or (lookup (nat_eq key) spindles) before }
+{
+    match key {
+        30 => SpindleMode::Cw,
+        40 => SpindleMode::Ccw,
+        50 => SpindleMode::Off,
+        _ => before,
     }
 }
 
@@ -104,14 +148,20 @@ pub fn system_of(p: &Parser, line: &Line<'_>) -> u8
 pub fn spindle_of(p: &Parser, line: &Line<'_>) -> SpindleMode
     ensures { result ≡ spindle_of p.now line.now }
 {
-    if line.has(M3) {
-        SpindleMode::Cw
-    } else if line.has(M4) {
-        SpindleMode::Ccw
-    } else if line.has(M5) {
-        SpindleMode::Off
-    } else {
-        p.modal.spindle
+    match line.code_in(SPINDLE) {
+        Some(key) => spindle_at(key, p.modal.spindle),
+        None => p.modal.spindle,
+    }
+}
+
+/// Whether a code of its group has the coolant flow, or else whether it flowed before.
+fn flood_at(key: u64, before: bool) -> bool
+    ensures { result ≡ unwrap_or (lookup (nat_eq key) coolants) before }
+{
+    match key {
+        80 => true,
+        90 => false,
+        _ => before,
     }
 }
 
@@ -119,12 +169,9 @@ pub fn spindle_of(p: &Parser, line: &Line<'_>) -> SpindleMode
 pub fn flood_of(p: &Parser, line: &Line<'_>) -> bool
     ensures { result ≡ flood_of p.now line.now }
 {
-    if line.has(M8) {
-        true
-    } else if line.has(M9) {
-        false
-    } else {
-        p.modal.flood
+    match line.code_in(COOLANT) {
+        Some(key) => flood_at(key, p.modal.flood),
+        None => p.modal.flood,
     }
 }
 

@@ -7,6 +7,8 @@ ghost use Rattle.line_words.specs.Codes.{is_one_of, is_negative, is_whole, whole
 ghost use Rattle.line_words.specs.Index.{IsValueSlot};
 ghost use Rattle.line_words.specs.WordRefusals.{is_lone_g_number, command_not_whole, unsupported_command, is_command, is_axis_command, tool_out_of_range, negative_value};
 
+use crate::commands::Command;
+use code_table::{g_group, m_group};
 use gcode_words::Word;
 use units::Decimal;
 
@@ -48,40 +50,6 @@ fn is_command_letter(letter: u8) -> bool
     ensures { result ≡ is_command_letter letter }
 {
     letter == b'G' || letter == b'M'
-}
-
-/// The group of the G code with a key.
-fn g_group(key: u64) -> Option<u16>
-    ensures group { result ≡ value_of key g_rows }
-    ensures small { IfSome result (λ group. group < 23) }
-{
-    match key {
-        0 | 10 | 800 => Some(1),
-        40 | 100 | 280 | 281 | 300 | 301 | 530 | 920 | 921 => Some(0),
-        170 | 180 | 190 => Some(2),
-        900 | 910 => Some(3),
-        911 => Some(4),
-        940 => Some(5),
-        200 | 210 => Some(6),
-        400 => Some(7),
-        490 => Some(8),
-        540 | 550 | 560 | 570 | 580 | 590 => Some(12),
-        610 => Some(13),
-        _ => None,
-    }
-}
-
-/// The group of the M code with a key.
-fn m_group(key: u64) -> Option<u16>
-    ensures group { result ≡ value_of key m_rows }
-    ensures small { IfSome result (λ group. group < 23) }
-{
-    match key {
-        0 | 10 | 20 | 300 => Some(20),
-        30 | 40 | 50 => Some(21),
-        80 | 90 => Some(22),
-        _ => None,
-    }
 }
 
 /// The group of the code with a letter and a key.
@@ -175,6 +143,19 @@ pub fn is_axis_command(word: &Word) -> bool
     ensures { result ≡ is_axis_command word.now }
 {
     word.letter == b'G' && is_axis_number(&word.value)
+}
+
+/// Whether a word is a command.
+pub fn is_code(word: &Word, command: Command) -> bool
+    ensures { result ≡ is_code command.letter command.key word.now }
+{
+    if word.letter != command.letter {
+        return false;
+    }
+    match key_of(&word.value) {
+        Some(key) => key == command.key as u64,
+        None => false,
+    }
 }
 
 /// Whether a number is that of a command that takes the axis words.

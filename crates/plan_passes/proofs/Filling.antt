@@ -1,18 +1,22 @@
 -- The tables of gaps and caps, one more entry at a time.
 use Rattle.std.proofs.Common.{◌≡◌, ℕ, zero, suc, ◌+◌, ◌-◌, ◌*◌, ◌^◌, ◌≤◌, ◌<◌, max, inl, inr, refl, arith, ap, sym, ◌∙◌, subst}
-use Rattle.std.proofs.Common.{List, [], ◌∷◌, ◌++◌, length, get_or, take, set, add-one, length-set}
+use Rattle.std.proofs.Common.{List, [], ◌∷◌, ◌++◌, length, get_or, take, drop, set, add-one, length-set, length-drop}
 use Rattle.std.specs.List.{All}
-use Rattle.std.proofs.lemmas.List.{take_more, take_more_set, take_all, get_or-map, get_or_past, get_or_append_left, length-map}
+use Rattle.std.proofs.lemmas.List.{take_more, take_more_set, take_all, take-append-le, get_or-map, get_or_past, get_or_append_left, length-map}
+use Rattle.std.proofs.lemmas.List.{length_push, map_push}
+use Rattle.std.proofs.lemmas.List.Edits.{paste_all}
+use Rattle.std.proofs.Math.Seq.{paste}
 use Rattle.std.proofs.lemmas.List.Elements.{All-get_or}
 use Rattle.std.proofs.lemmas.Bool.{cases_lt}
 use Rattle.std.proofs.Math.Nat.{mul-le-mul}
 use Rattle.profile.specs.Profiles.{place, profile}
 use Rattle.profile.specs.Caps.{caps, planned}
-use Rattle.profile.proofs.Places.{place_more, profile_at, length-profile}
+use Rattle.profile.proofs.Places.{profile_at, length-profile}
 use Rattle.profile.proofs.Caps.{caps_first, caps_inner, caps_last, length-caps}
 use Rattle.planner_ring.specs.declared.Block.{Block}
 use Rattle.overrides.specs.declared.Overrides.{Overrides}
 use Rattle.plan_passes.specs.Blocks.{IsBlock, left_of, gap_of, gaps_of, joints, soft_of, softs_of}
+use Rattle.plan_passes.specs.Tables.{IsMovedUp}
 use Rattle.plan_passes.proofs.Bounds.{bounds_of}
 
 -- a block that stands
@@ -42,12 +46,13 @@ gaps_at : (bs : List Block) (i : ℕ) (b : Block) → i < length bs → ((d : Bl
     → gap_of b ≡ get_or (gaps_of bs) i 0
 gaps_at bs i b h is = ap gap_of (is b) ∙ sym (get_or-map gap_of bs i b 0 h)
 
-pub gap_filled : (bs : List Block) (gaps : List ℕ) (i g : ℕ) (b : Block) → i < length bs → length gaps ≡ length bs
+-- the gap of one more block
+pub gap_filled : (bs : List Block) (gaps : List ℕ) (i g : ℕ) (b : Block) → i < length bs → i < length gaps
     → ((d : Block) → b ≡ get_or bs i d) → g ≡ gap_of b
     → take i gaps ≡ take i (gaps_of bs) → take (i + 1) (set gaps i g) ≡ take (i + 1) (gaps_of bs)
 gap_filled bs gaps i g b h size is e filled =
     let n = length-gaps bs in
-    filled_more gaps (gaps_of bs) i g (omega (arith, n)) (omega arith) (e ∙ gaps_at bs i b h is) filled
+    filled_more gaps (gaps_of bs) i g (omega (arith, n)) size (e ∙ gaps_at bs i b h is) filled
 
 joints_in : (f : Block → Block → ℕ) (bs : List Block) (i : ℕ) (d : Block) → suc i < length bs
     → get_or (joints f bs) i 0 ≡ f (get_or bs i d) (get_or bs (suc i) d)
@@ -83,58 +88,128 @@ gap_at_small (b ∷ bs) i all =
           rw (get_or_past (gaps_of (b ∷ bs)) i 0 (omega (arith, n))) (omega arith)
     ]
 
--- the place behind one more block
-pub place_on : (bs : List Block) (gaps : List ℕ) (i p : ℕ) → gaps ≡ gaps_of bs → p ≡ place (gaps_of bs) i
-    → p + get_or gaps i 0 ≡ place (gaps_of bs) (i + 1)
-place_on bs gaps i p is e =
-    let more = place_more (gaps_of bs) i in
-    let same = ap (λ g. get_or g i 0) is in
-    omega (arith, more, e, same)
+-- the soft cap of one more junction
+pub soft_filled : (o : Overrides) (bs : List Block) (softs : List ℕ) (i s : ℕ) (a b : Block) → i + 1 < length bs → i < length softs
+    → ((d : Block) → a ≡ get_or bs i d) → ((d : Block) → b ≡ get_or bs (i + 1) d) → s ≡ soft_of o a b
+    → take i softs ≡ take i (softs_of o bs) → take (i + 1) (set softs i s) ≡ take (i + 1) (softs_of o bs)
+soft_filled o bs softs i s a b h size first second e filled =
+    let n = length-joints (soft_of o) bs in
+    filled_more softs (softs_of o bs) i s (omega (arith, n)) size (e ∙ joints_at (soft_of o) bs i a b h first second) filled
 
-pub cap_filled : (o : Overrides) (w : ℕ) (bs : List Block) (speeds : List ℕ) (i s p v : ℕ) (a b : Block) → i + 1 < length bs
-    → length speeds ≡ length bs + 1 → ((d : Block) → a ≡ get_or bs i d) → ((d : Block) → b ≡ get_or bs (i + 1) d)
-    → s ≡ soft_of o a b → p ≡ place (gaps_of bs) (i + 1) → v ≡ max s (w - p)
-    → take (i + 1) speeds ≡ take (i + 1) (caps w (gaps_of bs) (softs_of o bs))
-    → take (i + 1 + 1) (set speeds (i + 1) v) ≡ take (i + 1 + 1) (caps w (gaps_of bs) (softs_of o bs))
-cap_filled o w bs speeds i s p v a b h size first second soft at value is =
-    let points = length-caps w (gaps_of bs) (softs_of o bs) in
-    let junctions = length-joints (soft_of o) bs in
-    let joint = joints_at (soft_of o) bs i a b h first second in
-    let here = caps_inner w (gaps_of bs) (softs_of o bs) i (omega (arith, junctions)) in
-    filled_more speeds (caps w (gaps_of bs) (softs_of o bs)) (i + 1) v (omega (arith, points, junctions)) (omega arith)
-    (omega (arith, here, joint, soft, at, value)) is
+-- the gap of the last block
+pub gap_last : (bs : List Block) (gaps : List ℕ) (count g : ℕ) (b : Block) → count ≡ length bs → 0 < length bs
+    → length bs ≤ length gaps → ((d : Block) → b ≡ get_or bs (count - 1) d) → g ≡ gap_of b
+    → take (length bs - 1) gaps ≡ take (length bs - 1) (gaps_of bs) → take (length bs) (set gaps (count - 1) g) ≡ gaps_of bs
+gap_last bs gaps count g b many some room is e filled =
+    let n = length-gaps bs in
+    let at : length bs - 1 ≡ count - 1 = omega arith in
+    let on : count - 1 + 1 ≡ length bs = omega arith in
+    let put = gap_filled bs gaps (count - 1) g b (omega arith) (omega arith) is e
+    (subst (λ i. take i gaps ≡ take i (gaps_of bs)) at filled) in
+    subst (λ n. take n (set gaps (count - 1) g) ≡ take n (gaps_of bs)) on put ∙ take_all (length bs) (gaps_of bs) (omega (arith, n))
 
-pub first_filled : (o : Overrides) (w : ℕ) (bs : List Block) (speeds : List ℕ) → 0 < length speeds
-    → take 1 (set speeds 0 w) ≡ take 1 (caps w (gaps_of bs) (softs_of o bs))
-first_filled o w bs speeds some =
-    let points = length-caps w (gaps_of bs) (softs_of o bs) in
-    filled_more speeds (caps w (gaps_of bs) (softs_of o bs)) 0 w (omega (arith, points)) some
-    (sym (caps_first w (gaps_of bs) (softs_of o bs))) refl
+-- fewer than two blocks have no junction
+pub soft_none : (o : Overrides) (bs : List Block) (softs : List ℕ) → length bs < 2 → take (length bs - 1) softs ≡ softs_of o bs
+soft_none o [] softs h = refl
+soft_none o (b ∷ []) softs h = refl
+soft_none o (a ∷ b ∷ bs) softs h = absurd (omega arith)
 
-pub last_filled : (o : Overrides) (w i last : ℕ) (bs : List Block) (speeds : List ℕ) → length speeds ≡ length bs + 1
-    → last + 1 ≡ length bs → i ≡ last → take (i + 1) speeds ≡ take (i + 1) (caps w (gaps_of bs) (softs_of o bs))
-    → set speeds (last + 1) 0 ≡ caps w (gaps_of bs) (softs_of o bs)
-last_filled o w i last bs speeds size many at_end filled =
-    let is : take (last + 1) speeds ≡ take (last + 1) (caps w (gaps_of bs) (softs_of o bs)) =
-    subst (λ k. take (k + 1) speeds ≡ take (k + 1) (caps w (gaps_of bs) (softs_of o bs))) at_end filled in
-    let points = length-caps w (gaps_of bs) (softs_of o bs) in
-    let junctions = length-joints (soft_of o) bs in
-    let e : length (softs_of o bs) + 1 ≡ last + 1 = omega (arith, junctions) in
-    let end : 0 ≡ get_or (caps w (gaps_of bs) (softs_of o bs)) (last + 1) 0 =
-    subst (λ k. 0 ≡ get_or (caps w (gaps_of bs) (softs_of o bs)) k 0) e (sym (caps_last w (gaps_of bs) (softs_of o bs))) in
-    let longer = length-set speeds (last + 1) 0 in
-    filled_all (set speeds (last + 1) 0) (caps w (gaps_of bs) (softs_of o bs)) (last + 1 + 1) (omega (arith, longer)) (omega (arith, points, junctions))
-    (filled_more speeds (caps w (gaps_of bs) (softs_of o bs)) (last + 1) 0 (omega (arith, points, junctions)) (omega arith) end is)
+-- all soft caps, up to the last one
+pub soft_last : (o : Overrides) (bs : List Block) (softs : List ℕ) (i : ℕ) → i + 1 ≡ length bs - 1
+    → take (i + 1) softs ≡ take (i + 1) (softs_of o bs) → take (length bs - 1) softs ≡ softs_of o bs
+soft_last o bs softs i on filled =
+    let n = length-joints (soft_of o) bs in
+    subst (λ n. take n softs ≡ take n (softs_of o bs)) on filled ∙ take_all (length bs - 1) (softs_of o bs) (omega (arith, n))
+
+pub soft_all : (o : Overrides) (bs : List Block) (softs : List ℕ) (i : ℕ) → i ≡ length bs - 1
+    → take i softs ≡ take i (softs_of o bs) → take (length bs - 1) softs ≡ softs_of o bs
+soft_all o bs softs i on filled =
+    let n = length-joints (soft_of o) bs in
+    subst (λ n. take n softs ≡ take n (softs_of o bs)) on filled ∙ take_all (length bs - 1) (softs_of o bs) (omega (arith, n))
+
+-- one more block makes one more junction
+pub joints_push : (f : Block → Block → ℕ) (a : Block) (bs : List Block) (b : Block)
+    → (h : ℕ) × (joints f (a ∷ bs ++ b ∷ []) ≡ joints f (a ∷ bs) ++ h ∷ [])
+joints_push f a [] b = (f a b, refl)
+joints_push f a (c ∷ cs) b = let more = joints_push f c cs b in (more.0, ap (λ hs. f a c ∷ hs) more.1)
+
+-- the gaps of the blocks in front of the last
+pub gaps_before : (bs bs' : List Block) (b : Block) (row : List ℕ) → bs' ≡ bs ++ b ∷ [] → take (length bs) row ≡ gaps_of bs
+    → take (length bs' - 1) row ≡ take (length bs' - 1) (gaps_of bs')
+gaps_before bs bs' b row e is =
+    let n = length-gaps bs in
+    let more : length bs' ≡ length bs + 1 = ap length e ∙ length_push bs b in
+    let many : length bs ≡ length bs' - 1 = omega (arith, more) in
+    let front : take (length bs) (gaps_of bs') ≡ gaps_of bs =
+    ap (take (length bs)) (ap gaps_of e ∙ map_push gap_of bs b) ∙ take-append-le (length bs) (gaps_of bs) (gap_of b ∷ []) (omega (arith, n))
+    ∙ take_all (length bs) (gaps_of bs) (omega (arith, n)) in
+    subst (λ n. take n row ≡ take n (gaps_of bs')) many (is ∙ sym front)
+
+-- the soft caps of the junctions in front of the last
+pub softs_before : (o over : Overrides) (bs bs' : List Block) (b : Block) (row : List ℕ) → bs' ≡ bs ++ b ∷ []
+    → (0 < length bs → o ≡ over) → take (length bs - 1) row ≡ softs_of over bs
+    → take (length bs' - 2) row ≡ take (length bs' - 2) (softs_of o bs')
+softs_before o over [] bs' b row e same is =
+    let none : 0 ≡ length bs' - 2 = omega (arith, ap length e) in
+    subst (λ n. take n row ≡ take n (softs_of o bs')) none refl
+softs_before o over (a ∷ bs) bs' b row e same is =
+    let joint = joints_push (soft_of o) a bs b in
+    let n = length-joints (soft_of o) (a ∷ bs) in
+    let more : length bs' ≡ length (a ∷ bs) + 1 = ap length e ∙ length_push (a ∷ bs) b in
+    let many : length (a ∷ bs) - 1 ≡ length bs' - 2 = omega (arith, more) in
+    let front : take (length (a ∷ bs) - 1) (softs_of o bs') ≡ softs_of o (a ∷ bs) =
+    ap (take (length (a ∷ bs) - 1)) (ap (softs_of o) e ∙ joint.1)
+    ∙ take-append-le (length (a ∷ bs) - 1) (softs_of o (a ∷ bs)) (joint.0 ∷ []) (omega (arith, n))
+    ∙ take_all (length (a ∷ bs) - 1) (softs_of o (a ∷ bs)) (omega (arith, n)) in
+    let was : take (length (a ∷ bs) - 1) row ≡ softs_of o (a ∷ bs) = is ∙ ap (λ o. softs_of o (a ∷ bs)) (sym (same (omega arith))) in
+    subst (λ n. take n row ≡ take n (softs_of o bs')) many (was ∙ sym front)
+
+-- no gap in a row is great
+pub row_small : (bs : List Block) (n : ℕ) (row : List ℕ) (i : ℕ) → n ≡ length bs → take (length bs) row ≡ gaps_of bs
+    → All IsBlock bs → get_or (take n row) i 0 < 2 ^ 71
+row_small bs n row i many is all =
+    subst (λ n. get_or (take n row) i 0 < 2 ^ 71) (sym many)
+    (subst (λ gs. get_or gs i 0 < 2 ^ 71) (sym is) (gap_at_small bs i all))
+
+-- a row that is written one place up
+pub row_moved : {X : Type 0} (N : ℕ) (xs ys : List X) → N ≡ length xs → ys ≡ paste xs 0 (drop 1 xs) (length xs - 1) → IsMovedUp N xs ys
+row_moved N xs ys size e n h =
+    let long = length-drop 1 xs in
+    ap (take n) (e ∙ paste_all xs 0 (drop 1 xs) (length xs - 1) (omega (arith, long)))
+    ∙ take-append-le n (drop 1 xs) (drop (0 + (length xs - 1)) xs) (omega (arith, long))
+
+pub cap_filled : (w : ℕ) (gaps softs speeds : List ℕ) (i p v : ℕ) → i < length softs → length speeds ≡ length softs + 2
+    → p ≡ place gaps (i + 1) → v ≡ max (get_or softs i 0) (w - p)
+    → take (i + 1) speeds ≡ take (i + 1) (caps w gaps softs)
+    → take (i + 1 + 1) (set speeds (i + 1) v) ≡ take (i + 1 + 1) (caps w gaps softs)
+cap_filled w gaps softs speeds i p v h size at value is =
+    let points = length-caps w gaps softs in
+    let here = caps_inner w gaps softs i h in
+    filled_more speeds (caps w gaps softs) (i + 1) v (omega (arith, points)) (omega arith) (omega (arith, here, at, value)) is
+
+pub first_filled : (w : ℕ) (gaps softs speeds : List ℕ) → 0 < length speeds
+    → take 1 (set speeds 0 w) ≡ take 1 (caps w gaps softs)
+first_filled w gaps softs speeds some =
+    let points = length-caps w gaps softs in
+    filled_more speeds (caps w gaps softs) 0 w (omega (arith, points)) some (sym (caps_first w gaps softs)) refl
+
+pub last_filled : (w i : ℕ) (gaps softs speeds : List ℕ) → length speeds ≡ length softs + 2 → i ≡ length softs
+    → take (i + 1) speeds ≡ take (i + 1) (caps w gaps softs) → set speeds (length softs + 1) 0 ≡ caps w gaps softs
+last_filled w i gaps softs speeds size at_end filled =
+    let n = length softs in
+    let points = length-caps w gaps softs in
+    let longer = length-set speeds (n + 1) 0 in
+    let is : take (n + 1) speeds ≡ take (n + 1) (caps w gaps softs) =
+    subst (λ k. take (k + 1) speeds ≡ take (k + 1) (caps w gaps softs)) at_end filled in
+    filled_all (set speeds (n + 1) 0) (caps w gaps softs) (n + 1 + 1) (omega (arith, longer)) (omega (arith, points))
+    (filled_more speeds (caps w gaps softs) (n + 1) 0 (omega (arith, points)) (omega arith) (sym (caps_last w gaps softs)) is)
 
 -- what the passes leave at each point, in front of a rest
-pub planned_is : (o : Overrides) (w n j : ℕ) (bs : List Block) (gaps speeds done rest : List ℕ) → n ≡ length bs
-    → gaps ≡ gaps_of bs → speeds ≡ caps w (gaps_of bs) (softs_of o bs) → done ≡ profile gaps speeds → j ≤ length bs
-    → get_or (done ++ rest) j 0 ≡ planned w (gaps_of bs) (softs_of o bs) j
+pub planned_is : (w j : ℕ) (gaps softs speeds done rest : List ℕ) → speeds ≡ caps w gaps softs → done ≡ profile gaps speeds
+    → j ≤ length gaps → get_or (done ++ rest) j 0 ≡ planned w gaps softs j
 unfolding planned
-planned_is o w n j bs gaps speeds done rest many gs cs passed h =
-    let long = length-gaps bs in
-    let all : done ≡ profile (gaps_of bs) (caps w (gaps_of bs) (softs_of o bs)) =
-    passed ∙ ap (λ g. profile g speeds) gs ∙ ap (profile (gaps_of bs)) cs in
-    let points = ap length all ∙ length-profile (gaps_of bs) (caps w (gaps_of bs) (softs_of o bs)) in
-    get_or_append_left done rest 0 j (omega (arith, points, long))
-    ∙ ap (λ s. get_or s j 0) all ∙ profile_at (gaps_of bs) (caps w (gaps_of bs) (softs_of o bs)) j (omega (arith, long))
+planned_is w j gaps softs speeds done rest cs passed h =
+    let all : done ≡ profile gaps (caps w gaps softs) = passed ∙ ap (profile gaps) cs in
+    let points = ap length all ∙ length-profile gaps (caps w gaps softs) in
+    get_or_append_left done rest 0 j (omega (arith, points))
+    ∙ ap (λ s. get_or s j 0) all ∙ profile_at gaps (caps w gaps softs) j h

@@ -1,6 +1,8 @@
 -- The planned speeds that a plan keeps, while a segment of its tail is taken.
-use Rattle.std.proofs.Common.{◌≡◌, ◌≢◌, ℕ, ◌+◌, ◌-◌, ◌*◌, ◌≤◌, ◌<◌, ◌⊎◌, refl, arith, ap, sym, ◌∙◌, subst}
-use Rattle.std.proofs.Common.{List, [], ◌∷◌, length, get_or, cond, nat_eq, true, false}
+use Rattle.std.proofs.Common.{◌≡◌, ◌≢◌, ℕ, ◌+◌, ◌-◌, ◌*◌, ◌≤◌, ◌<◌, ◌⊎◌, inl, inr, refl, arith, ap, sym, ◌∙◌, subst}
+use Rattle.std.proofs.Common.{List, [], ◌∷◌, length, get_or, take, drop, set, cond, nat_eq, true, false, get_or-take, get_or-drop}
+use Rattle.std.proofs.lemmas.Bool.{cases_eq}
+use Rattle.std.proofs.lemmas.List.{drop-take}
 use Rattle.std.proofs.lemmas.Bool.Decides.{nat_tests}
 use Rattle.std.proofs.lemmas.List.Elements.{All-head}
 use Rattle.planner_ring.specs.declared.Block.{Block}
@@ -8,11 +10,12 @@ use Rattle.overrides.specs.declared.Overrides.{Overrides}
 use Rattle.profile.specs.Profiles.{distance}
 use Rattle.profile.specs.Caps.{planned}
 use Rattle.profile.proofs.Kept.{kept_within_reach, dropped_keeps}
-use Rattle.plan_passes.specs.Blocks.{IsBlock, left_of, top_of, gaps_of, soft_of, softs_of, hard_of}
+use Rattle.plan_passes.specs.Blocks.{IsBlock, left_of, top_of, gap_of, gaps_of, soft_of, softs_of, hard_of}
+use Rattle.plan_passes.specs.Tables.{IsTabled, IsMovedUp}
 use Rattle.plan_passes.specs.Plans.{planned_at, IsReached, IsKept}
 use Rattle.plan_passes.specs.Segments.{IsGoing, IsHolding, IsSegment, moved}
 use Rattle.plan_passes.proofs.Filling.{length-gaps, length-joints}
-use Rattle.plan_passes.proofs.Reached.{plan_of, segment_steps, moved_reached, gap_split, kept_gap, gone_gap, left_gap}
+use Rattle.plan_passes.proofs.Reached.{plan_of, segment_steps, moved_reached, length-moved, gap_split, kept_gap, gone_gap, left_gap}
 
 -- the soft caps know nothing of what is prepared
 softs_same : (o : Overrides) (b : Block) (n : ℕ) (bs : List Block)
@@ -72,76 +75,144 @@ ahead_gone b (c ∷ cs) w n v o is way reach same j some h =
     ∙ ahead b (c ∷ cs) w n v o is way reach j h
 
 -- the plan is made anew
-pub kept_anew : (N w : ℕ) (bs : List Block) (o : Overrides) (speeds : List ℕ) → 2 ≤ N → N ≤ 64 → length bs < N
-    → IsReached (plan_of bs w o)
-    → ((j : ℕ) → 0 < j → j ≤ length bs → get_or speeds j 0 ≡ planned w (gaps_of bs) (softs_of o bs) j)
-    → IsKept N (plan_of bs w o) 0 speeds
+pub kept_anew : (N w count : ℕ) (bs : List Block) (o : Overrides) (speeds gap_row soft_row : List ℕ) → 2 ≤ N → N ≤ 64
+    → length bs < N → IsReached (plan_of bs w o) → IsTabled bs o gap_row soft_row → count ≡ length bs
+    → ((j : ℕ) → 0 < j → j ≤ count → get_or speeds j 0 ≡ planned w (take count gap_row) (take (count - 1) soft_row) j)
+    → IsKept N (plan_of bs w o) speeds gap_row soft_row
 unfolding planned_at
-kept_anew N w bs o speeds some few room is at = record {
+kept_anew N w count bs o speeds gap_row soft_row some few room is tabled many at = record {
   some = some;
   few = few;
-  room = omega arith;
+  room = room;
   reached = is;
-  planned = λ j h l. let e : 0 + j ≡ j = omega arith in ap (λ k. get_or speeds k 0) e ∙ at j h l;
+  planned = λ j h l.
+      at j h (omega arith) ∙ ap (λ n. planned w (take n gap_row) (take (n - 1) soft_row) j) many
+      ∙ ap (λ gaps. planned w gaps (take (length bs - 1) soft_row) j) tabled.gaps
+      ∙ ap (λ softs. planned w (gaps_of bs) softs j) tabled.softs;
+  tabled = tabled;
 }
 
+-- what stands beside the blocks while a segment of the tail is taken
+module _ (N n g : ℕ) (o : Overrides) (gap_row gap_row' soft_row soft_row' : List ℕ)
+    (gaps_left : g ≢ 0 → gap_row' ≡ set gap_row 0 g) (softs_left : g ≢ 0 → soft_row' ≡ soft_row)
+    (gaps_gone : g ≡ 0 → IsMovedUp N gap_row gap_row') (softs_gone : g ≡ 0 → IsMovedUp N soft_row soft_row') where
+  -- nothing of the tail is left
+  softs_up : (b : Block) (bs : List Block) → length (b ∷ bs) < N → take (length bs) soft_row ≡ softs_of o (b ∷ bs) → g ≡ 0
+      → take (length bs - 1) soft_row' ≡ softs_of o bs
+  softs_up b [] room is none = refl
+  softs_up b (c ∷ cs) room is none =
+      let m = length (c ∷ cs) - 1 in
+      let on : length (c ∷ cs) ≡ 1 + m = omega arith in
+      softs_gone none m (omega arith) ∙ sym (drop-take 1 m soft_row)
+      ∙ ap (drop 1) (subst (λ k. take k soft_row ≡ softs_of o (b ∷ c ∷ cs)) on is)
+
+  gaps_up : (b : Block) (bs : List Block) → length (b ∷ bs) < N → take (length (b ∷ bs)) gap_row ≡ gaps_of (b ∷ bs) → g ≡ 0
+      → take (length bs) gap_row' ≡ gaps_of bs
+  gaps_up b bs room is none =
+      let on : length (b ∷ bs) ≡ 1 + length bs = omega arith in
+      gaps_gone none (length bs) (omega arith) ∙ sym (drop-take 1 (length bs) gap_row)
+      ∙ ap (drop 1) (subst (λ k. take k gap_row ≡ gaps_of (b ∷ bs)) on is)
+
+  -- some of the tail is left
+  gap_put : (b b' : Block) (bs : List Block) (row : List ℕ) → take (length (b ∷ bs)) row ≡ gaps_of (b ∷ bs) → g ≡ gap_of b'
+      → take (length (b' ∷ bs)) (set row 0 g) ≡ gaps_of (b' ∷ bs)
+  gap_put b b' bs [] is e = absurd (let long = ap length is in omega (arith, long))
+  gap_put b b' bs (x ∷ xs) is e = ap (λ k. k ∷ take (length bs) xs) e ∙ ap (λ gs. gap_of b' ∷ gs) (ap (drop 1) is)
+
+  tabled_gone : (b : Block) (bs : List Block) → length (b ∷ bs) < N → IsTabled (b ∷ bs) o gap_row soft_row → g ≡ 0
+      → IsTabled bs o gap_row' soft_row'
+  tabled_gone b bs room is none =
+      let many : length (b ∷ bs) - 1 ≡ length bs = omega arith in
+      record {
+        gaps = gaps_up b bs room is.gaps none;
+        softs = softs_up b bs room (subst (λ k. take k soft_row ≡ softs_of o (b ∷ bs)) many is.softs) none;
+      }
+
+  tabled_left : (b : Block) (bs : List Block) → IsTabled (b ∷ bs) o gap_row soft_row → g ≢ 0
+      → g ≡ gap_of (record b { prepared = b.prepared + n })
+      → IsTabled (record b { prepared = b.prepared + n } ∷ bs) o gap_row' soft_row'
+  tabled_left b bs is left e =
+      let b' : Block = record b { prepared = b.prepared + n } in
+      record {
+        gaps = ap (take (length (b' ∷ bs))) (gaps_left left) ∙ gap_put b b' bs gap_row is.gaps e;
+        softs = ap (take (length (b' ∷ bs) - 1)) (softs_left left) ∙ is.softs ∙ sym (softs_same o b (b.prepared + n) bs);
+      }
+
+  pub tabled_moved : (w v : ℕ) (speeds : List ℕ) (bs bs' : List Block) → IsKept N (plan_of bs w o) speeds gap_row soft_row
+      → IsSegment (plan_of bs w o) n v → bs' ≡ moved n bs
+      → ((b : Block) (rest : List Block) → bs ≡ b ∷ rest → g ≡ b.geom.q * (left_of b - n)) → IsTabled bs' o gap_row' soft_row'
+  tabled_moved w v speeds [] bs' is segment e gap = absurd segment
+  tabled_moved w v speeds (b ∷ bs) bs' is segment e gap =
+      let b' : Block = record b { prepared = b.prepared + n } in
+      let steps = segment_steps b bs w n v o is.reached segment in
+      let block = All-head IsBlock b bs is.reached.each in
+      let now = gap b bs refl in
+      elim (cases_eq g 0) [
+        | inl none ↦
+            let same = left_gap b n block steps.within (sym now ∙ none) in
+            let test : nat_eq n (left_of b) ≡ true = grind (arith, nat_tests) in
+            subst (λ bs. IsTabled bs o gap_row' soft_row') (sym (e ∙ ap (λ t. cond t bs (b' ∷ bs)) test))
+            (tabled_gone b bs is.room is.tabled none)
+        | inr left ↦
+            let other : n ≢ left_of b = λ same. left (now ∙ gone_gap b n same) in
+            let test : nat_eq n (left_of b) ≡ false = grind (arith, nat_tests) in
+            subst (λ bs. IsTabled bs o gap_row' soft_row') (sym (e ∙ ap (λ t. cond t bs (b' ∷ bs)) test))
+            (tabled_left b bs is.tabled left (now ∙ kept_gap b n))
+      ]
+
 -- a segment is taken, and the speed at the tail's end stays within reach
-module _ (N first w n v g : ℕ) (o : Overrides) (speeds : List ℕ) where
-  reach_is : (b : Block) (bs : List Block) → IsKept N (plan_of (b ∷ bs) w o) first speeds → g ≡ b.geom.q * (left_of b - n)
-      → distance v (get_or speeds (first + 1) 0) ≤ g
+module _ (N w n v g : ℕ) (o : Overrides) (speeds speeds' gap_row soft_row gap_row' soft_row' : List ℕ)
+    (left_same : g ≢ 0 → speeds' ≡ speeds) (gone_up : g ≡ 0 → IsMovedUp N speeds speeds') where
+  reach_is : (b : Block) (bs : List Block) → IsKept N (plan_of (b ∷ bs) w o) speeds gap_row soft_row → g ≡ b.geom.q * (left_of b - n)
+      → distance v (get_or speeds 1 0) ≤ g
       → distance v (planned_at (plan_of (b ∷ bs) w o) 1) ≤ b.geom.q * (left_of b - n)
   reach_is b bs is gap reach =
       let exit = is.planned 1 (omega arith) (omega arith) in
       omega (arith, exit, gap, reach)
 
-  -- some of the tail is left
-  pub kept_left : (bs bs' : List Block) → IsKept N (plan_of bs w o) first speeds → IsSegment (plan_of bs w o) n v
-      → bs' ≡ moved n bs → ((b : Block) (rest : List Block) → bs ≡ b ∷ rest → g ≡ b.geom.q * (left_of b - n))
-      → distance v (get_or speeds (first + 1) 0) ≤ g → g ≢ 0 → IsKept N (plan_of bs' v o) first speeds
-  kept_left [] bs' is segment e gap reach left = absurd segment
-  kept_left (b ∷ bs) bs' is segment e gap reach left =
-      let b' : Block = record b { prepared = b.prepared + n } in
-      let reach' = reach_is b bs is (gap b bs refl) reach in
-      let other : n ≢ left_of b = λ same. left (gap b bs refl ∙ gone_gap b n same) in
-      let test : nat_eq n (left_of b) ≡ false = grind (arith, nat_tests) in
-      let now : bs' ≡ b' ∷ bs = e ∙ ap (λ t. cond t bs (b' ∷ bs)) test in
-      let reached = moved_reached (b ∷ bs) bs' w n v o e is.reached segment in
-      let room = is.room in
-      subst (λ bs. IsKept N (plan_of bs v o) first speeds) (sym now)
-      (record {
-        some = is.some;
-        few = is.few;
-        room = omega (arith, room);
-        reached = subst (λ bs. IsReached (plan_of bs v o)) now reached;
-        planned = λ j h l.
-            let back : j - 1 + 1 ≡ j = omega arith in
-            let same = ahead_left b bs w n v o is.reached segment reach' (j - 1) (omega arith) in
-            is.planned j h l
-            ∙ subst (λ j. planned_at (plan_of (b ∷ bs) w o) j ≡ planned_at (plan_of (b' ∷ bs) v o) j) back (sym same);
-      })
+  -- what stood one place further on
+  up_at : (j : ℕ) → g ≡ 0 → j + 1 < N → get_or speeds' j 0 ≡ get_or speeds (j + 1) 0
+  up_at j none room =
+      let on : 1 + j ≡ j + 1 = omega arith in
+      sym (get_or-take (j + 1) speeds' j 0 (omega arith)) ∙ ap (λ l. get_or l j 0) (gone_up none (j + 1) room)
+      ∙ get_or-take (j + 1) (drop 1 speeds) j 0 (omega arith) ∙ get_or-drop 1 speeds j 0 ∙ ap (λ k. get_or speeds k 0) on
 
-  -- nothing of the tail is left
-  pub kept_gone : (bs bs' : List Block) → IsKept N (plan_of bs w o) first speeds → IsSegment (plan_of bs w o) n v
+  pub kept_on : (bs bs' : List Block) → IsKept N (plan_of bs w o) speeds gap_row soft_row → IsSegment (plan_of bs w o) n v
       → bs' ≡ moved n bs → ((b : Block) (rest : List Block) → bs ≡ b ∷ rest → g ≡ b.geom.q * (left_of b - n))
-      → distance v (get_or speeds (first + 1) 0) ≤ g → g ≡ 0 → IsKept N (plan_of bs' v o) (first + 1) speeds
-  kept_gone [] bs' is segment e gap reach none = absurd segment
-  kept_gone (b ∷ bs) bs' is segment e gap reach none =
-      let reach' = reach_is b bs is (gap b bs refl) reach in
+      → distance v (get_or speeds 1 0) ≤ g → IsTabled bs' o gap_row' soft_row' → IsKept N (plan_of bs' v o) speeds' gap_row' soft_row'
+  kept_on [] bs' is segment e gap reach tabled = absurd segment
+  kept_on (b ∷ bs) bs' is segment e gap reach tabled =
+      let b' : Block = record b { prepared = b.prepared + n } in
+      let now = gap b bs refl in
+      let reach' = reach_is b bs is now reach in
       let steps = segment_steps b bs w n v o is.reached segment in
       let block = All-head IsBlock b bs is.reached.each in
-      let same = left_gap b n block steps.within (sym (gap b bs refl) ∙ none) in
-      let test : nat_eq n (left_of b) ≡ true = grind (arith, nat_tests) in
-      let now : bs' ≡ bs = e ∙ ap (λ t. cond t bs (record b { prepared = b.prepared + n } ∷ bs)) test in
-      let reached = moved_reached (b ∷ bs) bs' w n v o e is.reached segment in
+      let fewer = length-moved n (b ∷ bs) in
+      let many = ap length e in
       let room = is.room in
-      subst (λ bs. IsKept N (plan_of bs v o) (first + 1) speeds) (sym now)
-      (record {
+      let left_at : g ≢ 0 → (j : ℕ) → 0 < j → j ≤ length bs' → get_or speeds' j 0 ≡ planned_at (plan_of bs' v o) j = λ left j h l.
+      let other : n ≢ left_of b = λ same. left (now ∙ gone_gap b n same) in
+      let test : nat_eq n (left_of b) ≡ false = grind (arith, nat_tests) in
+      let put : bs' ≡ b' ∷ bs = e ∙ ap (λ t. cond t bs (b' ∷ bs)) test in
+      let back : j - 1 + 1 ≡ j = omega arith in
+      let size = ap length put in
+      let same = ahead_left b bs w n v o is.reached segment reach' (j - 1) (omega (arith, size)) in
+      ap (λ l. get_or l j 0) (left_same left) ∙ is.planned j h (omega (arith, size))
+      ∙ subst (λ j. planned_at (plan_of (b ∷ bs) w o) j ≡ planned_at (plan_of (b' ∷ bs) v o) j) back (sym same)
+      ∙ ap (λ bs. planned_at (plan_of bs v o) j) (sym put) in
+      let gone_at : g ≡ 0 → (j : ℕ) → 0 < j → j ≤ length bs' → get_or speeds' j 0 ≡ planned_at (plan_of bs' v o) j = λ none j h l.
+      let same = left_gap b n block steps.within (sym now ∙ none) in
+      let test : nat_eq n (left_of b) ≡ true = grind (arith, nat_tests) in
+      let put : bs' ≡ bs = e ∙ ap (λ t. cond t bs (b' ∷ bs)) test in
+      let size = ap length put in
+      up_at j none (omega (arith, size, room)) ∙ is.planned (j + 1) (omega arith) (omega (arith, size))
+      ∙ sym (ahead_gone b bs w n v o is.reached segment reach' same j h (omega (arith, size)))
+      ∙ ap (λ bs. planned_at (plan_of bs v o) j) (sym put) in
+      record {
         some = is.some;
         few = is.few;
-        room = omega (arith, room);
-        reached = subst (λ bs. IsReached (plan_of bs v o)) now reached;
-        planned = λ j h l.
-            let on : first + (j + 1) ≡ first + 1 + j = omega arith in
-            let before = is.planned (j + 1) (omega arith) (omega arith) in
-            ap (λ k. get_or speeds k 0) (sym on) ∙ before ∙ sym (ahead_gone b bs w n v o is.reached segment reach' same j h l);
-      })
+        room = omega (arith, room, fewer, many);
+        reached = moved_reached (b ∷ bs) bs' w n v o e is.reached segment;
+        planned = λ j h l. elim (cases_eq g 0) [ inl none ↦ gone_at none j h l | inr left ↦ left_at left j h l ];
+        tabled = tabled;
+      }

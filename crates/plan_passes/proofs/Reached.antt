@@ -29,7 +29,7 @@ use Rattle.plan_passes.specs.Blocks.{joints, gaps_of, hards_of, softs_of}
 use Rattle.plan_passes.specs.Plans.{Planned, exit_of, planned_at, IsReached, IsWithinRapid, IsTail, caps_of, profile_of, IsGreatest}
 use Rattle.plan_passes.specs.Segments.{IsGoing, IsHolding, IsSegment, count_of, stop_of, moved, IsLegalEnd, IsLegalStep}
 use Rattle.plan_passes.proofs.Bounds.{bounds_of, top_le}
-use Rattle.plan_passes.proofs.Filling.{length-gaps, length-joints}
+use Rattle.plan_passes.proofs.Filling.{length-gaps, length-joints, joints_push}
 
 abbrev pub plan_of : List Block → ℕ → Overrides → Planned
 plan_of bs w o = record { blocks = bs; speed = w; overrides = o }
@@ -66,12 +66,6 @@ hards_same b b' [] e = refl
 hards_same b b' (c ∷ cs) e =
     ap (λ g. under c.entry (min (squared g.rapid) (squared c.geom.rapid)) ∷ hards_of (c ∷ cs)) e
 
--- one more block makes one more junction
-hards_push : (a : Block) (bs : List Block) (b : Block)
-    → (h : ℕ) × (hards_of (a ∷ bs ++ b ∷ []) ≡ hards_of (a ∷ bs) ++ h ∷ [])
-hards_push a [] b = (hard_of a b, refl)
-hards_push a (c ∷ cs) b = let more = hards_push c cs b in (more.0, ap (λ hs. hard_of a c ∷ hs) more.1)
-
 -- a block is added
 reached_added : (bs : List Block) (w : ℕ) (over o : Overrides) (b : Block) → IsReached (plan_of bs w over) → IsBlock b
     → IsOverrides o → IsReached (plan_of (bs ++ b ∷ []) w o)
@@ -84,7 +78,7 @@ reached_added [] w over o b is block right =
       rapid = omega arith;
     }
 reached_added (a ∷ bs) w over o b is block right =
-    let more = hards_push a bs b in
+    let more = joints_push hard_of a bs b in
     let n = length-gaps (a ∷ bs) in
     let m = length-joints hard_of (a ∷ bs) in
     record {

@@ -1,9 +1,8 @@
 -- The blocks of a plan, from the tail on, and what bounds the squared speed over them.
 use Rattle.std.specs.Prelude.{ℕ, ◌-◌, ◌*◌, ◌<◌, min, List, [], ◌∷◌, map}
 use Rattle.units.specs.Limits.{IsRate}
-use Rattle.line_geom.specs.declared.Cap.{Cap}
-use Rattle.line_geom.specs.declared.Cap.TheVariants.{At, Free}
 use Rattle.line_geom.specs.Geometry.{IsGeomOf}
+pub use Rattle.line_geom.specs.Caps.{squared, under}
 use Rattle.planner_ring.specs.declared.Block.{Block}
 use Rattle.overrides.specs.declared.Overrides.{Overrides}
 use Rattle.overrides.specs.Percents.{nominal_of}
@@ -22,17 +21,9 @@ left_of b = b.geom.n - b.prepared
 unfoldable pub gap_of : Block → ℕ
 gap_of b = b.geom.q * left_of b
 
-abbrev pub squared : ℕ → ℕ
-squared n = n * n
-
 -- the squared nominal speed
 unfoldable pub top_of : Overrides → Block → ℕ
 top_of o b = squared (nominal_of o b.rate b.geom.rapid)
-
--- the lesser of a cap and a number
-abbrev pub under : Cap → ℕ → ℕ
-under (At cap) n = min cap n
-under Free n = n
 
 -- the hard cap of the junction of two blocks: what the junction and the axes allow
 unfoldable pub hard_of : Block → Block → ℕ

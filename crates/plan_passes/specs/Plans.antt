@@ -1,5 +1,5 @@
 -- A plan: its blocks from the tail on, the present squared speed, and the overrides that it is planned for.
-use Rattle.std.specs.Prelude.{◌≡◌, ℕ, ◌+◌, ◌-◌, ◌<◌, ◌≤◌, nat_eq, cond, List, [], ◌∷◌, ◌++◌, length, drop, get_or}
+use Rattle.std.specs.Prelude.{◌≡◌, ℕ, ◌-◌, ◌<◌, ◌≤◌, nat_eq, cond, List, [], ◌∷◌, ◌++◌, length, drop, get_or}
 use Rattle.std.specs.List.{All}
 use Rattle.line_geom.specs.declared.Cap.{Cap}
 use Rattle.line_geom.specs.declared.Cap.TheVariants.{At}
@@ -11,6 +11,7 @@ use Rattle.profile.specs.Profiles.{IsWithinLimits, profile}
 use Rattle.profile.specs.Caps.{caps, planned}
 use Rattle.profile.specs.Slowing.{IsSlowable}
 use Rattle.plan_passes.specs.Blocks.{IsBlock, gaps_of, hards_of, softs_of, squared}
+use Rattle.plan_passes.specs.Tables.{IsTabled}
 
 pub record Planned : Type 0 where
   pub blocks : List Block
@@ -58,14 +59,14 @@ pub record IsTail (p : Planned) (b : Block) : Type 0 where
   pub block : IsBlock b
   pub rapid : p.speed ≤ squared b.geom.rapid
 
--- what the fields of a plan of N slots keep: that, and the planned speed at each point ahead, of which point 0 has the
--- place `first`
-pub record IsKept (N : ℕ) (p : Planned) (first : ℕ) (speeds : List ℕ) : Type 0 where
+-- what the fields of a plan of N slots keep: that, the planned speed at each point, and what stands beside the blocks
+pub record IsKept (N : ℕ) (p : Planned) (speeds gap_row soft_row : List ℕ) : Type 0 where
   pub some : 2 ≤ N
   pub few : N ≤ 64
-  pub room : first + length p.blocks < N
+  pub room : length p.blocks < N
   pub reached : IsReached p
-  pub planned : (j : ℕ) → 0 < j → j ≤ length p.blocks → get_or speeds (first + j) 0 ≡ planned_at p j
+  pub planned : (j : ℕ) → 0 < j → j ≤ length p.blocks → get_or speeds j 0 ≡ planned_at p j
+  pub tabled : IsTabled p.blocks p.overrides gap_row soft_row
 
 -- the entry cap of a block that is added: that of its junction with the last block
 abbrev pub entry_at : List Block → Block → ℕ → Cap

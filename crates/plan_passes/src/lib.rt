@@ -9,6 +9,7 @@
 mod blocks;
 mod passes;
 mod plan;
+mod tables;
 #[cfg(test)]
 mod tests;
 

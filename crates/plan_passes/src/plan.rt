@@ -7,7 +7,8 @@ ghost use Rattle.plan_passes.specs.Blocks.{IsBlock, left_of};
 ghost use Rattle.plan_passes.specs.Plans.{entry_at};
 ghost use Rattle.plan_passes.specs.Segments.{moved};
 
-use crate::passes::{block_at, plan_all};
+use crate::passes::plan_all;
+use crate::tables::{block_at, fill_softs, put_first, put_gap, put_soft};
 use junction_speed::junction;
 use line_geom::Cap;
 use overrides::Overrides;
@@ -20,10 +21,12 @@ pub struct Plan<const N: usize> {
     ring: Ring<N>,
     speed: u64,
     overrides: Overrides,
-    /// The planned squared speed at each point ahead.
+    /// The planned squared speed at each point, of which the present place is the first.
     planned: [u64; N],
-    /// Which place of `planned` is that of the present point: behind it lie the junctions and the end.
-    first: usize,
+    /// How much the squared speed may change over what is left of each block.
+    gaps: [u128; N],
+    /// The soft cap of each junction.
+    softs: [u64; N],
 }
 
 impl<const N: usize> Model for Plan<N> {
@@ -33,7 +36,7 @@ impl<const N: usize> Model for Plan<N> {
 
     ghost view = { λ p. record { blocks = p.ring; speed = p.speed; overrides = p.overrides } };
 
-    ghost invariant = { λ p. IsKept N (record { blocks = p.ring; speed = p.speed; overrides = p.overrides }) p.first p.planned };
+    ghost invariant = { λ p. IsKept N (record { blocks = p.ring; speed = p.speed; overrides = p.overrides }) p.planned p.gaps p.softs };
 }
 
 /// The cap of a block's junction with the last one that stands.
@@ -90,7 +93,8 @@ impl<const N: usize> Plan<N> {
             speed: 0,
             overrides: Overrides::normal(),
             planned: [0; N],
-            first: 0,
+            gaps: [0; N],
+            softs: [0; N],
         }
     }
 
@@ -127,7 +131,7 @@ impl<const N: usize> Plan<N> {
         ensures greatest { IsGreatest self.now }
         ensures reached { IsReached self.now }
     {
-        self.planned[self.first + 1]
+        self.planned[1]
     }
 
     /// Puts a block behind the others and plans, or hands it back exactly where N - 1 blocks stand.
@@ -150,8 +154,16 @@ impl<const N: usize> Plan<N> {
             Err(_) => Err(b),
             Ok(()) => {
                 self.overrides = *o;
-                self.first = 0;
-                plan_all(&self.ring, self.speed, o, &mut self.planned);
+                put_gap(&self.ring, &mut self.gaps);
+                put_soft(&self.ring, o, &mut self.softs);
+                let count = self.ring.len();
+                plan_all(
+                    count,
+                    self.speed,
+                    &self.gaps,
+                    &self.softs,
+                    &mut self.planned,
+                );
                 Ok(())
             }
         }
@@ -163,8 +175,15 @@ impl<const N: usize> Plan<N> {
         ensures { self.new ≡ record self.old { overrides = o.now } }
     {
         self.overrides = *o;
-        self.first = 0;
-        plan_all(&self.ring, self.speed, &self.overrides, &mut self.planned);
+        fill_softs(&self.ring, o, &mut self.softs);
+        let count = self.ring.len();
+        plan_all(
+            count,
+            self.speed,
+            &self.gaps,
+            &self.softs,
+            &mut self.planned,
+        );
     }
 
     /// Marks n events of the tail as prepared, with the squared speed w behind them, and takes the tail away where no
@@ -178,14 +197,14 @@ impl<const N: usize> Plan<N> {
         ensures legal { IsLegalStep self.old.blocks self.old.speed n w }
     {
         let gap = prepare(&mut self.ring, n);
-        let exit = self.planned[self.first + 1];
+        let exit = self.planned[1];
         self.speed = w;
-        if w.abs_diff(exit) as u128 > gap {
-            self.first = 0;
-            plan_all(&self.ring, w, &self.overrides, &mut self.planned);
-        } else if gap == 0 {
-            self.first += 1;
+        put_first(gap, &mut self.planned, &mut self.gaps, &mut self.softs);
+        if w.abs_diff(exit) as u128 <= gap {
+            return;
         }
+        let count = self.ring.len();
+        plan_all(count, w, &self.gaps, &self.softs, &mut self.planned);
     }
 
     /// Takes all blocks away, and stops.

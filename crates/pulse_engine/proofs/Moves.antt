@@ -1,7 +1,8 @@
 -- What one step of a pulse makes of what it has done.
-use Rattle.std.proofs.Common.{◌≡◌, ℕ, ◌+◌, inl, inr, Bool, true, false, Option, None, List, [], ◌∷◌, ◌++◌, refl, ap, sym, ◌∙◌, arith, append_assoc}
+use Rattle.std.proofs.Common.{◌≡◌, ℕ, ◌+◌, Bool, true, false, Option, None, List, [], ◌∷◌, ◌++◌, refl, ap, sym, ◌∙◌, arith, append_assoc}
 use Rattle.std.proofs.lemmas.List.{append-nil}
 use Rattle.std.specs.Option.{option_to_list}
+use Rattle.units.specs.Truths.{one_if}
 use Rattle.units.specs.declared.Move.{Move}
 use Rattle.step_line.specs.declared.Piece.{Piece}
 use Rattle.step_line.specs.declared.Piece.TheVariants as pieces
@@ -10,34 +11,20 @@ use Rattle.step_line.specs.declared.Record.TheVariants as kinds
 use Rattle.step_line.specs.Pieces.{records_of}
 use Rattle.step_line.specs.Tracing.{Trace}
 use Rattle.step_line.specs.Ordering.{ComesNext}
-use Rattle.pulse_engine.specs.Logs.{PieceLog, RecordLog, pieces_of, counted, records_put, ticks_in, one_if, IsCounted}
+use Rattle.pulse_engine.specs.Logs.{PieceLog, RecordLog, pieces_of, counted, records_put, ticks_in, IsCounted}
 use Rattle.step_line.specs.Records.{is_tick, is_end}
 use Rattle.pulse_engine.specs.Logs.PieceEvent.{got}
 use Rattle.pulse_engine.specs.Logs.RecordEvent.{put}
-use Rattle.pulse_engine.specs.Steps.{Pulsing, IsFirst, MayBegin, pulsing, coming, gone, reached_after}
-use Rattle.pulse_engine.specs.Turns.{Fits, Reaches}
+use Rattle.pulse_engine.specs.Steps.{Pulsing, IsFirst, pulsing, coming, gone, reached_after}
+use Rattle.pulse_engine.specs.Turns.{PulseFits, Reaches}
 use Rattle.pulse_engine.proofs.Ticks.{ticks_in_piece, ticks-append}
 
 -- the pulse gets pieces only where it owes nothing, and counts a tick only where it owes one
-pub may_get : (p : Pulsing) (h : PieceLog) (k : RecordLog) → p.waiting ≡ [] → p.owes ≡ false → Fits p h k → IsCounted h
+pub may_get : (p : Pulsing) (h : PieceLog) (k : RecordLog) → p.waiting ≡ [] → p.owes ≡ false → PulseFits p h k → IsCounted h
 may_get p h k w o f = omega (arith, f.left, ap ticks_in w, ap one_if o)
 
 same_trace : (m n : Move) (i j : ℕ) → m ≡ n → i ≡ j → Path Trace (record { mv = m; done = i }) (record { mv = n; done = j })
 same_trace m n i j e f = cc
-
-reaches_next : (ps : List Piece) (t : Trace) (p : Piece) → Reaches ps t → ComesNext ps p → MayBegin t p
-reaches_next [] t (pieces.Segment s) r n = (n.follows.0, inl n.follows.1)
-reaches_next (pieces.Segment s ∷ ps) t (pieces.Segment u) r n = (
-  n.follows.0,
-  elim n.follows.1 [
-    | inl first ↦ inl first
-    | inr on ↦ inr (r ∙ same_trace _ _ _ _ (sym on.mv) (sym on.first))
-  ],
-)
-reaches_next (pieces.Mark m ∷ ps) t (pieces.Segment s) r n = (n.follows.0, inl n.follows.1)
-reaches_next (pieces.End ∷ ps) t (pieces.Segment s) r n = (n.follows.0, inl n.follows.1)
-reaches_next ps t (pieces.Mark m) r n = n.follows
-reaches_next ps t pieces.End r n = tt
 
 reaches_piece : (ps : List Piece) (t : Trace) (p : Piece) → Reaches (p ∷ ps) (reached_after t p)
 reaches_piece ps t (pieces.Segment s) = refl
@@ -47,7 +34,7 @@ reaches_piece ps t pieces.End = tt
 -- a piece is got
 pub fits_got : (p q : Pulsing) (t : Trace) (h : PieceLog) (k : RecordLog) (x : Piece) → p.waiting ≡ [] → p.owes ≡ false → p.over ≡ false → p.reached ≡ t
     → q.waiting ≡ records_of x → q.owes ≡ false → q.over ≡ false → q.reached ≡ reached_after t x
-    → ComesNext (pieces_of h) x → Fits p h k → Fits q (got x ∷ h) k
+    → ComesNext (pieces_of h) x → PulseFits p h k → PulseFits q (got x ∷ h) k
 fits_got p q t h k x w o v e w' o' v' r n f = record {
   turns = (n, f.turns);
   records = ap (λ rs. rs ++ records_of x) (f.records ∙ ap (λ rs. records_put k ++ rs) w ∙ append-nil (records_put k)) ∙ ap (λ rs. records_put k ++ rs) (sym w');
@@ -67,7 +54,7 @@ no_tick kinds.End e = refl
 
 pub fits_put : (p q : Pulsing) (t : Trace) (h : PieceLog) (k : RecordLog) (r : Record) (rest : List Record) → p.waiting ≡ r ∷ rest → p.owes ≡ false → p.reached ≡ t
     → q.waiting ≡ rest → q.owes ≡ is_tick r → q.over ≡ is_end r → q.reached ≡ t → (is_end r ≡ true → rest ≡ [])
-    → Fits p h k → Fits q h (put r ∷ k)
+    → PulseFits p h k → PulseFits q h (put r ∷ k)
 fits_put p q t h k r rest w o e w' o' v' e' l f = record {
   turns = f.turns;
   records = f.records ∙ ap (λ rs. records_put k ++ rs) (w ∙ ap (λ rs. r ∷ rs) (sym w')) ∙ sym (append_assoc (records_put k) (r ∷ []) q.waiting);

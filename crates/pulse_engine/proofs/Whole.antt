@@ -1,10 +1,11 @@
 -- What is recorded of all pieces, and what is put of it.
-use Rattle.std.proofs.Common.{◌≡◌, ℕ, zero, suc, ◌+◌, ◌≤◌, ◌⊎◌, inl, inr, Bool, true, false, List, [], ◌∷◌, ◌++◌, map, reverse, Option, Some, None, append_assoc, refl, ap, sym, ◌∙◌, arith, All}
+use Rattle.std.proofs.Common.{◌≡◌, ℕ, zero, suc, ◌+◌, ◌≤◌, ◌⊎◌, inl, inr, Bool, true, false, List, [], ◌∷◌, ◌++◌, map, reverse, refl, ap, sym, ◌∙◌, arith, All}
 use Rattle.std.specs.List.{flat_map}
 use Rattle.std.proofs.lemmas.List.{append-nil, map-append, reverse-append}
 use Rattle.std.proofs.lemmas.List.Concat.{flat_map-cons}
 use Rattle.std.proofs.lemmas.List.Elements.{All-nil, All-cons, All-append}
 use Rattle.std.proofs.lemmas.Grind.{flat_map-append}
+use Rattle.units.specs.Truths.{one_if}
 use Rattle.units.specs.declared.Move.{Move}
 use Rattle.step_line.specs.declared.Segment.{Segment}
 use Rattle.step_line.specs.declared.Piece.{Piece}
@@ -13,17 +14,15 @@ use Rattle.step_line.specs.declared.Record.{Record}
 use Rattle.step_line.specs.declared.Record.TheVariants as kinds
 use Rattle.step_line.specs.Counting.{events_of}
 use Rattle.step_line.specs.Events.{event_of, events_after}
-use Rattle.step_line.specs.Pieces.{GoesOn, records_of, ticks_of, head_of, Follows}
+use Rattle.step_line.specs.Pieces.{GoesOn, records_of, ticks_of, head_of, ComesBehind}
 use Rattle.step_line.specs.Records.{IsRecord, is_end}
 use Rattle.step_line.proofs.Order.{in_parts, is_event}
-use Rattle.step_line.specs.Ordering.{has_ended, InTurn, recorded}
-use Rattle.pulse_engine.specs.Logs.{PieceLog, RecordLog, pieces_of, records_put, ticks_in, counted, uncounted, one_if, end_is_put}
+use Rattle.step_line.specs.Ordering.{InTurn, recorded}
+use Rattle.pulse_engine.specs.Logs.{PieceLog, RecordLog, pieces_of, records_put, ticks_in, counted, uncounted, end_is_put}
 use Rattle.pulse_engine.specs.Logs.RecordEvent.{put, full}
 use Rattle.pulse_engine.specs.Steps.{Pulsing}
-use Rattle.pulse_engine.specs.Turns.{Fits}
+use Rattle.pulse_engine.specs.Turns.{PulseFits}
 use Rattle.pulse_engine.proofs.Ticks.{ticks-append}
-use Rattle.std.specs.Option.{option_to_list}
-use Rattle.pulse_engine.specs.Slots.{Offered, Runs}
 
 -- the records of each piece, in order
 pub recorded_each : (ps : List Piece) → recorded ps ≡ flat_map records_of (reverse ps)
@@ -39,7 +38,7 @@ pub events_have_lines : (m : Move) (k n : ℕ) → k + n ≤ events_of m → All
 events_have_lines m k zero h = All-nil IsRecord
 events_have_lines m k (suc n) h = All-cons IsRecord _ _ (is_event m k (omega arith)) (events_have_lines m (k + 1) n (omega arith))
 
-pub piece_has_lines : (before : List Piece) (p : Piece) → Follows before p → All IsRecord (records_of p)
+pub piece_has_lines : (before : List Piece) (p : Piece) → ComesBehind before p → All IsRecord (records_of p)
 piece_has_lines before (pieces.Segment s) f = All-cons IsRecord _ _ f.0.head (events_have_lines s.mv s.first s.n f.0.within)
 piece_has_lines before (pieces.Mark m) f = All-cons IsRecord (kinds.Mark m) [] f (All-nil IsRecord)
 piece_has_lines before pieces.End f = All-cons IsRecord kinds.End [] tt (All-nil IsRecord)
@@ -87,64 +86,23 @@ put_last (put (kinds.Mark m) ∷ k) e = absurd cc
 put_last (put kinds.End ∷ k) e = (records_put k, refl)
 put_last (full r ∷ k) e = put_last k e
 
-pub prefix_put : (p : Pulsing) (h : PieceLog) (k : RecordLog) → Fits p h k → (rest : List Record) × (recorded (pieces_of h) ≡ records_put k ++ rest)
-prefix_put p h k f = (p.waiting, f.records)
-
-pub whole_put : (p : Pulsing) (h : PieceLog) (k : RecordLog) → Fits p h k → p.waiting ≡ [] → records_put k ≡ recorded (pieces_of h)
+pub whole_put : (p : Pulsing) (h : PieceLog) (k : RecordLog) → PulseFits p h k → p.waiting ≡ [] → records_put k ≡ recorded (pieces_of h)
 whole_put p h k f w = sym (f.records ∙ ap (λ rs. records_put k ++ rs) w ∙ append-nil (records_put k))
 
 one_more : (b : Bool) (m n : ℕ) → m ≡ n + one_if b → (m ≡ n) ⊎ (m ≡ n + 1)
 one_more true m n e = inr e
 one_more false m n e = inl (omega arith)
 
-pub ticks_put : (p : Pulsing) (h : PieceLog) (k : RecordLog) → Fits p h k → (ticks_in (records_put k) ≡ counted h) ⊎ (ticks_in (records_put k) ≡ counted h + 1)
+pub ticks_put : (p : Pulsing) (h : PieceLog) (k : RecordLog) → PulseFits p h k → (ticks_in (records_put k) ≡ counted h) ⊎ (ticks_in (records_put k) ≡ counted h + 1)
 ticks_put p h k f = one_more p.owes (ticks_in (records_put k)) (counted h) f.ticks
 
-pub all_counts : (p : Pulsing) (h : PieceLog) (k : RecordLog) → Fits p h k → counted h + uncounted h ≡ ticks_in (recorded (pieces_of h))
+pub all_counts : (p : Pulsing) (h : PieceLog) (k : RecordLog) → PulseFits p h k → counted h + uncounted h ≡ ticks_in (recorded (pieces_of h))
 all_counts p h k f = omega (arith, f.ticks, f.left, ap ticks_in f.records, ticks-append (records_put k) p.waiting)
 
-pub done_put : (p : Pulsing) (h : PieceLog) (k : RecordLog) → Fits p h k → end_is_put k ≡ true
+pub done_put : (p : Pulsing) (h : PieceLog) (k : RecordLog) → PulseFits p h k → end_is_put k ≡ true
     → (records_put k ≡ recorded (pieces_of h)) × ((before : List Piece) × (pieces_of h ≡ pieces.End ∷ before)) × ((rest : List Record) × (records_put k ≡ rest ++ kinds.End ∷ [])) × (ticks_in (records_put k) ≡ counted h)
 done_put p h k f e =
     let last = f.last (f.end ∙ e) in
     let whole = whole_put p h k f last.0 in
     let put_is = put_last k e in
     (whole, end_is_last (pieces_of h) put_is.0 (sym whole ∙ put_is.1), put_is, omega (arith, f.ticks, ap one_if last.1))
-
--- between two slots
-gone_through : (ps : List Piece) (taken waiting rest : List Record) (records : List Record) → records ≡ taken ++ waiting → recorded ps ≡ records ++ rest
-    → recorded ps ≡ taken ++ (waiting ++ rest)
-gone_through ps taken waiting rest records e f = f ∙ ap (λ rs. rs ++ rest) e ∙ append_assoc taken waiting rest
-
-offered_begins : (o : Option Piece) (ps : List Piece) (taken rest : List Record) → recorded ps ≡ taken ++ rest → (more : List Record) × (recorded (option_to_list o ++ ps) ≡ taken ++ more)
-offered_begins None ps taken rest e = (rest, e)
-offered_begins (Some p) ps taken rest e = (rest ++ records_of p, ap (λ rs. rs ++ records_of p) e ∙ append_assoc taken rest (records_of p))
-
-pub begins_offered : (offered : List Piece) (taken : List Record) (p : Pulsing) (q : Offered) (waiting : List Record) → Runs offered taken p q waiting
-    → (rest : List Record) × (recorded offered ≡ taken ++ rest)
-begins_offered offered taken p q waiting r =
-    let through = gone_through (pieces_of r.pieces) taken waiting p.waiting (records_put r.records) r.takes r.fits.records in
-    let more = offered_begins q.waiting (pieces_of r.pieces) taken (waiting ++ p.waiting) through in
-    (more.0, ap recorded r.gives.pieces ∙ more.1)
-
-pub is_offered : (offered : List Piece) (taken : List Record) (p : Pulsing) (q : Offered) (waiting : List Record) → Runs offered taken p q waiting
-    → q.waiting ≡ None → p.waiting ≡ [] → waiting ≡ [] → taken ≡ recorded offered
-is_offered offered taken p q waiting r none all empty =
-    let put_is = whole_put p r.pieces r.records r.fits all in
-    let taken_is = r.takes ∙ ap (λ rs. taken ++ rs) empty ∙ append-nil taken in
-    let offered_is = ap recorded (r.gives.pieces ∙ ap (λ o. option_to_list o ++ pieces_of r.pieces) none) in
-    sym taken_is ∙ put_is ∙ sym offered_is
-
-nothing_waits : (o : Option Piece) (ps offered before : List Piece) → offered ≡ option_to_list o ++ ps → InTurn offered → ps ≡ pieces.End ∷ before → o ≡ None
-nothing_waits None ps offered before e t f = refl
-nothing_waits (Some p) ps offered before e t f =
-    let turns : InTurn (p ∷ ps) = rw e at t in
-    let ended : true ≡ false = sym (ap has_ended f) ∙ turns.0.going in absurd cc
-
-pub done_offered : (offered : List Piece) (taken : List Record) (p : Pulsing) (q : Offered) (waiting : List Record) → Runs offered taken p q waiting
-    → p.over ≡ true → taken ++ waiting ≡ recorded offered
-done_offered offered taken p q waiting r over =
-    let done = done_put p r.pieces r.records r.fits (sym r.fits.end ∙ over) in
-    let none = nothing_waits q.waiting (pieces_of r.pieces) offered done.1.0 r.gives.pieces r.gives.turns done.1.1 in
-    let offered_is = ap recorded (r.gives.pieces ∙ ap (λ o. option_to_list o ++ pieces_of r.pieces) none) in
-    sym r.takes ∙ done.0 ∙ sym offered_is

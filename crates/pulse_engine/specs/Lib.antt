@@ -1,4 +1,4 @@
 pub mod Logs
 pub mod Steps
 pub mod Turns
-pub mod Slots
+pub use Rattle.step_line.specs.Ordering

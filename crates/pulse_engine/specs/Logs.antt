@@ -1,7 +1,9 @@
--- What one side of a port has done, the latest first.
-use Rattle.std.specs.Prelude.{◌≡◌, ℕ, ◌+◌, ◌-◌, ◌<◌, Bool, false, List, [], ◌∷◌, ◌++◌, length, cond}
+-- What one side of a port has done.
+use Rattle.std.specs.Prelude.{◌≡◌, ℕ, ◌+◌, ◌-◌, ◌<◌, Bool, false, List, [], ◌∷◌, ◌++◌, length}
+use Rattle.units.specs.Truths.{one_if}
 use Rattle.step_line.specs.declared.Piece.{Piece}
 use Rattle.step_line.specs.declared.Record.{Record}
+use Rattle.step_line.specs.Logs.{NewestFirst}
 use Rattle.step_line.specs.Records.{is_tick, is_end}
 use Rattle.step_line.specs.Pieces.{ticks_of}
 
@@ -12,10 +14,10 @@ pub data PieceEvent : Type 0 where
   ticked : PieceEvent
 
 abbrev pub PieceLog : Type 0
-PieceLog = List PieceEvent
+PieceLog = NewestFirst PieceEvent
 
--- the pieces that were got, the latest first
-abbrev pub pieces_of : PieceLog → List Piece
+-- the pieces that were got
+abbrev pub pieces_of : PieceLog → NewestFirst Piece
 pieces_of [] = []
 pieces_of (got p ∷ h) = p ∷ pieces_of h
 pieces_of (none ∷ h) = pieces_of h
@@ -49,16 +51,13 @@ pub data RecordEvent : Type 0 where
   full : Record → RecordEvent
 
 abbrev pub RecordLog : Type 0
-RecordLog = List RecordEvent
+RecordLog = NewestFirst RecordEvent
 
 -- the records that were put, in order
 abbrev pub records_put : RecordLog → List Record
 records_put [] = []
 records_put (put r ∷ k) = records_put k ++ r ∷ []
 records_put (full r ∷ k) = records_put k
-
-abbrev pub one_if : Bool → ℕ
-one_if b = cond b 1 0
 
 -- how many of some records are ticks
 abbrev pub ticks_in : List Record → ℕ

@@ -1,6 +1,6 @@
 //! What holds of the records of every pulse.
 
-ghost use Rattle.std.specs.Prelude.{◌≡◌, ℕ, ◌+◌, ◌⊎◌, List, [], ◌∷◌, ◌++◌, reverse, map, true, None};
+ghost use Rattle.std.specs.Prelude.{◌≡◌, ℕ, ◌+◌, ◌⊎◌, List, [], ◌∷◌, ◌++◌, reverse, map, true};
 ghost use Rattle.std.specs.List.{All, flat_map};
 ghost use Rattle.step_line.specs.declared.Segment.{Segment};
 ghost use Rattle.step_line.specs.declared.Piece.{Piece};
@@ -11,8 +11,7 @@ ghost use Rattle.step_line.specs.Records.{IsRecord};
 ghost use Rattle.step_line.specs.Ordering.{InTurn, recorded};
 ghost use Rattle.pulse_engine.specs.Logs.{PieceLog, RecordLog, pieces_of, records_put, ticks_in, counted, uncounted, end_is_put};
 ghost use Rattle.pulse_engine.specs.Steps.{Pulsing};
-ghost use Rattle.pulse_engine.specs.Turns.{Fits};
-ghost use Rattle.pulse_engine.specs.Slots.{Offered, Runs};
+ghost use Rattle.pulse_engine.specs.Turns.{PulseFits};
 
 use step_line::{Piece, Record};
 
@@ -30,22 +29,11 @@ pub fn pieces_in_order()
 /// pieces that it got are those that are counted, and those of the last one that are not.
 #[tactic(auto, using(crate::proofs::Whole::whole_put, crate::proofs::Whole::ticks_put, crate::proofs::Whole::all_counts, crate::proofs::Whole::done_put))]
 pub fn records_in_order()
-    ensures prefix { (p : Pulsing) (h : PieceLog) (k : RecordLog) → Fits p h k → (rest : List Record) × (recorded (pieces_of h) ≡ records_put k ++ rest) }
-    ensures whole { (p : Pulsing) (h : PieceLog) (k : RecordLog) → Fits p h k → p.waiting ≡ [] → records_put k ≡ recorded (pieces_of h) }
-    ensures ticks { (p : Pulsing) (h : PieceLog) (k : RecordLog) → Fits p h k
+    ensures prefix { (p : Pulsing) (h : PieceLog) (k : RecordLog) → PulseFits p h k → (rest : List Record) × (recorded (pieces_of h) ≡ records_put k ++ rest) }
+    ensures whole { (p : Pulsing) (h : PieceLog) (k : RecordLog) → PulseFits p h k → p.waiting ≡ [] → records_put k ≡ recorded (pieces_of h) }
+    ensures ticks { (p : Pulsing) (h : PieceLog) (k : RecordLog) → PulseFits p h k
         → (ticks_in (records_put k) ≡ counted h) ⊎ (ticks_in (records_put k) ≡ counted h + 1) }
-    ensures counts { (p : Pulsing) (h : PieceLog) (k : RecordLog) → Fits p h k → counted h + uncounted h ≡ ticks_in (recorded (pieces_of h)) }
-    ensures done { (p : Pulsing) (h : PieceLog) (k : RecordLog) → Fits p h k → end_is_put k ≡ true
+    ensures counts { (p : Pulsing) (h : PieceLog) (k : RecordLog) → PulseFits p h k → counted h + uncounted h ≡ ticks_in (recorded (pieces_of h)) }
+    ensures done { (p : Pulsing) (h : PieceLog) (k : RecordLog) → PulseFits p h k → end_is_put k ≡ true
         → (records_put k ≡ recorded (pieces_of h)) × ((before : List Piece) × (pieces_of h ≡ Piece.End ∷ before)) × ((rest : List Record) × (records_put k ≡ rest ++ Record.End ∷ [])) × (ticks_in (records_put k) ≡ counted h) }
-{}
-
-/// What was taken from a pulse between two slots begins what is recorded of the pieces that were offered, and is all of it
-/// where nothing waits. Once the end was put, only records wait.
-pub fn slots_in_order()
-    ensures prefix { (offered : List Piece) (taken : List Record) (p : Pulsing) (q : Offered) (waiting : List Record) → Runs offered taken p q waiting
-        → (rest : List Record) × (recorded offered ≡ taken ++ rest) }
-    ensures whole { (offered : List Piece) (taken : List Record) (p : Pulsing) (q : Offered) (waiting : List Record) → Runs offered taken p q waiting
-        → q.waiting ≡ None → p.waiting ≡ [] → waiting ≡ [] → taken ≡ recorded offered }
-    ensures done { (offered : List Piece) (taken : List Record) (p : Pulsing) (q : Offered) (waiting : List Record) → Runs offered taken p q waiting
-        → p.over ≡ true → taken ++ waiting ≡ recorded offered }
 {}

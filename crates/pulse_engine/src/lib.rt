@@ -12,11 +12,9 @@
 mod laws;
 mod ports;
 mod pulse;
-mod slots;
 #[cfg(test)]
 mod tests;
 
-pub use laws::{pieces_in_order, records_in_order, slots_in_order};
+pub use laws::{pieces_in_order, records_in_order};
 pub use ports::{PulsePort, TickOut};
 pub use pulse::Pulse;
-pub use slots::{PieceSlot, RecordSlot};

@@ -92,12 +92,12 @@ fn begin(piece: &Piece, tracer: &mut Tracer, left: &mut u32) -> Record
 impl Pulse {
     ghost use Rattle.std.specs.Prelude.{◌≡◌, ◌↔◌, true, []};
     ghost use Rattle.pulse_engine.specs.Logs.{PieceLog, RecordLog};
-    ghost use Rattle.pulse_engine.specs.Turns.{Fits, Turned};
+    ghost use Rattle.pulse_engine.specs.Turns.{PulseFits, PulseTurned};
     ghost use Rattle.outside.specs.declared.On.{On};
 
     /// A pulse that has done nothing.
     pub fn new() -> Pulse
-        ensures { Fits result [] [] }
+        ensures { PulseFits result [] [] }
     {
         let start = Steps3 { x: 0, y: 0, z: 0 };
         Pulse {
@@ -114,12 +114,13 @@ impl Pulse {
 
     /// Does one step of work: gets a piece, puts a record or counts a tick, and then answers Did. Where there is no piece
     /// or no room for the record it waits for that, and is as before; so the record is put again in the next turn. From
-    /// the turn after the one that put the end it answers Done, and nothing changes.
+    /// the turn after the one that put the end it answers Done, and nothing changes. Each turn that answers Did moves: it does one of
+    /// the three.
     #[inline]
     pub fn turn<P: PulsePort, T: TickOut>(&mut self, pieces: &mut P, records: &mut T) -> Turn
-        requires { (rest : P.Rest) × (h : PieceLog) × (k : RecordLog) × P.stands pieces.old rest h × Fits self.old h k }
-        ensures logs { (rest : P.Rest) (back : T.Rest) (h : PieceLog) (k : RecordLog) → P.stands pieces.old rest h → T.stands records.old back k → Fits self.old h k
-            → (h' : PieceLog) × (k' : RecordLog) × P.stands pieces.new rest h' × T.stands records.new back k' × Fits self.new h' k' × Turned result h k h' k' }
+        requires { (rest : P.Rest) × (back : T.Rest) × (h : PieceLog) × (k : RecordLog) × P.stands pieces.old rest h × T.stands records.old back k × PulseFits self.old h k }
+        ensures logs { (rest : P.Rest) (back : T.Rest) (h : PieceLog) (k : RecordLog) → P.stands pieces.old rest h → T.stands records.old back k → PulseFits self.old h k
+            → (h' : PieceLog) × (k' : RecordLog) × P.stands pieces.new rest h' × T.stands records.new back k' × PulseFits self.new h' k' × PulseTurned result h k h' k' }
         ensures waits { (on : On) → result ≡ Turn.Wait on → self.new ≡ self.old }
         ensures between { result ≡ Turn.Wait On.Piece → self.old.waiting ≡ [] }
         ensures done { (result ≡ Turn.Done) ↔ (self.old.over ≡ true) }

@@ -1,90 +1,102 @@
-ghost use Rattle.std.specs.Prelude.{◌≡◌, ℕ, ◌<◌, List, [], ◌∷◌, ◌++◌, pos};
+ghost use Rattle.std.specs.Prelude.{◌≡◌, ◌++◌, [], ◌∷◌, pos, reverse};
 ghost use Rattle.step_line.specs.declared.Piece.{Piece};
-ghost use Rattle.step_line.specs.declared.Record.{Record};
-ghost use Rattle.step_line.specs.Ordering.{ComesNext};
-ghost use Rattle.pulse_engine.specs.Slots.{IsFree, Runs};
+ghost use Rattle.step_line.specs.Ordering.{InTurn};
 
 use super::*;
 use outside::{On, Turn};
-use std::process::Abort;
-use step_line::{Bits, Head, Mark, Piece, Record, Segment, SpindleCode, events};
+use std::marker::Model;
+use step_line::{Bits, Head, Mark, Piece, Record, Segment, SpindleCode};
 use units::{Move, Steps3};
 
-/// A pulse between two slots.
+/// Pieces that are still to be got, in order.
 #[derive(Drop)]
-struct Line {
-    pulse: Pulse,
-    pieces: PieceSlot,
-    records: RecordSlot,
+struct Tape<'a> {
+    rest: &'a [Piece],
 }
 
-impl Line {
-    fn new() -> Line
-        ensures { Runs [] [] result.pulse result.pieces result.records }
+impl PulsePort for Tape<'_> {
+    ghost use Rattle.std.specs.Prelude.{◌++◌, reverse};
+    ghost use Rattle.step_line.specs.Ordering.{InTurn};
+    ghost use Rattle.pulse_engine.specs.Logs.{pieces_of};
+
+    ghost Rest = { Unit {0} };
+
+    /// All pieces come in turn.
+    ghost stands = { λ tape _ h. InTurn (reverse tape.rest.now ++ pieces_of h) };
+
+    #[tactic(auto, using(crate::proofs::Tried::got_next))]
+    fn piece(&mut self) -> Option<Piece> {
+        match self.rest.split_first() {
+            None => None,
+            Some((first, rest)) => {
+                self.rest = rest;
+                Some(*first)
+            }
+        }
+    }
+
+    fn tick_done(&mut self) {}
+}
+
+/// Room for one record.
+#[derive(Drop)]
+struct Room {
+    held: Option<Record>,
+}
+
+impl TickOut for Room {
+    ghost Rest = { Unit {0} };
+
+    ghost stands = { λ _ _ _. Unit {0} };
+
+    fn put(&mut self, r: Record) -> Result<(), Record> {
+        if self.held.is_some() {
+            return Err(r);
+        }
+        self.held = Some(r);
+        Ok(())
+    }
+}
+
+/// A pulse between pieces and room for one record.
+#[derive(Drop)]
+struct Line<'a> {
+    pulse: Pulse,
+    tape: Tape<'a>,
+    room: Room,
+}
+
+impl<'a> Model for Line<'a> {
+    ghost use Rattle.std.specs.Prelude.{◌++◌, reverse};
+    ghost use Rattle.step_line.specs.Ordering.{InTurn};
+    ghost use Rattle.pulse_engine.specs.Logs.{PieceLog, RecordLog, pieces_of};
+    ghost use Rattle.pulse_engine.specs.Turns.{PulseFits};
+
+    ghost Value = { Unit {0} };
+
+    ghost view = { λ _. tt };
+
+    ghost invariant = { λ l. (h : PieceLog) × (k : RecordLog) × InTurn (reverse l.tape.rest.now ++ pieces_of h) × PulseFits l.pulse h k };
+}
+
+impl<'a> Line<'a> {
+    fn new(pieces: &'a [Piece]) -> Line<'a>
+        requires { InTurn (reverse pieces.now) }
     {
         Line {
             pulse: Pulse::new(),
-            pieces: PieceSlot::new(),
-            records: RecordSlot::new(),
+            tape: Tape { rest: pieces },
+            room: Room { held: None },
         }
-    }
-
-    fn offer(&mut self, rt: &impl Abort, piece: Piece)
-        requires { (ps : List Piece) × (rs : List Record) × Runs ps rs self.old.pulse self.old.pieces self.old.records }
-        ensures { (ps : List Piece) (rs : List Record) → Runs ps rs self.old.pulse self.old.pieces self.old.records → ComesNext ps piece
-            → Runs (piece ∷ ps) rs self.new.pulse self.new.pieces self.new.records }
-    {
-        assert!(rt; self.pieces.is_free());
-        self.pieces.offer(piece);
-    }
-
-    fn turn(&mut self) -> Turn
-        requires { (ps : List Piece) × (rs : List Record) × Runs ps rs self.old.pulse self.old.pieces self.old.records }
-        ensures { (ps : List Piece) (rs : List Record) → Runs ps rs self.old.pulse self.old.pieces self.old.records
-            → Runs ps rs self.new.pulse self.new.pieces self.new.records }
-    {
-        self.pulse.turn(&mut self.pieces, &mut self.records)
     }
 
     /// Turns once, and takes what waits then, if it is to.
-    fn step(&mut self, takes: bool) -> (Turn, Option<Record>)
-        requires { (ps : List Piece) × (rs : List Record) × Runs ps rs self.old.pulse self.old.pieces self.old.records }
-        ensures { (ps : List Piece) (rs : List Record) → Runs ps rs self.old.pulse self.old.pieces self.old.records
-            → (ss : List Record) × Runs ps ss self.new.pulse self.new.pieces self.new.records }
-    {
-        let answer = self.turn();
+    fn step(&mut self, takes: bool) -> (Turn, Option<Record>) {
+        let answer = self.pulse.turn(&mut self.tape, &mut self.room);
         if !takes {
             return (answer, None);
         }
-        (answer, self.records.take())
-    }
-
-    /// Turns until the next record is put, and takes it.
-    fn next_record(&mut self) -> Option<Record>
-        requires { (ps : List Piece) × (rs : List Record) × Runs ps rs self.old.pulse self.old.pieces self.old.records }
-        ensures { (ps : List Piece) (rs : List Record) → Runs ps rs self.old.pulse self.old.pieces self.old.records
-            → (ss : List Record) × Runs ps ss self.new.pulse self.new.pieces self.new.records }
-    {
-        for _ in 0..3 {
-            let (_, record) = self.step(true);
-            if record.is_some() {
-                return record;
-            }
-        }
-        None
-    }
-
-    /// Offers a piece, and expects its records and no more.
-    fn trace(&mut self, rt: &impl Abort, piece: Piece, want: &[Record])
-        requires { (ps : List Piece) × (rs : List Record) × Runs ps rs self.old.pulse self.old.pieces self.old.records × ComesNext ps piece }
-        ensures { (ps : List Piece) (rs : List Record) → Runs ps rs self.old.pulse self.old.pieces self.old.records → ComesNext ps piece
-            → (ss : List Record) × Runs (piece ∷ ps) ss self.new.pulse self.new.pieces self.new.records }
-    {
-        self.offer(rt, piece);
-        for record in want {
-            assert_eq!(rt; self.next_record(), Some(*record));
-        }
-        assert_eq!(rt; self.next_record(), None);
+        (answer, self.room.held.take())
     }
 }
 
@@ -120,24 +132,43 @@ fn event(x: i8, y: i8) -> Record {
 
 #[test]
 fn pieces_are_recorded_in_order(rt: HostRuntime) {
-    let mut line = Line::new();
     let mark = Mark::Spindle(SpindleCode::M3, 1000);
-    line.trace(
-        &rt,
+    let pieces = [
         segment(3, 2, 0, 2),
-        &[head(2), event(1, 1), event(1, 0)],
-    );
-    line.trace(&rt, segment(3, 2, 2, 1), &[head(1), event(1, 1)]);
-    line.trace(&rt, Piece::Mark(mark), &[Record::Mark(mark)]);
-    line.trace(&rt, Piece::End, &[Record::End]);
-    assert_eq!(rt; line.turn(), Turn::Done);
+        segment(3, 2, 2, 1),
+        Piece::Mark(mark),
+        Piece::End,
+    ];
+    let mut line = Line::new(&pieces);
+    let got = (Turn::Did, None);
+    let counted = got;
+    for want in [
+        got,
+        (Turn::Did, Some(head(2))),
+        (Turn::Did, Some(event(1, 1))),
+        counted,
+        (Turn::Did, Some(event(1, 0))),
+        counted,
+        got,
+        (Turn::Did, Some(head(1))),
+        (Turn::Did, Some(event(1, 1))),
+        counted,
+        got,
+        (Turn::Did, Some(Record::Mark(mark))),
+        counted,
+        got,
+        (Turn::Did, Some(Record::End)),
+        (Turn::Done, None),
+        (Turn::Done, None),
+    ] {
+        assert_eq!(rt; line.step(true), want);
+    }
 }
 
 #[test]
 fn a_turn_does_one_thing_and_loses_nothing(rt: HostRuntime) {
-    let mut line = Line::new();
-    assert_eq!(rt; line.turn(), Turn::Wait(On::Piece));
-    line.offer(&rt, segment(2, 0, 0, 2));
+    let pieces = [segment(2, 0, 0, 2)];
+    let mut line = Line::new(&pieces);
     let ahead = event(1, 0);
     for (answer, takes, want) in [
         (Turn::Did, true, None),

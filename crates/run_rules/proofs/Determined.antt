@@ -1,12 +1,12 @@
 -- What becomes of a line is determined by the state before it.
-use Rattle.std.proofs.Common.{◌≡◌, ℕ, ◌+◌, Bool, true, false, List, [], ◌∷◌, length, nat_eq, nat_lt, get_or, refl, sym, ap, ◌∙◌, Ok, Err, Some, None, subst}
+use Rattle.std.proofs.Common.{◌≡◌, ℕ, ◌⊎◌, inl, inr, Bool, true, false, List, [], ◌∷◌, length, nat_eq, nat_lt, get_or, refl, sym, ap, ◌∙◌, Ok, Err, Some, None, subst}
 use Rattle.std.specs.declared.option.Option.{Option}
 use Rattle.std.specs.declared.result.Result.{Result}
+use Rattle.units.specs.Truths.{one_if}
 use Rattle.units.specs.declared.Decimal.{Decimal}
 use Rattle.units.specs.declared.Per3.{Per3}
 use Rattle.gcode_words.specs.declared.Word.{Word}
 use Rattle.gcode_words.specs.declared.WordFault.{WordFault}
-use Rattle.gcode_words.specs.Stripping.{plain}
 use Rattle.gcode_words.specs.Words.{words_of}
 use Rattle.code_table.specs.declared.Code.{Code}
 use Rattle.gcode_check.specs.Verdicts.{verdict}
@@ -14,14 +14,16 @@ use Rattle.gcode_check.specs.declared.Verdict.{Verdict}
 use Rattle.gcode_check.specs.declared.Verdict.TheVariants.{Accept, Refuse, Limit}
 use Rattle.settings.specs.declared.Settings.{Settings}
 use Rattle.code_table.specs.Tables.{Row}
-use Rattle.settings.specs.Numbers.{values, one_if}
+use Rattle.settings.specs.Numbers.{values}
 use Rattle.system_lines.specs.Commands.{command_of}
 use Rattle.system_lines.specs.Setting.{apply_refusal}
 use Rattle.system_lines.specs.declared.Command.{Command}
 use Rattle.system_lines.specs.declared.Command.TheVariants.{ListSettings, ListModes, ListOffsets, Unlock, Set}
 use Rattle.run_rules.specs.declared.State.{State}
 use Rattle.run_rules.specs.States.{IsOpening}
-use Rattle.run_rules.specs.Outcomes.{Outcome, HasSet, told, either, ByVerdict, ByWords, BySetting, ByCommand, ByKept, Becomes, AnsweredFrom, Answered, most_kept}
+use Rattle.run_rules.specs.Work.{Outcome}
+use Rattle.run_rules.specs.Outcomes.{Before, HasSet, told, refused, either, ByVerdict, ByWords, BySetting, ByCommand, ByDollar, ByKept, Becomes, Passed, Follows, after, most_kept}
+use Rattle.run_rules.specs.Outcomes.Passed.{a_line}
 
 same_switch : (a b : Bool) → one_if a ≡ one_if b → a ≡ b
 same_switch true true e = refl
@@ -58,25 +60,25 @@ values_determine s t e =
 both : {A : Type 0} {a b c : A} → a ≡ c → b ≡ c → a ≡ b
 both e f = e ∙ sym f
 
-by_verdict : (n : ℕ) (s : State) (v : Verdict) (a b : Outcome) → ByVerdict n s v a → ByVerdict n s v b → a ≡ b
-by_verdict n s (Accept x) a b e f = both e f
-by_verdict n s (Refuse code) a b e f = both e f
-by_verdict n s Limit a b e f = absurd e
+by_verdict : (s : Before) (v : Verdict) (a b : Outcome) → ByVerdict s v a → ByVerdict s v b → a ≡ b
+by_verdict s (Accept x) a b e f = both e f
+by_verdict s (Refuse code) a b e f = both e f
+by_verdict s Limit a b e f = absurd e
 
-by_words : (n : ℕ) (s : State) (r : Result (List Word) WordFault) (a b : Outcome) → ByWords n s r a → ByWords n s r b → a ≡ b
-by_words n s (Err fault) a b e f = both e f
-by_words n s (Ok ws) a b e f = by_verdict n s (verdict s.parser s.settings ws) a b e f
+by_words : (s : Before) (r : Result (List Word) WordFault) (a b : Outcome) → ByWords s r a → ByWords s r b → a ≡ b
+by_words s (Err fault) a b e f = both e f
+by_words s (Ok ws) a b e f = by_verdict s (verdict s.state.parser s.state.settings ws) a b e f
 
 by_set : (s : State) (n : ℕ) (value : Decimal) (a b : Outcome) → HasSet s n value a → HasSet s n value b → a ≡ b
 by_set s n value a b e f =
     let same : a.next.settings ≡ b.next.settings = values_determine a.next.settings b.next.settings (e.settings ∙ sym f.settings) in
     e.outcome ∙ ap (λ settings. told (record { parser = s.parser; settings = settings }) []) same ∙ sym f.outcome
 
-by_setting : (s : State) (n : ℕ) (value : Decimal) (r : Option Code) (a b : Outcome) → BySetting s n value r a → BySetting s n value r b → a ≡ b
+by_setting : (s : Before) (n : ℕ) (value : Decimal) (r : Option Code) (a b : Outcome) → BySetting s n value r a → BySetting s n value r b → a ≡ b
 by_setting s n value (Some code) a b e f = both e f
-by_setting s n value None a b e f = by_set s n value a b e f
+by_setting s n value None a b e f = by_set s.state n value a b e f
 
-by_command : (s : State) (r : Result Command Code) (a b : Outcome) → ByCommand s r a → ByCommand s r b → a ≡ b
+by_command : (s : Before) (r : Result Command Code) (a b : Outcome) → ByCommand s r a → ByCommand s r b → a ≡ b
 by_command s (Err code) a b e f = both e f
 by_command s (Ok ListSettings) a b e f = both e f
 by_command s (Ok ListModes) a b e f = both e f
@@ -84,36 +86,68 @@ by_command s (Ok ListOffsets) a b e f = both e f
 by_command s (Ok Unlock) a b e f = both e f
 by_command s (Ok (Set n value)) a b e f = by_setting s n value (apply_refusal n value) a b e f
 
-by_choice : (t : Bool) (A B : Outcome → Type 0) → ((a b : Outcome) → A a → A b → a ≡ b) → ((a b : Outcome) → B a → B b → a ≡ b)
+-- two outcomes are one, or one of them is that of a machine that is found running
+abbrev pub Agree : Before → Outcome → Outcome → Type 0
+Agree s a b = (a ≡ b) ⊎ ((a ≡ refused s 8) ⊎ (b ≡ refused s 8))
+
+by_dollar : (runs : Bool) (s : Before) (kept : List ℕ) (a b : Outcome) → ByDollar runs s kept a → ByDollar runs s kept b → Agree s a b
+by_dollar runs s kept a b (inl e) f = inr (inl e.outcome)
+by_dollar runs s kept a b (inr e) (inl f) = inr (inr f.outcome)
+by_dollar runs s kept a b (inr e) (inr f) = inl (by_command s (command_of kept) a b e f)
+
+by_choice : (t : Bool) (s : Before) (A B : Outcome → Type 0) → ((a b : Outcome) → A a → A b → Agree s a b) → ((a b : Outcome) → B a → B b → Agree s a b)
+    → (a b : Outcome) → either t (A a) (B a) → either t (A b) (B b) → Agree s a b
+by_choice true s A B first second a b e f = first a b e f
+by_choice false s A B first second a b e f = second a b e f
+
+by_kept : (runs : Bool) (s : Before) (kept : List ℕ) (a b : Outcome) → ByKept runs s kept a → ByKept runs s kept b → Agree s a b
+by_kept runs s [] a b e f = inl (both e f)
+by_kept runs s (c ∷ cs) a b e f =
+    by_choice (nat_eq c 36) s (λ o. ByDollar runs s (c ∷ cs) o) (λ o. ByWords s (words_of (c ∷ cs)) o)
+    (by_dollar runs s (c ∷ cs)) (λ a b e f. inl (by_words s (words_of (c ∷ cs)) a b e f)) a b e f
+
+pub outcomes_agree : (runs : Bool) (s : Before) (kept : List ℕ) (a b : Outcome) → Becomes runs s kept a → Becomes runs s kept b → Agree s a b
+outcomes_agree runs s kept a b e f =
+    by_choice (nat_lt most_kept (length kept)) s (λ o. o ≡ _) (λ o. ByKept runs s kept o)
+    (λ a b e f. inl (both e f)) (by_kept runs s kept) a b e f
+
+-- ---- where no machine is found running
+
+false_found : {A : Type 0} → false ≡ true → A
+false_found e = absurd cc
+
+still_dollar : (s : Before) (kept : List ℕ) (a b : Outcome) → ByDollar false s kept a → ByDollar false s kept b → a ≡ b
+still_dollar s kept a b (inl e) f = false_found e.found
+still_dollar s kept a b (inr e) (inl f) = false_found f.found
+still_dollar s kept a b (inr e) (inr f) = by_command s (command_of kept) a b e f
+
+still_choice : (t : Bool) (A B : Outcome → Type 0) → ((a b : Outcome) → A a → A b → a ≡ b) → ((a b : Outcome) → B a → B b → a ≡ b)
     → (a b : Outcome) → either t (A a) (B a) → either t (A b) (B b) → a ≡ b
-by_choice true A B first second a b e f = first a b e f
-by_choice false A B first second a b e f = second a b e f
+still_choice true A B first second a b e f = first a b e f
+still_choice false A B first second a b e f = second a b e f
 
-by_kept : (n : ℕ) (s : State) (kept : List ℕ) (a b : Outcome) → ByKept n s kept a → ByKept n s kept b → a ≡ b
-by_kept n s [] a b e f = both e f
-by_kept n s (c ∷ cs) a b e f =
-    by_choice (nat_eq c 36) (λ o. ByCommand s (command_of (c ∷ cs)) o) (λ o. ByWords n s (words_of (c ∷ cs)) o)
-    (by_command s (command_of (c ∷ cs))) (by_words n s (words_of (c ∷ cs))) a b e f
+still_kept : (s : Before) (kept : List ℕ) (a b : Outcome) → ByKept false s kept a → ByKept false s kept b → a ≡ b
+still_kept s [] a b e f = both e f
+still_kept s (c ∷ cs) a b e f =
+    still_choice (nat_eq c 36) (λ o. ByDollar false s (c ∷ cs) o) (λ o. ByWords s (words_of (c ∷ cs)) o)
+    (still_dollar s (c ∷ cs)) (by_words s (words_of (c ∷ cs))) a b e f
 
-pub one_outcome : (n : ℕ) (s : State) (line : List ℕ) (a b : Outcome) → Becomes n s line a → Becomes n s line b → a ≡ b
-one_outcome n s line a b e f =
-    by_choice (nat_lt most_kept (length (plain line))) (λ o. o ≡ _) (λ o. ByKept n s (plain line) o)
-    (λ a b e f. both e f) (by_kept n s (plain line)) a b e f
+pub one_outcome : (s : Before) (kept : List ℕ) (a b : Outcome) → Becomes false s kept a → Becomes false s kept b → a ≡ b
+one_outcome s kept a b e f =
+    still_choice (nat_lt most_kept (length kept)) (λ o. o ≡ _) (λ o. ByKept false s kept o)
+    (λ a b e f. both e f) (still_kept s kept) a b e f
 
-one_run_from : (n : ℕ) (s t u : State) (ls : List (List ℕ)) (os ps : List Outcome) → AnsweredFrom n s ls os t → AnsweredFrom n s ls ps u → (os ≡ ps) × (t ≡ u)
-one_run_from n s t u [] [] [] e f = (refl, both e f)
-one_run_from n s t u (l ∷ ls) (a ∷ os) (b ∷ ps) e f =
-    let first : a ≡ b = one_outcome n s l a b e.0 f.0 in
-    let P : Outcome → Type 0 = λ o. AnsweredFrom (n + 1) o.next ls ps u in
-    let rest = one_run_from (n + 1) a.next t u ls os ps e.1 (subst P (sym first) f.1) in
-    (ap (λ o. o ∷ os) first ∙ ap (λ xs. b ∷ xs) rest.0, rest.1)
-one_run_from n s t u [] (a ∷ os) ps e f = absurd e
-one_run_from n s t u [] [] (b ∷ ps) e f = absurd f
-one_run_from n s t u (l ∷ ls) [] ps e f = absurd e
-one_run_from n s t u (l ∷ ls) (a ∷ os) [] e f = absurd f
-
-pub one_run : (s t u : State) (ls : List (List ℕ)) (os ps : List Outcome) → Answered s ls os t → Answered s ls ps u → (os ≡ ps) × (t ≡ u)
-one_run s t u ls os ps e f = one_run_from 1 s t u ls os ps e f
+pub one_run : (s t u : Before) (ls : List (List ℕ)) (os ps : List Passed) → Follows false s ls os t → Follows false s ls ps u → (os ≡ ps) × (t ≡ u)
+one_run s t u [] [] [] e f = (refl, both e f)
+one_run s t u (l ∷ ls) (a_line a ∷ os) (a_line b ∷ ps) e f =
+    let first : a ≡ b = one_outcome s l a b e.0 f.0 in
+    let P : Outcome → Type 0 = λ o. Follows false (after s o) ls ps u in
+    let rest = one_run (after s a) t u ls os ps e.1 (subst P (sym first) f.1) in
+    (ap (λ o. a_line o ∷ os) first ∙ ap (λ xs. a_line b ∷ xs) rest.0, rest.1)
+one_run s t u [] (a_line a ∷ os) ps e f = absurd e
+one_run s t u [] [] (a_line b ∷ ps) e f = absurd f
+one_run s t u (l ∷ ls) [] ps e f = absurd e
+one_run s t u (l ∷ ls) (a_line a ∷ os) [] e f = absurd f
 
 -- there is one state before the first line
 pub one_opening : (s t : State) → IsOpening s → IsOpening t → s ≡ t

@@ -1,6 +1,5 @@
--- What an accepted line asks of the machine, and what it tells: item by item, in their order.
-use Rattle.std.specs.Prelude.{ℕ, ◌<◌, ◌==◌, Bool, false, if◌then◌else◌, List, [], ◌∷◌, ◌++◌}
-use Rattle.std.specs.List.{flat_map}
+-- What there is to do of the items of an accepted line: item by item, in their order.
+use Rattle.std.specs.Prelude.{ℕ, ◌==◌, Bool, false, if◌then◌else◌, List, [], ◌∷◌, ◌++◌}
 use Rattle.units.specs.declared.Rate.{Rate}
 use Rattle.units.specs.declared.Move.{Move as Way}
 use Rattle.settings.specs.declared.Settings.{Settings}
@@ -9,15 +8,16 @@ use Rattle.modal_state.specs.declared.SpindleMode.TheVariants.{Off, Cw, Ccw}
 use Rattle.step_line.specs.declared.SpindleCode.TheVariants.{M3, M4, M5}
 use Rattle.step_line.specs.declared.Mark.{Mark}
 use Rattle.step_line.specs.declared.Mark.TheVariants as marks
+use Rattle.step_line.specs.declared.planned_move.PlannedMove.{PlannedMove}
 use Rattle.step_line.specs.Counting.{events_of}
-use Rattle.legal_speeds.specs.declared.PlannedMove.{PlannedMove}
-use Rattle.step_drive.specs.Asking.{Asked}
-use Rattle.step_drive.specs.Asking.Asked.{a_move, a_mark}
+use Rattle.step_line.specs.Asking.{Asked}
+use Rattle.step_line.specs.Asking.Asked.{a_move, a_mark, a_rest}
 use Rattle.gcode_check.specs.declared.Item.{Item}
 use Rattle.gcode_check.specs.declared.Item.TheVariants.{Spindle, Coolant, Dwell, Move, Pause, ProgramEnd}
 use Rattle.status_report.specs.declared.Message.TheVariants as messages
-use Rattle.status_report.specs.declared.Reply.{Reply}
 use Rattle.status_report.specs.declared.Reply.TheVariants.{Message}
+use Rattle.run_rules.specs.Work.{Task, asking}
+use Rattle.run_rules.specs.Work.Task.{ask, tell}
 
 -- how a spindle mode is recorded, with its speed
 abbrev pub spindle_mark : SpindleMode → ℕ → Mark
@@ -43,15 +43,19 @@ planned line s mv rate = record { line = line; mv = mv; rate = rate; limits = s.
 abbrev pub move_asked : PlannedMove → List Asked
 move_asked m = if events_of m.mv == 0 then [] else a_move m ∷ []
 
--- what an item of a line asks for, while the spindle and the coolant are so: a move, and a mark each of spindle, coolant
--- and dwell; the end of a program turns off what is on
-abbrev pub item_asks : ℕ → Settings → SpindleMode → Bool → Item → List Asked
-item_asks line s spindle flood (Spindle mode speed) = a_mark (spindle_mark mode speed) ∷ []
-item_asks line s spindle flood (Coolant on) = a_mark (marks.Coolant on) ∷ []
-item_asks line s spindle flood (Dwell ms) = a_mark (marks.Dwell ms) ∷ []
-item_asks line s spindle flood (Move mv rate) = move_asked (planned line s mv rate)
-item_asks line s spindle flood Pause = []
-item_asks line s spindle flood ProgramEnd = spindle_off spindle ++ coolant_off flood
+-- marks come where the machine stands, and are waited for
+abbrev pub at_rest : List Asked → List Task
+at_rest marks = ask a_rest ∷ asking marks ++ ask a_rest ∷ []
+
+-- What there is to do of an item, while the spindle and the coolant are so: a move is asked for as it is, and a mark each
+-- of spindle, coolant and dwell at rest. The end of a program runs all that is planned, turns off what is on, and is told.
+abbrev pub item_work : ℕ → Settings → SpindleMode → Bool → Item → List Task
+item_work line s spindle flood (Spindle mode speed) = at_rest (a_mark (spindle_mark mode speed) ∷ [])
+item_work line s spindle flood (Coolant on) = at_rest (a_mark (marks.Coolant on) ∷ [])
+item_work line s spindle flood (Dwell ms) = at_rest (a_mark (marks.Dwell ms) ∷ [])
+item_work line s spindle flood (Move mv rate) = asking (move_asked (planned line s mv rate))
+item_work line s spindle flood Pause = []
+item_work line s spindle flood ProgramEnd = at_rest (spindle_off spindle ++ coolant_off flood) ++ tell (Message messages.ProgramEnd) ∷ []
 
 -- how the spindle turns behind an item
 abbrev pub spindle_after : SpindleMode → Item → SpindleMode
@@ -65,16 +69,8 @@ flood_after flood (Coolant on) = on
 flood_after flood ProgramEnd = false
 flood_after flood _ = flood
 
--- what the items of a line ask for, from a spindle mode and a coolant on
-abbrev pub asks_of : ℕ → Settings → SpindleMode → Bool → List Item → List Asked
-asks_of line s spindle flood [] = []
-asks_of line s spindle flood (item ∷ items) =
-    item_asks line s spindle flood item ++ asks_of line s (spindle_after spindle item) (flood_after flood item) items
-
--- only the end of a program is told
-abbrev pub item_replies : Item → List Reply
-item_replies ProgramEnd = Message messages.ProgramEnd ∷ []
-item_replies _ = []
-
-abbrev pub replies_to : List Item → List Reply
-replies_to items = flat_map item_replies items
+-- what there is to do of the items of a line, from a spindle mode and a coolant on
+abbrev pub work_of : ℕ → Settings → SpindleMode → Bool → List Item → List Task
+work_of line s spindle flood [] = []
+work_of line s spindle flood (item ∷ items) =
+    item_work line s spindle flood item ++ work_of line s (spindle_after spindle item) (flood_after flood item) items

@@ -1,5 +1,5 @@
 -- What was read of a job, and which of its lines are answered.
-use Rattle.std.specs.Prelude.{ℕ, ◌≤◌, ◌<◌, List, take}
+use Rattle.std.specs.Prelude.{ℕ, ◌+◌, ◌≤◌, ◌<◌, List, take}
 use Rattle.run_rules.specs.Lines.{lines_of, whole_lines}
 use Rattle.run_rules.specs.declared.Reading.{Reading}
 use Rattle.run_rules.specs.declared.Reading.TheVariants.{Ended, Failed, Large}
@@ -8,11 +8,16 @@ use Rattle.run_rules.specs.declared.Reading.TheVariants.{Ended, Failed, Large}
 abbrev pub largest_job : ℕ
 largest_job = 16777216
 
--- how many bytes were read, by how the reading ended
+-- so many bytes at most are asked for at a time
+abbrev pub largest_piece : ℕ
+largest_piece = 4096
+
+-- How many bytes were read, by how the reading ended. A job that is too large is read up to the piece that has its first
+-- byte too many.
 abbrev pub FitsReading : Reading → ℕ → Type 0
 FitsReading Ended n = n ≤ largest_job
 FitsReading Failed n = n ≤ largest_job
-FitsReading Large n = largest_job < n
+FitsReading Large n = (largest_job < n) × (n ≤ largest_job + largest_piece)
 
 -- the job: of what was read, the first 16,777,216 bytes
 abbrev pub job_of : List ℕ → List ℕ

@@ -1,25 +1,21 @@
 -- What a run tells, and what it asks of the machine.
-use Rattle.std.specs.Prelude.{ℕ, Bool, true, false, List, [], ◌∷◌, ◌++◌}
+use Rattle.std.specs.Prelude.{ℕ, Bool, true, false, List, ◌∷◌}
 use Rattle.std.specs.List.{flat_map, count_by}
 use Rattle.step_line.specs.declared.Record.{Record}
+use Rattle.step_line.specs.Asking.{Asked}
 use Rattle.step_record.specs.Texts.{record_text}
-use Rattle.step_drive.specs.Asking.{Asked}
 use Rattle.status_report.specs.Replies.{reply_text}
 use Rattle.status_report.specs.declared.Reply.{Reply}
 use Rattle.status_report.specs.declared.Reply.TheVariants.{Banner, Error}
-use Rattle.run_rules.specs.Outcomes.{Outcome}
-
--- what was told of a line: its body, and then its answer
-abbrev pub replies_of : Outcome → List Reply
-replies_of o = o.body ++ o.answer ∷ []
+use Rattle.run_rules.specs.Work.{Outcome, tells, asks}
 
 -- all that is told: the banner, and then line by line
 abbrev pub replies_in : List Outcome → List Reply
-replies_in outcomes = Banner ∷ flat_map replies_of outcomes
+replies_in outcomes = Banner ∷ flat_map (λ o. tells o.work) outcomes
 
--- what the lines ask of the machine, in order: their moves and marks
+-- what the lines ask of the machine, in order: their moves and marks, and where it comes to rest
 abbrev pub asked_in : List Outcome → List Asked
-asked_in outcomes = flat_map (λ o. o.asked) outcomes
+asked_in outcomes = flat_map (λ o. asks o.work) outcomes
 
 abbrev pub replies_text : List Reply → List ℕ
 replies_text replies = flat_map reply_text replies

@@ -1,26 +1,38 @@
 //! Laws of runs.
 
-ghost use Rattle.std.specs.Prelude.{◌≡◌, ℕ, ◌+◌, List, [], ◌∷◌, ◌++◌, length};
+ghost use Rattle.std.specs.Prelude.{◌≡◌, ℕ, ◌+◌, ◌⊎◌, Bool, true, false, List, [], ◌∷◌, ◌++◌, length};
 ghost use Rattle.run_rules.specs.declared.State.{State};
 ghost use Rattle.run_rules.specs.States.{IsOpening};
-ghost use Rattle.run_rules.specs.Outcomes.{Outcome, Becomes, Answered};
+ghost use Rattle.run_rules.specs.Work.{Outcome};
+ghost use Rattle.run_rules.specs.Outcomes.{Before, Becomes, Passed, Follows, refused, after};
+ghost use Rattle.run_rules.specs.Outcomes.Passed.{a_line};
 ghost use Rattle.run_rules.specs.Lines.{CutsInto, lines_of, whole_lines};
 
-/// A run of lines goes on by each line and what becomes of it, and each line has one answer.
+/// A run of lines goes on by each line and what becomes of it, each line has one outcome, and lines are numbered one by
+/// one. Where the machine may be found running, a run in which it never is stays one.
 pub fn run_goes_on()
-    ensures goes_on { (s t : State) (lines : List (List ℕ)) (outcomes : List Outcome) (line : List ℕ) (outcome : Outcome) →
-        Answered s lines outcomes t → Becomes (length lines + 1) t line outcome →
-        Answered s (lines ++ line ∷ []) (outcomes ++ outcome ∷ []) outcome.next }
-    ensures as_many { (s t : State) (lines : List (List ℕ)) (outcomes : List Outcome) →
-        Answered s lines outcomes t → length outcomes ≡ length lines }
+    ensures goes_on { (runs : Bool) (first last : Before) (lines : List (List ℕ)) (passed : List Passed) (line : List ℕ) (outcome : Outcome) →
+        Follows runs first lines passed last → Becomes runs last line outcome →
+        Follows runs first (lines ++ line ∷ []) (passed ++ a_line outcome ∷ []) (after last outcome) }
+    ensures as_many { (runs : Bool) (first last : Before) (lines : List (List ℕ)) (passed : List Passed) →
+        Follows runs first lines passed last → length passed ≡ length lines }
+    ensures numbered { (runs : Bool) (first last : Before) (lines : List (List ℕ)) (passed : List Passed) →
+        Follows runs first lines passed last → last.number ≡ first.number + length lines }
+    ensures line { (runs other : Bool) (before : Before) (line : List ℕ) (outcome : Outcome) → (runs ≡ true → other ≡ true) →
+        Becomes runs before line outcome → Becomes other before line outcome }
+    ensures lines { (runs other : Bool) (first last : Before) (lines : List (List ℕ)) (passed : List Passed) → (runs ≡ true → other ≡ true) →
+        Follows runs first lines passed last → Follows other first lines passed last }
 {}
 
-/// There is one state before the first line, and what becomes of lines is determined by the state before them.
+/// There is one state before the first line. Two outcomes of a line are the same, or one of them is that of a machine
+/// which is found running; so what becomes of lines is determined where it never is.
 pub fn runs_are_determined()
     ensures opening { (s t : State) → IsOpening s → IsOpening t → s ≡ t }
-    ensures line { (number : ℕ) (s : State) (line : List ℕ) (a b : Outcome) → Becomes number s line a → Becomes number s line b → a ≡ b }
-    ensures run { (s t u : State) (lines : List (List ℕ)) (os ps : List Outcome) →
-        Answered s lines os t → Answered s lines ps u → (os ≡ ps) × (t ≡ u) }
+    ensures line { (runs : Bool) (before : Before) (line : List ℕ) (a b : Outcome) →
+        Becomes runs before line a → Becomes runs before line b → (a ≡ b) ⊎ ((a ≡ refused before 8) ⊎ (b ≡ refused before 8)) }
+    ensures still { (before : Before) (line : List ℕ) (a b : Outcome) → Becomes false before line a → Becomes false before line b → a ≡ b }
+    ensures run { (first t u : Before) (lines : List (List ℕ)) (os ps : List Passed) →
+        Follows false first lines os t → Follows false first lines ps u → (os ≡ ps) × (t ≡ u) }
 {}
 
 /// The lines of a text are the pieces between its LF bytes: those that LF ends, and a last one that is not empty.

@@ -12,7 +12,7 @@ use Rattle.plan_passes.specs.Blocks.{left_of}
 use Rattle.plan_passes.specs.Plans.{Planned, IsTail}
 use Rattle.plan_passes.specs.Segments.{moved, advanced}
 use Rattle.segment_prep.specs.declared.Mode.{Mode}
-use Rattle.segment_prep.specs.Taking.{IsTaken, IsNext, IsNextOf}
+use Rattle.segment_prep.specs.Taking.{IsTaken, IsNext, IsTakenOf}
 use Rattle.segment_prep.specs.Joining.{IsFresh, IsCutAt, IsCutBehind, BlocksJoin}
 
 -- a fresh block behind the others
@@ -39,7 +39,7 @@ joins_of (pieces.End ∷ before) p b mode s (inr cut) taken = absurd cut
 
 -- the next segment joins on
 pub joins_on : (before : List Piece) (p : Planned) (mode : Mode) (bs : List Block) (s : Segment) → BlocksJoin before bs
-    → IsNextOf p bs mode s → JoinsOn before s
+    → IsTakenOf p bs mode s → JoinsOn before s
 joins_on before p mode [] s joins taken = absurd taken
 joins_on before p mode (b ∷ bs) s joins taken = joins_of before p b mode s joins.0 taken
 
@@ -50,7 +50,7 @@ cut_at p b mode s taken =
 
 -- and so do the blocks that it leaves
 pub joins_behind : (before : List Piece) (p : Planned) (mode : Mode) (bs : List Block) (s : Segment) → BlocksJoin before bs
-    → IsNextOf p bs mode s → BlocksJoin (pieces.Segment s ∷ before) (moved s.n bs)
+    → IsTakenOf p bs mode s → BlocksJoin (pieces.Segment s ∷ before) (moved s.n bs)
 joins_behind before p mode [] s joins taken = absurd taken
 joins_behind before p mode (b ∷ bs) s joins taken = at (nat_eq s.n (left_of b)) where
   at : (t : Bool) → BlocksJoin (pieces.Segment s ∷ before) (cond t bs (record b { prepared = b.prepared + s.n } ∷ bs))
@@ -59,11 +59,11 @@ joins_behind before p mode (b ∷ bs) s joins taken = at (nat_eq s.n (left_of b)
 
 -- a segment of the same block goes on where the one before it ends
 next_goes_on : (p q : Planned) (b : Block) (bs : List Block) (mode again : Mode) (s t : Segment) → IsTaken p b mode s
-    → s.n < left_of b → IsNextOf q (moved s.n (b ∷ bs)) again t → GoesOn s t
+    → s.n < left_of b → IsTakenOf q (moved s.n (b ∷ bs)) again t → GoesOn s t
 next_goes_on p q b bs mode again s t taken some next =
     let b' : Block = record b { prepared = b.prepared + s.n } in
     let test : nat_eq s.n (left_of b) ≡ false = grind (arith, nat_tests) in
-    let taken' : IsTaken q b' again t = subst (λ e. IsNextOf q (cond e bs (b' ∷ bs)) again t) test next in
+    let taken' : IsTaken q b' again t = subst (λ e. IsTakenOf q (cond e bs (b' ∷ bs)) again t) test next in
     let cut = cut_at p b mode s taken in
     record { line = taken'.line ∙ cut.line; mv = taken'.mv ∙ cut.mv; first = taken'.first ∙ cut.prepared }
 
@@ -71,7 +71,7 @@ pub goes_on : (p : Planned) (b : Block) (mode again : Mode) (s t : Segment) → 
     → IsNext (advanced p s.n s.w_out) again t → GoesOn s t
 goes_on p b mode again s t tail next some then =
     let bs = drop 1 p.blocks in
-    let taken : IsTaken p b mode s = subst (λ bs. IsNextOf p bs mode s) tail.stands next in
+    let taken : IsTaken p b mode s = subst (λ bs. IsTakenOf p bs mode s) tail.stands next in
     let q = advanced p s.n s.w_out in
-    let then' = subst (λ bs. IsNextOf q (moved s.n bs) again t) tail.stands then in
+    let then' = subst (λ bs. IsTakenOf q (moved s.n bs) again t) tail.stands then in
     next_goes_on p q b bs mode again s t taken some then'

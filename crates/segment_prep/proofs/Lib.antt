@@ -1,4 +1,3 @@
 pub mod Sizes
 pub mod Taken
 pub mod Joins
-pub mod Newton

@@ -26,10 +26,10 @@ pub record IsTaken (p : Planned) (b : Block) (mode : Mode) (s : Segment) : Type 
   pub w_in : s.w_in ≡ p.speed
   pub cycles : s.cycles ≡ cycles_of b (pace_of b (nominal p b) s.w_in s.w_out s.n)
 
-abbrev pub IsNextOf : Planned → List Block → Mode → Segment → Type 0
-IsNextOf p [] mode s = ⊥
-IsNextOf p (b ∷ bs) mode s = IsTaken p b mode s
+abbrev pub IsTakenOf : Planned → List Block → Mode → Segment → Type 0
+IsTakenOf p [] mode s = ⊥
+IsTakenOf p (b ∷ bs) mode s = IsTaken p b mode s
 
 -- s is the segment that a plan gives next in a mode: its tail's
 abbrev pub IsNext : Planned → Mode → Segment → Type 0
-IsNext p mode s = IsNextOf p p.blocks mode s
+IsNext p mode s = IsTakenOf p p.blocks mode s

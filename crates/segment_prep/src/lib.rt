@@ -7,7 +7,6 @@
 
 pub mod laws;
 mod pace;
-mod root;
 mod rule;
 mod taking;
 #[cfg(test)]

@@ -5,8 +5,8 @@ ghost use Rattle.units.specs.Roots.{root_of};
 ghost use Rattle.plan_passes.specs.Blocks.{IsBlock, left_of, squared};
 ghost use Rattle.plan_passes.specs.Segments.{pace_of, cycles_of};
 
-use crate::root::root_near;
 use planner_ring::Block;
+use units::root_near;
 
 /// The greatest speed on the way from a squared speed on, in µm/s: the nominal one, or that of the beginning where it was
 /// higher.

@@ -10,9 +10,9 @@ ghost use Rattle.plan_passes.specs.Segments.{count_of, IsGoing, IsHolding};
 ghost use Rattle.segment_prep.specs.Taking.{ByMode, nominal};
 
 use crate::Mode;
-use crate::root::root_near;
 use plan_passes::Plan;
 use planner_ring::Block;
+use units::root_near;
 
 /// Some events of a block, and the squared speed behind them.
 #[derive(Clone, Copy)]

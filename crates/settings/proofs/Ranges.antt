@@ -2,10 +2,11 @@
 use Rattle.std.proofs.Common.{◌≡◌, ℕ, ◌≤◌, Bool, true, false, ◌&&◌, ◌==◌, nat_le, refl, arith}
 use Rattle.std.specs.List.{AllByRecursion}
 use Rattle.std.proofs.lemmas.Bool.Decides.{nat_tests}
+use Rattle.units.specs.Truths.{one_if}
 use Rattle.units.specs.declared.Per3.{Per3}
 use Rattle.units.specs.Limits.{OnEachAxis}
 use Rattle.settings.specs.declared.Settings.{Settings}
-use Rattle.settings.specs.Numbers.{Setting, setting, rows, one_if, can_have, IsSettings}
+use Rattle.settings.specs.Numbers.{Setting, setting, rows, can_have, IsSettings}
 use Rattle.settings.specs.declared.Keeping.TheVariants.{Switch}
 
 abbrev can_be : ℕ → ℕ → ℕ → Bool

@@ -2,6 +2,7 @@
 use Rattle.std.specs.Prelude.{ℕ, ◌+◌, ◌/◌, ◌≤◌, Bool, false, not, ◌&&◌, ◌==◌, nat_le, if◌then◌else◌, List, [], ◌∷◌, ◌++◌, map, find, is_some, pos, int_lt, nat_abs}
 use Rattle.std.specs.Option.{option_map_or}
 use Rattle.std.specs.declared.option.Option.{Option}
+use Rattle.units.specs.Truths.{one_if}
 use Rattle.units.specs.declared.Decimal.{Decimal}
 use Rattle.units.specs.declared.Per3.{Per3}
 use Rattle.units.specs.Limits.{OnEachAxis, IsLimits}
@@ -32,9 +33,6 @@ on_axes n default low high values =
     ∷ setting (n + 1) Thousandths default low high (λ s. (values s).y)
     ∷ setting (n + 2) Thousandths default low high (λ s. (values s).z)
     ∷ []
-
-abbrev pub one_if : Bool → ℕ
-one_if b = if b then 1 else 0
 
 -- the settings in the order of their numbers
 abbrev pub rows : List Setting

@@ -1,4 +1,6 @@
 pub mod Lists
+pub mod Places
+pub mod Reports
 pub mod Replies
 pub use Rattle.units.specs.Fixed
 pub use Rattle.units.specs.Lengths

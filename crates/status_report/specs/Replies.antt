@@ -3,7 +3,6 @@ use Rattle.std.specs.Prelude.{ℕ, ◌+◌, ◌/◌, ◌<◌, ◌≤◌, ◌^◌
 use Rattle.std.specs.List.{join_with_byte}
 use Rattle.units.specs.declared.Nm3.{Nm3}
 use Rattle.units.specs.Fixed.{fixed3}
-use Rattle.units.specs.Lengths.{thousandths_of_nm}
 use Rattle.units.specs.Limits.{IsFeed}
 use Rattle.modal_state.specs.Modes.{IsModal}
 use Rattle.modal_state.specs.declared.MotionMode.{MotionMode}
@@ -11,11 +10,13 @@ use Rattle.modal_state.specs.declared.MotionMode.TheVariants.{G0, G1, G80}
 use Rattle.modal_state.specs.declared.SpindleMode.{SpindleMode}
 use Rattle.modal_state.specs.declared.SpindleMode.TheVariants.{Off, Cw, Ccw}
 use Rattle.modal_state.specs.declared.Modal.{Modal}
+use Rattle.status_report.specs.Places.{place_text, in_thousandths}
+use Rattle.status_report.specs.Reports.{report_text, IsReport}
 use Rattle.status_report.specs.declared.Message.{Message}
 use Rattle.status_report.specs.declared.Message.TheVariants.{Unlocked, ProgramEnd, ResetToContinue}
 use Rattle.status_report.specs.declared.Modes.{Modes as ParserModes}
 use Rattle.status_report.specs.declared.Reply.{Reply}
-use Rattle.status_report.specs.declared.Reply.TheVariants.{Banner, Ok as Accepted, Error, Alarm, Message as Telling, Setting, Modes, Offset, Bye}
+use Rattle.status_report.specs.declared.Reply.TheVariants.{Banner, Ok as Accepted, Error, Alarm, Message as Telling, Report as Reporting, Setting, Modes, Offset, Bye}
 
 abbrev pub message_text : Message → List ℕ
 message_text Unlocked = codes "[MSG:Caution: Unlocked]"
@@ -71,14 +72,6 @@ mode_words m = modal_words m.modal ++ number_words m
 abbrev pub modes_text : ParserModes → List ℕ
 modes_text m = codes "[GC:" ++ join_with_byte 32 (mode_words m) ++ codes "]"
 
--- a length in mm, to the nearest thousandth
-abbrev pub length_text : ℤ → List ℕ
-length_text nm = fixed3 (thousandths_of_nm nm)
-
--- a place on each axis, parted by commas
-abbrev pub place_text : Nm3 → List ℕ
-place_text at = join_with_byte 44 (length_text at.x ∷ length_text at.y ∷ length_text at.z ∷ [])
-
 -- the rows of offsets that have a place: the systems, the points of G28 and G30, and the offset of G92
 abbrev pub row_names : List (List ℕ)
 row_names =
@@ -93,19 +86,20 @@ abbrev pub offset_text : ℕ → Nm3 → List ℕ
 offset_text row at =
     if row == 9 then codes "[TLO:0.000]" else
     if row == 10 then codes "[PRB:0.000,0.000,0.000:0]" else
-    codes "[" ++ row_name row ++ codes ":" ++ place_text at ++ codes "]"
+    codes "[" ++ row_name row ++ codes ":" ++ place_text (in_thousandths at) ++ codes "]"
 
 -- what a reply says
-abbrev pub words_of : Reply → List ℕ
-words_of Banner = codes "\r\nGrbl 1.1h ['$' for help]"
-words_of Accepted = codes "ok"
-words_of (Error n) = codes "error:" ++ decimal n
-words_of (Alarm n) = codes "ALARM:" ++ decimal n
-words_of (Telling message) = message_text message
-words_of (Setting n value) = setting_text n value
-words_of (Modes m) = modes_text m
-words_of (Offset row at) = offset_text row at
-words_of Bye = []
+abbrev pub said_by : Reply → List ℕ
+said_by Banner = codes "\r\nGrbl 1.1h ['$' for help]"
+said_by Accepted = codes "ok"
+said_by (Error n) = codes "error:" ++ decimal n
+said_by (Alarm n) = codes "ALARM:" ++ decimal n
+said_by (Telling message) = message_text message
+said_by (Reporting r) = report_text r
+said_by (Setting n value) = setting_text n value
+said_by (Modes m) = modes_text m
+said_by (Offset row at) = offset_text row at
+said_by Bye = []
 
 -- each text ends with CR LF, except that of Bye, which has none
 abbrev pub end_of : Reply → List ℕ
@@ -114,7 +108,7 @@ end_of _ = codes "\r\n"
 
 -- the text of a reply
 unfoldable pub reply_text : Reply → List ℕ
-reply_text reply = words_of reply ++ end_of reply
+reply_text reply = said_by reply ++ end_of reply
 
 -- modes that a parser can have
 pub record IsModes (m : ParserModes) : Type 0 where
@@ -124,6 +118,7 @@ pub record IsModes (m : ParserModes) : Type 0 where
 
 -- a reply that the board can give
 abbrev pub IsReply : Reply → Type 0
+IsReply (Reporting r) = IsReport r
 IsReply (Setting n value) = value < 2 ^ 63
 IsReply (Modes m) = IsModes m
 IsReply (Offset row at) = row ≤ 10

@@ -4,13 +4,16 @@
 ghost use Rattle.std.specs.Prelude.{◌≡◌};
 ghost use Rattle.status_report.specs.Replies.{reply_text, IsReply};
 
+pub mod laws;
 mod lists;
+mod reports;
 #[cfg(test)]
 mod tests;
 mod texts;
 
 pub use lists::{OFFSET_REPLIES, SETTING_REPLIES, lists_are_whole, offset_reply, setting_reply};
 use modal_state::Modal;
+pub use reports::{Report, State};
 use texts::{line_end, put_words};
 use units::{Nm3, Text, append};
 
@@ -47,6 +50,8 @@ pub enum Reply {
     Alarm(u8),
     /// Something to tell.
     Message(Message),
+    /// The status that `?` asked for.
+    Report(Report),
     /// A setting: its number, and its value as `Settings::get` gives it.
     Setting { n: u16, value: u64 },
     /// The modes.
@@ -61,7 +66,7 @@ pub enum Reply {
 
 /// Clears `out`, and puts the text of a reply into it. Each text ends with CR LF, but `Bye` has none.
 ///
-/// Settings 10 and 20 are written whole, and the others with three decimals; offsets in mm with three
+/// The longest report has 186 bytes. Settings 10 and 20 are written whole, and the others with three decimals; offsets in mm with three
 /// decimals, the thousandth nearest; and the feed in mm per minute, the whole number nearest, a half upward.
 #[tactic(auto, unfolding(crate::specs::Replies::reply_text))]
 pub fn put_reply(r: &Reply, out: &mut Text)

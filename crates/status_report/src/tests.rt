@@ -1,9 +1,12 @@
 //! Worked rows of the replies.
 
+ghost use Rattle.modal_state.specs.Modes.{IsWithin};
 ghost use Rattle.status_report.specs.Replies.{IsReply};
+ghost use Rattle.status_report.specs.Reports.{farthest_told};
 
 use super::*;
 use modal_state::{Modal, MotionMode, Parser, SpindleMode};
+use overrides::Overrides;
 use settings::Settings;
 use std::process::Abort;
 use units::Decimal;
@@ -155,4 +158,89 @@ fn the_longest_place_fits(rt: HostRuntime) {
         },
         "$65535=9223372036854775.807\r\n",
     );
+}
+
+/// A report of a machine that is held, with its position and the offset of the work's zero.
+fn held(machine: bool, buffer: Option<(u8, u8)>, at: Nm3) -> Reply
+    requires { IsWithin farthest_told at }
+    ensures { IsReply result }
+{
+    Reply::Report(Report {
+        state: State::Hold0,
+        machine,
+        at,
+        buffer,
+        f: 0,
+        s: 900,
+        wco: Nm3 {
+            x: 10_000,
+            y: 0,
+            z: 0,
+        },
+        ov: Overrides {
+            feed: 110,
+            rapid: 50,
+            spindle: 90,
+        },
+    })
+}
+
+#[test]
+fn reports_show_the_place_of_the_machine_or_of_the_work(rt: HostRuntime) {
+    let at = Nm3 {
+        x: -1_500,
+        y: 0,
+        z: 2_004,
+    };
+    assert_puts(
+        &rt,
+        held(true, Some((14, 100)), at),
+        "<Hold:0|MPos:-1.500,0.000,2.004|Bf:14,100|FS:0,900|WCO:10.000,0.000,0.000|Ov:110,50,90>\r\n",
+    );
+    assert_puts(
+        &rt,
+        held(false, None, at),
+        "<Hold:0|WPos:-11.500,0.000,2.004|FS:0,900|WCO:10.000,0.000,0.000|Ov:110,50,90>\r\n",
+    );
+    assert_puts(
+        &rt,
+        held(
+            false,
+            None,
+            Nm3 {
+                x: 10_001,
+                y: -1,
+                z: -999,
+            },
+        ),
+        "<Hold:0|WPos:0.001,-0.001,-0.999|FS:0,900|WCO:10.000,0.000,0.000|Ov:110,50,90>\r\n",
+    );
+}
+
+#[test]
+fn the_longest_report_fits(rt: HostRuntime) {
+    let far = Nm3 {
+        x: -1_000_000_000_000,
+        y: -1_000_000_000_000,
+        z: -1_000_000_000_000,
+    };
+    let mut out = Text::new();
+    put_reply(
+        &Reply::Report(Report {
+            state: State::Hold1,
+            machine: true,
+            at: far,
+            buffer: Some((255, 255)),
+            f: u64::MAX,
+            s: u64::MAX,
+            wco: far,
+            ov: Overrides {
+                feed: 200,
+                rapid: 100,
+                spindle: 200,
+            },
+        }),
+        &mut out,
+    );
+    assert_eq!(rt; out.len(), 186);
 }

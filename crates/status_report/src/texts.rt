@@ -1,11 +1,14 @@
 //! The texts of replies, piece by piece.
 
-ghost use Rattle.std.specs.Prelude.{◌≡◌, ◌+◌, ◌≤◌, ◌<◌, ◌^◌, ◌∷◌, ◌++◌, if◌then◌else◌, length, decimal};
+ghost use Rattle.std.specs.Prelude.{◌≡◌, ◌+◌, ◌*◌, ◌≤◌, ◌<◌, ◌^◌, ◌∷◌, ◌++◌, if◌then◌else◌, length, decimal};
 ghost use Rattle.std.specs.List.{join_with_byte};
 ghost use Rattle.arrayvec.specs.ArrayVec.{array_vec_len};
-ghost use Rattle.modal_state.specs.Modes.{IsModal};
-ghost use Rattle.status_report.specs.Replies.{message_text, setting_text, motion_word, spindle_word, feed_in_mm, modal_words, mode_words, modes_text, length_text, place_text, row_name, offset_text, words_of, end_of, IsModes, IsReply};
+ghost use Rattle.modal_state.specs.Modes.{IsModal, IsWithin};
+ghost use Rattle.status_report.specs.Places.{place_text, in_thousandths};
+ghost use Rattle.status_report.specs.Reports.{farthest_told};
+ghost use Rattle.status_report.specs.Replies.{message_text, setting_text, motion_word, spindle_word, feed_in_mm, modal_words, mode_words, modes_text, row_name, offset_text, said_by, end_of, IsModes, IsReply};
 
+use crate::reports::put_report;
 use crate::{Message, Modes, Reply};
 use itoa::Buffer;
 use modal_state::{Modal, MotionMode, SpindleMode};
@@ -22,7 +25,7 @@ fn put_word(word: &[u8], out: &mut Text)
 }
 
 /// Appends a short text and a number. Room for the text and 20 bytes must be free.
-fn put_numbered(text: &[u8], number: u64, out: &mut Text)
+pub(crate) fn put_numbered(text: &[u8], number: u64, out: &mut Text)
     requires { array_vec_len out.old + length text.now + 20 ≤ 192 }
     ensures items { out.new.items ≡ out.old.items ++ (text.now ++ decimal number) }
     ensures len { array_vec_len out.new ≤ array_vec_len out.old + length text.now + 20 }
@@ -137,26 +140,29 @@ fn put_modes(modes: &Modes, out: &mut Text)
     append(b"]", out);
 }
 
-/// Appends a length in mm, given in nm. 24 bytes must be free.
-fn put_length(nm: i64, out: &mut Text)
-    requires { array_vec_len out.old + 24 ≤ 192 }
-    ensures text { out.new.items ≡ out.old.items ++ length_text nm }
-    ensures len { array_vec_len out.new ≤ array_vec_len out.old + 21 }
+/// Appends a place in mm, given in thousandths. 68 bytes must be free.
+pub(crate) fn put_place(at: &Nm3, out: &mut Text)
+    requires { array_vec_len out.old + 68 ≤ 192 }
+    ensures text { out.new.items ≡ out.old.items ++ place_text at.now }
+    ensures len { array_vec_len out.new ≤ array_vec_len out.old + 65 }
+    ensures short { IsWithin (2 * farthest_told) at.now → array_vec_len out.new ≤ array_vec_len out.old + 47 }
 {
-    put_fixed3(nm_to_thousandths(nm), out);
+    put_fixed3(at.x, out);
+    append(b",", out);
+    put_fixed3(at.y, out);
+    append(b",", out);
+    put_fixed3(at.z, out);
 }
 
-/// Appends a place in mm. 72 bytes must be free.
-fn put_place(at: &Nm3, out: &mut Text)
-    requires { array_vec_len out.old + 72 ≤ 192 }
-    ensures text { out.new.items ≡ out.old.items ++ place_text at.now }
-    ensures len { array_vec_len out.new ≤ array_vec_len out.old + 72 }
+/// A place in nm, to the nearest thousandths of a mm.
+fn in_thousandths(at: &Nm3) -> Nm3
+    ensures { result ≡ in_thousandths at.now }
 {
-    put_length(at.x, out);
-    append(b",", out);
-    put_length(at.y, out);
-    append(b",", out);
-    put_length(at.z, out);
+    Nm3 {
+        x: nm_to_thousandths(at.x),
+        y: nm_to_thousandths(at.y),
+        z: nm_to_thousandths(at.z),
+    }
 }
 
 /// The name of a row of offsets that has a place.
@@ -188,7 +194,7 @@ fn put_named_place(row: u8, at: &Nm3, out: &mut Text)
     append(b"[", out);
     append(row_name(row), out);
     append(b":", out);
-    put_place(at, out);
+    put_place(&in_thousandths(at), out);
     append(b"]", out);
 }
 
@@ -206,12 +212,12 @@ fn put_offset(row: u8, at: &Nm3, out: &mut Text)
     }
 }
 
-/// Appends what a reply says. 160 bytes must be free.
+/// Appends what a reply says. 189 bytes must be free, of which it takes at most 184.
 pub(crate) fn put_words(r: &Reply, out: &mut Text)
     requires reply { IsReply r.now }
-    requires room { array_vec_len out.old + 160 ≤ 192 }
-    ensures text { out.new.items ≡ out.old.items ++ words_of r.now }
-    ensures len { array_vec_len out.new ≤ array_vec_len out.old + 160 }
+    requires room { array_vec_len out.old + 189 ≤ 192 }
+    ensures text { out.new.items ≡ out.old.items ++ said_by r.now }
+    ensures len { array_vec_len out.new ≤ array_vec_len out.old + 184 }
 {
     match r {
         Reply::Banner => append(b"\r\nGrbl 1.1h ['$' for help]", out),
@@ -219,6 +225,7 @@ pub(crate) fn put_words(r: &Reply, out: &mut Text)
         Reply::Error(n) => put_numbered(b"error:", u64::from(*n), out),
         Reply::Alarm(n) => put_numbered(b"ALARM:", u64::from(*n), out),
         Reply::Message(message) => append(message_text(*message), out),
+        Reply::Report(report) => put_report(report, out),
         Reply::Setting { n, value } => put_setting(*n, *value, out),
         Reply::Modes(modes) => put_modes(modes, out),
         Reply::Offset { row, at } => put_offset(*row, at, out),

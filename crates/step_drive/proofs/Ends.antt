@@ -9,9 +9,8 @@ use Rattle.step_line.specs.declared.Record.TheVariants as kinds
 use Rattle.step_line.specs.Pieces.{records_of}
 use Rattle.step_line.specs.Events.{events_after}
 use Rattle.units.specs.declared.Move.{Move}
-use Rattle.step_record.specs.Taking.{HasNoEnd}
+use Rattle.step_line.specs.Ending.{HasNoEnd, EndsOnce}
 use Rattle.step_line.specs.Ordering.{InTurn, has_ended, recorded}
-use Rattle.step_drive.specs.Polls.{EndsOnce}
 
 abbrev NotEnd : Record → Type 0
 NotEnd r = r ≢ kinds.End

@@ -10,36 +10,26 @@ use Rattle.outside.specs.declared.On.{On}
 use Rattle.outside.specs.declared.Turn.TheVariants.{Did, Wait, Done}
 use Rattle.step_line.specs.declared.Record.{Record}
 use Rattle.step_line.specs.declared.Record.TheVariants as kinds
-use Rattle.step_record.specs.Taking.{Log, HasNoEnd, records}
+use Rattle.step_record.specs.Taking.{Log, records}
 use Rattle.step_record.specs.Taking.Event.{took, none}
 use Rattle.step_record.specs.Texts.{record_text}
-use Rattle.step_record.specs.Recording.{Recording, Writes, Rests, is_due, with_record, WroteOnce, IsEnded, Fits, Turned}
-use Rattle.step_drive.specs.Polls.{EndsOnce, HandsOver}
+use Rattle.step_line.specs.Ending.{HasNoEnd, EndsOnce, IsEnded}
+use Rattle.text_writer.specs.Writers.{Writing, Writes, is_due, WroteOnce}
+use Rattle.text_writer.proofs.Shortening.{less_written}
+use Rattle.step_record.specs.Recording.{Rests, with_record, RecorderFits, RecorderTurned}
+use Rattle.step_drive.specs.Polls.{HandsOver}
 use Rattle.step_drive.specs.Working.{Records, RecordTurned, text_left}
 
-pub hands_over : (given : List Record) (before now : SinkState) (q : List Record) (v : Recording) (r : Records given before now q v) → HandsOver q given r.log
+pub hands_over : (given : List Record) (before now : SinkState) (q : List Record) (v : Writing) (r : Records given before now q v) → HandsOver q given r.log
 hands_over given before now q v r = record { whole = r.all; once = r.once; empty = λ t. absurd (r.polled t) }
 
 -- ---- less is left to do
-
-some_waits : (f : Bool) (n : ℕ) (b : Bool) → (not f && (nat_lt 0 n && b)) ≡ true → 0 < n
-some_waits true n b e = absurd cc
-some_waits false n b e = grind (arith, nat_tests)
-
-writes_some : (v : Recording) → Writes v → 0 < length v.waiting
-writes_some v w = some_waits v.failed (length v.waiting) _ w
-
-less_written : (v w : Recording) (s t : SinkState) → Writes v → WroteOnce v w s t → length w.waiting < length v.waiting
-less_written v w s t due (inl some) =
-    let few : length (drop some.count v.waiting) < length v.waiting = omega (arith, length-drop some.count v.waiting, some.some, some.within) in
-    rw some.left few
-less_written v w s t due (inr failure) = let some = writes_some v due in rw failure.left some
 
 waits_more : (f : Bool) (x y : List ℕ) → length (cond f x (x ++ y)) ≤ length x + length y
 waits_more true x y = omega arith
 waits_more false x y = omega (arith, length-append x y)
 
-less_taken : (v w : Recording) (r : Record) (q : List Record) → w ≡ with_record v r → text_left q w < text_left (r ∷ q) v
+less_taken : (v w : Writing) (r : Record) (q : List Record) → w ≡ with_record v r → text_left q w < text_left (r ∷ q) v
 less_taken v w r q e =
     let most = waits_more v.failed v.waiting (record_text r) in
     let all : length (flat_map record_text (r ∷ q)) ≡ length (record_text r) + length (flat_map record_text q) =
@@ -49,8 +39,8 @@ less_taken v w r q e =
 
 -- ---- what a turn makes
 
-did_write : (given : List Record) (before now now' : SinkState) (q q' : List Record) (v v' : Recording) (r : Records given before now q v) (next : Log)
-    → HandsOver q' given next → Fits v' next before now' → Writes v → next ≡ r.log → WroteOnce v v' now now' → RecordTurned true given before now' q v q' v'
+did_write : (given : List Record) (before now now' : SinkState) (q q' : List Record) (v v' : Writing) (r : Records given before now q v) (next : Log)
+    → HandsOver q' given next → RecorderFits v' next before now' → Writes v → next ≡ r.log → WroteOnce v v' now now' → RecordTurned true given before now' q v q' v'
 did_write given before now now' q q' v v' r next hands fits due e wrote =
     let same : q' ≡ q = append_cancel_left (records r.log) q' q (ap (λ l. records l ++ q') (sym e) ∙ sym hands.whole ∙ r.all) in
     let less = less_written v v' now now' due wrote in
@@ -60,8 +50,8 @@ did_write given before now now' q q' v v' r next hands fits due e wrote =
       rests = λ f. absurd cc;
     }
 
-did_take : (given : List Record) (before now now' : SinkState) (q q' : List Record) (v v' : Recording) (r : Records given before now q v) (next : Log) (x : Record)
-    → HandsOver q' given next → Fits v' next before now' → v' ≡ with_record v x → next ≡ took x ∷ r.log → RecordTurned true given before now' q v q' v'
+did_take : (given : List Record) (before now now' : SinkState) (q q' : List Record) (v v' : Writing) (r : Records given before now q v) (next : Log) (x : Record)
+    → HandsOver q' given next → RecorderFits v' next before now' → v' ≡ with_record v x → next ≡ took x ∷ r.log → RecordTurned true given before now' q v q' v'
 did_take given before now now' q q' v v' r next x hands fits is e =
     let whole : given ≡ records r.log ++ x ∷ q' = hands.whole ∙ ap (λ l. records l ++ q') e ∙ append_assoc (records r.log) (x ∷ []) q' in
     let same : q ≡ x ∷ q' = append_cancel_left (records r.log) q (x ∷ q') (sym r.all ∙ whole) in
@@ -72,21 +62,21 @@ did_take given before now now' q q' v v' r next x hands fits is e =
       rests = λ f. absurd cc;
     }
 
-pub recorded_did : (given : List Record) (before now now' : SinkState) (q q' : List Record) (v v' : Recording) (r : Records given before now q v) (next : Log)
-    → HandsOver q' given next → Fits v' next before now' → (Writes v → WroteOnce v v' now now') → Turned Did v v' r.log next → RecordTurned true given before now' q v q' v'
+pub recorded_did : (given : List Record) (before now now' : SinkState) (q q' : List Record) (v v' : Writing) (r : Records given before now q v) (next : Log)
+    → HandsOver q' given next → RecorderFits v' next before now' → (Writes v → WroteOnce v v' now now') → RecorderTurned Did v v' r.log next → RecordTurned true given before now' q v q' v'
 recorded_did given before now now' q q' v v' r next hands fits wrote (inl w) = did_write given before now now' q q' v v' r next hands fits w.0 w.1 (wrote w.0)
 recorded_did given before now now' q q' v v' r next hands fits wrote (inr t) = did_take given before now now' q q' v v' r next t.1.0 hands fits t.1.1 t.1.2
 
 -- a poll that found nothing is no part of what was recorded
-before_poll : (v : Recording) (log : Log) (before now : SinkState) → Fits v (none ∷ log) before now → Fits v log before now
+before_poll : (v : Writing) (log : Log) (before now : SinkState) → RecorderFits v (none ∷ log) before now → RecorderFits v log before now
 before_poll v log before now fits = record { each = fits.each; going = fits.going; over = fits.over; wrote = fits.wrote }
 
-pub recorded_waits : (given : List Record) (before now now' : SinkState) (q q' : List Record) (v v' : Recording) (r : Records given before now q v) (next : Log) (on : On)
-    → HandsOver q' given next → Fits v' next before now' → v' ≡ v → Turned (Wait on) v v' r.log next → RecordTurned false given before now' q v q' v'
+pub recorded_waits : (given : List Record) (before now now' : SinkState) (q q' : List Record) (v v' : Writing) (r : Records given before now q v) (next : Log) (on : On)
+    → HandsOver q' given next → RecorderFits v' next before now' → v' ≡ v → RecorderTurned (Wait on) v v' r.log next → RecordTurned false given before now' q v q' v'
 recorded_waits given before now now' q q' v v' r next on hands fits same turned =
     let e : next ≡ none ∷ r.log = turned.2 in
     let found : HandsOver q' given (none ∷ r.log) = subst (λ l. HandsOver q' given l) e hands in
-    let left : Fits v' r.log before now' = before_poll v' r.log before now' (subst (λ l. Fits v' l before now') e fits) in
+    let left : RecorderFits v' r.log before now' = before_poll v' r.log before now' (subst (λ l. RecorderFits v' l before now') e fits) in
     record {
       records = record { log = r.log; all = found.whole; once = r.once; polled = r.polled; written = left };
       falls = λ f. absurd cc;
@@ -111,15 +101,15 @@ done_by false f n b d = absurd cc
 done_by true true n b d = (refl, refl)
 done_by true false n b d = let none : nat_lt 0 n ≡ false = grind (arith, nat_tests) in (refl, rw none refl)
 
-pub rests_by : (v : Recording) → Rests v → (v.ended ≡ true) × (is_due v ≡ false)
-rests_by v rests = done_by v.ended v.failed (length v.waiting) _ rests
+pub rests_by : (v : Writing) → Rests v → (v.asked ≡ true) × (is_due v ≡ false)
+rests_by v rests = done_by v.asked v.failed (length v.waiting) _ rests
 
-pub recorded_done : (given : List Record) (before now now' : SinkState) (q q' : List Record) (v v' : Recording) (r : Records given before now q v) (next : Log)
-    → HandsOver q' given next → Fits v' next before now' → v' ≡ v → Turned Done v v' r.log next → RecordTurned false given before now' q v q' v'
+pub recorded_done : (given : List Record) (before now now' : SinkState) (q q' : List Record) (v v' : Writing) (r : Records given before now q v) (next : Log)
+    → HandsOver q' given next → RecorderFits v' next before now' → v' ≡ v → RecorderTurned Done v v' r.log next → RecordTurned false given before now' q v q' v'
 recorded_done given before now now' q q' v v' r next hands fits same turned =
     let e : next ≡ r.log = turned.1 in
     let rest = rests_by v turned.0 in
-    let ended : IsEnded (records next) = fits.over (ap (λ (x : Recording). x.ended) same ∙ rest.0) in
+    let ended : IsEnded (records next) = fits.over (ap (λ (x : Writing). x.asked) same ∙ rest.0) in
     record {
       records = record { log = next; all = hands.whole; once = r.once; polled = rw e r.polled; written = fits };
       falls = λ f. absurd cc;
@@ -127,7 +117,7 @@ recorded_done given before now now' q q' v v' r next hands fits same turned =
     }
 
 -- where a record waits, a turn does something
-pub turn_does : (did : Bool) (given : List Record) (before now : SinkState) (q : List Record) (v : Recording) (more : List Record) (w : Recording)
+pub turn_does : (did : Bool) (given : List Record) (before now : SinkState) (q : List Record) (v : Writing) (more : List Record) (w : Writing)
     → RecordTurned did given before now q v more w → (q ≡ [] → ⊥) → did ≡ true
 turn_does true given before now q v more w t some = refl
 turn_does false given before now q v more w t some = absurd (some (t.rests refl).0)

@@ -8,9 +8,9 @@ use Rattle.line_geom.specs.Geometry.{IsGeom}
 use Rattle.overrides.specs.declared.Overrides.{Overrides}
 use Rattle.planner_ring.specs.declared.Block.{Block}
 use Rattle.plan_passes.specs.Plans.{Planned, added}
-use Rattle.legal_speeds.specs.declared.PlannedMove.{PlannedMove}
-use Rattle.legal_speeds.specs.Runs.{with_move, fresh_plan, most_blocks}
-use Rattle.legal_speeds.proofs.Runs.{geometry_is}
+use Rattle.step_line.specs.declared.planned_move.PlannedMove.{PlannedMove}
+use Rattle.planner_runs.specs.Runs.{with_move, fresh_plan, most_blocks}
+use Rattle.line_geom.proofs.Geometries.{geometry_is}
 use Rattle.step_drive.specs.Working.{IsSettled}
 use Rattle.step_drive.specs.Driving.{Driving, SegmentRun}
 

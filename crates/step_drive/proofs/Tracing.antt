@@ -10,19 +10,21 @@ use Rattle.step_line.specs.declared.Piece.TheVariants as pieces
 use Rattle.step_line.specs.declared.Record.{Record}
 use Rattle.step_line.specs.Pieces.{records_of}
 use Rattle.step_record.specs.Taking.{records}
-use Rattle.step_record.specs.Recording.{Recording, is_due, Fits as Written}
+use Rattle.text_writer.specs.Writers.{Writing, is_due}
+use Rattle.step_record.specs.Recording.{RecorderFits as Written}
 use Rattle.step_line.specs.Ordering.{InTurn, has_ended, recorded, ComesNext}
-use Rattle.pulse_engine.specs.Logs.{PieceLog, RecordLog, pieces_of, counted, records_put, ticks_in, one_if, end_is_put}
+use Rattle.pulse_engine.specs.Logs.{PieceLog, RecordLog, pieces_of, counted, records_put, ticks_in, end_is_put}
 use Rattle.pulse_engine.specs.Logs.PieceEvent.{none}
 use Rattle.pulse_engine.specs.Logs.RecordEvent.{full}
 use Rattle.std.specs.Option.{option_to_list}
-use Rattle.pulse_engine.specs.Slots.{Offered, IsFree, Gives}
+use Rattle.units.specs.Truths.{one_if}
+use Rattle.step_drive.specs.Slots.{Offered, IsFree, Gives}
 use Rattle.pulse_engine.specs.Steps.{Pulsing}
-use Rattle.pulse_engine.specs.Turns.{Fits, Turned as PulseTurned}
+use Rattle.pulse_engine.specs.Turns.{PulseFits, PulseTurned}
 use Rattle.pulse_engine.proofs.Ticks.{ticks-append}
 use Rattle.pulse_engine.proofs.Whole.{all_counts, done_put}
 use Rattle.step_drive.specs.Polls.{FoundNone, FoundFull, GivesPieces, HoldsRecords}
-use Rattle.step_drive.specs.Working.{Records, HasRested, Works, IsTracing, IsSettled, Turned, work_left, free_slot}
+use Rattle.step_drive.specs.Working.{Records, HasRested, Works, IsTracing, IsSettled, Turned, pulse_left, free_slot}
 use Rattle.step_drive.proofs.Ends.{recorded_once, front_once}
 
 -- ---- how much was done
@@ -42,8 +44,8 @@ in_sum : (o : Option Piece) (ps : List Piece) → to_do (option_to_list o ++ ps)
 in_sum None ps = omega arith
 in_sum (Some p) ps = omega (arith, length-append (recorded ps) (records_of p), ticks-append (recorded ps) (records_of p))
 
-all_done : (offered : List Piece) (p : Pulsing) (q : Offered) (h : PieceLog) (k : RecordLog) → Gives q offered h → Fits p h k
-    → work_left p q + done h k ≡ to_do offered
+all_done : (offered : List Piece) (p : Pulsing) (q : Offered) (h : PieceLog) (k : RecordLog) → Gives q offered h → PulseFits p h k
+    → pulse_left p q + done h k ≡ to_do offered
 all_done offered p q h k gives fits =
     let offered_is : to_do offered ≡ to_do (option_to_list q.waiting ++ pieces_of h) = ap to_do gives.pieces in
     let parts = in_sum q.waiting (pieces_of h) in
@@ -63,19 +65,19 @@ did_no_poll h h' k k' (inl t) a b = (rw t.1 (λ x. x), rw t.2 b)
 did_no_poll h h' k k' (inr (inl t)) a b = (rw t.1 a, rw t.2 (λ x. x))
 did_no_poll h h' k k' (inr (inr t)) a b = (rw t.0 (λ x. x), rw t.1 b)
 
-pub holds_records : (given : List Record) (before now : SinkState) (w : List Record) (v : Recording) (k : RecordLog) (r : Records given before now w v)
+pub holds_records : (given : List Record) (before now : SinkState) (w : List Record) (v : Writing) (k : RecordLog) (r : Records given before now w v)
     → given ≡ records_put k → (FoundFull k → ⊥) → HoldsRecords w (records r.log) k
 holds_records given before now w v k r e room = record { all = sym e ∙ r.all; holds = λ f. absurd (room f) }
 
 pub gives_pieces : (offered : List Piece) (q : Offered) (h : PieceLog) → Gives q offered h → (FoundNone h → ⊥) → GivesPieces q offered h
 gives_pieces offered q h gives asked = record { gives = gives; free = λ f. absurd (asked f) }
 
-pub record Traced (offered : List Piece) (before now : SinkState) (p p' : Pulsing) (q q' : Offered) (w : List Record) (v : Recording) : Type 0 where
+pub record Traced (offered : List Piece) (before now : SinkState) (p p' : Pulsing) (q q' : Offered) (w : List Record) (v : Writing) : Type 0 where
   pub works : Works offered before now p' q' w v
-  pub falls : work_left p' q' < work_left p q
+  pub falls : pulse_left p' q' < pulse_left p q
 
-pub traced_did : (offered : List Piece) (before now : SinkState) (p p' : Pulsing) (q q' : Offered) (w w' : List Record) (v : Recording) (t : Works offered before now p q w v)
-    (h' : PieceLog) (k' : RecordLog) → GivesPieces q' offered h' → HoldsRecords w' (records t.records.log) k' → Fits p' h' k' → PulseTurned Did t.got t.puts h' k'
+pub traced_did : (offered : List Piece) (before now : SinkState) (p p' : Pulsing) (q q' : Offered) (w w' : List Record) (v : Writing) (t : Works offered before now p q w v)
+    (h' : PieceLog) (k' : RecordLog) → GivesPieces q' offered h' → HoldsRecords w' (records t.records.log) k' → PulseFits p' h' k' → PulseTurned Did t.got t.puts h' k'
     → Traced offered before now p p' q q' w' v
 traced_did offered before now p p' q q' w w' v t h' k' gives holds fits did =
     let no = did_no_poll t.got h' t.puts k' did t.asked t.room in
@@ -105,22 +107,22 @@ traced_did offered before now p p' q q' w w' v t h' k' gives holds fits did =
 gives_before : (q : Offered) (offered : List Piece) (h : PieceLog) → Gives q offered (none ∷ h) → Gives q offered h
 gives_before q offered h g = record { pieces = g.pieces; ticks = g.ticks; turns = g.turns }
 
-fits_before : (p : Pulsing) (h : PieceLog) (k : RecordLog) → Fits p (none ∷ h) k → Fits p h k
+fits_before : (p : Pulsing) (h : PieceLog) (k : RecordLog) → PulseFits p (none ∷ h) k → PulseFits p h k
 fits_before p h k f = record { turns = f.turns; records = f.records; ticks = f.ticks; left = f.left; reach = f.reach; end = f.end; last = f.last }
 
 -- nothing was put where nothing waited
 still_empty : (k : RecordLog) (taken w w' : List Record) → records_put k ≡ taken ++ w → w ≡ [] → records_put k ≡ taken ++ w' → w' ≡ []
 still_empty k taken w w' a e b = append_cancel_left taken w' [] (sym b ∙ a ∙ ap (λ x. taken ++ x) e)
 
-same_records : (a b : List Record) (before now : SinkState) (w w' : List Record) (v : Recording) → a ≡ b → w ≡ w' → Records a before now w v → Records b before now w' v
+same_records : (a b : List Record) (before now : SinkState) (w w' : List Record) (v : Writing) → a ≡ b → w ≡ w' → Records a before now w v → Records b before now w' v
 same_records a b before now w w' v e f r = subst (λ x. Records x before now w' v) e (subst (λ x. Records a before now x v) f r)
 
-waits_for_piece : (offered : List Piece) (before now : SinkState) (p p' : Pulsing) (q q' : Offered) (w w' : List Record) (v : Recording) (t : IsTracing offered before now p q w v)
-    (h' : PieceLog) (k' : RecordLog) → GivesPieces q' offered h' → HoldsRecords w' (records t.works.records.log) k' → Fits p' h' k'
+waits_for_piece : (offered : List Piece) (before now : SinkState) (p p' : Pulsing) (q q' : Offered) (w w' : List Record) (v : Writing) (t : IsTracing offered before now p q w v)
+    (h' : PieceLog) (k' : RecordLog) → GivesPieces q' offered h' → HoldsRecords w' (records t.works.records.log) k' → PulseFits p' h' k'
     → h' ≡ none ∷ t.works.got → k' ≡ t.works.puts → p' ≡ p → p.waiting ≡ [] → Turned false offered before now p q p' q' w' v
 waits_for_piece offered before now p p' q q' w w' v t h' k' gives holds fits eh ek same between =
     let found : GivesPieces q' offered (none ∷ t.works.got) = subst (λ x. GivesPieces q' offered x) eh gives in
-    let traced : Fits p' (none ∷ t.works.got) t.works.puts = subst (λ x. Fits p' x t.works.puts) eh (subst (λ x. Fits p' h' x) ek fits) in
+    let traced : PulseFits p' (none ∷ t.works.got) t.works.puts = subst (λ x. PulseFits p' x t.works.puts) eh (subst (λ x. PulseFits p' h' x) ek fits) in
     let empty : w' ≡ [] = still_empty t.works.puts (records t.works.records.log) w w' t.works.records.all t.taken (ap records_put (sym ek) ∙ holds.all) in
     record {
       tracing = record {
@@ -144,8 +146,8 @@ never_full k taken w w' k' r a e holds f =
     let now : HoldsRecords w' taken (full r ∷ k) = subst (λ x. HoldsRecords w' taken x) f holds in
     now.holds tt (still_empty k taken w w' a e now.all)
 
-pub traced_waits : (offered : List Piece) (before now : SinkState) (p p' : Pulsing) (q q' : Offered) (w w' : List Record) (v : Recording) (t : IsTracing offered before now p q w v)
-    (h' : PieceLog) (k' : RecordLog) (what : On) → GivesPieces q' offered h' → HoldsRecords w' (records t.works.records.log) k' → Fits p' h' k'
+pub traced_waits : (offered : List Piece) (before now : SinkState) (p p' : Pulsing) (q q' : Offered) (w w' : List Record) (v : Writing) (t : IsTracing offered before now p q w v)
+    (h' : PieceLog) (k' : RecordLog) (what : On) → GivesPieces q' offered h' → HoldsRecords w' (records t.works.records.log) k' → PulseFits p' h' k'
     → PulseTurned (Wait what) t.works.got t.works.puts h' k' → p' ≡ p → (Wait what ≡ Wait on.Piece → p.waiting ≡ []) → Turned false offered before now p q p' q' w' v
 traced_waits offered before now p p' q q' w w' v t h' k' on.Piece gives holds fits turned same between =
     waits_for_piece offered before now p p' q q' w w' v t h' k' gives holds fits turned.0 turned.1 same (between refl)
@@ -160,7 +162,7 @@ nothing_waits (Some p) ps offered before e t f =
     let ended : true ≡ false = sym (ap has_ended f) ∙ turns.0.going in absurd cc
 
 -- once the end was put nothing is left
-none_left : (offered : List Piece) (p : Pulsing) (q : Offered) (h : PieceLog) (k : RecordLog) → Gives q offered h → Fits p h k → end_is_put k ≡ true → IsFree q × (p.waiting ≡ [])
+none_left : (offered : List Piece) (p : Pulsing) (q : Offered) (h : PieceLog) (k : RecordLog) → Gives q offered h → PulseFits p h k → end_is_put k ≡ true → IsFree q × (p.waiting ≡ [])
 none_left offered p q h k gives fits e =
     let last = fits.last (fits.end ∙ e) in
     let all = done_put p h k fits e in (
@@ -171,12 +173,12 @@ none_left offered p q h k gives fits e =
       last.0,
     )
 
-pub traced_done : (offered : List Piece) (before now : SinkState) (p p' : Pulsing) (q q' : Offered) (w w' : List Record) (v : Recording) (t : IsTracing offered before now p q w v)
-    (h' : PieceLog) (k' : RecordLog) → GivesPieces q' offered h' → HoldsRecords w' (records t.works.records.log) k' → Fits p' h' k'
+pub traced_done : (offered : List Piece) (before now : SinkState) (p p' : Pulsing) (q q' : Offered) (w w' : List Record) (v : Writing) (t : IsTracing offered before now p q w v)
+    (h' : PieceLog) (k' : RecordLog) → GivesPieces q' offered h' → HoldsRecords w' (records t.works.records.log) k' → PulseFits p' h' k'
     → PulseTurned Done t.works.got t.works.puts h' k' → Turned false offered before now p q p' q' w' v
 traced_done offered before now p p' q q' w w' v t h' k' gives holds fits turned =
     let now_gives : Gives q' offered t.works.got = subst (λ x. Gives q' offered x) turned.0 gives.gives in
-    let now_fits : Fits p' t.works.got t.works.puts = subst (λ x. Fits p' x t.works.puts) turned.0 (subst (λ x. Fits p' h' x) turned.1 fits) in
+    let now_fits : PulseFits p' t.works.got t.works.puts = subst (λ x. PulseFits p' x t.works.puts) turned.0 (subst (λ x. PulseFits p' h' x) turned.1 fits) in
     let empty : w' ≡ [] = still_empty t.works.puts (records t.works.records.log) w w' t.works.records.all t.taken (ap records_put (sym turned.1) ∙ holds.all) in
     record {
       tracing = record {
@@ -196,7 +198,7 @@ traced_done offered before now p p' q q' w w' v t h' k' gives holds fits turned 
     }
 
 -- a turn of the pulse that did something, and then those of the recorder
-pub turned_did : (offered : List Piece) (before mid now : SinkState) (p p' : Pulsing) (q q' : Offered) (w w' : List Record) (v v' : Recording) (x : Traced offered before mid p p' q q' w v)
+pub turned_did : (offered : List Piece) (before mid now : SinkState) (p p' : Pulsing) (q q' : Offered) (w w' : List Record) (v v' : Writing) (x : Traced offered before mid p p' q q' w v)
     → Records (records_put x.works.puts) before now [] v' × (w' ≡ []) → Turned true offered before now p q p' q' w' v'
 turned_did offered before mid now p p' q q' w w' v v' x r = record {
   tracing = record {
@@ -216,10 +218,10 @@ turned_did offered before mid now p p' q q' w w' v v' x r = record {
 }
 
 -- those of a writer at rest, in an empty slot
-pub records_at : (given : List Record) (before now : SinkState) (w : List Record) (v : Recording) → w ≡ [] → Records given before now [] v → Records given before now w v
+pub records_at : (given : List Record) (before now : SinkState) (w : List Record) (v : Writing) → w ≡ [] → Records given before now [] v → Records given before now w v
 records_at given before now w v empty r = same_records given given before now [] w v refl (sym empty) r
 
-pub settled_written : (offered : List Piece) (before mid now : SinkState) (p : Pulsing) (w : List Record) (v v' : Recording) (s : IsSettled offered before mid p v)
+pub settled_written : (offered : List Piece) (before mid now : SinkState) (p : Pulsing) (w : List Record) (v v' : Writing) (s : IsSettled offered before mid p v)
     → HasRested (records_put s.works.puts) before now w v' → IsSettled offered before now p v' × (is_due v' ≡ false)
 settled_written offered before mid now p w v v' s r = (
   record {
@@ -238,7 +240,7 @@ settled_written offered before mid now p w v v' s r = (
 )
 
 -- a piece is offered
-pub offered_next : (offered : List Piece) (before now : SinkState) (p : Pulsing) (w : List Record) (v : Recording) (piece : Piece)
+pub offered_next : (offered : List Piece) (before now : SinkState) (p : Pulsing) (w : List Record) (v : Writing) (piece : Piece)
     → ComesNext offered piece → IsSettled offered before now p v → w ≡ [] → IsTracing (piece ∷ offered) before now p (record { waiting = Some piece; left = 0 }) w v
 offered_next offered before now p w v piece next s empty =
     record {
@@ -264,7 +266,7 @@ same_slot a b i j e f = cc
 free_is : (q : Offered) → IsFree q → q ≡ free_slot
 free_is q f = same_slot q.waiting None q.left 0 f.nothing f.counted
 
-pub settled_by : (offered : List Piece) (before now : SinkState) (p p' : Pulsing) (q q' : Offered) (w : List Record) (v : Recording)
+pub settled_by : (offered : List Piece) (before now : SinkState) (p p' : Pulsing) (q q' : Offered) (w : List Record) (v : Writing)
     → Turned false offered before now p q p' q' w v → IsSettled offered before now p' v
 settled_by offered before now p p' q q' w v t =
     let rest = t.rests refl in
@@ -272,7 +274,7 @@ settled_by offered before now p p' q q' w v t =
     record { works = subst (λ (x : List Record). Works offered before now p' free_slot x v) t.tracing.taken works; between = rest.1 }
 
 -- a pulse and a recorder that did nothing
-pub settled_first : (sink : SinkState) (p : Pulsing) (v : Recording) → Fits p [] [] → Written v [] sink sink → IsSettled [] sink sink p v
+pub settled_first : (sink : SinkState) (p : Pulsing) (v : Writing) → PulseFits p [] [] → Written v [] sink sink → IsSettled [] sink sink p v
 settled_first sink p v fits written = record {
   works = record {
     got = [];

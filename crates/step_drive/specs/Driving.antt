@@ -7,8 +7,8 @@ use Rattle.units.specs.Limits.{IsRate, IsLimits}
 use Rattle.step_line.specs.declared.Piece.{Piece}
 use Rattle.step_line.specs.declared.Record.{Record}
 use Rattle.step_record.specs.Texts.{record_text}
-use Rattle.step_record.specs.Writing.{Wrote, Took}
-use Rattle.step_record.specs.Recording.{Recording}
+use Rattle.outside.specs.Writing.{Wrote, Took}
+use Rattle.text_writer.specs.Writers.{Writing}
 use Rattle.step_line.specs.Ordering.{has_ended, recorded}
 use Rattle.pulse_engine.specs.Steps.{Pulsing}
 use Rattle.planner_ring.specs.declared.Block.{Block}
@@ -16,17 +16,18 @@ use Rattle.overrides.specs.declared.Overrides.{Overrides}
 use Rattle.overrides.specs.Percents.{IsOverrides}
 use Rattle.plan_passes.specs.Blocks.{left_of}
 use Rattle.plan_passes.specs.Plans.{Planned}
-use Rattle.legal_speeds.specs.declared.PlannedMove.{PlannedMove}
-use Rattle.legal_speeds.specs.declared.Action.{Action}
-use Rattle.legal_speeds.specs.Runs.{IsPlannerRun, IsUndisturbed, IsAtRest}
-use Rattle.step_drive.specs.Asking.{Asked, all_asked, IsDriven}
+use Rattle.step_line.specs.declared.planned_move.PlannedMove.{PlannedMove}
+use Rattle.planner_runs.specs.declared.Action.{Action}
+use Rattle.planner_runs.specs.Runs.{IsPlannerRun, IsUndisturbed, IsAtRest, all_asked}
+use Rattle.step_line.specs.Asking.{Asked}
+use Rattle.planner_runs.specs.Driven.{IsDriven}
 use Rattle.step_drive.specs.Working.{IsSettled}
 
 -- what callers see of a drive: its plan, its pulse, and its recorder
 pub record Driving : Type 0 where
   pub plan : Planned
   pub pulse : Pulsing
-  pub recorder : Recording
+  pub recorder : Writing
 
 -- a move whose numbers are in range; it may have no steps
 pub record MayAsk (m : PlannedMove) : Type 0 where
@@ -56,8 +57,8 @@ pub record SegmentRun (did : Bool) (p after : Planned) : Type 0 where
   pub rests : did ≡ false → (p.blocks ≡ []) × IsAtRest after
 
 -- A drive was asked for this, in order, and has not ended. Its plan is left by a planner run that no hand disturbs, to which
--- these moves are added, and these marks. Of the records of the pieces that the run gave, the latest piece first, the sink
--- took a front of the text, and the rest waits; unless the sink has failed, and then its count of faults rose.
+-- these moves are added, and these marks and rests. Of the records of the pieces that the run gave, the latest piece
+-- first, the sink took a front of the text, and the rest waits; unless the sink has failed, and then its count of faults rose.
 pub record HasDriven (before now : SinkState) (d : Driving) (asked : List Asked) : Type 0 where
   pub actions : List Action
   pub given : List Piece

@@ -1,5 +1,5 @@
-pub mod Asking
 pub mod Held
+pub mod Slots
 pub mod Polls
 pub mod Working
 pub mod Driving

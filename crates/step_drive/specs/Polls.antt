@@ -2,11 +2,13 @@
 use Rattle.std.specs.Prelude.{◌≡◌, ◌≢◌, List, [], ◌∷◌, ◌++◌}
 use Rattle.step_line.specs.declared.Piece.{Piece}
 use Rattle.step_line.specs.declared.Record.{Record}
-use Rattle.step_record.specs.Taking.{Log, HasNoEnd, records}
+use Rattle.step_line.specs.Ending.{EndsOnce}
+use Rattle.step_line.specs.Logs.{NewestFirst}
+use Rattle.step_record.specs.Taking.{Log, records}
 use Rattle.step_record.specs.Taking.Event.{took, none}
 use Rattle.pulse_engine.specs.Logs.{PieceLog, PieceEvent, RecordLog, records_put}
 use Rattle.pulse_engine.specs.Logs.RecordEvent.{put, full}
-use Rattle.pulse_engine.specs.Slots.{Offered, IsFree, Gives}
+use Rattle.step_drive.specs.Slots.{Offered, IsFree, Gives}
 
 -- the latest thing that the side which gets pieces did was to find none
 abbrev pub FoundNone : PieceLog → Type 0
@@ -15,8 +17,8 @@ FoundNone (PieceEvent.got p ∷ h) = ⊥
 FoundNone (PieceEvent.none ∷ h) = Unit {0}
 FoundNone (PieceEvent.ticked ∷ h) = ⊥
 
--- a slot to which these pieces were offered, the latest first; where none was found in it, it is free
-pub record GivesPieces (q : Offered) (offered : List Piece) (h : PieceLog) : Type 0 where
+-- a slot to which these pieces were offered; where none was found in it, it is free
+pub record GivesPieces (q : Offered) (offered : NewestFirst Piece) (h : PieceLog) : Type 0 where
   pub gives : Gives q offered h
   pub free : FoundNone h → IsFree q
 
@@ -30,10 +32,6 @@ FoundFull (full r ∷ k) = Unit {0}
 pub record HoldsRecords (waiting taken : List Record) (k : RecordLog) : Type 0 where
   pub all : records_put k ≡ taken ++ waiting
   pub holds : FoundFull k → waiting ≢ []
-
--- no record but the last is the end
-abbrev pub EndsOnce : List Record → Type 0
-EndsOnce rs = (front back : List Record) (r : Record) → rs ≡ front ++ r ∷ back → HasNoEnd front
 
 -- the latest thing that the side which takes records did was to find none
 abbrev pub TookNone : Log → Type 0

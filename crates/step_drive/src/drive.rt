@@ -10,16 +10,15 @@ ghost use Rattle.plan_passes.specs.Plans.{entered};
 ghost use Rattle.plan_passes.specs.Segments.{advanced};
 ghost use Rattle.segment_prep.specs.Taking.{IsNext};
 ghost use Rattle.step_line.specs.Ordering.{ComesNext};
-ghost use Rattle.legal_speeds.specs.Moves.{IsPlannedMove};
-ghost use Rattle.legal_speeds.specs.Runs.{IsAtRest, with_move, block_of, most_blocks};
-ghost use Rattle.step_drive.specs.Asking.{Asked};
-ghost use Rattle.step_drive.specs.Asking.Asked.{a_move, a_mark};
-ghost use Rattle.step_record.specs.Recording.{is_due};
+ghost use Rattle.step_line.specs.Asking.{IsPlannedMove};
+ghost use Rattle.planner_runs.specs.Runs.{IsAtRest, with_move, block_of, most_blocks};
+ghost use Rattle.step_line.specs.Asking.{Asked};
+ghost use Rattle.step_line.specs.Asking.Asked.{a_move, a_mark, a_rest};
+ghost use Rattle.text_writer.specs.Writers.{is_due};
 ghost use Rattle.step_drive.specs.Working.{IsSettled};
 ghost use Rattle.step_drive.specs.Driving.{HasDriven, HasEnded, IsRunning, MayAsk, SegmentRun};
 
 use crate::writer::Writer;
-use legal_speeds::PlannedMove;
 use line_geom::measure::geom;
 use line_geom::{Cap, Geom};
 use outside::Sink;
@@ -28,7 +27,7 @@ use plan_passes::Plan;
 use planner_ring::Block;
 use segment_prep::{Mode, next_segment};
 use std::marker::Model;
-use step_line::{Mark, Piece, Segment};
+use step_line::{Mark, Piece, PlannedMove, Segment};
 
 /// So many blocks stand at most.
 const MOST_BLOCKS: usize = 15;
@@ -108,6 +107,7 @@ impl Drive {
         requires { IsRunning (S.state steps.old) self.old }
         ensures driven { (before : SinkState) (asked : List Asked) → HasDriven before (S.state steps.old) self.old asked → HasDriven before (S.state steps.new) self.new asked }
         ensures ran { SegmentRun result self.old.plan self.new.plan }
+        ensures none { self.old.plan.blocks ≡ [] → (self.new ≡ self.old) × (steps.new ≡ steps.old) }
     {
         let Some(segment) = self.take() else {
             return false;
@@ -179,13 +179,25 @@ impl Drive {
     }
 
     /// Runs all that is planned.
-    pub fn run_all<S: Sink>(&mut self, steps: &mut S)
+    fn run_all<S: Sink>(&mut self, steps: &mut S)
         requires { IsRunning (S.state steps.old) self.old }
         ensures driven { (before : SinkState) (asked : List Asked) → HasDriven before (S.state steps.old) self.old asked → HasDriven before (S.state steps.new) self.new asked }
-        ensures running { IsRunning (S.state steps.new) self.new }
         ensures rests { IsAtRest self.new.plan }
+        ensures none { self.old.plan.blocks ≡ [] → (self.new ≡ self.old) × (steps.new ≡ steps.old) }
     {
         while self.run_next(steps) {}
+    }
+
+    /// Waits until nothing is left to run: runs all that is planned. Where no block stands it changes nothing.
+    pub fn rest<S: Sink>(&mut self, steps: &mut S)
+        requires { IsRunning (S.state steps.old) self.old }
+        ensures asked { (before : SinkState) (asked : List Asked) → HasDriven before (S.state steps.old) self.old asked
+            → HasDriven before (S.state steps.new) self.new (asked ++ a_rest ∷ []) }
+        ensures running { IsRunning (S.state steps.new) self.new }
+        ensures rests { IsAtRest self.new.plan }
+        ensures none { self.old.plan.blocks ≡ [] → (self.new ≡ self.old) × (steps.new ≡ steps.old) }
+    {
+        self.run_all(steps);
     }
 
     /// Runs all that is planned, and then records a mark.

@@ -6,6 +6,7 @@
 #![tactic(auto)]
 
 mod drive;
+mod piece_slot;
 mod slots;
 #[cfg(test)]
 mod tests;

@@ -4,13 +4,14 @@ ghost use Rattle.std.specs.Prelude.{◌≡◌, ◌≢◌, ◌↔◌, ◌∷◌, 
 ghost use Rattle.step_line.specs.declared.Piece.{Piece as AnyPiece};
 ghost use Rattle.step_line.specs.declared.Record.{Record as AnyRecord};
 ghost use Rattle.step_line.specs.Records.{IsRecord};
-ghost use Rattle.step_record.specs.Taking.{Log, MayFollow, records};
+ghost use Rattle.step_record.specs.Taking.{Log, records};
 ghost use Rattle.step_line.specs.Ordering.{ComesNext};
 ghost use Rattle.pulse_engine.specs.Logs.{PieceLog, RecordLog, IsCounted, HasTick};
-ghost use Rattle.pulse_engine.specs.Slots.{IsFree};
+ghost use Rattle.step_drive.specs.Slots.{IsFree};
 ghost use Rattle.step_drive.specs.Polls.{GivesPieces, HoldsRecords, HandsOver};
 
-use pulse_engine::{PieceSlot, PulsePort, TickOut};
+use crate::piece_slot::PieceSlot;
+use pulse_engine::{PulsePort, TickOut};
 use std::marker::Model;
 use step_line::{Bits, Piece, Record};
 use step_record::RecordIn;
@@ -46,7 +47,7 @@ impl PulsePort for Pieces {
     ghost use Rattle.pulse_engine.specs.Logs.{PieceLog, IsCounted, HasTick};
     ghost use Rattle.step_drive.specs.Polls.{GivesPieces};
 
-    /// The pieces that were offered, the latest first.
+    /// The pieces that were offered.
     ghost Rest = { List AnyPiece };
 
     ghost stands = { λ pieces offered h. GivesPieces pieces.slot offered h };

@@ -3,10 +3,9 @@
 ghost use Rattle.step_drive.specs.Driving.{IsRunning, MayAsk};
 
 use super::*;
-use legal_speeds::PlannedMove;
 use outside::{MemSink, Sink};
 use std::test::Fail;
-use step_line::Mark;
+use step_line::{Mark, PlannedMove};
 use units::{Limits, Move, Per3, Rate, Steps3};
 
 /// A rapid of line 1 from a place on X, at 250 steps per mm, 500 mm per minute and 10 mm per s² on each axis, and a

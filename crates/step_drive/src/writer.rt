@@ -5,7 +5,7 @@ ghost use Rattle.step_line.specs.declared.Piece.{Piece as AnyPiece};
 ghost use Rattle.step_line.specs.declared.Record.{Record as AnyRecord};
 ghost use Rattle.outside.specs.Causes.{SinkState};
 ghost use Rattle.step_line.specs.Ordering.{ComesNext};
-ghost use Rattle.step_record.specs.Recording.{is_due};
+ghost use Rattle.text_writer.specs.Writers.{is_due};
 ghost use Rattle.step_drive.specs.Working.{Records as IsRecording, RecordTurned, HasRested, IsTracing, IsSettled, Turned};
 
 use crate::slots::{Pieces, Records};

@@ -6,7 +6,7 @@ use Rattle.step_line.specs.Counting.{way, events_of}
 use Rattle.step_line.specs.Events.{event_of, events_after, line_events, bit_at, steps_at, IsEvent}
 use Rattle.step_line.proofs.Counters.{count_longest, steps_where_more}
 
-length_after : (m : Move) (k n : ℕ) → length (events_after m k n) ≡ n
+pub length_after : (m : Move) (k n : ℕ) → length (events_after m k n) ≡ n
 length_after m k zero = refl
 length_after m k (suc n) = omega (arith, length_after m (k + 1) n)
 

@@ -9,6 +9,7 @@ use Rattle.step_line.specs.declared.Record.{Record}
 use Rattle.step_line.specs.declared.Record.TheVariants as kinds
 use Rattle.step_line.specs.Counting.{events_of}
 use Rattle.step_line.specs.Events.{events_after}
+use Rattle.step_line.specs.Logs.{NewestFirst}
 use Rattle.step_line.specs.Records.{IsHead, IsMark}
 
 -- what is told of a segment before its events: its speed is the one at which it begins
@@ -39,15 +40,15 @@ pub record GoesOn (s t : Segment) : Type 0 where
   pub mv : t.mv ≡ s.mv
   pub first : t.first ≡ s.first + s.n
 
--- a segment begins its move, or goes on where the last of the pieces before it ends; the latest stands first
-abbrev pub JoinsOn : List Piece → Segment → Type 0
+-- a segment begins its move, or goes on where the last of the pieces before it ends
+abbrev pub JoinsOn : NewestFirst Piece → Segment → Type 0
 JoinsOn [] t = t.first ≡ 0
 JoinsOn (pieces.Segment s ∷ before) t = (t.first ≡ 0) ⊎ GoesOn s t
 JoinsOn (pieces.Mark m ∷ before) t = t.first ≡ 0
 JoinsOn (pieces.End ∷ before) t = t.first ≡ 0
 
 -- a piece may follow those before it: its records can be recorded, and a segment joins on
-abbrev pub Follows : List Piece → Piece → Type 0
-Follows before (pieces.Segment s) = IsTraceable s × JoinsOn before s
-Follows before (pieces.Mark m) = IsMark m
-Follows before pieces.End = Unit {0}
+abbrev pub ComesBehind : NewestFirst Piece → Piece → Type 0
+ComesBehind before (pieces.Segment s) = IsTraceable s × JoinsOn before s
+ComesBehind before (pieces.Mark m) = IsMark m
+ComesBehind before pieces.End = Unit {0}

@@ -5,7 +5,7 @@ use Rattle.std.proofs.lemmas.Bool.Decides.{nat_tests}
 use Rattle.std.proofs.lemmas.Option.{cond_some}
 use Rattle.step_line.specs.declared.Bits.{Bits}
 use Rattle.step_line.specs.Events.{IsEvent}
-use Rattle.step_record.specs.Reading.{after, axis_at, event_at}
+use Rattle.step_record.specs.Reading.{behind_name, axis_at, event_at}
 use Rattle.step_record.specs.Texts.{axis_text, event_text}
 use Rattle.step_record.proofs.Fields.{bound, after_takes}
 
@@ -64,7 +64,7 @@ event_takes text b rest e =
     let z-takes = axis_takes y.1 90 in
     let made : Bits = record { x = x.0; y = y.0; z = z.0 } in
     let steps = nat_abs x.0 + nat_abs y.0 + nat_abs z.0 in
-    let last = bound (after (codes "\n") z.1) (λ r. cond (nat_lt 0 steps) (Some (made, r)) None) (b, rest) e in
+    let last = bound (behind_name (codes "\n") z.1) (λ r. cond (nat_lt 0 steps) (Some (made, r)) None) (b, rest) e in
     let some = cond_some (nat_lt 0 steps) (made, last.0) (b, rest) last.2 in
     let end = after_takes (codes "\n") z.1 last.0 last.1 in
     subst (λ (r : Bits × List ℕ). (text ≡ event_text r.0 ++ r.1) × IsEvent r.0) {x = (made, last.0)} some.1 (

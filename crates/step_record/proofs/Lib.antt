@@ -5,4 +5,4 @@ pub mod Fields
 pub mod Lines
 pub mod Whole
 pub mod Turns
-pub mod Written
+pub mod Longest

@@ -12,7 +12,7 @@ use Rattle.step_line.specs.declared.Record.{Record}
 use Rattle.step_line.specs.declared.Record.TheVariants as kinds
 use Rattle.step_line.specs.Records.{IsHead, IsMark, IsRecord}
 use Rattle.step_record.specs.Texts.{head_text, mark_text, record_text}
-use Rattle.step_record.specs.Reading.{Read, ◌>>=◌, ◌or◌, after, number_at, short_number_at, head_at, event_at, axis_at, dwell_at, turn_at, plain_at, cut_at, mark_at, as_record, end_at, record_at}
+use Rattle.step_record.specs.Reading.{Read, ◌>>=◌, ◌or◌, behind_name, number_at, short_number_at, head_at, event_at, axis_at, dwell_at, turn_at, plain_at, cut_at, mark_at, as_record, end_at, record_at}
 use Rattle.step_record.proofs.Fields.{bound, after_takes, number_takes, number_again, short_takes, short_again}
 use Rattle.step_record.proofs.Events.{event_takes, event_again}
 
@@ -34,7 +34,7 @@ head_joined h text t1 t2 t3 t4 rest name line n w cycles = rw (name, line, n, w,
 head_takes : (text : List ℕ) (h : Head) (rest : List ℕ) → head_at text ≡ Some (h, rest) → (text ≡ head_text h ++ rest) × IsHead h
 unfolding head_at
 head_takes text h rest e =
-    let name = bound (after (codes "s ") text) (λ t. short_number_at t 32 >>= λ line. short_number_at line.1 32 >>= λ n. number_at n.1 32 >>= λ w. number_at w.1 10 >>= λ cycles.
+    let name = bound (behind_name (codes "s ") text) (λ t. short_number_at t 32 >>= λ line. short_number_at line.1 32 >>= λ n. number_at n.1 32 >>= λ w. number_at w.1 10 >>= λ cycles.
     counted (record { line = line.0; n = n.0; w = w.0; cycles = cycles.0 }) cycles.1) (h, rest) e in
     let line = bound (short_number_at name.0 32) (λ line. short_number_at line.1 32 >>= λ n. number_at n.1 32 >>= λ w. number_at w.1 10 >>= λ cycles.
     counted (record { line = line.0; n = n.0; w = w.0; cycles = cycles.0 }) cycles.1) (h, rest) name.2 in
@@ -87,7 +87,7 @@ named text name t rest n first second = rw (first, second) (simp append_assoc)
 dwell_takes : (text : List ℕ) (m : Mark) (rest : List ℕ) → dwell_at text ≡ Some (m, rest) → IsMarkAt text m rest
 unfolding dwell_at mark_text
 dwell_takes text m rest e =
-    let name = bound (after (codes "D ") text) (λ t. number_at t 10 >>= λ ms. Some (Dwell ms.0, ms.1)) (m, rest) e in
+    let name = bound (behind_name (codes "D ") text) (λ t. number_at t 10 >>= λ ms. Some (Dwell ms.0, ms.1)) (m, rest) e in
     let ms = bound (number_at name.0 10) (λ ms. Some (Dwell ms.0, ms.1)) (m, rest) name.2 in
     let takes = number_takes name.0 10 ms.0.0 ms.0.1 ms.1 in
     let parts = some_pair_parts (Dwell ms.0.0) m ms.0.1 rest ms.2 in
@@ -97,7 +97,7 @@ dwell_takes text m rest e =
 cut_takes : (text : List ℕ) (m : Mark) (rest : List ℕ) → cut_at text ≡ Some (m, rest) → IsMarkAt text m rest
 unfolding cut_at mark_text
 cut_takes text m rest e =
-    let name = bound (after (codes "X ") text) (λ t. short_number_at t 10 >>= λ line. Some (Cut line.0, line.1)) (m, rest) e in
+    let name = bound (behind_name (codes "X ") text) (λ t. short_number_at t 10 >>= λ line. Some (Cut line.0, line.1)) (m, rest) e in
     let line = bound (short_number_at name.0 10) (λ line. Some (Cut line.0, line.1)) (m, rest) name.2 in
     let takes = short_takes name.0 10 line.0.0 line.0.1 line.1 in
     let parts = some_pair_parts (Cut line.0.0) m line.0.1 rest line.2 in
@@ -108,7 +108,7 @@ turn_takes : (name : List ℕ) (code : SpindleCode) (text : List ℕ) (m : Mark)
     → ((speed : ℕ) → speed < 2 ^ 32 → IsMark (Spindle code speed) × (mark_text (Spindle code speed) ≡ name ++ decimal speed ++ 10 ∷ [])) → IsMarkAt text m rest
 unfolding turn_at
 turn_takes name code text m rest e spelled =
-    let behind = bound (after name text) (λ t. short_number_at t 10 >>= λ speed. Some (Spindle code speed.0, speed.1)) (m, rest) e in
+    let behind = bound (behind_name name text) (λ t. short_number_at t 10 >>= λ speed. Some (Spindle code speed.0, speed.1)) (m, rest) e in
     let speed = bound (short_number_at behind.0 10) (λ speed. Some (Spindle code speed.0, speed.1)) (m, rest) behind.2 in
     let takes = short_takes behind.0 10 speed.0.0 speed.0.1 speed.1 in
     let parts = some_pair_parts (Spindle code speed.0.0) m speed.0.1 rest speed.2 in
@@ -119,7 +119,7 @@ turn_takes name code text m rest e spelled =
 plain_takes : (name : List ℕ) (mark : Mark) (text : List ℕ) (m : Mark) (rest : List ℕ) → plain_at name mark text ≡ Some (m, rest) → IsMark mark → mark_text mark ≡ name → IsMarkAt text m rest
 unfolding plain_at
 plain_takes name mark text m rest e is spelled =
-    let behind = bound (after name text) (λ t. Some (mark, t)) (m, rest) e in
+    let behind = bound (behind_name name text) (λ t. Some (mark, t)) (m, rest) e in
     let parts = some_pair_parts mark m behind.0 rest behind.2 in
     let whole = after_takes name text behind.0 behind.1 ∙ ap (λ (t : List ℕ). t ++ behind.0) (sym spelled) in
     subst (λ (r : List ℕ). IsMarkAt text m r) parts.1 (subst (λ (x : Mark). IsMarkAt text x behind.0) parts.0 (whole, is))
@@ -164,7 +164,7 @@ of_kind f (Some x) text r rest takes e =
 
 end_takes : (text : List ℕ) (r : Record) (rest : List ℕ) → end_at text ≡ Some (r, rest) → IsRecordAt text r rest
 end_takes text r rest e =
-    let behind = bound (after (codes "E\n") text) (λ t. Some (kinds.End, t)) (r, rest) e in
+    let behind = bound (behind_name (codes "E\n") text) (λ t. Some (kinds.End, t)) (r, rest) e in
     let parts = some_pair_parts kinds.End r behind.0 rest behind.2 in
     subst (λ (t : List ℕ). IsRecordAt text r t) parts.1 (subst (λ (s : Record). IsRecordAt text s behind.0) parts.0 (after_takes (codes "E\n") text behind.0 behind.1, tt))
 

@@ -1,9 +1,10 @@
-pub mod Holding
 pub mod Reading
 pub mod Recording
 pub mod Taking
 pub mod Texts
-pub mod Writing
 pub use Rattle.outside.specs.Causes
+pub use Rattle.outside.specs.Writing
+pub use Rattle.step_line.specs.Ending
 pub use Rattle.step_line.specs.Events
 pub use Rattle.step_line.specs.Records
+pub use Rattle.text_writer.specs.Writers

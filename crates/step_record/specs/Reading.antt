@@ -28,20 +28,20 @@ abbrev pub ◌>>=◌ : {A B : Type 0} → Option A → (A → Option B) → Opti
 o >>= f = option_and_then f o
 
 -- what follows a name that begins a text
-abbrev pub after : List ℕ → List ℕ → Option (List ℕ)
-after name text = cond (bytes_eq (take (length name) text) name) (Some (drop (length name) text)) None
+abbrev pub behind_name : List ℕ → List ℕ → Option (List ℕ)
+behind_name name text = cond (bytes_eq (take (length name) text) name) (Some (drop (length name) text)) None
 
 -- a number is written by some digits, with no zero in front of others
-abbrev pub is_plain : List ℕ → Bool
-is_plain [] = false
-is_plain (c ∷ []) = true
-is_plain (c ∷ d ∷ digits) = not (nat_eq c 48)
+abbrev pub has_no_zero_in_front : List ℕ → Bool
+has_no_zero_in_front [] = false
+has_no_zero_in_front (c ∷ []) = true
+has_no_zero_in_front (c ∷ d ∷ digits) = not (nat_eq c 48)
 
 abbrev pub digits_in_front : List ℕ → List ℕ
 digits_in_front text = take_while is_ascii_digit text
 
 abbrev pub numeral_at : List ℕ → Option (List ℕ)
-numeral_at text = cond (is_plain (digits_in_front text)) (Some (digits_in_front text)) None
+numeral_at text = cond (has_no_zero_in_front (digits_in_front text)) (Some (digits_in_front text)) None
 
 -- the number that digits write, where a `u64` has room for it
 abbrev pub value_of : List ℕ → Option ℕ
@@ -52,7 +52,7 @@ unfoldable pub number_at : List ℕ → ℕ → Read ℕ
 number_at text end = do
   digits ← numeral_at text
   value ← value_of digits
-  rest ← after (end ∷ []) (drop (length digits) text)
+  rest ← behind_name (end ∷ []) (drop (length digits) text)
   Some (value, rest)
 
 unfoldable pub short_number_at : List ℕ → ℕ → Read ℕ
@@ -62,7 +62,7 @@ short_number_at text end = do
 
 unfoldable pub head_at : List ℕ → Read Head
 head_at text = do
-  rest ← after (codes "s ") text
+  rest ← behind_name (codes "s ") text
   line ← short_number_at rest 32
   n ← short_number_at line.1 32
   w ← number_at n.1 32
@@ -80,29 +80,29 @@ event_at text =
     let x = axis_at text 88 in
     let y = axis_at x.1 89 in
     let z = axis_at y.1 90 in
-    after (codes "\n") z.1 >>= λ rest.
+    behind_name (codes "\n") z.1 >>= λ rest.
     cond (nat_lt 0 (nat_abs x.0 + nat_abs y.0 + nat_abs z.0)) (Some (record { x = x.0; y = y.0; z = z.0 }, rest)) None
 
 unfoldable pub dwell_at : List ℕ → Read Mark
 dwell_at text = do
-  rest ← after (codes "D ") text
+  rest ← behind_name (codes "D ") text
   ms ← number_at rest 10
   Some (Dwell ms.0, ms.1)
 
 unfoldable pub turn_at : List ℕ → SpindleCode → List ℕ → Read Mark
 turn_at name code text = do
-  rest ← after name text
+  rest ← behind_name name text
   speed ← short_number_at rest 10
   Some (Spindle code speed.0, speed.1)
 
 unfoldable pub plain_at : List ℕ → Mark → List ℕ → Read Mark
 plain_at name mark text = do
-  rest ← after name text
+  rest ← behind_name name text
   Some (mark, rest)
 
 unfoldable pub cut_at : List ℕ → Read Mark
 cut_at text = do
-  rest ← after (codes "X ") text
+  rest ← behind_name (codes "X ") text
   line ← short_number_at rest 10
   Some (Cut line.0, line.1)
 
@@ -127,7 +127,7 @@ as_record f (Some x) = Some (f x.0, x.1)
 
 abbrev pub end_at : List ℕ → Read Record
 end_at text = do
-  rest ← after (codes "E\n") text
+  rest ← behind_name (codes "E\n") text
   Some (kinds.End, rest)
 
 unfoldable pub record_at : List ℕ → Read Record

@@ -12,6 +12,7 @@
 //! A `Recorder` takes records, one a turn, and writes their lines to a sink.
 #![tactic(auto)]
 
+mod held_lines;
 mod laws;
 mod numbers;
 mod reading;
@@ -23,7 +24,7 @@ mod records;
 mod tests;
 mod writing;
 
-pub use laws::{one_reading, recorded};
+pub use laws::{longest_lines, one_reading, recorded};
 pub use reading::next_record;
 pub use recorder::{RecordIn, Recorder};
 pub use records::has_line;

@@ -4,18 +4,18 @@ ghost use Rattle.std.specs.Prelude.{◌≡◌, ℕ, ◌≤◌, drop, length, opt
 ghost use Rattle.std.specs.Char.{is_ascii_digit};
 ghost use Rattle.std.specs.List.{prefix_len};
 ghost use Rattle.std.specs.Str.Parse.{AllDigits};
-ghost use Rattle.step_record.specs.Reading.{seen, after, is_plain, digits_in_front, value_of, number_at, short_number_at};
+ghost use Rattle.step_record.specs.Reading.{seen, behind_name, has_no_zero_in_front, digits_in_front, value_of, number_at, short_number_at};
 
 /// What follows a name that begins a text.
 pub(crate) fn after<'a>(name: &[u8], text: &'a [u8]) -> Option<&'a [u8]>
-    ensures { option_copied result ≡ after name.now text.now }
+    ensures { option_copied result ≡ behind_name name.now text.now }
 {
     text.strip_prefix(name)
 }
 
 /// Whether digits write a number: there are some, and no zero stands in front of others.
-fn is_plain(digits: &[u8]) -> bool
-    ensures { result ≡ is_plain digits.now }
+fn has_no_zero_in_front(digits: &[u8]) -> bool
+    ensures { result ≡ has_no_zero_in_front digits.now }
 {
     match digits {
         [] => false,
@@ -61,7 +61,7 @@ pub(crate) fn number_at(text: &[u8], end: u8) -> Option<(u64, &[u8])>
     ensures { seen result ≡ number_at text.now end }
 {
     let (digits, rest) = split_digits(text);
-    if !is_plain(digits) {
+    if !has_no_zero_in_front(digits) {
         return None;
     }
     let value = value_of(digits)?;

@@ -1,53 +1,29 @@
 //! A recorder over records in memory.
 
-ghost use Rattle.std.specs.Prelude.{◌≡◌, false};
-ghost use Rattle.step_record.specs.Taking.{HasNoEnd, records};
-
 use super::*;
-use outside::{Failed, MemSink, On, Sink, Turn};
+use outside::{MemSink, On, Sink, Turn};
 use std::alloc::{AllocError, Global};
 use std::test::Fail;
 use step_line::{Bits, Head, Mark, Record, SpindleCode};
 
-/// Records to be taken, up to the end.
+/// Records to be taken.
 #[derive(Drop)]
 struct Tape<'a> {
     rest: &'a [Record],
-    ended: bool,
 }
 
 impl RecordIn for Tape<'_> {
     ghost Rest = { Unit {0} };
 
-    ghost stands = { λ tape _ log. tape.ended ≡ false → HasNoEnd (records log) };
+    ghost stands = { λ _ _ _. Unit {0} };
 
     fn take(&mut self) -> Option<Record> {
         let (first, rest) = self.rest.split_first()?;
-        if self.ended || !has_line(*first) {
+        if !has_line(*first) {
             return None;
         }
-        self.ended = first.is_end();
         self.rest = rest;
         Some(*first)
-    }
-}
-
-/// A sink that takes one byte in a call.
-#[derive(Drop)]
-struct Drip<'a> {
-    inner: MemSink<'a>,
-}
-
-impl Sink for Drip<'_> {
-    ghost use Rattle.std.specs.Prelude.{Some};
-
-    ghost state = { λ drip. record { held = Some drip.inner.held; faults = drip.inner.faults } };
-
-    fn write(&mut self, piece: &[u8]) -> Result<usize, Failed> {
-        match piece {
-            [first, ..] => self.inner.write(&[*first]),
-            [] => Ok(0),
-        }
     }
 }
 
@@ -96,10 +72,7 @@ struct Ran {
 /// Lets a new recorder take turns until one answers other than `Did`, at most so many.
 fn run<S: Sink>(records: &[Record], sink: &mut S, most: u32) -> Ran {
     let mut recorder = Recorder::new();
-    let mut tape = Tape {
-        rest: records,
-        ended: false,
-    };
+    let mut tape = Tape { rest: records };
     for _ in 0..most {
         let last = recorder.turn(&mut tape, sink);
         if last != Turn::Did {
@@ -159,11 +132,9 @@ fn records_come_to_the_sink_as_their_lines(rt: HostRuntime) -> Result<(), Fail> 
         let mut sink = MemSink::new(rt.alloc(), 40_000, &[])?;
         assert_eq!(rt; run(records.as_slice(), &mut sink, 10_000), DONE);
         assert!(rt; sink.held() == text.as_slice());
-        let mut drip = Drip {
-            inner: MemSink::new(rt.alloc(), 40_000, &[])?,
-        };
+        let mut drip = MemSink::short(rt.alloc(), 40_000, 1, &[])?;
         assert_eq!(rt; run(records.as_slice(), &mut drip, 50_000), DONE);
-        assert!(rt; drip.inner.held() == text.as_slice());
+        assert!(rt; drip.held() == text.as_slice());
     }
     Ok(())
 }
@@ -197,9 +168,7 @@ fn text_is_written_once_fewer_than_192_bytes_are_free(rt: HostRuntime) -> Result
 fn what_is_begun_is_written_before_a_record_is_taken(rt: HostRuntime) -> Result<(), Fail> {
     let (records, text) = job(rt.alloc(), &[(event(1, 1, 0), "X+Y+", 900)])?;
     for (turns, left, written) in [(782, 119, 1), (4686, 119, 3905), (4687, 118, 3905)] {
-        let mut drip = Drip {
-            inner: MemSink::new(rt.alloc(), 5000, &[])?,
-        };
+        let mut drip = MemSink::short(rt.alloc(), 5000, 1, &[])?;
         let want = Ran {
             last: Turn::Did,
             left,
@@ -207,7 +176,7 @@ fn what_is_begun_is_written_before_a_record_is_taken(rt: HostRuntime) -> Result<
         };
         assert_eq!(rt; run(records.as_slice(), &mut drip, turns), want);
         assert!(rt; written <= text.len());
-        assert!(rt; drip.inner.held() == &text.as_slice()[..written]);
+        assert!(rt; drip.held() == &text.as_slice()[..written]);
     }
     Ok(())
 }

@@ -1,5 +1,6 @@
 use super::*;
 use arrayvec::ArrayVec;
+use std::test::Fail;
 use step_line::{Bits, Head, Mark, Record, SpindleCode};
 
 fn head(line: u32, n: u32, w: u64, cycles: u64) -> Record {
@@ -94,4 +95,17 @@ fn no_other_line_is_read(rt: HostRuntime) {
         assert!(rt; at <= bytes.len());
         assert!(rt; next_record(bytes, at) == Err(BadRecord { at }), "{text:?}");
     }
+}
+
+#[test]
+fn a_fault_is_told_by_its_place(rt: HostRuntime) -> Result<(), Fail> {
+    for (at, want) in [
+        (0, "no step record at byte 0"),
+        (4096, "no step record at byte 4096"),
+    ] {
+        let fault = BadRecord { at };
+        let text = format!(in rt.alloc(); "{fault}")?;
+        assert!(rt; text.as_str() == want);
+    }
+    Ok(())
 }

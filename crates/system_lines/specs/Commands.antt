@@ -1,8 +1,8 @@
--- What a `$` line asks for.
-use Rattle.std.specs.Prelude.{ℕ, ◌+◌, ◌/◌, ◌%◌, Bool, false, not, ◌&&◌, ◌==◌, nat_le, if◌then◌else◌, pos, int_le, nat_abs, List, [], ◌∷◌, length, drop, slice_get, codes, is_ok, Ok, Err, Some, None}
+-- The kinds of lines that begin with `$`, and what these lines ask for.
+use Rattle.std.specs.Prelude.{ℕ, ◌+◌, ◌/◌, ◌%◌, Bool, true, false, not, ◌&&◌, ◌==◌, nat_le, if◌then◌else◌, pos, int_le, nat_abs, List, [], ◌∷◌, length, drop, slice_get, codes, is_ok, unwrap_or, Ok, Err, Some, None}
 use Rattle.std.specs.List.{list_any}
 use Rattle.std.specs.Map.{lookup}
-use Rattle.std.specs.Option.{option_map_or, ok_or}
+use Rattle.std.specs.Option.{option_map_or}
 use Rattle.std.specs.Str.{bytes_eq}
 use Rattle.std.specs.declared.option.Option.{Option}
 use Rattle.std.specs.declared.result.Result.{Result}
@@ -11,17 +11,23 @@ use Rattle.units.specs.declared.Decimal.{Decimal}
 use Rattle.units.specs.declared.NumFault.{NumFault}
 use Rattle.code_table.specs.Refusals.{first_refusal}
 use Rattle.code_table.specs.declared.Code.{Code}
+use Rattle.system_lines.specs.declared.Kind.{Kind}
+use Rattle.system_lines.specs.declared.Kind.TheVariants as kinds
 use Rattle.system_lines.specs.declared.Command.{Command}
 use Rattle.system_lines.specs.declared.Command.TheVariants.{ListSettings, ListModes, ListOffsets, Unlock, Set}
 
 abbrev pub code : ℕ → Code
 code n = record { 0 = n }
 
--- the lines that are commands as they stand
-abbrev pub whole_commands : List (List ℕ × Command)
-whole_commands = (codes "$$", ListSettings) ∷ (codes "$G", ListModes) ∷ (codes "$X", Unlock) ∷ (codes "$#", ListOffsets) ∷ []
+-- whether a byte stands at a place
+abbrev pub stands_at : ℕ → List ℕ → ℕ → Bool
+stands_at c line at = option_map_or (λ b. b == c) (slice_get line at) false
 
--- ---- setting lines, `$n=v`
+-- ---- the kinds of lines that begin with `$`
+
+-- the lines that are whole as they stand
+abbrev pub spelled_lines : List (List ℕ × Kind)
+spelled_lines = (codes "$$", kinds.ListSettings) ∷ (codes "$G", kinds.ListModes) ∷ (codes "$X", kinds.Unlock) ∷ (codes "$#", kinds.ListOffsets) ∷ []
 
 -- the second bytes that begin lines of other kinds
 abbrev pub other_kinds : List ℕ
@@ -30,6 +36,33 @@ other_kinds = codes "$#CGHIJNRSX"
 -- a setting line has a second byte, and that is none of these
 abbrev pub is_setting_line : List ℕ → Bool
 is_setting_line line = option_map_or (λ c. not (list_any (λ kind. kind == c) other_kinds)) (slice_get line 1) false
+
+-- `J` stands behind the `$`
+abbrev pub is_jog_line : List ℕ → Bool
+is_jog_line line = stands_at 74 line 1
+
+-- and `=` behind that, before the words of a jog
+abbrev pub has_jog : List ℕ → Bool
+has_jog line = stands_at 61 line 2
+
+unfoldable pub kind_of : List ℕ → Kind
+kind_of line =
+    if is_setting_line line then kinds.Setting else
+    if is_jog_line line then if has_jog line then kinds.Jog else kinds.BareJog else
+    unwrap_or (lookup (bytes_eq line) spelled_lines) kinds.Other
+
+-- the kinds that are refused with error 8 while the machine runs, whether or not their lines can be read
+abbrev pub needs_rest : Kind → Bool
+needs_rest kinds.ListSettings = true
+needs_rest kinds.ListModes = false
+needs_rest kinds.Unlock = false
+needs_rest kinds.ListOffsets = true
+needs_rest kinds.Setting = true
+needs_rest kinds.Jog = false
+needs_rest kinds.BareJog = false
+needs_rest kinds.Other = false
+
+-- ---- setting lines, `$n=v`
 
 -- the longest number that begins at a place of a line, and the place behind it
 abbrev pub number_at : List ℕ → ℕ → Result (Decimal × ℕ) NumFault
@@ -57,10 +90,6 @@ equals_place line = (read_or_zero (n_of line)).1
 abbrev pub v_of : List ℕ → Result (Decimal × ℕ) NumFault
 v_of line = number_at line (equals_place line + 1)
 
--- whether a byte stands at a place
-abbrev pub stands_at : ℕ → List ℕ → ℕ → Bool
-stands_at c line at = option_map_or (λ b. b == c) (slice_get line at) false
-
 -- the first that holds
 abbrev pub setting_refusal : List ℕ → Option Code
 setting_refusal line = first_refusal (
@@ -86,8 +115,17 @@ unless None command = Ok command
 
 -- ---- all lines
 
+-- what a line of a kind asks for; what is not served is refused
+abbrev pub command_by_kind : Kind → List ℕ → Result Command Code
+command_by_kind kinds.ListSettings line = Ok ListSettings
+command_by_kind kinds.ListModes line = Ok ListModes
+command_by_kind kinds.Unlock line = Ok Unlock
+command_by_kind kinds.ListOffsets line = Ok ListOffsets
+command_by_kind kinds.Setting line = unless (setting_refusal line) (asked line)
+command_by_kind kinds.Jog line = Err (code 3)
+command_by_kind kinds.BareJog line = Err (code 3)
+command_by_kind kinds.Other line = Err (code 3)
+
 -- what a line that begins with `$` asks for
 unfoldable pub command_of : List ℕ → Result Command Code
-command_of line =
-    if is_setting_line line then unless (setting_refusal line) (asked line) else
-    ok_or (lookup (bytes_eq line) whole_commands) (code 3)
+command_of line = command_by_kind (kind_of line) line

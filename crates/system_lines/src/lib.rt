@@ -1,10 +1,10 @@
-//! Lines that begin with `$`: what they ask for, and the settings that they set.
+//! Lines that begin with `$`: their kinds, what they ask for, and the settings that they set.
 #![tactic(auto)]
 
 ghost use Rattle.std.specs.Prelude.{◌≡◌, ◌<◌, ◌≤◌, ◌*◌, ◌/◌, ◌%◌, false, IfOk, IfErr, IfSome, IfNone, OnOk, OnErr, Some, None, Ok, Err, IsErr, is_some, IsTrue, length, slice_get, nat_abs};
 ghost use Rattle.code_table.specs.Tables.{value_of};
 ghost use Rattle.settings.specs.Numbers.{values, value_set, with_value, IsSettings};
-ghost use Rattle.system_lines.specs.Commands.{number_at, is_setting_number, setting_refusal, asked, unless, command_of};
+ghost use Rattle.system_lines.specs.Commands.{number_at, is_setting_number, setting_refusal, asked, unless, kind_of, needs_rest, command_by_kind, command_of};
 ghost use Rattle.system_lines.specs.Setting.{turns_soft_limits_on, apply_refusal};
 
 #[cfg(test)]
@@ -13,6 +13,63 @@ mod tests;
 use code_table::Code;
 use settings::Settings;
 use units::{Decimal, read_decimal};
+
+/// The kind of a line that begins with `$`. It is told before the line is read: whether a line is refused in a state of
+/// the machine goes by its kind alone.
+#[derive(Clone, Copy, Debug, PartialEq, Eq)]
+pub enum Kind {
+    /// `$$`: lists the settings.
+    ListSettings,
+    /// `$G`: lists the modes.
+    ListModes,
+    /// `$X`: ends the alarm lock.
+    Unlock,
+    /// `$#`: lists the offsets.
+    ListOffsets,
+    /// `$n=v`: a setting line, whether or not it can be read.
+    Setting,
+    /// `$J=` and the words of a jog.
+    Jog,
+    /// `$J` and anything else.
+    BareJog,
+    /// Any other.
+    Other,
+}
+
+impl Kind {
+    /// The kind of a line, given the bytes that are kept of it, the first of which is `$`.
+    ///
+    /// `$$`, `$G`, `$X` and `$#` are whole as they stand. A line whose second byte is none of `$`, `#`, `C`, `G`, `H`, `I`,
+    /// `J`, `N`, `R`, `S` and `X` is a setting line.
+    #[tactic(auto, unfolding(crate::specs::Commands::kind_of))]
+    pub fn of(line: &[u8]) -> Kind
+        requires { slice_get line.now 0 ≡ Some 36 }
+        ensures { result ≡ kind_of line.now }
+    {
+        match line {
+            b"$$" => Kind::ListSettings,
+            b"$G" => Kind::ListModes,
+            b"$X" => Kind::Unlock,
+            b"$#" => Kind::ListOffsets,
+            [] | [_] => Kind::Other,
+            [_, b'J', b'=', ..] => Kind::Jog,
+            [_, b'J', ..] => Kind::BareJog,
+            [
+                _,
+                b'$' | b'#' | b'C' | b'G' | b'H' | b'I' | b'N' | b'R' | b'S' | b'X',
+                ..
+            ] => Kind::Other,
+            _ => Kind::Setting,
+        }
+    }
+
+    /// Whether lines of this kind are refused with error 8 while the machine runs: `$$`, `$#`, and setting lines.
+    pub fn needs_rest(self) -> bool
+        ensures { result ≡ needs_rest self }
+    {
+        matches!(self, Kind::ListSettings | Kind::ListOffsets | Kind::Setting)
+    }
+}
 
 /// What a `$` line asks for.
 #[derive(Clone, Copy, Debug, PartialEq, Eq)]
@@ -55,7 +112,7 @@ fn setting_number(n: Decimal) -> Option<u8>
     Some((micro / 1_000_000) as u8)
 }
 
-/// What a line asks for that is none of the other kinds.
+/// What a setting line asks for.
 fn read_setting(line: &[u8]) -> Result<Command, Code>
     requires { 0 < length line.now }
     ensures { result ≡ unless (setting_refusal line.now) (asked line.now) }
@@ -76,9 +133,6 @@ fn read_setting(line: &[u8]) -> Result<Command, Code>
 
 /// What a line asks for, given the bytes that are kept of it, the first of which is `$`.
 ///
-/// `$$`, `$G`, `$#` and `$X` are commands as they stand. A line whose second byte is none of `$`, `#`, `C`, `G`, `H`,
-/// `I`, `J`, `N`, `R`, `S` and `X` is a setting line, `$n=v`.
-///
 /// # Errors
 ///
 /// In a setting line the first of these: 2 where no number stands behind the `$`; 3 where no `=` stands behind
@@ -89,18 +143,13 @@ pub fn read_command(line: &[u8]) -> Result<Command, Code>
     requires { slice_get line.now 0 ≡ Some 36 }
     ensures { result ≡ command_of line.now }
 {
-    match line {
-        b"$$" => Ok(Command::ListSettings),
-        b"$G" => Ok(Command::ListModes),
-        b"$#" => Ok(Command::ListOffsets),
-        b"$X" => Ok(Command::Unlock),
-        [] | [_] => Err(Code(3)),
-        [
-            _,
-            b'$' | b'#' | b'C' | b'G' | b'H' | b'I' | b'J' | b'N' | b'R' | b'S' | b'X',
-            ..
-        ] => Err(Code(3)),
-        _ => read_setting(line),
+    match Kind::of(line) {
+        Kind::ListSettings => Ok(Command::ListSettings),
+        Kind::ListModes => Ok(Command::ListModes),
+        Kind::Unlock => Ok(Command::Unlock),
+        Kind::ListOffsets => Ok(Command::ListOffsets),
+        Kind::Setting => read_setting(line),
+        Kind::Jog | Kind::BareJog | Kind::Other => Err(Code(3)),
     }
 }
 

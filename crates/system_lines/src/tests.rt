@@ -19,6 +19,29 @@ fn assert_reads(rt: &impl Abort, line: &str, wanted: Result<Command, Code>) {
 }
 
 #[test]
+fn lines_are_of_a_kind_before_they_are_read(rt: HostRuntime) {
+    for (line, kind) in [
+        ("$$", Kind::ListSettings),
+        ("$G", Kind::ListModes),
+        ("$X", Kind::Unlock),
+        ("$#", Kind::ListOffsets),
+        ("$Z", Kind::Setting),
+        ("$10:1", Kind::Setting),
+        ("$J=X1F100", Kind::Jog),
+        ("$J=", Kind::Jog),
+        ("$J", Kind::BareJog),
+        ("$JX1", Kind::BareJog),
+        ("$", Kind::Other),
+        ("$$5", Kind::Other),
+        ("$H", Kind::Other),
+    ] {
+        let kept = line.as_bytes();
+        assert!(rt; begins_with_dollar(kept));
+        assert!(rt; Kind::of(kept) == kind, "{line}");
+    }
+}
+
+#[test]
 fn lines_are_read_whole(rt: HostRuntime) {
     for (line, command) in [
         ("$$", Command::ListSettings),

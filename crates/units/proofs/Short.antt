@@ -13,3 +13,9 @@ sign_short (negsuc n) = omega arith
 pub fixed_short : (v : ℤ) → nat_abs v ≤ 2 ^ 63 → length (fixed3 v) ≤ 21
 unfolding fixed3
 fixed_short v h = simp length-append (omega (arith, sign_short v, whole_short (nat_abs v) h))
+
+pub fixed_shorter : (v : ℤ) → nat_abs v ≤ 1000000000000 → length (fixed3 v) ≤ 15
+unfolding fixed3
+fixed_shorter v h =
+    let whole : length (decimal (nat_abs v / 1000)) ≤ 10 = length-decimal-le 10 (nat_abs v / 1000) (omega arith) (omega arith) (omega arith) in
+    simp length-append (omega (arith, sign_short v, whole))

@@ -1,6 +1,7 @@
 -- Lengths in nanometres, in steps and in thousandths of a millimetre.
-use Rattle.std.specs.Prelude.{ℕ, ◌≤◌, ◌*◌, ◌/◌, ℤ, pos, ◌*ℤ◌, nat_abs}
+use Rattle.std.specs.Prelude.{ℕ, ◌≤◌, ◌*◌, ◌/◌, ℤ, pos, ◌-ℤ◌, ◌*ℤ◌, nat_abs}
 use Rattle.units.specs.Rounding.{rounded_quotient, with_sign_of}
+use Rattle.units.specs.declared.Nm3.{Nm3}
 use Rattle.units.specs.declared.Steps3.{Steps3}
 use Rattle.units.specs.declared.Move.{Move}
 
@@ -46,3 +47,7 @@ thousandths_of_nm nm = rounded_quotient nm 1000
 -- millionths of an inch, in nm: an inch is 25.4 mm, and what is no whole nm is cut off
 unfoldable pub nm_of_inch : ℤ → ℤ
 nm_of_inch micro = with_sign_of micro (nat_abs micro * 254 / 10)
+
+-- a place, counted from another
+abbrev pub minus : Nm3 → Nm3 → Nm3
+minus at from = record { x = at.x -ℤ from.x; y = at.y -ℤ from.y; z = at.z -ℤ from.z }

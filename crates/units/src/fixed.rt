@@ -1,6 +1,6 @@
 //! Numbers as texts with three decimals.
 
-ghost use Rattle.std.specs.Prelude.{◌≡◌, ◌+◌, ◌≤◌, ◌++◌, length};
+ghost use Rattle.std.specs.Prelude.{◌≡◌, ◌+◌, ◌≤◌, ◌++◌, nat_abs, length};
 ghost use Rattle.arrayvec.specs.ArrayVec.{array_vec_len};
 ghost use Rattle.units.specs.Fixed.{fixed3, minus_sign, three_digits};
 
@@ -27,12 +27,13 @@ fn three_digits(n: u64) -> [u8; 3]
 }
 
 /// Appends thousandths with three decimals, behind a minus sign exactly where they are negative.
-/// 24 bytes must be free.
-#[tactic(auto, using(crate::proofs::Short::whole_short, crate::proofs::Short::fixed_short), unfolding(crate::specs::Fixed::fixed3))]
+/// 24 bytes must be free; a magnitude of at most 10^12 takes 15 of them or fewer.
+#[tactic(auto, using(crate::proofs::Short::whole_short, crate::proofs::Short::fixed_short, crate::proofs::Short::fixed_shorter), unfolding(crate::specs::Fixed::fixed3))]
 pub fn put_fixed3(v: i64, out: &mut Text)
     requires { array_vec_len out.old + 24 ≤ 192 }
     ensures text { out.new.items ≡ out.old.items ++ fixed3 v }
     ensures short { length (fixed3 v) ≤ 21 }
+    ensures shorter { nat_abs v ≤ 1000000000000 → length (fixed3 v) ≤ 15 }
 {
     let magnitude = v.unsigned_abs();
     append(minus_sign(v), out);

@@ -1,15 +1,55 @@
-//! Square roots of whole numbers.
+//! Square roots of whole numbers: Newton's steps below 2^62, and bit by bit from there on.
 
-ghost use Rattle.std.specs.Prelude.{◌≡◌, ℕ};
+ghost use Rattle.std.specs.Prelude.{◌≡◌, ℕ, ◌≤◌, ◌<◌, ◌+◌, ◌*◌, ◌^◌};
 ghost use Rattle.units.specs.Roots.{IsRoot, root_of};
 
-/// The whole part of a square root, bit by bit from the highest, in at most 64 rounds.
-pub fn isqrt(x: u128) -> u64
+/// Newton's step towards the square root of x.
+#[inline]
+#[tactic(auto, using(crate::proofs::Newton::not_below, crate::proofs::Newton::falls_above))]
+fn step(x: u64, guess: u64) -> u64
+    requires number { (0 < x) × (x < 2 ^ 62) }
+    requires guess { (0 < guess) × (guess < 2 ^ 62) }
+    ensures above { x < (result + 1) * (result + 1) }
+    ensures fits { (0 < result) × (result < 2 ^ 62) }
+    ensures falls { x < guess * guess → result < guess }
+{
+    (guess + x / guess) / 2
+}
+
+/// The whole part of the square root of x, by Newton's steps from a guess: the nearer the guess, the fewer.
+#[inline]
+pub fn root_near(x: u64, guess: u64) -> u64
+    requires number { x < 2 ^ 62 }
+    requires guess { guess < 2 ^ 62 }
     ensures { IsRoot x result }
 {
     if x == 0 {
         return 0;
     }
+    let mut root = step(x, guess.max(1));
+    while root as u128 * root as u128 > x as u128 {
+        root = step(x, root);
+    }
+    root
+}
+
+/// A number within six percent of the square root of x: the mean of the power of two that is nearest to it and of what
+/// that leaves of x, found by shifts.
+#[inline]
+#[tactic(auto, using(crate::proofs::Newton::power_small))]
+fn guess(x: u64) -> u64
+    requires { (0 < x) × (x < 2 ^ 62) }
+    ensures { result < 2 ^ 62 }
+{
+    let place = (x.ilog2() + 1) / 2;
+    ((1 << place) + (x >> place)) / 2
+}
+
+/// The whole part of a square root, bit by bit from the highest, in at most 64 rounds.
+fn root_by_bits(x: u128) -> u64
+    requires { 0 < x }
+    ensures { IsRoot x result }
+{
     let places = x.ilog2() / 2 + 1;
     let mut root: u64 = 0;
     for place in (0..places).rev() {
@@ -19,6 +59,20 @@ pub fn isqrt(x: u128) -> u64
         }
     }
     root
+}
+
+/// The whole part of a square root.
+pub fn isqrt(x: u128) -> u64
+    ensures { IsRoot x result }
+{
+    if x == 0 {
+        return 0;
+    }
+    if x >= 1 << 62 {
+        return root_by_bits(x);
+    }
+    let x = x as u64;
+    root_near(x, guess(x))
 }
 
 /// Every number has a root, and one alone.

@@ -111,6 +111,8 @@ fn finds_roots_at_squares_and_below(rt: HostRuntime) {
         (4, 2),
         (24, 4),
         (25, 5),
+        ((1 << 62) - 1, 2_147_483_647),
+        (1 << 62, 2_147_483_648),
         (u64::MAX as u128, 4_294_967_295),
         (u64::MAX as u128 + 1, 4_294_967_296),
         (square - 1, u64::MAX - 1),
@@ -135,6 +137,20 @@ fn writes_three_decimals(rt: HostRuntime) -> Result<(), Fail> {
         let mut out = Text::new();
         put_fixed3(v, &mut out);
         assert!(rt; out.as_slice() == text.as_bytes(), "{v}");
+    }
+    Ok(())
+}
+
+#[test]
+fn faults_have_texts(rt: HostRuntime) -> Result<(), Fail> {
+    for (fault, text) in [
+        (NumFault::NoDigit, "expected a digit"),
+        (
+            NumFault::TooLarge,
+            "number out of range, its magnitude must be below 1,000,000,000",
+        ),
+    ] {
+        assert_eq!(rt; format!(in rt.alloc(); "{fault}")?.as_str(), text);
     }
     Ok(())
 }

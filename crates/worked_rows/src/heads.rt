@@ -7,7 +7,7 @@ use outside::{MemSink, MemSource, OpenGate};
 #[test]
 fn segments_are_told_with_their_speeds_and_cycles(rt: HostRuntime) {
     let alloc = rt.alloc();
-    let rows: [(&[u8], &[u8]); 7] = [
+    let rows: [(&[u8], &[u8]); 10] = [
         (b"G0X0.004", b"s 1 1 0 320000\nX+\nE\n"),
         (
             b"G0X0.012Y0.008",
@@ -27,6 +27,19 @@ fn segments_are_told_with_their_speeds_and_cycles(rt: HostRuntime) {
         (
             b"G0X0.004\nM8\nM2\n(empty)\nX0",
             b"s 1 1 0 320000\nX+\nM8 0\nM9 0\nE\n",
+        ),
+        // The end of a program brings the machine to rest, and a pause does not yet.
+        (
+            b"G0X0.004\nM2\nG0X0.008",
+            b"s 1 1 0 320000\nX+\ns 3 1 0 320000\nX+\nE\n",
+        ),
+        (
+            b"G0X0.004\nM30\nG0X0.008",
+            b"s 1 1 0 320000\nX+\ns 3 1 0 320000\nX+\nE\n",
+        ),
+        (
+            b"G0X0.004\nM0\nX0.008",
+            b"s 1 1 0 226951\nX+\ns 3 1 80000 226951\nX+\nE\n",
         ),
     ];
     for &(job, steps) in &rows {

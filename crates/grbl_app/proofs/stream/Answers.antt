@@ -1,9 +1,8 @@
-use Rattle.std.proofs.Common.{◌≡◌, ◌∙◌, ℕ, Bool, [], ap, arith}
+use Rattle.std.proofs.Common.{◌≡◌, ◌∙◌, ℕ, Bool, [], ap, refl}
 use Rattle.run_rules.specs.declared.Reading.{Reading}
 use Rattle.grbl_app.specs.declared.status.Status.{Status}
 use Rattle.run_rules.proofs.Cutting.{cut_none}
 use Rattle.grbl_app.specs.Ends.{first_cause}
-use Rattle.grbl_app.proofs.Answering.{greeted}
 use Rattle.grbl_app.proofs.Endings.{has_causes}
 use Rattle.grbl_app.proofs.stream.Goals as goal
 
@@ -11,17 +10,12 @@ status_of : (steps_failed console_failed : Bool) (reading : Reading) (errors cou
     → status ≡ first_cause steps_failed console_failed reading counted
 status_of steps_failed console_failed reading errors counted status is e = is ∙ ap (first_cause steps_failed console_failed reading) e
 
-pub read_job-reading-requires-clause-ready : goal.read_job-reading-requires-clause-ready
-read_job-reading-requires-clause-ready g c =
-    let same = c.greet.ensures.same in record {
-      state = rw (ap (λ e. e.state) same) c.new-engine.ensures.valid;
-      running = rw (ap (λ e. e.drive) same) (record { before = _; asked = []; driven = c.new-engine.ensures.drive (g.St.Sink.state c.args.steps.now) });
-      few = rw (ap (λ e. e.errors) same, ap (λ e. e.lines) same, c.new-engine.ensures.errors) (omega arith);
-    }
+pub greet-requires-clause-running : goal.greet-requires-clause-running
+greet-requires-clause-running g c = record { before = _; asked = []; driven = c.new-engine.ensures.drive (g.St.Sink.state c.args.steps.now) }
 
 pub returns-clause-run : goal.returns-clause-run
 returns-clause-run g c =
-    let begun = greeted _ _ _ c.new-engine.result c.greet.new.self c.new-engine.ensures.opening c.new-engine.ensures.lines c.new-engine.ensures.errors c.new-engine.ensures.console (c.new-engine.ensures.drive _) c.greet.ensures.banner c.greet.ensures.same in
+    let begun = c.greet.ensures.greeted _ c.new-engine.ensures.opening c.new-engine.ensures.number c.new-engine.ensures.errors c.new-engine.ensures.console refl (c.new-engine.ensures.drive _) in
     let i = c.read_job-reading.ensures.fed _ (record { lines = []; open_line = []; cuts = cut_none; has_answered = begun; line_is = c.new-line.ensures }) in
     let end = c.finish.ensures _ _ i.4 in
     record {
@@ -29,8 +23,8 @@ returns-clause-run g c =
       reading = c.read_job-reading.result;
       first = end.first;
       outcomes = end.outcomes;
-      last = c.finish.new.engine.state;
-      console_failed = c.finish.new.engine.console.failed;
+      last = end.last;
+      console_failed = c.finish.new.engine.console.text.failed;
       steps_failed = c.finish.new.engine.drive.recorder.failed;
       taken = i.1;
       fits = i.2;

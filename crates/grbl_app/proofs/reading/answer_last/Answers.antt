@@ -1,4 +1,6 @@
-use Rattle.std.proofs.Common.{sym, ◌∙◌}
+use Rattle.std.proofs.Common.{sym, ◌∙◌, ◌∷◌, [], map}
+use Rattle.std.proofs.lemmas.List.{map-append}
+use Rattle.gcode_words.specs.Stripping.{plain}
 use Rattle.run_rules.proofs.Cutting.{lines_with, lines_without, wholes_are}
 use Rattle.grbl_app.proofs.reading.answer_last.Goals as goal
 
@@ -14,5 +16,5 @@ returns-then-not-line-clause-answered g c = λ was text is.
 
 pub returns-clause-answered : goal.returns-clause-answered
 returns-clause-answered g c = λ was text is.
-    rw (c.in-Ended.is, lines_with text is.lines is.open_line is.cuts (sym is.line_is.begun ∙ c.if-not-line.false))
-    (c.answer.ensures.answered was is.lines is.open_line is.has_answered is.line_is)
+    rw (c.in-Ended.is, lines_with text is.lines is.open_line is.cuts (sym is.line_is.begun ∙ c.if-not-line.false), map-append plain is.lines (is.open_line ∷ []))
+    (c.answer.ensures.answered was (map plain is.lines) (plain is.open_line) is.has_answered is.line_is.kept)

@@ -8,7 +8,7 @@ invariant-loop-byte g l =
     let steps = g.St.Sink.state in
     record {
       ready : IsReady (steps l.steps) l.engine;
-      few : l.engine.lines ≤ l.fn.engine.lines + l.byte-index;
+      few : l.engine.interpreter.number ≤ l.fn.engine.interpreter.number + l.byte-index;
       fed : (was : Sinks) (text : List ℕ) →
           HasFed was (record { console = console l.fn.console; steps = steps l.fn.steps }) l.fn.engine l.fn.line text →
           HasFed was (record { console = console l.console; steps = steps l.steps }) l.engine l.line (text ++ take l.byte-index l.piece);

@@ -1,4 +1,6 @@
-use Rattle.std.proofs.Common.{◌++◌, ◌∷◌, []}
+use Rattle.std.proofs.Common.{◌++◌, ◌∷◌, [], map}
+use Rattle.std.proofs.lemmas.List.{map-append}
+use Rattle.gcode_words.specs.Stripping.{plain}
 use Rattle.run_rules.proofs.Cutting.{cut_byte, cut_line, is_no_lf}
 use Rattle.grbl_app.proofs.reading.feed_byte.Goals as goal
 
@@ -7,7 +9,7 @@ returns-then-byte-eq10-clause-fed g c = λ was text is. record {
   lines = is.lines ++ is.open_line ∷ [];
   open_line = [];
   cuts = rw c.if-byte-eq10.true (cut_line text is.lines is.open_line is.cuts);
-  has_answered = c.answer.ensures.answered was is.lines is.open_line is.has_answered is.line_is;
+  has_answered = rw (map-append plain is.lines (is.open_line ∷ [])) (c.answer.ensures.answered was (map plain is.lines) (plain is.open_line) is.has_answered is.line_is.kept);
   line_is = c.clear.ensures;
 }
 

@@ -1,7 +1,8 @@
-use Rattle.std.proofs.Common.{◌≡◌, ℕ, ◌-◌, ◌≤◌, [], List, length}
+use Rattle.std.proofs.Common.{◌≡◌, ℕ, ◌+◌, ◌-◌, ◌≤◌, [], List, length}
 use Rattle.std.specs.Io.KnownBytes.{Consumes}
 use Rattle.run_rules.specs.Readings.{job_of}
 use Rattle.grbl_app.specs.Engines.{Sinks, IsReady, HasFed}
+use Rattle.grbl_app.specs.Writing.{IsShown}
 use Rattle.grbl_app.proofs.reading.read_job.Given as goal
 
 abbrev pub invariant-loop-count : goal.invariant-loop-count
@@ -12,7 +13,8 @@ invariant-loop-count g l =
     record {
       most : l.fed ≤ 16777216;
       ready : IsReady (steps l.steps) l.engine;
-      few : l.engine.lines ≤ l.fed;
+      shown : IsShown l.engine.console;
+      few : l.engine.interpreter.number ≤ l.fed + 1;
       later : (source l.fn.job).faults ≤ (source l.job).faults;
       fed : (was : Sinks) →
           HasFed was (record { console = console l.fn.console; steps = steps l.fn.steps }) l.fn.engine l.fn.line [] →

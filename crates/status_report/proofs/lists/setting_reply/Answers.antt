@@ -1,5 +1,5 @@
 use Rattle.std.proofs.Common.{◌≡◌, Bool, true, false, refl}
-use Rattle.settings.specs.Numbers.{one_if}
+use Rattle.units.specs.Truths.{one_if}
 use Rattle.status_report.specs.Lists.{setting_replies}
 use Rattle.status_report.proofs.lists.setting_reply.Goals as goal
 use mir.Val.{bool_byte}

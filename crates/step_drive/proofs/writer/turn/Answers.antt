@@ -5,7 +5,7 @@ use Rattle.step_drive.proofs.writer.turn.Goals as goal
 pub turn-requires : goal.turn-requires
 turn-requires g c =
     let r = c.requires in
-    let w = r.2.works in (r.0, w.got, w.puts, gives_pieces _ _ _ w.gives w.asked, w.traced)
+    let w = r.2.works in (r.0, _, w.got, w.puts, gives_pieces _ _ _ w.gives w.asked, holds_records _ _ _ _ _ w.puts w.records refl w.room, w.traced)
 
 pub take_all-requires : goal.take_all-requires
 take_all-requires g c =

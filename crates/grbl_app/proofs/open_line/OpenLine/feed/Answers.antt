@@ -1,7 +1,7 @@
 use Rattle.std.proofs.Common.{◌≡◌, ◌++◌, ◌∷◌, [], ap, ◌∙◌, append-nil}
 use Rattle.gcode_words.specs.Stripping.{plain, kept_by}
 use Rattle.gcode_words.proofs.Fed.{not_kept}
-use Rattle.grbl_app.proofs.Kept.{begun_more}
+use Rattle.grbl_app.proofs.Feeding.{begun_more}
 use Rattle.grbl_app.proofs.open_line.OpenLine.feed.Goals as goal
 
 pub returns-in-Keep : goal.returns-in-Keep
@@ -10,10 +10,9 @@ returns-in-Keep c = λ bytes was.
     let more : plain (bytes ++ c.args.byte ∷ []) ≡ plain bytes ++ c.in-Keep.kept ∷ [] =
     fed.kept bytes c.requires was.stripper ∙ ap (λ a. plain bytes ++ kept_by a) c.in-Keep.is in
     record {
-      stripper = c.keep.ensures.same ∙ fed.comment bytes c.requires was.stripper;
-      kept = rw more (c.keep.ensures.kept (plain bytes) was.kept);
-      over = rw more (c.keep.ensures.over (plain bytes) was.kept was.over);
-      begun = c.keep.ensures.begun ∙ begun_more bytes c.args.byte;
+      stripper = fed.comment bytes c.requires was.stripper;
+      kept = rw more (c.push.ensures (plain bytes) was.kept);
+      begun = begun_more bytes c.args.byte;
     }
 
 pub returns-in_default : goal.returns-in_default
@@ -24,6 +23,5 @@ returns-in_default c = λ bytes was.
     record {
       stripper = fed.comment bytes c.requires was.stripper;
       kept = rw same was.kept;
-      over = rw same was.over;
       begun = begun_more bytes c.args.byte;
     }

@@ -4,4 +4,4 @@ use Rattle.grbl_app.proofs.open_line.OpenLine.new.Goals as goal
 
 pub returns : goal.returns
 unfolding cut_within
-returns c = record { stripper = c.new.ensures; kept = c.new-2.ensures; over = refl; begun = refl }
+returns c = record { stripper = c.new.ensures; kept = c.new-2.ensures; begun = refl }

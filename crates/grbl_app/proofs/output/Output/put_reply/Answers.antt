@@ -1,6 +1,5 @@
-use Rattle.status_report.specs.Replies.{reply_text}
+use Rattle.grbl_app.proofs.Written.{writes_both, puts}
 use Rattle.grbl_app.proofs.output.Output.put_reply.Goals as goal
 
-pub returns-in-Ok : goal.returns-in-Ok
-unfolding reply_text
-returns-in-Ok g c = rw c.in-Ok.is c.put.ensures
+pub returns : goal.returns
+returns g c = writes_both c.write_due.ensures.writes (puts _ c.write_due.new.self (record { text = c.put.new.self }) _ c.put.ensures.put)

@@ -1,9 +1,10 @@
-use Rattle.std.proofs.Common.{◌+◌, ◌≤◌, length, get_or, arith, rules, ap, sym, subst}
+use Rattle.std.proofs.Common.{◌≤◌, length, get_or, arith, rules, ap, sym, subst}
 use Rattle.profile.specs.Profiles.{distance}
 use Rattle.plan_passes.specs.Plans.{Planned, IsReached}
 use Rattle.plan_passes.specs.Segments.{IsSegment}
+use Rattle.plan_passes.proofs.Filling.{row_small}
 use Rattle.plan_passes.proofs.Reached.{moved_reached, length-moved, legal_step, segment_some, segment_within}
-use Rattle.plan_passes.proofs.Kept.{kept_anew, kept_left, kept_gone}
+use Rattle.plan_passes.proofs.Kept.{kept_anew, kept_on, tabled_moved}
 use Rattle.plan_passes.proofs.plan.Plan.advance.Goals as goal
 
 pub prepare-gap-requires : goal.prepare-gap-requires
@@ -18,11 +19,15 @@ prepare-gap-requires g c =
 pub plan_all-requires : goal.plan_all-requires
 plan_all-requires g c =
     let p = c.self.inside in
+    let few = c.self.invariant.few in
+    let count = c.len-count.ensures.few in
     let segment = subst (λ (p : Planned). IsSegment p c.args.n c.args.w) (sym c.self.view_is) c.requires in
     let reached = moved_reached p.ring c.prepare-gap.new.ring p.speed c.args.n c.args.w p.overrides
     c.prepare-gap.ensures.moved c.self.invariant.reached segment in
-    let few = c.self.invariant.few in
-    (search rules, (search rules, (omega (arith, few), (reached.each, reached.overrides))))
+    let tabled = tabled_moved g.row.N c.args.n c.prepare-gap.result p.overrides p.gaps c.put_first.new.gaps p.softs c.put_first.new.softs
+    c.put_first.ensures.gaps_left c.put_first.ensures.softs_left c.put_first.ensures.gaps_gone c.put_first.ensures.softs_gone
+    p.speed c.args.w p.planned p.ring c.prepare-gap.new.ring c.self.invariant segment c.prepare-gap.ensures.moved c.prepare-gap.ensures.gap in
+    (search rules, (search rules, (omega (arith, few), (omega (arith, count), λ i. row_small c.prepare-gap.new.ring c.len-count.result c.put_first.new.gaps i c.len-count.ensures.len tabled.gaps reached.each))))
 
 pub invariant_of-self : goal.invariant_of-self
 invariant_of-self g c =
@@ -30,42 +35,36 @@ invariant_of-self g c =
     let kept = c.self.invariant in
     let segment = subst (λ (p : Planned). IsSegment p c.args.n c.args.w) (sym c.self.view_is) c.requires in
     let now = c.prepare-gap.ensures.moved in
+    let reach : distance c.args.w (get_or p.planned 1 0) ≤ c.prepare-gap.result = omega (arith, c.abs_diff.ensures) in
+    let tabled = tabled_moved g.row.N c.args.n c.prepare-gap.result p.overrides p.gaps c.put_first.new.gaps p.softs c.put_first.new.softs
+    c.put_first.ensures.gaps_left c.put_first.ensures.softs_left c.put_first.ensures.gaps_gone c.put_first.ensures.softs_gone
+    p.speed c.args.w p.planned p.ring c.prepare-gap.new.ring kept segment now c.prepare-gap.ensures.gap in
+    kept_on g.row.N p.speed c.args.n c.args.w c.prepare-gap.result p.overrides p.planned c.put_first.new.planned p.gaps p.softs
+    c.put_first.new.gaps c.put_first.new.softs c.put_first.ensures.planned_left c.put_first.ensures.planned_gone
+    p.ring c.prepare-gap.new.ring kept segment now c.prepare-gap.ensures.gap reach tabled
+
+pub invariant_of-self-2 : goal.invariant_of-self-2
+invariant_of-self-2 g c =
+    let p = c.self.inside in
+    let kept = c.self.invariant in
+    let segment = subst (λ (p : Planned). IsSegment p c.args.n c.args.w) (sym c.self.view_is) c.requires in
+    let now = c.prepare-gap.ensures.moved in
     let reached = moved_reached p.ring c.prepare-gap.new.ring p.speed c.args.n c.args.w p.overrides
     now kept.reached segment in
+    let tabled = tabled_moved g.row.N c.args.n c.prepare-gap.result p.overrides p.gaps c.put_first.new.gaps p.softs c.put_first.new.softs
+    c.put_first.ensures.gaps_left c.put_first.ensures.softs_left c.put_first.ensures.gaps_gone c.put_first.ensures.softs_gone
+    p.speed c.args.w p.planned p.ring c.prepare-gap.new.ring kept segment now c.prepare-gap.ensures.gap in
     let fewer = length-moved c.args.n p.ring in
     let many = ap length now in
-    kept_anew g.row.N c.args.w c.prepare-gap.new.ring p.overrides c.plan_all.new.speeds kept.some kept.few
-    (omega (arith, kept.room, fewer, many)) reached c.plan_all.ensures
-
-pub invariant_of-self-then-gap-eq0 : goal.invariant_of-self-then-gap-eq0
-invariant_of-self-then-gap-eq0 g c =
-    let p = c.self.inside in
-    let segment = subst (λ (p : Planned). IsSegment p c.args.n c.args.w) (sym c.self.view_is) c.requires in
-    let reach : distance c.args.w (get_or p.planned (p.first + 1) 0) ≤ c.prepare-gap.result =
-    omega (arith, c.abs_diff.ensures) in
-    kept_gone g.row.N p.first p.speed c.args.n c.args.w c.prepare-gap.result p.overrides p.planned p.ring c.prepare-gap.new.ring
-    c.self.invariant segment c.prepare-gap.ensures.moved c.prepare-gap.ensures.gap reach c.if-gap-eq0.true
-
-pub invariant_of-self-else-gap-eq0 : goal.invariant_of-self-else-gap-eq0
-invariant_of-self-else-gap-eq0 g c =
-    let p = c.self.inside in
-    let segment = subst (λ (p : Planned). IsSegment p c.args.n c.args.w) (sym c.self.view_is) c.requires in
-    let reach : distance c.args.w (get_or p.planned (p.first + 1) 0) ≤ c.prepare-gap.result =
-    omega (arith, c.abs_diff.ensures) in
-    kept_left g.row.N p.first p.speed c.args.n c.args.w c.prepare-gap.result p.overrides p.planned p.ring c.prepare-gap.new.ring
-    c.self.invariant segment c.prepare-gap.ensures.moved c.prepare-gap.ensures.gap reach c.if-gap-eq0.false
+    kept_anew g.row.N c.args.w c.len-count.result c.prepare-gap.new.ring p.overrides c.plan_all.new.speeds c.put_first.new.gaps
+    c.put_first.new.softs kept.some kept.few (omega (arith, kept.room, fewer, many)) reached tabled c.len-count.ensures.len c.plan_all.ensures
 
 pub returns-then-abs_diff-gap-clause-legal : goal.returns-then-abs_diff-gap-clause-legal
 returns-then-abs_diff-gap-clause-legal g c =
     legal_step c.args.self.now.blocks c.args.self.now.speed c.args.n c.args.w c.args.self.now.overrides
     (subst IsReached c.self.view_is c.self.invariant.reached) c.requires
 
-pub returns-then-gap-eq0-clause-legal : goal.returns-then-gap-eq0-clause-legal
-returns-then-gap-eq0-clause-legal g c =
-    legal_step c.args.self.now.blocks c.args.self.now.speed c.args.n c.args.w c.args.self.now.overrides
-    (subst IsReached c.self.view_is c.self.invariant.reached) c.requires
-
-pub returns-else-gap-eq0-clause-legal : goal.returns-else-gap-eq0-clause-legal
-returns-else-gap-eq0-clause-legal g c =
+pub returns-clause-legal : goal.returns-clause-legal
+returns-clause-legal g c =
     legal_step c.args.self.now.blocks c.args.self.now.speed c.args.n c.args.w c.args.self.now.overrides
     (subst IsReached c.self.view_is c.self.invariant.reached) c.requires

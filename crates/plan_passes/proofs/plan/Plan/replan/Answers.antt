@@ -1,12 +1,22 @@
-use Rattle.std.proofs.Common.{arith}
+use Rattle.std.proofs.Common.{arith, rules}
+use Rattle.plan_passes.proofs.Filling.{row_small}
 use Rattle.plan_passes.proofs.Reached.{reached_replanned}
 use Rattle.plan_passes.proofs.Kept.{kept_anew}
 use Rattle.plan_passes.proofs.plan.Plan.replan.Goals as goal
+
+pub plan_all-requires : goal.plan_all-requires
+plan_all-requires g c =
+    let p = c.self.inside in
+    let kept = c.self.invariant in
+    let few = kept.few in
+    let count = c.len-count.ensures.few in
+    (search rules, (search rules, (omega (arith, few), (omega (arith, count), λ i. row_small p.ring c.len-count.result p.gaps i c.len-count.ensures.len kept.tabled.gaps kept.reached.each))))
 
 pub invariant_of-self : goal.invariant_of-self
 invariant_of-self g c =
     let p = c.self.inside in
     let kept = c.self.invariant in
     let reached = reached_replanned p.ring p.speed p.overrides c.args.o.now kept.reached c.requires in
-    kept_anew g.row.N p.speed p.ring c.args.o.now c.plan_all.new.speeds kept.some kept.few
-    (omega (arith, kept.room)) reached c.plan_all.ensures
+    kept_anew g.row.N p.speed c.len-count.result p.ring c.args.o.now c.plan_all.new.speeds p.gaps c.fill_softs.new.softs
+    kept.some kept.few kept.room reached (record { gaps = kept.tabled.gaps; softs = c.fill_softs.ensures })
+    c.len-count.ensures.len c.plan_all.ensures

@@ -1,8 +1,11 @@
-use Rattle.pulse_engine.proofs.Tried.{all_taken}
 use Rattle.pulse_engine.proofs.tests.Line.step.Goals as goal
 
-pub returns : goal.returns
-returns c ps rs runs = rw c.take.ensures.empty (all_taken _ _ _ _ _ (c.turn-answer.ensures ps rs runs))
+pub invariant_of-self : goal.invariant_of-self
+invariant_of-self c =
+    let i = c.self.invariant in
+    let next = c.turn-answer.ensures.logs tt tt i.0 i.1 i.2 tt i.3 in (next.0, next.1, next.2, next.4)
 
-pub returns-then-not-takes : goal.returns-then-not-takes
-returns-then-not-takes c ps rs runs = (rs, c.turn-answer.ensures ps rs runs)
+pub invariant_of-self-2 : goal.invariant_of-self-2
+invariant_of-self-2 c =
+    let i = c.self.invariant in
+    let next = c.turn-answer.ensures.logs tt tt i.0 i.1 i.2 tt i.3 in (next.0, next.1, next.2, next.4)

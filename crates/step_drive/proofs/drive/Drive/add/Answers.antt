@@ -1,5 +1,5 @@
 use Rattle.std.proofs.Common.{[], ◌∷◌, ◌++◌}
-use Rattle.step_drive.specs.Asking.Asked.{a_move}
+use Rattle.step_line.specs.Asking.Asked.{a_move}
 use Rattle.step_drive.proofs.Driving.{drove_move}
 use Rattle.step_drive.proofs.drive.Drive.add.Goals as goal
 

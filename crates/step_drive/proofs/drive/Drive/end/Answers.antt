@@ -1,5 +1,5 @@
 use Rattle.std.proofs.Common.{◌∙◌, subst, sym}
-use Rattle.legal_speeds.specs.Runs.{IsAtRest}
+use Rattle.planner_runs.specs.Runs.{IsAtRest}
 use Rattle.step_drive.proofs.Ending.{end_next, drove_end}
 use Rattle.step_drive.proofs.drive.Drive.end.Goals as goal
 

@@ -1,7 +1,7 @@
 use Rattle.std.proofs.Common.{List, ◌≡◌, ◌<◌, length}
 use Rattle.outside.specs.Causes.{SinkState}
-use Rattle.legal_speeds.specs.Runs.{most_blocks}
-use Rattle.step_drive.specs.Asking.{Asked}
+use Rattle.planner_runs.specs.Runs.{most_blocks}
+use Rattle.step_line.specs.Asking.{Asked}
 use Rattle.step_drive.specs.Driving.{HasDriven, FirstIsRun, events_left}
 use Rattle.step_drive.proofs.drive.Drive.make_room.Given as goal
 

@@ -1,6 +1,6 @@
 use Rattle.std.proofs.Common.{[], ◌∷◌, ◌++◌, subst, sym}
-use Rattle.step_drive.specs.Asking.Asked.{a_mark}
-use Rattle.legal_speeds.specs.Runs.{IsAtRest}
+use Rattle.step_line.specs.Asking.Asked.{a_mark}
+use Rattle.planner_runs.specs.Runs.{IsAtRest}
 use Rattle.step_drive.proofs.Driving.{mark_next, drove_mark}
 use Rattle.step_drive.proofs.drive.Drive.mark.Goals as goal
 

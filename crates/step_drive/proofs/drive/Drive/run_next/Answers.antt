@@ -1,4 +1,7 @@
-use Rattle.std.proofs.Common.{false, sym, subst, ap, ◌∙◌}
+use Rattle.std.proofs.Common.{List, false, sym, subst, ap, ◌∙◌}
+use Rattle.planner_ring.specs.declared.Block.{Block}
+use Rattle.segment_prep.specs.Taking.{IsTakenOf}
+use Rattle.segment_prep.specs.declared.Mode.TheVariants.{Go}
 use Rattle.step_drive.specs.Driving.{Driving, SegmentRun}
 use Rattle.step_drive.proofs.Driving.{segment_next, drove_segment, driven_reached, segment_run, none_run}
 use Rattle.step_drive.proofs.Slotted.{settled_at}
@@ -27,3 +30,7 @@ returns-clause-ran g c =
     let r = c.requires in
     let taken = c.in-Some.ensures.some in
     segment_run _ _ c.in-Some.segment (driven_reached r.before _ _ r.asked r.driven) taken.0 (c.publish.ensures.plan ∙ ap (λ (d : Driving). d.plan) taken.1)
+
+pub returns-clause-none : goal.returns-clause-none
+returns-clause-none g c none =
+    absurd (subst (λ (bs : List Block). IsTakenOf c.args.self.now.plan bs Go c.in-Some.segment) none c.in-Some.ensures.some.0)

@@ -1,0 +1,170 @@
+-- A run that is closed is over once its end is published and Bye is told.
+use Rattle.std.proofs.Common.{◌≡◌, ℕ, ◌+◌, arith, ◌⊎◌, inl, inr, Bool, true, false, List, [], ◌∷◌, ◌++◌, drop, refl, sym, ap, ◌∙◌}
+use Rattle.status_report.specs.declared.Reply.{Reply}
+use Rattle.status_report.specs.declared.Reply.TheVariants.{Bye}
+use Rattle.step_line.specs.declared.Piece.{Piece}
+use Rattle.step_line.specs.declared.Piece.TheVariants as pieces
+use Rattle.step_line.specs.Asking.Asked.{a_move, a_mark, a_rest}
+use Rattle.step_line.specs.Finishing.{ticks_together}
+use Rattle.plan_passes.specs.Plans.{Planned}
+use Rattle.segment_prep.specs.declared.Mode.TheVariants.{Go, Hold}
+use Rattle.planner_runs.specs.declared.Action.{Action}
+use Rattle.planner_runs.specs.declared.Action.TheVariants.{Add, Take, Override, Mark, Rest, Clear, Reset}
+use Rattle.planner_runs.specs.Runs.{IsAtRest}
+use Rattle.run_rules.specs.declared.State.{State}
+use Rattle.run_rules.specs.Work.{Task}
+use Rattle.run_rules.specs.Work.Task.{ask, tell, finish}
+use Rattle.board_rules.specs.Ports.{MayBeDone}
+use Rattle.board_rules.specs.Ports.PortStep.{took, found_empty, found_closed, found_free, answered, no_reply_room, took_exec, took_ovr, published, no_piece_room, loaded}
+use Rattle.board_rules.specs.Steps.{Journal, port_log, known_of, given_of, planned_of, hand_of, plan_of, left_of, behind, whole_of, has_closed, closed_tells, closing_work}
+use Rattle.board_rules.specs.Steps.Step.{at_port, began, did, made_end, became, closing, turned}
+use Rattle.board_rules.specs.Conduct.{Conducted, Gives, MayDo, MayEnd, MayTell, IsFinished}
+use Rattle.board_rules.specs.Whole.{IsSpent}
+use Rattle.board_rules.proofs.Given.{ticks_on, all_known}
+use Rattle.board_rules.proofs.Tasks.{none_next, none_taken, head_is, rest_is, none_first}
+
+-- How far the closing of a run is: by what is left to do, what is told by closing it, whether a line was taken whole, the
+-- hand, the plan, all pieces that were given, those that the plan gave, and the ticks that were found done.
+pub data Phase (left : List Task) (closed : List Reply) (whole : Bool) (hand : List Piece) (plan : Planned) (given planned : List Piece) (known : ℕ) : Type 0 where
+  going : closed ≡ [] → given ≡ planned → Phase left closed whole hand plan given planned known
+  to_finish : closed ≡ Bye ∷ [] → left ≡ closing_work → whole ≡ false → given ≡ planned → Phase left closed whole hand plan given planned known
+  to_tell : closed ≡ Bye ∷ [] → left ≡ tell Bye ∷ [] → whole ≡ false → IsAtRest plan → given ≡ planned ++ pieces.End ∷ [] → known ≡ ticks_together given → Phase left closed whole hand plan given planned known
+  over : closed ≡ Bye ∷ [] → left ≡ [] → whole ≡ false → IsAtRest plan → hand ≡ [] → given ≡ planned ++ pieces.End ∷ [] → known ≡ ticks_together given → Phase left closed whole hand plan given planned known
+
+abbrev pub At : Journal → Type 0
+At h = Phase (left_of h) (closed_tells h) (whole_of h) (hand_of h) (plan_of h) (given_of h) (planned_of h) (known_of h)
+
+pub not_going : {A : Type 0} (rs : List Reply) → rs ≡ Bye ∷ [] → rs ≡ [] → A
+not_going rs is none = absurd (let e = sym none ∙ is in cc)
+
+-- where the run is not being closed, no end was given
+unended : (h : Journal) → closed_tells h ≡ [] → At h → given_of h ≡ planned_of h
+unended h none (going e is) = is
+unended h none (to_finish e l w is) = is
+unended h none (to_tell e l w p is k) = not_going (closed_tells h) e none
+unended h none (over e l w p d is k) = not_going (closed_tells h) e none
+
+not_finish_tell : {A : Type 0} (r : Reply) → tell r ≡ finish → A
+not_finish_tell r e = absurd cc
+
+same_reply : (r s : Reply) → tell r ≡ tell s → r ≡ s
+same_reply r s e = cc
+
+on_answer : (h : Journal) (r : Reply) → MayTell r h → At h → At (at_port (answered r) ∷ h)
+on_answer h r may (going e is) = going e is
+on_answer h r may (to_finish e l w is) = not_finish_tell r (head_is (left_of h) (tell r) finish _ may.next l)
+on_answer h r may (to_tell e l w p is k) =
+    over e (rest_is (left_of h) (tell Bye) [] l) w p (may.empty (same_reply r Bye (head_is (left_of h) (tell r) (tell Bye) [] may.next l))) is k
+on_answer h r may (over e l w p d is k) = none_first (left_of h) (tell r) may.next l
+
+on_publish : (h : Journal) (p : Piece) → hand_of h ≡ p ∷ drop 1 (hand_of h) → At h → At (at_port (published p) ∷ h)
+on_publish h p next (going e is) = going e is
+on_publish h p next (to_finish e l w is) = to_finish e l w is
+on_publish h p next (to_tell e l w q is k) = to_tell e l w q is k
+on_publish h p next (over e l w q d is k) = absurd (none_next (hand_of h) p d next)
+
+-- no move, mark or rest is next where the run is being closed
+no_ask : {A : Type 0} (h : Journal) (t : Task) → (t ≡ finish → ⊥) → (t ≡ tell Bye → ⊥) → left_of h ≡ t ∷ drop 1 (left_of h)
+    → (closed_tells h ≡ [] → given_of h ≡ planned_of h → A) → At h → A
+no_ask h t a b next on (going e is) = on e is
+no_ask h t a b next on (to_finish e l w is) = absurd (a (head_is (left_of h) t finish _ next l))
+no_ask h t a b next on (to_tell e l w p is k) = absurd (b (head_is (left_of h) t (tell Bye) _ next l))
+no_ask h t a b next on (over e l w p d is k) = none_first (left_of h) t next l
+
+more_given : (ps given planned : List Piece) → given ≡ planned → given ++ ps ≡ planned ++ ps
+more_given ps given planned is = ap (λ (qs : List Piece). qs ++ ps) is
+
+still_going : (h : Journal) (a : Action) (ps : List Piece) → closed_tells h ≡ [] → given_of h ≡ planned_of h → At (did a ps ∷ h)
+still_going h a ps e is = going e (more_given ps (given_of h) (planned_of h) is)
+
+on_take : (h : Journal) (ps : List Piece) → Gives (Take Go) ps (plan_of h) → At h → At (did (Take Go) ps ∷ h)
+on_take h ps gives (going e is) = going e (more_given ps (given_of h) (planned_of h) is)
+on_take h ps gives (to_finish e l w is) = to_finish e l w (more_given ps (given_of h) (planned_of h) is)
+on_take h ps gives (to_tell e l w p is k) = absurd (none_taken (plan_of h) Go ps (behind (Take Go) ps (plan_of h)) p.blocks gives)
+on_take h ps gives (over e l w p d is k) = absurd (none_taken (plan_of h) Go ps (behind (Take Go) ps (plan_of h)) p.blocks gives)
+
+on_did : (h : Journal) (a : Action) (ps : List Piece) → MayDo a h → Gives a ps (plan_of h) → At h → At (did a ps ∷ h)
+on_did h (Add m) ps may gives at = no_ask h (ask (a_move m)) (λ e. absurd cc) (λ e. absurd cc) may (still_going h (Add m) ps) at
+on_did h (Mark m) ps may gives at = no_ask h (ask (a_mark m)) (λ e. absurd cc) (λ e. absurd cc) may.next (still_going h (Mark m) ps) at
+on_did h Rest ps may gives at = no_ask h (ask a_rest) (λ e. absurd cc) (λ e. absurd cc) may.next (still_going h Rest ps) at
+on_did h (Take Go) ps may gives at = on_take h ps gives at
+on_did h (Take Hold) ps may gives at = absurd may
+on_did h (Override o) ps may gives at = absurd may
+on_did h Clear ps may gives at = absurd may
+on_did h Reset ps may gives at = absurd may
+
+-- the end has no ticks
+pub no_more_ticks : (ps : List Piece) → ticks_together (ps ++ pieces.End ∷ []) ≡ ticks_together ps
+no_more_ticks ps = ticks_on ps (pieces.End ∷ []) ∙ plus_none (ticks_together ps)
+  where
+    plus_none : (n : ℕ) → n + 0 ≡ n
+    plus_none n = omega arith
+
+on_end : (h : Journal) → MayEnd h → At h → At (made_end ∷ h)
+on_end h may (going e is) = absurd (may.closes e)
+on_end h may (to_finish e l w is) =
+    to_tell e (rest_is (left_of h) finish (tell Bye ∷ []) l) w may.rests.drained.plan (more_given (pieces.End ∷ []) (given_of h) (planned_of h) is)
+    (may.rests.drained.done ∙ sym (no_more_ticks (given_of h)))
+on_end h may (to_tell e l w p is k) = absurd (let f = head_is (left_of h) finish (tell Bye) _ may.rests.next l in cc)
+on_end h may (over e l w p d is k) = none_first (left_of h) finish may.rests.next l
+
+-- nothing more is found done where all is
+on_load : (first : State) (h : Journal) (n : ℕ) → Conducted first h → MayBeDone n (port_log h) → At h → At (at_port (loaded n) ∷ h)
+on_load first h n c may (going e is) = going e is
+on_load first h n c may (to_finish e l w is) = to_finish e l w is
+on_load first h n c may (to_tell e l w p is k) = to_tell e l w p is (all_known first h n c may k)
+on_load first h n c may (over e l w p d is k) = over e l w p d is (all_known first h n c may k)
+
+pub phase_is : (first : State) (h : Journal) → Conducted first h → At h
+phase_is first [] c = going refl refl
+phase_is first (at_port (took b) ∷ h) c = going c.0.polls.unclosed (unended h c.0.polls.unclosed (phase_is first h c.1))
+phase_is first (at_port found_empty ∷ h) c = phase_is first h c.1
+phase_is first (at_port found_closed ∷ h) c = phase_is first h c.1
+phase_is first (at_port (found_free n) ∷ h) c = phase_is first h c.1
+phase_is first (at_port (answered r) ∷ h) c = on_answer h r c.0 (phase_is first h c.1)
+phase_is first (at_port no_reply_room ∷ h) c = phase_is first h c.1
+phase_is first (at_port (took_exec word) ∷ h) c = absurd c.0
+phase_is first (at_port (took_ovr word) ∷ h) c = absurd c.0
+phase_is first (at_port (published p) ∷ h) c = on_publish h p c.0 (phase_is first h c.1)
+phase_is first (at_port (no_piece_room done) ∷ h) c = phase_is first h c.1
+phase_is first (at_port (loaded done) ∷ h) c = on_load first h done c.1 c.0 (phase_is first h c.1)
+phase_is first (began o ∷ h) c = going c.0.going (unended h c.0.going (phase_is first h c.1))
+phase_is first (did a ps ∷ h) c = on_did h a ps c.0.0 c.0.1 (phase_is first h c.1)
+phase_is first (made_end ∷ h) c = on_end h c.0 (phase_is first h c.1)
+phase_is first (became call m ∷ h) c = phase_is first h c.1
+phase_is first (closing ∷ h) c = to_finish (ap (λ (rs : List Reply). rs ++ Bye ∷ []) c.0.going) refl c.0.begun (unended h c.0.going (phase_is first h c.1))
+phase_is first (turned t ∷ h) c = phase_is first h c.1
+
+-- the link was found closed before the run was
+pub closed_first : (first : State) (h : Journal) → Conducted first h → (closed_tells h ≡ []) ⊎ (has_closed h ≡ true)
+closed_first first [] c = inl refl
+closed_first first (at_port (took b) ∷ h) c = inl c.0.polls.unclosed
+closed_first first (at_port found_empty ∷ h) c = closed_first first h c.1
+closed_first first (at_port found_closed ∷ h) c = inr refl
+closed_first first (at_port (found_free n) ∷ h) c = closed_first first h c.1
+closed_first first (at_port (answered r) ∷ h) c = closed_first first h c.1
+closed_first first (at_port no_reply_room ∷ h) c = closed_first first h c.1
+closed_first first (at_port (took_exec word) ∷ h) c = absurd c.0
+closed_first first (at_port (took_ovr word) ∷ h) c = absurd c.0
+closed_first first (at_port (published p) ∷ h) c = closed_first first h c.1
+closed_first first (at_port (no_piece_room done) ∷ h) c = closed_first first h c.1
+closed_first first (at_port (loaded done) ∷ h) c = closed_first first h c.1
+closed_first first (began o ∷ h) c = inl c.0.going
+closed_first first (did a ps ∷ h) c = closed_first first h c.1
+closed_first first (made_end ∷ h) c = closed_first first h c.1
+closed_first first (became call m ∷ h) c = closed_first first h c.1
+closed_first first (closing ∷ h) c = inr c.0.closed
+closed_first first (turned t ∷ h) c = closed_first first h c.1
+
+not_left : {A : Type 0} (ts : List Task) (t : Task) (us : List Task) → ts ≡ [] → ts ≡ t ∷ us → A
+not_left ts t us none is = absurd (let e = sym none ∙ is in cc)
+
+pub spent : (first : State) (h : Journal) → Conducted first h → IsFinished h → IsSpent h
+spent first h c f = by_phase (phase_is first h c) (closed_first first h c)
+  where
+    by_phase : At h → (closed_tells h ≡ []) ⊎ (has_closed h ≡ true) → IsSpent h
+    by_phase (going e is) w = not_going (closed_tells h) f.closed e
+    by_phase (to_finish e l w is) x = not_left (left_of h) finish _ f.left l
+    by_phase (to_tell e l w p is k) x = not_left (left_of h) (tell Bye) _ f.left l
+    by_phase (over e l w p d is k) (inl none) = not_going (closed_tells h) f.closed none
+    by_phase (over e l w p d is k) (inr closed) = record { plan = p; hand = d; given = is; done = k; whole = w; closed = closed }

@@ -1,0 +1,237 @@
+-- A whole run of a board to which one line comes, `M8`, and then the link's end: the rules allow it.
+use Rattle.std.proofs.Common.{pos, List, [], ◌∷◌, ◌++◌, true, false, refl, arith}
+use Rattle.outside.specs.declared.On.TheVariants as on
+use Rattle.outside.specs.declared.Turn.TheVariants.{Did, Wait, Done}
+use Rattle.planner_runs.specs.declared.Action.TheVariants.{Mark, Rest}
+use Rattle.gcode_words.specs.declared.Word.{Word}
+use Rattle.gcode_words.specs.Words.{words_within, first_word}
+use Rattle.units.specs.Reading.{decimal_from}
+use Rattle.units.specs.Decimals.{front_number, digits_say}
+use Rattle.line_words.specs.WordRefusals.{words_refusal, word_refusal, refusal_at}
+use Rattle.line_words.specs.Codes.{group_of, code_in}
+use Rattle.line_words.specs.Slots.{is_filled, value_in}
+use Rattle.line_words.specs.Targets.{targets}
+use Rattle.gcode_check.specs.Conditions.{line_refusal}
+use Rattle.gcode_check.specs.Effects.{parser_after}
+use Rattle.gcode_check.specs.Items.{items_of}
+use Rattle.gcode_check.specs.Verdicts.{verdict}
+use Rattle.modal_state.specs.Modes.{opening_parser}
+use Rattle.settings.specs.declared.Settings.{Settings}
+use Rattle.run_rules.specs.declared.State.{State}
+use Rattle.run_rules.specs.Asks.{at_rest}
+use Rattle.run_rules.specs.Outcomes.{Becomes, start}
+use Rattle.run_rules.specs.Work.{Outcome}
+use Rattle.run_rules.specs.Work.Task.{tell}
+use Rattle.status_report.specs.declared.Reply.TheVariants.{Banner, Ok, Bye}
+use Rattle.step_line.specs.Asking.Asked.{a_mark}
+use Rattle.step_line.specs.declared.Mark.TheVariants as marks
+use Rattle.step_line.specs.declared.Piece.TheVariants as pieces
+use Rattle.board_rules.specs.Ports.PortStep.{took, found_empty, found_closed, answered, published, loaded}
+use Rattle.board_rules.specs.Steps.{Journal}
+use Rattle.board_rules.specs.Steps.Step.{at_port, began, did, made_end, closing, turned}
+use Rattle.board_rules.specs.Conduct.{Conducted}
+
+-- what becomes of the line, where the coolant does not flow yet: its mark, at rest, and `ok`
+abbrev flood : State → Outcome
+flood next = record { work = at_rest (a_mark (marks.Coolant true) ∷ []) ++ tell Ok ∷ []; answer = Ok; settles = true; next = next }
+
+-- the state before the first line, with soft limits off
+abbrev first_state : Settings → State
+first_state s = record { parser = opening_parser; settings = record s { soft = false } }
+
+abbrev words : List Word
+words = record { letter = 77; value = record { micro = pos 8000000 } } ∷ []
+
+abbrev next_state : Settings → State
+next_state s = record { parser = parser_after opening_parser words [] []; settings = record s { soft = false } }
+
+-- the line is accepted there, and becomes that
+is_flood : (s : Settings) → Becomes false (start (first_state s)) (77 ∷ 56 ∷ []) (flood (next_state s))
+unfolding words_within first_word decimal_from front_number digits_say words_refusal word_refusal refusal_at group_of code_in is_filled value_in targets line_refusal verdict items_of
+is_flood s = refl
+
+abbrev j0 : Settings → Journal
+j0 s = []
+
+c0 : (s : Settings) → Conducted (first_state s) (j0 s)
+c0 s = tt
+
+abbrev j1 : Settings → Journal
+j1 s = at_port (answered Banner) ∷ j0 s
+
+c1 : (s : Settings) → Conducted (first_state s) (j1 s)
+c1 s = (record { next = refl; empty = λ e. absurd cc }, c0 s)
+
+abbrev j2 : Settings → Journal
+j2 s = turned Did ∷ j1 s
+
+c2 : (s : Settings) → Conducted (first_state s) (j2 s)
+c2 s = (record { once = omega arith; adds = λ m e. absurd cc; starts = λ w. absurd (let b = w.blocks in cc); tries = omega arith }, c1 s)
+
+abbrev j3 : Settings → Journal
+j3 s = at_port (took 77) ∷ j2 s
+
+c3 : (s : Settings) → Conducted (first_state s) (j3 s)
+c3 s = (record { polls = record { all_done = refl; partial = refl; unclosed = refl }; few = omega arith }, c2 s)
+
+abbrev j4 : Settings → Journal
+j4 s = turned Did ∷ j3 s
+
+c4 : (s : Settings) → Conducted (first_state s) (j4 s)
+c4 s = (record { once = omega arith; adds = λ m e. absurd cc; starts = λ w. absurd (let b = w.blocks in cc); tries = omega arith }, c3 s)
+
+abbrev j5 : Settings → Journal
+j5 s = at_port (took 56) ∷ j4 s
+
+c5 : (s : Settings) → Conducted (first_state s) (j5 s)
+c5 s = (record { polls = record { all_done = refl; partial = refl; unclosed = refl }; few = omega arith }, c4 s)
+
+abbrev j6 : Settings → Journal
+j6 s = turned Did ∷ j5 s
+
+c6 : (s : Settings) → Conducted (first_state s) (j6 s)
+c6 s = (record { once = omega arith; adds = λ m e. absurd cc; starts = λ w. absurd (let b = w.blocks in cc); tries = omega arith }, c5 s)
+
+abbrev j7 : Settings → Journal
+j7 s = at_port (took 10) ∷ j6 s
+
+c7 : (s : Settings) → Conducted (first_state s) (j7 s)
+c7 s = (record { polls = record { all_done = refl; partial = refl; unclosed = refl }; few = omega arith }, c6 s)
+
+abbrev j8 : Settings → Journal
+j8 s = turned Did ∷ j7 s
+
+c8 : (s : Settings) → Conducted (first_state s) (j8 s)
+c8 s = (record { once = omega arith; adds = λ m e. absurd cc; starts = λ w. absurd (let b = w.blocks in cc); tries = omega arith }, c7 s)
+
+abbrev j9 : Settings → Journal
+j9 s = at_port (loaded 0) ∷ j8 s
+
+c9 : (s : Settings) → Conducted (first_state s) (j9 s)
+c9 s = (record { later = omega arith; below = omega arith }, c8 s)
+
+abbrev j10 : Settings → Journal
+j10 s = began (flood (next_state s)) ∷ j9 s
+
+c10 : (s : Settings) → Conducted (first_state s) (j10 s)
+c10 s = (record { free = refl; going = refl; whole = refl; becomes = is_flood s; refuses = λ runs. absurd cc; begins = refl; load = refl; idle = λ drained. refl; starts = λ w. absurd (let b = w.blocks in cc); tried = refl }, c9 s)
+
+abbrev j11 : Settings → Journal
+j11 s = did Rest [] ∷ j10 s
+
+c11 : (s : Settings) → Conducted (first_state s) (j11 s)
+c11 s = ((record { next = refl; drained = record { plan = record { blocks = refl; speed = refl }; hand = refl; done = refl }; stands = refl }, (record { blocks = refl; speed = refl }, refl)), c10 s)
+
+abbrev j12 : Settings → Journal
+j12 s = did (Mark (marks.Coolant true)) (pieces.Mark (marks.Coolant true) ∷ []) ∷ j11 s
+
+c12 : (s : Settings) → Conducted (first_state s) (j12 s)
+c12 s = ((record { next = refl; empty = refl }, (refl, tt, record { blocks = refl; speed = refl }, refl)), c11 s)
+
+abbrev j13 : Settings → Journal
+j13 s = at_port (published (pieces.Mark (marks.Coolant true))) ∷ j12 s
+
+c13 : (s : Settings) → Conducted (first_state s) (j13 s)
+c13 s = (refl, c12 s)
+
+abbrev j14 : Settings → Journal
+j14 s = turned Did ∷ j13 s
+
+c14 : (s : Settings) → Conducted (first_state s) (j14 s)
+c14 s = (record { once = omega arith; adds = λ m e. absurd cc; starts = λ w. absurd (let b = w.blocks in cc); tries = omega arith }, c13 s)
+
+abbrev j15 : Settings → Journal
+j15 s = at_port (loaded 0) ∷ j14 s
+
+c15 : (s : Settings) → Conducted (first_state s) (j15 s)
+c15 s = (record { later = omega arith; below = omega arith }, c14 s)
+
+abbrev j16 : Settings → Journal
+j16 s = turned (Wait on.Motion) ∷ j15 s
+
+c16 : (s : Settings) → Conducted (first_state s) (j16 s)
+c16 s = (record { ends = record { once = omega arith; adds = λ m e. absurd cc; starts = λ w. absurd (let b = w.blocks in cc); tries = omega arith }; cause = record { load = refl; undone = omega arith; awaits = refl }; still = refl; round = λ due. absurd cc }, c15 s)
+
+abbrev j17 : Settings → Journal
+j17 s = at_port (loaded 1) ∷ j16 s
+
+c17 : (s : Settings) → Conducted (first_state s) (j17 s)
+c17 s = (record { later = omega arith; below = omega arith }, c16 s)
+
+abbrev j18 : Settings → Journal
+j18 s = did Rest [] ∷ j17 s
+
+c18 : (s : Settings) → Conducted (first_state s) (j18 s)
+c18 s = ((record { next = refl; drained = record { plan = record { blocks = refl; speed = refl }; hand = refl; done = refl }; stands = refl }, (record { blocks = refl; speed = refl }, refl)), c17 s)
+
+abbrev j19 : Settings → Journal
+j19 s = at_port (answered Ok) ∷ j18 s
+
+c19 : (s : Settings) → Conducted (first_state s) (j19 s)
+c19 s = (record { next = refl; empty = λ e. absurd cc }, c18 s)
+
+abbrev j20 : Settings → Journal
+j20 s = turned Did ∷ j19 s
+
+c20 : (s : Settings) → Conducted (first_state s) (j20 s)
+c20 s = (record { once = omega arith; adds = λ m e. absurd cc; starts = λ w. absurd (let b = w.blocks in cc); tries = omega arith }, c19 s)
+
+abbrev j21 : Settings → Journal
+j21 s = at_port found_empty ∷ j20 s
+
+c21 : (s : Settings) → Conducted (first_state s) (j21 s)
+c21 s = (record { all_done = refl; partial = refl; unclosed = refl }, c20 s)
+
+abbrev j22 : Settings → Journal
+j22 s = turned (Wait on.Byte) ∷ j21 s
+
+c22 : (s : Settings) → Conducted (first_state s) (j22 s)
+c22 s = (record { ends = record { once = omega arith; adds = λ m e. absurd cc; starts = λ w. absurd (let b = w.blocks in cc); tries = omega arith }; cause = record { poll = refl; free = refl; partial = refl }; still = refl; round = λ due. absurd cc }, c21 s)
+
+abbrev j23 : Settings → Journal
+j23 s = at_port found_closed ∷ j22 s
+
+c23 : (s : Settings) → Conducted (first_state s) (j23 s)
+c23 s = (record { all_done = refl; partial = refl; unclosed = refl }, c22 s)
+
+abbrev j24 : Settings → Journal
+j24 s = closing ∷ j23 s
+
+c24 : (s : Settings) → Conducted (first_state s) (j24 s)
+c24 s = (record { free = refl; going = refl; begun = refl; closed = refl }, c23 s)
+
+abbrev j25 : Settings → Journal
+j25 s = made_end ∷ j24 s
+
+c25 : (s : Settings) → Conducted (first_state s) (j25 s)
+c25 s = (record { rests = record { next = refl; drained = record { plan = record { blocks = refl; speed = refl }; hand = refl; done = refl }; stands = refl }; closes = λ e. absurd cc }, c24 s)
+
+abbrev j26 : Settings → Journal
+j26 s = at_port (published pieces.End) ∷ j25 s
+
+c26 : (s : Settings) → Conducted (first_state s) (j26 s)
+c26 s = (refl, c25 s)
+
+abbrev j27 : Settings → Journal
+j27 s = turned Did ∷ j26 s
+
+c27 : (s : Settings) → Conducted (first_state s) (j27 s)
+c27 s = (record { once = omega arith; adds = λ m e. absurd cc; starts = λ w. absurd (let b = w.blocks in cc); tries = omega arith }, c26 s)
+
+abbrev j28 : Settings → Journal
+j28 s = at_port (answered Bye) ∷ j27 s
+
+c28 : (s : Settings) → Conducted (first_state s) (j28 s)
+c28 s = (record { next = refl; empty = λ e. refl }, c27 s)
+
+abbrev j29 : Settings → Journal
+j29 s = turned Did ∷ j28 s
+
+c29 : (s : Settings) → Conducted (first_state s) (j29 s)
+c29 s = (record { once = omega arith; adds = λ m e. absurd cc; starts = λ w. absurd (let b = w.blocks in cc); tries = omega arith }, c28 s)
+
+abbrev j30 : Settings → Journal
+j30 s = turned Done ∷ j29 s
+
+pub c30 : (s : Settings) → Conducted (first_state s) (j30 s)
+c30 s = (record { finished = record { left = refl; closed = refl }; still = refl }, c29 s)

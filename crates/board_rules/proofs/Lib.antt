@@ -1,0 +1,16 @@
+pub mod Tasks
+pub mod Keeping
+pub mod Given
+pub mod Lines
+pub mod Answering
+pub mod Closing
+pub mod Ending
+pub mod Quieting
+pub mod Resting
+pub mod Works
+pub mod Motions
+pub mod Example
+pub mod Bounding
+pub mod Limits
+pub mod Turning
+pub mod MovingExample

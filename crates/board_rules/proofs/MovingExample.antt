@@ -1,0 +1,231 @@
+-- A whole run of a board to which one line comes that moves the machine by one segment: the rules allow it.
+use Rattle.std.proofs.Common.{◌≡◌, [], ◌∷◌, true, false, refl, sym, ap, ◌∙◌, arith}
+use Rattle.std.specs.List.{Contains}
+use Rattle.feed_hold.specs.declared.Motion.TheVariants as motions
+use Rattle.feed_hold.specs.Motions.Call.{on_start, on_drained}
+use Rattle.outside.specs.declared.On.{On}
+use Rattle.outside.specs.declared.On.TheVariants as on
+use Rattle.outside.specs.declared.Turn.TheVariants.{Did, Wait, Done}
+use Rattle.plan_passes.specs.Segments.{advanced}
+use Rattle.planner_runs.specs.declared.Action.TheVariants.{Add, Take}
+use Rattle.planner_runs.specs.Runs.{MayAdd, IsAtRest, fresh_plan, with_move, most_blocks}
+use Rattle.segment_prep.specs.Taking.{IsNext}
+use Rattle.segment_prep.specs.declared.Mode.TheVariants.{Go}
+use Rattle.run_rules.specs.declared.State.{State}
+use Rattle.run_rules.specs.Outcomes.{Becomes, start}
+use Rattle.run_rules.specs.Work.{Outcome}
+use Rattle.run_rules.specs.Work.Task.{ask, tell}
+use Rattle.status_report.specs.declared.Reply.TheVariants.{Banner, Ok, Bye}
+use Rattle.step_line.specs.Asking.Asked.{a_move}
+use Rattle.step_line.specs.declared.Piece.TheVariants as pieces
+use Rattle.step_line.specs.declared.Segment.{Segment}
+use Rattle.step_line.specs.declared.planned_move.PlannedMove.{PlannedMove}
+use Rattle.step_line.specs.Finishing.{ticks_together}
+use Rattle.board_rules.specs.Ports.PortStep.{took, found_empty, found_closed, answered, published, loaded}
+use Rattle.board_rules.specs.Steps.{Journal}
+use Rattle.board_rules.specs.Steps.Step.{at_port, began, did, made_end, became, closing, turned}
+use Rattle.board_rules.specs.Turns.{has_blocks}
+use Rattle.board_rules.specs.Conduct.{Conducted}
+
+-- what becomes of the line: its move, and `ok`
+abbrev pub moved : PlannedMove → State → Outcome
+moved m last = record { work = ask (a_move m) ∷ tell Ok ∷ []; answer = Ok; settles = false; next = last }
+
+-- The line is accepted. Its move may be added to the fresh plan, which gives it in one segment, and is at rest behind that.
+pub record IsOneSegment (first last : State) (m : PlannedMove) (s : Segment) : Type 0 where
+  pub becomes : Becomes false (start first) (71 ∷ []) (moved m last)
+  pub add : MayAdd most_blocks fresh_plan m
+  pub taken : IsNext (with_move fresh_plan m) Go s
+  pub rests : IsAtRest (advanced (with_move fresh_plan m) s.n s.w_out)
+
+no_blocks : (m : PlannedMove) (s : Segment) → IsAtRest (advanced (with_move fresh_plan m) s.n s.w_out) → has_blocks (advanced (with_move fresh_plan m) s.n s.w_out).blocks ≡ true → ⊥
+no_blocks m s rests some = absurd (let e = sym some ∙ ap has_blocks rests.blocks in cc)
+
+none_in : (o : On) → Contains [] o → ⊥
+none_in o c = absurd (let f = c.1 in omega arith)
+
+abbrev j0 : State → PlannedMove → Segment → Journal
+j0 last m s = []
+
+c0 : (first last : State) (m : PlannedMove) (s : Segment) → IsOneSegment first last m s → Conducted first (j0 last m s)
+c0 first last m s p = tt
+
+abbrev j1 : State → PlannedMove → Segment → Journal
+j1 last m s = at_port (answered Banner) ∷ j0 last m s
+
+c1 : (first last : State) (m : PlannedMove) (s : Segment) → IsOneSegment first last m s → Conducted first (j1 last m s)
+c1 first last m s p = (record { next = refl; empty = λ e. absurd cc }, c0 first last m s p)
+
+abbrev j2 : State → PlannedMove → Segment → Journal
+j2 last m s = turned Did ∷ j1 last m s
+
+c2 : (first last : State) (m : PlannedMove) (s : Segment) → IsOneSegment first last m s → Conducted first (j2 last m s)
+c2 first last m s p = (record { once = omega arith; adds = λ m e. absurd cc; starts = λ w. absurd (let b = w.blocks in cc); tries = omega arith }, c1 first last m s p)
+
+abbrev j3 : State → PlannedMove → Segment → Journal
+j3 last m s = at_port (took 71) ∷ j2 last m s
+
+c3 : (first last : State) (m : PlannedMove) (s : Segment) → IsOneSegment first last m s → Conducted first (j3 last m s)
+c3 first last m s p = (record { polls = record { all_done = refl; partial = refl; unclosed = refl }; few = omega arith }, c2 first last m s p)
+
+abbrev j4 : State → PlannedMove → Segment → Journal
+j4 last m s = turned Did ∷ j3 last m s
+
+c4 : (first last : State) (m : PlannedMove) (s : Segment) → IsOneSegment first last m s → Conducted first (j4 last m s)
+c4 first last m s p = (record { once = omega arith; adds = λ m e. absurd cc; starts = λ w. absurd (let b = w.blocks in cc); tries = omega arith }, c3 first last m s p)
+
+abbrev j5 : State → PlannedMove → Segment → Journal
+j5 last m s = at_port (took 10) ∷ j4 last m s
+
+c5 : (first last : State) (m : PlannedMove) (s : Segment) → IsOneSegment first last m s → Conducted first (j5 last m s)
+c5 first last m s p = (record { polls = record { all_done = refl; partial = refl; unclosed = refl }; few = omega arith }, c4 first last m s p)
+
+abbrev j6 : State → PlannedMove → Segment → Journal
+j6 last m s = turned Did ∷ j5 last m s
+
+c6 : (first last : State) (m : PlannedMove) (s : Segment) → IsOneSegment first last m s → Conducted first (j6 last m s)
+c6 first last m s p = (record { once = omega arith; adds = λ m e. absurd cc; starts = λ w. absurd (let b = w.blocks in cc); tries = omega arith }, c5 first last m s p)
+
+abbrev j7 : State → PlannedMove → Segment → Journal
+j7 last m s = at_port (loaded 0) ∷ j6 last m s
+
+c7 : (first last : State) (m : PlannedMove) (s : Segment) → IsOneSegment first last m s → Conducted first (j7 last m s)
+c7 first last m s p = (record { later = omega arith; below = omega arith }, c6 first last m s p)
+
+abbrev j8 : State → PlannedMove → Segment → Journal
+j8 last m s = began (moved m last) ∷ j7 last m s
+
+c8 : (first last : State) (m : PlannedMove) (s : Segment) → IsOneSegment first last m s → Conducted first (j8 last m s)
+c8 first last m s p = (record { free = refl; going = refl; whole = refl; becomes = p.becomes; refuses = λ runs. absurd cc; begins = refl; load = refl; idle = λ d. refl; starts = λ w. absurd (let b = w.blocks in cc); tried = refl }, c7 first last m s p)
+
+abbrev j9 : State → PlannedMove → Segment → Journal
+j9 last m s = did (Add m) [] ∷ j8 last m s
+
+c9 : (first last : State) (m : PlannedMove) (s : Segment) → IsOneSegment first last m s → Conducted first (j9 last m s)
+c9 first last m s p = ((refl, (p.add, refl)), c8 first last m s p)
+
+abbrev j10 : State → PlannedMove → Segment → Journal
+j10 last m s = turned Did ∷ j9 last m s
+
+c10 : (first last : State) (m : PlannedMove) (s : Segment) → IsOneSegment first last m s → Conducted first (j10 last m s)
+c10 first last m s p = (record { once = omega arith; adds = λ m e. absurd cc; starts = λ w. refl; tries = omega arith }, c9 first last m s p)
+
+abbrev j11 : State → PlannedMove → Segment → Journal
+j11 last m s = at_port (answered Ok) ∷ j10 last m s
+
+c11 : (first last : State) (m : PlannedMove) (s : Segment) → IsOneSegment first last m s → Conducted first (j11 last m s)
+c11 first last m s p = (record { next = refl; empty = λ e. absurd cc }, c10 first last m s p)
+
+abbrev j12 : State → PlannedMove → Segment → Journal
+j12 last m s = turned Did ∷ j11 last m s
+
+c12 : (first last : State) (m : PlannedMove) (s : Segment) → IsOneSegment first last m s → Conducted first (j12 last m s)
+c12 first last m s p = (record { once = omega arith; adds = λ m e. absurd cc; starts = λ w. refl; tries = omega arith }, c11 first last m s p)
+
+abbrev j13 : State → PlannedMove → Segment → Journal
+j13 last m s = at_port found_empty ∷ j12 last m s
+
+c13 : (first last : State) (m : PlannedMove) (s : Segment) → IsOneSegment first last m s → Conducted first (j13 last m s)
+c13 first last m s p = (record { all_done = refl; partial = refl; unclosed = refl }, c12 first last m s p)
+
+abbrev j14 : State → PlannedMove → Segment → Journal
+j14 last m s = became (on_start false) motions.Run ∷ j13 last m s
+
+c14 : (first last : State) (m : PlannedMove) (s : Segment) → IsOneSegment first last m s → Conducted first (j14 last m s)
+c14 first last m s p = ((refl, record { blocks = refl; called = refl }), c13 first last m s p)
+
+abbrev j15 : State → PlannedMove → Segment → Journal
+j15 last m s = turned (Wait on.Byte) ∷ j14 last m s
+
+c15 : (first last : State) (m : PlannedMove) (s : Segment) → IsOneSegment first last m s → Conducted first (j15 last m s)
+c15 first last m s p = (record { ends = record { once = omega arith; adds = λ m e. absurd cc; starts = λ w. absurd (let b = w.stands in cc); tries = omega arith }; cause = record { poll = refl; free = refl; partial = refl }; still = refl; round = λ due c. none_in on.Byte c }, c14 first last m s p)
+
+abbrev j16 : State → PlannedMove → Segment → Journal
+j16 last m s = did (Take Go) (pieces.Segment s ∷ []) ∷ j15 last m s
+
+c16 : (first last : State) (m : PlannedMove) (s : Segment) → IsOneSegment first last m s → Conducted first (j16 last m s)
+c16 first last m s p = ((record { runs = refl; empty = refl }, (p.taken, refl)), c15 first last m s p)
+
+abbrev j17 : State → PlannedMove → Segment → Journal
+j17 last m s = at_port (published (pieces.Segment s)) ∷ j16 last m s
+
+c17 : (first last : State) (m : PlannedMove) (s : Segment) → IsOneSegment first last m s → Conducted first (j17 last m s)
+c17 first last m s p = (refl, c16 first last m s p)
+
+abbrev j18 : State → PlannedMove → Segment → Journal
+j18 last m s = turned Did ∷ j17 last m s
+
+c18 : (first last : State) (m : PlannedMove) (s : Segment) → IsOneSegment first last m s → Conducted first (j18 last m s)
+c18 first last m s p = (record { once = omega arith; adds = λ m e. absurd cc; starts = λ w. absurd (let b = w.stands in cc); tries = omega arith }, c17 first last m s p)
+
+abbrev j19 : State → PlannedMove → Segment → Journal
+j19 last m s = at_port found_empty ∷ j18 last m s
+
+c19 : (first last : State) (m : PlannedMove) (s : Segment) → IsOneSegment first last m s → Conducted first (j19 last m s)
+c19 first last m s p = (record { all_done = refl; partial = refl; unclosed = refl }, c18 first last m s p)
+
+abbrev j20 : State → PlannedMove → Segment → Journal
+j20 last m s = at_port (loaded (ticks_together (pieces.Segment s ∷ []))) ∷ j19 last m s
+
+c20 : (first last : State) (m : PlannedMove) (s : Segment) → IsOneSegment first last m s → Conducted first (j20 last m s)
+c20 first last m s p = (record { later = omega arith; below = omega arith }, c19 first last m s p)
+
+abbrev j21 : State → PlannedMove → Segment → Journal
+j21 last m s = became on_drained motions.Idle ∷ j20 last m s
+
+c21 : (first last : State) (m : PlannedMove) (s : Segment) → IsOneSegment first last m s → Conducted first (j21 last m s)
+c21 first last m s p = ((refl, record { plan = p.rests; hand = refl; done = refl }), c20 first last m s p)
+
+abbrev j22 : State → PlannedMove → Segment → Journal
+j22 last m s = turned (Wait on.Byte) ∷ j21 last m s
+
+c22 : (first last : State) (m : PlannedMove) (s : Segment) → IsOneSegment first last m s → Conducted first (j22 last m s)
+c22 first last m s p = (record { ends = record { once = omega arith; adds = λ m e. absurd cc; starts = λ w. absurd (no_blocks m s p.rests w.blocks); tries = omega arith }; cause = record { poll = refl; free = refl; partial = refl }; still = refl; round = λ due. absurd cc }, c21 first last m s p)
+
+abbrev j23 : State → PlannedMove → Segment → Journal
+j23 last m s = at_port found_closed ∷ j22 last m s
+
+c23 : (first last : State) (m : PlannedMove) (s : Segment) → IsOneSegment first last m s → Conducted first (j23 last m s)
+c23 first last m s p = (record { all_done = refl; partial = refl; unclosed = refl }, c22 first last m s p)
+
+abbrev j24 : State → PlannedMove → Segment → Journal
+j24 last m s = closing ∷ j23 last m s
+
+c24 : (first last : State) (m : PlannedMove) (s : Segment) → IsOneSegment first last m s → Conducted first (j24 last m s)
+c24 first last m s p = (record { free = refl; going = refl; begun = refl; closed = refl }, c23 first last m s p)
+
+abbrev j25 : State → PlannedMove → Segment → Journal
+j25 last m s = made_end ∷ j24 last m s
+
+c25 : (first last : State) (m : PlannedMove) (s : Segment) → IsOneSegment first last m s → Conducted first (j25 last m s)
+c25 first last m s p = (record { rests = record { next = refl; drained = record { plan = p.rests; hand = refl; done = refl }; stands = refl }; closes = λ e. absurd cc }, c24 first last m s p)
+
+abbrev j26 : State → PlannedMove → Segment → Journal
+j26 last m s = at_port (published pieces.End) ∷ j25 last m s
+
+c26 : (first last : State) (m : PlannedMove) (s : Segment) → IsOneSegment first last m s → Conducted first (j26 last m s)
+c26 first last m s p = (refl, c25 first last m s p)
+
+abbrev j27 : State → PlannedMove → Segment → Journal
+j27 last m s = turned Did ∷ j26 last m s
+
+c27 : (first last : State) (m : PlannedMove) (s : Segment) → IsOneSegment first last m s → Conducted first (j27 last m s)
+c27 first last m s p = (record { once = omega arith; adds = λ m e. absurd cc; starts = λ w. absurd (no_blocks m s p.rests w.blocks); tries = omega arith }, c26 first last m s p)
+
+abbrev j28 : State → PlannedMove → Segment → Journal
+j28 last m s = at_port (answered Bye) ∷ j27 last m s
+
+c28 : (first last : State) (m : PlannedMove) (s : Segment) → IsOneSegment first last m s → Conducted first (j28 last m s)
+c28 first last m s p = (record { next = refl; empty = λ e. refl }, c27 first last m s p)
+
+abbrev j29 : State → PlannedMove → Segment → Journal
+j29 last m s = turned Did ∷ j28 last m s
+
+c29 : (first last : State) (m : PlannedMove) (s : Segment) → IsOneSegment first last m s → Conducted first (j29 last m s)
+c29 first last m s p = (record { once = omega arith; adds = λ m e. absurd cc; starts = λ w. absurd (no_blocks m s p.rests w.blocks); tries = omega arith }, c28 first last m s p)
+
+abbrev j30 : State → PlannedMove → Segment → Journal
+j30 last m s = turned Done ∷ j29 last m s
+
+pub c30 : (first last : State) (m : PlannedMove) (s : Segment) → IsOneSegment first last m s → Conducted first (j30 last m s)
+c30 first last m s p = (record { finished = record { left = refl; closed = refl }; still = refl }, c29 first last m s p)

@@ -1,0 +1,197 @@
+-- Where no line has moved since the last one that settles, the machine stands, or is waited for.
+use Rattle.std.proofs.Common.{◌≡◌, ℕ, ◌⊎◌, inl, inr, List, [], ◌∷◌, ◌++◌, length, drop, true, false, Bool, cond, not, ◌&&◌, ◌||◌, nat_eq, nat_lt, sym, refl, ap, ◌∙◌, append-nil, subst}
+use Rattle.std.specs.List.{AllByRecursion}
+use Rattle.status_report.specs.declared.Reply.{Reply}
+use Rattle.step_line.specs.declared.Piece.{Piece}
+use Rattle.step_line.specs.Finishing.{ticks_together}
+use Rattle.step_line.specs.Asking.Asked.{a_move, a_mark, a_rest}
+use Rattle.segment_prep.specs.declared.Mode.TheVariants.{Go, Hold}
+use Rattle.planner_runs.specs.declared.Action.{Action}
+use Rattle.planner_runs.specs.declared.Action.TheVariants.{Add, Take, Override, Mark, Rest, Clear, Reset}
+use Rattle.planner_runs.specs.Runs.{IsAtRest, most_blocks}
+use Rattle.run_rules.specs.declared.State.{State}
+use Rattle.run_rules.specs.Work.{Task, Outcome, has_moves}
+use Rattle.run_rules.specs.Work.Task.{ask, tell, finish}
+use Rattle.run_rules.specs.Outcomes.{Before, Becomes, either, most_kept, refused}
+use Rattle.system_lines.specs.Commands.{kind_of, needs_rest}
+use Rattle.board_rules.specs.Turns.{is_run, is_served_at_rest}
+use Rattle.board_rules.specs.Ports.{MayBeDone}
+use Rattle.board_rules.specs.Ports.PortStep.{took, found_empty, found_closed, found_free, answered, no_reply_room, took_exec, took_ovr, published, no_piece_room, loaded}
+use Rattle.board_rules.specs.Steps.{Step, Journal, port_log, outcomes_of, given_of, hand_of, known_of, plan_of, left_of, left_by, behind, before_of, closed_tells, open_of, motion_of}
+use Rattle.board_rules.specs.Steps.Step.{at_port, began, did, made_end, became, closing, turned}
+use Rattle.board_rules.specs.Conduct.{Conducted, Gives, MayDo, MayRest, IsDrained, ticks_given}
+use Rattle.board_rules.specs.Whole.{has_work, comes_to_rest, WorkRests, IsQuiet, ComesToRest}
+use Rattle.board_rules.proofs.Given.{all_known}
+use Rattle.board_rules.proofs.Tasks.{none_next, none_taken, none_given, none_closed}
+
+-- the same, of tasks that may be left
+abbrev Stands : List Task → Journal → Type 0
+Stands tasks h = (comes_to_rest tasks ≡ true) ⊎ IsQuiet h
+
+-- one task less, where there is no work
+tail_works : (ts : List Task) (t : Task) → ts ≡ t ∷ drop 1 ts → has_work ts ≡ false → has_work (drop 1 ts) ≡ false
+tail_works ts (ask (a_move m)) next none = absurd (let e = sym none ∙ ap has_work next in cc)
+tail_works ts (ask (a_mark m)) next none = absurd (let e = sym none ∙ ap has_work next in cc)
+tail_works ts (ask a_rest) next none = sym (ap has_work next) ∙ none
+tail_works ts (tell r) next none = sym (ap has_work next) ∙ none
+tail_works ts finish next none = sym (ap has_work next) ∙ none
+
+-- a rest that is still to come stays so behind any other task
+tail_rests : (ts : List Task) (t : Task) → ts ≡ t ∷ drop 1 ts → (t ≡ ask a_rest → ⊥) → comes_to_rest ts ≡ true → comes_to_rest (drop 1 ts) ≡ true
+tail_rests ts (ask (a_move m)) next other will = sym (ap comes_to_rest next) ∙ will
+tail_rests ts (ask (a_mark m)) next other will = sym (ap comes_to_rest next) ∙ will
+tail_rests ts (ask a_rest) next other will = absurd (other refl)
+tail_rests ts (tell r) next other will = sym (ap comes_to_rest next) ∙ will
+tail_rests ts finish next other will = sym (ap comes_to_rest next) ∙ will
+
+-- the machine stands still while nothing is done to it
+still_drained : (h : Journal) (s : Step) → plan_of (s ∷ h) ≡ plan_of h → hand_of (s ∷ h) ≡ hand_of h → known_of (s ∷ h) ≡ known_of h
+    → given_of (s ∷ h) ≡ given_of h → IsDrained h → IsDrained (s ∷ h)
+still_drained h s plan hand known given d = record {
+  plan = subst IsAtRest (sym plan) d.plan;
+  hand = hand ∙ d.hand;
+  done = known ∙ d.done ∙ sym (ap ticks_together given);
+}
+
+-- more is found done: nothing more, where all is
+loaded_drained : (first : State) (h : Journal) (n : ℕ) → Conducted first h → MayBeDone n (port_log h) → IsDrained h → IsDrained (at_port (loaded n) ∷ h)
+loaded_drained first h n c may d = record { plan = d.plan; hand = d.hand; done = all_known first h n c may d.done }
+
+on_answer : (h : Journal) (r : Reply) → left_of h ≡ tell r ∷ drop 1 (left_of h) → Stands (left_of h) h → Stands (drop 1 (left_of h)) (at_port (answered r) ∷ h)
+on_answer h r next (inl will) = inl (tail_rests (left_of h) (tell r) next (λ e. absurd cc) will)
+on_answer h r next (inr q) = inr (record { drained = still_drained h (at_port (answered r)) refl refl refl refl q.drained; work = tail_works (left_of h) (tell r) next q.work })
+
+on_publish : (h : Journal) (p : Piece) → hand_of h ≡ p ∷ drop 1 (hand_of h) → Stands (left_of h) h → Stands (left_of h) (at_port (published p) ∷ h)
+on_publish h p next (inl will) = inl will
+on_publish h p next (inr q) = absurd (none_next (hand_of h) p q.drained.hand next)
+
+on_load : (first : State) (h : Journal) (n : ℕ) → Conducted first h → MayBeDone n (port_log h) → Stands (left_of h) h → Stands (left_of h) (at_port (loaded n) ∷ h)
+on_load first h n c may (inl will) = inl will
+on_load first h n c may (inr q) = inr (record { drained = loaded_drained first h n c may q.drained; work = q.work })
+
+-- nothing is done to the machine, and what is left stays
+on_other : (h : Journal) (s : Step) → plan_of (s ∷ h) ≡ plan_of h → hand_of (s ∷ h) ≡ hand_of h → known_of (s ∷ h) ≡ known_of h
+    → given_of (s ∷ h) ≡ given_of h → left_of (s ∷ h) ≡ left_of h → Stands (left_of h) h → Stands (left_of (s ∷ h)) (s ∷ h)
+on_other h s plan hand known given left (inl will) = inl (ap comes_to_rest left ∙ will)
+on_other h s plan hand known given left (inr q) =
+    inr (record { drained = still_drained h s plan hand known given q.drained; work = ap has_work left ∙ q.work })
+
+-- a rest is over where the machine is drained
+on_rest : (h : Journal) (ps : List Piece) → MayRest (ask a_rest) h → ps ≡ [] → Stands (left_of h) h → (b : Bool) → has_work (drop 1 (left_of h)) ≡ b
+    → Stands (drop 1 (left_of h)) (did Rest ps ∷ h)
+on_rest h ps may none st false is =
+    let keeps : (qs : List Piece) → qs ++ ps ≡ qs = λ qs. ap (λ (rs : List Piece). qs ++ rs) none ∙ append-nil qs in
+    inr (record { drained = still_drained h (did Rest ps) refl (keeps (hand_of h)) refl (keeps (given_of h)) may.drained; work = is })
+on_rest h ps may none (inl will) true is = inl (let e = sym (ap comes_to_rest may.next) ∙ will in rw is at e)
+on_rest h ps may none (inr q) true is = absurd (let e = tail_works (left_of h) (ask a_rest) may.next q.work in cc)
+
+on_did : (h : Journal) (a : Action) (ps : List Piece) → MayDo a h → Gives a ps (plan_of h) → Stands (left_of h) h → Stands (left_by a (left_of h)) (did a ps ∷ h)
+on_did h (Add m) ps may gives (inl will) = inl (tail_rests (left_of h) (ask (a_move m)) may (λ e. absurd cc) will)
+on_did h (Add m) ps may gives (inr q) = absurd (let e = sym q.work ∙ ap has_work may in cc)
+on_did h (Mark m) ps may gives (inl will) = inl (tail_rests (left_of h) (ask (a_mark m)) may.next (λ e. absurd cc) will)
+on_did h (Mark m) ps may gives (inr q) = absurd (let e = sym q.work ∙ ap has_work may.next in cc)
+on_did h Rest ps may gives st = on_rest h ps may (none_given most_blocks (plan_of h) (plan_of h) ps gives.1) st (has_work (drop 1 (left_of h))) refl
+on_did h (Take Go) ps may gives (inl will) = inl will
+on_did h (Take Go) ps may gives (inr q) = absurd (none_taken (plan_of h) Go ps (behind (Take Go) ps (plan_of h)) q.drained.plan.blocks gives)
+on_did h (Take Hold) ps may gives st = absurd may
+on_did h (Override o) ps may gives st = absurd may
+on_did h Clear ps may gives st = absurd may
+on_did h Reset ps may gives st = absurd may
+
+by_still : (h : Journal) (o : Outcome) → IsDrained h → (comes_to_rest o.work ≡ true) ⊎ (has_work o.work ≡ false) → Stands o.work (began o ∷ h)
+by_still h o d (inl will) = inl will
+by_still h o d (inr none) = inr (record { drained = still_drained h (began o) refl refl refl refl d; work = none })
+
+drained_here : (h : Journal) → left_of h ≡ [] → Stands (left_of h) h → IsDrained h
+drained_here h free (inl will) = absurd (let e = sym (ap comes_to_rest free) ∙ will in cc)
+drained_here h free (inr q) = q.drained
+
+-- a line that was begun where nothing moved before it
+on_begun : (h : Journal) (o : Outcome) (moved : Bool) → left_of h ≡ [] → WorkRests o → (s m : Bool) → o.settles ≡ s → has_moves o.work ≡ m
+    → cond s false (m || moved) ≡ false → (moved ≡ false → Stands (left_of h) h) → Stands o.work (began o ∷ h)
+on_begun h o moved free works true m settles moves still st = inl (works.settles settles)
+on_begun h o moved free works false true settles moves still st = absurd cc
+on_begun h o moved free works false false settles moves still st = by_still h o (drained_here h free (st still)) (works.still moves)
+
+-- each of some lines, and of one more
+all_but_last : (os : List Outcome) (o : Outcome) → AllByRecursion WorkRests (os ++ o ∷ []) → AllByRecursion WorkRests os
+all_but_last [] o all = tt
+all_but_last (x ∷ os) o all = (all.0, all_but_last os o all.1)
+
+the_last : (os : List Outcome) (o : Outcome) → AllByRecursion WorkRests (os ++ o ∷ []) → WorkRests o
+the_last [] o all = all.0
+the_last (x ∷ os) o all = the_last os o all.1
+
+pub quiet : (first : State) (h : Journal) → Conducted first h → AllByRecursion WorkRests (outcomes_of h) → closed_tells h ≡ [] → (before_of first h).moved ≡ false → ComesToRest h
+quiet first [] c works going still = inr (record { drained = record { plan = record { blocks = refl; speed = refl }; hand = refl; done = refl }; work = refl })
+quiet first (at_port (took b) ∷ h) c works going still = on_other h (at_port (took b)) refl refl refl refl refl (quiet first h c.1 works going still)
+quiet first (at_port found_empty ∷ h) c works going still = on_other h (at_port found_empty) refl refl refl refl refl (quiet first h c.1 works going still)
+quiet first (at_port found_closed ∷ h) c works going still = on_other h (at_port found_closed) refl refl refl refl refl (quiet first h c.1 works going still)
+quiet first (at_port (found_free n) ∷ h) c works going still = on_other h (at_port (found_free n)) refl refl refl refl refl (quiet first h c.1 works going still)
+quiet first (at_port (answered r) ∷ h) c works going still = on_answer h r c.0.next (quiet first h c.1 works going still)
+quiet first (at_port no_reply_room ∷ h) c works going still = on_other h (at_port no_reply_room) refl refl refl refl refl (quiet first h c.1 works going still)
+quiet first (at_port (took_exec word) ∷ h) c works going still = absurd c.0
+quiet first (at_port (took_ovr word) ∷ h) c works going still = absurd c.0
+quiet first (at_port (published p) ∷ h) c works going still = on_publish h p c.0 (quiet first h c.1 works going still)
+quiet first (at_port (no_piece_room done) ∷ h) c works going still = on_other h (at_port (no_piece_room done)) refl refl refl refl refl (quiet first h c.1 works going still)
+quiet first (at_port (loaded done) ∷ h) c works going still = on_load first h done c.1 c.0 (quiet first h c.1 works going still)
+quiet first (began o ∷ h) c works going still =
+    on_begun h o (before_of first h).moved c.0.free (the_last (outcomes_of h) o works) o.settles (has_moves o.work) refl refl still
+    (λ m. quiet first h c.1 (all_but_last (outcomes_of h) o works) going m)
+quiet first (did a ps ∷ h) c works going still = on_did h a ps c.0.0 c.0.1 (quiet first h c.1 works going still)
+quiet first (made_end ∷ h) c works going still = absurd (c.0.closes going)
+quiet first (became call m ∷ h) c works going still = on_other h (became call m) refl refl refl refl refl (quiet first h c.1 works going still)
+quiet first (closing ∷ h) c works going still = absurd (none_closed (closed_tells h) going)
+quiet first (turned t ∷ h) c works going still = on_other h (turned t) refl refl refl refl refl (quiet first h c.1 works going still)
+
+-- so a machine that is not drained where a line may be begun has moved since
+pub has_moved : (first : State) (h : Journal) → Conducted first h → AllByRecursion WorkRests (outcomes_of h) → closed_tells h ≡ [] → left_of h ≡ []
+    → (IsDrained h → ⊥) → (before_of first h).moved ≡ true
+has_moved first h c works going free undrained = by_moved (before_of first h).moved refl
+  where
+    by_moved : (m : Bool) → (before_of first h).moved ≡ m → m ≡ true
+    by_moved true is = refl
+    by_moved false is = absurd (undrained (drained_here h free (quiet first h c works going is)))
+
+-- and one where nothing moved, and nothing is left to do, has done each tick that was given
+pub has_done : (first : State) (h : Journal) → Conducted first h → AllByRecursion WorkRests (outcomes_of h) → closed_tells h ≡ [] → left_of h ≡ []
+    → (before_of first h).moved ≡ false → known_of h ≡ ticks_given h
+has_done first h c works going free still = (drained_here h free (quiet first h c works going still)).done
+
+-- ---- a line that is served only at rest, where the machine runs
+
+and_left : (a b : Bool) → (a && b) ≡ true → a ≡ true
+and_left true b is = refl
+and_left false b is = absurd cc
+
+and_right : (a b : Bool) → (a && b) ≡ true → b ≡ true
+and_right true b is = is
+and_right false b is = absurd cc
+
+not_true : (a : Bool) → not a ≡ true → a ≡ false
+not_true true is = absurd cc
+not_true false is = refl
+
+by_first : (t : Bool) (A B : Type 0) → t ≡ true → A → either t A B
+by_first true A B is a = a
+by_first false A B is a = absurd cc
+
+by_second : (t : Bool) (A B : Type 0) → t ≡ false → B → either t A B
+by_second true A B is b = absurd cc
+by_second false A B is b = b
+
+-- it may be refused
+busy_line : (runs : Bool) (b : Before) (line : List ℕ) → runs ≡ true → b.moved ≡ true → is_served_at_rest line ≡ true → Becomes runs b line (refused b 8)
+busy_line runs b [] found moved is = absurd cc
+busy_line runs b (c ∷ cs) found moved is =
+    let line = c ∷ cs in
+    let kind = and_right (nat_eq c 36) (needs_rest (kind_of line) && not (nat_lt most_kept (length line))) is in
+    by_second (nat_lt most_kept (length line)) _ _ (not_true (nat_lt most_kept (length line)) (and_right (needs_rest (kind_of line)) (not (nat_lt most_kept (length line))) kind))
+    (by_first (nat_eq c 36) _ _ (and_left (nat_eq c 36) (needs_rest (kind_of line) && not (nat_lt most_kept (length line))) is)
+    (inl (record { moved = moved; line = and_left (needs_rest (kind_of line)) (not (nat_lt most_kept (length line))) kind; found = found; outcome = refl })))
+
+pub busy : (first : State) (h : Journal) → Conducted first h → AllByRecursion WorkRests (outcomes_of h) → closed_tells h ≡ [] → left_of h ≡ []
+    → is_run (motion_of h) ≡ true → (IsDrained h → ⊥) → is_served_at_rest (open_of h) ≡ true
+    → Becomes (is_run (motion_of h)) (before_of first h) (open_of h) (refused (before_of first h) 8)
+busy first h c works going free runs undrained line =
+    busy_line (is_run (motion_of h)) (before_of first h) (open_of h) runs (has_moved first h c works going free undrained) line

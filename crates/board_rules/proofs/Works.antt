@@ -1,0 +1,87 @@
+-- What there is to do of a line: by whatever becomes of it, it comes to rest where the line settles.
+use Rattle.std.proofs.Common.{◌≡◌, ℕ, inl, inr, List, [], ◌∷◌, ◌++◌, true, false, Bool, length, nat_eq, nat_lt, Ok, Err, Some, None, sym, refl, subst}
+use Rattle.std.specs.List.{list_any}
+use Rattle.std.specs.declared.option.Option.{Option}
+use Rattle.std.specs.declared.result.Result.{Result}
+use Rattle.units.specs.declared.Decimal.{Decimal}
+use Rattle.gcode_words.specs.declared.Word.{Word}
+use Rattle.gcode_words.specs.declared.WordFault.{WordFault}
+use Rattle.gcode_words.specs.Words.{words_of}
+use Rattle.code_table.specs.declared.Code.{Code}
+use Rattle.gcode_check.specs.Verdicts.{verdict}
+use Rattle.gcode_check.specs.declared.Accept.{Accept as Accepted}
+use Rattle.gcode_check.specs.declared.Verdict.{Verdict}
+use Rattle.gcode_check.specs.declared.Verdict.TheVariants.{Accept, Refuse, Limit}
+use Rattle.system_lines.specs.Commands.{command_of}
+use Rattle.system_lines.specs.Setting.{apply_refusal}
+use Rattle.system_lines.specs.declared.Command.{Command}
+use Rattle.system_lines.specs.declared.Command.TheVariants.{ListSettings, ListModes, ListOffsets, Unlock, Set}
+use Rattle.status_report.specs.Lists.{setting_replies, modes_replies, offset_replies}
+use Rattle.status_report.specs.declared.Reply.{Reply}
+use Rattle.status_report.specs.declared.Reply.TheVariants as replies
+use Rattle.run_rules.specs.declared.State.{State}
+use Rattle.run_rules.specs.Work.{Outcome, telling}
+use Rattle.run_rules.specs.Outcomes.{Before, Becomes, ByKept, ByDollar, ByCommand, BySetting, ByWords, ByVerdict, either, most_kept, refused, told, executed, fault_number}
+use Rattle.board_rules.specs.Whole.{has_work, WorkRests, pauses}
+use Rattle.board_rules.proofs.Resting.{settles, still}
+
+-- no work is told
+tells_are_no_work : (rs : List Reply) → has_work (telling rs) ≡ false
+tells_are_no_work [] = refl
+tells_are_no_work (r ∷ rs) = tells_are_no_work rs
+
+refused_rests : (b : Before) (n : ℕ) (o : Outcome) → o ≡ refused b n → WorkRests o
+refused_rests b n o is = subst WorkRests (sym is) (record { settles = λ e. absurd cc; still = λ none. inr refl })
+
+told_rests : (next : State) (body : List Reply) (o : Outcome) → o ≡ told next body → WorkRests o
+told_rests next body o is = subst WorkRests (sym is) (record { settles = λ e. absurd cc; still = λ none. inr (tells_are_no_work (body ++ replies.Ok ∷ [])) })
+
+-- an accepted line does not pause
+abbrev pub NeverPauses : Before → Outcome → Type 0
+NeverPauses b o = (a : Accepted) → o ≡ executed b a → list_any pauses a.items.items ≡ false
+
+executed_rests : (b : Before) (a : Accepted) (o : Outcome) → NeverPauses b o → o ≡ executed b a → WorkRests o
+executed_rests b a o never is =
+    let modal = b.state.parser.modal in
+    let none = never a is in
+    subst WorkRests (sym is) (record {
+      settles = settles b.number b.state.settings modal.spindle modal.flood a.items.items none;
+      still = still b.number b.state.settings modal.spindle modal.flood a.items.items;
+    })
+
+verdict_rests : (b : Before) (v : Verdict) (o : Outcome) → NeverPauses b o → ByVerdict b v o → WorkRests o
+verdict_rests b (Accept a) o never is = executed_rests b a o never is
+verdict_rests b (Refuse code) o never is = refused_rests b code.0 o is
+verdict_rests b Limit o never is = absurd is
+
+words_rest : (b : Before) (ws : Result (List Word) WordFault) (o : Outcome) → NeverPauses b o → ByWords b ws o → WorkRests o
+words_rest b (Err fault) o never is = refused_rests b (fault_number fault) o is
+words_rest b (Ok ws) o never is = verdict_rests b (verdict b.state.parser b.state.settings ws) o never is
+
+setting_rests : (b : Before) (n : ℕ) (value : Decimal) (code : Option Code) (o : Outcome) → BySetting b n value code o → WorkRests o
+setting_rests b n value (Some code) o is = refused_rests b code.0 o is
+setting_rests b n value None o is = told_rests _ [] o is.outcome
+
+command_rests : (b : Before) (command : Result Command Code) (o : Outcome) → ByCommand b command o → WorkRests o
+command_rests b (Err code) o is = refused_rests b code.0 o is
+command_rests b (Ok ListSettings) o is = told_rests b.state (setting_replies b.state.settings) o is
+command_rests b (Ok ListModes) o is = told_rests b.state (modes_replies b.state.parser) o is
+command_rests b (Ok ListOffsets) o is = told_rests b.state (offset_replies b.state.parser.offsets) o is
+command_rests b (Ok Unlock) o is = told_rests b.state [] o is
+command_rests b (Ok (Set n value)) o is = setting_rests b n value (apply_refusal n value) o is
+
+dollar_rests : (runs : Bool) (b : Before) (kept : List ℕ) (o : Outcome) → ByDollar runs b kept o → WorkRests o
+dollar_rests runs b kept o (inl busy) = refused_rests b 8 o busy.outcome
+dollar_rests runs b kept o (inr is) = command_rests b (command_of kept) o is
+
+by_either : (t : Bool) (A B C : Type 0) → (A → C) → (B → C) → either t A B → C
+by_either true A B C f g x = f x
+by_either false A B C f g x = g x
+
+kept_rests : (runs : Bool) (b : Before) (kept : List ℕ) (o : Outcome) → NeverPauses b o → ByKept runs b kept o → WorkRests o
+kept_rests runs b [] o never is = told_rests b.state [] o is
+kept_rests runs b (c ∷ cs) o never is =
+    by_either (nat_eq c 36) _ _ _ (dollar_rests runs b (c ∷ cs) o) (words_rest b (words_of (c ∷ cs)) o never) is
+
+pub works : (runs : Bool) (b : Before) (kept : List ℕ) (o : Outcome) → Becomes runs b kept o → NeverPauses b o → WorkRests o
+works runs b kept o is never = by_either (nat_lt most_kept (length kept)) _ _ _ (refused_rests b 11 o) (kept_rests runs b kept o never) is

@@ -1,0 +1,18 @@
+use Rattle.board_rules.proofs.Lines.{bytes_are, lines_follow, one_by_one}
+use Rattle.board_rules.proofs.Keeping.{told_is, asked_is}
+use Rattle.board_rules.proofs.laws.boards_keep_to_their_lines.Goals as goal
+
+pub returns-clause-bytes : goal.returns-clause-bytes
+returns-clause-bytes c = bytes_are
+
+pub returns-clause-follow : goal.returns-clause-follow
+returns-clause-follow c = lines_follow
+
+pub returns-clause-told : goal.returns-clause-told
+returns-clause-told c = told_is
+
+pub returns-clause-asked : goal.returns-clause-asked
+returns-clause-asked c = asked_is
+
+pub returns-clause-one_by_one : goal.returns-clause-one_by_one
+returns-clause-one_by_one c = one_by_one

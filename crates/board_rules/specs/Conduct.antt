@@ -1,0 +1,262 @@
+-- The rules of a board: what it may do next.
+use Rattle.std.specs.Prelude.{◌≡◌, ℕ, ◌≤◌, ◌<◌, true, false, ◌&&◌, List, [], ◌∷◌, drop, Some}
+use Rattle.std.specs.List.{Contains, list_any, count_by}
+use Rattle.feed_hold.specs.declared.Motion.TheVariants as motions
+use Rattle.feed_hold.specs.Motions.{Call, after}
+use Rattle.feed_hold.specs.Motions.Call.{on_exec, on_start, on_limit, on_pause, on_stopped, on_drained}
+use Rattle.outside.specs.declared.On.{On}
+use Rattle.outside.specs.declared.On.TheVariants as on
+use Rattle.outside.specs.declared.Turn.{Turn}
+use Rattle.outside.specs.declared.Turn.TheVariants.{Did, Wait, Done}
+use Rattle.plan_passes.specs.Plans.{Planned}
+use Rattle.planner_runs.specs.declared.Action.{Action}
+use Rattle.planner_runs.specs.declared.Action.TheVariants.{Add, Take, Override, Mark, Rest, Clear, Reset}
+use Rattle.planner_runs.specs.Runs.{Plans, IsAtRest, most_blocks}
+use Rattle.run_rules.specs.declared.State.{State}
+use Rattle.run_rules.specs.Work.{Task, Outcome}
+use Rattle.run_rules.specs.Work.Task.{ask, tell, finish}
+use Rattle.run_rules.specs.Outcomes.{Becomes, refused}
+use Rattle.segment_prep.specs.declared.Mode.TheVariants.{Go, Hold}
+use Rattle.status_report.specs.declared.Reply.{Reply}
+use Rattle.status_report.specs.declared.Reply.TheVariants.{Bye}
+use Rattle.step_line.specs.Asking.Asked.{a_move, a_mark, a_rest}
+use Rattle.step_line.specs.declared.Piece.{Piece}
+use Rattle.step_line.specs.declared.planned_move.PlannedMove.{PlannedMove}
+use Rattle.step_line.specs.Finishing.{ticks_together}
+use Rattle.board_rules.specs.Ports.{PortStep, MayBeDone, HasTakenFew, LacksPieceRoom}
+use Rattle.board_rules.specs.Ports.PortStep.{took, found_empty, found_closed, found_free, answered, no_reply_room, took_exec, took_ovr, published, no_piece_room, loaded}
+use Rattle.board_rules.specs.Steps.{Step, Journal, port_log, has_closed, published_of, known_of, open_of, whole_of, before_of, left_of, closed_tells, given_of, hand_of, plan_of, motion_of, behind}
+use Rattle.board_rules.specs.Steps.Step.{at_port, began, did, made_end, became, closing, turned}
+use Rattle.board_rules.specs.Turns.{
+  this_turn,
+  publishing,
+  passing,
+  found_nothing,
+  lacks_reply_room,
+  lacks_piece_room,
+  loads,
+  tells_next,
+  awaits_motion,
+  has_blocks,
+  is_full,
+  starts_cycle,
+  starts_before_line,
+  is_run,
+  is_going,
+  begins_in,
+  is_served_at_rest,
+  is_due,
+  tries_of,
+  most_tries,
+  missed_of,
+  waits_of,
+}
+
+-- it comes next of what is left to do
+abbrev pub IsNextTask : Task → Journal → Type 0
+IsNextTask t h = left_of h ≡ t ∷ drop 1 (left_of h)
+
+-- it is the piece in hand
+abbrev pub IsInHand : Piece → Journal → Type 0
+IsInHand p h = hand_of h ≡ p ∷ drop 1 (hand_of h)
+
+abbrev pub ticks_given : Journal → ℕ
+ticks_given h = ticks_together (given_of h)
+
+abbrev pub ticks_published : Journal → ℕ
+ticks_published h = ticks_together (published_of h)
+
+-- nothing is left to run, and each tick was found done
+pub record IsDrained (h : Journal) : Type 0 where
+  pub plan : IsAtRest (plan_of h)
+  pub hand : hand_of h ≡ []
+  pub done : known_of h ≡ ticks_given h
+
+-- ---- at the port
+
+-- The next byte is polled for: nothing is left to do, no line waits to be begun, and the run is not being closed.
+pub record MayPoll (h : Journal) : Type 0 where
+  pub all_done : left_of h ≡ []
+  pub partial : whole_of h ≡ false
+  pub unclosed : closed_tells h ≡ []
+
+-- a byte is taken; fewer than 2 ^ 31 were, as the port promises
+pub record MayTake (h : Journal) : Type 0 where
+  pub polls : MayPoll h
+  pub few : HasTakenFew (port_log h)
+
+-- The next reply is answered; Bye only with an empty hand, so that all that was given is published by then.
+pub record MayTell (r : Reply) (h : Journal) : Type 0 where
+  pub next : IsNextTask (tell r) h
+  pub empty : r ≡ Bye → hand_of h ≡ []
+
+-- a piece is handed back where the port has no room, as it promises
+pub record MayKeep (done : ℕ) (h : Journal) : Type 0 where
+  pub some : (hand_of h ≡ []) → ⊥
+  pub full : LacksPieceRoom done (port_log h)
+
+-- Pieces are published in the order in which they were given. No flags are taken yet.
+abbrev pub MayAtPort : PortStep → Journal → Type 0
+MayAtPort (took b) h = MayTake h
+MayAtPort found_empty h = MayPoll h
+MayAtPort found_closed h = MayPoll h
+MayAtPort (found_free n) h = Unit {0}
+MayAtPort (answered r) h = MayTell r h
+MayAtPort no_reply_room h = tells_next (left_of h) ≡ true
+MayAtPort (took_exec word) h = ⊥
+MayAtPort (took_ovr word) h = ⊥
+MayAtPort (published p) h = IsInHand p h
+MayAtPort (no_piece_room done) h = MayKeep done h
+MayAtPort (loaded done) h = MayBeDone done (port_log h)
+
+-- ---- the plan
+
+-- a segment is taken while the machine runs, once the one before is published
+pub record MayTakeSegment (h : Journal) : Type 0 where
+  pub runs : motion_of h ≡ motions.Run
+  pub empty : hand_of h ≡ []
+
+pub record MayMark (t : Task) (h : Journal) : Type 0 where
+  pub next : IsNextTask t h
+  pub empty : hand_of h ≡ []
+
+-- the motion is waited for no longer: nothing is left to run, each tick is done, and the machine stands
+pub record MayRest (t : Task) (h : Journal) : Type 0 where
+  pub next : IsNextTask t h
+  pub drained : IsDrained h
+  pub stands : motion_of h ≡ motions.Idle
+
+-- why it is done. Nothing is held, overridden or taken away yet.
+abbrev pub MayDo : Action → Journal → Type 0
+MayDo (Add m) h = IsNextTask (ask (a_move m)) h
+MayDo (Mark m) h = MayMark (ask (a_mark m)) h
+MayDo Rest h = MayRest (ask a_rest) h
+MayDo (Take Go) h = MayTakeSegment h
+MayDo (Take Hold) h = ⊥
+MayDo (Override o) h = ⊥
+MayDo Clear h = ⊥
+MayDo Reset h = ⊥
+
+-- an action gives these pieces
+abbrev pub Gives : Action → List Piece → Planned → Type 0
+Gives a ps p = Plans most_blocks p (a ∷ []) ps (behind a ps p)
+
+-- the end is made where a rest would be over, and only by closing the run
+pub record MayEnd (h : Journal) : Type 0 where
+  pub rests : MayRest finish h
+  pub closes : closed_tells h ≡ [] → ⊥
+
+-- ---- the motion
+
+-- Queued blocks start the cycle where that is called for, and it is over where nothing is left to run and each tick is done.
+-- Nothing else happens to the motion yet.
+pub record MayStart (h : Journal) : Type 0 where
+  pub blocks : has_blocks (plan_of h).blocks ≡ true
+  pub called : starts_before_line h ≡ true
+
+abbrev pub MayHappen : Call → Journal → Type 0
+MayHappen (on_start false) h = MayStart h
+MayHappen (on_start true) h = ⊥
+MayHappen on_drained h = IsDrained h
+MayHappen (on_exec word queued) h = ⊥
+MayHappen on_limit h = ⊥
+MayHappen on_pause h = ⊥
+MayHappen on_stopped h = ⊥
+
+-- queued blocks wait for a start
+pub record AreWaiting (h : Journal) : Type 0 where
+  pub stands : motion_of h ≡ motions.Idle
+  pub blocks : has_blocks (plan_of h).blocks ≡ true
+
+-- ---- the lines
+
+-- A line that was taken whole is begun. In its turn the done ticks were loaded, and the cycle is over where nothing is left
+-- to run and each is done. A line that is served only at rest is refused while the machine runs; and where a segment was due
+-- since the line before, one was tried to be published.
+pub record MayBegin (first : State) (o : Outcome) (h : Journal) : Type 0 where
+  pub free : left_of h ≡ []
+  pub going : closed_tells h ≡ []
+  pub whole : whole_of h ≡ true
+  pub becomes : Becomes (is_run (motion_of h)) (before_of first h) (open_of h) o
+  pub refuses : is_run (motion_of h) ≡ true → is_served_at_rest (open_of h) ≡ true → o ≡ refused (before_of first h) 8
+  pub begins : begins_in (motion_of h) ≡ true
+  pub load : list_any loads (this_turn h) ≡ true
+  pub idle : IsDrained h → is_going (motion_of h) ≡ false
+  pub starts : AreWaiting h → starts_before_line h ≡ false
+  pub tried : (missed_of h && is_due h) ≡ false
+
+-- the run is closed where the link was found closed, and each line that was taken whole is begun and answered
+pub record MayClose (h : Journal) : Type 0 where
+  pub free : left_of h ≡ []
+  pub going : closed_tells h ≡ []
+  pub begun : whole_of h ≡ false
+  pub closed : has_closed h ≡ true
+
+-- ---- the turns
+
+-- What holds at the end of a turn: at most one thing was published; a move that is next is added unless the plan is full; no
+-- queued block waits for a start that is called for; and no more than five tries to publish stand behind the last poll.
+pub record EndsTurn (h : Journal) : Type 0 where
+  pub once : count_by publishing (this_turn h) ≤ 1
+  pub adds : (m : PlannedMove) → IsNextTask (ask (a_move m)) h → is_full (plan_of h) ≡ true
+  pub starts : AreWaiting h → starts_cycle h ≡ false
+  pub tries : tries_of h ≤ most_tries
+
+-- no byte was found, and nothing is left to do
+pub record NeedsByte (h : Journal) : Type 0 where
+  pub poll : list_any found_nothing (this_turn h) ≡ true
+  pub free : left_of h ≡ []
+  pub partial : whole_of h ≡ false
+
+-- what is next waits for ticks that were found not to be done
+pub record NeedsMotion (h : Journal) : Type 0 where
+  pub load : list_any loads (this_turn h) ≡ true
+  pub undone : known_of h < ticks_published h
+  pub awaits : awaits_motion (left_of h) ≡ true
+
+-- why it is waited for
+abbrev pub Needs : On → Journal → Type 0
+Needs on.Byte h = NeedsByte h
+Needs on.ReplyRoom h = list_any lacks_reply_room (this_turn h) ≡ true
+Needs on.SegmentRoom h = list_any lacks_piece_room (this_turn h) ≡ true
+Needs on.Motion h = NeedsMotion h
+Needs o h = ⊥
+
+-- Something is waited for: there is a cause, nothing went on its way in this turn, and where a segment is due, one was tried
+-- to be published since the same was waited for last.
+pub record Waits (o : On) (h : Journal) : Type 0 where
+  pub ends : EndsTurn h
+  pub cause : Needs o h
+  pub still : list_any passing (this_turn h) ≡ false
+  pub round : is_due h ≡ true → Contains (waits_of h) o → ⊥
+
+-- the run was closed, and nothing is left to do
+pub record IsFinished (h : Journal) : Type 0 where
+  pub left : left_of h ≡ []
+  pub closed : closed_tells h ≡ Bye ∷ []
+
+-- Bye is answered, and nothing was done in this turn
+pub record IsOver (h : Journal) : Type 0 where
+  pub finished : IsFinished h
+  pub still : this_turn h ≡ []
+
+-- what a turn answers; one that moves nothing and answers Did lowers the board's number, as the turn says itself
+abbrev pub MayTurn : Turn → Journal → Type 0
+MayTurn Did h = EndsTurn h
+MayTurn (Wait o) h = Waits o h
+MayTurn Done h = IsOver h
+
+-- ---- all of it
+
+abbrev pub MayStep : State → Step → Journal → Type 0
+MayStep first (at_port e) h = MayAtPort e h
+MayStep first (began o) h = MayBegin first o h
+MayStep first (did a ps) h = MayDo a h × Gives a ps (plan_of h)
+MayStep first made_end h = MayEnd h
+MayStep first (became call m) h = (after call (motion_of h) ≡ Some m) × MayHappen call h
+MayStep first closing h = MayClose h
+MayStep first (turned t) h = MayTurn t h
+
+abbrev pub Conducted : State → Journal → Type 0
+Conducted first [] = Unit {0}
+Conducted first (s ∷ h) = MayStep first s h × Conducted first h

@@ -1,0 +1,9 @@
+pub mod Ports
+pub mod Steps
+pub mod Turns
+pub mod Conduct
+pub mod Whole
+pub use Rattle.planner_runs.specs.Runs
+pub use Rattle.run_rules.specs.Lines
+pub use Rattle.run_rules.specs.Outcomes
+pub use Rattle.run_rules.specs.Told

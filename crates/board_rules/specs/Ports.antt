@@ -1,0 +1,159 @@
+-- What a board does at its port, what it owes the port, and what the port promises.
+use Rattle.std.specs.Prelude.{◌≡◌, ℕ, ◌+◌, ◌^◌, ◌≤◌, ◌<◌, Bool, true, false, cond, List, [], ◌∷◌, ◌++◌, length, nat_eq, reverse}
+use Rattle.std.specs.List.{count_by}
+use Rattle.code_table.specs.declared.flags.Exec.{Exec}
+use Rattle.code_table.specs.declared.flags.Ovr.{Ovr}
+use Rattle.feed_hold.specs.Motions.{asks}
+use Rattle.status_report.specs.declared.Reply.{Reply}
+use Rattle.status_report.specs.Replies.{IsReply}
+use Rattle.step_line.specs.declared.Piece.{Piece}
+use Rattle.step_line.specs.Finishing.{tick_count, ticks_together, unfinished}
+use Rattle.step_line.specs.Logs.{NewestFirst}
+use Rattle.step_line.specs.Ordering.{ComesNext}
+use Rattle.status_report.specs.declared.Reply.TheVariants.{Ok, Error}
+
+-- so many bytes may stand on the link at once
+abbrev pub receive_room : ℕ
+receive_room = 128
+
+-- so many replies may stand on the link at once
+abbrev pub reply_room : ℕ
+reply_room = 16
+
+-- so many published pieces may be unfinished at once
+abbrev pub most_unfinished : ℕ
+most_unfinished = 5
+
+-- how many lines have their end among some bytes
+abbrev pub lfs_in : List ℕ → ℕ
+lfs_in bytes = count_by (λ b. nat_eq b 10) bytes
+
+-- a reply answers a line
+abbrev pub is_answer : Reply → Bool
+is_answer Ok = true
+is_answer (Error n) = true
+is_answer _ = false
+
+-- how many lines some replies answer
+abbrev pub answers_in : List Reply → ℕ
+answers_in replies = count_by is_answer replies
+
+-- `?`
+abbrev pub query : ℕ
+query = 63
+
+pub data PortStep : Type 0 where
+  took : ℕ → PortStep
+  -- a poll found no byte; it found none, and the link closed
+  found_empty : PortStep
+  found_closed : PortStep
+  -- the link had room for so many bytes
+  found_free : ℕ → PortStep
+  answered : Reply → PortStep
+  -- a reply was handed back
+  no_reply_room : PortStep
+  took_exec : Exec → PortStep
+  took_ovr : Ovr → PortStep
+  published : Piece → PortStep
+  -- a piece was handed back, while so many ticks were done
+  no_piece_room : ℕ → PortStep
+  -- so many ticks were found done
+  loaded : ℕ → PortStep
+
+abbrev pub PortLog : Type 0
+PortLog = NewestFirst PortStep
+
+-- ---- what was done, as lists in the order in which it was done
+
+abbrev pub taken_at : PortStep → List ℕ → List ℕ
+taken_at (took b) bytes = bytes ++ b ∷ []
+taken_at e bytes = bytes
+
+abbrev pub taken_in : PortLog → List ℕ
+taken_in [] = []
+taken_in (e ∷ l) = taken_at e (taken_in l)
+
+abbrev pub closed_at : PortStep → Bool → Bool
+closed_at found_closed closed = true
+closed_at e closed = closed
+
+-- the link was found closed
+abbrev pub has_closed_in : PortLog → Bool
+has_closed_in [] = false
+has_closed_in (e ∷ l) = closed_at e (has_closed_in l)
+
+abbrev pub answered_at : PortStep → List Reply → List Reply
+answered_at (answered r) rs = rs ++ r ∷ []
+answered_at e rs = rs
+
+abbrev pub answered_in : PortLog → List Reply
+answered_in [] = []
+answered_in (e ∷ l) = answered_at e (answered_in l)
+
+-- a word of requests asks for a report
+abbrev pub asks_report : Exec → Bool
+asks_report word = asks word query
+
+abbrev pub reports_at : PortStep → ℕ → ℕ
+reports_at (took_exec word) n = cond (asks_report word) (n + 1) n
+reports_at e n = n
+
+-- how many words that ask for a report were taken
+abbrev pub reports_in : PortLog → ℕ
+reports_in [] = 0
+reports_in (e ∷ l) = reports_at e (reports_in l)
+
+abbrev pub published_at : PortStep → List Piece → List Piece
+published_at (published p) ps = ps ++ p ∷ []
+published_at e ps = ps
+
+abbrev pub published_in : PortLog → List Piece
+published_in [] = []
+published_in (e ∷ l) = published_at e (published_in l)
+
+abbrev pub known_at : PortStep → ℕ → ℕ
+known_at (loaded n) known = n
+known_at e known = known
+
+-- how many ticks were found done when that was loaded last
+abbrev pub known_in : PortLog → ℕ
+known_in [] = 0
+known_in (e ∷ l) = known_at e (known_in l)
+
+-- ---- what a board owes
+
+-- a reply may be answered: a line only where fewer lines were answered than were taken to their LF
+pub record MayAnswer (l : PortLog) (r : Reply) : Type 0 where
+  pub line : is_answer r ≡ true → answers_in (answered_in l) < lfs_in (taken_in l)
+  pub text : IsReply r
+  pub few : length (answered_in l) < 2 ^ 62
+
+-- a piece may be published: it may come behind those before it, and their ticks and its own are fewer than 2 ^ 62
+pub record MayPublish (l : PortLog) (p : Piece) : Type 0 where
+  pub next : ComesNext (reverse (published_in l)) p
+  pub few : ticks_together (published_in l) + tick_count p < 2 ^ 62
+
+-- ---- what a port promises
+
+-- one byte more is taken: fewer than 2 ^ 31 were
+abbrev pub HasTakenFew : PortLog → Type 0
+HasTakenFew l = length (taken_in l) < 2 ^ 31
+
+-- one report more is asked for: fewer than 2 ^ 31 were
+abbrev pub HasFewReports : PortLog → Type 0
+HasFewReports l = reports_in l < 2 ^ 31
+
+-- a reply is handed back only where 16 that were answered may stand on the link
+abbrev pub LacksReplyRoom : PortLog → Type 0
+LacksReplyRoom l = reply_room ≤ length (answered_in l)
+
+-- a piece is handed back, while so many ticks are done, only where five pieces are unfinished
+pub record LacksPieceRoom (done : ℕ) (l : PortLog) : Type 0 where
+  pub later : known_in l ≤ done
+  pub full : unfinished (published_in l) done ≡ most_unfinished
+
+-- So many ticks may be found done: no fewer than before, and no more than those of the published pieces. So nothing is
+-- done before it is published.
+pub record MayBeDone (done : ℕ) (l : PortLog) : Type 0 where
+  pub later : known_in l ≤ done
+  pub below : done ≤ ticks_together (published_in l)

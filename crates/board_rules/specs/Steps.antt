@@ -1,0 +1,248 @@
+-- What a board has done, the latest first: at its port, and by itself.
+use Rattle.std.specs.Prelude.{ℕ, Bool, false, cond, nat_eq, List, [], ◌∷◌, ◌++◌, drop}
+use Rattle.feed_hold.specs.declared.Motion.{Motion}
+use Rattle.feed_hold.specs.declared.Motion.TheVariants as motions
+use Rattle.feed_hold.specs.Motions.{Call}
+use Rattle.outside.specs.declared.Turn.{Turn}
+use Rattle.plan_passes.specs.Plans.{Planned}
+use Rattle.plan_passes.specs.Segments.{advanced}
+use Rattle.planner_runs.specs.declared.Action.{Action}
+use Rattle.planner_runs.specs.declared.Action.TheVariants.{Add, Take, Override, Mark, Rest, Clear, Reset}
+use Rattle.planner_runs.specs.Runs.{fresh_plan, with_move, cleared}
+use Rattle.run_rules.specs.declared.State.{State}
+use Rattle.run_rules.specs.Work.{Task, Outcome}
+use Rattle.run_rules.specs.Work.Task.{tell, finish}
+use Rattle.run_rules.specs.Outcomes.{Before, start, after}
+use Rattle.status_report.specs.declared.Reply.{Reply}
+use Rattle.status_report.specs.declared.Reply.TheVariants.{Banner, Bye}
+use Rattle.step_line.specs.declared.Piece.{Piece}
+use Rattle.step_line.specs.declared.Piece.TheVariants as pieces
+use Rattle.step_line.specs.Logs.{NewestFirst}
+use Rattle.board_rules.specs.Ports.{PortStep, PortLog, taken_in, has_closed_in, answered_in, published_in, known_in}
+use Rattle.board_rules.specs.Ports.PortStep.{took, answered, published}
+
+pub data Step : Type 0 where
+  at_port : PortStep → Step
+  -- the line that was taken whole is begun, and this becomes of it
+  began : Outcome → Step
+  -- something is done to the plan, which gives these pieces
+  did : Action → List Piece → Step
+  -- the end of the run is made
+  made_end : Step
+  -- something happens to the motion, whose state is this behind it
+  became : Call → Motion → Step
+  -- the run is being closed
+  closing : Step
+  -- a turn ends with this answer
+  turned : Turn → Step
+
+abbrev pub Journal : Type 0
+Journal = NewestFirst Step
+
+abbrev pub port_log : Journal → PortLog
+port_log [] = []
+port_log (at_port e ∷ h) = e ∷ port_log h
+port_log (began o ∷ h) = port_log h
+port_log (did a ps ∷ h) = port_log h
+port_log (made_end ∷ h) = port_log h
+port_log (became call m ∷ h) = port_log h
+port_log (closing ∷ h) = port_log h
+port_log (turned t ∷ h) = port_log h
+
+abbrev pub taken_of : Journal → List ℕ
+taken_of h = taken_in (port_log h)
+
+abbrev pub has_closed : Journal → Bool
+has_closed h = has_closed_in (port_log h)
+
+abbrev pub answered_of : Journal → List Reply
+answered_of h = answered_in (port_log h)
+
+abbrev pub published_of : Journal → List Piece
+published_of h = published_in (port_log h)
+
+abbrev pub known_of : Journal → ℕ
+known_of h = known_in (port_log h)
+
+-- ---- the lines
+
+abbrev pub open_at : PortStep → List ℕ → List ℕ
+open_at (took b) bytes = cond (nat_eq b 10) bytes (bytes ++ b ∷ [])
+open_at e bytes = bytes
+
+-- the bytes of the line that is not begun
+abbrev pub open_of : Journal → List ℕ
+open_of [] = []
+open_of (at_port e ∷ h) = open_at e (open_of h)
+open_of (began o ∷ h) = []
+open_of (did a ps ∷ h) = open_of h
+open_of (made_end ∷ h) = open_of h
+open_of (became call m ∷ h) = open_of h
+open_of (closing ∷ h) = open_of h
+open_of (turned t ∷ h) = open_of h
+
+abbrev pub whole_at : PortStep → Bool → Bool
+whole_at (took b) whole = nat_eq b 10
+whole_at e whole = whole
+
+-- it was taken whole
+abbrev pub whole_of : Journal → Bool
+whole_of [] = false
+whole_of (at_port e ∷ h) = whole_at e (whole_of h)
+whole_of (began o ∷ h) = false
+whole_of (did a ps ∷ h) = whole_of h
+whole_of (made_end ∷ h) = whole_of h
+whole_of (became call m ∷ h) = whole_of h
+whole_of (closing ∷ h) = whole_of h
+whole_of (turned t ∷ h) = whole_of h
+
+-- the lines that were begun
+abbrev pub lines_of : Journal → List (List ℕ)
+lines_of [] = []
+lines_of (at_port e ∷ h) = lines_of h
+lines_of (began o ∷ h) = lines_of h ++ open_of h ∷ []
+lines_of (did a ps ∷ h) = lines_of h
+lines_of (made_end ∷ h) = lines_of h
+lines_of (became call m ∷ h) = lines_of h
+lines_of (closing ∷ h) = lines_of h
+lines_of (turned t ∷ h) = lines_of h
+
+-- what became of each
+abbrev pub outcomes_of : Journal → List Outcome
+outcomes_of [] = []
+outcomes_of (at_port e ∷ h) = outcomes_of h
+outcomes_of (began o ∷ h) = outcomes_of h ++ o ∷ []
+outcomes_of (did a ps ∷ h) = outcomes_of h
+outcomes_of (made_end ∷ h) = outcomes_of h
+outcomes_of (became call m ∷ h) = outcomes_of h
+outcomes_of (closing ∷ h) = outcomes_of h
+outcomes_of (turned t ∷ h) = outcomes_of h
+
+-- what they leave for the next
+abbrev pub before_of : State → Journal → Before
+before_of first [] = start first
+before_of first (at_port e ∷ h) = before_of first h
+before_of first (began o ∷ h) = after (before_of first h) o
+before_of first (did a ps ∷ h) = before_of first h
+before_of first (made_end ∷ h) = before_of first h
+before_of first (became call m ∷ h) = before_of first h
+before_of first (closing ∷ h) = before_of first h
+before_of first (turned t ∷ h) = before_of first h
+
+-- ---- what there is to do
+
+abbrev pub left_at : PortStep → List Task → List Task
+left_at (answered r) tasks = drop 1 tasks
+left_at e tasks = tasks
+
+abbrev pub left_by : Action → List Task → List Task
+left_by (Add m) tasks = drop 1 tasks
+left_by (Mark m) tasks = drop 1 tasks
+left_by Rest tasks = drop 1 tasks
+left_by a tasks = tasks
+
+-- a run that is closed makes its end, and tells Bye
+abbrev pub closing_work : List Task
+closing_work = finish ∷ tell Bye ∷ []
+
+-- what is left to do; at first the banner is told
+abbrev pub left_of : Journal → List Task
+left_of [] = tell Banner ∷ []
+left_of (at_port e ∷ h) = left_at e (left_of h)
+left_of (began o ∷ h) = o.work
+left_of (did a ps ∷ h) = left_by a (left_of h)
+left_of (made_end ∷ h) = drop 1 (left_of h)
+left_of (became call m ∷ h) = left_of h
+left_of (closing ∷ h) = closing_work
+left_of (turned t ∷ h) = left_of h
+
+-- what is told by closing the run
+abbrev pub closed_tells : Journal → List Reply
+closed_tells [] = []
+closed_tells (at_port e ∷ h) = closed_tells h
+closed_tells (began o ∷ h) = closed_tells h
+closed_tells (did a ps ∷ h) = closed_tells h
+closed_tells (made_end ∷ h) = closed_tells h
+closed_tells (became call m ∷ h) = closed_tells h
+closed_tells (closing ∷ h) = closed_tells h ++ Bye ∷ []
+closed_tells (turned t ∷ h) = closed_tells h
+
+-- ---- the machine
+
+-- what was done to the plan
+abbrev pub actions_of : Journal → List Action
+actions_of [] = []
+actions_of (at_port e ∷ h) = actions_of h
+actions_of (began o ∷ h) = actions_of h
+actions_of (did a ps ∷ h) = actions_of h ++ a ∷ []
+actions_of (made_end ∷ h) = actions_of h
+actions_of (became call m ∷ h) = actions_of h
+actions_of (closing ∷ h) = actions_of h
+actions_of (turned t ∷ h) = actions_of h
+
+-- the pieces that the plan gave
+abbrev pub planned_of : Journal → List Piece
+planned_of [] = []
+planned_of (at_port e ∷ h) = planned_of h
+planned_of (began o ∷ h) = planned_of h
+planned_of (did a ps ∷ h) = planned_of h ++ ps
+planned_of (made_end ∷ h) = planned_of h
+planned_of (became call m ∷ h) = planned_of h
+planned_of (closing ∷ h) = planned_of h
+planned_of (turned t ∷ h) = planned_of h
+
+-- all pieces that were given: those, and the end
+abbrev pub given_of : Journal → List Piece
+given_of [] = []
+given_of (at_port e ∷ h) = given_of h
+given_of (began o ∷ h) = given_of h
+given_of (did a ps ∷ h) = given_of h ++ ps
+given_of (made_end ∷ h) = given_of h ++ pieces.End ∷ []
+given_of (became call m ∷ h) = given_of h
+given_of (closing ∷ h) = given_of h
+given_of (turned t ∷ h) = given_of h
+
+abbrev pub hand_at : PortStep → List Piece → List Piece
+hand_at (published p) ps = drop 1 ps
+hand_at e ps = ps
+
+-- those of them that are not published yet
+abbrev pub hand_of : Journal → List Piece
+hand_of [] = []
+hand_of (at_port e ∷ h) = hand_at e (hand_of h)
+hand_of (began o ∷ h) = hand_of h
+hand_of (did a ps ∷ h) = hand_of h ++ ps
+hand_of (made_end ∷ h) = hand_of h ++ pieces.End ∷ []
+hand_of (became call m ∷ h) = hand_of h
+hand_of (closing ∷ h) = hand_of h
+hand_of (turned t ∷ h) = hand_of h
+
+-- the plan behind an action that gives these pieces
+abbrev pub behind : Action → List Piece → Planned → Planned
+behind (Add m) ps p = with_move p m
+behind (Override o) ps p = record p { overrides = o }
+behind (Take mode) (pieces.Segment s ∷ ps) p = advanced p s.n s.w_out
+behind Clear ps p = cleared p
+behind Reset ps p = cleared p
+behind a ps p = p
+
+abbrev pub plan_of : Journal → Planned
+plan_of [] = fresh_plan
+plan_of (at_port e ∷ h) = plan_of h
+plan_of (began o ∷ h) = plan_of h
+plan_of (did a ps ∷ h) = behind a ps (plan_of h)
+plan_of (made_end ∷ h) = plan_of h
+plan_of (became call m ∷ h) = plan_of h
+plan_of (closing ∷ h) = plan_of h
+plan_of (turned t ∷ h) = plan_of h
+
+-- the state of the motion
+abbrev pub motion_of : Journal → Motion
+motion_of [] = motions.Idle
+motion_of (at_port e ∷ h) = motion_of h
+motion_of (began o ∷ h) = motion_of h
+motion_of (did a ps ∷ h) = motion_of h
+motion_of (made_end ∷ h) = motion_of h
+motion_of (became call m ∷ h) = m
+motion_of (closing ∷ h) = motion_of h
+motion_of (turned t ∷ h) = motion_of h

@@ -1,0 +1,73 @@
+-- What a board that keeps to its rules has taken, when it stands, and what one that is finished leaves.
+use Rattle.std.specs.Prelude.{◌≡◌, ℕ, ◌⊎◌, Bool, true, false, cond, List, [], ◌∷◌, ◌++◌}
+use Rattle.std.specs.List.{AllByRecursion}
+use Rattle.gcode_check.specs.declared.Item.{Item}
+use Rattle.gcode_check.specs.declared.Item.TheVariants.{Pause}
+use Rattle.planner_runs.specs.Runs.{IsAtRest}
+use Rattle.run_rules.specs.Lines.{HasNoLf, ended}
+use Rattle.run_rules.specs.Work.{Task, Outcome, has_moves}
+use Rattle.run_rules.specs.Work.Task.{ask, tell, finish}
+use Rattle.step_line.specs.Asking.Asked.{a_move, a_mark, a_rest}
+use Rattle.step_line.specs.declared.Piece.TheVariants as pieces
+use Rattle.board_rules.specs.Steps.{Journal, known_of, given_of, planned_of, hand_of, plan_of, whole_of, has_closed, left_of}
+use Rattle.board_rules.specs.Conduct.{IsDrained, ticks_given}
+
+-- bytes that are taken: lines, each ended by LF, and the line that is not begun, with its LF where it was taken whole
+pub record AreLines (taken : List ℕ) (lines : List (List ℕ)) (raw : List ℕ) (whole : Bool) : Type 0 where
+  pub bytes : taken ≡ ended lines ++ (raw ++ cond whole (10 ∷ []) [])
+  pub each : AllByRecursion HasNoLf lines
+  pub partial : HasNoLf raw
+
+-- Where all is done, nothing is left in the plan or in hand, each line that was taken whole was begun, and the link was
+-- found closed. The end was given once, behind all that the plan gave, and each tick that was given is done.
+pub record IsSpent (h : Journal) : Type 0 where
+  pub plan : IsAtRest (plan_of h)
+  pub hand : hand_of h ≡ []
+  pub given : given_of h ≡ planned_of h ++ pieces.End ∷ []
+  pub done : known_of h ≡ ticks_given h
+  pub whole : whole_of h ≡ false
+  pub closed : has_closed h ≡ true
+
+-- ---- where nothing has moved since the machine stood
+
+-- a move or a mark is asked for
+abbrev pub has_work : List Task → Bool
+has_work [] = false
+has_work (ask (a_move m) ∷ ts) = true
+has_work (ask (a_mark m) ∷ ts) = true
+has_work (ask a_rest ∷ ts) = has_work ts
+has_work (tell r ∷ ts) = has_work ts
+has_work (finish ∷ ts) = has_work ts
+
+-- the machine is waited for, and no move or mark is asked for behind that
+abbrev pub comes_to_rest : List Task → Bool
+comes_to_rest [] = false
+comes_to_rest (ask a_rest ∷ ts) = cond (has_work ts) (comes_to_rest ts) true
+comes_to_rest (ask (a_move m) ∷ ts) = comes_to_rest ts
+comes_to_rest (ask (a_mark m) ∷ ts) = comes_to_rest ts
+comes_to_rest (tell r ∷ ts) = comes_to_rest ts
+comes_to_rest (finish ∷ ts) = comes_to_rest ts
+
+-- What there is to do of a line brings the machine to rest where the line settles; and where it moves nothing, it does so or
+-- gives the machine nothing to do.
+pub record WorkRests (o : Outcome) : Type 0 where
+  pub settles : o.settles ≡ true → comes_to_rest o.work ≡ true
+  pub still : has_moves o.work ≡ false → (comes_to_rest o.work ≡ true) ⊎ (has_work o.work ≡ false)
+
+-- a pause waits for nothing yet
+abbrev pub pauses : Item → Bool
+pauses Pause = true
+pauses item = false
+
+-- the machine stands, and nothing more is asked of it
+pub record IsQuiet (h : Journal) : Type 0 where
+  pub drained : IsDrained h
+  pub work : has_work (left_of h) ≡ false
+
+-- it stands, or will be waited for
+abbrev pub ComesToRest : Journal → Type 0
+ComesToRest h = (comes_to_rest (left_of h) ≡ true) ⊎ IsQuiet h
+
+-- no byte of a line is taken while a task of the line before is left
+abbrev pub OneByOne : List Task → List ℕ → Bool → Type 0
+OneByOne left raw whole = (left ≡ []) ⊎ ((raw ≡ []) × (whole ≡ false))

@@ -1,0 +1,112 @@
+//! Laws of boards.
+
+ghost use Rattle.std.specs.Prelude.{◌≡◌, ℕ, ◌+◌, ◌^◌, ◌≤◌, ◌<◌, ◌⊎◌, Bool, true, false, cond, List, [], ◌∷◌, ◌++◌, length, map, reverse};
+ghost use Rattle.std.specs.List.{AllByRecursion, list_any, count_by};
+ghost use Rattle.feed_hold.specs.declared.Motion.TheVariants.{Idle, Run};
+ghost use Rattle.gcode_check.specs.declared.Accept.{Accept as Accepted};
+ghost use Rattle.planner_runs.specs.Runs.{IsPlannerRun, IsUndisturbed, all_asked};
+ghost use Rattle.run_rules.specs.declared.State.{State};
+ghost use Rattle.run_rules.specs.Work.{Outcome, tells, asks};
+ghost use Rattle.run_rules.specs.Work.Task.{tell};
+ghost use Rattle.run_rules.specs.Told.{replies_in, asked_in};
+ghost use Rattle.run_rules.specs.Outcomes.{Before, Becomes, Follows, start, executed, refused};
+ghost use Rattle.run_rules.specs.Outcomes.Passed.{a_line};
+ghost use Rattle.status_report.specs.declared.Reply.{Reply as AnyReply};
+ghost use Rattle.step_line.specs.Finishing.{tick_count};
+ghost use Rattle.step_line.specs.Ordering.{InTurn, ComesNext};
+ghost use Rattle.board_rules.specs.Ports.{lfs_in, is_answer, answers_in};
+ghost use Rattle.step_line.specs.declared.Piece.{Piece as AnyPiece};
+ghost use Rattle.board_rules.specs.Steps.{
+  Journal,
+  taken_of,
+  answered_of,
+  published_of,
+  known_of,
+  open_of,
+  whole_of,
+  lines_of,
+  outcomes_of,
+  before_of,
+  left_of,
+  closed_tells,
+  actions_of,
+  planned_of,
+  given_of,
+  hand_of,
+  plan_of,
+  motion_of,
+};
+ghost use Rattle.board_rules.specs.Conduct.{Conducted, IsDrained, IsInHand, IsNextTask, IsFinished, ticks_given, ticks_published};
+ghost use Rattle.board_rules.specs.Turns.{this_turn, publishing, ends_turn, is_run, is_served_at_rest, tries_of, most_tries};
+ghost use Rattle.board_rules.specs.Whole.{AreLines, IsSpent, OneByOne, WorkRests, ComesToRest, pauses};
+
+/// The bytes that a board has taken are its lines, and each line that it has begun is followed by what becomes of it. What
+/// it has answered, and is still to tell, is what the lines tell, and Bye where it is being closed; what was asked of the
+/// plan, and is still to be asked, is what they ask. No byte of a line is taken while a task of the line before is left.
+pub fn boards_keep_to_their_lines()
+    ensures bytes { (first : State) (h : Journal) → Conducted first h → AreLines (taken_of h) (lines_of h) (open_of h) (whole_of h) }
+    ensures follow { (first : State) (h : Journal) → Conducted first h → Follows true (start first) (lines_of h) (map a_line (outcomes_of h)) (before_of first h) }
+    ensures told { (first : State) (h : Journal) → Conducted first h → replies_in (outcomes_of h) ++ closed_tells h ≡ answered_of h ++ tells (left_of h) }
+    ensures asked { (first : State) (h : Journal) → Conducted first h → asked_in (outcomes_of h) ≡ all_asked (actions_of h) ++ asks (left_of h) }
+    ensures one_by_one { (first : State) (h : Journal) → Conducted first h → closed_tells h ≡ [] → OneByOne (left_of h) (open_of h) (whole_of h) }
+{}
+
+/// Each line has one answer: what was answered, what is still to be answered, and the line that is taken whole and not
+/// begun, are the lines taken to their LF. So an answer that is next may be given.
+pub fn boards_answer_each_line_once()
+    ensures answers { (first : State) (h : Journal) → Conducted first h →
+        answers_in (answered_of h) + answers_in (tells (left_of h)) + cond (whole_of h) 1 0 ≡ lfs_in (taken_of h) }
+    ensures due { (first : State) (h : Journal) (r : AnyReply) → Conducted first h → IsNextTask (tell r) h → is_answer r ≡ true →
+        answers_in (answered_of h) < lfs_in (taken_of h) }
+{}
+
+/// A board begins 2^31 lines at most, since its port gives no more bytes; so it gives fewer than 2^62 ticks, and answers
+/// fewer than 2^62 replies.
+pub fn boards_do_a_bounded_amount()
+    ensures lines { (first : State) (h : Journal) → Conducted first h → length (outcomes_of h) ≤ 2 ^ 31 }
+    ensures ticks { (first : State) (h : Journal) → Conducted first h → ticks_given h < 2 ^ 62 }
+    ensures piece { (first : State) (h : Journal) (p : AnyPiece) → Conducted first h → IsInHand p h → ticks_published h + tick_count p < 2 ^ 62 }
+    ensures replies { (first : State) (h : Journal) → Conducted first h → length (answered_of h) < 2 ^ 62 }
+{}
+
+/// What a board does to its plan is a planner run, which no hand disturbs. What was given is published, or in hand; it
+/// comes in turn, so that the piece in hand may be published.
+pub fn boards_run_their_plan()
+    ensures run { (first : State) (h : Journal) → Conducted first h → IsPlannerRun (actions_of h) (planned_of h) (plan_of h) }
+    ensures undisturbed { (first : State) (h : Journal) → Conducted first h → IsUndisturbed (actions_of h) }
+    ensures hand { (first : State) (h : Journal) → Conducted first h → given_of h ≡ published_of h ++ hand_of h }
+    ensures turns { (first : State) (h : Journal) → Conducted first h → InTurn (reverse (given_of h)) }
+    ensures next { (first : State) (h : Journal) (p : AnyPiece) → Conducted first h → IsInHand p h → ComesNext (reverse (published_of h)) p }
+{}
+
+/// Where no line has moved since the last that settles, the machine stands or will be waited for; so where nothing is left
+/// to do, each tick that was given is done, and a machine that does not stand there has moved. So a line that is served
+/// only at rest may be refused while the machine runs, as the rules ask. What there is to do of a line brings the machine to rest where the line
+/// settles, unless it pauses, which waits for nothing yet.
+pub fn boards_stand_where_nothing_moved()
+    ensures quiet { (first : State) (h : Journal) → Conducted first h → AllByRecursion WorkRests (outcomes_of h) → closed_tells h ≡ [] →
+        (before_of first h).moved ≡ false → ComesToRest h }
+    ensures moved { (first : State) (h : Journal) → Conducted first h → AllByRecursion WorkRests (outcomes_of h) → closed_tells h ≡ [] →
+        left_of h ≡ [] → (IsDrained h → ⊥) → (before_of first h).moved ≡ true }
+    ensures done { (first : State) (h : Journal) → Conducted first h → AllByRecursion WorkRests (outcomes_of h) → closed_tells h ≡ [] →
+        left_of h ≡ [] → (before_of first h).moved ≡ false → known_of h ≡ ticks_given h }
+    ensures busy { (first : State) (h : Journal) → Conducted first h → AllByRecursion WorkRests (outcomes_of h) → closed_tells h ≡ [] →
+        left_of h ≡ [] → is_run (motion_of h) ≡ true → (IsDrained h → ⊥) → is_served_at_rest (open_of h) ≡ true →
+        Becomes (is_run (motion_of h)) (before_of first h) (open_of h) (refused (before_of first h) 8) }
+    ensures works { (runs : Bool) (before : Before) (kept : List ℕ) (outcome : Outcome) → Becomes runs before kept outcome →
+        ((a : Accepted) → outcome ≡ executed before a → list_any pauses a.items.items ≡ false) → WorkRests outcome }
+    ensures motion { (first : State) (h : Journal) → Conducted first h → (motion_of h ≡ Idle) ⊎ (motion_of h ≡ Run) }
+{}
+
+/// A board publishes one thing a turn at most, and between two turns no more than five tries to publish stand behind its last
+/// poll, while nothing was left to do.
+pub fn boards_take_turns()
+    ensures once { (first : State) (h : Journal) → Conducted first h → this_turn h ≡ [] → count_by publishing h ≤ count_by ends_turn h }
+    ensures tries { (first : State) (h : Journal) → Conducted first h → this_turn h ≡ [] → tries_of h ≤ most_tries }
+{}
+
+/// Where a board is finished, nothing is left in its plan or in hand, all lines that were taken whole are begun, and the
+/// link was found closed.
+pub fn boards_end_well()
+    ensures { (first : State) (h : Journal) → Conducted first h → IsFinished h → IsSpent h }
+{}

@@ -1,0 +1,10 @@
+//! What a board may do next, and what a board that keeps to it has done.
+#![tactic(auto)]
+
+mod laws;
+
+pub use laws::{
+    boards_answer_each_line_once, boards_do_a_bounded_amount, boards_end_well,
+    boards_keep_to_their_lines, boards_run_their_plan, boards_stand_where_nothing_moved,
+    boards_take_turns,
+};

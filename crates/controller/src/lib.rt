@@ -1,0 +1,6 @@
+//! What a board does with its port.
+#![tactic(auto)]
+
+mod ports;
+
+pub use ports::BoardPort;

@@ -1,0 +1,4 @@
+pub mod Moves
+pub mod Speeds
+pub mod Measuring
+pub mod Whole

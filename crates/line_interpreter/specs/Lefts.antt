@@ -1,0 +1,87 @@
+-- What is left to do of a line.
+use Rattle.std.specs.Prelude.{◌≡◌, ℕ, ◌≤◌, Bool, List, [], ◌∷◌, ◌++◌, drop, All}
+use Rattle.status_report.specs.declared.Reply.TheVariants as replies
+use Rattle.status_report.specs.Replies.{IsReply}
+use Rattle.status_report.specs.Lists.{setting_replies, modes_replies, offset_replies}
+use Rattle.step_line.specs.Records.{IsMark}
+use Rattle.step_line.specs.Asking.{IsPlannedMove}
+use Rattle.step_line.specs.Asking.Asked.{a_move, a_mark, a_rest}
+use Rattle.gcode_check.specs.declared.Item.{Item}
+use Rattle.gcode_check.specs.Items.{IsItem}
+use Rattle.modal_state.specs.declared.SpindleMode.{SpindleMode}
+use Rattle.run_rules.specs.declared.State.{State}
+use Rattle.run_rules.specs.Work.{Task, telling}
+use Rattle.run_rules.specs.Work.Task.{ask, tell, finish}
+use Rattle.run_rules.specs.Asks.{spindle_after, flood_after, item_work, work_of}
+use Rattle.line_interpreter.specs.declared.tasks.Line.{Line}
+use Rattle.line_interpreter.specs.declared.tasks.Body.{Body}
+use Rattle.line_interpreter.specs.declared.tasks.Body.TheVariants.{Nothing, Opening, Closing, Accepted, Refused, Settings as TheSettings, Modes, Offsets, Items}
+use Rattle.line_interpreter.specs.declared.tasks.Todo.{Todo}
+use Rattle.line_interpreter.specs.declared.tasks.Todo.TheVariants as todo
+
+-- behind the last line the machine comes to rest, gets the end, and Bye is told
+abbrev pub closing_work : List Task
+closing_work = ask a_rest ∷ finish ∷ tell replies.Bye ∷ []
+
+-- the tasks of the present item, or of the whole where there are no items
+abbrev pub part : Body → ℕ → State → SpindleMode → Bool → List Item → List Task
+part Nothing line s spindle flood items = []
+part Opening line s spindle flood items = tell replies.Banner ∷ []
+part Closing line s spindle flood items = closing_work
+part Accepted line s spindle flood items = tell replies.Ok ∷ []
+part (Refused n) line s spindle flood items = tell (replies.Error n) ∷ []
+part TheSettings line s spindle flood items = telling (setting_replies s.settings ++ replies.Ok ∷ [])
+part Modes line s spindle flood items = telling (modes_replies s.parser ++ replies.Ok ∷ [])
+part Offsets line s spindle flood items = telling (offset_replies s.parser.offsets ++ replies.Ok ∷ [])
+part Items line s spindle flood [] = tell replies.Ok ∷ []
+part Items line s spindle flood (item ∷ items) = item_work line s.settings spindle flood item
+
+-- the tasks of what comes behind it
+abbrev pub behind_part : Body → ℕ → State → SpindleMode → Bool → List Item → List Task
+behind_part Nothing line s spindle flood items = []
+behind_part Opening line s spindle flood items = []
+behind_part Closing line s spindle flood items = []
+behind_part Accepted line s spindle flood items = []
+behind_part (Refused n) line s spindle flood items = []
+behind_part TheSettings line s spindle flood items = []
+behind_part Modes line s spindle flood items = []
+behind_part Offsets line s spindle flood items = []
+behind_part Items line s spindle flood [] = []
+behind_part Items line s spindle flood (item ∷ items) =
+    work_of line s.settings (spindle_after spindle item) (flood_after flood item) items ++ tell replies.Ok ∷ []
+
+abbrev pub part_of : Line → State → List Task
+part_of l s = part l.body l.number s l.running.spindle l.running.flood (drop l.place l.items.items)
+
+-- what is left of it
+abbrev pub part_left : Line → State → List Task
+part_left l s = drop l.stage (part_of l s)
+
+abbrev pub later : Line → State → List Task
+later l s = behind_part l.body l.number s l.running.spindle l.running.flood (drop l.place l.items.items)
+
+-- what is left of the whole line
+abbrev pub work_left : Line → State → List Task
+work_left l s = part_left l s ++ later l s
+
+-- nothing comes behind a part of which nothing is left
+abbrev pub IsSettled : Line → State → Type 0
+IsSettled l s = part_left l s ≡ [] → later l s ≡ []
+
+-- a task comes next
+abbrev pub IsNextOf : Task → List Task → Type 0
+IsNextOf t tasks = tasks ≡ t ∷ drop 1 tasks
+
+-- what there is to do next of these tasks
+abbrev pub IsTodo : Todo → List Task → Type 0
+IsTodo todo.Nothing tasks = tasks ≡ []
+IsTodo todo.Rest tasks = IsNextOf (ask a_rest) tasks
+IsTodo (todo.Mark m) tasks = IsNextOf (ask (a_mark m)) tasks × IsMark m
+IsTodo (todo.Move m) tasks = IsNextOf (ask (a_move m)) tasks × IsPlannedMove m
+IsTodo (todo.Tell r) tasks = IsNextOf (tell r) tasks × IsReply r
+IsTodo todo.Finish tasks = IsNextOf finish tasks
+
+-- the fields of a line are in range
+pub record IsSound (l : Line) : Type 0 where
+  pub line : 1 ≤ l.number
+  pub items : All IsItem l.items.items

@@ -1,0 +1,7 @@
+pub mod Keeping
+pub mod Lefts
+pub mod Finding
+pub mod Desks
+pub mod Interpreting
+pub use Rattle.run_rules.specs.Work
+pub use Rattle.run_rules.specs.Outcomes

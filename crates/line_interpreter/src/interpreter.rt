@@ -1,0 +1,94 @@
+//! The interpreter.
+
+ghost use Rattle.std.specs.Prelude.{◌≡◌, ◌≢◌, ◌+◌, ◌<◌, ◌^◌, ℕ, Bool, List, [], ◌∷◌, drop, not, true, false};
+ghost use Rattle.status_report.specs.declared.Reply.TheVariants as replies;
+ghost use Rattle.run_rules.specs.States.{IsState, IsOpening};
+ghost use Rattle.run_rules.specs.Work.{Outcome, telling};
+ghost use Rattle.run_rules.specs.Told.{is_error};
+ghost use Rattle.run_rules.specs.Outcomes.{Before, Becomes};
+ghost use Rattle.line_interpreter.specs.Keeping.{IsKept};
+ghost use Rattle.line_interpreter.specs.Finding.{Found};
+ghost use Rattle.line_interpreter.specs.Lefts.{IsTodo, closing_work};
+ghost use Rattle.line_interpreter.specs.Interpreting.{stands_before};
+
+use crate::desk::Desk;
+use crate::kept::KeptLine;
+use crate::tasks::Todo;
+use std::marker::Model;
+
+/// Judges lines one at a time, and says task by task what there is to do of the line that was begun last. At first the
+/// banner is to be told.
+///
+/// Contracts see the state behind the lines that were begun, the number of the next line, and what is left to do.
+#[derive(Drop)]
+pub struct Interpreter {
+    desk: Desk,
+}
+
+impl Model for Interpreter {
+    ghost use Rattle.line_interpreter.specs.Interpreting.{Interpreting, interpreting};
+    ghost use Rattle.line_interpreter.specs.Desks.{IsReady};
+    ghost use Rattle.line_interpreter.specs.Finding.{Found};
+    ghost use Rattle.line_interpreter.specs.Lefts.{IsSettled};
+
+    ghost Value = { Interpreting };
+
+    ghost view = { λ i. interpreting i.desk };
+
+    ghost invariant = { λ i. IsReady i.desk × IsSettled i.desk.line i.desk.state };
+}
+
+impl Interpreter {
+    /// The opening state. The banner is to be told, and no line has come.
+    pub fn new() -> Interpreter
+        ensures opening { IsOpening result.state }
+        ensures number { result.number ≡ 1 }
+        ensures left { result.left ≡ telling (replies.Banner ∷ []) }
+    {
+        Interpreter { desk: Desk::new() }
+    }
+
+    /// Begins the next line, of which this is kept. While the machine runs, a line that is served only at rest is refused
+    /// with 8, whether or not it can be read. Answers whether the line is accepted. What was left of the line before is
+    /// not done, so call it where nothing is.
+    pub fn judge(&mut self, line: &KeptLine, running: bool) -> bool
+        requires few { self.old.number + 1 < 2 ^ 32 }
+        ensures becomes { (moved : Bool) (kept : List ℕ) → IsKept line.now kept → (o : Outcome) × Found running (stands_before self.old moved) kept o
+            × (self.new ≡ record { state = o.next; number = self.old.number + 1; left = o.work }) × (result ≡ not (is_error o.answer)) }
+        ensures valid { IsState self.new.state }
+        ensures number { self.new.number ≡ self.old.number + 1 }
+    {
+        self.desk.judge(line, running)
+    }
+
+    /// Behind the last line the machine comes to rest, gets the end, and Bye is told.
+    pub fn close(&mut self)
+        ensures { self.new ≡ record self.old { left = closing_work } }
+    {
+        self.desk.close();
+    }
+
+    /// What there is to do next; nothing exactly where nothing is left.
+    #[inline]
+    pub fn todo(&self) -> Todo
+        ensures { IsTodo result self.now.left }
+    {
+        self.desk.todo()
+    }
+
+    /// What there was to do next is done.
+    #[inline]
+    pub fn done(&mut self)
+        requires { self.old.left ≢ [] }
+        ensures { self.new ≡ record self.old { left = drop 1 self.old.left } }
+    {
+        self.desk.done();
+    }
+}
+
+/// What is found of a line is what becomes of it: while the machine stands, what becomes of it where none is found running;
+/// while it runs, what becomes of it where one may be, if a line has moved since the last one that settles.
+pub fn found_lines_become()
+    ensures standing { (b : Before) (kept : List ℕ) (o : Outcome) → Found false b kept o → Becomes false b kept o }
+    ensures running { (b : Before) (kept : List ℕ) (o : Outcome) → b.moved ≡ true → Found true b kept o → Becomes true b kept o }
+{}

@@ -1,0 +1,16 @@
+//! A line interpreter without devices: what a line asks for, is told and done, task by task.
+//!
+//! It keeps the parser and the settings, judges one line at a time by the bytes that are kept of it, and then says what
+//! there is to do next, until nothing is left. Who drives it tells the replies and moves the machine.
+#![tactic(auto)]
+
+mod desk;
+mod interpreter;
+mod kept;
+mod tasks;
+#[cfg(test)]
+mod tests;
+
+pub use interpreter::{Interpreter, found_lines_become};
+pub use kept::KeptLine;
+pub use tasks::Todo;

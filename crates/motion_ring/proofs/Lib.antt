@@ -1,0 +1,4 @@
+pub mod Ticks
+pub mod Flows
+pub mod Steps
+mod Tried

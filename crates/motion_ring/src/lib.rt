@@ -1,0 +1,18 @@
+//! The ring of pieces between the board, which publishes them, and the pulse, which traces them.
+//!
+//! A piece stands in one of six slots until the last of its ticks is counted; at most five are unfinished at
+//! once. The board stores the head once a piece stands in its slot, and the pulse counts each tick by one
+//! store of the done count. So the done count, which the board loads, says which ticks are recorded, and a
+//! slot is free again once every tick of its piece is.
+#![tactic(auto)]
+
+mod calls;
+mod ends;
+mod plays;
+#[cfg(test)]
+mod tests;
+mod view;
+
+pub use calls::{join_motion, motion};
+pub use ends::{SegIn, SegOut};
+pub use view::{Motion, Sight};

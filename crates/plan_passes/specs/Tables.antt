@@ -1,0 +1,14 @@
+-- What stands beside the blocks of a plan, in rows that may be longer than they are.
+use Rattle.std.specs.Prelude.{◌≡◌, ℕ, ◌-◌, ◌<◌, List, length, take, drop}
+use Rattle.planner_ring.specs.declared.Block.{Block}
+use Rattle.overrides.specs.declared.Overrides.{Overrides}
+use Rattle.plan_passes.specs.Blocks.{gaps_of, softs_of}
+
+-- the gap of each block, and the soft cap of each junction
+pub record IsTabled (bs : List Block) (o : Overrides) (gap_row soft_row : List ℕ) : Type 0 where
+  pub gaps : take (length bs) gap_row ≡ gaps_of bs
+  pub softs : take (length bs - 1) soft_row ≡ softs_of o bs
+
+-- a row of N places whose first is gone: what stood behind it stands one place up
+abbrev pub IsMovedUp : {X : Type 0} → ℕ → List X → List X → Type 0
+IsMovedUp N xs ys = (n : ℕ) → n < N → take n ys ≡ take n (drop 1 xs)

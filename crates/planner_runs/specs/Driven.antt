@@ -1,0 +1,42 @@
+-- What is recorded of a planner run.
+use Rattle.std.specs.Prelude.{◌≡◌, ℕ, List, [], ◌∷◌, ◌++◌}
+use Rattle.step_line.specs.declared.Mark.TheVariants.{Cut}
+use Rattle.step_line.specs.declared.Piece.{Piece}
+use Rattle.step_line.specs.declared.Record.{Record}
+use Rattle.step_line.specs.declared.Record.TheVariants as kinds
+use Rattle.step_line.specs.Ending.{IsEnded}
+use Rattle.step_line.specs.Asking.{Asked, moves_of, ticks_of_all, ticks_among}
+use Rattle.plan_passes.specs.Plans.{Planned}
+use Rattle.legal_heads.specs.Speeds.{HasLegalHeads}
+use Rattle.planner_runs.specs.declared.Action.{Action}
+use Rattle.planner_runs.specs.Runs.{Plans, IsStart, IsAtRest, IsPlannerRun, IsUndisturbed, all_asked, all_records, moves_added}
+
+-- What a whole run records of which this was asked: the pieces that a planner run gives, which no hand disturbs, to which
+-- these moves are added, and these marks and rests, in this order; and the end, behind them, where the machine stands.
+pub record IsDriven (asked : List Asked) (records : List Record) : Type 0 where
+  pub actions : List Action
+  pub given : List Piece
+  pub last : Planned
+  pub run : IsPlannerRun actions given last
+  pub undisturbed : IsUndisturbed actions
+  pub asks : all_asked actions ≡ asked
+  -- nothing is left to run
+  pub stops : IsAtRest last
+  pub recorded : records ≡ all_records given ++ kinds.End ∷ []
+  -- the end is the last record, and the only end
+  pub ended : IsEnded records
+  -- each event of each move is recorded, and each mark, once and in order
+  pub ticks : ticks_among records ≡ ticks_of_all asked
+  -- each head stands before its events, which are of one of the moves, and the heads are legal
+  pub heads : HasLegalHeads (moves_of asked) records
+
+-- A run that is cleared between some actions and more: it begins anew there, and behind what was recorded before a cut may
+-- come, so that the machine stood.
+pub record IsParted (most : ℕ) (from : Planned) (actions more : List Action) (given : List Piece) (last : Planned) : Type 0 where
+  pub early : List Piece
+  pub late : List Piece
+  pub both : given ≡ early ++ late
+  pub start : Planned
+  pub starts : IsStart start
+  pub behind : Plans most start more late last
+  pub heads : (line : ℕ) → HasLegalHeads (moves_added actions) (all_records early ++ kinds.Mark (Cut line) ∷ [])

@@ -1,0 +1,33 @@
+//! What a planner run is, and that its speeds are legal and its ticks those asked for.
+//!
+//! Speeds are squared, in µm²/s².
+#![tactic(auto)]
+
+mod laws;
+
+pub use laws::{
+    cleared_runs_begin_anew, pieces_follow, planner_runs_are_driven, planner_runs_are_legal,
+    planner_runs_begin_at_rest, planner_runs_go_on, planner_runs_grow, ticks_are_those_asked_for,
+};
+use overrides::Overrides;
+use segment_prep::Mode;
+use step_line::{Mark, PlannedMove};
+
+/// What is done to a plan.
+#[derive(Clone, Copy, Debug, PartialEq, Eq)]
+pub enum Action {
+    /// A move is put behind the others.
+    Add(PlannedMove),
+    /// The next segment is taken.
+    Take(Mode),
+    /// It is planned for other overrides.
+    Override(Overrides),
+    /// A mark is made where nothing is left to run.
+    Mark(Mark),
+    /// It was waited for until nothing is left to run.
+    Rest,
+    /// All blocks are taken away where the machine stands: a jog is cut, or an alarm is raised.
+    Clear,
+    /// All blocks are taken away at any speed. Nothing comes behind it.
+    Reset,
+}

@@ -1,0 +1,28 @@
+-- The first of a queue, and a queue without room.
+use Rattle.std.proofs.Common.{◌≡◌, ℕ, ◌<◌, ◌≤◌, true, false, List, [], ◌∷◌, ◌++◌, drop, refl, rules, Some, None, Ok, Err, lt_of_not-le}
+use native.Mathlib.Decide.{dec_le}
+use Rattle.std.specs.declared.result.Result.{Result}
+use Rattle.std.specs.Result.{is_ok, IsOk, OnOk, IfErr}
+use Rattle.std.specs.List.{All, slice_get}
+use Rattle.std.proofs.lemmas.List.Elements.{All-append}
+use Rattle.circular_buffer.specs.Buffer.{Buffer, buffer}
+
+-- a queue that gives its first is that and the others
+pub first_is : {X : Type 0} (xs : List X) (x : X) → Some x ≡ slice_get xs 0 → xs ≡ x ∷ drop 1 xs
+first_is [] x e = absurd cc
+first_is (y ∷ ys) x e = let f : Some x ≡ Some y = e in cc
+
+at_least : (n cap : ℕ) → (n < cap → ⊥) → Dec (cap ≤ n) → cap ≤ n
+at_least n cap full (yes le) = le
+at_least n cap full (no more) = absurd (full (lt_of_not-le more))
+
+-- a push that hands its item back changes nothing, and there was no room
+pub handed_back : {T E B : Type 0} (r : Result T E) (x : E) (new old : B) (n cap : ℕ) → is_ok r ≡ false → (n < cap → IsOk r) → IfErr r (λ y. (y ≡ x) × (new ≡ old)) → (new ≡ old) × (cap ≤ n)
+handed_back (Ok t) x new old n cap bad room err = absurd cc
+handed_back (Err y) x new old n cap bad room err = (err.1, at_least n cap (λ lt. let e : false ≡ true = room lt in cc) (dec_le cap n))
+
+-- what holds of all items, and of the one that is pushed, holds of all behind it; the room stays
+pub all_pushed : {X : Type 0} (P : X → Type 0) (r : Result (Unit {0}) X) (x : X) (new old : Buffer X) → All P old.items → P x
+    → OnOk r (new ≡ buffer (old.items ++ x ∷ []) old.capacity) → IfErr r (λ y. (y ≡ x) × (new ≡ old)) → (new.capacity ≡ old.capacity) × All P new.items
+all_pushed P (Ok t) x new old all one ok err = rw ok (refl, All-append P old.items (x ∷ []) all (search (rules, one)))
+all_pushed P (Err y) x new old all one ok err = rw err.1 (refl, all)

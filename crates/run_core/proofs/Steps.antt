@@ -1,0 +1,135 @@
+-- What calls of a port make of the lists and the logs, where a search does not find it.
+use Rattle.std.proofs.Common.{◌≡◌, ℕ, ◌+◌, ◌-◌, ◌<◌, ◌≤◌, ◌^◌, Bool, true, not, nat_eq, List, [], ◌∷◌, ◌++◌, length, sym, ap, ◌∙◌, subst, arith, Some}
+use Rattle.std.proofs.lemmas.Bool.Decides.{nat_tests}
+use Rattle.std.specs.declared.option.Option.{Option}
+use Rattle.step_line.specs.declared.Piece.{Piece}
+use Rattle.step_line.specs.Ordering.{ComesNext}
+use Rattle.step_line.specs.Finishing.{tick_count, unfinished}
+use Rattle.board_rules.specs.Ports.{most_unfinished, taken_in, has_closed_in, answered_in, published_in, known_in, asks_report, MayPublish, MayBeDone, HasFewReports, LacksPieceRoom}
+use Rattle.board_rules.specs.Ports.{PortLog as BoardLog}
+use Rattle.board_rules.specs.Ports.PortStep.{took_exec, published, no_piece_room, loaded}
+use Rattle.realtime_flags.specs.declared.words.Flag.{Flag}
+use Rattle.realtime_flags.specs.declared.words.Flag.TheVariants as flags
+use Rattle.realtime_flags.specs.Bits.{is_flag, is_up, report_flag, raises_of, IsNamed}
+use Rattle.realtime_flags.specs.Bytes.{flag_of_byte}
+use Rattle.pulse_engine.specs.Logs.{PieceLog, pieces_of, counted, uncounted, IsCounted, HasTick}
+use Rattle.pulse_engine.specs.Logs.PieceEvent.{ticked}
+use Rattle.pulse_engine.specs.Logs.PieceEvent.{got as piece_came}
+use Rattle.stream_host.specs.Links.{receive_room}
+use Rattle.stream_host.specs.Ports.{query, TakesRaise, SeemsFull}
+use Rattle.stream_host.specs.Steps.{stored_in, got_in, is_shut_in}
+use Rattle.stream_host.specs.Steps.{PortLog as HostLog}
+use Rattle.stream_host.specs.Steps.PortStep.{dropped, raised}
+use Rattle.run_core.specs.Joining.{Listed, FlagsPass, Joined, raises_in, takes_in, raised_to, with_flag, one_if_some}
+use Rattle.run_core.proofs.Links as links
+use Rattle.run_core.proofs.Pieces as pieces
+use Rattle.run_core.proofs.Raising as words
+
+module _ (l : Listed) (host : HostLog) (board : BoardLog) (pulse : PieceLog) (j : Joined l host board pulse) where
+  -- ---- the host
+
+  pub byte_dropped : (b : ℕ) → receive_room ≤ length l.bytes → Joined l (dropped b ∷ host) board pulse × SeemsFull host
+  byte_dropped b many = (
+    record { bytes = j.bytes; replies = j.replies; flags = j.flags; pieces = j.pieces },
+    (let r = links.room_is_seen l.bytes (stored_in host) (taken_in board) l.closed (is_shut_in host) (has_closed_in board) l.replies (answered_in board) (got_in host) j.bytes j.replies in omega arith),
+  )
+
+  queries_few : (b : ℕ) (f : Flag) → flag_of_byte b ≡ Some f → TakesRaise b host → is_flag report_flag f ≡ true → raises_of report_flag (raises_in host) < 2 ^ 31
+  queries_few b f is may asked =
+      let same : nat_eq b query ≡ true = words.only_query b (ap words.asks is ∙ asked) in
+      let few = may (grind (arith, nat_tests, same)) in
+      let q = words.few_queries host in omega arith
+
+  abbrev flag_down : Flag → Bool
+  flag_down f = not (is_up f (l.exec ∷ l.override ∷ []))
+
+  raises_of_byte : (b : ℕ) (o : Option Flag) (found_down : Bool) (exec override : ℕ) → flag_of_byte b ≡ o → FlagsPass exec override (raised_to o found_down (raises_in host)) (takes_in board)
+      → FlagsPass exec override (raises_in (raised b found_down ∷ host)) (takes_in board)
+  raises_of_byte b o found_down exec override is p = let Q : Option Flag → Type 0 = λ f. FlagsPass exec override (raised_to f found_down (raises_in host)) (takes_in board) in subst Q (sym is) p
+
+  pub flag_raised : (b : ℕ) (f : Flag) → flag_of_byte b ≡ Some f → IsNamed f → TakesRaise b host → (found_down : Bool) × Joined (with_flag f l) (raised b found_down ∷ host) board pulse
+  flag_raised b (flags.Exec place) is named may = (
+    flag_down (flags.Exec place),
+    record {
+      bytes = j.bytes;
+      replies = j.replies;
+      flags = raises_of_byte b (Some (flags.Exec place)) _ _ _ is (words.exec_raised l.exec l.override place (raises_in host) (takes_in board) named j.flags (queries_few b (flags.Exec place) is may));
+      pieces = j.pieces;
+    },
+  )
+  flag_raised b (flags.Override place) is named may = (
+    flag_down (flags.Override place),
+    record {
+      bytes = j.bytes;
+      replies = j.replies;
+      flags = raises_of_byte b (Some (flags.Override place)) _ _ _ is (words.override_raised l.exec l.override place (raises_in host) (takes_in board) named j.flags);
+      pieces = j.pieces;
+    },
+  )
+
+  -- ---- the pulse
+
+  pub piece_got : (p : Piece) (ws : List Piece) → l.pieces ≡ p ∷ ws → IsCounted pulse → Joined (record l { pieces = ws; left = tick_count p }) host board (piece_came p ∷ pulse) × ComesNext (pieces_of pulse) p
+  piece_got p ws are all = let q = rw are at j.pieces in (
+    record {
+      bytes = j.bytes;
+      replies = j.replies;
+      flags = j.flags;
+      pieces = pieces.piece_got p ws l.left l.done (published_in board) (known_in board) (pieces_of pulse) (counted pulse) (uncounted pulse) q all;
+    },
+    pieces.piece_comes p ws l.left l.done (published_in board) (known_in board) (pieces_of pulse) (counted pulse) (uncounted pulse) q,
+  )
+
+  pub tick_counted : HasTick pulse → Joined (record l { left = l.left - 1; done = l.done + 1 }) host board (ticked ∷ pulse)
+  tick_counted more = record {
+    bytes = j.bytes;
+    replies = j.replies;
+    flags = j.flags;
+    pieces = pieces.tick_counted l.pieces l.left l.done (published_in board) (known_in board) (pieces_of pulse) (counted pulse) (uncounted pulse) j.pieces more;
+  }
+
+  pub few_done : l.done < 2 ^ 62
+  few_done = pieces.few_done l.pieces l.left l.done (published_in board) (known_in board) (pieces_of pulse) (counted pulse) (uncounted pulse) j.pieces
+
+  -- ---- the board
+
+  pub reports_few : asks_report (record { 0 = l.exec }) ≡ true → HasFewReports board
+  reports_few asked =
+      let t = words.few_reports 0 l.override (raises_in host) (takes_in (took_exec (record { 0 = l.exec }) ∷ board)) (words.exec_taken l.exec l.override (raises_in host) (takes_in board) j.flags) in
+      let r = words.reports_are (took_exec (record { 0 = l.exec }) ∷ board) in
+      let n = words.report_more l.exec board asked in omega arith
+
+  pub piece_published : (p : Piece) → MayPublish board p → length l.pieces + one_if_some l.left < most_unfinished → Joined (record l { pieces = l.pieces ++ p ∷ [] }) host (published p ∷ board) pulse
+  piece_published p may room = record {
+    bytes = j.bytes;
+    replies = j.replies;
+    flags = j.flags;
+    pieces = pieces.piece_published l.pieces l.left l.done (published_in board) (known_in board) (pieces_of pulse) (counted pulse) (uncounted pulse) j.pieces p may.next may.few room;
+  }
+
+  -- all pieces that wait are unfinished, where one more may be published
+  pub all_unfinished : (p : Piece) → MayPublish board p → unfinished l.pieces 0 ≡ length l.pieces
+  all_unfinished p may = pieces.waiting_unfinished l.pieces l.left l.done (published_in board) (known_in board) (pieces_of pulse) (counted pulse) (uncounted pulse) j.pieces may.next.going
+
+  pub piece_handed_back : unfinished l.pieces 0 ≡ length l.pieces → most_unfinished ≤ length l.pieces + one_if_some l.left → Joined l host (no_piece_room l.done ∷ board) pulse × LacksPieceRoom l.done board
+  piece_handed_back all many = (
+    record { bytes = j.bytes; replies = j.replies; flags = j.flags; pieces = j.pieces },
+    record {
+      later = j.pieces.known_is;
+      full = pieces.five_unfinished l.pieces l.left l.done (published_in board) (known_in board) (pieces_of pulse) (counted pulse) (uncounted pulse) j.pieces all many;
+    },
+  )
+
+  pub done_loaded : Joined l host (loaded l.done ∷ board) pulse × MayBeDone l.done board
+  done_loaded = (
+    record {
+      bytes = j.bytes;
+      replies = j.replies;
+      flags = j.flags;
+      pieces = pieces.done_loaded l.pieces l.left l.done (published_in board) (known_in board) (pieces_of pulse) (counted pulse) (uncounted pulse) j.pieces;
+    },
+    record {
+      later = j.pieces.known_is;
+      below = pieces.done_within l.pieces l.left l.done (published_in board) (known_in board) (pieces_of pulse) (counted pulse) (uncounted pulse) j.pieces;
+    },
+  )

@@ -1,0 +1,121 @@
+-- The lists between a host, a board and a pulse, and what the three have done with them.
+use Rattle.std.specs.Prelude.{◌≡◌, ℕ, ◌+◌, ◌^◌, ◌<◌, ◌≤◌, Bool, true, cond, nat_lt, List, [], ◌∷◌, ◌++◌, length, drop, reverse, Some, None}
+use Rattle.std.specs.declared.option.Option.{Option}
+use Rattle.std.specs.List.{All}
+use Rattle.std.specs.Int.Bits.{bit_or}
+use Rattle.status_report.specs.declared.Reply.{Reply}
+use Rattle.status_report.specs.Replies.{IsReply}
+use Rattle.realtime_flags.specs.declared.words.Flag.{Flag}
+use Rattle.realtime_flags.specs.declared.words.Flag.TheVariants as flags
+use Rattle.realtime_flags.specs.declared.words.Raise.{Raise}
+use Rattle.realtime_flags.specs.declared.words.Take.{Take}
+use Rattle.realtime_flags.specs.declared.words.Take.TheVariants as takes
+use Rattle.realtime_flags.specs.Bits.{IsBalanced, raises_of, report_flag}
+use Rattle.realtime_flags.specs.Bytes.{flag_of_byte}
+use Rattle.step_line.specs.declared.Piece.{Piece}
+use Rattle.step_line.specs.Logs.{NewestFirst}
+use Rattle.step_line.specs.Ordering.{InTurn}
+use Rattle.step_line.specs.Finishing.{ticks_together, unfinished}
+use Rattle.motion_ring.specs.Ticks.{slots}
+use Rattle.board_rules.specs.Ports.{reply_room, most_unfinished, taken_in, has_closed_in, answered_in, published_in, known_in}
+use Rattle.board_rules.specs.Ports.{PortStep as BoardStep, PortLog as BoardLog}
+use Rattle.board_rules.specs.Ports.PortStep.{took_exec, took_ovr}
+use Rattle.pulse_engine.specs.Logs.{PieceLog, pieces_of, counted, uncounted}
+use Rattle.stream_host.specs.Links.{receive_room, lfs_in, answers_in}
+use Rattle.stream_host.specs.Steps.PortStep.{stored, dropped, raised, got, no_reply, shut}
+use Rattle.stream_host.specs.Steps.{stored_in, got_in, is_shut_in}
+use Rattle.stream_host.specs.Steps.{PortLog as HostLog}
+
+-- what the lists hold: bytes and replies on their way, and whether the link is closed; the two words of flags; pieces on
+-- their way, how many ticks of the piece that was got last are left, and how many ticks are done
+pub record Listed : Type 0 where
+  pub bytes : List ℕ
+  pub closed : Bool
+  pub replies : List Reply
+  pub exec : ℕ
+  pub override : ℕ
+  pub pieces : List Piece
+  pub left : ℕ
+  pub done : ℕ
+
+-- there is room for 128 bytes, 16 replies and six pieces, and the replies that wait have a text each
+pub record AreSized (bytes replies pieces : ℕ) (waiting : List Reply) : Type 0 where
+  pub bytes_are : bytes ≡ receive_room
+  pub replies_are : replies ≡ reply_room
+  pub pieces_are : pieces ≡ slots
+  pub texts : All IsReply waiting
+
+-- a flag is raised in its word
+abbrev pub with_flag : Flag → Listed → Listed
+with_flag (flags.Exec place) l = record l { exec = bit_or l.exec (2 ^ place) }
+with_flag (flags.Override place) l = record l { override = bit_or l.override (2 ^ place) }
+
+-- one where some ticks are left
+abbrev pub one_if_some : ℕ → ℕ
+one_if_some left = cond (nat_lt 0 left) 1 0
+
+-- bytes on their way from a host to a board: what was stored is what was taken and what waits, in order. Where the board
+-- found the link closed, it is closed, and no byte waits
+pub record BytesPass (waiting : List ℕ) (closed : Bool) (stored_bytes : List ℕ) (is_shut : Bool) (taken : List ℕ) (over : Bool) : Type 0 where
+  pub fifo : stored_bytes ≡ taken ++ waiting
+  pub short : length stored_bytes ≤ 2 ^ 31
+  pub shut_is : closed ≡ is_shut
+  pub all : over ≡ true → (closed ≡ true) × (waiting ≡ [])
+
+-- replies on their way back: what was answered is what was got and what waits, in order. No more lines were answered than
+-- had their end taken
+pub record RepliesPass (waiting answered got_replies : List Reply) (taken : List ℕ) : Type 0 where
+  pub fifo : answered ≡ got_replies ++ waiting
+  pub fewer : answers_in answered ≤ lfs_in taken
+
+-- flags that were raised and not taken
+pub record FlagsPass (exec override : ℕ) (raises : List Raise) (takes : List Take) : Type 0 where
+  pub balance : IsBalanced (exec ∷ override ∷ []) raises takes
+  pub exec_small : exec < 2 ^ 5
+  pub override_small : override < 2 ^ 13
+  pub few : raises_of report_flag raises ≤ 2 ^ 31
+
+-- pieces on their way from a board to a pulse, in the order in which they were published, and the ticks that are done:
+-- those of the pieces that the pulse got, but for those of the last that are left. At most five pieces are unfinished
+pub record PiecesPass (waiting : List Piece) (left done : ℕ) (published : List Piece) (known : ℕ) (got_pieces : NewestFirst Piece) (ticked unticked : ℕ) : Type 0 where
+  pub fifo : published ≡ reverse got_pieces ++ waiting
+  pub turns : InTurn (reverse published)
+  pub short : ticks_together published < 2 ^ 62
+  pub few : unfinished published done ≤ most_unfinished
+  pub done_is : done ≡ ticked
+  pub left_is : left ≡ unticked
+  pub ticks : done + left ≡ ticks_together got_pieces
+  pub past : ticks_together (drop 1 got_pieces) ≤ done
+  pub known_is : known ≤ done
+
+-- the flag that a byte raises goes to those that were raised before, the latest first
+abbrev pub raised_to : Option Flag → Bool → List Raise → List Raise
+raised_to (Some f) found_down rs = record { flag = f; down = found_down } ∷ rs
+raised_to None found_down rs = rs
+
+-- the flags that a host raised, the latest first
+abbrev pub raises_in : HostLog → List Raise
+raises_in [] = []
+raises_in (stored b ∷ h) = raises_in h
+raises_in (dropped b ∷ h) = raises_in h
+raises_in (raised b found_down ∷ h) = raised_to (flag_of_byte b) found_down (raises_in h)
+raises_in (got r ∷ h) = raises_in h
+raises_in (no_reply ∷ h) = raises_in h
+raises_in (shut ∷ h) = raises_in h
+
+-- the words that a board took, the latest first
+abbrev pub takes_at : BoardStep → List Take → List Take
+takes_at (took_exec word) ts = takes.Exec word ∷ ts
+takes_at (took_ovr word) ts = takes.Override word ∷ ts
+takes_at e ts = ts
+
+abbrev pub takes_in : BoardLog → List Take
+takes_in [] = []
+takes_in (e ∷ l) = takes_at e (takes_in l)
+
+-- the lists between the three: each passes on what its two sides have done
+pub record Joined (l : Listed) (host : HostLog) (board : BoardLog) (pulse : PieceLog) : Type 0 where
+  pub bytes : BytesPass l.bytes l.closed (stored_in host) (is_shut_in host) (taken_in board) (has_closed_in board)
+  pub replies : RepliesPass l.replies (answered_in board) (got_in host) (taken_in board)
+  pub flags : FlagsPass l.exec l.override (raises_in host) (takes_in board)
+  pub pieces : PiecesPass l.pieces l.left l.done (published_in board) (known_in board) (pieces_of pulse) (counted pulse) (uncounted pulse)

@@ -1,0 +1,184 @@
+-- A job whose lines are accepted is carried out whole.
+use Rattle.std.proofs.Common.{◌≡◌, ℕ, ◌+◌, ◌≤◌, inl, inr, Bool, true, false, cond, List, [], ◌∷◌, ◌++◌, length, map, nat_eq, nat_lt, append-nil, append_assoc, length-append, Some, None, refl, sym, ap, ◌∙◌, subst, arith}
+use Rattle.std.specs.declared.option.Option.{Option}
+use Rattle.std.specs.List.{AllByRecursion, list_any}
+use Rattle.std.specs.Io.KnownBytes.{Consumes, IsAtEnd}
+use Rattle.std.proofs.lemmas.Bool.Decides.{nat_tests}
+use Rattle.std.proofs.lemmas.List.{take_all}
+use Rattle.std.proofs.lemmas.List.Sums.{sum_by-cons}
+use Rattle.outside.specs.Causes.{SourceState}
+use Rattle.gcode_words.specs.Stripping.{plain}
+use Rattle.gcode_words.specs.Words.{words_of}
+use Rattle.system_lines.specs.Commands.{kind_of, needs_rest}
+use Rattle.run_rules.specs.declared.State.{State}
+use Rattle.run_rules.specs.Lines.{lines_of, onto_first}
+use Rattle.run_rules.specs.Readings.{largest_job, job_of}
+use Rattle.run_rules.specs.Work.{Outcome}
+use Rattle.run_rules.specs.Outcomes.{Before, Becomes, ByKept, ByDollar, ByWords, Follows, start, after, refused, either, most_kept}
+use Rattle.run_rules.specs.Outcomes.Passed.{a_line}
+use Rattle.run_rules.specs.Told.{is_error, errors_in}
+use Rattle.run_rules.proofs.Determined.{one_outcome, one_opening}
+use Rattle.stream_host.specs.declared.Reading.{Reading}
+use Rattle.stream_host.specs.declared.Reading.TheVariants.{Ended, Failed, Large, Stopped}
+use Rattle.stream_host.specs.declared.Stop.TheVariants.{End}
+use Rattle.stream_host.specs.Jobs.{ends_sending, is_long, ends_in, long_line, stop_by, lines_to_send, FitsReading, MayLeave}
+use Rattle.stream_host.specs.Ran.{is_failed}
+use Rattle.stream_host.proofs.Pieces.{ends_on, all_are_sent}
+use Rattle.run_law.specs.Runs.{Sinks, RunEnd, IsRun}
+use Rattle.run_law.specs.SoFar.{BeginsWith}
+use Rattle.run_law.specs.Complete.{AreServed, IsAcceptedJob, IsComplete}
+
+-- ---- lines that are accepted
+
+-- no line is found waiting for the motion
+not_busy : (b : Before) (kept : List ℕ) (o : Outcome) → (needs_rest (kind_of kept) ≡ true → b.moved ≡ false) → ByDollar true b kept o → ByDollar false b kept o
+not_busy b kept o served (inl busy) = absurd (let e = sym (served busy.line) ∙ busy.moved in cc)
+not_busy b kept o served (inr is) = inr is
+
+either_on : (c : Bool) (A B D : Type 0) → (A → B) → either c A D → either c B D
+either_on true A B D on is = on is
+either_on false A B D on is = is
+
+other_on : (c : Bool) (A B D : Type 0) → (A → B) → either c D A → either c D B
+other_on true A B D on is = is
+other_on false A B D on is = on is
+
+still_kept : (b : Before) (kept : List ℕ) (o : Outcome) → (needs_rest (kind_of kept) ≡ true → b.moved ≡ false) → ByKept true b kept o → ByKept false b kept o
+still_kept b [] o served is = is
+still_kept b (c ∷ cs) o served is =
+    either_on (nat_eq c 36) (ByDollar true b (c ∷ cs) o) (ByDollar false b (c ∷ cs) o) (ByWords b (words_of (c ∷ cs)) o) (not_busy b (c ∷ cs) o served) is
+
+still : (b : Before) (kept : List ℕ) (o : Outcome) → (needs_rest (kind_of kept) ≡ true → b.moved ≡ false) → Becomes true b kept o → Becomes false b kept o
+still b kept o served is =
+    other_on (nat_lt most_kept (length kept)) (ByKept true b kept o) (ByKept false b kept o) (o ≡ refused b 11) (still_kept b kept o served) is
+
+-- so each line becomes the same
+same_outcomes : (b t u : Before) (ls : List (List ℕ)) (os ps : List Outcome) → Follows false b ls (map a_line os) t → AreServed b ls (map a_line os)
+    → Follows true b ls (map a_line ps) u → ps ≡ os
+same_outcomes b t u [] [] [] f served g = refl
+same_outcomes b t u [] (o ∷ os) ps f served g = absurd f
+same_outcomes b t u [] os (p ∷ ps) f served g = absurd g
+same_outcomes b t u (l ∷ ls) [] ps f served g = absurd f
+same_outcomes b t u (l ∷ ls) os [] f served g = absurd g
+same_outcomes b t u (l ∷ ls) (o ∷ os) (p ∷ ps) f served g =
+    let one : p ≡ o = one_outcome b l p o (still b l p served.0 g.0) f.0 in
+    let more : ps ≡ os = same_outcomes (after b o) t u ls os ps f.1 served.1 (subst (λ q. Follows true (after b q) ls (map a_line ps) u) one g.1) in
+    ap (λ q. q ∷ ps) one ∙ ap (λ (qs : List Outcome). o ∷ qs) more
+
+-- a line with too many bytes is an error
+error_11 : (c : Bool) (b : Before) (o : Outcome) (D : Type 0) → either c (o ≡ refused b 11) D → is_error o.answer ≡ false → c ≡ false
+error_11 false b o D is none = refl
+error_11 true b o D is none = absurd (let e = sym none ∙ ap (λ (x : Outcome). is_error x.answer) is in cc)
+
+short_kept : (line : List ℕ) → nat_lt most_kept (length (plain line)) ≡ false → ends_sending line ≡ false
+short_kept line e = under (length (plain line)) e
+  where
+    under : (n : ℕ) → nat_lt 79 n ≡ false → nat_lt 127 n ≡ false
+    under n e = grind (arith, nat_tests)
+
+first_none : (t : Bool) (n m : ℕ) → n ≡ cond {A = ℕ} t 1 0 + m → n ≡ 0 → (t ≡ false) × (m ≡ 0)
+first_none true n m e none = absurd (omega arith)
+first_none false n m e none = (refl, omega arith)
+
+short_lines : (b t : Before) (lines : List (List ℕ)) (os : List Outcome) → Follows false b (map plain lines) (map a_line os) t → errors_in os ≡ 0
+    → AllByRecursion (λ l. ends_sending l ≡ false) lines
+short_lines b t [] os f none = tt
+short_lines b t (l ∷ ls) [] f none = absurd f
+short_lines b t (l ∷ ls) (o ∷ os) f none =
+    let parts = first_none (is_error o.answer) (errors_in (o ∷ os)) (errors_in os) (sum_by-cons (λ (x : Outcome). cond (is_error x.answer) 1 0) o os) none in
+    (short_kept l (error_11 (nat_lt most_kept (length (plain l))) b o (ByKept false b (plain l) o) f.0 parts.0), short_lines (after b o) t ls os f.1 parts.1)
+
+-- ---- a front of such a job
+
+-- each line of a front begins a line of the text
+abbrev AreFronts : List (List ℕ) → List (List ℕ) → Type 0
+AreFronts [] ys = Unit {0}
+AreFronts (l ∷ ls) [] = ⊥
+AreFronts (l ∷ ls) (m ∷ ms) = BeginsWith m l × AreFronts ls ms
+
+longer : (c : ℕ) (m l : List ℕ) → BeginsWith m l → BeginsWith (c ∷ m) (c ∷ l)
+longer c m l b = record { rest = b.rest; is = ap (λ (x : List ℕ). c ∷ x) b.is }
+
+onto_fronts : (c : ℕ) (ls ms : List (List ℕ)) → AreFronts ls ms → AreFronts (onto_first c ls) (onto_first c ms)
+onto_fronts c [] [] f = (record { rest = []; is = refl }, tt)
+onto_fronts c [] (m ∷ ms) f = (record { rest = m; is = refl }, tt)
+onto_fronts c (l ∷ ls) [] f = absurd f
+onto_fronts c (l ∷ ls) (m ∷ ms) f = (longer c m l f.0, f.1)
+
+one_front : (t : Bool) (c : ℕ) (ls ms : List (List ℕ)) → AreFronts ls ms → AreFronts (cond t ([] ∷ ls) (onto_first c ls)) (cond t ([] ∷ ms) (onto_first c ms))
+one_front true c ls ms f = (record { rest = []; is = refl }, f)
+one_front false c ls ms f = onto_fronts c ls ms f
+
+lines_front : (text more : List ℕ) → AreFronts (lines_of text) (lines_of (text ++ more))
+lines_front [] more = tt
+lines_front (c ∷ cs) more = one_front (nat_eq c 10) c (lines_of cs) (lines_of (cs ++ more)) (lines_front cs more)
+
+-- a line whose longer one is short is short
+short_front : (m l : List ℕ) → BeginsWith m l → ends_sending m ≡ false → ends_sending l ≡ false
+short_front m l b short = by_test (ends_sending l) refl
+  where
+    by_test : (t : Bool) → ends_sending l ≡ t → ends_sending l ≡ false
+    by_test false e = e
+    by_test true e = absurd (let f = sym short ∙ ap ends_sending b.is ∙ ends_on l b.rest e in cc)
+
+short_fronts : (ls ms : List (List ℕ)) → AreFronts ls ms → AllByRecursion (λ l. ends_sending l ≡ false) ms → list_any ends_sending ls ≡ false
+short_fronts [] ms f short = refl
+short_fronts (l ∷ ls) [] f short = absurd f
+short_fronts (l ∷ ls) (m ∷ ms) f short = rw (short_front m l f.0 short.0) (short_fronts ls ms f.1 short.1)
+
+none_ends_in : (bytes text left : List ℕ) → bytes ≡ text ++ left → AllByRecursion (λ l. ends_sending l ≡ false) (lines_of bytes) → ends_in text ≡ false
+none_ends_in bytes text left is short =
+    short_fronts (lines_of text) (lines_of bytes) (subst (λ (x : List ℕ). AreFronts (lines_of text) (lines_of x)) (sym is) (lines_front text left)) short
+
+-- ---- the run
+
+-- what was read is a front of the job, and all of it where nothing is left
+read_front : (was is : Option (List ℕ)) (bytes read : List ℕ) → was ≡ Some bytes → Consumes was is read → BeginsWith bytes read × (IsAtEnd is → bytes ≡ read)
+read_front None is bytes read told taken = absurd cc
+read_front (Some xs) None bytes read told taken = absurd taken
+read_front (Some xs) (Some ys) bytes read told taken =
+    let e : bytes ≡ xs = cc in
+    (record { rest = ys; is = e ∙ taken }, λ at_end. e ∙ taken ∙ ap (λ (y : List ℕ). read ++ y) at_end ∙ append-nil read)
+
+whole_job : (read : List ℕ) → length read ≤ largest_job → job_of read ≡ read
+whole_job read few = take_all largest_job read few
+
+stops_at_end : (r : Reading) (text : List ℕ) → r ≡ Ended → list_any is_long (lines_of text) ≡ false → stop_by r text ≡ End
+stops_at_end r text e none = ap (λ q. stop_by q text) e ∙ ap (λ b. cond b (long_line (lines_of text)) End) none
+
+-- how the reading of such a job ends
+ended : (r : Reading) (n : ℕ) (text left : List ℕ) → FitsReading r n → n ≤ largest_job → is_failed r ≡ false → (ends_in text ≡ false → MayLeave r left) → ends_in text ≡ false → r ≡ Ended
+ended Ended n text left fits few well leaves none = refl
+ended Failed n text left fits few well leaves none = absurd cc
+ended Large n text left fits few well leaves none = absurd (let m = fits.0 in omega arith)
+ended Stopped n text left fits few well leaves none = absurd (leaves none)
+
+pub complete : (job_was job_is : SourceState) (was is : Sinks) (end : RunEnd) (run : IsRun job_was job_is was is end) (job : IsAcceptedJob job_was)
+    → end.host.source_failed ≡ false → IsComplete job.bytes run.read run.lines job.outcomes run.outcomes end
+complete job_was job_is was is end run job well =
+    let front = read_front job_was.left job_is.left job.bytes run.read job.told run.taken in
+    let few : length run.read ≤ largest_job =
+    (let e = ap length front.0.is in let a = length-append run.read front.0.rest in let f = job.few in omega arith) in
+    let sent = run.sent in
+    let short = short_lines (start job.first) job.last (lines_of job.bytes) job.outcomes job.follows job.accepted in
+    let scanned : job.bytes ≡ run.scanned ++ (sent.scans.scans.left ++ front.0.rest) =
+    front.0.is ∙ ap (λ (x : List ℕ). x ++ front.0.rest) (sym (whole_job run.read few) ∙ sent.scans.scans.front)
+    ∙ append_assoc run.scanned sent.scans.scans.left front.0.rest in
+    let none : ends_in run.scanned ≡ false = none_ends_in job.bytes run.scanned (sent.scans.scans.left ++ front.0.rest) scanned short in
+    let over : run.reading ≡ Ended = ended run.reading (length run.read) run.scanned sent.scans.scans.left sent.fits few (sym run.failed ∙ well) sent.scans.whole none in
+    let all : run.read ≡ job.bytes = sym (front.1 (run.at_end over)) in
+    let lines : run.lines ≡ lines_of job.bytes =
+    sent.sent ∙ ap (λ r. lines_to_send r (job_of run.read)) over ∙ ap (lines_to_send Ended) (whole_job run.read few ∙ all) ∙ all_are_sent Ended job.bytes short in
+    let first : run.first ≡ job.first = one_opening run.first job.first run.opening job.opening in
+    let follows : Follows true (start job.first) (map plain (lines_of job.bytes)) (map a_line run.outcomes) run.last =
+    subst (λ (s : State). Follows true (start s) (map plain (lines_of job.bytes)) (map a_line run.outcomes) run.last) first
+    (subst (λ (ls : List (List ℕ)). Follows true (start run.first) (map plain ls) (map a_line run.outcomes) run.last) lines run.follows) in
+    let same : run.outcomes ≡ job.outcomes =
+    same_outcomes (start job.first) job.last run.last (map plain (lines_of job.bytes)) job.outcomes run.outcomes job.follows job.served follows in
+    record {
+      stop = sent.cause ∙ stops_at_end run.reading run.scanned over none;
+      errors = run.errors ∙ ap errors_in same ∙ job.accepted;
+      all = all;
+      sent = lines;
+      same = same;
+    }

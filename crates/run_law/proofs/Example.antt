@@ -1,0 +1,120 @@
+-- A run of a job with one empty line: four actors that ran, and what they make together. So all premises of the law can be
+-- met at once.
+use Rattle.std.proofs.Common.{inr, true, false, [], ◌∷◌, length, refl, arith, codes, Some, None}
+use Rattle.std.proofs.lemmas.List.Elements.{All-nil}
+use Rattle.outside.specs.Causes.{SourceState, SinkState}
+use Rattle.gcode_words.specs.Comments.{cut_within}
+use Rattle.status_report.specs.declared.Reply.TheVariants as replies
+use Rattle.status_report.specs.Replies.{reply_text}
+use Rattle.step_line.specs.declared.Piece.TheVariants as pieces
+use Rattle.step_line.specs.declared.Record.TheVariants as kinds
+use Rattle.planner_runs.specs.Runs.{fresh_plan}
+use Rattle.run_rules.specs.declared.State.{State}
+use Rattle.run_rules.specs.States.{IsOpening}
+use Rattle.run_rules.specs.Outcomes.{start, after, told}
+use Rattle.stream_host.specs.declared.Stop.TheVariants as stops
+use Rattle.stream_host.specs.Steps as hosts
+use Rattle.stream_host.specs.Conduct.{Conducted}
+use Rattle.stream_host.specs.Ran.{HostEnd, HostRan}
+use Rattle.stream_host.proofs.Running.{has_run}
+use Rattle.run_law.specs.Runs.{Sinks, IsRun}
+use Rattle.run_law.specs.Ran.{BoardRan, PulseRan, RecorderRan}
+use Rattle.run_law.proofs.Law.{runs}
+
+-- a sink that does not tell what it holds
+abbrev silent : SinkState
+silent = record { held = None; faults = 0 }
+
+abbrev sinks : Sinks
+sinks = record { console = silent; steps = silent }
+
+-- ---- the host
+
+abbrev before_text : hosts.Journal
+before_text =
+    hosts.at_port (hosts.got replies.Bye) ∷ hosts.at_port (hosts.got replies.Ok) ∷ hosts.at_port (hosts.got replies.Banner) ∷ hosts.at_port hosts.shut
+    ∷ hosts.read_end ∷ hosts.at_port (hosts.stored 10) ∷ hosts.scanned 10 ∷ hosts.read_some (10 ∷ []) ∷ []
+
+abbrev all_done : hosts.Journal
+all_done = hosts.wrote (length (hosts.text_of before_text)) ∷ before_text
+
+host_keeps : Conducted all_done
+unfolding cut_within reply_text
+host_keeps = (
+  record { going = refl; some = omega arith; front = omega arith },
+  (
+    record { going = refl; few = omega arith },
+    (
+      record { going = refl; few = omega arith },
+      (
+        record { going = refl; few = omega arith },
+        (
+          record { going = refl; sent = record { free = refl; all = inr (refl, refl) } },
+          (
+            record { going = refl; on = refl; sends = refl; used = refl; free = refl },
+            (
+              record { next = refl; room = omega arith },
+              (
+                record { going = refl; next = refl; few = omega arith; sends = refl; free = refl },
+                ((record { going = refl; on = refl; sends = refl; used = refl; free = refl }, omega arith, omega arith), tt),
+              ),
+            ),
+          ),
+        ),
+      ),
+    ),
+  ),
+)
+
+abbrev ended_so : HostEnd
+ended_so = record { stop = stops.End; answered = 1; errors = 0; source_failed = false; console_failed = false }
+
+abbrev one_line : SourceState
+one_line = record { left = Some (10 ∷ []); faults = 0 }
+
+abbrev nothing : SourceState
+nothing = record { left = Some []; faults = 0 }
+
+host_ran : HostRan one_line nothing silent silent (10 ∷ []) true (replies.Banner ∷ replies.Ok ∷ replies.Bye ∷ []) ended_so
+unfolding cut_within reply_text
+host_ran = has_run all_done one_line nothing silent silent host_keeps (record { bye = refl; written = inr refl })
+    (record { taken = refl; at_end = λ e. refl; later = omega arith; cause = λ e. absurd cc })
+    (record { front = hosts.text_of before_text; back = []; whole = refl; held = tt; all = λ e. refl; same = λ e. refl; later = omega arith; cause = λ e. absurd cc })
+
+-- ---- the board, the pulse and the recorder
+
+board_ran : (first : State) → IsOpening first → BoardRan (10 ∷ []) true (replies.Banner ∷ replies.Ok ∷ replies.Bye ∷ []) (pieces.End ∷ [])
+board_ran first opening = record {
+  first = first;
+  outcomes = told first [] ∷ [];
+  last = after (start first) (told first []);
+  opening = opening;
+  found = refl;
+  follows = (refl, refl);
+  told = refl;
+  actions = [];
+  given = [];
+  plan = fresh_plan;
+  run = refl;
+  undisturbed = tt;
+  rests = record { blocks = refl; speed = refl };
+  asks = refl;
+  gave = refl;
+}
+
+pulse_ran : PulseRan (pieces.End ∷ []) 0 (kinds.End ∷ [])
+pulse_ran = record { turns = (record { going = refl; follows = tt }, tt); before = []; ends = refl; records = refl; ticks = refl }
+
+recorder_ran : RecorderRan silent silent (kinds.End ∷ []) false
+recorder_ran = record {
+  ended = record { front = []; last = refl; once = All-nil _ };
+  steps = record { front = codes "E\n"; back = []; whole = refl; held = tt; all = λ e. refl; same = λ e. refl; later = omega arith; cause = λ e. absurd cc };
+}
+
+-- ---- the run
+
+pub a_run : (first : State) → IsOpening first → IsRun one_line nothing sinks sinks (record { host = ended_so; steps_failed = false })
+a_run first opening =
+    runs one_line nothing sinks sinks ended_so false (10 ∷ []) (10 ∷ []) true true
+    (replies.Banner ∷ replies.Ok ∷ replies.Bye ∷ []) (replies.Banner ∷ replies.Ok ∷ replies.Bye ∷ []) (pieces.End ∷ []) (pieces.End ∷ []) 0 (kinds.End ∷ []) (kinds.End ∷ [])
+    host_ran (board_ran first opening) pulse_ran recorder_ran (record { rest = []; front = refl; closes = λ e. refl; all = λ e. refl }) refl refl refl

@@ -1,0 +1,117 @@
+-- Where each actor has ended, what one got is all that the other gave: its end is the last.
+use Rattle.std.proofs.Common.{◌≡◌, ℕ, Bool, true, List, [], ◌∷◌, ◌++◌, append-nil, append_assoc, refl, sym, ap, ◌∙◌, subst}
+use Rattle.std.specs.List.{AllByRecursion, list_any}
+use Rattle.std.proofs.lemmas.List.Elements.{recursion_from_All}
+use Rattle.outside.specs.Causes.{SourceState}
+use Rattle.status_report.specs.declared.Reply.{Reply}
+use Rattle.status_report.specs.declared.Reply.TheVariants as replies
+use Rattle.step_line.specs.declared.Piece.{Piece}
+use Rattle.step_line.specs.declared.Piece.TheVariants as pieces
+use Rattle.step_line.specs.declared.Record.{Record}
+use Rattle.step_line.specs.declared.Record.TheVariants as kinds
+use Rattle.step_line.specs.Ending.{IsEnded}
+use Rattle.plan_passes.specs.Plans.{Planned}
+use Rattle.plan_passes.specs.Segments.{advanced}
+use Rattle.planner_runs.specs.declared.Action.{Action}
+use Rattle.planner_runs.specs.declared.Action.TheVariants.{Add, Take, Override, Mark, Rest, Clear, Reset}
+use Rattle.planner_runs.specs.Runs.{Plans, with_move, cleared, fresh_plan, most_blocks}
+use Rattle.run_rules.specs.Outcomes.{start}
+use Rattle.run_rules.specs.Lines.{whole_lines}
+use Rattle.run_rules.specs.Told.{replies_in}
+use Rattle.stream_host.specs.Links.{is_bye}
+use Rattle.stream_host.specs.Ran.{HostEnd, HostRan}
+use Rattle.run_law.specs.Runs.{Sinks, IsRun}
+use Rattle.run_law.specs.Ran.{BoardRan, PulseRan, RecorderRan, IsLinked}
+use Rattle.run_law.specs.SoFar.{BeginsWith}
+use Rattle.run_law.proofs.Answering.{NoByes, none_is_bye}
+use Rattle.run_law.proofs.Law.{runs, drive}
+
+abbrev Others : {X : Type 0} → X → List X → Type 0
+Others {X} x ys = AllByRecursion (λ (y : X). y ≡ x → ⊥) ys
+
+-- nothing stands behind the last of its kind
+none_behind : {X : Type 0} (x : X) (xs rest ys : List X) → Others x ys → (xs ++ x ∷ []) ++ rest ≡ ys ++ x ∷ [] → rest ≡ []
+none_behind x [] rest [] others e = cc
+none_behind x [] rest (y ∷ ys) others e = absurd (others.0 (let f : x ≡ y = cc in sym f))
+none_behind x (z ∷ []) rest [] others e = absurd cc
+none_behind x (z ∷ (w ∷ ws)) rest [] others e = absurd cc
+none_behind x (z ∷ zs) rest (y ∷ ys) others e = let f : (zs ++ x ∷ []) ++ rest ≡ ys ++ x ∷ [] = cc in none_behind x zs rest ys others.1 f
+
+-- a front that ends so is the whole
+whole_front : {X : Type 0} (x : X) (whole front all some : List X) → Others x all → whole ≡ all ++ x ∷ [] → front ≡ some ++ x ∷ [] → BeginsWith whole front → front ≡ whole
+whole_front x whole front all some others last first more =
+    let e : (some ++ x ∷ []) ++ more.rest ≡ all ++ x ∷ [] = ap (λ ys. ys ++ more.rest) (sym first) ∙ sym more.is ∙ last in
+    sym (more.is ∙ ap (λ ys. front ++ ys) (none_behind x some more.rest all others e) ∙ append-nil front)
+
+-- ---- records
+
+records_whole : (put got : List Record) → IsEnded put → IsEnded got → BeginsWith put got → got ≡ put
+records_whole put got all some more =
+    whole_front kinds.End put got all.front some.front (recursion_from_All (λ (r : Record). r ≡ kinds.End → ⊥) all.front all.once) all.last some.last more
+
+-- ---- pieces
+
+-- no piece of a planner run is the end
+no_ends : (most : ℕ) (p last : Planned) (actions : List Action) (given : List Piece) → Plans most p actions given last → Others pieces.End given
+no_ends most p last [] [] run = tt
+no_ends most p last (Add m ∷ rest) ps run = no_ends most (with_move p m) last rest ps run.1
+no_ends most p last (Override o ∷ rest) ps run = no_ends most (record p { overrides = o }) last rest ps run.1
+no_ends most p last (Rest ∷ rest) ps run = no_ends most p last rest ps run.1
+no_ends most p last (Clear ∷ rest) ps run = no_ends most (cleared p) last rest ps run.1
+no_ends most p last (Reset ∷ rest) ps run = subst (λ (qs : List Piece). Others pieces.End qs) (sym run.1) tt
+no_ends most p last (Take mode ∷ rest) (pieces.Segment s ∷ ps) run = ((λ e. absurd cc), no_ends most (advanced p s.n s.w_out) last rest ps run.1)
+no_ends most p last (Mark m ∷ rest) (pieces.Mark g ∷ ps) run = ((λ e. absurd cc), no_ends most p last rest ps run.3)
+no_ends most p last rest ps run = absurd run
+
+-- ---- replies
+
+-- the first Bye
+record HasBye (rs : List Reply) : Type 0 where
+  before : List Reply
+  behind : List Reply
+  is : rs ≡ (before ++ replies.Bye ∷ []) ++ behind
+
+bye_behind : (r : Reply) (rs : List Reply) → HasBye rs → HasBye (r ∷ rs)
+bye_behind r rs b = record { before = r ∷ b.before; behind = b.behind; is = ap (λ (xs : List Reply). r ∷ xs) b.is }
+
+bye_at : (rs : List Reply) → list_any is_bye rs ≡ true → HasBye rs
+bye_at [] some = absurd cc
+bye_at (replies.Bye ∷ rs) some = record { before = []; behind = rs; is = refl }
+bye_at (replies.Ok ∷ rs) some = bye_behind replies.Ok rs (bye_at rs some)
+bye_at (replies.Error n ∷ rs) some = bye_behind (replies.Error n) rs (bye_at rs some)
+bye_at (replies.Banner ∷ rs) some = bye_behind replies.Banner rs (bye_at rs some)
+bye_at (replies.Alarm n ∷ rs) some = bye_behind (replies.Alarm n) rs (bye_at rs some)
+bye_at (replies.Message m ∷ rs) some = bye_behind (replies.Message m) rs (bye_at rs some)
+bye_at (replies.Report t ∷ rs) some = bye_behind (replies.Report t) rs (bye_at rs some)
+bye_at (replies.Setting n v ∷ rs) some = bye_behind (replies.Setting n v) rs (bye_at rs some)
+bye_at (replies.Modes m ∷ rs) some = bye_behind (replies.Modes m) rs (bye_at rs some)
+bye_at (replies.Offset r a ∷ rs) some = bye_behind (replies.Offset r a) rs (bye_at rs some)
+
+last_part : (xs ys : List Reply) → xs ++ ys ≡ [] → ys ≡ []
+last_part [] ys e = e
+last_part (x ∷ xs) ys e = absurd cc
+
+replies_whole : (answered got front : List Reply) → answered ≡ front ++ replies.Bye ∷ [] → NoByes front → list_any is_bye got ≡ true → BeginsWith answered got → got ≡ answered
+replies_whole answered got front is none some more =
+    let b = bye_at got some in
+    let e : (b.before ++ replies.Bye ∷ []) ++ (b.behind ++ more.rest) ≡ front ++ replies.Bye ∷ [] =
+    sym (append_assoc (b.before ++ replies.Bye ∷ []) b.behind more.rest) ∙ ap (λ (rs : List Reply). rs ++ more.rest) (sym b.is) ∙ sym more.is ∙ is in
+    let nothing = last_part b.behind more.rest (none_behind replies.Bye b.before (b.behind ++ more.rest) front none e) in
+    sym (more.is ∙ ap (λ (rs : List Reply). got ++ rs) nothing ∙ append-nil got)
+
+-- ---- the run
+
+pub ends : (job_was job_is : SourceState) (was is : Sinks) (end : HostEnd) (steps_failed : Bool)
+    (stored taken : List ℕ) (shut closed : Bool) (got answered : List Reply) (got_pieces published : List Piece) (ticks : ℕ) (got_records put : List Record)
+    → HostRan job_was job_is was.console is.console stored shut got end → BoardRan taken closed answered published → PulseRan got_pieces ticks put
+    → RecorderRan was.steps is.steps got_records steps_failed
+    → IsLinked stored shut taken closed → BeginsWith answered got → BeginsWith published got_pieces → BeginsWith put got_records
+    → IsRun job_was job_is was is (record { host = end; steps_failed = steps_failed })
+ends job_was job_is was is end steps_failed stored taken shut closed got answered got_pieces published ticks got_records put host board pulse recorder link some_replies some_pieces some_records =
+    let none = none_is_bye true (start board.first) (whole_lines taken) board.outcomes board.last board.follows in
+    let same_replies = replies_whole answered got (replies_in board.outcomes) board.told none host.bye some_replies in
+    let same_pieces : got_pieces ≡ published =
+    whole_front pieces.End published got_pieces board.given pulse.before (no_ends most_blocks fresh_plan board.plan board.actions board.given board.run) board.gave pulse.ends some_pieces in
+    let ended : IsEnded put = (drive taken closed answered published got_pieces ticks put board pulse same_pieces).ended in
+    runs job_was job_is was is end steps_failed stored taken shut closed got answered got_pieces published ticks got_records put host board pulse recorder link
+    same_replies same_pieces (records_whole put got_records ended recorder.ended some_records)

@@ -1,0 +1,62 @@
+-- A pulse and a recorder that have done their work have run.
+use Rattle.std.proofs.Common.{◌≡◌, ℕ, Bool, true, false, ◌&&◌, ◌||◌, [], ◌∷◌, length, reverse, nat_eq, refl, sym, ap, ◌∙◌, subst, arith}
+use Rattle.std.proofs.lemmas.Bool.Decides.{nat_tests}
+use Rattle.std.proofs.lemmas.List.{nil_from_length, reverse-append, reverse-reverse}
+use Rattle.outside.specs.Causes.{SinkState}
+use Rattle.step_line.specs.declared.Piece.TheVariants as pieces
+use Rattle.step_line.specs.Ordering.{InTurn}
+use Rattle.pulse_engine.specs.Logs.{PieceLog, RecordLog, pieces_of, counted, records_put, end_is_put}
+use Rattle.pulse_engine.specs.Steps.{Pulsing}
+use Rattle.pulse_engine.specs.Turns.{PulseFits}
+use Rattle.pulse_engine.proofs.Whole.{recorded_each, done_put}
+use Rattle.text_writer.specs.Writers.{Writing}
+use Rattle.step_record.specs.Taking.{Log, records}
+use Rattle.step_record.specs.Recording.{RecorderFits, Rests}
+use Rattle.stream_host.proofs.Running.{took_of}
+use Rattle.run_law.specs.Ran.{PulseRan, RecorderRan}
+use Rattle.run_law.specs.SoFar.{PulseRuns, RecorderRuns}
+
+-- ---- the pulse
+
+turns_on : (h : PieceLog) → InTurn (pieces_of h) → InTurn (reverse (reverse (pieces_of h)))
+turns_on h turns = subst InTurn (sym (reverse-reverse (pieces_of h))) turns
+
+pub pulse_ran : (p : Pulsing) (h : PieceLog) (k : RecordLog) → PulseFits p h k → end_is_put k ≡ true → PulseRan (reverse (pieces_of h)) (counted h) (records_put k)
+pulse_ran p h k f ended =
+    let d = done_put p h k f ended in
+    record {
+      turns = turns_on h f.turns;
+      before = reverse d.1.0;
+      ends = ap reverse d.1.1 ∙ reverse-append (pieces.End ∷ []) d.1.0;
+      records = d.0 ∙ recorded_each (pieces_of h);
+      ticks = d.3;
+    }
+
+pub pulse_runs : (p : Pulsing) (h : PieceLog) (k : RecordLog) → PulseFits p h k → PulseRuns (reverse (pieces_of h)) (records_put k)
+pulse_runs p h k f = record {
+  turns = turns_on h f.turns;
+  records = record { rest = p.waiting; is = sym (recorded_each (pieces_of h)) ∙ f.records };
+}
+
+-- ---- the recorder
+
+none_waits : (e f : Bool) (n : ℕ) → (e && (f || nat_eq n 0)) ≡ true → f ≡ false → n ≡ 0
+none_waits true false n rests well = grind (arith, nat_tests)
+none_waits true true n rests well = absurd cc
+none_waits false f n rests well = absurd cc
+
+rest_none : (v : Writing) → Rests v → v.failed ≡ false → v.waiting ≡ []
+rest_none v rests well = nil_from_length v.waiting (none_waits v.asked v.failed (length v.waiting) rests well)
+
+first_true : (b c : Bool) → (b && c) ≡ true → b ≡ true
+first_true true c e = refl
+first_true false c e = absurd cc
+
+pub recorder_ran : (v : Writing) (log : Log) (was is : SinkState) → RecorderFits v log was is → Rests v → RecorderRan was is (records log) v.failed
+recorder_ran v log was is f rests = record {
+  ended = f.over (first_true v.asked _ rests);
+  steps = took_of was is v.failed v.waiting _ f.wrote (rest_none v rests);
+}
+
+pub recorder_runs : (v : Writing) (log : Log) (was is : SinkState) → RecorderFits v log was is → RecorderRuns was is (records log)
+recorder_runs v log was is f = record { failed = v.failed; waiting = v.waiting; steps = f.wrote }

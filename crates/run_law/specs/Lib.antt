@@ -1,0 +1,4 @@
+pub mod Runs
+pub mod Ran
+pub mod SoFar
+pub mod Complete

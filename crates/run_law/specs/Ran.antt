@@ -1,0 +1,66 @@
+-- What the board, the pulse and the recorder have done in a whole run, on plain lists, and how the bytes of the link go
+-- together.
+use Rattle.std.specs.Prelude.{◌≡◌, ℕ, Bool, true, List, [], ◌∷◌, ◌++◌, map, reverse}
+use Rattle.std.specs.List.{flat_map}
+use Rattle.outside.specs.Causes.{SinkState}
+use Rattle.outside.specs.Writing.{Took}
+use Rattle.status_report.specs.declared.Reply.{Reply}
+use Rattle.status_report.specs.declared.Reply.TheVariants.{Bye}
+use Rattle.step_line.specs.declared.Piece.{Piece}
+use Rattle.step_line.specs.declared.Piece.TheVariants as pieces
+use Rattle.step_line.specs.declared.Record.{Record}
+use Rattle.step_line.specs.Ending.{IsEnded}
+use Rattle.step_line.specs.Ordering.{InTurn}
+use Rattle.step_line.specs.Pieces.{records_of}
+use Rattle.plan_passes.specs.Plans.{Planned}
+use Rattle.planner_runs.specs.declared.Action.{Action}
+use Rattle.planner_runs.specs.Runs.{IsPlannerRun, IsUndisturbed, IsAtRest, all_asked}
+use Rattle.pulse_engine.specs.Logs.{ticks_in}
+use Rattle.run_rules.specs.declared.State.{State}
+use Rattle.run_rules.specs.Lines.{whole_lines}
+use Rattle.run_rules.specs.States.{IsOpening}
+use Rattle.run_rules.specs.Work.{Outcome}
+use Rattle.run_rules.specs.Outcomes.{Before, Follows, start}
+use Rattle.run_rules.specs.Outcomes.Passed.{a_line}
+use Rattle.run_rules.specs.Told.{replies_in, asked_in, records_text}
+
+-- A board has run: it found the link closed behind the bytes that it took, answered their lines, once and in order, and
+-- told Bye. What the lines ask for was asked of the plan, which no hand disturbed and which has nothing left to run. Its
+-- pieces were published, and the end behind them.
+pub record BoardRan (taken : List ℕ) (closed : Bool) (answered : List Reply) (published : List Piece) : Type 0 where
+  pub first : State
+  pub outcomes : List Outcome
+  pub last : Before
+  pub opening : IsOpening first
+  pub found : closed ≡ true
+  pub follows : Follows true (start first) (whole_lines taken) (map a_line outcomes) last
+  pub told : answered ≡ replies_in outcomes ++ Bye ∷ []
+  pub actions : List Action
+  pub given : List Piece
+  pub plan : Planned
+  pub run : IsPlannerRun actions given plan
+  pub undisturbed : IsUndisturbed actions
+  pub rests : IsAtRest plan
+  pub asks : all_asked actions ≡ asked_in outcomes
+  pub gave : published ≡ given ++ pieces.End ∷ []
+
+-- A pulse has run: the pieces that it got came in turn, the end at last. It put what is recorded of each, and counted each
+-- tick of it.
+pub record PulseRan (got : List Piece) (counted : ℕ) (put : List Record) : Type 0 where
+  pub turns : InTurn (reverse got)
+  pub before : List Piece
+  pub ends : got ≡ before ++ pieces.End ∷ []
+  pub records : put ≡ flat_map records_of got
+  pub ticks : ticks_in put ≡ counted
+
+-- A recorder has run: it took records, the end at last, and wrote their lines, or its sink failed.
+pub record RecorderRan (was is : SinkState) (taken : List Record) (failed : Bool) : Type 0 where
+  pub ended : IsEnded taken
+  pub steps : Took was is failed (records_text taken)
+
+-- The bytes of a link: those taken are a front of those stored. Where it was found closed, it is closed, and all are taken.
+pub record IsLinked (stored : List ℕ) (shut : Bool) (taken : List ℕ) (closed : Bool) : Type 0 where
+  pub rest : List ℕ
+  pub front : stored ≡ taken ++ rest
+  pub closes : closed ≡ true → shut ≡ true
+  pub all : closed ≡ true → rest ≡ []

@@ -1,0 +1,60 @@
+-- What a run of a job is, and how it ends, with no word of who has done it.
+use Rattle.std.specs.Prelude.{◌≡◌, ℕ, Bool, true, List, [], ◌∷◌, ◌++◌, length, map}
+use Rattle.std.specs.Io.KnownBytes.{Consumes, IsAtEnd}
+use Rattle.outside.specs.Causes.{Rose, SourceState, SinkState}
+use Rattle.outside.specs.Writing.{Took}
+use Rattle.gcode_words.specs.Stripping.{plain}
+use Rattle.status_report.specs.declared.Reply.{Reply}
+use Rattle.status_report.specs.declared.Reply.TheVariants.{Bye}
+use Rattle.step_line.specs.declared.Record.{Record}
+use Rattle.run_rules.specs.declared.State.{State}
+use Rattle.run_rules.specs.States.{IsOpening}
+use Rattle.run_rules.specs.Work.{Outcome}
+use Rattle.run_rules.specs.Outcomes.{Before, Follows, start}
+use Rattle.run_rules.specs.Outcomes.Passed.{a_line}
+use Rattle.run_rules.specs.Told.{replies_in, replies_text, asked_in, records_text, errors_in}
+use Rattle.planner_runs.specs.Driven.{IsDriven}
+use Rattle.stream_host.specs.declared.Reading.{Reading}
+use Rattle.stream_host.specs.declared.Reading.TheVariants.{Ended}
+use Rattle.stream_host.specs.Jobs.{IsSent}
+use Rattle.stream_host.specs.Ran.{HostEnd, is_failed}
+
+-- what the console and the steps hold
+pub record Sinks : Type 0 where
+  pub console : SinkState
+  pub steps : SinkState
+
+-- how a run ends: what its host tells, and whether a write of the steps failed
+pub record RunEnd : Type 0 where
+  pub host : HostEnd
+  pub steps_failed : Bool
+
+-- A run of a job, whatever failed. Some of the job was read, and some lines of it were sent. What is kept of each is
+-- answered, once and in order, where the machine may be found running. The console takes the banner, what is told of each
+-- line, and Bye, which has no text. The steps take the records of a drive that was asked for the moves, marks and rests of
+-- the lines: their events and marks, in order and each once, heads with legal speeds, and the end. Each text is whole where
+-- its sink did not fail.
+pub record IsRun (job_was job_is : SourceState) (was is : Sinks) (end : RunEnd) : Type 0 where
+  pub read : List ℕ
+  pub reading : Reading
+  pub scanned : List ℕ
+  pub lines : List (List ℕ)
+  pub taken : Consumes job_was.left job_is.left read
+  pub at_end : reading ≡ Ended → IsAtEnd job_is.left
+  pub sent : IsSent read reading scanned lines end.host.stop
+  pub first : State
+  pub outcomes : List Outcome
+  pub last : Before
+  pub opening : IsOpening first
+  pub follows : Follows true (start first) (map plain lines) (map a_line outcomes) last
+  pub replies : List Reply
+  pub told : replies ≡ replies_in outcomes ++ Bye ∷ []
+  pub console : Took was.console is.console end.host.console_failed (replies_text replies)
+  pub records : List Record
+  pub driven : IsDriven (asked_in outcomes) records
+  pub steps : Took was.steps is.steps end.steps_failed (records_text records)
+  -- each line has one answer
+  pub answered : end.host.answered ≡ length lines
+  pub errors : end.host.errors ≡ errors_in outcomes
+  pub failed : end.host.source_failed ≡ is_failed reading
+  pub source : end.host.source_failed ≡ true → Rose job_was.faults job_is.faults

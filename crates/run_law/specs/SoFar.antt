@@ -1,0 +1,101 @@
+-- What a run has done so far, and what the board, the pulse and the recorder have.
+use Rattle.std.specs.Prelude.{◌≡◌, ℕ, Bool, true, List, [], ◌∷◌, ◌++◌, map, reverse}
+use Rattle.std.specs.List.{flat_map}
+use Rattle.std.specs.Io.KnownBytes.{Consumes}
+use Rattle.outside.specs.Causes.{SourceState, SinkState}
+use Rattle.outside.specs.Writing.{Wrote}
+use Rattle.gcode_words.specs.Stripping.{plain}
+use Rattle.status_report.specs.declared.Reply.{Reply}
+use Rattle.status_report.specs.declared.Reply.TheVariants.{Bye}
+use Rattle.step_line.specs.declared.Piece.{Piece}
+use Rattle.step_line.specs.declared.Piece.TheVariants as pieces
+use Rattle.step_line.specs.declared.Record.{Record}
+use Rattle.step_line.specs.declared.Record.TheVariants as kinds
+use Rattle.step_line.specs.Asking.{ticks_among, ticks_of_all}
+use Rattle.step_line.specs.Ordering.{InTurn}
+use Rattle.step_line.specs.Pieces.{records_of}
+use Rattle.plan_passes.specs.Plans.{Planned}
+use Rattle.planner_runs.specs.declared.Action.{Action}
+use Rattle.planner_runs.specs.Runs.{IsPlannerRun, IsUndisturbed, all_asked, all_records}
+use Rattle.run_rules.specs.declared.State.{State}
+use Rattle.run_rules.specs.Lines.{whole_lines}
+use Rattle.run_rules.specs.States.{IsOpening}
+use Rattle.run_rules.specs.Work.{Outcome}
+use Rattle.run_rules.specs.Outcomes.{Before, Follows, start}
+use Rattle.run_rules.specs.Outcomes.Passed.{a_line}
+use Rattle.run_rules.specs.Told.{replies_in, replies_text, asked_in, records_text}
+use Rattle.stream_host.specs.declared.Reading.{Reading}
+use Rattle.stream_host.specs.declared.Stop.{Stop}
+use Rattle.stream_host.specs.Jobs.{IsSentSoFar}
+use Rattle.run_law.specs.Runs.{Sinks}
+
+-- a list begins with another
+pub record BeginsWith {A : Type 0} (whole front : List A) : Type 0 where
+  pub rest : List A
+  pub is : whole ≡ front ++ rest
+
+-- A board runs: it has begun a front of the lines that it took, and what was told, asked and published is a front of what
+-- these tell and ask for.
+pub record BoardRuns (taken : List ℕ) (answered : List Reply) (published : List Piece) : Type 0 where
+  pub first : State
+  pub lines : List (List ℕ)
+  pub outcomes : List Outcome
+  pub last : Before
+  pub opening : IsOpening first
+  pub begun : BeginsWith (whole_lines taken) lines
+  pub follows : Follows true (start first) lines (map a_line outcomes) last
+  pub told : BeginsWith (replies_in outcomes ++ Bye ∷ []) answered
+  pub actions : List Action
+  pub given : List Piece
+  pub plan : Planned
+  pub run : IsPlannerRun actions given plan
+  pub undisturbed : IsUndisturbed actions
+  pub asks : BeginsWith (asked_in outcomes) (all_asked actions)
+  pub gave : BeginsWith (given ++ pieces.End ∷ []) published
+
+-- a pulse runs: the pieces that it got came in turn, and it put a front of what is recorded of them
+pub record PulseRuns (got : List Piece) (put : List Record) : Type 0 where
+  pub turns : InTurn (reverse got)
+  pub records : BeginsWith (flat_map records_of got) put
+
+-- a recorder runs: its sink has a front of the lines of the records that it took
+pub record RecorderRuns (was is : SinkState) (taken : List Record) : Type 0 where
+  pub failed : Bool
+  pub waiting : List ℕ
+  pub steps : Wrote was is failed waiting (records_text taken)
+
+-- A run so far. A front of the lines that are sent was begun, and each is followed by what becomes of it. A front of what
+-- they tell was got, and a front of its text is on the console. A front of what they ask for was done, as a planner run,
+-- and a front of what is recorded of its pieces was taken: its ticks begin the ticks that the lines ask for.
+pub record IsSoFar (job_was job_is : SourceState) (was is : Sinks) : Type 0 where
+  pub read : List ℕ
+  pub reading : Reading
+  pub scanned : List ℕ
+  pub lines : List (List ℕ)
+  pub stop : Stop
+  pub taken : Consumes job_was.left job_is.left read
+  pub sent : IsSentSoFar read reading scanned lines stop
+  pub first : State
+  pub lines_begun : List (List ℕ)
+  pub outcomes : List Outcome
+  pub last : Before
+  pub opening : IsOpening first
+  pub begun : BeginsWith (map plain lines) lines_begun
+  pub follows : Follows true (start first) lines_begun (map a_line outcomes) last
+  pub got : List Reply
+  pub told : BeginsWith (replies_in outcomes ++ Bye ∷ []) got
+  pub console_failed : Bool
+  pub text_left : List ℕ
+  pub console : Wrote was.console is.console console_failed text_left (replies_text got)
+  pub actions : List Action
+  pub given : List Piece
+  pub plan : Planned
+  pub run : IsPlannerRun actions given plan
+  pub undisturbed : IsUndisturbed actions
+  pub asks : BeginsWith (asked_in outcomes) (all_asked actions)
+  pub records : List Record
+  pub recorded : BeginsWith (all_records given ++ kinds.End ∷ []) records
+  pub ticks : BeginsWith (ticks_of_all (asked_in outcomes)) (ticks_among records)
+  pub steps_failed : Bool
+  pub lines_left : List ℕ
+  pub steps : Wrote was.steps is.steps steps_failed lines_left (records_text records)

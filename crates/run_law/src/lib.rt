@@ -1,0 +1,83 @@
+//! The law that four actors make a run: what the host, the board, the pulse and the recorder have done, each by its own
+//! rules, is together a run of the job.
+#![tactic(auto)]
+
+ghost use Rattle.std.specs.Prelude.{◌≡◌, ℕ, Bool, true, false, List, reverse};
+ghost use Rattle.outside.specs.Causes.{SourceState, SinkState};
+ghost use Rattle.status_report.specs.declared.Reply.{Reply};
+ghost use Rattle.step_line.specs.declared.Piece.{Piece};
+ghost use Rattle.step_line.specs.declared.Record.{Record};
+ghost use Rattle.text_writer.specs.Writers.{Writing};
+ghost use Rattle.pulse_engine.specs.Logs.{PieceLog, RecordLog, pieces_of, counted, records_put, end_is_put};
+ghost use Rattle.pulse_engine.specs.Steps.{Pulsing};
+ghost use Rattle.pulse_engine.specs.Turns.{PulseFits};
+ghost use Rattle.step_record.specs.Taking.{Log, records};
+ghost use Rattle.step_record.specs.Recording.{RecorderFits, Rests};
+ghost use Rattle.run_rules.specs.declared.State.{State};
+ghost use Rattle.run_rules.specs.States.{IsOpening};
+ghost use Rattle.board_rules.specs.Steps.{Journal, taken_of, has_closed, answered_of, published_of};
+ghost use Rattle.board_rules.specs.Conduct.{Conducted, IsFinished};
+ghost use Rattle.stream_host.specs.Ran.{HostEnd, HostRan, HostRuns};
+ghost use Rattle.run_law.specs.Runs.{Sinks, RunEnd, IsRun};
+ghost use Rattle.run_law.specs.Complete.{IsAcceptedJob, IsComplete};
+ghost use Rattle.run_law.specs.Ran.{BoardRan, PulseRan, RecorderRan, IsLinked};
+ghost use Rattle.run_law.specs.SoFar.{BeginsWith, BoardRuns, PulseRuns, RecorderRuns, IsSoFar};
+
+/// Four actors that ran to their ends, where each got what the other gave, make a run: the lines that are sent of the job
+/// are answered in order, the console takes what is told of them, and the steps take the records of a drive that was
+/// asked for what they ask for.
+pub fn actors_make_a_run()
+    ensures { (job_was job_is : SourceState) (was is : Sinks) (end : HostEnd) (steps_failed : Bool)
+        (stored taken : List ℕ) (shut closed : Bool) (got answered : List Reply) (got_pieces published : List Piece) (ticks : ℕ) (got_records put : List Record) →
+        HostRan job_was job_is was.console is.console stored shut got end → BoardRan taken closed answered published → PulseRan got_pieces ticks put →
+        RecorderRan was.steps is.steps got_records steps_failed →
+        IsLinked stored shut taken closed → got ≡ answered → got_pieces ≡ published → got_records ≡ put →
+        IsRun job_was job_is was is (record { host = end; steps_failed = steps_failed }) }
+{}
+
+/// Four actors that ran to their ends make a run already where each has got a front of what the other gave: nothing waits
+/// behind Bye, nor behind the end.
+pub fn actors_that_end_make_a_run()
+    ensures { (job_was job_is : SourceState) (was is : Sinks) (end : HostEnd) (steps_failed : Bool)
+        (stored taken : List ℕ) (shut closed : Bool) (got answered : List Reply) (got_pieces published : List Piece) (ticks : ℕ) (got_records put : List Record) →
+        HostRan job_was job_is was.console is.console stored shut got end → BoardRan taken closed answered published → PulseRan got_pieces ticks put →
+        RecorderRan was.steps is.steps got_records steps_failed →
+        IsLinked stored shut taken closed → BeginsWith answered got → BeginsWith published got_pieces → BeginsWith put got_records →
+        IsRun job_was job_is was is (record { host = end; steps_failed = steps_failed }) }
+{}
+
+/// Four actors that run, where each has got a front of what the other gave, have done a run so far.
+pub fn actors_make_a_run_so_far()
+    ensures { (job_was job_is : SourceState) (was is : Sinks) (stored taken : List ℕ) (got answered : List Reply) (got_pieces published : List Piece) (got_records put : List Record) →
+        HostRuns job_was job_is was.console is.console stored got → BoardRuns taken answered published → PulseRuns got_pieces put → RecorderRuns was.steps is.steps got_records →
+        BeginsWith stored taken → BeginsWith answered got → BeginsWith published got_pieces → BeginsWith put got_records →
+        IsSoFar job_was job_is was is }
+{}
+
+/// A run of a job whose lines are all accepted ends with no error, unless a read failed: all of the job is read and sent,
+/// and its lines become what they become where the machine is never found running.
+pub fn accepted_jobs_are_complete()
+    ensures { (job_was job_is : SourceState) (was is : Sinks) (end : RunEnd) (run : IsRun job_was job_is was is end) (job : IsAcceptedJob job_was) →
+        end.host.source_failed ≡ false → IsComplete job.bytes run.read run.lines job.outcomes run.outcomes end }
+{}
+
+/// A board that keeps to its rules, and has closed its run and nothing left to do, has run; before, it runs.
+pub fn boards_have_run()
+    ensures whole { (first : State) (h : Journal) → IsOpening first → Conducted first h → IsFinished h →
+        BoardRan (taken_of h) (has_closed h) (answered_of h) (published_of h) }
+    ensures so_far { (first : State) (h : Journal) → IsOpening first → Conducted first h → BoardRuns (taken_of h) (answered_of h) (published_of h) }
+{}
+
+/// A pulse that has put the end has run, and every pulse runs.
+pub fn pulses_have_run()
+    ensures whole { (pulse : Pulsing) (h : PieceLog) (k : RecordLog) → PulseFits pulse h k → end_is_put k ≡ true →
+        PulseRan (reverse (pieces_of h)) (counted h) (records_put k) }
+    ensures so_far { (pulse : Pulsing) (h : PieceLog) (k : RecordLog) → PulseFits pulse h k → PulseRuns (reverse (pieces_of h)) (records_put k) }
+{}
+
+/// A recorder that is done has run, and every recorder runs.
+pub fn recorders_have_run()
+    ensures whole { (recorder : Writing) (log : Log) (was is : SinkState) → RecorderFits recorder log was is → Rests recorder →
+        RecorderRan was is (records log) recorder.failed }
+    ensures so_far { (recorder : Writing) (log : Log) (was is : SinkState) → RecorderFits recorder log was is → RecorderRuns was is (records log) }
+{}

@@ -1,0 +1,60 @@
+-- What there is to do of a line, in order.
+use Rattle.std.specs.Prelude.{Bool, true, false, ◌||◌, List, [], ◌∷◌}
+use Rattle.std.specs.List.{flat_map}
+use Rattle.step_line.specs.Asking.{Asked}
+use Rattle.step_line.specs.Asking.Asked.{a_move, a_mark, a_rest}
+use Rattle.status_report.specs.declared.Reply.{Reply}
+use Rattle.run_rules.specs.declared.State.{State}
+
+pub data Task : Type 0 where
+  -- something is asked of the machine: a move, a mark, or that it comes to rest
+  ask : Asked → Task
+  -- a reply is told
+  tell : Reply → Task
+  -- the end is given to the machine
+  finish : Task
+
+-- what becomes of a line: what there is to do, its answer last; the answer; whether it settles, that is, has items of
+-- which the last is no move; and the state behind it
+pub record Outcome : Type 0 where
+  pub work : List Task
+  pub answer : Reply
+  pub settles : Bool
+  pub next : State
+
+-- what a task tells
+abbrev pub told_by : Task → List Reply
+told_by (ask a) = []
+told_by (tell r) = r ∷ []
+told_by finish = []
+
+abbrev pub tells : List Task → List Reply
+tells work = flat_map told_by work
+
+-- what a task asks of the machine
+abbrev pub asked_by_task : Task → List Asked
+asked_by_task (ask a) = a ∷ []
+asked_by_task (tell r) = []
+asked_by_task finish = []
+
+abbrev pub asks : List Task → List Asked
+asks work = flat_map asked_by_task work
+
+-- tasks that ask for this, and that tell this
+abbrev pub asking : List Asked → List Task
+asking asked = flat_map (λ a. ask a ∷ []) asked
+
+abbrev pub telling : List Reply → List Task
+telling replies = flat_map (λ r. tell r ∷ []) replies
+
+-- whether a move is asked for
+abbrev pub asks_move : Task → Bool
+asks_move (ask (a_move m)) = true
+asks_move (ask (a_mark m)) = false
+asks_move (ask a_rest) = false
+asks_move (tell r) = false
+asks_move finish = false
+
+abbrev pub has_moves : List Task → Bool
+has_moves [] = false
+has_moves (t ∷ ts) = asks_move t || has_moves ts

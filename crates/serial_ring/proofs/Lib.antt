@@ -1,0 +1,5 @@
+pub mod Lists
+pub mod Bytes
+pub mod Replies
+pub mod Frames
+pub mod Steps

@@ -1,0 +1,67 @@
+-- What the two ends stand for.
+use Rattle.std.specs.Prelude.{ℕ, Bool, List}
+use Rattle.atomic_table.specs.Seated.{TableId}
+use Rattle.status_report.specs.declared.Reply.{Reply}
+use Rattle.serial_ring.specs.declared.ends.HostEnd.{HostEnd}
+use Rattle.serial_ring.specs.declared.ends.BoardEnd.{BoardEnd}
+
+-- the host's end of a link with so much room
+module _ {room : ℕ} (h : HostEnd room) where
+  -- which link it is of
+  abbrev pub link_of_host : TableId
+  link_of_host = h.seat.table_id
+
+  -- the bytes stored, and whether the link was closed
+  abbrev pub stored_by : List ℕ
+  stored_by = h.seat.me.0.stored
+
+  abbrev pub closed_by : Bool
+  closed_by = h.seat.me.0.closed
+
+  -- how many bytes are taken, as it loaded it last, and how many times it did
+  abbrev pub tail_shown : ℕ
+  tail_shown = h.seat.me.0.tail
+
+  abbrev pub tail_loads_of : ℕ
+  tail_loads_of = h.seat.me.0.tail_loads
+
+  -- the replies got
+  abbrev pub got_by : List Reply
+  got_by = h.seat.me.0.got
+
+  -- how many replies are answered, as it loaded it last, and how many times it did
+  abbrev pub replies_shown : ℕ
+  replies_shown = h.seat.me.0.reply_head
+
+  abbrev pub reply_loads_of : ℕ
+  reply_loads_of = h.seat.me.0.reply_head_loads
+
+-- the board's end
+module _ {room : ℕ} (b : BoardEnd room) where
+  abbrev pub link_of_board : TableId
+  link_of_board = b.seat.table_id
+
+  -- the bytes taken, and whether the link was found closed with every byte taken
+  abbrev pub taken_by : List ℕ
+  taken_by = b.seat.me.0.taken
+
+  abbrev pub found_closed : Bool
+  found_closed = b.seat.me.0.over
+
+  -- how many bytes are stored, as it loaded it last, and how many times it did
+  abbrev pub bytes_shown : ℕ
+  bytes_shown = b.seat.me.0.head
+
+  abbrev pub head_loads_of : ℕ
+  head_loads_of = b.seat.me.0.head_loads
+
+  -- the replies answered
+  abbrev pub answered_by : List Reply
+  answered_by = b.seat.me.0.answered
+
+  -- how many replies are taken, as it loaded it last, and how many times it did
+  abbrev pub replies_taken : ℕ
+  replies_taken = b.seat.me.0.reply_tail
+
+  abbrev pub room_loads_of : ℕ
+  room_loads_of = b.seat.me.0.reply_tail_loads

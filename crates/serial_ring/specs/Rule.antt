@@ -1,0 +1,270 @@
+-- The rule of the link, and what each step tells.
+-- A link has room for so many bytes. The top bit of the head of the bytes closes it. Byte k has the cell k % room, reply k
+-- the slot k % 16.
+use Rattle.std.specs.Prelude.{◌≡◌, ◌≢◌, ℕ, ◌+◌, ◌%◌, ◌^◌, ◌<◌, ◌≤◌, Bool, true, false, cond, List, [], ◌∷◌, ◌++◌, length, slice_index, Some, None}
+use Rattle.std.specs.declared.option.Option.{Option}
+use Rattle.units.specs.Truths.{one_if}
+use mathlib.Core.Option.{some}
+use mathlib.Core.Option as maybe
+use Rattle.atomic_table.specs.Table.{State, Me, Step}
+use Rattle.shared_rings.specs.Rights.{Sole}
+use Rattle.shared_rings.specs.Placed.{placed}
+use Rattle.shared_rings.specs.Shelf.{Shelf}
+use Rattle.status_report.specs.declared.Reply.{Reply}
+use Rattle.status_report.specs.Replies.{IsReply}
+use Rattle.serial_ring.specs.declared.view.Sight.{Sight}
+use Rattle.serial_ring.specs.Lists.{IsRoom, reply_room, lfs_in, answers_in, behind, AreReplies}
+
+-- the words that the host writes, and 256 bytes behind them those that the board writes
+abbrev pub head_word : ℕ
+head_word = 0
+
+abbrev pub reply_tail_word : ℕ
+reply_tail_word = 1
+
+abbrev pub tail_word : ℕ
+tail_word = 32
+
+abbrev pub reply_head_word : ℕ
+reply_head_word = 33
+
+-- then the cells, as many as the greatest link has
+abbrev pub first_cell : ℕ
+first_cell = 64
+
+abbrev pub all_words : ℕ
+all_words = 320
+
+abbrev pub cell_of : ℕ → ℕ → ℕ
+cell_of room k = first_cell + k % room
+
+-- what the top bit of the head adds
+abbrev pub top_if : Bool → ℕ
+top_if closed = cond closed (2 ^ 63) 0
+
+-- the bytes, in their cells
+pub record Bytes (room : ℕ) (words : List ℕ) (stored taken : List ℕ) (closed : Bool) : Type 0 where
+  pub rest : List ℕ
+  pub fifo : stored ≡ rest ++ taken
+  pub few : length rest ≤ room
+  pub short : length stored ≤ 2 ^ 31
+  pub head : slice_index words head_word ≡ length stored + top_if closed
+  pub tail : slice_index words tail_word ≡ length taken
+  pub small : (k x : ℕ) → placed stored k ≡ some x → x < 256
+  pub cells : (k x : ℕ) → placed stored k ≡ some x → length taken ≤ k → slice_index words (cell_of room k) ≡ x
+
+-- the replies, in their slots
+pub record Replies (words : List ℕ) (homes : List (maybe.Option (Option Reply))) (answered got : List Reply) (given : ℕ) (filling emptying : Bool) : Type 0 where
+  pub rest : List Reply
+  pub fifo : answered ≡ rest ++ got
+  pub texts : AreReplies answered
+  pub shelf : Shelf reply_room homes answered got given filling
+  pub held : length got ≡ given + one_if emptying
+  pub short : length answered ≤ 2 ^ 62
+  pub head : slice_index words reply_head_word ≡ length answered
+  pub tail : slice_index words reply_tail_word ≡ given
+
+-- what the seat of the host knows
+pub record Hosts (room : ℕ) (words : List ℕ) (stored taken : List ℕ) (closed : Bool) (got : List Reply) (emptying : Bool) (v : Sight) : Type 0 where
+  pub stored_are : v.stored ≡ stored
+  pub closed_is : v.closed ≡ closed
+  pub tail_is : v.tail ≤ length taken
+  pub cell_is : (b : ℕ) → v.cell ≡ Some b → (slice_index words (cell_of room (length stored)) ≡ b) × (b < 256)
+  pub got_are : v.got ≡ got
+  pub emptying_is : v.emptying ≡ emptying
+
+-- what the seat of the board knows
+pub record Boards (stored taken : List ℕ) (closed : Bool) (answered : List Reply) (filling : Bool) (v : Sight) : Type 0 where
+  pub taken_are : v.taken ≡ taken
+  pub head_is : v.head ≤ length stored
+  pub read_is : (b : ℕ) → v.read ≡ Some b → placed stored (length taken) ≡ some b
+  pub over_is : v.over ≡ true → (closed ≡ true) × (stored ≡ taken)
+  pub answered_are : v.answered ≡ answered
+  pub filling_is : v.filling ≡ filling
+
+pub record Kept (room : ℕ) (s : State (Option Reply) Sight) : Type 0 where
+  pub stored : List ℕ
+  pub taken : List ℕ
+  pub closed : Bool
+  pub answered : List Reply
+  pub got : List Reply
+  pub given : ℕ
+  pub filling : Bool
+  pub emptying : Bool
+  pub host : ℕ
+  pub board : ℕ
+  pub sized : IsRoom room
+  pub wide : length s.words ≡ all_words
+  pub bytes : Bytes room s.words stored taken closed
+  pub replies : Replies s.words s.homes answered got given filling emptying
+  -- the lines answered are at most those whose end was taken
+  pub fewer : answers_in answered ≤ lfs_in taken
+  pub hosting : Sole s.views (λ v. v.may_store) host (Hosts room s.words stored taken closed got emptying)
+  pub boarding : Sole s.views (λ v. v.may_take) board (Boards stored taken closed answered filling)
+
+abbrev pub beginning : Sight
+beginning = record {
+  may_store = true;
+  may_take = true;
+  stored = [];
+  closed = false;
+  tail = 0;
+  tail_loads = 0;
+  cell = None;
+  got = [];
+  reply_head = 0;
+  reply_head_loads = 0;
+  emptying = false;
+  taken = [];
+  head = 0;
+  head_loads = 0;
+  read = None;
+  over = false;
+  answered = [];
+  reply_tail = 0;
+  reply_tail_loads = 0;
+  filling = false;
+}
+
+abbrev pub without_taking : Sight → Sight
+without_taking v = record v { may_take = false }
+
+abbrev pub without_storing : Sight → Sight
+without_storing v = record v { may_store = false }
+
+-- the first is the host's
+abbrev pub both_of : Sight → Sight → Sight
+both_of v w = record {
+  may_store = v.may_store;
+  may_take = w.may_take;
+  stored = v.stored;
+  closed = v.closed;
+  tail = v.tail;
+  tail_loads = v.tail_loads;
+  cell = v.cell;
+  got = v.got;
+  reply_head = v.reply_head;
+  reply_head_loads = v.reply_head_loads;
+  emptying = v.emptying;
+  taken = w.taken;
+  head = w.head;
+  head_loads = w.head_loads;
+  read = w.read;
+  over = w.over;
+  answered = w.answered;
+  reply_tail = w.reply_tail;
+  reply_tail_loads = w.reply_tail_loads;
+  filling = w.filling;
+}
+
+abbrev pub spent : Sight
+spent = record beginning { may_store = false; may_take = false }
+
+-- the view after each step
+abbrev pub with_tail : Sight → ℕ → Sight
+with_tail v n = record v { tail = n; tail_loads = v.tail_loads + 1 }
+
+abbrev pub with_cell : Sight → ℕ → Sight
+with_cell v b = record v { cell = Some b }
+
+abbrev pub with_stored : Sight → ℕ → Sight
+with_stored v b = record v { stored = b ∷ v.stored; cell = None }
+
+abbrev pub with_closed : Sight → Sight
+with_closed v = record v { closed = true }
+
+abbrev pub with_reply_head : Sight → ℕ → Sight
+with_reply_head v n = record v { reply_head = n; reply_head_loads = v.reply_head_loads + 1 }
+
+abbrev pub with_got : Sight → ℕ → Reply → Sight
+with_got v n r = record v { reply_head = n; reply_head_loads = v.reply_head_loads + 1; got = r ∷ v.got; emptying = true }
+
+abbrev pub with_back : Sight → Sight
+with_back v = record v { emptying = false }
+
+abbrev pub with_head : Sight → ℕ → Sight
+with_head v n = record v { head = n; head_loads = v.head_loads + 1 }
+
+abbrev pub with_over : Sight → ℕ → Sight
+with_over v n = record v { head = n; head_loads = v.head_loads + 1; over = true }
+
+abbrev pub with_read : Sight → ℕ → Sight
+with_read v b = record v { read = Some b }
+
+abbrev pub with_taken : Sight → ℕ → Sight
+with_taken v b = record v { taken = b ∷ v.taken; read = None }
+
+abbrev pub with_reply_tail : Sight → ℕ → Sight
+with_reply_tail v n = record v { reply_tail = n; reply_tail_loads = v.reply_tail_loads + 1 }
+
+abbrev pub with_slot : Sight → ℕ → Sight
+with_slot v n = record v { reply_tail = n; reply_tail_loads = v.reply_tail_loads + 1; filling = true }
+
+abbrev pub with_answered : Sight → Reply → Sight
+with_answered v r = record v { answered = r ∷ v.answered; filling = false }
+
+abbrev Sat : Type 0
+Sat = Me (Option Reply) Sight
+
+abbrev At : Type 0
+At = Step (Option Reply)
+
+-- the bytes unread, as the load shows, are at most those behind the last line that was answered
+abbrev pub saw_tail : ℕ → At → Sat → ℕ → Sat → Type 0
+saw_tail room st m n m' = (m' ≡ (with_tail m.0 n, m.1)) × (n ≤ length m.0.stored) × (length m.0.stored ≤ n + room) × (length m.0.stored ≤ n + length (behind (answers_in m.0.got) m.0.stored))
+
+abbrev pub wrote : At → Sat → ℕ → Sat → Type 0
+wrote st m n m' = m' ≡ (with_cell m.0 n, m.1)
+
+abbrev pub stored_byte : At → Sat → ℕ → Sat → Type 0
+stored_byte st m n m' = (b : ℕ) → m.0.cell ≡ Some b → m' ≡ (with_stored m.0 b, m.1)
+
+abbrev pub shut : At → Sat → ℕ → Sat → Type 0
+shut st m n m' = m' ≡ (with_closed m.0, m.1)
+
+-- where a reply is there, its slot is taken
+abbrev pub grasped : At → Sat → ℕ → Sat → Type 0
+grasped st m n m' = (length m.0.got ≤ n) × (n ≤ 2 ^ 62)
+    × (length m.0.got < n → (r : Reply) × (m' ≡ (with_got m.0 n r, (length m.0.got % reply_room, Some r) ∷ m.1)) × IsReply r × (answers_in (r ∷ m.0.got) ≤ lfs_in m.0.stored))
+    × (n ≤ length m.0.got → m' ≡ (with_reply_head m.0 n, m.1))
+
+abbrev pub gave_back : At → Sat → ℕ → Sat → Type 0
+gave_back st m n m' = m' ≡ (with_back m.0, [])
+
+-- where all bytes are taken and the link is closed, no more will come; once it was seen so it is seen so again
+abbrev pub saw_head : ℕ → At → Sat → ℕ → Sat → Type 0
+saw_head room st m n m' = (length m.0.taken ≤ n % 2 ^ 63) × (n % 2 ^ 63 ≤ length m.0.taken + room) × (n % 2 ^ 63 ≤ 2 ^ 31) × (n < 2 ^ 64)
+    × (n ≡ length m.0.taken + 2 ^ 63 → m' ≡ (with_over m.0 (n % 2 ^ 63), m.1))
+    × (n ≢ length m.0.taken + 2 ^ 63 → (m' ≡ (with_head m.0 (n % 2 ^ 63), m.1)) × (m.0.over ≡ false))
+
+abbrev pub looked : At → Sat → ℕ → Sat → Type 0
+looked st m n m' = (m' ≡ (with_read m.0 n, m.1)) × (n < 256)
+
+abbrev pub took : At → Sat → ℕ → Sat → Type 0
+took st m n m' = (b : ℕ) → m.0.read ≡ Some b → m' ≡ (with_taken m.0 b, m.1)
+
+-- where there is room, the next slot is taken
+abbrev pub reached : At → Sat → ℕ → Sat → Type 0
+reached st m n m' = (n ≤ length m.0.answered) × (length m.0.answered ≤ n + reply_room)
+    × (length m.0.answered < n + reply_room → m' ≡ (with_slot m.0 n, (length m.0.answered % reply_room, None) ∷ m.1))
+    × (n + reply_room ≤ length m.0.answered → m' ≡ (with_reply_tail m.0 n, m.1))
+
+abbrev pub gave : At → Sat → ℕ → Sat → Type 0
+gave st m n m' = (k : ℕ) (r : Reply) → m.1 ≡ (k, Some r) ∷ [] → m' ≡ (with_answered m.0 r, [])
+
+-- what the lists of the two ends have to do with each other
+pub record AreTied (room : ℕ) (stored taken : List ℕ) (over : Bool) (answered got : List Reply) : Type 0 where
+  -- the bytes taken are the first of those stored, and at most so many behind
+  pub unread : List ℕ
+  pub bytes : stored ≡ unread ++ taken
+  pub few_bytes : length unread ≤ room
+  -- where the board found the link closed, they are all of them
+  pub all_bytes : over ≡ true → stored ≡ taken
+  -- the replies got are the first of those answered
+  pub untaken : List Reply
+  pub replies : answered ≡ untaken ++ got
+  pub few_replies : length untaken ≤ reply_room
+  pub fewer : answers_in answered ≤ lfs_in taken
+
+abbrev pub tied : ℕ → At → Sat → ℕ → Sat → Type 0
+tied room st m n m' = (m' ≡ m) × AreTied room m.0.stored m.0.taken m.0.over m.0.answered m.0.got

@@ -1,0 +1,82 @@
+//! What the board does.
+ghost use Rattle.std.specs.Prelude.{◌≡◌, ◌+◌, ◌-◌, ◌^◌, ◌<◌, ◌≤◌, true, false, ◌∷◌, length, OnOk, OnErr, IfErr, ℕ};
+ghost use Rattle.serial_ring.specs.Lists.{reply_room, MayAnswer};
+ghost use Rattle.serial_ring.specs.Ends.{link_of_board, taken_by, found_closed, bytes_shown, head_loads_of, answered_by, replies_taken, room_loads_of};
+
+use crate::ends::BoardEnd;
+use crate::joined::{CLOSED, FIRST_CELL, HEAD, REPLY_HEAD, REPLY_ROOM, REPLY_TAIL, TAIL};
+use crate::plays::{Answer, Look, Reach, SeeHead, TakeByte};
+use crate::view::ByteIn;
+use shared_rings::place_behind;
+use status_report::Reply;
+
+impl<const RX: usize> BoardEnd<RX> {
+    /// The next byte, of at most 2^31. Where the head that it loads, once, is the number of bytes taken, the
+    /// answer is Closed where it is closed, and else Empty.
+    #[inline]
+    pub fn byte(&mut self) -> ByteIn
+        ensures load { head_loads_of self.new ≡ head_loads_of self.old + 1 }
+        ensures byte { (b : ℕ) → result ≡ ByteIn.Byte b → (taken_by self.new ≡ b ∷ taken_by self.old) × (length (taken_by self.old) < bytes_shown self.new) }
+        ensures few { (b : ℕ) → result ≡ ByteIn.Byte b → length (taken_by self.old) < 2 ^ 31 }
+        ensures empty { result ≡ ByteIn.Empty → (taken_by self.new ≡ taken_by self.old) × (bytes_shown self.new ≡ length (taken_by self.old)) × (found_closed self.new ≡ false) }
+        ensures over { found_closed self.old ≡ true → found_closed self.new ≡ true }
+        ensures closed { result ≡ ByteIn.Closed → (taken_by self.new ≡ taken_by self.old) × (bytes_shown self.new ≡ length (taken_by self.old)) × (found_closed self.new ≡ true) }
+        ensures answered { answered_by self.new ≡ answered_by self.old }
+        ensures link { link_of_board self.new ≡ link_of_board self.old }
+    {
+        let shared = &self.table.shared;
+        let head = shared.load::<SeeHead<RX>>(&mut self.seat, HEAD);
+        if head == self.taken + CLOSED {
+            return ByteIn::Closed;
+        }
+        if head == self.taken {
+            return ByteIn::Empty;
+        }
+        let byte = shared.load::<Look>(&mut self.seat, FIRST_CELL + self.cell) as u8;
+        shared.store::<TakeByte>(&mut self.seat, TAIL, self.taken + 1);
+        self.taken += 1;
+        self.cell = place_behind(self.cell, RX);
+        ByteIn::Byte(byte)
+    }
+
+    /// How many bytes there is room for: the room of the link less the unread bytes that its load shows.
+    #[inline]
+    pub fn free(&mut self) -> u8
+        ensures load { head_loads_of self.new ≡ head_loads_of self.old + 1 }
+        ensures free { result + (bytes_shown self.new - length (taken_by self.old)) ≡ RX }
+        ensures shown { length (taken_by self.old) ≤ bytes_shown self.new }
+        ensures over { found_closed self.old ≡ true → found_closed self.new ≡ true }
+        ensures taken { taken_by self.new ≡ taken_by self.old }
+        ensures answered { answered_by self.new ≡ answered_by self.old }
+        ensures link { link_of_board self.new ≡ link_of_board self.old }
+    {
+        let shared = &self.table.shared;
+        let head = shared.load::<SeeHead<RX>>(&mut self.seat, HEAD);
+        (RX as u64 - (head % CLOSED - self.taken)) as u8
+    }
+
+    /// Answers, or hands the reply back: exactly where the tail of the replies that it loads, once, shows 16
+    /// untaken ones. Then nothing was answered.
+    #[inline]
+    pub fn answer(&mut self, r: Reply) -> Result<(), Reply>
+        requires { MayAnswer (taken_by self.old) (answered_by self.old) r }
+        ensures load { room_loads_of self.new ≡ room_loads_of self.old + 1 }
+        ensures ok { OnOk result (answered_by self.new ≡ r ∷ answered_by self.old) }
+        ensures room { OnOk result (length (answered_by self.old) < replies_taken self.new + reply_room) }
+        ensures full { OnErr result ((answered_by self.new ≡ answered_by self.old) × (length (answered_by self.old) ≡ replies_taken self.new + reply_room)) }
+        ensures back { IfErr result (λ handed. handed ≡ r) }
+        ensures taken { (taken_by self.new ≡ taken_by self.old) × (found_closed self.new ≡ found_closed self.old) }
+        ensures link { link_of_board self.new ≡ link_of_board self.old }
+    {
+        let shared = &self.table.shared;
+        let taken = shared.load::<Reach>(&mut self.seat, REPLY_TAIL);
+        if self.answered - taken >= REPLY_ROOM as u64 {
+            return Err(r);
+        }
+        shared.exchange(&mut self.seat, self.slot, Some(r));
+        shared.store::<Answer>(&mut self.seat, REPLY_HEAD, self.answered + 1);
+        self.answered += 1;
+        self.slot = place_behind(self.slot, REPLY_ROOM);
+        Ok(())
+    }
+}

@@ -1,0 +1,79 @@
+//! What the host does.
+ghost use Rattle.std.specs.Prelude.{◌≡◌, ◌+◌, ◌^◌, ◌<◌, ◌≤◌, true, false, ◌∷◌, length, IfSome, IfNone};
+ghost use Rattle.status_report.specs.Replies.{IsReply};
+ghost use Rattle.serial_ring.specs.Lists.{answers_in, lfs_in, behind};
+ghost use Rattle.serial_ring.specs.Ends.{link_of_host, stored_by, closed_by, tail_shown, tail_loads_of, got_by, replies_shown, reply_loads_of};
+
+use crate::ends::HostEnd;
+use crate::joined::{CLOSED, FIRST_CELL, HEAD, REPLY_HEAD, REPLY_ROOM, REPLY_TAIL, TAIL};
+use crate::plays::{GiveBack, Grasp, SeeTail, Shut, StoreByte, Write};
+use crate::view::Stored;
+use shared_rings::place_behind;
+use status_report::Reply;
+
+impl<const RX: usize> HostEnd<RX> {
+    /// Stores a byte, or drops it: exactly where the tail that it loads, once, shows no room for one. The
+    /// unread bytes are at most those behind the last line whose answer was got, so a host that keeps these
+    /// below the room loses none.
+    #[inline]
+    pub fn store(&mut self, byte: u8) -> Stored
+        requires still { closed_by self.old ≡ false }
+        requires few { length (stored_by self.old) < 2 ^ 31 }
+        ensures load { tail_loads_of self.new ≡ tail_loads_of self.old + 1 }
+        ensures stored { result ≡ Stored.Stored → stored_by self.new ≡ byte ∷ stored_by self.old }
+        ensures room { result ≡ Stored.Stored → length (stored_by self.old) < tail_shown self.new + RX }
+        ensures dropped { result ≡ Stored.Dropped → (stored_by self.new ≡ stored_by self.old) × (length (stored_by self.old) ≡ tail_shown self.new + RX) }
+        ensures unread { length (stored_by self.old) ≤ tail_shown self.new + length (behind (answers_in (got_by self.old)) (stored_by self.old)) }
+        ensures open { closed_by self.new ≡ false }
+        ensures got { got_by self.new ≡ got_by self.old }
+        ensures link { link_of_host self.new ≡ link_of_host self.old }
+    {
+        let shared = &self.table.shared;
+        let taken = shared.load::<SeeTail<RX>>(&mut self.seat, TAIL);
+        if self.stored - taken >= RX as u64 {
+            return Stored::Dropped;
+        }
+        shared.store::<Write>(&mut self.seat, FIRST_CELL + self.cell, byte as u64);
+        shared.store::<StoreByte>(&mut self.seat, HEAD, self.stored + 1);
+        self.stored += 1;
+        self.cell = place_behind(self.cell, RX);
+        Stored::Stored
+    }
+
+    /// Closes the link: no byte comes behind those stored.
+    pub fn close(&mut self)
+        requires still { closed_by self.old ≡ false }
+        ensures closed { closed_by self.new ≡ true }
+        ensures stored { stored_by self.new ≡ stored_by self.old }
+        ensures got { got_by self.new ≡ got_by self.old }
+        ensures link { link_of_host self.new ≡ link_of_host self.old }
+    {
+        self.table
+            .shared
+            .store::<Shut>(&mut self.seat, HEAD, self.stored + CLOSED);
+    }
+
+    /// The next reply; None exactly where the head of the replies that it loads, once, is the number of those
+    /// got. No more lines have an answer among the replies got than end among the bytes stored.
+    #[inline]
+    pub fn reply(&mut self) -> Option<Reply>
+        ensures load { reply_loads_of self.new ≡ reply_loads_of self.old + 1 }
+        ensures some { IfSome result (λ r. (got_by self.new ≡ r ∷ got_by self.old) × (length (got_by self.old) < replies_shown self.new)) }
+        ensures text { IfSome result IsReply }
+        ensures fewer { IfSome result (λ r. answers_in (got_by self.new) ≤ lfs_in (stored_by self.old)) }
+        ensures none { IfNone result ((got_by self.new ≡ got_by self.old) × (replies_shown self.new ≡ length (got_by self.old))) }
+        ensures stored { (stored_by self.new ≡ stored_by self.old) × (closed_by self.new ≡ closed_by self.old) }
+        ensures link { link_of_host self.new ≡ link_of_host self.old }
+    {
+        let shared = &self.table.shared;
+        let shown = shared.load::<Grasp>(&mut self.seat, REPLY_HEAD);
+        if shown == self.got {
+            return None;
+        }
+        let reply = shared.exchange(&mut self.seat, self.slot, None).unwrap();
+        shared.store::<GiveBack>(&mut self.seat, REPLY_TAIL, self.got + 1);
+        self.got += 1;
+        self.slot = place_behind(self.slot, REPLY_ROOM);
+        Some(reply)
+    }
+}

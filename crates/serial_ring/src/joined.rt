@@ -1,0 +1,93 @@
+//! The beginning and the end of a link.
+ghost use Rattle.std.specs.Prelude.{◌≡◌, false, [], IfOk};
+ghost use Rattle.serial_ring.specs.Lists.{IsRoom};
+ghost use Rattle.serial_ring.specs.Rule.{AreTied};
+ghost use Rattle.serial_ring.specs.Ends.{link_of_host, link_of_board, stored_by, closed_by, got_by, taken_by, found_closed, answered_by};
+
+use crate::ends::{BoardEnd, HostEnd};
+use crate::plays::{Sides, Tie};
+use crate::view::{LinkTable, Place};
+use atomic_table::Table;
+use outside::OutOfMemory;
+use std::alloc::Global;
+use std::sync::Arc;
+
+/// How many replies may be untaken.
+pub(crate) const REPLY_ROOM: usize = 16;
+/// The host writes these words and the cells.
+pub(crate) const HEAD: usize = 0;
+
+pub(crate) const REPLY_TAIL: usize = 1;
+/// The board writes these, 256 bytes behind the others.
+pub(crate) const TAIL: usize = 32;
+
+pub(crate) const REPLY_HEAD: usize = 33;
+/// There are as many cells as the greatest link has.
+pub(crate) const FIRST_CELL: usize = 64;
+
+const WORDS: usize = 320;
+/// The top bit of the head closes the link.
+pub(crate) const CLOSED: u64 = 1 << 63;
+
+/// An open link with no byte and no reply in it, and its two ends. It has room for `RX` bytes.
+pub fn link<const RX: usize>(alloc: Global) -> Result<(HostEnd<RX>, BoardEnd<RX>), OutOfMemory>
+    requires { IsRoom RX }
+    ensures link { IfOk result (λ r. link_of_host r.0 ≡ link_of_board r.1) }
+    ensures fresh_host { IfOk result (λ r. (stored_by r.0 ≡ []) × (closed_by r.0 ≡ false) × (got_by r.0 ≡ [])) }
+    ensures fresh_board { IfOk result (λ r. (taken_by r.1 ≡ []) × (found_closed r.1 ≡ false) × (answered_by r.1 ≡ [])) }
+{
+    let (table, mut seat): (LinkTable<RX>, Place) = Table::vacant(
+        alloc,
+        &[0; WORDS],
+        REPLY_ROOM,
+        &(),
+    )?;
+    let far = table.shared.split_seat::<Sides>(&mut seat);
+    let table = Arc::new(alloc, table)?;
+    let other = Arc::try_clone(&table)?;
+    let host = HostEnd {
+        table,
+        seat,
+        stored: 0,
+        cell: 0,
+        got: 0,
+        slot: 0,
+    };
+    let board = BoardEnd {
+        table: other,
+        seat: far,
+        taken: 0,
+        cell: 0,
+        answered: 0,
+        slot: 0,
+    };
+    Ok((host, board))
+}
+
+/// Ends the link of these two ends. The bytes taken are the first of those stored, at most the link's room
+/// behind, and all of them where the board found the link closed; the replies got are the first of those
+/// answered, at most 16 behind; and no more lines were answered than had their end taken.
+pub fn join_link<const RX: usize>(host: HostEnd<RX>, board: BoardEnd<RX>)
+    requires { link_of_host host ≡ link_of_board board }
+    ensures { AreTied RX (stored_by host.entry) (taken_by board.entry) (found_closed board.entry) (answered_by board.entry) (got_by host.entry) }
+{
+    let HostEnd {
+        table,
+        mut seat,
+        stored: _,
+        cell: _,
+        got: _,
+        slot: _,
+    } = host;
+    let BoardEnd {
+        table: _,
+        seat: far,
+        taken: _,
+        cell: _,
+        answered: _,
+        slot: _,
+    } = board;
+    let shared = &table.shared;
+    shared.join_seat::<Sides>(&mut seat, far);
+    shared.load::<Tie<RX>>(&mut seat, HEAD);
+}

@@ -1,0 +1,19 @@
+-- Records and their end.
+use Rattle.std.specs.Prelude.{◌≡◌, ◌≢◌, List, [], ◌∷◌, ◌++◌}
+use Rattle.std.specs.List.{All}
+use Rattle.step_line.specs.declared.Record.{Record}
+use Rattle.step_line.specs.declared.Record.TheVariants as kinds
+
+-- the end is not among these records
+abbrev pub HasNoEnd : List Record → Type 0
+HasNoEnd rs = All (λ r. r ≢ kinds.End) rs
+
+-- no record but the last is the end
+abbrev pub EndsOnce : List Record → Type 0
+EndsOnce rs = (front back : List Record) (r : Record) → rs ≡ front ++ r ∷ back → HasNoEnd front
+
+-- the records end with the end, which comes once
+pub record IsEnded (rs : List Record) : Type 0 where
+  pub front : List Record
+  pub last : rs ≡ front ++ kinds.End ∷ []
+  pub once : HasNoEnd front

@@ -1,0 +1,198 @@
+-- A whole run of a host over a job of two lines, the last without LF: the rules allow it.
+use Rattle.std.proofs.Common.{inr, [], ◌∷◌, length, refl, arith}
+use Rattle.gcode_words.specs.Comments.{cut_within}
+use Rattle.outside.specs.declared.Turn.TheVariants.{Did, Done}
+use Rattle.status_report.specs.declared.Reply.TheVariants.{Banner, Ok, Bye}
+use Rattle.status_report.specs.Replies.{reply_text}
+use Rattle.stream_host.specs.Steps.{Journal, text_of}
+use Rattle.stream_host.specs.Steps.PortStep.{stored, got, no_reply, shut}
+use Rattle.stream_host.specs.Steps.Step.{at_port, read_some, read_end, scanned, line_over, wrote, turned}
+use Rattle.stream_host.specs.Conduct.{Conducted}
+
+abbrev j0 : Journal
+j0 = []
+
+c0 : Conducted j0
+c0 = tt
+
+abbrev j1 : Journal
+j1 = read_some (10 ∷ 88 ∷ []) ∷ j0
+
+c1 : Conducted j1
+unfolding cut_within
+c1 = ((record { going = refl; on = refl; sends = refl; used = refl; free = refl }, (omega arith), (omega arith)), c0)
+
+abbrev j2 : Journal
+j2 = turned Did ∷ j1
+
+c2 : Conducted j2
+unfolding cut_within
+c2 = (omega arith, c1)
+
+abbrev j3 : Journal
+j3 = scanned 10 ∷ j2
+
+c3 : Conducted j3
+unfolding cut_within
+c3 = (record { going = refl; next = refl; few = omega arith; sends = refl; free = refl }, c2)
+
+abbrev j4 : Journal
+j4 = at_port (stored 10) ∷ j3
+
+c4 : Conducted j4
+unfolding cut_within
+c4 = (record { next = refl; room = omega arith }, c3)
+
+abbrev j5 : Journal
+j5 = turned Did ∷ j4
+
+c5 : Conducted j5
+unfolding cut_within
+c5 = (omega arith, c4)
+
+abbrev j6 : Journal
+j6 = scanned 88 ∷ j5
+
+c6 : Conducted j6
+unfolding cut_within
+c6 = (record { going = refl; next = refl; few = omega arith; sends = refl; free = refl }, c5)
+
+abbrev j7 : Journal
+j7 = read_end ∷ j6
+
+c7 : Conducted j7
+unfolding cut_within
+c7 = (record { going = refl; on = refl; sends = refl; used = refl; free = refl }, c6)
+
+abbrev j8 : Journal
+j8 = line_over ∷ j7
+
+c8 : Conducted j8
+unfolding cut_within
+c8 = (record { going = refl; at_end = refl; used = refl; some = omega arith; sends = refl; free = refl }, c7)
+
+abbrev j9 : Journal
+j9 = at_port (stored 88) ∷ j8
+
+c9 : Conducted j9
+unfolding cut_within
+c9 = (record { next = refl; room = omega arith }, c8)
+
+abbrev j10 : Journal
+j10 = turned Did ∷ j9
+
+c10 : Conducted j10
+unfolding cut_within
+c10 = (omega arith, c9)
+
+abbrev j11 : Journal
+j11 = at_port no_reply ∷ j10
+
+c11 : Conducted j11
+unfolding cut_within
+c11 = (refl, c10)
+
+abbrev j12 : Journal
+j12 = at_port (stored 10) ∷ j11
+
+c12 : Conducted j12
+unfolding cut_within
+c12 = (record { next = refl; room = omega arith }, c11)
+
+abbrev j13 : Journal
+j13 = turned Did ∷ j12
+
+c13 : Conducted j13
+unfolding cut_within
+c13 = (omega arith, c12)
+
+abbrev j14 : Journal
+j14 = at_port shut ∷ j13
+
+c14 : Conducted j14
+unfolding cut_within
+c14 = (record { going = refl; sent = record { free = refl; all = inr (refl, refl) } }, c13)
+
+abbrev j15 : Journal
+j15 = turned Did ∷ j14
+
+c15 : Conducted j15
+unfolding cut_within
+c15 = (omega arith, c14)
+
+abbrev j16 : Journal
+j16 = at_port (got Banner) ∷ j15
+
+c16 : Conducted j16
+unfolding cut_within
+c16 = (record { going = refl; few = omega arith }, c15)
+
+abbrev j17 : Journal
+j17 = turned Did ∷ j16
+
+c17 : Conducted j17
+unfolding cut_within
+c17 = (omega arith, c16)
+
+abbrev j18 : Journal
+j18 = at_port (got Ok) ∷ j17
+
+c18 : Conducted j18
+unfolding cut_within
+c18 = (record { going = refl; few = omega arith }, c17)
+
+abbrev j19 : Journal
+j19 = turned Did ∷ j18
+
+c19 : Conducted j19
+unfolding cut_within
+c19 = (omega arith, c18)
+
+abbrev j20 : Journal
+j20 = at_port (got Ok) ∷ j19
+
+c20 : Conducted j20
+unfolding cut_within
+c20 = (record { going = refl; few = omega arith }, c19)
+
+abbrev j21 : Journal
+j21 = turned Did ∷ j20
+
+c21 : Conducted j21
+unfolding cut_within
+c21 = (omega arith, c20)
+
+abbrev j22 : Journal
+j22 = at_port (got Bye) ∷ j21
+
+c22 : Conducted j22
+unfolding cut_within
+c22 = (record { going = refl; few = omega arith }, c21)
+
+abbrev j23 : Journal
+j23 = turned Did ∷ j22
+
+c23 : Conducted j23
+unfolding cut_within
+c23 = (omega arith, c22)
+
+abbrev j24 : Journal
+j24 = wrote (length (text_of j23)) ∷ j23
+
+c24 : Conducted j24
+unfolding cut_within reply_text
+c24 = (record { going = refl; some = omega arith; front = omega arith }, c23)
+
+abbrev j25 : Journal
+j25 = turned Did ∷ j24
+
+c25 : Conducted j25
+unfolding cut_within reply_text
+c25 = (omega arith, c24)
+
+abbrev j26 : Journal
+j26 = turned Done ∷ j25
+
+c26 : Conducted j26
+unfolding cut_within reply_text
+c26 = (record { bye = refl; written = inr (omega arith); still = refl }, c25)

@@ -1,0 +1,524 @@
+-- What one step of a host makes of what it keeps.
+use Rattle.std.proofs.Common.{◌≡◌, ℕ, ◌&&◌, ◌+◌, ◌≤◌, ◌<◌, ◌⊎◌, ◌||◌, ◌^◌, inl, inr, Bool, true, false, cond, not, List, [], ◌∷◌, ◌++◌, length, map, take, drop, nat_eq, nat_lt, sum, refl, sym, ap, ◌∙◌, arith, subst, append-nil, length-append}
+use Rattle.std.specs.List.{list_any, count_by}
+use Rattle.std.proofs.lemmas.Bool.Decides.{nat_tests}
+use Rattle.std.proofs.lemmas.List.{map-append, drop-append-le, length-drop, length-take, drop_all}
+use Rattle.std.proofs.lemmas.List.Sums.{sum_by-append, sum_by-cons}
+use Rattle.gcode_words.specs.Stripping.{plain}
+use Rattle.run_rules.specs.Readings.{largest_job}
+use Rattle.stream_host.specs.declared.Reading.{Reading}
+use Rattle.stream_host.specs.declared.Reading.TheVariants.{Ended, Failed, Large, Stopped}
+use Rattle.stream_host.specs.declared.line.SentLine.{SentLine}
+use Rattle.stream_host.specs.declared.reader.Reader.{Reader}
+use Rattle.stream_host.specs.declared.host.Host.{Host}
+use Rattle.stream_host.specs.Links.{on_link}
+use Rattle.stream_host.specs.Jobs.{is_long, ends_sending, FitsReading}
+use Rattle.stream_host.specs.Steps.{Step, Journal, port_log, got_of, has_bye, answered_of, read_of, reading_of, scanned_of, unscanned_of, raw_of, cut_of, to_store, begun_of, stop_of, stop_at, text_of, this_turn}
+use Rattle.stream_host.specs.Steps.PortStep.{stored, got, shut}
+use Rattle.stream_host.specs.Steps.Step.{at_port, scanned, wrote, gave_up}
+use Rattle.stream_host.specs.Conduct.{Conducted, MayScanNext, MayStore, HasSentAll, HasNoMore, publishing}
+use Rattle.stream_host.specs.Hosts.{HostFits, HasLine, IsStoring, KeepsLine, KeepsJob, KeepsCounts, KeepsText, IsQuiet, line_length, lengths, IsSummed, unread}
+use Rattle.stream_host.specs.declared.counts.Counts.{Counts}
+use Rattle.status_report.specs.declared.Reply.{Reply}
+use Rattle.stream_host.specs.Links.{answers_in}
+use Rattle.stream_host.specs.Hosts.{HasRoom, MayScanOn, MayReadOn, IsPiece}
+use Rattle.stream_host.specs.Ports.{TakesByte, SeemsFull, IsOpen, AnswersLines}
+use Rattle.stream_host.proofs.Pieces.{none_ends}
+use Rattle.stream_host.proofs.Kept.{kept_whole}
+use Rattle.stream_host.proofs.Keeping.{read_is, few_scanned, reading_fits, open_is}
+use Rattle.stream_host.proofs.Sending as sending
+use Rattle.stream_host.proofs.Waiting.{all_begun, begun_is, over_full}
+use Rattle.std.specs.Io.KnownBytes.{Consumes}
+use Rattle.std.proofs.lemmas.List.{drop-drop}
+use Rattle.outside.specs.Causes.{SourceState, SinkState}
+use Rattle.text_writer.specs.Writers.{Writing, Writes, TookSome, WriteFailed, WroteOnce}
+use Rattle.text_writer.proofs.Arriving.{well, once_more}
+use Rattle.stream_host.specs.Steps.{written_of}
+use Rattle.stream_host.specs.Hosts.{DidAlone, HostTellsOn, TellsJob}
+use Rattle.std.proofs.lemmas.List.{drop-map}
+use Rattle.std.proofs.lemmas.Grind.{flat_map-append}
+use Rattle.std.proofs.lemmas.List.Folds.{list_any-append}
+use Rattle.outside.proofs.Written.{more_waits}
+use Rattle.status_report.specs.declared.Reply.TheVariants as replies
+use Rattle.status_report.specs.Replies.{reply_text}
+use Rattle.run_rules.specs.Told.{replies_text, is_error}
+use Rattle.text_writer.specs.Writers.{with_text, with_all_asked}
+use Rattle.stream_host.specs.Links.{is_answer, is_bye, errors_among}
+use Rattle.stream_host.specs.Steps.{has_given_up}
+use Rattle.stream_host.specs.Hosts.{shown}
+
+-- ---- the line in hand
+
+-- a line that is being scanned ends the sending where it is long
+pub long_is : (s : Host) (h : Journal) → HostFits s h → s.line.whole ≡ false → ends_sending (raw_of h) ≡ s.line.long
+long_is s h f e = sym (f.line_is.scanning e).0.long
+
+-- whichever it is
+long_by : (l : SentLine) (raw left : List ℕ) (whole : Bool) → l.whole ≡ whole → KeepsLine l raw left → l.long ≡ is_long raw
+long_by l raw left false e k = (k.scanning e).0.long
+long_by l raw left true e k = let i = k.storing e in i.short ∙ sym none_ends ∙ ap (λ (t : List ℕ). is_long t) (sym i.none)
+
+pub stop_is_now : (s : Host) (h : Journal) → HostFits s h → stop_of h ≡ stop_at s.job.reading (raw_of h) (length (cut_of h))
+stop_is_now s h f = ap (λ r. stop_at r (raw_of h) (length (cut_of h))) (sym f.job_is.reading_is)
+
+pub is_long_now : (s : Host) (h : Journal) → HostFits s h → s.line.long ≡ is_long (raw_of h)
+is_long_now s h f = long_by s.line (raw_of h) (to_store h) s.line.whole refl f.line_is
+
+-- a line is over
+pub finished : (l m : SentLine) (raw : List ℕ) → HasLine l raw → l.long ≡ false → m.kept.items ≡ l.kept.items → m.long ≡ l.long → m.whole ≡ true → m.place ≡ 0
+    → KeepsLine m [] (plain raw ++ 10 ∷ [])
+finished l m raw has short kept long whole place = record {
+  scanning = λ e. absurd (let f = sym whole ∙ e in cc);
+  storing = λ e. record {
+    none = refl;
+    short = long ∙ short;
+    within = omega arith;
+    left_is = ap (λ (k : List ℕ). k ++ 10 ∷ []) (sym (kept ∙ all_kept)) ∙ ap (λ n. drop n (m.kept.items ++ 10 ∷ [])) (sym place);
+  };
+}
+  where
+    all_kept : l.kept.items ≡ plain raw
+    all_kept = kept_whole 127 l.kept.items (plain raw) has.kept (sym has.long ∙ short)
+
+pub size_is : (l : SentLine) (raw : List ℕ) (n : ℕ) → HasLine l raw → l.long ≡ false → n ≡ length l.kept.items + 1 → n ≡ line_length raw
+size_is l raw n has short size = size ∙ ap (λ (k : List ℕ). length k + 1) (kept_whole 127 l.kept.items (plain raw) has.kept (sym has.long ∙ short))
+
+-- ---- the counts
+
+-- a line more is counted
+pub counted_line : (c d : Counts) (raw : List ℕ) (cuts : List (List ℕ)) (rs : List Reply) (n : ℕ) → KeepsCounts c cuts rs → answers_in rs ≤ length cuts
+    → lengths d.unanswered ≡ lengths c.unanswered ++ n ∷ [] → IsSummed d.unanswered → d.lines ≡ c.lines + 1 → d.answered ≡ c.answered → d.errors ≡ c.errors → n ≡ line_length raw
+    → KeepsCounts d (cuts ++ raw ∷ []) rs
+counted_line c d raw cuts rs n k few more summed lines answered errors size = record {
+  unanswered_are =
+      more ∙ ap (λ (ls : List ℕ). ls ++ n ∷ []) k.unanswered_are ∙ ap (λ m. map line_length (drop (answers_in rs) cuts) ++ m ∷ []) size
+      ∙ sym (map-append line_length (drop (answers_in rs) cuts) (raw ∷ []))
+      ∙ ap (map line_length) (sym (drop-append-le (answers_in rs) cuts (raw ∷ []) few));
+  summed = summed;
+  lines_are = lines ∙ ap (λ m. m + 1) k.lines_are ∙ sym (length-append cuts (raw ∷ []));
+  answered_is = answered ∙ k.answered_is;
+  errors_are = errors ∙ k.errors_are;
+}
+
+-- the sum of the lengths is what the lines take on the link
+link_sum : (lines : List (List ℕ)) → sum (map line_length lines) ≡ length (on_link lines)
+link_sum [] = refl
+link_sum (l ∷ ls) =
+    let a = sum_by-cons (λ x. x) (line_length l) (map line_length ls) in let m = link_sum ls in
+    let b = length-append (plain l ++ 10 ∷ []) (on_link ls) in let d = length-append (plain l) (10 ∷ []) in omega arith
+
+few_lengths : (lines : List (List ℕ)) → length (map line_length lines) ≤ sum (map line_length lines)
+few_lengths [] = omega arith
+few_lengths (l ∷ ls) = let a = sum_by-cons (λ x. x) (line_length l) (map line_length ls) in let m = few_lengths ls in omega arith
+
+pub total_is : (s : Host) (h : Journal) → HostFits s h → s.counts.unanswered.total ≡ length (on_link (drop (answered_of h) (cut_of h)))
+total_is s h f = f.counts_are.summed ∙ ap sum f.counts_are.unanswered_are ∙ link_sum (drop (answered_of h) (cut_of h))
+
+-- where nothing is to be stored, a line more may be counted
+pub has_room : (s : Host) (h : Journal) → HostFits s h → to_store h ≡ [] → HasRoom s.counts
+has_room s h f free =
+    let begun : begun_of h ≡ cut_of h = all_begun h free (begun_is h f.conducted) in
+    let small : length (on_link (drop (answered_of h) (cut_of h))) ≤ 128 = subst (λ (ls : List (List ℕ)). length (on_link (drop (answered_of h) ls)) ≤ 128) begun (sending.sum_is h f.conducted) in
+    let total = total_is s h f in
+    let few = few_lengths (drop (answered_of h) (cut_of h)) in
+    let same = ap length f.counts_are.unanswered_are in
+    let link = link_sum (drop (answered_of h) (cut_of h)) in
+    let most = (sending.counts_are h f.conducted).2 in
+    let lines = f.counts_are.lines_are in
+    record { few = omega arith; small = omega arith; summed = f.counts_are.summed; lines = omega arith }
+
+-- ---- a byte is scanned
+
+pub may_scan_next : (s : Host) (r : Reader) (b : ℕ) (h : Journal) → HostFits s h → MayScanOn s → s.shut ≡ false → unread s.job ≡ b ∷ unread r → MayScanNext b h
+may_scan_next s r b h f may going next = record {
+  going = sym f.shut_is ∙ going;
+  next = sym f.job_is.left_is ∙ next ∙ ap (λ (t : List ℕ). b ∷ drop 1 t) (sym next ∙ f.job_is.left_is);
+  few = (let n = f.job_is.scanned_is in let m = may.few in omega arith);
+  sends = long_is s h f may.scanning ∙ may.short;
+  free = (f.line_is.scanning may.scanning).1;
+}
+
+job_scanned : (s : Host) (r : Reader) (b : ℕ) (h : Journal) → HostFits s h → unread s.job ≡ b ∷ unread r → IsPiece r → r.scanned ≡ s.job.scanned + 1 → r.reading ≡ s.job.reading
+    → KeepsJob r (drop 1 (unscanned_of h)) (reading_of h) (length (scanned_of h ++ b ∷ []))
+job_scanned s r b h f next piece count reading = record {
+  piece = piece;
+  left_is = ap (drop 1) (sym next ∙ f.job_is.left_is);
+  reading_is = reading ∙ f.job_is.reading_is;
+  scanned_is = count ∙ ap (λ n. n + 1) f.job_is.scanned_is ∙ sym (length-append (scanned_of h) (b ∷ []));
+}
+
+-- a job at its end has no byte left
+not_over : (s : Host) (r : Reader) (b : ℕ) (h : Journal) {A : Type 0} → HostFits s h → unread s.job ≡ b ∷ unread r → reading_of h ≡ Ended → A
+not_over s r b h f next e = absurd (let g = sym (f.over e).0 ∙ sym f.job_is.left_is ∙ next in cc)
+
+pub scanned_byte : (s : Host) (r : Reader) (l : SentLine) (b : ℕ) (h : Journal) → HostFits s h → MayScanOn s → s.shut ≡ false → unread s.job ≡ b ∷ unread r → IsPiece r → r.scanned ≡ s.job.scanned + 1 → r.reading ≡ s.job.reading
+    → nat_eq b 10 ≡ false → ((raw : List ℕ) → HasLine s.line raw → HasLine l (raw ++ b ∷ [])) → l.whole ≡ s.line.whole → HostFits (record s { job = r; line = l }) (scanned b ∷ h)
+scanned_byte s r l b h f may going next piece count reading other fed whole = record {
+  conducted = (may_scan_next s r b h f may going next, f.conducted);
+  job_is = job_scanned s r b h f next piece count reading;
+  line_is = subst (λ t. KeepsLine l (cond t [] (raw_of h ++ b ∷ [])) (cond t (plain (raw_of h) ++ 10 ∷ []) (to_store h))) (sym other) (record {
+    scanning = λ e. let now = f.line_is.scanning may.scanning in (fed (raw_of h) now.0, now.1);
+    storing = λ e. absurd (let g = sym e ∙ whole ∙ may.scanning in cc);
+  });
+  counts_are = subst (λ t. KeepsCounts s.counts (cond t (cut_of h ++ raw_of h ∷ []) (cut_of h)) (got_of h)) (sym other) f.counts_are;
+  text_is = f.text_is;
+  shut_is = f.shut_is;
+  bye_is = f.bye_is;
+  over = λ e. not_over s r b h f next e;
+}
+
+pub scanned_lf : (s : Host) (r : Reader) (l : SentLine) (c : Counts) (b : ℕ) (h : Journal) → HostFits s h → MayScanOn s → s.shut ≡ false → unread s.job ≡ b ∷ unread r → IsPiece r → r.scanned ≡ s.job.scanned + 1 → r.reading ≡ s.job.reading
+    → nat_eq b 10 ≡ true → KeepsLine l [] (plain (raw_of h) ++ 10 ∷ []) → KeepsCounts c (cut_of h ++ raw_of h ∷ []) (got_of h) → HostFits (record s { job = r; line = l; counts = c }) (scanned b ∷ h)
+scanned_lf s r l c b h f may going next piece count reading lf line counts = record {
+  conducted = (may_scan_next s r b h f may going next, f.conducted);
+  job_is = job_scanned s r b h f next piece count reading;
+  line_is = subst (λ t. KeepsLine l (cond t [] (raw_of h ++ b ∷ [])) (cond t (plain (raw_of h) ++ 10 ∷ []) (to_store h))) (sym lf) line;
+  counts_are = subst (λ t. KeepsCounts c (cond t (cut_of h ++ raw_of h ∷ []) (cut_of h)) (got_of h)) (sym lf) counts;
+  text_is = f.text_is;
+  shut_is = f.shut_is;
+  bye_is = f.bye_is;
+  over = λ e. not_over s r b h f next e;
+}
+
+pub few_answers : (s : Host) (h : Journal) → HostFits s h → answers_in (got_of h) ≤ length (cut_of h)
+few_answers s h f = (sending.counts_are h f.conducted).1
+
+-- ---- a byte is stored
+
+pub may_store : (s : Host) (b : ℕ) (h : Journal) → HostFits s h → s.line.whole ≡ true → s.counts.unanswered.total ≤ 128 → drop s.line.place (s.line.kept.items ++ 10 ∷ []) ≡ b ∷ drop (s.line.place + 1) (s.line.kept.items ++ 10 ∷ []) → MayStore b h
+may_store s b h f whole room next =
+    let left = (f.line_is.storing whole).left_is in
+    record {
+      next = left ∙ next ∙ ap (λ (t : List ℕ). b ∷ drop 1 t) (sym next ∙ sym left);
+      room = (let t = total_is s h f in omega arith);
+    }
+
+pub takes_byte : (s : Host) (b : ℕ) (h : Journal) → HostFits s h → MayStore b h → TakesByte (port_log h)
+takes_byte s b h f may = record { going = open_is b h f.conducted may.next; few = (let n = sending.few_stored h f.conducted in omega arith) }
+
+pub not_dropped : (s : Host) (b : ℕ) (h : Journal) → HostFits s h → MayStore b h → SeemsFull (port_log h) → ⊥
+not_dropped s b h f may full = let l = sending.room_is b h f.conducted may in absurd (omega arith)
+
+-- the line after the byte
+pub record Advances (l m : SentLine) : Type 0 where
+  pub more : l.place < length l.kept.items → m ≡ record l { place = l.place + 1 }
+  pub last : l.place ≡ length l.kept.items → HasLine m [] × (m.whole ≡ false)
+
+line_stored : (l m : SentLine) (b : ℕ) (raw left : List ℕ) → l.whole ≡ true → Advances l m → IsStoring l raw left → drop l.place (l.kept.items ++ 10 ∷ []) ≡ b ∷ drop (l.place + 1) (l.kept.items ++ 10 ∷ []) → KeepsLine m raw (drop 1 left)
+line_stored l m b raw left whole stores is next = by_place (nat_lt l.place (length l.kept.items)) refl
+  where
+    rest : drop 1 left ≡ drop (l.place + 1) (l.kept.items ++ 10 ∷ [])
+    rest = ap (drop 1) (is.left_is ∙ next)
+
+    by_place : (t : Bool) → nat_lt l.place (length l.kept.items) ≡ t → KeepsLine m raw (drop 1 left)
+    by_place true e = let below : l.place < length l.kept.items = grind (arith, nat_tests) in rw (stores.more below) (record {
+      scanning = λ w. absurd (let g = sym whole ∙ w in cc);
+      storing = λ w. record { none = is.none; short = is.short; within = omega arith; left_is = rest };
+    })
+    by_place false e =
+        let at : l.place ≡ length l.kept.items = (let w = is.within in grind (arith, nat_tests)) in
+        let end = stores.last at in
+        let len = length-append l.kept.items (10 ∷ []) in
+        let none : drop 1 left ≡ [] = rest ∙ drop_all (l.place + 1) (l.kept.items ++ 10 ∷ []) (omega arith) in
+        record {
+          scanning = λ w. (subst (HasLine m) (sym is.none) end.0, none);
+          storing = λ w. absurd (let g = sym end.1 ∙ w in cc);
+        }
+
+pub stored_byte : (s : Host) (m : SentLine) (b : ℕ) (h : Journal) → HostFits s h → s.line.whole ≡ true → MayStore b h → Advances s.line m → drop s.line.place (s.line.kept.items ++ 10 ∷ []) ≡ b ∷ drop (s.line.place + 1) (s.line.kept.items ++ 10 ∷ [])
+    → HostFits (record s { line = m }) (at_port (stored b) ∷ h)
+stored_byte s m b h f whole may stores next = record {
+  conducted = (may, f.conducted);
+  job_is = f.job_is;
+  line_is = line_stored s.line m b (raw_of h) (to_store h) whole stores (f.line_is.storing whole) next;
+  counts_are = f.counts_are;
+  text_is = f.text_is;
+  shut_is = f.shut_is;
+  bye_is = f.bye_is;
+  over = f.over;
+}
+
+-- ---- the link is closed
+
+-- nothing is left of a piece that is used up
+used_by : (r : Reader) → unread r ≡ [] → IsPiece r → r.end ≤ r.place
+used_by r none piece =
+    let a = ap length none in let b = length-drop r.place (take r.end r.bytes) in let d = length-take r.end r.bytes in
+    let e = piece.few in let f = piece.size in omega arith
+
+some_by : (r : Reader) (b : ℕ) (left : List ℕ) → unread r ≡ b ∷ left → r.place < r.end
+some_by r b left next =
+    let a = ap length next in let c = length-drop r.place (take r.end r.bytes) in let d = length-take r.end r.bytes in omega arith
+
+pub few_lines : (s : Host) (h : Journal) → HostFits s h → (s.counts.lines ≡ length (cut_of h)) × (length (cut_of h) ≤ largest_job)
+few_lines s h f = (f.counts_are.lines_are, (sending.counts_are h f.conducted).2)
+
+-- a job that is too large leaves a byte
+none_left_large : (h : Journal) {A : Type 0} → Conducted h → reading_of h ≡ Large → unscanned_of h ≡ [] → A
+none_left_large h c at none =
+    let more : largest_job < length (read_of h) = (subst (λ (r : Reading). FitsReading r (length (read_of h))) at (reading_fits h c)).0 in
+    let l = ap length (read_is h c) in let m = length-append (scanned_of h) (unscanned_of h) in let n = ap length none in let k = few_scanned h c in
+    absurd (omega arith)
+
+no_more_by : (s : Host) (h : Journal) → HostFits s h → (MayScanOn s → ⊥) → (MayReadOn s → ⊥) → s.line.whole ≡ false → s.line.long ≡ false
+    → (r : Reading) → reading_of h ≡ r → (left : List ℕ) → unscanned_of h ≡ left → HasNoMore r (unscanned_of h) (raw_of h) (length (scanned_of h))
+no_more_by s h f no_scan no_read whole long Ended at left is = f.over at
+no_more_by s h f no_scan no_read whole long Failed at [] is = is
+no_more_by s h f no_scan no_read whole long Stopped at [] is = absurd (no_read (record { scanning = whole; short = long; used = used_by s.job (f.job_is.left_is ∙ is) f.job_is.piece; on = f.job_is.reading_is ∙ at }))
+no_more_by s h f no_scan no_read whole long Large at [] is = none_left_large h f.conducted at is
+no_more_by s h f no_scan no_read whole long r at (b ∷ left) is = over_full h f.conducted b left is (full (nat_lt (length (scanned_of h)) largest_job) refl) r at
+  where
+    full : (t : Bool) → nat_lt (length (scanned_of h)) largest_job ≡ t → largest_job ≤ length (scanned_of h)
+    full false e = grind (arith, nat_tests)
+    full true e = absurd (no_scan (record {
+      scanning = whole;
+      short = long;
+      some = some_by s.job b left (f.job_is.left_is ∙ is);
+      few = (let n = f.job_is.scanned_is in grind (arith, nat_tests));
+    }))
+
+-- all is sent where nothing may be scanned or read
+pub has_sent : (s : Host) (h : Journal) → HostFits s h → s.line.whole ≡ false → (MayScanOn s → ⊥) → (MayReadOn s → ⊥) → HasSentAll h
+has_sent s h f whole no_scan no_read = record { free = (f.line_is.scanning whole).1; all = by_long s.line.long refl }
+  where
+    by_long : (t : Bool) → s.line.long ≡ t → (ends_sending (raw_of h) ≡ true) ⊎ HasNoMore (reading_of h) (unscanned_of h) (raw_of h) (length (scanned_of h))
+    by_long true e = inl (long_is s h f whole ∙ e)
+    by_long false e = inr (no_more_by s h f no_scan no_read whole e (reading_of h) refl (unscanned_of h) refl)
+
+pub closed : (s : Host) (h : Journal) → HostFits s h → s.line.whole ≡ false → s.shut ≡ false → (MayScanOn s → ⊥) → (MayReadOn s → ⊥) → HostFits (record s { shut = true }) (at_port shut ∷ h)
+closed s h f whole going no_scan no_read = record {
+  conducted = (record { going = sym f.shut_is ∙ going; sent = has_sent s h f whole no_scan no_read }, f.conducted);
+  job_is = f.job_is;
+  line_is = f.line_is;
+  counts_are = f.counts_are;
+  text_is = f.text_is;
+  shut_is = refl;
+  bye_is = f.bye_is;
+  over = f.over;
+}
+
+pub is_open : (s : Host) (h : Journal) → HostFits s h → s.shut ≡ false → IsOpen (port_log h)
+is_open s h f going = sym f.shut_is ∙ going
+
+-- ---- the console
+
+pub quiet_on : (s : Step) (h : Journal) → publishing s ≡ false → IsQuiet h → count_by publishing (s ∷ this_turn h) ≡ 0
+quiet_on s h none quiet = let e = sum_by-cons (λ x. cond (publishing x) 1 0) s (this_turn h) in let f = ap (λ b. cond {A = ℕ} b 1 0) none in omega arith
+
+-- a host that moves its job alone tells as much of it
+pub same_job : (h next : Journal) (before now : SourceState) → read_of next ≡ read_of h → reading_of next ≡ reading_of h → TellsJob h before now → TellsJob next before now
+same_job h next before now read reading t = record {
+  taken = subst (Consumes before.left now.left) (sym read) t.taken;
+  at_end = λ e. t.at_end (sym reading ∙ e);
+  later = t.later;
+  cause = λ e. t.cause (sym reading ∙ e);
+}
+
+some_waits : (v : Writing) → Writes v → 0 < length v.waiting
+some_waits v w = by_test (not v.failed) (nat_lt 0 (length v.waiting)) (v.begun || v.asked || nat_lt 4096 (length v.waiting + 192)) refl w
+  where
+    by_test : (a b d : Bool) → nat_lt 0 (length v.waiting) ≡ b → (a && (b && d)) ≡ true → 0 < length v.waiting
+    by_test true true d is e = grind (arith, nat_tests)
+    by_test true false d is e = absurd cc
+    by_test false b d is e = absurd cc
+
+wrote_some : (s : Host) (w : Writing) (h : Journal) (now later : SinkState) → HostFits s h → Writes s.text → TookSome s.text w now later → (next : Journal) × DidAlone s (record s { text = w }) h next × ((job : SourceState) → HostTellsOn s (record s { text = w }) h next job job now later)
+wrote_some s w h now later f due took =
+    let going : s.text.failed ≡ false = well s.text due in
+    let waits = f.text_is.waits going in
+    let size = ap length waits ∙ length-drop (written_of h) (text_of h) in
+    let some = took.some in let few = took.within in let within = f.text_is.within in
+    let left = took.left in (
+      wrote took.count ∷ h,
+      record {
+        fits = record {
+          conducted = (record { going = sym f.text_is.failed_is ∙ going; some = took.some; front = omega arith }, f.conducted);
+          job_is = f.job_is;
+          line_is = f.line_is;
+          counts_are = f.counts_are;
+          text_is = record {
+            failed_is = ap (λ v. v.failed) left ∙ f.text_is.failed_is;
+            waits = λ e. ap (λ v. v.waiting) left ∙ ap (drop took.count) waits ∙ drop-drop took.count (written_of h) (text_of h);
+            within = omega arith;
+            all_asked = λ e. ap (λ v. v.asked) left ∙ f.text_is.all_asked e;
+          };
+          shut_is = f.shut_is;
+          bye_is = f.bye_is;
+          over = f.over;
+        };
+        steps = wrote took.count ∷ [];
+        are = refl;
+        port = refl;
+        quiet = λ q. quiet_on (wrote took.count) h refl q;
+        moves = inl refl;
+      },
+      λ job. record {
+        job = λ before t. same_job h (wrote took.count ∷ h) before job refl refl t;
+        console = λ before t. once_more s.text w (text_of h) before now later due (inl took) t;
+      },
+    )
+
+wrote_none : (s : Host) (w : Writing) (h : Journal) (now later : SinkState) → HostFits s h → Writes s.text → WriteFailed s.text w now later → (next : Journal) × DidAlone s (record s { text = w }) h next × ((job : SourceState) → HostTellsOn s (record s { text = w }) h next job job now later)
+wrote_none s w h now later f due fault =
+    let going : s.text.failed ≡ false = well s.text due in
+    let waits = f.text_is.waits going in
+    let size = ap length waits ∙ length-drop (written_of h) (text_of h) in
+    let some = some_waits s.text due in let within = f.text_is.within in
+    let gone : w.failed ≡ true = ap (λ v. v.failed) fault.left in (
+      gave_up ∷ h,
+      record {
+        fits = record {
+          conducted = (record { going = sym f.text_is.failed_is ∙ going; some = omega arith }, f.conducted);
+          job_is = f.job_is;
+          line_is = f.line_is;
+          counts_are = f.counts_are;
+          text_is = record {
+            failed_is = gone;
+            waits = λ e. absurd (let g = sym gone ∙ e in cc);
+            within = within;
+            all_asked = λ e. ap (λ v. v.asked) fault.left ∙ f.text_is.all_asked e;
+          };
+          shut_is = f.shut_is;
+          bye_is = f.bye_is;
+          over = f.over;
+        };
+        steps = gave_up ∷ [];
+        are = refl;
+        port = refl;
+        quiet = λ q. quiet_on gave_up h refl q;
+        moves = inr (falls w.failed s.text.failed gone going);
+      },
+      λ job. record {
+        job = λ before t. same_job h (gave_up ∷ h) before job refl refl t;
+        console = λ before t. once_more s.text w (text_of h) before now later due (inr fault) t;
+      },
+    )
+  where
+    falls : (a b : Bool) → a ≡ true → b ≡ false → cond a 0 1 < cond b 0 1
+    falls true false e g = omega arith
+    falls true true e g = absurd cc
+    falls false b e g = absurd cc
+
+pub wrote_on : (s : Host) (w : Writing) (h : Journal) (now later : SinkState) → HostFits s h → Writes s.text → WroteOnce s.text w now later → (next : Journal) × DidAlone s (record s { text = w }) h next × ((job : SourceState) → HostTellsOn s (record s { text = w }) h next job job now later)
+wrote_on s w h now later f due (inl took) = wrote_some s w h now later f due took
+wrote_on s w h now later f due (inr fault) = wrote_none s w h now later f due fault
+
+-- ---- a reply
+
+pub is_no_answer : (r : Reply) → (r ≡ replies.Ok → ⊥) → ((n : ℕ) → r ≡ replies.Error n → ⊥) → (is_answer r ≡ false) × (is_error r ≡ false)
+is_no_answer replies.Banner o e = (refl, refl)
+is_no_answer replies.Ok o e = absurd (o refl)
+is_no_answer (replies.Error n) o e = absurd (e n refl)
+is_no_answer (replies.Alarm n) o e = (refl, refl)
+is_no_answer (replies.Message m) o e = (refl, refl)
+is_no_answer (replies.Report t) o e = (refl, refl)
+is_no_answer (replies.Setting n v) o e = (refl, refl)
+is_no_answer (replies.Modes m) o e = (refl, refl)
+is_no_answer (replies.Offset row at) o e = (refl, refl)
+is_no_answer replies.Bye o e = (refl, refl)
+
+errors_push : (rs : List Reply) (r : Reply) → errors_among (rs ++ r ∷ []) ≡ errors_among rs + cond {A = ℕ} (is_error r) 1 0
+errors_push rs r = let e = sum_by-append (λ x. cond {A = ℕ} (is_error x) 1 0) rs (r ∷ []) in omega arith
+
+one_more_if : (b : Bool) (n : ℕ) → cond b (n + 1) n ≡ n + cond {A = ℕ} b 1 0
+one_more_if true n = refl
+one_more_if false n = omega arith
+
+-- an answer is counted
+pub counted_answer : (c d : Counts) (r : Reply) (cuts : List (List ℕ)) (rs : List Reply) → KeepsCounts c cuts rs → is_answer r ≡ true
+    → lengths d.unanswered ≡ drop 1 (lengths c.unanswered) → IsSummed d.unanswered → d.lines ≡ c.lines → d.answered ≡ c.answered + 1 → d.errors ≡ cond (is_error r) (c.errors + 1) c.errors
+    → KeepsCounts d cuts (rs ++ r ∷ [])
+counted_answer c d r cuts rs k is fewer summed lines answered errors =
+    let more : answers_in (rs ++ r ∷ []) ≡ answers_in rs + 1 = sending.answers_push rs r ∙ ap (λ b. answers_in rs + cond {A = ℕ} b 1 0) is in
+    record {
+      unanswered_are =
+          fewer ∙ ap (drop 1) k.unanswered_are ∙ drop-map line_length 1 (drop (answers_in rs) cuts) ∙ ap (map line_length) (drop-drop 1 (answers_in rs) cuts)
+          ∙ ap (λ n. map line_length (drop n cuts)) (sym more);
+      summed = summed;
+      lines_are = lines ∙ k.lines_are;
+      answered_is = answered ∙ ap (λ n. n + 1) k.answered_is ∙ sym more;
+      errors_are = errors ∙ ap (λ n. cond (is_error r) (n + 1) n) k.errors_are ∙ one_more_if (is_error r) (errors_among rs) ∙ sym (errors_push rs r);
+    }
+
+-- what is no answer counts nothing
+pub counted_other : (c : Counts) (r : Reply) (cuts : List (List ℕ)) (rs : List Reply) → KeepsCounts c cuts rs → is_answer r ≡ false → is_error r ≡ false → KeepsCounts c cuts (rs ++ r ∷ [])
+counted_other c r cuts rs k is none =
+    let same : answers_in (rs ++ r ∷ []) ≡ answers_in rs = (let e = sending.answers_push rs r in let g = ap (λ b. cond {A = ℕ} b 1 0) is in omega arith) in
+    let errors : errors_among (rs ++ r ∷ []) ≡ errors_among rs = (let e = errors_push rs r in let g = ap (λ b. cond {A = ℕ} b 1 0) none in omega arith) in
+    record {
+      unanswered_are = k.unanswered_are ∙ ap (λ n. map line_length (drop n cuts)) (sym same);
+      summed = k.summed;
+      lines_are = k.lines_are;
+      answered_is = k.answered_is ∙ sym same;
+      errors_are = k.errors_are ∙ sym errors;
+    }
+
+-- the numbers fit
+pub few_counted : (s : Host) (h : Journal) → HostFits s h → (s.counts.answered + 1 < 2 ^ 32) × (s.counts.errors + 1 < 2 ^ 32)
+few_counted s h f =
+    let n = sending.counts_are h f.conducted in let a = n.0 in let b = n.1 in let d = n.2 in
+    let e = f.counts_are.answered_is in let g = f.counts_are.errors_are in (omega arith, omega arith)
+
+text_push : (rs : List Reply) (r : Reply) → replies_text (rs ++ r ∷ []) ≡ replies_text rs ++ reply_text r
+text_push rs r = flat_map-append reply_text rs (r ∷ []) ∙ ap (λ t. replies_text rs ++ t) (append-nil (reply_text r))
+
+bye_push : (rs : List Reply) (r : Reply) → list_any is_bye (rs ++ r ∷ []) ≡ (list_any is_bye rs || is_bye r)
+bye_push rs r = list_any-append is_bye rs (r ∷ []) ∙ ap (λ b. list_any is_bye rs || b) (or_none (is_bye r))
+  where
+    or_none : (b : Bool) → (b || false) ≡ b
+    or_none true = refl
+    or_none false = refl
+
+shown_failed : (v : Writing) (r : Reply) → (shown v r).failed ≡ v.failed
+shown_failed v r = by_bye (is_bye r)
+  where
+    by_bye : (b : Bool) → (cond b (with_all_asked (with_text v (reply_text r))) (with_text v (reply_text r))).failed ≡ v.failed
+    by_bye true = refl
+    by_bye false = refl
+
+shown_waiting : (v : Writing) (r : Reply) → (shown v r).waiting ≡ cond v.failed v.waiting (v.waiting ++ reply_text r)
+shown_waiting v r = by_bye (is_bye r)
+  where
+    by_bye : (b : Bool) → (cond b (with_all_asked (with_text v (reply_text r))) (with_text v (reply_text r))).waiting ≡ cond v.failed v.waiting (v.waiting ++ reply_text r)
+    by_bye true = refl
+    by_bye false = refl
+
+shown_asked : (v : Writing) (r : Reply) (bye : Bool) → bye ≡ false → (bye || is_bye r) ≡ true → (shown v r).asked ≡ true
+shown_asked v r bye none is = by_bye (is_bye r) (ap (λ b. b || is_bye r) (sym none) ∙ is)
+  where
+    by_bye : (b : Bool) → b ≡ true → (cond b (with_all_asked (with_text v (reply_text r))) (with_text v (reply_text r))).asked ≡ true
+    by_bye true e = refl
+    by_bye false e = absurd cc
+
+got_text : (s : Host) (w : Writing) (r : Reply) (h : Journal) → HostFits s h → s.bye ≡ false → w ≡ shown s.text r → KeepsText w (text_of (at_port (got r) ∷ h)) (written_of h) (has_given_up h) (has_bye (at_port (got r) ∷ h))
+got_text s w r h f going is = record {
+  failed_is = ap (λ v. v.failed) is ∙ shown_failed s.text r ∙ f.text_is.failed_is;
+  waits = λ e.
+      let well : s.text.failed ≡ false = sym (ap (λ v. v.failed) is ∙ shown_failed s.text r) ∙ e in
+      ap (λ v. v.waiting) is ∙ shown_waiting s.text r ∙ ap (λ b. cond b s.text.waiting (s.text.waiting ++ reply_text r)) well
+      ∙ ap (λ t. t ++ reply_text r) (f.text_is.waits well) ∙ sym (drop-append-le (written_of h) (text_of h) (reply_text r) f.text_is.within)
+      ∙ ap (drop (written_of h)) (sym (text_push (got_of h) r));
+  within = (let l = ap length (text_push (got_of h) r) in let m = length-append (text_of h) (reply_text r) in let n = f.text_is.within in omega arith);
+  all_asked = λ e. ap (λ v. v.asked) is ∙ shown_asked s.text r (has_bye h) (sym f.bye_is ∙ going) (sym (bye_push (got_of h) r) ∙ e);
+}
+
+pub got_reply : (s : Host) (w : Writing) (c : Counts) (bye : Bool) (r : Reply) (h : Journal) → HostFits s h → s.bye ≡ false → AnswersLines (got r ∷ port_log h) → w ≡ shown s.text r → bye ≡ (s.bye || is_bye r)
+    → KeepsCounts c (cut_of h) (got_of h ++ r ∷ []) → HostFits (record s { text = w; counts = c; bye = bye }) (at_port (got r) ∷ h)
+got_reply s w c bye r h f going lines text is counts = record {
+  conducted = (record { going = sym f.bye_is ∙ going; few = lines }, f.conducted);
+  job_is = f.job_is;
+  line_is = f.line_is;
+  counts_are = counts;
+  text_is = got_text s w r h f going text;
+  shut_is = f.shut_is;
+  bye_is = is ∙ ap (λ b. b || is_bye r) f.bye_is ∙ sym (bye_push (got_of h) r);
+  over = f.over;
+}
+
+pub tells_reply : (s t : Host) (r : Reply) (h : Journal) (job : SourceState) (console : SinkState) → t.text ≡ shown s.text r → HostTellsOn s t h (at_port (got r) ∷ h) job job console console
+tells_reply s t r h job console is = record {
+  job = λ before j. same_job h (at_port (got r) ∷ h) before job refl refl j;
+  console = λ before j.
+      let more = more_waits before console s.text.failed s.text.waiting (text_of h) (reply_text r) j in
+      rw (is, shown_failed s.text r, shown_waiting s.text r, text_push (got_of h) r) more;
+}

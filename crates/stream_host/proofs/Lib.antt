@@ -1,0 +1,12 @@
+pub mod Counting
+pub mod Hosting
+pub mod JobSteps
+pub mod Turns
+pub mod Kept
+pub mod Links
+pub mod Pieces
+pub mod Keeping
+pub mod Sending
+pub mod Waiting
+pub mod Example
+pub mod Running

@@ -1,0 +1,226 @@
+-- The turns of a host.
+use Rattle.std.proofs.Common.{◌≡◌, ℕ, ◌≤◌, ◌<◌, ◌||◌, ◌&&◌, inl, inr, Bool, true, false, cond, not, List, [], ◌∷◌, ◌++◌, length, drop, nat_lt, refl, sym, ap, ◌∙◌, arith, subst, append_assoc, length-append}
+use Rattle.std.specs.List.{count_by}
+use Rattle.std.proofs.lemmas.Bool.Decides.{nat_tests}
+use Rattle.std.proofs.lemmas.List.{length-drop}
+use Rattle.std.proofs.lemmas.List.Folds.{list_any-append}
+use Rattle.std.proofs.lemmas.List.Sums.{sum_by-cons}
+use Rattle.outside.specs.Causes.{SourceState, SinkState}
+use Rattle.outside.specs.declared.On.TheVariants.{Answer}
+use Rattle.outside.specs.declared.Turn.{Turn}
+use Rattle.outside.specs.declared.Turn.TheVariants.{Did, Wait, Done}
+use Rattle.status_report.specs.declared.Reply.{Reply}
+use Rattle.text_writer.specs.Writers.{Writing, is_due, with_all_asked}
+use Rattle.stream_host.specs.declared.host.Host.{Host}
+use Rattle.stream_host.specs.Steps.{Step, Journal, is_shut, has_bye, to_store, text_of, written_of, this_turn}
+use Rattle.stream_host.specs.Steps.PortStep.{stored, got, no_reply, shut}
+use Rattle.stream_host.specs.Steps.Step.{at_port, turned}
+use Rattle.stream_host.specs.Conduct.{HasWritten, publishing, moving}
+use Rattle.stream_host.specs.Hosts.{HostFits, HostWorked, HostTurned, HostTellsOn, HasPolled, IsQuiet, IsBetween, DidAlone, HasShown, HostRests, rank}
+use Rattle.stream_host.proofs.Hosting.{quiet_on, same_job, total_is}
+
+-- ---- what waits for the console
+
+none_waits : (v : Writing) → is_due v ≡ false → v.asked ≡ true → v.failed ≡ false → length v.waiting ≡ 0
+none_waits v none asked well = by_test v.failed (nat_lt 0 (length v.waiting)) v.begun v.asked _ well asked refl none
+  where
+    by_test : (f t b a d : Bool) → f ≡ false → a ≡ true → nat_lt 0 (length v.waiting) ≡ t → (not f && (t && ((b || a) || d))) ≡ false → length v.waiting ≡ 0
+    by_test f false b a d well asked is e = grind (arith, nat_tests)
+    by_test true true b a d well asked is e = absurd cc
+    by_test false true true a d well asked is e = absurd cc
+    by_test false true false true d well asked is e = absurd cc
+    by_test false true false false d well asked is e = absurd cc
+
+pub has_written : (s : Host) (h : Journal) → HostFits s h → HasShown s.text → HasWritten h
+has_written s h f shown = by_failed s.text.failed refl
+  where
+    by_failed : (b : Bool) → s.text.failed ≡ b → HasWritten h
+    by_failed true e = inl (sym f.text_is.failed_is ∙ e)
+    by_failed false e =
+        let none = none_waits s.text shown.none shown.asked e in
+        let is = ap length (f.text_is.waits e) ∙ length-drop (written_of h) (text_of h) in
+        let within = f.text_is.within in
+        inr (omega arith)
+
+-- ---- what a turn does
+
+few_on : (s : Step) (h : Journal) → IsQuiet h → count_by publishing (s ∷ this_turn h) ≤ 1
+few_on s h quiet = let e = sum_by-cons (λ x. cond {A = ℕ} (publishing x) 1 0) s (this_turn h) in let b = at_most (publishing s) in omega arith
+  where
+    at_most : (b : Bool) → cond {A = ℕ} b 1 0 ≤ 1
+    at_most true = omega arith
+    at_most false = omega arith
+
+pub did_alone : (s t : Host) (h next : Journal) → IsQuiet h → DidAlone s t h next → HostWorked Did s t h next
+did_alone s t h next quiet d = record { fits = d.fits; steps = d.steps; are = d.are; may = (let q = d.quiet quiet in omega arith); moves = λ e. d.moves }
+
+-- one step at the port
+pub did_at_port : (s t : Host) (p : Step) (h : Journal) → moving p ≡ true → IsQuiet h → HostFits t (p ∷ h) → count_by publishing (this_turn (p ∷ h)) ≤ 1 → HostWorked Did s t h (p ∷ h)
+did_at_port s t p h moves quiet fits few = record { fits = fits; steps = p ∷ []; are = refl; may = few; moves = λ e. inl (ap (λ b. b || false) moves) }
+
+pub few_stored_now : (b : ℕ) (h : Journal) → IsQuiet h → count_by publishing (this_turn (at_port (stored b) ∷ h)) ≤ 1
+few_stored_now b h quiet = few_on (at_port (stored b)) h quiet
+
+pub few_shut_now : (h : Journal) → IsQuiet h → count_by publishing (this_turn (at_port shut ∷ h)) ≤ 1
+few_shut_now h quiet = few_on (at_port shut) h quiet
+
+pub few_got_now : (r : Reply) (h : Journal) → IsQuiet h → count_by publishing (this_turn (at_port (got r) ∷ h)) ≤ 1
+few_got_now r h quiet = few_on (at_port (got r)) h quiet
+
+pub tells_stored : (s t : Host) (b : ℕ) (h : Journal) (job : SourceState) (console : SinkState) → t.text ≡ s.text → HostTellsOn s t h (at_port (stored b) ∷ h) job job console console
+tells_stored s t b h job console same = record { job = λ before j. same_job h (at_port (stored b) ∷ h) before job refl refl j; console = λ before j. rw same j }
+
+pub tells_shut : (s t : Host) (h : Journal) (job : SourceState) (console : SinkState) → t.text ≡ s.text → HostTellsOn s t h (at_port shut ∷ h) job job console console
+tells_shut s t h job console same = record { job = λ before j. same_job h (at_port shut ∷ h) before job refl refl j; console = λ before j. rw same j }
+
+pub tells_same : (s : Host) (h : Journal) (job : SourceState) (console : SinkState) → HostTellsOn s s h h job job console console
+tells_same s h job console = record { job = λ before j. j; console = λ before j. j }
+
+-- ---- a reply is waited for
+
+some_left : (xs : List ℕ) (n : ℕ) (ys : List ℕ) → xs ≡ drop n (ys ++ 10 ∷ []) → n ≤ length ys → xs ≡ [] → ⊥
+some_left xs n ys is within none =
+    let a = ap length (sym is ∙ none) in let b = length-drop n (ys ++ 10 ∷ []) in let d = length-append ys (10 ∷ []) in absurd (omega arith)
+
+pub waits_for_room : (s : Host) (h : Journal) → HostFits s h → HasPolled h → HasShown s.text → s.line.whole ≡ true → 128 < s.counts.unanswered.total → HostWorked (Wait Answer) s s h h
+waits_for_room s h f polled shown whole full =
+    let is = f.line_is.storing whole in
+    let busy : to_store h ≡ [] → ⊥ = some_left (to_store h) s.line.place s.line.kept.items is.left_is is.within in
+    record {
+      fits = f;
+      steps = [];
+      are = refl;
+      may = record {
+        poll = polled.poll;
+        no_read = λ m. busy m.free;
+        no_scan = λ b m. busy m.free;
+        no_line = λ m. busy m.free;
+        no_store = λ b m. (let t = total_is s h f in let r = m.room in absurd (omega arith));
+        no_close = λ m. busy m.sent.free;
+        written = has_written s h f shown;
+      };
+      moves = λ e. absurd cc;
+    }
+
+pub waits_shut : (s : Host) (h : Journal) → HostFits s h → HasPolled h → HasShown s.text → s.line.whole ≡ false → s.shut ≡ true → HostWorked (Wait Answer) s s h h
+waits_shut s h f polled shown whole closed =
+    let over : is_shut h ≡ false → ⊥ = (λ e. absurd (let g = sym closed ∙ f.shut_is ∙ e in cc)) in
+    let free = (f.line_is.scanning whole).1 in
+    record {
+      fits = f;
+      steps = [];
+      are = refl;
+      may = record {
+        poll = polled.poll;
+        no_read = λ m. over m.going;
+        no_scan = λ b m. over m.going;
+        no_line = λ m. over m.going;
+        no_store = λ b m. absurd (let g = sym free ∙ m.next in cc);
+        no_close = λ m. over m.going;
+        written = has_written s h f shown;
+      };
+      moves = λ e. absurd cc;
+    }
+
+-- ---- the whole turn
+
+pub all_asked : (s : Host) (h : Journal) → HostFits s h → HostFits (record s { text = with_all_asked s.text }) h
+all_asked s h f = record {
+  conducted = f.conducted;
+  job_is = f.job_is;
+  line_is = f.line_is;
+  counts_are = f.counts_are;
+  text_is = record { failed_is = f.text_is.failed_is; waits = f.text_is.waits; within = f.text_is.within; all_asked = λ e. refl };
+  shut_is = f.shut_is;
+  bye_is = f.bye_is;
+  over = f.over;
+}
+
+pub polled : (s : Host) (h : Journal) → HostFits s h → s.bye ≡ false → HostFits s (at_port no_reply ∷ h)
+polled s h f going = record {
+  conducted = (sym f.bye_is ∙ going, f.conducted);
+  job_is = f.job_is;
+  line_is = f.line_is;
+  counts_are = f.counts_are;
+  text_is = f.text_is;
+  shut_is = f.shut_is;
+  bye_is = f.bye_is;
+  over = f.over;
+}
+
+pub quiet_between : (h : Journal) → IsBetween h → IsQuiet h
+quiet_between h between = ap (count_by publishing) between
+
+pub has_polled : (h : Journal) → IsBetween h → HasPolled (at_port no_reply ∷ h)
+has_polled h between = record { poll = refl; quiet = quiet_on (at_port no_reply) h refl (quiet_between h between) }
+
+-- what is done behind a poll is done in the turn
+pub worked_on : (t : Turn) (s u : Host) (h next : Journal) → HostWorked t s u (at_port no_reply ∷ h) next → HostWorked t s u h next
+worked_on t s u h next w = record {
+  fits = w.fits;
+  steps = w.steps ++ at_port no_reply ∷ [];
+  are = w.are ∙ sym (append_assoc w.steps (at_port no_reply ∷ []) h);
+  may = w.may;
+  moves = λ e. elim (w.moves e) [
+    | inl any ↦ inl (list_any-append moving w.steps (at_port no_reply ∷ []) ∙ ap (λ b. b || false) any)
+    | inr less ↦ inr less
+  ];
+}
+
+pub tells_polled : (s u : Host) (h next : Journal) (job later : SourceState) (now after : SinkState) → HostTellsOn s u (at_port no_reply ∷ h) next job later now after → HostTellsOn s u h next job later now after
+tells_polled s u h next job later now after t = record {
+  job = λ before j. t.job before (same_job h (at_port no_reply ∷ h) before job refl refl j);
+  console = λ before j. t.console before j;
+}
+
+pub is_done : (s : Host) (h : Journal) → HostFits s h → IsBetween h → HostRests s → HostWorked Done s s h h
+is_done s h f between rests =
+    let bye : has_bye h ≡ true = sym f.bye_is ∙ rests.bye in
+    record {
+      fits = f;
+      steps = [];
+      are = refl;
+      may = record { bye = bye; written = has_written s h f (record { asked = f.text_is.all_asked bye; none = rests.none }); still = between };
+      moves = λ e. absurd cc;
+    }
+
+pub ends : (t : Turn) (s u : Host) (h next : Journal) → HostWorked t s u h next → HostFits u (turned t ∷ next) × HostTurned t s u h (turned t ∷ next)
+ends t s u h next w = (
+  record {
+    conducted = (w.may, w.fits.conducted);
+    job_is = w.fits.job_is;
+    line_is = w.fits.line_is;
+    counts_are = w.fits.counts_are;
+    text_is = w.fits.text_is;
+    shut_is = w.fits.shut_is;
+    bye_is = w.fits.bye_is;
+    over = w.fits.over;
+  },
+  record { steps = w.steps; are = ap (λ n. turned t ∷ n) w.are; moves = w.moves },
+)
+
+pub tells_turned : (t : Turn) (s u : Host) (h next : Journal) (job later : SourceState) (now after : SinkState) → HostTellsOn s u h next job later now after → HostTellsOn s u h (turned t ∷ next) job later now after
+tells_turned t s u h next job later now after tells = record {
+  job = λ before j. same_job next (turned t ∷ next) before later refl refl (tells.job before j);
+  console = λ before j. tells.console before j;
+}
+
+-- ---- all text is asked for, and then something is done
+
+pub asked_now : (s : Host) (w : Writing) (h : Journal) → w ≡ with_all_asked s.text → HostFits s h → HostFits (record s { text = w }) h
+asked_now s w h e f = subst (λ v. HostFits (record s { text = v }) h) (sym e) (all_asked s h f)
+
+pub worked_asked : (t : Turn) (s u : Host) (w : Writing) (h next : Journal) → w ≡ with_all_asked s.text → HostWorked t (record s { text = w }) u h next → HostWorked t s u h next
+worked_asked t s u w h next e d = record {
+  fits = d.fits;
+  steps = d.steps;
+  are = d.are;
+  may = d.may;
+  moves = λ did. elim (d.moves did) [
+    | inl any ↦ inl any
+    | inr less ↦ inr (subst (λ (b : Bool). rank u < cond {A = ℕ} b 0 1) (ap (λ v. v.failed) e) less)
+  ];
+}
+
+pub tells_asked : (s u : Host) (w : Writing) (h next : Journal) (job later : SourceState) (now after : SinkState) → w ≡ with_all_asked s.text → HostTellsOn (record s { text = w }) u h next job later now after → HostTellsOn s u h next job later now after
+tells_asked s u w h next job later now after e t = record { job = t.job; console = λ before j. t.console before (rw e j) }

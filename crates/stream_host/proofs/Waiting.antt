@@ -1,0 +1,162 @@
+-- Why a host that keeps to its rules waits.
+use Rattle.std.proofs.Common.{◌≡◌, ℕ, ◌≤◌, ◌<◌, ◌⊎◌, inl, inr, Bool, true, false, cond, List, [], ◌∷◌, ◌++◌, length, drop, nat_eq, nat_lt, refl, sym, ap, ◌∙◌, arith, subst, length-append}
+use Rattle.std.proofs.lemmas.Bool.Decides.{nat_tests}
+use Rattle.std.proofs.lemmas.List.{append_cancel_right, drop-append-le}
+use Rattle.gcode_words.specs.Stripping.{plain}
+use Rattle.run_rules.specs.Readings.{largest_job}
+use Rattle.stream_host.specs.declared.Reading.{Reading}
+use Rattle.stream_host.specs.declared.Reading.TheVariants.{Ended, Failed, Large, Stopped}
+use Rattle.stream_host.specs.Links.{receive_room, lfs_in, on_link}
+use Rattle.stream_host.specs.Jobs.{ends_sending, FitsReading}
+use Rattle.stream_host.specs.Steps.{Journal, stored_of, is_shut, answered_of, read_of, reading_of, scanned_of, unscanned_of, raw_of, cut_of, to_store, begun_of}
+use Rattle.stream_host.specs.Steps.PortStep.{stored, dropped, raised, got, no_reply, shut}
+use Rattle.stream_host.specs.Steps.Step.{at_port, read_some, read_end, read_failed, scanned, line_over, wrote, gave_up, tired, turned}
+use Rattle.stream_host.specs.Conduct.{Conducted, HasNoMore, Waits}
+use Rattle.stream_host.proofs.Pieces.{IsSendable}
+use Rattle.stream_host.proofs.Keeping.{read_is, stored_is, linked_push, few_scanned, reading_fits}
+use Rattle.stream_host.proofs.Sending.{sum_is, answers_are_few, lfs_linked}
+
+-- ---- which lines are begun
+
+-- a line is to be stored, and is not begun
+pub record IsFresh (lines begun : List (List ℕ)) (left : List ℕ) : Type 0 where
+  pub line : List ℕ
+  pub one : lines ≡ begun ++ line ∷ []
+  pub all : left ≡ plain line ++ 10 ∷ []
+  pub sends : IsSendable line
+
+abbrev pub IsBegun : Journal → Type 0
+IsBegun h = (begun_of h ≡ cut_of h) ⊎ IsFresh (cut_of h) (begun_of h) (to_store h)
+
+some_behind : (xs : List ℕ) (x : ℕ) → xs ++ x ∷ [] ≡ [] → ⊥
+some_behind [] x e = absurd cc
+some_behind (y ∷ ys) x e = absurd cc
+
+-- where nothing is to be stored, all lines are begun
+pub all_begun : (h : Journal) → to_store h ≡ [] → IsBegun h → begun_of h ≡ cut_of h
+all_begun h free (inl e) = e
+all_begun h free (inr f) = absurd (some_behind (plain f.line) 10 (sym f.all ∙ free))
+
+begin_line : (lines begun : List (List ℕ)) (raw : List ℕ) → IsSendable raw → begun ≡ lines → IsFresh (lines ++ raw ∷ []) begun (plain raw ++ 10 ∷ [])
+begin_line lines begun raw short e = record { line = raw; one = ap (λ (ls : List (List ℕ)). ls ++ raw ∷ []) (sym e); all = refl; sends = short }
+
+begin_by : (lines begun : List (List ℕ)) (raw left : List ℕ) (t : Bool) → IsSendable raw → begun ≡ lines
+    → (begun ≡ cond t (lines ++ raw ∷ []) lines) ⊎ IsFresh (cond t (lines ++ raw ∷ []) lines) begun (cond t (plain raw ++ 10 ∷ []) left)
+begin_by lines begun raw left true short e = inr (begin_line lines begun raw short e)
+begin_by lines begun raw left false short e = inl e
+
+pub begun_is : (h : Journal) → Conducted h → IsBegun h
+begun_is [] c = inl refl
+begun_is (at_port (stored b) ∷ h) c = inl refl
+begun_is (at_port (dropped b) ∷ h) c = absurd c.0
+begun_is (at_port (raised b down) ∷ h) c = absurd c.0
+begun_is (at_port (got r) ∷ h) c = begun_is h c.1
+begun_is (at_port no_reply ∷ h) c = begun_is h c.1
+begun_is (at_port shut ∷ h) c = begun_is h c.1
+begun_is (read_some bytes ∷ h) c = begun_is h c.1
+begun_is (read_end ∷ h) c = begun_is h c.1
+begun_is (read_failed ∷ h) c = begun_is h c.1
+begun_is (scanned b ∷ h) c = begin_by (cut_of h) (begun_of h) (raw_of h) (to_store h) (nat_eq b 10) c.0.sends (all_begun h c.0.free (begun_is h c.1))
+begun_is (line_over ∷ h) c = begin_by (cut_of h) (begun_of h) (raw_of h) (to_store h) true c.0.sends (all_begun h c.0.free (begun_is h c.1))
+begun_is (wrote n ∷ h) c = begun_is h c.1
+begun_is (gave_up ∷ h) c = begun_is h c.1
+begun_is (tired ∷ h) c = absurd c.0
+begun_is (turned t ∷ h) c = begun_is h c.1
+
+-- ---- a line that may not be stored yet
+
+few_in : (line : List ℕ) → IsSendable line → length (plain line) ≤ 127
+few_in line short = grind (arith, nat_tests)
+
+some_lines : (lines : List (List ℕ)) → 0 < length (on_link lines) → 0 < length lines
+some_lines [] some = absurd (let s : 0 < 0 = some in omega arith)
+some_lines (l ∷ ls) some = omega arith
+
+too_many : (h : Journal) → Conducted h → receive_room < length (on_link (drop (answered_of h) (cut_of h))) → IsBegun h → 0 < length (drop (answered_of h) (begun_of h))
+too_many h c many (inl e) = absurd (let s = sum_is h c in let d = ap (λ (ls : List (List ℕ)). length (on_link (drop (answered_of h) ls))) e in omega arith)
+too_many h c many (inr f) =
+    let kept : stored_of h ≡ on_link (begun_of h) =
+    append_cancel_right (stored_of h) (on_link (begun_of h)) (plain f.line ++ 10 ∷ [])
+    (ap (λ (t : List ℕ). stored_of h ++ t) (sym f.all) ∙ stored_is h c ∙ ap on_link f.one ∙ linked_push (begun_of h) f.line) in
+    let a = answers_are_few h c in let b = ap lfs_in kept in let l = lfs_linked (begun_of h) in
+    let few : answered_of h ≤ length (begun_of h) = omega arith in
+    let d : drop (answered_of h) (cut_of h) ≡ drop (answered_of h) (begun_of h) ++ f.line ∷ [] = ap (drop (answered_of h)) f.one ∙ drop-append-le (answered_of h) (begun_of h) (f.line ∷ []) few in
+    let e = ap length (ap on_link d ∙ linked_push (drop (answered_of h) (begun_of h)) f.line) in
+    let m = length-append (on_link (drop (answered_of h) (begun_of h))) (plain f.line ++ 10 ∷ []) in
+    let n = length-append (plain f.line) (10 ∷ []) in
+    let s = few_in f.line f.sends in
+    some_lines (drop (answered_of h) (begun_of h)) (omega arith)
+
+-- ---- nothing is to be stored: the job goes on
+
+shuts : (h : Journal) → is_shut h ≡ false → to_store h ≡ [] → Waits h → (ends_sending (raw_of h) ≡ true) ⊎ HasNoMore (reading_of h) (unscanned_of h) (raw_of h) (length (scanned_of h)) → ⊥
+shuts h going free w all = w.no_close (record { going = going; sent = record { free = free; all = all } })
+
+-- all that was read is scanned
+all_scanned : (h : Journal) → Conducted h → is_shut h ≡ false → to_store h ≡ [] → ends_sending (raw_of h) ≡ false → unscanned_of h ≡ [] → Waits h → (r : Reading) → reading_of h ≡ r → (raw : List ℕ) → raw_of h ≡ raw → ⊥
+all_scanned h c going free short used w Stopped at raw is = w.no_read (record { going = going; on = at; sends = short; used = used; free = free })
+all_scanned h c going free short used w Failed at raw is =
+    shuts h going free w (inr (subst (λ (r : Reading). HasNoMore r (unscanned_of h) (raw_of h) (length (scanned_of h))) (sym at) used))
+all_scanned h c going free short used w Large at raw is =
+    let more : largest_job < length (read_of h) = (subst (λ (r : Reading). FitsReading r (length (read_of h))) at (reading_fits h c)).0 in
+    let l = ap length (read_is h c) in let m = length-append (scanned_of h) (unscanned_of h) in let n = ap length used in let s = few_scanned h c in
+    absurd (omega arith)
+all_scanned h c going free short used w Ended at [] is =
+    shuts h going free w (inr (subst (λ (r : Reading). HasNoMore r (unscanned_of h) (raw_of h) (length (scanned_of h))) (sym at) (used, is)))
+all_scanned h c going free short used w Ended at (b ∷ raw) is =
+    w.no_line (record { going = going; at_end = at; used = used; some = (let l = ap length is in omega arith); sends = short; free = free })
+
+pub over_full : (h : Journal) → Conducted h → (b : ℕ) (bytes : List ℕ) → unscanned_of h ≡ b ∷ bytes → largest_job ≤ length (scanned_of h) → (r : Reading) → reading_of h ≡ r → HasNoMore r (unscanned_of h) (raw_of h) (length (scanned_of h))
+over_full h c b bytes next full Large at = (let s = few_scanned h c in omega arith)
+over_full h c b bytes next full Ended at = absurd (too_long Ended at (λ f. f))
+  where
+    too_long : (r : Reading) → reading_of h ≡ r → (FitsReading r (length (read_of h)) → length (read_of h) ≤ largest_job) → ⊥
+    too_long r at few =
+        let f = few (subst (λ (q : Reading). FitsReading q (length (read_of h))) at (reading_fits h c)) in
+        let l = ap length (read_is h c) in let m = length-append (scanned_of h) (unscanned_of h) in let n = ap length next in absurd (omega arith)
+over_full h c b bytes next full Failed at = absurd (too_long Failed at (λ f. f))
+  where
+    too_long : (r : Reading) → reading_of h ≡ r → (FitsReading r (length (read_of h)) → length (read_of h) ≤ largest_job) → ⊥
+    too_long r at few =
+        let f = few (subst (λ (q : Reading). FitsReading q (length (read_of h))) at (reading_fits h c)) in
+        let l = ap length (read_is h c) in let m = length-append (scanned_of h) (unscanned_of h) in let n = ap length next in absurd (omega arith)
+over_full h c b bytes next full Stopped at = absurd (too_long Stopped at (λ f. f))
+  where
+    too_long : (r : Reading) → reading_of h ≡ r → (FitsReading r (length (read_of h)) → length (read_of h) ≤ largest_job) → ⊥
+    too_long r at few =
+        let f = few (subst (λ (q : Reading). FitsReading q (length (read_of h))) at (reading_fits h c)) in
+        let l = ap length (read_is h c) in let m = length-append (scanned_of h) (unscanned_of h) in let n = ap length next in absurd (omega arith)
+
+goes_on : (h : Journal) → Conducted h → is_shut h ≡ false → to_store h ≡ [] → Waits h → (t : Bool) → ends_sending (raw_of h) ≡ t → (left : List ℕ) → unscanned_of h ≡ left → ⊥
+goes_on h c going free w true long left is = shuts h going free w (inl long)
+goes_on h c going free w false short [] is = all_scanned h c going free short is w (reading_of h) refl (raw_of h) refl
+goes_on h c going free w false short (b ∷ bytes) is = by_room (nat_lt (length (scanned_of h)) largest_job) refl
+  where
+    next : unscanned_of h ≡ b ∷ drop 1 (unscanned_of h)
+    next = is ∙ ap (λ (t : List ℕ). b ∷ drop 1 t) (sym is)
+
+    below : (n : ℕ) → nat_lt n largest_job ≡ true → n < largest_job
+    below n e = grind (arith, nat_tests)
+
+    above : (n : ℕ) → nat_lt n largest_job ≡ false → largest_job ≤ n
+    above n e = grind (arith, nat_tests)
+
+    by_room : (t : Bool) → nat_lt (length (scanned_of h)) largest_job ≡ t → ⊥
+    by_room true e = w.no_scan b (record { going = going; next = next; few = below (length (scanned_of h)) e; sends = short; free = free })
+    by_room false e = shuts h going free w (inr (over_full h c b bytes is (above (length (scanned_of h)) e) (reading_of h) refl))
+
+pub waits_are_for_answers : (h : Journal) → Conducted h → Waits h → is_shut h ≡ false → 0 < length (drop (answered_of h) (begun_of h))
+waits_are_for_answers h c w going = by_left (to_store h) refl
+  where
+    no_room : (n : ℕ) → (n ≤ receive_room → ⊥) → receive_room < n
+    no_room n full = by_test (nat_lt receive_room n) refl
+      where
+        by_test : (t : Bool) → nat_lt receive_room n ≡ t → receive_room < n
+        by_test true e = grind (arith, nat_tests)
+        by_test false e = absurd (full (grind (arith, nat_tests)))
+
+    by_left : (left : List ℕ) → to_store h ≡ left → 0 < length (drop (answered_of h) (begun_of h))
+    by_left [] free = absurd (goes_on h c going free w (ends_sending (raw_of h)) refl (unscanned_of h) refl)
+    by_left (b ∷ left) is =
+        let next : to_store h ≡ b ∷ drop 1 (to_store h) = is ∙ ap (λ (t : List ℕ). b ∷ drop 1 t) (sym is) in
+        too_many h c (no_room (length (on_link (drop (answered_of h) (cut_of h)))) (λ room. w.no_store b (record { next = next; room = room }))) (begun_is h c)

@@ -1,0 +1,24 @@
+use Rattle.std.proofs.Common.{◌∷◌, [], ◌++◌, ◌∙◌, map, arith}
+use Rattle.stream_host.specs.Steps.Step.{scanned}
+use Rattle.stream_host.proofs.JobSteps.{did_scan}
+use Rattle.stream_host.proofs.host.Host.scan.Goals as goal
+
+pub loop-self-init : goal.loop-self-init
+loop-self-init c = record {
+  shut = c.scan_byte.ensures.shut ∙ c.requires.going;
+  text = c.scan_byte.ensures.text;
+  scans = λ h f. let n = c.scan_byte.ensures.fits h f in (n.0 ∷ [], omega arith, n.1);
+}
+
+pub loop-self-preserved : goal.loop-self-preserved
+loop-self-preserved c =
+    let n = c.scan_byte-in-loop-self.ensures in
+    let i = c.loop-self.invariant in
+    record {
+      shut = n.shut ∙ i.shut;
+      text = n.text ∙ i.text;
+      scans = λ h f. let was = i.scans h f in let next = n.fits (map scanned was.0 ++ h) was.2 in (next.0 ∷ was.0, omega arith, next.1);
+    }
+
+pub returns : goal.returns
+returns c = λ h f. did_scan c.args.self.now _ h c.loop-self.invariant.text (c.loop-self.invariant.scans h f)

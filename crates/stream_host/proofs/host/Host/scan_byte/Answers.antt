@@ -1,0 +1,26 @@
+use Rattle.std.proofs.Common.{arith}
+use Rattle.std.proofs.lemmas.Bool.Decides.{nat_tests}
+use Rattle.stream_host.specs.Steps.{raw_of, cut_of, got_of}
+use Rattle.stream_host.proofs.Hosting.{has_room, scanned_byte, scanned_lf, few_answers}
+use Rattle.stream_host.proofs.host.Host.scan_byte.Goals as goal
+
+pub finish_line-requires-clause-room : goal.finish_line-requires-clause-room
+finish_line-requires-clause-room c = let r = c.requires.fits in has_room c.args.self.now r.0 r.1 (r.1.line_is.scanning c.requires.may.scanning).1
+
+pub returns-then-byte-eq10-clause-fits : goal.returns-then-byte-eq10-clause-fits
+returns-then-byte-eq10-clause-fits c = λ h f.
+    let n = c.next_byte-byte.ensures in
+    let s = c.args.self.now in
+    let has = (f.line_is.scanning c.requires.may.scanning).0 in (
+      c.next_byte-byte.result,
+      scanned_lf s _ _ _ c.next_byte-byte.result h f c.requires.may c.requires.going n.byte n.piece n.scanned n.reading (grind (arith, nat_tests, c.if-byte-eq10.true))
+          (c.finish_line.ensures.line (raw_of h) has) (c.finish_line.ensures.counts (raw_of h) (cut_of h) (got_of h) has f.counts_are (few_answers s h f)),
+    )
+
+pub returns-else-byte-eq10-clause-fits : goal.returns-else-byte-eq10-clause-fits
+returns-else-byte-eq10-clause-fits c = λ h f.
+    let n = c.next_byte-byte.ensures in (
+      c.next_byte-byte.result,
+      scanned_byte c.args.self.now _ _ c.next_byte-byte.result h f c.requires.may c.requires.going n.byte n.piece n.scanned n.reading (grind (arith, nat_tests, c.if-byte-eq10.false))
+          c.feed.ensures.fed c.feed.ensures.whole,
+    )

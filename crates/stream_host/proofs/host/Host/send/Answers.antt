@@ -1,0 +1,39 @@
+use Rattle.std.proofs.Common.{◌∷◌, refl}
+use Rattle.stream_host.specs.Steps.PortStep.{stored, shut}
+use Rattle.stream_host.specs.Steps.Step.{at_port}
+use Rattle.stream_host.proofs.Turns.{did_alone, did_at_port, few_stored_now, few_shut_now, tells_stored, tells_shut, tells_same, waits_for_room, waits_shut}
+use Rattle.stream_host.proofs.host.Host.send.Goals as goal
+
+pub returns-then-self-gt-RECEIVE_ROOM-clause-goes_on : goal.returns-then-self-gt-RECEIVE_ROOM-clause-goes_on
+returns-then-self-gt-RECEIVE_ROOM-clause-goes_on g c = λ rest h stands f polled.
+    (h, stands, waits_for_room c.args.self.now h f polled c.requires.shown c.if-self.true c.if-self-gt-RECEIVE_ROOM.true, λ console. tells_same c.args.self.now h _ console)
+
+pub returns-then-self-clause-goes_on : goal.returns-then-self-clause-goes_on
+returns-then-self-clause-goes_on g c = λ rest h stands f polled.
+    let t = c.store.ensures.stored rest h stands f in (
+      at_port (stored t.0) ∷ h,
+      t.1,
+      did_at_port c.args.self.now _ (at_port (stored t.0)) h refl polled.quiet t.2 (few_stored_now t.0 h polled.quiet),
+      λ console. tells_stored c.args.self.now _ t.0 h _ console c.store.ensures.text,
+    )
+
+pub returns-then-self-2-clause-goes_on : goal.returns-then-self-2-clause-goes_on
+returns-then-self-2-clause-goes_on g c = λ rest h stands f polled.
+    (h, stands, waits_shut c.args.self.now h f polled c.requires.shown c.if-self.false c.if-self-2.true, λ console. tells_same c.args.self.now h _ console)
+
+pub returns-then-may_scan-clause-goes_on : goal.returns-then-may_scan-clause-goes_on
+returns-then-may_scan-clause-goes_on g c = λ rest h stands f polled.
+    let n = c.scan.ensures h f in (n.0, rw n.1.port stands, did_alone c.args.self.now _ h n.0 polled.quiet n.1, λ console. n.2 _ console)
+
+pub returns-then-may_read-clause-goes_on : goal.returns-then-may_read-clause-goes_on
+returns-then-may_read-clause-goes_on g c = λ rest h stands f polled.
+    let n = c.read.ensures h f in (n.0, rw n.1.port stands, did_alone c.args.self.now _ h n.0 polled.quiet n.1, λ console. n.2 console)
+
+pub returns-clause-goes_on : goal.returns-clause-goes_on
+returns-clause-goes_on g c = λ rest h stands f polled.
+    let t = c.close.ensures.closed rest h stands f in (
+      at_port shut ∷ h,
+      t.0,
+      did_at_port c.args.self.now _ (at_port shut) h refl polled.quiet t.1 (few_shut_now h polled.quiet),
+      λ console. tells_shut c.args.self.now _ h _ console c.close.ensures.text,
+    )

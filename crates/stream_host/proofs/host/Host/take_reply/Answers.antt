@@ -1,0 +1,14 @@
+use Rattle.std.proofs.Common.{ap, ◌∙◌}
+use Rattle.stream_host.specs.Hosts.{shown}
+use Rattle.stream_host.specs.Links.{is_bye}
+use Rattle.std.proofs.Common.{◌||◌}
+use Rattle.stream_host.proofs.Hosting.{got_reply, tells_reply}
+use Rattle.stream_host.proofs.host.Host.take_reply.Goals as goal
+
+pub returns-clause-tells : goal.returns-clause-tells
+returns-clause-tells c = λ h job console. tells_reply c.args.self.now _ c.args.reply.now h job console (c.show.ensures.text ∙ ap (λ s. shown s.text c.args.reply.now) c.count.ensures.same)
+
+pub returns-clause-fits : goal.returns-clause-fits
+returns-clause-fits c = λ h f lines.
+    let s = c.args.self.now in let r = c.args.reply.now in let w = c.show.ensures in let n = c.count.ensures in
+    rw (w.same, n.same) (got_reply s _ _ _ r h f c.requires.going lines (w.text ∙ ap (λ t. shown t.text r) n.same) (w.bye ∙ ap (λ t. t.bye || is_bye r) n.same) (n.counts h f lines))

@@ -1,0 +1,40 @@
+use Rattle.std.proofs.Common.{◌∷◌, ◌∙◌, sym, refl}
+use Rattle.stream_host.specs.Steps.{port_log}
+use Rattle.stream_host.specs.Steps.PortStep.{got, no_reply}
+use Rattle.stream_host.specs.Steps.Step.{at_port}
+use Rattle.stream_host.proofs.Turns.{did_alone, did_at_port, few_got_now, quiet_between, has_polled, polled, worked_on, tells_polled, tells_same, is_done}
+use Rattle.stream_host.proofs.host.Host.work.Goals as goal
+
+pub returns-then-is_due-clause-goes_on : goal.returns-then-is_due-clause-goes_on
+returns-then-is_due-clause-goes_on g c = λ rest h stands f between.
+    let n = c.write.ensures h f in
+    (n.0, rw n.1.port stands, did_alone _ _ h n.0 (quiet_between h between) n.1, n.2 _)
+
+pub returns-then-self-clause-goes_on : goal.returns-then-self-clause-goes_on
+returns-then-self-clause-goes_on g c = λ rest h stands f between.
+    (h, stands, is_done c.args.self.now h f between (record { bye = c.if-self.true; none = sym c.is_due.ensures.due ∙ c.if-is_due.false }), tells_same c.args.self.now h _ _)
+
+pub without_reply-requires : goal.without_reply-requires
+without_reply-requires g c =
+    let r = c.requires.stands in
+    record { stands = (r.0, at_port no_reply ∷ r.1, c.in-None.ensures.none r.0 (port_log r.1) r.2, polled c.args.self.now r.1 r.3 c.if-self.false, has_polled r.1 r.4) }
+
+pub returns-in-None-clause-goes_on : goal.returns-in-None-clause-goes_on
+returns-in-None-clause-goes_on g c = λ rest h stands f between.
+    let n = c.without_reply.ensures.goes_on rest (at_port no_reply ∷ h) (c.in-None.ensures.none rest (port_log h) stands) (polled c.args.self.now h f c.if-self.false) (has_polled h between) in
+    (n.0, n.1, worked_on _ _ _ h n.0 n.2, tells_polled _ _ h n.0 _ _ _ _ n.3)
+
+pub take_reply-requires-clause-fits : goal.take_reply-requires-clause-fits
+take_reply-requires-clause-fits g c =
+    let r = c.requires.stands in
+    (r.1, r.3, c.in-Some.ensures.lines r.0 (port_log r.1) r.2)
+
+pub returns-in-Some-clause-goes_on : goal.returns-in-Some-clause-goes_on
+returns-in-Some-clause-goes_on g c = λ rest h stands f between.
+    let r = c.in-Some.reply in
+    let lines = c.in-Some.ensures.lines rest (port_log h) stands in (
+      at_port (got r) ∷ h,
+      c.in-Some.ensures.some rest (port_log h) stands,
+      did_at_port c.args.self.now _ (at_port (got r)) h refl (quiet_between h between) (c.take_reply.ensures.fits h f lines) (few_got_now r h (quiet_between h between)),
+      c.take_reply.ensures.tells h _ _,
+    )

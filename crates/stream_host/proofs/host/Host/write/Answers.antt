@@ -1,0 +1,5 @@
+use Rattle.stream_host.proofs.Hosting.{wrote_on}
+use Rattle.stream_host.proofs.host.Host.write.Goals as goal
+
+pub returns : goal.returns
+returns g c = λ h f. wrote_on c.args.self.now _ h _ _ f c.requires c.write.ensures.wrote

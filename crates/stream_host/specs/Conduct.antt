@@ -1,0 +1,155 @@
+-- The rules of a host: what it may do next.
+use Rattle.std.specs.Prelude.{◌≡◌, ℕ, ◌+◌, ◌≤◌, ◌<◌, ◌⊎◌, Bool, true, false, List, [], ◌∷◌, ◌++◌, length, drop}
+use Rattle.std.specs.List.{list_any, count_by}
+use Rattle.run_rules.specs.Readings.{largest_job}
+use Rattle.status_report.specs.declared.Reply.{Reply}
+use Rattle.outside.specs.declared.On.TheVariants.{Answer}
+use Rattle.outside.specs.declared.Turn.{Turn}
+use Rattle.outside.specs.declared.Turn.TheVariants.{Did, Wait, Done}
+use Rattle.stream_host.specs.declared.Reading.{Reading}
+use Rattle.stream_host.specs.declared.Reading.TheVariants.{Ended, Failed, Large, Stopped}
+use Rattle.stream_host.specs.Links.{receive_room, lfs_in, answers_in, on_link}
+use Rattle.stream_host.specs.Jobs.{ends_sending, largest_piece}
+use Rattle.stream_host.specs.Steps.{PortStep, Step, Journal, stored_of, got_of, is_shut, has_bye, answered_of, reading_of, scanned_of, unscanned_of, raw_of, cut_of, to_store, text_of, written_of, has_given_up, this_turn}
+use Rattle.stream_host.specs.Steps.PortStep.{stored, dropped, raised, got, no_reply, shut}
+use Rattle.stream_host.specs.Steps.Step.{at_port, read_some, read_end, read_failed, scanned, line_over, wrote, gave_up, tired, turned}
+
+-- The job is read on: all that was read is scanned and stored, no end of the reading was met, and the sending has not
+-- ended in the line that is being scanned.
+pub record MayRead (h : Journal) : Type 0 where
+  pub going : is_shut h ≡ false
+  pub on : reading_of h ≡ Stopped
+  pub sends : ends_sending (raw_of h) ≡ false
+  pub used : unscanned_of h ≡ []
+  pub free : to_store h ≡ []
+
+-- The next byte that was read is scanned: the line before its own is wholly stored, the job may have so many bytes, and the
+-- sending has not ended in its line.
+pub record MayScanNext (b : ℕ) (h : Journal) : Type 0 where
+  pub going : is_shut h ≡ false
+  pub next : unscanned_of h ≡ b ∷ drop 1 (unscanned_of h)
+  pub few : length (scanned_of h) < largest_job
+  pub sends : ends_sending (raw_of h) ≡ false
+  pub free : to_store h ≡ []
+
+-- The last line is over: the source's end was read, and bytes stand behind the last LF.
+pub record MayEndLine (h : Journal) : Type 0 where
+  pub going : is_shut h ≡ false
+  pub at_end : reading_of h ≡ Ended
+  pub used : unscanned_of h ≡ []
+  pub some : 0 < length (raw_of h)
+  pub sends : ends_sending (raw_of h) ≡ false
+  pub free : to_store h ≡ []
+
+-- The next byte of the line in hand is stored: the lines that have no answer, this one among them, take at most 128 bytes.
+pub record MayStore (b : ℕ) (h : Journal) : Type 0 where
+  pub next : to_store h ≡ b ∷ drop 1 (to_store h)
+  pub room : length (on_link (drop (answered_of h) (cut_of h))) ≤ receive_room
+
+-- nothing more of the job is to be scanned, nor to be made a line: by what is read and not scanned, the line that is being
+-- scanned, and how many bytes are scanned
+abbrev pub HasNoMore : Reading → List ℕ → List ℕ → ℕ → Type 0
+HasNoMore Ended left raw n = (left ≡ []) × (raw ≡ [])
+HasNoMore Failed left raw n = left ≡ []
+HasNoMore Large left raw n = n ≡ largest_job
+HasNoMore Stopped left raw n = ⊥
+
+pub record HasSentAll (h : Journal) : Type 0 where
+  pub free : to_store h ≡ []
+  pub all : (ends_sending (raw_of h) ≡ true) ⊎ HasNoMore (reading_of h) (unscanned_of h) (raw_of h) (length (scanned_of h))
+
+pub record MayShut (h : Journal) : Type 0 where
+  pub going : is_shut h ≡ false
+  pub sent : HasSentAll h
+
+-- a reply is taken; no more of them are answers than lines were stored, as the port promises
+pub record MayGet (r : Reply) (h : Journal) : Type 0 where
+  pub going : has_bye h ≡ false
+  pub few : answers_in (got_of h ++ r ∷ []) ≤ lfs_in (stored_of h)
+
+-- no realtime byte is raised yet, and no byte is ever dropped
+abbrev pub MayAtPort : PortStep → Journal → Type 0
+MayAtPort (stored b) h = MayStore b h
+MayAtPort (dropped b) h = ⊥
+MayAtPort (raised b down) h = ⊥
+MayAtPort (got r) h = MayGet r h
+MayAtPort no_reply h = has_bye h ≡ false
+MayAtPort shut h = MayShut h
+
+-- more of the replies' text is written, and none behind a write that failed
+pub record MayWrite (n : ℕ) (h : Journal) : Type 0 where
+  pub going : has_given_up h ≡ false
+  pub some : 0 < n
+  pub front : written_of h + n ≤ length (text_of h)
+
+pub record MayGiveUp (h : Journal) : Type 0 where
+  pub going : has_given_up h ≡ false
+  pub some : written_of h < length (text_of h)
+
+-- ---- turns
+
+abbrev pub publishing : Step → Bool
+publishing (at_port (stored b)) = true
+publishing (at_port (raised b down)) = true
+publishing (at_port (got r)) = true
+publishing (at_port shut) = true
+publishing _ = false
+
+-- a step with which the turn moves
+abbrev pub moving : Step → Bool
+moving (at_port e) = publishing (at_port e)
+moving (read_some bytes) = true
+moving read_end = true
+moving read_failed = true
+moving (scanned b) = true
+moving line_over = false
+moving (wrote n) = true
+moving gave_up = false
+moving tired = false
+moving (turned t) = false
+
+abbrev pub found_none : Step → Bool
+found_none (at_port no_reply) = true
+found_none _ = false
+
+-- all that was got is written, but behind a write that failed
+abbrev pub HasWritten : Journal → Type 0
+HasWritten h = (has_given_up h ≡ true) ⊎ (written_of h ≡ length (text_of h))
+
+-- A reply is waited for: none was found in this turn, and nothing else may be done.
+pub record Waits (h : Journal) : Type 0 where
+  pub poll : list_any found_none (this_turn h) ≡ true
+  pub no_read : MayRead h → ⊥
+  pub no_scan : (b : ℕ) → MayScanNext b h → ⊥
+  pub no_line : MayEndLine h → ⊥
+  pub no_store : (b : ℕ) → MayStore b h → ⊥
+  pub no_close : MayShut h → ⊥
+  pub written : HasWritten h
+
+pub record IsDone (h : Journal) : Type 0 where
+  pub bye : has_bye h ≡ true
+  pub written : HasWritten h
+  pub still : this_turn h ≡ []
+
+-- what a turn answers; one that moves nothing and answers Did lowers the host's number, as the turn says itself
+abbrev pub MayTurn : Turn → Journal → Type 0
+MayTurn Did h = count_by publishing (this_turn h) ≤ 1
+MayTurn (Wait Answer) h = Waits h
+MayTurn (Wait on) h = ⊥
+MayTurn Done h = IsDone h
+
+abbrev pub MayStep : Step → Journal → Type 0
+MayStep (at_port e) h = MayAtPort e h
+MayStep (read_some bytes) h = MayRead h × (0 < length bytes) × (length bytes ≤ largest_piece)
+MayStep read_end h = MayRead h
+MayStep read_failed h = MayRead h
+MayStep (scanned b) h = MayScanNext b h
+MayStep line_over h = MayEndLine h
+MayStep (wrote n) h = MayWrite n h
+MayStep gave_up h = MayGiveUp h
+MayStep tired h = ⊥
+MayStep (turned t) h = MayTurn t h
+
+abbrev pub Conducted : Journal → Type 0
+Conducted [] = Unit {0}
+Conducted (s ∷ h) = MayStep s h × Conducted h

@@ -1,0 +1,99 @@
+-- Which bytes of a job are scanned, and which of its lines are sent.
+use Rattle.std.specs.Prelude.{◌≡◌, ℕ, ◌+◌, ◌-◌, ◌≤◌, ◌<◌, Bool, false, not, cond, List, [], ◌++◌, length, take, nat_lt}
+use Rattle.std.specs.List.{list_any, take_while}
+use Rattle.gcode_words.specs.Stripping.{plain}
+use Rattle.run_rules.specs.Lines.{HasNoLf, lines_of}
+use Rattle.run_rules.specs.Readings.{largest_job, job_of, sent_lines}
+use Rattle.run_rules.specs.declared.Reading.TheVariants as runs
+use Rattle.stream_host.specs.declared.Reading.{Reading}
+use Rattle.stream_host.specs.declared.Reading.TheVariants.{Ended, Failed, Large, Stopped}
+use Rattle.stream_host.specs.declared.Stop.{Stop}
+use Rattle.stream_host.specs.declared.Stop.TheVariants.{End, LongLine, TooLarge}
+
+-- so many bytes of a line are kept at most
+abbrev pub most_kept_by_host : ℕ
+most_kept_by_host = 127
+
+abbrev pub is_long : List ℕ → Bool
+is_long line = nat_lt most_kept_by_host (length (plain line))
+
+-- the sending ends in a line with these bytes. Later: or where it holds a 0x18 outside its comments
+abbrev pub ends_sending : List ℕ → Bool
+ends_sending line = is_long line
+
+abbrev pub is_sent : List ℕ → Bool
+is_sent line = not (ends_sending line)
+
+-- the sending ends in a line of a text
+abbrev pub ends_in : List ℕ → Bool
+ends_in text = list_any ends_sending (lines_of text)
+
+-- the lines of what was read: a last one without LF counts where the source's end was read
+abbrev pub lines_read : Reading → List ℕ → List (List ℕ)
+lines_read Ended job = sent_lines runs.Ended job
+lines_read Failed job = sent_lines runs.Failed job
+lines_read Large job = sent_lines runs.Large job
+lines_read Stopped job = sent_lines runs.Failed job
+
+-- the lines that are sent: those before the first in which the sending ends
+abbrev pub lines_to_send : Reading → List ℕ → List (List ℕ)
+lines_to_send reading job = take_while is_sent (lines_read reading job)
+
+-- so many bytes are read at once at most
+abbrev pub largest_piece : ℕ
+largest_piece = 4096
+
+-- How many bytes were read, by how the reading goes: at most as many as a job may have, or a byte more and the rest of its
+-- piece.
+abbrev pub FitsReading : Reading → ℕ → Type 0
+FitsReading Ended n = n ≤ largest_job
+FitsReading Failed n = n ≤ largest_job
+FitsReading Large n = (largest_job < n) × (n ≤ largest_job + largest_piece)
+FitsReading Stopped n = n ≤ largest_job
+
+abbrev pub but_last : List ℕ → List ℕ
+but_last text = take (length text - 1) text
+
+-- The bytes of a job that were scanned so far are a front of it, in which no byte stands behind one with which the sending
+-- ends.
+pub record ScansFront (job text : List ℕ) : Type 0 where
+  pub left : List ℕ
+  pub front : job ≡ text ++ left
+  pub early : ends_in (but_last text) ≡ false
+
+-- what may be left at the end of a run in which the sending ended in no line
+abbrev pub MayLeave : Reading → List ℕ → Type 0
+MayLeave Ended left = left ≡ []
+MayLeave Failed left = HasNoLf left
+MayLeave Large left = left ≡ []
+MayLeave Stopped left = ⊥
+
+-- The bytes of a job that were scanned in a whole run.
+pub record MayScan (reading : Reading) (job text : List ℕ) : Type 0 where
+  pub scans : ScansFront job text
+  pub whole : ends_in text ≡ false → MayLeave reading scans.left
+
+-- the first line in which the sending ends, which is too long, by its number
+abbrev pub long_line : List (List ℕ) → Stop
+long_line lines = LongLine (length (take_while is_sent lines) + 1)
+
+-- why a run in which these bytes were scanned sends no more, the first that holds: the job was too large, a line too long
+abbrev pub stop_by : Reading → List ℕ → Stop
+stop_by Large text = TooLarge
+stop_by _ text = cond (list_any is_long (lines_of text)) (long_line (lines_of text)) End
+
+-- What was sent of a job in a run so far: by what was read of it and how the reading goes, the bytes that were scanned,
+-- the lines that were cut, and why no more is sent.
+pub record IsSentSoFar (read : List ℕ) (reading : Reading) (text : List ℕ) (lines : List (List ℕ)) (stop : Stop) : Type 0 where
+  pub fits : FitsReading reading (length read)
+  pub scans : ScansFront (job_of read) text
+  pub later : List (List ℕ)
+  pub sent : lines_to_send reading (job_of read) ≡ lines ++ later
+  pub cause : stop ≡ stop_by reading text
+
+-- the same in a whole run
+pub record IsSent (read : List ℕ) (reading : Reading) (text : List ℕ) (lines : List (List ℕ)) (stop : Stop) : Type 0 where
+  pub fits : FitsReading reading (length read)
+  pub scans : MayScan reading (job_of read) text
+  pub sent : lines ≡ lines_to_send reading (job_of read)
+  pub cause : stop ≡ stop_by reading text

@@ -1,0 +1,10 @@
+pub mod Links
+pub mod Jobs
+pub mod Steps
+pub mod Conduct
+pub mod Ports
+pub mod Hosts
+pub mod Ran
+pub use Rattle.run_rules.specs.Lines
+pub use Rattle.run_rules.specs.Readings
+pub use Rattle.run_rules.specs.Told

@@ -1,0 +1,84 @@
+-- What a host has done in a whole run, and so far, on plain lists.
+use Rattle.std.specs.Prelude.{◌≡◌, ℕ, Bool, true, false, List, [], ◌++◌, drop}
+use Rattle.std.specs.List.{list_any}
+use Rattle.std.specs.Io.KnownBytes.{Consumes, IsAtEnd}
+use Rattle.outside.specs.Causes.{Rose, SourceState, SinkState}
+use Rattle.outside.specs.Writing.{Wrote, Took}
+use Rattle.run_rules.specs.Told.{replies_text}
+use Rattle.status_report.specs.declared.Reply.{Reply}
+use Rattle.stream_host.specs.declared.Reading.{Reading}
+use Rattle.stream_host.specs.declared.Reading.TheVariants.{Ended, Failed, Large, Stopped}
+use Rattle.stream_host.specs.declared.Stop.{Stop}
+use Rattle.stream_host.specs.Links.{answers_in, errors_among, is_bye, on_link}
+use Rattle.stream_host.specs.Jobs.{IsSent, IsSentSoFar}
+use Rattle.stream_host.specs.Steps.{Journal, has_bye, answered_of, errors_of, reading_of, stop_of, text_of, written_of, has_given_up}
+use Rattle.stream_host.specs.Conduct.{HasWritten}
+
+-- what a host tells at its end: why it sent no more; how many lines were answered, and how many of these with an error;
+-- whether a read of the job failed, and a write of the console
+pub record HostEnd : Type 0 where
+  pub stop : Stop
+  pub answered : ℕ
+  pub errors : ℕ
+  pub source_failed : Bool
+  pub console_failed : Bool
+
+abbrev pub is_failed : Reading → Bool
+is_failed Ended = false
+is_failed Failed = true
+is_failed Large = false
+is_failed Stopped = false
+
+-- A host has run: it read a job, stored its lines, closed the link or not, and got replies up to Bye. Where the link is
+-- closed, all that is sent of the job is stored. The console has the text of the replies, all of it where no write failed.
+pub record HostRan (job_was job_is : SourceState) (console_was console_is : SinkState) (stored : List ℕ) (shut : Bool) (got : List Reply) (end : HostEnd) : Type 0 where
+  pub read : List ℕ
+  pub reading : Reading
+  pub scanned : List ℕ
+  pub lines : List (List ℕ)
+  pub taken : Consumes job_was.left job_is.left read
+  pub at_end : reading ≡ Ended → IsAtEnd job_is.left
+  pub sent : shut ≡ true → IsSent read reading scanned lines end.stop
+  pub link : shut ≡ true → stored ≡ on_link lines
+  pub bye : list_any is_bye got ≡ true
+  pub console : Took console_was console_is end.console_failed (replies_text got)
+  pub answered : end.answered ≡ answers_in got
+  pub errors : end.errors ≡ errors_among got
+  pub failed : end.source_failed ≡ is_failed reading
+  pub source : end.source_failed ≡ true → Rose job_was.faults job_is.faults
+
+-- A host runs: it has read a job so far, and stored a front of its lines. The console has a front of the replies' text.
+pub record HostRuns (job_was job_is : SourceState) (console_was console_is : SinkState) (stored : List ℕ) (got : List Reply) : Type 0 where
+  pub read : List ℕ
+  pub reading : Reading
+  pub scanned : List ℕ
+  pub lines : List (List ℕ)
+  pub stop : Stop
+  pub taken : Consumes job_was.left job_is.left read
+  pub sent : IsSentSoFar read reading scanned lines stop
+  pub left : List ℕ
+  pub link : stored ++ left ≡ on_link lines
+  pub failed : Bool
+  pub waiting : List ℕ
+  pub console : Wrote console_was console_is failed waiting (replies_text got)
+
+-- ---- by a journal
+
+-- Bye was got, and all that was got is written, or a write failed
+pub record HasFinished (h : Journal) : Type 0 where
+  pub bye : has_bye h ≡ true
+  pub written : HasWritten h
+
+-- the console was given the text of the replies since a moment, as far as the journal says that it was written
+abbrev pub TellsConsole : Journal → SinkState → SinkState → Type 0
+TellsConsole h was is = Wrote was is (has_given_up h) (drop (written_of h) (text_of h)) (text_of h)
+
+-- what a host tells of a journal
+abbrev pub end_of : Journal → HostEnd
+end_of h = record {
+  stop = stop_of h;
+  answered = answered_of h;
+  errors = errors_of h;
+  source_failed = is_failed (reading_of h);
+  console_failed = has_given_up h;
+}

@@ -1,0 +1,309 @@
+-- What a host has done, the latest first: at its port, and by itself.
+use Rattle.std.specs.Prelude.{ℕ, ◌+◌, Bool, true, false, cond, List, [], ◌∷◌, ◌++◌, length, drop, nat_eq, nat_lt}
+use Rattle.std.specs.List.{list_any}
+use Rattle.gcode_words.specs.Stripping.{plain}
+use Rattle.run_rules.specs.Readings.{largest_job}
+use Rattle.run_rules.specs.Told.{replies_text}
+use Rattle.status_report.specs.declared.Reply.{Reply}
+use Rattle.outside.specs.declared.Turn.{Turn}
+use Rattle.stream_host.specs.declared.Reading.{Reading}
+use Rattle.stream_host.specs.declared.Reading.TheVariants.{Ended, Failed, Large, Stopped}
+use Rattle.stream_host.specs.declared.Stop.{Stop}
+use Rattle.stream_host.specs.declared.Stop.TheVariants.{End, LongLine, TooLarge}
+use Rattle.stream_host.specs.Links.{answers_in, errors_among, is_bye}
+use Rattle.stream_host.specs.Jobs.{is_long}
+
+pub data PortStep : Type 0 where
+  stored : ℕ → PortStep
+  dropped : ℕ → PortStep
+  -- the bit of a realtime byte, and whether it was found down
+  raised : ℕ → Bool → PortStep
+  got : Reply → PortStep
+  no_reply : PortStep
+  shut : PortStep
+
+abbrev pub PortLog : Type 0
+PortLog = List PortStep
+
+pub data Step : Type 0 where
+  at_port : PortStep → Step
+  -- a read of the job gave these bytes, found its end, or failed
+  read_some : List ℕ → Step
+  read_end : Step
+  read_failed : Step
+  -- the next byte that was read is fed to the stripper
+  scanned : ℕ → Step
+  -- the last line of the job has no LF
+  line_over : Step
+  -- so many bytes of the replies' text were written
+  wrote : ℕ → Step
+  -- a write failed
+  gave_up : Step
+  -- so many polls found no reply that a resume is due
+  tired : Step
+  turned : Turn → Step
+
+abbrev pub Journal : Type 0
+Journal = List Step
+
+abbrev pub port_log : Journal → PortLog
+port_log [] = []
+port_log (at_port e ∷ h) = e ∷ port_log h
+port_log (read_some bytes ∷ h) = port_log h
+port_log (read_end ∷ h) = port_log h
+port_log (read_failed ∷ h) = port_log h
+port_log (scanned b ∷ h) = port_log h
+port_log (line_over ∷ h) = port_log h
+port_log (wrote n ∷ h) = port_log h
+port_log (gave_up ∷ h) = port_log h
+port_log (tired ∷ h) = port_log h
+port_log (turned t ∷ h) = port_log h
+
+-- ---- projections of the port's log
+
+abbrev pub stored_in : PortLog → List ℕ
+stored_in [] = []
+stored_in (stored b ∷ h) = stored_in h ++ b ∷ []
+stored_in (dropped b ∷ h) = stored_in h
+stored_in (raised b down ∷ h) = stored_in h
+stored_in (got r ∷ h) = stored_in h
+stored_in (no_reply ∷ h) = stored_in h
+stored_in (shut ∷ h) = stored_in h
+
+abbrev pub got_in : PortLog → List Reply
+got_in [] = []
+got_in (stored b ∷ h) = got_in h
+got_in (dropped b ∷ h) = got_in h
+got_in (raised b down ∷ h) = got_in h
+got_in (got r ∷ h) = got_in h ++ r ∷ []
+got_in (no_reply ∷ h) = got_in h
+got_in (shut ∷ h) = got_in h
+
+abbrev pub is_shut_in : PortLog → Bool
+is_shut_in [] = false
+is_shut_in (stored b ∷ h) = is_shut_in h
+is_shut_in (dropped b ∷ h) = is_shut_in h
+is_shut_in (raised b down ∷ h) = is_shut_in h
+is_shut_in (got r ∷ h) = is_shut_in h
+is_shut_in (no_reply ∷ h) = is_shut_in h
+is_shut_in (shut ∷ h) = true
+
+abbrev pub stored_of : Journal → List ℕ
+stored_of h = stored_in (port_log h)
+
+abbrev pub got_of : Journal → List Reply
+got_of h = got_in (port_log h)
+
+abbrev pub is_shut : Journal → Bool
+is_shut h = is_shut_in (port_log h)
+
+abbrev pub has_bye : Journal → Bool
+has_bye h = list_any is_bye (got_of h)
+
+abbrev pub answered_of : Journal → ℕ
+answered_of h = answers_in (got_of h)
+
+abbrev pub errors_of : Journal → ℕ
+errors_of h = errors_among (got_of h)
+
+-- ---- what was read and scanned
+
+abbrev pub read_of : Journal → List ℕ
+read_of [] = []
+read_of (at_port e ∷ h) = read_of h
+read_of (read_some bytes ∷ h) = read_of h ++ bytes
+read_of (read_end ∷ h) = read_of h
+read_of (read_failed ∷ h) = read_of h
+read_of (scanned b ∷ h) = read_of h
+read_of (line_over ∷ h) = read_of h
+read_of (wrote n ∷ h) = read_of h
+read_of (gave_up ∷ h) = read_of h
+read_of (tired ∷ h) = read_of h
+read_of (turned t ∷ h) = read_of h
+
+-- how the reading goes; Stopped while it may go on
+abbrev pub reading_of : Journal → Reading
+reading_of [] = Stopped
+reading_of (at_port e ∷ h) = reading_of h
+reading_of (read_some bytes ∷ h) = cond (nat_lt largest_job (length (read_of h ++ bytes))) Large Stopped
+reading_of (read_end ∷ h) = Ended
+reading_of (read_failed ∷ h) = Failed
+reading_of (scanned b ∷ h) = reading_of h
+reading_of (line_over ∷ h) = reading_of h
+reading_of (wrote n ∷ h) = reading_of h
+reading_of (gave_up ∷ h) = reading_of h
+reading_of (tired ∷ h) = reading_of h
+reading_of (turned t ∷ h) = reading_of h
+
+abbrev pub scanned_of : Journal → List ℕ
+scanned_of [] = []
+scanned_of (at_port e ∷ h) = scanned_of h
+scanned_of (read_some bytes ∷ h) = scanned_of h
+scanned_of (read_end ∷ h) = scanned_of h
+scanned_of (read_failed ∷ h) = scanned_of h
+scanned_of (scanned b ∷ h) = scanned_of h ++ b ∷ []
+scanned_of (line_over ∷ h) = scanned_of h
+scanned_of (wrote n ∷ h) = scanned_of h
+scanned_of (gave_up ∷ h) = scanned_of h
+scanned_of (tired ∷ h) = scanned_of h
+scanned_of (turned t ∷ h) = scanned_of h
+
+-- read, and not scanned
+abbrev pub unscanned_of : Journal → List ℕ
+unscanned_of [] = []
+unscanned_of (at_port e ∷ h) = unscanned_of h
+unscanned_of (read_some bytes ∷ h) = unscanned_of h ++ bytes
+unscanned_of (read_end ∷ h) = unscanned_of h
+unscanned_of (read_failed ∷ h) = unscanned_of h
+unscanned_of (scanned b ∷ h) = drop 1 (unscanned_of h)
+unscanned_of (line_over ∷ h) = unscanned_of h
+unscanned_of (wrote n ∷ h) = unscanned_of h
+unscanned_of (gave_up ∷ h) = unscanned_of h
+unscanned_of (tired ∷ h) = unscanned_of h
+unscanned_of (turned t ∷ h) = unscanned_of h
+
+-- ---- the lines
+
+-- the bytes of the line that is being scanned
+abbrev pub raw_of : Journal → List ℕ
+raw_of [] = []
+raw_of (at_port e ∷ h) = raw_of h
+raw_of (read_some bytes ∷ h) = raw_of h
+raw_of (read_end ∷ h) = raw_of h
+raw_of (read_failed ∷ h) = raw_of h
+raw_of (scanned b ∷ h) = cond (nat_eq b 10) [] (raw_of h ++ b ∷ [])
+raw_of (line_over ∷ h) = []
+raw_of (wrote n ∷ h) = raw_of h
+raw_of (gave_up ∷ h) = raw_of h
+raw_of (tired ∷ h) = raw_of h
+raw_of (turned t ∷ h) = raw_of h
+
+-- the lines that were scanned whole
+abbrev pub cut_of : Journal → List (List ℕ)
+cut_of [] = []
+cut_of (at_port e ∷ h) = cut_of h
+cut_of (read_some bytes ∷ h) = cut_of h
+cut_of (read_end ∷ h) = cut_of h
+cut_of (read_failed ∷ h) = cut_of h
+cut_of (scanned b ∷ h) = cond (nat_eq b 10) (cut_of h ++ raw_of h ∷ []) (cut_of h)
+cut_of (line_over ∷ h) = cut_of h ++ raw_of h ∷ []
+cut_of (wrote n ∷ h) = cut_of h
+cut_of (gave_up ∷ h) = cut_of h
+cut_of (tired ∷ h) = cut_of h
+cut_of (turned t ∷ h) = cut_of h
+
+abbrev pub left_at : PortStep → List ℕ → List ℕ
+left_at (stored b) bytes = drop 1 bytes
+left_at e bytes = bytes
+
+-- what is still to be stored of the last of them
+abbrev pub to_store : Journal → List ℕ
+to_store [] = []
+to_store (at_port e ∷ h) = left_at e (to_store h)
+to_store (read_some bytes ∷ h) = to_store h
+to_store (read_end ∷ h) = to_store h
+to_store (read_failed ∷ h) = to_store h
+to_store (scanned b ∷ h) = cond (nat_eq b 10) (plain (raw_of h) ++ 10 ∷ []) (to_store h)
+to_store (line_over ∷ h) = plain (raw_of h) ++ 10 ∷ []
+to_store (wrote n ∷ h) = to_store h
+to_store (gave_up ∷ h) = to_store h
+to_store (tired ∷ h) = to_store h
+to_store (turned t ∷ h) = to_store h
+
+abbrev pub begun_at : PortStep → List (List ℕ) → List (List ℕ) → List (List ℕ)
+begun_at (stored b) cuts begun = cuts
+begun_at e cuts begun = begun
+
+-- the lines of which a byte was stored
+abbrev pub begun_of : Journal → List (List ℕ)
+begun_of [] = []
+begun_of (at_port e ∷ h) = begun_at e (cut_of h) (begun_of h)
+begun_of (read_some bytes ∷ h) = begun_of h
+begun_of (read_end ∷ h) = begun_of h
+begun_of (read_failed ∷ h) = begun_of h
+begun_of (scanned b ∷ h) = begun_of h
+begun_of (line_over ∷ h) = begun_of h
+begun_of (wrote n ∷ h) = begun_of h
+begun_of (gave_up ∷ h) = begun_of h
+begun_of (tired ∷ h) = begun_of h
+begun_of (turned t ∷ h) = begun_of h
+
+-- why it sends no more: by how the reading goes, the line that is being scanned, and the number of those before it
+abbrev pub stop_at : Reading → List ℕ → ℕ → Stop
+stop_at Large raw lines = TooLarge
+stop_at _ raw lines = cond (is_long raw) (LongLine (lines + 1)) End
+
+abbrev pub stop_of : Journal → Stop
+stop_of h = stop_at (reading_of h) (raw_of h) (length (cut_of h))
+
+-- ---- the console
+
+abbrev pub text_of : Journal → List ℕ
+text_of h = replies_text (got_of h)
+
+-- so many bytes of it were written
+abbrev pub written_of : Journal → ℕ
+written_of [] = 0
+written_of (at_port e ∷ h) = written_of h
+written_of (read_some bytes ∷ h) = written_of h
+written_of (read_end ∷ h) = written_of h
+written_of (read_failed ∷ h) = written_of h
+written_of (scanned b ∷ h) = written_of h
+written_of (line_over ∷ h) = written_of h
+written_of (wrote n ∷ h) = written_of h + n
+written_of (gave_up ∷ h) = written_of h
+written_of (tired ∷ h) = written_of h
+written_of (turned t ∷ h) = written_of h
+
+abbrev pub has_given_up : Journal → Bool
+has_given_up [] = false
+has_given_up (at_port e ∷ h) = has_given_up h
+has_given_up (read_some bytes ∷ h) = has_given_up h
+has_given_up (read_end ∷ h) = has_given_up h
+has_given_up (read_failed ∷ h) = has_given_up h
+has_given_up (scanned b ∷ h) = has_given_up h
+has_given_up (line_over ∷ h) = has_given_up h
+has_given_up (wrote n ∷ h) = has_given_up h
+has_given_up (gave_up ∷ h) = true
+has_given_up (tired ∷ h) = has_given_up h
+has_given_up (turned t ∷ h) = has_given_up h
+
+-- ---- the polls
+
+-- so many polls that find no reply are enough for the host to resume the machine by itself
+abbrev pub empty_polls : ℕ
+empty_polls = 4096
+
+abbrev pub polls_at : PortStep → ℕ → ℕ
+polls_at (got r) n = 0
+polls_at no_reply n = n + 1
+polls_at e n = n
+
+-- the polls that found no reply since the last that found one
+abbrev pub polls_of : Journal → ℕ
+polls_of [] = 0
+polls_of (at_port e ∷ h) = polls_at e (polls_of h)
+polls_of (read_some bytes ∷ h) = polls_of h
+polls_of (read_end ∷ h) = polls_of h
+polls_of (read_failed ∷ h) = polls_of h
+polls_of (scanned b ∷ h) = polls_of h
+polls_of (line_over ∷ h) = polls_of h
+polls_of (wrote n ∷ h) = polls_of h
+polls_of (gave_up ∷ h) = polls_of h
+polls_of (tired ∷ h) = 0
+polls_of (turned t ∷ h) = polls_of h
+
+-- ---- the turn
+
+abbrev pub this_turn : Journal → Journal
+this_turn [] = []
+this_turn (at_port e ∷ h) = at_port e ∷ this_turn h
+this_turn (read_some bytes ∷ h) = read_some bytes ∷ this_turn h
+this_turn (read_end ∷ h) = read_end ∷ this_turn h
+this_turn (read_failed ∷ h) = read_failed ∷ this_turn h
+this_turn (scanned b ∷ h) = scanned b ∷ this_turn h
+this_turn (line_over ∷ h) = line_over ∷ this_turn h
+this_turn (wrote n ∷ h) = wrote n ∷ this_turn h
+this_turn (gave_up ∷ h) = gave_up ∷ this_turn h
+this_turn (tired ∷ h) = tired ∷ this_turn h
+this_turn (turned t ∷ h) = []

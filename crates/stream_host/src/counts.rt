@@ -1,0 +1,72 @@
+//! How many lines are sent and answered.
+
+ghost use Rattle.std.specs.Prelude.{◌≡◌, ◌+◌, ◌^◌, ◌≤◌, ◌<◌, [], ◌∷◌, ◌++◌, length, drop};
+ghost use Rattle.stream_host.specs.Hosts.{lengths, IsSummed};
+
+use crate::unanswered::Unanswered;
+
+/// The lines without an answer, and the numbers of lines sent, of answers got, and of those that are errors.
+#[derive(Drop)]
+pub(crate) struct Counts {
+    pub(crate) unanswered: Unanswered,
+    pub(crate) lines: u32,
+    pub(crate) answered: u32,
+    pub(crate) errors: u32,
+}
+
+impl Counts {
+    /// No line is sent.
+    pub(crate) fn new() -> Counts
+        ensures none { lengths result.unanswered ≡ [] }
+        ensures summed { IsSummed result.unanswered }
+        ensures lines { result.lines ≡ 0 }
+        ensures answered { result.answered ≡ 0 }
+        ensures errors { result.errors ≡ 0 }
+    {
+        Counts {
+            unanswered: Unanswered::new(),
+            lines: 0,
+            answered: 0,
+            errors: 0,
+        }
+    }
+
+    /// A line of this length is to be sent.
+    pub(crate) fn add_line(&mut self, size: u8)
+        requires few { length (lengths self.old.unanswered) < 129 }
+        requires small { self.old.unanswered.total ≤ 128 }
+        requires summed { IsSummed self.old.unanswered }
+        requires lines { self.old.lines + 1 < 2 ^ 32 }
+        ensures more { lengths self.new.unanswered ≡ lengths self.old.unanswered ++ size ∷ [] }
+        ensures summed { IsSummed self.new.unanswered }
+        ensures same { self.new ≡ record self.old { unanswered = self.new.unanswered; lines = self.old.lines + 1 } }
+    {
+        self.unanswered.push(size);
+        self.lines += 1;
+    }
+
+    /// The oldest line has its answer.
+    pub(crate) fn add_answer(&mut self)
+        requires summed { IsSummed self.old.unanswered }
+        requires answered { self.old.answered + 1 < 2 ^ 32 }
+        ensures fewer { lengths self.new.unanswered ≡ drop 1 (lengths self.old.unanswered) }
+        ensures summed { IsSummed self.new.unanswered }
+        ensures same { self.new ≡ record self.old { unanswered = self.new.unanswered; answered = self.old.answered + 1 } }
+    {
+        self.unanswered.pop();
+        self.answered += 1;
+    }
+
+    /// The oldest line has its answer, which is an error.
+    pub(crate) fn add_error(&mut self)
+        requires summed { IsSummed self.old.unanswered }
+        requires answered { self.old.answered + 1 < 2 ^ 32 }
+        requires errors { self.old.errors + 1 < 2 ^ 32 }
+        ensures fewer { lengths self.new.unanswered ≡ drop 1 (lengths self.old.unanswered) }
+        ensures summed { IsSummed self.new.unanswered }
+        ensures same { self.new ≡ record self.old { unanswered = self.new.unanswered; answered = self.old.answered + 1; errors = self.old.errors + 1 } }
+    {
+        self.add_answer();
+        self.errors += 1;
+    }
+}

@@ -1,0 +1,377 @@
+//! The host.
+
+ghost use Rattle.std.specs.Prelude.{◌≡◌, ◌≢◌, ◌↔◌, ◌≤◌, ◌<◌, ◌∷◌, [], ◌++◌, ℕ, List, true, false, length, ◌||◌};
+ghost use Rattle.status_report.specs.Replies.{IsReply};
+ghost use Rattle.outside.specs.declared.Turn.TheVariants.{Did};
+ghost use Rattle.text_writer.specs.Writers.{is_due};
+ghost use Rattle.stream_host.specs.Ports.{AnswersLines};
+ghost use Rattle.stream_host.specs.Steps.{Journal, port_log, got_of, stop_of, stop_at, raw_of, cut_of, reading_of, has_given_up, answered_of, errors_of};
+ghost use Rattle.stream_host.specs.Steps.PortStep.{stored, got, no_reply, shut};
+ghost use Rattle.stream_host.specs.Steps.Step.{at_port, scanned, turned};
+ghost use Rattle.stream_host.specs.Links.{answers_in, is_bye};
+ghost use Rattle.stream_host.specs.Hosts.{HostFits, HostWorked, HostTurned, HostTellsOn, HasPolled, IsBetween, DidAlone, MayScanOn, MayReadOn, HasRoom, HasShown, HostRests, HasLine, KeepsLine, KeepsCounts, unread, shown};
+ghost use Rattle.outside.specs.Causes.{SourceState, SinkState};
+ghost use Rattle.gcode_words.specs.Stripping.{plain};
+
+use crate::counts::Counts;
+use crate::line::SentLine;
+use crate::ports::HostPort;
+use crate::reader::{Gave, LARGEST_JOB, Reader};
+use crate::{Reading, Stop};
+use outside::{On, Sink, Source, Turn};
+use serial_ring::Stored;
+use status_report::{Reply, put_reply};
+use text_writer::TextWriter;
+use units::Text;
+
+/// So many bytes on the link at most are of lines that have no answer.
+const RECEIVE_ROOM: usize = 128;
+
+/// Reads a job, sends its lines by counting characters, and shows the replies.
+#[derive(Drop)]
+pub struct Host {
+    job: Reader,
+    line: SentLine,
+    counts: Counts,
+    text: TextWriter,
+    shut: bool,
+    bye: bool,
+}
+
+impl Host {
+    /// A host that has done nothing.
+    pub fn new() -> Host
+        ensures { HostFits result [] }
+    {
+        Host {
+            job: Reader::new(),
+            line: SentLine::new(),
+            counts: Counts::new(),
+            text: TextWriter::new(),
+            shut: false,
+            bye: false,
+        }
+    }
+
+    /// What the line in hand says of the sending.
+    fn stop_in_line(&self) -> Stop
+        ensures { (h : Journal) → HostFits self.now h → result ≡ stop_at Reading.Ended (raw_of h) (length (cut_of h)) }
+    {
+        if self.line.long {
+            Stop::LongLine(self.counts.lines.saturating_add(1))
+        } else {
+            Stop::End
+        }
+    }
+
+    /// Why the sending ended: End until another cause comes.
+    pub fn stop(&self) -> Stop
+        ensures { (h : Journal) → HostFits self.now h → result ≡ stop_of h }
+    {
+        match self.job.reading {
+            Reading::Large => Stop::TooLarge,
+            Reading::Ended => self.stop_in_line(),
+            Reading::Failed => self.stop_in_line(),
+            Reading::Stopped => self.stop_in_line(),
+        }
+    }
+
+    /// How many `ok` and `error` replies were got.
+    pub fn answered(&self) -> u32
+        ensures { (h : Journal) → HostFits self.now h → result ≡ answered_of h }
+    {
+        self.counts.answered
+    }
+
+    /// How many `error` replies were got.
+    pub fn errors(&self) -> u32
+        ensures { (h : Journal) → HostFits self.now h → result ≡ errors_of h }
+    {
+        self.counts.errors
+    }
+
+    /// Whether a read of the job has failed.
+    pub fn source_failed(&self) -> bool
+        ensures { (h : Journal) → HostFits self.now h → (result ≡ true) ↔ (reading_of h ≡ Reading.Failed) }
+    {
+        matches!(self.job.reading, Reading::Failed)
+    }
+
+    /// Whether a write to the console has failed.
+    pub fn console_failed(&self) -> bool
+        ensures { (h : Journal) → HostFits self.now h → result ≡ has_given_up h }
+    {
+        self.text.failed()
+    }
+
+    /// Makes one call of the console with what waits.
+    fn write<Co: Sink>(&mut self, console: &mut Co)
+        requires { is_due self.old.text ≡ true }
+        ensures { (h : Journal) → HostFits self.old h → (next : Journal) × DidAlone self.old self.new h next
+            × ((job : SourceState) → HostTellsOn self.old self.new h next job job (Co.state console.old) (Co.state console.new)) }
+    {
+        self.text.write(console);
+    }
+
+    /// Counts a reply.
+    fn count(&mut self, reply: &Reply)
+        requires { (h : Journal) × HostFits self.old h × AnswersLines (got reply.now ∷ port_log h) }
+        ensures counts { (h : Journal) → HostFits self.old h → AnswersLines (got reply.now ∷ port_log h) → KeepsCounts self.new.counts (cut_of h) (got_of h ++ reply.now ∷ []) }
+        ensures same { self.new ≡ record self.old { counts = self.new.counts } }
+    {
+        match reply {
+            Reply::Ok => self.counts.add_answer(),
+            Reply::Error(_) => self.counts.add_error(),
+            _ => {}
+        }
+    }
+
+    /// Puts the text of a reply. All text is asked for behind the last one.
+    fn show(&mut self, reply: &Reply)
+        requires reply { IsReply reply.now }
+        requires ready { is_due self.old.text ≡ false }
+        ensures text { self.new.text ≡ shown self.old.text reply.now }
+        ensures bye { self.new.bye ≡ (self.old.bye || is_bye reply.now) }
+        ensures same { self.new ≡ record self.old { text = self.new.text; bye = self.new.bye } }
+    {
+        let mut text = Text::new();
+        put_reply(reply, &mut text);
+        self.text.put(&text);
+        if let Reply::Bye = reply {
+            self.bye = true;
+            self.text.ask();
+        }
+    }
+
+    /// A reply was got: it is counted, and its text waits for the console.
+    fn take_reply(&mut self, reply: &Reply)
+        requires reply { IsReply reply.now }
+        requires ready { is_due self.old.text ≡ false }
+        requires going { self.old.bye ≡ false }
+        requires fits { (h : Journal) × HostFits self.old h × AnswersLines (got reply.now ∷ port_log h) }
+        ensures fits { (h : Journal) → HostFits self.old h → AnswersLines (got reply.now ∷ port_log h) → HostFits self.new (at_port (got reply.now) ∷ h) }
+        ensures tells { (h : Journal) (job : SourceState) (console : SinkState) → HostTellsOn self.old self.new h (at_port (got reply.now) ∷ h) job job console console }
+    {
+        self.count(reply);
+        self.show(reply);
+    }
+
+    /// Whether the next byte may be scanned.
+    fn may_scan(&self) -> bool
+        ensures may { result ≡ true → MayScanOn self.now }
+        ensures may_not { result ≡ false → MayScanOn self.now → ⊥ }
+    {
+        !self.line.whole
+            && !self.line.long
+            && self.job.place < self.job.end
+            && self.job.scanned < LARGEST_JOB
+    }
+
+    /// Scans the next byte.
+    fn scan_byte(&mut self)
+        requires may { MayScanOn self.old }
+        requires going { self.old.shut ≡ false }
+        requires fits { (h : Journal) × HostFits self.old h }
+        ensures fits { (h : Journal) → HostFits self.old h → (b : ℕ) × HostFits self.new (scanned b ∷ h) }
+        ensures text { self.new.text ≡ self.old.text }
+        ensures shut { self.new.shut ≡ self.old.shut }
+        ensures fewer { length (unread self.new.job) < length (unread self.old.job) }
+    {
+        let byte = self.job.next_byte();
+        if byte == b'\n' {
+            finish_line(&mut self.line, &mut self.counts);
+        } else {
+            self.line.feed(byte);
+        }
+    }
+
+    /// Scans the piece until the line ends, has too many bytes, or the piece is used up.
+    fn scan(&mut self)
+        requires may { MayScanOn self.old }
+        requires going { self.old.shut ≡ false }
+        requires fits { (h : Journal) × HostFits self.old h }
+        ensures { (h : Journal) → HostFits self.old h → (next : Journal) × DidAlone self.old self.new h next
+            × ((job : SourceState) (console : SinkState) → HostTellsOn self.old self.new h next job job console console) }
+    {
+        self.scan_byte();
+        while self.may_scan() {
+            self.scan_byte();
+        }
+    }
+
+    /// Reads the next piece. Where there is none, a last line without LF is over.
+    fn read<So: Source>(&mut self, job: &mut So)
+        requires may { MayReadOn self.old }
+        requires going { self.old.shut ≡ false }
+        requires fits { (h : Journal) × HostFits self.old h }
+        ensures { (h : Journal) → HostFits self.old h → (next : Journal) × DidAlone self.old self.new h next
+            × ((console : SinkState) → HostTellsOn self.old self.new h next (So.state job.old) (So.state job.new) console console) }
+    {
+        match self.job.read(job) {
+            Gave::Bytes => return,
+            Gave::Fault => return,
+            Gave::End => {}
+        }
+        if self.line.begun {
+            finish_line(&mut self.line, &mut self.counts);
+        }
+    }
+
+    /// Stores the next byte of the line in hand.
+    fn store<P: HostPort>(&mut self, port: &mut P)
+        requires storing { self.old.line.whole ≡ true }
+        requires room { self.old.counts.unanswered.total ≤ 128 }
+        requires stands { (rest : P.Rest) × (h : Journal) × P.stands port.old rest (port_log h) × HostFits self.old h }
+        ensures stored { (rest : P.Rest) (h : Journal) → P.stands port.old rest (port_log h) → HostFits self.old h → (b : ℕ) × P.stands port.new rest (stored b ∷ port_log h)
+            × HostFits self.new (at_port (stored b) ∷ h) }
+        ensures text { self.new.text ≡ self.old.text }
+    {
+        let byte = self.line.next_byte();
+        match port.store(byte) {
+            Stored::Stored => self.line.advance(),
+            Stored::Dropped => unreachable!(),
+        }
+    }
+
+    /// Closes the link.
+    fn close<P: HostPort>(&mut self, port: &mut P)
+        requires scanning { self.old.line.whole ≡ false }
+        requires going { self.old.shut ≡ false }
+        requires no_scan { MayScanOn self.old → ⊥ }
+        requires no_read { MayReadOn self.old → ⊥ }
+        requires stands { (rest : P.Rest) × (h : Journal) × P.stands port.old rest (port_log h) × HostFits self.old h }
+        ensures closed { (rest : P.Rest) (h : Journal) → P.stands port.old rest (port_log h) → HostFits self.old h → P.stands port.new rest (shut ∷ port_log h)
+            × HostFits self.new (at_port shut ∷ h) }
+        ensures text { self.new.text ≡ self.old.text }
+    {
+        port.close();
+        self.shut = true;
+    }
+
+    /// Whether the job may be read on.
+    fn may_read(&self) -> bool
+        ensures may { result ≡ true → MayReadOn self.now }
+        ensures may_not { result ≡ false → MayReadOn self.now → ⊥ }
+    {
+        !self.line.whole
+            && !self.line.long
+            && self.job.end <= self.job.place
+            && matches!(self.job.reading, Reading::Stopped)
+    }
+
+    /// Takes one step of sending: stores a byte, scans, reads, or closes the link. Where it may do none, a reply is waited
+    /// for.
+    fn send<P: HostPort, So: Source>(&mut self, port: &mut P, job: &mut So) -> Turn
+        requires shown { HasShown self.old.text }
+        requires stands { (rest : P.Rest) × (h : Journal) × P.stands port.old rest (port_log h) × HostFits self.old h × HasPolled h }
+        ensures goes_on { (rest : P.Rest) (h : Journal) → P.stands port.old rest (port_log h) → HostFits self.old h → HasPolled h
+            → (next : Journal) × P.stands port.new rest (port_log next) × HostWorked result self.old self.new h next
+            × ((console : SinkState) → HostTellsOn self.old self.new h next (So.state job.old) (So.state job.new) console console) }
+        ensures going { result ≢ Turn.Done }
+    {
+        if self.line.whole {
+            if self.counts.unanswered.total > RECEIVE_ROOM {
+                return Turn::Wait(On::Answer);
+            }
+            self.store(port);
+            return Turn::Did;
+        }
+        if self.shut {
+            return Turn::Wait(On::Answer);
+        }
+        if self.may_scan() {
+            self.scan();
+            return Turn::Did;
+        }
+        if self.may_read() {
+            self.read(job);
+            return Turn::Did;
+        }
+        self.close(port);
+        Turn::Did
+    }
+
+    /// What is done where a poll found no reply: the text that waits is written, else the sending goes on.
+    fn without_reply<P: HostPort, So: Source, Co: Sink>(
+        &mut self,
+        port: &mut P,
+        job: &mut So,
+        console: &mut Co,
+    ) -> Turn
+        requires stands { (rest : P.Rest) × (h : Journal) × P.stands port.old rest (port_log h) × HostFits self.old h × HasPolled h }
+        ensures goes_on { (rest : P.Rest) (h : Journal) → P.stands port.old rest (port_log h) → HostFits self.old h → HasPolled h
+            → (next : Journal) × P.stands port.new rest (port_log next) × HostWorked result self.old self.new h next
+            × HostTellsOn self.old self.new h next (So.state job.old) (So.state job.new) (Co.state console.old) (Co.state console.new) }
+        ensures going { result ≢ Turn.Done }
+    {
+        self.text.ask();
+        if self.text.is_due() {
+            self.write(console);
+            return Turn::Did;
+        }
+        self.send(port, job)
+    }
+
+    /// Does what a turn does.
+    fn work<P: HostPort, So: Source, Co: Sink>(
+        &mut self,
+        port: &mut P,
+        job: &mut So,
+        console: &mut Co,
+    ) -> Turn
+        requires stands { (rest : P.Rest) × (h : Journal) × P.stands port.old rest (port_log h) × HostFits self.old h × IsBetween h }
+        ensures goes_on { (rest : P.Rest) (h : Journal) → P.stands port.old rest (port_log h) → HostFits self.old h → IsBetween h
+            → (next : Journal) × P.stands port.new rest (port_log next) × HostWorked result self.old self.new h next
+            × HostTellsOn self.old self.new h next (So.state job.old) (So.state job.new) (Co.state console.old) (Co.state console.new) }
+        ensures done { (result ≡ Turn.Done) ↔ HostRests self.old }
+        ensures still { HostRests self.old → (self.new ≡ self.old) × (port.new ≡ port.old) × (job.new ≡ job.old) × (console.new ≡ console.old) }
+    {
+        if self.text.is_due() {
+            self.write(console);
+            return Turn::Did;
+        }
+        if self.bye {
+            return Turn::Done;
+        }
+        match port.reply() {
+            Some(reply) => {
+                self.take_reply(&reply);
+                Turn::Did
+            }
+            None => self.without_reply(port, job, console),
+        }
+    }
+
+    /// Takes a turn: writes text that is due, takes a reply, or takes one step of sending; at most one thing is published.
+    /// Where a poll found no reply, and the rules allow nothing else, it answers `Wait(Answer)`. It is done once Bye was
+    /// got and all text is written or the console has failed; from then on nothing changes.
+    ///
+    /// The rules of the host are those of its journal: whatever it has done before, it goes on as they allow.
+    pub fn turn<P: HostPort, So: Source, Co: Sink>(
+        &mut self,
+        port: &mut P,
+        job: &mut So,
+        console: &mut Co,
+    ) -> Turn
+        requires stands { (rest : P.Rest) × (h : Journal) × P.stands port.old rest (port_log h) × HostFits self.old h × IsBetween h }
+        ensures goes_on { (rest : P.Rest) (h : Journal) → P.stands port.old rest (port_log h) → HostFits self.old h → IsBetween h
+            → (next : Journal) × P.stands port.new rest (port_log next) × HostFits self.new next × IsBetween next × HostTurned result self.old self.new h next
+            × HostTellsOn self.old self.new h next (So.state job.old) (So.state job.new) (Co.state console.old) (Co.state console.new) }
+        ensures done { (result ≡ Turn.Done) ↔ HostRests self.old }
+        ensures still { HostRests self.old → (self.new ≡ self.old) × (port.new ≡ port.old) × (job.new ≡ job.old) × (console.new ≡ console.old) }
+    {
+        self.work(port, job, console)
+    }
+}
+
+/// The line in hand is over, and is to be stored.
+fn finish_line(line: &mut SentLine, counts: &mut Counts)
+    requires room { HasRoom counts.old }
+    requires short { line.old.long ≡ false }
+    ensures line { (raw : List ℕ) → HasLine line.old raw → KeepsLine line.new [] (plain raw ++ 10 ∷ []) }
+    ensures counts { (raw : List ℕ) (cuts : List (List ℕ)) (got : List Reply) → HasLine line.old raw → KeepsCounts counts.old cuts got → answers_in got ≤ length cuts
+        → KeepsCounts counts.new (cuts ++ raw ∷ []) got }
+{
+    let size = line.finish();
+    counts.add_line(size);
+}

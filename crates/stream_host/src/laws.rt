@@ -1,0 +1,65 @@
+//! Laws of hosts.
+
+ghost use Rattle.std.specs.Prelude.{◌≡◌, ℕ, ◌+◌, ◌≤◌, ◌<◌, true, false, List, [], ◌∷◌, ◌++◌, length, map, drop};
+ghost use Rattle.gcode_words.specs.Stripping.{plain};
+ghost use Rattle.run_rules.specs.Lines.{whole_lines};
+ghost use Rattle.run_rules.specs.Readings.{largest_job};
+ghost use Rattle.stream_host.specs.Links.{receive_room, lfs_in, behind, on_link};
+ghost use Rattle.stream_host.specs.Jobs.{ends_sending, largest_piece, lines_read, lines_to_send, IsSent, IsSentSoFar};
+ghost use Rattle.stream_host.specs.declared.Reading.{Reading};
+ghost use Rattle.std.specs.List.{AllByRecursion};
+ghost use Rattle.stream_host.specs.Steps.{Journal, stored_of, got_of, is_shut, answered_of, errors_of, read_of, reading_of, scanned_of, cut_of, to_store, begun_of, stop_of};
+ghost use Rattle.stream_host.specs.Conduct.{Conducted, MayStore, Waits};
+ghost use Rattle.outside.specs.Causes.{SourceState, SinkState};
+ghost use Rattle.stream_host.specs.declared.host.Host.{Host};
+ghost use Rattle.stream_host.specs.Hosts.{HostFits, HostRests, TellsJob, TellsText};
+ghost use Rattle.stream_host.specs.Ran.{HostRan, HostRuns, HasFinished, TellsConsole, end_of};
+
+/// What a host that keeps to its rules stores is what is kept of the lines that it cuts, each with LF. These are the lines
+/// that are sent of the job, and what it scans, and why it stops, is what the job allows: so far, and all once it has
+/// closed the link.
+pub fn hosts_send_their_lines()
+    ensures stored { (h : Journal) → Conducted h → stored_of h ++ to_store h ≡ on_link (cut_of h) }
+    ensures so_far { (h : Journal) → Conducted h → IsSentSoFar (read_of h) (reading_of h) (scanned_of h) (cut_of h) (stop_of h) }
+    ensures whole { (h : Journal) → Conducted h → is_shut h ≡ true →
+        IsSent (read_of h) (reading_of h) (scanned_of h) (cut_of h) (stop_of h) × (stored_of h ≡ on_link (cut_of h)) }
+{}
+
+/// The lines that a host has sent and that have no answer take at most 128 bytes on the link, so that there is room for each
+/// byte that it may store. What it reads, stores and counts is bounded.
+pub fn hosts_keep_to_their_count()
+    ensures count { (h : Journal) → Conducted h → length (on_link (drop (answered_of h) (begun_of h))) ≤ receive_room }
+    ensures room { (b : ℕ) (h : Journal) → Conducted h → MayStore b h → (is_shut h ≡ false) × (length (behind (answered_of h) (stored_of h)) < receive_room) }
+    ensures answers { (h : Journal) → Conducted h → (errors_of h ≤ answered_of h) × (answered_of h ≤ length (cut_of h)) × (length (cut_of h) ≤ largest_job) }
+    ensures read { (h : Journal) → Conducted h → (length (scanned_of h) ≤ largest_job) × (length (read_of h) ≤ length (scanned_of h) + largest_piece) }
+    ensures bytes { (h : Journal) → Conducted h → length (stored_of h) ≤ largest_job + 1 }
+{}
+
+/// A host whose link is open waits only where a line that it has sent has no answer: its rules always allow it one of its
+/// steps else.
+pub fn hosts_wait_for_answers()
+    ensures { (h : Journal) → Conducted h → Waits h → is_shut h ≡ false → 0 < length (drop (answered_of h) (begun_of h)) }
+{}
+
+/// A job in which no line ends the sending is sent whole. Lines come back from the link as what is kept of them. Behind the
+/// lines that are answered stands at least what was not taken.
+pub fn links_carry_lines()
+    ensures all { (r : Reading) (job : List ℕ) → AllByRecursion (λ l. ends_sending l ≡ false) (lines_read r job) → lines_to_send r job ≡ lines_read r job }
+    ensures lines { (lines : List (List ℕ)) → whole_lines (on_link lines) ≡ map plain lines }
+    ensures untaken { (k : ℕ) (taken bytes : List ℕ) → k ≤ lfs_in taken → length bytes ≤ length (behind k (taken ++ bytes)) }
+{}
+
+/// A host that keeps to its rules, has got Bye, and has written all or met a write that failed, has run: what it read,
+/// stored and got, and what it tells at its end, is that of a whole run. Before, it is that of a run so far. A host that
+/// is done has finished, and what it tells of its console is what its journal says.
+pub fn hosts_have_run()
+    ensures so_far { (h : Journal) (job_was job_is : SourceState) (console_was console_is : SinkState) →
+        Conducted h → TellsJob h job_was job_is → TellsConsole h console_was console_is →
+        HostRuns job_was job_is console_was console_is (stored_of h) (got_of h) }
+    ensures whole { (h : Journal) (job_was job_is : SourceState) (console_was console_is : SinkState) →
+        Conducted h → HasFinished h → TellsJob h job_was job_is → TellsConsole h console_was console_is →
+        HostRan job_was job_is console_was console_is (stored_of h) (is_shut h) (got_of h) (end_of h) }
+    ensures finished { (host : Host) (h : Journal) → HostFits host h → HostRests host → HasFinished h }
+    ensures console { (host : Host) (h : Journal) (was is : SinkState) → HostFits host h → TellsText host.text h was is → TellsConsole h was is }
+    ensures beginning { (job : SourceState) (console : SinkState) → TellsJob [] job job × TellsConsole [] console console }
+{}

@@ -1,0 +1,39 @@
+//! What a host may do next, and what a host that keeps to it has sent.
+#![tactic(auto)]
+
+mod counts;
+mod host;
+mod laws;
+mod line;
+mod ports;
+mod reader;
+#[cfg(test)]
+mod tests;
+mod unanswered;
+
+pub use host::Host;
+pub use laws::{
+    hosts_have_run, hosts_keep_to_their_count, hosts_send_their_lines, hosts_wait_for_answers,
+    links_carry_lines,
+};
+pub use ports::HostPort;
+
+/// How the reading of a job ended: at the source's end, at a read that failed, with a byte more than a job may have, or
+/// at none of these, where no later byte was read.
+#[derive(Clone, Copy, Debug, PartialEq, Eq)]
+pub enum Reading {
+    Ended,
+    Failed,
+    Large,
+    Stopped,
+}
+
+/// Why a host sends no more: all is sent; a line has too many bytes, or the job has; a reset; an alarm.
+#[derive(Clone, Copy, Debug, PartialEq, Eq)]
+pub enum Stop {
+    End,
+    LongLine(u32),
+    TooLarge,
+    Reset,
+    Alarm(u32),
+}

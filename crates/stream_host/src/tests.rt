@@ -1,0 +1,314 @@
+//! A host over a board that is a plain list.
+
+ghost use Rattle.std.specs.Prelude.{◌≡◌, ◌+◌, ◌≤◌, []};
+
+use super::*;
+use code_table::realtime_rows;
+use outside::{MemSink, MemSource, On, Sink, Turn};
+use realtime_flags::Raised;
+use serial_ring::Stored;
+use status_report::Reply;
+use std::marker::Model;
+use std::test::Fail;
+
+/// A board that takes each byte at once. It tells the banner, answers the lines one by one, and says Bye once the link is
+/// closed and each line has its answer. So many polls find no reply before each.
+#[derive(Drop)]
+struct Board<'a> {
+    taken: MemSink<'a>,
+    /// Lines that have no answer.
+    owed: u32,
+    told: u32,
+    /// Every second line is refused.
+    strict: bool,
+    pause: u32,
+    polls: u32,
+    shut: bool,
+    over: bool,
+}
+
+impl Board<'_> {
+    ghost use Rattle.std.specs.Prelude.{◌≡◌, true};
+    ghost use Rattle.status_report.specs.Replies.{IsReply};
+    ghost use Rattle.stream_host.specs.Links.{is_answer};
+
+    /// What is answered to a line.
+    fn answer(&self) -> Reply
+        ensures text { IsReply result }
+        ensures answers { is_answer result ≡ true }
+    {
+        if self.strict && self.told % 2 == 1 {
+            Reply::Error(20)
+        } else {
+            Reply::Ok
+        }
+    }
+}
+
+impl HostPort for Board<'_> {
+    ghost use Rattle.std.specs.Prelude.{◌+◌, ◌≤◌};
+    ghost use Rattle.stream_host.specs.Links.{answers_in, lfs_in};
+    ghost use Rattle.stream_host.specs.Steps.{got_in, stored_in};
+
+    ghost Rest = { Unit {0} };
+
+    /// No more lines are owed an answer than were stored and have none.
+    ghost stands = { λ board _ h. answers_in (got_in h) + board.owed ≤ lfs_in (stored_in h) };
+
+    fn store(&mut self, byte: u8) -> Stored {
+        let _ = self.taken.write(&[byte]);
+        if byte == b'\n' {
+            self.owed = self.owed.saturating_add(1);
+        }
+        Stored::Stored
+    }
+
+    fn raise(&mut self, byte: u8) -> Raised {
+        match realtime_rows().find(u16::from(byte)) {
+            Some(bit) if bit < 16 => Raised::Exec,
+            Some(_) => Raised::Override,
+            None if byte < 0x80 => Raised::Plain,
+            None => Raised::Ignored,
+        }
+    }
+
+    fn reply(&mut self) -> Option<Reply> {
+        if self.polls < self.pause {
+            self.polls += 1;
+            return None;
+        }
+        self.polls = 0;
+        if self.told == 0 {
+            self.told = 1;
+            return Some(Reply::Banner);
+        }
+        if self.owed > 0 {
+            self.owed -= 1;
+            self.told = self.told.saturating_add(1);
+            return Some(self.answer());
+        }
+        if self.shut && !self.over {
+            self.over = true;
+            return Some(Reply::Bye);
+        }
+        None
+    }
+
+    fn close(&mut self) {
+        self.shut = true;
+    }
+}
+
+/// A host between two turns, and its board.
+#[derive(Drop)]
+struct Line<'a> {
+    host: Host,
+    board: Board<'a>,
+}
+
+impl<'a> Model for Line<'a> {
+    ghost use Rattle.std.specs.Prelude.{◌+◌, ◌≤◌};
+    ghost use Rattle.stream_host.specs.Links.{answers_in, lfs_in};
+    ghost use Rattle.stream_host.specs.Steps.{Journal, got_of, stored_of};
+    ghost use Rattle.stream_host.specs.Hosts.{HostFits, IsBetween};
+
+    ghost Value = { Unit {0} };
+
+    ghost view = { λ _. tt };
+
+    ghost invariant = { λ l. (h : Journal) × (answers_in (got_of h) + l.board.owed ≤ lfs_in (stored_of h)) × HostFits l.host h × IsBetween h };
+}
+
+impl<'a> Line<'a> {
+    fn new(taken: MemSink<'a>, strict: bool, pause: u32) -> Line<'a> {
+        Line {
+            host: Host::new(),
+            board: Board {
+                taken,
+                owed: 0,
+                told: 0,
+                strict,
+                pause,
+                polls: pause,
+                shut: false,
+                over: false,
+            },
+        }
+    }
+
+    fn turn(&mut self, job: &mut MemSource, console: &mut MemSink) -> Turn {
+        self.host.turn(&mut self.board, job, console)
+    }
+
+    /// Turns until the host gives this answer, at most so often.
+    fn run(&mut self, until: Turn, most: u32, job: &mut MemSource, console: &mut MemSink) -> Turn {
+        for _ in 0..most {
+            let last = self.turn(job, console);
+            if last == until {
+                return last;
+            }
+        }
+        Turn::Did
+    }
+}
+
+/// A job and what becomes of it.
+#[derive(Clone, Copy)]
+struct Row<'a> {
+    job: &'a str,
+    /// So many bytes are read at once at most.
+    piece: usize,
+    strict: bool,
+    pause: u32,
+    /// The numbers of the reads that fail, and of the writes.
+    bad_reads: &'a [u64],
+    bad_writes: &'a [u64],
+    taken: &'a str,
+    console: &'a str,
+    stop: Stop,
+    answered: u32,
+    errors: u32,
+}
+
+const PLAIN: Row = Row {
+    job: "",
+    piece: 4096,
+    strict: false,
+    pause: 0,
+    bad_reads: &[],
+    bad_writes: &[],
+    taken: "",
+    console: "\r\nGrbl 1.1h ['$' for help]\r\n",
+    stop: Stop::End,
+    answered: 0,
+    errors: 0,
+};
+
+/// Runs of which each goes well but for what is named.
+fn rows() -> [Row<'static>; 8] {
+    [
+        PLAIN,
+        Row {
+            job: "G0 X1 (go)\n\ng1y2f100 ; on\n",
+            taken: "G0X1\n\nG1Y2F100\n",
+            console: "\r\nGrbl 1.1h ['$' for help]\r\nok\r\nok\r\nok\r\n",
+            answered: 3,
+            ..PLAIN
+        },
+        Row {
+            job: "G1\n\nM2",
+            piece: 3,
+            strict: true,
+            pause: 2,
+            taken: "G1\n\nM2\n",
+            console: "\r\nGrbl 1.1h ['$' for help]\r\nok\r\nerror:20\r\nok\r\n",
+            answered: 3,
+            errors: 1,
+            ..PLAIN
+        },
+        Row {
+            job: "G1\nXXXXXXXXXXXXXXXXXXXXXXXXXXXXXXXXXXXXXXXXXXXXXXXXXXXXXXXXXXXXXXXXXXXXXXXXXXXXXXXXXXXXXXXXXXXXXXXXXXXXXXXXXXXXXXXXXXXXXXXXXXXXXXX\n",
+            taken: "G1\nXXXXXXXXXXXXXXXXXXXXXXXXXXXXXXXXXXXXXXXXXXXXXXXXXXXXXXXXXXXXXXXXXXXXXXXXXXXXXXXXXXXXXXXXXXXXXXXXXXXXXXXXXXXXXXXXXXXXXXXXXXXXXXX\n",
+            console: "\r\nGrbl 1.1h ['$' for help]\r\nok\r\nok\r\n",
+            answered: 2,
+            ..PLAIN
+        },
+        Row {
+            job: "G1\nXXXXXXXXXXXXXXXXXXXXXXXXXXXXXXXXXXXXXXXXXXXXXXXXXXXXXXXXXXXXXXXXXXXXXXXXXXXXXXXXXXXXXXXXXXXXXXXXXXXXXXXXXXXXXXXXXXXXXXXXXXXXXXXX\nG2\n",
+            taken: "G1\n",
+            console: "\r\nGrbl 1.1h ['$' for help]\r\nok\r\n",
+            stop: Stop::LongLine(2),
+            answered: 1,
+            ..PLAIN
+        },
+        Row {
+            job: "G1\nG2\n",
+            piece: 4,
+            bad_reads: &[2],
+            taken: "G1\n",
+            console: "\r\nGrbl 1.1h ['$' for help]\r\nok\r\n",
+            answered: 1,
+            ..PLAIN
+        },
+        Row {
+            job: "G1\nG2\n",
+            pause: 1,
+            bad_writes: &[2],
+            taken: "G1\nG2\n",
+            answered: 2,
+            ..PLAIN
+        },
+        Row {
+            job: "G1\nG2\n",
+            strict: true,
+            bad_writes: &[1],
+            taken: "G1\nG2\n",
+            console: "",
+            answered: 2,
+            errors: 1,
+            ..PLAIN
+        },
+    ]
+}
+
+#[test]
+fn jobs_are_sent_and_answered(rt: HostRuntime) -> Result<(), Fail> {
+    for (i, row) in rows().iter().enumerate() {
+        let mut job = MemSource::new(row.job.as_bytes(), row.piece.max(1), row.bad_reads);
+        let mut console = MemSink::new(rt.alloc(), 400, row.bad_writes)?;
+        let mut line = Line::new(MemSink::new(rt.alloc(), 400, &[])?, row.strict, row.pause);
+        let last = line.run(Turn::Done, 2000, &mut job, &mut console);
+        assert_eq!(rt; last, Turn::Done, "row {i}");
+        assert!(rt; line.board.taken.held() == row.taken.as_bytes(), "row {i}");
+        assert!(rt; console.held() == row.console.as_bytes(), "row {i}");
+        assert_eq!(rt; line.host.stop(), row.stop, "row {i}");
+        assert_eq!(rt; line.host.answered(), row.answered, "row {i}");
+        assert_eq!(rt; line.host.errors(), row.errors, "row {i}");
+        assert_eq!(rt;
+            line.host.source_failed(),
+            row.bad_reads.len() > 0,
+            "row {i}"
+        );
+        assert_eq!(rt;
+            line.host.console_failed(),
+            row.bad_writes.len() > 0,
+            "row {i}"
+        );
+    }
+    Ok(())
+}
+
+/// The banner is told, and no line is answered: the host waits once as many bytes as may stand on the link are stored, and
+/// what was told is on the console by then.
+#[test]
+fn bytes_without_an_answer_are_counted(rt: HostRuntime) -> Result<(), Fail> {
+    for (text, count, taken) in [
+        ("G1X1\n", 30, 125),
+        ("G1X1Y10\n", 20, 128),
+        ("\n", 200, 128),
+        (
+            "XXXXXXXXXXXXXXXXXXXXXXXXXXXXXXXXXXXXXXXXXXXXXXXXXXXXXXXXXXXXXXXXXXXXXXXXXXXXXXXXXXXXXXXXXXXXXXXXXXXXXXXXXXXXXXXXXXXXXXXXXXXXXXX\n",
+            2,
+            128,
+        ),
+        ("G1X1Y1\n", 18, 126),
+    ] {
+        let mut lines = Vec::new(rt.alloc());
+        for _ in 0..count {
+            lines.extend_from_slice(text.as_bytes())?;
+        }
+        let mut job = MemSource::new(lines.as_slice(), 4096, &[]);
+        let mut console = MemSink::new(rt.alloc(), 400, &[])?;
+        let mut line = Line::new(MemSink::new(rt.alloc(), 400, &[])?, false, u32::MAX);
+        let waits = Turn::Wait(On::Answer);
+        assert_eq!(rt;
+            line.run(waits, 2000, &mut job, &mut console),
+            waits,
+            "{text}"
+        );
+        assert_eq!(rt; line.turn(&mut job, &mut console), waits, "{text}");
+        assert_eq!(rt; line.board.taken.held().len(), taken, "{text}");
+        assert!(rt; console.held() == PLAIN.console.as_bytes(), "{text}");
+    }
+    Ok(())
+}

@@ -1,0 +1,63 @@
+"""What the lines of a job ask of its moves, as tools/plot_steps shows it: rapid or feed, the feed, and the settings. The
+rules are those of docs/DIALECT.md for lines that were accepted; a refused line changes nothing."""
+import re
+
+WORD = re.compile(r"([A-Z])([+-]?(?:[0-9]+\.?[0-9]*|\.[0-9]+))")
+SETTING = re.compile(r"\$\+?([0-9]+)=\+?([0-9]+\.?[0-9]*|\.[0-9]+)")
+COMMENT = re.compile(rb"\([^)]*\)?|;.*", re.DOTALL)
+DROPPED = re.compile(rb"[\x00-\x20/?!~\x80-\xff]")
+MM_PER_INCH = 25.4
+
+
+def kept_text(line):
+    """What is kept of a line of the job."""
+    return DROPPED.sub(b"", COMMENT.sub(b"", line)).decode("ascii").upper()
+
+
+def refused_lines(console):
+    """The numbers of the lines that a console text refuses: each line of the job has one answer, in order."""
+    texts = (text.strip() for text in console.split(b"\n"))
+    answers = [text for text in texts if text == b"ok" or text.startswith(b"error:")]
+    return {number for number, answer in enumerate(answers, 1) if answer != b"ok"}
+
+
+class Job:
+    """Of each line, by its number: whether its moves are rapids, and the feed that stands then, in mm per minute."""
+
+    def __init__(self, text, refused=frozenset()):
+        self.rapids, self.feeds = [True], [0.0]
+        self.settings = []  # (line, number, value), in order
+        self.rapid, self.inch, self.feed = True, False, 0.0
+        for number, line in enumerate(text.split(b"\n"), 1):
+            codes = set() if number in refused else self.take_line(number, kept_text(line))
+            self.rapids.append(self.rapid or bool(codes & {"G28", "G30"}))
+            self.feeds.append(self.feed)
+            self.rapid = self.rapid and not codes & {"M2", "M30"}
+
+    def take_line(self, number, kept):
+        """Takes the modes, the feed or the setting of a line, and answers its codes."""
+        setting = SETTING.fullmatch(kept)
+        if setting:
+            self.settings.append((number, int(setting[1]), float(setting[2])))
+        if kept.startswith("$"):
+            return set()
+        words = [(letter, float(value)) for letter, value in WORD.findall(kept)]
+        codes = {f"{letter}{value:g}" for letter, value in words if letter in "GM"}
+        if codes & {"G20", "G21"}:
+            self.inch = "G20" in codes
+        if codes & {"G0", "G1", "G80"}:
+            self.rapid = "G0" in codes
+        for letter, value in words:
+            if letter == "F":
+                self.feed = value * (MM_PER_INCH if self.inch else 1.0)
+        return codes
+
+    def is_rapid(self, line):
+        return self.rapids[line] if line < len(self.rapids) else False
+
+    def feed_of(self, line):
+        return self.feeds[line] if line < len(self.feeds) else 0.0
+
+    def value_before(self, line, number):
+        """What a setting is set to before a line, or None where the job does not set it."""
+        return next((value for at, n, value in reversed(self.settings) if at < line and n == number), None)

@@ -1,0 +1,155 @@
+"""Random jobs, as bytes: lines of every kind, right and wrong, with moves, marks, settings and ends of programs anywhere
+between them."""
+from model.lines import AXES, GROUP_OF
+from model.machine import SETTINGS
+
+NUMBERS = ("1", "0", "2", "-1", "3.5", "0.25", "-.5", "1.2345678", "+2", "00.5", "20", "6", "7.9", "-0.0000001")
+ODD_NUMBERS = ("", ".", "-", "1e3", "999999999.9999999", "1000000000", "10001", "-10000.001", "255.5", "256", "10000001")
+CODES = list(GROUP_OF) + ["G2", "G43.1", "G61.1", "G1.25", "G28.25", "G10.5", "M6", "M3.5", "M-1", "G-1", "G01", "M05"]
+PHRASES = """
+    G4P0.5 G4P2.0009 G10L2P1X1 G10L20P2Y-1Z2 G10L20X1 G10L2X1R1 G10L2P7X0 G10P1X1 G10L2.5X1
+    G28X1 G28 G30Y1Z1 G28.1 G30.1X2 G92X1Y2 G92.1 G53X1 G53G80 G55X1 G91X1 G90X2Y3
+    F321X-10001S77M4 G55G91X20000F50 T5M8G18Y10001 G92X10001F60 G10L2P2Y-10001S9M3 G53G90Z10001 G20G91X400F7
+    G20X0.5 G21X3 G1F200 M3S100 M4 S250 M5 M8 M2 M30S9 T256 T255.5 N10000001
+""".split()
+PLACES = """
+    G28 G28X0 G30 G30Y0.01 G28.1 G30.1 G53G0X0.1Y0 G53X0.02 G92X0 G92X0.1Y-0.2 G92.1 G10L2P1X0.05 G10L2P2Y-0.1Z0.02
+    G10L20P0X0 G10L20P3X0.01Y0.02 G54 G55 G56 G90 G91 G20 G21 G20X0.001 G91Y-0.03 G80 G0
+""".split()
+FLOW = ("M0", "M0", "M1", "M2", "M30", "M2S100", "M30X0.01", "M0Y0.02", "M3S500M2", "M8M30", "G4P0.01M2")
+SYSTEM_LINES = ("$$", "$#", "$G", "$X", "$", "$H", "$J=X1", "$RST=*", "$Z", "$1.5=1", "$-1=5", "$+10=3", "$5=1", "$20=0.9")
+REALTIME = ("?", "!", "~", "\x18", "\x85", "\x90", "\xa0", "\xff", "?!~", "\x84\x9d")
+JUNK = ("(a comment ? ! ~)", "(cut", " ", "\t", "/", "\r", ";the rest", "\0", "\xc3\xa9", "( ; )", ";(", ")") + REALTIME
+
+
+class JobMaker:
+    """Makes the lines of one job. Whatever it says of the place is only a guess: where a line is refused, or counts from
+    elsewhere, the machine goes elsewhere."""
+
+    KINDS = ("move", "words", "setting", "mark", "place", "flow", "feed", "system", "empty")
+    # How often each kind comes: in jobs for the motion, for the dialect, and for both.
+    MIXES = ((85, 0, 5, 4, 0, 1, 5, 0, 0), (2, 78, 9, 0, 0, 1, 1, 6, 3), (50, 12, 4, 6, 10, 5, 6, 3, 4))
+
+    def __init__(self, chance):
+        self.chance, self.lines = chance, []
+        self.place, self.rapid, self.flood = [0, 0, 0], True, False
+        self.relative = self.in_inches = False
+        self.scale = chance.choice((20, 200, 2000))  # the longest way of a move along an axis, in µm
+        self.heading = None  # where the job goes nearly straight on, in short moves: the way of each, in µm
+
+    def make(self):
+        chance = self.chance
+        if chance.random() < 0.01:
+            return chance.choice((b"", b"\n", b"\r", b" ", b"?", b"\n\n", b"("))
+        mix = chance.choice(self.MIXES)
+        if mix is self.MIXES[1]:
+            # Few steps per mm, so that the moves of all those numbers are short.
+            self.lines += [f"$10{axis}={chance.choice((2, 4, 5.5))}" for axis in range(3)]
+        if chance.random() < 0.9:
+            self.say_feed()
+        for kind in chance.choices(self.KINDS, mix, k=chance.randint(1, 80)):
+            if mix is not self.MIXES[1] and chance.random() < 0.05:
+                self.heading = chance.choice((None, [chance.randint(-40, 40) or 4 for _ in range(3)]))
+            getattr(self, f"say_{kind}")()
+            self.guess_modes(self.lines[-1])
+            if mix is not self.MIXES[0] and chance.random() < 0.15:
+                self.spoil()
+        if chance.random() < 0.7:
+            self.lines += ["$#", "$G", "$$"]
+        end = "\r\n" if chance.random() < 0.15 else "\n"
+        text = end.join(self.lines) + (end if chance.random() < 0.7 else "")
+        return text.encode("latin-1")
+
+    def guess_modes(self, line):
+        self.relative = "G91" in line.replace("G91.1", "") or (self.relative and "G90" not in line and "M2" not in line)
+        self.in_inches = "G20" in line or (self.in_inches and "G21" not in line)
+
+    def spoil(self):
+        """Puts what comes off a line, or cuts it, into the last line."""
+        line, at = self.lines[-1], self.chance.randint(0, len(self.lines[-1]))
+        line = line[:at] + self.chance.choice(JUNK) + line[at:]
+        self.lines[-1] = line.lower() if self.chance.random() < 0.2 else line
+
+    def say_feed(self):
+        thousandths = self.chance.choice((1_000, 16_500, 60_000, 200_000, 499_999, 900_000))
+        self.lines.append(f"F{thousandths / 1000:.3f}")
+
+    def say_move(self):
+        words = ""
+        if self.chance.random() < (0.02 if self.heading else 0.15):
+            self.rapid = not self.rapid
+            words = "G0" if self.rapid else "G1"
+        if self.chance.random() < 0.03:
+            words += "G90" if self.relative else "G91"
+            self.guess_modes(words)
+        for axis, often in enumerate((1, 1, 0) if self.heading else (0.8, 0.7, 0.2)):
+            if self.chance.random() < often:
+                way = self.way_along(axis)
+                self.place[axis] += way
+                micrometres = way if self.relative else self.place[axis]
+                words += f"{AXES[axis]}{micrometres / (25_400 if self.in_inches else 1_000):.5f}"
+        self.lines.append(words)
+
+    def way_along(self, axis):
+        return self.heading[axis] if self.heading else self.chance.randint(-self.scale, self.scale)
+
+    def say_mark(self):
+        self.chance.choice((self.say_spindle, self.say_coolant, self.say_dwell))()
+
+    def say_spindle(self):
+        mode = self.chance.choice(("M3", "M4", "M5"))
+        self.lines.append(mode if mode == "M5" else f"{mode}S{self.chance.randint(1, 20_000)}")
+
+    def say_coolant(self):
+        self.flood = not self.flood
+        self.lines.append("M8" if self.flood else "M9")
+
+    def say_dwell(self):
+        self.lines.append(f"G4P{self.chance.randint(0, 3000) / 1000:.3f}")
+
+    def say_place(self):
+        self.lines.append(self.chance.choice(PLACES))
+
+    def say_flow(self):
+        self.lines.append(self.chance.choice(FLOW))
+
+    def say_setting(self):
+        number, values = self.chance.choice((
+            (100, ("40", "157.480", "250", "400.123")),
+            (110, ("1", "90", "500", "6000")),
+            (120, ("1", "10", "77.777", "500")),
+            (11, ("0", "0.002", "0.010", "0.050", "10")),
+            (None, ("1", "4", "2.5", "3.9999", "10", "0", "-1", "0.0005", "12", "", "1X", "7.")),
+        ))
+        value = self.chance.choice(values)
+        if number is None:
+            number = self.chance.choice((*SETTINGS, 100, 101, 102, 7))
+        elif number >= 100:
+            number += self.chance.randrange(3)
+        self.lines.append(f"${number}={value}")
+
+    def say_system(self):
+        self.lines.append(self.chance.choice(SYSTEM_LINES))
+
+    def say_empty(self):
+        self.lines.append(self.chance.choice(("", "", "%", "/", "(no words)", ";") + REALTIME))
+
+    def say_words(self):
+        chance = self.chance
+        words = [chance.choice(PHRASES)] if chance.random() < 0.4 else []
+        if not words or chance.random() < 0.5:
+            words += [self.some_word() for _ in range(chance.choice((1, 1, 2, 2, 3, 3, 4, 5, 9)))]
+        self.lines.append("".join(words))
+
+    def some_word(self):
+        chance, kind = self.chance, self.chance.random()
+        if kind < 0.45:
+            return chance.choice(CODES)
+        if kind < 0.98:
+            letters = AXES + "F" if kind < 0.8 else "FSTNPLPLIJKRA"
+            return chance.choice(letters) + chance.choice(NUMBERS if chance.random() < 0.93 else ODD_NUMBERS)
+        return chance.choice(("%", "X", "1", "N" + "0" * chance.choice((70, 78, 79, 120))))
+
+
+def some_job(chance, _number=0):
+    return JobMaker(chance).make()

@@ -1,0 +1,257 @@
+"""What the lines of a job do: answers and what is told, modes, offsets and settings, marks and moves."""
+from dataclasses import dataclass
+
+from model.lines import AXES, LONGEST, SYSTEMS, WHOLE, Line, Refused, cut, kept_of, read_number
+from model.motion import Limits, Plan, nearest, to_steps
+
+FARTHEST = 10_000 * 10**6  # in nm
+LARGEST_JOB = 16_777_216  # bytes
+OFFSETS = (*SYSTEMS, "G28", "G30", "G92")
+
+# Default, least and greatest value of each setting, in thousandths; 10 and 20 are whole numbers.
+SETTINGS = {
+    10: (1_000, 0, 255_000),
+    11: (10, 0, 10_000),
+    20: (0, 0, 255_000),
+    **{n: (250_000, 1_000, 10_000_000) for n in (100, 101, 102)},
+    **{n: (500_000, 1_000, 1_000_000_000) for n in (110, 111, 112)},
+    **{n: (10_000, 1_000, 1_000_000_000) for n in (120, 121, 122)},
+    **{n: (200_000, 1_000, 10_000_000) for n in (130, 131, 132)},
+}
+WHOLE_SETTINGS = (10, 20)
+
+
+def thousandths(value):
+    return f"{'-' if value < 0 else ''}{abs(value) // 1000}.{abs(value) % 1000:03}"
+
+
+@dataclass
+class Run:
+    """What a run leaves behind: its exit status, and the texts of the console, of the steps and of standard error."""
+
+    status: int
+    console: str
+    steps: str
+    errors: str
+
+
+def run_of(job, most_events):
+    """The run of a job, and its machine. A job that moves more events than these is left: `TooLong`."""
+    machine = Machine(most_events)
+    lines = job[:LARGEST_JOB].decode("latin-1").split("\n")
+    if len(job) > LARGEST_JOB or not lines[-1]:
+        lines.pop()  # nothing behind the last LF is no line, nor is a rest whose job does not end there
+    for line in lines:
+        machine.answer(line)
+    machine.plan.mark("E")
+    status, errors = 0, ""
+    if len(job) > LARGEST_JOB:
+        status, errors = 9, f"fault: the job is larger than {LARGEST_JOB} bytes\n"
+    elif machine.refused:
+        status, errors = 1, f"{machine.refused} lines refused\n"
+    machine.console.append("")
+    machine.plan.steps.append("")
+    return Run(status, "\r\n".join(machine.console), "\n".join(machine.plan.steps), errors), machine
+
+
+class Machine:
+    """Lines are answered in order; `console` has the lines of what is told, and the plan those of the steps."""
+
+    def __init__(self, most_events):
+        self.modes = {"motion": "G0", "plane": "G17", "units": "G21", "distance": "G90", "system": "G54"}
+        self.spindle, self.coolant, self.tool, self.feed, self.speed = "M5", "M9", 0, 0, 0
+        self.offsets = {name: [0] * 3 for name in OFFSETS}
+        self.position, self.position_steps = [0] * 3, [0] * 3
+        self.settings = {n: default for n, (default, _, _) in SETTINGS.items()}
+        self.plan, self.number, self.refused = Plan(most_events), 0, 0
+        self.console = ["", "Grbl 1.1h ['$' for help]"]
+
+    def answer(self, line):
+        self.number += 1
+        kept = kept_of(line) if line else line
+        if not kept:
+            self.console.append("ok")
+            return
+        try:
+            if len(kept) > LONGEST:
+                raise Refused(11)
+            if kept.startswith("$"):
+                self.do_system(kept)
+            else:
+                self.do_words(Line.read(kept))
+            self.console.append("ok")
+        except Refused as refused:
+            self.console.append(f"error:{refused}")
+            self.refused += 1
+
+    # ---- lines that begin with `$`
+
+    def do_system(self, kept):
+        if kept == "$$":
+            self.console += [self.told_setting(n) for n in self.settings]
+        elif kept == "$G":
+            self.console.append(self.told_modes())
+        elif kept == "$#":
+            self.console += [f"[{name}:{self.told_place(place)}]" for name, place in self.offsets.items()]
+            self.console += ["[TLO:0.000]", "[PRB:0.000,0.000,0.000:0]"]
+        elif kept != "$X":
+            if kept[1:2] in ("", *"$#CGHIJNRSX"):
+                raise Refused(3)
+            self.set(kept)
+
+    def set(self, kept):
+        number, at = read_number(kept, 1)
+        if kept[at : at + 1] != "=":
+            raise Refused(3)
+        value, end = read_number(kept, at + 1)
+        if end < len(kept) or number % WHOLE or not 0 <= number <= 255 * WHOLE:
+            raise Refused(3)
+        number //= WHOLE
+        if number == 20 and abs(value) >= WHOLE:
+            raise Refused(3)
+        if value < 0:
+            raise Refused(4)
+        if number not in SETTINGS:
+            raise Refused(3)
+        value = value // WHOLE * 1000 if number in WHOLE_SETTINGS else value // 1000
+        _, least, most = SETTINGS[number]
+        if not least <= value <= most:
+            raise Refused(3)
+        self.settings[number] = value
+
+    def told_setting(self, n):
+        value = self.settings[n]
+        return f"${n}={value // 1000 if n in WHOLE_SETTINGS else thousandths(value)}"
+
+    def told_modes(self):
+        modes = [self.modes[group] for group in ("motion", "system", "plane", "units", "distance")]
+        feed = (self.feed + 500_000) // 10**6
+        return f"[GC:{' '.join(modes)} G94 {self.spindle} {self.coolant} T{self.tool} F{feed} S{self.speed}]"
+
+    def told_place(self, place):
+        return ",".join(thousandths(nearest(length, 1000)) for length in place)
+
+    # ---- lines of G-code
+
+    def do_words(self, line):
+        modes = {group: line.of(group, mode) for group, mode in self.modes.items()}
+        lengths = dict(line.values)
+        if modes["units"] == "G20":
+            lengths = {letter: cut(value * 254, 10) for letter, value in lengths.items()}
+        named = {AXES.index(letter): length for letter, length in lengths.items() if letter in AXES}
+        feed = lengths.get("F", self.feed)
+        self.test(line, modes, named, feed)
+        target = self.target_of(line, modes, named)
+        offsets = self.new_offsets(line, modes, named)
+        ways = self.ways_of(line, modes, named, target, feed)
+        self.test_places([place for place, _ in ways])
+        self.test_places([place for name, place in offsets.items() if name not in ("G28", "G30")])
+        self.feed = feed
+        self.tool = line.values.get("T", self.tool * WHOLE) // WHOLE
+        self.turn(line)
+        self.modes = modes
+        self.offsets.update(offsets)
+        for place, rate in ways:
+            self.go(place, rate)
+        if line.has("M2", "M30"):
+            self.end_program()
+
+    def test(self, line, modes, named, feed):
+        values, taker, off = line.values, line.taker, modes["motion"] == "G80"
+        g10, letter_l = taker == "G10", line.values.get("L")
+        moves = taker is None and (named or line.has("G0", "G1"))
+        tests = (
+            (27, values.get("N", 0) // WHOLE > 10_000_000),
+            (28, line.has("G4") and "P" not in values),
+            (26, g10 and not named),
+            (28, g10 and "P" not in values and "L" not in values),
+            (29, g10 and values.get("P", 0) // WHOLE > 6),
+            (20, g10 and letter_l not in (2 * WHOLE, 20 * WHOLE)),
+            (20, g10 and letter_l == 2 * WHOLE and "R" in values),
+            (26, taker == "G92" and not named),
+            (30, line.has("G53") and off),
+            (31, off and named),
+            (22, moves and modes["motion"] == "G1" and feed == 0),
+            (36, "P" in values and not line.has("G4") and not g10),
+            (36, "L" in values and not g10),
+            (36, set("IJKR") & set(values)),
+        )
+        for error, holds in tests:
+            if holds:
+                raise Refused(error)
+
+    def test_places(self, places):
+        if any(abs(length) > FARTHEST for place in places for length in place):
+            raise Refused(33)
+
+    def target_of(self, line, modes, named):
+        target = list(self.position)
+        for axis, value in named.items():
+            if line.has("G53"):
+                target[axis] = value
+            elif modes["distance"] == "G91":
+                target[axis] += value
+            else:
+                target[axis] = value + self.offsets[modes["system"]][axis] + self.offsets["G92"][axis]
+        return target
+
+    def new_offsets(self, line, modes, named):
+        """The offsets and stored points that a line sets."""
+        if line.has("G10"):
+            number = line.values.get("P", 0) // WHOLE
+            name = SYSTEMS[number - 1] if number else modes["system"]
+            from_position = line.values["L"] == 20 * WHOLE
+            base = [a - b for a, b in zip(self.position, self.offsets["G92"])]
+        elif line.has("G92"):
+            name, from_position = "G92", True
+            base = [a - b for a, b in zip(self.position, self.offsets[modes["system"]])]
+        elif line.has("G92.1"):
+            return {"G92": [0] * 3}
+        else:
+            return {code: list(self.position) for code in ("G28", "G30") if line.has(f"{code}.1")}
+        place = list(self.offsets[name])
+        for axis, value in named.items():
+            place[axis] = base[axis] - value if from_position else value
+        return {name: place}
+
+    def ways_of(self, line, modes, named, target, feed):
+        """The targets of a line's moves, each with its feed, or None for a rapid."""
+        if line.has("G28", "G30"):
+            stored = self.offsets[line.taker]
+            if not named:
+                return [(list(stored), None)]
+            return [(target, None), ([stored[axis] if axis in named else target[axis] for axis in range(3)], None)]
+        if line.has("G10", "G92") or not named:
+            return []
+        return [(target, None if modes["motion"] == "G0" else feed)]
+
+    def turn(self, line):
+        """Spindle, coolant and dwell."""
+        speed = line.values.get("S", self.speed * WHOLE) // WHOLE
+        spindle, coolant = line.of("spindle", self.spindle), line.of("coolant", self.coolant)
+        if spindle != self.spindle or (spindle != "M5" and speed != self.speed):
+            self.plan.mark(f"{spindle} {0 if spindle == 'M5' else speed}")
+        if coolant != self.coolant:
+            self.plan.mark(f"{coolant} 0")
+        if line.has("G4"):
+            self.plan.mark(f"D {line.values['P'] // 1000}")
+        self.spindle, self.coolant, self.speed = spindle, coolant, speed
+
+    def go(self, place, feed):
+        limits = Limits(*([self.settings[first + axis] for axis in range(3)] for first in (100, 110, 120)),
+                        self.settings[11])
+        goal = [to_steps(length, per_mm) for length, per_mm in zip(place, limits.per_mm)]
+        ways = [to - fro for fro, to in zip(self.position_steps, goal)]
+        self.position, self.position_steps = place, goal
+        self.plan.add(self.number, ways, feed, limits)
+
+    def end_program(self):
+        """The machine comes to rest, what is on is turned off, and the end is told."""
+        self.plan.run_dry()
+        if self.spindle != "M5":
+            self.plan.mark("M5 0")
+        if self.coolant != "M9":
+            self.plan.mark("M9 0")
+        self.console.append("[MSG:Pgm End]")
+        self.spindle, self.coolant = "M5", "M9"
+        self.modes.update({"motion": "G1", "plane": "G17", "distance": "G90", "system": "G54"})
