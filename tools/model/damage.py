@@ -73,7 +73,7 @@ DAMAGES = (put_bytes, put_bytes, put_flood, put_flood, turn_byte, turn_byte, los
 def flood(chance, number):
     """About 16 MB of one byte: just a job, or a byte too many, alone or between lines."""
     byte = FLOODS[number % len(FLOODS)]
-    size = LARGEST_JOB + chance.choice((-8, 0, 0, 1, 1, 5_000))
+    size = LARGEST_JOB + chance.choice((-8, 0, 0, 1, 1, 5_000)) if byte != ord("\n") else 500_000  # each is a line
     before, behind = chance.choice(((b"", b""), (b"G0X0.004\n", b""), (b"(", b"\nG0X0.004\n"), (b"M3S5\n", b"\n")))
     return before + bytes([byte]) * (size - len(before) - len(behind)) + behind
 

@@ -2,10 +2,11 @@
 from dataclasses import dataclass
 
 from model.lines import AXES, LONGEST, SYSTEMS, WHOLE, Line, Refused, cut, kept_of, read_number
-from model.motion import Limits, Plan, nearest, to_steps
+from model.motion import Limits, Script, nearest, to_steps
 
 FARTHEST = 10_000 * 10**6  # in nm
 LARGEST_JOB = 16_777_216  # bytes
+LONGEST_SENT = 127  # so many kept characters of a line at most
 OFFSETS = (*SYSTEMS, "G28", "G30", "G92")
 
 # Default, least and greatest value of each setting, in thousandths; 10 and 20 are whole numbers.
@@ -35,36 +36,39 @@ class Run:
     errors: str
 
 
-def run_of(job, most_events):
-    """The run of a job, and its machine. A job that moves more events than these is left: `TooLong`."""
-    machine = Machine(most_events)
+def run_of(job, most_events, told):
+    """The run of a job, and its machine. Where a line may be refused since the machine still moves, it is so if the console
+    that was told says so. A job that moves more events than these is left: `TooLong`. The steps are the machine's script."""
+    machine = Machine(most_events, told.split("\r\n"))
     lines = job[:LARGEST_JOB].decode("latin-1").split("\n")
-    if len(job) > LARGEST_JOB or not lines[-1]:
-        lines.pop()  # nothing behind the last LF is no line, nor is a rest whose job does not end there
-    for line in lines:
+    rest = lines.pop() if len(job) > LARGEST_JOB or not lines[-1] else None
+    too_long = next((at for at, line in enumerate(lines + [rest or ""], 1) if len(kept_of(line)) > LONGEST_SENT), None)
+    for line in lines[: too_long and too_long - 1]:
         machine.answer(line)
-    machine.plan.mark("E")
+    machine.script.mark("E")
     status, errors = 0, ""
-    if len(job) > LARGEST_JOB:
+    if too_long:
+        status, errors = 6, f"fault: line {too_long} is longer than {LONGEST_SENT} bytes\n"
+    elif len(job) > LARGEST_JOB:
         status, errors = 9, f"fault: the job is larger than {LARGEST_JOB} bytes\n"
     elif machine.refused:
         status, errors = 1, f"{machine.refused} lines refused\n"
     machine.console.append("")
-    machine.plan.steps.append("")
-    return Run(status, "\r\n".join(machine.console), "\n".join(machine.plan.steps), errors), machine
+    return Run(status, "\r\n".join(machine.console), "", errors), machine
 
 
 class Machine:
-    """Lines are answered in order; `console` has the lines of what is told, and the plan those of the steps."""
+    """Lines are answered in order; `console` has the lines of what is told, and the script what is asked of the motion."""
 
-    def __init__(self, most_events):
+    def __init__(self, most_events, told):
         self.modes = {"motion": "G0", "plane": "G17", "units": "G21", "distance": "G90", "system": "G54"}
         self.spindle, self.coolant, self.tool, self.feed, self.speed = "M5", "M9", 0, 0, 0
         self.offsets = {name: [0] * 3 for name in OFFSETS}
         self.position, self.position_steps = [0] * 3, [0] * 3
         self.settings = {n: default for n, (default, _, _) in SETTINGS.items()}
-        self.plan, self.number, self.refused = Plan(most_events), 0, 0
-        self.console = ["", "Grbl 1.1h ['$' for help]"]
+        self.script, self.number, self.refused = Script(most_events), 0, 0
+        self.console, self.told = ["", "Grbl 1.1h ['$' for help]"], told
+        self.moved = False  # a line has moved since the last accepted one whose last item is no move
 
     def answer(self, line):
         self.number += 1
@@ -86,7 +90,15 @@ class Machine:
 
     # ---- lines that begin with `$`
 
+    def needs_rest(self):
+        """A line is served at rest alone: it may be refused while the machine moves, and the console tells whether."""
+        at = len(self.console)
+        if self.moved and self.told[at : at + 1] == ["error:8"]:
+            raise Refused(8)
+
     def do_system(self, kept):
+        if kept in ("$$", "$#") or kept[1:2] not in ("", *"$#CGHIJNRSX"):
+            self.needs_rest()
         if kept == "$$":
             self.console += [self.told_setting(n) for n in self.settings]
         elif kept == "$G":
@@ -148,13 +160,16 @@ class Machine:
         self.test_places([place for name, place in offsets.items() if name not in ("G28", "G30")])
         self.feed = feed
         self.tool = line.values.get("T", self.tool * WHOLE) // WHOLE
-        self.turn(line)
+        marks = self.turn(line)
         self.modes = modes
         self.offsets.update(offsets)
-        for place, rate in ways:
-            self.go(place, rate)
+        moves = [self.go(place, rate) for place, rate in ways]
+        if line.has("M0"):
+            self.script.rest()
         if line.has("M2", "M30"):
             self.end_program()
+        settles = line.has("M0", "M2", "M30") or (marks and not ways)
+        self.moved = not settles and (self.moved or any(moves))
 
     def test(self, line, modes, named, feed):
         values, taker, off = line.values, line.taker, modes["motion"] == "G80"
@@ -226,32 +241,37 @@ class Machine:
         return [(target, None if modes["motion"] == "G0" else feed)]
 
     def turn(self, line):
-        """Spindle, coolant and dwell."""
+        """Spindle, coolant and dwell. Answers whether there is any."""
         speed = line.values.get("S", self.speed * WHOLE) // WHOLE
         spindle, coolant = line.of("spindle", self.spindle), line.of("coolant", self.coolant)
+        marks = []
         if spindle != self.spindle or (spindle != "M5" and speed != self.speed):
-            self.plan.mark(f"{spindle} {0 if spindle == 'M5' else speed}")
+            marks.append(f"{spindle} {0 if spindle == 'M5' else speed}")
         if coolant != self.coolant:
-            self.plan.mark(f"{coolant} 0")
+            marks.append(f"{coolant} 0")
         if line.has("G4"):
-            self.plan.mark(f"D {line.values['P'] // 1000}")
+            marks.append(f"D {line.values['P'] // 1000}")
+        for mark in marks:
+            self.script.mark(mark)
         self.spindle, self.coolant, self.speed = spindle, coolant, speed
+        return bool(marks)
 
     def go(self, place, feed):
+        """Moves to a place. Answers whether that has steps."""
         limits = Limits(*([self.settings[first + axis] for axis in range(3)] for first in (100, 110, 120)),
                         self.settings[11])
         goal = [to_steps(length, per_mm) for length, per_mm in zip(place, limits.per_mm)]
         ways = [to - fro for fro, to in zip(self.position_steps, goal)]
         self.position, self.position_steps = place, goal
-        self.plan.add(self.number, ways, feed, limits)
+        return self.script.add(self.number, ways, feed, limits)
 
     def end_program(self):
         """The machine comes to rest, what is on is turned off, and the end is told."""
-        self.plan.run_dry()
+        self.script.rest()
         if self.spindle != "M5":
-            self.plan.mark("M5 0")
+            self.script.mark("M5 0")
         if self.coolant != "M9":
-            self.plan.mark("M9 0")
+            self.script.mark("M9 0")
         self.console.append("[MSG:Pgm End]")
         self.spindle, self.coolant = "M5", "M9"
         self.modes.update({"motion": "G1", "plane": "G17", "distance": "G90", "system": "G54"})

@@ -1,10 +1,10 @@
-"""How moves are planned and run: the heads and the events of docs/MOTION.md."""
+"""How moves are planned and run: the heads and the events of docs/MOTION.md, for any number of moves that was known."""
 from dataclasses import dataclass
 from math import isqrt
 
 from model.lines import AXES
 
-MOST_BLOCKS = 15
+MOST_BLOCKS = 15  # moves in the plan
 SLOWEST = 16  # µm/s
 
 
@@ -90,62 +90,136 @@ def soft_cap(before, behind):
     return min(hard_cap(before, behind), before.nominal**2, behind.nominal**2)
 
 
-class Plan:
-    """Moves that wait to be run, and the lines of the step text."""
+class Script:
+    """What the lines ask of the machine, in order: stretches of moves, each ended by a mark, which has a text, or by a rest,
+    which has none."""
 
     def __init__(self, most_events):
-        self.blocks, self.caps, self.speed, self.steps = [], [], 0, []
-        self.room, self.heads = most_events, 0
+        self.stretches, self.moves, self.room = [], [], most_events
 
-    def exit_speed(self):
-        """The squared speed at which the tail may end: e(1)."""
-        tail = self.blocks[0]
-        first = way = tail.change * tail.left
-        least = self.speed + first
-        for cap, block in zip(self.caps, self.blocks[1:]):
-            least = min(least, max(cap, self.speed - way) + way - first)
-            way += block.change * block.left
-        return min(least, way - first)
-
-    def take_segment(self):
-        tail, w = self.blocks[0], self.speed
-        count = max(1, min(tail.left, isqrt(w + tail.change) * 10 * tail.events // tail.length))
-        change = tail.change * count
-        behind = min(
-            self.exit_speed() + tail.change * (tail.left - count),
-            max(min(w + change, tail.nominal**2), w - change),
-        )
-        top = max(tail.nominal, isqrt(w))
-        pace = max(1, isqrt(min(top**2, (w + behind + change) // 2)))
-        cycles = -(-16_000 * tail.length // (tail.events * pace))
-        self.steps.append(f"s {tail.line} {count} {w} {cycles}")
-        self.steps += event_lines(tail.ways, tail.prepared, count)
-        self.heads += 1
-        tail.prepared += count
-        self.speed = behind
-        if not tail.left:
-            self.blocks.pop(0)
-            self.caps = self.caps[1:]
-
-    def run_dry(self):
-        while self.blocks:
-            self.take_segment()
+    def rest(self):
+        """The machine comes to rest."""
+        if self.moves:
+            self.stretches.append((self.moves, None))
+            self.moves = []
 
     def mark(self, text):
         """A mark comes where the machine stands."""
-        self.run_dry()
-        self.steps.append(text)
+        self.stretches.append((self.moves, text))
+        self.moves = []
 
     def add(self, line, ways, feed, limits):
-        """Adds a move, if it has steps; where the plan is full its tail is run first."""
+        """Adds a move, if it has steps. Answers whether it has."""
         if not any(ways):
-            return
+            return False
         move = Move(line, ways, feed, limits)
         self.room -= move.events
         if self.room < 0:
             raise TooLong
-        while len(self.blocks) == MOST_BLOCKS:
-            self.take_segment()
-        if self.blocks:
-            self.caps.append(soft_cap(self.blocks[-1], move))
-        self.blocks.append(move)
+        self.moves.append(move)
+        return True
+
+
+class Wrong(Exception):
+    """A step text is none that a script allows, from a line of it on."""
+
+
+class Reading:
+    """A step text, read line by line."""
+
+    def __init__(self, text):
+        self.lines, self.at = text.split("\n"), 0
+
+    def next(self):
+        if self.at == len(self.lines):
+            raise Wrong("the steps end too early")
+        self.at += 1
+        return self.lines[self.at - 1]
+
+    def expect(self, right):
+        told = self.next()
+        if told != right:
+            raise Wrong(f"line {self.at} of the steps is {told!r}, and by the model {right!r}")
+
+    def head(self):
+        words = self.next().split(" ")
+        if words[0] != "s" or len(words) != 5 or not all(word.isdecimal() for word in words[1:]):
+            raise Wrong(f"line {self.at} of the steps is no head")
+        return [int(word) for word in words[1:]]
+
+    def speed_ahead(self, lines):
+        """The squared speed of the head that stands so many lines ahead."""
+        at = self.at + lines
+        words = self.lines[at].split(" ") if at < len(self.lines) else []
+        return int(words[3]) if len(words) == 5 and words[0] == "s" and words[3].isdecimal() else None
+
+
+class Stretch:
+    """Moves that are run from rest to rest. How many of them were known at a segment is not told by the steps: at most
+    fifteen from the one that is run on, and none that was known is forgotten."""
+
+    def __init__(self, moves):
+        self.moves = moves
+        self.caps = [soft_cap(a, b) for a, b in zip(moves, moves[1:])]
+        self.tail, self.known, self.speed = 0, 0, 0
+
+    def exits(self):
+        """The squared speed at which the tail may end, for each number of moves that may be known: the greatest that the
+        last of these still allows to stop at its end."""
+        tail, last = self.moves[self.tail], min(self.tail + MOST_BLOCKS, len(self.moves)) - 1
+        first = way = tail.change * tail.left
+        least = self.speed + first
+        for at in range(self.tail, last + 1):
+            if at > self.tail:
+                cap, block = self.caps[at - 1], self.moves[at]
+                least = min(least, max(cap, self.speed - way) + way - first)
+                way += block.change * block.left
+            if at >= self.known:
+                yield at, min(least, way - first)
+
+    def segment(self, text):
+        """Reads a segment, and answers what is wrong with it or None."""
+        move, w, at = self.moves[self.tail], self.speed, text.at + 1
+        line, count, told, cycles = text.head()
+        right = max(1, min(move.left, isqrt(w + move.change) * 10 * move.events // move.length))
+        if (line, count, told) != (move.line, right, w):
+            raise Wrong(f"line {at} of the steps is the head of line {line} with {count} events at {told}, and by the model of "
+                        f"line {move.line} with {right} at {w}")
+        over = move.left == count and self.tail + 1 == len(self.moves)
+        behind = 0 if over else text.speed_ahead(count)
+        change = move.change * count
+        most = max(min(w + change, move.nominal**2), w - change)
+        for known, end in self.exits():
+            if behind == min(end + move.change * (move.left - count), most):
+                self.known = known
+                break
+        else:
+            raise Wrong(f"the segment at line {at} of the steps ends at {behind}, whatever moves were known")
+        top = max(move.nominal, isqrt(w))
+        pace = max(1, isqrt(min(top**2, (w + behind + change) // 2)))
+        if cycles != -(-16_000 * move.length // (move.events * pace)):
+            raise Wrong(f"the head at line {at} of the steps has {cycles} cycles for each event")
+        for event in event_lines(move.ways, move.prepared, count):
+            text.expect(event)
+        move.prepared += count
+        self.speed = behind
+        if not move.left:
+            self.tail += 1
+            self.known = max(self.known, self.tail)
+
+
+def heads_of(script, steps):
+    """Reads a step text by a script, and answers how many heads it has: each segment as the planner gives it for the moves
+    that may have been known, each event and mark in its order, and nothing more. Else it is `Wrong`."""
+    text, heads = Reading(steps), 0
+    for moves, mark in script.stretches:
+        stretch = Stretch(moves)
+        while stretch.tail < len(moves):
+            stretch.segment(text)
+            heads += 1
+        if mark is not None:
+            text.expect(mark)
+    text.expect("")
+    if text.at != len(text.lines):
+        raise Wrong(f"line {text.at} of the steps stands behind their end")
+    return heads

@@ -13,7 +13,7 @@ from dataclasses import dataclass
 from pathlib import Path
 
 from model.machine import Run, run_of
-from model.motion import TooLong
+from model.motion import TooLong, Wrong, heads_of
 
 PROGRAM = Path(__file__).resolve().parent.parent.parent / "crates/grbl/out/grbl"
 SECONDS = 10  # of processor time
@@ -28,12 +28,16 @@ def bound():
     resource.setrlimit(resource.RLIMIT_AS, (KILOBYTES * 1024,) * 2)
 
 
-def run_program(job, folder):
-    """What the program's run of a job leaves behind, or in words why there is nothing."""
-    steps = folder / "steps.out"
+def run_program(words, job, folder):
+    """What the program's run of a job leaves behind, or in words why there is nothing. The job comes from a file, so that
+    each read is as long as it may be."""
+    steps, source = folder / "steps.out", folder / "job"
+    steps.unlink(missing_ok=True)
+    source.write_bytes(job)
     try:
-        ran = subprocess.run([PROGRAM, "stream"], input=job, cwd=folder, capture_output=True, preexec_fn=bound,
-                             timeout=20 * SECONDS)
+        with source.open("rb") as stdin:
+            ran = subprocess.run([PROGRAM, *words], stdin=stdin, cwd=folder, capture_output=True, preexec_fn=bound,
+                                 timeout=20 * SECONDS)
     except subprocess.TimeoutExpired:
         return f"the program has not ended after {20 * SECONDS} seconds"
     if ran.returncode < 0:
@@ -59,18 +63,17 @@ def shown(line):
     return repr(line) if len(line) < 120 else f"{line[:100]!r} with {len(line) - 100} characters behind it"
 
 
-def what_is_wrong(told, right):
-    """The first difference between two runs, or None."""
-    if isinstance(told, str):
-        return told
-    if told.status != right.status:
-        status = f"; it ended with {told.status}, and by the model with {right.status}"
-    else:
-        status = ""
+def what_is_wrong(told, right, script):
+    """What a run tells that the model does not allow, or None, and how many heads it has."""
     wrong = (first_difference("console", told.console, right.console, "\r\n")
-             or first_difference("steps", told.steps, right.steps)
              or first_difference("standard error", told.errors, right.errors))
-    return wrong + status if wrong else status.removeprefix("; ") or None
+    heads = 0
+    try:
+        heads = heads_of(script, told.steps)
+    except Wrong as fault:
+        wrong = wrong or str(fault)
+    status = f"; it ended with {told.status}, and by the model with {right.status}" if told.status != right.status else ""
+    return (wrong + status if wrong else status.removeprefix("; ") or None), heads
 
 
 # ---- jobs
@@ -78,7 +81,8 @@ def what_is_wrong(told, right):
 
 @dataclass
 class Tally:
-    """What was tried: jobs, their lines and heads; and the jobs that are left out, since the model would take too long."""
+    """What was tried: jobs, and the lines and heads of their runs; and the jobs that are left out, since the model would take
+    too long."""
 
     jobs: int = 0
     lines: int = 0
@@ -91,7 +95,7 @@ class Tally:
 
     def __str__(self):
         rest = f"; {self.left_out} are left out, since they have too many steps" if self.left_out else ""
-        return f"{self.jobs} jobs of {self.lines} lines with {self.heads} heads{rest}"
+        return f"{self.jobs} jobs, each as a stream and in lockstep, in all {self.lines} lines with {self.heads} heads{rest}"
 
 
 @dataclass
@@ -114,16 +118,24 @@ class Trial:
     most_events: int
 
     def try_job(self, number, folder, tally):
-        """Tries the job of a number, and answers a failure or None."""
-        job = self.make(random.Random(self.seed * 1_000_003 + number), number)
-        try:
-            right, machine = run_of(job, self.most_events)
-        except TooLong:
-            tally.left_out += 1
-            return None
-        wrong = what_is_wrong(run_program(job, folder), right)
-        tally.add(Tally(1, machine.number, machine.plan.heads))
-        return Failure(number, job, wrong) if wrong else None
+        """Tries the job of a number, as a stream and in lockstep, and answers a failure or None."""
+        chance = random.Random(self.seed * 1_000_003 + number)
+        job = self.make(chance, number)
+        tally.jobs += 1
+        for words in (["stream"], ["stream", "--lockstep", str(chance.choice((number, chance.getrandbits(64))))]):
+            told = run_program(words, job, folder)
+            if isinstance(told, str):
+                return Failure(number, job, f"{' '.join(words)}: {told}")
+            try:
+                right, machine = run_of(job, self.most_events, told.console)
+            except TooLong:
+                tally.left_out += 1
+                return None
+            wrong, heads = what_is_wrong(told, right, machine.script)
+            tally.add(Tally(0, machine.number, heads))
+            if wrong:
+                return Failure(number, job, f"{' '.join(words)}: {wrong}")
+        return None
 
     def work(self, first, every):
         """Tries each of so many jobs, until one is a failure or the time is up."""

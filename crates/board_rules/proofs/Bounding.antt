@@ -46,7 +46,7 @@ use Rattle.run_rules.specs.Work as work
 use Rattle.run_rules.specs.Work.Task.{ask, tell, finish}
 use Rattle.run_rules.specs.Asks.{spindle_after, flood_after, item_work, work_of, planned, move_asked}
 use Rattle.run_rules.specs.Outcomes.{Before, Becomes, ByKept, ByDollar, ByCommand, BySetting, ByWords, ByVerdict, either, most_kept, refused, told, executed, fault_number}
-use Rattle.board_rules.proofs.Answering.{asking_tells, telling_tells}
+use Rattle.run_rules.proofs.Answering.{asking_tells, telling_tells}
 
 -- so many ticks has a move at most
 abbrev pub most_events : ℕ

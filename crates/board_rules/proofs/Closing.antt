@@ -12,15 +12,16 @@ use Rattle.planner_runs.specs.declared.Action.{Action}
 use Rattle.planner_runs.specs.declared.Action.TheVariants.{Add, Take, Override, Mark, Rest, Clear, Reset}
 use Rattle.planner_runs.specs.Runs.{IsAtRest}
 use Rattle.run_rules.specs.declared.State.{State}
-use Rattle.run_rules.specs.Work.{Task}
+use Rattle.run_rules.specs.Work.{Task, closing_work}
 use Rattle.run_rules.specs.Work.Task.{ask, tell, finish}
 use Rattle.board_rules.specs.Ports.{MayBeDone}
 use Rattle.board_rules.specs.Ports.PortStep.{took, found_empty, found_closed, found_free, answered, no_reply_room, took_exec, took_ovr, published, no_piece_room, loaded}
-use Rattle.board_rules.specs.Steps.{Journal, port_log, known_of, given_of, planned_of, hand_of, plan_of, left_of, behind, whole_of, has_closed, closed_tells, closing_work}
+use Rattle.board_rules.specs.Steps.{Journal, port_log, known_of, given_of, planned_of, hand_of, plan_of, left_of, behind, whole_of, has_closed, closed_tells}
 use Rattle.board_rules.specs.Steps.Step.{at_port, began, did, made_end, became, closing, turned}
 use Rattle.board_rules.specs.Conduct.{Conducted, Gives, MayDo, MayEnd, MayTell, IsFinished}
 use Rattle.board_rules.specs.Whole.{IsSpent}
-use Rattle.board_rules.proofs.Given.{ticks_on, all_known}
+use Rattle.step_line.proofs.Finished.{together_both}
+use Rattle.board_rules.proofs.Given.{all_known}
 use Rattle.board_rules.proofs.Tasks.{none_next, none_taken, head_is, rest_is, none_first}
 
 -- How far the closing of a run is: by what is left to do, what is told by closing it, whether a line was taken whole, the
@@ -95,7 +96,7 @@ on_did h Reset ps may gives at = absurd may
 
 -- the end has no ticks
 pub no_more_ticks : (ps : List Piece) → ticks_together (ps ++ pieces.End ∷ []) ≡ ticks_together ps
-no_more_ticks ps = ticks_on ps (pieces.End ∷ []) ∙ plus_none (ticks_together ps)
+no_more_ticks ps = together_both ps (pieces.End ∷ []) ∙ plus_none (ticks_together ps)
   where
     plus_none : (n : ℕ) → n + 0 ≡ n
     plus_none n = omega arith
@@ -134,6 +135,26 @@ phase_is first (made_end ∷ h) c = on_end h c.0 (phase_is first h c.1)
 phase_is first (became call m ∷ h) c = phase_is first h c.1
 phase_is first (closing ∷ h) c = to_finish (ap (λ (rs : List Reply). rs ++ Bye ∷ []) c.0.going) refl c.0.begun (unended h c.0.going (phase_is first h c.1))
 phase_is first (turned t ∷ h) c = phase_is first h c.1
+
+-- Bye is told once
+bye_at : (h : Journal) → At h → (closed_tells h ≡ []) ⊎ (closed_tells h ≡ Bye ∷ [])
+bye_at h (going e is) = inl e
+bye_at h (to_finish e l w is) = inr e
+bye_at h (to_tell e l w p is k) = inr e
+bye_at h (over e l w p d is k) = inr e
+
+pub one_bye : (first : State) (h : Journal) → Conducted first h → (closed_tells h ≡ []) ⊎ (closed_tells h ≡ Bye ∷ [])
+one_bye first h c = bye_at h (phase_is first h c)
+
+-- and the end given once, behind all that the plan gave
+end_at : (h : Journal) → At h → (given_of h ≡ planned_of h) ⊎ (given_of h ≡ planned_of h ++ pieces.End ∷ [])
+end_at h (going e is) = inl is
+end_at h (to_finish e l w is) = inl is
+end_at h (to_tell e l w p is k) = inr is
+end_at h (over e l w p d is k) = inr is
+
+pub one_end : (first : State) (h : Journal) → Conducted first h → (given_of h ≡ planned_of h) ⊎ (given_of h ≡ planned_of h ++ pieces.End ∷ [])
+one_end first h c = end_at h (phase_is first h c)
 
 -- the link was found closed before the run was
 pub closed_first : (first : State) (h : Journal) → Conducted first h → (closed_tells h ≡ []) ⊎ (has_closed h ≡ true)

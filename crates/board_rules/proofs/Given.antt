@@ -1,24 +1,17 @@
 -- The ticks of the pieces that are given: no more of them are published, or found done.
 use Rattle.std.proofs.Common.{◌≡◌, ℕ, ◌+◌, ◌≤◌, List, ◌++◌, length, ap, ◌∙◌, arith}
-use Rattle.std.specs.List.{flat_map}
-use Rattle.std.proofs.lemmas.Grind.{flat_map-append}
-use Rattle.std.proofs.lemmas.List.{length-append}
 use Rattle.step_line.specs.declared.Piece.{Piece}
-use Rattle.step_line.specs.declared.Record.{Record}
-use Rattle.step_line.specs.Pieces.{ticks_of}
 use Rattle.step_line.specs.Finishing.{ticks_together}
+use Rattle.step_line.proofs.Finished.{together_both}
 use Rattle.run_rules.specs.declared.State.{State}
 use Rattle.board_rules.specs.Ports.{MayBeDone}
 use Rattle.board_rules.specs.Steps.{Journal, port_log, hand_of, known_of, published_of}
 use Rattle.board_rules.specs.Conduct.{Conducted, ticks_given, ticks_published}
 use Rattle.board_rules.proofs.Keeping.{hand_is}
 
-pub ticks_on : (ps qs : List Piece) → ticks_together (ps ++ qs) ≡ ticks_together ps + ticks_together qs
-ticks_on ps qs = ap (λ (rs : List Record). length rs) (flat_map-append ticks_of ps qs) ∙ length-append (flat_map ticks_of ps) (flat_map ticks_of qs)
-
 pub published_within : (first : State) (h : Journal) → Conducted first h → ticks_published h ≤ ticks_given h
 published_within first h c =
-    let e : ticks_given h ≡ ticks_published h + ticks_together (hand_of h) = ap ticks_together (hand_is first h c) ∙ ticks_on (published_of h) (hand_of h) in
+    let e : ticks_given h ≡ ticks_published h + ticks_together (hand_of h) = ap ticks_together (hand_is first h c) ∙ together_both (published_of h) (hand_of h) in
     omega (arith, e)
 
 -- nothing more is found done where all that was given is

@@ -13,4 +13,5 @@ pub mod Example
 pub mod Bounding
 pub mod Limits
 pub mod Turning
+pub mod Waiting
 pub mod MovingExample

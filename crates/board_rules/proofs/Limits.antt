@@ -36,8 +36,9 @@ use Rattle.board_rules.specs.Steps.Step.{at_port, began, did, made_end, became, 
 use Rattle.board_rules.specs.Conduct.{Conducted, IsInHand, ticks_given, ticks_published}
 use Rattle.board_rules.proofs.Keeping.{run_is, undisturbed_is, asked_is, told_is, hand_is}
 use Rattle.board_rules.proofs.Lines.{bytes_are, lines_follow}
-use Rattle.board_rules.proofs.Given.{ticks_on}
-use Rattle.board_rules.proofs.Answering.{each_once, lfs_of_lines}
+use Rattle.step_line.proofs.Finished.{together_both}
+use Rattle.run_rules.proofs.Going.{as_many}
+use Rattle.board_rules.proofs.Answering.{lfs_of_lines}
 use Rattle.board_rules.proofs.Closing.{At, going, to_finish, to_tell, over, phase_is, no_more_ticks}
 use Rattle.board_rules.proofs.Bounding.{most_events, weight, weight_on, line_ticks, line_replies, modest}
 
@@ -68,11 +69,11 @@ few_taken first (turned t ∷ h) c = few_taken first h c.1
 
 pub few_lines : (first : State) (h : Journal) → Conducted first h → length (outcomes_of h) ≤ 2 ^ 31
 few_lines first h c =
-    let each = each_once true (start first) (before_of first h) (lines_of h) (outcomes_of h) (lines_follow first h c) in
+    let many = as_many true (start first) (before_of first h) (lines_of h) (map a_line (outcomes_of h)) (lines_follow first h c) in
+    let same = length-map (outcomes_of h) a_line in
     let lfs = lfs_of_lines (taken_of h) (lines_of h) (open_of h) (whole_of h) (bytes_are first h c) in
     let few = few_taken first h c in
     let below = count_by-le-length (λ (b : ℕ). nat_eq b 10) (taken_of h) in
-    let same = each.1 in
     omega arith
 
 -- what all lines ask for, and tell
@@ -164,9 +165,9 @@ few_given first h c =
 pub few_next : (first : State) (h : Journal) (p : Piece) → Conducted first h → IsInHand p h → ticks_published h + tick_count p < 2 ^ 62
 few_next first h p c next =
     let few = few_given first h c in
-    let e = ap ticks_together (hand_is first h c) ∙ ticks_on (published_of h) (hand_of h) in
+    let e = ap ticks_together (hand_is first h c) ∙ together_both (published_of h) (hand_of h) in
     let d = ap ticks_together next in
-    let f = ticks_on (p ∷ []) (drop 1 (hand_of h)) in
+    let f = together_both (p ∷ []) (drop 1 (hand_of h)) in
     let g = length-append (ticks_of p) [] in
     omega arith
 

@@ -1,6 +1,5 @@
 -- Where no line has moved since the last one that settles, the machine stands, or is waited for.
 use Rattle.std.proofs.Common.{◌≡◌, ℕ, ◌⊎◌, inl, inr, List, [], ◌∷◌, ◌++◌, length, drop, true, false, Bool, cond, not, ◌&&◌, ◌||◌, nat_eq, nat_lt, sym, refl, ap, ◌∙◌, append-nil, subst}
-use Rattle.std.specs.List.{AllByRecursion}
 use Rattle.status_report.specs.declared.Reply.{Reply}
 use Rattle.step_line.specs.declared.Piece.{Piece}
 use Rattle.step_line.specs.Finishing.{ticks_together}
@@ -17,11 +16,12 @@ use Rattle.system_lines.specs.Commands.{kind_of, needs_rest}
 use Rattle.board_rules.specs.Turns.{is_run, is_served_at_rest}
 use Rattle.board_rules.specs.Ports.{MayBeDone}
 use Rattle.board_rules.specs.Ports.PortStep.{took, found_empty, found_closed, found_free, answered, no_reply_room, took_exec, took_ovr, published, no_piece_room, loaded}
-use Rattle.board_rules.specs.Steps.{Step, Journal, port_log, outcomes_of, given_of, hand_of, known_of, plan_of, left_of, left_by, behind, before_of, closed_tells, open_of, motion_of}
+use Rattle.board_rules.specs.Steps.{Step, Journal, port_log, given_of, hand_of, known_of, plan_of, left_of, left_by, behind, before_of, closed_tells, open_of, motion_of}
 use Rattle.board_rules.specs.Steps.Step.{at_port, began, did, made_end, became, closing, turned}
 use Rattle.board_rules.specs.Conduct.{Conducted, Gives, MayDo, MayRest, IsDrained, ticks_given}
 use Rattle.board_rules.specs.Whole.{has_work, comes_to_rest, WorkRests, IsQuiet, ComesToRest}
 use Rattle.board_rules.proofs.Given.{all_known}
+use Rattle.board_rules.proofs.Works.{works}
 use Rattle.board_rules.proofs.Tasks.{none_next, none_taken, none_given, none_closed}
 
 -- the same, of tasks that may be left
@@ -113,50 +113,41 @@ on_begun h o moved free works true m settles moves still st = inl (works.settles
 on_begun h o moved free works false true settles moves still st = absurd cc
 on_begun h o moved free works false false settles moves still st = by_still h o (drained_here h free (st still)) (works.still moves)
 
--- each of some lines, and of one more
-all_but_last : (os : List Outcome) (o : Outcome) → AllByRecursion WorkRests (os ++ o ∷ []) → AllByRecursion WorkRests os
-all_but_last [] o all = tt
-all_but_last (x ∷ os) o all = (all.0, all_but_last os o all.1)
-
-the_last : (os : List Outcome) (o : Outcome) → AllByRecursion WorkRests (os ++ o ∷ []) → WorkRests o
-the_last [] o all = all.0
-the_last (x ∷ os) o all = the_last os o all.1
-
-pub quiet : (first : State) (h : Journal) → Conducted first h → AllByRecursion WorkRests (outcomes_of h) → closed_tells h ≡ [] → (before_of first h).moved ≡ false → ComesToRest h
-quiet first [] c works going still = inr (record { drained = record { plan = record { blocks = refl; speed = refl }; hand = refl; done = refl }; work = refl })
-quiet first (at_port (took b) ∷ h) c works going still = on_other h (at_port (took b)) refl refl refl refl refl (quiet first h c.1 works going still)
-quiet first (at_port found_empty ∷ h) c works going still = on_other h (at_port found_empty) refl refl refl refl refl (quiet first h c.1 works going still)
-quiet first (at_port found_closed ∷ h) c works going still = on_other h (at_port found_closed) refl refl refl refl refl (quiet first h c.1 works going still)
-quiet first (at_port (found_free n) ∷ h) c works going still = on_other h (at_port (found_free n)) refl refl refl refl refl (quiet first h c.1 works going still)
-quiet first (at_port (answered r) ∷ h) c works going still = on_answer h r c.0.next (quiet first h c.1 works going still)
-quiet first (at_port no_reply_room ∷ h) c works going still = on_other h (at_port no_reply_room) refl refl refl refl refl (quiet first h c.1 works going still)
-quiet first (at_port (took_exec word) ∷ h) c works going still = absurd c.0
-quiet first (at_port (took_ovr word) ∷ h) c works going still = absurd c.0
-quiet first (at_port (published p) ∷ h) c works going still = on_publish h p c.0 (quiet first h c.1 works going still)
-quiet first (at_port (no_piece_room done) ∷ h) c works going still = on_other h (at_port (no_piece_room done)) refl refl refl refl refl (quiet first h c.1 works going still)
-quiet first (at_port (loaded done) ∷ h) c works going still = on_load first h done c.1 c.0 (quiet first h c.1 works going still)
-quiet first (began o ∷ h) c works going still =
-    on_begun h o (before_of first h).moved c.0.free (the_last (outcomes_of h) o works) o.settles (has_moves o.work) refl refl still
-    (λ m. quiet first h c.1 (all_but_last (outcomes_of h) o works) going m)
-quiet first (did a ps ∷ h) c works going still = on_did h a ps c.0.0 c.0.1 (quiet first h c.1 works going still)
-quiet first (made_end ∷ h) c works going still = absurd (c.0.closes going)
-quiet first (became call m ∷ h) c works going still = on_other h (became call m) refl refl refl refl refl (quiet first h c.1 works going still)
-quiet first (closing ∷ h) c works going still = absurd (none_closed (closed_tells h) going)
-quiet first (turned t ∷ h) c works going still = on_other h (turned t) refl refl refl refl refl (quiet first h c.1 works going still)
+pub quiet : (first : State) (h : Journal) → Conducted first h → closed_tells h ≡ [] → (before_of first h).moved ≡ false → ComesToRest h
+quiet first [] c going still = inr (record { drained = record { plan = record { blocks = refl; speed = refl }; hand = refl; done = refl }; work = refl })
+quiet first (at_port (took b) ∷ h) c going still = on_other h (at_port (took b)) refl refl refl refl refl (quiet first h c.1 going still)
+quiet first (at_port found_empty ∷ h) c going still = on_other h (at_port found_empty) refl refl refl refl refl (quiet first h c.1 going still)
+quiet first (at_port found_closed ∷ h) c going still = on_other h (at_port found_closed) refl refl refl refl refl (quiet first h c.1 going still)
+quiet first (at_port (found_free n) ∷ h) c going still = on_other h (at_port (found_free n)) refl refl refl refl refl (quiet first h c.1 going still)
+quiet first (at_port (answered r) ∷ h) c going still = on_answer h r c.0.next (quiet first h c.1 going still)
+quiet first (at_port no_reply_room ∷ h) c going still = on_other h (at_port no_reply_room) refl refl refl refl refl (quiet first h c.1 going still)
+quiet first (at_port (took_exec word) ∷ h) c going still = absurd c.0
+quiet first (at_port (took_ovr word) ∷ h) c going still = absurd c.0
+quiet first (at_port (published p) ∷ h) c going still = on_publish h p c.0 (quiet first h c.1 going still)
+quiet first (at_port (no_piece_room done) ∷ h) c going still = on_other h (at_port (no_piece_room done)) refl refl refl refl refl (quiet first h c.1 going still)
+quiet first (at_port (loaded done) ∷ h) c going still = on_load first h done c.1 c.0 (quiet first h c.1 going still)
+quiet first (began o ∷ h) c going still =
+    on_begun h o (before_of first h).moved c.0.free (works (is_run (motion_of h)) (before_of first h) (open_of h) o c.0.becomes) o.settles (has_moves o.work) refl refl still
+    (λ m. quiet first h c.1 going m)
+quiet first (did a ps ∷ h) c going still = on_did h a ps c.0.0 c.0.1 (quiet first h c.1 going still)
+quiet first (made_end ∷ h) c going still = absurd (c.0.closes going)
+quiet first (became call m ∷ h) c going still = on_other h (became call m) refl refl refl refl refl (quiet first h c.1 going still)
+quiet first (closing ∷ h) c going still = absurd (none_closed (closed_tells h) going)
+quiet first (turned t ∷ h) c going still = on_other h (turned t) refl refl refl refl refl (quiet first h c.1 going still)
 
 -- so a machine that is not drained where a line may be begun has moved since
-pub has_moved : (first : State) (h : Journal) → Conducted first h → AllByRecursion WorkRests (outcomes_of h) → closed_tells h ≡ [] → left_of h ≡ []
+pub has_moved : (first : State) (h : Journal) → Conducted first h → closed_tells h ≡ [] → left_of h ≡ []
     → (IsDrained h → ⊥) → (before_of first h).moved ≡ true
-has_moved first h c works going free undrained = by_moved (before_of first h).moved refl
+has_moved first h c going free undrained = by_moved (before_of first h).moved refl
   where
     by_moved : (m : Bool) → (before_of first h).moved ≡ m → m ≡ true
     by_moved true is = refl
-    by_moved false is = absurd (undrained (drained_here h free (quiet first h c works going is)))
+    by_moved false is = absurd (undrained (drained_here h free (quiet first h c going is)))
 
 -- and one where nothing moved, and nothing is left to do, has done each tick that was given
-pub has_done : (first : State) (h : Journal) → Conducted first h → AllByRecursion WorkRests (outcomes_of h) → closed_tells h ≡ [] → left_of h ≡ []
+pub has_done : (first : State) (h : Journal) → Conducted first h → closed_tells h ≡ [] → left_of h ≡ []
     → (before_of first h).moved ≡ false → known_of h ≡ ticks_given h
-has_done first h c works going free still = (drained_here h free (quiet first h c works going still)).done
+has_done first h c going free still = (drained_here h free (quiet first h c going still)).done
 
 -- ---- a line that is served only at rest, where the machine runs
 
@@ -190,8 +181,8 @@ busy_line runs b (c ∷ cs) found moved is =
     (by_first (nat_eq c 36) _ _ (and_left (nat_eq c 36) (needs_rest (kind_of line) && not (nat_lt most_kept (length line))) is)
     (inl (record { moved = moved; line = and_left (needs_rest (kind_of line)) (not (nat_lt most_kept (length line))) kind; found = found; outcome = refl })))
 
-pub busy : (first : State) (h : Journal) → Conducted first h → AllByRecursion WorkRests (outcomes_of h) → closed_tells h ≡ [] → left_of h ≡ []
+pub busy : (first : State) (h : Journal) → Conducted first h → closed_tells h ≡ [] → left_of h ≡ []
     → is_run (motion_of h) ≡ true → (IsDrained h → ⊥) → is_served_at_rest (open_of h) ≡ true
     → Becomes (is_run (motion_of h)) (before_of first h) (open_of h) (refused (before_of first h) 8)
-busy first h c works going free runs undrained line =
-    busy_line (is_run (motion_of h)) (before_of first h) (open_of h) runs (has_moved first h c works going free undrained) line
+busy first h c going free runs undrained line =
+    busy_line (is_run (motion_of h)) (before_of first h) (open_of h) runs (has_moved first h c going free undrained) line

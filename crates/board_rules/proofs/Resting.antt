@@ -1,7 +1,6 @@
 -- What there is to do of a line comes to rest where the line settles, and where it moves nothing it comes to rest or gives
 -- the machine nothing to do.
 use Rattle.std.proofs.Common.{◌≡◌, ℕ, ◌==◌, ◌⊎◌, inl, inr, List, [], ◌∷◌, ◌++◌, true, false, Bool, cond, ◌||◌, sym, refl, ap, ◌∙◌, append_assoc, append-nil, subst}
-use Rattle.std.specs.List.{list_any}
 use Rattle.settings.specs.declared.Settings.{Settings}
 use Rattle.modal_state.specs.declared.SpindleMode.{SpindleMode}
 use Rattle.modal_state.specs.declared.SpindleMode.TheVariants.{Off, Cw, Ccw}
@@ -17,7 +16,7 @@ use Rattle.status_report.specs.declared.Reply.TheVariants as replies
 use Rattle.run_rules.specs.Asks.{spindle_mark, spindle_after, flood_after, spindle_off, coolant_off, item_work, work_of}
 use Rattle.run_rules.specs.Work.{Task, asking, has_moves, asks_move}
 use Rattle.run_rules.specs.Work.Task.{ask, tell, finish}
-use Rattle.board_rules.specs.Whole.{has_work, comes_to_rest, pauses}
+use Rattle.board_rules.specs.Whole.{has_work, comes_to_rest}
 
 abbrev answer : List Task
 answer = tell replies.Ok ∷ []
@@ -48,30 +47,30 @@ or_right true b none = absurd cc
 or_right false b none = none
 
 -- the last item settles
-last_settles : (line : ℕ) (s : Settings) (spindle : SpindleMode) (flood : Bool) (item : Item) → list_any pauses (item ∷ []) ≡ false → settling (item ∷ []) ≡ true
+last_settles : (line : ℕ) (s : Settings) (spindle : SpindleMode) (flood : Bool) (item : Item) → settling (item ∷ []) ≡ true
     → comes_to_rest (item_work line s spindle flood item ++ answer) ≡ true
-last_settles line s spindle flood (items.Spindle mode speed) none is = refl
-last_settles line s spindle flood (items.Coolant on) none is = refl
-last_settles line s spindle flood (items.Dwell ms) none is = refl
-last_settles line s spindle flood (items.Move mv rate) none is = absurd cc
-last_settles line s spindle flood items.Pause none is = absurd cc
-last_settles line s Off true items.ProgramEnd none is = refl
-last_settles line s Off false items.ProgramEnd none is = refl
-last_settles line s Cw true items.ProgramEnd none is = refl
-last_settles line s Cw false items.ProgramEnd none is = refl
-last_settles line s Ccw true items.ProgramEnd none is = refl
-last_settles line s Ccw false items.ProgramEnd none is = refl
+last_settles line s spindle flood (items.Spindle mode speed) is = refl
+last_settles line s spindle flood (items.Coolant on) is = refl
+last_settles line s spindle flood (items.Dwell ms) is = refl
+last_settles line s spindle flood (items.Move mv rate) is = absurd cc
+last_settles line s spindle flood items.Pause is = refl
+last_settles line s Off true items.ProgramEnd is = refl
+last_settles line s Off false items.ProgramEnd is = refl
+last_settles line s Cw true items.ProgramEnd is = refl
+last_settles line s Cw false items.ProgramEnd is = refl
+last_settles line s Ccw true items.ProgramEnd is = refl
+last_settles line s Ccw false items.ProgramEnd is = refl
 
-pub settles : (line : ℕ) (s : Settings) (spindle : SpindleMode) (flood : Bool) (all : List Item) → list_any pauses all ≡ false → settling all ≡ true
+pub settles : (line : ℕ) (s : Settings) (spindle : SpindleMode) (flood : Bool) (all : List Item) → settling all ≡ true
     → comes_to_rest (work_of line s spindle flood all ++ answer) ≡ true
-settles line s spindle flood [] none is = absurd cc
-settles line s spindle flood (item ∷ []) none is =
-    ap (λ (ts : List Task). comes_to_rest (ts ++ answer)) (append-nil (item_work line s spindle flood item)) ∙ last_settles line s spindle flood item none is
-settles line s spindle flood (item ∷ next ∷ more) none is =
+settles line s spindle flood [] is = absurd cc
+settles line s spindle flood (item ∷ []) is =
+    ap (λ (ts : List Task). comes_to_rest (ts ++ answer)) (append-nil (item_work line s spindle flood item)) ∙ last_settles line s spindle flood item is
+settles line s spindle flood (item ∷ next ∷ more) is =
     let behind = work_of line s (spindle_after spindle item) (flood_after flood item) (next ∷ more) in
     ap comes_to_rest (append_assoc (item_work line s spindle flood item) behind answer)
     ∙ before_rest (item_work line s spindle flood item) (behind ++ answer)
-    (settles line s (spindle_after spindle item) (flood_after flood item) (next ∷ more) (or_right (pauses item) (list_any pauses (next ∷ more)) none) is)
+    (settles line s (spindle_after spindle item) (flood_after flood item) (next ∷ more) is)
 
 -- marks at rest, before work that comes to rest or is none
 marked : (asked : List Asked) (ts : List Task) → Rests ts → Rests ((ask a_rest ∷ asking asked ++ ask a_rest ∷ []) ++ ts)
@@ -91,7 +90,7 @@ item_still line s spindle flood (items.Move mv rate) ts none r = by_events (even
         → Rests (item_work line s spindle flood (items.Move mv rate) ++ ts)
     by_events true is none = rw is r
     by_events false is none = absurd (let n = rw is at none in cc)
-item_still line s spindle flood items.Pause ts none r = r
+item_still line s spindle flood items.Pause ts none r = inl (rest_then ts r)
 item_still line s spindle flood items.ProgramEnd ts none r =
     subst Rests (sym (append_assoc (ask a_rest ∷ asking (spindle_off spindle ++ coolant_off flood) ++ ask a_rest ∷ []) (tell (replies.Message messages.ProgramEnd) ∷ []) ts))
     (marked (spindle_off spindle ++ coolant_off flood) (tell (replies.Message messages.ProgramEnd) ∷ ts) (told_then r))

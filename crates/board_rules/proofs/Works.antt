@@ -1,6 +1,5 @@
 -- What there is to do of a line: by whatever becomes of it, it comes to rest where the line settles.
 use Rattle.std.proofs.Common.{◌≡◌, ℕ, inl, inr, List, [], ◌∷◌, ◌++◌, true, false, Bool, length, nat_eq, nat_lt, Ok, Err, Some, None, sym, refl, subst}
-use Rattle.std.specs.List.{list_any}
 use Rattle.std.specs.declared.option.Option.{Option}
 use Rattle.std.specs.declared.result.Result.{Result}
 use Rattle.units.specs.declared.Decimal.{Decimal}
@@ -22,7 +21,7 @@ use Rattle.status_report.specs.declared.Reply.TheVariants as replies
 use Rattle.run_rules.specs.declared.State.{State}
 use Rattle.run_rules.specs.Work.{Outcome, telling}
 use Rattle.run_rules.specs.Outcomes.{Before, Becomes, ByKept, ByDollar, ByCommand, BySetting, ByWords, ByVerdict, either, most_kept, refused, told, executed, fault_number}
-use Rattle.board_rules.specs.Whole.{has_work, WorkRests, pauses}
+use Rattle.board_rules.specs.Whole.{has_work, WorkRests}
 use Rattle.board_rules.proofs.Resting.{settles, still}
 
 -- no work is told
@@ -36,27 +35,22 @@ refused_rests b n o is = subst WorkRests (sym is) (record { settles = λ e. absu
 told_rests : (next : State) (body : List Reply) (o : Outcome) → o ≡ told next body → WorkRests o
 told_rests next body o is = subst WorkRests (sym is) (record { settles = λ e. absurd cc; still = λ none. inr (tells_are_no_work (body ++ replies.Ok ∷ [])) })
 
--- an accepted line does not pause
-abbrev pub NeverPauses : Before → Outcome → Type 0
-NeverPauses b o = (a : Accepted) → o ≡ executed b a → list_any pauses a.items.items ≡ false
-
-executed_rests : (b : Before) (a : Accepted) (o : Outcome) → NeverPauses b o → o ≡ executed b a → WorkRests o
-executed_rests b a o never is =
+executed_rests : (b : Before) (a : Accepted) (o : Outcome) → o ≡ executed b a → WorkRests o
+executed_rests b a o is =
     let modal = b.state.parser.modal in
-    let none = never a is in
     subst WorkRests (sym is) (record {
-      settles = settles b.number b.state.settings modal.spindle modal.flood a.items.items none;
+      settles = settles b.number b.state.settings modal.spindle modal.flood a.items.items;
       still = still b.number b.state.settings modal.spindle modal.flood a.items.items;
     })
 
-verdict_rests : (b : Before) (v : Verdict) (o : Outcome) → NeverPauses b o → ByVerdict b v o → WorkRests o
-verdict_rests b (Accept a) o never is = executed_rests b a o never is
-verdict_rests b (Refuse code) o never is = refused_rests b code.0 o is
-verdict_rests b Limit o never is = absurd is
+verdict_rests : (b : Before) (v : Verdict) (o : Outcome) → ByVerdict b v o → WorkRests o
+verdict_rests b (Accept a) o is = executed_rests b a o is
+verdict_rests b (Refuse code) o is = refused_rests b code.0 o is
+verdict_rests b Limit o is = absurd is
 
-words_rest : (b : Before) (ws : Result (List Word) WordFault) (o : Outcome) → NeverPauses b o → ByWords b ws o → WorkRests o
-words_rest b (Err fault) o never is = refused_rests b (fault_number fault) o is
-words_rest b (Ok ws) o never is = verdict_rests b (verdict b.state.parser b.state.settings ws) o never is
+words_rest : (b : Before) (ws : Result (List Word) WordFault) (o : Outcome) → ByWords b ws o → WorkRests o
+words_rest b (Err fault) o is = refused_rests b (fault_number fault) o is
+words_rest b (Ok ws) o is = verdict_rests b (verdict b.state.parser b.state.settings ws) o is
 
 setting_rests : (b : Before) (n : ℕ) (value : Decimal) (code : Option Code) (o : Outcome) → BySetting b n value code o → WorkRests o
 setting_rests b n value (Some code) o is = refused_rests b code.0 o is
@@ -78,10 +72,10 @@ by_either : (t : Bool) (A B C : Type 0) → (A → C) → (B → C) → either t
 by_either true A B C f g x = f x
 by_either false A B C f g x = g x
 
-kept_rests : (runs : Bool) (b : Before) (kept : List ℕ) (o : Outcome) → NeverPauses b o → ByKept runs b kept o → WorkRests o
-kept_rests runs b [] o never is = told_rests b.state [] o is
-kept_rests runs b (c ∷ cs) o never is =
-    by_either (nat_eq c 36) _ _ _ (dollar_rests runs b (c ∷ cs) o) (words_rest b (words_of (c ∷ cs)) o never) is
+kept_rests : (runs : Bool) (b : Before) (kept : List ℕ) (o : Outcome) → ByKept runs b kept o → WorkRests o
+kept_rests runs b [] o is = told_rests b.state [] o is
+kept_rests runs b (c ∷ cs) o is =
+    by_either (nat_eq c 36) _ _ _ (dollar_rests runs b (c ∷ cs) o) (words_rest b (words_of (c ∷ cs)) o) is
 
-pub works : (runs : Bool) (b : Before) (kept : List ℕ) (o : Outcome) → Becomes runs b kept o → NeverPauses b o → WorkRests o
-works runs b kept o is never = by_either (nat_lt most_kept (length kept)) _ _ _ (refused_rests b 11 o) (kept_rests runs b kept o never) is
+pub works : (runs : Bool) (b : Before) (kept : List ℕ) (o : Outcome) → Becomes runs b kept o → WorkRests o
+works runs b kept o is = by_either (nat_lt most_kept (length kept)) _ _ _ (refused_rests b 11 o) (kept_rests runs b kept o) is

@@ -1,46 +1,16 @@
 -- What a board does at its port, what it owes the port, and what the port promises.
-use Rattle.std.specs.Prelude.{◌≡◌, ℕ, ◌+◌, ◌^◌, ◌≤◌, ◌<◌, Bool, true, false, cond, List, [], ◌∷◌, ◌++◌, length, nat_eq, reverse}
-use Rattle.std.specs.List.{count_by}
+use Rattle.std.specs.Prelude.{◌≡◌, ℕ, ◌+◌, ◌^◌, ◌≤◌, ◌<◌, Bool, true, false, cond, List, [], ◌∷◌, ◌++◌, length, reverse}
 use Rattle.code_table.specs.declared.flags.Exec.{Exec}
 use Rattle.code_table.specs.declared.flags.Ovr.{Ovr}
+use Rattle.code_table.specs.Tables.{query}
 use Rattle.feed_hold.specs.Motions.{asks}
 use Rattle.status_report.specs.declared.Reply.{Reply}
+use Rattle.status_report.specs.Answering.{reply_room, lfs_in, is_answer, answers_in}
 use Rattle.status_report.specs.Replies.{IsReply}
 use Rattle.step_line.specs.declared.Piece.{Piece}
-use Rattle.step_line.specs.Finishing.{tick_count, ticks_together, unfinished}
+use Rattle.step_line.specs.Finishing.{tick_count, ticks_together, unfinished, most_unfinished}
 use Rattle.step_line.specs.Logs.{NewestFirst}
 use Rattle.step_line.specs.Ordering.{ComesNext}
-use Rattle.status_report.specs.declared.Reply.TheVariants.{Ok, Error}
-
--- so many bytes may stand on the link at once
-abbrev pub receive_room : ℕ
-receive_room = 128
-
--- so many replies may stand on the link at once
-abbrev pub reply_room : ℕ
-reply_room = 16
-
--- so many published pieces may be unfinished at once
-abbrev pub most_unfinished : ℕ
-most_unfinished = 5
-
--- how many lines have their end among some bytes
-abbrev pub lfs_in : List ℕ → ℕ
-lfs_in bytes = count_by (λ b. nat_eq b 10) bytes
-
--- a reply answers a line
-abbrev pub is_answer : Reply → Bool
-is_answer Ok = true
-is_answer (Error n) = true
-is_answer _ = false
-
--- how many lines some replies answer
-abbrev pub answers_in : List Reply → ℕ
-answers_in replies = count_by is_answer replies
-
--- `?`
-abbrev pub query : ℕ
-query = 63
 
 pub data PortStep : Type 0 where
   took : ℕ → PortStep

@@ -10,7 +10,7 @@ use Rattle.planner_runs.specs.declared.Action.{Action}
 use Rattle.planner_runs.specs.declared.Action.TheVariants.{Add, Take, Override, Mark, Rest, Clear, Reset}
 use Rattle.planner_runs.specs.Runs.{fresh_plan, with_move, cleared}
 use Rattle.run_rules.specs.declared.State.{State}
-use Rattle.run_rules.specs.Work.{Task, Outcome}
+use Rattle.run_rules.specs.Work.{Task, Outcome, closing_work}
 use Rattle.run_rules.specs.Work.Task.{tell, finish}
 use Rattle.run_rules.specs.Outcomes.{Before, start, after}
 use Rattle.status_report.specs.declared.Reply.{Reply}
@@ -140,10 +140,6 @@ left_by (Add m) tasks = drop 1 tasks
 left_by (Mark m) tasks = drop 1 tasks
 left_by Rest tasks = drop 1 tasks
 left_by a tasks = tasks
-
--- a run that is closed makes its end, and tells Bye
-abbrev pub closing_work : List Task
-closing_work = finish ∷ tell Bye ∷ []
 
 -- what is left to do; at first the banner is told
 abbrev pub left_of : Journal → List Task

@@ -1,5 +1,5 @@
 -- The turns of a board: what it has done in this one, and what it owes its port from turn to turn.
-use Rattle.std.specs.Prelude.{ℕ, ◌+◌, Bool, true, false, ◌&&◌, ◌||◌, not, nat_eq, nat_le, nat_lt, List, [], ◌∷◌, length}
+use Rattle.std.specs.Prelude.{ℕ, ◌+◌, Bool, true, false, ◌&&◌, ◌||◌, not, cond, nat_eq, nat_le, nat_lt, List, [], ◌∷◌, length}
 use Rattle.std.specs.List.{list_any}
 use Rattle.feed_hold.specs.declared.Motion.{Motion}
 use Rattle.feed_hold.specs.declared.Motion.TheVariants.{Idle, Run, Jog, Alarm}
@@ -200,3 +200,30 @@ waits_of (made_end ∷ h) = waits_of h
 waits_of (became call m ∷ h) = waits_of h
 waits_of (closing ∷ h) = waits_of h
 waits_of (turned t ∷ h) = waits_by t (waits_of h)
+
+abbrev pub begun_at : PortStep → ℕ → ℕ
+begun_at (published p) n = 0
+begun_at (no_piece_room done) n = 0
+begun_at e n = n
+
+-- how many lines were begun since a piece was last tried to be published, and since no segment was due last
+abbrev pub begun_while_due : Journal → ℕ
+begun_while_due [] = 0
+begun_while_due (at_port e ∷ h) = begun_at e (begun_while_due h)
+begun_while_due (began o ∷ h) = cond (is_due h) (begun_while_due h) 0 + 1
+begun_while_due (did a ps ∷ h) = begun_while_due h
+begun_while_due (made_end ∷ h) = begun_while_due h
+begun_while_due (became call m ∷ h) = begun_while_due h
+begun_while_due (closing ∷ h) = begun_while_due h
+begun_while_due (turned t ∷ h) = cond (is_due h) (begun_while_due h) 0
+
+-- what was waited for since a piece was last tried to be published, and since no segment was due last
+abbrev pub waits_while_due : Journal → List On
+waits_while_due [] = []
+waits_while_due (at_port e ∷ h) = waits_at e (waits_while_due h)
+waits_while_due (began o ∷ h) = waits_while_due h
+waits_while_due (did a ps ∷ h) = waits_while_due h
+waits_while_due (made_end ∷ h) = waits_while_due h
+waits_while_due (became call m ∷ h) = waits_while_due h
+waits_while_due (closing ∷ h) = waits_while_due h
+waits_while_due (turned t ∷ h) = cond (is_due h) (waits_by t (waits_while_due h)) []

@@ -1,8 +1,6 @@
 -- What a board that keeps to its rules has taken, when it stands, and what one that is finished leaves.
 use Rattle.std.specs.Prelude.{◌≡◌, ℕ, ◌⊎◌, Bool, true, false, cond, List, [], ◌∷◌, ◌++◌}
 use Rattle.std.specs.List.{AllByRecursion}
-use Rattle.gcode_check.specs.declared.Item.{Item}
-use Rattle.gcode_check.specs.declared.Item.TheVariants.{Pause}
 use Rattle.planner_runs.specs.Runs.{IsAtRest}
 use Rattle.run_rules.specs.Lines.{HasNoLf, ended}
 use Rattle.run_rules.specs.Work.{Task, Outcome, has_moves}
@@ -53,11 +51,6 @@ comes_to_rest (finish ∷ ts) = comes_to_rest ts
 pub record WorkRests (o : Outcome) : Type 0 where
   pub settles : o.settles ≡ true → comes_to_rest o.work ≡ true
   pub still : has_moves o.work ≡ false → (comes_to_rest o.work ≡ true) ⊎ (has_work o.work ≡ false)
-
--- a pause waits for nothing yet
-abbrev pub pauses : Item → Bool
-pauses Pause = true
-pauses item = false
 
 -- the machine stands, and nothing more is asked of it
 pub record IsQuiet (h : Journal) : Type 0 where

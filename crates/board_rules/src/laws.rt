@@ -1,21 +1,26 @@
 //! Laws of boards.
 
 ghost use Rattle.std.specs.Prelude.{◌≡◌, ℕ, ◌+◌, ◌^◌, ◌≤◌, ◌<◌, ◌⊎◌, Bool, true, false, cond, List, [], ◌∷◌, ◌++◌, length, map, reverse};
-ghost use Rattle.std.specs.List.{AllByRecursion, list_any, count_by};
+ghost use Rattle.std.specs.List.{count_by};
 ghost use Rattle.feed_hold.specs.declared.Motion.TheVariants.{Idle, Run};
-ghost use Rattle.gcode_check.specs.declared.Accept.{Accept as Accepted};
+ghost use Rattle.outside.specs.declared.On.{On as AnyOn};
+ghost use Rattle.outside.specs.declared.On.TheVariants as causes;
+ghost use Rattle.outside.specs.declared.Turn.TheVariants.{Wait};
 ghost use Rattle.planner_runs.specs.Runs.{IsPlannerRun, IsUndisturbed, all_asked};
 ghost use Rattle.run_rules.specs.declared.State.{State};
 ghost use Rattle.run_rules.specs.Work.{Outcome, tells, asks};
-ghost use Rattle.run_rules.specs.Work.Task.{tell};
+ghost use Rattle.run_rules.specs.Work.Task.{ask, tell};
 ghost use Rattle.run_rules.specs.Told.{replies_in, asked_in};
-ghost use Rattle.run_rules.specs.Outcomes.{Before, Becomes, Follows, start, executed, refused};
+ghost use Rattle.run_rules.specs.Outcomes.{Before, Becomes, Follows, start, refused};
 ghost use Rattle.run_rules.specs.Outcomes.Passed.{a_line};
 ghost use Rattle.status_report.specs.declared.Reply.{Reply as AnyReply};
-ghost use Rattle.step_line.specs.Finishing.{tick_count};
+ghost use Rattle.step_line.specs.Asking.Asked.{a_move};
+ghost use Rattle.step_line.specs.Finishing.{tick_count, unfinished, most_unfinished};
+ghost use Rattle.step_line.specs.declared.planned_move.PlannedMove.{PlannedMove as AnyMove};
 ghost use Rattle.step_line.specs.Ordering.{InTurn, ComesNext};
-ghost use Rattle.board_rules.specs.Ports.{lfs_in, is_answer, answers_in};
+ghost use Rattle.status_report.specs.Answering.{lfs_in, is_answer, answers_in};
 ghost use Rattle.step_line.specs.declared.Piece.{Piece as AnyPiece};
+ghost use Rattle.board_rules.specs.Steps.Step.{turned};
 ghost use Rattle.board_rules.specs.Steps.{
   Journal,
   taken_of,
@@ -36,17 +41,32 @@ ghost use Rattle.board_rules.specs.Steps.{
   plan_of,
   motion_of,
 };
-ghost use Rattle.board_rules.specs.Conduct.{Conducted, IsDrained, IsInHand, IsNextTask, IsFinished, ticks_given, ticks_published};
-ghost use Rattle.board_rules.specs.Turns.{this_turn, publishing, ends_turn, is_run, is_served_at_rest, tries_of, most_tries};
-ghost use Rattle.board_rules.specs.Whole.{AreLines, IsSpent, OneByOne, WorkRests, ComesToRest, pauses};
+ghost use Rattle.board_rules.specs.Conduct.{Conducted, AreWaiting, IsDrained, IsInHand, IsNextTask, IsFinished, ticks_given, ticks_published};
+ghost use Rattle.board_rules.specs.Turns.{
+  this_turn,
+  publishing,
+  ends_turn,
+  tells_next,
+  awaits_motion,
+  is_full,
+  starts_cycle,
+  is_run,
+  is_served_at_rest,
+  tries_of,
+  most_tries,
+  begun_while_due,
+  waits_while_due,
+};
+ghost use Rattle.board_rules.specs.Whole.{AreLines, IsSpent, OneByOne, WorkRests, ComesToRest};
 
 /// The bytes that a board has taken are its lines, and each line that it has begun is followed by what becomes of it. What
-/// it has answered, and is still to tell, is what the lines tell, and Bye where it is being closed; what was asked of the
+/// it has answered, and is still to tell, is what the lines tell, and Bye, once, where it is being closed; what was asked of the
 /// plan, and is still to be asked, is what they ask. No byte of a line is taken while a task of the line before is left.
 pub fn boards_keep_to_their_lines()
     ensures bytes { (first : State) (h : Journal) → Conducted first h → AreLines (taken_of h) (lines_of h) (open_of h) (whole_of h) }
     ensures follow { (first : State) (h : Journal) → Conducted first h → Follows true (start first) (lines_of h) (map a_line (outcomes_of h)) (before_of first h) }
     ensures told { (first : State) (h : Journal) → Conducted first h → replies_in (outcomes_of h) ++ closed_tells h ≡ answered_of h ++ tells (left_of h) }
+    ensures bye { (first : State) (h : Journal) → Conducted first h → (closed_tells h ≡ []) ⊎ (closed_tells h ≡ AnyReply.Bye ∷ []) }
     ensures asked { (first : State) (h : Journal) → Conducted first h → asked_in (outcomes_of h) ≡ all_asked (actions_of h) ++ asks (left_of h) }
     ensures one_by_one { (first : State) (h : Journal) → Conducted first h → closed_tells h ≡ [] → OneByOne (left_of h) (open_of h) (whole_of h) }
 {}
@@ -69,32 +89,32 @@ pub fn boards_do_a_bounded_amount()
     ensures replies { (first : State) (h : Journal) → Conducted first h → length (answered_of h) < 2 ^ 62 }
 {}
 
-/// What a board does to its plan is a planner run, which no hand disturbs. What was given is published, or in hand; it
-/// comes in turn, so that the piece in hand may be published.
+/// What a board does to its plan is a planner run, which no hand disturbs. What was given is what the plan gave, and the end
+/// behind it where it was made; it is published, or in hand, and comes in turn, so that the piece in hand may be published.
 pub fn boards_run_their_plan()
     ensures run { (first : State) (h : Journal) → Conducted first h → IsPlannerRun (actions_of h) (planned_of h) (plan_of h) }
     ensures undisturbed { (first : State) (h : Journal) → Conducted first h → IsUndisturbed (actions_of h) }
     ensures hand { (first : State) (h : Journal) → Conducted first h → given_of h ≡ published_of h ++ hand_of h }
+    ensures end { (first : State) (h : Journal) → Conducted first h → (given_of h ≡ planned_of h) ⊎ (given_of h ≡ planned_of h ++ AnyPiece.End ∷ []) }
     ensures turns { (first : State) (h : Journal) → Conducted first h → InTurn (reverse (given_of h)) }
     ensures next { (first : State) (h : Journal) (p : AnyPiece) → Conducted first h → IsInHand p h → ComesNext (reverse (published_of h)) p }
 {}
 
 /// Where no line has moved since the last that settles, the machine stands or will be waited for; so where nothing is left
 /// to do, each tick that was given is done, and a machine that does not stand there has moved. So a line that is served
-/// only at rest may be refused while the machine runs, as the rules ask. What there is to do of a line brings the machine to rest where the line
-/// settles, unless it pauses, which waits for nothing yet.
+/// only at rest may be refused while the machine runs, as the rules ask. What there is to do of a line brings the machine to
+/// rest where the line settles, and where it moves nothing it does so or gives the machine nothing to do.
 pub fn boards_stand_where_nothing_moved()
-    ensures quiet { (first : State) (h : Journal) → Conducted first h → AllByRecursion WorkRests (outcomes_of h) → closed_tells h ≡ [] →
+    ensures quiet { (first : State) (h : Journal) → Conducted first h → closed_tells h ≡ [] →
         (before_of first h).moved ≡ false → ComesToRest h }
-    ensures moved { (first : State) (h : Journal) → Conducted first h → AllByRecursion WorkRests (outcomes_of h) → closed_tells h ≡ [] →
+    ensures moved { (first : State) (h : Journal) → Conducted first h → closed_tells h ≡ [] →
         left_of h ≡ [] → (IsDrained h → ⊥) → (before_of first h).moved ≡ true }
-    ensures done { (first : State) (h : Journal) → Conducted first h → AllByRecursion WorkRests (outcomes_of h) → closed_tells h ≡ [] →
+    ensures done { (first : State) (h : Journal) → Conducted first h → closed_tells h ≡ [] →
         left_of h ≡ [] → (before_of first h).moved ≡ false → known_of h ≡ ticks_given h }
-    ensures busy { (first : State) (h : Journal) → Conducted first h → AllByRecursion WorkRests (outcomes_of h) → closed_tells h ≡ [] →
+    ensures busy { (first : State) (h : Journal) → Conducted first h → closed_tells h ≡ [] →
         left_of h ≡ [] → is_run (motion_of h) ≡ true → (IsDrained h → ⊥) → is_served_at_rest (open_of h) ≡ true →
         Becomes (is_run (motion_of h)) (before_of first h) (open_of h) (refused (before_of first h) 8) }
-    ensures works { (runs : Bool) (before : Before) (kept : List ℕ) (outcome : Outcome) → Becomes runs before kept outcome →
-        ((a : Accepted) → outcome ≡ executed before a → list_any pauses a.items.items ≡ false) → WorkRests outcome }
+    ensures works { (runs : Bool) (before : Before) (kept : List ℕ) (outcome : Outcome) → Becomes runs before kept outcome → WorkRests outcome }
     ensures motion { (first : State) (h : Journal) → Conducted first h → (motion_of h ≡ Idle) ⊎ (motion_of h ≡ Run) }
 {}
 
@@ -103,6 +123,30 @@ pub fn boards_stand_where_nothing_moved()
 pub fn boards_take_turns()
     ensures once { (first : State) (h : Journal) → Conducted first h → this_turn h ≡ [] → count_by publishing h ≤ count_by ends_turn h }
     ensures tries { (first : State) (h : Journal) → Conducted first h → this_turn h ≡ [] → tries_of h ≤ most_tries }
+{}
+
+/// A turn that ends in a wait has a cause. For a byte: none was found, and nothing is left to do. For room for a reply: a
+/// reply is next. For room for a segment: five of the published pieces are unfinished, while so many ticks are done. For
+/// motion: some of the published ticks were found not to be done, and a rest, or the end, is next. It waits for nothing else.
+pub fn boards_wait_for_a_cause()
+    ensures byte { (first : State) (h : Journal) → Conducted first (turned (Wait causes.Byte) ∷ h) → (left_of h ≡ []) × (whole_of h ≡ false) }
+    ensures reply_room { (first : State) (h : Journal) → Conducted first (turned (Wait causes.ReplyRoom) ∷ h) → tells_next (left_of h) ≡ true }
+    ensures segment_room { (first : State) (h : Journal) → Conducted first (turned (Wait causes.SegmentRoom) ∷ h) →
+        (done : ℕ) × (unfinished (published_of h) done ≡ most_unfinished) }
+    ensures motion { (first : State) (h : Journal) → Conducted first (turned (Wait causes.Motion) ∷ h) →
+        (known_of h < ticks_published h) × (awaits_motion (left_of h) ≡ true) }
+    ensures causes { (first : State) (h : Journal) (o : AnyOn) → Conducted first (turned (Wait o) ∷ h) →
+        (o ≡ causes.Byte) ⊎ ((o ≡ causes.ReplyRoom) ⊎ ((o ≡ causes.SegmentRoom) ⊎ (o ≡ causes.Motion))) }
+{}
+
+/// Between two turns a move that is next is added, unless the plan is full, and no queued block waits for a start that is
+/// called for. While segments are due, one line at most is begun, and four turns at most end in a wait, between two tries
+/// to publish a piece: so the pulse is not left without segments by lines and replies.
+pub fn boards_keep_the_pulse_busy()
+    ensures adds { (first : State) (h : Journal) (m : AnyMove) → Conducted first h → this_turn h ≡ [] → IsNextTask (ask (a_move m)) h → is_full (plan_of h) ≡ true }
+    ensures starts { (first : State) (h : Journal) → Conducted first h → this_turn h ≡ [] → AreWaiting h → starts_cycle h ≡ false }
+    ensures lines { (first : State) (h : Journal) → Conducted first h → begun_while_due h ≤ 1 }
+    ensures waits { (first : State) (h : Journal) → Conducted first h → length (waits_while_due h) ≤ 4 }
 {}
 
 /// Where a board is finished, nothing is left in its plan or in hand, all lines that were taken whole are begun, and the

@@ -144,6 +144,10 @@ exec_bit bit = bit
 abbrev pub override_bit : ℕ → ℕ
 override_bit bit = bit + 16
 
+-- `?`, which asks for a report
+abbrev pub query : ℕ
+query = 0x3f
+
 -- the realtime bytes, each with its bit
 abbrev pub rows_of_bytes : List Row
 rows_of_bytes =

@@ -1,6 +1,10 @@
-//! What a board does with its port.
+//! The board: it takes the bytes of a job, carries out its lines, and answers them.
 #![tactic(auto)]
 
+mod controller;
+mod input;
+mod machine;
 mod ports;
 
+pub use controller::Controller;
 pub use ports::BoardPort;

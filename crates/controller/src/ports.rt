@@ -1,7 +1,8 @@
 //! The port of a board.
 
 ghost use Rattle.std.specs.Prelude.{◌≡◌, ℕ, ◌∷◌, ◌≤◌, true, OnOk, OnErr, IfErr};
-ghost use Rattle.board_rules.specs.Ports.{PortLog, receive_room, MayAnswer, MayPublish, MayBeDone, HasTakenFew, HasFewReports, LacksReplyRoom, LacksPieceRoom, asks_report};
+ghost use Rattle.board_rules.specs.Ports.{PortLog, MayAnswer, MayPublish, MayBeDone, HasTakenFew, HasFewReports, LacksReplyRoom, LacksPieceRoom, asks_report};
+ghost use Rattle.status_report.specs.Answering.{receive_room};
 ghost use Rattle.board_rules.specs.Ports.PortStep.{took, found_empty, found_closed, found_free, answered, no_reply_room, took_exec, took_ovr, published, no_piece_room, loaded};
 
 use code_table::{Exec, Ovr};

@@ -96,19 +96,6 @@ is_move (Move way rate) = true
 is_move Pause = false
 is_move ProgramEnd = false
 
--- a move of at least one event
-abbrev pub is_motion : Item → Bool
-is_motion (Spindle mode speed) = false
-is_motion (Coolant on) = false
-is_motion (Dwell ms) = false
-is_motion (Move way rate) = nat_lt 0 (events_of way)
-is_motion Pause = false
-is_motion ProgramEnd = false
-
--- among the items of a line is a move of at least one event
-abbrev pub has_events : List Item → Bool
-has_events items = list_any is_motion items
-
 -- a line settles where it has items and the last is no move
 abbrev pub settling : List Item → Bool
 settling [] = false

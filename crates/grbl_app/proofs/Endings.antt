@@ -1,143 +1,249 @@
--- How a run ends, from what was read and written.
-use Rattle.std.proofs.Common.{◌≡◌, ◌≢◌, ℕ, zero, suc, ◌+◌, ◌≤◌, ◌<◌, Bool, true, false, Some, None, List, [], ◌∷◌, ◌++◌, length, map, refl, sym, ap, ◌∙◌, append-nil, length-append, arith, subst}
-use Rattle.std.specs.declared.option.Option.{Option}
-use Rattle.std.specs.Io.KnownBytes.{Appends, Consumes, IsAtEnd}
+-- How a run ends, by what it told at its end.
+use Rattle.std.proofs.Common.{◌≡◌, ◌≢◌, ℕ, zero, suc, ◌+◌, ◌≤◌, Bool, true, false, cond, ◌||◌, List, [], ◌∷◌, ◌++◌, length, map, refl, sym, ap, ◌∙◌, subst, append-nil}
+use Rattle.std.specs.List.{AllByRecursion, list_any, take_while}
+use Rattle.std.specs.Io.KnownBytes.{Appends}
+use Rattle.std.proofs.lemmas.List.{take_all}
 use Rattle.outside.specs.Causes.{SourceState, SinkState}
-use Rattle.run_rules.specs.declared.Reading.{Reading}
-use Rattle.run_rules.specs.declared.Reading.TheVariants.{Ended, Failed, Large}
-use Rattle.run_rules.specs.Lines.{lines_of}
-use Rattle.run_rules.specs.Readings.{largest_job, FitsReading, job_of, sent_lines}
-use Rattle.gcode_words.specs.Stripping.{plain}
-use Rattle.run_rules.specs.Work.{Outcome}
-use Rattle.run_rules.specs.Outcomes.{Passed, Follows, start}
-use Rattle.run_rules.specs.Outcomes.Passed.{a_line}
-use Rattle.run_rules.specs.Told.{errors_in}
-use Rattle.run_rules.proofs.Determined.{one_opening, one_run}
 use Rattle.outside.specs.Writing.{Took}
-use Rattle.grbl_app.specs.Engines.{Sinks}
-use Rattle.grbl_app.specs.Ends.{IsRun, HasRun, HasCauses, first_cause, by_errors}
+use Rattle.gcode_words.specs.Stripping.{plain}
+use Rattle.status_report.specs.declared.Reply.{Reply}
+use Rattle.status_report.specs.declared.Reply.TheVariants.{Bye}
+use Rattle.status_report.specs.Replies.{reply_text}
+use Rattle.run_rules.specs.Lines.{lines_of}
+use Rattle.run_rules.specs.Readings.{largest_job, job_of}
+use Rattle.run_rules.specs.Work.{Outcome}
+use Rattle.run_rules.specs.Outcomes.{Before, Follows, start}
+use Rattle.run_rules.specs.Outcomes.Passed.{a_line}
+use Rattle.run_rules.specs.Told.{replies_in, replies_text, errors_in}
+use Rattle.stream_host.specs.declared.Reading.{Reading}
+use Rattle.stream_host.specs.declared.Reading.TheVariants.{Ended, Failed, Large, Stopped}
+use Rattle.stream_host.specs.declared.Stop.{Stop}
+use Rattle.stream_host.specs.declared.Stop.TheVariants as stops
+use Rattle.stream_host.specs.Jobs.{MayHaveRead, MayLeave, ends_sending, ends_in, is_long, is_sent, long_line, lines_to_send, stop_by}
+use Rattle.stream_host.specs.Ran.{is_failed}
+use Rattle.stream_host.proofs.Pieces.{all_are_sent}
+use Rattle.run_law.specs.declared.RunEnd.{RunEnd}
+use Rattle.run_law.specs.Runs.{Sinks, IsRun}
+use Rattle.run_law.proofs.Completing.{complete}
 use Rattle.grbl_app.specs.declared.status.Status.{Status}
-use Rattle.grbl_app.specs.declared.status.Status.TheVariants.{SourceFault, ConsoleFault, StepsFault, TooLarge}
-use Rattle.grbl_app.proofs.Feeding.{whole_job}
+use Rattle.grbl_app.specs.declared.status.Status.TheVariants.{SourceFault, ConsoleFault, StepsFault, LongLine, TooLarge}
+use Rattle.grbl_app.specs.Ends.{by_errors, by_stop, status_of, EndsWith, IsWholeRun, HasLongLine, HasRun, HasCauses}
+
+-- ---- why no more of a job was sent
+
+no_long : (t : Bool) (lines : List (List ℕ)) → stops.End ≡ cond t (long_line lines) stops.End → t ≡ false
+no_long true lines e = absurd cc
+no_long false lines e = refl
+
+-- to the end of the job: it is not too large, and no line is too long
+end_means : (r : Reading) (text : List ℕ) → stops.End ≡ stop_by r text → (list_any is_long (lines_of text) ≡ false) × (r ≡ Large → ⊥)
+end_means Ended text e = (no_long (list_any is_long (lines_of text)) (lines_of text) e, λ x. cc)
+end_means Failed text e = (no_long (list_any is_long (lines_of text)) (lines_of text) e, λ x. cc)
+end_means Large text e = absurd cc
+end_means Stopped text e = (no_long (list_any is_long (lines_of text)) (lines_of text) e, λ x. cc)
+
+not_large : {A : Type 0} (t : Bool) (lines : List (List ℕ)) → stops.TooLarge ≡ cond t (long_line lines) stops.End → A
+not_large true lines e = absurd cc
+not_large false lines e = absurd cc
+
+large_means : (r : Reading) (text : List ℕ) → stops.TooLarge ≡ stop_by r text → r ≡ Large
+large_means Ended text e = not_large (list_any is_long (lines_of text)) (lines_of text) e
+large_means Failed text e = not_large (list_any is_long (lines_of text)) (lines_of text) e
+large_means Large text e = refl
+large_means Stopped text e = not_large (list_any is_long (lines_of text)) (lines_of text) e
+
+one_long : (k : ℕ) (t : Bool) (lines : List (List ℕ)) → stops.LongLine k ≡ cond t (long_line lines) stops.End → (t ≡ true) × (k ≡ length (take_while is_sent lines) + 1)
+one_long k true lines e = (refl, cc)
+one_long k false lines e = absurd cc
+
+long_means : (k : ℕ) (r : Reading) (text : List ℕ) → stops.LongLine k ≡ stop_by r text
+    → (list_any is_long (lines_of text) ≡ true) × (k ≡ length (take_while is_sent (lines_of text)) + 1)
+long_means k Ended text e = one_long k (list_any is_long (lines_of text)) (lines_of text) e
+long_means k Failed text e = one_long k (list_any is_long (lines_of text)) (lines_of text) e
+long_means k Large text e = absurd cc
+long_means k Stopped text e = one_long k (list_any is_long (lines_of text)) (lines_of text) e
+
+no_reset : {A : Type 0} (t : Bool) (lines : List (List ℕ)) → stops.Reset ≡ cond t (long_line lines) stops.End → A
+no_reset true lines e = absurd cc
+no_reset false lines e = absurd cc
+
+never_reset : {A : Type 0} (r : Reading) (text : List ℕ) → stops.Reset ≡ stop_by r text → A
+never_reset Ended text e = no_reset (list_any is_long (lines_of text)) (lines_of text) e
+never_reset Failed text e = no_reset (list_any is_long (lines_of text)) (lines_of text) e
+never_reset Large text e = absurd cc
+never_reset Stopped text e = no_reset (list_any is_long (lines_of text)) (lines_of text) e
+
+no_alarm : {A : Type 0} (k : ℕ) (t : Bool) (lines : List (List ℕ)) → stops.Alarm k ≡ cond t (long_line lines) stops.End → A
+no_alarm k true lines e = absurd cc
+no_alarm k false lines e = absurd cc
+
+never_alarm : {A : Type 0} (k : ℕ) (r : Reading) (text : List ℕ) → stops.Alarm k ≡ stop_by r text → A
+never_alarm k Ended text e = no_alarm k (list_any is_long (lines_of text)) (lines_of text) e
+never_alarm k Failed text e = no_alarm k (list_any is_long (lines_of text)) (lines_of text) e
+never_alarm k Large text e = absurd cc
+never_alarm k Stopped text e = no_alarm k (list_any is_long (lines_of text)) (lines_of text) e
+
+-- ---- a job that was sent to its end
+
+neither : (a b : Bool) → (a || b) ≡ false → (a ≡ false) × (b ≡ false)
+neither true b e = absurd cc
+neither false b e = (refl, e)
+
+all_short : (lines : List (List ℕ)) → list_any is_long lines ≡ false → AllByRecursion (λ l. ends_sending l ≡ false) lines
+all_short [] e = tt
+all_short (l ∷ ls) e = let p = neither (is_long l) (list_any is_long ls) e in (p.0, all_short ls p.1)
+
+read_to_end : (r : Reading) (text left : List ℕ) → is_failed r ≡ false → (r ≡ Large → ⊥) → MayLeave r left → r ≡ Ended
+read_to_end Ended text left well small leaves = refl
+read_to_end Failed text left well small leaves = absurd cc
+read_to_end Large text left well small leaves = absurd (small refl)
+read_to_end Stopped text left well small leaves = absurd leaves
+
+-- all of it was read, and each of its lines sent
+record SentAll (job_was job_is : SourceState) (was is : Sinks) (end : RunEnd) (run : IsRun job_was job_is was is end) : Type 0 where
+  over : run.reading ≡ Ended
+  few : length run.read ≤ largest_job
+  lines : run.lines ≡ lines_of run.read
+
+sent_all : (job_was job_is : SourceState) (was is : Sinks) (end : RunEnd) (run : IsRun job_was job_is was is end) → end.source_failed ≡ false → end.stop ≡ stops.End
+    → SentAll job_was job_is was is end run
+sent_all job_was job_is was is end run well stop =
+    let sent = run.sent in
+    let why = end_means run.reading run.scanned (sym stop ∙ sent.cause) in
+    let leaves = sent.scans.whole why.0 in
+    let over : run.reading ≡ Ended = read_to_end run.reading run.scanned sent.scans.scans.left (sym run.failed ∙ well) why.1 leaves in
+    let few : length run.read ≤ largest_job = subst (λ r. MayHaveRead r (length run.read)) over sent.fits in
+    let whole : job_of run.read ≡ run.read = take_all largest_job run.read few in
+    let none : sent.scans.scans.left ≡ [] = subst (λ r. MayLeave r sent.scans.scans.left) over leaves in
+    let all : run.read ≡ run.scanned = sym whole ∙ sent.scans.scans.front ∙ ap (λ (x : List ℕ). run.scanned ++ x) none ∙ append-nil run.scanned in
+    let short : AllByRecursion (λ l. ends_sending l ≡ false) (lines_of run.read) =
+    subst (λ (x : List ℕ). AllByRecursion (λ l. ends_sending l ≡ false) (lines_of x)) (sym all) (all_short (lines_of run.scanned) why.0) in
+    record {
+      over = over;
+      few = few;
+      lines = sent.sent ∙ ap (λ r. lines_to_send r (job_of run.read)) over ∙ ap (lines_to_send Ended) whole ∙ all_are_sent Ended run.read short;
+    }
+
+-- ---- what was written
 
 whole_text : (a b : SinkState) (failed : Bool) (text : List ℕ) → failed ≡ false → Took a b failed text → Appends a.held b.held text
 whole_text a b failed text well was = rw (was.whole, was.all well, append-nil was.front) was.held
 
-by_errors_not : (n : ℕ) → (by_errors n ≢ SourceFault) × (by_errors n ≢ ConsoleFault) × (by_errors n ≢ StepsFault) × (by_errors n ≢ TooLarge)
-by_errors_not zero = ((λ e. cc), (λ e. cc), (λ e. cc), (λ e. cc))
-by_errors_not (suc n) = ((λ e. cc), (λ e. cc), (λ e. cc), (λ e. cc))
+-- Bye has no text
+without_bye : (replies : List Reply) → replies_text (replies ++ Bye ∷ []) ≡ replies_text replies
+unfolding reply_text
+without_bye [] = refl
+without_bye (r ∷ rs) = ap (λ (t : List ℕ). reply_text r ++ t) (without_bye rs)
 
-errors_have_run : (n : ℕ) → HasRun (by_errors n)
+told_text : (replies : List Reply) (outcomes : List Outcome) → replies ≡ replies_in outcomes ++ Bye ∷ [] → replies_text replies ≡ replies_text (replies_in outcomes)
+told_text replies outcomes told = ap replies_text told ∙ without_bye (replies_in outcomes)
+
+-- ---- the causes
+
+pub by_errors_not : (n : ℕ) → (by_errors n ≢ SourceFault) × (by_errors n ≢ ConsoleFault) × (by_errors n ≢ StepsFault) × (by_errors n ≢ TooLarge) × ((k : ℕ) → by_errors n ≢ LongLine k)
+by_errors_not zero = ((λ e. cc), (λ e. cc), (λ e. cc), (λ e. cc), (λ k e. cc))
+by_errors_not (suc n) = ((λ e. cc), (λ e. cc), (λ e. cc), (λ e. cc), (λ k e. cc))
+
+pub errors_have_run : (n : ℕ) → HasRun (by_errors n)
 errors_have_run zero = tt
 errors_have_run (suc n) = tt
 
--- what is told and read to its end is all that was told
-read_whole : (a b : Option (List ℕ)) (bytes read : List ℕ) → a ≡ Some bytes → Consumes a b read → IsAtEnd b → read ≡ bytes
-read_whole None b bytes read told taken end = absurd cc
-read_whole (Some xs) None bytes read told taken end = absurd taken
-read_whole (Some xs) (Some ys) bytes read told taken end =
-    let is : xs ≡ bytes = cc in
-    sym (sym is ∙ taken ∙ ap (λ l. read ++ l) end ∙ append-nil read)
-
--- no more is read than is told
-read_fits : (a b : Option (List ℕ)) (bytes read : List ℕ) → a ≡ Some bytes → Consumes a b read → length read ≤ length bytes
-read_fits None b bytes read told taken = absurd cc
-read_fits (Some xs) None bytes read told taken = absurd taken
-read_fits (Some xs) (Some ys) bytes read told taken =
-    let is : xs ≡ bytes = cc in
-    let size : length bytes ≡ length read + length ys = ap length (sym is ∙ taken) ∙ length-append read ys in
-    omega (arith, size)
-
-fits_at : (reading other : Reading) (n : ℕ) → reading ≡ other → FitsReading reading n → FitsReading other n
-fits_at reading other n e fits = let P : Reading → Type 0 = λ r. FitsReading r n in subst P e fits
-
--- the outcomes among what was passed
-outcomes_in : List Passed → List Outcome
-outcomes_in [] = []
-outcomes_in (a_line o ∷ ps) = o ∷ outcomes_in ps
-
-outcomes_back : (os : List Outcome) → outcomes_in (map a_line os) ≡ os
-unfolding outcomes_in
-outcomes_back [] = refl
-outcomes_back (o ∷ os) = ap (λ xs. o ∷ xs) (outcomes_back os)
-
--- the causes, by what failed and how the reading ended
-by_cases : (a b : SourceState) (old new : Sinks) (status : Status) (run : IsRun a b old new status) (sf cf : Bool) (reading : Reading)
-    → run.steps_failed ≡ sf → run.console_failed ≡ cf → run.reading ≡ reading
-    → HasCauses a b old new (first_cause sf cf reading (errors_in run.outcomes))
-by_cases a b old new status run true cf reading es ec er = record {
-  complete = λ job source console steps. absurd (steps (run.steps.cause es));
+-- by what failed, and why no more of the job was sent
+by_cases : (job_was job_is : SourceState) (was is : Sinks) (end : RunEnd) (run : IsRun job_was job_is was is end) (steps_failed console_failed source_failed : Bool) (stop : Stop)
+    → end.steps_failed ≡ steps_failed → end.console_failed ≡ console_failed → end.source_failed ≡ source_failed → end.stop ≡ stop
+    → HasCauses job_was job_is was is (cond steps_failed StepsFault (cond console_failed ConsoleFault (cond source_failed SourceFault (by_stop stop end.errors))))
+by_cases job_was job_is was is end run true cf nf stop es ec en et = record {
   has_run = tt;
   source = λ e. absurd cc;
   console = λ e. absurd cc;
   steps = λ e. run.steps.cause es;
   large = λ e. absurd cc;
+  long = λ k e. absurd cc;
   whole = λ w. absurd w;
+  complete = λ job source console steps. absurd (steps (run.steps.cause es));
 }
-by_cases a b old new status run false true reading es ec er = record {
-  complete = λ job source console steps. absurd (console (run.console.cause ec));
+by_cases job_was job_is was is end run false true nf stop es ec en et = record {
   has_run = tt;
   source = λ e. absurd cc;
   console = λ e. run.console.cause ec;
   steps = λ e. absurd cc;
   large = λ e. absurd cc;
+  long = λ k e. absurd cc;
   whole = λ w. absurd w;
+  complete = λ job source console steps. absurd (console (run.console.cause ec));
 }
-by_cases a b old new status run false false Failed es ec er = record {
-  complete = λ job source console steps. absurd (source (run.source er));
+by_cases job_was job_is was is end run false false true stop es ec en et = record {
   has_run = tt;
-  source = λ e. run.source er;
+  source = λ e. run.source en;
   console = λ e. absurd cc;
   steps = λ e. absurd cc;
   large = λ e. absurd cc;
+  long = λ k e. absurd cc;
   whole = λ w. absurd w;
+  complete = λ job source console steps. absurd (source (run.source en));
 }
-by_cases a b old new status run false false Large es ec er = record {
-  complete = λ job source console steps.
-      let more : largest_job < length run.read = (fits_at run.reading Large (length run.read) er run.fits).0 in
-      absurd (omega (arith, more, job.few, read_fits a.left b.left job.bytes run.read job.told run.taken));
+by_cases job_was job_is was is end run false false false stops.TooLarge es ec en et = record {
   has_run = tt;
   source = λ e. absurd cc;
   console = λ e. absurd cc;
   steps = λ e. absurd cc;
-  large = λ e. record { read = run.read; taken = run.taken; more = fits_at run.reading Large (length run.read) er run.fits };
+  large = λ e. record {
+    read = run.read;
+    taken = run.taken;
+    more = subst (λ r. MayHaveRead r (length run.read)) (large_means run.reading run.scanned (sym et ∙ run.sent.cause)) run.sent.fits;
+  };
+  long = λ k e. absurd cc;
   whole = λ w. absurd w;
+  complete = λ job source console steps. absurd (let e = sym (complete job_was job_is was is end run job en).stop ∙ et in cc);
 }
-by_cases a b old new status run false false Ended es ec er =
-    let not = by_errors_not (errors_in run.outcomes) in
-    let few : length run.read ≤ 16777216 = fits_at run.reading Ended (length run.read) er run.fits in
-    let lines : sent_lines run.reading (job_of run.read) ≡ lines_of run.read = ap (λ r. sent_lines r (job_of run.read)) er ∙ ap lines_of (whole_job run.read few) in
-    record {
-      has_run = errors_have_run (errors_in run.outcomes);
-      complete = λ job source console steps.
-          let read : run.read ≡ job.bytes = read_whole a.left b.left job.bytes run.read job.told run.taken (run.at_end er) in
-          let answered : Follows false (start run.first) (map plain (lines_of job.bytes)) (map a_line run.outcomes) run.last = rw (← read, ← lines) run.answered in
-          let first : run.first ≡ job.first = one_opening run.first job.first run.opening job.opening in
-          let passed : map a_line run.outcomes ≡ map a_line job.outcomes =
-          (one_run (start job.first) run.last job.last (map plain (lines_of job.bytes)) (map a_line run.outcomes) (map a_line job.outcomes) (rw first at answered) job.answered).0 in
-          let same : run.outcomes ≡ job.outcomes = sym (outcomes_back run.outcomes) ∙ ap outcomes_in passed ∙ outcomes_back job.outcomes in
-          ap by_errors (ap errors_in same ∙ job.accepted);
-      source = λ e. absurd (not.0 e);
-      console = λ e. absurd (not.1 e);
-      steps = λ e. absurd (not.2 e);
-      large = λ e. absurd (not.3 e);
+by_cases job_was job_is was is end run false false false (stops.LongLine k) es ec en et = record {
+  has_run = tt;
+  source = λ e. absurd cc;
+  console = λ e. absurd cc;
+  steps = λ e. absurd cc;
+  large = λ e. absurd cc;
+  long = λ j e.
+      let why = long_means k run.reading run.scanned (sym et ∙ run.sent.cause) in let same : j ≡ k = cc in record {
+        read = run.read;
+        reading = run.reading;
+        scanned = run.scanned;
+        taken = run.taken;
+        scans = run.sent.scans;
+        some = why.0;
+        first = same ∙ why.1;
+      };
+  whole = λ w. absurd w;
+  complete = λ job source console steps. absurd (let e = sym (complete job_was job_is was is end run job en).stop ∙ et in cc);
+}
+by_cases job_was job_is was is end run false false false stops.Reset es ec en et = never_reset run.reading run.scanned (sym et ∙ run.sent.cause)
+by_cases job_was job_is was is end run false false false (stops.Alarm k) es ec en et = never_alarm k run.reading run.scanned (sym et ∙ run.sent.cause)
+by_cases job_was job_is was is end run false false false stops.End es ec en et =
+    let none = by_errors_not end.errors in let all = sent_all job_was job_is was is end run en et in record {
+      has_run = errors_have_run end.errors;
+      source = λ e. absurd (none.0 e);
+      console = λ e. absurd (none.1 e);
+      steps = λ e. absurd (none.2 e);
+      large = λ e. absurd (none.3 e);
+      long = λ k e. absurd (none.4 k e);
       whole = λ w. record {
         job = run.read;
         first = run.first;
         outcomes = run.outcomes;
         last = run.last;
         taken = run.taken;
-        whole = run.at_end er;
-        few = few;
+        whole = run.at_end all.over;
+        few = all.few;
         opening = run.opening;
-        answered = rw (← lines) run.answered;
-        console = whole_text _ _ run.console_failed _ ec run.console;
+        answered = subst (λ (ls : List (List ℕ)). Follows true (start run.first) (map plain ls) (map a_line run.outcomes) run.last) all.lines run.follows;
+        console = rw (← told_text run.replies run.outcomes run.told) (whole_text was.console is.console end.console_failed (replies_text run.replies) ec run.console);
         records = run.records;
         driven = run.driven;
-        steps = whole_text _ _ run.steps_failed _ es run.steps;
-        status_is = refl;
+        steps = whole_text was.steps is.steps end.steps_failed _ es run.steps;
+        status_is = ap by_errors run.errors;
       };
+      complete = λ job source console steps. ap by_errors (complete job_was job_is was is end run job en).errors;
     }
 
-pub has_causes : (a b : SourceState) (old new : Sinks) (status : Status) → IsRun a b old new status → HasCauses a b old new status
-has_causes a b old new status run = rw run.status_is (by_cases a b old new status run run.steps_failed run.console_failed run.reading refl refl refl)
+pub has_causes : (job_was job_is : SourceState) (was is : Sinks) (status : Status) → EndsWith job_was job_is was is status → HasCauses job_was job_is was is status
+has_causes job_was job_is was is status ends =
+    rw ends.status_is (by_cases job_was job_is was is ends.end ends.run ends.end.steps_failed ends.end.console_failed ends.end.source_failed ends.end.stop refl refl refl refl)

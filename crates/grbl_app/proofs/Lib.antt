@@ -1,6 +1,3 @@
-pub mod CommandLine
-pub mod Written
-pub mod Driven
-pub mod Answering
-pub mod Feeding
 pub mod Endings
+pub mod Tasks
+pub mod Demos

@@ -1,52 +1,80 @@
-//! The program: a job is read, its lines are answered, and its step events are written.
+//! The program: a job is streamed, its lines are answered, and its step events are written.
 #![tactic(auto)]
 
-ghost use Rattle.std.specs.Prelude.{◌≡◌, ◌⊎◌, map};
+ghost use Rattle.std.specs.Prelude.{◌≡◌, ◌⊎◌, ℕ, map};
 ghost use Rattle.outside.specs.Causes.{Rose};
-ghost use Rattle.grbl_app.specs.Command.{Refuses};
-ghost use Rattle.grbl_app.specs.Ends.{IsWhole, IsRun, IsWholeRun, TookMore, IsAcceptedJob, HasNotBegun, HasRun, HasCauses};
-ghost use Rattle.grbl_app.specs.Engines.{Sinks};
+ghost use Rattle.run_core.specs.Worlds.{Devices, devices, Stands, no_history, HasRunOn, AreDone};
+ghost use Rattle.run_law.specs.Complete.{IsAcceptedJob};
+ghost use Rattle.command_line.specs.Command.{Asks, Refuses};
+ghost use Rattle.command_line.specs.declared.Task.TheVariants as tasks;
+ghost use Rattle.grbl_app.specs.Demos.{IsDemo};
+ghost use Rattle.grbl_app.specs.Ends.{EndsWith, IsWhole, IsWholeRun, TookMore, HasLongLine, HasNotBegun, HasRun, HasCauses};
 
-mod command;
-mod engine;
-mod open_line;
-mod output;
-mod reading;
+mod demo;
 mod status;
 
-pub use command::accepted_words;
-use command::{Task, WordsFault, read_words};
-use engine::Engine;
-use open_line::OpenLine;
-use outside::{Gate, Sink, Source};
-use reading::{finish, read_job};
-use status::first_cause;
+pub use command_line::accepted_words;
+use command_line::{Task, WordsFault, read_words};
+use demo::run_demo;
+pub use demo_job::demo_line;
+use outside::{Gate, OutOfMemory, Sink, Source};
+use run_core::{World, run_lockstep, run_patiently};
+use status::status_of;
 pub use status::{Status, exit_number, put_fault};
 use std::alloc::Global;
 use std::sync::Wait;
 use std::thread::Threads;
 
-/// Streams a job on the calling thread.
-fn stream<So: Source, Co: Sink, St: Sink>(job: &mut So, console: &mut Co, steps: &mut St) -> Status
-    ensures run { IsRun (So.state job.old) (So.state job.new)
+/// Lets the four actors of a world run: in lockstep where a seed gives the order of the turns, else so that whoever sends the
+/// job gets each answer before more of it is waited for.
+fn run_world<R: Wait, So: Source, Co: Sink, St: Sink>(
+    rt: &R,
+    world: &mut World,
+    seed: Option<u64>,
+    job: &mut So,
+    console: &mut Co,
+    steps: &mut St,
+)
+    ensures goes_on { HasRunOn (devices (So.state job.old) (Co.state console.old) (St.state steps.old)) (devices (So.state job.new) (Co.state console.new) (St.state steps.new)) world.old world.new }
+    ensures done { AreDone world.new }
+{
+    match seed {
+        Some(seed) => run_lockstep(rt, world, seed, job, console, steps),
+        None => run_patiently(rt, world, job, console, steps),
+    }
+}
+
+/// Streams a job through a new world.
+fn stream<R: Wait, So: Source, Co: Sink, St: Sink>(
+    rt: &R,
+    world: &mut World,
+    seed: Option<u64>,
+    job: &mut So,
+    console: &mut Co,
+    steps: &mut St,
+) -> Status
+    requires fresh { (now : Devices) → Stands now now world.old no_history }
+    ensures run { EndsWith (So.state job.old) (So.state job.new)
         (record { console = Co.state console.old; steps = St.state steps.old })
         (record { console = Co.state console.new; steps = St.state steps.new }) result }
     ensures causes { HasCauses (So.state job.old) (So.state job.new)
         (record { console = Co.state console.old; steps = St.state steps.old })
         (record { console = Co.state console.new; steps = St.state steps.new }) result }
 {
-    let mut engine = Engine::new();
-    let mut line = OpenLine::new();
-    engine.greet(console, steps);
-    let reading = read_job(job, &mut line, &mut engine, console, steps);
-    finish(&line, &mut engine, reading, console, steps);
-    first_cause(&engine, reading)
+    run_world(rt, world, seed, job, console, steps);
+    status_of(&world.end())
 }
 
-/// Runs the command that the words name; they do not hold the program's own name. The one command is
+/// Runs the command that the words name; they do not hold the program's own name.
+///
 /// `stream`: the job is read to its end, or up to its first 16,777,216 bytes. The banner, and what each line tells and
 /// is answered, go to the console; the step events and the marks of the lines answered `ok`, and `E`, to the steps. A
-/// sink that fails is given nothing more, and the run goes on to its end.
+/// sink that fails is given nothing more, and the run goes on to its end. With `--lockstep SEED` the seed gives the order in
+/// which the four actors take turns.
+///
+/// `demo N`: the generated job of N moves is run so, with N as the seed. The console takes one line on the run, and the job
+/// is left as it is.
+#[tactic(auto, using(crate::proofs::Tasks::no_stream, crate::proofs::Tasks::same_moves))]
 pub fn run_grbl<
     R: Threads + Wait + Sync,
     So: Source + Send,
@@ -54,7 +82,7 @@ pub fn run_grbl<
     St: Sink + Send,
     G: Gate + Sync,
 >(
-    _rt: &R,
+    rt: &R,
     alloc: Global,
     words: &[&str],
     job: &mut So,
@@ -63,38 +91,52 @@ pub fn run_grbl<
     _gate: &G,
 ) -> Status
     // Words that the command line refuses are no run, and then nothing is read or written; so it is where there is no
-    // memory to read the words.
+    // memory.
     ensures refused { Refuses (map (λ w. w.now) words.now) → HasNotBegun result }
     ensures usage { result ≡ Status.Usage → Refuses (map (λ w. w.now) words.now) }
     ensures untouched { HasNotBegun result →
         (So.state job.new ≡ So.state job.old) × (Co.state console.new ≡ Co.state console.old) × (St.state steps.new ≡ St.state steps.old) }
 
-    // A fault comes only where its device's count of faults rose.
-    ensures source_fault { result ≡ Status.SourceFault → Rose (So.state job.old).faults (So.state job.new).faults }
+    // A fault comes only where its device's count of faults rose, and the job is cut only where it is too large or a line is
+    // too long.
+    ensures source_fault { (seed : _) → Asks (tasks.Stream seed) (map (λ w. w.now) words.now) → result ≡ Status.SourceFault → Rose (So.state job.old).faults (So.state job.new).faults }
     ensures console_fault { result ≡ Status.ConsoleFault → Rose (Co.state console.old).faults (Co.state console.new).faults }
     ensures steps_fault { result ≡ Status.StepsFault → Rose (St.state steps.old).faults (St.state steps.new).faults }
-    ensures too_large { result ≡ Status.TooLarge → TookMore (So.state job.old) (So.state job.new) }
+    ensures too_large { (seed : _) → Asks (tasks.Stream seed) (map (λ w. w.now) words.now) → result ≡ Status.TooLarge → TookMore (So.state job.old) (So.state job.new) }
+    ensures long_line { (seed : _) (k : ℕ) → Asks (tasks.Stream seed) (map (λ w. w.now) words.now) → result ≡ Status.LongLine k → HasLongLine (So.state job.old) (So.state job.new) k }
 
     // What is written, and the status, for every job and every fault.
-    ensures run { HasRun result → IsRun (So.state job.old) (So.state job.new)
+    ensures run { (seed : _) → Asks (tasks.Stream seed) (map (λ w. w.now) words.now) → HasRun result → EndsWith (So.state job.old) (So.state job.new)
         (record { console = Co.state console.old; steps = St.state steps.old })
         (record { console = Co.state console.new; steps = St.state steps.new }) result }
 
     // The recorded events are, in order and each once, those of the lines answered `ok`.
-    ensures whole_run { IsWhole result → IsWholeRun (So.state job.old) (So.state job.new)
+    ensures whole_run { (seed : _) → Asks (tasks.Stream seed) (map (λ w. w.now) words.now) → IsWhole result → IsWholeRun (So.state job.old) (So.state job.new)
         (record { console = Co.state console.old; steps = St.state steps.old })
         (record { console = Co.state console.new; steps = St.state steps.new }) result }
 
     // A job whose lines are all accepted is done, where no device fails.
-    ensures complete { ¬ Refuses (map (λ w. w.now) words.now) → IsAcceptedJob (So.state job.old) →
+    ensures complete { (seed : _) → Asks (tasks.Stream seed) (map (λ w. w.now) words.now) → ¬ Refuses (map (λ w. w.now) words.now) → IsAcceptedJob (So.state job.old) →
         ¬ Rose (So.state job.old).faults (So.state job.new).faults →
         ¬ Rose (Co.state console.old).faults (Co.state console.new).faults →
         ¬ Rose (St.state steps.old).faults (St.state steps.new).faults →
         (result ≡ Status.Done) ⊎ (result ≡ Status.OutOfMemory) }
+
+    // The demo runs the generated job, and leaves the source as it is.
+    ensures demo { (n : ℕ) → Asks (tasks.Demo n) (map (λ w. w.now) words.now) → HasRun result →
+        IsDemo n (Co.state console.old) (Co.state console.new) (St.state steps.old) (St.state steps.new) result × (So.state job.new ≡ So.state job.old) }
 {
-    match read_words(alloc, words) {
-        Ok(Task::Stream) => stream(job, console, steps),
-        Err(WordsFault::Refused) => Status::Usage,
-        Err(WordsFault::OutOfMemory) => Status::OutOfMemory,
+    let task = match read_words(alloc, words) {
+        Ok(task) => task,
+        Err(WordsFault::Refused) => return Status::Usage,
+        Err(WordsFault::OutOfMemory) => return Status::OutOfMemory,
+    };
+    let mut world = match World::new(alloc) {
+        Ok(world) => world,
+        Err(OutOfMemory) => return Status::OutOfMemory,
+    };
+    match task {
+        Task::Stream(seed) => stream(rt, &mut world, seed, job, console, steps),
+        Task::Demo(moves) => run_demo(rt, &mut world, moves, console, steps),
     }
 }

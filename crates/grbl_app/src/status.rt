@@ -2,12 +2,12 @@
 
 ghost use Rattle.std.specs.Prelude.{◌≡◌, ◌≤◌, ◌+◌, ◌++◌, length, codes, decimal};
 ghost use Rattle.arrayvec.specs.ArrayVec.{array_vec_len};
-ghost use Rattle.grbl_app.specs.Ends.{first_cause, by_errors};
+ghost use Rattle.grbl_app.specs.Ends.{by_errors, status_of};
 ghost use Rattle.grbl_app.specs.Faults.{fault_text, exit_number_of};
 
-use crate::engine::Engine;
 use itoa::Buffer;
-use run_rules::Reading;
+use run_law::RunEnd;
+use stream_host::Stop;
 use units::{Text, append};
 
 /// How a run ended. Where several hold, the first of `Usage`, `OutOfMemory`, `StepsFault`, `ConsoleFault`,
@@ -38,7 +38,7 @@ pub enum Status {
     OutOfMemory,
 }
 
-/// The status of a run to its source's end, whose texts were written.
+/// The status of a run whose job was sent to its end, and whose texts were written.
 fn by_errors(errors: u32) -> Status
     ensures { result ≡ by_errors errors }
 {
@@ -49,20 +49,25 @@ fn by_errors(errors: u32) -> Status
     }
 }
 
-/// The status of a run: the first cause that holds.
-pub(crate) fn first_cause(engine: &Engine, reading: Reading) -> Status
-    ensures { result ≡ first_cause engine.now.drive.recorder.failed engine.now.console.text.failed reading engine.now.errors }
+/// The status of a run, by how it ended: the first cause that holds.
+pub(crate) fn status_of(end: &RunEnd) -> Status
+    ensures { result ≡ status_of end.now }
 {
-    if engine.drive.failed() {
+    if end.steps_failed {
         return Status::StepsFault;
     }
-    if engine.console.failed() {
+    if end.console_failed {
         return Status::ConsoleFault;
     }
-    match reading {
-        Reading::Failed => Status::SourceFault,
-        Reading::Large => Status::TooLarge,
-        Reading::Ended => by_errors(engine.errors),
+    if end.source_failed {
+        return Status::SourceFault;
+    }
+    match end.stop {
+        Stop::End => by_errors(end.errors),
+        Stop::LongLine(line) => Status::LongLine(line),
+        Stop::TooLarge => Status::TooLarge,
+        Stop::Reset => Status::Reset,
+        Stop::Alarm(line) => Status::Alarm(line),
     }
 }
 

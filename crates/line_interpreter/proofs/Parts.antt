@@ -50,15 +50,6 @@ drop_suc (suc n) (t ∷ w) = drop_suc n w
 pub drop_on : (n : ℕ) (w : List Task) → drop (n + 1) w ≡ drop 1 (drop n w)
 drop_on n w = let e : n + 1 ≡ suc n = omega arith in ap (λ k. drop k w) e ∙ drop_suc n w
 
-first_of : List Task → Task → Task
-first_of [] d = d
-first_of (y ∷ v) d = y
-
-pub next_behind : (w later : List Task) (t : Task) → IsNextOf t w → (w ++ later ≡ t ∷ drop 1 w ++ later) × (drop 1 (w ++ later) ≡ drop 1 w ++ later)
-unfolding first_of
-next_behind [] later t e = absurd cc
-next_behind (x ∷ w) later t e = let same : x ≡ t = ap (λ (v : List Task). first_of v t) e in (rw same refl, refl)
-
 pub settings_are : (s : Settings) → length (setting_replies s) ≡ 15
 unfolding setting_replies
 settings_are s = refl

@@ -10,7 +10,7 @@ use Rattle.gcode_check.specs.declared.Item.{Item}
 use Rattle.gcode_check.specs.Items.{IsItem}
 use Rattle.modal_state.specs.declared.SpindleMode.{SpindleMode}
 use Rattle.run_rules.specs.declared.State.{State}
-use Rattle.run_rules.specs.Work.{Task, telling}
+use Rattle.run_rules.specs.Work.{Task, telling, closing_work}
 use Rattle.run_rules.specs.Work.Task.{ask, tell, finish}
 use Rattle.run_rules.specs.Asks.{spindle_after, flood_after, item_work, work_of}
 use Rattle.line_interpreter.specs.declared.tasks.Line.{Line}
@@ -18,10 +18,6 @@ use Rattle.line_interpreter.specs.declared.tasks.Body.{Body}
 use Rattle.line_interpreter.specs.declared.tasks.Body.TheVariants.{Nothing, Opening, Closing, Accepted, Refused, Settings as TheSettings, Modes, Offsets, Items}
 use Rattle.line_interpreter.specs.declared.tasks.Todo.{Todo}
 use Rattle.line_interpreter.specs.declared.tasks.Todo.TheVariants as todo
-
--- behind the last line the machine comes to rest, gets the end, and Bye is told
-abbrev pub closing_work : List Task
-closing_work = ask a_rest ∷ finish ∷ tell replies.Bye ∷ []
 
 -- the tasks of the present item, or of the whole where there are no items
 abbrev pub part : Body → ℕ → State → SpindleMode → Bool → List Item → List Task

@@ -6,11 +6,11 @@ ghost use Rattle.gcode_check.specs.Verdicts.{verdict};
 ghost use Rattle.system_lines.specs.Commands.{command_of, kind_of, needs_rest};
 ghost use Rattle.system_lines.specs.Setting.{apply_refusal};
 ghost use Rattle.run_rules.specs.States.{IsState, IsOpening};
-ghost use Rattle.run_rules.specs.Work.{Outcome, telling};
+ghost use Rattle.run_rules.specs.Work.{Outcome, telling, closing_work};
 ghost use Rattle.run_rules.specs.Outcomes.{refused, fault_number, BySetting, ByCommand, ByVerdict, ByWords};
 ghost use Rattle.line_interpreter.specs.Finding.{ByDollarFound, ByKeptFound, Found};
 ghost use Rattle.line_interpreter.specs.Keeping.{IsKept};
-ghost use Rattle.line_interpreter.specs.Lefts.{IsSound, IsSettled, IsTodo, work_left, closing_work};
+ghost use Rattle.line_interpreter.specs.Lefts.{IsSound, IsSettled, IsTodo, work_left};
 ghost use Rattle.line_interpreter.specs.Desks.{IsReady, standing, Begun};
 
 use crate::kept::KeptLine;

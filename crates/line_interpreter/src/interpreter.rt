@@ -3,12 +3,12 @@
 ghost use Rattle.std.specs.Prelude.{◌≡◌, ◌≢◌, ◌+◌, ◌<◌, ◌^◌, ℕ, Bool, List, [], ◌∷◌, drop, not, true, false};
 ghost use Rattle.status_report.specs.declared.Reply.TheVariants as replies;
 ghost use Rattle.run_rules.specs.States.{IsState, IsOpening};
-ghost use Rattle.run_rules.specs.Work.{Outcome, telling};
+ghost use Rattle.run_rules.specs.Work.{Outcome, telling, closing_work};
 ghost use Rattle.run_rules.specs.Told.{is_error};
 ghost use Rattle.run_rules.specs.Outcomes.{Before, Becomes};
 ghost use Rattle.line_interpreter.specs.Keeping.{IsKept};
 ghost use Rattle.line_interpreter.specs.Finding.{Found};
-ghost use Rattle.line_interpreter.specs.Lefts.{IsTodo, closing_work};
+ghost use Rattle.line_interpreter.specs.Lefts.{IsTodo};
 ghost use Rattle.line_interpreter.specs.Interpreting.{stands_before};
 
 use crate::desk::Desk;
@@ -61,7 +61,7 @@ impl Interpreter {
         self.desk.judge(line, running)
     }
 
-    /// Behind the last line the machine comes to rest, gets the end, and Bye is told.
+    /// Behind the last line the machine gets the end, which waits for it to rest, and Bye is told.
     pub fn close(&mut self)
         ensures { self.new ≡ record self.old { left = closing_work } }
     {

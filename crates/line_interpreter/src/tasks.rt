@@ -6,7 +6,7 @@ ghost use Rattle.step_line.specs.Asking.{IsPlannedMove};
 ghost use Rattle.step_line.specs.Asking.Asked.{a_move, a_mark, a_rest};
 ghost use Rattle.gcode_check.specs.Items.{IsItem};
 ghost use Rattle.run_rules.specs.Asks.{planned, move_asked, spindle_off, coolant_off, spindle_after, flood_after, at_rest, item_work};
-ghost use Rattle.run_rules.specs.Work.{telling, asking};
+ghost use Rattle.run_rules.specs.Work.{telling, asking, closing_work};
 ghost use Rattle.run_rules.specs.Work.Task.{ask, tell, finish};
 ghost use Rattle.status_report.specs.Replies.{IsReply};
 ghost use Rattle.status_report.specs.Lists.{setting_replies, modes_replies, offset_replies};
@@ -17,7 +17,7 @@ ghost use Rattle.settings.specs.Numbers.{IsSettings};
 ghost use Rattle.run_rules.specs.States.{IsState};
 ghost use Rattle.step_line.specs.Counting.{events_of};
 ghost use Rattle.run_rules.specs.declared.State.{State as AnyState};
-ghost use Rattle.line_interpreter.specs.Lefts.{IsTodo, IsSound, part_left, work_left, IsSettled, closing_work};
+ghost use Rattle.line_interpreter.specs.Lefts.{IsTodo, IsSound, part_left, work_left, IsSettled};
 
 use gcode_check::{Item, Items};
 use modal_state::{Offsets, Parser, SpindleMode};
@@ -42,7 +42,7 @@ pub enum Todo {
     Move(PlannedMove),
     /// A reply is told.
     Tell(Reply),
-    /// The end is given to the machine.
+    /// The machine comes to rest, and the end is given to it.
     Finish,
 }
 
@@ -125,6 +125,16 @@ fn move_todo(m: PlannedMove, stage: u8) -> Todo
     Todo::Move(m)
 }
 
+/// What is next of a pause, which comes to rest.
+fn pause_todo(stage: u8) -> Todo
+    ensures next { IsTodo result (drop stage (ask a_rest ∷ [])) }
+{
+    match stage {
+        0 => Todo::Rest,
+        _ => Todo::Nothing,
+    }
+}
+
 /// What is next of the end of a program: all that is planned is run, what is on is turned off, and it is told.
 fn end_todo(running: Running, stage: u8) -> Todo
     ensures next { IsTodo result (drop stage (at_rest (spindle_off running.spindle ++ coolant_off running.flood) ++ tell (Reply.Message Message.ProgramEnd) ∷ [])) }
@@ -193,8 +203,7 @@ fn item_todo(item: &Item, line: u32, settings: &Settings, running: Running, stag
         Item::Coolant(on) => mark_todo(Mark::Coolant(*on), stage),
         Item::Dwell(ms) => mark_todo(Mark::Dwell(*ms), stage),
         Item::Move(mv, rate) => move_todo(planned(line, settings, *mv, *rate), stage),
-        // On one thread nothing is to be waited for.
-        Item::Pause => Todo::Nothing,
+        Item::Pause => pause_todo(stage),
         Item::ProgramEnd => end_todo(running, stage),
     }
 }
@@ -244,9 +253,8 @@ fn closing_todo(stage: u8) -> Todo
     ensures next { IsTodo result (drop stage closing_work) }
 {
     match stage {
-        0 => Todo::Rest,
-        1 => Todo::Finish,
-        2 => Todo::Tell(Reply::Bye),
+        0 => Todo::Finish,
+        1 => Todo::Tell(Reply::Bye),
         _ => Todo::Nothing,
     }
 }

@@ -57,7 +57,7 @@ fn each_line_is_done_task_by_task(rt: HostRuntime) {
         (b"G1X1", b"e"),
         (b"M3S1000", b"rmrk"),
         (b"M8G4P1", b"rmrrmrk"),
-        (b"M0", b"k"),
+        (b"M0", b"rk"),
         (b"$X", b"k"),
         (b"$G", b"tk"),
         (b"$$", b"tttttttttttttttk"),
@@ -77,5 +77,5 @@ fn each_line_is_done_task_by_task(rt: HostRuntime) {
         b"e".as_slice()
     );
     interpreter.close();
-    assert_eq!(rt; work(&mut interpreter).as_slice(), b"rft".as_slice());
+    assert_eq!(rt; work(&mut interpreter).as_slice(), b"ft".as_slice());
 }

@@ -10,9 +10,9 @@ use Rattle.shared_rings.specs.Shelf.{Shelf}
 use Rattle.step_line.specs.declared.Piece.{Piece}
 use Rattle.step_line.specs.Logs.{NewestFirst}
 use Rattle.step_line.specs.Ordering.{ComesNext, InTurn, has_ended}
-use Rattle.step_line.specs.Finishing.{tick_count, ticks_together}
+use Rattle.step_line.specs.Finishing.{tick_count, ticks_together, most_unfinished}
 use Rattle.motion_ring.specs.declared.view.Sight.{Sight}
-use Rattle.motion_ring.specs.Ticks.{most_unfinished, slots, head_word, done_word, all_words, room_from, unfinished_of}
+use Rattle.motion_ring.specs.Ticks.{slots, head_word, done_word, all_words, room_from, unfinished_of}
 
 -- what the seat that publishes knows
 pub record Publishes (sent : NewestFirst Piece) (filling : Bool) (done : ℕ) (v : Sight) : Type 0 where

@@ -5,10 +5,6 @@ use Rattle.step_line.specs.Logs.{NewestFirst}
 use Rattle.step_line.specs.Ordering.{ComesNext}
 use Rattle.step_line.specs.Finishing.{tick_count, ticks_together, unfinished}
 
--- how many pieces may be unfinished at once
-abbrev pub most_unfinished : ℕ
-most_unfinished = 5
-
 -- how many slots the ring has
 abbrev pub slots : ℕ
 slots = 6

@@ -2,8 +2,8 @@
 ghost use Rattle.std.specs.Prelude.{◌≡◌, ◌+◌, ◌-◌, ◌<◌, ◌≤◌, [], ◌∷◌, length, IfOk, OnOk, OnErr, IfErr, IfSome, IfNone};
 ghost use Rattle.step_line.specs.declared.Piece.{Piece};
 ghost use Rattle.step_line.specs.Ordering.{ComesNext};
-ghost use Rattle.step_line.specs.Finishing.{tick_count, ticks_together};
-ghost use Rattle.motion_ring.specs.Ticks.{most_unfinished, unfinished_of, MayPublish};
+ghost use Rattle.step_line.specs.Finishing.{tick_count, ticks_together, most_unfinished};
+ghost use Rattle.motion_ring.specs.Ticks.{unfinished_of, MayPublish};
 ghost use Rattle.motion_ring.specs.Rule.{AreTied};
 ghost use Rattle.motion_ring.specs.Ends.{ring_of_out, ring_of_in, published_by, known_by, done_loads_of, got_by, shown_to, head_loads_of, counted_by, left_in};
 

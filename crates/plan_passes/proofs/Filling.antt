@@ -1,18 +1,19 @@
 -- The tables of gaps and caps, one more entry at a time.
 use Rattle.std.proofs.Common.{◌≡◌, ℕ, zero, suc, ◌+◌, ◌-◌, ◌*◌, ◌^◌, ◌≤◌, ◌<◌, max, inl, inr, refl, arith, ap, sym, ◌∙◌, subst}
-use Rattle.std.proofs.Common.{List, [], ◌∷◌, ◌++◌, length, get_or, take, drop, set, add-one, length-set, length-drop}
+use Rattle.std.proofs.Common.{List, [], ◌∷◌, ◌++◌, length, get_or, take, drop, set, add-one, get_or-set_same, get_or-set_other, length-drop}
 use Rattle.std.specs.List.{All}
 use Rattle.std.proofs.lemmas.List.{take_more, take_more_set, take_all, take-append-le, get_or-map, get_or_past, get_or_append_left, length-map}
 use Rattle.std.proofs.lemmas.List.{length_push, map_push}
 use Rattle.std.proofs.lemmas.List.Edits.{paste_all}
 use Rattle.std.proofs.Math.Seq.{paste}
 use Rattle.std.proofs.lemmas.List.Elements.{All-get_or}
-use Rattle.std.proofs.lemmas.Bool.{cases_lt}
+use Rattle.std.proofs.lemmas.Bool.{cases_lt, cases_eq}
 use Rattle.std.proofs.Math.Nat.{mul-le-mul}
-use Rattle.profile.specs.Profiles.{place, profile}
+use Rattle.profile.specs.Profiles.{place, profile, greatest}
 use Rattle.profile.specs.Caps.{caps, planned}
+use Rattle.profile.specs.Settled.{IsPlannedTo}
 use Rattle.profile.proofs.Places.{profile_at, length-profile}
-use Rattle.profile.proofs.Caps.{caps_first, caps_inner, caps_last, length-caps}
+use Rattle.profile.proofs.Caps.{caps_inner, caps_last}
 use Rattle.planner_ring.specs.declared.Block.{Block}
 use Rattle.overrides.specs.declared.Overrides.{Overrides}
 use Rattle.plan_passes.specs.Blocks.{IsBlock, left_of, gap_of, gaps_of, joints, soft_of, softs_of}
@@ -178,38 +179,54 @@ row_moved N xs ys size e n h =
     ap (take n) (e ∙ paste_all xs 0 (drop 1 xs) (length xs - 1) (omega (arith, long)))
     ∙ take-append-le n (drop 1 xs) (drop (0 + (length xs - 1)) xs) (omega (arith, long))
 
-pub cap_filled : (w : ℕ) (gaps softs speeds : List ℕ) (i p v : ℕ) → i < length softs → length speeds ≡ length softs + 2
+-- the cap of one more junction is written down
+pub cap_put : (from w : ℕ) (gaps softs speeds : List ℕ) (i p v : ℕ) → i < length softs → i + 1 < length speeds
     → p ≡ place gaps (i + 1) → v ≡ max (get_or softs i 0) (w - p)
-    → take (i + 1) speeds ≡ take (i + 1) (caps w gaps softs)
-    → take (i + 1 + 1) (set speeds (i + 1) v) ≡ take (i + 1 + 1) (caps w gaps softs)
-cap_filled w gaps softs speeds i p v h size at value is =
-    let points = length-caps w gaps softs in
-    let here = caps_inner w gaps softs i h in
-    filled_more speeds (caps w gaps softs) (i + 1) v (omega (arith, points)) (omega arith) (omega (arith, here, at, value)) is
+    → ((j : ℕ) → from < j → j ≤ i → get_or speeds j 0 ≡ get_or (caps w gaps softs) j 0)
+    → (j : ℕ) → from < j → j ≤ i + 1 → get_or (set speeds (i + 1) v) j 0 ≡ get_or (caps w gaps softs) j 0
+cap_put from w gaps softs speeds i p v size room at value filled j l u = elim (cases_lt i j) [
+  | inr m ↦ get_or-set_other speeds (i + 1) j v 0 (omega (arith, m)) ∙ filled j l m
+  | inl m ↦
+      let e : i + 1 ≡ j = omega (arith, m, u) in
+      let here = caps_inner w gaps softs i size in
+      subst (λ j. get_or (set speeds (i + 1) v) j 0 ≡ get_or (caps w gaps softs) j 0) e
+      (get_or-set_same speeds (i + 1) v 0 room ∙ omega (arith, here, at, value))
+]
 
-pub first_filled : (w : ℕ) (gaps softs speeds : List ℕ) → 0 < length speeds
-    → take 1 (set speeds 0 w) ≡ take 1 (caps w gaps softs)
-first_filled w gaps softs speeds some =
-    let points = length-caps w gaps softs in
-    filled_more speeds (caps w gaps softs) 0 w (omega (arith, points)) some (sym (caps_first w gaps softs)) refl
+-- and 0 at the end
+pub last_put : (from w i : ℕ) (gaps softs speeds : List ℕ) → length speeds ≡ length gaps + 1 → length softs + 1 ≡ length gaps
+    → i ≡ length softs → ((j : ℕ) → from < j → j ≤ i → get_or speeds j 0 ≡ get_or (caps w gaps softs) j 0)
+    → (j : ℕ) → from < j → j ≤ length gaps → get_or (set speeds (length softs + 1) 0) j 0 ≡ get_or (caps w gaps softs) j 0
+last_put from w i gaps softs speeds size many at filled j l u = elim (cases_lt i j) [
+  | inr m ↦ get_or-set_other speeds (length softs + 1) j 0 0 (omega (arith, m, at)) ∙ filled j l m
+  | inl m ↦
+      let e : length softs + 1 ≡ j = omega (arith, m, u, at, many) in
+      subst (λ j. get_or (set speeds (length softs + 1) 0) j 0 ≡ get_or (caps w gaps softs) j 0) e
+      (get_or-set_same speeds (length softs + 1) 0 0 (omega (arith, size, many)) ∙ sym (caps_last w gaps softs))
+]
 
-pub last_filled : (w i : ℕ) (gaps softs speeds : List ℕ) → length speeds ≡ length softs + 2 → i ≡ length softs
-    → take (i + 1) speeds ≡ take (i + 1) (caps w gaps softs) → set speeds (length softs + 1) 0 ≡ caps w gaps softs
-last_filled w i gaps softs speeds size at_end filled =
-    let n = length softs in
-    let points = length-caps w gaps softs in
-    let longer = length-set speeds (n + 1) 0 in
-    let is : take (n + 1) speeds ≡ take (n + 1) (caps w gaps softs) =
-    subst (λ k. take (k + 1) speeds ≡ take (k + 1) (caps w gaps softs)) at_end filled in
-    filled_all (set speeds (n + 1) 0) (caps w gaps softs) (n + 1 + 1) (omega (arith, longer)) (omega (arith, points))
-    (filled_more speeds (caps w gaps softs) (n + 1) 0 (omega (arith, points)) (omega arith) (sym (caps_last w gaps softs)) is)
+-- a plan up to a point, and the caps behind it
+pub planned_to : (w from : ℕ) (gaps softs speeds was : List ℕ) → length speeds ≡ length gaps + 1 → planned w gaps softs 0 ≡ w
+    → get_or speeds 0 0 ≡ w
+    → ((j : ℕ) → 0 < j → j ≤ from → get_or was j 0 ≡ planned w gaps softs j)
+    → ((j : ℕ) → 0 < j → j ≤ from → get_or speeds j 0 ≡ get_or was j 0)
+    → ((j : ℕ) → from < j → j ≤ length gaps → get_or speeds j 0 ≡ get_or (caps w gaps softs) j 0)
+    → IsPlannedTo gaps (caps w gaps softs) from speeds
+unfolding planned
+planned_to w from gaps softs speeds was size first here at same left = record {
+  points = size;
+  planned = λ i h. elim (cases_eq i 0) [
+    | inl z ↦ subst (λ i. get_or speeds i 0 ≡ greatest gaps (caps w gaps softs) i) (sym z) (here ∙ sym first)
+    | inr nz ↦ same i (omega (arith, nz)) h ∙ at i (omega (arith, nz)) h
+  ];
+  left = left;
+}
 
 -- what the passes leave at each point, in front of a rest
-pub planned_is : (w j : ℕ) (gaps softs speeds done rest : List ℕ) → speeds ≡ caps w gaps softs → done ≡ profile gaps speeds
+pub planned_is : (w j : ℕ) (gaps softs done rest : List ℕ) → done ≡ profile gaps (caps w gaps softs)
     → j ≤ length gaps → get_or (done ++ rest) j 0 ≡ planned w gaps softs j
 unfolding planned
-planned_is w j gaps softs speeds done rest cs passed h =
-    let all : done ≡ profile gaps (caps w gaps softs) = passed ∙ ap (profile gaps) cs in
+planned_is w j gaps softs done rest all h =
     let points = ap length all ∙ length-profile gaps (caps w gaps softs) in
     get_or_append_left done rest 0 j (omega (arith, points))
     ∙ ap (λ s. get_or s j 0) all ∙ profile_at gaps (caps w gaps softs) j h

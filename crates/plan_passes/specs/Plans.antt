@@ -10,6 +10,7 @@ use Rattle.overrides.specs.Percents.{IsOverrides}
 use Rattle.profile.specs.Profiles.{IsWithinLimits, profile}
 use Rattle.profile.specs.Caps.{caps, planned}
 use Rattle.profile.specs.Slowing.{IsSlowable}
+use Rattle.profile.specs.Settled.{IsSettled}
 use Rattle.plan_passes.specs.Blocks.{IsBlock, gaps_of, hards_of, softs_of, squared}
 use Rattle.plan_passes.specs.Tables.{IsTabled}
 
@@ -59,14 +60,31 @@ pub record IsTail (p : Planned) (b : Block) : Type 0 where
   pub block : IsBlock b
   pub rapid : p.speed ≤ squared b.geom.rapid
 
--- what the fields of a plan of N slots keep: that, the planned speed at each point, and what stands beside the blocks
-pub record IsKept (N : ℕ) (p : Planned) (speeds gap_row soft_row : List ℕ) : Type 0 where
+-- the caps up to point j alone hold its speed
+abbrev pub IsSettledAt : Planned → ℕ → Type 0
+IsSettledAt p j = IsSettled (gaps_of p.blocks) (caps_of p) j
+
+-- a settled point before the end, or 0 where no block stands
+pub record IsPointer (p : Planned) (j : ℕ) : Type 0 where
+  pub before : 0 < length p.blocks → j < length p.blocks
+  pub none : length p.blocks ≡ 0 → j ≡ 0
+  pub settled : IsSettledAt p j
+
+-- the last such point
+pub record IsLastPoint (p : Planned) (j : ℕ) : Type 0 where
+  pub point : IsPointer p j
+  pub last : (i : ℕ) → i < length p.blocks → IsSettledAt p i → i ≤ j
+
+-- what the fields of a plan of N slots keep: that, the planned speed at each point, what stands beside the blocks, and a
+-- settled point
+pub record IsKept (N : ℕ) (p : Planned) (speeds gap_row soft_row : List ℕ) (settled : ℕ) : Type 0 where
   pub some : 2 ≤ N
   pub few : N ≤ 64
   pub room : length p.blocks < N
   pub reached : IsReached p
   pub planned : (j : ℕ) → 0 < j → j ≤ length p.blocks → get_or speeds j 0 ≡ planned_at p j
   pub tabled : IsTabled p.blocks p.overrides gap_row soft_row
+  pub pointer : IsPointer p settled
 
 -- the entry cap of a block that is added: that of its junction with the last block
 abbrev pub entry_at : List Block → Block → ℕ → Cap

@@ -1,7 +1,9 @@
 -- What stands beside the blocks of a plan, in rows that may be longer than they are.
-use Rattle.std.specs.Prelude.{◌≡◌, ℕ, ◌-◌, ◌<◌, List, length, take, drop}
+use Rattle.std.specs.Prelude.{◌≡◌, ℕ, ◌-◌, ◌≤◌, ◌<◌, List, length, get_or, take, drop}
 use Rattle.planner_ring.specs.declared.Block.{Block}
 use Rattle.overrides.specs.declared.Overrides.{Overrides}
+use Rattle.profile.specs.Caps.{caps, planned}
+use Rattle.profile.specs.Settled.{IsSettled}
 use Rattle.plan_passes.specs.Blocks.{gaps_of, softs_of}
 
 -- the gap of each block, and the soft cap of each junction
@@ -12,3 +14,9 @@ pub record IsTabled (bs : List Block) (o : Overrides) (gap_row soft_row : List �
 -- a row of N places whose first is gone: what stood behind it stands one place up
 abbrev pub IsMovedUp : {X : Type 0} → ℕ → List X → List X → Type 0
 IsMovedUp N xs ys = (n : ℕ) → n < N → take n ys ≡ take n (drop 1 xs)
+
+-- speeds that are planned up to a settled point
+pub record IsOnward (w from : ℕ) (gaps softs speeds : List ℕ) : Type 0 where
+  pub first : planned w gaps softs 0 ≡ w
+  pub planned_to : (j : ℕ) → 0 < j → j ≤ from → get_or speeds j 0 ≡ planned w gaps softs j
+  pub settled : IsSettled gaps (caps w gaps softs) from

@@ -1,13 +1,13 @@
 //! The plan.
 
-ghost use Rattle.std.specs.Prelude.{◌≡◌, ◌<◌, ◌≤◌, ◌-◌, ◌*◌, List, ◌∷◌, length};
+ghost use Rattle.std.specs.Prelude.{◌≡◌, ◌≢◌, ◌<◌, ◌≤◌, ◌-◌, ◌*◌, List, ◌∷◌, length};
 ghost use Rattle.std.specs.List.{All};
 ghost use Rattle.planner_ring.specs.declared.Block.{Block};
 ghost use Rattle.plan_passes.specs.Blocks.{IsBlock, left_of};
 ghost use Rattle.plan_passes.specs.Plans.{entry_at};
 ghost use Rattle.plan_passes.specs.Segments.{moved};
 
-use crate::passes::plan_all;
+use crate::passes::plan_from;
 use crate::tables::{block_at, fill_softs, put_first, put_gap, put_soft};
 use junction_speed::junction;
 use line_geom::Cap;
@@ -27,6 +27,8 @@ pub struct Plan<const N: usize> {
     gaps: [u128; N],
     /// The soft cap of each junction.
     softs: [u64; N],
+    /// The last point before the end whose speed the caps up to it alone hold.
+    settled: usize,
 }
 
 impl<const N: usize> Model for Plan<N> {
@@ -36,7 +38,7 @@ impl<const N: usize> Model for Plan<N> {
 
     ghost view = { λ p. record { blocks = p.ring; speed = p.speed; overrides = p.overrides } };
 
-    ghost invariant = { λ p. IsKept N (record { blocks = p.ring; speed = p.speed; overrides = p.overrides }) p.planned p.gaps p.softs };
+    ghost invariant = { λ p. IsKept N (record { blocks = p.ring; speed = p.speed; overrides = p.overrides }) p.planned p.gaps p.softs p.settled };
 }
 
 /// The cap of a block's junction with the last one that stands.
@@ -72,16 +74,29 @@ fn prepare<const N: usize>(ring: &mut Ring<N>, n: u32) -> u128
     gap
 }
 
+/// The number of a point once a segment is taken that leaves such a gap of the tail: the one before where the tail goes.
+fn point_behind(point: usize, gap: u128) -> usize
+    ensures left { gap ≢ 0 → result ≡ point }
+    ensures gone { gap ≡ 0 → result ≡ point - 1 }
+{
+    if gap == 0 {
+        point.saturating_sub(1)
+    } else {
+        point
+    }
+}
+
 impl<const N: usize> Plan<N> {
     ghost use Rattle.std.specs.Prelude.{◌≡◌, ◌≤◌, ◌<◌, ◌+◌, ◌↔◌, [], length, get_or};
     ghost use Rattle.std.specs.Prelude.{IsOk, OnOk, OnErr, IfErr, IfSome, IsNone};
     ghost use Rattle.units.specs.Limits.{IsRate};
     ghost use Rattle.line_geom.specs.Geometry.{IsGeomOf};
     ghost use Rattle.overrides.specs.Percents.{IsOverrides};
-    ghost use Rattle.plan_passes.specs.Plans.{IsReached, IsTail, IsGreatest, exit_of, profile_of, added};
+    ghost use Rattle.plan_passes.specs.Plans.{IsReached, IsTail, IsGreatest, IsLastPoint, exit_of, profile_of, added};
     ghost use Rattle.plan_passes.specs.Segments.{IsSegment, advanced, IsLegalStep};
 
     /// A plan of at most N - 1 blocks, at rest. N is from 2 to 64.
+    #[tactic(auto, using(crate::proofs::Kept::pointer_none))]
     pub fn new() -> Plan<N>
         requires { (2 ≤ N) × (N ≤ 64) }
         ensures blocks { result.blocks ≡ [] }
@@ -95,6 +110,7 @@ impl<const N: usize> Plan<N> {
             planned: [0; N],
             gaps: [0; N],
             softs: [0; N],
+            settled: 0,
         }
     }
 
@@ -134,6 +150,17 @@ impl<const N: usize> Plan<N> {
         self.planned[1]
     }
 
+    /// The last settled point before the end: one whose planned speed the caps up to it alone hold, so that no block which is
+    /// added changes it. It is 0, the present place, where no other one is settled or no block stands. The plan keeps a settled
+    /// point, from which it plans where a block is added; the last one is found anew.
+    pub fn planned(&self) -> usize
+        ensures { IsLastPoint self.now result }
+    {
+        let mut speeds = self.planned;
+        let count = self.ring.len();
+        plan_from(0, count, self.speed, &self.gaps, &self.softs, &mut speeds)
+    }
+
     /// Puts a block behind the others and plans, or hands it back exactly where N - 1 blocks stand.
     ///
     /// Its entry cap becomes that of its junction with the last block, for a deviation in µm, or `At(0)` where no block
@@ -157,7 +184,8 @@ impl<const N: usize> Plan<N> {
                 put_gap(&self.ring, &mut self.gaps);
                 put_soft(&self.ring, o, &mut self.softs);
                 let count = self.ring.len();
-                plan_all(
+                self.settled = plan_from(
+                    self.settled,
                     count,
                     self.speed,
                     &self.gaps,
@@ -177,7 +205,8 @@ impl<const N: usize> Plan<N> {
         self.overrides = *o;
         fill_softs(&self.ring, o, &mut self.softs);
         let count = self.ring.len();
-        plan_all(
+        self.settled = plan_from(
+            0,
             count,
             self.speed,
             &self.gaps,
@@ -200,18 +229,21 @@ impl<const N: usize> Plan<N> {
         let exit = self.planned[1];
         self.speed = w;
         put_first(gap, &mut self.planned, &mut self.gaps, &mut self.softs);
+        self.settled = point_behind(self.settled, gap);
         if w.abs_diff(exit) as u128 <= gap {
             return;
         }
         let count = self.ring.len();
-        plan_all(count, w, &self.gaps, &self.softs, &mut self.planned);
+        self.settled = plan_from(0, count, w, &self.gaps, &self.softs, &mut self.planned);
     }
 
     /// Takes all blocks away, and stops.
+    #[tactic(auto, using(crate::proofs::Kept::pointer_none))]
     pub fn clear(&mut self)
         ensures { self.new ≡ record self.old { blocks = []; speed = 0 } }
     {
         self.ring.clear();
         self.speed = 0;
+        self.settled = 0;
     }
 }

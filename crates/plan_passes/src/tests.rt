@@ -83,8 +83,10 @@ fn exits_as_the_next_block_allows(rt: HostRuntime) -> Result<(), Fail> {
     let mut plan = Plan::<16>::new();
     assert!(rt; plan.add(right, 10, &overrides).is_ok());
     assert_eq!(rt; plan.exit_of_tail(), 0);
+    assert_eq!(rt; plan.planned(), 0);
     assert!(rt; plan.add(right, 10, &overrides).is_ok());
     assert_eq!(rt; plan.exit_of_tail(), 69_438_889);
+    assert_eq!(rt; plan.planned(), 1);
     Ok(())
 }
 

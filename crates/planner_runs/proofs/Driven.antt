@@ -35,7 +35,7 @@ ticks_of_piece (pieces.Segment s) = events_are_ticks s.mv s.first s.n
 ticks_of_piece (pieces.Mark m) = refl
 ticks_of_piece pieces.End = refl
 
-ticks_of_pieces : (ps : List Piece) → ticks_among (all_records ps) ≡ flat_map ticks_of ps
+pub ticks_of_pieces : (ps : List Piece) → ticks_among (all_records ps) ≡ flat_map ticks_of ps
 ticks_of_pieces [] = refl
 ticks_of_pieces (p ∷ ps) =
     filter-append is_tick (records_of p) (all_records ps)

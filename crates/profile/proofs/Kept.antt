@@ -46,7 +46,7 @@ module _ (w v left change : ℕ) (gaps softs : List ℕ) (many : length gaps ≡
       omega (arith, at, first, none, on)
 
   -- what held a speed holds it as before
-  kept_at : (i k : ℕ) → i ≤ length gaps → k ≤ length gaps + 1
+  pub kept_at : (i k : ℕ) → i ≤ length gaps → k ≤ length gaps + 1
       → allows ((left + change) ∷ gaps) (caps w ((left + change) ∷ gaps) softs) (i + 1) k ≡ planned w ((left + change) ∷ gaps) softs (i + 1)
       → allows (left ∷ gaps) (caps v (left ∷ gaps) softs) (i + 1) k ≡ planned w ((left + change) ∷ gaps) softs (i + 1)
   unfolding planned
@@ -79,7 +79,7 @@ module _ (w v left change : ℕ) (gaps softs : List ℕ) (many : length gaps ≡
             (omega (arith, cap, there, there', here, here', was))
       ]
 
-  kept : (i : ℕ) → i ≤ length gaps → planned v (left ∷ gaps) softs (i + 1) ≡ planned w ((left + change) ∷ gaps) softs (i + 1)
+  pub kept : (i : ℕ) → i ≤ length gaps → planned v (left ∷ gaps) softs (i + 1) ≡ planned w ((left + change) ∷ gaps) softs (i + 1)
   unfolding planned
   kept i h =
       let d = left + change in
@@ -108,7 +108,7 @@ module _ (w v left change : ℕ) (gaps softs : List ℕ) (many : length gaps ≡
         reached = (at.0, omega arith, omega (arith, at.1), kept_at i at.0 h (omega (arith, at.1)) at.2);
       }))
 
-split : (q left n : ℕ) → q * left + q * n ≡ q * (left + n)
+pub split : (q left n : ℕ) → q * left + q * n ≡ q * (left + n)
 split q left n = grind arith
 
 -- n events change the speed from w to v, and the speed at the block's end stays within reach
@@ -165,7 +165,7 @@ drop_caps v s gaps softs k many h =
     ]
 
 -- what held a speed there holds it as before
-drop_at : (v s : ℕ) (gaps softs : List ℕ) (j k : ℕ) → length gaps ≡ length softs + 1 → j ≤ length gaps → k ≤ length (0 ∷ gaps)
+pub drop_at : (v s : ℕ) (gaps softs : List ℕ) (j k : ℕ) → length gaps ≡ length softs + 1 → j ≤ length gaps → k ≤ length (0 ∷ gaps)
     → allows (0 ∷ gaps) (caps v (0 ∷ gaps) (s ∷ softs)) (j + 1) k ≡ greatest (0 ∷ gaps) (caps v (0 ∷ gaps) (s ∷ softs)) (j + 1)
     → (m : ℕ) × (m ≤ k - 1) × (allows gaps (caps v gaps softs) j m ≡ greatest (0 ∷ gaps) (caps v (0 ∷ gaps) (s ∷ softs)) (j + 1))
 drop_at v s gaps softs j k many h u at =

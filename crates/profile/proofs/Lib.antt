@@ -4,3 +4,5 @@ pub mod Passes
 pub mod Caps
 pub mod Slowing
 pub mod Kept
+pub mod Settled
+pub mod Settling

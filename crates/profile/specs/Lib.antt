@@ -2,3 +2,4 @@ pub mod Profiles
 pub mod Passes
 pub mod Caps
 pub mod Slowing
+pub mod Settled

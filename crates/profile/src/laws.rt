@@ -2,8 +2,9 @@
 
 ghost use Rattle.std.specs.Prelude.{◌≡◌, ℕ, ◌+◌, ◌-◌, ◌*◌, ◌≤◌, ◌<◌, max, List, [], ◌∷◌, ◌++◌, length, get_or};
 ghost use Rattle.profile.specs.Profiles.{IsWithinLimits, least, greatest, profile, distance};
-ghost use Rattle.profile.specs.Caps.{IsSofter, planned};
+ghost use Rattle.profile.specs.Caps.{IsSofter, caps, planned};
 ghost use Rattle.profile.specs.Slowing.{IsSlowable, speed_after};
+ghost use Rattle.profile.specs.Settled.{IsSettled};
 
 /// The least of some numbers is one of them, and none is less.
 pub fn least_is_least()
@@ -65,4 +66,24 @@ pub fn stays_planned()
         distance (speed_after w q n left exit top) exit ≤ q * left }
     ensures dropped { (v soft : ℕ) (gaps softs : List ℕ) (j : ℕ) → length gaps ≡ length softs + 1 →
         j ≤ length gaps → planned v (0 ∷ gaps) (soft ∷ softs) (j + 1) ≡ planned v gaps softs j }
+{}
+
+/// The present place is settled. An added block changes no speed at or before a settled point that was not the end, and that
+/// point stays settled; so does one where the speed at the tail's end stays within reach, and where a tail goes of which
+/// nothing is left.
+pub fn settled_points()
+    ensures first { (w : ℕ) (gaps hards softs : List ℕ) → length gaps ≡ length hards + 1 →
+        IsSofter softs hards → IsSlowable w gaps hards → IsSettled gaps (caps w gaps softs) 0 }
+    ensures keeps { (w gap soft : ℕ) (gaps softs : List ℕ) → length gaps ≡ length softs + 1 →
+        (j : ℕ) → j < length gaps → IsSettled gaps (caps w gaps softs) j →
+        (i : ℕ) → i ≤ j → planned w (gaps ++ gap ∷ []) (softs ++ soft ∷ []) i ≡ planned w gaps softs i }
+    ensures added { (w gap soft : ℕ) (gaps softs : List ℕ) → length gaps ≡ length softs + 1 →
+        (j : ℕ) → j < length gaps → IsSettled gaps (caps w gaps softs) j →
+        IsSettled (gaps ++ gap ∷ []) (caps w (gaps ++ gap ∷ []) (softs ++ soft ∷ [])) j }
+    ensures within_reach { (w v q n left : ℕ) (gaps softs : List ℕ) (i : ℕ) → length gaps ≡ length softs →
+        distance w v ≤ q * n → distance v (planned w (q * (left + n) ∷ gaps) softs 1) ≤ q * left → i ≤ length gaps →
+        IsSettled (q * (left + n) ∷ gaps) (caps w (q * (left + n) ∷ gaps) softs) (i + 1) →
+        IsSettled (q * left ∷ gaps) (caps v (q * left ∷ gaps) softs) (i + 1) }
+    ensures dropped { (v soft : ℕ) (gaps softs : List ℕ) (j : ℕ) → length gaps ≡ length softs + 1 → j ≤ length gaps →
+        IsSettled (0 ∷ gaps) (caps v (0 ∷ gaps) (soft ∷ softs)) (j + 1) → IsSettled gaps (caps v gaps softs) j }
 {}

@@ -1,9 +1,9 @@
 //! The two passes beside the definition of the greatest speeds, computed plainly.
 
-ghost use Rattle.std.specs.Prelude.{◌≡◌, ◌+◌, ◌≤◌, ◌<◌, ◌^◌, length, sum};
+ghost use Rattle.std.specs.Prelude.{◌≡◌, ◌+◌, ◌≤◌, ◌<◌, ◌^◌, length, get_or, sum};
 ghost use Rattle.profile.specs.Profiles.{allowed_by, greatest, place};
 
-use super::plan;
+use super::plan_from;
 
 /// How much the speed may change from the first point to point j.
 #[tactic(auto, unfolding(crate::specs::Profiles::place))]
@@ -42,25 +42,34 @@ fn greatest_by_definition(gaps: &[u128], caps: &[u64], j: usize) -> u128
     least
 }
 
-/// All plans of three blocks with caps up to 4 and gaps up to 3, from their number.
+/// All plans of three blocks that stand still at first, with caps up to 4 and gaps up to 3, from their number.
 fn small_plan(number: u64) -> ([u128; 3], [u64; 4])
-    ensures { sum result.0 < 2 ^ 100 }
+    ensures small { sum result.0 < 2 ^ 100 }
+    ensures still { get_or result.1 0 0 ≡ 0 }
 {
     let gaps = [number % 4, number / 4 % 4, number / 16 % 4];
     let caps = number / 64;
     (
         [gaps[0] as u128, gaps[1] as u128, gaps[2] as u128],
-        [caps % 5, caps / 5 % 5, caps / 25 % 5, caps / 125 % 5],
+        [0, caps % 5, caps / 5 % 5, caps / 25 % 5],
     )
+}
+
+/// The speeds of a plan that stands still at first.
+#[tactic(auto, using(crate::proofs::Settled::still_first))]
+fn speeds_of(gaps: &[u128; 3], caps: &[u64; 4]) -> [u64; 4]
+    requires { get_or caps.now 0 0 ≡ 0 }
+{
+    let mut speeds = *caps;
+    plan_from(&mut speeds, gaps, 0);
+    speeds
 }
 
 #[test]
 fn passes_give_the_minimum_by_definition(rt: HostRuntime) {
-    for number in 0..40000 {
+    for number in 0..8000 {
         let (gaps, caps) = small_plan(number);
-        let mut speeds = caps;
-        plan(&mut speeds, &gaps);
-        for (j, speed) in speeds.iter().enumerate() {
+        for (j, speed) in speeds_of(&gaps, &caps).iter().enumerate() {
             let least = greatest_by_definition(&gaps, &caps, j);
             assert_eq!(rt; *speed as u128, least, "at {j} of {number}");
         }

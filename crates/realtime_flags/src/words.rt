@@ -90,7 +90,7 @@ pub(crate) type FlagTable = Table<u64, Sight, (), Words, Global>;
 pub(crate) type Place = Seat<u64, Sight>;
 
 /// The flag that a byte raises.
-pub(crate) fn flag_of_byte(byte: u8) -> Option<Flag>
+pub fn flag_of_byte(byte: u8) -> Option<Flag>
     ensures flag { result ≡ flag_of_byte byte }
     ensures named { IfSome result IsNamed }
 {

@@ -1,5 +1,5 @@
 -- The first of a queue, and a queue without room.
-use Rattle.std.proofs.Common.{◌≡◌, ℕ, ◌<◌, ◌≤◌, true, false, List, [], ◌∷◌, ◌++◌, drop, refl, rules, Some, None, Ok, Err, lt_of_not-le}
+use Rattle.std.proofs.Common.{◌≡◌, ℕ, ◌<◌, ◌≤◌, true, false, List, [], ◌∷◌, ◌++◌, drop, refl, rules, Some, Ok, Err, lt_of_not-le}
 use native.Mathlib.Decide.{dec_le}
 use Rattle.std.specs.declared.result.Result.{Result}
 use Rattle.std.specs.Result.{is_ok, IsOk, OnOk, IfErr}

@@ -3,3 +3,8 @@ pub mod Links
 pub mod Pieces
 pub mod Raising
 pub mod Steps
+pub mod Arms
+pub mod Beginning
+pub mod Schedules
+pub mod Ending
+pub mod Running

@@ -2,7 +2,8 @@
 use Rattle.std.proofs.Common.{ℕ, ◌≤◌, Bool, cond, List, ◌++◌, length, ap, arith}
 use Rattle.std.proofs.lemmas.List.Sums.{sum_by-append}
 use Rattle.status_report.specs.declared.Reply.{Reply}
-use Rattle.stream_host.specs.Links.{answers_in, is_answer, behind}
+use Rattle.stream_host.specs.Links.{behind}
+use Rattle.status_report.specs.Answering.{answers_in, is_answer}
 use Rattle.stream_host.proofs.Links.{behind_taken}
 use Rattle.run_core.specs.Joining.{BytesPass, RepliesPass}
 

@@ -1,22 +1,15 @@
 -- What each call makes of the pieces, and how many are unfinished.
-use Rattle.std.proofs.Common.{◌≡◌, ℕ, suc, ◌+◌, ◌-◌, ◌<◌, ◌≤◌, ◌^◌, Bool, true, false, cond, nat_lt, List, [], ◌∷◌, ◌++◌, length, drop, reverse, refl, sym, ap, ◌∙◌, subst, arith, length-append, append_assoc}
-use Rattle.std.specs.List.{flat_map}
+use Rattle.std.proofs.Common.{◌≡◌, ℕ, suc, ◌+◌, ◌-◌, ◌<◌, ◌≤◌, ◌^◌, Bool, true, false, cond, nat_lt, List, [], ◌∷◌, ◌++◌, length, drop, reverse, refl, sym, ap, ◌∙◌, subst, arith, append_assoc}
 use Rattle.std.proofs.lemmas.Bool.Decides.{nat_tests}
 use Rattle.std.proofs.lemmas.List.{reverse-append, reverse-reverse, length-reverse}
-use Rattle.std.proofs.lemmas.List.Concat.{flat_map-append}
 use Rattle.std.proofs.lemmas.Grind.{reverse_onto}
 use Rattle.step_line.specs.declared.Piece.{Piece}
 use Rattle.step_line.specs.Logs.{NewestFirst}
-use Rattle.step_line.specs.Pieces.{ticks_of}
 use Rattle.step_line.specs.Ordering.{InTurn, ComesNext, has_ended}
-use Rattle.step_line.specs.Finishing.{tick_count, ticks_together, unfinished}
-use Rattle.step_line.proofs.Finished.{together, all_done, fewer_later}
-use Rattle.motion_ring.specs.Ticks.{most_unfinished}
+use Rattle.step_line.specs.Finishing.{tick_count, ticks_together, unfinished, most_unfinished}
+use Rattle.step_line.proofs.Finished.{together, together_both, all_done, fewer_later}
 use Rattle.motion_ring.proofs.Ticks.{has_tick, of_suffix, together_reversed}
 use Rattle.run_core.specs.Joining.{PiecesPass, one_if_some}
-
-together_both : (ps qs : List Piece) → ticks_together (ps ++ qs) ≡ ticks_together ps + ticks_together qs
-together_both ps qs = ap length (flat_map-append ticks_of ps qs) ∙ length-append (flat_map ticks_of ps) (flat_map ticks_of qs)
 
 reversed : (p : Piece) (ps : List Piece) → reverse (p ∷ ps) ≡ reverse ps ++ p ∷ []
 reversed p ps = reverse_onto ps p []

@@ -13,7 +13,8 @@ use Rattle.realtime_flags.specs.declared.words.Take.TheVariants as kinds
 use Rattle.realtime_flags.specs.Bits.{is_flag, is_up, report_flag, raises_of, takes_with, stood_in}
 use Rattle.realtime_flags.specs.Bytes.{flag_of_row, flag_of_byte}
 use Rattle.realtime_flags.proofs.Bits.{raise_balances, take_balances, down_among, at_least, raised_small}
-use Rattle.stream_host.specs.Ports.{query, queries_in}
+use Rattle.stream_host.specs.Ports.{queries_in}
+use Rattle.code_table.specs.Tables.{query}
 use Rattle.stream_host.specs.Steps.{PortLog}
 use Rattle.stream_host.specs.Steps.PortStep.{stored, dropped, raised, got, no_reply, shut}
 use Rattle.board_rules.specs.Ports.{asks_report, reports_in}

@@ -4,8 +4,8 @@ use Rattle.std.proofs.lemmas.Bool.Decides.{nat_tests}
 use Rattle.std.specs.declared.option.Option.{Option}
 use Rattle.step_line.specs.declared.Piece.{Piece}
 use Rattle.step_line.specs.Ordering.{ComesNext}
-use Rattle.step_line.specs.Finishing.{tick_count, unfinished}
-use Rattle.board_rules.specs.Ports.{most_unfinished, taken_in, has_closed_in, answered_in, published_in, known_in, asks_report, MayPublish, MayBeDone, HasFewReports, LacksPieceRoom}
+use Rattle.step_line.specs.Finishing.{tick_count, unfinished, most_unfinished}
+use Rattle.board_rules.specs.Ports.{taken_in, has_closed_in, answered_in, published_in, known_in, asks_report, MayPublish, MayBeDone, HasFewReports, LacksPieceRoom}
 use Rattle.board_rules.specs.Ports.{PortLog as BoardLog}
 use Rattle.board_rules.specs.Ports.PortStep.{took_exec, published, no_piece_room, loaded}
 use Rattle.realtime_flags.specs.declared.words.Flag.{Flag}
@@ -15,8 +15,9 @@ use Rattle.realtime_flags.specs.Bytes.{flag_of_byte}
 use Rattle.pulse_engine.specs.Logs.{PieceLog, pieces_of, counted, uncounted, IsCounted, HasTick}
 use Rattle.pulse_engine.specs.Logs.PieceEvent.{ticked}
 use Rattle.pulse_engine.specs.Logs.PieceEvent.{got as piece_came}
-use Rattle.stream_host.specs.Links.{receive_room}
-use Rattle.stream_host.specs.Ports.{query, TakesRaise, SeemsFull}
+use Rattle.status_report.specs.Answering.{receive_room}
+use Rattle.stream_host.specs.Ports.{TakesRaise, SeemsFull}
+use Rattle.code_table.specs.Tables.{query}
 use Rattle.stream_host.specs.Steps.{stored_in, got_in, is_shut_in}
 use Rattle.stream_host.specs.Steps.{PortLog as HostLog}
 use Rattle.stream_host.specs.Steps.PortStep.{dropped, raised}

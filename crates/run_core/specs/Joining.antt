@@ -15,13 +15,13 @@ use Rattle.realtime_flags.specs.Bytes.{flag_of_byte}
 use Rattle.step_line.specs.declared.Piece.{Piece}
 use Rattle.step_line.specs.Logs.{NewestFirst}
 use Rattle.step_line.specs.Ordering.{InTurn}
-use Rattle.step_line.specs.Finishing.{ticks_together, unfinished}
+use Rattle.step_line.specs.Finishing.{ticks_together, unfinished, most_unfinished}
 use Rattle.motion_ring.specs.Ticks.{slots}
-use Rattle.board_rules.specs.Ports.{reply_room, most_unfinished, taken_in, has_closed_in, answered_in, published_in, known_in}
+use Rattle.board_rules.specs.Ports.{taken_in, has_closed_in, answered_in, published_in, known_in}
+use Rattle.status_report.specs.Answering.{reply_room, receive_room, lfs_in, answers_in}
 use Rattle.board_rules.specs.Ports.{PortStep as BoardStep, PortLog as BoardLog}
 use Rattle.board_rules.specs.Ports.PortStep.{took_exec, took_ovr}
 use Rattle.pulse_engine.specs.Logs.{PieceLog, pieces_of, counted, uncounted}
-use Rattle.stream_host.specs.Links.{receive_room, lfs_in, answers_in}
 use Rattle.stream_host.specs.Steps.PortStep.{stored, dropped, raised, got, no_reply, shut}
 use Rattle.stream_host.specs.Steps.{stored_in, got_in, is_shut_in}
 use Rattle.stream_host.specs.Steps.{PortLog as HostLog}

@@ -1,2 +1,5 @@
 pub mod Passing
 pub mod Joining
+pub mod Worlds
+pub mod Lockstep
+pub mod Finding

@@ -1,17 +1,22 @@
 //! The lists as the port of a host.
 
+ghost use Rattle.std.specs.Prelude.{◌≡◌, ◌∷◌, IfSome, IfNone};
+ghost use Rattle.std.specs.List.{slice_get};
+ghost use Rattle.status_report.specs.Replies.{IsReply};
+ghost use Rattle.board_rules.specs.Ports.{PortLog as BoardLog};
+ghost use Rattle.stream_host.specs.Ports.{AnswersLines};
+ghost use Rattle.stream_host.specs.Steps.{PortLog as HostLog};
+ghost use Rattle.stream_host.specs.Steps.PortStep.{got, no_reply};
+ghost use Rattle.pulse_engine.specs.Logs.{PieceLog};
+ghost use Rattle.run_core.specs.Joining.{Joined};
+
 use crate::Lists;
-use crate::flags::flag_of_byte;
-use realtime_flags::{Flag, Raised};
+use realtime_flags::{Flag, Raised, flag_of_byte};
 use serial_ring::Stored;
 use status_report::Reply;
 use stream_host::HostPort;
 
 impl HostPort for Lists {
-    ghost use Rattle.board_rules.specs.Ports.{PortLog as BoardLog};
-    ghost use Rattle.pulse_engine.specs.Logs.{PieceLog};
-    ghost use Rattle.run_core.specs.Joining.{Joined};
-
     /// What the board and the pulse have done.
     ghost Rest = { BoardLog × PieceLog };
 
@@ -41,7 +46,13 @@ impl HostPort for Lists {
     }
 
     /// The reply that has waited longest, where one waits.
-    fn reply(&mut self) -> Option<Reply> {
+    fn reply(&mut self) -> Option<Reply>
+        ensures valid { IfSome result (λ r. IsReply r) }
+        ensures some { IfSome result (λ r. (far : BoardLog × PieceLog) (h : HostLog) → Joined self.old h far.0 far.1 → Joined self.new (got r ∷ h) far.0 far.1) }
+        ensures lines { IfSome result (λ r. (far : BoardLog × PieceLog) (h : HostLog) → Joined self.old h far.0 far.1 → AnswersLines (got r ∷ h)) }
+        ensures none { IfNone result ((far : BoardLog × PieceLog) (h : HostLog) → Joined self.old h far.0 far.1 → Joined self.new (no_reply ∷ h) far.0 far.1) }
+        ensures found { result ≡ slice_get self.old.replies 0 }
+    {
         self.replies.pop_front()
     }
 

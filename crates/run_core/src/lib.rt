@@ -1,17 +1,27 @@
-//! The plain lists between the actors of a run on one thread: the port of each.
+//! A run on one thread: the four actors, the plain lists between them, and the order in which they take turns.
 //!
 //! Bytes and replies between a host and a board, the flags that realtime bytes raise, and pieces on their way to a pulse stand
-//! in `Lists`; records go from a pulse to a recorder through `Records`.
+//! in `Lists`; records go from a pulse to a recorder through `Records`. `World` is the four actors over these lists. Its
+//! turns go by a schedule, or in lockstep by an order that a seed gives.
 #![tactic(auto)]
 
 mod board_port;
 mod flags;
 mod host_port;
+mod laws;
 mod lists;
+mod lockstep;
 mod pulse_port;
 mod records;
+mod schedule;
 #[cfg(test)]
 mod tests;
+mod world;
 
+pub use laws::worlds_run;
 pub use lists::Lists;
+pub use lockstep::{Order, run_lockstep, run_patiently};
 pub use records::Records;
+pub use run_law::RunEnd;
+pub use schedule::run_schedule;
+pub use world::World;

@@ -1,6 +1,7 @@
 //! The lists between a host, a board and a pulse.
 
-ghost use Rattle.std.specs.Prelude.{◌≡◌, ◌+◌, [], length, IfOk};
+ghost use Rattle.std.specs.Prelude.{◌≡◌, ◌≤◌, ◌+◌, [], length, IfOk};
+ghost use Rattle.status_report.specs.Answering.{receive_room, reply_room};
 ghost use Rattle.step_line.specs.Finishing.{tick_count};
 ghost use Rattle.run_core.specs.Joining.{Joined, one_if_some};
 
@@ -75,6 +76,15 @@ impl Lists {
             left: 0,
             done: 0,
         })
+    }
+
+    /// At most 128 bytes and 16 replies wait.
+    pub(crate) fn have_room(&self)
+        ensures bytes { length self.now.bytes ≤ receive_room }
+        ensures replies { length self.now.replies ≤ reply_room }
+    {
+        let _bytes = self.bytes.len();
+        let _replies = self.replies.len();
     }
 
     /// How many pieces are unfinished, where the end does not wait: those that wait, and the one that was got last

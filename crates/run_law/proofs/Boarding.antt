@@ -4,21 +4,18 @@ use Rattle.status_report.specs.declared.Reply.{Reply}
 use Rattle.status_report.specs.declared.Reply.TheVariants.{Bye}
 use Rattle.step_line.specs.declared.Piece.{Piece}
 use Rattle.step_line.specs.declared.Piece.TheVariants as pieces
-use Rattle.planner_runs.specs.Runs.{all_asked}
+use Rattle.planner_runs.specs.Runs.{IsPlannerRun, IsUndisturbed, all_asked}
 use Rattle.run_rules.specs.declared.State.{State}
 use Rattle.run_rules.specs.Lines.{whole_lines}
 use Rattle.run_rules.specs.States.{IsOpening}
 use Rattle.run_rules.specs.Work.{Task, tells, asks}
 use Rattle.run_rules.specs.Outcomes.{Follows, start}
 use Rattle.run_rules.specs.Outcomes.Passed.{a_line}
-use Rattle.run_rules.specs.Told.{replies_in}
+use Rattle.run_rules.specs.Told.{replies_in, asked_in}
 use Rattle.stream_host.proofs.Pieces.{wholes_on, no_whole}
 use Rattle.board_rules.specs.Steps.{Journal, taken_of, has_closed, answered_of, published_of, open_of, whole_of, lines_of, outcomes_of, before_of, left_of, closed_tells, actions_of, planned_of, given_of, hand_of, plan_of}
-use Rattle.board_rules.specs.Conduct.{Conducted, IsFinished}
-use Rattle.board_rules.specs.Whole.{AreLines}
-use Rattle.board_rules.proofs.Lines.{bytes_are, lines_follow}
-use Rattle.board_rules.proofs.Keeping.{told_is, asked_is, run_is, undisturbed_is, hand_is}
-use Rattle.board_rules.proofs.Closing.{At, going, to_finish, to_tell, over, phase_is, spent}
+use Rattle.board_rules.specs.Conduct.{IsFinished}
+use Rattle.board_rules.specs.Whole.{AreLines, IsSpent}
 use Rattle.run_law.specs.Ran.{BoardRan}
 use Rattle.run_law.specs.SoFar.{BeginsWith, BoardRuns}
 
@@ -36,29 +33,40 @@ all_begun taken lines raw false e is =
     lines_begun taken lines raw false is ∙ ap (λ (x : List ℕ). lines ++ whole_lines x) (append-nil raw)
     ∙ ap (λ (ls : List (List ℕ)). lines ++ ls) (no_whole raw is.partial) ∙ append-nil lines
 
+-- what the laws of boards say of one that keeps to its rules
+pub record Kept (first : State) (h : Journal) : Type 0 where
+  pub bytes : AreLines (taken_of h) (lines_of h) (open_of h) (whole_of h)
+  pub follow : Follows true (start first) (lines_of h) (map a_line (outcomes_of h)) (before_of first h)
+  pub told : replies_in (outcomes_of h) ++ closed_tells h ≡ answered_of h ++ tells (left_of h)
+  pub bye : (closed_tells h ≡ []) ⊎ (closed_tells h ≡ Bye ∷ [])
+  pub asked : asked_in (outcomes_of h) ≡ all_asked (actions_of h) ++ asks (left_of h)
+  pub run : IsPlannerRun (actions_of h) (planned_of h) (plan_of h)
+  pub undisturbed : IsUndisturbed (actions_of h)
+  pub hand : given_of h ≡ published_of h ++ hand_of h
+  pub end : (given_of h ≡ planned_of h) ⊎ (given_of h ≡ planned_of h ++ pieces.End ∷ [])
+
 -- ---- a board that is finished
 
-pub board_ran : (first : State) (h : Journal) → IsOpening first → Conducted first h → IsFinished h → BoardRan (taken_of h) (has_closed h) (answered_of h) (published_of h)
-board_ran first h opening c f =
-    let s = spent first h c f in
-    let lines : whole_lines (taken_of h) ≡ lines_of h = all_begun (taken_of h) (lines_of h) (open_of h) (whole_of h) s.whole (bytes_are first h c) in
+pub board_ran : (first : State) (h : Journal) → IsOpening first → Kept first h → IsFinished h → IsSpent h → BoardRan (taken_of h) (has_closed h) (answered_of h) (published_of h)
+board_ran first h opening c f s =
+    let lines : whole_lines (taken_of h) ≡ lines_of h = all_begun (taken_of h) (lines_of h) (open_of h) (whole_of h) s.whole c.bytes in
     record {
       first = first;
       outcomes = outcomes_of h;
       last = before_of first h;
       opening = opening;
       found = s.closed;
-      follows = subst (λ (ls : List (List ℕ)). Follows true (start first) ls (map a_line (outcomes_of h)) (before_of first h)) (sym lines) (lines_follow first h c);
+      follows = subst (λ (ls : List (List ℕ)). Follows true (start first) ls (map a_line (outcomes_of h)) (before_of first h)) (sym lines) c.follow;
       told = sym (append-nil (answered_of h)) ∙ ap (λ (ts : List Task). answered_of h ++ tells ts) (sym f.left)
-          ∙ sym (told_is first h c) ∙ ap (λ (rs : List Reply). replies_in (outcomes_of h) ++ rs) f.closed;
+          ∙ sym c.told ∙ ap (λ (rs : List Reply). replies_in (outcomes_of h) ++ rs) f.closed;
       actions = actions_of h;
       given = planned_of h;
       plan = plan_of h;
-      run = run_is first h c;
-      undisturbed = undisturbed_is first h c;
+      run = c.run;
+      undisturbed = c.undisturbed;
       rests = s.plan;
-      asks = sym (append-nil (all_asked (actions_of h))) ∙ ap (λ (ts : List Task). all_asked (actions_of h) ++ asks ts) (sym f.left) ∙ sym (asked_is first h c);
-      gave = sym (append-nil (published_of h)) ∙ ap (λ (ps : List Piece). published_of h ++ ps) (sym s.hand) ∙ sym (hand_is first h c) ∙ s.given;
+      asks = sym (append-nil (all_asked (actions_of h))) ∙ ap (λ (ts : List Task). all_asked (actions_of h) ++ asks ts) (sym f.left) ∙ sym c.asked;
+      gave = sym (append-nil (published_of h)) ∙ ap (λ (ps : List Piece). published_of h ++ ps) (sym s.hand) ∙ sym c.hand ∙ s.given;
     }
 
 -- ---- a board that runs
@@ -70,12 +78,6 @@ bye_last told closed answered left (inl none) e = record {
 }
 bye_last told closed answered left (inr one) e = record { rest = left; is = ap (λ (rs : List Reply). told ++ rs) (sym one) ∙ e }
 
-one_bye : (h : Journal) → At h → (closed_tells h ≡ []) ⊎ (closed_tells h ≡ Bye ∷ [])
-one_bye h (going e is) = inl e
-one_bye h (to_finish e l w is) = inr e
-one_bye h (to_tell e l w p is k) = inr e
-one_bye h (over e l w p d is k) = inr e
-
 end_last : (given planned published hand : List Piece) → (given ≡ planned) ⊎ (given ≡ planned ++ pieces.End ∷ []) → given ≡ published ++ hand
     → BeginsWith (planned ++ pieces.End ∷ []) published
 end_last given planned published hand (inl same) e = record {
@@ -84,32 +86,24 @@ end_last given planned published hand (inl same) e = record {
 }
 end_last given planned published hand (inr whole) e = record { rest = hand; is = sym whole ∙ e }
 
-one_end : (h : Journal) → At h → (given_of h ≡ planned_of h) ⊎ (given_of h ≡ planned_of h ++ pieces.End ∷ [])
-one_end h (going e is) = inl is
-one_end h (to_finish e l w is) = inl is
-one_end h (to_tell e l w p is k) = inr is
-one_end h (over e l w p d is k) = inr is
-
-pub board_runs : (first : State) (h : Journal) → IsOpening first → Conducted first h → BoardRuns (taken_of h) (answered_of h) (published_of h)
-board_runs first h opening c =
-    let at = phase_is first h c in
-    record {
-      first = first;
-      lines = lines_of h;
-      outcomes = outcomes_of h;
-      last = before_of first h;
-      opening = opening;
-      begun = record {
-        rest = whole_lines (open_of h ++ cond (whole_of h) (10 ∷ []) []);
-        is = lines_begun (taken_of h) (lines_of h) (open_of h) (whole_of h) (bytes_are first h c);
-      };
-      follows = lines_follow first h c;
-      told = bye_last (replies_in (outcomes_of h)) (closed_tells h) (answered_of h) (tells (left_of h)) (one_bye h at) (told_is first h c);
-      actions = actions_of h;
-      given = planned_of h;
-      plan = plan_of h;
-      run = run_is first h c;
-      undisturbed = undisturbed_is first h c;
-      asks = record { rest = asks (left_of h); is = asked_is first h c };
-      gave = end_last (given_of h) (planned_of h) (published_of h) (hand_of h) (one_end h at) (hand_is first h c);
-    }
+pub board_runs : (first : State) (h : Journal) → IsOpening first → Kept first h → BoardRuns (taken_of h) (answered_of h) (published_of h)
+board_runs first h opening c = record {
+  first = first;
+  lines = lines_of h;
+  outcomes = outcomes_of h;
+  last = before_of first h;
+  opening = opening;
+  begun = record {
+    rest = whole_lines (open_of h ++ cond (whole_of h) (10 ∷ []) []);
+    is = lines_begun (taken_of h) (lines_of h) (open_of h) (whole_of h) c.bytes;
+  };
+  follows = c.follow;
+  told = bye_last (replies_in (outcomes_of h)) (closed_tells h) (answered_of h) (tells (left_of h)) c.bye c.told;
+  actions = actions_of h;
+  given = planned_of h;
+  plan = plan_of h;
+  run = c.run;
+  undisturbed = c.undisturbed;
+  asks = record { rest = asks (left_of h); is = c.asked };
+  gave = end_last (given_of h) (planned_of h) (published_of h) (hand_of h) c.end c.hand;
+}

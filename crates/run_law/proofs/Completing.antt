@@ -21,10 +21,11 @@ use Rattle.run_rules.proofs.Determined.{one_outcome, one_opening}
 use Rattle.stream_host.specs.declared.Reading.{Reading}
 use Rattle.stream_host.specs.declared.Reading.TheVariants.{Ended, Failed, Large, Stopped}
 use Rattle.stream_host.specs.declared.Stop.TheVariants.{End}
-use Rattle.stream_host.specs.Jobs.{ends_sending, is_long, ends_in, long_line, stop_by, lines_to_send, FitsReading, MayLeave}
+use Rattle.stream_host.specs.Jobs.{ends_sending, is_long, ends_in, long_line, stop_by, lines_to_send, MayHaveRead, MayLeave}
 use Rattle.stream_host.specs.Ran.{is_failed}
 use Rattle.stream_host.proofs.Pieces.{ends_on, all_are_sent}
-use Rattle.run_law.specs.Runs.{Sinks, RunEnd, IsRun}
+use Rattle.run_law.specs.declared.RunEnd.{RunEnd}
+use Rattle.run_law.specs.Runs.{Sinks, IsRun}
 use Rattle.run_law.specs.SoFar.{BeginsWith}
 use Rattle.run_law.specs.Complete.{AreServed, IsAcceptedJob, IsComplete}
 
@@ -147,14 +148,14 @@ stops_at_end : (r : Reading) (text : List ℕ) → r ≡ Ended → list_any is_l
 stops_at_end r text e none = ap (λ q. stop_by q text) e ∙ ap (λ b. cond b (long_line (lines_of text)) End) none
 
 -- how the reading of such a job ends
-ended : (r : Reading) (n : ℕ) (text left : List ℕ) → FitsReading r n → n ≤ largest_job → is_failed r ≡ false → (ends_in text ≡ false → MayLeave r left) → ends_in text ≡ false → r ≡ Ended
+ended : (r : Reading) (n : ℕ) (text left : List ℕ) → MayHaveRead r n → n ≤ largest_job → is_failed r ≡ false → (ends_in text ≡ false → MayLeave r left) → ends_in text ≡ false → r ≡ Ended
 ended Ended n text left fits few well leaves none = refl
 ended Failed n text left fits few well leaves none = absurd cc
 ended Large n text left fits few well leaves none = absurd (let m = fits.0 in omega arith)
 ended Stopped n text left fits few well leaves none = absurd (leaves none)
 
 pub complete : (job_was job_is : SourceState) (was is : Sinks) (end : RunEnd) (run : IsRun job_was job_is was is end) (job : IsAcceptedJob job_was)
-    → end.host.source_failed ≡ false → IsComplete job.bytes run.read run.lines job.outcomes run.outcomes end
+    → end.source_failed ≡ false → IsComplete job.bytes run.read run.lines job.outcomes run.outcomes end
 complete job_was job_is was is end run job well =
     let front = read_front job_was.left job_is.left job.bytes run.read job.told run.taken in
     let few : length run.read ≤ largest_job =

@@ -18,12 +18,12 @@ use Rattle.planner_runs.specs.Runs.{Plans, with_move, cleared, fresh_plan, most_
 use Rattle.run_rules.specs.Outcomes.{start}
 use Rattle.run_rules.specs.Lines.{whole_lines}
 use Rattle.run_rules.specs.Told.{replies_in}
-use Rattle.stream_host.specs.Links.{is_bye}
+use Rattle.status_report.specs.Answering.{is_bye}
 use Rattle.stream_host.specs.Ran.{HostEnd, HostRan}
-use Rattle.run_law.specs.Runs.{Sinks, IsRun}
+use Rattle.run_law.specs.Runs.{Sinks, ended, IsRun}
 use Rattle.run_law.specs.Ran.{BoardRan, PulseRan, RecorderRan, IsLinked}
 use Rattle.run_law.specs.SoFar.{BeginsWith}
-use Rattle.run_law.proofs.Answering.{NoByes, none_is_bye}
+use Rattle.run_rules.proofs.Answering.{NoByes, none_is_bye}
 use Rattle.run_law.proofs.Law.{runs, drive}
 
 abbrev Others : {X : Type 0} → X → List X → Type 0
@@ -106,7 +106,7 @@ pub ends : (job_was job_is : SourceState) (was is : Sinks) (end : HostEnd) (step
     → HostRan job_was job_is was.console is.console stored shut got end → BoardRan taken closed answered published → PulseRan got_pieces ticks put
     → RecorderRan was.steps is.steps got_records steps_failed
     → IsLinked stored shut taken closed → BeginsWith answered got → BeginsWith published got_pieces → BeginsWith put got_records
-    → IsRun job_was job_is was is (record { host = end; steps_failed = steps_failed })
+    → IsRun job_was job_is was is (ended end steps_failed)
 ends job_was job_is was is end steps_failed stored taken shut closed got answered got_pieces published ticks got_records put host board pulse recorder link some_replies some_pieces some_records =
     let none = none_is_bye true (start board.first) (whole_lines taken) board.outcomes board.last board.follows in
     let same_replies = replies_whole answered got (replies_in board.outcomes) board.told none host.bye some_replies in

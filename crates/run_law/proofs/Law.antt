@@ -19,13 +19,13 @@ use Rattle.planner_runs.proofs.Driven.{driven}
 use Rattle.run_rules.specs.Lines.{whole_lines}
 use Rattle.run_rules.specs.Outcomes.{Follows, start}
 use Rattle.run_rules.specs.Outcomes.Passed.{a_line}
-use Rattle.run_rules.specs.Told.{replies_in, asked_in, records_text}
-use Rattle.stream_host.specs.Links.{answers_in, errors_among}
+use Rattle.run_rules.specs.Told.{replies_in, asked_in, records_text, errors_among}
+use Rattle.status_report.specs.Answering.{answers_in}
 use Rattle.stream_host.specs.Ran.{HostEnd, HostRan}
 use Rattle.stream_host.proofs.Pieces.{lines_back}
-use Rattle.run_law.specs.Runs.{Sinks, IsRun}
+use Rattle.run_law.specs.Runs.{Sinks, ended, IsRun}
 use Rattle.run_law.specs.Ran.{BoardRan, PulseRan, RecorderRan, IsLinked}
-use Rattle.run_law.proofs.Answering.{answers_are, errors_are}
+use Rattle.run_rules.proofs.Answering.{answers_are, errors_are}
 
 -- where the link was found closed, all that was stored is taken
 pub link_taken : (stored taken : List ℕ) (shut closed : Bool) → IsLinked stored shut taken closed → closed ≡ true → stored ≡ taken
@@ -47,7 +47,7 @@ pub runs : (job_was job_is : SourceState) (was is : Sinks) (end : HostEnd) (step
     → HostRan job_was job_is was.console is.console stored shut got end → BoardRan taken closed answered published → PulseRan got_pieces ticks put
     → RecorderRan was.steps is.steps got_records steps_failed
     → IsLinked stored shut taken closed → got ≡ answered → got_pieces ≡ published → got_records ≡ put
-    → IsRun job_was job_is was is (record { host = end; steps_failed = steps_failed })
+    → IsRun job_was job_is was is (ended end steps_failed)
 runs job_was job_is was is end steps_failed stored taken shut closed got answered got_pieces published ticks got_records put host board pulse recorder link same_replies same_pieces same_records =
     let shut_now : shut ≡ true = link.closes board.found in
     let lines : whole_lines taken ≡ map plain host.lines =

@@ -1,4 +1,3 @@
-pub mod Answering
 pub mod Law
 pub mod Fronts
 pub mod SoFar

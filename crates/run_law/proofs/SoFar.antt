@@ -11,8 +11,6 @@ use Rattle.step_line.specs.declared.Piece.{Piece}
 use Rattle.step_line.specs.declared.Piece.TheVariants as pieces
 use Rattle.step_line.specs.declared.Record.{Record}
 use Rattle.step_line.specs.declared.Record.TheVariants as kinds
-use Rattle.units.specs.declared.Move.{Move}
-use Rattle.step_line.specs.Events.{event_of, events_after}
 use Rattle.step_line.specs.Asking.{Asked, ticks_among, ticks_of_all, ticks_of_one}
 use Rattle.step_line.specs.Pieces.{records_of, ticks_of}
 use Rattle.step_line.specs.Records.{is_tick}
@@ -21,6 +19,7 @@ use Rattle.planner_runs.specs.declared.Action.{Action}
 use Rattle.planner_runs.specs.Runs.{IsPlannerRun, IsUndisturbed, fresh_plan, most_blocks, all_asked, all_records, ticks_left}
 use Rattle.planner_runs.proofs.Runs.{undisturbed_keeps, fresh_starts}
 use Rattle.planner_runs.proofs.Ticks.{ticks_from_start}
+use Rattle.planner_runs.proofs.Driven.{ticks_of_pieces}
 use Rattle.run_rules.specs.Lines.{whole_lines, onto_line}
 use Rattle.run_rules.specs.Told.{replies_in, asked_in}
 use Rattle.stream_host.specs.Links.{on_link}
@@ -64,22 +63,6 @@ lines_begin : (whole front : List ℕ) → BeginsWith whole front → BeginsWith
 lines_begin whole front b = begins_by (whole_lines (front ++ b.rest)) (whole_lines whole) (whole_lines front) (ap whole_lines b.is) (lines_more front b.rest)
 
 -- ---- ticks
-
-events_are_ticks : (m : Move) (k n : ℕ) → ticks_among (map kinds.Event (events_after m k n)) ≡ map kinds.Event (events_after m k n)
-events_are_ticks m k zero = refl
-events_are_ticks m k (suc n) = ap (λ (rs : List Record). kinds.Event (event_of m (k + 1)) ∷ rs) (events_are_ticks m (k + 1) n)
-
-ticks_of_piece : (p : Piece) → ticks_among (records_of p) ≡ ticks_of p
-ticks_of_piece (pieces.Segment s) = events_are_ticks s.mv s.first s.n
-ticks_of_piece (pieces.Mark m) = refl
-ticks_of_piece pieces.End = refl
-
-ticks_of_pieces : (ps : List Piece) → ticks_among (all_records ps) ≡ flat_map ticks_of ps
-ticks_of_pieces [] = refl
-ticks_of_pieces (p ∷ ps) =
-    filter-append is_tick (records_of p) (all_records ps)
-    ∙ ap (λ x. x ++ ticks_among (all_records ps)) (ticks_of_piece p)
-    ∙ ap (λ x. ticks_of p ++ x) (ticks_of_pieces ps)
 
 ended_ticks : (given : List Piece) → ticks_among (all_records given ++ kinds.End ∷ []) ≡ flat_map ticks_of given
 ended_ticks given = filter-append is_tick (all_records given) (kinds.End ∷ []) ∙ append-nil (ticks_among (all_records given)) ∙ ticks_of_pieces given

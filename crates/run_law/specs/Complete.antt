@@ -12,7 +12,7 @@ use Rattle.run_rules.specs.Outcomes.{Before, Passed, Follows, start, after}
 use Rattle.run_rules.specs.Outcomes.Passed.{a_line}
 use Rattle.run_rules.specs.Told.{errors_in}
 use Rattle.stream_host.specs.declared.Stop.TheVariants.{End}
-use Rattle.run_law.specs.Runs.{RunEnd}
+use Rattle.run_law.specs.declared.RunEnd.{RunEnd}
 
 -- each line that is served only at rest stands where no line has moved since the last that settles
 abbrev pub AreServed : Before → List (List ℕ) → List Passed → Type 0
@@ -37,8 +37,8 @@ pub record IsAcceptedJob (job : SourceState) : Type 0 where
 -- What a run of such a job does: all of it is read and sent, and each line is accepted, as where the machine is never found
 -- running.
 pub record IsComplete (bytes read : List ℕ) (lines : List (List ℕ)) (outcomes became : List Outcome) (end : RunEnd) : Type 0 where
-  pub stop : end.host.stop ≡ End
-  pub errors : end.host.errors ≡ 0
+  pub stop : end.stop ≡ End
+  pub errors : end.errors ≡ 0
   pub all : read ≡ bytes
   pub sent : lines ≡ lines_of bytes
   pub same : became ≡ outcomes

@@ -18,6 +18,7 @@ use Rattle.stream_host.specs.declared.Reading.{Reading}
 use Rattle.stream_host.specs.declared.Reading.TheVariants.{Ended}
 use Rattle.stream_host.specs.Jobs.{IsSent}
 use Rattle.stream_host.specs.Ran.{HostEnd, is_failed}
+use Rattle.run_law.specs.declared.RunEnd.{RunEnd}
 
 -- what the console and the steps hold
 pub record Sinks : Type 0 where
@@ -25,9 +26,15 @@ pub record Sinks : Type 0 where
   pub steps : SinkState
 
 -- how a run ends: what its host tells, and whether a write of the steps failed
-pub record RunEnd : Type 0 where
-  pub host : HostEnd
-  pub steps_failed : Bool
+abbrev pub ended : HostEnd → Bool → RunEnd
+ended host failed = record {
+  stop = host.stop;
+  answered = host.answered;
+  errors = host.errors;
+  source_failed = host.source_failed;
+  console_failed = host.console_failed;
+  steps_failed = failed;
+}
 
 -- A run of a job, whatever failed. Some of the job was read, and some lines of it were sent. What is kept of each is
 -- answered, once and in order, where the machine may be found running. The console takes the banner, what is told of each
@@ -41,7 +48,7 @@ pub record IsRun (job_was job_is : SourceState) (was is : Sinks) (end : RunEnd) 
   pub lines : List (List ℕ)
   pub taken : Consumes job_was.left job_is.left read
   pub at_end : reading ≡ Ended → IsAtEnd job_is.left
-  pub sent : IsSent read reading scanned lines end.host.stop
+  pub sent : IsSent read reading scanned lines end.stop
   pub first : State
   pub outcomes : List Outcome
   pub last : Before
@@ -49,12 +56,12 @@ pub record IsRun (job_was job_is : SourceState) (was is : Sinks) (end : RunEnd) 
   pub follows : Follows true (start first) (map plain lines) (map a_line outcomes) last
   pub replies : List Reply
   pub told : replies ≡ replies_in outcomes ++ Bye ∷ []
-  pub console : Took was.console is.console end.host.console_failed (replies_text replies)
+  pub console : Took was.console is.console end.console_failed (replies_text replies)
   pub records : List Record
   pub driven : IsDriven (asked_in outcomes) records
   pub steps : Took was.steps is.steps end.steps_failed (records_text records)
   -- each line has one answer
-  pub answered : end.host.answered ≡ length lines
-  pub errors : end.host.errors ≡ errors_in outcomes
-  pub failed : end.host.source_failed ≡ is_failed reading
-  pub source : end.host.source_failed ≡ true → Rose job_was.faults job_is.faults
+  pub answered : end.answered ≡ length lines
+  pub errors : end.errors ≡ errors_in outcomes
+  pub failed : end.source_failed ≡ is_failed reading
+  pub source : end.source_failed ≡ true → Rose job_was.faults job_is.faults

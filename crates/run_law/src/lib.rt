@@ -18,10 +18,25 @@ ghost use Rattle.run_rules.specs.States.{IsOpening};
 ghost use Rattle.board_rules.specs.Steps.{Journal, taken_of, has_closed, answered_of, published_of};
 ghost use Rattle.board_rules.specs.Conduct.{Conducted, IsFinished};
 ghost use Rattle.stream_host.specs.Ran.{HostEnd, HostRan, HostRuns};
-ghost use Rattle.run_law.specs.Runs.{Sinks, RunEnd, IsRun};
+ghost use Rattle.run_law.specs.Runs.{Sinks, ended, IsRun};
 ghost use Rattle.run_law.specs.Complete.{IsAcceptedJob, IsComplete};
 ghost use Rattle.run_law.specs.Ran.{BoardRan, PulseRan, RecorderRan, IsLinked};
 ghost use Rattle.run_law.specs.SoFar.{BeginsWith, BoardRuns, PulseRuns, RecorderRuns, IsSoFar};
+
+use board_rules::{boards_end_well, boards_keep_to_their_lines, boards_run_their_plan};
+use stream_host::Stop;
+
+/// How a run ends: why no more of the job was sent; how many lines were answered, and how many of these with an error;
+/// whether a read of the job has failed, a write of the console, and a write of the steps.
+#[derive(Clone, Copy, Debug, PartialEq, Eq)]
+pub struct RunEnd {
+    pub stop: Stop,
+    pub answered: u32,
+    pub errors: u32,
+    pub source_failed: bool,
+    pub console_failed: bool,
+    pub steps_failed: bool,
+}
 
 /// Four actors that ran to their ends, where each got what the other gave, make a run: the lines that are sent of the job
 /// are answered in order, the console takes what is told of them, and the steps take the records of a drive that was
@@ -32,7 +47,7 @@ pub fn actors_make_a_run()
         HostRan job_was job_is was.console is.console stored shut got end → BoardRan taken closed answered published → PulseRan got_pieces ticks put →
         RecorderRan was.steps is.steps got_records steps_failed →
         IsLinked stored shut taken closed → got ≡ answered → got_pieces ≡ published → got_records ≡ put →
-        IsRun job_was job_is was is (record { host = end; steps_failed = steps_failed }) }
+        IsRun job_was job_is was is (ended end steps_failed) }
 {}
 
 /// Four actors that ran to their ends make a run already where each has got a front of what the other gave: nothing waits
@@ -43,7 +58,7 @@ pub fn actors_that_end_make_a_run()
         HostRan job_was job_is was.console is.console stored shut got end → BoardRan taken closed answered published → PulseRan got_pieces ticks put →
         RecorderRan was.steps is.steps got_records steps_failed →
         IsLinked stored shut taken closed → BeginsWith answered got → BeginsWith published got_pieces → BeginsWith put got_records →
-        IsRun job_was job_is was is (record { host = end; steps_failed = steps_failed }) }
+        IsRun job_was job_is was is (ended end steps_failed) }
 {}
 
 /// Four actors that run, where each has got a front of what the other gave, have done a run so far.
@@ -58,7 +73,7 @@ pub fn actors_make_a_run_so_far()
 /// and its lines become what they become where the machine is never found running.
 pub fn accepted_jobs_are_complete()
     ensures { (job_was job_is : SourceState) (was is : Sinks) (end : RunEnd) (run : IsRun job_was job_is was is end) (job : IsAcceptedJob job_was) →
-        end.host.source_failed ≡ false → IsComplete job.bytes run.read run.lines job.outcomes run.outcomes end }
+        end.source_failed ≡ false → IsComplete job.bytes run.read run.lines job.outcomes run.outcomes end }
 {}
 
 /// A board that keeps to its rules, and has closed its run and nothing left to do, has run; before, it runs.
@@ -66,7 +81,11 @@ pub fn boards_have_run()
     ensures whole { (first : State) (h : Journal) → IsOpening first → Conducted first h → IsFinished h →
         BoardRan (taken_of h) (has_closed h) (answered_of h) (published_of h) }
     ensures so_far { (first : State) (h : Journal) → IsOpening first → Conducted first h → BoardRuns (taken_of h) (answered_of h) (published_of h) }
-{}
+{
+    boards_keep_to_their_lines();
+    boards_run_their_plan();
+    boards_end_well();
+}
 
 /// A pulse that has put the end has run, and every pulse runs.
 pub fn pulses_have_run()

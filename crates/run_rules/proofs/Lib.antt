@@ -1,3 +1,5 @@
 pub mod Going
 pub mod Cutting
 pub mod Determined
+pub mod Settling
+pub mod Answering

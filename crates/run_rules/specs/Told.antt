@@ -27,6 +27,10 @@ abbrev pub is_error : Reply → Bool
 is_error (Error n) = true
 is_error _ = false
 
+-- how many replies are errors
+abbrev pub errors_among : List Reply → ℕ
+errors_among replies = count_by is_error replies
+
 -- how many lines are refused
 abbrev pub errors_in : List Outcome → ℕ
 errors_in outcomes = count_by (λ o. is_error o.answer) outcomes

@@ -4,6 +4,7 @@ use Rattle.std.specs.List.{flat_map}
 use Rattle.step_line.specs.Asking.{Asked}
 use Rattle.step_line.specs.Asking.Asked.{a_move, a_mark, a_rest}
 use Rattle.status_report.specs.declared.Reply.{Reply}
+use Rattle.status_report.specs.declared.Reply.TheVariants.{Bye}
 use Rattle.run_rules.specs.declared.State.{State}
 
 pub data Task : Type 0 where
@@ -11,7 +12,7 @@ pub data Task : Type 0 where
   ask : Asked → Task
   -- a reply is told
   tell : Reply → Task
-  -- the end is given to the machine
+  -- the machine comes to rest, and is given the end
   finish : Task
 
 -- what becomes of a line: what there is to do, its answer last; the answer; whether it settles, that is, has items of
@@ -21,6 +22,10 @@ pub record Outcome : Type 0 where
   pub answer : Reply
   pub settles : Bool
   pub next : State
+
+-- behind the last line the end is given to the machine, and Bye is told
+abbrev pub closing_work : List Task
+closing_work = finish ∷ tell Bye ∷ []
 
 -- what a task tells
 abbrev pub told_by : Task → List Reply

@@ -9,7 +9,7 @@ use Rattle.shared_rings.proofs.Rights as rights
 use Rattle.shared_rings.proofs.Placed.{placed_other}
 use Rattle.status_report.specs.declared.Reply.{Reply}
 use Rattle.serial_ring.specs.declared.view.Sight.{Sight}
-use Rattle.serial_ring.specs.Lists.{lfs_in, answers_in}
+use Rattle.status_report.specs.Answering.{lfs_in, answers_in}
 use Rattle.serial_ring.specs.Rule.{Kept, Bytes, Replies, Hosts, Boards, first_cell, all_words, cell_of}
 use Rattle.serial_ring.proofs.Lists.{more_answers, more_lfs}
 use Rattle.serial_ring.proofs.Bytes.{cell_apart}

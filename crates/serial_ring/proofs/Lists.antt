@@ -1,21 +1,19 @@
 -- Bytes behind lines, and lines answered.
-use Rattle.std.proofs.Common.{◌≡◌, ℕ, ◌<◌, ◌≤◌, Bool, true, false, nat_eq, nat_le, List, [], ◌∷◌, ◌++◌, length, refl, arith}
+use Rattle.std.proofs.Common.{◌≡◌, ℕ, ◌+◌, ◌<◌, ◌≤◌, Bool, true, false, cond, nat_le, List, [], ◌∷◌, ◌++◌, length, refl, arith}
 use Rattle.std.proofs.lemmas.Bool.Decides.{nat_tests}
 use Rattle.status_report.specs.declared.Reply.{Reply}
 use Rattle.status_report.specs.Replies.{IsReply}
-use Rattle.serial_ring.specs.Lists.{counted, lfs_in, is_answer, answers_in, behind, AreReplies, line_feed}
-
-pub at_least : (is : Bool) (n : ℕ) → n ≤ counted is n
-at_least true n = omega arith
-at_least false n = omega arith
+use Rattle.status_report.proofs.Answered.{lfs_first, answers_first}
+use Rattle.serial_ring.specs.Lists.{behind, AreReplies}
+use Rattle.status_report.specs.Answering.{lfs_in, answers_in}
 
 pub more_lfs : (rest taken : List ℕ) → lfs_in taken ≤ lfs_in (rest ++ taken)
 more_lfs [] taken = omega arith
-more_lfs (b ∷ rest) taken = let m = more_lfs rest taken in let l = at_least (nat_eq b line_feed) (lfs_in (rest ++ taken)) in omega arith
+more_lfs (b ∷ rest) taken = let m = more_lfs rest taken in let l = lfs_first b (rest ++ taken) in omega arith
 
 pub more_answers : (rest got : List Reply) → answers_in got ≤ answers_in (rest ++ got)
 more_answers [] got = omega arith
-more_answers (r ∷ rest) got = let m = more_answers rest got in let l = at_least (is_answer r) (answers_in (rest ++ got)) in omega arith
+more_answers (r ∷ rest) got = let m = more_answers rest got in let l = answers_first r (rest ++ got) in omega arith
 
 stands : (k n : ℕ) → k ≤ n → nat_le k n ≡ true
 stands k n le = grind (arith, nat_tests)
@@ -33,6 +31,6 @@ text_of [] got r texts = texts.0
 text_of (x ∷ rest) got r texts = text_of rest got r texts.1
 
 -- one more answer
-pub one_more : (is : Bool) (n m : ℕ) → n ≤ m → (is ≡ true → n < m) → counted is n ≤ m
-one_more true n m le lt = let l = lt refl in omega arith
-one_more false n m le lt = le
+pub one_more : (is : Bool) (n m k : ℕ) → k ≡ cond is 1 0 + n → n ≤ m → (is ≡ true → n < m) → k ≤ m
+one_more true n m k e le lt = let l = lt refl in omega arith
+one_more false n m k e le lt = omega arith

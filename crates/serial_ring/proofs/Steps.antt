@@ -16,8 +16,10 @@ use Rattle.shared_rings.proofs.Shelf.{below_size}
 use Rattle.status_report.specs.declared.Reply.{Reply}
 use Rattle.status_report.specs.Replies.{IsReply}
 use Rattle.serial_ring.specs.declared.view.Sight.{Sight}
-use Rattle.serial_ring.specs.Lists.{IsRoom, lfs_in, is_answer, answers_in, behind, AreReplies, MayAnswer}
+use Rattle.serial_ring.specs.Lists.{IsRoom, behind, AreReplies, MayAnswer}
+use Rattle.status_report.specs.Answering.{lfs_in, is_answer, answers_in}
 use Rattle.serial_ring.specs.Rule.{Kept, Bytes, Replies, Hosts, Boards, head_word, tail_word, reply_head_word, reply_tail_word, all_words, cell_of, top_if, beginning, without_taking, without_storing, both_of, spent, with_tail, with_cell, with_stored, with_closed, with_reply_head, with_got, with_back, with_head, with_over, with_read, with_taken, with_reply_tail, with_slot, with_answered, saw_tail, wrote, stored_byte, shut, grasped, gave_back, saw_head, looked, took, reached, gave, tied}
+use Rattle.status_report.proofs.Answered.{answers_first}
 use Rattle.serial_ring.proofs.Lists.{more_answers, unread_behind, text_of, one_more, more_lfs}
 use Rattle.serial_ring.proofs.Bytes.{below, above, cell_apart, apart_from_cell, long, bytes_stay, bytes_written, bytes_taken, bytes_stored, bytes_closed}
 use Rattle.serial_ring.proofs.Replies.{replies_stay, replies_reached, replies_given, next_reply, replies_grasped, replies_back}
@@ -417,7 +419,7 @@ answers room slots id new i v r mine busy place may count s k size at small =
       tt,
       board_steps room s k id v w (set s.words reply_head_word new) (set s.homes i (some (Some r))) k.taken (r ∷ k.answered) false at mine (length-set s.words reply_head_word new ∙ k.wide)
           (bytes_stay room s.words k.stored k.taken k.closed k.bytes reply_head_word new (omega arith) (below head_word reply_head_word (omega arith)) (below tail_word reply_head_word (omega arith))) moved
-          (one_more (is_answer r) (answers_in k.answered) (lfs_in k.taken) k.fewer (λ q. let m = may.line q in let x = ap answers_in b.1.answered_are in let y = ap lfs_in b.1.taken_are in omega arith))
+          (one_more (is_answer r) (answers_in k.answered) (lfs_in k.taken) (answers_in (r ∷ k.answered)) (answers_first r k.answered) k.fewer (λ q. let m = may.line q in let x = ap answers_in b.1.answered_are in let y = ap lfs_in b.1.taken_are in omega arith))
           (record { taken_are = b.1.taken_are; head_is = b.1.head_is; read_is = b.1.read_is; over_is = b.1.over_is; answered_are = ap (λ (l : List Reply). r ∷ l) b.1.answered_are; filling_is = refl })
           (λ m. let h = k.hosting id v at m in (h.0, host_words room s.words k.stored k.taken k.taken k.closed k.got k.emptying reply_head_word new w (omega arith) (omega arith) (same_host room s.words k.stored k.taken k.closed k.got k.emptying v w refl refl refl refl refl refl h.1)))
           (λ u h. host_words room s.words k.stored k.taken k.taken k.closed k.got k.emptying reply_head_word new u (omega arith) (omega arith) h),

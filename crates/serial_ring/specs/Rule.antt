@@ -13,7 +13,8 @@ use Rattle.shared_rings.specs.Shelf.{Shelf}
 use Rattle.status_report.specs.declared.Reply.{Reply}
 use Rattle.status_report.specs.Replies.{IsReply}
 use Rattle.serial_ring.specs.declared.view.Sight.{Sight}
-use Rattle.serial_ring.specs.Lists.{IsRoom, reply_room, lfs_in, answers_in, behind, AreReplies}
+use Rattle.serial_ring.specs.Lists.{IsRoom, behind, AreReplies}
+use Rattle.status_report.specs.Answering.{reply_room, lfs_in, answers_in}
 
 -- the words that the host writes, and 256 bytes behind them those that the board writes
 abbrev pub head_word : ℕ

@@ -1,6 +1,7 @@
 //! What the board does.
 ghost use Rattle.std.specs.Prelude.{◌≡◌, ◌+◌, ◌-◌, ◌^◌, ◌<◌, ◌≤◌, true, false, ◌∷◌, length, OnOk, OnErr, IfErr, ℕ};
-ghost use Rattle.serial_ring.specs.Lists.{reply_room, MayAnswer};
+ghost use Rattle.serial_ring.specs.Lists.{MayAnswer};
+ghost use Rattle.status_report.specs.Answering.{reply_room};
 ghost use Rattle.serial_ring.specs.Ends.{link_of_board, taken_by, found_closed, bytes_shown, head_loads_of, answered_by, replies_taken, room_loads_of};
 
 use crate::ends::BoardEnd;

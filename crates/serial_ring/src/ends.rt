@@ -1,7 +1,8 @@
 //! The two ends of the link.
 ghost use Rattle.std.specs.Prelude.{◌≡◌, ◌%◌, ◌^◌, ◌<◌, ◌≤◌, true, false, [], length};
 ghost use Rattle.std.specs.Arc.{arc_value};
-ghost use Rattle.serial_ring.specs.Lists.{IsRoom, reply_room};
+ghost use Rattle.serial_ring.specs.Lists.{IsRoom};
+ghost use Rattle.status_report.specs.Answering.{reply_room};
 ghost use Rattle.serial_ring.specs.Rule.{all_words};
 
 use crate::view::{LinkTable, Place};

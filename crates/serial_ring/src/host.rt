@@ -1,7 +1,8 @@
 //! What the host does.
 ghost use Rattle.std.specs.Prelude.{◌≡◌, ◌+◌, ◌^◌, ◌<◌, ◌≤◌, true, false, ◌∷◌, length, IfSome, IfNone};
 ghost use Rattle.status_report.specs.Replies.{IsReply};
-ghost use Rattle.serial_ring.specs.Lists.{answers_in, lfs_in, behind};
+ghost use Rattle.serial_ring.specs.Lists.{behind};
+ghost use Rattle.status_report.specs.Answering.{answers_in, lfs_in};
 ghost use Rattle.serial_ring.specs.Ends.{link_of_host, stored_by, closed_by, tail_shown, tail_loads_of, got_by, replies_shown, reply_loads_of};
 
 use crate::ends::HostEnd;

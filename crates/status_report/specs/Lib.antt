@@ -2,6 +2,7 @@ pub mod Lists
 pub mod Places
 pub mod Reports
 pub mod Replies
+pub mod Answering
 pub use Rattle.units.specs.Fixed
 pub use Rattle.units.specs.Lengths
 pub use Rattle.units.specs.Limits

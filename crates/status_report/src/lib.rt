@@ -1,7 +1,7 @@
 //! What the board replies, and the texts of the replies.
 #![tactic(auto)]
 
-ghost use Rattle.std.specs.Prelude.{◌≡◌};
+ghost use Rattle.std.specs.Prelude.{◌≡◌, ◌≤◌, length};
 ghost use Rattle.status_report.specs.Replies.{reply_text, IsReply};
 
 pub mod laws;
@@ -66,12 +66,14 @@ pub enum Reply {
 
 /// Clears `out`, and puts the text of a reply into it. Each text ends with CR LF, but `Bye` has none.
 ///
-/// The longest report has 186 bytes. Settings 10 and 20 are written whole, and the others with three decimals; offsets in mm with three
-/// decimals, the thousandth nearest; and the feed in mm per minute, the whole number nearest, a half upward.
+/// No text is longer than 186 bytes, and the longest report has as many. Settings 10 and 20 are written whole, and the
+/// others with three decimals; offsets in mm with three decimals, the thousandth nearest; and the feed in mm per minute,
+/// the whole number nearest, a half upward.
 #[tactic(auto, unfolding(crate::specs::Replies::reply_text))]
 pub fn put_reply(r: &Reply, out: &mut Text)
     requires { IsReply r.now }
-    ensures { out.new.items ≡ reply_text r.now }
+    ensures text { out.new.items ≡ reply_text r.now }
+    ensures short { length out.new.items ≤ 186 }
 {
     out.clear();
     put_words(r, out);

@@ -3,7 +3,7 @@ use Rattle.std.proofs.Common.{◌≡◌, ℕ, suc, ◌+◌, ◌-◌, ◌<◌, �
 use Rattle.std.specs.List.{flat_map}
 use Rattle.std.proofs.lemmas.Bool.Decides.{nat_tests}
 use Rattle.std.proofs.lemmas.List.{length-append}
-use Rattle.std.proofs.lemmas.List.Concat.{flat_map-cons}
+use Rattle.std.proofs.lemmas.List.Concat.{flat_map-append, flat_map-cons}
 use Rattle.step_line.specs.declared.Piece.{Piece}
 use Rattle.step_line.specs.declared.Piece.TheVariants as pieces
 use Rattle.step_line.specs.Pieces.{ticks_of}
@@ -11,6 +11,9 @@ use Rattle.step_line.specs.Finishing.{tick_count, ticks_together, unfinished}
 
 pub together : (p : Piece) (ps : List Piece) → ticks_together (p ∷ ps) ≡ tick_count p + ticks_together ps
 together p ps = ap length (flat_map-cons ticks_of p ps) ∙ length-append (ticks_of p) (flat_map ticks_of ps)
+
+pub together_both : (ps qs : List Piece) → ticks_together (ps ++ qs) ≡ ticks_together ps + ticks_together qs
+together_both ps qs = ap length (flat_map-append ticks_of ps qs) ∙ length-append (flat_map ticks_of ps) (flat_map ticks_of qs)
 
 -- a piece counts where a tick of it is left
 one_by : (done t n : ℕ) → done < t → cond (nat_lt done t) (suc n) n ≡ suc n

@@ -12,6 +12,10 @@ tick_count p = length (ticks_of p)
 abbrev pub ticks_together : List Piece → ℕ
 ticks_together ps = length (flat_map ticks_of ps)
 
+-- so many published pieces may be unfinished at once
+abbrev pub most_unfinished : ℕ
+most_unfinished = 5
+
 -- how many of some pieces have a tick that is not among the first so many
 abbrev pub unfinished : List Piece → ℕ → ℕ
 unfinished [] done = 0

@@ -12,7 +12,7 @@ use Rattle.stream_host.specs.declared.line.SentLine.{SentLine}
 use Rattle.stream_host.specs.declared.reader.Reader.{Reader}
 use Rattle.stream_host.specs.declared.host.Host.{Host}
 use Rattle.stream_host.specs.Links.{on_link}
-use Rattle.stream_host.specs.Jobs.{is_long, ends_sending, FitsReading}
+use Rattle.stream_host.specs.Jobs.{is_long, ends_sending, MayHaveRead}
 use Rattle.stream_host.specs.Steps.{Step, Journal, port_log, got_of, has_bye, answered_of, read_of, reading_of, scanned_of, unscanned_of, raw_of, cut_of, to_store, begun_of, stop_of, stop_at, text_of, this_turn}
 use Rattle.stream_host.specs.Steps.PortStep.{stored, got, shut}
 use Rattle.stream_host.specs.Steps.Step.{at_port, scanned, wrote, gave_up}
@@ -20,7 +20,7 @@ use Rattle.stream_host.specs.Conduct.{Conducted, MayScanNext, MayStore, HasSentA
 use Rattle.stream_host.specs.Hosts.{HostFits, HasLine, IsStoring, KeepsLine, KeepsJob, KeepsCounts, KeepsText, IsQuiet, line_length, lengths, IsSummed, unread}
 use Rattle.stream_host.specs.declared.counts.Counts.{Counts}
 use Rattle.status_report.specs.declared.Reply.{Reply}
-use Rattle.stream_host.specs.Links.{answers_in}
+use Rattle.status_report.specs.Answering.{answers_in, is_answer, is_bye}
 use Rattle.stream_host.specs.Hosts.{HasRoom, MayScanOn, MayReadOn, IsPiece}
 use Rattle.stream_host.specs.Ports.{TakesByte, SeemsFull, IsOpen, AnswersLines}
 use Rattle.stream_host.proofs.Pieces.{none_ends}
@@ -41,9 +41,8 @@ use Rattle.std.proofs.lemmas.List.Folds.{list_any-append}
 use Rattle.outside.proofs.Written.{more_waits}
 use Rattle.status_report.specs.declared.Reply.TheVariants as replies
 use Rattle.status_report.specs.Replies.{reply_text}
-use Rattle.run_rules.specs.Told.{replies_text, is_error}
+use Rattle.run_rules.specs.Told.{replies_text, is_error, errors_among}
 use Rattle.text_writer.specs.Writers.{with_text, with_all_asked}
-use Rattle.stream_host.specs.Links.{is_answer, is_bye, errors_among}
 use Rattle.stream_host.specs.Steps.{has_given_up}
 use Rattle.stream_host.specs.Hosts.{shown}
 
@@ -57,9 +56,6 @@ long_is s h f e = sym (f.line_is.scanning e).0.long
 long_by : (l : SentLine) (raw left : List ℕ) (whole : Bool) → l.whole ≡ whole → KeepsLine l raw left → l.long ≡ is_long raw
 long_by l raw left false e k = (k.scanning e).0.long
 long_by l raw left true e k = let i = k.storing e in i.short ∙ sym none_ends ∙ ap (λ (t : List ℕ). is_long t) (sym i.none)
-
-pub stop_is_now : (s : Host) (h : Journal) → HostFits s h → stop_of h ≡ stop_at s.job.reading (raw_of h) (length (cut_of h))
-stop_is_now s h f = ap (λ r. stop_at r (raw_of h) (length (cut_of h))) (sym f.job_is.reading_is)
 
 pub is_long_now : (s : Host) (h : Journal) → HostFits s h → s.line.long ≡ is_long (raw_of h)
 is_long_now s h f = long_by s.line (raw_of h) (to_store h) s.line.whole refl f.line_is
@@ -241,7 +237,7 @@ stored_byte s m b h f whole may stores next = record {
 -- ---- the link is closed
 
 -- nothing is left of a piece that is used up
-used_by : (r : Reader) → unread r ≡ [] → IsPiece r → r.end ≤ r.place
+pub used_by : (r : Reader) → unread r ≡ [] → IsPiece r → r.end ≤ r.place
 used_by r none piece =
     let a = ap length none in let b = length-drop r.place (take r.end r.bytes) in let d = length-take r.end r.bytes in
     let e = piece.few in let f = piece.size in omega arith
@@ -256,7 +252,7 @@ few_lines s h f = (f.counts_are.lines_are, (sending.counts_are h f.conducted).2)
 -- a job that is too large leaves a byte
 none_left_large : (h : Journal) {A : Type 0} → Conducted h → reading_of h ≡ Large → unscanned_of h ≡ [] → A
 none_left_large h c at none =
-    let more : largest_job < length (read_of h) = (subst (λ (r : Reading). FitsReading r (length (read_of h))) at (reading_fits h c)).0 in
+    let more : largest_job < length (read_of h) = (subst (λ (r : Reading). MayHaveRead r (length (read_of h))) at (reading_fits h c)).0 in
     let l = ap length (read_is h c) in let m = length-append (scanned_of h) (unscanned_of h) in let n = ap length none in let k = few_scanned h c in
     absurd (omega arith)
 

@@ -2,7 +2,7 @@
 use Rattle.std.proofs.Common.{◌≡◌, ℕ, ◌+◌, ◌≤◌, ◌<◌, inl, Bool, true, false, cond, List, [], ◌∷◌, ◌++◌, length, map, take, nat_lt, refl, sym, ap, ◌∙◌, arith, subst, append-nil, length-append}
 use Rattle.std.specs.List.{list_any}
 use Rattle.std.proofs.lemmas.Bool.Decides.{nat_tests}
-use Rattle.std.proofs.lemmas.List.{length-take, drop_all}
+use Rattle.std.proofs.lemmas.List.{length-take, length-drop, drop_all}
 use Rattle.std.specs.Io.KnownBytes.{Consumes, IsAtEnd}
 use Rattle.std.proofs.KnownBytes.{Consumes-trans, Consumes-kept}
 use Rattle.outside.specs.Causes.{SourceState, SinkState, Rose}
@@ -14,12 +14,12 @@ use Rattle.stream_host.specs.declared.line.SentLine.{SentLine}
 use Rattle.stream_host.specs.declared.reader.Reader.{Reader}
 use Rattle.stream_host.specs.declared.counts.Counts.{Counts}
 use Rattle.stream_host.specs.declared.host.Host.{Host}
-use Rattle.stream_host.specs.Steps.{Journal, port_log, got_in, got_of, read_of, reading_of, scanned_of, unscanned_of, raw_of, cut_of}
+use Rattle.stream_host.specs.Steps.{Journal, port_log, got_in, got_of, read_of, reading_of, scanned_of, unscanned_of, raw_of, cut_of, to_store}
 use Rattle.stream_host.specs.Steps.Step.{read_some, read_end, read_failed, scanned, line_over}
 use Rattle.stream_host.specs.Conduct.{MayRead, moving}
 use Rattle.stream_host.specs.Hosts.{HostFits, KeepsLine, KeepsCounts, IsQuiet, MayReadOn, GaveBytes, GaveEnd, GaveNone, DidAlone, HostTellsOn, TellsJob, unread}
 use Rattle.stream_host.proofs.Keeping.{read_is}
-use Rattle.stream_host.proofs.Hosting.{long_is, quiet_on, same_job}
+use Rattle.stream_host.proofs.Hosting.{long_is, used_by, quiet_on, same_job}
 
 -- ---- some bytes are scanned
 
@@ -63,7 +63,7 @@ did_scan s t h same (bytes, some, fits) = (
 
 -- ---- the job is read
 
-may_read : (s : Host) (h : Journal) → HostFits s h → MayReadOn s → s.shut ≡ false → MayRead h
+pub may_read : (s : Host) (h : Journal) → HostFits s h → MayReadOn s → s.shut ≡ false → MayRead h
 may_read s h f may going = record {
   going = sym f.shut_is ∙ going;
   on = sym f.job_is.reading_is ∙ may.on;
@@ -71,6 +71,22 @@ may_read s h f may going = record {
   used = sym f.job_is.left_is ∙ drop_all s.job.place (take s.job.end s.job.bytes) (let l = length-take s.job.end s.job.bytes in let u = may.used in omega arith);
   free = (f.line_is.scanning may.scanning).1;
 }
+
+none_whole : (s : Host) (h : Journal) → HostFits s h → to_store h ≡ [] → (t : Bool) → s.line.whole ≡ t → s.line.whole ≡ false
+none_whole s h f free false e = e
+none_whole s h f free true e =
+    let w = f.line_is.storing e in
+    let l = ap length (sym w.left_is ∙ free) in let d = length-drop s.line.place (s.line.kept.items ++ 10 ∷ []) in let k = length-append s.line.kept.items (10 ∷ []) in let p = w.within in
+    absurd (omega arith)
+
+pub may_read_on : (s : Host) (h : Journal) → HostFits s h → MayRead h → MayReadOn s
+may_read_on s h f may =
+    let whole = none_whole s h f may.free s.line.whole refl in record {
+      scanning = whole;
+      short = sym (long_is s h f whole) ∙ may.sends;
+      used = used_by s.job (f.job_is.left_is ∙ may.used) f.job_is.piece;
+      on = f.job_is.reading_is ∙ may.on;
+    }
 
 read_more : (h : Journal) (bytes : List ℕ) (n : ℕ) → read_of h ≡ scanned_of h ++ unscanned_of h → unscanned_of h ≡ [] → n ≡ length (scanned_of h) → n + length bytes ≡ length (read_of h ++ bytes)
 read_more h bytes n is none count =

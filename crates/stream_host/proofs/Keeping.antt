@@ -7,12 +7,12 @@ use Rattle.std.proofs.lemmas.List.{map-append}
 use Rattle.std.proofs.Math.Seq.{take-append_seam}
 use Rattle.gcode_words.specs.Stripping.{plain}
 use Rattle.run_rules.specs.Lines.{CutsInto, ended, lines_of}
-use Rattle.run_rules.specs.Readings.{largest_job}
+use Rattle.run_rules.specs.Readings.{largest_job, largest_piece}
 use Rattle.run_rules.proofs.Cutting.{cut_byte, cut_line, cut_none, lines_with}
 use Rattle.stream_host.specs.declared.Reading.{Reading}
 use Rattle.stream_host.specs.declared.Reading.TheVariants.{Ended, Large, Stopped}
 use Rattle.stream_host.specs.Links.{on_link}
-use Rattle.stream_host.specs.Jobs.{ends_sending, ends_in, but_last, FitsReading, largest_piece}
+use Rattle.stream_host.specs.Jobs.{ends_sending, ends_in, but_last, MayHaveRead}
 use Rattle.stream_host.specs.Steps.{Step, Journal, stored_of, is_shut, read_of, reading_of, scanned_of, unscanned_of, raw_of, cut_of, to_store}
 use Rattle.stream_host.specs.Steps.PortStep.{stored, dropped, raised, got, no_reply, shut}
 use Rattle.stream_host.specs.Steps.Step.{at_port, read_some, read_end, read_failed, scanned, line_over, wrote, gave_up, tired, turned}
@@ -219,14 +219,14 @@ few_read h c =
     let e = ap length (read_is h c) in let l = length-append (scanned_of h) (unscanned_of h) in let p = few_unscanned h c in
     omega arith
 
-fits_read : (n : ℕ) (t : Bool) → n ≤ largest_job + largest_piece → nat_lt largest_job n ≡ t → FitsReading (cond t Large Stopped) n
+fits_read : (n : ℕ) (t : Bool) → n ≤ largest_job + largest_piece → nat_lt largest_job n ≡ t → MayHaveRead (cond t Large Stopped) n
 fits_read n true few e = (grind (arith, nat_tests), few)
 fits_read n false few e = grind (arith, nat_tests)
 
-fits_from : (r : Reading) (n : ℕ) → r ≡ Stopped → FitsReading r n → n ≤ largest_job
-fits_from r n e f = subst (λ (q : Reading). FitsReading q n) e f
+fits_from : (r : Reading) (n : ℕ) → r ≡ Stopped → MayHaveRead r n → n ≤ largest_job
+fits_from r n e f = subst (λ (q : Reading). MayHaveRead q n) e f
 
-pub reading_fits : (h : Journal) → Conducted h → FitsReading (reading_of h) (length (read_of h))
+pub reading_fits : (h : Journal) → Conducted h → MayHaveRead (reading_of h) (length (read_of h))
 reading_fits [] c = omega arith
 reading_fits (at_port e ∷ h) c = reading_fits h c.1
 reading_fits (read_some bytes ∷ h) c =

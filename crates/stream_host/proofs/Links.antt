@@ -10,7 +10,8 @@ use Rattle.gcode_words.specs.Stripping.{plain, capital, is_plain}
 use Rattle.gcode_words.proofs.Scanning.{next, seen, shown}
 use Rattle.gcode_words.proofs.Fed.{kept_of, plain-append}
 use Rattle.run_rules.specs.Lines.{HasNoLf, ended}
-use Rattle.stream_host.specs.Links.{lfs_in, behind}
+use Rattle.stream_host.specs.Links.{behind}
+use Rattle.status_report.specs.Answering.{lfs_in}
 
 pub all_push : {X : Type 0} (P : X → Type 0) (xs : List X) (x : X) → AllByRecursion P xs → P x → AllByRecursion P (xs ++ x ∷ [])
 all_push P [] x h p = (p, tt)

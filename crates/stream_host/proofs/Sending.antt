@@ -9,12 +9,13 @@ use Rattle.status_report.specs.declared.Reply.{Reply}
 use Rattle.status_report.specs.declared.Reply.TheVariants as replies
 use Rattle.run_rules.specs.Lines.{HasNoLf, ended, lines_of}
 use Rattle.run_rules.specs.Readings.{largest_job, job_of}
-use Rattle.run_rules.specs.Told.{is_error}
+use Rattle.run_rules.specs.Told.{is_error, errors_among}
 use Rattle.run_rules.proofs.Cutting.{lines_with}
 use Rattle.stream_host.specs.declared.Reading.{Reading}
 use Rattle.stream_host.specs.declared.Reading.TheVariants.{Ended, Failed, Large, Stopped}
 use Rattle.stream_host.specs.declared.Stop.TheVariants.{End, LongLine}
-use Rattle.stream_host.specs.Links.{receive_room, lfs_in, is_answer, answers_in, errors_among, behind, on_link}
+use Rattle.stream_host.specs.Links.{behind, on_link}
+use Rattle.status_report.specs.Answering.{receive_room, lfs_in, is_answer, answers_in}
 use Rattle.stream_host.specs.Jobs.{is_long, ends_sending, lines_to_send, ScansFront, MayLeave, MayScan, long_line, stop_by, IsSentSoFar, IsSent}
 use Rattle.stream_host.specs.Steps.{Journal, stored_of, got_of, is_shut, answered_of, errors_of, read_of, reading_of, scanned_of, unscanned_of, raw_of, cut_of, to_store, begun_of, stop_at, stop_of}
 use Rattle.stream_host.specs.Steps.PortStep.{stored, dropped, raised, got, no_reply, shut}

@@ -6,8 +6,9 @@ use Rattle.gcode_words.specs.Stripping.{plain}
 use Rattle.run_rules.specs.Readings.{largest_job}
 use Rattle.stream_host.specs.declared.Reading.{Reading}
 use Rattle.stream_host.specs.declared.Reading.TheVariants.{Ended, Failed, Large, Stopped}
-use Rattle.stream_host.specs.Links.{receive_room, lfs_in, on_link}
-use Rattle.stream_host.specs.Jobs.{ends_sending, FitsReading}
+use Rattle.stream_host.specs.Links.{on_link}
+use Rattle.status_report.specs.Answering.{receive_room, lfs_in}
+use Rattle.stream_host.specs.Jobs.{ends_sending, MayHaveRead}
 use Rattle.stream_host.specs.Steps.{Journal, stored_of, is_shut, answered_of, read_of, reading_of, scanned_of, unscanned_of, raw_of, cut_of, to_store, begun_of}
 use Rattle.stream_host.specs.Steps.PortStep.{stored, dropped, raised, got, no_reply, shut}
 use Rattle.stream_host.specs.Steps.Step.{at_port, read_some, read_end, read_failed, scanned, line_over, wrote, gave_up, tired, turned}
@@ -98,7 +99,7 @@ all_scanned h c going free short used w Stopped at raw is = w.no_read (record { 
 all_scanned h c going free short used w Failed at raw is =
     shuts h going free w (inr (subst (λ (r : Reading). HasNoMore r (unscanned_of h) (raw_of h) (length (scanned_of h))) (sym at) used))
 all_scanned h c going free short used w Large at raw is =
-    let more : largest_job < length (read_of h) = (subst (λ (r : Reading). FitsReading r (length (read_of h))) at (reading_fits h c)).0 in
+    let more : largest_job < length (read_of h) = (subst (λ (r : Reading). MayHaveRead r (length (read_of h))) at (reading_fits h c)).0 in
     let l = ap length (read_is h c) in let m = length-append (scanned_of h) (unscanned_of h) in let n = ap length used in let s = few_scanned h c in
     absurd (omega arith)
 all_scanned h c going free short used w Ended at [] is =
@@ -110,21 +111,21 @@ pub over_full : (h : Journal) → Conducted h → (b : ℕ) (bytes : List ℕ) �
 over_full h c b bytes next full Large at = (let s = few_scanned h c in omega arith)
 over_full h c b bytes next full Ended at = absurd (too_long Ended at (λ f. f))
   where
-    too_long : (r : Reading) → reading_of h ≡ r → (FitsReading r (length (read_of h)) → length (read_of h) ≤ largest_job) → ⊥
+    too_long : (r : Reading) → reading_of h ≡ r → (MayHaveRead r (length (read_of h)) → length (read_of h) ≤ largest_job) → ⊥
     too_long r at few =
-        let f = few (subst (λ (q : Reading). FitsReading q (length (read_of h))) at (reading_fits h c)) in
+        let f = few (subst (λ (q : Reading). MayHaveRead q (length (read_of h))) at (reading_fits h c)) in
         let l = ap length (read_is h c) in let m = length-append (scanned_of h) (unscanned_of h) in let n = ap length next in absurd (omega arith)
 over_full h c b bytes next full Failed at = absurd (too_long Failed at (λ f. f))
   where
-    too_long : (r : Reading) → reading_of h ≡ r → (FitsReading r (length (read_of h)) → length (read_of h) ≤ largest_job) → ⊥
+    too_long : (r : Reading) → reading_of h ≡ r → (MayHaveRead r (length (read_of h)) → length (read_of h) ≤ largest_job) → ⊥
     too_long r at few =
-        let f = few (subst (λ (q : Reading). FitsReading q (length (read_of h))) at (reading_fits h c)) in
+        let f = few (subst (λ (q : Reading). MayHaveRead q (length (read_of h))) at (reading_fits h c)) in
         let l = ap length (read_is h c) in let m = length-append (scanned_of h) (unscanned_of h) in let n = ap length next in absurd (omega arith)
 over_full h c b bytes next full Stopped at = absurd (too_long Stopped at (λ f. f))
   where
-    too_long : (r : Reading) → reading_of h ≡ r → (FitsReading r (length (read_of h)) → length (read_of h) ≤ largest_job) → ⊥
+    too_long : (r : Reading) → reading_of h ≡ r → (MayHaveRead r (length (read_of h)) → length (read_of h) ≤ largest_job) → ⊥
     too_long r at few =
-        let f = few (subst (λ (q : Reading). FitsReading q (length (read_of h))) at (reading_fits h c)) in
+        let f = few (subst (λ (q : Reading). MayHaveRead q (length (read_of h))) at (reading_fits h c)) in
         let l = ap length (read_is h c) in let m = length-append (scanned_of h) (unscanned_of h) in let n = ap length next in absurd (omega arith)
 
 goes_on : (h : Journal) → Conducted h → is_shut h ≡ false → to_store h ≡ [] → Waits h → (t : Bool) → ends_sending (raw_of h) ≡ t → (left : List ℕ) → unscanned_of h ≡ left → ⊥

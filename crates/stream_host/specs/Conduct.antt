@@ -1,15 +1,16 @@
 -- The rules of a host: what it may do next.
 use Rattle.std.specs.Prelude.{◌≡◌, ℕ, ◌+◌, ◌≤◌, ◌<◌, ◌⊎◌, Bool, true, false, List, [], ◌∷◌, ◌++◌, length, drop}
 use Rattle.std.specs.List.{list_any, count_by}
-use Rattle.run_rules.specs.Readings.{largest_job}
+use Rattle.run_rules.specs.Readings.{largest_job, largest_piece}
 use Rattle.status_report.specs.declared.Reply.{Reply}
 use Rattle.outside.specs.declared.On.TheVariants.{Answer}
 use Rattle.outside.specs.declared.Turn.{Turn}
 use Rattle.outside.specs.declared.Turn.TheVariants.{Did, Wait, Done}
 use Rattle.stream_host.specs.declared.Reading.{Reading}
 use Rattle.stream_host.specs.declared.Reading.TheVariants.{Ended, Failed, Large, Stopped}
-use Rattle.stream_host.specs.Links.{receive_room, lfs_in, answers_in, on_link}
-use Rattle.stream_host.specs.Jobs.{ends_sending, largest_piece}
+use Rattle.stream_host.specs.Links.{on_link}
+use Rattle.status_report.specs.Answering.{receive_room, lfs_in, answers_in}
+use Rattle.stream_host.specs.Jobs.{ends_sending}
 use Rattle.stream_host.specs.Steps.{PortStep, Step, Journal, stored_of, got_of, is_shut, has_bye, answered_of, reading_of, scanned_of, unscanned_of, raw_of, cut_of, to_store, text_of, written_of, has_given_up, this_turn}
 use Rattle.stream_host.specs.Steps.PortStep.{stored, dropped, raised, got, no_reply, shut}
 use Rattle.stream_host.specs.Steps.Step.{at_port, read_some, read_end, read_failed, scanned, line_over, wrote, gave_up, tired, turned}

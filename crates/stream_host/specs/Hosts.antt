@@ -11,7 +11,7 @@ use Rattle.status_report.specs.declared.Reply.{Reply}
 use Rattle.status_report.specs.Replies.{reply_text}
 use Rattle.gcode_words.specs.Comments.{comment_after}
 use Rattle.gcode_words.specs.Stripping.{plain}
-use Rattle.run_rules.specs.Readings.{largest_job}
+use Rattle.run_rules.specs.Readings.{largest_job, largest_piece}
 use Rattle.stream_host.specs.declared.Reading.{Reading}
 use Rattle.stream_host.specs.declared.Reading.TheVariants.{Ended, Failed, Large, Stopped}
 use Rattle.stream_host.specs.declared.line.SentLine.{SentLine}
@@ -19,8 +19,8 @@ use Rattle.stream_host.specs.declared.reader.Reader.{Reader}
 use Rattle.stream_host.specs.declared.unanswered.Unanswered.{Unanswered}
 use Rattle.stream_host.specs.declared.counts.Counts.{Counts}
 use Rattle.stream_host.specs.declared.host.Host.{Host}
-use Rattle.stream_host.specs.Links.{answers_in, errors_among, is_bye}
-use Rattle.stream_host.specs.Jobs.{largest_piece}
+use Rattle.run_rules.specs.Told.{errors_among}
+use Rattle.status_report.specs.Answering.{answers_in, is_bye}
 use Rattle.stream_host.specs.Steps.{Step, Journal, port_log, got_of, is_shut, has_bye, read_of, reading_of, scanned_of, unscanned_of, raw_of, cut_of, to_store, text_of, written_of, has_given_up, this_turn}
 use Rattle.stream_host.specs.Steps.Step.{turned}
 use Rattle.stream_host.specs.Conduct.{Conducted, MayTurn, publishing, moving, found_none}
@@ -36,7 +36,7 @@ pub record IsPiece (r : Reader) : Type 0 where
   pub few : r.end ≤ largest_piece
   pub size : length r.bytes ≡ largest_piece
 
--- a read gave some bytes
+-- a read gave some bytes, and no call of the source failed
 pub record GaveBytes (old new : Reader) (before now : SourceState) : Type 0 where
   pub some : 0 < length (unread new)
   pub few : length (unread new) ≤ largest_piece
@@ -44,9 +44,10 @@ pub record GaveBytes (old new : Reader) (before now : SourceState) : Type 0 wher
   pub piece : IsPiece new
   pub scanned : new.scanned ≡ old.scanned
   pub taken : Consumes before.left now.left (unread new)
+  pub same : now.faults ≡ before.faults
   pub later : before.faults ≤ now.faults
 
--- a read found the end
+-- a read found the end, and no call of the source failed
 pub record GaveEnd (old new : Reader) (before now : SourceState) : Type 0 where
   pub none : unread new ≡ []
   pub reading : new.reading ≡ Ended
@@ -54,6 +55,7 @@ pub record GaveEnd (old new : Reader) (before now : SourceState) : Type 0 where
   pub scanned : new.scanned ≡ old.scanned
   pub taken : Consumes before.left now.left []
   pub at_end : IsAtEnd now.left
+  pub same : now.faults ≡ before.faults
   pub later : before.faults ≤ now.faults
 
 -- a read failed

@@ -3,7 +3,7 @@ use Rattle.std.specs.Prelude.{◌≡◌, ℕ, ◌+◌, ◌-◌, ◌≤◌, ◌<�
 use Rattle.std.specs.List.{list_any, take_while}
 use Rattle.gcode_words.specs.Stripping.{plain}
 use Rattle.run_rules.specs.Lines.{HasNoLf, lines_of}
-use Rattle.run_rules.specs.Readings.{largest_job, job_of, sent_lines}
+use Rattle.run_rules.specs.Readings.{largest_job, largest_piece, job_of, sent_lines}
 use Rattle.run_rules.specs.declared.Reading.TheVariants as runs
 use Rattle.stream_host.specs.declared.Reading.{Reading}
 use Rattle.stream_host.specs.declared.Reading.TheVariants.{Ended, Failed, Large, Stopped}
@@ -39,17 +39,13 @@ lines_read Stopped job = sent_lines runs.Failed job
 abbrev pub lines_to_send : Reading → List ℕ → List (List ℕ)
 lines_to_send reading job = take_while is_sent (lines_read reading job)
 
--- so many bytes are read at once at most
-abbrev pub largest_piece : ℕ
-largest_piece = 4096
-
 -- How many bytes were read, by how the reading goes: at most as many as a job may have, or a byte more and the rest of its
 -- piece.
-abbrev pub FitsReading : Reading → ℕ → Type 0
-FitsReading Ended n = n ≤ largest_job
-FitsReading Failed n = n ≤ largest_job
-FitsReading Large n = (largest_job < n) × (n ≤ largest_job + largest_piece)
-FitsReading Stopped n = n ≤ largest_job
+abbrev pub MayHaveRead : Reading → ℕ → Type 0
+MayHaveRead Ended n = n ≤ largest_job
+MayHaveRead Failed n = n ≤ largest_job
+MayHaveRead Large n = (largest_job < n) × (n ≤ largest_job + largest_piece)
+MayHaveRead Stopped n = n ≤ largest_job
 
 abbrev pub but_last : List ℕ → List ℕ
 but_last text = take (length text - 1) text
@@ -85,7 +81,7 @@ stop_by _ text = cond (list_any is_long (lines_of text)) (long_line (lines_of te
 -- What was sent of a job in a run so far: by what was read of it and how the reading goes, the bytes that were scanned,
 -- the lines that were cut, and why no more is sent.
 pub record IsSentSoFar (read : List ℕ) (reading : Reading) (text : List ℕ) (lines : List (List ℕ)) (stop : Stop) : Type 0 where
-  pub fits : FitsReading reading (length read)
+  pub fits : MayHaveRead reading (length read)
   pub scans : ScansFront (job_of read) text
   pub later : List (List ℕ)
   pub sent : lines_to_send reading (job_of read) ≡ lines ++ later
@@ -93,7 +89,7 @@ pub record IsSentSoFar (read : List ℕ) (reading : Reading) (text : List ℕ) (
 
 -- the same in a whole run
 pub record IsSent (read : List ℕ) (reading : Reading) (text : List ℕ) (lines : List (List ℕ)) (stop : Stop) : Type 0 where
-  pub fits : FitsReading reading (length read)
+  pub fits : MayHaveRead reading (length read)
   pub scans : MayScan reading (job_of read) text
   pub sent : lines ≡ lines_to_send reading (job_of read)
   pub cause : stop ≡ stop_by reading text

@@ -1,12 +1,10 @@
 -- What a host owes its port, and what the port promises.
 use Rattle.std.specs.Prelude.{◌≡◌, ℕ, ◌+◌, ◌^◌, ◌≤◌, ◌<◌, false, cond, nat_eq, [], ◌∷◌, length}
-use Rattle.stream_host.specs.Links.{receive_room, lfs_in, answers_in, behind}
+use Rattle.code_table.specs.Tables.{query}
+use Rattle.stream_host.specs.Links.{behind}
+use Rattle.status_report.specs.Answering.{receive_room, lfs_in, answers_in}
 use Rattle.stream_host.specs.Steps.{PortLog, stored_in, got_in, is_shut_in}
 use Rattle.stream_host.specs.Steps.PortStep.{stored, dropped, raised, got, no_reply, shut}
-
--- `?`
-abbrev pub query : ℕ
-query = 63
 
 -- how often a report was asked for
 abbrev pub queries_in : PortLog → ℕ

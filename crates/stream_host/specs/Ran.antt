@@ -1,15 +1,16 @@
 -- What a host has done in a whole run, and so far, on plain lists.
-use Rattle.std.specs.Prelude.{◌≡◌, ℕ, Bool, true, false, List, [], ◌++◌, drop}
+use Rattle.std.specs.Prelude.{◌≡◌, ℕ, Bool, true, false, List, ◌++◌, drop}
 use Rattle.std.specs.List.{list_any}
 use Rattle.std.specs.Io.KnownBytes.{Consumes, IsAtEnd}
 use Rattle.outside.specs.Causes.{Rose, SourceState, SinkState}
 use Rattle.outside.specs.Writing.{Wrote, Took}
-use Rattle.run_rules.specs.Told.{replies_text}
+use Rattle.run_rules.specs.Told.{replies_text, errors_among}
 use Rattle.status_report.specs.declared.Reply.{Reply}
 use Rattle.stream_host.specs.declared.Reading.{Reading}
 use Rattle.stream_host.specs.declared.Reading.TheVariants.{Ended, Failed, Large, Stopped}
 use Rattle.stream_host.specs.declared.Stop.{Stop}
-use Rattle.stream_host.specs.Links.{answers_in, errors_among, is_bye, on_link}
+use Rattle.stream_host.specs.Links.{on_link}
+use Rattle.status_report.specs.Answering.{answers_in, is_bye}
 use Rattle.stream_host.specs.Jobs.{IsSent, IsSentSoFar}
 use Rattle.stream_host.specs.Steps.{Journal, has_bye, answered_of, errors_of, reading_of, stop_of, text_of, written_of, has_given_up}
 use Rattle.stream_host.specs.Conduct.{HasWritten}

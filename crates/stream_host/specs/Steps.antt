@@ -3,14 +3,14 @@ use Rattle.std.specs.Prelude.{ℕ, ◌+◌, Bool, true, false, cond, List, [], �
 use Rattle.std.specs.List.{list_any}
 use Rattle.gcode_words.specs.Stripping.{plain}
 use Rattle.run_rules.specs.Readings.{largest_job}
-use Rattle.run_rules.specs.Told.{replies_text}
+use Rattle.run_rules.specs.Told.{replies_text, errors_among}
 use Rattle.status_report.specs.declared.Reply.{Reply}
 use Rattle.outside.specs.declared.Turn.{Turn}
 use Rattle.stream_host.specs.declared.Reading.{Reading}
 use Rattle.stream_host.specs.declared.Reading.TheVariants.{Ended, Failed, Large, Stopped}
 use Rattle.stream_host.specs.declared.Stop.{Stop}
 use Rattle.stream_host.specs.declared.Stop.TheVariants.{End, LongLine, TooLarge}
-use Rattle.stream_host.specs.Links.{answers_in, errors_among, is_bye}
+use Rattle.status_report.specs.Answering.{answers_in, is_bye}
 use Rattle.stream_host.specs.Jobs.{is_long}
 
 pub data PortStep : Type 0 where

@@ -8,7 +8,8 @@ ghost use Rattle.stream_host.specs.Ports.{AnswersLines};
 ghost use Rattle.stream_host.specs.Steps.{Journal, port_log, got_of, stop_of, stop_at, raw_of, cut_of, reading_of, has_given_up, answered_of, errors_of};
 ghost use Rattle.stream_host.specs.Steps.PortStep.{stored, got, no_reply, shut};
 ghost use Rattle.stream_host.specs.Steps.Step.{at_port, scanned, turned};
-ghost use Rattle.stream_host.specs.Links.{answers_in, is_bye};
+ghost use Rattle.status_report.specs.Answering.{answers_in, is_bye};
+ghost use Rattle.stream_host.specs.Conduct.{MayRead, HasWritten};
 ghost use Rattle.stream_host.specs.Hosts.{HostFits, HostWorked, HostTurned, HostTellsOn, HasPolled, IsBetween, DidAlone, MayScanOn, MayReadOn, HasRoom, HasShown, HostRests, HasLine, KeepsLine, KeepsCounts, unread, shown};
 ghost use Rattle.outside.specs.Causes.{SourceState, SinkState};
 ghost use Rattle.gcode_words.specs.Stripping.{plain};
@@ -257,6 +258,30 @@ impl Host {
             && !self.line.long
             && self.job.end <= self.job.place
             && matches!(self.job.reading, Reading::Stopped)
+    }
+
+    /// Whether all that was got is written, or a write has failed.
+    fn has_written(&self) -> bool
+        ensures { (h : Journal) → HostFits self.now h → (result ≡ true) ↔ HasWritten h }
+    {
+        if self.text.failed() {
+            return true;
+        }
+        !self.text.has_text()
+    }
+
+    /// Whether the next turn reads the job, unless it finds a reply: it may be read, and all that was got is written. Any
+    /// other turn waits for nobody.
+    pub fn reads_next(&self) -> bool
+        ensures { (h : Journal) → HostFits self.now h → (result ≡ true) ↔ (MayRead h × HasWritten h) }
+    {
+        if self.shut {
+            return false;
+        }
+        if !self.has_written() {
+            return false;
+        }
+        self.may_read()
     }
 
     /// Takes one step of sending: stores a byte, scans, reads, or closes the link. Where it may do none, a reply is waited

@@ -3,9 +3,10 @@
 ghost use Rattle.std.specs.Prelude.{◌≡◌, ℕ, ◌+◌, ◌≤◌, ◌<◌, true, false, List, [], ◌∷◌, ◌++◌, length, map, drop};
 ghost use Rattle.gcode_words.specs.Stripping.{plain};
 ghost use Rattle.run_rules.specs.Lines.{whole_lines};
-ghost use Rattle.run_rules.specs.Readings.{largest_job};
-ghost use Rattle.stream_host.specs.Links.{receive_room, lfs_in, behind, on_link};
-ghost use Rattle.stream_host.specs.Jobs.{ends_sending, largest_piece, lines_read, lines_to_send, IsSent, IsSentSoFar};
+ghost use Rattle.run_rules.specs.Readings.{largest_job, largest_piece};
+ghost use Rattle.stream_host.specs.Links.{behind, on_link};
+ghost use Rattle.status_report.specs.Answering.{receive_room, lfs_in};
+ghost use Rattle.stream_host.specs.Jobs.{ends_sending, lines_read, lines_to_send, IsSent, IsSentSoFar};
 ghost use Rattle.stream_host.specs.declared.Reading.{Reading};
 ghost use Rattle.std.specs.List.{AllByRecursion};
 ghost use Rattle.stream_host.specs.Steps.{Journal, stored_of, got_of, is_shut, answered_of, errors_of, read_of, reading_of, scanned_of, cut_of, to_store, begun_of, stop_of};

@@ -30,7 +30,7 @@ struct Board<'a> {
 impl Board<'_> {
     ghost use Rattle.std.specs.Prelude.{◌≡◌, true};
     ghost use Rattle.status_report.specs.Replies.{IsReply};
-    ghost use Rattle.stream_host.specs.Links.{is_answer};
+    ghost use Rattle.status_report.specs.Answering.{is_answer};
 
     /// What is answered to a line.
     fn answer(&self) -> Reply
@@ -47,7 +47,7 @@ impl Board<'_> {
 
 impl HostPort for Board<'_> {
     ghost use Rattle.std.specs.Prelude.{◌+◌, ◌≤◌};
-    ghost use Rattle.stream_host.specs.Links.{answers_in, lfs_in};
+    ghost use Rattle.status_report.specs.Answering.{answers_in, lfs_in};
     ghost use Rattle.stream_host.specs.Steps.{got_in, stored_in};
 
     ghost Rest = { Unit {0} };
@@ -108,7 +108,7 @@ struct Line<'a> {
 
 impl<'a> Model for Line<'a> {
     ghost use Rattle.std.specs.Prelude.{◌+◌, ◌≤◌};
-    ghost use Rattle.stream_host.specs.Links.{answers_in, lfs_in};
+    ghost use Rattle.status_report.specs.Answering.{answers_in, lfs_in};
     ghost use Rattle.stream_host.specs.Steps.{Journal, got_of, stored_of};
     ghost use Rattle.stream_host.specs.Hosts.{HostFits, IsBetween};
 

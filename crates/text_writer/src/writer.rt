@@ -1,6 +1,6 @@
 //! The writer.
 
-ghost use Rattle.std.specs.Prelude.{◌≡◌, ◌<◌, ◌≤◌, length, false};
+ghost use Rattle.std.specs.Prelude.{◌≡◌, ◌<◌, ◌≤◌, nat_lt, length, false};
 
 use crate::{ShortText, Waiting};
 use outside::Sink;
@@ -65,6 +65,14 @@ impl TextWriter {
         ensures { result ≡ self.now.asked }
     {
         self.asked
+    }
+
+    /// Whether some text waits.
+    #[inline]
+    pub fn has_text(&self) -> bool
+        ensures { result ≡ nat_lt 0 (length self.now.waiting) }
+    {
+        self.written < self.held.len()
     }
 
     /// Whether what waits is to be written before more is put.

@@ -81,7 +81,7 @@ fn spindle_coolant_and_dwell_are_recorded_where_they_change(rt: HostRuntime) {
         (b"G4P1.5\nG4P0", b"ok\r\nok\r\n", b"D 1500\nD 0\nE\n"),
         // A mark stands before the move of its line.
         (b"G0X0.004M3S9M8", b"ok\r\n", b"M3 9\nM8 0\nX+\nE\n"),
-        // A pause goes on at once.
+        // A pause goes on once the machine is at rest.
         (b"G0X0.004\nM0\nX0", b"ok\r\nok\r\nok\r\n", b"X+\nX-\nE\n"),
     ];
     expect_done(&rt, rt.alloc(), &rows);

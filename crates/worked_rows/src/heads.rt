@@ -28,7 +28,7 @@ fn segments_are_told_with_their_speeds_and_cycles(rt: HostRuntime) {
             b"G0X0.004\nM8\nM2\n(empty)\nX0",
             b"s 1 1 0 320000\nX+\nM8 0\nM9 0\nE\n",
         ),
-        // The end of a program brings the machine to rest, and a pause does not yet.
+        // The end of a program and a pause bring the machine to rest.
         (
             b"G0X0.004\nM2\nG0X0.008",
             b"s 1 1 0 320000\nX+\ns 3 1 0 320000\nX+\nE\n",
@@ -39,7 +39,7 @@ fn segments_are_told_with_their_speeds_and_cycles(rt: HostRuntime) {
         ),
         (
             b"G0X0.004\nM0\nX0.008",
-            b"s 1 1 0 226951\nX+\ns 3 1 80000 226951\nX+\nE\n",
+            b"s 1 1 0 320000\nX+\ns 3 1 0 320000\nX+\nE\n",
         ),
     ];
     for &(job, steps) in &rows {

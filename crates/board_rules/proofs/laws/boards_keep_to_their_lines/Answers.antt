@@ -1,5 +1,6 @@
 use Rattle.board_rules.proofs.Lines.{bytes_are, lines_follow, one_by_one}
 use Rattle.board_rules.proofs.Keeping.{told_is, asked_is}
+use Rattle.board_rules.proofs.Closing.{one_bye}
 use Rattle.board_rules.proofs.laws.boards_keep_to_their_lines.Goals as goal
 
 pub returns-clause-bytes : goal.returns-clause-bytes
@@ -10,6 +11,9 @@ returns-clause-follow c = lines_follow
 
 pub returns-clause-told : goal.returns-clause-told
 returns-clause-told c = told_is
+
+pub returns-clause-bye : goal.returns-clause-bye
+returns-clause-bye c = one_bye
 
 pub returns-clause-asked : goal.returns-clause-asked
 returns-clause-asked c = asked_is

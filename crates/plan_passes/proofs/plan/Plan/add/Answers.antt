@@ -1,9 +1,10 @@
-use Rattle.std.proofs.Common.{◌≡◌, ◌+◌, ◌<◌, length, refl, arith, rules, ap, sym, subst, ◌∙◌}
+use Rattle.std.proofs.Common.{◌≡◌, ℕ, ◌+◌, ◌<◌, length, refl, arith, rules, ap, sym, subst, ◌∙◌}
 use Rattle.std.proofs.lemmas.List.{length_push}
 use Rattle.plan_passes.specs.Plans.{Planned}
 use Rattle.plan_passes.proofs.Filling.{gaps_before, softs_before, row_small}
 use Rattle.plan_passes.proofs.Reached.{fresh_block, added_reached}
 use Rattle.plan_passes.proofs.Kept.{kept_anew}
+use Rattle.plan_passes.proofs.Onward.{onward_more, onward_before}
 use Rattle.plan_passes.proofs.plan.Plan.add.Goals as goal
 
 pub put_gap-requires : goal.put_gap-requires
@@ -27,15 +28,40 @@ put_soft-requires g c =
     let before = softs_before c.args.o.now p.overrides p.ring c.push.new.self _ p.softs c.in-Ok.ensures.ok same c.self.invariant.tabled.softs in
     (search rules, (search rules, (reached.each, (c.requires.overrides, before))))
 
-pub plan_all-requires : goal.plan_all-requires
-plan_all-requires g c =
+pub plan_from-self-inside-requires : goal.plan_from-self-inside-requires
+plan_from-self-inside-requires g c =
     let p = c.self.inside in
     let block = fresh_block c.args.b c.entry_cap-entry.result c.requires.rate c.requires.geom c.requires.fresh in
     let reached = added_reached p.ring c.push.new.self p.speed p.overrides c.args.o.now _
     c.in-Ok.ensures.ok c.self.invariant.reached block c.requires.overrides in
+    let same : 0 < length p.ring → c.args.o.now ≡ p.overrides = λ some.
+    c.requires.same (subst (λ (p : Planned). 0 < length p.blocks) c.self.view_is some) ∙ ap (λ (p : Planned). p.overrides) (sym c.self.view_is) in
+    let behind = λ (some : 0 < c.len-count.result). onward_before p.ring c.push.new.self _ p.speed p.settled c.len-count.result p.overrides
+    c.in-Ok.ensures.ok c.len-count.ensures.len c.self.invariant.pointer in
+    let small = λ (i : ℕ). row_small c.push.new.self c.len-count.result c.put_gap.new.gaps i c.len-count.ensures.len c.put_gap.ensures reached.each in
+    let onward = λ (some : 0 < c.len-count.result). onward_more p.speed c.len-count.result p.settled p.ring c.push.new.self _ p.overrides c.args.o.now p.planned
+    c.put_gap.new.gaps c.put_soft.new.softs c.in-Ok.ensures.ok same c.len-count.ensures.len
+    (record { gaps = c.put_gap.ensures; softs = c.put_soft.ensures }) c.self.invariant.pointer c.self.invariant.planned reached in
     let few = c.self.invariant.few in
-    let count = c.len-count.ensures.few in
-    (search rules, (search rules, (omega (arith, few), (omega (arith, count), λ i. row_small c.push.new.self c.len-count.result c.put_gap.new.gaps i c.len-count.ensures.len c.put_gap.ensures reached.each))))
+    let count = c.len-count.ensures.few in (
+      search rules,
+      (
+        search rules,
+        (
+          omega (arith, few),
+          (
+            omega (arith, count),
+            (
+              behind,
+              (
+                small,
+                onward,
+              ),
+            ),
+          ),
+        ),
+      ),
+    )
 
 pub invariant_of-self-in-Ok : goal.invariant_of-self-in-Ok
 invariant_of-self-in-Ok g c =
@@ -46,6 +72,6 @@ invariant_of-self-in-Ok g c =
     c.in-Ok.ensures.ok kept.reached block c.requires.overrides in
     let more : length c.push.new.self ≡ length p.ring + 1 = ap length c.in-Ok.ensures.ok ∙ length_push p.ring _ in
     let room = c.in-Ok.ensures.room.0 refl in
-    kept_anew g.row.N p.speed c.len-count.result c.push.new.self c.args.o.now c.plan_all.new.speeds c.put_gap.new.gaps c.put_soft.new.softs
+    kept_anew g.row.N p.speed c.len-count.result c.plan_from-self-inside.result c.push.new.self c.args.o.now c.plan_from-self-inside.new.speeds c.put_gap.new.gaps c.put_soft.new.softs
     kept.some kept.few (omega (arith, more, room)) reached (record { gaps = c.put_gap.ensures; softs = c.put_soft.ensures })
-    c.len-count.ensures.len c.plan_all.ensures
+    c.len-count.ensures.len c.plan_from-self-inside.ensures.planned c.plan_from-self-inside.ensures.settled c.plan_from-self-inside.ensures.none

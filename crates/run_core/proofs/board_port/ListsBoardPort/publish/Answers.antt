@@ -1,6 +1,6 @@
 use Rattle.std.proofs.Common.{◌≤◌, ◌<◌, ◌+◌, length, sym, arith}
 use Rattle.std.proofs.lemmas.Result.{on_ok_weaker}
-use Rattle.board_rules.specs.Ports.{most_unfinished}
+use Rattle.step_line.specs.Finishing.{most_unfinished}
 use Rattle.run_core.specs.Joining.{one_if_some}
 use Rattle.run_core.proofs.Steps.{all_unfinished, piece_handed_back, piece_published}
 use Rattle.run_core.proofs.board_port.ListsBoardPort.publish.Goals as goal

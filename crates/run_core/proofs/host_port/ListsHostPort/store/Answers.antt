@@ -1,5 +1,5 @@
 use Rattle.std.proofs.Common.{◌≤◌, length, sym, arith}
-use Rattle.stream_host.specs.Links.{receive_room}
+use Rattle.status_report.specs.Answering.{receive_room}
 use Rattle.run_core.proofs.Fronts.{handed_back}
 use Rattle.run_core.proofs.Steps.{byte_dropped}
 use Rattle.run_core.proofs.host_port.ListsHostPort.store.Goals as goal

@@ -1,6 +1,6 @@
 use Rattle.std.proofs.Common.{ap, ◌∙◌}
 use Rattle.stream_host.specs.Hosts.{shown}
-use Rattle.stream_host.specs.Links.{is_bye}
+use Rattle.status_report.specs.Answering.{is_bye}
 use Rattle.std.proofs.Common.{◌||◌}
 use Rattle.stream_host.proofs.Hosting.{got_reply, tells_reply}
 use Rattle.stream_host.proofs.host.Host.take_reply.Goals as goal

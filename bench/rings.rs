@@ -1,0 +1,335 @@
+//! The rings that two threads share, in plain Rust: the same words, the same slots and the same orderings as those of
+//! `crates/motion_ring`, `serial_ring`, `realtime_flags` and `rtrb`, to measure the proved ones beside them.
+//!
+//! Its words are what goes through (pieces, bytes, kept, flags or records), how the two sides lie (apart or beside), and
+//! how many times. It writes how many came. `kept` is bytes where each side loads the other's count only where its last
+//! load leaves no room, or no byte.
+use std::cell::UnsafeCell;
+use std::mem::MaybeUninit;
+use std::sync::atomic::{AtomicU64, Ordering::SeqCst};
+use std::{env, process, thread};
+
+/// What one side has for itself and writes, at 256 bytes from what the other has.
+#[repr(align(256))]
+struct Apart<T>(T);
+
+/// The same, with the other's right behind it.
+struct Beside<T>(T);
+
+trait Place<T>: Sync + Send {
+    fn of(value: T) -> Self;
+    fn get(&self) -> &T;
+    fn get_mut(&mut self) -> &mut T;
+}
+
+macro_rules! place {
+    ($name:ident) => {
+        impl<T: Sync + Send> Place<T> for $name<T> {
+            fn of(value: T) -> Self {
+                $name(value)
+            }
+            fn get(&self) -> &T {
+                &self.0
+            }
+            fn get_mut(&mut self) -> &mut T {
+                &mut self.0
+            }
+        }
+    };
+}
+place!(Apart);
+place!(Beside);
+
+/// Slots that one side fills and the other empties, as the words say.
+struct Slots<T, const N: usize>([UnsafeCell<MaybeUninit<T>>; N]);
+
+unsafe impl<T: Send, const N: usize> Sync for Slots<T, N> {}
+
+impl<T: Copy, const N: usize> Slots<T, N> {
+    fn new() -> Self {
+        Slots([const { UnsafeCell::new(MaybeUninit::uninit()) }; N])
+    }
+    fn put(&self, slot: usize, value: T) {
+        unsafe { (*self.0[slot].get()).write(value) };
+    }
+    fn take(&self, slot: usize) -> T {
+        unsafe { (*self.0[slot].get()).assume_init_read() }
+    }
+}
+
+/// The next place of a ring of so many.
+fn place_behind(place: usize, size: usize) -> usize {
+    if place + 1 == size { 0 } else { place + 1 }
+}
+
+/// Lets others run after so many polls that found nothing.
+struct Polls(u32);
+
+impl Polls {
+    fn poll(&mut self) {
+        if self.0 % 1024 == 0 {
+            thread::yield_now();
+        }
+        self.0 = self.0.wrapping_add(1);
+    }
+}
+
+/// What a side keeps for itself: its own count, the other's as it was loaded last, and a place.
+#[derive(Default)]
+struct Own {
+    count: u64,
+    known: u64,
+    place: usize,
+    ticks: u64,
+    before: [u64; 4],
+}
+
+/// Two counts that the sides write, and what each keeps for itself.
+struct Sides<P, Q> {
+    left_word: P,
+    right_word: P,
+    left: Q,
+    right: Q,
+}
+
+impl<P: Place<AtomicU64>, Q: Place<Own>> Sides<P, Q> {
+    fn new() -> Self {
+        Sides {
+            left_word: P::of(AtomicU64::new(0)),
+            right_word: P::of(AtomicU64::new(0)),
+            left: Q::of(Own::default()),
+            right: Q::of(Own::default()),
+        }
+    }
+}
+
+/// Runs both sides in threads of their own.
+fn both<A: Send, B: Send>(left: impl FnOnce() -> A + Send, right: impl FnOnce() -> B + Send) -> B {
+    thread::scope(|scope| {
+        let other = scope.spawn(right);
+        left();
+        other.join().unwrap()
+    })
+}
+
+#[derive(Clone, Copy)]
+#[allow(dead_code)]
+struct Move {
+    from: [i32; 3],
+    to: [i32; 3],
+}
+
+#[derive(Clone, Copy)]
+#[allow(dead_code)]
+enum Piece {
+    Segment { line: u32, mv: Move, first: u32, n: u32, w_in: u64, w_out: u64, cycles: u64 },
+    Mark(u64),
+    End,
+}
+
+fn tick_count(piece: &Piece) -> u64 {
+    match piece {
+        Piece::Segment { n, .. } => *n as u64,
+        Piece::Mark(_) => 1,
+        Piece::End => 0,
+    }
+}
+
+const TWENTY: Piece = Piece::Segment {
+    line: 1,
+    mv: Move { from: [0; 3], to: [20, 0, 0] },
+    first: 0,
+    n: 20,
+    w_in: 0,
+    w_out: 0,
+    cycles: 500,
+};
+
+/// Six slots, of which five hold unfinished pieces; the right word counts ticks.
+fn pieces<P: Place<AtomicU64>, Q: Place<Own>>(count: u64) -> u64 {
+    let mut sides = Sides::<P, Q>::new();
+    let slots = Slots::<Piece, 6>::new();
+    let (head, done) = (sides.left_word.get(), sides.right_word.get());
+    let (board, pulse) = (sides.left.get_mut(), sides.right.get_mut());
+    both(
+        || {
+            let mut polls = Polls(0);
+            while board.count < count {
+                if done.load(SeqCst) < board.before[3] {
+                    polls.poll();
+                    continue;
+                }
+                slots.put(board.place, TWENTY);
+                head.store(board.count + 1, SeqCst);
+                board.count += 1;
+                board.place = place_behind(board.place, 6);
+                board.before = [board.ticks, board.before[0], board.before[1], board.before[2]];
+                board.ticks += tick_count(&TWENTY);
+            }
+        },
+        || {
+            let mut polls = Polls(0);
+            while pulse.count < count {
+                if head.load(SeqCst) == pulse.count {
+                    polls.poll();
+                    continue;
+                }
+                let piece = slots.take(pulse.place);
+                pulse.count += 1;
+                pulse.place = place_behind(pulse.place, 6);
+                for _ in 0..tick_count(&piece) {
+                    pulse.ticks += 1;
+                    done.store(pulse.ticks, SeqCst);
+                }
+            }
+            pulse.count
+        },
+    )
+}
+
+/// 128 cells of one word each; the top bit of the head closes.
+fn bytes<P: Place<AtomicU64>, Q: Place<Own>, const KEPT: bool>(count: u64) -> u64 {
+    const ROOM: u64 = 128;
+    const CLOSED: u64 = 1 << 63;
+    let mut sides = Sides::<P, Q>::new();
+    let cells: [AtomicU64; 128] = [const { AtomicU64::new(0) }; 128];
+    let (head, tail) = (sides.left_word.get(), sides.right_word.get());
+    let (host, board) = (sides.left.get_mut(), sides.right.get_mut());
+    both(
+        || {
+            let mut polls = Polls(0);
+            while host.count < count {
+                if !KEPT || host.count - host.known >= ROOM {
+                    host.known = tail.load(SeqCst);
+                }
+                if host.count - host.known >= ROOM {
+                    polls.poll();
+                    continue;
+                }
+                cells[host.place].store(host.count % 256, SeqCst);
+                head.store(host.count + 1, SeqCst);
+                host.count += 1;
+                host.place = place_behind(host.place, 128);
+            }
+            head.store(host.count + CLOSED, SeqCst);
+        },
+        || {
+            let mut polls = Polls(0);
+            loop {
+                if !KEPT || board.known == board.count {
+                    board.known = head.load(SeqCst);
+                }
+                if board.known == board.count + CLOSED {
+                    return board.count;
+                }
+                if board.known % CLOSED == board.count {
+                    board.known = board.count;
+                    polls.poll();
+                    continue;
+                }
+                let _byte = std::hint::black_box(cells[board.place].load(SeqCst) as u8);
+                tail.store(board.count + 1, SeqCst);
+                board.count += 1;
+                board.place = place_behind(board.place, 128);
+            }
+        },
+    )
+}
+
+/// One word of flags: a hold is raised so many times, and at last a reset.
+fn flags<P: Place<AtomicU64>, Q: Place<Own>>(count: u64) -> u64 {
+    const HOLD: u64 = 1 << 1;
+    const RESET: u64 = 1 << 4;
+    let sides = Sides::<P, Q>::new();
+    let word = sides.left_word.get();
+    both(
+        || {
+            for _ in 0..count {
+                std::hint::black_box(word.fetch_or(HOLD, SeqCst));
+            }
+            word.fetch_or(RESET, SeqCst);
+        },
+        || while word.fetch_and(0, SeqCst) & RESET == 0 {},
+    );
+    count
+}
+
+#[derive(Clone, Copy)]
+#[allow(dead_code)]
+enum Record {
+    Head([u64; 4]),
+    Event([i8; 3]),
+    Mark(u64),
+    End,
+}
+
+/// 1,024 places; each side loads the other's count only where its last load leaves nothing.
+fn records<P: Place<AtomicU64>, Q: Place<Own>>(count: u64) -> u64 {
+    const ROOM: usize = 1024;
+    let mut sides = Sides::<P, Q>::new();
+    let slots = Box::new(Slots::<Record, ROOM>::new());
+    let (tail, head) = (sides.left_word.get(), sides.right_word.get());
+    let (pulse, recorder) = (sides.left.get_mut(), sides.right.get_mut());
+    both(
+        || {
+            let mut polls = Polls(0);
+            while pulse.count < count {
+                if pulse.count - pulse.known >= ROOM as u64 {
+                    pulse.known = head.load(SeqCst);
+                    if pulse.count - pulse.known >= ROOM as u64 {
+                        polls.poll();
+                        continue;
+                    }
+                }
+                slots.put(pulse.place, Record::Event([1, 0, 0]));
+                tail.store(pulse.count + 1, SeqCst);
+                pulse.count += 1;
+                pulse.place = place_behind(pulse.place, ROOM);
+            }
+        },
+        || {
+            let mut polls = Polls(0);
+            while recorder.count < count {
+                if recorder.known == recorder.count {
+                    recorder.known = tail.load(SeqCst);
+                    if recorder.known == recorder.count {
+                        polls.poll();
+                        continue;
+                    }
+                }
+                std::hint::black_box(slots.take(recorder.place));
+                head.store(recorder.count + 1, SeqCst);
+                recorder.count += 1;
+                recorder.place = place_behind(recorder.place, ROOM);
+            }
+            recorder.count
+        },
+    )
+}
+
+/// Sends so many, with the sides' words and what each keeps for itself in such places.
+fn send<P: Place<AtomicU64>, Q: Place<Own>>(what: &str, count: u64) -> Option<u64> {
+    match what {
+        "pieces" => Some(pieces::<P, Q>(count)),
+        "bytes" => Some(bytes::<P, Q, false>(count)),
+        "kept" => Some(bytes::<P, Q, true>(count)),
+        "flags" => Some(flags::<P, Q>(count)),
+        "records" => Some(records::<P, Q>(count)),
+        _ => None,
+    }
+}
+
+fn main() {
+    let words: Vec<String> = env::args().skip(1).collect();
+    let [what, place, count] = words.as_slice() else { process::exit(2) };
+    let Ok(count) = count.parse() else { process::exit(2) };
+    let came = match place.as_str() {
+        "apart" => send::<Apart<AtomicU64>, Apart<Own>>(what, count),
+        "beside" => send::<Beside<AtomicU64>, Beside<Own>>(what, count),
+        _ => None,
+    };
+    match came {
+        Some(came) => println!("{what} {came}"),
+        None => process::exit(2),
+    }
+}

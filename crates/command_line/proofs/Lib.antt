@@ -1,0 +1,3 @@
+pub mod Levels
+pub mod CommandLine
+pub mod Numbers

@@ -1,0 +1,79 @@
+use Rattle.std.proofs.Common.{refl, arith}
+use Rattle.clap.proofs.OnLiterals.{clap_on_literals}
+use Rattle.command_line.proofs.CommandLine.{begins}
+use Rattle.command_line.proofs.Numbers.{one_task}
+use Rattle.command_line.proofs.accepted_words.Goals as goal
+
+pub returns-clause-begins : goal.returns-clause-begins
+returns-clause-begins c = begins
+
+pub returns-clause-one : goal.returns-clause-one
+returns-clause-one c = one_task
+
+pub returns-clause-stream : goal.returns-clause-stream
+unfolding clap_on_literals
+returns-clause-stream c = ((refl, refl), refl)
+
+pub returns-clause-no_more : goal.returns-clause-no_more
+unfolding clap_on_literals
+returns-clause-no_more c = refl
+
+pub returns-clause-seed : goal.returns-clause-seed
+unfolding clap_on_literals
+returns-clause-seed c = ((refl, refl), refl)
+
+pub returns-clause-largest_seed : goal.returns-clause-largest_seed
+unfolding clap_on_literals
+returns-clause-largest_seed c = ((refl, refl), refl)
+
+pub returns-clause-seed_too_large : goal.returns-clause-seed_too_large
+unfolding clap_on_literals
+returns-clause-seed_too_large c = refl
+
+pub returns-clause-no_seed : goal.returns-clause-no_seed
+unfolding clap_on_literals
+returns-clause-no_seed c = refl
+
+pub returns-clause-two_seeds : goal.returns-clause-two_seeds
+unfolding clap_on_literals
+returns-clause-two_seeds c = refl
+
+pub returns-clause-moves : goal.returns-clause-moves
+unfolding clap_on_literals
+returns-clause-moves c = ((refl, refl, omega arith, omega arith), refl)
+
+pub returns-clause-most_moves : goal.returns-clause-most_moves
+unfolding clap_on_literals
+returns-clause-most_moves c = ((refl, refl, omega arith, omega arith), refl)
+
+pub returns-clause-too_many : goal.returns-clause-too_many
+unfolding clap_on_literals
+returns-clause-too_many c = refl
+
+pub returns-clause-too_few : goal.returns-clause-too_few
+unfolding clap_on_literals
+returns-clause-too_few c = refl
+
+pub returns-clause-no_moves : goal.returns-clause-no_moves
+unfolding clap_on_literals
+returns-clause-no_moves c = refl
+
+pub returns-clause-empty : goal.returns-clause-empty
+unfolding clap_on_literals
+returns-clause-empty c = refl
+
+pub returns-clause-more : goal.returns-clause-more
+unfolding clap_on_literals
+returns-clause-more c = refl
+
+pub returns-clause-help : goal.returns-clause-help
+unfolding clap_on_literals
+returns-clause-help c = refl
+
+pub returns-clause-version : goal.returns-clause-version
+unfolding clap_on_literals
+returns-clause-version c = refl
+
+pub returns-clause-other : goal.returns-clause-other
+unfolding clap_on_literals
+returns-clause-other c = refl

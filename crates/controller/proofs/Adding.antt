@@ -1,0 +1,125 @@
+-- Moves are added to the plan, one by one, and queued blocks are started.
+use Rattle.std.proofs.Common.{◌≡◌, ◌⊎◌, inl, inr, Bool, List, [], ◌∷◌, ◌||◌, ◌&&◌, true, false, refl, sym, ap, ◌∙◌, subst, append-nil}
+use Rattle.std.specs.List.{list_any}
+use Rattle.feed_hold.specs.declared.Motion.TheVariants as motions
+use Rattle.feed_hold.specs.Motions.Call.{on_start}
+use Rattle.run_rules.specs.Work.{Task}
+use Rattle.run_rules.specs.Work.Task.{ask}
+use Rattle.step_line.specs.Asking.Asked.{a_move}
+use Rattle.step_line.specs.declared.planned_move.PlannedMove.{PlannedMove}
+use Rattle.planner_runs.specs.declared.Action.TheVariants.{Add}
+use Rattle.board_rules.specs.Steps.{Journal, open_of, whole_of, left_of, hand_of, plan_of, motion_of}
+use Rattle.board_rules.specs.Steps.Step.{did, became}
+use Rattle.board_rules.specs.Turns.{this_turn, moving, found_none, is_full, has_blocks, awaits_motion, begins_with_dollar}
+use Rattle.board_rules.specs.Conduct.{IsNextTask, AreWaiting, MayStart}
+use Rattle.plan_passes.specs.Plans.{Planned}
+use Rattle.line_interpreter.specs.Lefts.{IsNextOf, IsTodo}
+use Rattle.line_interpreter.specs.declared.tasks.Todo.{Todo}
+use Rattle.line_interpreter.specs.declared.tasks.Todo.TheVariants as todo
+use Rattle.controller.specs.declared.controller.Controller.{Controller}
+use Rattle.controller.specs.Boards.{Keeps, NoneWaits}
+use Rattle.controller.specs.Turning.{IsNextMove, NoneFits, DidAlone, HasAdded, HasFilled}
+use Rattle.controller.proofs.Tries.{alone_did, alone_on, alone_motion}
+
+-- some of the moves that are next were added, or none
+pub record Adds (h next : Journal) : Type 0 where
+  pub alone : DidAlone h next
+  pub hand : hand_of next ≡ hand_of h
+  pub motion : motion_of next ≡ motion_of h
+  pub some : (next ≡ h) ⊎ (IsNextMove h × (list_any moving (this_turn next) ≡ true))
+
+first_is_next : (m : PlannedMove) (h mid : Journal) → (mid ≡ h) ⊎ (IsNextMove h × (list_any moving (this_turn mid) ≡ true)) → IsNextTask (ask (a_move m)) mid → IsNextMove h
+first_is_next m h mid (inl e) next = (m, subst (λ j. IsNextTask (ask (a_move m)) j) e next)
+first_is_next m h mid (inr s) next = s.0
+
+pub adds_one : (m : PlannedMove) (h mid : Journal) → Adds h mid → IsNextTask (ask (a_move m)) mid → Adds h (did (Add m) [] ∷ mid)
+adds_one m h mid a next = record {
+  alone = alone_on h mid (did (Add m) [] ∷ mid) a.alone (alone_did (Add m) [] mid);
+  hand = append-nil (hand_of mid) ∙ a.hand;
+  motion = a.motion;
+  some = inr (first_is_next m h mid a.some next, refl);
+}
+
+moved_by : (h next : Journal) → (next ≡ h) ⊎ (IsNextMove h × (list_any moving (this_turn next) ≡ true)) → NoneFits next → IsNextMove h → is_full (plan_of h) ≡ false → list_any moving (this_turn next) ≡ true
+moved_by h next (inl e) fits move room = absurd (let full = subst NoneFits e fits move.0 move.1 in let x = sym full ∙ room in cc)
+moved_by h next (inr s) fits move room = s.1
+
+none_by : (h next : Journal) → (next ≡ h) ⊎ (IsNextMove h × (list_any moving (this_turn next) ≡ true)) → (IsNextMove h → ⊥) → next ≡ h
+none_by h next (inl e) none = e
+none_by h next (inr s) none = absurd (none s.0)
+
+-- no more of them has room
+pub has_added : (h next : Journal) → Adds h next → NoneFits next → HasAdded h next
+has_added h next a fits = record {
+  alone = a.alone;
+  hand = a.hand;
+  motion = a.motion;
+  adds = fits;
+  moved = moved_by h next a.some fits;
+  none = none_by h next a.some;
+}
+
+-- a full plan has no room
+pub none_fits_full : (c : Controller) (h : Journal) → Keeps c h → is_full c.machine.plan ≡ true → NoneFits h
+none_fits_full c h k full m next = subst (λ (p : Planned). is_full p ≡ true) k.machine.plan_is full
+
+no_move : (t : Todo) (tasks : List Task) → IsTodo t tasks → ((m : PlannedMove) → t ≡ todo.Move m → ⊥) → (m : PlannedMove) → IsNextOf (ask (a_move m)) tasks → ⊥
+no_move todo.Nothing tasks is other m next = absurd cc
+no_move todo.Rest tasks is other m next = absurd cc
+no_move (todo.Mark mark) tasks is other m next = let e = is.0 in absurd cc
+no_move (todo.Move mv) tasks is other m next = other mv refl
+no_move (todo.Tell r) tasks is other m next = let e = is.0 in absurd cc
+no_move todo.Finish tasks is other m next = absurd cc
+
+-- no move is next
+pub none_fits_other : (c : Controller) (h : Journal) (t : Todo) → Keeps c h → IsTodo t c.lines.left → ((m : PlannedMove) → t ≡ todo.Move m → ⊥) → NoneFits h
+none_fits_other c h t k is other m next = absurd (no_move t (left_of h) (subst (IsTodo t) k.lines.left_is is) other m next)
+
+pub has_room_now : (c : Controller) (h : Journal) → Keeps c h → is_full c.machine.plan ≡ false → is_full (plan_of h) ≡ false
+has_room_now c h k room = subst (λ (p : Planned). is_full p ≡ false) k.machine.plan_is room
+
+-- ---- queued blocks
+
+-- none waits where nothing calls for a start
+pub none_waits_now : (c : Controller) (h : Journal) → Keeps c h
+    → (c.machine.hold.motion ≡ motions.Idle → has_blocks c.machine.plan.blocks ≡ true → (is_full c.machine.plan || awaits_motion c.lines.left) ≡ false) → NoneWaits h
+none_waits_now c h k none w =
+    subst (λ (ts : List Task). (is_full (plan_of h) || awaits_motion ts) ≡ false) k.lines.left_is
+    (subst (λ (p : Planned). (is_full p || awaits_motion c.lines.left) ≡ false) k.machine.plan_is
+    (none (k.machine.motion_is ∙ w.stands) (ap (λ (p : Planned). has_blocks p.blocks) k.machine.plan_is ∙ w.blocks)))
+
+-- a start that the plan, or what is next, calls for
+pub may_start : (c : Controller) (h : Journal) → Keeps c h → has_blocks c.machine.plan.blocks ≡ true → (is_full c.machine.plan || awaits_motion c.lines.left) ≡ true → MayStart h
+may_start c h k blocks called = record {
+  blocks = subst (λ (p : Planned). has_blocks p.blocks ≡ true) k.machine.plan_is blocks;
+  called =
+      let is = subst (λ (ts : List Task). (is_full (plan_of h) || awaits_motion ts) ≡ true) k.lines.left_is (subst (λ (p : Planned). (is_full p || awaits_motion c.lines.left) ≡ true) k.machine.plan_is called) in
+      calls (list_any found_none (this_turn h)) (is_full (plan_of h) || awaits_motion (left_of h)) (whole_of h && begins_with_dollar (open_of h)) is;
+}
+  where
+    calls : (a b d : Bool) → b ≡ true → ((a || b) || d) ≡ true
+    calls true b d e = refl
+    calls false true d e = refl
+    calls false false d e = absurd cc
+
+-- behind the moves nothing is to be started
+pub filled_added : (h next : Journal) → HasAdded h next → NoneWaits next → HasFilled h next
+filled_added h next a none = record {
+  alone = a.alone;
+  hand = a.hand;
+  adds = a.adds;
+  none_waits = none;
+  moved = a.moved;
+  waiting = λ no w. subst AreWaiting (a.none no) w;
+}
+
+-- the cycle starts behind the moves
+pub filled_started : (h mid : Journal) → HasAdded h mid → HasFilled h (became (on_start false) motions.Run ∷ mid)
+filled_started h mid a = record {
+  alone = alone_on h mid (became (on_start false) motions.Run ∷ mid) a.alone (alone_motion (on_start false) motions.Run mid);
+  hand = a.hand;
+  adds = a.adds;
+  none_waits = λ w. absurd (let x = w.stands in cc);
+  moved = λ move room. a.moved move room;
+  waiting = λ no w. absurd (let x = w.stands in cc);
+}

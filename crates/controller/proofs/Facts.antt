@@ -1,0 +1,108 @@
+-- What holds of every journal that the rules allow, and of one between two turns.
+use Rattle.std.proofs.Common.{◌≡◌, ◌+◌, ◌⊎◌, inl, inr, Bool, true, false, ◌&&◌, List, [], ◌∷◌, length, drop, refl, arith, length-append}
+use Rattle.status_report.specs.declared.Reply.TheVariants.{Bye}
+use Rattle.step_line.specs.Asking.Asked.{a_move, a_mark, a_rest}
+use Rattle.segment_prep.specs.declared.Mode.TheVariants.{Go, Hold}
+use Rattle.planner_runs.specs.declared.Action.{Action}
+use Rattle.planner_runs.specs.declared.Action.TheVariants.{Add, Take, Override, Mark, Rest, Clear, Reset}
+use Rattle.run_rules.specs.declared.State.{State}
+use Rattle.run_rules.specs.Work.{Task}
+use Rattle.run_rules.specs.Work.Task.{ask, tell, finish}
+use Rattle.board_rules.specs.Ports.PortStep.{took, found_empty, found_closed, found_free, answered, no_reply_room, took_exec, took_ovr, published, no_piece_room, loaded}
+use Rattle.board_rules.specs.Steps.{Journal, outcomes_of, before_of, left_of, left_by, whole_of, closed_tells}
+use Rattle.board_rules.specs.Steps.Step.{at_port, began, did, made_end, became, closing, turned}
+use Rattle.board_rules.specs.Turns.{this_turn, missed_of, is_due}
+use Rattle.board_rules.specs.Conduct.{Conducted, IsNextTask, MayDo}
+use Rattle.board_rules.proofs.Closing.{At, going, to_finish, to_tell, over, phase_is}
+use Rattle.board_rules.proofs.Tasks.{none_next, none_first, head_is}
+
+-- ---- a line that waits to be begun
+
+abbrev Free : List Task → Bool → Type 0
+Free left whole = (left ≡ []) ⊎ (whole ≡ false)
+
+one_less : (left : List Task) (whole : Bool) (t : Task) → left ≡ t ∷ drop 1 left → Free left whole → Free (drop 1 left) whole
+one_less left whole t next (inl none) = none_first left t next none
+one_less left whole t next (inr partial) = inr partial
+
+free_behind : (h : Journal) (a : Action) → MayDo a h → Free (left_of h) (whole_of h) → Free (left_by a (left_of h)) (whole_of h)
+free_behind h (Add m) may free = one_less (left_of h) (whole_of h) (ask (a_move m)) may free
+free_behind h (Mark m) may free = one_less (left_of h) (whole_of h) (ask (a_mark m)) may.next free
+free_behind h Rest may free = one_less (left_of h) (whole_of h) (ask a_rest) may.next free
+free_behind h (Take Go) may free = free
+free_behind h (Take Hold) may free = absurd may
+free_behind h (Override o) may free = absurd may
+free_behind h Clear may free = absurd may
+free_behind h Reset may free = absurd may
+
+free_is : (first : State) (h : Journal) → Conducted first h → Free (left_of h) (whole_of h)
+free_is first [] c = inr refl
+free_is first (at_port (took b) ∷ h) c = inl c.0.polls.all_done
+free_is first (at_port found_empty ∷ h) c = free_is first h c.1
+free_is first (at_port found_closed ∷ h) c = free_is first h c.1
+free_is first (at_port (found_free n) ∷ h) c = free_is first h c.1
+free_is first (at_port (answered r) ∷ h) c = one_less (left_of h) (whole_of h) (tell r) c.0.next (free_is first h c.1)
+free_is first (at_port no_reply_room ∷ h) c = free_is first h c.1
+free_is first (at_port (took_exec word) ∷ h) c = absurd c.0
+free_is first (at_port (took_ovr word) ∷ h) c = absurd c.0
+free_is first (at_port (published p) ∷ h) c = free_is first h c.1
+free_is first (at_port (no_piece_room done) ∷ h) c = free_is first h c.1
+free_is first (at_port (loaded done) ∷ h) c = free_is first h c.1
+free_is first (began o ∷ h) c = inr refl
+free_is first (did a ps ∷ h) c = free_behind h a c.0.0 (free_is first h c.1)
+free_is first (made_end ∷ h) c = one_less (left_of h) (whole_of h) finish c.0.rests.next (free_is first h c.1)
+free_is first (became call m ∷ h) c = free_is first h c.1
+free_is first (closing ∷ h) c = inr c.0.begun
+free_is first (turned t ∷ h) c = free_is first h c.1
+
+-- no line waits to be begun while something is left to do of the one before
+pub not_whole : (first : State) (h : Journal) → Conducted first h → (left_of h ≡ [] → ⊥) → whole_of h ≡ false
+not_whole first h c some = by_free (free_is first h c)
+  where
+    by_free : Free (left_of h) (whole_of h) → whole_of h ≡ false
+    by_free (inl none) = absurd (some none)
+    by_free (inr partial) = partial
+
+-- ---- a run that is being closed
+
+-- nothing is waited for by a rest once the run is being closed
+pub no_rest_closing : (first : State) (h : Journal) → Conducted first h → (closed_tells h ≡ [] → ⊥) → IsNextTask (ask a_rest) h → ⊥
+no_rest_closing first h c closes next = by_phase (phase_is first h c)
+  where
+    by_phase : At h → ⊥
+    by_phase (going none is) = closes none
+    by_phase (to_finish e left w is) = absurd (let same = head_is (left_of h) (ask a_rest) finish _ next left in cc)
+    by_phase (to_tell e left w p is k) = absurd (let same = head_is (left_of h) (ask a_rest) (tell Bye) _ next left in cc)
+    by_phase (over e left w p d is k) = none_next (left_of h) (ask a_rest) left next
+
+-- ---- between two turns
+
+pub and_false : (a b : Bool) → b ≡ false → (a && b) ≡ false
+and_false true b is = is
+and_false false b is = refl
+
+-- where no segment is due none is missed
+pub unmissed : (h : Journal) → this_turn h ≡ [] → is_due h ≡ false → missed_of h ≡ false
+unmissed [] none due = refl
+unmissed (at_port e ∷ h) none due = absurd cc
+unmissed (began o ∷ h) none due = absurd cc
+unmissed (did a ps ∷ h) none due = absurd cc
+unmissed (made_end ∷ h) none due = absurd cc
+unmissed (became call m ∷ h) none due = absurd cc
+unmissed (closing ∷ h) none due = absurd cc
+unmissed (turned t ∷ h) none due = and_false (missed_of h) (is_due h) due
+
+-- ---- the lines
+
+-- the number of the next line
+pub number_is : (first : State) (h : Journal) → Conducted first h → (before_of first h).number ≡ length (outcomes_of h) + 1
+number_is first [] c = refl
+number_is first (at_port e ∷ h) c = number_is first h c.1
+number_is first (began o ∷ h) c =
+    let n = number_is first h c.1 in
+    let l = length-append (outcomes_of h) (o ∷ []) in omega (arith, n, l)
+number_is first (did a ps ∷ h) c = number_is first h c.1
+number_is first (made_end ∷ h) c = number_is first h c.1
+number_is first (became call m ∷ h) c = number_is first h c.1
+number_is first (closing ∷ h) c = number_is first h c.1
+number_is first (turned t ∷ h) c = number_is first h c.1

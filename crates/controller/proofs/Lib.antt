@@ -1,0 +1,12 @@
+pub mod Marks
+pub mod Facts
+pub mod Begins
+pub mod Steps
+pub mod Standing
+pub mod Resting
+pub mod Tries
+pub mod Adding
+pub mod Machining
+pub mod Ends
+pub mod Lasts
+pub mod Nexts

@@ -1,0 +1,63 @@
+-- What is done to the plan of a machine.
+use Rattle.std.proofs.Common.{◌≡◌, ◌+◌, false, List, [], ◌∷◌, ◌++◌, Some, refl, sym, ap, ◌∙◌, subst}
+use Rattle.std.proofs.lemmas.List.{length-map}
+use Rattle.feed_hold.specs.declared.Motion.{Motion}
+use Rattle.line_geom.specs.declared.Cap.TheVariants.{Free}
+use Rattle.line_geom.specs.declared.Geom.{Geom}
+use Rattle.line_geom.specs.Geometry.{IsGeom}
+use Rattle.overrides.specs.declared.Overrides.{Overrides}
+use Rattle.planner_ring.specs.declared.Block.{Block}
+use Rattle.plan_passes.specs.Plans.{Planned, added}
+use Rattle.plan_passes.specs.Segments.{advanced}
+use Rattle.segment_prep.specs.Taking.{IsNext}
+use Rattle.segment_prep.specs.declared.Mode.TheVariants.{Go}
+use Rattle.planner_runs.specs.Runs.{with_move, most_blocks}
+use Rattle.planner_runs.proofs.Runs.{block_added}
+use Rattle.step_line.specs.Asking.{IsPlannedMove}
+use Rattle.step_line.proofs.Order.{length_after}
+use Rattle.board_rules.specs.Turns.{is_full}
+use Rattle.controller.proofs.Steps.{has_room}
+use Rattle.step_line.specs.declared.Piece.{Piece}
+use Rattle.step_line.specs.declared.Piece.TheVariants as pieces
+use Rattle.step_line.specs.declared.Record.TheVariants as kinds
+use Rattle.step_line.specs.declared.Segment.{Segment}
+use Rattle.step_line.specs.declared.planned_move.PlannedMove.{PlannedMove}
+use Rattle.step_line.specs.Events.{events_after}
+use Rattle.step_line.specs.Finishing.{ticks_together, tick_count}
+use Rattle.step_line.proofs.Finished.{together_on}
+use Rattle.controller.specs.declared.machine.Machine.{Machine}
+use Rattle.controller.specs.Machines.{Runs}
+
+-- a move is put behind the others, as a block with its geometry
+pub put : (m : Machine) (mv : PlannedMove) (g : Geom) (after p : Planned) (now : Motion) (in_hand given : List Piece) → IsPlannedMove mv → is_full m.plan ≡ false → IsGeom mv.mv mv.limits g
+    → m.plan.overrides ≡ m.overrides → after ≡ added m.plan (record { line = mv.line; mv = mv.mv; rate = mv.rate; geom = g; prepared = 0; entry = Free }) mv.deviation m.overrides
+    → Runs m p now in_hand given → Runs (record m { plan = after }) (with_move p mv) now in_hand given
+put m mv g after p now in_hand given planned room is same e r = record {
+  plan_is = subst (λ (o : Overrides). after ≡ added m.plan b mv.deviation o) (sym same) e
+      ∙ (block_added most_blocks m.plan mv b (record { move = planned; room = has_room m.plan room }) refl refl refl is refl).1
+      ∙ ap (λ (x : Planned). with_move x mv) r.plan_is;
+  same = r.same;
+  motion_is = r.motion_is;
+  hand_is = r.hand_is;
+  given_is = r.given_is;
+}
+  where
+    b : Block
+    b = record { line = mv.line; mv = mv.mv; rate = mv.rate; geom = g; prepared = 0; entry = Free }
+
+segment_ticks : (s : Segment) → tick_count (pieces.Segment s) ≡ s.n
+segment_ticks s = length-map (events_after s.mv s.first s.n) kinds.Event ∙ length_after s.mv s.first s.n
+
+-- a segment is taken into the hand
+pub taken : (m : Machine) (s : Segment) (after p : Planned) (now : Motion) (given : List Piece) → IsNext m.plan Go s → after ≡ advanced m.plan s.n s.w_out → Runs m p now [] given
+    → IsNext p Go s × Runs (record m { plan = after; hand = Some (pieces.Segment s); given = m.given + s.n }) (advanced p s.n s.w_out) now (pieces.Segment s ∷ []) (given ++ pieces.Segment s ∷ [])
+taken m s after p now given next e r = (
+  subst (λ (x : Planned). IsNext x Go s) r.plan_is next,
+  record {
+    plan_is = e ∙ ap (λ (x : Planned). advanced x s.n s.w_out) r.plan_is;
+    same = r.same;
+    motion_is = r.motion_is;
+    hand_is = refl;
+    given_is = ap (λ k. k + s.n) r.given_is ∙ ap (λ k. ticks_together given + k) (sym (segment_ticks s)) ∙ sym (together_on given (pieces.Segment s));
+  },
+)

@@ -1,0 +1,177 @@
+-- It is looked how many ticks are done; and where nothing is left to run, and each is done, the machine stands.
+use Rattle.std.proofs.Common.{◌≡◌, ℕ, ◌≤◌, ◌<◌, ◌⊎◌, inl, inr, Bool, true, false, ◌&&◌, ◌||◌, List, [], ◌∷◌, ◌++◌, drop, Some, None, sym, refl, ap, ◌∙◌, subst, arith, append-nil}
+use Rattle.std.specs.declared.option.Option.{Option}
+use Rattle.std.specs.Option.{is_some, option_to_list}
+use Rattle.feed_hold.specs.declared.Motion.TheVariants as motions
+use Rattle.feed_hold.specs.Motions.Call.{on_drained}
+use Rattle.outside.specs.declared.On.TheVariants as on
+use Rattle.outside.specs.declared.Turn.TheVariants.{Wait}
+use Rattle.planner_ring.specs.declared.Block.{Block}
+use Rattle.step_line.specs.declared.Piece.{Piece}
+use Rattle.step_line.specs.declared.planned_move.PlannedMove.{PlannedMove}
+use Rattle.step_line.specs.Asking.Asked.{a_move}
+use Rattle.step_line.specs.Finishing.{ticks_together}
+use Rattle.run_rules.specs.Work.{Task}
+use Rattle.run_rules.specs.Work.Task.{ask}
+use Rattle.board_rules.specs.Ports.{MayBeDone}
+use Rattle.board_rules.specs.Ports.PortStep.{loaded}
+use Rattle.board_rules.specs.Steps.{Journal, port_log, left_of, given_of, published_of, hand_of, plan_of, motion_of}
+use Rattle.board_rules.specs.Steps.Step.{at_port, became}
+use Rattle.board_rules.specs.Turns.{has_blocks, is_full, is_due, is_going, awaits_motion}
+use Rattle.board_rules.specs.Conduct.{IsDrained, AreWaiting, ticks_given, ticks_published}
+use Rattle.board_rules.proofs.Given.{published_within}
+use Rattle.board_rules.proofs.Keeping.{hand_is}
+use Rattle.board_rules.proofs.Motions.{motion_is}
+use Rattle.controller.specs.declared.controller.Controller.{Controller}
+use Rattle.controller.specs.declared.controller.Beat.TheVariants.{Motion as MotionBeat}
+use Rattle.controller.specs.declared.machine.Machine.{Machine}
+use Rattle.controller.specs.Machines.{Runs}
+use Rattle.controller.specs.Boards.{Keeps, Rounds}
+use Rattle.controller.specs.Turning.{HasPiece, HasLooked, MayAwait, PassesNothing, BoardWorked}
+use Rattle.controller.proofs.Facts.{not_whole, and_false}
+use Rattle.controller.proofs.Steps.{at_rest, hand_empty, none_by_test, looked, drained}
+use Rattle.controller.proofs.Tries.{passes_load, passes_motion, passes_on}
+use Rattle.controller.proofs.Ends.{rounds_still, some_awaited}
+
+-- ---- hands and blocks
+
+one_in_hand : (o : Option Piece) → is_some o ≡ true → option_to_list o ≡ [] → ⊥
+one_in_hand None is none = absurd cc
+one_in_hand (Some p) is none = absurd cc
+
+no_blocks : (blocks : List Block) → has_blocks blocks ≡ false → blocks ≡ []
+no_blocks [] is = refl
+no_blocks (b ∷ blocks) is = absurd cc
+
+-- what the fields say of the hand and of the plan
+pub hand_none : (b : Controller) (h : Journal) → Keeps b h → is_some b.machine.hand ≡ false → hand_of h ≡ []
+hand_none b h k is = hand_empty b h k (none_by_test b.machine.hand is)
+
+pub hand_some : (b : Controller) (h : Journal) → Keeps b h → is_some b.machine.hand ≡ true → hand_of h ≡ [] → ⊥
+hand_some b h k is none = one_in_hand b.machine.hand is (k.machine.hand_is ∙ none)
+
+pub blocks_are : (b : Controller) (h : Journal) (some : Bool) → Keeps b h → some ≡ has_blocks b.machine.plan.blocks → has_blocks (plan_of h).blocks ≡ some
+blocks_are b h some k is = ap (λ p. has_blocks p.blocks) (sym k.machine.plan_is) ∙ sym is
+
+-- the machine stands, or runs
+pub idle_or_run : (b : Controller) (h : Journal) → Keeps b h → (b.machine.hold.motion ≡ motions.Idle) ⊎ (b.machine.hold.motion ≡ motions.Run)
+idle_or_run b h k = subst (λ m. (m ≡ motions.Idle) ⊎ (m ≡ motions.Run)) (sym k.machine.motion_is) (motion_is k.first h k.conducted)
+
+-- ---- where nothing is left to run
+
+-- nothing is left to run, and each tick is found done
+pub all_done : (b : Controller) (h : Journal) (done : ℕ) → Keeps b h → hand_of h ≡ [] → has_blocks (plan_of h).blocks ≡ false → done ≡ b.machine.given
+    → IsDrained (at_port (loaded done) ∷ h)
+all_done b h done k hand none all = record {
+  plan = at_rest b h k (no_blocks (plan_of h).blocks none);
+  hand = hand;
+  done = all ∙ k.machine.given_is;
+}
+
+-- the cycle is over
+pub over : (b : Controller) (m : Machine) (h : Journal) (done : ℕ) → Keeps b h → MayBeDone done (port_log h) → hand_of h ≡ [] → has_blocks (plan_of h).blocks ≡ false → done ≡ b.machine.given
+    → Runs m (plan_of h) motions.Idle (hand_of h) (given_of h)
+    → Keeps (record b { machine = m }) (became on_drained motions.Idle ∷ at_port (loaded done) ∷ h)
+over b m h done k may hand none all runs =
+    let l = looked b done h k may in
+    drained b m (at_port (loaded done) ∷ h) l (motion_is k.first h k.conducted) (all_done b h done k hand none all) runs
+
+-- a look, and the end of the cycle, pass nothing
+pub over_passes : (h : Journal) (done : ℕ) → PassesNothing h (became on_drained motions.Idle ∷ at_port (loaded done) ∷ h)
+over_passes h done =
+    let mid = at_port (loaded done) ∷ h in
+    passes_on h mid (became on_drained motions.Idle ∷ mid) (passes_load done h) (passes_motion on_drained motions.Idle mid)
+
+pub looked_over : (h : Journal) (done : ℕ) → has_blocks (plan_of h).blocks ≡ false → HasLooked h (became on_drained motions.Idle ∷ at_port (loaded done) ∷ h)
+looked_over h done none = record {
+  passes = over_passes h done;
+  load = refl;
+  idle = λ d. refl;
+  left = refl;
+  none_waits = λ w a. absurd (let e = sym none ∙ a.blocks in cc);
+}
+
+-- a look where the machine does not stand
+pub looked_only : (h : Journal) (done : ℕ) → (IsDrained (at_port (loaded done) ∷ h) → ⊥) → HasLooked h (at_port (loaded done) ∷ h)
+looked_only h done undrained = record {
+  passes = passes_load done h;
+  load = refl;
+  idle = λ d. absurd (undrained d);
+  left = refl;
+  none_waits = λ w a. w (record { stands = a.stands; blocks = a.blocks });
+}
+
+-- a plan that has blocks is not drained
+pub blocks_undrained : (h : Journal) → has_blocks (plan_of h).blocks ≡ true → IsDrained h → ⊥
+blocks_undrained h some d = absurd (let e = sym some ∙ ap has_blocks d.plan.blocks in cc)
+
+-- ---- a wait for the motion
+
+-- what waits for the motion is no move
+pub awaits_no_move : (left : List Task) (m : PlannedMove) → awaits_motion left ≡ true → left ≡ ask (a_move m) ∷ drop 1 left → ⊥
+awaits_no_move left m is next = absurd (let e = sym is ∙ ap awaits_motion next in cc)
+
+or_true : (a b : Bool) → b ≡ true → (a || b) ≡ false → ⊥
+or_true true b is none = absurd cc
+or_true false true is none = absurd cc
+or_true false false is none = absurd cc
+
+-- no queued block waits where the motion is waited for
+pub none_waits : (h : Journal) → MayAwait h → AreWaiting h → ⊥
+none_waits h may waiting = or_true (is_full (plan_of h)) (awaits_motion (left_of h)) may.awaits (may.none_waits waiting)
+
+-- so a block there is due
+pub due_where_awaited : (h : Journal) → (motion_of h ≡ motions.Idle) ⊎ (motion_of h ≡ motions.Run) → MayAwait h → has_blocks (plan_of h).blocks ≡ true → is_due h ≡ true
+due_where_awaited h (inl idle) may some = absurd (none_waits h may (record { stands = idle; blocks = some }))
+due_where_awaited h (inr run) may some = ap (λ m. is_going m && has_blocks (plan_of h).blocks) run ∙ some
+
+pub has_piece_by_hand : (b : Controller) (h : Journal) → Keeps b h → is_some b.machine.hand ≡ true → HasPiece h
+has_piece_by_hand b h k is = inl (hand_some b h k is)
+
+pub has_piece_by_blocks : (b : Controller) (h : Journal) → Keeps b h → MayAwait h → has_blocks (plan_of h).blocks ≡ true → HasPiece h
+has_piece_by_blocks b h k may some = inr (due_where_awaited h (motion_is k.first h k.conducted) may some)
+
+-- the ticks that are found done are all, where they aren't fewer than were given
+pub done_all : (b : Controller) (h : Journal) (done : ℕ) → Keeps b h → MayBeDone done (port_log h) → b.machine.given ≤ done → done ≡ b.machine.given
+done_all b h done k may least =
+    let high : done ≤ ticks_published h = may.below in
+    let within = published_within k.first h k.conducted in
+    let given : b.machine.given ≡ ticks_given h = k.machine.given_is in
+    omega (arith, least, high, within, given)
+
+-- with nothing in hand, all that was given is published
+all_published : (b : Controller) (h : Journal) → Keeps b h → hand_of h ≡ [] → ticks_published h ≡ ticks_given h
+all_published b h k none =
+    ap ticks_together (sym (hand_is k.first h k.conducted ∙ ap (λ (ps : List Piece). published_of h ++ ps) none ∙ append-nil (published_of h)))
+
+-- the motion is waited for: ticks are found not to be done
+pub waits_for_motion : (b : Controller) (h : Journal) (done : ℕ) → Keeps b h → MayAwait h → b.beat ≡ MotionBeat → MayBeDone done (port_log h) → hand_of h ≡ [] → has_blocks (plan_of h).blocks ≡ false
+    → done < b.machine.given → BoardWorked (Wait on.Motion) b h (at_port (loaded done) ∷ h)
+waits_for_motion b h done k may beat found hand none fewer =
+    let some = some_awaited h may.awaits in
+    let partial = not_whole k.first h k.conducted some in
+    let few = may.run.few some in
+    let next : Journal = at_port (loaded done) ∷ h in
+    let waits_none : AreWaiting next → ⊥ = λ a. none_waits h may (record { stands = a.stands; blocks = a.blocks }) in
+    let quiet = may.run.quiet in
+    let same = all_published b h k hand in
+    let given : b.machine.given ≡ ticks_given h = k.machine.given_is in
+    record {
+      keeps = looked b done h k found;
+      rounds = subst (λ x. Rounds x next) (sym beat) (rounds_still next (λ a. absurd (waits_none a)) (rw partial (omega (arith, few))));
+      beat = λ other e. beat;
+      steps = at_port (loaded done) ∷ [];
+      are = refl;
+      may = record {
+        ends = record {
+          once = let q = quiet.quiet in omega (arith, q);
+          adds = λ m is. absurd (awaits_no_move (left_of h) m may.awaits is);
+          starts = λ a. absurd (waits_none a);
+          tries = omega (arith, few);
+        };
+        cause = record { load = refl; undone = omega (arith, fewer, same, given); awaits = may.awaits };
+        still = quiet.still;
+        round = λ due already. absurd (let e = sym (and_false (is_going (motion_of h)) (has_blocks (plan_of h).blocks) none) ∙ due in cc);
+      };
+      moves = λ e. absurd cc;
+    }

@@ -1,0 +1,12 @@
+use Rattle.std.proofs.Common.{◌≡◌, length}
+use Rattle.board_rules.specs.Steps.{Journal}
+use Rattle.controller.specs.Boards.{Keeps}
+use Rattle.controller.proofs.Adding.{Adds}
+use Rattle.controller.proofs.controller.Controller.add_moves.Given as goal
+
+abbrev pub invariant-loop-m : goal.invariant-loop-m
+invariant-loop-m l =
+    ((h : Journal) → Keeps l.fn.self h → (mid : Journal) × Keeps l.self mid × Adds h mid) × (l.self ≡ record l.fn.self { machine = l.self.machine; lines = l.self.lines })
+
+abbrev pub decreases-loop-m : goal.decreases-loop-m
+decreases-loop-m l = length l.self.lines.left

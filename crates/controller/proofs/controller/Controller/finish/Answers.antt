@@ -1,0 +1,28 @@
+use Rattle.std.proofs.Common.{[], ◌∷◌, refl, subst, inl}
+use Rattle.step_line.specs.declared.Piece.TheVariants as pieces
+use Rattle.board_rules.specs.Steps.{hand_of, plan_of, motion_of, given_of}
+use Rattle.board_rules.specs.Steps.Step.{made_end}
+use Rattle.controller.specs.Machines.{Runs}
+use Rattle.controller.proofs.Steps.{ended}
+use Rattle.controller.proofs.Lasts.{closes_at_end}
+use Rattle.controller.proofs.Ends.{works_on}
+use Rattle.controller.proofs.Nexts.{may_run_ended, none_behind}
+use Rattle.controller.proofs.controller.Controller.finish.Goals as goal
+
+pub run-requires-clause-stands : goal.run-requires-clause-stands
+run-requires-clause-stands g c =
+    let r = c.requires.stands in
+    let s = c.args.self.now in
+    let is = closes_at_end r.3.first r.1 r.3.conducted r.6 in
+    let stopped = r.5 in
+    let runs = c.put_end.ensures (plan_of r.1) (motion_of r.1) (given_of r.1) (subst (λ hand. Runs s.machine (plan_of r.1) (motion_of r.1) hand (given_of r.1)) stopped.drained.hand r.3.machine) in
+    (r.0, made_end ∷ r.1, r.2, ended s _ _ r.1 r.3 r.6 stopped.drained stopped.stands is.closes runs c.done.ensures, may_run_ended r.1 r.4 stopped r.6 is, inl (none_behind (hand_of r.1) pieces.End))
+
+pub returns-clause-goes_on : goal.returns-clause-goes_on
+returns-clause-goes_on g c = λ rest h stands keeps may stopped next.
+    let s = c.args.self.now in
+    let is = closes_at_end keeps.first h keeps.conducted next in
+    let runs = c.put_end.ensures (plan_of h) (motion_of h) (given_of h) (subst (λ hand. Runs s.machine (plan_of h) (motion_of h) hand (given_of h)) stopped.drained.hand keeps.machine) in
+    let now = ended s _ _ h keeps next stopped.drained stopped.stands is.closes runs c.done.ensures in
+    works_on (g.P.BoardPort.stands c.run.new.port rest) c.run.result _ h (made_end ∷ h) (made_end ∷ []) refl
+    (c.run.ensures.goes_on rest (made_end ∷ h) stands now (may_run_ended h may stopped next is) (inl (none_behind (hand_of h) pieces.End)))

@@ -1,0 +1,46 @@
+use Rattle.std.proofs.Common.{[], ◌∷◌, refl, sym, subst, inl}
+use Rattle.run_rules.specs.Work.Task.{ask}
+use Rattle.step_line.specs.Asking.Asked.{a_mark}
+use Rattle.step_line.specs.declared.Piece.TheVariants as pieces
+use Rattle.planner_runs.specs.declared.Action.TheVariants.{Mark}
+use Rattle.board_rules.specs.Steps.{hand_of, plan_of, motion_of, given_of}
+use Rattle.board_rules.specs.Steps.Step.{did}
+use Rattle.controller.specs.Machines.{Runs}
+use Rattle.controller.proofs.Marks.{mark_at_rest}
+use Rattle.controller.proofs.Standing.{hand_none}
+use Rattle.controller.proofs.Steps.{is_next, few_ticks, marked}
+use Rattle.controller.proofs.Ends.{works_on}
+use Rattle.controller.proofs.Nexts.{may_run_marked, none_behind}
+use Rattle.controller.proofs.controller.Controller.mark.Goals as goal
+
+pub put_mark-requires : goal.put_mark-requires
+put_mark-requires g c = let r = c.requires.stands in record { few = few_ticks c.args.self.now r.1 r.3 }
+
+pub run-requires-2-clause-stands : goal.run-requires-2-clause-stands
+run-requires-2-clause-stands g c =
+    let r = c.requires.stands in
+    let s = c.args.self.now in
+    let m = c.args.mark in
+    let next = is_next s r.1 (ask (a_mark m)) r.3 c.requires.next in
+    let empty = hand_none s r.1 r.3 (sym c.if-is_some.ensures) in
+    let runs = c.put_mark.ensures (plan_of r.1) (motion_of r.1) (given_of r.1) (subst (λ hand. Runs s.machine (plan_of r.1) (motion_of r.1) hand (given_of r.1)) empty r.3.machine) in (
+      r.0,
+      did (Mark m) (pieces.Mark m ∷ []) ∷ r.1,
+      r.2,
+      marked s _ _ m r.1 r.3 next c.requires.mark empty (mark_at_rest r.3.first r.1 m r.3.conducted next) runs c.done.ensures,
+      may_run_marked r.3.first r.1 m (pieces.Mark m ∷ []) r.3.conducted r.4 next,
+      inl (none_behind (hand_of r.1) (pieces.Mark m)),
+    )
+
+pub returns-clause-goes_on : goal.returns-clause-goes_on
+returns-clause-goes_on g c = λ rest h stands keeps ready.
+    let s = c.args.self.now in
+    let m = c.args.mark in
+    let next = is_next s h (ask (a_mark m)) keeps c.requires.next in
+    let empty = hand_none s h keeps (sym c.if-is_some.ensures) in
+    let runs = c.put_mark.ensures (plan_of h) (motion_of h) (given_of h) (subst (λ hand. Runs s.machine (plan_of h) (motion_of h) hand (given_of h)) empty keeps.machine) in
+    let mid = did (Mark m) (pieces.Mark m ∷ []) ∷ h in
+    let now = marked s _ _ m h keeps next c.requires.mark empty (mark_at_rest keeps.first h m keeps.conducted next) runs c.done.ensures in
+    let may = may_run_marked keeps.first h m (pieces.Mark m ∷ []) keeps.conducted ready next in
+    works_on (g.P.BoardPort.stands c.run-2.new.port rest) c.run-2.result _ h mid (did (Mark m) (pieces.Mark m ∷ []) ∷ []) refl
+    (c.run-2.ensures.goes_on rest mid stands now may (inl (none_behind (hand_of h) (pieces.Mark m))))

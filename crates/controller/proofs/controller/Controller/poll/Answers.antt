@@ -1,0 +1,35 @@
+use Rattle.std.proofs.Common.{[], ◌∷◌, refl, ap, ◌∙◌}
+use Rattle.board_rules.specs.Steps.{port_log}
+use Rattle.board_rules.specs.Steps.Step.{at_port}
+use Rattle.board_rules.specs.Ports.PortStep.{took, found_empty, found_closed}
+use Rattle.controller.specs.declared.controller.Controller.{Controller}
+use Rattle.controller.proofs.Steps.{polled_empty, polled_closed}
+use Rattle.controller.proofs.Ends.{works_on}
+use Rattle.controller.proofs.Nexts.{took_worked, polled_none, polled_end}
+use Rattle.controller.proofs.controller.Controller.poll.Goals as goal
+
+pub without_byte-requires-clause-stands : goal.without_byte-requires-clause-stands
+without_byte-requires-clause-stands g c =
+    let r = c.requires.stands in
+    (r.0, at_port found_empty ∷ r.1, c.byte.ensures.empty c.in-Empty.is r.0 (port_log r.1) r.2, polled_empty c.args.self.now r.1 r.3 r.5, polled_none r.1 r.4 r.5)
+
+pub close-requires-clause-stands : goal.close-requires-clause-stands
+close-requires-clause-stands g c =
+    let r = c.requires.stands in
+    (r.0, at_port found_closed ∷ r.1, c.byte.ensures.closed c.in-Closed.is r.0 (port_log r.1) r.2, polled_closed c.args.self.now r.1 r.3 r.5, polled_end r.1 r.4 r.5, refl)
+
+pub returns-in-Byte-clause-goes_on : goal.returns-in-Byte-clause-goes_on
+returns-in-Byte-clause-goes_on g c = λ rest h stands keeps ready may.
+    let b = c.in-Byte.byte in
+    let kept = c.keep.ensures.kept h keeps (record { polls = may; few = c.byte.ensures.few b c.in-Byte.is rest (port_log h) stands }) in
+    (at_port (took b) ∷ h, c.byte.ensures.byte b c.in-Byte.is rest (port_log h) stands, took_worked _ b h kept ready may (ap (λ (s : Controller). s.beat) c.keep.ensures.same ∙ c.requires.beat))
+
+pub returns-in-Empty-clause-goes_on : goal.returns-in-Empty-clause-goes_on
+returns-in-Empty-clause-goes_on g c = λ rest h stands keeps ready may.
+    works_on (g.P.BoardPort.stands c.without_byte.new.port rest) c.without_byte.result _ h (at_port found_empty ∷ h) (at_port found_empty ∷ []) refl
+    (c.without_byte.ensures.goes_on rest (at_port found_empty ∷ h) (c.byte.ensures.empty c.in-Empty.is rest (port_log h) stands) (polled_empty c.args.self.now h keeps may) (polled_none h ready may) refl)
+
+pub returns-in-Closed-clause-goes_on : goal.returns-in-Closed-clause-goes_on
+returns-in-Closed-clause-goes_on g c = λ rest h stands keeps ready may.
+    works_on (g.P.BoardPort.stands c.close.new.port rest) c.close.result _ h (at_port found_closed ∷ h) (at_port found_closed ∷ []) refl
+    (c.close.ensures.goes_on rest (at_port found_closed ∷ h) (c.byte.ensures.closed c.in-Closed.is rest (port_log h) stands) (polled_closed c.args.self.now h keeps may) (polled_end h ready may) refl)

@@ -1,0 +1,85 @@
+-- What the fields of a board say of what it has done.
+use Rattle.std.specs.Prelude.{◌≡◌, ℕ, ◌+◌, ◌≤◌, Bool, true, false, ◌||◌, List, [], ◌∷◌, ◌++◌}
+use Rattle.std.specs.List.{list_any}
+use Rattle.outside.specs.declared.Turn.{Turn}
+use Rattle.outside.specs.declared.Turn.TheVariants.{Did}
+use Rattle.run_rules.specs.declared.State.{State}
+use Rattle.run_rules.specs.States.{IsOpening}
+use Rattle.run_rules.specs.Work.{Task}
+use Rattle.run_rules.specs.Outcomes.{Before}
+use Rattle.status_report.specs.declared.Reply.TheVariants.{Bye}
+use Rattle.line_interpreter.specs.Keeping.{IsKept}
+use Rattle.line_interpreter.specs.Interpreting.{Interpreting}
+use Rattle.board_rules.specs.Steps.{Step, Journal, open_of, whole_of, before_of, left_of, closed_tells, given_of, hand_of, plan_of, motion_of}
+use Rattle.board_rules.specs.Steps.Step.{turned}
+use Rattle.board_rules.specs.Turns.{this_turn, moving, begins_with_dollar, is_full, awaits_motion, tries_of, missed_of, waits_of}
+use Rattle.board_rules.specs.Conduct.{Conducted, AreWaiting}
+use Rattle.units.specs.Truths.{one_if}
+use Rattle.controller.specs.declared.controller.Controller.{Controller}
+use Rattle.controller.specs.declared.controller.Beat.{Beat}
+use Rattle.controller.specs.declared.controller.Beat.TheVariants.{Motion, Main}
+use Rattle.controller.specs.declared.input.Input.{Input}
+use Rattle.controller.specs.Machines.{Runs}
+
+-- the lines, by what is left to do, and what stands before the next line
+pub record Works (i : Interpreting) (left : List Task) (b : Before) : Type 0 where
+  pub left_is : i.left ≡ left
+  pub state_is : i.state ≡ b.state
+  pub number_is : i.number ≡ b.number
+
+-- the line that is not begun, by its bytes, and whether it was taken whole
+pub record Reads (i : Input) (bytes : List ℕ) (whole : Bool) : Type 0 where
+  pub kept_is : IsKept i.kept bytes
+  pub whole_is : i.whole ≡ whole
+  pub empty : i.begun ≡ false → bytes ≡ []
+  pub begun : i.begun ≡ true → bytes ≡ [] → ⊥
+  pub dollar_is : i.dollar ≡ begins_with_dollar bytes
+
+-- What the fields of a board keep of all that it did, which its rules allow, from its opening state on.
+pub record Keeps (board : Controller) (h : Journal) : Type 0 where
+  pub first : State
+  pub opening : IsOpening first
+  pub conducted : Conducted first h
+  pub machine : Runs board.machine (plan_of h) (motion_of h) (hand_of h) (given_of h)
+  pub lines : Works board.lines (left_of h) (before_of first h)
+  pub input : Reads board.input (open_of h) (whole_of h)
+  pub going : board.closing ≡ false → closed_tells h ≡ []
+  pub closed : board.closing ≡ true → closed_tells h ≡ Bye ∷ []
+
+-- it was the last turn that published a piece
+abbrev pub has_published : Beat → Bool
+has_published Motion = false
+has_published Main = true
+
+-- no queued block waits where it would be started by what is next, or since no other block has room
+abbrev pub NoneWaits : Journal → Type 0
+NoneWaits h = AreWaiting h → (is_full (plan_of h) || awaits_motion (left_of h)) ≡ false
+
+-- What holds between two turns, of which the last published a piece, or not.
+pub record Rounds (beat : Beat) (h : Journal) : Type 0 where
+  pub waits : has_published beat ≡ true → waits_of h ≡ []
+  pub tried : has_published beat ≡ true → missed_of h ≡ false
+  pub sent : has_published beat ≡ true → hand_of h ≡ []
+  pub none_waits : NoneWaits h
+  pub tries : tries_of h + one_if (whole_of h) ≤ 1 + one_if (has_published beat)
+  pub few : (left_of h ≡ [] → ⊥) → tries_of h ≤ 1
+
+-- between two turns
+abbrev pub IsBetween : Journal → Type 0
+IsBetween h = this_turn h ≡ []
+
+-- What the fields of a board say between two turns.
+pub record BoardFits (board : Controller) (h : Journal) : Type 0 where
+  pub keeps : Keeps board h
+  pub rounds : Rounds board.beat h
+
+-- a turn adds what was done in it, and its answer; where that is Did, something moves
+pub record BoardTurned (t : Turn) (h next : Journal) : Type 0 where
+  pub steps : List Step
+  pub are : next ≡ turned t ∷ (steps ++ h)
+  pub moves : t ≡ Did → list_any moving (this_turn (steps ++ h)) ≡ true
+
+-- a board that has closed its run, and has nothing left to do
+pub record BoardRests (board : Controller) : Type 0 where
+  pub closing : board.closing ≡ true
+  pub none : board.lines.left ≡ []

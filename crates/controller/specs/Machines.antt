@@ -1,0 +1,16 @@
+-- What the fields of a machine say of its plan, its motion, and the pieces that were given.
+use Rattle.std.specs.Prelude.{◌≡◌, List}
+use Rattle.std.specs.Option.{option_to_list}
+use Rattle.feed_hold.specs.declared.Motion.{Motion}
+use Rattle.plan_passes.specs.Plans.{Planned}
+use Rattle.step_line.specs.declared.Piece.{Piece}
+use Rattle.step_line.specs.Finishing.{ticks_together}
+use Rattle.controller.specs.declared.machine.Machine.{Machine}
+
+-- the plan, the state of the motion, the pieces in hand, and all pieces that were given
+pub record Runs (m : Machine) (p : Planned) (now : Motion) (in_hand given : List Piece) : Type 0 where
+  pub plan_is : m.plan ≡ p
+  pub same : p.overrides ≡ m.overrides
+  pub motion_is : m.hold.motion ≡ now
+  pub hand_is : option_to_list m.hand ≡ in_hand
+  pub given_is : m.given ≡ ticks_together given

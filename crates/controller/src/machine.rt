@@ -1,0 +1,176 @@
+//! What a board moves: the plan, the piece in hand, and the state of the motion.
+
+ghost use Rattle.std.specs.Prelude.{◌≡◌, ◌⊎◌, ℕ, ◌<◌, ◌^◌, List, [], ◌∷◌, ◌++◌, ◌&&◌, true, false, Some, None};
+ghost use Rattle.feed_hold.specs.declared.Motion.{Motion as AnyMotion};
+ghost use Rattle.feed_hold.specs.declared.Motion.TheVariants as motions;
+ghost use Rattle.step_line.specs.Asking.{IsPlannedMove};
+ghost use Rattle.step_line.specs.declared.Piece.{Piece as AnyPiece};
+ghost use Rattle.step_line.specs.declared.Segment.{Segment};
+ghost use Rattle.overrides.specs.Percents.{IsOverrides};
+ghost use Rattle.plan_passes.specs.Plans.{Planned};
+ghost use Rattle.plan_passes.specs.Segments.{advanced};
+ghost use Rattle.segment_prep.specs.Taking.{IsNext};
+ghost use Rattle.planner_runs.specs.Runs.{fresh_plan, with_move};
+ghost use Rattle.board_rules.specs.Turns.{has_blocks, is_full, is_going, is_run};
+ghost use Rattle.controller.specs.Machines.{Runs};
+
+use feed_hold::{Hold, Motion};
+use line_geom::Cap;
+use line_geom::measure::geom;
+use overrides::Overrides;
+use plan_passes::Plan;
+use planner_ring::Block;
+use segment_prep::{Mode, next_segment};
+use step_line::{Mark, Piece, PlannedMove};
+
+/// So many blocks stand at most.
+const MOST_BLOCKS: usize = 15;
+
+/// The plan, the piece that was given and is not published yet, how many ticks were given, and the state of the motion.
+#[derive(Drop)]
+pub(crate) struct Machine {
+    pub(crate) plan: Plan<16>,
+    pub(crate) overrides: Overrides,
+    pub(crate) hold: Hold,
+    pub(crate) hand: Option<Piece>,
+    pub(crate) given: u64,
+}
+
+impl Machine {
+    /// An empty plan at rest, of which nothing was given.
+    pub(crate) fn new() -> Machine
+        ensures { Runs result fresh_plan motions.Idle [] [] }
+    {
+        Machine {
+            plan: Plan::new(),
+            overrides: Overrides::normal(),
+            hold: Hold::new(),
+            hand: None,
+            given: 0,
+        }
+    }
+
+    /// Whether a block is queued.
+    #[inline]
+    pub(crate) fn has_blocks(&self) -> bool
+        ensures { result ≡ has_blocks self.now.plan.blocks }
+    {
+        self.plan.len() > 0
+    }
+
+    /// Whether no other block has room.
+    #[inline]
+    pub(crate) fn is_full(&self) -> bool
+        ensures { result ≡ is_full self.now.plan }
+    {
+        self.plan.len() >= MOST_BLOCKS
+    }
+
+    /// Whether moves are carried out.
+    #[inline]
+    pub(crate) fn is_running(&self) -> bool
+        ensures { result ≡ is_run self.now.hold.motion }
+    {
+        self.hold.motion == Motion::Run
+    }
+
+    /// Whether a segment is due: the machine moves, and an event is left.
+    #[inline]
+    pub(crate) fn is_due(&self) -> bool
+        ensures { result ≡ (is_going self.now.hold.motion && has_blocks self.now.plan.blocks) }
+    {
+        matches!(self.hold.motion, Motion::Run | Motion::Jog) && self.has_blocks()
+    }
+
+    /// Whether queued blocks wait for a start.
+    #[inline]
+    pub(crate) fn is_waiting(&self) -> bool
+        ensures yes { result ≡ true → (self.now.hold.motion ≡ motions.Idle) × (has_blocks self.now.plan.blocks ≡ true) }
+        ensures no { result ≡ false → self.now.hold.motion ≡ motions.Idle → has_blocks self.now.plan.blocks ≡ true → ⊥ }
+    {
+        self.hold.motion == Motion::Idle && self.has_blocks()
+    }
+
+    /// Puts a move behind the others.
+    pub(crate) fn add(&mut self, m: &PlannedMove)
+        requires planned { IsPlannedMove m.now }
+        requires room { is_full self.old.plan ≡ false }
+        requires range { IsOverrides self.old.overrides }
+        requires same { self.old.plan.overrides ≡ self.old.overrides }
+        ensures { (p : Planned) (now : AnyMotion) (hand given : List AnyPiece) → Runs self.old p now hand given → Runs self.new (with_move p m.now) now hand given }
+    {
+        let Some(geom) = geom(&m.mv, &m.limits) else {
+            unreachable!()
+        };
+        let block = Block {
+            line: m.line,
+            mv: m.mv,
+            rate: m.rate,
+            geom,
+            prepared: 0,
+            entry: Cap::Free,
+        };
+        let Ok(()) = self.plan.add(block, m.deviation, &self.overrides) else {
+            unreachable!()
+        };
+    }
+
+    /// Takes the next segment into the hand.
+    pub(crate) fn take(&mut self)
+        requires blocks { has_blocks self.old.plan.blocks ≡ true }
+        requires few { self.old.given < 2 ^ 62 }
+        requires same { self.old.plan.overrides ≡ self.old.overrides }
+        ensures { (p : Planned) (now : AnyMotion) (given : List AnyPiece) → Runs self.old p now [] given
+            → (s : Segment) × IsNext p Mode.Go s × Runs self.new (advanced p s.n s.w_out) now (AnyPiece.Segment s ∷ []) (given ++ AnyPiece.Segment s ∷ []) }
+    {
+        let Some(segment) = next_segment(&mut self.plan, &self.overrides, Mode::Go) else {
+            unreachable!()
+        };
+        self.given += segment.n as u64;
+        self.hand = Some(Piece::Segment(segment));
+    }
+
+    /// Takes a mark into the hand.
+    pub(crate) fn put_mark(&mut self, mark: Mark)
+        requires few { self.old.given < 2 ^ 62 }
+        ensures { (p : Planned) (now : AnyMotion) (given : List AnyPiece) → Runs self.old p now [] given
+            → Runs self.new p now (AnyPiece.Mark mark ∷ []) (given ++ AnyPiece.Mark mark ∷ []) }
+    {
+        self.given += 1;
+        self.hand = Some(Piece::Mark(mark));
+    }
+
+    /// Takes the end into the hand.
+    pub(crate) fn put_end(&mut self)
+        ensures { (p : Planned) (now : AnyMotion) (given : List AnyPiece) → Runs self.old p now [] given
+            → Runs self.new p now (AnyPiece.End ∷ []) (given ++ AnyPiece.End ∷ []) }
+    {
+        self.hand = Some(Piece::End);
+    }
+
+    /// The piece in hand is published.
+    #[inline]
+    pub(crate) fn drop_hand(&mut self)
+        ensures { (p : Planned) (now : AnyMotion) (piece : AnyPiece) (given : List AnyPiece) → Runs self.old p now (piece ∷ []) given → Runs self.new p now [] given }
+    {
+        self.hand = None;
+    }
+
+    /// Queued blocks start the cycle.
+    pub(crate) fn start(&mut self)
+        requires { self.old.hold.motion ≡ motions.Idle }
+        ensures runs { (p : Planned) (now : AnyMotion) (hand given : List AnyPiece) → Runs self.old p now hand given → Runs self.new p motions.Run hand given }
+        ensures run { self.new.hold.motion ≡ motions.Run }
+    {
+        self.hold.on_start(false);
+    }
+
+    /// The cycle is over.
+    pub(crate) fn drain(&mut self)
+        requires { (self.old.hold.motion ≡ motions.Idle) ⊎ (self.old.hold.motion ≡ motions.Run) }
+        ensures runs { (p : Planned) (now : AnyMotion) (hand given : List AnyPiece) → Runs self.old p now hand given → Runs self.new p motions.Idle hand given }
+        ensures idle { self.new.hold.motion ≡ motions.Idle }
+    {
+        self.hold.on_drained();
+    }
+}

@@ -1,0 +1,16 @@
+//! The generated job: moves to places that follow from their numbers alone. It is given line by line, with no memory
+//! taken, and one line sums up its run.
+#![tactic(auto)]
+
+mod lines;
+mod source;
+mod summary;
+mod telling;
+
+pub use lines::demo_line;
+pub use source::{DemoJob, NoConsole};
+pub use summary::{Answers, put_summary};
+pub use telling::tell_summary;
+
+#[cfg(test)]
+mod tests;

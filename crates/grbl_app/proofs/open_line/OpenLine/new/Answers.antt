@@ -1,7 +1,0 @@
-use Rattle.std.proofs.Common.{refl}
-use Rattle.gcode_words.specs.Comments.{cut_within}
-use Rattle.grbl_app.proofs.open_line.OpenLine.new.Goals as goal
-
-pub returns : goal.returns
-unfolding cut_within
-returns c = record { stripper = c.new.ensures; kept = c.new-2.ensures; begun = refl }

@@ -1,0 +1,19 @@
+use Rattle.std.proofs.Common.{inl, subst}
+use Rattle.grbl_app.specs.Ends.{HasRun}
+use Rattle.grbl_app.proofs.Demos.{demo_causes, has_begun}
+use Rattle.grbl_app.proofs.run_grbl.Goals as goal
+
+pub returns-in-Stream-clause-complete : goal.returns-in-Stream-clause-complete
+returns-in-Stream-clause-complete g c = λ seed asks words job source console steps. inl (c.stream.ensures.causes.complete job source console steps)
+
+pub returns-clause-usage : goal.returns-clause-usage
+returns-clause-usage g c = λ e. absurd (subst HasRun e (demo_causes _ _ _ _ _ _ c.run_demo.ensures).has_run)
+
+pub returns-clause-untouched : goal.returns-clause-untouched
+returns-clause-untouched g c = λ none. has_begun c.run_demo.result (demo_causes _ _ _ _ _ _ c.run_demo.ensures).has_run none
+
+pub returns-clause-console_fault : goal.returns-clause-console_fault
+returns-clause-console_fault g c = (demo_causes _ _ _ _ _ _ c.run_demo.ensures).console
+
+pub returns-clause-steps_fault : goal.returns-clause-steps_fault
+returns-clause-steps_fault g c = (demo_causes _ _ _ _ _ _ c.run_demo.ensures).steps

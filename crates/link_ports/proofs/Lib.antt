@@ -1,0 +1,4 @@
+pub mod Lists
+pub mod Hosting
+pub mod Queries
+pub mod Boarding

@@ -1,0 +1,56 @@
+-- Logs of which the newest stands first, beside lists in the order in which things were done.
+use Rattle.std.proofs.Common.{◌≡◌, ℕ, zero, suc, ◌+◌, ◌-◌, ◌≤◌, ◌<◌, Bool, true, false, cond, nat_eq, nat_le, List, [], ◌∷◌, ◌++◌, length, reverse, refl, sym, ap, ◌∙◌, arith, length-append}
+use Rattle.std.proofs.lemmas.List.Sorted.{sum_by-IsPermutation, IsPermutation-reverse}
+use Rattle.std.proofs.lemmas.Bool.Decides.{nat_tests}
+use Rattle.std.proofs.lemmas.Grind.{reverse_onto}
+use Rattle.status_report.specs.declared.Reply.{Reply}
+use Rattle.status_report.specs.Answering.{lfs_in, is_answer, answers_in}
+use Rattle.status_report.proofs.Answered.{lfs_first}
+use Rattle.serial_ring.specs.Lists as link
+use Rattle.stream_host.specs.Links as host
+
+pub reverse_on : {X : Type 0} (x : X) (xs : List X) → reverse (x ∷ xs) ≡ reverse xs ++ x ∷ []
+reverse_on x xs = reverse_onto xs x []
+
+pub same_answers : (rs : List Reply) → answers_in (reverse rs) ≡ answers_in rs
+same_answers rs = sum_by-IsPermutation (λ (r : Reply). cond (is_answer r) 1 0) rs (reverse rs) (IsPermutation-reverse rs)
+
+pub same_lines : (bytes : List ℕ) → lfs_in (reverse bytes) ≡ lfs_in bytes
+same_lines bytes = sum_by-IsPermutation (λ (b : ℕ). cond (nat_eq b 10) 1 0) bytes (reverse bytes) (IsPermutation-reverse bytes)
+
+-- ---- bytes behind lines
+
+fewer_left : (is : Bool) (k n : ℕ) → suc k ≤ cond is 1 0 + n → suc k - cond is 1 0 ≤ n
+fewer_left true k n le = omega arith
+fewer_left false k n le = omega arith
+
+not_zero : (k : ℕ) → nat_eq (suc k) 0 ≡ false
+not_zero k = grind (arith, nat_tests)
+
+-- behind no line stand all bytes; else the first of them is not there
+behind_later : (k y : ℕ) (bytes : List ℕ) → nat_eq k 0 ≡ false → host.behind k (y ∷ bytes) ≡ host.behind (k - cond (nat_eq y 10) 1 0) bytes
+behind_later k y bytes e = ap (λ is. cond is (y ∷ bytes) (host.behind (k - cond (nat_eq y 10) 1 0) bytes)) e
+
+-- one byte more behind a line that has ended
+one_longer : (bytes : List ℕ) (k b : ℕ) → k ≤ lfs_in bytes → length (host.behind k (bytes ++ b ∷ [])) ≡ length (host.behind k bytes) + 1
+one_longer [] zero b le = refl
+one_longer [] (suc k) b le = absurd (let z : suc k ≤ 0 = le in omega arith)
+one_longer (y ∷ bytes) zero b le = let l = length-append bytes (b ∷ []) in omega arith
+one_longer (y ∷ bytes) (suc k) b le =
+    ap length (behind_later (suc k) y (bytes ++ b ∷ []) (not_zero k))
+    ∙ (one_longer bytes (suc k - cond (nat_eq y 10) 1 0) b (fewer_left (nat_eq y 10) k (lfs_in bytes) (let e = lfs_first y bytes in omega arith))
+    ∙ ap (λ (l : List ℕ). length l + 1) (sym (behind_later (suc k) y bytes (not_zero k))))
+
+behind_by : (is : Bool) (k n m : ℕ) (b : ℕ) (xs : List ℕ) (l : ℕ) → nat_le k n ≡ is → (k ≤ n → length xs + 1 ≤ l) → length (cond is (b ∷ xs) []) ≤ l
+behind_by true k n m b xs l e more = let le : k ≤ n = at_most k n e in let r = more le in omega arith
+  where
+    at_most : (a b : ℕ) → nat_le a b ≡ true → a ≤ b
+    at_most a b e = grind (arith, nat_tests)
+behind_by false k n m b xs l e more = omega arith
+
+pub fewer_behind : (k : ℕ) (bytes : List ℕ) → length (link.behind k bytes) ≤ length (host.behind k (reverse bytes))
+fewer_behind k [] = omega arith
+fewer_behind k (b ∷ bytes) = behind_by (nat_le k (lfs_in bytes)) k (lfs_in bytes) 0 b (link.behind k bytes) (length (host.behind k (reverse (b ∷ bytes)))) refl
+    (λ le. let m = fewer_behind k bytes in
+    let o = one_longer (reverse bytes) k b (let s = same_lines bytes in omega arith) in
+    let e = ap (λ l. length (host.behind k l)) (reverse_on b bytes) in omega arith)

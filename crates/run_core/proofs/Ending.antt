@@ -1,0 +1,38 @@
+-- Actors that have answered Done.
+use Rattle.std.proofs.Common.{◌≡◌, false, sym, subst}
+use Rattle.outside.specs.declared.Actor.{Actor}
+use Rattle.outside.specs.declared.Actor.TheVariants as actors
+use Rattle.run_core.specs.declared.lockstep.Ended.{Ended}
+use Rattle.run_core.specs.Worlds.{Seen, ActsAlone, IsDone, AreDone}
+use Rattle.run_core.specs.Lockstep.{with_end, AreEnded, HaveAllEnded}
+
+-- an actor that is done stays so, whoever takes a turn
+stays_done : (actor other : Actor) (w w' : Seen) → ActsAlone actor w w' → (IsDone actor w → w' ≡ w) → IsDone other w → IsDone other w'
+stays_done actors.Host actors.Host w w' alone still d = subst (IsDone actors.Host) (sym (still d)) d
+stays_done actors.Host actors.Board w w' alone still d = subst (IsDone actors.Board) (sym alone) d
+stays_done actors.Host actors.Pulse w w' alone still d = subst (IsDone actors.Pulse) (sym alone) d
+stays_done actors.Host actors.Record w w' alone still d = subst (IsDone actors.Record) (sym alone) d
+stays_done actors.Board actors.Host w w' alone still d = subst (IsDone actors.Host) (sym alone) d
+stays_done actors.Board actors.Board w w' alone still d = subst (IsDone actors.Board) (sym (still d)) d
+stays_done actors.Board actors.Pulse w w' alone still d = subst (IsDone actors.Pulse) (sym alone) d
+stays_done actors.Board actors.Record w w' alone still d = subst (IsDone actors.Record) (sym alone) d
+stays_done actors.Pulse actors.Host w w' alone still d = subst (IsDone actors.Host) (sym alone) d
+stays_done actors.Pulse actors.Board w w' alone still d = subst (IsDone actors.Board) (sym alone) d
+stays_done actors.Pulse actors.Pulse w w' alone still d = subst (IsDone actors.Pulse) (sym (still d)) d
+stays_done actors.Pulse actors.Record w w' alone still d = subst (IsDone actors.Record) (sym alone) d
+stays_done actors.Record actors.Host w w' alone still d = subst (IsDone actors.Host) (sym alone) d
+stays_done actors.Record actors.Board w w' alone still d = subst (IsDone actors.Board) (sym alone) d
+stays_done actors.Record actors.Pulse w w' alone still d = subst (IsDone actors.Pulse) (sym alone) d
+stays_done actors.Record actors.Record w w' alone still d = subst (IsDone actors.Record) (sym (still d)) d
+
+pub stay_ended : (actor : Actor) (e : Ended) (w w' : Seen) → ActsAlone actor w w' → (IsDone actor w → w' ≡ w) → AreEnded e w → AreEnded e w'
+stay_ended actor e w w' alone still ended = record {
+  host = λ yes. stays_done actor actors.Host w w' alone still (ended.host yes);
+  board = λ yes. stays_done actor actors.Board w w' alone still (ended.board yes);
+  pulse = λ yes. stays_done actor actors.Pulse w w' alone still (ended.pulse yes);
+  recorder = λ yes. stays_done actor actors.Record w w' alone still (ended.recorder yes);
+}
+
+-- no actor has answered Done
+pub none_ended : (w : Seen) → AreEnded (record { host = false; board = false; pulse = false; recorder = false }) w
+none_ended w = record { host = λ yes. absurd cc; board = λ yes. absurd cc; pulse = λ yes. absurd cc; recorder = λ yes. absurd cc }

@@ -1,0 +1,44 @@
+-- Turns one after the other.
+use Rattle.std.proofs.Common.{◌≡◌, ℕ, ◌+◌, ◌<◌, List, [], ◌∷◌, ◌++◌, length, take, get_or, suc, add-one, refl, subst}
+use Rattle.std.proofs.Math.Seq.{take-suc}
+use Rattle.outside.specs.declared.Actor.{Actor}
+use Rattle.outside.specs.declared.Turn.{Turn}
+use Rattle.run_core.specs.Worlds.{Seen, History, Devices, Adds, Turns, TurnsOn, RunsOn, HasRunOn}
+
+-- one turn more
+one_more : (schedule : List Actor) (actor : Actor) (t : Turn) (w mid w' : Seen) (hist between next : History) → Turns schedule w mid hist between → Adds actor t mid w' between next
+    → Turns (schedule ++ actor ∷ []) w w' hist next
+one_more [] actor t w mid w' hist between next same adds =
+    (t, w', next, subst (λ (v : Seen). Adds actor t v w' hist next) same.0 (subst (λ (h : History). Adds actor t mid w' h next) same.1 adds), (refl, refl))
+one_more (a ∷ schedule) actor t w mid w' hist between next turns adds =
+    (turns.0, turns.1, turns.2, turns.3, one_more schedule actor t turns.1 mid w' turns.2 between next turns.4 adds)
+
+-- no turn
+pub runs_nothing : (now : Devices) (w : Seen) → RunsOn [] now now w w
+runs_nothing now w = record { on = λ was hist st. (hist, st, (refl, refl)) }
+
+-- the turns of a schedule, and one more
+pub runs_more : (schedule : List Actor) (actor : Actor) (t : Turn) (before now after : Devices) (w mid w' : Seen) → RunsOn schedule before now w mid → TurnsOn actor t now after mid w'
+    → RunsOn (schedule ++ actor ∷ []) before after w w'
+runs_more schedule actor t before now after w mid w' runs turns = record {
+  on = λ was hist st.
+      let a = runs.on was hist st in
+      let n = turns.on was a.0 a.1 in
+      (n.0, n.1, one_more schedule actor t w mid w' hist a.0 n.0 a.2 n.2);
+}
+
+-- of a schedule, the turns taken so far
+pub next_taken : (schedule : List Actor) (i : ℕ) (other : Actor) (before after : Devices) (w w' : Seen) → i < length schedule
+    → RunsOn (take i schedule ++ get_or schedule i other ∷ []) before after w w' → RunsOn (take (i + 1) schedule) before after w w'
+next_taken schedule i other before after w w' within runs =
+    let e : take (suc i) schedule ≡ take i schedule ++ get_or schedule i other ∷ [] = take-suc schedule i other within in rw (add-one, e) runs
+
+-- turns of some schedule, and one more
+pub some_nothing : (now : Devices) (w : Seen) → HasRunOn now now w w
+some_nothing now w = record { schedule = []; runs = runs_nothing now w }
+
+pub some_more : (actor : Actor) (t : Turn) (before now after : Devices) (w mid w' : Seen) → HasRunOn before now w mid → TurnsOn actor t now after mid w' → HasRunOn before after w w'
+some_more actor t before now after w mid w' has turns = record {
+  schedule = has.schedule ++ actor ∷ [];
+  runs = runs_more has.schedule actor t before now after w mid w' has.runs turns;
+}

@@ -1,0 +1,38 @@
+-- The order of turns in lockstep.
+use Rattle.std.specs.Prelude.{◌≡◌, ℕ, ◌+◌, ◌*◌, ◌%◌, ◌^◌, true}
+use Rattle.outside.specs.declared.Actor.{Actor}
+use Rattle.outside.specs.declared.Actor.TheVariants as actors
+use Rattle.run_core.specs.Worlds.{Seen, IsDone}
+use Rattle.run_core.specs.declared.lockstep.Ended.{Ended}
+
+-- the numbers of a linear congruential generator, one behind the other
+abbrev pub state_after : ℕ → ℕ
+state_after x = (x * 6364136223846793005 + 1442695040888963407) % 2 ^ 64
+
+-- the number of an actor
+abbrev pub number_of : Actor → ℕ
+number_of actors.Host = 0
+number_of actors.Board = 1
+number_of actors.Pulse = 2
+number_of actors.Record = 3
+
+-- an actor has answered Done
+abbrev pub with_end : Actor → Ended → Ended
+with_end actors.Host e = record e { host = true }
+with_end actors.Board e = record e { board = true }
+with_end actors.Pulse e = record e { pulse = true }
+with_end actors.Record e = record e { recorder = true }
+
+-- those that have answered Done are done
+pub record AreEnded (e : Ended) (w : Seen) : Type 0 where
+  pub host : e.host ≡ true → IsDone actors.Host w
+  pub board : e.board ≡ true → IsDone actors.Board w
+  pub pulse : e.pulse ≡ true → IsDone actors.Pulse w
+  pub recorder : e.recorder ≡ true → IsDone actors.Record w
+
+-- all have
+pub record HaveAllEnded (e : Ended) : Type 0 where
+  pub host : e.host ≡ true
+  pub board : e.board ≡ true
+  pub pulse : e.pulse ≡ true
+  pub recorder : e.recorder ≡ true

@@ -1,0 +1,140 @@
+//! Lockstep: the actors take their turns in an order that one number gives, until each has answered Done.
+
+ghost use Rattle.std.specs.Prelude.{◌≡◌, ◌↔◌, ◌/◌, ◌^◌, true};
+ghost use Rattle.run_core.specs.Worlds.{devices, HasRunOn, AreDone};
+ghost use Rattle.run_core.specs.Lockstep.{state_after, number_of, with_end, HaveAllEnded};
+
+use crate::World;
+use outside::{Actor, Sink, Source, Turn};
+use std::sync::Wait;
+
+/// The multiplier of the generator.
+const MULTIPLIER: u64 = 6_364_136_223_846_793_005;
+
+/// What the generator adds.
+const INCREMENT: u64 = 1_442_695_040_888_963_407;
+
+/// The order of turns in lockstep, by a linear congruential generator of 64 bits.
+#[derive(Clone, Copy, Debug, PartialEq, Eq)]
+pub struct Order {
+    pub state: u64,
+}
+
+impl Order {
+    /// The actor whose turn is next: the state goes on by one step of the generator, and its two highest bits choose.
+    #[inline]
+    pub fn next(&mut self) -> Actor
+        ensures state { self.new.state ≡ state_after self.old.state }
+        ensures chosen { number_of result ≡ self.new.state / 2 ^ 62 }
+    {
+        self.state = self.state.wrapping_mul(MULTIPLIER).wrapping_add(INCREMENT);
+        match self.state >> 62 {
+            0 => Actor::Host,
+            1 => Actor::Board,
+            2 => Actor::Pulse,
+            _ => Actor::Record,
+        }
+    }
+}
+
+/// Which actors have answered Done.
+#[derive(Clone, Copy)]
+pub(crate) struct Ended {
+    host: bool,
+    board: bool,
+    pulse: bool,
+    recorder: bool,
+}
+
+impl Ended {
+    /// An actor has answered Done.
+    fn add(&mut self, actor: Actor)
+        ensures { self.new ≡ with_end actor self.old }
+    {
+        match actor {
+            Actor::Host => self.host = true,
+            Actor::Board => self.board = true,
+            Actor::Pulse => self.pulse = true,
+            Actor::Record => self.recorder = true,
+        }
+    }
+
+    /// Whether all have.
+    fn all(&self) -> bool
+        ensures { (result ≡ true) ↔ HaveAllEnded self.now }
+    {
+        self.host && self.board && self.pulse && self.recorder
+    }
+}
+
+/// Lets the actors take turns, in the order that a seed gives, until each has answered Done. Where it is patient, it leaves
+/// out the turns in which the host would read the job while what was sent is not answered.
+fn run<R: Wait, J: Source, C: Sink, S: Sink>(
+    rt: &R,
+    world: &mut World,
+    seed: u64,
+    patient: bool,
+    job: &mut J,
+    console: &mut C,
+    steps: &mut S,
+)
+    ensures goes_on { HasRunOn (devices (J.state job.old) (C.state console.old) (S.state steps.old)) (devices (J.state job.new) (C.state console.new) (S.state steps.new)) world.old world.new }
+    ensures done { AreDone world.new }
+{
+    let mut order = Order { state: seed };
+    let mut ended = Ended {
+        host: false,
+        board: false,
+        pulse: false,
+        recorder: false,
+    };
+    let mut board = Turn::Did;
+    for _ in rt.forever() {
+        let actor = order.next();
+        if patient && actor == Actor::Host && world.reads_early(board) {
+            continue;
+        }
+        let turn = world.turn(actor, job, console, steps);
+        if actor == Actor::Board {
+            board = turn;
+        }
+        if let Turn::Done = turn {
+            ended.add(actor);
+            if ended.all() {
+                return;
+            }
+        }
+    }
+    unreachable!()
+}
+
+/// Lets the actors take turns, in the order that a seed gives, until each has answered Done.
+pub fn run_lockstep<R: Wait, J: Source, C: Sink, S: Sink>(
+    rt: &R,
+    world: &mut World,
+    seed: u64,
+    job: &mut J,
+    console: &mut C,
+    steps: &mut S,
+)
+    ensures goes_on { HasRunOn (devices (J.state job.old) (C.state console.old) (S.state steps.old)) (devices (J.state job.new) (C.state console.new) (S.state steps.new)) world.old world.new }
+    ensures done { AreDone world.new }
+{
+    run(rt, world, seed, false, job, console, steps);
+}
+
+/// Lets the actors take turns in the order that zero gives as the seed, until each has answered Done, but for the turns in
+/// which the host would read the job while what was sent is not answered: these are left out. A read may wait until whoever writes the job
+/// goes on, who may wait for an answer.
+pub fn run_patiently<R: Wait, J: Source, C: Sink, S: Sink>(
+    rt: &R,
+    world: &mut World,
+    job: &mut J,
+    console: &mut C,
+    steps: &mut S,
+)
+    ensures goes_on { HasRunOn (devices (J.state job.old) (C.state console.old) (S.state steps.old)) (devices (J.state job.new) (C.state console.new) (S.state steps.new)) world.old world.new }
+    ensures done { AreDone world.new }
+{
+    run(rt, world, 0, true, job, console, steps);
+}

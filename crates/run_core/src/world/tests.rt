@@ -1,0 +1,130 @@
+//! Whole jobs, by a schedule and in lockstep, and a host alone.
+
+use super::*;
+use crate::{run_lockstep, run_schedule};
+use outside::{MemSink, MemSource, On};
+use std::test::Fail;
+use stream_host::Stop;
+
+/// A job, and what its run must give: the console behind the banner, the steps, and how it ends.
+#[derive(Clone, Copy)]
+struct Row<'a> {
+    job: &'a str,
+    console: &'a str,
+    steps: &'a str,
+    answered: u32,
+    errors: u32,
+}
+
+/// Worked rows.
+fn rows() -> [Row<'static>; 5] {
+    [
+        Row {
+            job: "",
+            console: "\r\nGrbl 1.1h ['$' for help]\r\n",
+            steps: "E\n",
+            answered: 0,
+            errors: 0,
+        },
+        Row {
+            job: "G0X0.004",
+            console: "\r\nGrbl 1.1h ['$' for help]\r\nok\r\n",
+            steps: "s 1 1 0 320000\nX+\nE\n",
+            answered: 1,
+            errors: 0,
+        },
+        Row {
+            job: "G1X1",
+            console: "\r\nGrbl 1.1h ['$' for help]\r\nerror:22\r\n",
+            steps: "E\n",
+            answered: 1,
+            errors: 1,
+        },
+        Row {
+            job: "G0X0\n\nG4P0\n",
+            console: "\r\nGrbl 1.1h ['$' for help]\r\nok\r\nok\r\nok\r\n",
+            steps: "D 0\nE\n",
+            answered: 3,
+            errors: 0,
+        },
+        Row {
+            job: "G20\nG0X0.0001",
+            console: "\r\nGrbl 1.1h ['$' for help]\r\nok\r\nok\r\n",
+            steps: "s 2 1 0 320000\nX+\nE\n",
+            answered: 2,
+            errors: 0,
+        },
+    ]
+}
+
+/// What a run of a row ends with.
+fn end_of(row: &Row) -> RunEnd {
+    RunEnd {
+        stop: Stop::End,
+        answered: row.answered,
+        errors: row.errors,
+        source_failed: false,
+        console_failed: false,
+        steps_failed: false,
+    }
+}
+
+#[test]
+fn jobs_are_done_by_a_schedule(rt: HostRuntime) -> Result<(), Fail> {
+    let everyone = [Actor::Host, Actor::Board, Actor::Pulse, Actor::Record];
+    for (i, row) in rows().iter().enumerate() {
+        let mut job = MemSource::new(row.job.as_bytes(), 7, &[]);
+        let mut console = MemSink::new(rt.alloc(), 400, &[])?;
+        let mut steps = MemSink::new(rt.alloc(), 400, &[])?;
+        let mut world = World::new(rt.alloc())?;
+        for _ in 0..1000 {
+            run_schedule(&mut world, &everyone, &mut job, &mut console, &mut steps);
+        }
+        assert!(rt; console.held() == row.console.as_bytes(), "row {i}");
+        assert!(rt; steps.held() == row.steps.as_bytes(), "row {i}");
+        assert_eq!(rt; world.end(), end_of(row), "row {i}");
+    }
+    Ok(())
+}
+
+#[test]
+fn jobs_are_done_in_lockstep(rt: HostRuntime) -> Result<(), Fail> {
+    for seed in [0, 1, u64::MAX] {
+        for (i, row) in rows().iter().enumerate() {
+            let mut job = MemSource::new(row.job.as_bytes(), 7, &[]);
+            let mut console = MemSink::new(rt.alloc(), 400, &[])?;
+            let mut steps = MemSink::new(rt.alloc(), 400, &[])?;
+            let mut world = World::new(rt.alloc())?;
+            run_lockstep(&rt, &mut world, seed, &mut job, &mut console, &mut steps);
+            assert!(rt;
+                console.held() == row.console.as_bytes(),
+                "row {i}, seed {seed}"
+            );
+            assert!(rt;
+                steps.held() == row.steps.as_bytes(),
+                "row {i}, seed {seed}"
+            );
+            assert_eq!(rt; world.end(), end_of(row), "row {i}, seed {seed}");
+        }
+    }
+    Ok(())
+}
+
+/// Ten lines of twelve bytes stand on the link, and no eleventh.
+#[test]
+fn host_alone_sends_ten_of_forty_lines(rt: HostRuntime) -> Result<(), Fail> {
+    let mut text = Vec::new(rt.alloc());
+    for _ in 0..40 {
+        text.extend_from_slice(b"G1X1.000F10\n")?;
+    }
+    let mut job = MemSource::new(text.as_slice(), 4096, &[]);
+    let mut console = MemSink::new(rt.alloc(), 400, &[])?;
+    let mut steps = MemSink::new(rt.alloc(), 400, &[])?;
+    let mut world = World::new(rt.alloc())?;
+    let hosts = [Actor::Host; 400];
+    run_schedule(&mut world, &hosts, &mut job, &mut console, &mut steps);
+    assert_eq!(rt; world.lists.bytes.len(), 120);
+    let last = world.turn(Actor::Host, &mut job, &mut console, &mut steps);
+    assert_eq!(rt; last, Turn::Wait(On::Answer));
+    Ok(())
+}

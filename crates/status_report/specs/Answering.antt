@@ -1,0 +1,32 @@
+-- The link between a host and a board: what may stand on it at once, and which lines its replies answer.
+use Rattle.std.specs.Prelude.{ℕ, Bool, true, false, List, nat_eq}
+use Rattle.std.specs.List.{count_by}
+use Rattle.status_report.specs.declared.Reply.{Reply}
+use Rattle.status_report.specs.declared.Reply.TheVariants.{Ok, Error, Bye}
+
+-- so many bytes may stand on the link at once
+abbrev pub receive_room : ℕ
+receive_room = 128
+
+-- so many replies may stand on the link at once
+abbrev pub reply_room : ℕ
+reply_room = 16
+
+-- how many lines have their end among some bytes
+abbrev pub lfs_in : List ℕ → ℕ
+lfs_in bytes = count_by (λ b. nat_eq b 10) bytes
+
+-- a reply answers a line
+abbrev pub is_answer : Reply → Bool
+is_answer Ok = true
+is_answer (Error n) = true
+is_answer _ = false
+
+-- a reply is Bye
+abbrev pub is_bye : Reply → Bool
+is_bye Bye = true
+is_bye _ = false
+
+-- how many lines some replies answer
+abbrev pub answers_in : List Reply → ℕ
+answers_in replies = count_by is_answer replies

@@ -1,6 +1,0 @@
-pub mod Recording
-pub mod Ends
-pub mod Tracing
-pub mod Driving
-pub mod Slotted
-pub mod Ending

@@ -1,5 +1,0 @@
-pub mod Held
-pub mod Slots
-pub mod Polls
-pub mod Working
-pub mod Driving
