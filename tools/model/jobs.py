@@ -19,6 +19,7 @@ PLACES = """
 FLOW = ("M0", "M0", "M1", "M2", "M30", "M2S100", "M30X0.01", "M0Y0.02", "M3S500M2", "M8M30", "G4P0.01M2")
 SYSTEM_LINES = ("$$", "$#", "$G", "$X", "$", "$H", "$J=X1", "$RST=*", "$Z", "$1.5=1", "$-1=5", "$+10=3", "$5=1", "$20=0.9")
 REALTIME = ("?", "!", "~", "\x18", "\x85", "\x90", "\xa0", "\xff", "?!~", "\x84\x9d")
+HANDS = ("!", "!", "!~", "~", "~!", "\x90", "\x91", "\x91\x91\x91", "\x92", "\x92\x92\x92", "\x93", "\x94", "\x95", "\x96", "\x97", "\x99\x9a", "!\x92~")
 JUNK = ("(a comment ? ! ~)", "(cut", " ", "\t", "/", "\r", ";the rest", "\0", "\xc3\xa9", "( ; )", ";(", ")") + REALTIME
 
 
@@ -41,7 +42,7 @@ class JobMaker:
         chance = self.chance
         if chance.random() < 0.01:
             return chance.choice((b"", b"\n", b"\r", b" ", b"?", b"\n\n", b"("))
-        mix = chance.choice(self.MIXES)
+        mix, has_hand = chance.choice(self.MIXES), chance.random() < 0.2
         if mix is self.MIXES[1]:
             # Few steps per mm, so that the moves of all those numbers are short.
             self.lines += [f"$10{axis}={chance.choice((2, 4, 5.5))}" for axis in range(3)]
@@ -54,6 +55,8 @@ class JobMaker:
             self.guess_modes(self.lines[-1])
             if mix is not self.MIXES[0] and chance.random() < 0.15:
                 self.spoil()
+            if has_hand and chance.random() < 0.1:
+                self.put(chance.choice(HANDS))
         if chance.random() < 0.7:
             self.lines += ["$#", "$G", "$$"]
         end = "\r\n" if chance.random() < 0.15 else "\n"
@@ -64,11 +67,16 @@ class JobMaker:
         self.relative = "G91" in line.replace("G91.1", "") or (self.relative and "G90" not in line and "M2" not in line)
         self.in_inches = "G20" in line or (self.in_inches and "G21" not in line)
 
+    def put(self, text):
+        """Puts a text into the last line."""
+        line, at = self.lines[-1], self.chance.randint(0, len(self.lines[-1]))
+        self.lines[-1] = line[:at] + text + line[at:]
+
     def spoil(self):
         """Puts what comes off a line, or cuts it, into the last line."""
-        line, at = self.lines[-1], self.chance.randint(0, len(self.lines[-1]))
-        line = line[:at] + self.chance.choice(JUNK) + line[at:]
-        self.lines[-1] = line.lower() if self.chance.random() < 0.2 else line
+        self.put(self.chance.choice(JUNK))
+        if self.chance.random() < 0.2:
+            self.lines[-1] = self.lines[-1].lower()
 
     def say_feed(self):
         thousandths = self.chance.choice((1_000, 16_500, 60_000, 200_000, 499_999, 900_000))

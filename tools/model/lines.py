@@ -31,6 +31,9 @@ SYSTEMS = ("G54", "G55", "G56", "G57", "G58", "G59")
 
 # In a text of bytes, each a character: comments, blanks, the slash, and the realtime bytes.
 DROPPED = re.compile(r"\([^)]*\)?|;.*|[\x00-\x20/?!~\x80-\xff]+", re.DOTALL)
+COMMENT = re.compile(r"\([^)]*\)?|;.*", re.DOTALL)
+# The realtime bytes that change how fast the machine goes: a hold, and the changes of overrides.
+HAND = re.compile(r"[!\x90-\x97\x99-\x9d]")
 NUMBER = re.compile(r"[+-]?([0-9]*\.[0-9]*|[0-9]+)")
 
 
@@ -46,6 +49,11 @@ def cut(value, by):
 def kept_of(line):
     """The kept characters of a line."""
     return DROPPED.sub("", line).upper()
+
+
+def has_hand(line):
+    """Whether a realtime byte of a line changes how fast the machine goes."""
+    return bool(HAND.search(COMMENT.sub("", line)))
 
 
 def read_number(text, at):

@@ -1,7 +1,7 @@
 """What the lines of a job do: answers and what is told, modes, offsets and settings, marks and moves."""
 from dataclasses import dataclass
 
-from model.lines import AXES, LONGEST, SYSTEMS, WHOLE, Line, Refused, cut, kept_of, read_number
+from model.lines import AXES, LONGEST, SYSTEMS, WHOLE, Line, Refused, cut, has_hand, kept_of, read_number
 from model.motion import Limits, Script, nearest, to_steps
 
 FARTHEST = 10_000 * 10**6  # in nm
@@ -45,6 +45,7 @@ def run_of(job, most_events, told):
     too_long = next((at for at, line in enumerate(lines + [rest or ""], 1) if len(kept_of(line)) > LONGEST_SENT), None)
     for line in lines[: too_long and too_long - 1]:
         machine.answer(line)
+    machine.script.has_hand = any(map(has_hand, lines[:too_long] + [rest or ""]))
     machine.script.mark("E")
     status, errors = 0, ""
     if too_long:

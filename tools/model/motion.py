@@ -96,6 +96,7 @@ class Script:
 
     def __init__(self, most_events):
         self.stretches, self.moves, self.room = [], [], most_events
+        self.has_hand = False  # a realtime byte of the job changes how fast the machine goes
 
     def rest(self):
         """The machine comes to rest."""
@@ -208,12 +209,44 @@ class Stretch:
             self.known = max(self.known, self.tail)
 
 
+class HandStretch(Stretch):
+    """Moves whose speed an operator may change at any time, by a hold or by overrides. When is not told by the steps, so heads
+    are only tried for what holds at any speed."""
+
+    def segment(self, text):
+        move, w, at = self.moves[self.tail], self.speed, text.at + 1
+        line, count, told, cycles = text.head()
+        go = max(1, min(move.left, isqrt(w + move.change) * 10 * move.events // move.length))
+        hold = min(go, -(-w // move.change))
+        if (line, told) != (move.line, w) or count not in (go, hold) or not count:
+            raise Wrong(f"line {at} of the steps is the head of line {line} with {count} events at {told}, and by the model of "
+                        f"line {move.line} with {go} or {hold} at {w}")
+        over = move.left == count
+        last = over and self.tail + 1 == len(self.moves)
+        behind = 0 if last else text.speed_ahead(count)
+        change = move.change * count
+        if not max(0, w - change) <= (behind or 0) <= w + change:
+            raise Wrong(f"the segment at line {at} of the steps goes from {w} to {behind}")
+        if over and not last and behind > hard_cap(move, self.moves[self.tail + 1]):
+            raise Wrong(f"the segment at line {at} of the steps ends at {behind}, above the junction's cap")
+        if behind > max(w, move.rapid**2):
+            raise Wrong(f"the segment at line {at} of the steps ends at {behind}, above its axes' rates")
+        if cycles < -(-16_000 * move.length // (move.events * max(1, isqrt((w + behind + change) // 2)))):
+            raise Wrong(f"the head at line {at} of the steps has {cycles} cycles for each event")
+        for event in event_lines(move.ways, move.prepared, count):
+            text.expect(event)
+        move.prepared += count
+        self.speed = behind
+        if not move.left:
+            self.tail += 1
+
+
 def heads_of(script, steps):
     """Reads a step text by a script, and answers how many heads it has: each segment as the planner gives it for the moves
     that may have been known, each event and mark in its order, and nothing more. Else it is `Wrong`."""
     text, heads = Reading(steps), 0
     for moves, mark in script.stretches:
-        stretch = Stretch(moves)
+        stretch = HandStretch(moves) if script.has_hand else Stretch(moves)
         while stretch.tail < len(moves):
             stretch.segment(text)
             heads += 1

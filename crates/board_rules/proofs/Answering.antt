@@ -1,5 +1,5 @@
 -- Each line has one answer, so that a line is answered only where it was taken to its LF.
-use Rattle.std.proofs.Common.{◌≡◌, ℕ, ◌+◌, ◌<◌, List, [], ◌∷◌, ◌++◌, true, false, Bool, cond, length, drop, nat_eq, refl, ap, arith}
+use Rattle.std.proofs.Common.{◌≡◌, ℕ, ◌+◌, ◌<◌, List, [], ◌∷◌, ◌++◌, true, false, Bool, cond, length, drop, refl, ap, arith}
 use Rattle.std.specs.List.{AllByRecursion}
 use Rattle.status_report.specs.declared.Reply.{Reply}
 use Rattle.status_report.specs.declared.Reply.TheVariants as replies
@@ -13,7 +13,7 @@ use Rattle.run_rules.specs.Outcomes.{start}
 use Rattle.run_rules.specs.Told.{replies_in}
 use Rattle.run_rules.proofs.Answering.{lines_answered}
 use Rattle.board_rules.specs.Steps.{Journal, taken_of, answered_of, whole_of, open_of, lines_of, outcomes_of, before_of, left_of, closed_tells}
-use Rattle.board_rules.specs.Steps.Step.{at_port, began, did, made_end, became, closing, turned}
+use Rattle.board_rules.specs.Steps.Step.{at_port, began, did, made_end, evened, paused, became, closing, turned}
 use Rattle.board_rules.specs.Conduct.{Conducted, IsNextTask}
 use Rattle.board_rules.specs.Whole.{AreLines}
 use Rattle.board_rules.proofs.Keeping.{told_is}
@@ -26,6 +26,8 @@ closing_none (at_port e ∷ h) = closing_none h
 closing_none (began o ∷ h) = closing_none h
 closing_none (did a ps ∷ h) = closing_none h
 closing_none (made_end ∷ h) = closing_none h
+closing_none (evened ∷ h) = closing_none h
+closing_none (paused ∷ h) = closing_none h
 closing_none (became call m ∷ h) = closing_none h
 closing_none (closing ∷ h) = let a = answers_on (closed_tells h) (replies.Bye ∷ []) in let m = closing_none h in omega arith
 closing_none (turned t ∷ h) = closing_none h

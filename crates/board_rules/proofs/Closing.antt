@@ -1,28 +1,30 @@
 -- A run that is closed is over once its end is published and Bye is told.
-use Rattle.std.proofs.Common.{◌≡◌, ℕ, ◌+◌, arith, ◌⊎◌, inl, inr, Bool, true, false, List, [], ◌∷◌, ◌++◌, drop, refl, sym, ap, ◌∙◌}
+use Rattle.std.proofs.Common.{◌≡◌, ℕ, ◌+◌, arith, ◌⊎◌, inl, inr, Bool, true, false, List, [], ◌∷◌, ◌++◌, drop, refl, sym, ap, ◌∙◌, append-nil}
 use Rattle.status_report.specs.declared.Reply.{Reply}
 use Rattle.status_report.specs.declared.Reply.TheVariants.{Bye}
 use Rattle.step_line.specs.declared.Piece.{Piece}
 use Rattle.step_line.specs.declared.Piece.TheVariants as pieces
 use Rattle.step_line.specs.Asking.Asked.{a_move, a_mark, a_rest}
 use Rattle.step_line.specs.Finishing.{ticks_together}
+use Rattle.overrides.specs.declared.Overrides.{Overrides}
 use Rattle.plan_passes.specs.Plans.{Planned}
+use Rattle.segment_prep.specs.declared.Mode.{Mode}
 use Rattle.segment_prep.specs.declared.Mode.TheVariants.{Go, Hold}
 use Rattle.planner_runs.specs.declared.Action.{Action}
 use Rattle.planner_runs.specs.declared.Action.TheVariants.{Add, Take, Override, Mark, Rest, Clear, Reset}
-use Rattle.planner_runs.specs.Runs.{IsAtRest}
+use Rattle.planner_runs.specs.Runs.{IsAtRest, most_blocks}
 use Rattle.run_rules.specs.declared.State.{State}
 use Rattle.run_rules.specs.Work.{Task, closing_work}
-use Rattle.run_rules.specs.Work.Task.{ask, tell, finish}
+use Rattle.run_rules.specs.Work.Task.{ask, tell, pause, normal, finish}
 use Rattle.board_rules.specs.Ports.{MayBeDone}
 use Rattle.board_rules.specs.Ports.PortStep.{took, found_empty, found_closed, found_free, answered, no_reply_room, took_exec, took_ovr, published, no_piece_room, loaded}
 use Rattle.board_rules.specs.Steps.{Journal, port_log, known_of, given_of, planned_of, hand_of, plan_of, left_of, behind, whole_of, has_closed, closed_tells}
-use Rattle.board_rules.specs.Steps.Step.{at_port, began, did, made_end, became, closing, turned}
-use Rattle.board_rules.specs.Conduct.{Conducted, Gives, MayDo, MayEnd, MayTell, IsFinished}
+use Rattle.board_rules.specs.Steps.Step.{at_port, began, did, made_end, evened, paused, became, closing, turned}
+use Rattle.board_rules.specs.Conduct.{Conducted, Gives, MayDo, MayEnd, MayEven, MayPause, MayTell, IsFinished}
 use Rattle.board_rules.specs.Whole.{IsSpent}
 use Rattle.step_line.proofs.Finished.{together_both}
 use Rattle.board_rules.proofs.Given.{all_known}
-use Rattle.board_rules.proofs.Tasks.{none_next, none_taken, head_is, rest_is, none_first}
+use Rattle.board_rules.proofs.Tasks.{none_next, none_taken, none_given, head_is, rest_is, none_first}
 
 -- How far the closing of a run is: by what is left to do, what is told by closing it, whether a line was taken whole, the
 -- hand, the plan, all pieces that were given, those that the plan gave, and the ticks that were found done.
@@ -64,7 +66,7 @@ on_publish h p next (to_finish e l w is) = to_finish e l w is
 on_publish h p next (to_tell e l w q is k) = to_tell e l w q is k
 on_publish h p next (over e l w q d is k) = absurd (none_next (hand_of h) p d next)
 
--- no move, mark or rest is next where the run is being closed
+-- no move, mark, rest, pause or end of a program is next where the run is being closed
 no_ask : {A : Type 0} (h : Journal) (t : Task) → (t ≡ finish → ⊥) → (t ≡ tell Bye → ⊥) → left_of h ≡ t ∷ drop 1 (left_of h)
     → (closed_tells h ≡ [] → given_of h ≡ planned_of h → A) → At h → A
 no_ask h t a b next on (going e is) = on e is
@@ -78,21 +80,47 @@ more_given ps given planned is = ap (λ (qs : List Piece). qs ++ ps) is
 still_going : (h : Journal) (a : Action) (ps : List Piece) → closed_tells h ≡ [] → given_of h ≡ planned_of h → At (did a ps ∷ h)
 still_going h a ps e is = going e (more_given ps (given_of h) (planned_of h) is)
 
-on_take : (h : Journal) (ps : List Piece) → Gives (Take Go) ps (plan_of h) → At h → At (did (Take Go) ps ∷ h)
-on_take h ps gives (going e is) = going e (more_given ps (given_of h) (planned_of h) is)
-on_take h ps gives (to_finish e l w is) = to_finish e l w (more_given ps (given_of h) (planned_of h) is)
-on_take h ps gives (to_tell e l w p is k) = absurd (none_taken (plan_of h) Go ps (behind (Take Go) ps (plan_of h)) p.blocks gives)
-on_take h ps gives (over e l w p d is k) = absurd (none_taken (plan_of h) Go ps (behind (Take Go) ps (plan_of h)) p.blocks gives)
+on_take : (h : Journal) (mode : Mode) (ps : List Piece) → Gives (Take mode) ps (plan_of h) → At h → At (did (Take mode) ps ∷ h)
+on_take h mode ps gives (going e is) = going e (more_given ps (given_of h) (planned_of h) is)
+on_take h mode ps gives (to_finish e l w is) = to_finish e l w (more_given ps (given_of h) (planned_of h) is)
+on_take h mode ps gives (to_tell e l w p is k) = absurd (none_taken (plan_of h) mode ps (behind (Take mode) ps (plan_of h)) p.blocks gives)
+on_take h mode ps gives (over e l w p d is k) = absurd (none_taken (plan_of h) mode ps (behind (Take mode) ps (plan_of h)) p.blocks gives)
+
+-- other overrides leave a plan at rest so
+on_override : (h : Journal) (o : Overrides) (ps : List Piece) → ps ≡ [] → At h → At (did (Override o) ps ∷ h)
+on_override h o ps none at = by_at at
+  where
+    keeps : (qs : List Piece) → qs ++ ps ≡ qs
+    keeps qs = ap (λ (rs : List Piece). qs ++ rs) none ∙ append-nil qs
+
+    by_at : At h → At (did (Override o) ps ∷ h)
+    by_at (going e is) = going e (more_given ps (given_of h) (planned_of h) is)
+    by_at (to_finish e l w is) = to_finish e l w (more_given ps (given_of h) (planned_of h) is)
+    by_at (to_tell e l w p is k) =
+        to_tell e l w (record { blocks = p.blocks; speed = p.speed })
+        (keeps (given_of h) ∙ is ∙ ap (λ (qs : List Piece). qs ++ pieces.End ∷ []) (sym (keeps (planned_of h))))
+        (k ∙ sym (ap ticks_together (keeps (given_of h))))
+    by_at (over e l w p d is k) =
+        over e l w (record { blocks = p.blocks; speed = p.speed }) (keeps (hand_of h) ∙ d)
+        (keeps (given_of h) ∙ is ∙ ap (λ (qs : List Piece). qs ++ pieces.End ∷ []) (sym (keeps (planned_of h))))
+        (k ∙ sym (ap ticks_together (keeps (given_of h))))
 
 on_did : (h : Journal) (a : Action) (ps : List Piece) → MayDo a h → Gives a ps (plan_of h) → At h → At (did a ps ∷ h)
 on_did h (Add m) ps may gives at = no_ask h (ask (a_move m)) (λ e. absurd cc) (λ e. absurd cc) may (still_going h (Add m) ps) at
 on_did h (Mark m) ps may gives at = no_ask h (ask (a_mark m)) (λ e. absurd cc) (λ e. absurd cc) may.next (still_going h (Mark m) ps) at
 on_did h Rest ps may gives at = no_ask h (ask a_rest) (λ e. absurd cc) (λ e. absurd cc) may.next (still_going h Rest ps) at
-on_did h (Take Go) ps may gives at = on_take h ps gives at
-on_did h (Take Hold) ps may gives at = absurd may
-on_did h (Override o) ps may gives at = absurd may
+on_did h (Take Go) ps may gives at = on_take h Go ps gives at
+on_did h (Take Hold) ps may gives at = on_take h Hold ps gives at
+on_did h (Override o) ps may gives at =
+    on_override h o ps (none_given most_blocks (behind (Override o) ps (plan_of h)) (behind (Override o) ps (plan_of h)) ps gives.1) at
 on_did h Clear ps may gives at = absurd may
 on_did h Reset ps may gives at = absurd may
+
+on_even : (h : Journal) → MayEven h → At h → At (evened ∷ h)
+on_even h may at = no_ask h normal (λ e. absurd cc) (λ e. absurd cc) may.rests.next (λ e is. going e is) at
+
+on_pause : (h : Journal) → MayPause h → At h → At (paused ∷ h)
+on_pause h may at = no_ask h pause (λ e. absurd cc) (λ e. absurd cc) may.rests.next (λ e is. going e is) at
 
 -- the end has no ticks
 pub no_more_ticks : (ps : List Piece) → ticks_together (ps ++ pieces.End ∷ []) ≡ ticks_together ps
@@ -124,14 +152,16 @@ phase_is first (at_port found_closed ∷ h) c = phase_is first h c.1
 phase_is first (at_port (found_free n) ∷ h) c = phase_is first h c.1
 phase_is first (at_port (answered r) ∷ h) c = on_answer h r c.0 (phase_is first h c.1)
 phase_is first (at_port no_reply_room ∷ h) c = phase_is first h c.1
-phase_is first (at_port (took_exec word) ∷ h) c = absurd c.0
-phase_is first (at_port (took_ovr word) ∷ h) c = absurd c.0
+phase_is first (at_port (took_exec word) ∷ h) c = phase_is first h c.1
+phase_is first (at_port (took_ovr word) ∷ h) c = phase_is first h c.1
 phase_is first (at_port (published p) ∷ h) c = on_publish h p c.0 (phase_is first h c.1)
 phase_is first (at_port (no_piece_room done) ∷ h) c = phase_is first h c.1
 phase_is first (at_port (loaded done) ∷ h) c = on_load first h done c.1 c.0 (phase_is first h c.1)
 phase_is first (began o ∷ h) c = going c.0.going (unended h c.0.going (phase_is first h c.1))
 phase_is first (did a ps ∷ h) c = on_did h a ps c.0.0 c.0.1 (phase_is first h c.1)
 phase_is first (made_end ∷ h) c = on_end h c.0 (phase_is first h c.1)
+phase_is first (evened ∷ h) c = on_even h c.0 (phase_is first h c.1)
+phase_is first (paused ∷ h) c = on_pause h c.0 (phase_is first h c.1)
 phase_is first (became call m ∷ h) c = phase_is first h c.1
 phase_is first (closing ∷ h) c = to_finish (ap (λ (rs : List Reply). rs ++ Bye ∷ []) c.0.going) refl c.0.begun (unended h c.0.going (phase_is first h c.1))
 phase_is first (turned t ∷ h) c = phase_is first h c.1
@@ -165,14 +195,16 @@ closed_first first (at_port found_closed ∷ h) c = inr refl
 closed_first first (at_port (found_free n) ∷ h) c = closed_first first h c.1
 closed_first first (at_port (answered r) ∷ h) c = closed_first first h c.1
 closed_first first (at_port no_reply_room ∷ h) c = closed_first first h c.1
-closed_first first (at_port (took_exec word) ∷ h) c = absurd c.0
-closed_first first (at_port (took_ovr word) ∷ h) c = absurd c.0
+closed_first first (at_port (took_exec word) ∷ h) c = closed_first first h c.1
+closed_first first (at_port (took_ovr word) ∷ h) c = closed_first first h c.1
 closed_first first (at_port (published p) ∷ h) c = closed_first first h c.1
 closed_first first (at_port (no_piece_room done) ∷ h) c = closed_first first h c.1
 closed_first first (at_port (loaded done) ∷ h) c = closed_first first h c.1
 closed_first first (began o ∷ h) c = inl c.0.going
 closed_first first (did a ps ∷ h) c = closed_first first h c.1
 closed_first first (made_end ∷ h) c = closed_first first h c.1
+closed_first first (evened ∷ h) c = closed_first first h c.1
+closed_first first (paused ∷ h) c = closed_first first h c.1
 closed_first first (became call m ∷ h) c = closed_first first h c.1
 closed_first first (closing ∷ h) c = inr c.0.closed
 closed_first first (turned t ∷ h) c = closed_first first h c.1

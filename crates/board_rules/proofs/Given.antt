@@ -1,6 +1,5 @@
 -- The ticks of the pieces that are given: no more of them are published, or found done.
-use Rattle.std.proofs.Common.{◌≡◌, ℕ, ◌+◌, ◌≤◌, List, ◌++◌, length, ap, ◌∙◌, arith}
-use Rattle.step_line.specs.declared.Piece.{Piece}
+use Rattle.std.proofs.Common.{◌≡◌, ℕ, ◌+◌, ◌≤◌, ap, ◌∙◌, arith}
 use Rattle.step_line.specs.Finishing.{ticks_together}
 use Rattle.step_line.proofs.Finished.{together_both}
 use Rattle.run_rules.specs.declared.State.{State}

@@ -9,6 +9,8 @@ pub mod Quieting
 pub mod Resting
 pub mod Works
 pub mod Motions
+pub mod Staying
+pub mod Taking
 pub mod Example
 pub mod Bounding
 pub mod Limits

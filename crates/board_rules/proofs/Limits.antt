@@ -23,7 +23,7 @@ use Rattle.plan_passes.specs.Segments.{advanced}
 use Rattle.planner_runs.specs.declared.Action.{Action}
 use Rattle.planner_runs.specs.declared.Action.TheVariants.{Add, Take, Override, Mark, Rest, Clear, Reset}
 use Rattle.planner_runs.specs.Runs.{Plans, fresh_plan, with_move, cleared, most_blocks, all_asked, ticks_left}
-use Rattle.planner_runs.proofs.Runs.{fresh_starts, undisturbed_keeps}
+use Rattle.planner_runs.proofs.Runs.{fresh_starts}
 use Rattle.planner_runs.proofs.Ticks.{ticks_from_start}
 use Rattle.run_rules.specs.declared.State.{State}
 use Rattle.run_rules.specs.Work.{Outcome, asks, tells}
@@ -32,9 +32,9 @@ use Rattle.run_rules.specs.Outcomes.Passed.{a_line}
 use Rattle.run_rules.specs.Told.{asked_in, replies_in}
 use Rattle.board_rules.specs.Ports.PortStep.{took, found_empty, found_closed, found_free, answered, no_reply_room, took_exec, took_ovr, published, no_piece_room, loaded}
 use Rattle.board_rules.specs.Steps.{Journal, taken_of, answered_of, published_of, lines_of, outcomes_of, before_of, left_of, closed_tells, actions_of, planned_of, hand_of, plan_of, open_of, whole_of}
-use Rattle.board_rules.specs.Steps.Step.{at_port, began, did, made_end, became, closing, turned}
+use Rattle.board_rules.specs.Steps.Step.{at_port, began, did, made_end, evened, paused, became, closing, turned}
 use Rattle.board_rules.specs.Conduct.{Conducted, IsInHand, ticks_given, ticks_published}
-use Rattle.board_rules.proofs.Keeping.{run_is, undisturbed_is, asked_is, told_is, hand_is}
+use Rattle.board_rules.proofs.Keeping.{run_is, never_clears, asked_is, told_is, hand_is}
 use Rattle.board_rules.proofs.Lines.{bytes_are, lines_follow}
 use Rattle.step_line.proofs.Finished.{together_both}
 use Rattle.run_rules.proofs.Going.{as_many}
@@ -55,14 +55,16 @@ few_taken first (at_port found_closed ∷ h) c = few_taken first h c.1
 few_taken first (at_port (found_free n) ∷ h) c = few_taken first h c.1
 few_taken first (at_port (answered r) ∷ h) c = few_taken first h c.1
 few_taken first (at_port no_reply_room ∷ h) c = few_taken first h c.1
-few_taken first (at_port (took_exec word) ∷ h) c = absurd c.0
-few_taken first (at_port (took_ovr word) ∷ h) c = absurd c.0
+few_taken first (at_port (took_exec word) ∷ h) c = few_taken first h c.1
+few_taken first (at_port (took_ovr word) ∷ h) c = few_taken first h c.1
 few_taken first (at_port (published p) ∷ h) c = few_taken first h c.1
 few_taken first (at_port (no_piece_room done) ∷ h) c = few_taken first h c.1
 few_taken first (at_port (loaded done) ∷ h) c = few_taken first h c.1
 few_taken first (began o ∷ h) c = few_taken first h c.1
 few_taken first (did a ps ∷ h) c = few_taken first h c.1
 few_taken first (made_end ∷ h) c = few_taken first h c.1
+few_taken first (evened ∷ h) c = few_taken first h c.1
+few_taken first (paused ∷ h) c = few_taken first h c.1
 few_taken first (became call m ∷ h) c = few_taken first h c.1
 few_taken first (closing ∷ h) c = few_taken first h c.1
 few_taken first (turned t ∷ h) c = few_taken first h c.1
@@ -150,7 +152,7 @@ same_ticks h (over e l w p d is k) = ap ticks_together is ∙ no_more_ticks (pla
 pub few_given : (first : State) (h : Journal) → Conducted first h → ticks_given h < 2 ^ 62
 few_given first h c =
     let run = run_is first h c in
-    let never = undisturbed_keeps (actions_of h) (undisturbed_is first h c) in
+    let never = never_clears first h c in
     let given = same_ticks h (phase_is first h c) in
     let ticks = ap (λ (rs : List Record). length rs) (ticks_from_start most_blocks fresh_plan (plan_of h) (actions_of h) (planned_of h) fresh_starts never run) in
     let split = length-append (flat_map ticks_of (planned_of h)) (ticks_left (plan_of h)) in

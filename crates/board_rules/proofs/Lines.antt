@@ -10,13 +10,13 @@ use Rattle.planner_runs.specs.declared.Action.{Action}
 use Rattle.planner_runs.specs.declared.Action.TheVariants.{Add, Take, Override, Mark, Rest, Clear, Reset}
 use Rattle.step_line.specs.Asking.Asked.{a_move, a_mark, a_rest}
 use Rattle.run_rules.specs.Work.{Task}
-use Rattle.run_rules.specs.Work.Task.{ask, tell}
+use Rattle.run_rules.specs.Work.Task.{ask, tell, pause, normal}
 use Rattle.run_rules.specs.Outcomes.{Passed, Follows, start, after}
 use Rattle.run_rules.specs.Outcomes.Passed.{a_line}
 use Rattle.run_rules.proofs.Going.{goes_on, becomes_on}
 use Rattle.board_rules.specs.Steps.{Journal, taken_of, open_of, whole_of, lines_of, outcomes_of, before_of, motion_of, left_of, left_by, closed_tells}
 use Rattle.board_rules.specs.Ports.PortStep.{took, found_empty, found_closed, found_free, answered, no_reply_room, took_exec, took_ovr, published, no_piece_room, loaded}
-use Rattle.board_rules.specs.Steps.Step.{at_port, began, did, made_end, became, closing, turned}
+use Rattle.board_rules.specs.Steps.Step.{at_port, began, did, made_end, evened, paused, became, closing, turned}
 use Rattle.board_rules.specs.Turns.{is_run}
 use Rattle.board_rules.specs.Conduct.{Conducted, MayDo}
 use Rattle.board_rules.specs.Whole.{AreLines, OneByOne}
@@ -63,8 +63,8 @@ bytes_are first (at_port found_closed ∷ h) c = bytes_are first h c.1
 bytes_are first (at_port (found_free n) ∷ h) c = bytes_are first h c.1
 bytes_are first (at_port (answered r) ∷ h) c = bytes_are first h c.1
 bytes_are first (at_port no_reply_room ∷ h) c = bytes_are first h c.1
-bytes_are first (at_port (took_exec word) ∷ h) c = absurd c.0
-bytes_are first (at_port (took_ovr word) ∷ h) c = absurd c.0
+bytes_are first (at_port (took_exec word) ∷ h) c = bytes_are first h c.1
+bytes_are first (at_port (took_ovr word) ∷ h) c = bytes_are first h c.1
 bytes_are first (at_port (published p) ∷ h) c = bytes_are first h c.1
 bytes_are first (at_port (no_piece_room done) ∷ h) c = bytes_are first h c.1
 bytes_are first (at_port (loaded done) ∷ h) c = bytes_are first h c.1
@@ -72,6 +72,8 @@ bytes_are first (began o ∷ h) c =
     on_begun (taken_of h) (lines_of h) (open_of h) (subst (λ (w : Bool). AreLines (taken_of h) (lines_of h) (open_of h) w) c.0.whole (bytes_are first h c.1))
 bytes_are first (did a ps ∷ h) c = bytes_are first h c.1
 bytes_are first (made_end ∷ h) c = bytes_are first h c.1
+bytes_are first (evened ∷ h) c = bytes_are first h c.1
+bytes_are first (paused ∷ h) c = bytes_are first h c.1
 bytes_are first (became call m ∷ h) c = bytes_are first h c.1
 bytes_are first (closing ∷ h) c = bytes_are first h c.1
 bytes_are first (turned t ∷ h) c = bytes_are first h c.1
@@ -87,6 +89,8 @@ lines_follow first (began o ∷ h) c =
     (becomes_on (is_run (motion_of h)) true (before_of first h) (open_of h) o (λ runs. refl) c.0.becomes))
 lines_follow first (did a ps ∷ h) c = lines_follow first h c.1
 lines_follow first (made_end ∷ h) c = lines_follow first h c.1
+lines_follow first (evened ∷ h) c = lines_follow first h c.1
+lines_follow first (paused ∷ h) c = lines_follow first h c.1
 lines_follow first (became call m ∷ h) c = lines_follow first h c.1
 lines_follow first (closing ∷ h) c = lines_follow first h c.1
 lines_follow first (turned t ∷ h) c = lines_follow first h c.1
@@ -118,14 +122,16 @@ one_by_one first (at_port found_closed ∷ h) c going = one_by_one first h c.1 g
 one_by_one first (at_port (found_free n) ∷ h) c going = one_by_one first h c.1 going
 one_by_one first (at_port (answered r) ∷ h) c going = on_task h (tell r) c.0.next (one_by_one first h c.1 going)
 one_by_one first (at_port no_reply_room ∷ h) c going = one_by_one first h c.1 going
-one_by_one first (at_port (took_exec word) ∷ h) c going = absurd c.0
-one_by_one first (at_port (took_ovr word) ∷ h) c going = absurd c.0
+one_by_one first (at_port (took_exec word) ∷ h) c going = one_by_one first h c.1 going
+one_by_one first (at_port (took_ovr word) ∷ h) c going = one_by_one first h c.1 going
 one_by_one first (at_port (published p) ∷ h) c going = one_by_one first h c.1 going
 one_by_one first (at_port (no_piece_room done) ∷ h) c going = one_by_one first h c.1 going
 one_by_one first (at_port (loaded done) ∷ h) c going = one_by_one first h c.1 going
 one_by_one first (began o ∷ h) c going = inr (refl, refl)
 one_by_one first (did a ps ∷ h) c going = on_did h a c.0.0 (one_by_one first h c.1 going)
 one_by_one first (made_end ∷ h) c going = absurd (c.0.closes going)
+one_by_one first (evened ∷ h) c going = on_task h normal c.0.rests.next (one_by_one first h c.1 going)
+one_by_one first (paused ∷ h) c going = on_task h pause c.0.rests.next (one_by_one first h c.1 going)
 one_by_one first (became call m ∷ h) c going = one_by_one first h c.1 going
 one_by_one first (closing ∷ h) c going = absurd (none_closed (closed_tells h) going)
 one_by_one first (turned t ∷ h) c going = one_by_one first h c.1 going

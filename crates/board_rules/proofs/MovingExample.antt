@@ -1,5 +1,5 @@
 -- A whole run of a board to which one line comes that moves the machine by one segment: the rules allow it.
-use Rattle.std.proofs.Common.{◌≡◌, [], ◌∷◌, true, false, refl, sym, ap, ◌∙◌, arith}
+use Rattle.std.proofs.Common.{◌≡◌, [], ◌∷◌, inl, true, false, refl, sym, ap, ◌∙◌, arith}
 use Rattle.std.specs.List.{Contains}
 use Rattle.feed_hold.specs.declared.Motion.TheVariants as motions
 use Rattle.feed_hold.specs.Motions.Call.{on_start, on_drained}
@@ -26,6 +26,8 @@ use Rattle.board_rules.specs.Steps.{Journal}
 use Rattle.board_rules.specs.Steps.Step.{at_port, began, did, made_end, became, closing, turned}
 use Rattle.board_rules.specs.Turns.{has_blocks}
 use Rattle.board_rules.specs.Conduct.{Conducted}
+use Rattle.board_rules.proofs.Example.{nothing, no_changes}
+use Rattle.board_rules.proofs.Taking.{requested, unchanged, may_request, may_take_no_change}
 
 -- what becomes of the line: its move, and `ok`
 abbrev pub moved : PlannedMove → State → Outcome
@@ -60,7 +62,7 @@ abbrev j2 : State → PlannedMove → Segment → Journal
 j2 last m s = turned Did ∷ j1 last m s
 
 c2 : (first last : State) (m : PlannedMove) (s : Segment) → IsOneSegment first last m s → Conducted first (j2 last m s)
-c2 first last m s p = (record { once = omega arith; adds = λ m e. absurd cc; starts = λ w. absurd (let b = w.blocks in cc); tries = omega arith }, c1 first last m s p)
+c2 first last m s p = (record { once = omega arith; adds = λ m e. absurd cc; starts = λ w. absurd (let b = w.blocks in cc); tries = omega arith; obeyed = refl; changed = refl }, c1 first last m s p)
 
 abbrev j3 : State → PlannedMove → Segment → Journal
 j3 last m s = at_port (took 71) ∷ j2 last m s
@@ -72,7 +74,7 @@ abbrev j4 : State → PlannedMove → Segment → Journal
 j4 last m s = turned Did ∷ j3 last m s
 
 c4 : (first last : State) (m : PlannedMove) (s : Segment) → IsOneSegment first last m s → Conducted first (j4 last m s)
-c4 first last m s p = (record { once = omega arith; adds = λ m e. absurd cc; starts = λ w. absurd (let b = w.blocks in cc); tries = omega arith }, c3 first last m s p)
+c4 first last m s p = (record { once = omega arith; adds = λ m e. absurd cc; starts = λ w. absurd (let b = w.blocks in cc); tries = omega arith; obeyed = refl; changed = refl }, c3 first last m s p)
 
 abbrev j5 : State → PlannedMove → Segment → Journal
 j5 last m s = at_port (took 10) ∷ j4 last m s
@@ -84,148 +86,184 @@ abbrev j6 : State → PlannedMove → Segment → Journal
 j6 last m s = turned Did ∷ j5 last m s
 
 c6 : (first last : State) (m : PlannedMove) (s : Segment) → IsOneSegment first last m s → Conducted first (j6 last m s)
-c6 first last m s p = (record { once = omega arith; adds = λ m e. absurd cc; starts = λ w. absurd (let b = w.blocks in cc); tries = omega arith }, c5 first last m s p)
+c6 first last m s p = (record { once = omega arith; adds = λ m e. absurd cc; starts = λ w. absurd (let b = w.blocks in cc); tries = omega arith; obeyed = refl; changed = refl }, c5 first last m s p)
 
 abbrev j7 : State → PlannedMove → Segment → Journal
-j7 last m s = at_port (loaded 0) ∷ j6 last m s
+j7 last m s = unchanged no_changes (j6 last m s)
 
 c7 : (first last : State) (m : PlannedMove) (s : Segment) → IsOneSegment first last m s → Conducted first (j7 last m s)
-c7 first last m s p = (record { later = omega arith; below = omega arith }, c6 first last m s p)
+c7 first last m s p = may_take_no_change first no_changes (j6 last m s) refl (c6 first last m s p) refl
 
 abbrev j8 : State → PlannedMove → Segment → Journal
-j8 last m s = began (moved m last) ∷ j7 last m s
+j8 last m s = requested nothing motions.Idle (j7 last m s)
 
 c8 : (first last : State) (m : PlannedMove) (s : Segment) → IsOneSegment first last m s → Conducted first (j8 last m s)
-c8 first last m s p = (record { free = refl; going = refl; whole = refl; becomes = p.becomes; refuses = λ runs. absurd cc; begins = refl; load = refl; idle = λ d. refl; starts = λ w. absurd (let b = w.blocks in cc); tried = refl }, c7 first last m s p)
+c8 first last m s p = may_request first nothing motions.Idle (j7 last m s) (c7 first last m s p) refl (λ slows. absurd cc) refl (λ e. inl refl)
 
 abbrev j9 : State → PlannedMove → Segment → Journal
-j9 last m s = did (Add m) [] ∷ j8 last m s
+j9 last m s = at_port (loaded 0) ∷ j8 last m s
 
 c9 : (first last : State) (m : PlannedMove) (s : Segment) → IsOneSegment first last m s → Conducted first (j9 last m s)
-c9 first last m s p = ((refl, (p.add, refl)), c8 first last m s p)
+c9 first last m s p = (record { later = omega arith; below = omega arith }, c8 first last m s p)
 
 abbrev j10 : State → PlannedMove → Segment → Journal
-j10 last m s = turned Did ∷ j9 last m s
+j10 last m s = began (moved m last) ∷ j9 last m s
 
 c10 : (first last : State) (m : PlannedMove) (s : Segment) → IsOneSegment first last m s → Conducted first (j10 last m s)
-c10 first last m s p = (record { once = omega arith; adds = λ m e. absurd cc; starts = λ w. refl; tries = omega arith }, c9 first last m s p)
+c10 first last m s p = (record { free = refl; going = refl; whole = refl; becomes = p.becomes; refuses = λ runs. absurd cc; begins = refl; flags = refl; load = refl; idle = λ d. refl; starts = λ w. absurd (let b = w.blocks in cc); tried = refl }, c9 first last m s p)
 
 abbrev j11 : State → PlannedMove → Segment → Journal
-j11 last m s = at_port (answered Ok) ∷ j10 last m s
+j11 last m s = did (Add m) [] ∷ j10 last m s
 
 c11 : (first last : State) (m : PlannedMove) (s : Segment) → IsOneSegment first last m s → Conducted first (j11 last m s)
-c11 first last m s p = (record { next = refl; empty = λ e. absurd cc }, c10 first last m s p)
+c11 first last m s p = ((refl, (p.add, refl)), c10 first last m s p)
 
 abbrev j12 : State → PlannedMove → Segment → Journal
 j12 last m s = turned Did ∷ j11 last m s
 
 c12 : (first last : State) (m : PlannedMove) (s : Segment) → IsOneSegment first last m s → Conducted first (j12 last m s)
-c12 first last m s p = (record { once = omega arith; adds = λ m e. absurd cc; starts = λ w. refl; tries = omega arith }, c11 first last m s p)
+c12 first last m s p = (record { once = omega arith; adds = λ m e. absurd cc; starts = λ w. refl; tries = omega arith; obeyed = refl; changed = refl }, c11 first last m s p)
 
 abbrev j13 : State → PlannedMove → Segment → Journal
-j13 last m s = at_port found_empty ∷ j12 last m s
+j13 last m s = at_port (answered Ok) ∷ j12 last m s
 
 c13 : (first last : State) (m : PlannedMove) (s : Segment) → IsOneSegment first last m s → Conducted first (j13 last m s)
-c13 first last m s p = (record { all_done = refl; partial = refl; unclosed = refl }, c12 first last m s p)
+c13 first last m s p = (record { next = refl; empty = λ e. absurd cc }, c12 first last m s p)
 
 abbrev j14 : State → PlannedMove → Segment → Journal
-j14 last m s = became (on_start false) motions.Run ∷ j13 last m s
+j14 last m s = turned Did ∷ j13 last m s
 
 c14 : (first last : State) (m : PlannedMove) (s : Segment) → IsOneSegment first last m s → Conducted first (j14 last m s)
-c14 first last m s p = ((refl, record { blocks = refl; called = refl }), c13 first last m s p)
+c14 first last m s p = (record { once = omega arith; adds = λ m e. absurd cc; starts = λ w. refl; tries = omega arith; obeyed = refl; changed = refl }, c13 first last m s p)
 
 abbrev j15 : State → PlannedMove → Segment → Journal
-j15 last m s = turned (Wait on.Byte) ∷ j14 last m s
+j15 last m s = at_port found_empty ∷ j14 last m s
 
 c15 : (first last : State) (m : PlannedMove) (s : Segment) → IsOneSegment first last m s → Conducted first (j15 last m s)
-c15 first last m s p = (record { ends = record { once = omega arith; adds = λ m e. absurd cc; starts = λ w. absurd (let b = w.stands in cc); tries = omega arith }; cause = record { poll = refl; free = refl; partial = refl }; still = refl; round = λ due c. none_in on.Byte c }, c14 first last m s p)
+c15 first last m s p = (record { all_done = refl; partial = refl; unclosed = refl }, c14 first last m s p)
 
 abbrev j16 : State → PlannedMove → Segment → Journal
-j16 last m s = did (Take Go) (pieces.Segment s ∷ []) ∷ j15 last m s
+j16 last m s = became (on_start false) motions.Run ∷ j15 last m s
 
 c16 : (first last : State) (m : PlannedMove) (s : Segment) → IsOneSegment first last m s → Conducted first (j16 last m s)
-c16 first last m s p = ((record { runs = refl; empty = refl }, (p.taken, refl)), c15 first last m s p)
+c16 first last m s p = ((refl, record { blocks = refl; called = refl }), c15 first last m s p)
 
 abbrev j17 : State → PlannedMove → Segment → Journal
-j17 last m s = at_port (published (pieces.Segment s)) ∷ j16 last m s
+j17 last m s = turned (Wait on.Byte) ∷ j16 last m s
 
 c17 : (first last : State) (m : PlannedMove) (s : Segment) → IsOneSegment first last m s → Conducted first (j17 last m s)
-c17 first last m s p = (refl, c16 first last m s p)
+c17 first last m s p = (record { ends = record { once = omega arith; adds = λ m e. absurd cc; starts = λ w. absurd (let b = w.stands in cc); tries = omega arith; obeyed = refl; changed = refl }; cause = record { poll = refl; free = refl; partial = refl }; still = refl; flags = refl; round = λ due c. none_in on.Byte c }, c16 first last m s p)
 
 abbrev j18 : State → PlannedMove → Segment → Journal
-j18 last m s = turned Did ∷ j17 last m s
+j18 last m s = unchanged no_changes (j17 last m s)
 
 c18 : (first last : State) (m : PlannedMove) (s : Segment) → IsOneSegment first last m s → Conducted first (j18 last m s)
-c18 first last m s p = (record { once = omega arith; adds = λ m e. absurd cc; starts = λ w. absurd (let b = w.stands in cc); tries = omega arith }, c17 first last m s p)
+c18 first last m s p = may_take_no_change first no_changes (j17 last m s) refl (c17 first last m s p) refl
 
 abbrev j19 : State → PlannedMove → Segment → Journal
-j19 last m s = at_port found_empty ∷ j18 last m s
+j19 last m s = requested nothing motions.Run (j18 last m s)
 
 c19 : (first last : State) (m : PlannedMove) (s : Segment) → IsOneSegment first last m s → Conducted first (j19 last m s)
-c19 first last m s p = (record { all_done = refl; partial = refl; unclosed = refl }, c18 first last m s p)
+c19 first last m s p = may_request first nothing motions.Run (j18 last m s) (c18 first last m s p) refl (λ slows. absurd cc) refl (λ e. absurd cc)
 
 abbrev j20 : State → PlannedMove → Segment → Journal
-j20 last m s = at_port (loaded (ticks_together (pieces.Segment s ∷ []))) ∷ j19 last m s
+j20 last m s = did (Take Go) (pieces.Segment s ∷ []) ∷ j19 last m s
 
 c20 : (first last : State) (m : PlannedMove) (s : Segment) → IsOneSegment first last m s → Conducted first (j20 last m s)
-c20 first last m s p = (record { later = omega arith; below = omega arith }, c19 first last m s p)
+c20 first last m s p = ((record { state = refl; empty = refl }, (p.taken, refl)), c19 first last m s p)
 
 abbrev j21 : State → PlannedMove → Segment → Journal
-j21 last m s = became on_drained motions.Idle ∷ j20 last m s
+j21 last m s = at_port (published (pieces.Segment s)) ∷ j20 last m s
 
 c21 : (first last : State) (m : PlannedMove) (s : Segment) → IsOneSegment first last m s → Conducted first (j21 last m s)
-c21 first last m s p = ((refl, record { plan = p.rests; hand = refl; done = refl }), c20 first last m s p)
+c21 first last m s p = (refl, c20 first last m s p)
 
 abbrev j22 : State → PlannedMove → Segment → Journal
-j22 last m s = turned (Wait on.Byte) ∷ j21 last m s
+j22 last m s = turned Did ∷ j21 last m s
 
 c22 : (first last : State) (m : PlannedMove) (s : Segment) → IsOneSegment first last m s → Conducted first (j22 last m s)
-c22 first last m s p = (record { ends = record { once = omega arith; adds = λ m e. absurd cc; starts = λ w. absurd (no_blocks m s p.rests w.blocks); tries = omega arith }; cause = record { poll = refl; free = refl; partial = refl }; still = refl; round = λ due. absurd cc }, c21 first last m s p)
+c22 first last m s p = (record { once = omega arith; adds = λ m e. absurd cc; starts = λ w. absurd (let b = w.stands in cc); tries = omega arith; obeyed = refl; changed = refl }, c21 first last m s p)
 
 abbrev j23 : State → PlannedMove → Segment → Journal
-j23 last m s = at_port found_closed ∷ j22 last m s
+j23 last m s = at_port found_empty ∷ j22 last m s
 
 c23 : (first last : State) (m : PlannedMove) (s : Segment) → IsOneSegment first last m s → Conducted first (j23 last m s)
 c23 first last m s p = (record { all_done = refl; partial = refl; unclosed = refl }, c22 first last m s p)
 
 abbrev j24 : State → PlannedMove → Segment → Journal
-j24 last m s = closing ∷ j23 last m s
+j24 last m s = at_port (loaded (ticks_together (pieces.Segment s ∷ []))) ∷ j23 last m s
 
 c24 : (first last : State) (m : PlannedMove) (s : Segment) → IsOneSegment first last m s → Conducted first (j24 last m s)
-c24 first last m s p = (record { free = refl; going = refl; begun = refl; closed = refl }, c23 first last m s p)
+c24 first last m s p = (record { later = omega arith; below = omega arith }, c23 first last m s p)
 
 abbrev j25 : State → PlannedMove → Segment → Journal
-j25 last m s = made_end ∷ j24 last m s
+j25 last m s = became on_drained motions.Idle ∷ j24 last m s
 
 c25 : (first last : State) (m : PlannedMove) (s : Segment) → IsOneSegment first last m s → Conducted first (j25 last m s)
-c25 first last m s p = (record { rests = record { next = refl; drained = record { plan = p.rests; hand = refl; done = refl }; stands = refl }; closes = λ e. absurd cc }, c24 first last m s p)
+c25 first last m s p = ((refl, record { plan = p.rests; hand = refl; done = refl }), c24 first last m s p)
 
 abbrev j26 : State → PlannedMove → Segment → Journal
-j26 last m s = at_port (published pieces.End) ∷ j25 last m s
+j26 last m s = turned (Wait on.Byte) ∷ j25 last m s
 
 c26 : (first last : State) (m : PlannedMove) (s : Segment) → IsOneSegment first last m s → Conducted first (j26 last m s)
-c26 first last m s p = (refl, c25 first last m s p)
+c26 first last m s p = (record { ends = record { once = omega arith; adds = λ m e. absurd cc; starts = λ w. absurd (no_blocks m s p.rests w.blocks); tries = omega arith; obeyed = refl; changed = refl }; cause = record { poll = refl; free = refl; partial = refl }; still = refl; flags = refl; round = λ due. absurd cc }, c25 first last m s p)
 
 abbrev j27 : State → PlannedMove → Segment → Journal
-j27 last m s = turned Did ∷ j26 last m s
+j27 last m s = unchanged no_changes (j26 last m s)
 
 c27 : (first last : State) (m : PlannedMove) (s : Segment) → IsOneSegment first last m s → Conducted first (j27 last m s)
-c27 first last m s p = (record { once = omega arith; adds = λ m e. absurd cc; starts = λ w. absurd (no_blocks m s p.rests w.blocks); tries = omega arith }, c26 first last m s p)
+c27 first last m s p = may_take_no_change first no_changes (j26 last m s) refl (c26 first last m s p) refl
 
 abbrev j28 : State → PlannedMove → Segment → Journal
-j28 last m s = at_port (answered Bye) ∷ j27 last m s
+j28 last m s = requested nothing motions.Idle (j27 last m s)
 
 c28 : (first last : State) (m : PlannedMove) (s : Segment) → IsOneSegment first last m s → Conducted first (j28 last m s)
-c28 first last m s p = (record { next = refl; empty = λ e. refl }, c27 first last m s p)
+c28 first last m s p = may_request first nothing motions.Idle (j27 last m s) (c27 first last m s p) refl (λ slows. absurd cc) refl (λ e. inl refl)
 
 abbrev j29 : State → PlannedMove → Segment → Journal
-j29 last m s = turned Did ∷ j28 last m s
+j29 last m s = at_port found_closed ∷ j28 last m s
 
 c29 : (first last : State) (m : PlannedMove) (s : Segment) → IsOneSegment first last m s → Conducted first (j29 last m s)
-c29 first last m s p = (record { once = omega arith; adds = λ m e. absurd cc; starts = λ w. absurd (no_blocks m s p.rests w.blocks); tries = omega arith }, c28 first last m s p)
+c29 first last m s p = (record { all_done = refl; partial = refl; unclosed = refl }, c28 first last m s p)
 
 abbrev j30 : State → PlannedMove → Segment → Journal
-j30 last m s = turned Done ∷ j29 last m s
+j30 last m s = closing ∷ j29 last m s
 
-pub c30 : (first last : State) (m : PlannedMove) (s : Segment) → IsOneSegment first last m s → Conducted first (j30 last m s)
-c30 first last m s p = (record { finished = record { left = refl; closed = refl }; still = refl }, c29 first last m s p)
+c30 : (first last : State) (m : PlannedMove) (s : Segment) → IsOneSegment first last m s → Conducted first (j30 last m s)
+c30 first last m s p = (record { free = refl; going = refl; begun = refl; closed = refl }, c29 first last m s p)
+
+abbrev j31 : State → PlannedMove → Segment → Journal
+j31 last m s = made_end ∷ j30 last m s
+
+c31 : (first last : State) (m : PlannedMove) (s : Segment) → IsOneSegment first last m s → Conducted first (j31 last m s)
+c31 first last m s p = (record { rests = record { next = refl; drained = record { plan = p.rests; hand = refl; done = refl }; stands = refl }; closes = λ e. absurd cc }, c30 first last m s p)
+
+abbrev j32 : State → PlannedMove → Segment → Journal
+j32 last m s = at_port (published pieces.End) ∷ j31 last m s
+
+c32 : (first last : State) (m : PlannedMove) (s : Segment) → IsOneSegment first last m s → Conducted first (j32 last m s)
+c32 first last m s p = (refl, c31 first last m s p)
+
+abbrev j33 : State → PlannedMove → Segment → Journal
+j33 last m s = turned Did ∷ j32 last m s
+
+c33 : (first last : State) (m : PlannedMove) (s : Segment) → IsOneSegment first last m s → Conducted first (j33 last m s)
+c33 first last m s p = (record { once = omega arith; adds = λ m e. absurd cc; starts = λ w. absurd (no_blocks m s p.rests w.blocks); tries = omega arith; obeyed = refl; changed = refl }, c32 first last m s p)
+
+abbrev j34 : State → PlannedMove → Segment → Journal
+j34 last m s = at_port (answered Bye) ∷ j33 last m s
+
+c34 : (first last : State) (m : PlannedMove) (s : Segment) → IsOneSegment first last m s → Conducted first (j34 last m s)
+c34 first last m s p = (record { next = refl; empty = λ e. refl }, c33 first last m s p)
+
+abbrev j35 : State → PlannedMove → Segment → Journal
+j35 last m s = turned Did ∷ j34 last m s
+
+c35 : (first last : State) (m : PlannedMove) (s : Segment) → IsOneSegment first last m s → Conducted first (j35 last m s)
+c35 first last m s p = (record { once = omega arith; adds = λ m e. absurd cc; starts = λ w. absurd (no_blocks m s p.rests w.blocks); tries = omega arith; obeyed = refl; changed = refl }, c34 first last m s p)
+
+abbrev j36 : State → PlannedMove → Segment → Journal
+j36 last m s = turned Done ∷ j35 last m s
+
+pub c36 : (first last : State) (m : PlannedMove) (s : Segment) → IsOneSegment first last m s → Conducted first (j36 last m s)
+c36 first last m s p = (record { finished = record { left = refl; closed = refl }; still = refl }, c35 first last m s p)

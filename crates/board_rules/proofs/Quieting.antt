@@ -7,18 +7,19 @@ use Rattle.step_line.specs.Asking.Asked.{a_move, a_mark, a_rest}
 use Rattle.segment_prep.specs.declared.Mode.TheVariants.{Go, Hold}
 use Rattle.planner_runs.specs.declared.Action.{Action}
 use Rattle.planner_runs.specs.declared.Action.TheVariants.{Add, Take, Override, Mark, Rest, Clear, Reset}
+use Rattle.overrides.specs.declared.Overrides.{Overrides}
 use Rattle.planner_runs.specs.Runs.{IsAtRest, most_blocks}
 use Rattle.run_rules.specs.declared.State.{State}
 use Rattle.run_rules.specs.Work.{Task, Outcome, has_moves}
-use Rattle.run_rules.specs.Work.Task.{ask, tell, finish}
+use Rattle.run_rules.specs.Work.Task.{ask, tell, pause, normal, finish}
 use Rattle.run_rules.specs.Outcomes.{Before, Becomes, either, most_kept, refused}
 use Rattle.system_lines.specs.Commands.{kind_of, needs_rest}
 use Rattle.board_rules.specs.Turns.{is_run, is_served_at_rest}
 use Rattle.board_rules.specs.Ports.{MayBeDone}
 use Rattle.board_rules.specs.Ports.PortStep.{took, found_empty, found_closed, found_free, answered, no_reply_room, took_exec, took_ovr, published, no_piece_room, loaded}
 use Rattle.board_rules.specs.Steps.{Step, Journal, port_log, given_of, hand_of, known_of, plan_of, left_of, left_by, behind, before_of, closed_tells, open_of, motion_of}
-use Rattle.board_rules.specs.Steps.Step.{at_port, began, did, made_end, became, closing, turned}
-use Rattle.board_rules.specs.Conduct.{Conducted, Gives, MayDo, MayRest, IsDrained, ticks_given}
+use Rattle.board_rules.specs.Steps.Step.{at_port, began, did, made_end, evened, paused, became, closing, turned}
+use Rattle.board_rules.specs.Conduct.{Conducted, Gives, MayDo, MayRest, MayPause, MayEven, IsDrained, ticks_given}
 use Rattle.board_rules.specs.Whole.{has_work, comes_to_rest, WorkRests, IsQuiet, ComesToRest}
 use Rattle.board_rules.proofs.Given.{all_known}
 use Rattle.board_rules.proofs.Works.{works}
@@ -34,6 +35,8 @@ tail_works ts (ask (a_move m)) next none = absurd (let e = sym none ∙ ap has_w
 tail_works ts (ask (a_mark m)) next none = absurd (let e = sym none ∙ ap has_work next in cc)
 tail_works ts (ask a_rest) next none = sym (ap has_work next) ∙ none
 tail_works ts (tell r) next none = sym (ap has_work next) ∙ none
+tail_works ts pause next none = sym (ap has_work next) ∙ none
+tail_works ts normal next none = sym (ap has_work next) ∙ none
 tail_works ts finish next none = sym (ap has_work next) ∙ none
 
 -- a rest that is still to come stays so behind any other task
@@ -42,6 +45,8 @@ tail_rests ts (ask (a_move m)) next other will = sym (ap comes_to_rest next) ∙
 tail_rests ts (ask (a_mark m)) next other will = sym (ap comes_to_rest next) ∙ will
 tail_rests ts (ask a_rest) next other will = absurd (other refl)
 tail_rests ts (tell r) next other will = sym (ap comes_to_rest next) ∙ will
+tail_rests ts pause next other will = sym (ap comes_to_rest next) ∙ will
+tail_rests ts normal next other will = sym (ap comes_to_rest next) ∙ will
 tail_rests ts finish next other will = sym (ap comes_to_rest next) ∙ will
 
 -- the machine stands still while nothing is done to it
@@ -69,6 +74,21 @@ on_load : (first : State) (h : Journal) (n : ℕ) → Conducted first h → MayB
 on_load first h n c may (inl will) = inl will
 on_load first h n c may (inr q) = inr (record { drained = loaded_drained first h n c may q.drained; work = q.work })
 
+-- at the end of a program it is planned for other overrides where the machine stands
+on_even : (h : Journal) → MayEven h → Stands (left_of h) h → Stands (drop 1 (left_of h)) (evened ∷ h)
+on_even h may (inl will) = inl (tail_rests (left_of h) normal may.rests.next (λ e. absurd cc) will)
+on_even h may (inr q) = inr (record {
+  drained = record { plan = record { blocks = q.drained.plan.blocks; speed = q.drained.plan.speed }; hand = q.drained.hand; done = q.drained.done };
+  work = tail_works (left_of h) normal may.rests.next q.work;
+})
+
+on_pause : (h : Journal) → MayPause h → Stands (left_of h) h → Stands (drop 1 (left_of h)) (paused ∷ h)
+on_pause h may (inl will) = inl (tail_rests (left_of h) pause may.rests.next (λ e. absurd cc) will)
+on_pause h may (inr q) = inr (record {
+  drained = still_drained h paused refl refl refl refl q.drained;
+  work = tail_works (left_of h) pause may.rests.next q.work;
+})
+
 -- nothing is done to the machine, and what is left stays
 on_other : (h : Journal) (s : Step) → plan_of (s ∷ h) ≡ plan_of h → hand_of (s ∷ h) ≡ hand_of h → known_of (s ∷ h) ≡ known_of h
     → given_of (s ∷ h) ≡ given_of h → left_of (s ∷ h) ≡ left_of h → Stands (left_of h) h → Stands (left_of (s ∷ h)) (s ∷ h)
@@ -85,6 +105,19 @@ on_rest h ps may none st false is =
 on_rest h ps may none (inl will) true is = inl (let e = sym (ap comes_to_rest may.next) ∙ will in rw is at e)
 on_rest h ps may none (inr q) true is = absurd (let e = tail_works (left_of h) (ask a_rest) may.next q.work in cc)
 
+on_override : (h : Journal) (o : Overrides) (ps : List Piece) → ps ≡ [] → Stands (left_of h) h → Stands (left_of h) (did (Override o) ps ∷ h)
+on_override h o ps none (inl will) = inl will
+on_override h o ps none (inr q) =
+    let keeps : (qs : List Piece) → qs ++ ps ≡ qs = λ qs. ap (λ (rs : List Piece). qs ++ rs) none ∙ append-nil qs in
+    inr (record {
+      drained = record {
+        plan = record { blocks = q.drained.plan.blocks; speed = q.drained.plan.speed };
+        hand = keeps (hand_of h) ∙ q.drained.hand;
+        done = q.drained.done ∙ sym (ap ticks_together (keeps (given_of h)));
+      };
+      work = q.work;
+    })
+
 on_did : (h : Journal) (a : Action) (ps : List Piece) → MayDo a h → Gives a ps (plan_of h) → Stands (left_of h) h → Stands (left_by a (left_of h)) (did a ps ∷ h)
 on_did h (Add m) ps may gives (inl will) = inl (tail_rests (left_of h) (ask (a_move m)) may (λ e. absurd cc) will)
 on_did h (Add m) ps may gives (inr q) = absurd (let e = sym q.work ∙ ap has_work may in cc)
@@ -93,8 +126,9 @@ on_did h (Mark m) ps may gives (inr q) = absurd (let e = sym q.work ∙ ap has_w
 on_did h Rest ps may gives st = on_rest h ps may (none_given most_blocks (plan_of h) (plan_of h) ps gives.1) st (has_work (drop 1 (left_of h))) refl
 on_did h (Take Go) ps may gives (inl will) = inl will
 on_did h (Take Go) ps may gives (inr q) = absurd (none_taken (plan_of h) Go ps (behind (Take Go) ps (plan_of h)) q.drained.plan.blocks gives)
-on_did h (Take Hold) ps may gives st = absurd may
-on_did h (Override o) ps may gives st = absurd may
+on_did h (Take Hold) ps may gives (inl will) = inl will
+on_did h (Take Hold) ps may gives (inr q) = absurd (none_taken (plan_of h) Hold ps (behind (Take Hold) ps (plan_of h)) q.drained.plan.blocks gives)
+on_did h (Override o) ps may gives st = on_override h o ps (none_given most_blocks (behind (Override o) ps (plan_of h)) (behind (Override o) ps (plan_of h)) ps gives.1) st
 on_did h Clear ps may gives st = absurd may
 on_did h Reset ps may gives st = absurd may
 
@@ -121,8 +155,8 @@ quiet first (at_port found_closed ∷ h) c going still = on_other h (at_port fou
 quiet first (at_port (found_free n) ∷ h) c going still = on_other h (at_port (found_free n)) refl refl refl refl refl (quiet first h c.1 going still)
 quiet first (at_port (answered r) ∷ h) c going still = on_answer h r c.0.next (quiet first h c.1 going still)
 quiet first (at_port no_reply_room ∷ h) c going still = on_other h (at_port no_reply_room) refl refl refl refl refl (quiet first h c.1 going still)
-quiet first (at_port (took_exec word) ∷ h) c going still = absurd c.0
-quiet first (at_port (took_ovr word) ∷ h) c going still = absurd c.0
+quiet first (at_port (took_exec word) ∷ h) c going still = on_other h (at_port (took_exec word)) refl refl refl refl refl (quiet first h c.1 going still)
+quiet first (at_port (took_ovr word) ∷ h) c going still = on_other h (at_port (took_ovr word)) refl refl refl refl refl (quiet first h c.1 going still)
 quiet first (at_port (published p) ∷ h) c going still = on_publish h p c.0 (quiet first h c.1 going still)
 quiet first (at_port (no_piece_room done) ∷ h) c going still = on_other h (at_port (no_piece_room done)) refl refl refl refl refl (quiet first h c.1 going still)
 quiet first (at_port (loaded done) ∷ h) c going still = on_load first h done c.1 c.0 (quiet first h c.1 going still)
@@ -131,6 +165,8 @@ quiet first (began o ∷ h) c going still =
     (λ m. quiet first h c.1 going m)
 quiet first (did a ps ∷ h) c going still = on_did h a ps c.0.0 c.0.1 (quiet first h c.1 going still)
 quiet first (made_end ∷ h) c going still = absurd (c.0.closes going)
+quiet first (evened ∷ h) c going still = on_even h c.0 (quiet first h c.1 going still)
+quiet first (paused ∷ h) c going still = on_pause h c.0 (quiet first h c.1 going still)
 quiet first (became call m ∷ h) c going still = on_other h (became call m) refl refl refl refl refl (quiet first h c.1 going still)
 quiet first (closing ∷ h) c going still = absurd (none_closed (closed_tells h) going)
 quiet first (turned t ∷ h) c going still = on_other h (turned t) refl refl refl refl refl (quiet first h c.1 going still)

@@ -15,7 +15,7 @@ use Rattle.status_report.specs.declared.Message.TheVariants as messages
 use Rattle.status_report.specs.declared.Reply.TheVariants as replies
 use Rattle.run_rules.specs.Asks.{spindle_mark, spindle_after, flood_after, spindle_off, coolant_off, item_work, work_of}
 use Rattle.run_rules.specs.Work.{Task, asking, has_moves, asks_move}
-use Rattle.run_rules.specs.Work.Task.{ask, tell, finish}
+use Rattle.run_rules.specs.Work.Task.{ask, tell, pause, normal, finish}
 use Rattle.board_rules.specs.Whole.{has_work, comes_to_rest}
 
 abbrev answer : List Task
@@ -32,6 +32,8 @@ before_rest (ask a_rest ∷ xs) ys is = both (has_work (xs ++ ys)) (comes_to_res
 before_rest (ask (a_move m) ∷ xs) ys is = before_rest xs ys is
 before_rest (ask (a_mark m) ∷ xs) ys is = before_rest xs ys is
 before_rest (tell r ∷ xs) ys is = before_rest xs ys is
+before_rest (pause ∷ xs) ys is = before_rest xs ys is
+before_rest (normal ∷ xs) ys is = before_rest xs ys is
 before_rest (finish ∷ xs) ys is = before_rest xs ys is
 
 abbrev Rests : List Task → Type 0
@@ -90,12 +92,13 @@ item_still line s spindle flood (items.Move mv rate) ts none r = by_events (even
         → Rests (item_work line s spindle flood (items.Move mv rate) ++ ts)
     by_events true is none = rw is r
     by_events false is none = absurd (let n = rw is at none in cc)
-item_still line s spindle flood items.Pause ts none r = inl (rest_then ts r)
+item_still line s spindle flood items.Pause ts none r = inl (both (has_work ts) (comes_to_rest (ask a_rest ∷ ts)) (rest_then ts r))
 item_still line s spindle flood items.ProgramEnd ts none r =
-    subst Rests (sym (append_assoc (ask a_rest ∷ asking (spindle_off spindle ++ coolant_off flood) ++ ask a_rest ∷ []) (tell (replies.Message messages.ProgramEnd) ∷ []) ts))
-    (marked (spindle_off spindle ++ coolant_off flood) (tell (replies.Message messages.ProgramEnd) ∷ ts) (told_then r))
+    let end : List Task = normal ∷ tell (replies.Message messages.ProgramEnd) ∷ [] in
+    subst Rests (sym (append_assoc (ask a_rest ∷ asking (spindle_off spindle ++ coolant_off flood) ++ ask a_rest ∷ []) end ts))
+    (marked (spindle_off spindle ++ coolant_off flood) (end ++ ts) (told_then r))
   where
-    told_then : Rests ts → Rests (tell (replies.Message messages.ProgramEnd) ∷ ts)
+    told_then : Rests ts → Rests (normal ∷ tell (replies.Message messages.ProgramEnd) ∷ ts)
     told_then (inl is) = inl is
     told_then (inr none) = inr none
 

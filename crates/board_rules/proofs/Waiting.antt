@@ -1,53 +1,35 @@
 -- What a board waits for, and what it has done before it waits.
-use Rattle.std.proofs.Common.{◌≡◌, ℕ, ◌+◌, ◌≤◌, suc, ◌⊎◌, inl, inr, List, [], ◌∷◌, Bool, true, false, cond, length, drop, ◌&&◌, ◌||◌, sym, refl, ap, ◌∙◌, subst, arith}
+use Rattle.std.proofs.Common.{◌≡◌, ℕ, ◌+◌, ◌≤◌, suc, ◌⊎◌, inl, inr, List, [], ◌∷◌, Bool, true, false, cond, length, ◌&&◌, ◌||◌, sym, refl, ap, ◌∙◌, subst, arith}
 use Rattle.std.specs.List.{list_any, Contains}
+use Rattle.feed_hold.specs.declared.Motion.{Motion}
 use Rattle.outside.specs.declared.On.{On}
 use Rattle.outside.specs.declared.On.TheVariants as on
 use Rattle.outside.specs.declared.Turn.{Turn}
 use Rattle.outside.specs.declared.Turn.TheVariants.{Did, Wait, Done}
 use Rattle.planner_ring.specs.declared.Block.{Block}
-use Rattle.planner_runs.specs.declared.Action.{Action}
 use Rattle.planner_runs.specs.declared.Action.TheVariants.{Add, Take, Override, Mark, Rest, Clear, Reset}
-use Rattle.segment_prep.specs.declared.Mode.TheVariants.{Go, Hold}
 use Rattle.run_rules.specs.declared.State.{State}
 use Rattle.run_rules.specs.Work.{Task}
-use Rattle.run_rules.specs.Work.Task.{ask, tell, finish}
+use Rattle.run_rules.specs.Work.Task.{ask, pause, normal, finish}
 use Rattle.step_line.specs.Asking.Asked.{a_move, a_mark, a_rest}
 use Rattle.step_line.specs.Finishing.{unfinished, most_unfinished}
 use Rattle.step_line.specs.declared.planned_move.PlannedMove.{PlannedMove}
 use Rattle.board_rules.specs.Ports.{PortStep}
 use Rattle.board_rules.specs.Ports.PortStep.{took, found_empty, found_closed, found_free, answered, no_reply_room, took_exec, took_ovr, published, no_piece_room, loaded}
-use Rattle.board_rules.specs.Steps.{Step, Journal, published_of, left_of, plan_of}
-use Rattle.board_rules.specs.Steps.Step.{at_port, began, did, made_end, became, closing, turned}
-use Rattle.board_rules.specs.Turns.{
-  this_turn,
-  passing,
-  found_none,
-  lacks_piece_room,
-  lacks_reply_room,
-  tells_next,
-  has_blocks,
-  is_full,
-  is_due,
-  starts_cycle,
-  missed_of,
-  begun_at,
-  begun_while_due,
-  waits_at,
-  waits_by,
-  waits_of,
-  waits_while_due,
-}
-use Rattle.board_rules.specs.Conduct.{Conducted, MayDo, MayTurn, Needs, IsNextTask, AreWaiting}
+use Rattle.board_rules.specs.Steps.{Journal, published_of, left_of, plan_of}
+use Rattle.board_rules.specs.Steps.Step.{at_port, began, did, made_end, evened, paused, became, closing, turned}
+use Rattle.board_rules.specs.Turns.{this_turn, passing, found_none, lacks_piece_room, lacks_reply_room, tells_next, has_blocks, is_full, has_segment, is_due, starts_cycle, missed_of, begun_while_due, waits_at, waits_by, waits_of, waits_while_due}
+use Rattle.board_rules.specs.Conduct.{Conducted, MayTurn, Needs, IsNextTask, AreWaiting}
 use Rattle.board_rules.proofs.Closing.{spent}
 
 -- ---- why it waits
 
-pub one_cause : (o : On) (h : Journal) → Needs o h → (o ≡ on.Byte) ⊎ ((o ≡ on.ReplyRoom) ⊎ ((o ≡ on.SegmentRoom) ⊎ (o ≡ on.Motion)))
+pub one_cause : (o : On) (h : Journal) → Needs o h → (o ≡ on.Byte) ⊎ ((o ≡ on.ReplyRoom) ⊎ ((o ≡ on.SegmentRoom) ⊎ ((o ≡ on.Motion) ⊎ (o ≡ on.Resume))))
 one_cause on.Byte h needs = inl refl
 one_cause on.ReplyRoom h needs = inr (inl refl)
 one_cause on.SegmentRoom h needs = inr (inr (inl refl))
-one_cause on.Motion h needs = inr (inr (inr refl))
+one_cause on.Motion h needs = inr (inr (inr (inl refl)))
+one_cause on.Resume h needs = inr (inr (inr (inr refl)))
 one_cause o h needs = absurd needs
 
 -- where room for a piece lacked in a turn in which nothing went on its way, five of the published pieces are unfinished
@@ -60,14 +42,16 @@ pieces_lack_room first (at_port found_closed ∷ h) c lacks still = pieces_lack_
 pieces_lack_room first (at_port (found_free n) ∷ h) c lacks still = pieces_lack_room first h c.1 lacks still
 pieces_lack_room first (at_port (answered r) ∷ h) c lacks still = absurd cc
 pieces_lack_room first (at_port no_reply_room ∷ h) c lacks still = pieces_lack_room first h c.1 lacks still
-pieces_lack_room first (at_port (took_exec word) ∷ h) c lacks still = absurd c.0
-pieces_lack_room first (at_port (took_ovr word) ∷ h) c lacks still = absurd c.0
+pieces_lack_room first (at_port (took_exec word) ∷ h) c lacks still = pieces_lack_room first h c.1 lacks still
+pieces_lack_room first (at_port (took_ovr word) ∷ h) c lacks still = pieces_lack_room first h c.1 lacks still
 pieces_lack_room first (at_port (published p) ∷ h) c lacks still = absurd cc
 pieces_lack_room first (at_port (no_piece_room done) ∷ h) c lacks still = (done, c.0.full.full)
 pieces_lack_room first (at_port (loaded done) ∷ h) c lacks still = pieces_lack_room first h c.1 lacks still
 pieces_lack_room first (began o ∷ h) c lacks still = absurd cc
 pieces_lack_room first (did a ps ∷ h) c lacks still = pieces_lack_room first h c.1 lacks still
 pieces_lack_room first (made_end ∷ h) c lacks still = pieces_lack_room first h c.1 lacks still
+pieces_lack_room first (evened ∷ h) c lacks still = pieces_lack_room first h c.1 lacks still
+pieces_lack_room first (paused ∷ h) c lacks still = pieces_lack_room first h c.1 lacks still
 pieces_lack_room first (became call m ∷ h) c lacks still = pieces_lack_room first h c.1 lacks still
 pieces_lack_room first (closing ∷ h) c lacks still = pieces_lack_room first h c.1 lacks still
 pieces_lack_room first (turned t ∷ h) c lacks still = absurd cc
@@ -79,16 +63,6 @@ no_tell tasks t others none next tells = absurd (let e = sym tells ∙ ap tells_
 none_told : {A : Type 0} (tasks : List Task) → tasks ≡ [] → tells_next tasks ≡ true → A
 none_told tasks none tells = absurd (let e = sym tells ∙ ap tells_next none in cc)
 
-told_by_action : (h : Journal) (a : Action) → MayDo a h → tells_next (left_of h) ≡ true → (a ≡ Take Go)
-told_by_action h (Add m) may tells = no_tell (left_of h) (ask (a_move m)) _ refl may tells
-told_by_action h (Mark m) may tells = no_tell (left_of h) (ask (a_mark m)) _ refl may.next tells
-told_by_action h Rest may tells = no_tell (left_of h) (ask a_rest) _ refl may.next tells
-told_by_action h (Take Go) may tells = refl
-told_by_action h (Take Hold) may tells = absurd may
-told_by_action h (Override o) may tells = absurd may
-told_by_action h Clear may tells = absurd may
-told_by_action h Reset may tells = absurd may
-
 -- where room for a reply lacked in such a turn, a reply is next
 pub reply_is_next : (first : State) (h : Journal) → Conducted first h → list_any lacks_reply_room (this_turn h) ≡ true → list_any passing (this_turn h) ≡ false
     → tells_next (left_of h) ≡ true
@@ -99,20 +73,22 @@ reply_is_next first (at_port found_closed ∷ h) c lacks still = reply_is_next f
 reply_is_next first (at_port (found_free n) ∷ h) c lacks still = reply_is_next first h c.1 lacks still
 reply_is_next first (at_port (answered r) ∷ h) c lacks still = absurd cc
 reply_is_next first (at_port no_reply_room ∷ h) c lacks still = c.0
-reply_is_next first (at_port (took_exec word) ∷ h) c lacks still = absurd c.0
-reply_is_next first (at_port (took_ovr word) ∷ h) c lacks still = absurd c.0
+reply_is_next first (at_port (took_exec word) ∷ h) c lacks still = reply_is_next first h c.1 lacks still
+reply_is_next first (at_port (took_ovr word) ∷ h) c lacks still = reply_is_next first h c.1 lacks still
 reply_is_next first (at_port (published p) ∷ h) c lacks still = absurd cc
 reply_is_next first (at_port (no_piece_room done) ∷ h) c lacks still = reply_is_next first h c.1 lacks still
 reply_is_next first (at_port (loaded done) ∷ h) c lacks still = reply_is_next first h c.1 lacks still
 reply_is_next first (began o ∷ h) c lacks still = absurd cc
 reply_is_next first (did (Take m) ps ∷ h) c lacks still = reply_is_next first h c.1 lacks still
-reply_is_next first (did (Add m) ps ∷ h) c lacks still = absurd (let e = told_by_action h (Add m) c.0.0 (reply_is_next first h c.1 lacks still) in cc)
-reply_is_next first (did (Mark m) ps ∷ h) c lacks still = absurd (let e = told_by_action h (Mark m) c.0.0 (reply_is_next first h c.1 lacks still) in cc)
-reply_is_next first (did Rest ps ∷ h) c lacks still = absurd (let e = told_by_action h Rest c.0.0 (reply_is_next first h c.1 lacks still) in cc)
-reply_is_next first (did (Override o) ps ∷ h) c lacks still = absurd c.0.0
+reply_is_next first (did (Add m) ps ∷ h) c lacks still = no_tell (left_of h) (ask (a_move m)) _ refl c.0.0 (reply_is_next first h c.1 lacks still)
+reply_is_next first (did (Mark m) ps ∷ h) c lacks still = no_tell (left_of h) (ask (a_mark m)) _ refl c.0.0.next (reply_is_next first h c.1 lacks still)
+reply_is_next first (did Rest ps ∷ h) c lacks still = no_tell (left_of h) (ask a_rest) _ refl c.0.0.next (reply_is_next first h c.1 lacks still)
+reply_is_next first (did (Override o) ps ∷ h) c lacks still = reply_is_next first h c.1 lacks still
 reply_is_next first (did Clear ps ∷ h) c lacks still = absurd c.0.0
 reply_is_next first (did Reset ps ∷ h) c lacks still = absurd c.0.0
 reply_is_next first (made_end ∷ h) c lacks still = no_tell (left_of h) finish _ refl c.0.rests.next (reply_is_next first h c.1 lacks still)
+reply_is_next first (evened ∷ h) c lacks still = no_tell (left_of h) normal _ refl c.0.rests.next (reply_is_next first h c.1 lacks still)
+reply_is_next first (paused ∷ h) c lacks still = no_tell (left_of h) pause _ refl c.0.rests.next (reply_is_next first h c.1 lacks still)
 reply_is_next first (became call m ∷ h) c lacks still = reply_is_next first h c.1 lacks still
 reply_is_next first (closing ∷ h) c lacks still = none_told (left_of h) c.0.free (reply_is_next first h c.1 lacks still)
 reply_is_next first (turned t ∷ h) c lacks still = absurd cc
@@ -126,6 +102,8 @@ adds first (at_port e ∷ h) m c between next = absurd cc
 adds first (began o ∷ h) m c between next = absurd cc
 adds first (did a ps ∷ h) m c between next = absurd cc
 adds first (made_end ∷ h) m c between next = absurd cc
+adds first (evened ∷ h) m c between next = absurd cc
+adds first (paused ∷ h) m c between next = absurd cc
 adds first (became call n ∷ h) m c between next = absurd cc
 adds first (closing ∷ h) m c between next = absurd cc
 adds first (turned Did ∷ h) m c between next = c.0.adds m next
@@ -146,6 +124,8 @@ starts first (at_port e ∷ h) c between w = absurd cc
 starts first (began o ∷ h) c between w = absurd cc
 starts first (did a ps ∷ h) c between w = absurd cc
 starts first (made_end ∷ h) c between w = absurd cc
+starts first (evened ∷ h) c between w = absurd cc
+starts first (paused ∷ h) c between w = absurd cc
 starts first (became call n ∷ h) c between w = absurd cc
 starts first (closing ∷ h) c between w = absurd cc
 starts first (turned Did ∷ h) c between w = or_right (list_any found_none (this_turn h)) _ (c.0.starts (record { stands = w.stands; blocks = w.blocks }))
@@ -187,6 +167,8 @@ missed_is first (at_port e ∷ h) c = missed_at_port e h (missed_is first h c.1)
 missed_is first (began o ∷ h) c = inr (first_since (is_due h) (begun_while_due h) (missed_of h) (missed_is first h c.1) c.0.tried, refl)
 missed_is first (did a ps ∷ h) c = missed_is first h c.1
 missed_is first (made_end ∷ h) c = missed_is first h c.1
+missed_is first (evened ∷ h) c = missed_is first h c.1
+missed_is first (paused ∷ h) c = missed_is first h c.1
 missed_is first (became call m ∷ h) c = missed_is first h c.1
 missed_is first (closing ∷ h) c = missed_is first h c.1
 missed_is first (turned t ∷ h) c = missed_by (is_due h) (begun_while_due h) (missed_of h) (missed_is first h c.1)
@@ -310,16 +292,20 @@ none_while_due o (at_port e ∷ h) none = none_at o e (waits_of h) (waits_while_
 none_while_due o (began x ∷ h) none = none_while_due o h none
 none_while_due o (did a ps ∷ h) none = none_while_due o h none
 none_while_due o (made_end ∷ h) none = none_while_due o h none
+none_while_due o (evened ∷ h) none = none_while_due o h none
+none_while_due o (paused ∷ h) none = none_while_due o h none
 none_while_due o (became call m ∷ h) none = none_while_due o h none
 none_while_due o (closing ∷ h) none = none_while_due o h none
 none_while_due o (turned t ∷ h) none = none_by o (is_due h) t (waits_of h) (waits_while_due h) (none_while_due o h) none
 
-a_cause : (o : On) (h : Journal) → Needs o h → IsCause o
-a_cause on.Byte h needs = tt
-a_cause on.ReplyRoom h needs = tt
-a_cause on.SegmentRoom h needs = tt
-a_cause on.Motion h needs = tt
-a_cause o h needs = absurd needs
+-- where a segment is due, the machine is not held, so that it waits for no resume
+a_cause : (o : On) (h : Journal) → is_due h ≡ true → Needs o h → IsCause o
+a_cause on.Byte h due needs = tt
+a_cause on.ReplyRoom h due needs = tt
+a_cause on.SegmentRoom h due needs = tt
+a_cause on.Motion h due needs = tt
+a_cause on.Resume h due needs = absurd (let e = sym due ∙ ap (λ (m : Motion). has_segment m (plan_of h)) needs.held in cc)
+a_cause o h due needs = absurd needs
 
 apart_at : (e : PortStep) (due : List On) → AreApart due → AreApart (waits_at e due)
 apart_at (took b) due apart = apart
@@ -337,7 +323,7 @@ apart_at (loaded done) due apart = apart
 apart_by : (is : Bool) (t : Turn) (h : Journal) → is_due h ≡ is → MayTurn t h → AreApart (waits_while_due h) → AreApart (cond is (waits_by t (waits_while_due h)) [])
 apart_by false t h due may apart = tt
 apart_by true Did h due may apart = apart
-apart_by true (Wait o) h due may apart = (a_cause o h may.cause, none_while_due o h (none_contained o (waits_of h) (may.round due)), apart)
+apart_by true (Wait o) h due may apart = (a_cause o h due may.cause, none_while_due o h (none_contained o (waits_of h) (may.round due)), apart)
 apart_by true Done h due may apart = apart
 
 waits_apart : (first : State) (h : Journal) → Conducted first h → AreApart (waits_while_due h)
@@ -346,6 +332,8 @@ waits_apart first (at_port e ∷ h) c = apart_at e (waits_while_due h) (waits_ap
 waits_apart first (began o ∷ h) c = waits_apart first h c.1
 waits_apart first (did a ps ∷ h) c = waits_apart first h c.1
 waits_apart first (made_end ∷ h) c = waits_apart first h c.1
+waits_apart first (evened ∷ h) c = waits_apart first h c.1
+waits_apart first (paused ∷ h) c = waits_apart first h c.1
 waits_apart first (became call m ∷ h) c = waits_apart first h c.1
 waits_apart first (closing ∷ h) c = waits_apart first h c.1
 waits_apart first (turned t ∷ h) c = apart_by (is_due h) t h refl c.0 (waits_apart first h c.1)

@@ -1,20 +1,25 @@
 -- The rules of a board: what it may do next.
-use Rattle.std.specs.Prelude.{◌≡◌, ℕ, ◌≤◌, ◌<◌, true, false, ◌&&◌, List, [], ◌∷◌, drop, Some}
+use Rattle.std.specs.Prelude.{◌≡◌, ℕ, ◌≤◌, ◌<◌, Bool, true, false, ◌&&◌, ◌||◌, List, [], ◌∷◌, drop, Some}
 use Rattle.std.specs.List.{Contains, list_any, count_by}
+use Rattle.code_table.specs.declared.flags.Exec.{Exec}
+use Rattle.code_table.specs.declared.flags.Ovr.{Ovr}
+use Rattle.feed_hold.specs.declared.Motion.{Motion}
 use Rattle.feed_hold.specs.declared.Motion.TheVariants as motions
-use Rattle.feed_hold.specs.Motions.{Call, after}
+use Rattle.feed_hold.specs.Motions.{Call, after, is_stopping}
 use Rattle.feed_hold.specs.Motions.Call.{on_exec, on_start, on_limit, on_pause, on_stopped, on_drained}
 use Rattle.outside.specs.declared.On.{On}
 use Rattle.outside.specs.declared.On.TheVariants as on
 use Rattle.outside.specs.declared.Turn.{Turn}
 use Rattle.outside.specs.declared.Turn.TheVariants.{Did, Wait, Done}
+use Rattle.overrides.specs.declared.Overrides.{Overrides}
+use Rattle.overrides.specs.Percents.{taken}
 use Rattle.plan_passes.specs.Plans.{Planned}
 use Rattle.planner_runs.specs.declared.Action.{Action}
 use Rattle.planner_runs.specs.declared.Action.TheVariants.{Add, Take, Override, Mark, Rest, Clear, Reset}
-use Rattle.planner_runs.specs.Runs.{Plans, IsAtRest, most_blocks}
+use Rattle.planner_runs.specs.Runs.{Plans, IsAtRest, most_blocks, normal_overrides}
 use Rattle.run_rules.specs.declared.State.{State}
 use Rattle.run_rules.specs.Work.{Task, Outcome}
-use Rattle.run_rules.specs.Work.Task.{ask, tell, finish}
+use Rattle.run_rules.specs.Work.Task.{ask, tell, pause, normal, finish}
 use Rattle.run_rules.specs.Outcomes.{Becomes, refused}
 use Rattle.segment_prep.specs.declared.Mode.TheVariants.{Go, Hold}
 use Rattle.status_report.specs.declared.Reply.{Reply}
@@ -23,20 +28,27 @@ use Rattle.step_line.specs.Asking.Asked.{a_move, a_mark, a_rest}
 use Rattle.step_line.specs.declared.Piece.{Piece}
 use Rattle.step_line.specs.declared.planned_move.PlannedMove.{PlannedMove}
 use Rattle.step_line.specs.Finishing.{ticks_together}
-use Rattle.board_rules.specs.Ports.{PortStep, MayBeDone, HasTakenFew, LacksPieceRoom}
+use Rattle.board_rules.specs.Ports.{PortStep, PortLog, has_changes, MayBeDone, HasTakenFew, LacksPieceRoom}
 use Rattle.board_rules.specs.Ports.PortStep.{took, found_empty, found_closed, found_free, answered, no_reply_room, took_exec, took_ovr, published, no_piece_room, loaded}
 use Rattle.board_rules.specs.Steps.{Step, Journal, port_log, has_closed, published_of, known_of, open_of, whole_of, before_of, left_of, closed_tells, given_of, hand_of, plan_of, motion_of, behind}
-use Rattle.board_rules.specs.Steps.Step.{at_port, began, did, made_end, became, closing, turned}
+use Rattle.board_rules.specs.Steps.Step.{at_port, began, did, made_end, evened, paused, became, closing, turned}
 use Rattle.board_rules.specs.Turns.{
   this_turn,
   publishing,
   passing,
+  takes_requests,
+  obeys,
+  takes_changes,
+  replans,
+  asks_no_start,
+  flags_taken,
   found_nothing,
   lacks_reply_room,
   lacks_piece_room,
   loads,
   tells_next,
   awaits_motion,
+  is_held_up,
   has_blocks,
   is_full,
   starts_cycle,
@@ -95,7 +107,7 @@ pub record MayKeep (done : ℕ) (h : Journal) : Type 0 where
   pub some : (hand_of h ≡ []) → ⊥
   pub full : LacksPieceRoom done (port_log h)
 
--- Pieces are published in the order in which they were given. No flags are taken yet.
+-- Pieces are published in the order in which they were given.
 abbrev pub MayAtPort : PortStep → Journal → Type 0
 MayAtPort (took b) h = MayTake h
 MayAtPort found_empty h = MayPoll h
@@ -103,18 +115,26 @@ MayAtPort found_closed h = MayPoll h
 MayAtPort (found_free n) h = Unit {0}
 MayAtPort (answered r) h = MayTell r h
 MayAtPort no_reply_room h = tells_next (left_of h) ≡ true
-MayAtPort (took_exec word) h = ⊥
-MayAtPort (took_ovr word) h = ⊥
+MayAtPort (took_exec word) h = Unit {0}
+MayAtPort (took_ovr word) h = Unit {0}
 MayAtPort (published p) h = IsInHand p h
 MayAtPort (no_piece_room done) h = MayKeep done h
 MayAtPort (loaded done) h = MayBeDone done (port_log h)
 
 -- ---- the plan
 
--- a segment is taken while the machine runs, once the one before is published
-pub record MayTakeSegment (h : Journal) : Type 0 where
-  pub runs : motion_of h ≡ motions.Run
+-- a segment is taken in this state of the motion, once the one before is published
+pub record MayTakeSegment (m : Motion) (h : Journal) : Type 0 where
+  pub state : motion_of h ≡ m
   pub empty : hand_of h ≡ []
+
+-- A word that changes overrides was just taken: it is planned for what these come to.
+pub record AreChanged (o : Overrides) (h : Journal) : Type 0 where
+  pub word : Ovr
+  pub earlier : PortLog
+  pub last : port_log h ≡ took_ovr word ∷ earlier
+  pub some : has_changes word ≡ true
+  pub taken : o ≡ taken (plan_of h).overrides word
 
 pub record MayMark (t : Task) (h : Journal) : Type 0 where
   pub next : IsNextTask t h
@@ -126,14 +146,14 @@ pub record MayRest (t : Task) (h : Journal) : Type 0 where
   pub drained : IsDrained h
   pub stands : motion_of h ≡ motions.Idle
 
--- why it is done. Nothing is held, overridden or taken away yet.
+-- why it is done. Nothing is taken away yet.
 abbrev pub MayDo : Action → Journal → Type 0
 MayDo (Add m) h = IsNextTask (ask (a_move m)) h
 MayDo (Mark m) h = MayMark (ask (a_mark m)) h
 MayDo Rest h = MayRest (ask a_rest) h
-MayDo (Take Go) h = MayTakeSegment h
-MayDo (Take Hold) h = ⊥
-MayDo (Override o) h = ⊥
+MayDo (Take Go) h = MayTakeSegment motions.Run h
+MayDo (Take Hold) h = MayTakeSegment motions.Holding h
+MayDo (Override o) h = AreChanged o h
 MayDo Clear h = ⊥
 MayDo Reset h = ⊥
 
@@ -148,20 +168,50 @@ pub record MayEnd (h : Journal) : Type 0 where
 
 -- ---- the motion
 
--- Queued blocks start the cycle where that is called for, and it is over where nothing is left to run and each tick is done.
--- Nothing else happens to the motion yet.
+-- it slowed down to a stop, with nothing in hand
+pub record HasSlowedDown (h : Journal) : Type 0 where
+  pub slows : motion_of h ≡ motions.Holding
+  pub speed : (plan_of h).speed ≡ 0
+  pub empty : hand_of h ≡ []
+
+-- and each tick that was given is done
+pub record IsStopped (h : Journal) : Type 0 where
+  pub slowed : HasSlowedDown h
+  pub done : known_of h ≡ ticks_given h
+
+-- A word of requests was just taken, while blocks are queued or none is. A machine that slowed down was looked after in this
+-- turn, and is held already where each tick is done, so that the word may resume it.
+pub record MayObey (word : Exec) (queued : Bool) (h : Journal) : Type 0 where
+  pub earlier : PortLog
+  pub last : port_log h ≡ took_exec word ∷ earlier
+  pub blocks : queued ≡ has_blocks (plan_of h).blocks
+  pub looked : HasSlowedDown h → list_any loads (this_turn h) ≡ true
+  pub stopped : IsStopped h → ⊥
+
+-- queued blocks start the cycle where that is called for
 pub record MayStart (h : Journal) : Type 0 where
   pub blocks : has_blocks (plan_of h).blocks ≡ true
   pub called : starts_before_line h ≡ true
 
+-- why it happens to the motion. No jog starts yet, and nothing stops at a limit; a pause is a step of its own.
 abbrev pub MayHappen : Call → Journal → Type 0
 MayHappen (on_start false) h = MayStart h
 MayHappen (on_start true) h = ⊥
 MayHappen on_drained h = IsDrained h
-MayHappen (on_exec word queued) h = ⊥
+MayHappen (on_exec word queued) h = MayObey word queued h
 MayHappen on_limit h = ⊥
 MayHappen on_pause h = ⊥
-MayHappen on_stopped h = ⊥
+MayHappen on_stopped h = IsStopped h
+
+-- the machine is held for a pause where it stands
+pub record MayPause (h : Journal) : Type 0 where
+  pub rests : MayRest pause h
+  pub held : after on_pause (motion_of h) ≡ Some motions.Held
+
+-- At the end of a program, where the machine stands, it is planned for overrides of 100 percent.
+pub record MayEven (h : Journal) : Type 0 where
+  pub rests : MayRest normal h
+  pub replans : Gives (Override normal_overrides) [] (plan_of h)
 
 -- queued blocks wait for a start
 pub record AreWaiting (h : Journal) : Type 0 where
@@ -170,9 +220,9 @@ pub record AreWaiting (h : Journal) : Type 0 where
 
 -- ---- the lines
 
--- A line that was taken whole is begun. In its turn the done ticks were loaded, and the cycle is over where nothing is left
--- to run and each is done. A line that is served only at rest is refused while the machine runs; and where a segment was due
--- since the line before, one was tried to be published.
+-- A line that was taken whole is begun, once both words of flags were taken behind it. In its turn the done ticks were
+-- loaded, and the cycle is over where nothing is left to run and each is done. A line that is served only at rest is refused
+-- while the machine runs; and where a segment was due since the line before, one was tried to be published.
 pub record MayBegin (first : State) (o : Outcome) (h : Journal) : Type 0 where
   pub free : left_of h ≡ []
   pub going : closed_tells h ≡ []
@@ -180,6 +230,7 @@ pub record MayBegin (first : State) (o : Outcome) (h : Journal) : Type 0 where
   pub becomes : Becomes (is_run (motion_of h)) (before_of first h) (open_of h) o
   pub refuses : is_run (motion_of h) ≡ true → is_served_at_rest (open_of h) ≡ true → o ≡ refused (before_of first h) 8
   pub begins : begins_in (motion_of h) ≡ true
+  pub flags : flags_taken h ≡ true
   pub load : list_any loads (this_turn h) ≡ true
   pub idle : IsDrained h → is_going (motion_of h) ≡ false
   pub starts : AreWaiting h → starts_before_line h ≡ false
@@ -195,12 +246,15 @@ pub record MayClose (h : Journal) : Type 0 where
 -- ---- the turns
 
 -- What holds at the end of a turn: at most one thing was published; a move that is next is added unless the plan is full; no
--- queued block waits for a start that is called for; and no more than five tries to publish stand behind the last poll.
+-- queued block waits for a start that is called for; no more than five tries to publish stand behind the last poll; and what
+-- the words of flags ask for that were taken is done, each once.
 pub record EndsTurn (h : Journal) : Type 0 where
   pub once : count_by publishing (this_turn h) ≤ 1
   pub adds : (m : PlannedMove) → IsNextTask (ask (a_move m)) h → is_full (plan_of h) ≡ true
   pub starts : AreWaiting h → starts_cycle h ≡ false
   pub tries : tries_of h ≤ most_tries
+  pub obeyed : count_by obeys (this_turn h) ≡ count_by takes_requests (this_turn h)
+  pub changed : count_by replans (this_turn h) ≡ count_by takes_changes (this_turn h)
 
 -- no byte was found, and nothing is left to do
 pub record NeedsByte (h : Journal) : Type 0 where
@@ -208,11 +262,18 @@ pub record NeedsByte (h : Journal) : Type 0 where
   pub free : left_of h ≡ []
   pub partial : whole_of h ≡ false
 
--- what is next waits for ticks that were found not to be done
+-- What is next waits for ticks that were found not to be done, since it waits for the motion, or since that slows down to a
+-- stop.
 pub record NeedsMotion (h : Journal) : Type 0 where
   pub load : list_any loads (this_turn h) ≡ true
   pub undone : known_of h < ticks_published h
-  pub awaits : awaits_motion (left_of h) ≡ true
+  pub awaits : (awaits_motion (left_of h) || (is_stopping (motion_of h) && is_held_up h)) ≡ true
+
+-- the machine is held, the word of requests that was taken does not resume it, and what is next does not go on before
+pub record NeedsResume (h : Journal) : Type 0 where
+  pub held : motion_of h ≡ motions.Held
+  pub unasked : list_any asks_no_start (this_turn h) ≡ true
+  pub held_up : is_held_up h ≡ true
 
 -- why it is waited for
 abbrev pub Needs : On → Journal → Type 0
@@ -220,14 +281,16 @@ Needs on.Byte h = NeedsByte h
 Needs on.ReplyRoom h = list_any lacks_reply_room (this_turn h) ≡ true
 Needs on.SegmentRoom h = list_any lacks_piece_room (this_turn h) ≡ true
 Needs on.Motion h = NeedsMotion h
+Needs on.Resume h = NeedsResume h
 Needs o h = ⊥
 
--- Something is waited for: there is a cause, nothing went on its way in this turn, and where a segment is due, one was tried
--- to be published since the same was waited for last.
+-- Something is waited for: there is a cause, nothing went on its way in this turn, both words of flags were taken since
+-- anything was waited for last, and where a segment is due, one was tried to be published since the same was.
 pub record Waits (o : On) (h : Journal) : Type 0 where
   pub ends : EndsTurn h
   pub cause : Needs o h
   pub still : list_any passing (this_turn h) ≡ false
+  pub flags : flags_taken h ≡ true
   pub round : is_due h ≡ true → Contains (waits_of h) o → ⊥
 
 -- the run was closed, and nothing is left to do
@@ -253,6 +316,8 @@ MayStep first (at_port e) h = MayAtPort e h
 MayStep first (began o) h = MayBegin first o h
 MayStep first (did a ps) h = MayDo a h × Gives a ps (plan_of h)
 MayStep first made_end h = MayEnd h
+MayStep first evened h = MayEven h
+MayStep first paused h = MayPause h
 MayStep first (became call m) h = (after call (motion_of h) ≡ Some m) × MayHappen call h
 MayStep first closing h = MayClose h
 MayStep first (turned t) h = MayTurn t h

@@ -1,9 +1,10 @@
 -- What a board does at its port, what it owes the port, and what the port promises.
-use Rattle.std.specs.Prelude.{◌≡◌, ℕ, ◌+◌, ◌^◌, ◌≤◌, ◌<◌, Bool, true, false, cond, List, [], ◌∷◌, ◌++◌, length, reverse}
+use Rattle.std.specs.Prelude.{◌≡◌, ℕ, ◌+◌, ◌^◌, ◌≤◌, ◌<◌, Bool, true, false, not, ◌||◌, cond, nat_eq, List, [], ◌∷◌, ◌++◌, length, reverse}
 use Rattle.code_table.specs.declared.flags.Exec.{Exec}
 use Rattle.code_table.specs.declared.flags.Ovr.{Ovr}
 use Rattle.code_table.specs.Tables.{query}
-use Rattle.feed_hold.specs.Motions.{asks}
+use Rattle.feed_hold.specs.Motions.{asks, hold_byte}
+use Rattle.code_table.specs.Flags.{ovr_bits}
 use Rattle.status_report.specs.declared.Reply.{Reply}
 use Rattle.status_report.specs.Answering.{reply_room, lfs_in, is_answer, answers_in}
 use Rattle.status_report.specs.Replies.{IsReply}
@@ -64,6 +65,10 @@ answered_in (e ∷ l) = answered_at e (answered_in l)
 abbrev pub asks_report : Exec → Bool
 asks_report word = asks word query
 
+-- a word of changes of overrides holds one
+abbrev pub has_changes : Ovr → Bool
+has_changes word = not (nat_eq (ovr_bits word) 0)
+
 abbrev pub reports_at : PortStep → ℕ → ℕ
 reports_at (took_exec word) n = cond (asks_report word) (n + 1) n
 reports_at e n = n
@@ -72,6 +77,24 @@ reports_at e n = n
 abbrev pub reports_in : PortLog → ℕ
 reports_in [] = 0
 reports_in (e ∷ l) = reports_at e (reports_in l)
+
+abbrev pub holds_at : PortStep → Bool → Bool
+holds_at (took_exec word) held = asks word hold_byte || held
+holds_at e held = held
+
+-- a word that asks for a hold was taken
+abbrev pub has_held_in : PortLog → Bool
+has_held_in [] = false
+has_held_in (e ∷ l) = holds_at e (has_held_in l)
+
+abbrev pub changes_at : PortStep → Bool → Bool
+changes_at (took_ovr word) changed = has_changes word || changed
+changes_at e changed = changed
+
+-- a word that changes overrides was taken
+abbrev pub has_changed_in : PortLog → Bool
+has_changed_in [] = false
+has_changed_in (e ∷ l) = changes_at e (has_changed_in l)
 
 abbrev pub published_at : PortStep → List Piece → List Piece
 published_at (published p) ps = ps ++ p ∷ []

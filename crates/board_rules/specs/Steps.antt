@@ -8,10 +8,10 @@ use Rattle.plan_passes.specs.Plans.{Planned}
 use Rattle.plan_passes.specs.Segments.{advanced}
 use Rattle.planner_runs.specs.declared.Action.{Action}
 use Rattle.planner_runs.specs.declared.Action.TheVariants.{Add, Take, Override, Mark, Rest, Clear, Reset}
-use Rattle.planner_runs.specs.Runs.{fresh_plan, with_move, cleared}
+use Rattle.planner_runs.specs.Runs.{normal_overrides, fresh_plan, with_move, cleared}
 use Rattle.run_rules.specs.declared.State.{State}
 use Rattle.run_rules.specs.Work.{Task, Outcome, closing_work}
-use Rattle.run_rules.specs.Work.Task.{tell, finish}
+use Rattle.run_rules.specs.Work.Task.{tell}
 use Rattle.run_rules.specs.Outcomes.{Before, start, after}
 use Rattle.status_report.specs.declared.Reply.{Reply}
 use Rattle.status_report.specs.declared.Reply.TheVariants.{Banner, Bye}
@@ -29,6 +29,10 @@ pub data Step : Type 0 where
   did : Action → List Piece → Step
   -- the end of the run is made
   made_end : Step
+  -- each override is set to 100 percent
+  evened : Step
+  -- the machine is held for a pause
+  paused : Step
   -- something happens to the motion, whose state is this behind it
   became : Call → Motion → Step
   -- the run is being closed
@@ -45,6 +49,8 @@ port_log (at_port e ∷ h) = e ∷ port_log h
 port_log (began o ∷ h) = port_log h
 port_log (did a ps ∷ h) = port_log h
 port_log (made_end ∷ h) = port_log h
+port_log (evened ∷ h) = port_log h
+port_log (paused ∷ h) = port_log h
 port_log (became call m ∷ h) = port_log h
 port_log (closing ∷ h) = port_log h
 port_log (turned t ∷ h) = port_log h
@@ -77,6 +83,8 @@ open_of (at_port e ∷ h) = open_at e (open_of h)
 open_of (began o ∷ h) = []
 open_of (did a ps ∷ h) = open_of h
 open_of (made_end ∷ h) = open_of h
+open_of (evened ∷ h) = open_of h
+open_of (paused ∷ h) = open_of h
 open_of (became call m ∷ h) = open_of h
 open_of (closing ∷ h) = open_of h
 open_of (turned t ∷ h) = open_of h
@@ -92,6 +100,8 @@ whole_of (at_port e ∷ h) = whole_at e (whole_of h)
 whole_of (began o ∷ h) = false
 whole_of (did a ps ∷ h) = whole_of h
 whole_of (made_end ∷ h) = whole_of h
+whole_of (evened ∷ h) = whole_of h
+whole_of (paused ∷ h) = whole_of h
 whole_of (became call m ∷ h) = whole_of h
 whole_of (closing ∷ h) = whole_of h
 whole_of (turned t ∷ h) = whole_of h
@@ -103,6 +113,8 @@ lines_of (at_port e ∷ h) = lines_of h
 lines_of (began o ∷ h) = lines_of h ++ open_of h ∷ []
 lines_of (did a ps ∷ h) = lines_of h
 lines_of (made_end ∷ h) = lines_of h
+lines_of (evened ∷ h) = lines_of h
+lines_of (paused ∷ h) = lines_of h
 lines_of (became call m ∷ h) = lines_of h
 lines_of (closing ∷ h) = lines_of h
 lines_of (turned t ∷ h) = lines_of h
@@ -114,6 +126,8 @@ outcomes_of (at_port e ∷ h) = outcomes_of h
 outcomes_of (began o ∷ h) = outcomes_of h ++ o ∷ []
 outcomes_of (did a ps ∷ h) = outcomes_of h
 outcomes_of (made_end ∷ h) = outcomes_of h
+outcomes_of (evened ∷ h) = outcomes_of h
+outcomes_of (paused ∷ h) = outcomes_of h
 outcomes_of (became call m ∷ h) = outcomes_of h
 outcomes_of (closing ∷ h) = outcomes_of h
 outcomes_of (turned t ∷ h) = outcomes_of h
@@ -125,6 +139,8 @@ before_of first (at_port e ∷ h) = before_of first h
 before_of first (began o ∷ h) = after (before_of first h) o
 before_of first (did a ps ∷ h) = before_of first h
 before_of first (made_end ∷ h) = before_of first h
+before_of first (evened ∷ h) = before_of first h
+before_of first (paused ∷ h) = before_of first h
 before_of first (became call m ∷ h) = before_of first h
 before_of first (closing ∷ h) = before_of first h
 before_of first (turned t ∷ h) = before_of first h
@@ -148,6 +164,8 @@ left_of (at_port e ∷ h) = left_at e (left_of h)
 left_of (began o ∷ h) = o.work
 left_of (did a ps ∷ h) = left_by a (left_of h)
 left_of (made_end ∷ h) = drop 1 (left_of h)
+left_of (evened ∷ h) = drop 1 (left_of h)
+left_of (paused ∷ h) = drop 1 (left_of h)
 left_of (became call m ∷ h) = left_of h
 left_of (closing ∷ h) = closing_work
 left_of (turned t ∷ h) = left_of h
@@ -159,6 +177,8 @@ closed_tells (at_port e ∷ h) = closed_tells h
 closed_tells (began o ∷ h) = closed_tells h
 closed_tells (did a ps ∷ h) = closed_tells h
 closed_tells (made_end ∷ h) = closed_tells h
+closed_tells (evened ∷ h) = closed_tells h
+closed_tells (paused ∷ h) = closed_tells h
 closed_tells (became call m ∷ h) = closed_tells h
 closed_tells (closing ∷ h) = closed_tells h ++ Bye ∷ []
 closed_tells (turned t ∷ h) = closed_tells h
@@ -172,6 +192,8 @@ actions_of (at_port e ∷ h) = actions_of h
 actions_of (began o ∷ h) = actions_of h
 actions_of (did a ps ∷ h) = actions_of h ++ a ∷ []
 actions_of (made_end ∷ h) = actions_of h
+actions_of (evened ∷ h) = actions_of h ++ Override normal_overrides ∷ []
+actions_of (paused ∷ h) = actions_of h
 actions_of (became call m ∷ h) = actions_of h
 actions_of (closing ∷ h) = actions_of h
 actions_of (turned t ∷ h) = actions_of h
@@ -183,6 +205,8 @@ planned_of (at_port e ∷ h) = planned_of h
 planned_of (began o ∷ h) = planned_of h
 planned_of (did a ps ∷ h) = planned_of h ++ ps
 planned_of (made_end ∷ h) = planned_of h
+planned_of (evened ∷ h) = planned_of h
+planned_of (paused ∷ h) = planned_of h
 planned_of (became call m ∷ h) = planned_of h
 planned_of (closing ∷ h) = planned_of h
 planned_of (turned t ∷ h) = planned_of h
@@ -194,6 +218,8 @@ given_of (at_port e ∷ h) = given_of h
 given_of (began o ∷ h) = given_of h
 given_of (did a ps ∷ h) = given_of h ++ ps
 given_of (made_end ∷ h) = given_of h ++ pieces.End ∷ []
+given_of (evened ∷ h) = given_of h
+given_of (paused ∷ h) = given_of h
 given_of (became call m ∷ h) = given_of h
 given_of (closing ∷ h) = given_of h
 given_of (turned t ∷ h) = given_of h
@@ -209,6 +235,8 @@ hand_of (at_port e ∷ h) = hand_at e (hand_of h)
 hand_of (began o ∷ h) = hand_of h
 hand_of (did a ps ∷ h) = hand_of h ++ ps
 hand_of (made_end ∷ h) = hand_of h ++ pieces.End ∷ []
+hand_of (evened ∷ h) = hand_of h
+hand_of (paused ∷ h) = hand_of h
 hand_of (became call m ∷ h) = hand_of h
 hand_of (closing ∷ h) = hand_of h
 hand_of (turned t ∷ h) = hand_of h
@@ -228,6 +256,8 @@ plan_of (at_port e ∷ h) = plan_of h
 plan_of (began o ∷ h) = plan_of h
 plan_of (did a ps ∷ h) = behind a ps (plan_of h)
 plan_of (made_end ∷ h) = plan_of h
+plan_of (evened ∷ h) = behind (Override normal_overrides) [] (plan_of h)
+plan_of (paused ∷ h) = plan_of h
 plan_of (became call m ∷ h) = plan_of h
 plan_of (closing ∷ h) = plan_of h
 plan_of (turned t ∷ h) = plan_of h
@@ -239,6 +269,8 @@ motion_of (at_port e ∷ h) = motion_of h
 motion_of (began o ∷ h) = motion_of h
 motion_of (did a ps ∷ h) = motion_of h
 motion_of (made_end ∷ h) = motion_of h
+motion_of (evened ∷ h) = motion_of h
+motion_of (paused ∷ h) = motions.Held
 motion_of (became call m ∷ h) = m
 motion_of (closing ∷ h) = motion_of h
 motion_of (turned t ∷ h) = motion_of h

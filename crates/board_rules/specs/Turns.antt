@@ -2,23 +2,25 @@
 use Rattle.std.specs.Prelude.{ℕ, ◌+◌, Bool, true, false, ◌&&◌, ◌||◌, not, cond, nat_eq, nat_le, nat_lt, List, [], ◌∷◌, length}
 use Rattle.std.specs.List.{list_any}
 use Rattle.feed_hold.specs.declared.Motion.{Motion}
-use Rattle.feed_hold.specs.declared.Motion.TheVariants.{Idle, Run, Jog, Alarm}
+use Rattle.feed_hold.specs.declared.Motion.TheVariants.{Idle, Run, Holding, Held, Jog, Alarm}
+use Rattle.feed_hold.specs.Motions.{asks, hold_byte, start_byte, is_stopping}
+use Rattle.feed_hold.specs.Motions.Call.{on_exec}
 use Rattle.outside.specs.declared.On.{On}
 use Rattle.outside.specs.declared.Turn.{Turn}
 use Rattle.outside.specs.declared.Turn.TheVariants.{Wait}
 use Rattle.planner_ring.specs.declared.Block.{Block}
 use Rattle.plan_passes.specs.Plans.{Planned}
-use Rattle.planner_runs.specs.declared.Action.TheVariants.{Add}
+use Rattle.planner_runs.specs.declared.Action.TheVariants.{Add, Override}
 use Rattle.planner_runs.specs.Runs.{most_blocks}
 use Rattle.run_rules.specs.Work.{Task}
-use Rattle.run_rules.specs.Work.Task.{ask, tell, finish}
+use Rattle.run_rules.specs.Work.Task.{ask, tell, pause, normal, finish}
 use Rattle.run_rules.specs.Outcomes.{most_kept}
-use Rattle.step_line.specs.Asking.Asked.{a_rest}
+use Rattle.step_line.specs.Asking.Asked.{a_move, a_rest}
 use Rattle.system_lines.specs.Commands.{kind_of, needs_rest}
-use Rattle.board_rules.specs.Ports.{PortStep}
+use Rattle.board_rules.specs.Ports.{PortStep, has_changes}
 use Rattle.board_rules.specs.Ports.PortStep.{took, found_empty, found_closed, answered, no_reply_room, took_exec, took_ovr, published, no_piece_room, loaded}
 use Rattle.board_rules.specs.Steps.{Step, Journal, open_of, whole_of, left_of, plan_of, motion_of}
-use Rattle.board_rules.specs.Steps.Step.{at_port, began, did, made_end, became, closing, turned}
+use Rattle.board_rules.specs.Steps.Step.{at_port, began, did, made_end, evened, paused, became, closing, turned}
 
 -- the steps behind the last turn's end
 abbrev pub this_turn : Journal → Journal
@@ -27,6 +29,8 @@ this_turn (at_port e ∷ h) = at_port e ∷ this_turn h
 this_turn (began o ∷ h) = began o ∷ this_turn h
 this_turn (did a ps ∷ h) = did a ps ∷ this_turn h
 this_turn (made_end ∷ h) = made_end ∷ this_turn h
+this_turn (evened ∷ h) = evened ∷ this_turn h
+this_turn (paused ∷ h) = paused ∷ this_turn h
 this_turn (became call m ∷ h) = became call m ∷ this_turn h
 this_turn (closing ∷ h) = closing ∷ this_turn h
 this_turn (turned t ∷ h) = []
@@ -78,6 +82,76 @@ abbrev pub loads : Step → Bool
 loads (at_port (loaded done)) = true
 loads _ = false
 
+-- ---- the words of flags
+
+abbrev pub takes_requests : Step → Bool
+takes_requests (at_port (took_exec word)) = true
+takes_requests _ = false
+
+-- what a word of requests asks of the motion is done
+abbrev pub obeys : Step → Bool
+obeys (became (on_exec word queued) m) = true
+obeys _ = false
+
+-- a word that changes overrides is taken
+abbrev pub takes_changes : Step → Bool
+takes_changes (at_port (took_ovr word)) = has_changes word
+takes_changes _ = false
+
+-- it is planned for other overrides
+abbrev pub replans : Step → Bool
+replans (did (Override o) ps) = true
+replans _ = false
+
+-- a word of requests is taken with which a machine that is held stays so
+abbrev pub asks_no_start : Step → Bool
+asks_no_start (at_port (took_exec word)) = not (asks word start_byte) || asks word hold_byte
+asks_no_start _ = false
+
+abbrev pub requests_at : PortStep → Bool → Bool
+requests_at (took b) taken = not (nat_eq b 10) && taken
+requests_at (took_exec word) taken = true
+requests_at e taken = taken
+
+abbrev pub changes_at : PortStep → Bool → Bool
+changes_at (took b) taken = not (nat_eq b 10) && taken
+changes_at (took_ovr word) taken = true
+changes_at e taken = taken
+
+abbrev pub by_wait : Turn → Bool → Bool
+by_wait (Wait on) taken = false
+by_wait t taken = taken
+
+-- the word of requests was taken since the last line was taken to its LF, and since anything was waited for
+abbrev pub requests_taken : Journal → Bool
+requests_taken [] = true
+requests_taken (at_port e ∷ h) = requests_at e (requests_taken h)
+requests_taken (began o ∷ h) = requests_taken h
+requests_taken (did a ps ∷ h) = requests_taken h
+requests_taken (made_end ∷ h) = requests_taken h
+requests_taken (evened ∷ h) = requests_taken h
+requests_taken (paused ∷ h) = requests_taken h
+requests_taken (became call m ∷ h) = requests_taken h
+requests_taken (closing ∷ h) = requests_taken h
+requests_taken (turned t ∷ h) = by_wait t (requests_taken h)
+
+-- so was the word of changes of overrides
+abbrev pub changes_taken : Journal → Bool
+changes_taken [] = true
+changes_taken (at_port e ∷ h) = changes_at e (changes_taken h)
+changes_taken (began o ∷ h) = changes_taken h
+changes_taken (did a ps ∷ h) = changes_taken h
+changes_taken (made_end ∷ h) = changes_taken h
+changes_taken (evened ∷ h) = changes_taken h
+changes_taken (paused ∷ h) = changes_taken h
+changes_taken (became call m ∷ h) = changes_taken h
+changes_taken (closing ∷ h) = changes_taken h
+changes_taken (turned t ∷ h) = by_wait t (changes_taken h)
+
+-- both were
+abbrev pub flags_taken : Journal → Bool
+flags_taken h = requests_taken h && changes_taken h
+
 -- ---- what is next
 
 -- a reply is told
@@ -85,11 +159,20 @@ abbrev pub tells_next : List Task → Bool
 tells_next (tell r ∷ tasks) = true
 tells_next _ = false
 
--- the motion is waited for: by a rest, or by the end
+-- the motion is waited for: by a rest, a pause, the overrides that are set at the end of a program, or the end
 abbrev pub awaits_motion : List Task → Bool
 awaits_motion (ask a_rest ∷ tasks) = true
+awaits_motion (pause ∷ tasks) = true
+awaits_motion (normal ∷ tasks) = true
 awaits_motion (finish ∷ tasks) = true
 awaits_motion _ = false
+
+-- What is next does not go on while the machine is held, or slows down for that: a line that was taken whole is not begun, a
+-- move has no room in a full plan, and the motion is waited for.
+abbrev pub needs_motion : List Task → (whole full : Bool) → Bool
+needs_motion [] whole full = whole
+needs_motion (ask (a_move m) ∷ tasks) whole full = full
+needs_motion tasks whole full = awaits_motion tasks
 
 abbrev pub begins_with_dollar : List ℕ → Bool
 begins_with_dollar [] = false
@@ -136,27 +219,56 @@ begins_in Jog = true
 begins_in Alarm = true
 begins_in _ = false
 
--- a segment is due: the machine runs, and the plan has an event left
+-- it moves, and slows down to a stop
+abbrev pub is_slowing : Motion → ℕ → Bool
+is_slowing m speed = is_stopping m && not (nat_eq speed 0)
+
+-- the machine is held, or slows down for that
+abbrev pub is_halting : Motion → Bool
+is_halting Holding = true
+is_halting Held = true
+is_halting _ = false
+
+-- a segment is due: the plan has an event left, and the machine runs, or slows down to a stop
+abbrev pub has_segment : Motion → Planned → Bool
+has_segment m p = (is_going m || is_slowing m p.speed) && has_blocks p.blocks
+
 abbrev pub is_due : Journal → Bool
-is_due h = is_going (motion_of h) && has_blocks (plan_of h).blocks
+is_due h = has_segment (motion_of h) (plan_of h)
+
+-- what is next does not go on while the machine is held, or slows down for that
+abbrev pub is_held_up : Journal → Bool
+is_held_up h = needs_motion (left_of h) (whole_of h) (is_full (plan_of h))
 
 -- ---- from turn to turn
 
-abbrev pub tries_at : PortStep → List Task → ℕ → ℕ
-tries_at (took b) tasks n = 0
-tries_at found_empty tasks n = 0
-tries_at found_closed tasks n = 0
-tries_at (published p) [] n = n + 1
-tries_at (no_piece_room done) [] n = n + 1
-tries_at e tasks n = n
+-- a try to publish a piece is counted: nothing is left to do, and no line waits for a machine that is held, or slows down for
+-- that
+abbrev pub counts_tries : List Task → (whole : Bool) → Motion → Bool
+counts_tries [] whole m = not (is_halting m && whole)
+counts_tries tasks whole m = false
 
--- how often a piece was tried to be published since the last poll for a byte, while nothing was left to do
+abbrev pub is_counted : Journal → Bool
+is_counted h = counts_tries (left_of h) (whole_of h) (motion_of h)
+
+abbrev pub tries_at : PortStep → (counted : Bool) → ℕ → ℕ
+tries_at (took b) counted n = 0
+tries_at found_empty counted n = 0
+tries_at found_closed counted n = 0
+tries_at (published p) counted n = cond counted (n + 1) n
+tries_at (no_piece_room done) counted n = cond counted (n + 1) n
+tries_at e counted n = n
+
+-- how often a piece was tried to be published since the last poll for a byte, while nothing was left to do, and no line waited
+-- for a machine that is held, or slows down for that
 abbrev pub tries_of : Journal → ℕ
 tries_of [] = 0
-tries_of (at_port e ∷ h) = tries_at e (left_of h) (tries_of h)
+tries_of (at_port e ∷ h) = tries_at e (is_counted h) (tries_of h)
 tries_of (began o ∷ h) = tries_of h
 tries_of (did a ps ∷ h) = tries_of h
 tries_of (made_end ∷ h) = tries_of h
+tries_of (evened ∷ h) = tries_of h
+tries_of (paused ∷ h) = tries_of h
 tries_of (became call m ∷ h) = tries_of h
 tries_of (closing ∷ h) = tries_of h
 tries_of (turned t ∷ h) = tries_of h
@@ -177,6 +289,8 @@ missed_of (at_port e ∷ h) = missed_at e (missed_of h)
 missed_of (began o ∷ h) = true
 missed_of (did a ps ∷ h) = missed_of h
 missed_of (made_end ∷ h) = missed_of h
+missed_of (evened ∷ h) = missed_of h
+missed_of (paused ∷ h) = missed_of h
 missed_of (became call m ∷ h) = missed_of h
 missed_of (closing ∷ h) = missed_of h
 missed_of (turned t ∷ h) = missed_of h && is_due h
@@ -197,6 +311,8 @@ waits_of (at_port e ∷ h) = waits_at e (waits_of h)
 waits_of (began o ∷ h) = waits_of h
 waits_of (did a ps ∷ h) = waits_of h
 waits_of (made_end ∷ h) = waits_of h
+waits_of (evened ∷ h) = waits_of h
+waits_of (paused ∷ h) = waits_of h
 waits_of (became call m ∷ h) = waits_of h
 waits_of (closing ∷ h) = waits_of h
 waits_of (turned t ∷ h) = waits_by t (waits_of h)
@@ -213,6 +329,8 @@ begun_while_due (at_port e ∷ h) = begun_at e (begun_while_due h)
 begun_while_due (began o ∷ h) = cond (is_due h) (begun_while_due h) 0 + 1
 begun_while_due (did a ps ∷ h) = begun_while_due h
 begun_while_due (made_end ∷ h) = begun_while_due h
+begun_while_due (evened ∷ h) = begun_while_due h
+begun_while_due (paused ∷ h) = begun_while_due h
 begun_while_due (became call m ∷ h) = begun_while_due h
 begun_while_due (closing ∷ h) = begun_while_due h
 begun_while_due (turned t ∷ h) = cond (is_due h) (begun_while_due h) 0
@@ -224,6 +342,8 @@ waits_while_due (at_port e ∷ h) = waits_at e (waits_while_due h)
 waits_while_due (began o ∷ h) = waits_while_due h
 waits_while_due (did a ps ∷ h) = waits_while_due h
 waits_while_due (made_end ∷ h) = waits_while_due h
+waits_while_due (evened ∷ h) = waits_while_due h
+waits_while_due (paused ∷ h) = waits_while_due h
 waits_while_due (became call m ∷ h) = waits_while_due h
 waits_while_due (closing ∷ h) = waits_while_due h
 waits_while_due (turned t ∷ h) = cond (is_due h) (waits_by t (waits_while_due h)) []

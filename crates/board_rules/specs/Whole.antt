@@ -4,7 +4,7 @@ use Rattle.std.specs.List.{AllByRecursion}
 use Rattle.planner_runs.specs.Runs.{IsAtRest}
 use Rattle.run_rules.specs.Lines.{HasNoLf, ended}
 use Rattle.run_rules.specs.Work.{Task, Outcome, has_moves}
-use Rattle.run_rules.specs.Work.Task.{ask, tell, finish}
+use Rattle.run_rules.specs.Work.Task.{ask, tell, pause, normal, finish}
 use Rattle.step_line.specs.Asking.Asked.{a_move, a_mark, a_rest}
 use Rattle.step_line.specs.declared.Piece.TheVariants as pieces
 use Rattle.board_rules.specs.Steps.{Journal, known_of, given_of, planned_of, hand_of, plan_of, whole_of, has_closed, left_of}
@@ -35,6 +35,8 @@ has_work (ask (a_move m) ∷ ts) = true
 has_work (ask (a_mark m) ∷ ts) = true
 has_work (ask a_rest ∷ ts) = has_work ts
 has_work (tell r ∷ ts) = has_work ts
+has_work (pause ∷ ts) = has_work ts
+has_work (normal ∷ ts) = has_work ts
 has_work (finish ∷ ts) = has_work ts
 
 -- the machine is waited for, and no move or mark is asked for behind that
@@ -44,6 +46,8 @@ comes_to_rest (ask a_rest ∷ ts) = cond (has_work ts) (comes_to_rest ts) true
 comes_to_rest (ask (a_move m) ∷ ts) = comes_to_rest ts
 comes_to_rest (ask (a_mark m) ∷ ts) = comes_to_rest ts
 comes_to_rest (tell r ∷ ts) = comes_to_rest ts
+comes_to_rest (pause ∷ ts) = comes_to_rest ts
+comes_to_rest (normal ∷ ts) = comes_to_rest ts
 comes_to_rest (finish ∷ ts) = comes_to_rest ts
 
 -- What there is to do of a line brings the machine to rest where the line settles; and where it moves nothing, it does so or

@@ -1,28 +1,37 @@
 //! Laws of boards.
 
-ghost use Rattle.std.specs.Prelude.{◌≡◌, ℕ, ◌+◌, ◌^◌, ◌≤◌, ◌<◌, ◌⊎◌, Bool, true, false, cond, List, [], ◌∷◌, ◌++◌, length, map, reverse};
-ghost use Rattle.std.specs.List.{count_by};
-ghost use Rattle.feed_hold.specs.declared.Motion.TheVariants.{Idle, Run};
+ghost use Rattle.std.specs.Prelude.{◌≡◌, ◌↔◌, ℕ, ◌+◌, ◌^◌, ◌≤◌, ◌<◌, ◌⊎◌, Bool, true, false, ◌&&◌, ◌||◌, cond, List, [], ◌∷◌, ◌++◌, length, map, reverse, Some};
+ghost use Rattle.std.specs.List.{count_by, list_any};
+ghost use Rattle.code_table.specs.declared.flags.Exec.{Exec as AnyExec};
+ghost use Rattle.feed_hold.specs.declared.Motion.{Motion as AnyMotion};
+ghost use Rattle.feed_hold.specs.declared.Motion.TheVariants.{Idle, Run, Holding, Held};
+ghost use Rattle.feed_hold.specs.Motions.{after, is_stopping};
+ghost use Rattle.feed_hold.specs.Motions.Call.{on_exec, on_stopped};
 ghost use Rattle.outside.specs.declared.On.{On as AnyOn};
 ghost use Rattle.outside.specs.declared.On.TheVariants as causes;
 ghost use Rattle.outside.specs.declared.Turn.TheVariants.{Wait};
-ghost use Rattle.planner_runs.specs.Runs.{IsPlannerRun, IsUndisturbed, all_asked};
+ghost use Rattle.planner_runs.specs.declared.Action.TheVariants.{Take};
+ghost use Rattle.planner_runs.specs.Runs.{IsPlannerRun, DisturbedOnlyBy, normal_overrides, all_asked};
 ghost use Rattle.run_rules.specs.declared.State.{State};
-ghost use Rattle.run_rules.specs.Work.{Outcome, tells, asks};
+ghost use Rattle.run_rules.specs.Work.{Outcome, tells, asks, has_normal};
 ghost use Rattle.run_rules.specs.Work.Task.{ask, tell};
 ghost use Rattle.run_rules.specs.Told.{replies_in, asked_in};
 ghost use Rattle.run_rules.specs.Outcomes.{Before, Becomes, Follows, start, refused};
 ghost use Rattle.run_rules.specs.Outcomes.Passed.{a_line};
 ghost use Rattle.status_report.specs.declared.Reply.{Reply as AnyReply};
+ghost use Rattle.segment_prep.specs.declared.Mode.TheVariants.{Go, Hold};
 ghost use Rattle.step_line.specs.Asking.Asked.{a_move};
 ghost use Rattle.step_line.specs.Finishing.{tick_count, unfinished, most_unfinished};
 ghost use Rattle.step_line.specs.declared.planned_move.PlannedMove.{PlannedMove as AnyMove};
 ghost use Rattle.step_line.specs.Ordering.{InTurn, ComesNext};
 ghost use Rattle.status_report.specs.Answering.{lfs_in, is_answer, answers_in};
 ghost use Rattle.step_line.specs.declared.Piece.{Piece as AnyPiece};
-ghost use Rattle.board_rules.specs.Steps.Step.{turned};
+ghost use Rattle.board_rules.specs.Steps.Step.{at_port, began, did, became, turned};
+ghost use Rattle.board_rules.specs.Ports.{has_held_in, has_changed_in};
+ghost use Rattle.board_rules.specs.Ports.PortStep.{took_exec};
 ghost use Rattle.board_rules.specs.Steps.{
   Journal,
+  port_log,
   taken_of,
   answered_of,
   published_of,
@@ -41,13 +50,22 @@ ghost use Rattle.board_rules.specs.Steps.{
   plan_of,
   motion_of,
 };
-ghost use Rattle.board_rules.specs.Conduct.{Conducted, AreWaiting, IsDrained, IsInHand, IsNextTask, IsFinished, ticks_given, ticks_published};
+ghost use Rattle.board_rules.specs.Conduct.{Conducted, AreWaiting, IsDrained, HasSlowedDown, IsStopped, IsInHand, IsNextTask, IsFinished, ticks_given, ticks_published};
 ghost use Rattle.board_rules.specs.Turns.{
   this_turn,
   publishing,
   ends_turn,
   tells_next,
   awaits_motion,
+  is_held_up,
+  takes_requests,
+  obeys,
+  takes_changes,
+  replans,
+  asks_no_start,
+  requests_taken,
+  changes_taken,
+  loads,
   is_full,
   starts_cycle,
   is_run,
@@ -89,11 +107,18 @@ pub fn boards_do_a_bounded_amount()
     ensures replies { (first : State) (h : Journal) → Conducted first h → length (answered_of h) < 2 ^ 62 }
 {}
 
-/// What a board does to its plan is a planner run, which no hand disturbs. What was given is what the plan gave, and the end
-/// behind it where it was made; it is published, or in hand, and comes in turn, so that the piece in hand may be published.
+/// What a board does to its plan is a planner run. Only a word that asks for a hold slows it down, and only a word that changes
+/// overrides, or the end of a program, plans it for others; before that they are at 100 percent. Segments go on while the
+/// machine runs, and slow it down while it is being held. What was given is what the plan gave, and the end behind it where it
+/// was made; it is published, or in hand, and comes in turn, so that the piece in hand may be published.
 pub fn boards_run_their_plan()
     ensures run { (first : State) (h : Journal) → Conducted first h → IsPlannerRun (actions_of h) (planned_of h) (plan_of h) }
-    ensures undisturbed { (first : State) (h : Journal) → Conducted first h → IsUndisturbed (actions_of h) }
+    ensures disturbed { (first : State) (h : Journal) → Conducted first h →
+        DisturbedOnlyBy (has_held_in (port_log h)) (has_changed_in (port_log h) || list_any (λ o. has_normal o.work) (outcomes_of h)) (actions_of h) }
+    ensures overrides { (first : State) (h : Journal) → Conducted first h → has_changed_in (port_log h) ≡ false → (plan_of h).overrides ≡ normal_overrides }
+    ensures held { (first : State) (h : Journal) → Conducted first h → motion_of h ≡ Holding → has_held_in (port_log h) ≡ true }
+    ensures going { (first : State) (h : Journal) (ps : List AnyPiece) → Conducted first (did (Take Go) ps ∷ h) → motion_of h ≡ Run }
+    ensures slowing { (first : State) (h : Journal) (ps : List AnyPiece) → Conducted first (did (Take Hold) ps ∷ h) → motion_of h ≡ Holding }
     ensures hand { (first : State) (h : Journal) → Conducted first h → given_of h ≡ published_of h ++ hand_of h }
     ensures end { (first : State) (h : Journal) → Conducted first h → (given_of h ≡ planned_of h) ⊎ (given_of h ≡ planned_of h ++ AnyPiece.End ∷ []) }
     ensures turns { (first : State) (h : Journal) → Conducted first h → InTurn (reverse (given_of h)) }
@@ -115,28 +140,50 @@ pub fn boards_stand_where_nothing_moved()
         left_of h ≡ [] → is_run (motion_of h) ≡ true → (IsDrained h → ⊥) → is_served_at_rest (open_of h) ≡ true →
         Becomes (is_run (motion_of h)) (before_of first h) (open_of h) (refused (before_of first h) 8) }
     ensures works { (runs : Bool) (before : Before) (kept : List ℕ) (outcome : Outcome) → Becomes runs before kept outcome → WorkRests outcome }
-    ensures motion { (first : State) (h : Journal) → Conducted first h → (motion_of h ≡ Idle) ⊎ (motion_of h ≡ Run) }
+    ensures motion { (first : State) (h : Journal) → Conducted first h → (motion_of h ≡ Idle) ⊎ ((motion_of h ≡ Run) ⊎ ((motion_of h ≡ Holding) ⊎ (motion_of h ≡ Held))) }
 {}
 
 /// A board publishes one thing a turn at most, and between two turns no more than five tries to publish stand behind its last
-/// poll, while nothing was left to do.
+/// poll, while nothing was left to do, and no line waited for a machine that is held, or slows down for that. Between two turns
+/// each word of requests that was taken is obeyed, and for each word that changes overrides the plan is made anew, once each.
 pub fn boards_take_turns()
     ensures once { (first : State) (h : Journal) → Conducted first h → this_turn h ≡ [] → count_by publishing h ≤ count_by ends_turn h }
     ensures tries { (first : State) (h : Journal) → Conducted first h → this_turn h ≡ [] → tries_of h ≤ most_tries }
+    ensures obeyed { (first : State) (h : Journal) → Conducted first h → this_turn h ≡ [] → count_by obeys h ≡ count_by takes_requests h }
+    ensures changed { (first : State) (h : Journal) → Conducted first h → this_turn h ≡ [] → count_by replans h ≡ count_by takes_changes h }
+{}
+
+/// A line is begun once both words of flags were taken behind its LF. Where anything is waited for, both were taken since the
+/// last wait. A word of requests lets a machine that is held stay so where it asks for no start, or for a hold. A machine that
+/// slows down is held once it has stopped and each tick is done; that is looked after before it obeys a word, so that a
+/// machine that has stopped is held by then.
+pub fn boards_take_their_flags()
+    ensures begun { (first : State) (h : Journal) (o : Outcome) → Conducted first (began o ∷ h) → (requests_taken h ≡ true) × (changes_taken h ≡ true) }
+    ensures waited { (first : State) (h : Journal) (o : AnyOn) → Conducted first (turned (Wait o) ∷ h) → (requests_taken h ≡ true) × (changes_taken h ≡ true) }
+    ensures stays { (word : AnyExec) (queued : Bool) → (asks_no_start (at_port (took_exec word)) ≡ true) ↔ (after (on_exec word queued) Held ≡ Some Held) }
+    ensures held { (first : State) (h : Journal) (m : AnyMotion) → Conducted first (became on_stopped m ∷ h) → IsStopped h }
+    ensures looked { (first : State) (h : Journal) (word : AnyExec) (queued : Bool) (m : AnyMotion) → Conducted first (became (on_exec word queued) m ∷ h) →
+        HasSlowedDown h → list_any loads (this_turn h) ≡ true }
+    ensures stopped { (first : State) (h : Journal) (word : AnyExec) (queued : Bool) (m : AnyMotion) → Conducted first (became (on_exec word queued) m ∷ h) →
+        IsStopped h → ⊥ }
 {}
 
 /// A turn that ends in a wait has a cause. For a byte: none was found, and nothing is left to do. For room for a reply: a
 /// reply is next. For room for a segment: five of the published pieces are unfinished, while so many ticks are done. For
-/// motion: some of the published ticks were found not to be done, and a rest, or the end, is next. It waits for nothing else.
+/// motion: some of the published ticks were found not to be done, and what is next waits for them, or for the machine that is
+/// being held. For a resume: the machine is held, the word of requests that was taken lets it stay so, and what is next does
+/// not go on before. It waits for nothing else.
 pub fn boards_wait_for_a_cause()
     ensures byte { (first : State) (h : Journal) → Conducted first (turned (Wait causes.Byte) ∷ h) → (left_of h ≡ []) × (whole_of h ≡ false) }
     ensures reply_room { (first : State) (h : Journal) → Conducted first (turned (Wait causes.ReplyRoom) ∷ h) → tells_next (left_of h) ≡ true }
     ensures segment_room { (first : State) (h : Journal) → Conducted first (turned (Wait causes.SegmentRoom) ∷ h) →
         (done : ℕ) × (unfinished (published_of h) done ≡ most_unfinished) }
     ensures motion { (first : State) (h : Journal) → Conducted first (turned (Wait causes.Motion) ∷ h) →
-        (known_of h < ticks_published h) × (awaits_motion (left_of h) ≡ true) }
+        (known_of h < ticks_published h) × ((awaits_motion (left_of h) || (is_stopping (motion_of h) && is_held_up h)) ≡ true) }
+    ensures resume { (first : State) (h : Journal) → Conducted first (turned (Wait causes.Resume) ∷ h) → (motion_of h ≡ Held) × (is_held_up h ≡ true) }
+    ensures unasked { (first : State) (h : Journal) → Conducted first (turned (Wait causes.Resume) ∷ h) → list_any asks_no_start (this_turn h) ≡ true }
     ensures causes { (first : State) (h : Journal) (o : AnyOn) → Conducted first (turned (Wait o) ∷ h) →
-        (o ≡ causes.Byte) ⊎ ((o ≡ causes.ReplyRoom) ⊎ ((o ≡ causes.SegmentRoom) ⊎ (o ≡ causes.Motion))) }
+        (o ≡ causes.Byte) ⊎ ((o ≡ causes.ReplyRoom) ⊎ ((o ≡ causes.SegmentRoom) ⊎ ((o ≡ causes.Motion) ⊎ (o ≡ causes.Resume)))) }
 {}
 
 /// Between two turns a move that is next is added, unless the plan is full, and no queued block waits for a start that is

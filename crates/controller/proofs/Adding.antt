@@ -1,5 +1,5 @@
 -- Moves are added to the plan, one by one, and queued blocks are started.
-use Rattle.std.proofs.Common.{◌≡◌, ◌⊎◌, inl, inr, Bool, List, [], ◌∷◌, ◌||◌, ◌&&◌, true, false, refl, sym, ap, ◌∙◌, subst, append-nil}
+use Rattle.std.proofs.Common.{◌≡◌, ◌⊎◌, inl, inr, Bool, List, [], ◌∷◌, ◌||◌, ◌&&◌, true, false, refl, sym, ap, ◌∙◌, subst, arith, append-nil}
 use Rattle.std.specs.List.{list_any}
 use Rattle.feed_hold.specs.declared.Motion.TheVariants as motions
 use Rattle.feed_hold.specs.Motions.Call.{on_start}
@@ -34,7 +34,7 @@ first_is_next m h mid (inr s) next = s.0
 
 pub adds_one : (m : PlannedMove) (h mid : Journal) → Adds h mid → IsNextTask (ask (a_move m)) mid → Adds h (did (Add m) [] ∷ mid)
 adds_one m h mid a next = record {
-  alone = alone_on h mid (did (Add m) [] ∷ mid) a.alone (alone_did (Add m) [] mid);
+  alone = alone_on h mid (did (Add m) [] ∷ mid) a.alone (alone_did (Add m) [] mid refl);
   hand = append-nil (hand_of mid) ∙ a.hand;
   motion = a.motion;
   some = inr (first_is_next m h mid a.some next, refl);
@@ -63,16 +63,18 @@ has_added h next a fits = record {
 pub none_fits_full : (c : Controller) (h : Journal) → Keeps c h → is_full c.machine.plan ≡ true → NoneFits h
 none_fits_full c h k full m next = subst (λ (p : Planned). is_full p ≡ true) k.machine.plan_is full
 
-no_move : (t : Todo) (tasks : List Task) → IsTodo t tasks → ((m : PlannedMove) → t ≡ todo.Move m → ⊥) → (m : PlannedMove) → IsNextOf (ask (a_move m)) tasks → ⊥
+no_move : (t : Todo) (tasks : List Task) → IsTodo t tasks → (t ≡ todo.Move → ⊥) → (m : PlannedMove) → IsNextOf (ask (a_move m)) tasks → ⊥
 no_move todo.Nothing tasks is other m next = absurd cc
 no_move todo.Rest tasks is other m next = absurd cc
 no_move (todo.Mark mark) tasks is other m next = let e = is.0 in absurd cc
-no_move (todo.Move mv) tasks is other m next = other mv refl
-no_move (todo.Tell r) tasks is other m next = let e = is.0 in absurd cc
+no_move todo.Move tasks is other m next = other refl
+no_move todo.Tell tasks is other m next = let e = is.1 in absurd cc
+no_move todo.Pause tasks is other m next = absurd cc
+no_move todo.Normal tasks is other m next = absurd cc
 no_move todo.Finish tasks is other m next = absurd cc
 
 -- no move is next
-pub none_fits_other : (c : Controller) (h : Journal) (t : Todo) → Keeps c h → IsTodo t c.lines.left → ((m : PlannedMove) → t ≡ todo.Move m → ⊥) → NoneFits h
+pub none_fits_other : (c : Controller) (h : Journal) (t : Todo) → Keeps c h → IsTodo t c.lines.left → (t ≡ todo.Move → ⊥) → NoneFits h
 none_fits_other c h t k is other m next = absurd (no_move t (left_of h) (subst (IsTodo t) k.lines.left_is is) other m next)
 
 pub has_room_now : (c : Controller) (h : Journal) → Keeps c h → is_full c.machine.plan ≡ false → is_full (plan_of h) ≡ false
@@ -116,7 +118,7 @@ filled_added h next a none = record {
 -- the cycle starts behind the moves
 pub filled_started : (h mid : Journal) → HasAdded h mid → HasFilled h (became (on_start false) motions.Run ∷ mid)
 filled_started h mid a = record {
-  alone = alone_on h mid (became (on_start false) motions.Run ∷ mid) a.alone (alone_motion (on_start false) motions.Run mid);
+  alone = alone_on h mid (became (on_start false) motions.Run ∷ mid) a.alone (alone_motion (on_start false) motions.Run mid refl (omega arith));
   hand = a.hand;
   adds = a.adds;
   none_waits = λ w. absurd (let x = w.stands in cc);

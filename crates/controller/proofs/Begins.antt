@@ -1,5 +1,5 @@
 -- A line that was taken whole is begun.
-use Rattle.std.proofs.Common.{◌≡◌, ℕ, ◌+◌, ◌≤◌, ◌⊎◌, inl, inr, Bool, true, false, ◌&&◌, ◌||◌, not, List, [], ◌∷◌, ◌++◌, length, nat_eq, nat_lt, sym, refl, ap, ◌∙◌, subst, arith, append_assoc}
+use Rattle.std.proofs.Common.{◌≡◌, ℕ, ◌+◌, ◌≤◌, inl, Bool, true, false, ◌&&◌, ◌||◌, not, List, [], ◌∷◌, ◌++◌, length, nat_eq, nat_lt, sym, refl, ap, ◌∙◌, subst, arith, append_assoc}
 use Rattle.std.specs.List.{list_any, count_by}
 use Rattle.feed_hold.specs.declared.Motion.{Motion as AnyMotion}
 use Rattle.feed_hold.specs.declared.Motion.TheVariants as motions
@@ -15,18 +15,20 @@ use Rattle.line_interpreter.specs.Interpreting.{Interpreting}
 use Rattle.line_interpreter.proofs.Judging.{becomes_still, becomes_on}
 use Rattle.board_rules.specs.Steps.{Journal, open_of, whole_of, before_of, left_of, plan_of, motion_of}
 use Rattle.board_rules.specs.Steps.Step.{began, became}
-use Rattle.board_rules.specs.Turns.{this_turn, publishing, found_none, has_blocks, tries_of, missed_of, is_due, is_run, is_going, begins_in, begins_with_dollar, is_served_at_rest, is_full, awaits_motion, starts_cycle}
+use Rattle.board_rules.specs.Turns.{this_turn, publishing, found_none, has_blocks, tries_of, missed_of, is_due, is_run, is_going, begins_with_dollar, is_served_at_rest, is_full, awaits_motion, starts_cycle}
 use Rattle.board_rules.specs.Conduct.{Conducted, MayBegin, MayStart, IsDrained}
-use Rattle.board_rules.proofs.Motions.{motion_is}
 use Rattle.board_rules.proofs.Quieting.{has_moved}
 use Rattle.controller.specs.declared.controller.Controller.{Controller}
 use Rattle.controller.specs.declared.input.Input.{Input}
 use Rattle.units.specs.Truths.{one_if}
+use Rattle.controller.specs.declared.controller.Flags.{Flags}
+use Rattle.controller.specs.declared.controller.Flags.TheVariants as words
 use Rattle.controller.specs.declared.controller.Beat.TheVariants.{Motion}
 use Rattle.controller.specs.Boards.{Keeps, Reads}
 use Rattle.controller.specs.Turning.{IsReady, IsWholeLine, IsLooked, MayJudge, PassesNothing, DidAlone, HasLooked, HasFilled, BoardWorked}
 use Rattle.controller.proofs.Standing.{blocks_undrained}
-use Rattle.controller.proofs.Ends.{did_filled}
+use Rattle.controller.proofs.Tries.{worked_behind}
+use Rattle.controller.proofs.Ends.{takes_none, did_filled}
 
 -- ---- what becomes of it
 
@@ -95,13 +97,6 @@ or_none a b false d ea eb ed = cc
 and_none : (a b : Bool) → a ≡ false → (a && b) ≡ false
 and_none a b e = cc
 
-begins : (first : State) (h : Journal) → Conducted first h → begins_in (motion_of h) ≡ true
-begins first h c = by_motion (motion_is first h c)
-  where
-    by_motion : (motion_of h ≡ motions.Idle) ⊎ (motion_of h ≡ motions.Run) → begins_in (motion_of h) ≡ true
-    by_motion (inl e) = ap begins_in e
-    by_motion (inr e) = ap begins_in e
-
 -- what was found of a line may become of it
 pub may_begin : (first : State) (h : Journal) (o : Outcome) → Conducted first h → MayJudge h → Found (is_run (motion_of h)) (before_of first h) (open_of h) o → MayBegin first o h
 may_begin first h o c may found = record {
@@ -110,7 +105,8 @@ may_begin first h o c may found = record {
   whole = may.looked.whole;
   becomes = becomes first h o c may (is_run (motion_of h)) refl found;
   refuses = λ runs is. refuses (before_of first h) (open_of h) o is (subst (λ (r : Bool). Found r (before_of first h) (open_of h) o) runs found);
-  begins = begins first h c;
+  begins = may.looked.begins;
+  flags = may.looked.flags;
   load = may.looked.load;
   idle = may.looked.idle;
   starts = λ waiting. or_none (list_any found_none (this_turn h)) (is_full (plan_of h) || awaits_motion (left_of h)) (whole_of h) (begins_with_dollar (open_of h)) may.looked.unpolled (may.looked.none_waits waiting) (may.starts waiting);
@@ -146,6 +142,9 @@ looked_whole h next ready line l =
       free = l.left ∙ line.free;
       going = p.closed ∙ line.going;
       whole = p.whole ∙ line.whole;
+      begins = l.begins;
+      worked = p.worked ready.quiet.worked;
+      flags = p.flags ∙ ready.quiet.flags;
       load = l.load;
       idle = l.idle;
       none_waits = l.none_waits ready.none_waits;
@@ -167,6 +166,9 @@ judges_started h l blocks = record {
     free = l.free;
     going = l.going;
     whole = l.whole;
+    begins = refl;
+    worked = worked_behind (became (on_start false) motions.Run) h (became (on_start false) motions.Run ∷ h) refl (record { no_requests = refl; none_obeyed = refl; no_changes = refl; none_planned = refl }) l.worked;
+    flags = l.flags;
     load = l.load;
     idle = λ d. absurd (blocks_undrained (became (on_start false) motions.Run ∷ h) blocks d);
     none_waits = λ w. absurd (let e = w.stands in cc);
@@ -183,13 +185,15 @@ few_where_whole tries true is few = omega (arith, few)
 few_where_whole tries false is few = absurd cc
 
 -- a line is begun, and moves are added behind it
-pub did_begin : (board : Controller) (h seen mid next : Journal) (o : Outcome) → IsReady h → IsWholeLine h → PassesNothing h seen → DidAlone seen mid → Keeps board next → board.beat ≡ Motion
-    → HasFilled (began o ∷ mid) next → BoardWorked Did board h next
-did_begin board h seen mid next o ready line look alone keeps beat filled =
+pub did_begin : (was : Flags) (board : Controller) (h seen mid next : Journal) (o : Outcome) → IsReady h → IsWholeLine h → PassesNothing h seen → DidAlone seen mid → Keeps board next → board.beat ≡ Motion
+    → board.flags ≡ words.None → HasFilled (began o ∷ mid) next → BoardWorked Did was board h next
+did_begin was board h seen mid next o ready line look alone keeps beat no_word filled =
     let a = alone.passes in
     let few = few_where_whole (tries_of h) (whole_of h) line.whole ready.tries in
     let quiet : count_by publishing (this_turn mid) ≡ 0 = a.quiet ∙ look.quiet ∙ ready.quiet.quiet in
     let tries : tries_of mid ≡ tries_of h = a.tries ∙ look.tries in
-    did_filled board h (began o ∷ mid) next (began o ∷ (a.steps ++ look.steps))
+    let worked = worked_behind (began o) mid (began o ∷ mid) refl (record { no_requests = refl; none_obeyed = refl; no_changes = refl; none_planned = refl }) (a.worked (look.worked ready.quiet.worked)) in
+    let taken = takes_none board next no_word (filled.alone.passes.flags ∙ a.flags ∙ look.flags ∙ ready.quiet.flags) in
+    did_filled was board h (began o ∷ mid) next (began o ∷ (a.steps ++ look.steps))
     (ap (λ (j : Journal). began o ∷ j) (a.are ∙ ap (λ (j : Journal). a.steps ++ j) look.are ∙ sym (append_assoc a.steps look.steps h)))
-    keeps beat filled (omega (arith, quiet)) (a.polled ∙ look.polled ∙ ready.unpolled) (omega (arith, few, tries)) (filled.alone.passes.moves refl)
+    keeps beat taken filled worked (omega (arith, quiet)) (a.polled ∙ look.polled ∙ ready.unpolled) (omega (arith, few, tries)) (inl (filled.alone.passes.moves refl))

@@ -1,41 +1,99 @@
 -- How a turn ends: by what was done in it its answer is allowed, and what holds between two turns holds again.
-use Rattle.std.proofs.Common.{◌≡◌, ◌+◌, ◌≤◌, ◌⊎◌, inl, inr, Bool, true, false, ◌||◌, ◌&&◌, List, [], ◌∷◌, ◌++◌, length, drop, sym, refl, ap, ◌∙◌, subst, arith, append_assoc}
+use Rattle.std.proofs.Common.{◌≡◌, ℕ, ◌+◌, ◌≤◌, ◌<◌, ◌⊎◌, inl, inr, Bool, true, false, ◌||◌, ◌&&◌, List, [], ◌∷◌, ◌++◌, length, nat_eq, drop, sym, refl, ap, ◌∙◌, subst, arith, append_assoc}
 use Rattle.std.specs.List.{list_any, count_by, Contains}
+use Rattle.feed_hold.specs.declared.Motion.{Motion as AnyMotion}
+use Rattle.feed_hold.specs.declared.Motion.TheVariants.{Holding, Held}
 use Rattle.outside.specs.declared.On.{On}
 use Rattle.outside.specs.declared.On.TheVariants.{SegmentRoom}
 use Rattle.outside.specs.declared.Turn.{Turn}
 use Rattle.outside.specs.declared.Turn.TheVariants.{Did, Wait, Done}
-use Rattle.run_rules.specs.Work.{Task}
-use Rattle.run_rules.specs.Work.Task.{ask, tell, finish}
+use Rattle.run_rules.specs.declared.State.{State}
+use Rattle.run_rules.specs.Work.{Task, pauses}
+use Rattle.run_rules.specs.Work.Task.{ask, tell, pause, normal, finish}
+use Rattle.status_report.specs.declared.Reply.{Reply}
 use Rattle.step_line.specs.Asking.Asked.{a_move, a_mark, a_rest}
 use Rattle.board_rules.specs.Ports.{PortLog}
-use Rattle.board_rules.specs.Steps.{Step, Journal, left_of, plan_of, whole_of}
+use Rattle.board_rules.specs.Steps.{Step, Journal, left_of, plan_of, motion_of, whole_of, closed_tells}
 use Rattle.board_rules.specs.Steps.Step.{turned}
-use Rattle.board_rules.specs.Turns.{this_turn, publishing, passing, moving, found_none, awaits_motion, is_full, has_blocks, is_going, is_due, starts_cycle, tries_of, missed_of, waits_of, waits_by}
-use Rattle.board_rules.specs.Conduct.{AreWaiting, IsNextTask}
+use Rattle.board_rules.specs.Turns.{
+  this_turn,
+  publishing,
+  passing,
+  moving,
+  found_none,
+  takes_requests,
+  obeys,
+  takes_changes,
+  replans,
+  flags_taken,
+  awaits_motion,
+  is_full,
+  is_halting,
+  is_counted,
+  has_blocks,
+  has_segment,
+  is_due,
+  starts_cycle,
+  tries_of,
+  missed_of,
+  waits_of,
+  waits_by,
+}
+use Rattle.board_rules.specs.Conduct.{Conducted, AreWaiting, IsNextTask}
 use Rattle.units.specs.Truths.{one_if}
 use Rattle.controller.specs.declared.controller.Controller.{Controller}
+use Rattle.controller.specs.declared.controller.Flags.{Flags}
+use Rattle.controller.specs.declared.controller.Flags.TheVariants as words
 use Rattle.controller.specs.declared.controller.Beat.TheVariants.{Motion, Main}
-use Rattle.controller.specs.Boards.{Keeps, Rounds, NoneWaits, IsBetween, BoardFits, BoardTurned, has_published}
-use Rattle.controller.specs.Turning.{IsNextMove, IsReady, MayRun, MayAwait, HasStopped, NeedsNoWait, PassesNothing, HasFilled, HasTried, BoardWorked, WorksOn}
-use Rattle.controller.proofs.Steps.{other_beat, ends}
+use Rattle.controller.specs.Boards.{Keeps, Rounds, NoneWaits, IsBetween, TakesFlags, BoardFits, BoardTurned, has_published, changes_left, number_of}
+use Rattle.controller.specs.Turning.{IsNextMove, AreWorked, IsQuiet, IsReady, MayRun, MayAwait, HasStopped, NeedsNoWait, GoesOn, PassesNothing, HasFilled, HasTried, BoardWorked, WorksOn}
+use Rattle.controller.proofs.Facts.{not_whole, uncounted, uncounted_line}
+use Rattle.controller.proofs.Steps.{other_beat, other_flags, ends}
 
 -- ---- what follows
 
+-- the board's number is no greater behind steps that pass nothing
+pub no_greater : (was : Flags) (h next : Journal) → pauses (left_of next) ≤ pauses (left_of h) → changes_left (motion_of next) ≤ changes_left (motion_of h) → closed_tells next ≡ closed_tells h
+    → number_of was next ≤ number_of was h
+no_greater was h next fewer slower same = let s = ap (λ (rs : List Reply). one_if (nat_eq (length rs) 0)) same in omega (arith, fewer, slower, s)
+
+pub number_passes : (was : Flags) (h next : Journal) → PassesNothing h next → number_of was next ≤ number_of was h
+number_passes was h next p = no_greater was h next p.pauses p.changes p.closed
+
+no_more : (n : ℕ) → n ≤ n
+no_more n = omega arith
+
+pub number_tried : (was : Flags) (p : Bool) (h next : Journal) → HasTried p h next → number_of was next ≤ number_of was h
+number_tried was p h next t =
+    no_greater was h next (subst (λ (ts : List Task). pauses ts ≤ pauses (left_of h)) (sym t.left) (no_more (pauses (left_of h))))
+    (subst (λ m. changes_left m ≤ changes_left (motion_of h)) (sym t.motion) (no_more (changes_left (motion_of h)))) t.closed
+
 -- what a board has worked up to an answer behind further steps
-pub worked_on : (t : Turn) (board : Controller) (h mid next : Journal) (steps : List Step) → mid ≡ steps ++ h → BoardWorked t board mid next → BoardWorked t board h next
-worked_on t board h mid next steps is w = record {
+pub worked_on : (t : Turn) (was : Flags) (board : Controller) (h mid next : Journal) (steps : List Step) → mid ≡ steps ++ h → number_of was mid ≤ number_of was h → BoardWorked t was board mid next
+    → BoardWorked t was board h next
+worked_on t was board h mid next steps is fewer w = record {
   keeps = w.keeps;
   rounds = w.rounds;
+  flags = w.flags;
+  still = w.still;
   beat = w.beat;
   steps = w.steps ++ steps;
   are = w.are ∙ ap (λ (x : Journal). w.steps ++ x) is ∙ sym (append_assoc w.steps steps h);
   may = w.may;
-  moves = w.moves;
+  moves = λ e. further (w.moves e);
 }
+  where
+    further : (list_any moving (this_turn next) ≡ true) ⊎ (number_of board.flags next < number_of was mid) → (list_any moving (this_turn next) ≡ true) ⊎ (number_of board.flags next < number_of was h)
+    further (inl moved) = inl moved
+    further (inr falls) = inr (omega (arith, falls, fewer))
 
-pub works_on : (stands : PortLog → Type 0) (t : Turn) (board : Controller) (h mid : Journal) (steps : List Step) → mid ≡ steps ++ h → WorksOn stands t board mid → WorksOn stands t board h
-works_on stands t board h mid steps is w = (w.0, w.1, worked_on t board h mid w.0 steps is w.2)
+pub works_on : (stands : PortLog → Type 0) (t : Turn) (was : Flags) (board : Controller) (h mid : Journal) (steps : List Step) → mid ≡ steps ++ h → number_of was mid ≤ number_of was h
+    → WorksOn stands t was board mid → WorksOn stands t was board h
+works_on stands t was board h mid steps is fewer w = (w.0, w.1, worked_on t was board h mid w.0 steps is fewer w.2)
+
+-- so it has behind steps that pass nothing
+pub works_passed : (stands : PortLog → Type 0) (t : Turn) (was : Flags) (board : Controller) (h mid : Journal) → PassesNothing h mid → WorksOn stands t was board mid → WorksOn stands t was board h
+works_passed stands t was board h mid p w = works_on stands t was board h mid p.steps p.are (number_passes was h mid p) w
 
 -- ---- truths
 
@@ -52,11 +110,6 @@ less_or true true c then none = absurd cc
 pub one_at_most : (b : Bool) → one_if b ≤ 1
 one_at_most true = omega arith
 one_at_most false = omega arith
-
--- by whether something is left
-by_left : {A : Type 0} (ts : List Task) → (ts ≡ [] → A) → ((ts ≡ [] → ⊥) → A) → A
-by_left [] none some = none refl
-by_left (t ∷ ts) none some = some (λ e. absurd cc)
 
 -- ---- the rules of an end
 
@@ -76,6 +129,7 @@ rounds_still h none few = record {
   none_waits = none;
   tries = omega arith;
   few = λ some. omega arith;
+  held = λ halts whole. let w = ap one_if whole in omega (arith, few, w);
 }
 
 -- ---- a piece that was tried to be published
@@ -83,9 +137,10 @@ rounds_still h none few = record {
 -- what is known before: nothing was published in this turn, and few tries stand behind the last poll
 pub record MayTry (h : Journal) : Type 0 where
   pub quiet : count_by publishing (this_turn h) ≡ 0
+  pub worked : AreWorked h
+  pub flags : flags_taken h ≡ true
   pub polled : list_any found_none (this_turn h) ≡ true → (AreWaiting h → ⊥) × (IsNextMove h → ⊥)
-  pub first : left_of h ≡ [] → tries_of h + one_if (whole_of h) ≤ 1
-  pub few : (left_of h ≡ [] → ⊥) → tries_of h ≤ 1
+  pub tries : tries_of h + one_if (whole_of h) ≤ 1
 
 none_called_behind : (h mid next : Journal) (p : Bool) → MayTry h → HasTried p h mid → HasFilled mid next → AreWaiting next → starts_cycle next ≡ false
 none_called_behind h mid next p may tried filled waiting = by_poll (list_any found_none (this_turn h)) refl
@@ -101,12 +156,50 @@ few_tries : (h mid next : Journal) (p : Bool) → MayTry h → HasTried p h mid 
 few_tries h mid next p may tried filled =
     let t = filled.alone.passes.tries in
     let w = ap one_if (filled.alone.passes.whole ∙ tried.whole) in
-    by_left (left_of h) (λ none. let f = tried.first none in let m = may.first none in omega arith) (λ some. let f = tried.later some in let m = may.few some in let o = one_at_most (whole_of h) in omega arith)
+    let f = tried.first in
+    let m = may.tries in
+    omega (arith, t, w, f, m)
 
-pub sent : (board : Controller) (h mid next : Journal) → MayTry h → HasTried true h mid → HasFilled mid next → Keeps board next → BoardWorked Did (record board { beat = Main }) h next
-sent board h mid next may tried filled keeps =
+-- a machine that is not held, nor slows down for that, still is not
+slows_too : (was m : AnyMotion) → changes_left m ≤ changes_left was → is_halting m ≡ true → is_halting was ≡ true
+slows_too was Holding fewer halts = by_more was fewer
+  where
+    by_more : (was : AnyMotion) → 2 ≤ changes_left was → is_halting was ≡ true
+    by_more Holding less = refl
+    by_more Held less = refl
+    by_more m less = absurd (omega (arith, less))
+slows_too was Held fewer halts = by_more was fewer
+  where
+    by_more : (was : AnyMotion) → 1 ≤ changes_left was → is_halting was ≡ true
+    by_more Holding less = refl
+    by_more Held less = refl
+    by_more m less = absurd (omega (arith, less))
+slows_too was m fewer halts = absurd cc
+
+pub halts_before : (h next : Journal) → PassesNothing h next → is_halting (motion_of next) ≡ true → is_halting (motion_of h) ≡ true
+halts_before h next p halts = slows_too (motion_of h) (motion_of next) p.changes halts
+
+-- no try is counted for a line that waits for the machine
+none_for_line : (h mid next : Journal) (p : Bool) → MayTry h → HasTried p h mid → HasFilled mid next → is_halting (motion_of next) ≡ true → whole_of next ≡ true → tries_of next ≡ 0
+none_for_line h mid next p may tried filled halts whole =
+    let a = filled.alone.passes in
+    let halted = sym (ap is_halting tried.motion) ∙ halts_before mid next a halts in
+    let line = sym (a.whole ∙ tried.whole) ∙ whole in
+    let f = tried.later (uncounted_line h halted line) in
+    let t = a.tries in
+    let m = may.tries in
+    let w = ap one_if line in
+    omega (arith, f, t, m, w)
+
+pub takes_none : (board : Controller) (h : Journal) → board.flags ≡ words.None → flags_taken h ≡ true → TakesFlags board.flags h
+takes_none board h none taken = subst (λ f. TakesFlags f h) (sym none) taken
+
+pub sent : (was : Flags) (board : Controller) (h mid next : Journal) → MayTry h → HasTried true h mid → HasFilled mid next → Keeps board next → board.flags ≡ words.None
+    → BoardWorked Did was (record board { beat = Main }) h next
+sent was board h mid next may tried filled keeps no_word =
     let a = filled.alone.passes in
     let tries = few_tries h mid next true may tried filled in
+    let worked = a.worked (tried.worked may.worked) in
     record {
       keeps = other_beat board Main next keeps;
       rounds = record {
@@ -117,8 +210,11 @@ sent board h mid next may tried filled keeps =
         tries = omega arith;
         few = λ some.
             (let left : left_of h ≡ [] → ⊥ = (λ e. a.less some (tried.left ∙ e)) in
-            let f = tried.later left in let m = may.few left in let t = a.tries in omega arith);
+            let f = tried.later (uncounted h left) in let m = may.tries in let t = a.tries in omega (arith, f, m, t));
+        held = none_for_line h mid next true may tried filled;
       };
+      flags = takes_none board next no_word (a.flags ∙ tried.flags ∙ may.flags);
+      still = λ e. no_word;
       beat = λ o e. absurd cc;
       steps = a.steps ++ tried.steps;
       are = a.are ∙ ap (λ (x : Journal). a.steps ++ x) tried.are ∙ sym (append_assoc a.steps tried.steps h);
@@ -127,23 +223,43 @@ sent board h mid next may tried filled keeps =
         adds = filled.adds;
         starts = none_called_behind h mid next true may tried filled;
         tries = omega arith;
+        obeyed = worked.obeyed;
+        changed = worked.changed;
       };
-      moves = λ e. a.moves (tried.moves refl);
+      moves = λ e. inl (a.moves (tried.moves refl));
     }
 
+-- what may be run may be tried to be published
+by_counted : {A : Type 0} (counted : Bool) → (counted ≡ true → A) → (counted ≡ false → A) → A
+by_counted true one more = one refl
+by_counted false one more = more refl
+
+pub may_try : (h : Journal) → MayRun h → MayTry h
+may_try h may = record {
+  quiet = may.quiet.quiet;
+  worked = may.quiet.worked;
+  flags = may.quiet.flags;
+  polled = may.polled;
+  tries = by_counted (is_counted h) (λ e. let f = may.first e in omega (arith, f)) may.few;
+}
+
 -- it was handed back, and room for it is waited for
-pub handed_back : (board : Controller) (h mid next : Journal) → MayRun h → ((left_of h ≡ [] → ⊥) → whole_of h ≡ false) → HasTried false h mid → HasFilled mid next → Keeps board next
-    → board.beat ≡ Motion → BoardWorked (Wait SegmentRoom) board h next
-handed_back board h mid next may partial tried filled keeps beat =
+pub handed_back : (was : Flags) (board : Controller) (h mid next : Journal) → MayRun h → HasTried false h mid → HasFilled mid next → Keeps board next → board.beat ≡ Motion → board.flags ≡ words.None
+    → BoardWorked (Wait SegmentRoom) was board h next
+handed_back was board h mid next may tried filled keeps beat no_word =
     let a = filled.alone.passes in
-    let try : MayTry h = record { quiet = may.quiet.quiet; polled = may.polled; first = λ none. (let f = may.first none in omega arith); few = may.few } in
+    let try = may_try h may in
     let w = ap one_if (a.whole ∙ tried.whole) in
     let t = a.tries in
     let few : tries_of next + one_if (whole_of next) ≤ 1 =
-    by_left (left_of h) (λ none. let f = tried.first none in let m = may.first none in omega arith) (λ some. let f = tried.later some in let m = may.few some in let p = ap one_if (partial some) in omega arith) in
+    by_counted (is_counted h) (λ e. let f = tried.first in let m = may.first e in omega (arith, w, t, f, m)) (λ e. let f = tried.later e in let m = may.few e in omega (arith, w, t, f, m)) in
+    let worked = a.worked (tried.worked may.quiet.worked) in
+    let taken = a.flags ∙ tried.flags ∙ may.quiet.flags in
     record {
       keeps = keeps;
       rounds = subst (λ b. Rounds b next) (sym beat) (rounds_still next filled.none_waits few);
+      flags = takes_none board next no_word taken;
+      still = λ e. no_word;
       beat = λ o e. beat;
       steps = a.steps ++ tried.steps;
       are = a.are ∙ ap (λ (x : Journal). a.steps ++ x) tried.are ∙ sym (append_assoc a.steps tried.steps h);
@@ -153,9 +269,12 @@ handed_back board h mid next may partial tried filled keeps beat =
           adds = filled.adds;
           starts = none_called_behind h mid next false try tried filled;
           tries = omega arith;
+          obeyed = worked.obeyed;
+          changed = worked.changed;
         };
         cause = a.room ∙ tried.room refl;
         still = a.still ∙ tried.still refl ∙ may.quiet.still;
+        flags = taken;
         round = λ due. none_waited next SegmentRoom (a.waits ∙ tried.waits);
       };
       moves = λ e. absurd cc;
@@ -170,12 +289,23 @@ none_between h f between = ap (λ (ss : List Step). list_any f ss) between
 count_between : (h : Journal) → IsBetween h → count_by publishing (this_turn h) ≡ 0
 count_between h between = ap (λ (ss : List Step). count_by publishing ss) between
 
-pub may_try_first : (h : Journal) → Rounds Motion h → IsBetween h → MayTry h
-may_try_first h r between = record {
+none_worked : (h : Journal) → IsBetween h → AreWorked h
+none_worked h between = record {
+  obeyed = ap (λ (ss : List Step). count_by obeys ss) between ∙ sym (ap (λ (ss : List Step). count_by takes_requests ss) between);
+  changed = ap (λ (ss : List Step). count_by replans ss) between ∙ sym (ap (λ (ss : List Step). count_by takes_changes ss) between);
+}
+
+-- nothing is done yet
+quiet_between : (h : Journal) → IsBetween h → flags_taken h ≡ true → IsQuiet h
+quiet_between h between taken = record { still = none_between h passing between; quiet = count_between h between; worked = none_worked h between; flags = taken }
+
+pub may_try_first : (h : Journal) → Rounds Motion h → IsBetween h → flags_taken h ≡ true → MayTry h
+may_try_first h r between taken = record {
   quiet = count_between h between;
+  worked = none_worked h between;
+  flags = taken;
   polled = λ e. absurd (let n = none_between h found_none between in cc);
-  first = λ none. (let t = r.tries in omega arith);
-  few = r.few;
+  tries = (let t = r.tries in omega (arith, t));
 }
 
 still_none_waits : (h next : Journal) (p : Bool) → HasTried p h next → NoneWaits h → NoneWaits next
@@ -184,59 +314,70 @@ still_none_waits h next p tried none waiting =
     (less_or (is_full (plan_of next)) (is_full (plan_of h)) (awaits_motion (left_of h)) tried.full (none (tried.waiting waiting)))
 
 -- what was tried first was handed back
-pub ready_tried : (h next : Journal) → Rounds Motion h → IsBetween h → HasTried false h next → IsReady next
-ready_tried h next r between tried =
+pub ready_tried : (h next : Journal) → Rounds Motion h → IsBetween h → flags_taken h ≡ true → HasTried false h next → IsReady next
+ready_tried h next r between taken tried =
     let w = ap one_if tried.whole in
     let rt = r.tries in
     record {
-      quiet = record { still = tried.still refl ∙ none_between h passing between; quiet = (let q = tried.quiet in let c = count_between h between in omega arith) };
+      quiet = record {
+        still = tried.still refl ∙ none_between h passing between;
+        quiet = (let q = tried.quiet in let c = count_between h between in omega arith);
+        worked = tried.worked (none_worked h between);
+        flags = tried.flags ∙ taken;
+      };
       unpolled = tried.polled ∙ none_between h found_none between;
       tried = λ due. tried.waits;
       unmissed = tried.missed;
       none_waits = still_none_waits h next false tried r.none_waits;
-      tries = by_left (left_of h) (λ none. let f = tried.first none in omega arith) (λ some. let f = tried.later some in omega arith);
-      few = λ some. (let left : left_of h ≡ [] → ⊥ = (λ e. some (tried.left ∙ e)) in let f = tried.later left in let m = r.few left in omega arith);
+      tries = (let f = tried.first in omega (arith, f, w, rt));
+      few = λ some. (let left : left_of h ≡ [] → ⊥ = (λ e. some (tried.left ∙ e)) in let f = tried.later (uncounted h left) in omega (arith, f, rt));
+      held = λ halts whole.
+          (let halted = sym (ap is_halting tried.motion) ∙ halts in let line = sym tried.whole ∙ whole in
+          let f = tried.later (uncounted_line h halted line) in let o = ap one_if line in omega (arith, f, rt, o));
     }
 
 -- the last turn published
-pub ready_sent : (h : Journal) → Rounds Main h → IsBetween h → IsReady h
-ready_sent h r between = record {
-  quiet = record { still = none_between h passing between; quiet = count_between h between };
+pub ready_sent : (h : Journal) → Rounds Main h → IsBetween h → flags_taken h ≡ true → IsReady h
+ready_sent h r between taken = record {
+  quiet = quiet_between h between taken;
   unpolled = none_between h found_none between;
   tried = λ due. r.waits refl;
   unmissed = r.tried refl;
   none_waits = r.none_waits;
   tries = (let t = r.tries in omega arith);
   few = r.few;
+  held = r.held;
 }
 
 -- nothing is due
-pub ready_idle : (h : Journal) → Rounds Motion h → IsBetween h → is_due h ≡ false → missed_of h ≡ false → IsReady h
-ready_idle h r between idle unmissed = record {
-  quiet = record { still = none_between h passing between; quiet = count_between h between };
+pub ready_idle : (h : Journal) → Rounds Motion h → IsBetween h → flags_taken h ≡ true → is_due h ≡ false → missed_of h ≡ false → IsReady h
+ready_idle h r between taken idle unmissed = record {
+  quiet = quiet_between h between taken;
   unpolled = none_between h found_none between;
   tried = λ due. absurd (let e = sym idle ∙ due in cc);
   unmissed = unmissed;
   none_waits = r.none_waits;
   tries = (let t = r.tries in omega arith);
   few = r.few;
+  held = r.held;
 }
 
 -- ---- the motion is waited for
 
-pub may_run : (h : Journal) → IsReady h → (left_of h ≡ [] → ⊥) → MayRun h
-may_run h ready some = record {
+pub may_run : (first : State) (h : Journal) → Conducted first h → IsReady h → (left_of h ≡ [] → ⊥) → MayRun h
+may_run first h c ready some = record {
   quiet = ready.quiet;
   polled = λ e. absurd (let n = ready.unpolled in cc);
-  first = λ none. absurd (some none);
-  few = ready.few;
+  first = λ e. absurd (let n = sym e ∙ uncounted h some in cc);
+  few = λ e. (let f = ready.few some in let w = ap one_if (not_whole first h c some) in omega (arith, f, w));
+  held = ready.held;
 }
 
 pub some_awaited : (h : Journal) → awaits_motion (left_of h) ≡ true → left_of h ≡ [] → ⊥
 some_awaited h awaits none = absurd (let e = ap awaits_motion none in cc)
 
-pub may_await : (h : Journal) → IsReady h → awaits_motion (left_of h) ≡ true → MayAwait h
-may_await h ready awaits = record { run = may_run h ready (some_awaited h awaits); awaits = awaits; none_waits = ready.none_waits }
+pub may_await : (first : State) (h : Journal) → Conducted first h → IsReady h → is_halting (motion_of h) ≡ false → awaits_motion (left_of h) ≡ true → MayAwait h
+may_await first h c ready going awaits = record { run = may_run first h c ready (some_awaited h awaits); going = going; awaits = awaits; none_waits = ready.none_waits }
 
 -- a machine that stands with nothing left to run waits for no start, and has no segment due
 pub no_blocks : (h : Journal) → HasStopped h → has_blocks (plan_of h).blocks ≡ false
@@ -246,50 +387,67 @@ pub not_waiting : (h : Journal) → HasStopped h → AreWaiting h → ⊥
 not_waiting h stopped waiting = absurd (let e = sym waiting.blocks ∙ no_blocks h stopped in cc)
 
 pub not_due : (h : Journal) → HasStopped h → is_due h ≡ false
-not_due h stopped = ap (λ m. is_going m && has_blocks (plan_of h).blocks) stopped.stands
+not_due h stopped = ap (λ m. has_segment m (plan_of h)) stopped.stands
 
 pub ready_stopped : (h next : Journal) → IsReady h → PassesNothing h next → HasStopped next → IsReady next
 ready_stopped h next ready passes stopped =
     let t = passes.tries in
     record {
-      quiet = record { still = passes.still ∙ ready.quiet.still; quiet = passes.quiet ∙ ready.quiet.quiet };
+      quiet = record {
+        still = passes.still ∙ ready.quiet.still;
+        quiet = passes.quiet ∙ ready.quiet.quiet;
+        worked = passes.worked ready.quiet.worked;
+        flags = passes.flags ∙ ready.quiet.flags;
+      };
       unpolled = passes.polled ∙ ready.unpolled;
       tried = λ due. absurd (let e = sym due ∙ not_due next stopped in cc);
       unmissed = passes.missed ∙ ready.unmissed;
       none_waits = λ waiting. absurd (not_waiting next stopped waiting);
       tries = (let w = ap one_if passes.whole in let r = ready.tries in omega arith);
       few = λ some. (let m = ready.few (passes.less some) in omega arith);
+      held = λ halts whole. absurd (let e = sym halts ∙ ap is_halting stopped.stands in cc);
     }
 
-awaited : (ts : List Task) → awaits_motion ts ≡ true → (ts ≡ ask a_rest ∷ drop 1 ts) ⊎ (ts ≡ finish ∷ drop 1 ts)
+-- what is next goes on where the machine stands
+pub goes_on_stopped : (h : Journal) → HasStopped h → GoesOn h
+goes_on_stopped h stopped halts = absurd (let e = sym halts ∙ ap is_halting stopped.stands in cc)
+
+awaited : (ts : List Task) → awaits_motion ts ≡ true → (ts ≡ ask a_rest ∷ drop 1 ts) ⊎ ((ts ≡ pause ∷ drop 1 ts) ⊎ ((ts ≡ normal ∷ drop 1 ts) ⊎ (ts ≡ finish ∷ drop 1 ts)))
 awaited [] e = absurd cc
 awaited (ask a_rest ∷ ts) e = inl refl
 awaited (ask (a_move m) ∷ ts) e = absurd cc
 awaited (ask (a_mark m) ∷ ts) e = absurd cc
 awaited (tell r ∷ ts) e = absurd cc
-awaited (finish ∷ ts) e = inr refl
+awaited (pause ∷ ts) e = inr (inl refl)
+awaited (normal ∷ ts) e = inr (inr (inl refl))
+awaited (finish ∷ ts) e = inr (inr (inr refl))
 
--- where no rest is next, the end is what waits for the motion
-pub needs_no_wait : (h : Journal) → HasStopped h → (IsNextTask (ask a_rest) h → ⊥) → NeedsNoWait h
-needs_no_wait h stopped no_rest awaits = by_task (awaited (left_of h) awaits)
+-- where no rest is next, nor overrides that are set, a pause or the end is what waits for the motion
+pub needs_no_wait : (h : Journal) → HasStopped h → (IsNextTask (ask a_rest) h → ⊥) → (IsNextTask normal h → ⊥) → NeedsNoWait h
+needs_no_wait h stopped no_rest no_normal awaits = by_task (awaited (left_of h) awaits)
   where
-    by_task : IsNextTask (ask a_rest) h ⊎ IsNextTask finish h → HasStopped h × IsNextTask finish h
+    by_task : IsNextTask (ask a_rest) h ⊎ (IsNextTask pause h ⊎ (IsNextTask normal h ⊎ IsNextTask finish h)) → HasStopped h × (IsNextTask pause h ⊎ IsNextTask finish h)
     by_task (inl e) = absurd (no_rest e)
-    by_task (inr e) = (stopped, e)
+    by_task (inr (inl e)) = (stopped, inl e)
+    by_task (inr (inr (inl e))) = absurd (no_normal e)
+    by_task (inr (inr (inr e))) = (stopped, inr e)
 
 -- ---- what was done moves on
 
 -- something was done up to a journal, behind which moves were added
-pub did_filled : (board : Controller) (h mid next : Journal) (steps : List Step) → mid ≡ steps ++ h → Keeps board next → board.beat ≡ Motion → HasFilled mid next
-    → count_by publishing (this_turn mid) ≤ 1 → list_any found_none (this_turn mid) ≡ false → tries_of mid + one_if (whole_of mid) ≤ 1 → list_any moving (this_turn next) ≡ true
-    → BoardWorked Did board h next
-did_filled board h mid next steps is keeps beat filled once unpolled few moves =
+pub did_filled : (was : Flags) (board : Controller) (h mid next : Journal) (steps : List Step) → mid ≡ steps ++ h → Keeps board next → board.beat ≡ Motion → TakesFlags board.flags next → HasFilled mid next
+    → AreWorked mid → count_by publishing (this_turn mid) ≤ 1 → list_any found_none (this_turn mid) ≡ false → tries_of mid + one_if (whole_of mid) ≤ 1
+    → (list_any moving (this_turn next) ≡ true) ⊎ (number_of board.flags next < number_of was h) → BoardWorked Did was board h next
+did_filled was board h mid next steps is keeps beat taken filled worked once unpolled few moves =
     let a = filled.alone.passes in
+    let now = a.worked worked in
     let t = a.tries in
     let w = ap one_if a.whole in
     record {
       keeps = keeps;
       rounds = subst (λ b. Rounds b next) (sym beat) (rounds_still next filled.none_waits (omega arith));
+      flags = taken;
+      still = λ e. absurd (let s = ap has_published beat in cc);
       beat = λ o e. beat;
       steps = a.steps ++ steps;
       are = a.are ∙ ap (λ (x : Journal). a.steps ++ x) is ∙ sym (append_assoc a.steps steps h);
@@ -298,6 +456,8 @@ did_filled board h mid next steps is keeps beat filled once unpolled few moves =
         adds = filled.adds;
         starts = none_called next (a.polled ∙ unpolled) filled.none_waits;
         tries = omega arith;
+        obeyed = now.obeyed;
+        changed = now.changed;
       };
       moves = λ e. moves;
     }
@@ -315,15 +475,22 @@ still_open was stopped is awaits lines closing same none = by_closing stopped.cl
         let none_was : was.lines.left ≡ [] = sym (ap (λ i. i.left) lines) ∙ sym (ap (λ (c : Controller). c.lines.left) (same e)) ∙ none in
         absurd (let f = sym awaits ∙ ap awaits_motion none_was in cc)
 
--- a turn that has ended
-pub rounds_turned : (t : Turn) (board : Controller) (h next : Journal) → BoardWorked t board h next → Rounds board.beat (turned t ∷ next)
-rounds_turned t board h next w = record {
+-- ---- a turn that has ended
+
+-- which words of flags are to be taken behind it
+abbrev pub flags_behind : Turn → Flags → Flags
+flags_behind (Wait o) f = words.Both
+flags_behind t f = f
+
+pub rounds_turned : (t : Turn) (was : Flags) (board : Controller) (h next : Journal) → BoardWorked t was board h next → Rounds board.beat (turned t ∷ next)
+rounds_turned t was board h next w = record {
   waits = by_turn t w.beat;
   tried = λ e. ap (λ b. b && is_due next) (w.rounds.tried e);
   sent = w.rounds.sent;
   none_waits = λ waiting. w.rounds.none_waits (record { stands = waiting.stands; blocks = waiting.blocks });
   tries = w.rounds.tries;
   few = w.rounds.few;
+  held = w.rounds.held;
 }
   where
     by_turn : (t : Turn) → ((o : On) → t ≡ Wait o → board.beat ≡ Motion) → has_published board.beat ≡ true → waits_by t (waits_of next) ≡ []
@@ -331,12 +498,51 @@ rounds_turned t board h next w = record {
     by_turn (Wait o) still e = absurd (let s = ap has_published (still o refl) in cc)
     by_turn Done still e = w.rounds.waits e
 
-pub turned_on : (t : Turn) (board : Controller) (h next : Journal) → BoardWorked t board h next → BoardFits board (turned t ∷ next)
-turned_on t board h next w = record { keeps = ends board t next w.keeps w.may; rounds = rounds_turned t board h next w }
+-- the words of flags are to be taken that were before, or both behind a wait
+flags_turned : (t : Turn) (f : Flags) (next : Journal) → TakesFlags f next → TakesFlags (flags_behind t f) (turned t ∷ next)
+flags_turned (Wait o) f next takes = tt
+flags_turned Did words.Both next takes = tt
+flags_turned Did words.Requests next takes = takes
+flags_turned Did words.None next takes = takes
+flags_turned Done words.Both next takes = tt
+flags_turned Done words.Requests next takes = takes
+flags_turned Done words.None next takes = takes
 
-pub board_turned : (t : Turn) (board : Controller) (h next : Journal) → BoardWorked t board h next → BoardTurned t h (turned t ∷ next)
-board_turned t board h next w = record {
+still_turned : (t : Turn) (was : Flags) (board : Controller) (h next : Journal) → BoardWorked t was board h next → has_published board.beat ≡ true → flags_behind t board.flags ≡ words.None
+still_turned Did was board h next w e = w.still e
+still_turned (Wait o) was board h next w e = absurd (let s = ap has_published (w.beat o refl) in cc)
+still_turned Done was board h next w e = w.still e
+
+pub turned_on : (t : Turn) (was : Flags) (board : Controller) (h next : Journal) → BoardWorked t was board h next → BoardFits (record board { flags = flags_behind t board.flags }) (turned t ∷ next)
+turned_on t was board h next w = record {
+  keeps = other_flags board (flags_behind t board.flags) (turned t ∷ next) (ends board t next w.keeps w.may);
+  rounds = rounds_turned t was board h next w;
+  flags = flags_turned t board.flags next w.flags;
+  still = still_turned t was board h next w;
+}
+
+pub board_turned : (t : Turn) (before board : Controller) (h next : Journal) → BoardWorked t before.flags board h next
+    → BoardTurned t before (record board { flags = flags_behind t board.flags }) h (turned t ∷ next)
+board_turned t before board h next w = record {
   steps = w.steps;
   are = ap (λ (x : Journal). turned t ∷ x) w.are;
-  moves = λ e. subst (λ (x : Journal). list_any moving (this_turn x) ≡ true) w.are (w.moves e);
+  moves = λ e. by_move e (w.moves e);
 }
+  where
+    by_move : t ≡ Did → (list_any moving (this_turn next) ≡ true) ⊎ (number_of board.flags next < number_of before.flags h)
+        → (list_any moving (this_turn (w.steps ++ h)) ≡ true) ⊎ (number_of (flags_behind t board.flags) (turned t ∷ next) < number_of before.flags h)
+    by_move e (inl moved) = inl (subst (λ (x : Journal). list_any moving (this_turn x) ≡ true) w.are moved)
+    by_move e (inr falls) = inr (subst (λ (x : Turn). number_of (flags_behind x board.flags) (turned t ∷ next) < number_of before.flags h) (sym e) falls)
+
+-- a turn has ended, behind which these words of flags are to be taken
+pub turned_by : (t : Turn) (before board : Controller) (f : Flags) (h next : Journal) → flags_behind t board.flags ≡ f → BoardWorked t before.flags board h next
+    → BoardFits (record board { flags = f }) (turned t ∷ next) × BoardTurned t before (record board { flags = f }) h (turned t ∷ next)
+turned_by t before board f h next is w =
+    subst (λ (x : Flags). BoardFits (record board { flags = x }) (turned t ∷ next) × BoardTurned t before (record board { flags = x }) h (turned t ∷ next)) is
+    (turned_on t before.flags board h next w, board_turned t before board h next w)
+
+-- where it does not wait the words stay
+pub no_wait_keeps : (t : Turn) (f : Flags) → ((o : On) → t ≡ Wait o → ⊥) → flags_behind t f ≡ f
+no_wait_keeps Did f no_wait = refl
+no_wait_keeps (Wait o) f no_wait = absurd (no_wait o refl)
+no_wait_keeps Done f no_wait = refl

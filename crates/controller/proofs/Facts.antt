@@ -1,5 +1,5 @@
 -- What holds of every journal that the rules allow, and of one between two turns.
-use Rattle.std.proofs.Common.{◌≡◌, ◌+◌, ◌⊎◌, inl, inr, Bool, true, false, ◌&&◌, List, [], ◌∷◌, length, drop, refl, arith, length-append}
+use Rattle.std.proofs.Common.{◌≡◌, ◌+◌, ◌⊎◌, inl, inr, Bool, true, false, ◌&&◌, not, List, [], ◌∷◌, length, drop, refl, arith, length-append}
 use Rattle.status_report.specs.declared.Reply.TheVariants.{Bye}
 use Rattle.step_line.specs.Asking.Asked.{a_move, a_mark, a_rest}
 use Rattle.segment_prep.specs.declared.Mode.TheVariants.{Go, Hold}
@@ -7,11 +7,11 @@ use Rattle.planner_runs.specs.declared.Action.{Action}
 use Rattle.planner_runs.specs.declared.Action.TheVariants.{Add, Take, Override, Mark, Rest, Clear, Reset}
 use Rattle.run_rules.specs.declared.State.{State}
 use Rattle.run_rules.specs.Work.{Task}
-use Rattle.run_rules.specs.Work.Task.{ask, tell, finish}
+use Rattle.run_rules.specs.Work.Task.{ask, tell, pause, normal, finish}
 use Rattle.board_rules.specs.Ports.PortStep.{took, found_empty, found_closed, found_free, answered, no_reply_room, took_exec, took_ovr, published, no_piece_room, loaded}
-use Rattle.board_rules.specs.Steps.{Journal, outcomes_of, before_of, left_of, left_by, whole_of, closed_tells}
-use Rattle.board_rules.specs.Steps.Step.{at_port, began, did, made_end, became, closing, turned}
-use Rattle.board_rules.specs.Turns.{this_turn, missed_of, is_due}
+use Rattle.board_rules.specs.Steps.{Journal, outcomes_of, before_of, left_of, left_by, whole_of, closed_tells, motion_of}
+use Rattle.board_rules.specs.Steps.Step.{at_port, began, did, made_end, evened, paused, became, closing, turned}
+use Rattle.board_rules.specs.Turns.{this_turn, missed_of, is_due, is_halting, is_counted, counts_tries}
 use Rattle.board_rules.specs.Conduct.{Conducted, IsNextTask, MayDo}
 use Rattle.board_rules.proofs.Closing.{At, going, to_finish, to_tell, over, phase_is}
 use Rattle.board_rules.proofs.Tasks.{none_next, none_first, head_is}
@@ -30,8 +30,8 @@ free_behind h (Add m) may free = one_less (left_of h) (whole_of h) (ask (a_move 
 free_behind h (Mark m) may free = one_less (left_of h) (whole_of h) (ask (a_mark m)) may.next free
 free_behind h Rest may free = one_less (left_of h) (whole_of h) (ask a_rest) may.next free
 free_behind h (Take Go) may free = free
-free_behind h (Take Hold) may free = absurd may
-free_behind h (Override o) may free = absurd may
+free_behind h (Take Hold) may free = free
+free_behind h (Override o) may free = free
 free_behind h Clear may free = absurd may
 free_behind h Reset may free = absurd may
 
@@ -43,14 +43,16 @@ free_is first (at_port found_closed ∷ h) c = free_is first h c.1
 free_is first (at_port (found_free n) ∷ h) c = free_is first h c.1
 free_is first (at_port (answered r) ∷ h) c = one_less (left_of h) (whole_of h) (tell r) c.0.next (free_is first h c.1)
 free_is first (at_port no_reply_room ∷ h) c = free_is first h c.1
-free_is first (at_port (took_exec word) ∷ h) c = absurd c.0
-free_is first (at_port (took_ovr word) ∷ h) c = absurd c.0
+free_is first (at_port (took_exec word) ∷ h) c = free_is first h c.1
+free_is first (at_port (took_ovr word) ∷ h) c = free_is first h c.1
 free_is first (at_port (published p) ∷ h) c = free_is first h c.1
 free_is first (at_port (no_piece_room done) ∷ h) c = free_is first h c.1
 free_is first (at_port (loaded done) ∷ h) c = free_is first h c.1
 free_is first (began o ∷ h) c = inr refl
 free_is first (did a ps ∷ h) c = free_behind h a c.0.0 (free_is first h c.1)
 free_is first (made_end ∷ h) c = one_less (left_of h) (whole_of h) finish c.0.rests.next (free_is first h c.1)
+free_is first (evened ∷ h) c = one_less (left_of h) (whole_of h) normal c.0.rests.next (free_is first h c.1)
+free_is first (paused ∷ h) c = one_less (left_of h) (whole_of h) pause c.0.rests.next (free_is first h c.1)
 free_is first (became call m ∷ h) c = free_is first h c.1
 free_is first (closing ∷ h) c = inr c.0.begun
 free_is first (turned t ∷ h) c = free_is first h c.1
@@ -63,17 +65,45 @@ not_whole first h c some = by_free (free_is first h c)
     by_free (inl none) = absurd (some none)
     by_free (inr partial) = partial
 
+-- no try to publish is counted then
+pub uncounted : (h : Journal) → (left_of h ≡ [] → ⊥) → is_counted h ≡ false
+uncounted h some = by_left (left_of h) some
+  where
+    by_left : (ts : List Task) → (ts ≡ [] → ⊥) → counts_tries ts (whole_of h) (motion_of h) ≡ false
+    by_left [] some = absurd (some refl)
+    by_left (t ∷ ts) some = refl
+
+-- nor is one while a line waits for a machine that is held, or slows down for that
+pub uncounted_line : (h : Journal) → is_halting (motion_of h) ≡ true → whole_of h ≡ true → is_counted h ≡ false
+uncounted_line h halts whole = by_left (left_of h)
+  where
+    none : (a b : Bool) → a ≡ true → b ≡ true → not (a && b) ≡ false
+    none true true e f = refl
+    none true false e f = absurd cc
+    none false b e f = absurd cc
+
+    by_left : (ts : List Task) → counts_tries ts (whole_of h) (motion_of h) ≡ false
+    by_left [] = none (is_halting (motion_of h)) (whole_of h) halts whole
+    by_left (t ∷ ts) = refl
+
 -- ---- a run that is being closed
 
--- nothing is waited for by a rest once the run is being closed
-pub no_rest_closing : (first : State) (h : Journal) → Conducted first h → (closed_tells h ≡ [] → ⊥) → IsNextTask (ask a_rest) h → ⊥
-no_rest_closing first h c closes next = by_phase (phase_is first h c)
+-- once the run is being closed only the end and Bye are left
+only_end : (first : State) (h : Journal) (t : Task) → Conducted first h → (closed_tells h ≡ [] → ⊥) → (t ≡ finish → ⊥) → (t ≡ tell Bye → ⊥) → IsNextTask t h → ⊥
+only_end first h t c closes no_end no_bye next = by_phase (phase_is first h c)
   where
     by_phase : At h → ⊥
     by_phase (going none is) = closes none
-    by_phase (to_finish e left w is) = absurd (let same = head_is (left_of h) (ask a_rest) finish _ next left in cc)
-    by_phase (to_tell e left w p is k) = absurd (let same = head_is (left_of h) (ask a_rest) (tell Bye) _ next left in cc)
-    by_phase (over e left w p d is k) = none_next (left_of h) (ask a_rest) left next
+    by_phase (to_finish e left w is) = no_end (head_is (left_of h) t finish _ next left)
+    by_phase (to_tell e left w p is k) = no_bye (head_is (left_of h) t (tell Bye) _ next left)
+    by_phase (over e left w p d is k) = none_next (left_of h) t left next
+
+-- nothing is waited for by a rest then, and no override is set
+pub no_rest_closing : (first : State) (h : Journal) → Conducted first h → (closed_tells h ≡ [] → ⊥) → IsNextTask (ask a_rest) h → ⊥
+no_rest_closing first h c closes next = only_end first h (ask a_rest) c closes (λ e. absurd cc) (λ e. absurd cc) next
+
+pub no_normal_closing : (first : State) (h : Journal) → Conducted first h → (closed_tells h ≡ [] → ⊥) → IsNextTask normal h → ⊥
+no_normal_closing first h c closes next = only_end first h normal c closes (λ e. absurd cc) (λ e. absurd cc) next
 
 -- ---- between two turns
 
@@ -88,6 +118,8 @@ unmissed (at_port e ∷ h) none due = absurd cc
 unmissed (began o ∷ h) none due = absurd cc
 unmissed (did a ps ∷ h) none due = absurd cc
 unmissed (made_end ∷ h) none due = absurd cc
+unmissed (evened ∷ h) none due = absurd cc
+unmissed (paused ∷ h) none due = absurd cc
 unmissed (became call m ∷ h) none due = absurd cc
 unmissed (closing ∷ h) none due = absurd cc
 unmissed (turned t ∷ h) none due = and_false (missed_of h) (is_due h) due
@@ -103,6 +135,8 @@ number_is first (began o ∷ h) c =
     let l = length-append (outcomes_of h) (o ∷ []) in omega (arith, n, l)
 number_is first (did a ps ∷ h) c = number_is first h c.1
 number_is first (made_end ∷ h) c = number_is first h c.1
+number_is first (evened ∷ h) c = number_is first h c.1
+number_is first (paused ∷ h) c = number_is first h c.1
 number_is first (became call m ∷ h) c = number_is first h c.1
 number_is first (closing ∷ h) c = number_is first h c.1
 number_is first (turned t ∷ h) c = number_is first h c.1

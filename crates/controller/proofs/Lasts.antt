@@ -14,11 +14,11 @@ use Rattle.planner_runs.specs.declared.Action.TheVariants.{Add, Take, Override, 
 use Rattle.run_rules.specs.declared.State.{State}
 use Rattle.run_rules.specs.Asks.{spindle_after, flood_after, item_work, work_of, planned, move_asked}
 use Rattle.run_rules.specs.Work.{Task, Outcome, telling, asking}
-use Rattle.run_rules.specs.Work.Task.{ask, tell, finish}
+use Rattle.run_rules.specs.Work.Task.{ask, tell, pause, normal, finish}
 use Rattle.run_rules.specs.Outcomes.{Before, Becomes}
 use Rattle.board_rules.specs.Ports.PortStep.{took, found_empty, found_closed, found_free, answered, no_reply_room, took_exec, took_ovr, published, no_piece_room, loaded}
 use Rattle.board_rules.specs.Steps.{Journal, before_of, open_of, left_of, left_by, closed_tells, motion_of}
-use Rattle.board_rules.specs.Steps.Step.{at_port, began, did, made_end, became, closing, turned}
+use Rattle.board_rules.specs.Steps.Step.{at_port, began, did, made_end, evened, paused, became, closing, turned}
 use Rattle.board_rules.specs.Turns.{is_run}
 use Rattle.board_rules.specs.Conduct.{Conducted, IsNextTask}
 use Rattle.board_rules.proofs.Closing.{At, going, to_finish, to_tell, over, phase_is}
@@ -31,11 +31,14 @@ abbrev some_left : List Task → Bool
 some_left [] = false
 some_left (t ∷ ts) = true
 
--- behind each thing that is asked for comes something, and no end of the run is among them
+-- behind each thing that is asked for, each pause, and overrides that are set comes something, and no end of the run is among
+-- them
 abbrev pub ends_told : List Task → Bool
 ends_told [] = true
 ends_told (ask a ∷ ts) = some_left ts && ends_told ts
 ends_told (tell r ∷ ts) = ends_told ts
+ends_told (pause ∷ ts) = some_left ts && ends_told ts
+ends_told (normal ∷ ts) = some_left ts && ends_told ts
 ends_told (finish ∷ ts) = false
 
 record EndsTold (ts : List Task) : Type 0 where
@@ -57,6 +60,12 @@ right_true false b e = absurd cc
 asked_first : (a : Asked) (ts : List Task) → EndsTold ts → EndsTold (ask a ∷ ts)
 asked_first a ts e = record { some = refl; told = both (some_left ts) (ends_told ts) e.some e.told }
 
+pause_first : (ts : List Task) → EndsTold ts → EndsTold (pause ∷ ts)
+pause_first ts e = record { some = refl; told = both (some_left ts) (ends_told ts) e.some e.told }
+
+normal_first : (ts : List Task) → EndsTold ts → EndsTold (normal ∷ ts)
+normal_first ts e = record { some = refl; told = both (some_left ts) (ends_told ts) e.some e.told }
+
 told_first : (r : Reply) (ts : List Task) → EndsTold ts → EndsTold (tell r ∷ ts)
 told_first r ts e = record { some = refl; told = e.told }
 
@@ -73,13 +82,13 @@ item_told line s spindle flood (items.Spindle mode speed) ts e = mark_first _ _ 
 item_told line s spindle flood (items.Coolant on) ts e = mark_first _ _ _ ts e
 item_told line s spindle flood (items.Dwell ms) ts e = mark_first _ _ _ ts e
 item_told line s spindle flood (items.Move mv rate) ts e = asking_first (move_asked (planned line s mv rate)) ts e
-item_told line s spindle flood items.Pause ts e = asked_first a_rest ts e
-item_told line s Off true items.ProgramEnd ts e = mark_first _ _ _ _ (told_first _ ts e)
-item_told line s Off false items.ProgramEnd ts e = asked_first _ _ (asked_first _ _ (told_first _ ts e))
-item_told line s Cw true items.ProgramEnd ts e = asked_first _ _ (mark_first _ _ _ _ (told_first _ ts e))
-item_told line s Cw false items.ProgramEnd ts e = mark_first _ _ _ _ (told_first _ ts e)
-item_told line s Ccw true items.ProgramEnd ts e = asked_first _ _ (mark_first _ _ _ _ (told_first _ ts e))
-item_told line s Ccw false items.ProgramEnd ts e = mark_first _ _ _ _ (told_first _ ts e)
+item_told line s spindle flood items.Pause ts e = asked_first a_rest _ (pause_first _ (asked_first a_rest ts e))
+item_told line s Off true items.ProgramEnd ts e = mark_first _ _ _ _ (normal_first _ (told_first _ ts e))
+item_told line s Off false items.ProgramEnd ts e = asked_first _ _ (asked_first _ _ (normal_first _ (told_first _ ts e)))
+item_told line s Cw true items.ProgramEnd ts e = asked_first _ _ (mark_first _ _ _ _ (normal_first _ (told_first _ ts e)))
+item_told line s Cw false items.ProgramEnd ts e = mark_first _ _ _ _ (normal_first _ (told_first _ ts e))
+item_told line s Ccw true items.ProgramEnd ts e = asked_first _ _ (mark_first _ _ _ _ (normal_first _ (told_first _ ts e)))
+item_told line s Ccw false items.ProgramEnd ts e = mark_first _ _ _ _ (normal_first _ (told_first _ ts e))
 
 work_told : (line : ℕ) (s : Settings) (spindle : SpindleMode) (flood : Bool) (all : List Item) (ts : List Task) → EndsTold ts → EndsTold (work_of line s spindle flood all ++ ts)
 work_told line s spindle flood [] ts e = e
@@ -108,6 +117,8 @@ told_behind : (ts : List Task) → ends_told ts ≡ true → ends_told (drop 1 t
 told_behind [] e = refl
 told_behind (ask a ∷ ts) e = right_true (some_left ts) (ends_told ts) e
 told_behind (tell r ∷ ts) e = e
+told_behind (pause ∷ ts) e = right_true (some_left ts) (ends_told ts) e
+told_behind (normal ∷ ts) e = right_true (some_left ts) (ends_told ts) e
 told_behind (finish ∷ ts) e = absurd cc
 
 by_action : (a : Action) (ts : List Task) → ends_told ts ≡ true → ends_told (left_by a ts) ≡ true
@@ -128,32 +139,52 @@ told_is first (at_port found_closed ∷ h) c on = told_is first h c.1 on
 told_is first (at_port (found_free n) ∷ h) c on = told_is first h c.1 on
 told_is first (at_port (answered r) ∷ h) c on = told_behind (left_of h) (told_is first h c.1 on)
 told_is first (at_port no_reply_room ∷ h) c on = told_is first h c.1 on
-told_is first (at_port (took_exec word) ∷ h) c on = absurd c.0
-told_is first (at_port (took_ovr word) ∷ h) c on = absurd c.0
+told_is first (at_port (took_exec word) ∷ h) c on = told_is first h c.1 on
+told_is first (at_port (took_ovr word) ∷ h) c on = told_is first h c.1 on
 told_is first (at_port (published p) ∷ h) c on = told_is first h c.1 on
 told_is first (at_port (no_piece_room done) ∷ h) c on = told_is first h c.1 on
 told_is first (at_port (loaded done) ∷ h) c on = told_is first h c.1 on
 told_is first (began o ∷ h) c on = line_told (is_run (motion_of h)) (before_of first h) (open_of h) o c.0.becomes
 told_is first (did a ps ∷ h) c on = by_action a (left_of h) (told_is first h c.1 on)
 told_is first (made_end ∷ h) c on = absurd (c.0.closes on)
+told_is first (evened ∷ h) c on = told_behind (left_of h) (told_is first h c.1 on)
+told_is first (paused ∷ h) c on = told_behind (left_of h) (told_is first h c.1 on)
 told_is first (became call m ∷ h) c on = told_is first h c.1 on
 told_is first (closing ∷ h) c on = absurd (none_closed (closed_tells h) on)
 told_is first (turned t ∷ h) c on = told_is first h c.1 on
 
-some_behind : (ts : List Task) (a : Asked) → ts ≡ ask a ∷ drop 1 ts → ends_told ts ≡ true → drop 1 ts ≡ [] → ⊥
-some_behind ts a next told none =
-    let e : some_left (drop 1 ts) ≡ true = left_true (some_left (drop 1 ts)) (ends_told (drop 1 ts)) (subst (λ us. ends_told us ≡ true) next told) in
+-- it is no reply, nor the end
+abbrev is_for_machine : Task → Bool
+is_for_machine (ask a) = true
+is_for_machine (tell r) = false
+is_for_machine pause = true
+is_for_machine normal = true
+is_for_machine finish = false
+
+some_there : (t : Task) (ts : List Task) → is_for_machine t ≡ true → ends_told (t ∷ ts) ≡ true → some_left ts ≡ true
+some_there (ask a) ts is told = left_true (some_left ts) (ends_told ts) told
+some_there (tell r) ts is told = absurd cc
+some_there pause ts is told = left_true (some_left ts) (ends_told ts) told
+some_there normal ts is told = left_true (some_left ts) (ends_told ts) told
+some_there finish ts is told = absurd cc
+
+some_behind : (ts : List Task) (t : Task) → is_for_machine t ≡ true → ts ≡ t ∷ drop 1 ts → ends_told ts ≡ true → drop 1 ts ≡ [] → ⊥
+some_behind ts t is next told none =
+    let e : some_left (drop 1 ts) ≡ true = some_there t (drop 1 ts) is (subst (λ us. ends_told us ≡ true) next told) in
     absurd (let f = sym e ∙ ap some_left none in cc)
 
--- something is left behind what is asked for
-pub behind_asked : (first : State) (h : Journal) (a : Asked) → Conducted first h → IsNextTask (ask a) h → drop 1 (left_of h) ≡ [] → ⊥
-behind_asked first h a c next = by_phase (phase_is first h c)
+behind_machine : (first : State) (h : Journal) (t : Task) → Conducted first h → is_for_machine t ≡ true → IsNextTask t h → drop 1 (left_of h) ≡ [] → ⊥
+behind_machine first h t c is next = by_phase (phase_is first h c)
   where
     by_phase : At h → drop 1 (left_of h) ≡ [] → ⊥
-    by_phase (going on is) = some_behind (left_of h) a next (told_is first h c on)
-    by_phase (to_finish e left w is) = λ none. absurd (let same = head_is (left_of h) (ask a) finish _ next left in cc)
-    by_phase (to_tell e left w p is k) = λ none. absurd (let same = head_is (left_of h) (ask a) (tell replies.Bye) _ next left in cc)
-    by_phase (over e left w p d is k) = λ none. none_next (left_of h) (ask a) left next
+    by_phase (going on g) = some_behind (left_of h) t is next (told_is first h c on)
+    by_phase (to_finish e left w g) = λ none. absurd (let same = sym is ∙ ap is_for_machine (head_is (left_of h) t finish _ next left) in cc)
+    by_phase (to_tell e left w p g k) = λ none. absurd (let same = sym is ∙ ap is_for_machine (head_is (left_of h) t (tell replies.Bye) _ next left) in cc)
+    by_phase (over e left w p d g k) = λ none. none_next (left_of h) t left next
+
+-- something is left behind what is asked for, and behind a pause
+pub behind_asked : (first : State) (h : Journal) (a : Asked) → Conducted first h → IsNextTask (ask a) h → drop 1 (left_of h) ≡ [] → ⊥
+behind_asked first h a c next = behind_machine first h (ask a) c refl next
 
 not_end : (ts : List Task) → ts ≡ finish ∷ drop 1 ts → ends_told ts ≡ true → ⊥
 not_end ts next told = absurd (let e = subst (λ us. ends_told us ≡ true) next told in cc)

@@ -3,6 +3,10 @@ pub mod Facts
 pub mod Begins
 pub mod Steps
 pub mod Standing
+pub mod Settling
+pub mod Pausing
+pub mod Halting
+pub mod Words
 pub mod Resting
 pub mod Tries
 pub mod Adding
@@ -10,3 +14,4 @@ pub mod Machining
 pub mod Ends
 pub mod Lasts
 pub mod Nexts
+pub mod Numbers

@@ -10,7 +10,7 @@ use Rattle.planner_ring.specs.declared.Block.{Block}
 use Rattle.plan_passes.specs.Plans.{Planned, added}
 use Rattle.plan_passes.specs.Segments.{advanced}
 use Rattle.segment_prep.specs.Taking.{IsNext}
-use Rattle.segment_prep.specs.declared.Mode.TheVariants.{Go}
+use Rattle.segment_prep.specs.declared.Mode.{Mode}
 use Rattle.planner_runs.specs.Runs.{with_move, most_blocks}
 use Rattle.planner_runs.proofs.Runs.{block_added}
 use Rattle.step_line.specs.Asking.{IsPlannedMove}
@@ -26,7 +26,7 @@ use Rattle.step_line.specs.Events.{events_after}
 use Rattle.step_line.specs.Finishing.{ticks_together, tick_count}
 use Rattle.step_line.proofs.Finished.{together_on}
 use Rattle.controller.specs.declared.machine.Machine.{Machine}
-use Rattle.controller.specs.Machines.{Runs}
+use Rattle.controller.specs.Machines.{Runs, mode_in}
 
 -- a move is put behind the others, as a block with its geometry
 pub put : (m : Machine) (mv : PlannedMove) (g : Geom) (after p : Planned) (now : Motion) (in_hand given : List Piece) → IsPlannedMove mv → is_full m.plan ≡ false → IsGeom mv.mv mv.limits g
@@ -49,10 +49,11 @@ segment_ticks : (s : Segment) → tick_count (pieces.Segment s) ≡ s.n
 segment_ticks s = length-map (events_after s.mv s.first s.n) kinds.Event ∙ length_after s.mv s.first s.n
 
 -- a segment is taken into the hand
-pub taken : (m : Machine) (s : Segment) (after p : Planned) (now : Motion) (given : List Piece) → IsNext m.plan Go s → after ≡ advanced m.plan s.n s.w_out → Runs m p now [] given
-    → IsNext p Go s × Runs (record m { plan = after; hand = Some (pieces.Segment s); given = m.given + s.n }) (advanced p s.n s.w_out) now (pieces.Segment s ∷ []) (given ++ pieces.Segment s ∷ [])
-taken m s after p now given next e r = (
-  subst (λ (x : Planned). IsNext x Go s) r.plan_is next,
+pub taken : (m : Machine) (s : Segment) (mode : Mode) (after p : Planned) (now : Motion) (given : List Piece) → mode ≡ mode_in m.hold.motion → IsNext m.plan mode s
+    → after ≡ advanced m.plan s.n s.w_out → Runs m p now [] given
+    → IsNext p (mode_in now) s × Runs (record m { plan = after; hand = Some (pieces.Segment s); given = m.given + s.n }) (advanced p s.n s.w_out) now (pieces.Segment s ∷ []) (given ++ pieces.Segment s ∷ [])
+taken m s mode after p now given is next e r = (
+  subst (λ (x : Planned). IsNext x (mode_in now) s) r.plan_is (subst (λ (x : Mode). IsNext m.plan x s) (is ∙ ap mode_in r.motion_is) next),
   record {
     plan_is = e ∙ ap (λ (x : Planned). advanced x s.n s.w_out) r.plan_is;
     same = r.same;

@@ -28,18 +28,19 @@ use Rattle.step_line.specs.declared.Mark.{Mark as AnyMark}
 use Rattle.step_line.specs.declared.Piece.{Piece}
 use Rattle.step_line.specs.Asking.Asked.{a_move, a_mark, a_rest}
 use Rattle.segment_prep.specs.declared.Mode.TheVariants.{Go, Hold}
+use Rattle.overrides.specs.declared.Overrides.{Overrides}
 use Rattle.plan_passes.specs.Plans.{Planned}
 use Rattle.planner_runs.specs.declared.Action.{Action}
 use Rattle.planner_runs.specs.declared.Action.TheVariants.{Add, Take, Override, Mark, Rest, Clear, Reset}
-use Rattle.planner_runs.specs.Runs.{IsAtRest}
+use Rattle.planner_runs.specs.Runs.{IsAtRest, normal_overrides}
 use Rattle.run_rules.specs.declared.State.{State}
 use Rattle.run_rules.specs.Asks.{spindle_after, flood_after, item_work, work_of}
 use Rattle.run_rules.specs.Work.{Task, Outcome, telling}
-use Rattle.run_rules.specs.Work.Task.{ask, tell, finish}
+use Rattle.run_rules.specs.Work.Task.{ask, tell, pause, normal, finish}
 use Rattle.run_rules.specs.Outcomes.{Before, Becomes, ByKept, ByDollar, ByCommand, BySetting, ByWords, ByVerdict, either, most_kept, refused, told, executed, fault_number}
 use Rattle.board_rules.specs.Ports.PortStep.{took, found_empty, found_closed, found_free, answered, no_reply_room, took_exec, took_ovr, published, no_piece_room, loaded}
 use Rattle.board_rules.specs.Steps.{Journal, before_of, open_of, left_of, left_by, behind, plan_of, motion_of}
-use Rattle.board_rules.specs.Steps.Step.{at_port, began, did, made_end, became, closing, turned}
+use Rattle.board_rules.specs.Steps.Step.{at_port, began, did, made_end, evened, paused, became, closing, turned}
 use Rattle.board_rules.specs.Turns.{is_run}
 use Rattle.board_rules.specs.Conduct.{Conducted, Gives, MayDo, IsNextTask}
 use Rattle.board_rules.proofs.Tasks.{none_taken}
@@ -99,6 +100,8 @@ MarksRest rests (ask a_rest ∷ ts) = MarksRest true ts
 MarksRest rests (ask (a_move m) ∷ ts) = MarksRest false ts
 MarksRest rests (ask (a_mark m) ∷ ts) = (rests ≡ true) × MarksRest rests ts
 MarksRest rests (tell r ∷ ts) = MarksRest rests ts
+MarksRest rests (pause ∷ ts) = MarksRest rests ts
+MarksRest rests (normal ∷ ts) = MarksRest rests ts
 MarksRest rests (finish ∷ ts) = MarksRest rests ts
 
 at_rest_too : (ts : List Task) → MarksRest false ts → MarksRest true ts
@@ -107,6 +110,8 @@ at_rest_too (ask a_rest ∷ ts) rest = rest
 at_rest_too (ask (a_move m) ∷ ts) rest = rest
 at_rest_too (ask (a_mark m) ∷ ts) rest = absurd (let e = rest.0 in cc)
 at_rest_too (tell r ∷ ts) rest = at_rest_too ts rest
+at_rest_too (pause ∷ ts) rest = at_rest_too ts rest
+at_rest_too (normal ∷ ts) rest = at_rest_too ts rest
 at_rest_too (finish ∷ ts) rest = at_rest_too ts rest
 
 abbrev answer : List Task
@@ -161,6 +166,19 @@ on_told : (left : List Task) (plan : Planned) (r : Reply) → left ≡ tell r �
 on_told left plan r next (inl rest) = inl (subst (λ (ts : List Task). MarksRest false ts) next rest)
 on_told left plan r next (inr (stands, rest)) = inr (stands, subst (λ (ts : List Task). MarksRest true ts) next rest)
 
+on_pause : (left : List Task) (plan : Planned) → left ≡ pause ∷ drop 1 left → Marked left plan → Marked (drop 1 left) plan
+on_pause left plan next (inl rest) = inl (subst (λ (ts : List Task). MarksRest false ts) next rest)
+on_pause left plan next (inr (stands, rest)) = inr (stands, subst (λ (ts : List Task). MarksRest true ts) next rest)
+
+-- other overrides leave a plan at rest so
+with_overrides : (left : List Task) (plan : Planned) (o : Overrides) → Marked left plan → Marked left (record plan { overrides = o })
+with_overrides left plan o (inl rest) = inl rest
+with_overrides left plan o (inr (stands, rest)) = inr (record { blocks = stands.blocks; speed = stands.speed }, rest)
+
+on_normal : (left : List Task) (plan : Planned) → left ≡ normal ∷ drop 1 left → Marked left plan → Marked (drop 1 left) plan
+on_normal left plan next (inl rest) = inl (subst (λ (ts : List Task). MarksRest false ts) next rest)
+on_normal left plan next (inr (stands, rest)) = inr (stands, subst (λ (ts : List Task). MarksRest true ts) next rest)
+
 on_end : (left : List Task) (plan : Planned) → left ≡ finish ∷ drop 1 left → Marked left plan → Marked (drop 1 left) plan
 on_end left plan next (inl rest) = inl (subst (λ (ts : List Task). MarksRest false ts) next rest)
 on_end left plan next (inr (stands, rest)) = inr (stands, subst (λ (ts : List Task). MarksRest true ts) next rest)
@@ -177,8 +195,9 @@ on_did h Rest ps may gives (inl rest) = inr (may.drained.plan, subst (λ (ts : L
 on_did h Rest ps may gives (inr (stands, rest)) = inr (may.drained.plan, subst (λ (ts : List Task). MarksRest true ts) may.next rest)
 on_did h (Take Go) ps may gives (inl rest) = inl rest
 on_did h (Take Go) ps may gives (inr (stands, rest)) = absurd (none_taken (plan_of h) Go ps (behind (Take Go) ps (plan_of h)) stands.blocks gives)
-on_did h (Take Hold) ps may gives m = absurd may
-on_did h (Override o) ps may gives m = absurd may
+on_did h (Take Hold) ps may gives (inl rest) = inl rest
+on_did h (Take Hold) ps may gives (inr (stands, rest)) = absurd (none_taken (plan_of h) Hold ps (behind (Take Hold) ps (plan_of h)) stands.blocks gives)
+on_did h (Override o) ps may gives m = with_overrides (left_of h) (plan_of h) o m
 on_did h Clear ps may gives m = absurd may
 on_did h Reset ps may gives m = absurd may
 
@@ -190,14 +209,16 @@ marked first (at_port found_closed ∷ h) c = marked first h c.1
 marked first (at_port (found_free n) ∷ h) c = marked first h c.1
 marked first (at_port (answered r) ∷ h) c = on_told (left_of h) (plan_of h) r c.0.next (marked first h c.1)
 marked first (at_port no_reply_room ∷ h) c = marked first h c.1
-marked first (at_port (took_exec word) ∷ h) c = absurd c.0
-marked first (at_port (took_ovr word) ∷ h) c = absurd c.0
+marked first (at_port (took_exec word) ∷ h) c = marked first h c.1
+marked first (at_port (took_ovr word) ∷ h) c = marked first h c.1
 marked first (at_port (published p) ∷ h) c = marked first h c.1
 marked first (at_port (no_piece_room done) ∷ h) c = marked first h c.1
 marked first (at_port (loaded done) ∷ h) c = marked first h c.1
 marked first (began o ∷ h) c = inl (line_marks (is_run (motion_of h)) (before_of first h) (open_of h) o c.0.becomes)
 marked first (did a ps ∷ h) c = on_did h a ps c.0.0 c.0.1 (marked first h c.1)
 marked first (made_end ∷ h) c = on_end (left_of h) (plan_of h) c.0.rests.next (marked first h c.1)
+marked first (evened ∷ h) c = with_overrides (drop 1 (left_of h)) (plan_of h) normal_overrides (on_normal (left_of h) (plan_of h) c.0.rests.next (marked first h c.1))
+marked first (paused ∷ h) c = on_pause (left_of h) (plan_of h) c.0.rests.next (marked first h c.1)
 marked first (became call m ∷ h) c = marked first h c.1
 marked first (closing ∷ h) c = inl tt
 marked first (turned t ∷ h) c = marked first h c.1

@@ -1,48 +1,68 @@
 -- What is next is done: what the rules ask of it, and how the turn ends by it.
-use Rattle.std.proofs.Common.{◌≡◌, ℕ, ◌+◌, ◌≤◌, ◌⊎◌, inl, inr, Bool, true, false, ◌||◌, ◌&&◌, List, [], ◌∷◌, ◌++◌, length, drop, nat_eq, nat_le, sym, refl, ap, ◌∙◌, subst, arith}
+use Rattle.std.proofs.Common.{◌≡◌, ℕ, ◌+◌, ◌≤◌, ◌<◌, ◌⊎◌, inl, inr, Bool, true, false, ◌||◌, List, [], ◌∷◌, ◌++◌, length, drop, nat_eq, nat_le, sym, refl, ap, ◌∙◌, subst, arith}
 use Rattle.std.specs.List.{list_any}
 use Rattle.outside.specs.declared.On.TheVariants.{Byte, ReplyRoom}
 use Rattle.outside.specs.declared.Turn.TheVariants.{Did, Wait}
-use Rattle.feed_hold.specs.declared.Motion.TheVariants.{Idle, Run}
+use Rattle.feed_hold.specs.declared.Motion.TheVariants.{Idle, Run, Holding, Held}
 use Rattle.feed_hold.specs.Motions.Call.{on_start}
 use Rattle.planner_ring.specs.declared.Block.{Block}
 use Rattle.planner_runs.specs.Runs.{most_blocks}
 use Rattle.planner_runs.specs.declared.Action.TheVariants.{Mark}
 use Rattle.step_line.specs.declared.Mark.{Mark as AnyMark}
 use Rattle.step_line.specs.declared.Piece.{Piece}
+use Rattle.step_line.specs.declared.planned_move.PlannedMove.{PlannedMove}
 use Rattle.status_report.specs.declared.Reply.{Reply}
 use Rattle.status_report.specs.declared.Reply.TheVariants.{Bye}
 use Rattle.run_rules.specs.declared.State.{State}
-use Rattle.run_rules.specs.Work.{Task, closing_work}
-use Rattle.run_rules.specs.Work.Task.{ask, tell, finish}
-use Rattle.step_line.specs.Asking.Asked.{a_move, a_mark}
+use Rattle.run_rules.specs.Work.{Task, pauses}
+use Rattle.run_rules.specs.Work.Task.{ask, tell, pause, normal, finish}
+use Rattle.step_line.specs.Asking.Asked.{a_move, a_mark, a_rest}
+use Rattle.line_interpreter.specs.Lefts.{IsTodo}
+use Rattle.line_interpreter.specs.declared.tasks.Todo.TheVariants as todo
 use Rattle.board_rules.specs.Ports.PortStep.{took, found_empty, found_closed, no_reply_room}
 use Rattle.board_rules.specs.Steps.{Journal, left_of, plan_of, motion_of, whole_of, has_closed}
 use Rattle.board_rules.specs.Steps.Step.{at_port, did, made_end, became, closing}
-use Rattle.board_rules.specs.Turns.{this_turn, found_none, found_nothing, tells_next, awaits_motion, is_full, has_blocks, is_going, is_due, tries_of}
+use Rattle.board_rules.specs.Turns.{
+  this_turn,
+  found_none,
+  found_nothing,
+  flags_taken,
+  tells_next,
+  awaits_motion,
+  needs_motion,
+  is_held_up,
+  is_halting,
+  is_full,
+  has_blocks,
+  has_segment,
+  is_due,
+  tries_of,
+}
 use Rattle.board_rules.specs.Conduct.{Conducted, AreWaiting, IsNextTask, MayPoll, MayStart, MayClose}
 use Rattle.board_rules.proofs.Motions.{motion_is}
 use Rattle.board_rules.proofs.Tasks.{none_next, head_is}
 use Rattle.units.specs.Truths.{one_if}
 use Rattle.controller.specs.declared.controller.Controller.{Controller}
+use Rattle.controller.specs.declared.controller.Flags.{Flags}
+use Rattle.controller.specs.declared.controller.Flags.TheVariants as words
 use Rattle.controller.specs.declared.controller.Beat.{Beat}
 use Rattle.controller.specs.declared.controller.Beat.TheVariants.{Motion, Main}
-use Rattle.controller.specs.Boards.{Keeps, Rounds, NoneWaits, IsBetween}
-use Rattle.controller.specs.Turning.{IsQuiet, IsReady, HasPiece, HasPolled, MayRun, MayAwait, HasStopped, PassesNothing, BoardWorked}
-use Rattle.controller.proofs.Steps.{not_told}
-use Rattle.controller.proofs.Facts.{not_whole, unmissed}
-use Rattle.controller.proofs.Tries.{publishes_none, publishes_one, passes_did, passes_end, passes_motion}
+use Rattle.controller.specs.Boards.{Keeps, Rounds, NoneWaits, IsBetween, TakesFlags, has_published, number_of}
+use Rattle.controller.specs.Turning.{IsNextMove, IsQuiet, IsReady, HasPiece, HasPolled, MayRun, MayAwait, HasStopped, IsWholeLine, NeedsNoWait, GoesOn, PassesNothing, BoardWorked}
+use Rattle.controller.proofs.Steps.{is_next, not_told}
+use Rattle.controller.proofs.Facts.{not_whole, uncounted, unmissed}
+use Rattle.controller.proofs.Tries.{publishes_none, publishes_one, worked_behind, passes_did, passes_end, passes_motion}
 use Rattle.controller.proofs.Lasts.{behind_asked, IsClosing}
-use Rattle.controller.proofs.Ends.{none_called, none_waited, rounds_still, one_at_most, ready_sent, ready_idle, not_waiting}
+use Rattle.controller.proofs.Ends.{none_called, none_waited, rounds_still, one_at_most, takes_none, ready_sent, ready_idle, may_await, not_waiting}
 
 -- ---- how a turn begins
 
 -- where it does not begin with a piece, what is next may be done
-pub ready_now : (beat : Beat) (h : Journal) → Rounds beat h → IsBetween h → (beat ≡ Motion → HasPiece h → ⊥) → IsReady h
-ready_now Main h r between none = ready_sent h r between
-ready_now Motion h r between none =
+pub ready_now : (beat : Beat) (h : Journal) → Rounds beat h → IsBetween h → flags_taken h ≡ true → (beat ≡ Motion → HasPiece h → ⊥) → IsReady h
+ready_now Main h r between taken none = ready_sent h r between taken
+ready_now Motion h r between taken none =
     let idle : is_due h ≡ false = by_due (is_due h) refl in
-    ready_idle h r between idle (unmissed h between idle)
+    ready_idle h r between taken idle (unmissed h between idle)
   where
     by_due : (b : Bool) → is_due h ≡ b → is_due h ≡ false
     by_due true e = absurd (none refl (inr e))
@@ -66,9 +86,27 @@ full_has_blocks : (blocks : List Block) → nat_le most_blocks (length blocks) �
 full_has_blocks [] e = absurd cc
 full_has_blocks (b ∷ blocks) e = refl
 
+-- what is next of a machine that is held, or slows down for that, is not held up: so no move has no room
+held_up_full : (ts : List Task) (m : PlannedMove) (whole full : Bool) → ts ≡ ask (a_move m) ∷ drop 1 ts → full ≡ true → needs_motion ts whole full ≡ true
+held_up_full [] m whole full next is = absurd cc
+held_up_full (ask (a_move m) ∷ ts) n whole full next is = is
+held_up_full (ask (a_mark m) ∷ ts) n whole full next is = absurd (let e = head_is (ask (a_mark m) ∷ ts) (ask (a_move n)) (ask (a_mark m)) ts next refl in cc)
+held_up_full (ask a_rest ∷ ts) n whole full next is = refl
+held_up_full (tell r ∷ ts) n whole full next is = absurd (let e = head_is (tell r ∷ ts) (ask (a_move n)) (tell r) ts next refl in cc)
+held_up_full (pause ∷ ts) n whole full next is = refl
+held_up_full (normal ∷ ts) n whole full next is = refl
+held_up_full (finish ∷ ts) n whole full next is = refl
+
+not_halting : (h : Journal) → GoesOn h → is_held_up h ≡ true → is_halting (motion_of h) ≡ false
+not_halting h goes up = by_halt (is_halting (motion_of h)) refl
+  where
+    by_halt : (b : Bool) → is_halting (motion_of h) ≡ b → is_halting (motion_of h) ≡ false
+    by_halt true e = absurd (let f = sym (goes e) ∙ up in cc)
+    by_halt false e = e
+
 -- a full plan is run
-pub full_piece : (first : State) (h : Journal) → Conducted first h → NoneWaits h → is_full (plan_of h) ≡ true → HasPiece h
-full_piece first h c none full = inr (by_motion (motion_is first h c))
+pub full_piece : (first : State) (h : Journal) → Conducted first h → NoneWaits h → GoesOn h → IsNextMove h → is_full (plan_of h) ≡ true → HasPiece h
+full_piece first h c none goes move full = inr (by_motion (motion_is first h c))
   where
     blocks : has_blocks (plan_of h).blocks ≡ true
     blocks = full_has_blocks (plan_of h).blocks full
@@ -77,9 +115,57 @@ full_piece first h c none full = inr (by_motion (motion_is first h c))
     full_too true b ea e = absurd cc
     full_too false b ea e = absurd cc
 
-    by_motion : (motion_of h ≡ Idle) ⊎ (motion_of h ≡ Run) → is_due h ≡ true
+    going : is_halting (motion_of h) ≡ false
+    going = not_halting h goes (held_up_full (left_of h) move.0 (whole_of h) (is_full (plan_of h)) move.1 full)
+
+    by_motion : (motion_of h ≡ Idle) ⊎ ((motion_of h ≡ Run) ⊎ ((motion_of h ≡ Holding) ⊎ (motion_of h ≡ Held))) → is_due h ≡ true
     by_motion (inl idle) = full_too (is_full (plan_of h)) (awaits_motion (left_of h)) full (none (record { stands = idle; blocks = blocks }))
-    by_motion (inr run) = ap (λ m. is_going m && has_blocks (plan_of h).blocks) run ∙ blocks
+    by_motion (inr (inl run)) = ap (λ m. has_segment m (plan_of h)) run ∙ blocks
+    by_motion (inr (inr (inl holding))) = absurd (let e = sym going ∙ ap is_halting holding in cc)
+    by_motion (inr (inr (inr held))) = absurd (let e = sym going ∙ ap is_halting held in cc)
+
+-- ---- lines
+
+none_left : (b : Controller) (h : Journal) → Keeps b h → b.lines.left ≡ [] → left_of h ≡ []
+none_left b h k none = sym k.lines.left_is ∙ none
+
+-- what is next where nothing is left is a line that was taken whole
+held_up_line : (ts : List Task) (whole full : Bool) → ts ≡ [] → whole ≡ true → needs_motion ts whole full ≡ true
+held_up_line [] whole full none is = is
+held_up_line (t ∷ ts) whole full none is = absurd cc
+
+pub whole_line : (b : Controller) (h : Journal) → Keeps b h → GoesOn h → b.lines.left ≡ [] → b.closing ≡ false → b.input.whole ≡ true → IsWholeLine h
+whole_line b h k goes none open_yet whole =
+    let free = none_left b h k none in
+    let is = sym k.input.whole_is ∙ whole in
+    record { free = free; going = k.going open_yet; whole = is; goes = not_halting h goes (held_up_line (left_of h) (whole_of h) (is_full (plan_of h)) free is) }
+
+-- ---- a machine that is held, or slows down for that
+
+-- what waits for the motion is held up
+held_up_awaited : (ts : List Task) (whole full : Bool) → awaits_motion ts ≡ true → needs_motion ts whole full ≡ true
+held_up_awaited [] whole full is = absurd cc
+held_up_awaited (ask (a_move m) ∷ ts) whole full is = absurd cc
+held_up_awaited (ask (a_mark m) ∷ ts) whole full is = absurd cc
+held_up_awaited (ask a_rest ∷ ts) whole full is = refl
+held_up_awaited (tell r ∷ ts) whole full is = absurd cc
+held_up_awaited (pause ∷ ts) whole full is = refl
+held_up_awaited (normal ∷ ts) whole full is = refl
+held_up_awaited (finish ∷ ts) whole full is = refl
+
+-- so the motion may be waited for where what is next goes on
+pub may_await_now : (b : Controller) (h : Journal) → Keeps b h → IsReady h → GoesOn h → awaits_motion (left_of h) ≡ true → MayAwait h
+may_await_now b h k ready goes awaits = may_await k.first h k.conducted ready (not_halting h goes (held_up_awaited (left_of h) (whole_of h) (is_full (plan_of h)) awaits)) awaits
+
+-- ---- what is next, by the fields
+
+pub next_move : (b : Controller) (h : Journal) → Keeps b h → IsTodo todo.Move b.lines.left → IsNextMove h
+next_move b h k is = (is.0, is_next b h (ask (a_move is.0)) k is.1)
+
+pub finish_next : (b : Controller) (h : Journal) → Keeps b h → NeedsNoWait h → IsTodo todo.Finish b.lines.left → HasStopped h × IsNextTask finish h
+finish_next b h k needs is =
+    let next = is_next b h finish k is in
+    ((needs (ap awaits_motion next)).0, next)
 
 -- ---- marks and the end
 
@@ -87,42 +173,55 @@ pub none_behind : (ps : List Piece) (p : Piece) → ps ++ p ∷ [] ≡ [] → �
 none_behind [] p e = absurd cc
 none_behind (q ∷ ps) p e = absurd cc
 
-quiet_on : (h next : Journal) → IsQuiet h → PassesNothing h next → IsQuiet next
-quiet_on h next quiet passes = record { still = passes.still ∙ quiet.still; quiet = passes.quiet ∙ quiet.quiet }
+pub quiet_on : (h next : Journal) → IsQuiet h → PassesNothing h next → IsQuiet next
+quiet_on h next quiet passes = record {
+  still = passes.still ∙ quiet.still;
+  quiet = passes.quiet ∙ quiet.quiet;
+  worked = passes.worked quiet.worked;
+  flags = passes.flags ∙ quiet.flags;
+}
 
 pub may_run_marked : (first : State) (h : Journal) (m : AnyMark) (ps : List Piece) → Conducted first h → IsReady h → IsNextTask (ask (a_mark m)) h → MayRun (did (Mark m) ps ∷ h)
 may_run_marked first h m ps c ready next =
-    let passes = passes_did (Mark m) ps h in
+    let passes = passes_did (Mark m) ps h refl in
+    let some : left_of (did (Mark m) ps ∷ h) ≡ [] → ⊥ = behind_asked first h (a_mark m) c next in
     record {
       quiet = quiet_on h (did (Mark m) ps ∷ h) ready.quiet passes;
       polled = λ e. absurd (let f = sym e ∙ passes.polled ∙ ready.unpolled in cc);
-      first = λ none. absurd (behind_asked first h (a_mark m) c next none);
-      few = λ some. (let t = passes.tries in let f = ready.few (some_next h (ask (a_mark m)) next) in omega arith);
+      first = λ e. absurd (let n = sym e ∙ uncounted (did (Mark m) ps ∷ h) some in cc);
+      few = λ e. few_working first h c ready (some_next h (ask (a_mark m)) next);
+      held = ready.held;
     }
 
 pub may_run_ended : (h : Journal) → MayRun h → HasStopped h → IsNextTask finish h → IsClosing h → MayRun (made_end ∷ h)
 may_run_ended h may stopped next is =
     let passes = passes_end h in
+    let some : left_of (made_end ∷ h) ≡ [] → ⊥ = (λ none. let f = sym is.later ∙ none in absurd cc) in
     record {
       quiet = quiet_on h (made_end ∷ h) may.quiet passes;
       polled = λ e. (
         λ waiting. not_waiting h stopped (record { stands = waiting.stands; blocks = waiting.blocks }),
         λ m. absurd (let f = head_is (drop 1 (left_of h)) (ask (a_move m.0)) (tell Bye) [] m.1 is.later in cc),
       );
-      first = λ none. absurd (let f = sym is.later ∙ none in cc);
-      few = λ some. (let t = passes.tries in let f = may.few (some_next h finish next) in omega arith);
+      first = λ e. absurd (let n = sym e ∙ uncounted (made_end ∷ h) some in cc);
+      few = λ e. may.few (uncounted h (some_next h finish next));
+      held = may.held;
     }
 
 -- ---- replies
 
 -- a reply was handed back
-pub told_later : (board : Controller) (h : Journal) (r : Reply) → Keeps board h → IsReady h → IsNextTask (tell r) h → board.beat ≡ Motion → BoardWorked (Wait ReplyRoom) board h (at_port no_reply_room ∷ h)
-told_later board h r k ready next beat =
+pub told_later : (was : Flags) (board : Controller) (h : Journal) (r : Reply) → Keeps board h → IsReady h → IsNextTask (tell r) h → board.beat ≡ Motion → board.flags ≡ words.None
+    → BoardWorked (Wait ReplyRoom) was board h (at_port no_reply_room ∷ h)
+told_later was board h r k ready next beat no_word =
+    let worked = worked_behind (at_port no_reply_room) h (at_port no_reply_room ∷ h) refl (record { no_requests = refl; none_obeyed = refl; no_changes = refl; none_planned = refl }) ready.quiet.worked in
     let few = few_working k.first h k.conducted ready (some_next h (tell r) next) in
     let none : NoneWaits (at_port no_reply_room ∷ h) = (λ waiting. ready.none_waits (record { stands = waiting.stands; blocks = waiting.blocks })) in
     record {
       keeps = not_told board h k (ap tells_next next);
       rounds = subst (λ b. Rounds b (at_port no_reply_room ∷ h)) (sym beat) (rounds_still (at_port no_reply_room ∷ h) none few);
+      flags = takes_none board (at_port no_reply_room ∷ h) no_word ready.quiet.flags;
+      still = λ e. no_word;
       beat = λ o e. beat;
       steps = at_port no_reply_room ∷ [];
       are = refl;
@@ -132,9 +231,12 @@ told_later board h r k ready next beat =
           adds = λ m e. absurd (let f = head_is (left_of h) (ask (a_move m)) (tell r) _ e next in cc);
           starts = none_called (at_port no_reply_room ∷ h) ready.unpolled none;
           tries = omega arith;
+          obeyed = worked.obeyed;
+          changed = worked.changed;
         };
         cause = refl;
         still = ready.quiet.still;
+        flags = ready.quiet.flags;
         round = λ due. none_waited (at_port no_reply_room ∷ h) ReplyRoom (ready.tried due);
       };
       moves = λ e. absurd cc;
@@ -142,13 +244,17 @@ told_later board h r k ready next beat =
 
 -- ---- bytes
 
-pub took_worked : (board : Controller) (b : ℕ) (h : Journal) → Keeps board (at_port (took b) ∷ h) → IsReady h → MayPoll h → board.beat ≡ Motion → BoardWorked Did board h (at_port (took b) ∷ h)
-took_worked board b h keeps ready may beat =
+pub took_worked : (was : Flags) (board : Controller) (b : ℕ) (h : Journal) → Keeps board (at_port (took b) ∷ h) → TakesFlags board.flags (at_port (took b) ∷ h) → IsReady h → MayPoll h → board.beat ≡ Motion
+    → BoardWorked Did was board h (at_port (took b) ∷ h)
+took_worked was board b h keeps takes ready may beat =
     let none : NoneWaits (at_port (took b) ∷ h) = (λ waiting. ready.none_waits (record { stands = waiting.stands; blocks = waiting.blocks })) in
     let one = one_at_most (nat_eq b 10) in
+    let worked = worked_behind (at_port (took b)) h (at_port (took b) ∷ h) refl (record { no_requests = refl; none_obeyed = refl; no_changes = refl; none_planned = refl }) ready.quiet.worked in
     record {
       keeps = keeps;
       rounds = subst (λ t. Rounds t (at_port (took b) ∷ h)) (sym beat) (rounds_still (at_port (took b) ∷ h) none (omega arith));
+      flags = takes;
+      still = λ e. absurd (let s = ap has_published beat in cc);
       beat = λ o e. beat;
       steps = at_port (took b) ∷ [];
       are = refl;
@@ -157,13 +263,20 @@ took_worked board b h keeps ready may beat =
         adds = λ m e. absurd (none_next (left_of h) (ask (a_move m)) may.all_done e);
         starts = none_called (at_port (took b) ∷ h) ready.unpolled none;
         tries = omega arith;
+        obeyed = worked.obeyed;
+        changed = worked.changed;
       };
-      moves = λ e. refl;
+      moves = λ e. inl refl;
     }
 
 pub polled_none : (h : Journal) → IsReady h → MayPoll h → HasPolled (at_port found_empty ∷ h)
 polled_none h ready may = record {
-  quiet = record { still = ready.quiet.still; quiet = publishes_none (at_port found_empty) (this_turn h) refl ∙ ready.quiet.quiet };
+  quiet = record {
+    still = ready.quiet.still;
+    quiet = publishes_none (at_port found_empty) (this_turn h) refl ∙ ready.quiet.quiet;
+    worked = worked_behind (at_port found_empty) h (at_port found_empty ∷ h) refl (record { no_requests = refl; none_obeyed = refl; no_changes = refl; none_planned = refl }) ready.quiet.worked;
+    flags = ready.quiet.flags;
+  };
   found = refl;
   free = may.all_done;
   going = may.unclosed;
@@ -175,7 +288,12 @@ polled_none h ready may = record {
 
 pub polled_end : (h : Journal) → IsReady h → MayPoll h → HasPolled (at_port found_closed ∷ h)
 polled_end h ready may = record {
-  quiet = record { still = ready.quiet.still; quiet = publishes_none (at_port found_closed) (this_turn h) refl ∙ ready.quiet.quiet };
+  quiet = record {
+    still = ready.quiet.still;
+    quiet = publishes_none (at_port found_closed) (this_turn h) refl ∙ ready.quiet.quiet;
+    worked = worked_behind (at_port found_closed) h (at_port found_closed ∷ h) refl (record { no_requests = refl; none_obeyed = refl; no_changes = refl; none_planned = refl }) ready.quiet.worked;
+    flags = ready.quiet.flags;
+  };
   found = refl;
   free = may.all_done;
   going = may.unclosed;
@@ -189,14 +307,16 @@ polled_end h ready may = record {
 pub none_waiting : (board : Controller) (h : Journal) → Keeps board h → (board.machine.hold.motion ≡ Idle → has_blocks board.machine.plan.blocks ≡ true → ⊥) → AreWaiting h → ⊥
 none_waiting board h k none waiting = none (k.machine.motion_is ∙ waiting.stands) (ap (λ p. has_blocks p.blocks) k.machine.plan_is ∙ waiting.blocks)
 
-pub waits_for_byte : (board : Controller) (h : Journal) → Keeps board h → HasPolled h → list_any found_nothing (this_turn h) ≡ true → (AreWaiting h → ⊥) → board.beat ≡ Motion
-    → BoardWorked (Wait Byte) board h h
-waits_for_byte board h k polled found none beat =
+pub waits_for_byte : (was : Flags) (board : Controller) (h : Journal) → Keeps board h → HasPolled h → list_any found_nothing (this_turn h) ≡ true → (AreWaiting h → ⊥) → board.beat ≡ Motion → board.flags ≡ words.None
+    → BoardWorked (Wait Byte) was board h h
+waits_for_byte was board h k polled found none beat no_word =
     let t = polled.tries in
     let w = ap one_if polled.partial in
     record {
       keeps = k;
       rounds = subst (λ b. Rounds b h) (sym beat) (rounds_still h (λ waiting. absurd (none waiting)) (omega arith));
+      flags = takes_none board h no_word polled.quiet.flags;
+      still = λ e. no_word;
       beat = λ o e. beat;
       steps = [];
       are = refl;
@@ -206,13 +326,20 @@ waits_for_byte board h k polled found none beat =
           adds = λ m e. absurd (none_next (left_of h) (ask (a_move m)) polled.free e);
           starts = λ waiting. absurd (none waiting);
           tries = omega arith;
+          obeyed = polled.quiet.worked.obeyed;
+          changed = polled.quiet.worked.changed;
         };
         cause = record { poll = found; free = polled.free; partial = polled.partial };
         still = polled.quiet.still;
+        flags = polled.quiet.flags;
         round = λ due. none_waited h Byte (polled.tried due);
       };
       moves = λ e. absurd cc;
     }
+
+-- a machine that stands starts
+pub started_passes : (h : Journal) → motion_of h ≡ Idle → PassesNothing h (became (on_start false) Run ∷ h)
+started_passes h idle = passes_motion (on_start false) Run h refl (omega arith)
 
 called : (a b d : Bool) → a ≡ true → ((a || b) || d) ≡ true
 called true b d e = refl
@@ -225,16 +352,17 @@ may_start_polled board h k polled blocks = record {
   called = called (list_any found_none (this_turn h)) _ _ polled.found;
 }
 
-pub may_run_started : (h : Journal) → HasPolled h → MayRun (became (on_start false) Run ∷ h)
-may_run_started h polled =
-    let passes = passes_motion (on_start false) Run h in
+pub may_run_started : (h : Journal) → motion_of h ≡ Idle → HasPolled h → MayRun (became (on_start false) Run ∷ h)
+may_run_started h idle polled =
+    let passes = started_passes h idle in
     let t = polled.tries in
     let w = ap one_if polled.partial in
     record {
       quiet = quiet_on h (became (on_start false) Run ∷ h) polled.quiet passes;
       polled = λ e. (λ waiting. absurd (let f = waiting.stands in cc), λ m. none_next (left_of h) (ask (a_move m.0)) polled.free m.1);
-      first = λ none. omega arith;
-      few = λ some. omega arith;
+      first = λ e. omega (arith, t, w);
+      few = λ e. omega (arith, t, w);
+      held = λ halts. absurd cc;
     }
 
 -- ---- the run is closed
@@ -242,28 +370,36 @@ may_run_started h polled =
 pub may_close : (h : Journal) → HasPolled h → has_closed h ≡ true → MayClose h
 may_close h polled closed = record { free = polled.free; going = polled.going; begun = polled.partial; closed = closed }
 
-pub may_await_closing : (h : Journal) → HasPolled h → (AreWaiting h → ⊥) → MayAwait (closing ∷ h)
-may_await_closing h polled none =
+-- the board's number falls by that
+closing_falls : (f : Flags) (h : Journal) → HasPolled h → number_of f (closing ∷ h) < number_of f h
+closing_falls f h polled =
+    let p = ap pauses polled.free in
+    let c = ap (λ (rs : List Reply). one_if (nat_eq (length rs) 0)) polled.going in
+    let d = ap (λ (rs : List Reply). one_if (nat_eq (length (rs ++ Bye ∷ [])) 0)) polled.going in
+    omega (arith, p, c, d)
+
+pub closes_worked : (board is : Controller) (h : Journal) → Keeps is (closing ∷ h) → HasPolled h → (AreWaiting h → ⊥) → is.beat ≡ Motion → board.flags ≡ words.None → is.flags ≡ words.None
+    → BoardWorked Did board.flags is h (closing ∷ h)
+closes_worked board is h keeps polled none beat no_word_was no_word =
     let none_now : AreWaiting (closing ∷ h) → ⊥ = (λ waiting. none (record { stands = waiting.stands; blocks = waiting.blocks })) in
     let t = polled.tries in
+    let w = ap one_if polled.partial in
+    let worked = worked_behind closing h (closing ∷ h) refl (record { no_requests = refl; none_obeyed = refl; no_changes = refl; none_planned = refl }) polled.quiet.worked in
     record {
-      run = record {
-        quiet = record { still = polled.quiet.still; quiet = publishes_none closing (this_turn h) refl ∙ polled.quiet.quiet };
-        polled = λ e. (none_now, λ m. absurd (let f = m.1 in cc));
-        first = λ e. absurd cc;
-        few = λ some. omega arith;
+      keeps = keeps;
+      rounds = subst (λ b. Rounds b (closing ∷ h)) (sym beat) (rounds_still (closing ∷ h) (λ waiting. absurd (none_now waiting)) (omega arith));
+      flags = takes_none is (closing ∷ h) no_word polled.quiet.flags;
+      still = λ e. no_word;
+      beat = λ o e. beat;
+      steps = closing ∷ [];
+      are = refl;
+      may = record {
+        once = (let a = publishes_none closing (this_turn h) refl in let q = polled.quiet.quiet in omega arith);
+        adds = λ m e. absurd cc;
+        starts = λ waiting. absurd (none_now waiting);
+        tries = omega arith;
+        obeyed = worked.obeyed;
+        changed = worked.changed;
       };
-      awaits = refl;
-      none_waits = λ waiting. absurd (none_now waiting);
+      moves = λ e. inr (subst (λ f. number_of f (closing ∷ h) < number_of board.flags h) (no_word_was ∙ sym no_word) (closing_falls board.flags h polled));
     }
-
-pub may_run_stopped : (h next : Journal) → MayRun h → PassesNothing h next → HasStopped next → left_of next ≡ closing_work → MayRun next
-may_run_stopped h next may passes stopped left = record {
-  quiet = quiet_on h next may.quiet passes;
-  polled = λ e. (not_waiting next stopped, λ m. absurd (let f = head_is (left_of next) (ask (a_move m.0)) finish _ m.1 left in cc));
-  first = λ none. absurd (let f = sym left ∙ none in cc);
-  few = λ some. (let t = passes.tries in let f = may.few (passes.less some) in omega arith);
-}
-
-pub end_next : (h : Journal) → left_of h ≡ closing_work → IsNextTask finish h
-end_next h left = left ∙ ap (λ (ts : List Task). finish ∷ drop 1 ts) (sym left)

@@ -1,22 +1,28 @@
--- Rests that are next are over where the machine has stopped.
-use Rattle.std.proofs.Common.{◌≡◌, true, List, [], ◌∷◌, drop, sym, refl, ◌∙◌, append-nil}
+-- Rests that are next are over, and overrides are set to 100 percent, where the machine has stopped.
+use Rattle.std.proofs.Common.{◌≡◌, inl, inr, ◌<◌, true, List, [], ◌∷◌, length, drop, sym, refl, ◌∙◌, subst, arith, append-nil}
+use Rattle.feed_hold.specs.declared.Motion.{Motion}
 use Rattle.step_line.specs.Asking.Asked.{a_move, a_mark, a_rest}
+use Rattle.step_line.specs.declared.Piece.{Piece}
+use Rattle.plan_passes.specs.Plans.{Planned}
+use Rattle.planner_runs.specs.Runs.{normal_overrides}
 use Rattle.planner_runs.specs.declared.Action.TheVariants.{Rest}
 use Rattle.run_rules.specs.Work.{Task}
-use Rattle.run_rules.specs.Work.Task.{ask, tell, finish}
+use Rattle.run_rules.specs.Work.Task.{ask, tell, pause, normal, finish}
 use Rattle.line_interpreter.specs.Interpreting.{Interpreting}
 use Rattle.line_interpreter.specs.Lefts.{IsNextOf, IsTodo}
 use Rattle.line_interpreter.specs.declared.tasks.Todo.{Todo}
 use Rattle.line_interpreter.specs.declared.tasks.Todo.TheVariants as todo
-use Rattle.board_rules.specs.Steps.{Journal, given_of, hand_of}
-use Rattle.board_rules.specs.Steps.Step.{did}
+use Rattle.board_rules.specs.Steps.{Journal, given_of, hand_of, plan_of, motion_of}
+use Rattle.board_rules.specs.Steps.Step.{did, evened}
 use Rattle.board_rules.proofs.Tasks.{none_next, head_is}
 use Rattle.controller.specs.declared.controller.Controller.{Controller}
+use Rattle.controller.specs.declared.machine.Machine.{Machine}
+use Rattle.controller.specs.Machines.{Runs}
 use Rattle.controller.specs.Boards.{Keeps}
-use Rattle.controller.specs.Turning.{HasStopped, DidAlone}
-use Rattle.controller.proofs.Facts.{no_rest_closing}
-use Rattle.controller.proofs.Steps.{is_next, rested}
-use Rattle.controller.proofs.Tries.{alone_on, alone_did}
+use Rattle.controller.specs.Turning.{HasStopped, IsPassed, DidAlone}
+use Rattle.controller.proofs.Facts.{no_rest_closing, no_normal_closing}
+use Rattle.controller.proofs.Steps.{is_next, rested, evens}
+use Rattle.controller.proofs.Tries.{alone_did, alone_even}
 
 still_stopped : (h : Journal) → HasStopped h → HasStopped (did Rest [] ∷ h)
 still_stopped h s = record {
@@ -28,22 +34,86 @@ still_stopped h s = record {
   stands = s.stands;
 }
 
+still_stopped_even : (h : Journal) → HasStopped h → HasStopped (evened ∷ h)
+still_stopped_even h s = record {
+  drained = record {
+    plan = record { blocks = s.drained.plan.blocks; speed = s.drained.plan.speed };
+    hand = s.drained.hand;
+    done = s.drained.done;
+  };
+  stands = s.stands;
+}
+
+-- what was done by itself where the machine has stopped, and still has
+abbrev pub Passed : Controller → Journal → Type 0
+Passed board h = (next : Journal) × Keeps board next × HasStopped next × DidAlone h next
+
 -- a rest that is next is over
-pub rest_over : (c : Controller) (i : Interpreting) (h next : Journal) → Keeps c next → HasStopped next → DidAlone h next → IsNextOf (ask a_rest) c.lines.left
-    → i ≡ record c.lines { left = drop 1 c.lines.left } → (later : Journal) × Keeps (record c { lines = i }) later × HasStopped later × DidAlone h later
-rest_over c i h next k stopped alone is same =
-    let task = is_next c next (ask a_rest) k is in
-    (did Rest [] ∷ next, rested c i next k task stopped.drained stopped.stands same, still_stopped next stopped, alone_on h next (did Rest [] ∷ next) alone (alone_did Rest [] next))
+pub rest_over : (c : Controller) (i : Interpreting) (h : Journal) → Keeps c h → HasStopped h → IsNextOf (ask a_rest) c.lines.left → i ≡ record c.lines { left = drop 1 c.lines.left }
+    → Passed (record c { lines = i }) h
+rest_over c i h k stopped is same =
+    (did Rest [] ∷ h, rested c i h k (is_next c h (ask a_rest) k is) stopped.drained stopped.stands same, still_stopped h stopped, alone_did Rest [] h refl)
+
+-- each override is set to 100 percent
+pub normal_over : (c : Controller) (m : Machine) (i : Interpreting) (h : Journal) → Keeps c h → HasStopped h → IsNextOf normal c.lines.left
+    → ((p : Planned) (now : Motion) (hand given : List Piece) → Runs c.machine p now hand given → Runs m (record p { overrides = normal_overrides }) now hand given)
+    → i ≡ record c.lines { left = drop 1 c.lines.left } → Passed (record c { machine = m; lines = i }) h
+normal_over c m i h k stopped is runs same = (
+  evened ∷ h,
+  evens c m i h k (is_next c h normal k is) stopped.drained stopped.stands (runs (plan_of h) (motion_of h) (hand_of h) (given_of h) k.machine) same,
+  still_stopped_even h stopped,
+  alone_even h,
+)
 
 -- what is next is no rest
 pub no_rest : (t : Todo) (left : List Task) → IsTodo t left → (t ≡ todo.Rest → ⊥) → IsNextOf (ask a_rest) left → ⊥
 no_rest todo.Nothing left is other next = none_next left (ask a_rest) is next
 no_rest todo.Rest left is other next = other refl
 no_rest (todo.Mark m) left is other next = absurd (let e = head_is left (ask a_rest) (ask (a_mark m)) _ next is.0 in cc)
-no_rest (todo.Move m) left is other next = absurd (let e = head_is left (ask a_rest) (ask (a_move m)) _ next is.0 in cc)
-no_rest (todo.Tell r) left is other next = absurd (let e = head_is left (ask a_rest) (tell r) _ next is.0 in cc)
+no_rest todo.Move left is other next = absurd (let e = head_is left (ask a_rest) (ask (a_move is.0)) _ next is.1 in cc)
+no_rest todo.Tell left is other next = absurd (let e = head_is left (ask a_rest) (tell is.0) _ next is.1 in cc)
+no_rest todo.Pause left is other next = absurd (let e = head_is left (ask a_rest) pause _ next is in cc)
+no_rest todo.Normal left is other next = absurd (let e = head_is left (ask a_rest) normal _ next is in cc)
 no_rest todo.Finish left is other next = absurd (let e = head_is left (ask a_rest) finish _ next is in cc)
 
--- a board that closes its run has no rest left
-pub no_rest_left : (c : Controller) (h : Journal) → Keeps c h → c.closing ≡ true → IsNextOf (ask a_rest) c.lines.left → ⊥
-no_rest_left c h k closing next = no_rest_closing k.first h k.conducted (λ none. absurd (let e = sym none ∙ k.closed closing in cc)) (is_next c h (ask a_rest) k next)
+-- nor sets overrides
+pub no_normal : (t : Todo) (left : List Task) → IsTodo t left → (t ≡ todo.Normal → ⊥) → IsNextOf normal left → ⊥
+no_normal todo.Nothing left is other next = none_next left normal is next
+no_normal todo.Rest left is other next = absurd (let e = head_is left normal (ask a_rest) _ next is in cc)
+no_normal (todo.Mark m) left is other next = absurd (let e = head_is left normal (ask (a_mark m)) _ next is.0 in cc)
+no_normal todo.Move left is other next = absurd (let e = head_is left normal (ask (a_move is.0)) _ next is.1 in cc)
+no_normal todo.Tell left is other next = absurd (let e = head_is left normal (tell is.0) _ next is.1 in cc)
+no_normal todo.Pause left is other next = absurd (let e = head_is left normal pause _ next is in cc)
+no_normal todo.Normal left is other next = other refl
+no_normal todo.Finish left is other next = absurd (let e = head_is left normal finish _ next is in cc)
+
+-- which of them is next
+pub rest_next : (t : Todo) (left : List Task) → IsTodo t left → (t ≡ todo.Normal → ⊥) → IsPassed left → IsNextOf (ask a_rest) left
+rest_next t left is other (inl next) = next
+rest_next t left is other (inr next) = absurd (no_normal t left is other next)
+
+-- something is next
+pub some_passed : (left : List Task) → IsPassed left → left ≡ [] → ⊥
+some_passed left (inl next) none = none_next left (ask a_rest) none next
+some_passed left (inr next) none = none_next left normal none next
+
+pub fewer_left : (left : List Task) → IsPassed left → length (drop 1 left) < length left
+fewer_left [] next = absurd (some_passed [] next refl)
+fewer_left (t ∷ ts) next = omega arith
+
+-- a board that closes its run has neither left
+pub none_passed : (c : Controller) (h : Journal) → Keeps c h → c.closing ≡ true → IsPassed c.lines.left → ⊥
+none_passed c h k closing (inl next) = no_rest_closing k.first h k.conducted (λ none. absurd (let e = sym none ∙ k.closed closing in cc)) (is_next c h (ask a_rest) k next)
+none_passed c h k closing (inr next) = no_normal_closing k.first h k.conducted (λ none. absurd (let e = sym none ∙ k.closed closing in cc)) (is_next c h normal k next)
+
+-- a board whose plan has other overrides, or the same
+pub passed_even : (was b : Controller) (m : Machine) (i : Interpreting) (h : Journal) → Keeps was h → HasStopped h → IsNextOf normal was.lines.left
+    → ((p : Planned) (now : Motion) (hand given : List Piece) → Runs was.machine p now hand given → Runs m (record p { overrides = normal_overrides }) now hand given)
+    → b ≡ record was { machine = m } → i ≡ record b.lines { left = drop 1 b.lines.left } → Passed (record b { lines = i }) h
+passed_even was b m i h k stopped is runs e same =
+    subst (λ (x : Controller). i ≡ record x.lines { left = drop 1 x.lines.left } → Passed (record x { lines = i }) h) (sym e) (λ s. normal_over was m i h k stopped is runs s) same
+
+pub passed_rest : (was b : Controller) (i : Interpreting) (h : Journal) → Keeps was h → HasStopped h → IsNextOf (ask a_rest) was.lines.left
+    → b ≡ was → i ≡ record b.lines { left = drop 1 b.lines.left } → Passed (record b { lines = i }) h
+passed_rest was b i h k stopped is e same =
+    subst (λ (x : Controller). i ≡ record x.lines { left = drop 1 x.lines.left } → Passed (record x { lines = i }) h) (sym e) (λ s. rest_over was i h k stopped is s) same

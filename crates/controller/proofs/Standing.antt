@@ -3,6 +3,7 @@ use Rattle.std.proofs.Common.{◌≡◌, ℕ, ◌≤◌, ◌<◌, ◌⊎◌, inl
 use Rattle.std.specs.declared.option.Option.{Option}
 use Rattle.std.specs.Option.{is_some, option_to_list}
 use Rattle.feed_hold.specs.declared.Motion.TheVariants as motions
+use Rattle.feed_hold.specs.Motions.{is_stopping}
 use Rattle.feed_hold.specs.Motions.Call.{on_drained}
 use Rattle.outside.specs.declared.On.TheVariants as on
 use Rattle.outside.specs.declared.Turn.TheVariants.{Wait}
@@ -17,18 +18,19 @@ use Rattle.board_rules.specs.Ports.{MayBeDone}
 use Rattle.board_rules.specs.Ports.PortStep.{loaded}
 use Rattle.board_rules.specs.Steps.{Journal, port_log, left_of, given_of, published_of, hand_of, plan_of, motion_of}
 use Rattle.board_rules.specs.Steps.Step.{at_port, became}
-use Rattle.board_rules.specs.Turns.{has_blocks, is_full, is_due, is_going, awaits_motion}
+use Rattle.board_rules.specs.Turns.{has_blocks, has_segment, is_full, is_due, is_going, is_slowing, is_held_up, begins_in, awaits_motion}
 use Rattle.board_rules.specs.Conduct.{IsDrained, AreWaiting, ticks_given, ticks_published}
 use Rattle.board_rules.proofs.Given.{published_within}
 use Rattle.board_rules.proofs.Keeping.{hand_is}
 use Rattle.board_rules.proofs.Motions.{motion_is}
 use Rattle.controller.specs.declared.controller.Controller.{Controller}
 use Rattle.controller.specs.declared.controller.Beat.TheVariants.{Motion as MotionBeat}
+use Rattle.controller.specs.declared.controller.Flags.TheVariants as flags
 use Rattle.controller.specs.declared.machine.Machine.{Machine}
-use Rattle.controller.specs.Machines.{Runs}
-use Rattle.controller.specs.Boards.{Keeps, Rounds}
+use Rattle.controller.specs.Machines.{Runs, is_halting}
+use Rattle.controller.specs.Boards.{Keeps, Rounds, TakesFlags}
 use Rattle.controller.specs.Turning.{HasPiece, HasLooked, MayAwait, PassesNothing, BoardWorked}
-use Rattle.controller.proofs.Facts.{not_whole, and_false}
+use Rattle.controller.proofs.Facts.{uncounted, and_false}
 use Rattle.controller.proofs.Steps.{at_rest, hand_empty, none_by_test, looked, drained}
 use Rattle.controller.proofs.Tries.{passes_load, passes_motion, passes_on}
 use Rattle.controller.proofs.Ends.{rounds_still, some_awaited}
@@ -53,9 +55,19 @@ hand_some b h k is none = one_in_hand b.machine.hand is (k.machine.hand_is ∙ n
 pub blocks_are : (b : Controller) (h : Journal) (some : Bool) → Keeps b h → some ≡ has_blocks b.machine.plan.blocks → has_blocks (plan_of h).blocks ≡ some
 blocks_are b h some k is = ap (λ p. has_blocks p.blocks) (sym k.machine.plan_is) ∙ sym is
 
--- the machine stands, or runs
-pub idle_or_run : (b : Controller) (h : Journal) → Keeps b h → (b.machine.hold.motion ≡ motions.Idle) ⊎ (b.machine.hold.motion ≡ motions.Run)
-idle_or_run b h k = subst (λ m. (m ≡ motions.Idle) ⊎ (m ≡ motions.Run)) (sym k.machine.motion_is) (motion_is k.first h k.conducted)
+-- a machine that is not held, nor slows down for that, stands or runs
+pub goes_or_stands : (b : Controller) (h : Journal) → Keeps b h → is_halting (motion_of h) ≡ false → (motion_of h ≡ motions.Idle) ⊎ (motion_of h ≡ motions.Run)
+goes_or_stands b h k going = by_motion (motion_is k.first h k.conducted)
+  where
+    by_motion : (motion_of h ≡ motions.Idle) ⊎ ((motion_of h ≡ motions.Run) ⊎ ((motion_of h ≡ motions.Holding) ⊎ (motion_of h ≡ motions.Held)))
+        → (motion_of h ≡ motions.Idle) ⊎ (motion_of h ≡ motions.Run)
+    by_motion (inl idle) = inl idle
+    by_motion (inr (inl run)) = inr run
+    by_motion (inr (inr (inl holding))) = absurd (let e = sym going ∙ ap is_halting holding in cc)
+    by_motion (inr (inr (inr held))) = absurd (let e = sym going ∙ ap is_halting held in cc)
+
+pub idle_or_run : (b : Controller) (h : Journal) → Keeps b h → is_halting (motion_of h) ≡ false → (b.machine.hold.motion ≡ motions.Idle) ⊎ (b.machine.hold.motion ≡ motions.Run)
+idle_or_run b h k going = subst (λ m. (m ≡ motions.Idle) ⊎ (m ≡ motions.Run)) (sym k.machine.motion_is) (goes_or_stands b h k going)
 
 -- ---- where nothing is left to run
 
@@ -69,37 +81,43 @@ all_done b h done k hand none all = record {
 }
 
 -- the cycle is over
-pub over : (b : Controller) (m : Machine) (h : Journal) (done : ℕ) → Keeps b h → MayBeDone done (port_log h) → hand_of h ≡ [] → has_blocks (plan_of h).blocks ≡ false → done ≡ b.machine.given
+pub over : (b : Controller) (m : Machine) (h : Journal) (done : ℕ) → Keeps b h → is_halting (motion_of h) ≡ false → MayBeDone done (port_log h) → hand_of h ≡ [] → has_blocks (plan_of h).blocks ≡ false → done ≡ b.machine.given
     → Runs m (plan_of h) motions.Idle (hand_of h) (given_of h)
     → Keeps (record b { machine = m }) (became on_drained motions.Idle ∷ at_port (loaded done) ∷ h)
-over b m h done k may hand none all runs =
+over b m h done k going may hand none all runs =
     let l = looked b done h k may in
-    drained b m (at_port (loaded done) ∷ h) l (motion_is k.first h k.conducted) (all_done b h done k hand none all) runs
+    drained b m (at_port (loaded done) ∷ h) l (goes_or_stands b h k going) (all_done b h done k hand none all) runs
 
 -- a look, and the end of the cycle, pass nothing
 pub over_passes : (h : Journal) (done : ℕ) → PassesNothing h (became on_drained motions.Idle ∷ at_port (loaded done) ∷ h)
 over_passes h done =
     let mid = at_port (loaded done) ∷ h in
-    passes_on h mid (became on_drained motions.Idle ∷ mid) (passes_load done h) (passes_motion on_drained motions.Idle mid)
+    passes_on h mid (became on_drained motions.Idle ∷ mid) (passes_load done h) (passes_motion on_drained motions.Idle mid refl (omega arith))
 
 pub looked_over : (h : Journal) (done : ℕ) → has_blocks (plan_of h).blocks ≡ false → HasLooked h (became on_drained motions.Idle ∷ at_port (loaded done) ∷ h)
 looked_over h done none = record {
   passes = over_passes h done;
   load = refl;
   idle = λ d. refl;
+  begins = refl;
   left = refl;
   none_waits = λ w a. absurd (let e = sym none ∙ a.blocks in cc);
 }
 
 -- a look where the machine does not stand
-pub looked_only : (h : Journal) (done : ℕ) → (IsDrained (at_port (loaded done) ∷ h) → ⊥) → HasLooked h (at_port (loaded done) ∷ h)
-looked_only h done undrained = record {
+pub looked_only : (b : Controller) (h : Journal) (done : ℕ) → Keeps b h → is_halting (motion_of h) ≡ false → (IsDrained (at_port (loaded done) ∷ h) → ⊥) → HasLooked h (at_port (loaded done) ∷ h)
+looked_only b h done k going undrained = record {
   passes = passes_load done h;
   load = refl;
   idle = λ d. absurd (undrained d);
+  begins = by_motion (goes_or_stands b h k going);
   left = refl;
   none_waits = λ w a. w (record { stands = a.stands; blocks = a.blocks });
 }
+  where
+    by_motion : (motion_of h ≡ motions.Idle) ⊎ (motion_of h ≡ motions.Run) → begins_in (motion_of h) ≡ true
+    by_motion (inl e) = ap begins_in e
+    by_motion (inr e) = ap begins_in e
 
 -- a plan that has blocks is not drained
 pub blocks_undrained : (h : Journal) → has_blocks (plan_of h).blocks ≡ true → IsDrained h → ⊥
@@ -123,13 +141,13 @@ none_waits h may waiting = or_true (is_full (plan_of h)) (awaits_motion (left_of
 -- so a block there is due
 pub due_where_awaited : (h : Journal) → (motion_of h ≡ motions.Idle) ⊎ (motion_of h ≡ motions.Run) → MayAwait h → has_blocks (plan_of h).blocks ≡ true → is_due h ≡ true
 due_where_awaited h (inl idle) may some = absurd (none_waits h may (record { stands = idle; blocks = some }))
-due_where_awaited h (inr run) may some = ap (λ m. is_going m && has_blocks (plan_of h).blocks) run ∙ some
+due_where_awaited h (inr run) may some = ap (λ m. has_segment m (plan_of h)) run ∙ some
 
 pub has_piece_by_hand : (b : Controller) (h : Journal) → Keeps b h → is_some b.machine.hand ≡ true → HasPiece h
 has_piece_by_hand b h k is = inl (hand_some b h k is)
 
 pub has_piece_by_blocks : (b : Controller) (h : Journal) → Keeps b h → MayAwait h → has_blocks (plan_of h).blocks ≡ true → HasPiece h
-has_piece_by_blocks b h k may some = inr (due_where_awaited h (motion_is k.first h k.conducted) may some)
+has_piece_by_blocks b h k may some = inr (due_where_awaited h (goes_or_stands b h k may.going) may some)
 
 -- the ticks that are found done are all, where they aren't fewer than were given
 pub done_all : (b : Controller) (h : Journal) (done : ℕ) → Keeps b h → MayBeDone done (port_log h) → b.machine.given ≤ done → done ≡ b.machine.given
@@ -140,25 +158,27 @@ done_all b h done k may least =
     omega (arith, least, high, within, given)
 
 -- with nothing in hand, all that was given is published
-all_published : (b : Controller) (h : Journal) → Keeps b h → hand_of h ≡ [] → ticks_published h ≡ ticks_given h
+pub all_published : (b : Controller) (h : Journal) → Keeps b h → hand_of h ≡ [] → ticks_published h ≡ ticks_given h
 all_published b h k none =
     ap ticks_together (sym (hand_is k.first h k.conducted ∙ ap (λ (ps : List Piece). published_of h ++ ps) none ∙ append-nil (published_of h)))
 
 -- the motion is waited for: ticks are found not to be done
-pub waits_for_motion : (b : Controller) (h : Journal) (done : ℕ) → Keeps b h → MayAwait h → b.beat ≡ MotionBeat → MayBeDone done (port_log h) → hand_of h ≡ [] → has_blocks (plan_of h).blocks ≡ false
-    → done < b.machine.given → BoardWorked (Wait on.Motion) b h (at_port (loaded done) ∷ h)
-waits_for_motion b h done k may beat found hand none fewer =
+pub waits_for_motion : (b : Controller) (h : Journal) (done : ℕ) → Keeps b h → MayAwait h → b.beat ≡ MotionBeat → b.flags ≡ flags.None → MayBeDone done (port_log h) → hand_of h ≡ []
+    → has_blocks (plan_of h).blocks ≡ false → done < b.machine.given → BoardWorked (Wait on.Motion) b.flags b h (at_port (loaded done) ∷ h)
+waits_for_motion b h done k may beat no_word found hand none fewer =
     let some = some_awaited h may.awaits in
-    let partial = not_whole k.first h k.conducted some in
-    let few = may.run.few some in
+    let few = may.run.few (uncounted h some) in
     let next : Journal = at_port (loaded done) ∷ h in
     let waits_none : AreWaiting next → ⊥ = λ a. none_waits h may (record { stands = a.stands; blocks = a.blocks }) in
     let quiet = may.run.quiet in
+    let worked = (passes_load done h).worked quiet.worked in
     let same = all_published b h k hand in
     let given : b.machine.given ≡ ticks_given h = k.machine.given_is in
     record {
       keeps = looked b done h k found;
-      rounds = subst (λ x. Rounds x next) (sym beat) (rounds_still next (λ a. absurd (waits_none a)) (rw partial (omega (arith, few))));
+      rounds = subst (λ x. Rounds x next) (sym beat) (rounds_still next (λ a. absurd (waits_none a)) few);
+      flags = subst (λ f. TakesFlags f next) (sym no_word) quiet.flags;
+      still = λ e. no_word;
       beat = λ other e. beat;
       steps = at_port (loaded done) ∷ [];
       are = refl;
@@ -168,10 +188,13 @@ waits_for_motion b h done k may beat found hand none fewer =
           adds = λ m is. absurd (awaits_no_move (left_of h) m may.awaits is);
           starts = λ a. absurd (waits_none a);
           tries = omega (arith, few);
+          obeyed = worked.obeyed;
+          changed = worked.changed;
         };
-        cause = record { load = refl; undone = omega (arith, fewer, same, given); awaits = may.awaits };
+        cause = record { load = refl; undone = omega (arith, fewer, same, given); awaits = ap (λ b. b || (is_stopping (motion_of h) && is_held_up h)) may.awaits };
         still = quiet.still;
-        round = λ due already. absurd (let e = sym (and_false (is_going (motion_of h)) (has_blocks (plan_of h).blocks) none) ∙ due in cc);
+        flags = quiet.flags;
+        round = λ due already. absurd (let e = sym (and_false (is_going (motion_of h) || is_slowing (motion_of h) (plan_of h).speed) (has_blocks (plan_of h).blocks) none) ∙ due in cc);
       };
       moves = λ e. absurd cc;
     }

@@ -6,7 +6,8 @@ use Rattle.std.proofs.lemmas.Bool.Decides.{nat_tests}
 use Rattle.feed_hold.specs.declared.Motion.{Motion}
 use Rattle.feed_hold.specs.declared.Motion.TheVariants as motions
 use Rattle.feed_hold.specs.Motions.{Call}
-use Rattle.run_rules.specs.Work.{Task}
+use Rattle.run_rules.specs.Work.{Task, pauses}
+use Rattle.run_rules.specs.Work.Task.{ask, tell, pause, normal, finish}
 use Rattle.step_line.specs.declared.Piece.{Piece}
 use Rattle.step_line.specs.declared.Piece.TheVariants as pieces
 use Rattle.step_line.specs.declared.Segment.{Segment}
@@ -14,23 +15,47 @@ use Rattle.planner_ring.specs.declared.Block.{Block}
 use Rattle.plan_passes.specs.Blocks as blocks
 use Rattle.plan_passes.specs.Plans.{Planned}
 use Rattle.plan_passes.specs.Segments.{moved, advanced}
-use Rattle.segment_prep.specs.declared.Mode.TheVariants.{Go}
+use Rattle.segment_prep.specs.declared.Mode.{Mode}
 use Rattle.planner_runs.specs.declared.Action.{Action}
 use Rattle.planner_runs.specs.declared.Action.TheVariants.{Add, Take, Override, Mark, Rest, Clear, Reset}
 use Rattle.board_rules.specs.Ports.PortStep.{published, no_piece_room, loaded}
 use Rattle.board_rules.specs.Steps.{Step, Journal, left_of, left_by, hand_of, plan_of, motion_of}
-use Rattle.board_rules.specs.Steps.Step.{at_port, did, made_end, became}
-use Rattle.board_rules.specs.Turns.{this_turn, publishing, moving, is_full, tries_at, tries_of}
+use Rattle.board_rules.specs.Steps.Step.{at_port, did, made_end, evened, became}
+use Rattle.board_rules.specs.Turns.{this_turn, publishing, moving, takes_requests, obeys, takes_changes, replans, is_full, has_segment, is_due, is_counted, tries_of}
 use Rattle.units.specs.Truths.{one_if}
-use Rattle.controller.specs.Turning.{PassesNothing, DidAlone, Tried, HasTried}
+use Rattle.controller.specs.Boards.{changes_left}
+use Rattle.controller.specs.Turning.{AreWorked, PassesNothing, DidAlone, Tried, HasTried}
 
 -- ---- one step of a turn
 
+-- a step that is not counted
+pub counts_none : (f : Step → Bool) (s : Step) (ss : List Step) → f s ≡ false → count_by f (s ∷ ss) ≡ count_by f ss
+counts_none f s ss none = sum_by-cons (λ x. cond (f x) 1 0) s ss ∙ ap (λ t. cond {A = ℕ} t 1 0 + count_by f ss) none ∙ omega arith
+
+-- and one that is
+pub counts_one : (f : Step → Bool) (s : Step) (ss : List Step) → f s ≡ true → count_by f (s ∷ ss) ≡ count_by f ss + 1
+counts_one f s ss one = sum_by-cons (λ x. cond (f x) 1 0) s ss ∙ ap (λ t. cond {A = ℕ} t 1 0 + count_by f ss) one ∙ omega arith
+
 pub publishes_none : (s : Step) (ss : List Step) → publishing s ≡ false → count_by publishing (s ∷ ss) ≡ count_by publishing ss
-publishes_none s ss none = sum_by-cons (λ x. cond (publishing x) 1 0) s ss ∙ ap (λ t. cond {A = ℕ} t 1 0 + count_by publishing ss) none ∙ omega arith
+publishes_none s ss none = counts_none publishing s ss none
 
 pub publishes_one : (s : Step) (ss : List Step) → publishing s ≡ true → count_by publishing (s ∷ ss) ≡ count_by publishing ss + 1
-publishes_one s ss one = sum_by-cons (λ x. cond (publishing x) 1 0) s ss ∙ ap (λ t. cond {A = ℕ} t 1 0 + count_by publishing ss) one ∙ omega arith
+publishes_one s ss one = counts_one publishing s ss one
+
+-- a step that has nothing to do with words of flags
+pub record IsNoWord (s : Step) : Type 0 where
+  pub no_requests : takes_requests s ≡ false
+  pub none_obeyed : obeys s ≡ false
+  pub no_changes : takes_changes s ≡ false
+  pub none_planned : replans s ≡ false
+
+pub worked_behind : (s : Step) (h next : Journal) → this_turn next ≡ s ∷ this_turn h → IsNoWord s → AreWorked h → AreWorked next
+worked_behind s h next is plain w = record {
+  obeyed = ap (λ (ss : List Step). count_by obeys ss) is ∙ counts_none obeys s (this_turn h) plain.none_obeyed ∙ w.obeyed ∙ sym (counts_none takes_requests s (this_turn h) plain.no_requests)
+      ∙ sym (ap (λ (ss : List Step). count_by takes_requests ss) is);
+  changed = ap (λ (ss : List Step). count_by replans ss) is ∙ counts_none replans s (this_turn h) plain.none_planned ∙ w.changed ∙ sym (counts_none takes_changes s (this_turn h) plain.no_changes)
+      ∙ sym (ap (λ (ss : List Step). count_by takes_changes ss) is);
+}
 
 -- nothing is left of nothing
 none_left : (a : Action) → left_by a [] ≡ []
@@ -42,13 +67,34 @@ none_left Rest = refl
 none_left Clear = refl
 none_left Reset = refl
 
+no_more : (n : ℕ) → n ≤ n
+no_more n = omega arith
+
+-- no more pauses are left behind the first task
+pub fewer_pauses : (ts : List Task) → pauses (drop 1 ts) ≤ pauses ts
+fewer_pauses [] = omega arith
+fewer_pauses (ask a ∷ ts) = no_more (pauses ts)
+fewer_pauses (tell r ∷ ts) = no_more (pauses ts)
+fewer_pauses (pause ∷ ts) = omega arith
+fewer_pauses (normal ∷ ts) = no_more (pauses ts)
+fewer_pauses (finish ∷ ts) = no_more (pauses ts)
+
+pub pauses_by : (a : Action) (ts : List Task) → pauses (left_by a ts) ≤ pauses ts
+pauses_by (Add m) ts = fewer_pauses ts
+pauses_by (Take mode) ts = no_more (pauses ts)
+pauses_by (Override o) ts = no_more (pauses ts)
+pauses_by (Mark m) ts = fewer_pauses ts
+pauses_by Rest ts = fewer_pauses ts
+pauses_by Clear ts = no_more (pauses ts)
+pauses_by Reset ts = no_more (pauses ts)
+
 or_true : (a b : Bool) → b ≡ true → (a || b) ≡ true
 or_true true b e = refl
 or_true false b e = e
 
--- something is done to the plan
-pub passes_did : (a : Action) (ps : List Piece) (h : Journal) → PassesNothing h (did a ps ∷ h)
-passes_did a ps h = record {
+-- something is done to the plan that is not made anew
+pub passes_did : (a : Action) (ps : List Piece) (h : Journal) → replans (did a ps) ≡ false → PassesNothing h (did a ps ∷ h)
+passes_did a ps h same = record {
   steps = did a ps ∷ [];
   are = refl;
   still = refl;
@@ -63,6 +109,10 @@ passes_did a ps h = record {
   raw = refl;
   whole = refl;
   closed = refl;
+  flags = refl;
+  worked = worked_behind (did a ps) h (did a ps ∷ h) refl (record { no_requests = refl; none_obeyed = refl; no_changes = refl; none_planned = same });
+  pauses = pauses_by a (left_of h);
+  changes = no_more (changes_left (motion_of h));
   less = λ some none. some (ap (left_by a) none ∙ none_left a);
 }
 
@@ -83,12 +133,40 @@ passes_end h = record {
   raw = refl;
   whole = refl;
   closed = refl;
+  flags = refl;
+  worked = worked_behind made_end h (made_end ∷ h) refl (record { no_requests = refl; none_obeyed = refl; no_changes = refl; none_planned = refl });
+  pauses = fewer_pauses (left_of h);
+  changes = no_more (changes_left (motion_of h));
+  less = λ some none. some (ap (λ (ts : List Task). drop 1 ts) none);
+}
+
+-- each override is set to 100 percent
+pub passes_even : (h : Journal) → PassesNothing h (evened ∷ h)
+passes_even h = record {
+  steps = evened ∷ [];
+  are = refl;
+  still = refl;
+  quiet = publishes_none evened (this_turn h) refl;
+  polled = refl;
+  room = refl;
+  moves = λ e. e;
+  loaded = λ e. e;
+  waits = refl;
+  tries = refl;
+  missed = refl;
+  raw = refl;
+  whole = refl;
+  closed = refl;
+  flags = refl;
+  worked = worked_behind evened h (evened ∷ h) refl (record { no_requests = refl; none_obeyed = refl; no_changes = refl; none_planned = refl });
+  pauses = fewer_pauses (left_of h);
+  changes = no_more (changes_left (motion_of h));
   less = λ some none. some (ap (λ (ts : List Task). drop 1 ts) none);
 }
 
 -- the motion starts, or is over
-pub passes_motion : (call : Call) (now : Motion) (h : Journal) → PassesNothing h (became call now ∷ h)
-passes_motion call now h = record {
+pub passes_motion : (call : Call) (now : Motion) (h : Journal) → obeys (became call now) ≡ false → changes_left now ≤ changes_left (motion_of h) → PassesNothing h (became call now ∷ h)
+passes_motion call now h by_itself fewer = record {
   steps = became call now ∷ [];
   are = refl;
   still = refl;
@@ -103,6 +181,10 @@ passes_motion call now h = record {
   raw = refl;
   whole = refl;
   closed = refl;
+  flags = refl;
+  worked = worked_behind (became call now) h (became call now ∷ h) refl (record { no_requests = refl; none_obeyed = by_itself; no_changes = refl; none_planned = refl });
+  pauses = no_more (pauses (left_of h));
+  changes = fewer;
   less = λ some. some;
 }
 
@@ -123,6 +205,10 @@ passes_load done h = record {
   raw = refl;
   whole = refl;
   closed = refl;
+  flags = refl;
+  worked = worked_behind (at_port (loaded done)) h (at_port (loaded done) ∷ h) refl (record { no_requests = refl; none_obeyed = refl; no_changes = refl; none_planned = refl });
+  pauses = no_more (pauses (left_of h));
+  changes = no_more (changes_left (motion_of h));
   less = λ some. some;
 }
 
@@ -144,11 +230,18 @@ passes_none h = record {
   raw = refl;
   whole = refl;
   closed = refl;
+  flags = refl;
+  worked = λ w. w;
+  pauses = no_more (pauses (left_of h));
+  changes = no_more (changes_left (motion_of h));
   less = λ some. some;
 }
 
 pub are_both : (h mid next : Journal) (some more : List Step) → mid ≡ some ++ h → next ≡ more ++ mid → next ≡ (more ++ some) ++ h
 are_both h mid next some more e f = f ∙ ap (λ (j : Journal). more ++ j) e ∙ sym (append_assoc more some h)
+
+at_most : (a b d : ℕ) → a ≤ b → d ≤ a → d ≤ b
+at_most a b d e f = omega (arith, e, f)
 
 pub passes_on : (h mid next : Journal) → PassesNothing h mid → PassesNothing mid next → PassesNothing h next
 passes_on h mid next a b = record {
@@ -166,30 +259,35 @@ passes_on h mid next a b = record {
   raw = b.raw ∙ a.raw;
   whole = b.whole ∙ a.whole;
   closed = b.closed ∙ a.closed;
+  flags = b.flags ∙ a.flags;
+  worked = λ w. b.worked (a.worked w);
+  pauses = at_most _ _ _ a.pauses b.pauses;
+  changes = at_most _ _ _ a.changes b.changes;
   less = λ some. a.less (b.less some);
 }
-
-pub alone_none : (h : Journal) → DidAlone h h
-alone_none h = record { passes = passes_none h; port = refl }
 
 pub alone_on : (h mid next : Journal) → DidAlone h mid → DidAlone mid next → DidAlone h next
 alone_on h mid next a b = record { passes = passes_on h mid next a.passes b.passes; port = b.port ∙ a.port }
 
-pub alone_did : (a : Action) (ps : List Piece) (h : Journal) → DidAlone h (did a ps ∷ h)
-alone_did a ps h = record { passes = passes_did a ps h; port = refl }
+pub alone_did : (a : Action) (ps : List Piece) (h : Journal) → replans (did a ps) ≡ false → DidAlone h (did a ps ∷ h)
+alone_did a ps h same = record { passes = passes_did a ps h same; port = refl }
 
-pub alone_motion : (call : Call) (now : Motion) (h : Journal) → DidAlone h (became call now ∷ h)
-alone_motion call now h = record { passes = passes_motion call now h; port = refl }
+pub alone_even : (h : Journal) → DidAlone h (evened ∷ h)
+alone_even h = record { passes = passes_even h; port = refl }
+
+pub alone_motion : (call : Call) (now : Motion) (h : Journal) → obeys (became call now) ≡ false → changes_left now ≤ changes_left (motion_of h) → DidAlone h (became call now ∷ h)
+alone_motion call now h by_itself fewer = record { passes = passes_motion call now h by_itself fewer; port = refl }
 
 -- ---- a piece is tried to be published
 
-sent_later : (p : Piece) (tasks : List Task) (n : ℕ) → (tasks ≡ [] → ⊥) → tries_at (published p) tasks n ≡ n
-sent_later p [] n some = absurd (some refl)
-sent_later p (t ∷ tasks) n some = refl
+-- one try more is counted, or none
+counts_more : (counted : Bool) (n : ℕ) → cond counted (n + 1) n ≤ n + 1
+counts_more true n = no_more (n + 1)
+counts_more false n = omega arith
 
-kept_later : (done : ℕ) (tasks : List Task) (n : ℕ) → (tasks ≡ [] → ⊥) → tries_at (no_piece_room done) tasks n ≡ n
-kept_later done [] n some = absurd (some refl)
-kept_later done (t ∷ tasks) n some = refl
+counts_same : (counted : Bool) (n : ℕ) → counted ≡ false → cond counted (n + 1) n ≡ n
+counts_same true n e = absurd cc
+counts_same false n e = refl
 
 -- the piece in hand is published
 pub tried_sent : (p : Piece) (h : Journal) → drop 1 (hand_of h) ≡ [] → HasTried true h (at_port (published p) ∷ h)
@@ -204,11 +302,14 @@ tried_sent p h one = record {
   sent = λ e. one;
   waits = refl;
   missed = refl;
-  first = λ none. ap (λ (ts : List Task). tries_at (published p) ts (tries_of h)) none;
-  later = λ some. sent_later p (left_of h) (tries_of h) some;
+  first = counts_more (is_counted h) (tries_of h);
+  later = λ none. counts_same (is_counted h) (tries_of h) none;
   left = refl;
   whole = refl;
   motion = refl;
+  closed = refl;
+  flags = refl;
+  worked = worked_behind (at_port (published p)) h (at_port (published p) ∷ h) refl (record { no_requests = refl; none_obeyed = refl; no_changes = refl; none_planned = refl });
   waiting = λ w. record { stands = w.stands; blocks = w.blocks };
   full = λ e. e;
 }
@@ -226,11 +327,14 @@ tried_kept done h = record {
   sent = λ e. absurd cc;
   waits = refl;
   missed = refl;
-  first = λ none. ap (λ (ts : List Task). tries_at (no_piece_room done) ts (tries_of h)) none;
-  later = λ some. kept_later done (left_of h) (tries_of h) some;
+  first = counts_more (is_counted h) (tries_of h);
+  later = λ none. counts_same (is_counted h) (tries_of h) none;
   left = refl;
   whole = refl;
   motion = refl;
+  closed = refl;
+  flags = refl;
+  worked = worked_behind (at_port (no_piece_room done)) h (at_port (no_piece_room done) ∷ h) refl (record { no_requests = refl; none_obeyed = refl; no_changes = refl; none_planned = refl });
   waiting = λ w. record { stands = w.stands; blocks = w.blocks };
   full = λ e. e;
 }
@@ -251,11 +355,15 @@ fewer_moved n (b ∷ bs) = by_end (nat_eq n (blocks.left_of b))
 full_before : (p : Planned) (n v : ℕ) → is_full (advanced p n v) ≡ true → is_full p ≡ true
 full_before p n v full = let few = fewer_moved n p.blocks in grind (arith, nat_tests, few, full)
 
+-- a machine that stands has no segment due
+not_due : (p : Planned) (now : Motion) → has_segment now p ≡ true → now ≡ motions.Idle → ⊥
+not_due p now due stands = let d = subst (λ m. has_segment m p ≡ true) stands due in cc
+
 -- a segment comes into the hand before
-pub tried_behind : (s : Segment) (sent : Bool) (h next : Journal) → motion_of h ≡ motions.Run → HasTried sent (did (Take Go) (pieces.Segment s ∷ []) ∷ h) next → HasTried sent h next
-tried_behind s sent h next run t = record {
-  steps = t.steps ++ did (Take Go) (pieces.Segment s ∷ []) ∷ [];
-  are = are_both h mid next (did (Take Go) (pieces.Segment s ∷ []) ∷ []) t.steps refl t.are;
+pub tried_behind : (mode : Mode) (s : Segment) (sent : Bool) (h next : Journal) → is_due h ≡ true → HasTried sent (did (Take mode) (pieces.Segment s ∷ []) ∷ h) next → HasTried sent h next
+tried_behind mode s sent h next due t = record {
+  steps = t.steps ++ did (Take mode) (pieces.Segment s ∷ []) ∷ [];
+  are = are_both h mid next (did (Take mode) (pieces.Segment s ∷ []) ∷ []) t.steps refl t.are;
   still = λ e. t.still e ∙ p.still;
   quiet = t.quiet ∙ ap (λ n. n + one_if sent) p.quiet;
   polled = t.polled ∙ p.polled;
@@ -269,12 +377,15 @@ tried_behind s sent h next run t = record {
   left = t.left;
   whole = t.whole;
   motion = t.motion;
-  waiting = λ w. absurd (let stands = (t.waiting w).stands in let x = sym run ∙ stands in cc);
+  closed = t.closed;
+  flags = t.flags;
+  worked = λ w. t.worked (p.worked w);
+  waiting = λ w. absurd (not_due (plan_of h) (motion_of h) due (t.waiting w).stands);
   full = λ e. full_before (plan_of h) s.n s.w_out (t.full e);
 }
   where
     mid : Journal
-    mid = did (Take Go) (pieces.Segment s ∷ []) ∷ h
+    mid = did (Take mode) (pieces.Segment s ∷ []) ∷ h
 
-    p : PassesNothing h (did (Take Go) (pieces.Segment s ∷ []) ∷ h)
-    p = passes_did (Take Go) (pieces.Segment s ∷ []) h
+    p : PassesNothing h (did (Take mode) (pieces.Segment s ∷ []) ∷ h)
+    p = passes_did (Take mode) (pieces.Segment s ∷ []) h refl

@@ -1,21 +1,25 @@
 -- What the fields of a board say of what it has done.
-use Rattle.std.specs.Prelude.{◌≡◌, ℕ, ◌+◌, ◌≤◌, Bool, true, false, ◌||◌, List, [], ◌∷◌, ◌++◌}
+use Rattle.std.specs.Prelude.{◌≡◌, ◌⊎◌, ℕ, ◌+◌, ◌*◌, ◌≤◌, ◌<◌, Bool, true, false, ◌||◌, nat_eq, List, [], ◌∷◌, ◌++◌, length}
 use Rattle.std.specs.List.{list_any}
 use Rattle.outside.specs.declared.Turn.{Turn}
 use Rattle.outside.specs.declared.Turn.TheVariants.{Did}
 use Rattle.run_rules.specs.declared.State.{State}
 use Rattle.run_rules.specs.States.{IsOpening}
-use Rattle.run_rules.specs.Work.{Task}
+use Rattle.run_rules.specs.Work.{Task, pauses}
 use Rattle.run_rules.specs.Outcomes.{Before}
 use Rattle.status_report.specs.declared.Reply.TheVariants.{Bye}
 use Rattle.line_interpreter.specs.Keeping.{IsKept}
 use Rattle.line_interpreter.specs.Interpreting.{Interpreting}
 use Rattle.board_rules.specs.Steps.{Step, Journal, open_of, whole_of, before_of, left_of, closed_tells, given_of, hand_of, plan_of, motion_of}
 use Rattle.board_rules.specs.Steps.Step.{turned}
-use Rattle.board_rules.specs.Turns.{this_turn, moving, begins_with_dollar, is_full, awaits_motion, tries_of, missed_of, waits_of}
+use Rattle.board_rules.specs.Turns.{this_turn, moving, begins_with_dollar, is_full, is_halting, awaits_motion, changes_taken, flags_taken, tries_of, missed_of, waits_of}
 use Rattle.board_rules.specs.Conduct.{Conducted, AreWaiting}
 use Rattle.units.specs.Truths.{one_if}
 use Rattle.controller.specs.declared.controller.Controller.{Controller}
+use Rattle.feed_hold.specs.declared.Motion.{Motion as AnyMotion}
+use Rattle.feed_hold.specs.declared.Motion.TheVariants as motions
+use Rattle.controller.specs.declared.controller.Flags.{Flags}
+use Rattle.controller.specs.declared.controller.Flags.TheVariants as words
 use Rattle.controller.specs.declared.controller.Beat.{Beat}
 use Rattle.controller.specs.declared.controller.Beat.TheVariants.{Motion, Main}
 use Rattle.controller.specs.declared.input.Input.{Input}
@@ -63,21 +67,49 @@ pub record Rounds (beat : Beat) (h : Journal) : Type 0 where
   pub none_waits : NoneWaits h
   pub tries : tries_of h + one_if (whole_of h) ≤ 1 + one_if (has_published beat)
   pub few : (left_of h ≡ [] → ⊥) → tries_of h ≤ 1
+  pub held : is_halting (motion_of h) ≡ true → whole_of h ≡ true → tries_of h ≡ 0
+
+-- what the words of flags say that are to be taken before the board goes on
+abbrev pub TakesFlags : Flags → Journal → Type 0
+TakesFlags words.Both h = Unit {0}
+TakesFlags words.Requests h = changes_taken h ≡ true
+TakesFlags words.None h = flags_taken h ≡ true
 
 -- between two turns
 abbrev pub IsBetween : Journal → Type 0
 IsBetween h = this_turn h ≡ []
 
--- What the fields of a board say between two turns.
+-- What the fields of a board say between two turns. The last one published no piece where words of flags are to be taken.
 pub record BoardFits (board : Controller) (h : Journal) : Type 0 where
   pub keeps : Keeps board h
   pub rounds : Rounds board.beat h
+  pub flags : TakesFlags board.flags h
+  pub still : has_published board.beat ≡ true → board.flags ≡ words.None
 
--- a turn adds what was done in it, and its answer; where that is Did, something moves
-pub record BoardTurned (t : Turn) (h next : Journal) : Type 0 where
+-- ---- a board's number
+
+-- how many words of flags are to be taken
+abbrev pub words_left : Flags → ℕ
+words_left words.Both = 2
+words_left words.Requests = 1
+words_left words.None = 0
+
+-- a machine that slows down is to be held, and one that is held to be resumed
+abbrev pub changes_left : AnyMotion → ℕ
+changes_left motions.Holding = 2
+changes_left motions.Held = 1
+changes_left _ = 0
+
+-- What a board can do with which nothing moves: words of flags are taken, pauses begin, a hold comes to its end, the machine is
+-- resumed, and the run is closed. It falls in each turn that answers Did and moves nothing.
+abbrev pub number_of : Flags → Journal → ℕ
+number_of f h = 3 * (words_left f + pauses (left_of h)) + changes_left (motion_of h) + one_if (nat_eq (length (closed_tells h)) 0)
+
+-- A turn adds what was done in it, and its answer; where that is Did, something moves, or the board's number falls.
+pub record BoardTurned (t : Turn) (was is : Controller) (h next : Journal) : Type 0 where
   pub steps : List Step
   pub are : next ≡ turned t ∷ (steps ++ h)
-  pub moves : t ≡ Did → list_any moving (this_turn (steps ++ h)) ≡ true
+  pub moves : t ≡ Did → (list_any moving (this_turn (steps ++ h)) ≡ true) ⊎ (number_of is.flags next < number_of was.flags h)
 
 -- a board that has closed its run, and has nothing left to do
 pub record BoardRests (board : Controller) : Type 0 where

@@ -2,9 +2,13 @@
 use Rattle.std.specs.Prelude.{◌≡◌, List}
 use Rattle.std.specs.Option.{option_to_list}
 use Rattle.feed_hold.specs.declared.Motion.{Motion}
+use Rattle.feed_hold.specs.declared.Motion.TheVariants as motions
+use Rattle.segment_prep.specs.declared.Mode.{Mode}
+use Rattle.segment_prep.specs.declared.Mode.TheVariants.{Go, Hold}
 use Rattle.plan_passes.specs.Plans.{Planned}
 use Rattle.step_line.specs.declared.Piece.{Piece}
 use Rattle.step_line.specs.Finishing.{ticks_together}
+pub use Rattle.board_rules.specs.Turns.{is_halting}
 use Rattle.controller.specs.declared.machine.Machine.{Machine}
 
 -- the plan, the state of the motion, the pieces in hand, and all pieces that were given
@@ -14,3 +18,10 @@ pub record Runs (m : Machine) (p : Planned) (now : Motion) (in_hand given : List
   pub motion_is : m.hold.motion ≡ now
   pub hand_is : option_to_list m.hand ≡ in_hand
   pub given_is : m.given ≡ ticks_together given
+
+-- segments are taken to slow down where the machine is to stop
+abbrev pub mode_in : Motion → Mode
+mode_in motions.Holding = Hold
+mode_in motions.Cancelling = Hold
+mode_in motions.Stopping = Hold
+mode_in _ = Go

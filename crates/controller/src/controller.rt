@@ -1,42 +1,19 @@
 //! The board.
 
-ghost use Rattle.std.specs.Prelude.{◌≡◌, ◌≢◌, ◌↔◌, ℕ, [], ◌∷◌, ◌||◌, true, false, None, IfSome, IfNone};
+ghost use Rattle.std.specs.Prelude.{◌≡◌, ◌≢◌, ◌↔◌, ◌<◌, [], ◌∷◌, length, ◌||◌, true, false, None, IfSome, IfNone};
 ghost use Rattle.std.specs.List.{list_any};
 ghost use Rattle.feed_hold.specs.declared.Motion.TheVariants.{Idle};
 ghost use Rattle.outside.specs.declared.Turn.TheVariants.{Done};
 ghost use Rattle.run_rules.specs.Work.{Outcome};
-ghost use Rattle.run_rules.specs.Work.Task.{ask, tell, finish};
-ghost use Rattle.status_report.specs.Replies.{IsReply};
-ghost use Rattle.step_line.specs.Asking.Asked.{a_mark, a_rest};
-ghost use Rattle.step_line.specs.Records.{IsMark};
-ghost use Rattle.line_interpreter.specs.Lefts.{IsNextOf};
+ghost use Rattle.run_rules.specs.Work.Task.{ask, tell, pause, normal, finish};
+ghost use Rattle.step_line.specs.Asking.Asked.{a_rest};
 ghost use Rattle.board_rules.specs.Ports.PortStep.{took};
-ghost use Rattle.board_rules.specs.Steps.{Journal, port_log, left_of, has_closed};
+ghost use Rattle.board_rules.specs.Steps.{Journal, port_log, left_of, motion_of, has_closed};
 ghost use Rattle.board_rules.specs.Steps.Step.{at_port, began};
-ghost use Rattle.board_rules.specs.Turns.{this_turn, awaits_motion, found_nothing, has_blocks, is_full};
+ghost use Rattle.board_rules.specs.Turns.{this_turn, awaits_motion, needs_motion, flags_taken, found_nothing, has_blocks, is_full, is_halting};
 ghost use Rattle.board_rules.specs.Conduct.{IsNextTask, MayTake, MayPoll};
-ghost use Rattle.controller.specs.Boards.{Keeps, BoardFits, BoardTurned, BoardRests, IsBetween};
-ghost use Rattle.controller.specs.Turning.{
-  IsNextMove,
-  HasPiece,
-  IsReady,
-  MayRun,
-  MayAwait,
-  MayJudge,
-  IsLooked,
-  NeedsNoWait,
-  IsWholeLine,
-  HasPolled,
-  HasStopped,
-  PassesNothing,
-  DidAlone,
-  HasLooked,
-  HasAdded,
-  HasFilled,
-  Tried,
-  HasTried,
-  WorksOn,
-};
+ghost use Rattle.controller.specs.Boards.{Keeps, BoardFits, BoardTurned, BoardRests, IsBetween, TakesFlags, number_of};
+ghost use Rattle.controller.specs.Turning.{IsNextMove, HasPiece, IsReady, MayRun, MayAwait, MayJudge, IsLooked, NeedsNoWait, IsWholeLine, HasPolled, HasStopped, PassesNothing, DidAlone, HasLooked, HasAdded, HasFilled, Tried, HasTried, BoardWorked, IsHalted, GoesOn, HasSettled, IsPassed, obeyed, replanned, WorksOn};
 
 use crate::input::Input;
 use crate::machine::Machine;
@@ -44,8 +21,18 @@ use crate::ports::BoardPort;
 use line_interpreter::{Interpreter, Todo};
 use outside::{On, Turn};
 use serial_ring::ByteIn;
-use status_report::Reply;
 use step_line::Mark;
+
+/// Which words of flags are taken before the board goes on, one a turn: both behind a line feed, and behind each wait.
+#[derive(Clone, Copy, Debug, PartialEq, Eq)]
+pub(crate) enum Flags {
+    /// The word of changes of overrides, and then that of requests.
+    Both,
+    /// The word of requests.
+    Requests,
+    /// None.
+    None,
+}
 
 /// What the next turn begins with.
 #[derive(Clone, Copy, Debug, PartialEq, Eq)]
@@ -62,6 +49,7 @@ pub struct Controller {
     pub(crate) machine: Machine,
     pub(crate) lines: Interpreter,
     pub(crate) input: Input,
+    pub(crate) flags: Flags,
     pub(crate) beat: Beat,
     pub(crate) closing: bool,
 }
@@ -75,6 +63,7 @@ impl Controller {
             machine: Machine::new(),
             lines: Interpreter::new(),
             input: Input::new(),
+            flags: Flags::None,
             beat: Beat::Motion,
             closing: false,
         }
@@ -90,182 +79,26 @@ impl Controller {
 
     /// Whether what is next waits for the motion.
     #[inline]
-    fn awaits_motion(&self) -> bool
+    pub(crate) fn awaits_motion(&self) -> bool
         ensures { result ≡ awaits_motion self.now.lines.left }
     {
-        matches!(self.lines.todo(), Todo::Rest | Todo::Finish)
+        matches!(
+            self.lines.todo(),
+            Todo::Rest | Todo::Pause | Todo::Normal | Todo::Finish
+        )
     }
 
-    /// Whether a piece is in hand, or a segment is due.
+    /// Whether what is next does not go on while the machine is held, or slows down for that.
     #[inline]
-    fn has_piece(&self) -> bool
-        ensures { (h : Journal) → Keeps self.now h → (result ≡ true) ↔ HasPiece h }
+    fn is_held_up(&self) -> bool
+        ensures { result ≡ needs_motion self.now.lines.left self.now.input.whole (is_full self.now.machine.plan) }
     {
-        self.machine.hand.is_some() || self.machine.is_due()
-    }
-
-    /// Adds the moves that are next, as far as they have room.
-    fn add_moves(&mut self)
-        requires { (h : Journal) × Keeps self.old h }
-        ensures added { (h : Journal) → Keeps self.old h → (next : Journal) × Keeps self.new next × HasAdded h next }
-        ensures same { self.new ≡ record self.old { machine = self.new.machine; lines = self.new.lines } }
-    {
-        while let Todo::Move(m) = self.lines.todo() {
-            if self.machine.is_full() {
-                return;
-            }
-            self.machine.add(&m);
-            self.lines.done();
+        match self.lines.todo() {
+            Todo::Nothing => self.input.whole,
+            Todo::Move => self.machine.is_full(),
+            Todo::Mark(_) | Todo::Tell => false,
+            Todo::Rest | Todo::Pause | Todo::Normal | Todo::Finish => true,
         }
-    }
-
-    /// Whether queued blocks wait, where no other has room, or what is next waits for the motion.
-    fn needs_start(&self) -> bool
-        ensures yes { result ≡ true → (self.now.machine.hold.motion ≡ Idle) × (has_blocks self.now.machine.plan.blocks ≡ true)
-            × ((is_full self.now.machine.plan || awaits_motion self.now.lines.left) ≡ true) }
-        ensures no { result ≡ false → self.now.machine.hold.motion ≡ Idle → has_blocks self.now.machine.plan.blocks ≡ true
-            → (is_full self.now.machine.plan || awaits_motion self.now.lines.left) ≡ false }
-    {
-        self.machine.is_waiting() && (self.machine.is_full() || self.awaits_motion())
-    }
-
-    /// Adds the moves that are next, as far as they have room, and starts queued blocks where no other has room, or what is
-    /// next waits for the motion.
-    fn fill(&mut self)
-        requires { (h : Journal) × Keeps self.old h }
-        ensures filled { (h : Journal) → Keeps self.old h → (next : Journal) × Keeps self.new next × HasFilled h next }
-        ensures same { self.new ≡ record self.old { machine = self.new.machine; lines = self.new.lines } }
-    {
-        self.add_moves();
-        if self.needs_start() {
-            self.machine.start();
-        }
-    }
-
-    /// Tries to publish the piece in hand. Answers whether it is published.
-    fn publish<P: BoardPort>(&mut self, port: &mut P) -> bool
-        requires stands { (rest : P.Rest) × (h : Journal) × P.stands port.old rest (port_log h) × Keeps self.old h }
-        requires some { self.old.machine.hand ≢ None }
-        ensures goes_on { (rest : P.Rest) (h : Journal) → P.stands port.old rest (port_log h) → Keeps self.old h
-            → (next : Journal) × P.stands port.new rest (port_log next) × Keeps self.new next × Tried result h next }
-        ensures same { self.new ≡ record self.old { machine = self.new.machine } }
-    {
-        let Some(piece) = self.machine.hand else {
-            return false;
-        };
-        let Ok(()) = port.publish(piece) else {
-            return false;
-        };
-        self.machine.drop_hand();
-        true
-    }
-
-    /// Tries to publish the piece in hand, or else the segment that is due, which comes into the hand before. Answers whether
-    /// it is published.
-    fn publish_next<P: BoardPort>(&mut self, port: &mut P) -> bool
-        requires stands { (rest : P.Rest) × (h : Journal) × P.stands port.old rest (port_log h) × Keeps self.old h × HasPiece h }
-        ensures goes_on { (rest : P.Rest) (h : Journal) → P.stands port.old rest (port_log h) → Keeps self.old h → HasPiece h
-            → (next : Journal) × P.stands port.new rest (port_log next) × Keeps self.new next × HasTried result h next }
-        ensures same { self.new ≡ record self.old { machine = self.new.machine } }
-    {
-        if self.machine.hand.is_some() {
-            return self.publish(port);
-        }
-        self.machine.take();
-        self.publish(port)
-    }
-
-    /// Tries to publish what is in hand or due, and answers the turn: where there is no room for it, that is waited for.
-    fn run<P: BoardPort>(&mut self, port: &mut P) -> Turn
-        requires stands { (rest : P.Rest) × (h : Journal) × P.stands port.old rest (port_log h) × Keeps self.old h × MayRun h × HasPiece h }
-        requires beat { self.old.beat ≡ Beat.Motion }
-        ensures goes_on { (rest : P.Rest) (h : Journal) → P.stands port.old rest (port_log h) → Keeps self.old h → MayRun h → HasPiece h
-            → WorksOn (P.stands port.new rest) result self.new h }
-        ensures going { result ≢ Done }
-    {
-        let published = self.publish_next(port);
-        self.fill();
-        if !published {
-            return Turn::Wait(On::SegmentRoom);
-        }
-        self.beat = Beat::Main;
-        Turn::Did
-    }
-
-    /// Whether a reply is not told yet: Bye waits until the piece in hand is published.
-    #[inline]
-    fn holds_back(&self, reply: Reply) -> bool
-        ensures yes { result ≡ true → self.now.machine.hand ≢ None }
-        ensures no { result ≡ false → reply ≡ Reply.Bye → self.now.machine.hand ≡ None }
-    {
-        reply == Reply::Bye && self.machine.hand.is_some()
-    }
-
-    /// Tells the reply that is next.
-    fn tell<P: BoardPort>(&mut self, port: &mut P, reply: Reply) -> Turn
-        requires stands { (rest : P.Rest) × (h : Journal) × P.stands port.old rest (port_log h) × Keeps self.old h × IsReady h }
-        requires next { IsNextOf (tell reply) self.old.lines.left }
-        requires text { IsReply reply }
-        requires beat { self.old.beat ≡ Beat.Motion }
-        ensures goes_on { (rest : P.Rest) (h : Journal) → P.stands port.old rest (port_log h) → Keeps self.old h → IsReady h
-            → WorksOn (P.stands port.new rest) result self.new h }
-        ensures going { result ≢ Done }
-    {
-        if self.holds_back(reply) {
-            return self.run(port);
-        }
-        let Ok(()) = port.answer(reply) else {
-            return Turn::Wait(On::ReplyRoom);
-        };
-        self.lines.done();
-        self.fill();
-        Turn::Did
-    }
-
-    /// Adds the moves that are next, or runs what is planned where they have no room.
-    fn go<P: BoardPort>(&mut self, port: &mut P) -> Turn
-        requires stands { (rest : P.Rest) × (h : Journal) × P.stands port.old rest (port_log h) × Keeps self.old h × IsReady h × IsNextMove h }
-        requires beat { self.old.beat ≡ Beat.Motion }
-        ensures goes_on { (rest : P.Rest) (h : Journal) → P.stands port.old rest (port_log h) → Keeps self.old h → IsReady h → IsNextMove h
-            → WorksOn (P.stands port.new rest) result self.new h }
-        ensures going { result ≢ Done }
-    {
-        if self.machine.is_full() {
-            return self.run(port);
-        }
-        self.fill();
-        Turn::Did
-    }
-
-    /// Gives the mark that is next to the machine, which stands, and tries to publish it.
-    fn mark<P: BoardPort>(&mut self, port: &mut P, mark: Mark) -> Turn
-        requires stands { (rest : P.Rest) × (h : Journal) × P.stands port.old rest (port_log h) × Keeps self.old h × IsReady h }
-        requires next { IsNextOf (ask (a_mark mark)) self.old.lines.left }
-        requires mark { IsMark mark }
-        requires beat { self.old.beat ≡ Beat.Motion }
-        ensures goes_on { (rest : P.Rest) (h : Journal) → P.stands port.old rest (port_log h) → Keeps self.old h → IsReady h
-            → WorksOn (P.stands port.new rest) result self.new h }
-        ensures going { result ≢ Done }
-    {
-        if self.machine.hand.is_some() {
-            return self.run(port);
-        }
-        self.machine.put_mark(mark);
-        self.lines.done();
-        self.run(port)
-    }
-
-    /// Makes the end, and tries to publish it.
-    fn finish<P: BoardPort>(&mut self, port: &mut P) -> Turn
-        requires stands { (rest : P.Rest) × (h : Journal) × P.stands port.old rest (port_log h) × Keeps self.old h × MayRun h × HasStopped h × IsNextTask finish h }
-        requires beat { self.old.beat ≡ Beat.Motion }
-        ensures goes_on { (rest : P.Rest) (h : Journal) → P.stands port.old rest (port_log h) → Keeps self.old h → MayRun h → HasStopped h → IsNextTask finish h
-            → WorksOn (P.stands port.new rest) result self.new h }
-        ensures going { result ≢ Done }
-    {
-        self.machine.put_end();
-        self.lines.done();
-        self.run(port)
     }
 
     /// Waits until nothing is left to run, and each tick is done; then the cycle is over. Answers what the turn answers where
@@ -273,8 +106,9 @@ impl Controller {
     fn await_motion<P: BoardPort>(&mut self, port: &mut P) -> Option<Turn>
         requires stands { (rest : P.Rest) × (h : Journal) × P.stands port.old rest (port_log h) × Keeps self.old h × MayAwait h }
         requires beat { self.old.beat ≡ Beat.Motion }
+        requires flags { self.old.flags ≡ Flags.None }
         ensures waits { IfSome result (λ t. (rest : P.Rest) (h : Journal) → P.stands port.old rest (port_log h) → Keeps self.old h → MayAwait h
-            → WorksOn (P.stands port.new rest) t self.new h) }
+            → WorksOn (P.stands port.new rest) t self.old.flags self.new h) }
         ensures over { IfNone result ((rest : P.Rest) (h : Journal) → P.stands port.old rest (port_log h) → Keeps self.old h → MayAwait h
             → (next : Journal) × P.stands port.new rest (port_log next) × Keeps self.new next × HasStopped next × PassesNothing h next × (left_of next ≡ left_of h)) }
         ensures same { IfNone result (self.new ≡ record self.old { machine = self.new.machine }) }
@@ -290,25 +124,58 @@ impl Controller {
         None
     }
 
-    /// The rests that are next are over.
-    fn pass_rests(&mut self)
+    /// A rest that is next is over where the machine has stopped, or each override is set to 100 percent there.
+    fn pass_next(&mut self)
+        requires stands { (h : Journal) × Keeps self.old h × HasStopped h }
+        requires next { IsPassed self.old.lines.left }
+        ensures passed { (h : Journal) → Keeps self.old h → HasStopped h → (next : Journal) × Keeps self.new next × HasStopped next × DidAlone h next }
+        ensures same { self.new ≡ record self.old { machine = self.new.machine; lines = self.new.lines } }
+        ensures fewer { length self.new.lines.left < length self.old.lines.left }
+    {
+        if self.lines.todo() == Todo::Normal {
+            self.machine.even();
+        }
+        self.lines.done();
+    }
+
+    /// What is next of rests, and of overrides to be set at the end of a program, is done where the machine has stopped.
+    fn pass(&mut self)
+        requires { (h : Journal) × Keeps self.old h × HasStopped h }
         ensures passed { (h : Journal) → Keeps self.old h → HasStopped h → (next : Journal) × Keeps self.new next × HasStopped next × DidAlone h next
-            × (IsNextTask (ask a_rest) next → ⊥) }
-        ensures same { self.new ≡ record self.old { lines = self.new.lines } }
+            × (IsNextTask (ask a_rest) next → ⊥) × (IsNextTask normal next → ⊥) }
+        ensures same { self.new ≡ record self.old { machine = self.new.machine; lines = self.new.lines } }
         ensures closing { (h : Journal) → Keeps self.old h → self.old.closing ≡ true → self.new ≡ self.old }
     {
-        while let Todo::Rest = self.lines.todo() {
-            self.lines.done();
+        while let Todo::Rest | Todo::Normal = self.lines.todo() {
+            self.pass_next();
         }
+    }
+
+    /// The machine, which has stopped, is held for the pause that is next.
+    fn pause(&mut self) -> Turn
+        requires stands { (h : Journal) × Keeps self.old h × IsReady h × HasStopped h × IsNextTask pause h }
+        requires beat { self.old.beat ≡ Beat.Motion }
+        requires flags { self.old.flags ≡ Flags.None }
+        ensures goes_on { (h : Journal) → Keeps self.old h → IsReady h → HasStopped h → IsNextTask pause h
+            → (next : Journal) × (port_log next ≡ port_log h) × BoardWorked result Flags.None self.new h next }
+        ensures going { result ≢ Done }
+    {
+        self.machine.pause();
+        self.lines.done();
+        self.fill();
+        Turn::Did
     }
 
     /// The byte that was taken belongs to the line that is not begun, or ends it.
     fn keep(&mut self, byte: u8)
+        requires flags { self.old.flags ≡ Flags.None }
         ensures kept { (h : Journal) → Keeps self.old h → MayTake h → Keeps self.new (at_port (took byte) ∷ h) }
-        ensures same { self.new ≡ record self.old { input = self.new.input } }
+        ensures flags { (h : Journal) → flags_taken h ≡ true → TakesFlags self.new.flags (at_port (took byte) ∷ h) }
+        ensures same { self.new ≡ record self.old { input = self.new.input; flags = self.new.flags } }
     {
         if byte == b'\n' {
             self.input.finish();
+            self.flags = Flags::Both;
         } else {
             self.input.push(byte);
         }
@@ -320,8 +187,9 @@ impl Controller {
         requires idle { self.old.machine.hold.motion ≡ Idle }
         requires blocks { has_blocks self.old.machine.plan.blocks ≡ true }
         requires beat { self.old.beat ≡ Beat.Motion }
+        requires flags { self.old.flags ≡ Flags.None }
         ensures goes_on { (rest : P.Rest) (h : Journal) → P.stands port.old rest (port_log h) → Keeps self.old h → HasPolled h
-            → WorksOn (P.stands port.new rest) result self.new h }
+            → WorksOn (P.stands port.new rest) result self.old.flags self.new h }
         ensures going { result ≢ Done }
     {
         self.machine.start();
@@ -332,8 +200,9 @@ impl Controller {
     fn without_byte<P: BoardPort>(&mut self, port: &mut P) -> Turn
         requires stands { (rest : P.Rest) × (h : Journal) × P.stands port.old rest (port_log h) × Keeps self.old h × HasPolled h }
         requires beat { self.old.beat ≡ Beat.Motion }
+        requires flags { self.old.flags ≡ Flags.None }
         ensures goes_on { (rest : P.Rest) (h : Journal) → P.stands port.old rest (port_log h) → Keeps self.old h → HasPolled h → list_any found_nothing (this_turn h) ≡ true
-            → WorksOn (P.stands port.new rest) result self.new h }
+            → WorksOn (P.stands port.new rest) result self.old.flags self.new h }
         ensures going { result ≢ Done }
     {
         if !self.machine.is_waiting() {
@@ -346,8 +215,9 @@ impl Controller {
     fn close<P: BoardPort>(&mut self, port: &mut P) -> Turn
         requires stands { (rest : P.Rest) × (h : Journal) × P.stands port.old rest (port_log h) × Keeps self.old h × HasPolled h × (has_closed h ≡ true) }
         requires beat { self.old.beat ≡ Beat.Motion }
+        requires flags { self.old.flags ≡ Flags.None }
         ensures goes_on { (rest : P.Rest) (h : Journal) → P.stands port.old rest (port_log h) → Keeps self.old h → HasPolled h → has_closed h ≡ true
-            → WorksOn (P.stands port.new rest) result self.new h }
+            → WorksOn (P.stands port.new rest) result self.old.flags self.new h }
         ensures going { result ≢ Done }
     {
         if self.machine.is_waiting() {
@@ -355,18 +225,16 @@ impl Controller {
         }
         self.lines.close();
         self.closing = true;
-        match self.await_motion(port) {
-            Some(turn) => turn,
-            None => self.finish(port),
-        }
+        Turn::Did
     }
 
     /// Polls for the next byte.
     fn poll<P: BoardPort>(&mut self, port: &mut P) -> Turn
         requires stands { (rest : P.Rest) × (h : Journal) × P.stands port.old rest (port_log h) × Keeps self.old h × IsReady h × MayPoll h }
         requires beat { self.old.beat ≡ Beat.Motion }
+        requires flags { self.old.flags ≡ Flags.None }
         ensures goes_on { (rest : P.Rest) (h : Journal) → P.stands port.old rest (port_log h) → Keeps self.old h → IsReady h → MayPoll h
-            → WorksOn (P.stands port.new rest) result self.new h }
+            → WorksOn (P.stands port.new rest) result self.old.flags self.new h }
         ensures going { result ≢ Done }
     {
         match port.byte() {
@@ -381,8 +249,8 @@ impl Controller {
 
     /// Looks how many ticks are done. Where nothing is left to run, and each is done, the cycle is over.
     fn look<P: BoardPort>(&mut self, port: &mut P)
-        requires stands { (rest : P.Rest) × (h : Journal) × P.stands port.old rest (port_log h) × Keeps self.old h }
-        ensures goes_on { (rest : P.Rest) (h : Journal) → P.stands port.old rest (port_log h) → Keeps self.old h
+        requires stands { (rest : P.Rest) × (h : Journal) × P.stands port.old rest (port_log h) × Keeps self.old h × (is_halting (motion_of h) ≡ false) }
+        ensures goes_on { (rest : P.Rest) (h : Journal) → P.stands port.old rest (port_log h) → Keeps self.old h → is_halting (motion_of h) ≡ false
             → (next : Journal) × P.stands port.new rest (port_log next) × Keeps self.new next × HasLooked h next }
         ensures same { self.new ≡ record self.old { machine = self.new.machine } }
     {
@@ -417,8 +285,9 @@ impl Controller {
     fn begin<P: BoardPort>(&mut self, port: &mut P) -> Turn
         requires stands { (rest : P.Rest) × (h : Journal) × P.stands port.old rest (port_log h) × Keeps self.old h × IsReady h × IsWholeLine h }
         requires beat { self.old.beat ≡ Beat.Motion }
+        requires flags { self.old.flags ≡ Flags.None }
         ensures goes_on { (rest : P.Rest) (h : Journal) → P.stands port.old rest (port_log h) → Keeps self.old h → IsReady h → IsWholeLine h
-            → WorksOn (P.stands port.new rest) result self.new h }
+            → WorksOn (P.stands port.new rest) result self.old.flags self.new h }
         ensures going { result ≢ Done }
     {
         self.look(port);
@@ -430,12 +299,13 @@ impl Controller {
 
     /// What is done where nothing is left of the line before.
     fn next_line<P: BoardPort>(&mut self, port: &mut P) -> Turn
-        requires stands { (rest : P.Rest) × (h : Journal) × P.stands port.old rest (port_log h) × Keeps self.old h × IsReady h }
+        requires stands { (rest : P.Rest) × (h : Journal) × P.stands port.old rest (port_log h) × Keeps self.old h × IsReady h × GoesOn h }
         requires none { self.old.lines.left ≡ [] }
         requires open { self.old.closing ≡ false }
         requires beat { self.old.beat ≡ Beat.Motion }
-        ensures goes_on { (rest : P.Rest) (h : Journal) → P.stands port.old rest (port_log h) → Keeps self.old h → IsReady h
-            → WorksOn (P.stands port.new rest) result self.new h }
+        requires flags { self.old.flags ≡ Flags.None }
+        ensures goes_on { (rest : P.Rest) (h : Journal) → P.stands port.old rest (port_log h) → Keeps self.old h → IsReady h → GoesOn h
+            → WorksOn (P.stands port.new rest) result self.old.flags self.new h }
         ensures going { result ≢ Done }
     {
         if self.input.whole {
@@ -446,30 +316,33 @@ impl Controller {
 
     /// Does what is next, where that is no rest, nor the end before the machine has stopped.
     fn do_next<P: BoardPort>(&mut self, port: &mut P) -> Turn
-        requires stands { (rest : P.Rest) × (h : Journal) × P.stands port.old rest (port_log h) × Keeps self.old h × IsReady h × NeedsNoWait h }
+        requires stands { (rest : P.Rest) × (h : Journal) × P.stands port.old rest (port_log h) × Keeps self.old h × IsReady h × GoesOn h × NeedsNoWait h }
         requires open { self.old.lines.left ≡ [] → self.old.closing ≡ false }
         requires beat { self.old.beat ≡ Beat.Motion }
-        ensures goes_on { (rest : P.Rest) (h : Journal) → P.stands port.old rest (port_log h) → Keeps self.old h → IsReady h → NeedsNoWait h
-            → WorksOn (P.stands port.new rest) result self.new h }
+        requires flags { self.old.flags ≡ Flags.None }
+        ensures goes_on { (rest : P.Rest) (h : Journal) → P.stands port.old rest (port_log h) → Keeps self.old h → IsReady h → GoesOn h → NeedsNoWait h
+            → WorksOn (P.stands port.new rest) result self.old.flags self.new h }
         ensures going { result ≢ Done }
     {
         match self.lines.todo() {
             Todo::Nothing => self.next_line(port),
-            Todo::Tell(reply) => self.tell(port, reply),
-            Todo::Move(_) => self.go(port),
+            Todo::Tell => self.tell(port),
+            Todo::Move => self.go(port),
             Todo::Mark(mark) => self.mark(port, mark),
+            Todo::Pause => self.pause(),
             Todo::Finish => self.finish(port),
-            Todo::Rest => unreachable!(),
+            Todo::Rest | Todo::Normal => unreachable!(),
         }
     }
 
-    /// Does what is next, once the motion has stopped where that is waited for.
-    fn main<P: BoardPort>(&mut self, port: &mut P) -> Turn
-        requires stands { (rest : P.Rest) × (h : Journal) × P.stands port.old rest (port_log h) × Keeps self.old h × IsReady h }
+    /// Does what is next, once the motion has stopped where that is waited for. It is not held up.
+    fn proceed<P: BoardPort>(&mut self, port: &mut P) -> Turn
+        requires stands { (rest : P.Rest) × (h : Journal) × P.stands port.old rest (port_log h) × Keeps self.old h × IsReady h × GoesOn h }
         requires open { self.old.lines.left ≡ [] → self.old.closing ≡ false }
         requires beat { self.old.beat ≡ Beat.Motion }
-        ensures goes_on { (rest : P.Rest) (h : Journal) → P.stands port.old rest (port_log h) → Keeps self.old h → IsReady h
-            → WorksOn (P.stands port.new rest) result self.new h }
+        requires flags { self.old.flags ≡ Flags.None }
+        ensures goes_on { (rest : P.Rest) (h : Journal) → P.stands port.old rest (port_log h) → Keeps self.old h → IsReady h → GoesOn h
+            → WorksOn (P.stands port.new rest) result self.old.flags self.new h }
         ensures going { result ≢ Done }
     {
         if !self.awaits_motion() {
@@ -478,8 +351,24 @@ impl Controller {
         if let Some(turn) = self.await_motion(port) {
             return turn;
         }
-        self.pass_rests();
+        self.pass();
         self.do_next(port)
+    }
+
+    /// Does what is next. Where that is held up, it is waited until it goes on.
+    fn main<P: BoardPort>(&mut self, port: &mut P) -> Turn
+        requires stands { (rest : P.Rest) × (h : Journal) × P.stands port.old rest (port_log h) × Keeps self.old h × IsReady h }
+        requires open { self.old.lines.left ≡ [] → self.old.closing ≡ false }
+        requires beat { self.old.beat ≡ Beat.Motion }
+        requires flags { self.old.flags ≡ Flags.None }
+        ensures goes_on { (rest : P.Rest) (h : Journal) → P.stands port.old rest (port_log h) → Keeps self.old h → IsReady h
+            → WorksOn (P.stands port.new rest) result self.old.flags self.new h }
+        ensures going { result ≢ Done }
+    {
+        if self.machine.is_halting() && self.is_held_up() {
+            return self.halt(port);
+        }
+        self.proceed(port)
     }
 
     /// Whether the turn begins with a piece: one is in hand, or a segment is due, and the last turn published none.
@@ -499,8 +388,9 @@ impl Controller {
         requires stands { (rest : P.Rest) × (h : Journal) × P.stands port.old rest (port_log h) × BoardFits self.old h × IsBetween h × HasPiece h }
         requires open { self.old.lines.left ≡ [] → self.old.closing ≡ false }
         requires beat { self.old.beat ≡ Beat.Motion }
+        requires flags { self.old.flags ≡ Flags.None }
         ensures goes_on { (rest : P.Rest) (h : Journal) → P.stands port.old rest (port_log h) → BoardFits self.old h → IsBetween h → HasPiece h
-            → WorksOn (P.stands port.new rest) result self.new h }
+            → WorksOn (P.stands port.new rest) result self.old.flags self.new h }
         ensures going { result ≢ Done }
     {
         if !self.publish_next(port) {
@@ -511,17 +401,15 @@ impl Controller {
         Turn::Did
     }
 
-    /// Does what a turn does.
-    fn work<P: BoardPort>(&mut self, port: &mut P) -> Turn
+    /// Takes no word of flags: publishes a piece, or does what is next.
+    fn go_on<P: BoardPort>(&mut self, port: &mut P) -> Turn
         requires stands { (rest : P.Rest) × (h : Journal) × P.stands port.old rest (port_log h) × BoardFits self.old h × IsBetween h }
+        requires open { self.old.lines.left ≡ [] → self.old.closing ≡ false }
+        requires flags { self.old.flags ≡ Flags.None }
         ensures goes_on { (rest : P.Rest) (h : Journal) → P.stands port.old rest (port_log h) → BoardFits self.old h → IsBetween h
-            → WorksOn (P.stands port.new rest) result self.new h }
-        ensures done { (result ≡ Done) ↔ BoardRests self.old }
-        ensures still { BoardRests self.old → (self.new ≡ self.old) × (port.new ≡ port.old) }
+            → WorksOn (P.stands port.new rest) result self.old.flags self.new h }
+        ensures going { result ≢ Done }
     {
-        if self.is_over() {
-            return Turn::Done;
-        }
         if self.begins_with_piece() {
             return self.publish_first(port);
         }
@@ -529,19 +417,63 @@ impl Controller {
         self.main(port)
     }
 
-    /// Takes a turn: publishes a piece where one is in hand or a segment is due, and else, or where there was no room for it,
-    /// does the next thing: tells a reply, adds moves, makes a mark or the end, begins a line, or takes a byte. At most one
-    /// thing is published. Where the rules allow nothing, it answers what it waits for. It is done once Bye was told; from then
-    /// on nothing changes.
+    /// Takes a word of flags where one is to be taken, and else goes on.
+    fn take_or_go_on<P: BoardPort>(&mut self, port: &mut P) -> Turn
+        requires stands { (rest : P.Rest) × (h : Journal) × P.stands port.old rest (port_log h) × BoardFits self.old h × IsBetween h }
+        requires open { self.old.lines.left ≡ [] → self.old.closing ≡ false }
+        ensures goes_on { (rest : P.Rest) (h : Journal) → P.stands port.old rest (port_log h) → BoardFits self.old h → IsBetween h
+            → WorksOn (P.stands port.new rest) result self.old.flags self.new h }
+        ensures going { result ≢ Done }
+    {
+        match self.flags {
+            Flags::Both => {
+                self.take_changes(port);
+                self.flags = Flags::Requests;
+                Turn::Did
+            }
+            Flags::Requests => {
+                self.take_requests(port);
+                self.flags = Flags::None;
+                Turn::Did
+            }
+            Flags::None => self.go_on(port),
+        }
+    }
+
+    /// Does what a turn does.
+    fn work<P: BoardPort>(&mut self, port: &mut P) -> Turn
+        requires stands { (rest : P.Rest) × (h : Journal) × P.stands port.old rest (port_log h) × BoardFits self.old h × IsBetween h }
+        ensures goes_on { (rest : P.Rest) (h : Journal) → P.stands port.old rest (port_log h) → BoardFits self.old h → IsBetween h
+            → WorksOn (P.stands port.new rest) result self.old.flags self.new h }
+        ensures done { (result ≡ Done) ↔ BoardRests self.old }
+        ensures still { BoardRests self.old → (self.new ≡ self.old) × (port.new ≡ port.old) }
+    {
+        if self.is_over() {
+            return Turn::Done;
+        }
+        self.take_or_go_on(port)
+    }
+
+    /// Takes a turn: behind a line feed and behind each wait it takes a word of flags, and does what that asks for; else it
+    /// publishes a piece where one is in hand or a segment is due, and else, or where there was no room for it, does the next
+    /// thing: tells a reply, adds moves, makes a mark or the end, begins a line, or takes a byte. At most one thing is
+    /// published. Where the rules allow nothing, it answers what it waits for: for a machine that is held, its resume. It is
+    /// done once Bye was told; from then on nothing changes. A turn that answers Did and moves nothing lowers the board's
+    /// number, which is less than 64.
     ///
     /// The rules of the board are those of its journal: whatever it has done before, it goes on as they allow.
     pub fn turn<P: BoardPort>(&mut self, port: &mut P) -> Turn
         requires stands { (rest : P.Rest) × (h : Journal) × P.stands port.old rest (port_log h) × BoardFits self.old h × IsBetween h }
         ensures goes_on { (rest : P.Rest) (h : Journal) → P.stands port.old rest (port_log h) → BoardFits self.old h → IsBetween h
-            → (next : Journal) × P.stands port.new rest (port_log next) × BoardFits self.new next × IsBetween next × BoardTurned result h next }
+            → (next : Journal) × P.stands port.new rest (port_log next) × BoardFits self.new next × IsBetween next × BoardTurned result self.old self.new h next }
         ensures done { (result ≡ Done) ↔ BoardRests self.old }
         ensures still { BoardRests self.old → (self.new ≡ self.old) × (port.new ≡ port.old) }
+        ensures few { (h : Journal) → BoardFits self.old h → number_of self.old.flags h < 64 }
     {
-        self.work(port)
+        let turn = self.work(port);
+        if let Turn::Wait(_) = turn {
+            self.flags = Flags::Both;
+        }
+        turn
     }
 }

@@ -2,8 +2,10 @@
 #![tactic(auto)]
 
 mod controller;
+mod flags;
 mod input;
 mod machine;
+mod pieces;
 mod ports;
 
 pub use controller::Controller;

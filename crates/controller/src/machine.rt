@@ -1,19 +1,21 @@
 //! What a board moves: the plan, the piece in hand, and the state of the motion.
 
-ghost use Rattle.std.specs.Prelude.{◌≡◌, ◌⊎◌, ℕ, ◌<◌, ◌^◌, List, [], ◌∷◌, ◌++◌, ◌&&◌, true, false, Some, None};
+ghost use Rattle.std.specs.Prelude.{◌≡◌, ◌↔◌, ◌⊎◌, ℕ, ◌<◌, ◌^◌, List, [], ◌∷◌, ◌++◌, ◌&&◌, ◌||◌, true, false, Some, None};
 ghost use Rattle.feed_hold.specs.declared.Motion.{Motion as AnyMotion};
 ghost use Rattle.feed_hold.specs.declared.Motion.TheVariants as motions;
 ghost use Rattle.step_line.specs.Asking.{IsPlannedMove};
 ghost use Rattle.step_line.specs.declared.Piece.{Piece as AnyPiece};
 ghost use Rattle.step_line.specs.declared.Segment.{Segment};
-ghost use Rattle.overrides.specs.Percents.{IsOverrides};
+ghost use Rattle.overrides.specs.Percents.{IsOverrides, taken};
+ghost use Rattle.feed_hold.specs.Motions.{after_word};
 ghost use Rattle.plan_passes.specs.Plans.{Planned};
 ghost use Rattle.plan_passes.specs.Segments.{advanced};
 ghost use Rattle.segment_prep.specs.Taking.{IsNext};
-ghost use Rattle.planner_runs.specs.Runs.{fresh_plan, with_move};
-ghost use Rattle.board_rules.specs.Turns.{has_blocks, is_full, is_going, is_run};
-ghost use Rattle.controller.specs.Machines.{Runs};
+ghost use Rattle.planner_runs.specs.Runs.{fresh_plan, normal_overrides, with_move};
+ghost use Rattle.board_rules.specs.Turns.{has_blocks, has_segment, is_full, is_going, is_run, is_slowing};
+ghost use Rattle.controller.specs.Machines.{Runs, is_halting, mode_in};
 
+use code_table::{Exec, Ovr};
 use feed_hold::{Hold, Motion};
 use line_geom::Cap;
 use line_geom::measure::geom;
@@ -74,12 +76,40 @@ impl Machine {
         self.hold.motion == Motion::Run
     }
 
-    /// Whether a segment is due: the machine moves, and an event is left.
+    /// Whether the machine moves, or slows down to a stop.
+    #[inline]
+    fn is_moving(&self) -> bool
+        ensures { result ≡ (is_going self.now.hold.motion || is_slowing self.now.hold.motion self.now.plan.speed) }
+    {
+        match self.hold.motion {
+            Motion::Run | Motion::Jog => true,
+            Motion::Holding | Motion::Cancelling | Motion::Stopping => self.plan.speed() != 0,
+            Motion::Idle | Motion::Held | Motion::Alarm => false,
+        }
+    }
+
+    /// Whether a segment is due: an event is left, and the machine moves, or slows down to a stop.
     #[inline]
     pub(crate) fn is_due(&self) -> bool
-        ensures { result ≡ (is_going self.now.hold.motion && has_blocks self.now.plan.blocks) }
+        ensures { result ≡ has_segment self.now.hold.motion self.now.plan }
     {
-        matches!(self.hold.motion, Motion::Run | Motion::Jog) && self.has_blocks()
+        self.has_blocks() && self.is_moving()
+    }
+
+    /// Whether the machine is held, or slows down for that.
+    #[inline]
+    pub(crate) fn is_halting(&self) -> bool
+        ensures { result ≡ is_halting self.now.hold.motion }
+    {
+        matches!(self.hold.motion, Motion::Holding | Motion::Held)
+    }
+
+    /// Whether the machine is held.
+    #[inline]
+    pub(crate) fn is_held(&self) -> bool
+        ensures { (result ≡ true) ↔ (self.now.hold.motion ≡ motions.Held) }
+    {
+        self.hold.motion == Motion::Held
     }
 
     /// Whether queued blocks wait for a start.
@@ -89,6 +119,14 @@ impl Machine {
         ensures no { result ≡ false → self.now.hold.motion ≡ motions.Idle → has_blocks self.now.plan.blocks ≡ true → ⊥ }
     {
         self.hold.motion == Motion::Idle && self.has_blocks()
+    }
+
+    /// Whether it has slowed down to a stop, with nothing in hand.
+    #[inline]
+    pub(crate) fn has_slowed_down(&self) -> bool
+        ensures { (result ≡ true) ↔ ((self.now.hold.motion ≡ motions.Holding) × (self.now.plan.speed ≡ 0) × (self.now.hand ≡ None)) }
+    {
+        self.hold.motion == Motion::Holding && self.plan.speed() == 0 && self.hand.is_none()
     }
 
     /// Puts a move behind the others.
@@ -115,15 +153,27 @@ impl Machine {
         };
     }
 
+    /// How segments are taken: to slow down where the machine is to be held.
+    #[inline]
+    fn mode(&self) -> Mode
+        ensures { result ≡ mode_in self.now.hold.motion }
+    {
+        match self.hold.motion {
+            Motion::Holding | Motion::Cancelling | Motion::Stopping => Mode::Hold,
+            Motion::Idle | Motion::Run | Motion::Held | Motion::Jog | Motion::Alarm => Mode::Go,
+        }
+    }
+
     /// Takes the next segment into the hand.
     pub(crate) fn take(&mut self)
-        requires blocks { has_blocks self.old.plan.blocks ≡ true }
+        requires due { has_segment self.old.hold.motion self.old.plan ≡ true }
         requires few { self.old.given < 2 ^ 62 }
         requires same { self.old.plan.overrides ≡ self.old.overrides }
         ensures { (p : Planned) (now : AnyMotion) (given : List AnyPiece) → Runs self.old p now [] given
-            → (s : Segment) × IsNext p Mode.Go s × Runs self.new (advanced p s.n s.w_out) now (AnyPiece.Segment s ∷ []) (given ++ AnyPiece.Segment s ∷ []) }
+            → (s : Segment) × IsNext p (mode_in now) s × Runs self.new (advanced p s.n s.w_out) now (AnyPiece.Segment s ∷ []) (given ++ AnyPiece.Segment s ∷ []) }
     {
-        let Some(segment) = next_segment(&mut self.plan, &self.overrides, Mode::Go) else {
+        let mode = self.mode();
+        let Some(segment) = next_segment(&mut self.plan, &self.overrides, mode) else {
             unreachable!()
         };
         self.given += segment.n as u64;
@@ -172,5 +222,51 @@ impl Machine {
         ensures idle { self.new.hold.motion ≡ motions.Idle }
     {
         self.hold.on_drained();
+    }
+
+    /// A word of requests was taken: holds, and starts or resumes, as it asks.
+    pub(crate) fn obey(&mut self, word: Exec)
+        ensures { (p : Planned) (now : AnyMotion) (hand given : List AnyPiece) → Runs self.old p now hand given
+            → Runs self.new p (after_word word (has_blocks p.blocks) now) hand given }
+    {
+        let queued = self.has_blocks();
+        self.hold.on_exec(word, queued);
+    }
+
+    /// A word that changes overrides was taken: it is planned for what they come to.
+    pub(crate) fn change(&mut self, word: Ovr)
+        requires range { IsOverrides self.old.overrides }
+        ensures runs { (p : Planned) (now : AnyMotion) (hand given : List AnyPiece) → Runs self.old p now hand given
+            → Runs self.new (record p { overrides = taken p.overrides word }) now hand given }
+        ensures range { IsOverrides self.new.overrides }
+    {
+        self.overrides.take(word);
+        self.plan.replan(&self.overrides);
+    }
+
+    /// Each override is at 100 percent again.
+    pub(crate) fn even(&mut self)
+        ensures runs { (p : Planned) (now : AnyMotion) (hand given : List AnyPiece) → Runs self.old p now hand given
+            → Runs self.new (record p { overrides = normal_overrides }) now hand given }
+        ensures motion { self.new.hold ≡ self.old.hold }
+    {
+        self.overrides = Overrides::normal();
+        self.plan.replan(&self.overrides);
+    }
+
+    /// The machine has slowed down to a stop, and is held.
+    pub(crate) fn stop(&mut self)
+        requires { self.old.hold.motion ≡ motions.Holding }
+        ensures { (p : Planned) (now : AnyMotion) (hand given : List AnyPiece) → Runs self.old p now hand given → Runs self.new p motions.Held hand given }
+    {
+        self.hold.on_stopped();
+    }
+
+    /// The machine, which stands, is held for a pause.
+    pub(crate) fn pause(&mut self)
+        requires { self.old.hold.motion ≡ motions.Idle }
+        ensures { (p : Planned) (now : AnyMotion) (hand given : List AnyPiece) → Runs self.old p now hand given → Runs self.new p motions.Held hand given }
+    {
+        self.hold.on_pause();
     }
 }

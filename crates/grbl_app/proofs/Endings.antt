@@ -14,7 +14,7 @@ use Rattle.run_rules.specs.Readings.{largest_job, job_of}
 use Rattle.run_rules.specs.Work.{Outcome}
 use Rattle.run_rules.specs.Outcomes.{Before, Follows, start}
 use Rattle.run_rules.specs.Outcomes.Passed.{a_line}
-use Rattle.run_rules.specs.Told.{replies_in, replies_text, errors_in}
+use Rattle.run_rules.specs.Told.{replies_in, replies_text, asked_in, errors_in}
 use Rattle.stream_host.specs.declared.Reading.{Reading}
 use Rattle.stream_host.specs.declared.Reading.TheVariants.{Ended, Failed, Large, Stopped}
 use Rattle.stream_host.specs.declared.Stop.{Stop}
@@ -23,7 +23,8 @@ use Rattle.stream_host.specs.Jobs.{MayHaveRead, MayLeave, ends_sending, ends_in,
 use Rattle.stream_host.specs.Ran.{is_failed}
 use Rattle.stream_host.proofs.Pieces.{all_are_sent}
 use Rattle.run_law.specs.declared.RunEnd.{RunEnd}
-use Rattle.run_law.specs.Runs.{Sinks, IsRun}
+use Rattle.planner_runs.specs.Driven.{IsDriven}
+use Rattle.run_law.specs.Runs.{Sinks, asks_hold, asks_change, ends_program, IsRun}
 use Rattle.run_law.proofs.Completing.{complete}
 use Rattle.grbl_app.specs.declared.status.Status.{Status}
 use Rattle.grbl_app.specs.declared.status.Status.TheVariants.{SourceFault, ConsoleFault, StepsFault, LongLine, TooLarge}
@@ -104,6 +105,7 @@ record SentAll (job_was job_is : SourceState) (was is : Sinks) (end : RunEnd) (r
   over : run.reading ≡ Ended
   few : length run.read ≤ largest_job
   lines : run.lines ≡ lines_of run.read
+  all : run.read ≡ run.scanned
 
 sent_all : (job_was job_is : SourceState) (was is : Sinks) (end : RunEnd) (run : IsRun job_was job_is was is end) → end.source_failed ≡ false → end.stop ≡ stops.End
     → SentAll job_was job_is was is end run
@@ -121,6 +123,7 @@ sent_all job_was job_is was is end run well stop =
     record {
       over = over;
       few = few;
+      all = all;
       lines = sent.sent ∙ ap (λ r. lines_to_send r (job_of run.read)) over ∙ ap (lines_to_send Ended) whole ∙ all_are_sent Ended run.read short;
     }
 
@@ -237,7 +240,7 @@ by_cases job_was job_is was is end run false false false stops.End es ec en et =
         answered = subst (λ (ls : List (List ℕ)). Follows true (start run.first) (map plain ls) (map a_line run.outcomes) run.last) all.lines run.follows;
         console = rw (← told_text run.replies run.outcomes run.told) (whole_text was.console is.console end.console_failed (replies_text run.replies) ec run.console);
         records = run.records;
-        driven = run.driven;
+        driven = subst (λ (text : List ℕ). IsDriven (asks_hold text) (asks_change text || ends_program run.outcomes) (asked_in run.outcomes) run.records) (sym all.all) run.driven;
         steps = whole_text was.steps is.steps end.steps_failed _ es run.steps;
         status_is = ap by_errors run.errors;
       };

@@ -1,3 +1,4 @@
 pub mod Endings
 pub mod Tasks
+pub mod Accepted
 pub mod Demos

@@ -1,5 +1,5 @@
 -- How a run ends.
-use Rattle.std.specs.Prelude.{◌≡◌, ℕ, zero, suc, ◌+◌, ◌≤◌, cond, false, true, List, length, map}
+use Rattle.std.specs.Prelude.{◌≡◌, ℕ, zero, suc, ◌+◌, ◌≤◌, cond, false, true, ◌||◌, List, length, map}
 use Rattle.std.specs.List.{list_any, take_while}
 use Rattle.std.specs.Io.KnownBytes.{Appends, Consumes, IsAtEnd}
 use Rattle.outside.specs.Causes.{Rose, SourceState, SinkState}
@@ -20,7 +20,7 @@ use Rattle.stream_host.specs.declared.Stop.{Stop}
 use Rattle.stream_host.specs.declared.Stop.TheVariants as stops
 use Rattle.stream_host.specs.Jobs.{MayHaveRead, MayScan, is_long, is_sent}
 use Rattle.run_law.specs.declared.RunEnd.{RunEnd}
-use Rattle.run_law.specs.Runs.{Sinks, IsRun}
+use Rattle.run_law.specs.Runs.{Sinks, asks_hold, asks_change, ends_program, IsRun}
 use Rattle.run_law.specs.Complete.{IsAcceptedJob}
 use Rattle.grbl_app.specs.declared.status.Status.{Status}
 use Rattle.grbl_app.specs.declared.status.Status.TheVariants.{Done, LineErrors, Usage, SourceFault, ConsoleFault, StepsFault, LongLine, Reset, Alarm, TooLarge, OutOfMemory}
@@ -57,7 +57,8 @@ IsWhole _ = ⊥
 
 -- A run that went to its end: the bytes read are the job, the console has the banner and what is told of each
 -- line, and the steps have the records of a drive that was asked for the moves and marks of the lines answered `ok`:
--- their events and marks, in order and each once, heads with legal speeds, and the end.
+-- their events and marks, in order and each once, heads with legal speeds, and the end. Nothing else disturbs the drive than a
+-- hold, where a `!` stands in the job, and a change of overrides, where a byte that asks for one does or a program ended.
 pub record IsWholeRun (job_was job_is : SourceState) (was is : Sinks) (status : Status) : Type 0 where
   pub job : List ℕ
   pub first : State
@@ -70,7 +71,7 @@ pub record IsWholeRun (job_was job_is : SourceState) (was is : Sinks) (status : 
   pub answered : Follows true (start first) (map plain (lines_of job)) (map a_line outcomes) last
   pub console : Appends was.console.held is.console.held (replies_text (replies_in outcomes))
   pub records : List Record
-  pub driven : IsDriven (asked_in outcomes) records
+  pub driven : IsDriven (asks_hold job) (asks_change job || ends_program outcomes) (asked_in outcomes) records
   pub steps : Appends was.steps.held is.steps.held (records_text records)
   pub status_is : status ≡ by_errors (errors_in outcomes)
 

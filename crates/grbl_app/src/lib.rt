@@ -122,7 +122,7 @@ pub fn run_grbl<
         ¬ Rose (St.state steps.old).faults (St.state steps.new).faults →
         (result ≡ Status.Done) ⊎ (result ≡ Status.OutOfMemory) }
 
-    // The demo runs the generated job, and leaves the source as it is.
+    // The demo runs the generated job, all of whose lines are accepted, and leaves the source as it is.
     ensures demo { (n : ℕ) → Asks (tasks.Demo n) (map (λ w. w.now) words.now) → HasRun result →
         IsDemo n (Co.state console.old) (Co.state console.new) (St.state steps.old) (St.state steps.new) result × (So.state job.new ≡ So.state job.old) }
 {

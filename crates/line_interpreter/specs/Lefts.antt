@@ -1,27 +1,26 @@
 -- What is left to do of a line.
 use Rattle.std.specs.Prelude.{◌≡◌, ℕ, ◌≤◌, Bool, List, [], ◌∷◌, ◌++◌, drop, All}
 use Rattle.status_report.specs.declared.Reply.TheVariants as replies
-use Rattle.status_report.specs.Replies.{IsReply}
+use Rattle.status_report.specs.declared.Reply.{Reply}
 use Rattle.status_report.specs.Lists.{setting_replies, modes_replies, offset_replies}
 use Rattle.step_line.specs.Records.{IsMark}
-use Rattle.step_line.specs.Asking.{IsPlannedMove}
+use Rattle.step_line.specs.declared.planned_move.PlannedMove.{PlannedMove}
 use Rattle.step_line.specs.Asking.Asked.{a_move, a_mark, a_rest}
 use Rattle.gcode_check.specs.declared.Item.{Item}
 use Rattle.gcode_check.specs.Items.{IsItem}
 use Rattle.modal_state.specs.declared.SpindleMode.{SpindleMode}
 use Rattle.run_rules.specs.declared.State.{State}
 use Rattle.run_rules.specs.Work.{Task, telling, closing_work}
-use Rattle.run_rules.specs.Work.Task.{ask, tell, finish}
+use Rattle.run_rules.specs.Work.Task.{ask, tell, pause, normal, finish}
 use Rattle.run_rules.specs.Asks.{spindle_after, flood_after, item_work, work_of}
 use Rattle.line_interpreter.specs.declared.tasks.Line.{Line}
 use Rattle.line_interpreter.specs.declared.tasks.Body.{Body}
-use Rattle.line_interpreter.specs.declared.tasks.Body.TheVariants.{Nothing, Opening, Closing, Accepted, Refused, Settings as TheSettings, Modes, Offsets, Items}
+use Rattle.line_interpreter.specs.declared.tasks.Body.TheVariants.{Opening, Closing, Accepted, Refused, Settings as TheSettings, Modes, Offsets, Items}
 use Rattle.line_interpreter.specs.declared.tasks.Todo.{Todo}
 use Rattle.line_interpreter.specs.declared.tasks.Todo.TheVariants as todo
 
 -- the tasks of the present item, or of the whole where there are no items
 abbrev pub part : Body → ℕ → State → SpindleMode → Bool → List Item → List Task
-part Nothing line s spindle flood items = []
 part Opening line s spindle flood items = tell replies.Banner ∷ []
 part Closing line s spindle flood items = closing_work
 part Accepted line s spindle flood items = tell replies.Ok ∷ []
@@ -34,7 +33,6 @@ part Items line s spindle flood (item ∷ items) = item_work line s.settings spi
 
 -- the tasks of what comes behind it
 abbrev pub behind_part : Body → ℕ → State → SpindleMode → Bool → List Item → List Task
-behind_part Nothing line s spindle flood items = []
 behind_part Opening line s spindle flood items = []
 behind_part Closing line s spindle flood items = []
 behind_part Accepted line s spindle flood items = []
@@ -73,8 +71,10 @@ abbrev pub IsTodo : Todo → List Task → Type 0
 IsTodo todo.Nothing tasks = tasks ≡ []
 IsTodo todo.Rest tasks = IsNextOf (ask a_rest) tasks
 IsTodo (todo.Mark m) tasks = IsNextOf (ask (a_mark m)) tasks × IsMark m
-IsTodo (todo.Move m) tasks = IsNextOf (ask (a_move m)) tasks × IsPlannedMove m
-IsTodo (todo.Tell r) tasks = IsNextOf (tell r) tasks × IsReply r
+IsTodo todo.Move tasks = (m : PlannedMove) × IsNextOf (ask (a_move m)) tasks
+IsTodo todo.Tell tasks = (r : Reply) × IsNextOf (tell r) tasks
+IsTodo todo.Pause tasks = IsNextOf pause tasks
+IsTodo todo.Normal tasks = IsNextOf normal tasks
 IsTodo todo.Finish tasks = IsNextOf finish tasks
 
 -- the fields of a line are in range

@@ -10,7 +10,13 @@ ghost use Rattle.run_rules.specs.Work.{Outcome, telling, closing_work};
 ghost use Rattle.run_rules.specs.Outcomes.{refused, fault_number, BySetting, ByCommand, ByVerdict, ByWords};
 ghost use Rattle.line_interpreter.specs.Finding.{ByDollarFound, ByKeptFound, Found};
 ghost use Rattle.line_interpreter.specs.Keeping.{IsKept};
-ghost use Rattle.line_interpreter.specs.Lefts.{IsSound, IsSettled, IsTodo, work_left};
+ghost use Rattle.line_interpreter.specs.Lefts.{IsSound, IsSettled, IsTodo, IsNextOf, work_left};
+ghost use Rattle.run_rules.specs.Work.Task.{ask, tell};
+ghost use Rattle.status_report.specs.Replies.{IsReply};
+ghost use Rattle.status_report.specs.declared.Reply.{Reply as AnyReply};
+ghost use Rattle.step_line.specs.Asking.{IsPlannedMove};
+ghost use Rattle.step_line.specs.Asking.Asked.{a_move};
+ghost use Rattle.step_line.specs.declared.planned_move.PlannedMove.{PlannedMove as AnyMove};
 ghost use Rattle.line_interpreter.specs.Desks.{IsReady, standing, Begun};
 
 use crate::kept::KeptLine;
@@ -19,6 +25,7 @@ use gcode_check::{Refusal, take_line};
 use gcode_words::{WordFault, Words, read_words};
 use run_rules::State;
 use status_report::Reply;
+use step_line::PlannedMove;
 use system_lines::{Command, Kind, apply_setting, read_command};
 use units::Decimal;
 
@@ -237,7 +244,7 @@ impl Desk {
         ensures settled { IsSettled self.new.line self.new.state }
     {
         let accepted = self.judge_line(line, running);
-        self.line.settle(&self.state);
+        self.line.settle();
         self.number += 1;
         accepted
     }
@@ -260,7 +267,29 @@ impl Desk {
         requires settled { IsSettled self.now.line self.now.state }
         ensures { IsTodo result (work_left self.now.line self.now.state) }
     {
-        self.line.part_todo(&self.state)
+        self.line.part_todo()
+    }
+
+    /// The reply that is next.
+    pub(crate) fn reply(&self) -> Reply
+        requires ready { IsReady self.now }
+        requires settled { IsSettled self.now.line self.now.state }
+        requires some { (reply : AnyReply) × IsNextOf (tell reply) (work_left self.now.line self.now.state) }
+        ensures next { IsNextOf (tell result) (work_left self.now.line self.now.state) }
+        ensures valid { IsReply result }
+    {
+        self.line.part_reply(&self.state)
+    }
+
+    /// The move that is next.
+    pub(crate) fn planned_move(&self) -> PlannedMove
+        requires ready { IsReady self.now }
+        requires settled { IsSettled self.now.line self.now.state }
+        requires some { (m : AnyMove) × IsNextOf (ask (a_move m)) (work_left self.now.line self.now.state) }
+        ensures next { IsNextOf (ask (a_move result)) (work_left self.now.line self.now.state) }
+        ensures planned { IsPlannedMove result }
+    {
+        self.line.part_move(&self.state)
     }
 
     /// What there was to do next is done.
@@ -275,6 +304,6 @@ impl Desk {
         ensures settled { IsSettled self.new.line self.new.state }
     {
         self.line.stage += 1;
-        self.line.settle(&self.state);
+        self.line.settle();
     }
 }

@@ -8,13 +8,21 @@ ghost use Rattle.run_rules.specs.Told.{is_error};
 ghost use Rattle.run_rules.specs.Outcomes.{Before, Becomes};
 ghost use Rattle.line_interpreter.specs.Keeping.{IsKept};
 ghost use Rattle.line_interpreter.specs.Finding.{Found};
-ghost use Rattle.line_interpreter.specs.Lefts.{IsTodo};
+ghost use Rattle.line_interpreter.specs.Lefts.{IsTodo, IsNextOf};
+ghost use Rattle.run_rules.specs.Work.Task.{ask, tell};
+ghost use Rattle.status_report.specs.Replies.{IsReply};
+ghost use Rattle.status_report.specs.declared.Reply.{Reply as AnyReply};
+ghost use Rattle.step_line.specs.Asking.{IsPlannedMove};
+ghost use Rattle.step_line.specs.Asking.Asked.{a_move};
+ghost use Rattle.step_line.specs.declared.planned_move.PlannedMove.{PlannedMove as AnyMove};
 ghost use Rattle.line_interpreter.specs.Interpreting.{stands_before};
 
 use crate::desk::Desk;
 use crate::kept::KeptLine;
 use crate::tasks::Todo;
+use status_report::Reply;
 use std::marker::Model;
+use step_line::PlannedMove;
 
 /// Judges lines one at a time, and says task by task what there is to do of the line that was begun last. At first the
 /// banner is to be told.
@@ -74,6 +82,24 @@ impl Interpreter {
         ensures { IsTodo result self.now.left }
     {
         self.desk.todo()
+    }
+
+    /// The reply that is told next. Call it where `todo` says `Tell`.
+    pub fn reply(&self) -> Reply
+        requires some { (reply : AnyReply) × IsNextOf (tell reply) self.now.left }
+        ensures next { IsNextOf (tell result) self.now.left }
+        ensures valid { IsReply result }
+    {
+        self.desk.reply()
+    }
+
+    /// The move that is given to the machine next. Call it where `todo` says `Move`.
+    pub fn planned_move(&self) -> PlannedMove
+        requires some { (m : AnyMove) × IsNextOf (ask (a_move m)) self.now.left }
+        ensures next { IsNextOf (ask (a_move result)) self.now.left }
+        ensures planned { IsPlannedMove result }
+    {
+        self.desk.planned_move()
     }
 
     /// What there was to do next is done.

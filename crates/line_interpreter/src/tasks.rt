@@ -1,13 +1,13 @@
 //! The line in execution, task by task.
 
-ghost use Rattle.std.specs.Prelude.{◌≡◌, ◌≢◌, ◌+◌, ◌<◌, ◌≤◌, [], ◌∷◌, ◌++◌, drop, length, true, false};
+ghost use Rattle.std.specs.Prelude.{◌≡◌, ℕ, ◌≢◌, List, ◌+◌, ◌<◌, ◌≤◌, [], ◌∷◌, ◌++◌, drop, length, true, false};
 ghost use Rattle.step_line.specs.Records.{IsMark};
 ghost use Rattle.step_line.specs.Asking.{IsPlannedMove};
 ghost use Rattle.step_line.specs.Asking.Asked.{a_move, a_mark, a_rest};
 ghost use Rattle.gcode_check.specs.Items.{IsItem};
 ghost use Rattle.run_rules.specs.Asks.{planned, move_asked, spindle_off, coolant_off, spindle_after, flood_after, at_rest, item_work};
 ghost use Rattle.run_rules.specs.Work.{telling, asking, closing_work};
-ghost use Rattle.run_rules.specs.Work.Task.{ask, tell, finish};
+ghost use Rattle.run_rules.specs.Work.Task.{ask, tell, pause, normal, finish};
 ghost use Rattle.status_report.specs.Replies.{IsReply};
 ghost use Rattle.status_report.specs.Lists.{setting_replies, modes_replies, offset_replies};
 ghost use Rattle.units.specs.Lengths.{IsMove};
@@ -17,7 +17,12 @@ ghost use Rattle.settings.specs.Numbers.{IsSettings};
 ghost use Rattle.run_rules.specs.States.{IsState};
 ghost use Rattle.step_line.specs.Counting.{events_of};
 ghost use Rattle.run_rules.specs.declared.State.{State as AnyState};
-ghost use Rattle.line_interpreter.specs.Lefts.{IsTodo, IsSound, part_left, work_left, IsSettled};
+ghost use Rattle.settings.specs.declared.Settings.{Settings as AnySettings};
+ghost use Rattle.status_report.specs.declared.Reply.{Reply as AnyReply};
+ghost use Rattle.step_line.specs.declared.planned_move.PlannedMove.{PlannedMove as AnyMove};
+ghost use Rattle.units.specs.declared.Move.{Move as AnyWay};
+ghost use Rattle.units.specs.declared.Rate.{Rate as AnyRate};
+ghost use Rattle.line_interpreter.specs.Lefts.{IsTodo, IsNextOf, IsSound, part_left, work_left, IsSettled};
 
 use gcode_check::{Item, Items};
 use modal_state::{Offsets, Parser, SpindleMode};
@@ -38,10 +43,14 @@ pub enum Todo {
     Rest,
     /// A mark is given to the machine, which stands.
     Mark(Mark),
-    /// A move is given to the machine.
-    Move(PlannedMove),
-    /// A reply is told.
-    Tell(Reply),
+    /// A move is given to the machine, that of `planned_move`.
+    Move,
+    /// A reply is told, that of `reply`.
+    Tell,
+    /// The machine, which stands, is held until it is resumed.
+    Pause,
+    /// Each override is set to 100 percent.
+    Normal,
     /// The machine comes to rest, and the end is given to it.
     Finish,
 }
@@ -49,7 +58,6 @@ pub enum Todo {
 /// What a line asks for, as a whole.
 #[derive(Clone, Copy, Debug, PartialEq, Eq)]
 pub(crate) enum Body {
-    Nothing,
     /// The banner, before the first line.
     Opening,
     /// The end, behind the last line.
@@ -87,18 +95,21 @@ pub(crate) struct Line {
     pub(crate) stage: u8,
 }
 
-/// What is next of a reply that is told alone.
-fn reply_todo(reply: Reply, stage: u8) -> Todo
-    requires { IsReply reply }
-    ensures next { IsTodo result (drop stage (tell reply ∷ [])) }
+/// What is next of so many replies, which are told one by one.
+#[inline]
+#[tactic(auto, using(crate::proofs::Parts::told_next, crate::proofs::Parts::told_none))]
+fn told_todo(count: usize, stage: u8) -> Todo
+    ensures next { (replies : List AnyReply) → length replies ≡ count → IsTodo result (drop stage (telling replies)) }
 {
-    match stage {
-        0 => Todo::Tell(reply),
-        _ => Todo::Nothing,
+    if (stage as usize) < count {
+        Todo::Tell
+    } else {
+        Todo::Nothing
     }
 }
 
 /// What is next of a mark, which comes at rest.
+#[inline]
 fn mark_todo(mark: Mark, stage: u8) -> Todo
     requires mark { IsMark mark }
     ensures next { IsTodo result (drop stage (at_rest (a_mark mark ∷ []))) }
@@ -112,32 +123,35 @@ fn mark_todo(mark: Mark, stage: u8) -> Todo
 }
 
 /// What is next of a move. One of no steps is no move.
-fn move_todo(m: PlannedMove, stage: u8) -> Todo
-    requires line { 1 ≤ m.line }
-    requires places { IsMove m.mv }
-    requires rate { IsRate m.rate }
-    requires limits { IsLimits m.limits }
-    ensures next { IsTodo result (drop stage (asking (move_asked m))) }
+#[inline]
+fn move_todo(mv: &Move, stage: u8) -> Todo
+    requires places { IsMove mv.now }
+    ensures next { (m : AnyMove) → m.mv ≡ mv.now → IsTodo result (drop stage (asking (move_asked m))) }
 {
-    if stage != 0 || events(&m.mv) == 0 {
-        return Todo::Nothing;
+    if stage == 0 && events(mv) != 0 {
+        Todo::Move
+    } else {
+        Todo::Nothing
     }
-    Todo::Move(m)
 }
 
-/// What is next of a pause, which comes to rest.
+/// What is next of a pause, which comes to rest, and is over at rest.
+#[inline]
 fn pause_todo(stage: u8) -> Todo
-    ensures next { IsTodo result (drop stage (ask a_rest ∷ [])) }
+    ensures next { IsTodo result (drop stage (ask a_rest ∷ pause ∷ ask a_rest ∷ [])) }
 {
     match stage {
         0 => Todo::Rest,
+        1 => Todo::Pause,
+        2 => Todo::Rest,
         _ => Todo::Nothing,
     }
 }
 
-/// What is next of the end of a program: all that is planned is run, what is on is turned off, and it is told.
+/// What is next of the end of a program: all that is planned is run, what is on is turned off, the overrides are set to
+/// 100 percent, and it is told.
 fn end_todo(running: Running, stage: u8) -> Todo
-    ensures next { IsTodo result (drop stage (at_rest (spindle_off running.spindle ++ coolant_off running.flood) ++ tell (Reply.Message Message.ProgramEnd) ∷ [])) }
+    ensures next { IsTodo result (drop stage (at_rest (spindle_off running.spindle ++ coolant_off running.flood) ++ normal ∷ tell (Reply.Message Message.ProgramEnd) ∷ [])) }
 {
     let turns = running.spindle != SpindleMode::Off;
     let both = turns && running.flood;
@@ -149,17 +163,26 @@ fn end_todo(running: Running, stage: u8) -> Todo
         1 => Todo::Rest,
         2 if both => Todo::Mark(Mark::Coolant(false)),
         2 if one => Todo::Rest,
-        2 => Todo::Tell(Reply::Message(Message::ProgramEnd)),
+        2 => Todo::Normal,
         3 if both => Todo::Rest,
-        3 if one => Todo::Tell(Reply::Message(Message::ProgramEnd)),
-        4 if both => Todo::Tell(Reply::Message(Message::ProgramEnd)),
+        3 if one => Todo::Normal,
+        3 => Todo::Tell,
+        4 if both => Todo::Normal,
+        4 if one => Todo::Tell,
+        5 if both => Todo::Tell,
         _ => Todo::Nothing,
     }
 }
 
 /// A move of a line, under the settings that stand then.
 fn planned(line: u32, settings: &Settings, mv: Move, rate: Rate) -> PlannedMove
-    ensures { result ≡ planned line settings.now mv rate }
+    requires line { 1 ≤ line }
+    requires places { IsMove mv }
+    requires rate { IsRate rate }
+    requires settings { IsSettings settings.now }
+    requires moves { 0 < events_of mv }
+    ensures is { result ≡ planned line settings.now mv rate }
+    ensures planned { IsPlannedMove result }
 {
     PlannedMove {
         line,
@@ -192,70 +215,99 @@ impl Running {
 }
 
 /// What is next of an item.
-fn item_todo(item: &Item, line: u32, settings: &Settings, running: Running, stage: u8) -> Todo
-    requires line { 1 ≤ line }
+#[inline]
+fn item_todo(item: &Item, running: Running, stage: u8) -> Todo
     requires item { IsItem item.now }
-    requires settings { IsSettings settings.now }
-    ensures next { IsTodo result (drop stage (item_work line settings.now running.spindle running.flood item.now)) }
+    ensures next { (line : ℕ) (settings : AnySettings) → IsTodo result (drop stage (item_work line settings running.spindle running.flood item.now)) }
 {
     match item {
         Item::Spindle(mode, speed) => mark_todo(spindle_mark(*mode, *speed), stage),
         Item::Coolant(on) => mark_todo(Mark::Coolant(*on), stage),
         Item::Dwell(ms) => mark_todo(Mark::Dwell(*ms), stage),
-        Item::Move(mv, rate) => move_todo(planned(line, settings, *mv, *rate), stage),
+        Item::Move(mv, _) => move_todo(mv, stage),
         Item::Pause => pause_todo(stage),
         Item::ProgramEnd => end_todo(running, stage),
     }
 }
 
-/// What is next of the settings.
-fn settings_todo(settings: &Settings, stage: u8) -> Todo
-    ensures next { IsTodo result (drop stage (telling (setting_replies settings.now ++ Reply.Ok ∷ []))) }
+/// The move of an item that is one, of a line.
+fn item_move(item: &Item, line: u32, settings: &Settings) -> PlannedMove
+    requires line { 1 ≤ line }
+    requires item { IsItem item.now }
+    requires settings { IsSettings settings.now }
+    requires some { (m : AnyMove) × (item.now ≡ Item.Move m.mv m.rate) × (0 < events_of m.mv) }
+    ensures is { (mv : AnyWay) (rate : AnyRate) → item.now ≡ Item.Move mv rate → result ≡ planned line settings.now mv rate }
+    ensures planned { IsPlannedMove result }
 {
-    let place = stage as usize;
-    if place < SETTING_REPLIES {
-        Todo::Tell(setting_reply(settings, place))
-    } else if place == SETTING_REPLIES {
-        Todo::Tell(Reply::Ok)
-    } else {
-        Todo::Nothing
+    match item {
+        Item::Move(mv, rate) => planned(line, settings, *mv, *rate),
+        _ => unreachable!(),
     }
 }
 
-/// What is next of the offsets.
-fn offsets_todo(offsets: &Offsets, stage: u8) -> Todo
-    ensures next { IsTodo result (drop stage (telling (offset_replies offsets.now ++ Reply.Ok ∷ []))) }
+/// How many tasks an item has.
+#[inline]
+fn task_count(item: &Item, running: Running) -> u8
+    requires item { IsItem item.now }
+    ensures count { (line : ℕ) (settings : AnySettings) → length (item_work line settings running.spindle running.flood item.now) ≡ result }
 {
-    let place = stage as usize;
-    if place < OFFSET_REPLIES {
-        Todo::Tell(offset_reply(offsets, place))
-    } else if place == OFFSET_REPLIES {
-        Todo::Tell(Reply::Ok)
-    } else {
-        Todo::Nothing
+    match item {
+        Item::Spindle(_, _) | Item::Coolant(_) | Item::Dwell(_) | Item::Pause => 3,
+        Item::Move(mv, _) => u8::from(events(mv) != 0),
+        Item::ProgramEnd => {
+            4 + u8::from(running.spindle != SpindleMode::Off) + u8::from(running.flood)
+        }
     }
 }
 
-/// What is next of the modes.
-fn modes_todo(parser: &Parser, stage: u8) -> Todo
-    requires { IsParser parser.now }
-    ensures next { IsTodo result (drop stage (telling (modes_replies parser.now ++ Reply.Ok ∷ []))) }
-{
-    match stage {
-        0 => Todo::Tell(Reply::Modes(Modes::of(parser))),
-        1 => Todo::Tell(Reply::Ok),
-        _ => Todo::Nothing,
-    }
-}
-
-/// What is next behind the last line.
+/// What is next of the end, behind the last line.
+#[inline]
 fn closing_todo(stage: u8) -> Todo
     ensures next { IsTodo result (drop stage closing_work) }
 {
     match stage {
         0 => Todo::Finish,
-        1 => Todo::Tell(Reply::Bye),
+        1 => Todo::Tell,
         _ => Todo::Nothing,
+    }
+}
+
+/// The reply that is next of the settings.
+fn setting_told(settings: &Settings, stage: u8) -> Reply
+    ensures next { (reply : AnyReply) → IsNextOf (tell reply) (drop stage (telling (setting_replies settings.now ++ Reply.Ok ∷ []))) → result ≡ reply }
+    ensures valid { IsReply result }
+{
+    let place = stage as usize;
+    if place < SETTING_REPLIES {
+        setting_reply(settings, place)
+    } else {
+        Reply::Ok
+    }
+}
+
+/// The reply that is next of the offsets.
+fn offset_told(offsets: &Offsets, stage: u8) -> Reply
+    ensures next { (reply : AnyReply) → IsNextOf (tell reply) (drop stage (telling (offset_replies offsets.now ++ Reply.Ok ∷ []))) → result ≡ reply }
+    ensures valid { IsReply result }
+{
+    let place = stage as usize;
+    if place < OFFSET_REPLIES {
+        offset_reply(offsets, place)
+    } else {
+        Reply::Ok
+    }
+}
+
+/// The reply that is next of the modes.
+fn modes_told(parser: &Parser, stage: u8) -> Reply
+    requires { IsParser parser.now }
+    ensures next { (reply : AnyReply) → IsNextOf (tell reply) (drop stage (telling (modes_replies parser.now ++ Reply.Ok ∷ []))) → result ≡ reply }
+    ensures valid { IsReply result }
+{
+    if stage == 0 {
+        Reply::Modes(Modes::of(parser))
+    } else {
+        Reply::Ok
     }
 }
 
@@ -281,54 +333,95 @@ impl Line {
 
     /// What is next of the present item, or `ok` behind the last one.
     #[inline]
-    fn items_todo(&self, settings: &Settings) -> Todo
+    fn items_todo(&self) -> Todo
         requires sound { IsSound self.now }
-        requires settings { IsSettings settings.now }
         requires body { self.now.body ≡ Body.Items }
-        ensures next { (s : AnyState) → s.settings ≡ settings.now → IsTodo result (part_left self.now s) }
+        ensures next { (s : AnyState) → IsTodo result (part_left self.now s) }
     {
         match self.items.as_slice().get(self.place) {
-            Some(item) => item_todo(item, self.number, settings, self.running, self.stage),
-            None => reply_todo(Reply::Ok, self.stage),
+            Some(item) => item_todo(item, self.running, self.stage),
+            None => told_todo(1, self.stage),
         }
     }
 
     /// What is next of the present item, or of the whole where there are no items.
     #[inline]
-    pub(crate) fn part_todo(&self, state: &State) -> Todo
+    pub(crate) fn part_todo(&self) -> Todo
         requires sound { IsSound self.now }
-        requires state { IsState state.now }
-        ensures next { IsTodo result (part_left self.now state.now) }
+        ensures next { (s : AnyState) → IsTodo result (part_left self.now s) }
     {
         match self.body {
-            Body::Nothing => Todo::Nothing,
-            Body::Opening => reply_todo(Reply::Banner, self.stage),
+            Body::Opening => told_todo(1, self.stage),
+            Body::Accepted => told_todo(1, self.stage),
+            Body::Refused(_) => told_todo(1, self.stage),
             Body::Closing => closing_todo(self.stage),
-            Body::Accepted => reply_todo(Reply::Ok, self.stage),
-            Body::Refused(number) => reply_todo(Reply::Error(number), self.stage),
-            Body::Settings => settings_todo(&state.settings, self.stage),
-            Body::Modes => modes_todo(&state.parser, self.stage),
-            Body::Offsets => offsets_todo(&state.parser.offsets, self.stage),
-            Body::Items => self.items_todo(&state.settings),
+            Body::Settings => told_todo(SETTING_REPLIES + 1, self.stage),
+            Body::Modes => told_todo(2, self.stage),
+            Body::Offsets => told_todo(OFFSET_REPLIES + 1, self.stage),
+            Body::Items => self.items_todo(),
+        }
+    }
+
+    /// The reply that is next of the items: that of a program's end, or `ok` behind the last one.
+    fn items_reply(&self) -> Reply
+        requires body { self.now.body ≡ Body.Items }
+        ensures next { (s : AnyState) (reply : AnyReply) → IsNextOf (tell reply) (part_left self.now s) → result ≡ reply }
+        ensures valid { IsReply result }
+    {
+        if self.place < self.items.len() {
+            Reply::Message(Message::ProgramEnd)
+        } else {
+            Reply::Ok
+        }
+    }
+
+    /// The reply that is next, where one is.
+    pub(crate) fn part_reply(&self, state: &State) -> Reply
+        requires state { IsState state.now }
+        ensures next { (reply : AnyReply) → IsNextOf (tell reply) (part_left self.now state.now) → result ≡ reply }
+        ensures valid { IsReply result }
+    {
+        match self.body {
+            Body::Opening => Reply::Banner,
+            Body::Closing => Reply::Bye,
+            Body::Refused(number) => Reply::Error(number),
+            Body::Settings => setting_told(&state.settings, self.stage),
+            Body::Modes => modes_told(&state.parser, self.stage),
+            Body::Offsets => offset_told(&state.parser.offsets, self.stage),
+            Body::Accepted => Reply::Ok,
+            Body::Items => self.items_reply(),
+        }
+    }
+
+    /// The move that is next.
+    pub(crate) fn part_move(&self, state: &State) -> PlannedMove
+        requires sound { IsSound self.now }
+        requires state { IsState state.now }
+        requires some { (m : AnyMove) × IsNextOf (ask (a_move m)) (part_left self.now state.now) }
+        ensures next { IsNextOf (ask (a_move result)) (part_left self.now state.now) }
+        ensures planned { IsPlannedMove result }
+    {
+        match self.items.as_slice().get(self.place) {
+            Some(item) => item_move(item, self.number, &state.settings),
+            None => unreachable!(),
         }
     }
 
     /// Whether all of the present item is done, and another item, or `ok`, comes behind it.
     #[inline]
-    fn is_passed(&self, state: &State) -> bool
+    fn is_passed(&self) -> bool
         requires sound { IsSound self.now }
-        requires state { IsState state.now }
-        ensures part { result ≡ true → part_left self.now state.now ≡ [] }
+        ensures part { result ≡ true → (s : AnyState) → part_left self.now s ≡ [] }
         ensures body { result ≡ true → self.now.body ≡ Body.Items }
         ensures place { result ≡ true → self.now.place < length self.now.items.items }
-        ensures settled { result ≡ false → IsSettled self.now state.now }
+        ensures settled { result ≡ false → (s : AnyState) → IsSettled self.now s }
     {
-        if self.body != Body::Items || self.place >= self.items.len() {
+        if self.body != Body::Items {
             return false;
         }
-        match self.part_todo(state) {
-            Todo::Nothing => true,
-            _ => false,
+        match self.items.as_slice().get(self.place) {
+            Some(item) => self.stage >= task_count(item, self.running),
+            None => false,
         }
     }
 
@@ -349,14 +442,14 @@ impl Line {
     }
 
     /// Goes on to the next item of which something is left to do.
-    pub(crate) fn settle(&mut self, state: &State)
+    #[inline]
+    pub(crate) fn settle(&mut self)
         requires sound { IsSound self.old }
-        requires state { IsState state.now }
         ensures sound { IsSound self.new }
-        ensures left { work_left self.new state.now ≡ work_left self.old state.now }
-        ensures settled { IsSettled self.new state.now }
+        ensures left { (s : AnyState) → work_left self.new s ≡ work_left self.old s }
+        ensures settled { (s : AnyState) → IsSettled self.new s }
     {
-        while self.is_passed(state) {
+        while self.is_passed() {
             self.pass();
         }
     }

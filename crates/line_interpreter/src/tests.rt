@@ -5,15 +5,19 @@ use arrayvec::ArrayVec;
 use status_report::Reply;
 
 /// A letter for what there is to do.
-fn letter(todo: &Todo) -> u8 {
-    match todo {
+fn letter(interpreter: &Interpreter) -> u8 {
+    match interpreter.todo() {
         Todo::Nothing => b'.',
         Todo::Rest => b'r',
         Todo::Mark(_) => b'm',
-        Todo::Move(_) => b'v',
-        Todo::Tell(Reply::Ok) => b'k',
-        Todo::Tell(Reply::Error(_)) => b'e',
-        Todo::Tell(_) => b't',
+        Todo::Move => b'v',
+        Todo::Tell => match interpreter.reply() {
+            Reply::Ok => b'k',
+            Reply::Error(_) => b'e',
+            _ => b't',
+        },
+        Todo::Pause => b'p',
+        Todo::Normal => b'n',
         Todo::Finish => b'f',
     }
 }
@@ -24,11 +28,10 @@ fn work(interpreter: &mut Interpreter) -> ArrayVec<u8, 32>
 {
     let mut letters = ArrayVec::new();
     for _ in 0..32_usize {
-        let todo = interpreter.todo();
-        if let Todo::Nothing = todo {
+        if let Todo::Nothing = interpreter.todo() {
             return letters;
         }
-        letters.push(letter(&todo));
+        letters.push(letter(interpreter));
         interpreter.done();
     }
     letters
@@ -57,15 +60,15 @@ fn each_line_is_done_task_by_task(rt: HostRuntime) {
         (b"G1X1", b"e"),
         (b"M3S1000", b"rmrk"),
         (b"M8G4P1", b"rmrrmrk"),
-        (b"M0", b"rk"),
+        (b"M0", b"rprk"),
         (b"$X", b"k"),
         (b"$G", b"tk"),
         (b"$$", b"tttttttttttttttk"),
         (b"$#", b"tttttttttttk"),
         (b"$100=80", b"k"),
         (b"$100=0", b"e"),
-        (b"M30", b"rmmrtk"),
-        (b"M2", b"rrtk"),
+        (b"M30", b"rmmrntk"),
+        (b"M2", b"rrntk"),
     ];
     let mut interpreter = Interpreter::new();
     assert_eq!(rt; work(&mut interpreter).as_slice(), b"t".as_slice());

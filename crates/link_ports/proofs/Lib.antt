@@ -2,3 +2,4 @@ pub mod Lists
 pub mod Hosting
 pub mod Queries
 pub mod Boarding
+pub mod Standing

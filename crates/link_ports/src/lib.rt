@@ -6,6 +6,8 @@
 
 mod board;
 mod host;
+#[cfg(test)]
+mod tests;
 
 pub use board::BoardLink;
 pub use host::HostLink;

@@ -3,3 +3,4 @@ pub mod Filling
 pub mod Reached
 pub mod Kept
 pub mod Onward
+pub mod Paces

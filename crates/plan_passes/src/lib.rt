@@ -14,3 +14,12 @@ mod tables;
 mod tests;
 
 pub use plan::Plan;
+
+/// What the segments of a block have in common while it goes at its nominal speed: how many events each has, the squared
+/// speed in µm²/s², and the cycles of a clock of 16 MHz from one event to the next.
+#[derive(Clone, Copy)]
+pub struct Pace {
+    pub n: u32,
+    pub w: u64,
+    pub cycles: u64,
+}

@@ -1,12 +1,13 @@
 //! The plan.
 
-ghost use Rattle.std.specs.Prelude.{◌≡◌, ◌≢◌, ◌<◌, ◌≤◌, ◌-◌, ◌*◌, List, ◌∷◌, length};
+ghost use Rattle.std.specs.Prelude.{◌≡◌, ◌≢◌, ◌<◌, ◌≤◌, ◌-◌, ◌+◌, ◌*◌, List, ◌∷◌, length, IsTrue};
 ghost use Rattle.std.specs.List.{All};
 ghost use Rattle.planner_ring.specs.declared.Block.{Block};
 ghost use Rattle.plan_passes.specs.Blocks.{IsBlock, left_of};
 ghost use Rattle.plan_passes.specs.Plans.{entry_at};
 ghost use Rattle.plan_passes.specs.Segments.{moved};
 
+use crate::Pace;
 use crate::passes::plan_from;
 use crate::tables::{block_at, fill_softs, put_first, put_gap, put_soft};
 use junction_speed::junction;
@@ -14,6 +15,13 @@ use line_geom::Cap;
 use overrides::Overrides;
 use planner_ring::{Block, Ring};
 use std::marker::Model;
+
+/// The pace of no events, which says nothing.
+const NO_PACE: Pace = Pace {
+    n: 0,
+    w: 0,
+    cycles: 0,
+};
 
 /// The blocks that are planned, the present squared speed, and the overrides that they are planned for.
 #[derive(Drop)]
@@ -29,16 +37,19 @@ pub struct Plan<const N: usize> {
     softs: [u64; N],
     /// The last point before the end whose speed the caps up to it alone hold.
     settled: usize,
+    /// The pace of the tail, once one is known.
+    pace: Pace,
 }
 
 impl<const N: usize> Model for Plan<N> {
     ghost use Rattle.plan_passes.specs.Plans.{Planned, IsKept};
+    ghost use Rattle.plan_passes.specs.Paces.{IsPaceOfTail};
 
     ghost Value = { Planned };
 
     ghost view = { λ p. record { blocks = p.ring; speed = p.speed; overrides = p.overrides } };
 
-    ghost invariant = { λ p. IsKept N (record { blocks = p.ring; speed = p.speed; overrides = p.overrides }) p.planned p.gaps p.softs p.settled };
+    ghost invariant = { λ p. IsKept N (record { blocks = p.ring; speed = p.speed; overrides = p.overrides }) p.planned p.gaps p.softs p.settled × IsPaceOfTail p.overrides p.ring p.pace };
 }
 
 /// The cap of a block's junction with the last one that stands.
@@ -86,6 +97,27 @@ fn point_behind(point: usize, gap: u128) -> usize
     }
 }
 
+/// The pace of the tail once a segment is taken that leaves such a gap of it: none where the tail goes.
+fn pace_behind(pace: Pace, gap: u128) -> Pace
+    ensures left { gap ≢ 0 → result ≡ pace }
+    ensures gone { gap ≡ 0 → result.n ≡ 0 }
+{
+    if gap == 0 { NO_PACE } else { pace }
+}
+
+/// Whether a block of which more events are left than a pace has goes on at it, where the planned speed at its end is this.
+fn goes_on(b: &Block, pace: Pace, exit: u64) -> bool
+    requires { IsBlock b.now }
+    ensures { IsTrue result → (pace.n < left_of b.now) × (pace.w ≤ exit + b.now.geom.q * (left_of b.now - pace.n)) }
+{
+    let left = b.geom.n - b.prepared;
+    if left <= pace.n {
+        return false;
+    }
+    let gap = b.geom.q as u128 * (left - pace.n) as u128;
+    pace.w as u128 <= exit as u128 + gap
+}
+
 impl<const N: usize> Plan<N> {
     ghost use Rattle.std.specs.Prelude.{◌≡◌, ◌≤◌, ◌<◌, ◌+◌, ◌↔◌, [], length, get_or};
     ghost use Rattle.std.specs.Prelude.{IsOk, OnOk, OnErr, IfErr, IfSome, IsNone};
@@ -94,6 +126,7 @@ impl<const N: usize> Plan<N> {
     ghost use Rattle.overrides.specs.Percents.{IsOverrides};
     ghost use Rattle.plan_passes.specs.Plans.{IsReached, IsTail, IsGreatest, IsLastPoint, exit_of, profile_of, added};
     ghost use Rattle.plan_passes.specs.Segments.{IsSegment, advanced, IsLegalStep};
+    ghost use Rattle.plan_passes.specs.Paces.{IsPaceOfTail, IsSteadyOf};
 
     /// A plan of at most N - 1 blocks, at rest. N is from 2 to 64.
     #[tactic(auto, using(crate::proofs::Kept::pointer_none))]
@@ -111,6 +144,7 @@ impl<const N: usize> Plan<N> {
             gaps: [0; N],
             softs: [0; N],
             settled: 0,
+            pace: NO_PACE,
         }
     }
 
@@ -203,6 +237,7 @@ impl<const N: usize> Plan<N> {
         ensures { self.new ≡ record self.old { overrides = o.now } }
     {
         self.overrides = *o;
+        self.pace = NO_PACE;
         fill_softs(&self.ring, o, &mut self.softs);
         let count = self.ring.len();
         self.settled = plan_from(
@@ -230,6 +265,7 @@ impl<const N: usize> Plan<N> {
         self.speed = w;
         put_first(gap, &mut self.planned, &mut self.gaps, &mut self.softs);
         self.settled = point_behind(self.settled, gap);
+        self.pace = pace_behind(self.pace, gap);
         if w.abs_diff(exit) as u128 <= gap {
             return;
         }
@@ -237,13 +273,39 @@ impl<const N: usize> Plan<N> {
         self.settled = plan_from(0, count, w, &self.gaps, &self.softs, &mut self.planned);
     }
 
+    /// Keeps the pace of the tail, so that its segments at that pace need not be worked out anew. A pace of no events is none.
+    pub fn keep_pace(&mut self, pace: Pace)
+        requires { IsPaceOfTail self.old.overrides self.old.blocks pace }
+        ensures { self.new ≡ self.old }
+    {
+        self.pace = pace;
+    }
+
+    /// What the tail's next segment in mode Go has where it is one at the pace that the plan keeps, and more events are left
+    /// behind it. None where no pace is kept, or where the segment is none at it.
+    pub fn steady(&self) -> Option<Pace>
+        ensures steady { IfSome result (λ s. IsSteadyOf self.now self.now.blocks s) }
+        ensures reached { IsReached self.now }
+    {
+        if self.pace.n == 0 || self.speed != self.pace.w {
+            return None;
+        }
+        let tail = self.tail()?;
+        if goes_on(tail, self.pace, self.planned[1]) {
+            Some(self.pace)
+        } else {
+            None
+        }
+    }
+
     /// Takes all blocks away, and stops.
-    #[tactic(auto, using(crate::proofs::Kept::pointer_none))]
+    #[tactic(auto, using(crate::proofs::Kept::pointer_none, crate::proofs::Paces::no_pace))]
     pub fn clear(&mut self)
         ensures { self.new ≡ record self.old { blocks = []; speed = 0 } }
     {
         self.ring.clear();
         self.speed = 0;
         self.settled = 0;
+        self.pace.n = 0;
     }
 }

@@ -1,5 +1,5 @@
 -- What is recorded of a run that ends at rest.
-use Rattle.std.proofs.Common.{◌≡◌, ◌≢◌, ℕ, zero, suc, ◌+◌, List, [], ◌∷◌, ◌++◌, map, append-nil, refl, sym, ap, ◌∙◌, subst}
+use Rattle.std.proofs.Common.{◌≡◌, ◌≢◌, ℕ, Bool, zero, suc, ◌+◌, List, [], ◌∷◌, ◌++◌, map, append-nil, refl, sym, ap, ◌∙◌, subst}
 use Rattle.std.specs.List.{flat_map, filter, All}
 use Rattle.std.proofs.lemmas.List.Elements.{filter-append, All-append, All-cons, All-nil}
 use Rattle.units.specs.declared.Move.{Move}
@@ -18,9 +18,9 @@ use Rattle.plan_passes.specs.Segments.{advanced}
 use Rattle.legal_heads.specs.Speeds.{HasLegalHeads}
 use Rattle.planner_runs.specs.declared.Action.{Action}
 use Rattle.planner_runs.specs.declared.Action.TheVariants.{Add, Take, Override, Mark, Rest, Clear, Reset}
-use Rattle.planner_runs.specs.Runs.{Plans, IsPlannerRun, fresh_plan, with_move, cleared, most_blocks, all_asked, all_records, ticks_asked, IsAtRest, IsStart, NeverClears, IsUndisturbed}
+use Rattle.planner_runs.specs.Runs.{Plans, IsPlannerRun, fresh_plan, with_move, cleared, most_blocks, all_asked, all_records, ticks_asked, IsAtRest, IsStart, NeverClears, DisturbedOnlyBy}
 use Rattle.planner_runs.specs.Driven.{IsDriven, IsParted}
-use Rattle.planner_runs.proofs.Runs.{in_parts, fresh_starts, clears_behind, undisturbed_keeps}
+use Rattle.planner_runs.proofs.Runs.{in_parts, fresh_starts, clears_behind, disturbed_keeps}
 use Rattle.planner_runs.proofs.Ticks.{all_ticks}
 use Rattle.planner_runs.proofs.Legal.{closed_heads_are_legal, cut_heads_are_legal}
 
@@ -69,16 +69,16 @@ run_has_no_end most p last rest ps run = absurd run
 
 -- ---- the whole
 
-pub driven : (actions : List Action) (given : List Piece) (last : Planned) → IsPlannerRun actions given last → IsUndisturbed actions
-    → IsAtRest last → IsDriven (all_asked actions) (all_records given ++ kinds.End ∷ [])
-driven actions given last run undisturbed rest =
-    let never = undisturbed_keeps actions undisturbed in
+pub driven : (held changed : Bool) (actions : List Action) (given : List Piece) (last : Planned) → IsPlannerRun actions given last → DisturbedOnlyBy held changed actions
+    → IsAtRest last → IsDriven held changed (all_asked actions) (all_records given ++ kinds.End ∷ [])
+driven held changed actions given last run disturbed rest =
+    let never = disturbed_keeps held changed actions disturbed in
     record {
       actions = actions;
       given = given;
       last = last;
       run = run;
-      undisturbed = undisturbed;
+      disturbed = disturbed;
       asks = refl;
       stops = rest;
       recorded = refl;

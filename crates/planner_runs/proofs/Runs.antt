@@ -1,5 +1,5 @@
 -- Planner runs, one behind another.
-use Rattle.std.proofs.Common.{◌≡◌, ◌<◌, ℕ, nat_eq, false, Some, inl, inr, ◌-◌, List, [], ◌∷◌, ◌++◌, length, get_or, refl, sym, ap, ◌∙◌, subst, arith, append-nil}
+use Rattle.std.proofs.Common.{◌≡◌, ◌<◌, ℕ, Bool, true, nat_eq, false, Some, inl, inr, ◌-◌, List, [], ◌∷◌, ◌++◌, length, get_or, refl, sym, ap, ◌∙◌, subst, arith, append-nil}
 use Rattle.std.proofs.lemmas.List.{get_or_default}
 use Rattle.std.proofs.lemmas.Grind.{flat_map-append}
 use Rattle.step_line.specs.declared.Piece.{Piece}
@@ -28,7 +28,7 @@ use Rattle.planner_runs.specs.declared.Action.{Action}
 use Rattle.planner_runs.specs.declared.Action.TheVariants.{Add, Take, Override, Mark, Rest, Clear, Reset}
 use Rattle.legal_heads.specs.Moves.{geometry_of}
 use Rattle.step_line.specs.Asking.{IsPlannedMove}
-use Rattle.planner_runs.specs.Runs.{Plans, fresh_plan, block_of, with_move, cleared, RunsInParts, MayAdd, IsStart, asked_by, all_asked, moves_added, ticks_asked, NeverClears, KeepsAll, NeverResets, IsNoReset, IsAtRest, NeedsNoHand, IsUndisturbed}
+use Rattle.planner_runs.specs.Runs.{Plans, fresh_plan, block_of, with_move, cleared, RunsInParts, MayAdd, IsStart, asked_by, all_asked, moves_added, ticks_asked, NeverClears, KeepsAll, NeverResets, IsNoReset, IsAtRest, NeedsNoOther, DisturbedOnlyBy}
 
 -- a run goes on
 pub goes_on : (most : ℕ) (p mid last : Planned) (actions more : List Action) (given next : List Piece)
@@ -284,22 +284,40 @@ grows_by_mark most p plan actions given m on run is rest =
 
 -- ---- what is asked of each action
 
-pub undisturbed_on : (actions more : List Action) → IsUndisturbed actions → IsUndisturbed more → IsUndisturbed (actions ++ more)
-undisturbed_on [] more is then = then
-undisturbed_on (a ∷ rest) more is then = (is.0, undisturbed_on rest more is.1 then)
+pub disturbed_on : (held changed : Bool) (actions more : List Action) → DisturbedOnlyBy held changed actions → DisturbedOnlyBy held changed more
+    → DisturbedOnlyBy held changed (actions ++ more)
+disturbed_on held changed [] more is then = then
+disturbed_on held changed (a ∷ rest) more is then = (is.0, disturbed_on held changed rest more is.1 then)
 
-keeps_all : (a : Action) → NeedsNoHand a → KeepsAll a
-keeps_all (Add m) is = tt
-keeps_all (Take mode) is = tt
-keeps_all (Override o) is = absurd is
-keeps_all (Mark m) is = tt
-keeps_all Rest is = tt
-keeps_all Clear is = absurd is
-keeps_all Reset is = absurd is
+needs_less : (held changed held_too changed_too : Bool) (a : Action) → (held ≡ true → held_too ≡ true) → (changed ≡ true → changed_too ≡ true)
+    → NeedsNoOther held changed a → NeedsNoOther held_too changed_too a
+needs_less held changed held_too changed_too (Add m) holds changes is = tt
+needs_less held changed held_too changed_too (Take Go) holds changes is = tt
+needs_less held changed held_too changed_too (Take Hold) holds changes is = holds is
+needs_less held changed held_too changed_too (Override o) holds changes is = changes is
+needs_less held changed held_too changed_too (Mark m) holds changes is = tt
+needs_less held changed held_too changed_too Rest holds changes is = tt
+needs_less held changed held_too changed_too Clear holds changes is = absurd is
+needs_less held changed held_too changed_too Reset holds changes is = absurd is
 
-pub undisturbed_keeps : (actions : List Action) → IsUndisturbed actions → NeverClears actions
-undisturbed_keeps [] is = tt
-undisturbed_keeps (a ∷ rest) is = (keeps_all a is.0, undisturbed_keeps rest is.1)
+pub disturbed_more : (held changed held_too changed_too : Bool) (actions : List Action) → (held ≡ true → held_too ≡ true) → (changed ≡ true → changed_too ≡ true)
+    → DisturbedOnlyBy held changed actions → DisturbedOnlyBy held_too changed_too actions
+disturbed_more held changed held_too changed_too [] holds changes is = tt
+disturbed_more held changed held_too changed_too (a ∷ rest) holds changes is =
+    (needs_less held changed held_too changed_too a holds changes is.0, disturbed_more held changed held_too changed_too rest holds changes is.1)
+
+keeps_all : (held changed : Bool) (a : Action) → NeedsNoOther held changed a → KeepsAll a
+keeps_all held changed (Add m) is = tt
+keeps_all held changed (Take mode) is = tt
+keeps_all held changed (Override o) is = tt
+keeps_all held changed (Mark m) is = tt
+keeps_all held changed Rest is = tt
+keeps_all held changed Clear is = absurd is
+keeps_all held changed Reset is = absurd is
+
+pub disturbed_keeps : (held changed : Bool) (actions : List Action) → DisturbedOnlyBy held changed actions → NeverClears actions
+disturbed_keeps held changed [] is = tt
+disturbed_keeps held changed (a ∷ rest) is = (keeps_all held changed a is.0, disturbed_keeps held changed rest is.1)
 
 no_reset : (a : Action) → KeepsAll a → IsNoReset a
 no_reset (Add m) is = tt

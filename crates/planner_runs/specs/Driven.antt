@@ -1,5 +1,5 @@
 -- What is recorded of a planner run.
-use Rattle.std.specs.Prelude.{◌≡◌, ℕ, List, [], ◌∷◌, ◌++◌}
+use Rattle.std.specs.Prelude.{◌≡◌, ℕ, Bool, List, [], ◌∷◌, ◌++◌}
 use Rattle.step_line.specs.declared.Mark.TheVariants.{Cut}
 use Rattle.step_line.specs.declared.Piece.{Piece}
 use Rattle.step_line.specs.declared.Record.{Record}
@@ -9,16 +9,17 @@ use Rattle.step_line.specs.Asking.{Asked, moves_of, ticks_of_all, ticks_among}
 use Rattle.plan_passes.specs.Plans.{Planned}
 use Rattle.legal_heads.specs.Speeds.{HasLegalHeads}
 use Rattle.planner_runs.specs.declared.Action.{Action}
-use Rattle.planner_runs.specs.Runs.{Plans, IsStart, IsAtRest, IsPlannerRun, IsUndisturbed, all_asked, all_records, moves_added}
+use Rattle.planner_runs.specs.Runs.{Plans, IsStart, IsAtRest, IsPlannerRun, DisturbedOnlyBy, all_asked, all_records, moves_added}
 
--- What a whole run records of which this was asked: the pieces that a planner run gives, which no hand disturbs, to which
--- these moves are added, and these marks and rests, in this order; and the end, behind them, where the machine stands.
-pub record IsDriven (asked : List Asked) (records : List Record) : Type 0 where
+-- What a whole run records of which this was asked: the pieces that a planner run gives, to which these moves are added, and
+-- these marks and rests, in this order; and the end, behind them, where the machine stands. Nothing else disturbs the run
+-- than a hold, where there was one, and a change of overrides, where there was one; neither changes an event or a mark.
+pub record IsDriven (held changed : Bool) (asked : List Asked) (records : List Record) : Type 0 where
   pub actions : List Action
   pub given : List Piece
   pub last : Planned
   pub run : IsPlannerRun actions given last
-  pub undisturbed : IsUndisturbed actions
+  pub disturbed : DisturbedOnlyBy held changed actions
   pub asks : all_asked actions ≡ asked
   -- nothing is left to run
   pub stops : IsAtRest last

@@ -1,5 +1,5 @@
 -- Planner runs: what is done to a plan, and the pieces that it gives.
-use Rattle.std.specs.Prelude.{◌≡◌, ℕ, ◌<◌, List, [], ◌∷◌, ◌++◌, length, map}
+use Rattle.std.specs.Prelude.{◌≡◌, ℕ, ◌<◌, Bool, true, List, [], ◌∷◌, ◌++◌, length, map}
 use Rattle.std.specs.List.{flat_map, AllByRecursion}
 use Rattle.step_line.specs.declared.Piece.{Piece}
 use Rattle.step_line.specs.declared.Piece.TheVariants as pieces
@@ -12,6 +12,7 @@ use Rattle.step_line.specs.Asking.{Asked, moves_of, ticks_of_all}
 use Rattle.step_line.specs.Asking.Asked.{a_move, a_mark, a_rest}
 use Rattle.line_geom.specs.declared.Cap.TheVariants.{Free}
 use Rattle.planner_ring.specs.declared.Block.{Block}
+use Rattle.overrides.specs.declared.Overrides.{Overrides}
 use Rattle.overrides.specs.Percents.{IsOverrides}
 use Rattle.plan_passes.specs.Blocks.{left_of}
 use Rattle.plan_passes.specs.Plans.{Planned, added}
@@ -24,9 +25,13 @@ use Rattle.planner_runs.specs.declared.Action.TheVariants.{Add, Take, Override, 
 use Rattle.legal_heads.specs.Moves.{geometry_of}
 use Rattle.step_line.specs.Asking.{IsPlannedMove}
 
--- an empty plan at rest, with each override at 100 percent
+-- each override at 100 percent
+abbrev pub normal_overrides : Overrides
+normal_overrides = record { feed = 100; rapid = 100; spindle = 100 }
+
+-- an empty plan at rest, with these
 abbrev pub fresh_plan : Planned
-fresh_plan = record { blocks = []; speed = 0; overrides = record { feed = 100; rapid = 100; spindle = 100 } }
+fresh_plan = record { blocks = []; speed = 0; overrides = normal_overrides }
 
 -- a move as a block that is to be added; its entry cap is set then
 abbrev pub block_of : PlannedMove → Block
@@ -136,16 +141,18 @@ IsNoReset a = Unit {0}
 abbrev pub NeverResets : List Action → Type 0
 NeverResets actions = AllByRecursion IsNoReset actions
 
--- an action that no operator asks for: overrides stay, nothing is held, and nothing is taken away
-abbrev pub NeedsNoHand : Action → Type 0
-NeedsNoHand (Take Hold) = ⊥
-NeedsNoHand (Override o) = ⊥
-NeedsNoHand Clear = ⊥
-NeedsNoHand Reset = ⊥
-NeedsNoHand a = Unit {0}
+-- An action that is done with no operator's word, but that segments may be taken to hold the machine where `held` says so,
+-- and that it may be planned for other overrides where `changed` does. Nothing is taken away.
+abbrev pub NeedsNoOther : (held changed : Bool) → Action → Type 0
+NeedsNoOther held changed (Take Hold) = held ≡ true
+NeedsNoOther held changed (Override o) = changed ≡ true
+NeedsNoOther held changed Clear = ⊥
+NeedsNoOther held changed Reset = ⊥
+NeedsNoOther held changed a = Unit {0}
 
-abbrev pub IsUndisturbed : List Action → Type 0
-IsUndisturbed actions = AllByRecursion NeedsNoHand actions
+-- nothing else disturbs these than a hold, where there was one, and a change of overrides, where there was one
+abbrev pub DisturbedOnlyBy : (held changed : Bool) → List Action → Type 0
+DisturbedOnlyBy held changed actions = AllByRecursion (NeedsNoOther held changed) actions
 
 -- each piece follows those before it; of these the latest stands first
 abbrev pub AllFollow : List Piece → List Piece → Type 0

@@ -1,6 +1,6 @@
 //! What holds of every planner run, and of every part of one that begins where nothing is left to run.
 
-ghost use Rattle.std.specs.Prelude.{◌≡◌, ◌∷◌, ◌++◌, ℕ, List, [], reverse};
+ghost use Rattle.std.specs.Prelude.{◌≡◌, ◌∷◌, ◌++◌, ℕ, Bool, true, List, [], reverse};
 ghost use Rattle.std.specs.List.{flat_map};
 ghost use Rattle.step_line.specs.declared.Mark.{Mark as AnyMark};
 ghost use Rattle.step_line.specs.declared.Mark.TheVariants.{Cut};
@@ -38,7 +38,7 @@ ghost use Rattle.planner_runs.specs.Runs.{
   all_records,
   NeverClears,
   NeverResets,
-  IsUndisturbed,
+  DisturbedOnlyBy,
   AllFollow,
 };
 ghost use Rattle.planner_runs.specs.Driven.{IsDriven, IsParted};
@@ -56,8 +56,11 @@ pub fn planner_runs_go_on()
     ensures ticks { (actions more : List AnyAction) → ticks_asked (actions ++ more) ≡ ticks_asked actions ++ ticks_asked more }
     ensures clears { (actions more : List AnyAction) → NeverClears actions → NeverClears more → NeverClears (actions ++ more) }
     ensures resets { (actions more : List AnyAction) → NeverResets actions → NeverResets more → NeverResets (actions ++ more) }
-    ensures undisturbed { (actions more : List AnyAction) → IsUndisturbed actions → IsUndisturbed more → IsUndisturbed (actions ++ more) }
-    ensures keeps { (actions : List AnyAction) → IsUndisturbed actions → NeverClears actions }
+    ensures disturbed { (held changed : Bool) (actions more : List AnyAction) → DisturbedOnlyBy held changed actions → DisturbedOnlyBy held changed more →
+        DisturbedOnlyBy held changed (actions ++ more) }
+    ensures more { (held changed held_too changed_too : Bool) (actions : List AnyAction) → (held ≡ true → held_too ≡ true) → (changed ≡ true → changed_too ≡ true) →
+        DisturbedOnlyBy held changed actions → DisturbedOnlyBy held_too changed_too actions }
+    ensures keeps { (held changed : Bool) (actions : List AnyAction) → DisturbedOnlyBy held changed actions → NeverClears actions }
     ensures on { (actions : List AnyAction) → NeverClears actions → NeverResets actions }
 {}
 
@@ -135,8 +138,9 @@ pub fn cleared_runs_begin_anew()
         Plans most from (actions ++ Clear ∷ more) given last → IsParted most from actions more given last }
 {}
 
-/// A planner run that no hand disturbs, and that ends with nothing left to run, is what was driven of what it asks for.
+/// A planner run that only holds and changes of overrides disturb, and that ends with nothing left to run, is what was driven
+/// of what it asks for.
 pub fn planner_runs_are_driven()
-    ensures { (actions : List AnyAction) (given : List AnyPiece) (last : Planned) → IsPlannerRun actions given last → IsUndisturbed actions →
-        IsAtRest last → IsDriven (all_asked actions) (all_records given ++ kinds.End ∷ []) }
+    ensures { (held changed : Bool) (actions : List AnyAction) (given : List AnyPiece) (last : Planned) → IsPlannerRun actions given last →
+        DisturbedOnlyBy held changed actions → IsAtRest last → IsDriven held changed (all_asked actions) (all_records given ++ kinds.End ∷ []) }
 {}

@@ -65,7 +65,7 @@ host_moves w host' lists' t job job' console console' steps turns = record {
 
 pub board_moves : (w : Seen) (board' : Controller) (lists' : Listed) (t : Turn) (now : Devices)
     → ((far : HostLog × PieceLog) (h : BoardJournal) → Joined w.lists far.0 (board_log h) far.1 → BoardFits w.board h → IsBetweenOfBoard h
-    → (next : BoardJournal) × Joined lists' far.0 (board_log next) far.1 × BoardFits board' next × IsBetweenOfBoard next × BoardTurned t h next)
+    → (next : BoardJournal) × Joined lists' far.0 (board_log next) far.1 × BoardFits board' next × IsBetweenOfBoard next × BoardTurned t w.board board' h next)
     → Moves actors.Board t now now w (record w { board = board'; lists = lists' })
 board_moves w board' lists' t now turns = record {
   on = λ hist h. let n = turns (host_log hist.host, hist.pulse) hist.board h.joined h.board h.board_between in (

@@ -20,7 +20,8 @@ use Rattle.stream_host.specs.Steps.PortStep.{stored, dropped, raised, got, no_re
 use Rattle.board_rules.specs.Ports.{asks_report, reports_in}
 use Rattle.board_rules.specs.Ports.{PortLog as BoardLog}
 use Rattle.board_rules.specs.Ports.PortStep.{took, found_empty, found_closed, found_free, answered, no_reply_room, took_exec, took_ovr, published, no_piece_room, loaded}
-use Rattle.run_core.specs.Joining.{FlagsPass, raised_to, raises_in, takes_in}
+use Rattle.run_law.specs.Taking.{raised_to, raises_in, takes_in}
+use Rattle.run_core.specs.Joining.{FlagsPass}
 
 -- whether a flag asks for a report
 abbrev pub asks : Option Flag → Bool

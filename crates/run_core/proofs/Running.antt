@@ -1,14 +1,14 @@
 -- What the actors of a world have done is a run of the job.
-use Rattle.std.proofs.Common.{◌≡◌, ℕ, ◌≤◌, Bool, true, false, ◌↔◌, length, reverse, refl, sym, ◌∙◌, subst, arith}
+use Rattle.std.proofs.Common.{◌≡◌, ℕ, ◌≤◌, Bool, true, false, ◌↔◌, [], ◌∷◌, length, reverse, refl, sym, ◌∙◌, subst, arith}
 use Rattle.stream_host.specs.declared.Reading.{Reading}
 use Rattle.stream_host.specs.declared.Reading.TheVariants.{Ended, Failed, Large, Stopped}
 use Rattle.stream_host.specs.Steps.{is_shut}
-use Rattle.stream_host.specs.Steps.{stored_of, got_of}
+use Rattle.stream_host.specs.Steps.{port_log as host_log, stored_of, raises_of, got_of}
 use Rattle.stream_host.specs.Ran.{is_failed}
 use Rattle.controller.specs.declared.controller.Controller.{Controller}
 use Rattle.controller.specs.Boards.{BoardFits, BoardRests}
 use Rattle.board_rules.specs.Conduct.{IsFinished}
-use Rattle.board_rules.specs.Steps.{Journal, taken_of, has_closed, answered_of, published_of}
+use Rattle.board_rules.specs.Steps.{Journal, port_log as board_log, taken_of, has_closed, answered_of, published_of}
 use Rattle.pulse_engine.specs.Logs.{pieces_of, records_put}
 use Rattle.step_record.specs.Taking.{records}
 use Rattle.run_law.specs.Ran.{IsLinked}
@@ -16,7 +16,10 @@ use Rattle.run_law.specs.SoFar.{BeginsWith}
 use Rattle.status_report.specs.Answering.{receive_room, reply_room}
 use Rattle.step_line.specs.Finishing.{unfinished, most_unfinished}
 use Rattle.run_core.specs.Passing.{record_room}
-use Rattle.run_core.specs.Worlds.{Seen, History, Holds, LinkIsKept, MotionIsKept}
+use Rattle.run_core.specs.Worlds.{Seen, History, Holds, LinkIsKept, FlagsAreKept, MotionIsKept}
+use Rattle.run_law.proofs.Taking.{taken_were_raised}
+use Rattle.run_law.specs.Flags.{AreTaken}
+use Rattle.board_rules.specs.Ports.{has_held_in, has_changed_in}
 
 -- ---- what one side got is a front of what the other gave
 
@@ -40,6 +43,10 @@ link w hist h = record {
   all = λ closed. (h.joined.bytes.all closed).1;
 }
 
+-- what the board took of flags was raised
+pub flags_taken : (w : Seen) (hist : History) → Holds w hist → AreTaken (raises_of hist.host) (has_held_in (board_log hist.board)) (has_changed_in (board_log hist.board))
+flags_taken w hist h = taken_were_raised (w.lists.exec ∷ w.lists.override ∷ []) (host_log hist.host) (board_log hist.board) h.joined.flags.balance
+
 -- a board that rests is finished
 pub board_finished : (board : Controller) (h : Journal) → BoardFits board h → BoardRests board → IsFinished h
 board_finished board h f rests = record { left = sym f.keeps.lines.left_is ∙ rests.none; closed = f.keeps.closed rests.closing }
@@ -57,6 +64,9 @@ failed_is false Stopped both = refl
 
 pub link_is_kept : (w : Seen) (hist : History) → Holds w hist → length w.lists.bytes ≤ receive_room → length w.lists.replies ≤ reply_room → LinkIsKept w hist
 link_is_kept w hist h bytes replies = record { taken = h.joined.bytes.fifo; bytes = bytes; got = h.joined.replies.fifo; replies = replies; answers = h.joined.replies.fewer }
+
+pub flags_are_kept : (w : Seen) (hist : History) → Holds w hist → FlagsAreKept w hist
+flags_are_kept w hist h = record { balance = h.joined.flags.balance }
 
 pub motion_is_kept : (w : Seen) (hist : History) → Holds w hist → length w.waiting ≤ record_room → MotionIsKept w hist
 motion_is_kept w hist h room =

@@ -21,7 +21,8 @@ use Rattle.code_table.specs.Tables.{query}
 use Rattle.stream_host.specs.Steps.{stored_in, got_in, is_shut_in}
 use Rattle.stream_host.specs.Steps.{PortLog as HostLog}
 use Rattle.stream_host.specs.Steps.PortStep.{dropped, raised}
-use Rattle.run_core.specs.Joining.{Listed, FlagsPass, Joined, raises_in, takes_in, raised_to, with_flag, one_if_some}
+use Rattle.run_core.specs.Joining.{Listed, FlagsPass, Joined, with_flag, one_if_some}
+use Rattle.run_law.specs.Taking.{raised_to, raises_in, takes_in}
 use Rattle.run_core.proofs.Links as links
 use Rattle.run_core.proofs.Pieces as pieces
 use Rattle.run_core.proofs.Raising as words

@@ -11,7 +11,7 @@ use Rattle.realtime_flags.specs.declared.words.Raise.{Raise}
 use Rattle.realtime_flags.specs.declared.words.Take.{Take}
 use Rattle.realtime_flags.specs.declared.words.Take.TheVariants as takes
 use Rattle.realtime_flags.specs.Bits.{IsBalanced, raises_of, report_flag}
-use Rattle.realtime_flags.specs.Bytes.{flag_of_byte}
+use Rattle.run_law.specs.Taking.{raises_in, takes_in}
 use Rattle.step_line.specs.declared.Piece.{Piece}
 use Rattle.step_line.specs.Logs.{NewestFirst}
 use Rattle.step_line.specs.Ordering.{InTurn}
@@ -87,31 +87,6 @@ pub record PiecesPass (waiting : List Piece) (left done : ℕ) (published : List
   pub ticks : done + left ≡ ticks_together got_pieces
   pub past : ticks_together (drop 1 got_pieces) ≤ done
   pub known_is : known ≤ done
-
--- the flag that a byte raises goes to those that were raised before, the latest first
-abbrev pub raised_to : Option Flag → Bool → List Raise → List Raise
-raised_to (Some f) found_down rs = record { flag = f; down = found_down } ∷ rs
-raised_to None found_down rs = rs
-
--- the flags that a host raised, the latest first
-abbrev pub raises_in : HostLog → List Raise
-raises_in [] = []
-raises_in (stored b ∷ h) = raises_in h
-raises_in (dropped b ∷ h) = raises_in h
-raises_in (raised b found_down ∷ h) = raised_to (flag_of_byte b) found_down (raises_in h)
-raises_in (got r ∷ h) = raises_in h
-raises_in (no_reply ∷ h) = raises_in h
-raises_in (shut ∷ h) = raises_in h
-
--- the words that a board took, the latest first
-abbrev pub takes_at : BoardStep → List Take → List Take
-takes_at (took_exec word) ts = takes.Exec word ∷ ts
-takes_at (took_ovr word) ts = takes.Override word ∷ ts
-takes_at e ts = ts
-
-abbrev pub takes_in : BoardLog → List Take
-takes_in [] = []
-takes_in (e ∷ l) = takes_at e (takes_in l)
 
 -- the lists between the three: each passes on what its two sides have done
 pub record Joined (l : Listed) (host : HostLog) (board : BoardLog) (pulse : PieceLog) : Type 0 where

@@ -26,6 +26,8 @@ use Rattle.run_law.specs.declared.RunEnd.{RunEnd}
 use Rattle.run_law.specs.Runs.{Sinks, ended, IsRun}
 use Rattle.run_law.specs.SoFar.{IsSoFar}
 use Rattle.run_core.specs.Passing.{HandsOn, record_room}
+use Rattle.realtime_flags.specs.Bits.{IsBalanced}
+use Rattle.run_law.specs.Taking.{raises_in, takes_in}
 use Rattle.run_core.specs.Joining.{Listed, Joined}
 
 -- what callers see of a world
@@ -91,6 +93,11 @@ pub record LinkIsKept (w : Seen) (hist : History) : Type 0 where
   pub replies : length w.lists.replies ≤ reply_room
   pub answers : answers_in (answered_of hist.board) ≤ lfs_in (taken_of hist.board)
 
+-- Between host and board: each flag was found down by as many raises as there are takes that had it, and by one more where it
+-- is up. So none is lost, and none is taken twice.
+pub record FlagsAreKept (w : Seen) (hist : History) : Type 0 where
+  pub balance : IsBalanced (w.lists.exec ∷ w.lists.override ∷ []) (raises_in (host_log hist.host)) (takes_in (board_log hist.board))
+
 -- Between board and pulse: the pieces got are a front of those published, and no more ticks are done than these have; at most
 -- five pieces are unfinished. Between pulse and recorder: the records taken are a front of those put, at most 1,024 behind.
 pub record MotionIsKept (w : Seen) (hist : History) : Type 0 where
@@ -105,7 +112,7 @@ pub record MotionIsKept (w : Seen) (hist : History) : Type 0 where
 -- what one turn of an actor adds to what was done: its own steps and its answer, and nothing to the others'
 abbrev pub Adds : Actor → Turn → Seen → Seen → History → History → Type 0
 Adds actors.Host t w w' hist next = (next ≡ record hist { host = next.host }) × HostTurned t w.host w'.host hist.host next.host
-Adds actors.Board t w w' hist next = (next ≡ record hist { board = next.board }) × BoardTurned t hist.board next.board
+Adds actors.Board t w w' hist next = (next ≡ record hist { board = next.board }) × BoardTurned t w.board w'.board hist.board next.board
 Adds actors.Pulse t w w' hist next = (next ≡ record hist { pulse = next.pulse; puts = next.puts }) × PulseTurned t hist.pulse hist.puts next.pulse next.puts
 Adds actors.Record t w w' hist next = (next ≡ record hist { takes = next.takes }) × RecorderTurned t w.recorder w'.recorder hist.takes next.takes
 

@@ -68,7 +68,7 @@ impl Ended {
 }
 
 /// Lets the actors take turns, in the order that a seed gives, until each has answered Done. Where it is patient, it leaves
-/// out the turns in which the host would read the job while what was sent is not answered.
+/// out the turns in which the host would read the job while what was sent is not answered, unless a resume is waited for.
 fn run<R: Wait, J: Source, C: Sink, S: Sink>(
     rt: &R,
     world: &mut World,
@@ -124,8 +124,8 @@ pub fn run_lockstep<R: Wait, J: Source, C: Sink, S: Sink>(
 }
 
 /// Lets the actors take turns in the order that zero gives as the seed, until each has answered Done, but for the turns in
-/// which the host would read the job while what was sent is not answered: these are left out. A read may wait until whoever writes the job
-/// goes on, who may wait for an answer.
+/// which the host would read the job while what was sent is not answered: these are left out, unless the board waits for a
+/// resume, which the job may have next. A read may wait until whoever writes the job goes on, who may wait for an answer.
 pub fn run_patiently<R: Wait, J: Source, C: Sink, S: Sink>(
     rt: &R,
     world: &mut World,

@@ -5,7 +5,7 @@ ghost use Rattle.outside.specs.Causes.{SourceState, SinkState};
 ghost use Rattle.stream_host.specs.Hosts.{HostRests};
 ghost use Rattle.controller.specs.Boards.{BoardRests};
 ghost use Rattle.step_record.specs.Recording.{Rests};
-ghost use Rattle.run_core.specs.Worlds.{Devices, devices, History, no_history, Holds, Stands, LinkIsKept, MotionIsKept, TurnsOn, ActsAlone, IsDone, AreDone, end_after, HasRun};
+ghost use Rattle.run_core.specs.Worlds.{Devices, devices, History, no_history, Holds, Stands, LinkIsKept, FlagsAreKept, MotionIsKept, TurnsOn, ActsAlone, IsDone, AreDone, end_after, HasRun};
 
 use crate::{Lists, Records, worlds_run};
 use controller::Controller;
@@ -117,9 +117,10 @@ impl World {
         }
     }
 
-    /// What is on its way between the actors comes in order, and has room.
+    /// What is on its way between the actors comes in order, and has room; no flag is lost, and none is taken twice.
     pub fn keeps_order(&self)
         ensures link { (hist : History) → Holds self.now hist → LinkIsKept self.now hist }
+        ensures flags { (hist : History) → Holds self.now hist → FlagsAreKept self.now hist }
         ensures motion { (hist : History) → Holds self.now hist → MotionIsKept self.now hist }
     {
         self.lists.have_room();
@@ -127,9 +128,14 @@ impl World {
     }
 
     /// Whether the host's next turn would read the job before what was sent is answered: the board, which answered so in its
-    /// last turn, did not wait for a byte, or one is on its way. A host that finds a reply does not read.
+    /// last turn, did not wait for a byte, or one is on its way; nor for a resume, which may be the next byte of the job. A
+    /// host that finds a reply does not read.
     pub(crate) fn reads_early(&self, board: Turn) -> bool {
-        let idle = board == Turn::Wait(On::Byte) && self.lists.bytes.is_empty();
+        let idle = match board {
+            Turn::Wait(On::Byte) => self.lists.bytes.is_empty(),
+            Turn::Wait(On::Resume) => true,
+            _ => false,
+        };
         !idle && self.lists.replies.is_empty() && self.host.reads_next()
     }
 

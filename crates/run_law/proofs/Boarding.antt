@@ -1,10 +1,10 @@
 -- A board that has kept to its rules has run.
-use Rattle.std.proofs.Common.{◌≡◌, ℕ, ◌⊎◌, inl, inr, Bool, true, false, cond, List, [], ◌∷◌, ◌++◌, map, append-nil, append_assoc, sym, ap, ◌∙◌, subst}
+use Rattle.std.proofs.Common.{◌≡◌, ℕ, ◌⊎◌, inl, inr, Bool, true, false, cond, ◌||◌, List, [], ◌∷◌, ◌++◌, map, append-nil, append_assoc, sym, ap, ◌∙◌, subst}
 use Rattle.status_report.specs.declared.Reply.{Reply}
 use Rattle.status_report.specs.declared.Reply.TheVariants.{Bye}
 use Rattle.step_line.specs.declared.Piece.{Piece}
 use Rattle.step_line.specs.declared.Piece.TheVariants as pieces
-use Rattle.planner_runs.specs.Runs.{IsPlannerRun, IsUndisturbed, all_asked}
+use Rattle.planner_runs.specs.Runs.{IsPlannerRun, DisturbedOnlyBy, all_asked}
 use Rattle.run_rules.specs.declared.State.{State}
 use Rattle.run_rules.specs.Lines.{whole_lines}
 use Rattle.run_rules.specs.States.{IsOpening}
@@ -13,9 +13,11 @@ use Rattle.run_rules.specs.Outcomes.{Follows, start}
 use Rattle.run_rules.specs.Outcomes.Passed.{a_line}
 use Rattle.run_rules.specs.Told.{replies_in, asked_in}
 use Rattle.stream_host.proofs.Pieces.{wholes_on, no_whole}
-use Rattle.board_rules.specs.Steps.{Journal, taken_of, has_closed, answered_of, published_of, open_of, whole_of, lines_of, outcomes_of, before_of, left_of, closed_tells, actions_of, planned_of, given_of, hand_of, plan_of}
+use Rattle.board_rules.specs.Steps.{Journal, port_log, taken_of, has_closed, answered_of, published_of, open_of, whole_of, lines_of, outcomes_of, before_of, left_of, closed_tells, actions_of, planned_of, given_of, hand_of, plan_of}
+use Rattle.board_rules.specs.Ports.{has_held_in, has_changed_in}
 use Rattle.board_rules.specs.Conduct.{IsFinished}
 use Rattle.board_rules.specs.Whole.{AreLines, IsSpent}
+use Rattle.run_law.specs.Runs.{ends_program}
 use Rattle.run_law.specs.Ran.{BoardRan}
 use Rattle.run_law.specs.SoFar.{BeginsWith, BoardRuns}
 
@@ -41,13 +43,13 @@ pub record Kept (first : State) (h : Journal) : Type 0 where
   pub bye : (closed_tells h ≡ []) ⊎ (closed_tells h ≡ Bye ∷ [])
   pub asked : asked_in (outcomes_of h) ≡ all_asked (actions_of h) ++ asks (left_of h)
   pub run : IsPlannerRun (actions_of h) (planned_of h) (plan_of h)
-  pub undisturbed : IsUndisturbed (actions_of h)
+  pub disturbed : DisturbedOnlyBy (has_held_in (port_log h)) (has_changed_in (port_log h) || ends_program (outcomes_of h)) (actions_of h)
   pub hand : given_of h ≡ published_of h ++ hand_of h
   pub end : (given_of h ≡ planned_of h) ⊎ (given_of h ≡ planned_of h ++ pieces.End ∷ [])
 
 -- ---- a board that is finished
 
-pub board_ran : (first : State) (h : Journal) → IsOpening first → Kept first h → IsFinished h → IsSpent h → BoardRan (taken_of h) (has_closed h) (answered_of h) (published_of h)
+pub board_ran : (first : State) (h : Journal) → IsOpening first → Kept first h → IsFinished h → IsSpent h → BoardRan (taken_of h) (has_closed h) (has_held_in (port_log h)) (has_changed_in (port_log h)) (answered_of h) (published_of h)
 board_ran first h opening c f s =
     let lines : whole_lines (taken_of h) ≡ lines_of h = all_begun (taken_of h) (lines_of h) (open_of h) (whole_of h) s.whole c.bytes in
     record {
@@ -63,7 +65,7 @@ board_ran first h opening c f s =
       given = planned_of h;
       plan = plan_of h;
       run = c.run;
-      undisturbed = c.undisturbed;
+      disturbed = c.disturbed;
       rests = s.plan;
       asks = sym (append-nil (all_asked (actions_of h))) ∙ ap (λ (ts : List Task). all_asked (actions_of h) ++ asks ts) (sym f.left) ∙ sym c.asked;
       gave = sym (append-nil (published_of h)) ∙ ap (λ (ps : List Piece). published_of h ++ ps) (sym s.hand) ∙ sym c.hand ∙ s.given;
@@ -86,7 +88,7 @@ end_last given planned published hand (inl same) e = record {
 }
 end_last given planned published hand (inr whole) e = record { rest = hand; is = sym whole ∙ e }
 
-pub board_runs : (first : State) (h : Journal) → IsOpening first → Kept first h → BoardRuns (taken_of h) (answered_of h) (published_of h)
+pub board_runs : (first : State) (h : Journal) → IsOpening first → Kept first h → BoardRuns (taken_of h) (has_held_in (port_log h)) (has_changed_in (port_log h)) (answered_of h) (published_of h)
 board_runs first h opening c = record {
   first = first;
   lines = lines_of h;
@@ -103,7 +105,7 @@ board_runs first h opening c = record {
   given = planned_of h;
   plan = plan_of h;
   run = c.run;
-  undisturbed = c.undisturbed;
+  disturbed = c.disturbed;
   asks = record { rest = asks (left_of h); is = c.asked };
   gave = end_last (given_of h) (planned_of h) (published_of h) (hand_of h) c.end c.hand;
 }

@@ -1,5 +1,6 @@
 -- A job whose lines are accepted is carried out whole.
 use Rattle.std.proofs.Common.{◌≡◌, ℕ, ◌+◌, ◌≤◌, inl, inr, Bool, true, false, cond, List, [], ◌∷◌, ◌++◌, length, map, nat_eq, nat_lt, append-nil, append_assoc, length-append, Some, None, refl, sym, ap, ◌∙◌, subst, arith}
+use Rattle.std.specs.Prelude.{slice_get}
 use Rattle.std.specs.declared.option.Option.{Option}
 use Rattle.std.specs.List.{AllByRecursion, list_any}
 use Rattle.std.specs.Io.KnownBytes.{Consumes, IsAtEnd}
@@ -36,20 +37,20 @@ not_busy : (b : Before) (kept : List ℕ) (o : Outcome) → (needs_rest (kind_of
 not_busy b kept o served (inl busy) = absurd (let e = sym (served busy.line) ∙ busy.moved in cc)
 not_busy b kept o served (inr is) = inr is
 
-either_on : (c : Bool) (A B D : Type 0) → (A → B) → either c A D → either c B D
-either_on true A B D on is = on is
-either_on false A B D on is = is
-
 other_on : (c : Bool) (A B D : Type 0) → (A → B) → either c D A → either c D B
 other_on true A B D on is = is
 other_on false A B D on is = on is
 
-still_kept : (b : Before) (kept : List ℕ) (o : Outcome) → (needs_rest (kind_of kept) ≡ true → b.moved ≡ false) → ByKept true b kept o → ByKept false b kept o
+still_kept : (b : Before) (kept : List ℕ) (o : Outcome) → (slice_get kept 0 ≡ Some 36 → needs_rest (kind_of kept) ≡ true → b.moved ≡ false) → ByKept true b kept o → ByKept false b kept o
 still_kept b [] o served is = is
-still_kept b (c ∷ cs) o served is =
-    either_on (nat_eq c 36) (ByDollar true b (c ∷ cs) o) (ByDollar false b (c ∷ cs) o) (ByWords b (words_of (c ∷ cs)) o) (not_busy b (c ∷ cs) o served) is
+still_kept b (c ∷ cs) o served is = by_first (nat_eq c 36) refl is
+  where
+    by_first : (t : Bool) → nat_eq c 36 ≡ t → either t (ByDollar true b (c ∷ cs) o) (ByWords b (words_of (c ∷ cs)) o)
+        → either t (ByDollar false b (c ∷ cs) o) (ByWords b (words_of (c ∷ cs)) o)
+    by_first true e is = let dollar : c ≡ 36 = grind (arith, nat_tests) in not_busy b (c ∷ cs) o (served (ap Some dollar)) is
+    by_first false e is = is
 
-still : (b : Before) (kept : List ℕ) (o : Outcome) → (needs_rest (kind_of kept) ≡ true → b.moved ≡ false) → Becomes true b kept o → Becomes false b kept o
+still : (b : Before) (kept : List ℕ) (o : Outcome) → (slice_get kept 0 ≡ Some 36 → needs_rest (kind_of kept) ≡ true → b.moved ≡ false) → Becomes true b kept o → Becomes false b kept o
 still b kept o served is =
     other_on (nat_lt most_kept (length kept)) (ByKept true b kept o) (ByKept false b kept o) (o ≡ refused b 11) (still_kept b kept o served) is
 

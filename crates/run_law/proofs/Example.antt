@@ -43,20 +43,20 @@ unfolding cut_within reply_text
 host_keeps = (
   record { going = refl; some = omega arith; front = omega arith },
   (
-    record { going = refl; few = omega arith },
+    record { poll = record { going = refl; rested = omega arith }; few = omega arith },
     (
-      record { going = refl; few = omega arith },
+      record { poll = record { going = refl; rested = omega arith }; few = omega arith },
       (
-        record { going = refl; few = omega arith },
+        record { poll = record { going = refl; rested = omega arith }; few = omega arith },
         (
-          record { going = refl; sent = record { free = refl; all = inr (refl, refl) } },
+          record { going = refl; sent = record { free = refl; all = inr (refl, refl) }; all_raised = refl },
           (
-            record { going = refl; on = refl; sends = refl; used = refl; free = refl },
+            record { going = refl; on = refl; sends = refl; used = refl; free = refl; none_due = refl; shown = inr refl },
             (
               record { next = refl; room = omega arith },
               (
-                record { going = refl; next = refl; few = omega arith; sends = refl; free = refl },
-                ((record { going = refl; on = refl; sends = refl; used = refl; free = refl }, omega arith, omega arith), tt),
+                record { going = refl; next = refl; few = omega arith; sends = refl; free = refl; none_due = refl },
+                ((record { going = refl; on = refl; sends = refl; used = refl; free = refl; none_due = refl; shown = inr refl }, omega arith, omega arith), tt),
               ),
             ),
           ),
@@ -75,7 +75,7 @@ one_line = record { left = Some (10 ∷ []); faults = 0 }
 abbrev nothing : SourceState
 nothing = record { left = Some []; faults = 0 }
 
-host_ran : HostRan one_line nothing silent silent (10 ∷ []) true (replies.Banner ∷ replies.Ok ∷ replies.Bye ∷ []) ended_so
+host_ran : HostRan one_line nothing silent silent (10 ∷ []) true [] (replies.Banner ∷ replies.Ok ∷ replies.Bye ∷ []) ended_so
 unfolding cut_within reply_text
 host_ran = has_run all_done one_line nothing silent silent host_keeps (record { bye = refl; written = inr refl })
     (record { taken = refl; at_end = λ e. refl; later = omega arith; cause = λ e. absurd cc })
@@ -83,7 +83,7 @@ host_ran = has_run all_done one_line nothing silent silent host_keeps (record { 
 
 -- ---- the board, the pulse and the recorder
 
-board_ran : (first : State) → IsOpening first → BoardRan (10 ∷ []) true (replies.Banner ∷ replies.Ok ∷ replies.Bye ∷ []) (pieces.End ∷ [])
+board_ran : (first : State) → IsOpening first → BoardRan (10 ∷ []) true false false (replies.Banner ∷ replies.Ok ∷ replies.Bye ∷ []) (pieces.End ∷ [])
 board_ran first opening = record {
   first = first;
   outcomes = told first [] ∷ [];
@@ -96,7 +96,7 @@ board_ran first opening = record {
   given = [];
   plan = fresh_plan;
   run = refl;
-  undisturbed = tt;
+  disturbed = tt;
   rests = record { blocks = refl; speed = refl };
   asks = refl;
   gave = refl;
@@ -115,6 +115,6 @@ recorder_ran = record {
 
 pub a_run : (first : State) → IsOpening first → IsRun one_line nothing sinks sinks (ended ended_so false)
 a_run first opening =
-    runs one_line nothing sinks sinks ended_so false (10 ∷ []) (10 ∷ []) true true
+    runs one_line nothing sinks sinks ended_so false (10 ∷ []) [] (10 ∷ []) true true false false
     (replies.Banner ∷ replies.Ok ∷ replies.Bye ∷ []) (replies.Banner ∷ replies.Ok ∷ replies.Bye ∷ []) (pieces.End ∷ []) (pieces.End ∷ []) 0 (kinds.End ∷ []) (kinds.End ∷ [])
-    host_ran (board_ran first opening) pulse_ran recorder_ran (record { rest = []; front = refl; closes = λ e. refl; all = λ e. refl }) refl refl refl
+    host_ran (board_ran first opening) pulse_ran recorder_ran (record { rest = []; front = refl; closes = λ e. refl; all = λ e. refl }) (record { held_by = λ e. absurd cc; changed_by = λ e. absurd cc }) refl refl refl

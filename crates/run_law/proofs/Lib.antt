@@ -1,3 +1,5 @@
+pub mod Flagging
+pub mod Taking
 pub mod Law
 pub mod Fronts
 pub mod SoFar

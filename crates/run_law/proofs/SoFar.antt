@@ -1,5 +1,5 @@
 -- Four actors that run have done a run so far.
-use Rattle.std.proofs.Common.{◌≡◌, ℕ, zero, suc, ◌+◌, Bool, true, false, cond, List, [], ◌∷◌, ◌++◌, map, nat_eq, append-nil, append_assoc, refl, sym, ap, ◌∙◌}
+use Rattle.std.proofs.Common.{◌≡◌, ℕ, Bool, true, false, cond, ◌||◌, List, [], ◌∷◌, ◌++◌, map, nat_eq, append-nil, append_assoc, refl, sym, ap, ◌∙◌}
 use Rattle.std.specs.List.{flat_map}
 use Rattle.std.proofs.lemmas.Grind.{flat_map-append}
 use Rattle.std.proofs.lemmas.List.Elements.{filter-append}
@@ -16,8 +16,8 @@ use Rattle.step_line.specs.Pieces.{records_of, ticks_of}
 use Rattle.step_line.specs.Records.{is_tick}
 use Rattle.plan_passes.specs.Plans.{Planned}
 use Rattle.planner_runs.specs.declared.Action.{Action}
-use Rattle.planner_runs.specs.Runs.{IsPlannerRun, IsUndisturbed, fresh_plan, most_blocks, all_asked, all_records, ticks_left}
-use Rattle.planner_runs.proofs.Runs.{undisturbed_keeps, fresh_starts}
+use Rattle.planner_runs.specs.Runs.{IsPlannerRun, DisturbedOnlyBy, fresh_plan, most_blocks, all_asked, all_records, ticks_left}
+use Rattle.planner_runs.proofs.Runs.{disturbed_keeps, fresh_starts}
 use Rattle.planner_runs.proofs.Ticks.{ticks_from_start}
 use Rattle.planner_runs.proofs.Driven.{ticks_of_pieces}
 use Rattle.run_rules.specs.Lines.{whole_lines, onto_line}
@@ -25,7 +25,9 @@ use Rattle.run_rules.specs.Told.{replies_in, asked_in}
 use Rattle.stream_host.specs.Links.{on_link}
 use Rattle.stream_host.specs.Ran.{HostRuns}
 use Rattle.stream_host.proofs.Pieces.{lines_back}
-use Rattle.run_law.specs.Runs.{Sinks}
+use Rattle.run_law.specs.Flags.{AreTaken}
+use Rattle.run_law.specs.Runs.{Sinks, ends_program}
+use Rattle.run_law.proofs.Flagging.{disturbed_by}
 use Rattle.run_law.specs.SoFar.{BeginsWith, BoardRuns, PulseRuns, RecorderRuns, IsSoFar}
 use Rattle.run_law.proofs.Law.{ended_records}
 
@@ -67,15 +69,15 @@ lines_begin whole front b = begins_by (whole_lines (front ++ b.rest)) (whole_lin
 ended_ticks : (given : List Piece) → ticks_among (all_records given ++ kinds.End ∷ []) ≡ flat_map ticks_of given
 ended_ticks given = filter-append is_tick (all_records given) (kinds.End ∷ []) ∙ append-nil (ticks_among (all_records given)) ∙ ticks_of_pieces given
 
-ticks_begin : (asked : List Asked) (actions : List Action) (given : List Piece) (plan : Planned) (records : List Record) → IsPlannerRun actions given plan → IsUndisturbed actions
+ticks_begin : (held changed : Bool) (asked : List Asked) (actions : List Action) (given : List Piece) (plan : Planned) (records : List Record) → IsPlannerRun actions given plan → DisturbedOnlyBy held changed actions
     → BeginsWith asked (all_asked actions) → BeginsWith (all_records given ++ kinds.End ∷ []) records → BeginsWith (ticks_of_all asked) (ticks_among records)
-ticks_begin asked actions given plan records run undisturbed more rest =
+ticks_begin held changed asked actions given plan records run disturbed more rest =
     let all = all_records given ++ kinds.End ∷ [] in
     let recorded : BeginsWith (ticks_among all) (ticks_among records) =
     record { rest = ticks_among rest.rest; is = ap ticks_among rest.is ∙ filter-append is_tick records rest.rest } in
     let done : BeginsWith (ticks_of_all (all_asked actions)) (ticks_among all) = record {
       rest = ticks_left plan;
-      is = ticks_from_start most_blocks fresh_plan plan actions given fresh_starts (undisturbed_keeps actions undisturbed) run
+      is = ticks_from_start most_blocks fresh_plan plan actions given fresh_starts (disturbed_keeps held changed actions disturbed) run
           ∙ ap (λ (rs : List Record). rs ++ ticks_left plan) (sym (ended_ticks given));
     } in
     begins_on (ticks_of_all asked) (ticks_of_all (all_asked actions)) (ticks_among records) (begins_each ticks_of_one asked (all_asked actions) more)
@@ -83,11 +85,11 @@ ticks_begin asked actions given plan records run undisturbed more rest =
 
 -- ---- the run
 
-pub runs_so_far : (job_was job_is : SourceState) (was is : Sinks) (stored taken : List ℕ) (got answered : List Reply) (got_pieces published : List Piece) (got_records put : List Record)
-    → HostRuns job_was job_is was.console is.console stored got → BoardRuns taken answered published → PulseRuns got_pieces put → RecorderRuns was.steps is.steps got_records
-    → BeginsWith stored taken → BeginsWith answered got → BeginsWith published got_pieces → BeginsWith put got_records
+pub runs_so_far : (job_was job_is : SourceState) (was is : Sinks) (stored raised taken : List ℕ) (held changed : Bool) (got answered : List Reply) (got_pieces published : List Piece) (got_records put : List Record)
+    → HostRuns job_was job_is was.console is.console stored raised got → BoardRuns taken held changed answered published → PulseRuns got_pieces put → RecorderRuns was.steps is.steps got_records
+    → BeginsWith stored taken → AreTaken raised held changed → BeginsWith answered got → BeginsWith published got_pieces → BeginsWith put got_records
     → IsSoFar job_was job_is was is
-runs_so_far job_was job_is was is stored taken got answered got_pieces published got_records put host board pulse recorder bytes some_replies some_pieces some_records =
+runs_so_far job_was job_is was is stored raised taken held changed got answered got_pieces published got_records put host board pulse recorder bytes flags some_replies some_pieces some_records =
     let on_the_link : BeginsWith (on_link host.lines) taken = begins_on (on_link host.lines) stored taken (record { rest = host.left; is = sym host.link }) bytes in
     let lines : BeginsWith (map plain host.lines) (whole_lines taken) =
     begins_by (whole_lines (on_link host.lines)) (map plain host.lines) (whole_lines taken) (sym (lines_back host.lines)) (lines_begin (on_link host.lines) taken on_the_link) in
@@ -123,11 +125,11 @@ runs_so_far job_was job_is was is stored taken got answered got_pieces published
       given = board.given;
       plan = board.plan;
       run = board.run;
-      undisturbed = board.undisturbed;
+      disturbed = disturbed_by host.scanned raised host.due host.resumes held changed board.outcomes board.actions host.raises flags board.disturbed;
       asks = board.asks;
       records = got_records;
       recorded = records_are;
-      ticks = ticks_begin (asked_in board.outcomes) board.actions board.given board.plan got_records board.run board.undisturbed board.asks records_are;
+      ticks = ticks_begin held (changed || ends_program board.outcomes) (asked_in board.outcomes) board.actions board.given board.plan got_records board.run board.disturbed board.asks records_are;
       steps_failed = recorder.failed;
       lines_left = recorder.waiting;
       steps = recorder.steps;

@@ -1,3 +1,5 @@
+pub mod Flags
+pub mod Taking
 pub mod Runs
 pub mod Ran
 pub mod SoFar

@@ -1,6 +1,6 @@
 -- What the board, the pulse and the recorder have done in a whole run, on plain lists, and how the bytes of the link go
 -- together.
-use Rattle.std.specs.Prelude.{◌≡◌, ℕ, Bool, true, List, [], ◌∷◌, ◌++◌, map, reverse}
+use Rattle.std.specs.Prelude.{◌≡◌, ℕ, Bool, true, List, [], ◌∷◌, ◌++◌, ◌||◌, map, reverse}
 use Rattle.std.specs.List.{flat_map}
 use Rattle.outside.specs.Causes.{SinkState}
 use Rattle.outside.specs.Writing.{Took}
@@ -14,7 +14,7 @@ use Rattle.step_line.specs.Ordering.{InTurn}
 use Rattle.step_line.specs.Pieces.{records_of}
 use Rattle.plan_passes.specs.Plans.{Planned}
 use Rattle.planner_runs.specs.declared.Action.{Action}
-use Rattle.planner_runs.specs.Runs.{IsPlannerRun, IsUndisturbed, IsAtRest, all_asked}
+use Rattle.planner_runs.specs.Runs.{IsPlannerRun, DisturbedOnlyBy, IsAtRest, all_asked}
 use Rattle.pulse_engine.specs.Logs.{ticks_in}
 use Rattle.run_rules.specs.declared.State.{State}
 use Rattle.run_rules.specs.Lines.{whole_lines}
@@ -23,11 +23,13 @@ use Rattle.run_rules.specs.Work.{Outcome}
 use Rattle.run_rules.specs.Outcomes.{Before, Follows, start}
 use Rattle.run_rules.specs.Outcomes.Passed.{a_line}
 use Rattle.run_rules.specs.Told.{replies_in, asked_in, records_text}
+use Rattle.run_law.specs.Runs.{ends_program}
 
 -- A board has run: it found the link closed behind the bytes that it took, answered their lines, once and in order, and
--- told Bye. What the lines ask for was asked of the plan, which no hand disturbed and which has nothing left to run. Its
--- pieces were published, and the end behind them.
-pub record BoardRan (taken : List ℕ) (closed : Bool) (answered : List Reply) (published : List Piece) : Type 0 where
+-- told Bye. What the lines ask for was asked of the plan, which has nothing left to run, and which nothing else disturbed than
+-- a hold, where one was taken, and a change of overrides, where one was taken or a program ended. Its pieces were published,
+-- and the end behind them.
+pub record BoardRan (taken : List ℕ) (closed held changed : Bool) (answered : List Reply) (published : List Piece) : Type 0 where
   pub first : State
   pub outcomes : List Outcome
   pub last : Before
@@ -39,7 +41,7 @@ pub record BoardRan (taken : List ℕ) (closed : Bool) (answered : List Reply) (
   pub given : List Piece
   pub plan : Planned
   pub run : IsPlannerRun actions given plan
-  pub undisturbed : IsUndisturbed actions
+  pub disturbed : DisturbedOnlyBy held (changed || ends_program outcomes) actions
   pub rests : IsAtRest plan
   pub asks : all_asked actions ≡ asked_in outcomes
   pub gave : published ≡ given ++ pieces.End ∷ []

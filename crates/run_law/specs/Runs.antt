@@ -1,5 +1,6 @@
 -- What a run of a job is, and how it ends, with no word of who has done it.
-use Rattle.std.specs.Prelude.{◌≡◌, ℕ, Bool, true, List, [], ◌∷◌, ◌++◌, length, map}
+use Rattle.std.specs.Prelude.{◌≡◌, ℕ, Bool, true, List, [], ◌∷◌, ◌++◌, ◌||◌, length, map}
+use Rattle.std.specs.List.{list_any}
 use Rattle.std.specs.Io.KnownBytes.{Consumes, IsAtEnd}
 use Rattle.outside.specs.Causes.{Rose, SourceState, SinkState}
 use Rattle.outside.specs.Writing.{Took}
@@ -9,16 +10,17 @@ use Rattle.status_report.specs.declared.Reply.TheVariants.{Bye}
 use Rattle.step_line.specs.declared.Record.{Record}
 use Rattle.run_rules.specs.declared.State.{State}
 use Rattle.run_rules.specs.States.{IsOpening}
-use Rattle.run_rules.specs.Work.{Outcome}
+use Rattle.run_rules.specs.Work.{Outcome, has_normal}
 use Rattle.run_rules.specs.Outcomes.{Before, Follows, start}
 use Rattle.run_rules.specs.Outcomes.Passed.{a_line}
 use Rattle.run_rules.specs.Told.{replies_in, replies_text, asked_in, records_text, errors_in}
 use Rattle.planner_runs.specs.Driven.{IsDriven}
 use Rattle.stream_host.specs.declared.Reading.{Reading}
 use Rattle.stream_host.specs.declared.Reading.TheVariants.{Ended}
-use Rattle.stream_host.specs.Jobs.{IsSent}
+use Rattle.stream_host.specs.Jobs.{served_in, IsSent}
 use Rattle.stream_host.specs.Ran.{HostEnd, is_failed}
 use Rattle.run_law.specs.declared.RunEnd.{RunEnd}
+use Rattle.run_law.specs.Flags.{is_hold, is_change}
 
 -- what the console and the steps hold
 pub record Sinks : Type 0 where
@@ -36,10 +38,23 @@ ended host failed = record {
   steps_failed = failed;
 }
 
+-- a hold stands among the realtime bytes that are raised of what was scanned, and a change of overrides does
+abbrev pub asks_hold : List ℕ → Bool
+asks_hold scanned = list_any is_hold (served_in scanned)
+
+abbrev pub asks_change : List ℕ → Bool
+asks_change scanned = list_any is_change (served_in scanned)
+
+-- a line that ends a program sets all overrides to 100 percent
+abbrev pub ends_program : List Outcome → Bool
+ends_program outcomes = list_any (λ o. has_normal o.work) outcomes
+
 -- A run of a job, whatever failed. Some of the job was read, and some lines of it were sent. What is kept of each is
 -- answered, once and in order, where the machine may be found running. The console takes the banner, what is told of each
 -- line, and Bye, which has no text. The steps take the records of a drive that was asked for the moves, marks and rests of
--- the lines: their events and marks, in order and each once, heads with legal speeds, and the end. Each text is whole where
+-- the lines: their events and marks, in order and each once, heads with legal speeds, and the end. Holds, resumes and overrides
+-- change no event: the ticks are those of the lines. A segment slows down for a hold only where a `!` was scanned, and it is
+-- planned for other overrides only where a byte that changes them was scanned, or a program ended. Each text is whole where
 -- its sink did not fail.
 pub record IsRun (job_was job_is : SourceState) (was is : Sinks) (end : RunEnd) : Type 0 where
   pub read : List ℕ
@@ -58,7 +73,7 @@ pub record IsRun (job_was job_is : SourceState) (was is : Sinks) (end : RunEnd) 
   pub told : replies ≡ replies_in outcomes ++ Bye ∷ []
   pub console : Took was.console is.console end.console_failed (replies_text replies)
   pub records : List Record
-  pub driven : IsDriven (asked_in outcomes) records
+  pub driven : IsDriven (asks_hold scanned) (asks_change scanned || ends_program outcomes) (asked_in outcomes) records
   pub steps : Took was.steps is.steps end.steps_failed (records_text records)
   -- each line has one answer
   pub answered : end.answered ≡ length lines

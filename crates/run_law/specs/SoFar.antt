@@ -1,5 +1,5 @@
 -- What a run has done so far, and what the board, the pulse and the recorder have.
-use Rattle.std.specs.Prelude.{◌≡◌, ℕ, Bool, true, List, [], ◌∷◌, ◌++◌, map, reverse}
+use Rattle.std.specs.Prelude.{◌≡◌, ℕ, Bool, true, List, [], ◌∷◌, ◌++◌, ◌||◌, map, reverse}
 use Rattle.std.specs.List.{flat_map}
 use Rattle.std.specs.Io.KnownBytes.{Consumes}
 use Rattle.outside.specs.Causes.{SourceState, SinkState}
@@ -16,7 +16,7 @@ use Rattle.step_line.specs.Ordering.{InTurn}
 use Rattle.step_line.specs.Pieces.{records_of}
 use Rattle.plan_passes.specs.Plans.{Planned}
 use Rattle.planner_runs.specs.declared.Action.{Action}
-use Rattle.planner_runs.specs.Runs.{IsPlannerRun, IsUndisturbed, all_asked, all_records}
+use Rattle.planner_runs.specs.Runs.{IsPlannerRun, DisturbedOnlyBy, all_asked, all_records}
 use Rattle.run_rules.specs.declared.State.{State}
 use Rattle.run_rules.specs.Lines.{whole_lines}
 use Rattle.run_rules.specs.States.{IsOpening}
@@ -27,7 +27,7 @@ use Rattle.run_rules.specs.Told.{replies_in, replies_text, asked_in, records_tex
 use Rattle.stream_host.specs.declared.Reading.{Reading}
 use Rattle.stream_host.specs.declared.Stop.{Stop}
 use Rattle.stream_host.specs.Jobs.{IsSentSoFar}
-use Rattle.run_law.specs.Runs.{Sinks}
+use Rattle.run_law.specs.Runs.{Sinks, asks_hold, asks_change, ends_program}
 
 -- a list begins with another
 pub record BeginsWith {A : Type 0} (whole front : List A) : Type 0 where
@@ -35,8 +35,9 @@ pub record BeginsWith {A : Type 0} (whole front : List A) : Type 0 where
   pub is : whole ≡ front ++ rest
 
 -- A board runs: it has begun a front of the lines that it took, and what was told, asked and published is a front of what
--- these tell and ask for.
-pub record BoardRuns (taken : List ℕ) (answered : List Reply) (published : List Piece) : Type 0 where
+-- these tell and ask for. Nothing else disturbed the plan than a hold, where one was taken, and a change of overrides, where one
+-- was taken or a program ended.
+pub record BoardRuns (taken : List ℕ) (held changed : Bool) (answered : List Reply) (published : List Piece) : Type 0 where
   pub first : State
   pub lines : List (List ℕ)
   pub outcomes : List Outcome
@@ -49,7 +50,7 @@ pub record BoardRuns (taken : List ℕ) (answered : List Reply) (published : Lis
   pub given : List Piece
   pub plan : Planned
   pub run : IsPlannerRun actions given plan
-  pub undisturbed : IsUndisturbed actions
+  pub disturbed : DisturbedOnlyBy held (changed || ends_program outcomes) actions
   pub asks : BeginsWith (asked_in outcomes) (all_asked actions)
   pub gave : BeginsWith (given ++ pieces.End ∷ []) published
 
@@ -66,7 +67,8 @@ pub record RecorderRuns (was is : SinkState) (taken : List Record) : Type 0 wher
 
 -- A run so far. A front of the lines that are sent was begun, and each is followed by what becomes of it. A front of what
 -- they tell was got, and a front of its text is on the console. A front of what they ask for was done, as a planner run,
--- and a front of what is recorded of its pieces was taken: its ticks begin the ticks that the lines ask for.
+-- and a front of what is recorded of its pieces was taken: its ticks begin the ticks that the lines ask for. It is disturbed by
+-- no more than a hold and a change of overrides, as in a whole run.
 pub record IsSoFar (job_was job_is : SourceState) (was is : Sinks) : Type 0 where
   pub read : List ℕ
   pub reading : Reading
@@ -91,7 +93,7 @@ pub record IsSoFar (job_was job_is : SourceState) (was is : Sinks) : Type 0 wher
   pub given : List Piece
   pub plan : Planned
   pub run : IsPlannerRun actions given plan
-  pub undisturbed : IsUndisturbed actions
+  pub disturbed : DisturbedOnlyBy (asks_hold scanned) (asks_change scanned || ends_program outcomes) actions
   pub asks : BeginsWith (asked_in outcomes) (all_asked actions)
   pub records : List Record
   pub recorded : BeginsWith (all_records given ++ kinds.End ∷ []) records

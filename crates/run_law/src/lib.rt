@@ -15,9 +15,15 @@ ghost use Rattle.step_record.specs.Taking.{Log, records};
 ghost use Rattle.step_record.specs.Recording.{RecorderFits, Rests};
 ghost use Rattle.run_rules.specs.declared.State.{State};
 ghost use Rattle.run_rules.specs.States.{IsOpening};
-ghost use Rattle.board_rules.specs.Steps.{Journal, taken_of, has_closed, answered_of, published_of};
+ghost use Rattle.board_rules.specs.Steps.{Journal, port_log, taken_of, has_closed, answered_of, published_of};
+ghost use Rattle.board_rules.specs.Ports.{has_held_in, has_changed_in};
 ghost use Rattle.board_rules.specs.Conduct.{Conducted, IsFinished};
 ghost use Rattle.stream_host.specs.Ran.{HostEnd, HostRan, HostRuns};
+ghost use Rattle.realtime_flags.specs.Bits.{IsBalanced};
+ghost use Rattle.stream_host.specs.Steps.{PortLog as HostLog, raises_in as bytes_raised_in};
+ghost use Rattle.board_rules.specs.Ports.{PortLog as BoardLog};
+ghost use Rattle.run_law.specs.Flags.{AreTaken};
+ghost use Rattle.run_law.specs.Taking.{raises_in, takes_in};
 ghost use Rattle.run_law.specs.Runs.{Sinks, ended, IsRun};
 ghost use Rattle.run_law.specs.Complete.{IsAcceptedJob, IsComplete};
 ghost use Rattle.run_law.specs.Ran.{BoardRan, PulseRan, RecorderRan, IsLinked};
@@ -38,15 +44,16 @@ pub struct RunEnd {
     pub steps_failed: bool,
 }
 
-/// Four actors that ran to their ends, where each got what the other gave, make a run: the lines that are sent of the job
+/// Four actors that ran to their ends, where each got what the other gave, and what the board took of flags was raised, make
+/// a run: the lines that are sent of the job
 /// are answered in order, the console takes what is told of them, and the steps take the records of a drive that was
 /// asked for what they ask for.
 pub fn actors_make_a_run()
     ensures { (job_was job_is : SourceState) (was is : Sinks) (end : HostEnd) (steps_failed : Bool)
-        (stored taken : List ℕ) (shut closed : Bool) (got answered : List Reply) (got_pieces published : List Piece) (ticks : ℕ) (got_records put : List Record) →
-        HostRan job_was job_is was.console is.console stored shut got end → BoardRan taken closed answered published → PulseRan got_pieces ticks put →
+        (stored raised taken : List ℕ) (shut closed held changed : Bool) (got answered : List Reply) (got_pieces published : List Piece) (ticks : ℕ) (got_records put : List Record) →
+        HostRan job_was job_is was.console is.console stored shut raised got end → BoardRan taken closed held changed answered published → PulseRan got_pieces ticks put →
         RecorderRan was.steps is.steps got_records steps_failed →
-        IsLinked stored shut taken closed → got ≡ answered → got_pieces ≡ published → got_records ≡ put →
+        IsLinked stored shut taken closed → AreTaken raised held changed → got ≡ answered → got_pieces ≡ published → got_records ≡ put →
         IsRun job_was job_is was is (ended end steps_failed) }
 {}
 
@@ -54,18 +61,18 @@ pub fn actors_make_a_run()
 /// behind Bye, nor behind the end.
 pub fn actors_that_end_make_a_run()
     ensures { (job_was job_is : SourceState) (was is : Sinks) (end : HostEnd) (steps_failed : Bool)
-        (stored taken : List ℕ) (shut closed : Bool) (got answered : List Reply) (got_pieces published : List Piece) (ticks : ℕ) (got_records put : List Record) →
-        HostRan job_was job_is was.console is.console stored shut got end → BoardRan taken closed answered published → PulseRan got_pieces ticks put →
+        (stored raised taken : List ℕ) (shut closed held changed : Bool) (got answered : List Reply) (got_pieces published : List Piece) (ticks : ℕ) (got_records put : List Record) →
+        HostRan job_was job_is was.console is.console stored shut raised got end → BoardRan taken closed held changed answered published → PulseRan got_pieces ticks put →
         RecorderRan was.steps is.steps got_records steps_failed →
-        IsLinked stored shut taken closed → BeginsWith answered got → BeginsWith published got_pieces → BeginsWith put got_records →
+        IsLinked stored shut taken closed → AreTaken raised held changed → BeginsWith answered got → BeginsWith published got_pieces → BeginsWith put got_records →
         IsRun job_was job_is was is (ended end steps_failed) }
 {}
 
 /// Four actors that run, where each has got a front of what the other gave, have done a run so far.
 pub fn actors_make_a_run_so_far()
-    ensures { (job_was job_is : SourceState) (was is : Sinks) (stored taken : List ℕ) (got answered : List Reply) (got_pieces published : List Piece) (got_records put : List Record) →
-        HostRuns job_was job_is was.console is.console stored got → BoardRuns taken answered published → PulseRuns got_pieces put → RecorderRuns was.steps is.steps got_records →
-        BeginsWith stored taken → BeginsWith answered got → BeginsWith published got_pieces → BeginsWith put got_records →
+    ensures { (job_was job_is : SourceState) (was is : Sinks) (stored raised taken : List ℕ) (held changed : Bool) (got answered : List Reply) (got_pieces published : List Piece) (got_records put : List Record) →
+        HostRuns job_was job_is was.console is.console stored raised got → BoardRuns taken held changed answered published → PulseRuns got_pieces put → RecorderRuns was.steps is.steps got_records →
+        BeginsWith stored taken → AreTaken raised held changed → BeginsWith answered got → BeginsWith published got_pieces → BeginsWith put got_records →
         IsSoFar job_was job_is was is }
 {}
 
@@ -79,13 +86,21 @@ pub fn accepted_jobs_are_complete()
 /// A board that keeps to its rules, and has closed its run and nothing left to do, has run; before, it runs.
 pub fn boards_have_run()
     ensures whole { (first : State) (h : Journal) → IsOpening first → Conducted first h → IsFinished h →
-        BoardRan (taken_of h) (has_closed h) (answered_of h) (published_of h) }
-    ensures so_far { (first : State) (h : Journal) → IsOpening first → Conducted first h → BoardRuns (taken_of h) (answered_of h) (published_of h) }
+        BoardRan (taken_of h) (has_closed h) (has_held_in (port_log h)) (has_changed_in (port_log h)) (answered_of h) (published_of h) }
+    ensures so_far { (first : State) (h : Journal) → IsOpening first → Conducted first h →
+        BoardRuns (taken_of h) (has_held_in (port_log h)) (has_changed_in (port_log h)) (answered_of h) (published_of h) }
 {
     boards_keep_to_their_lines();
     boards_run_their_plan();
     boards_end_well();
 }
+
+/// What a board has taken of flags was raised, where each flag was found down by as many raises as there are takes that had
+/// it, and by one more where it is up.
+pub fn flags_that_are_taken_were_raised()
+    ensures { (words : List ℕ) (host : HostLog) (board : BoardLog) → IsBalanced words (raises_in host) (takes_in board) →
+        AreTaken (bytes_raised_in host) (has_held_in board) (has_changed_in board) }
+{}
 
 /// A pulse that has put the end has run, and every pulse runs.
 pub fn pulses_have_run()

@@ -39,7 +39,7 @@ use Rattle.run_rules.specs.Outcomes.Passed.{a_line}
 use Rattle.run_rules.specs.Asks.{at_rest, item_work, work_of, move_asked, planned, spindle_after, flood_after, spindle_off, coolant_off}
 use Rattle.run_rules.specs.Told.{is_error, replies_in, errors_in, errors_among}
 use Rattle.run_rules.specs.Work.{Task, Outcome, tells, told_by, telling, asking}
-use Rattle.run_rules.specs.Work.Task.{ask, tell}
+use Rattle.run_rules.specs.Work.Task.{ask, tell, normal}
 
 -- told before the answer of a line
 abbrev IsBody : Reply → Type 0
@@ -77,7 +77,7 @@ silent_item line s spindle flood (items.Dwell ms) = tt
 silent_item line s spindle flood (items.Move mv rate) = silent_asking (move_asked (planned line s mv rate))
 silent_item line s spindle flood items.Pause = tt
 silent_item line s spindle flood items.ProgramEnd =
-    silent_on (at_rest (spindle_off spindle ++ coolant_off flood)) (tell (replies.Message messages.ProgramEnd) ∷ []) (silent_at_rest (spindle_off spindle ++ coolant_off flood)) ((refl, refl), tt)
+    silent_on (at_rest (spindle_off spindle ++ coolant_off flood)) (normal ∷ tell (replies.Message messages.ProgramEnd) ∷ []) (silent_at_rest (spindle_off spindle ++ coolant_off flood)) ((refl, refl), tt)
 
 silent_work : (line : ℕ) (s : Settings) (spindle : SpindleMode) (flood : Bool) (all : List Item) → NoAnswers (tells (work_of line s spindle flood all))
 silent_work line s spindle flood [] = tt

@@ -17,7 +17,7 @@ use Rattle.gcode_check.specs.declared.Item.TheVariants.{Spindle, Coolant, Dwell,
 use Rattle.status_report.specs.declared.Message.TheVariants as messages
 use Rattle.status_report.specs.declared.Reply.TheVariants.{Message}
 use Rattle.run_rules.specs.Work.{Task, asking}
-use Rattle.run_rules.specs.Work.Task.{ask, tell}
+use Rattle.run_rules.specs.Work.Task.{ask, tell, pause, normal}
 
 -- how a spindle mode is recorded, with its speed
 abbrev pub spindle_mark : SpindleMode → ℕ → Mark
@@ -48,15 +48,15 @@ abbrev pub at_rest : List Asked → List Task
 at_rest marks = ask a_rest ∷ asking marks ++ ask a_rest ∷ []
 
 -- What there is to do of an item, while the spindle and the coolant are so: a move is asked for as it is, and a mark each
--- of spindle, coolant and dwell at rest. A pause comes to rest. The end of a program runs all that is planned, turns off what
--- is on, and is told.
+-- of spindle, coolant and dwell at rest. A pause comes to rest, is held, and is over where the machine stands again. The end of
+-- a program runs all that is planned, turns off what is on, sets each override to 100 percent, and is told.
 abbrev pub item_work : ℕ → Settings → SpindleMode → Bool → Item → List Task
 item_work line s spindle flood (Spindle mode speed) = at_rest (a_mark (spindle_mark mode speed) ∷ [])
 item_work line s spindle flood (Coolant on) = at_rest (a_mark (marks.Coolant on) ∷ [])
 item_work line s spindle flood (Dwell ms) = at_rest (a_mark (marks.Dwell ms) ∷ [])
 item_work line s spindle flood (Move mv rate) = asking (move_asked (planned line s mv rate))
-item_work line s spindle flood Pause = ask a_rest ∷ []
-item_work line s spindle flood ProgramEnd = at_rest (spindle_off spindle ++ coolant_off flood) ++ tell (Message messages.ProgramEnd) ∷ []
+item_work line s spindle flood Pause = ask a_rest ∷ pause ∷ ask a_rest ∷ []
+item_work line s spindle flood ProgramEnd = at_rest (spindle_off spindle ++ coolant_off flood) ++ normal ∷ tell (Message messages.ProgramEnd) ∷ []
 
 -- how the spindle turns behind an item
 abbrev pub spindle_after : SpindleMode → Item → SpindleMode

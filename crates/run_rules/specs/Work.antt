@@ -1,5 +1,5 @@
 -- What there is to do of a line, in order.
-use Rattle.std.specs.Prelude.{Bool, true, false, ◌||◌, List, [], ◌∷◌}
+use Rattle.std.specs.Prelude.{ℕ, ◌+◌, Bool, true, false, ◌||◌, List, [], ◌∷◌}
 use Rattle.std.specs.List.{flat_map}
 use Rattle.step_line.specs.Asking.{Asked}
 use Rattle.step_line.specs.Asking.Asked.{a_move, a_mark, a_rest}
@@ -12,6 +12,10 @@ pub data Task : Type 0 where
   ask : Asked → Task
   -- a reply is told
   tell : Reply → Task
+  -- the machine comes to rest, and is held until it is resumed
+  pause : Task
+  -- at rest, each override is set to 100 percent
+  normal : Task
   -- the machine comes to rest, and is given the end
   finish : Task
 
@@ -31,6 +35,8 @@ closing_work = finish ∷ tell Bye ∷ []
 abbrev pub told_by : Task → List Reply
 told_by (ask a) = []
 told_by (tell r) = r ∷ []
+told_by pause = []
+told_by normal = []
 told_by finish = []
 
 abbrev pub tells : List Task → List Reply
@@ -40,6 +46,8 @@ tells work = flat_map told_by work
 abbrev pub asked_by_task : Task → List Asked
 asked_by_task (ask a) = a ∷ []
 asked_by_task (tell r) = []
+asked_by_task pause = []
+asked_by_task normal = []
 asked_by_task finish = []
 
 abbrev pub asks : List Task → List Asked
@@ -52,12 +60,32 @@ asking asked = flat_map (λ a. ask a ∷ []) asked
 abbrev pub telling : List Reply → List Task
 telling replies = flat_map (λ r. tell r ∷ []) replies
 
+-- how often the machine is held
+abbrev pub pauses : List Task → ℕ
+pauses [] = 0
+pauses (ask a ∷ ts) = pauses ts
+pauses (tell r ∷ ts) = pauses ts
+pauses (pause ∷ ts) = pauses ts + 1
+pauses (normal ∷ ts) = pauses ts
+pauses (finish ∷ ts) = pauses ts
+
+-- whether each override is set to 100 percent
+abbrev pub has_normal : List Task → Bool
+has_normal [] = false
+has_normal (ask a ∷ ts) = has_normal ts
+has_normal (tell r ∷ ts) = has_normal ts
+has_normal (pause ∷ ts) = has_normal ts
+has_normal (normal ∷ ts) = true
+has_normal (finish ∷ ts) = has_normal ts
+
 -- whether a move is asked for
 abbrev pub asks_move : Task → Bool
 asks_move (ask (a_move m)) = true
 asks_move (ask (a_mark m)) = false
 asks_move (ask a_rest) = false
 asks_move (tell r) = false
+asks_move pause = false
+asks_move normal = false
 asks_move finish = false
 
 abbrev pub has_moves : List Task → Bool

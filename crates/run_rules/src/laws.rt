@@ -1,6 +1,6 @@
 //! Laws of runs.
 
-ghost use Rattle.std.specs.Prelude.{◌≡◌, ℕ, ◌+◌, ◌⊎◌, Bool, true, false, not, List, [], ◌∷◌, ◌++◌, length, map};
+ghost use Rattle.std.specs.Prelude.{◌≡◌, ℕ, ◌+◌, ◌≤◌, ◌⊎◌, Bool, true, false, not, List, [], ◌∷◌, ◌++◌, length, map};
 ghost use Rattle.gcode_check.specs.declared.Accept.{Accept as Accepted};
 ghost use Rattle.gcode_check.specs.declared.Item.{Item as AnyItem};
 ghost use Rattle.gcode_check.specs.Items.{is_move};
@@ -8,7 +8,7 @@ ghost use Rattle.run_rules.specs.declared.State.{State};
 ghost use Rattle.run_rules.specs.States.{IsOpening};
 ghost use Rattle.status_report.specs.declared.Reply.{Reply as AnyReply};
 ghost use Rattle.status_report.specs.Answering.{is_answer, answers_in};
-ghost use Rattle.run_rules.specs.Work.{Outcome, tells};
+ghost use Rattle.run_rules.specs.Work.{Outcome, tells, pauses, closing_work};
 ghost use Rattle.run_rules.specs.Told.{replies_in};
 ghost use Rattle.run_rules.specs.Outcomes.{Before, Becomes, Passed, Follows, refused, executed, after};
 ghost use Rattle.run_rules.specs.Outcomes.Passed.{a_line};
@@ -37,6 +37,12 @@ pub fn lines_have_one_answer()
         (body : List AnyReply) × (tells outcome.work ≡ body ++ outcome.answer ∷ []) × (answers_in body ≡ 0) × (is_answer outcome.answer ≡ true) }
     ensures all { (runs : Bool) (first last : Before) (lines : List (List ℕ)) (outcomes : List Outcome) →
         Follows runs first lines (map a_line outcomes) last → answers_in (replies_in outcomes) ≡ length lines }
+{}
+
+/// The machine is held at most once in the work of a line, and not behind the last line.
+pub fn lines_pause_once()
+    ensures line { (runs : Bool) (before : Before) (line : List ℕ) (outcome : Outcome) → Becomes runs before line outcome → pauses outcome.work ≤ 1 }
+    ensures closing { pauses closing_work ≡ 0 }
 {}
 
 /// There is one state before the first line. Two outcomes of a line are the same, or one of them is that of a machine

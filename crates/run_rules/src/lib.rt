@@ -10,7 +10,8 @@ ghost use Rattle.run_rules.specs.Asks.{spindle_mark};
 mod laws;
 
 pub use laws::{
-    lines_are_pieces, lines_have_one_answer, lines_settle, run_goes_on, runs_are_determined,
+    lines_are_pieces, lines_have_one_answer, lines_pause_once, lines_settle, run_goes_on,
+    runs_are_determined,
 };
 use modal_state::{Parser, SpindleMode};
 use settings::Settings;

@@ -1,16 +1,18 @@
 //! The next segment of a plan.
 
-ghost use Rattle.std.specs.Prelude.{◌≡◌, ◌≤◌, ◌<◌, ◌⊎◌, ◌↔◌, [], length, IsNone, IfNone, IfSome};
+ghost use Rattle.std.specs.Prelude.{◌≡◌, ◌≤◌, ◌<◌, ◌⊎◌, ◌↔◌, [], length, IsNone, IfNone, IfSome, IsTrue};
 ghost use Rattle.step_line.specs.Pieces.{IsTraceable};
-ghost use Rattle.plan_passes.specs.Blocks.{IsBlock, squared};
-ghost use Rattle.plan_passes.specs.Segments.{advanced, IsLegalStep, pace_of, cycles_of};
-ghost use Rattle.segment_prep.specs.Taking.{IsNext};
+ghost use Rattle.plan_passes.specs.Blocks.{IsBlock, left_of, squared};
+ghost use Rattle.plan_passes.specs.Plans.{IsReached, IsTail};
+ghost use Rattle.plan_passes.specs.Paces.{IsSteadyOf};
+ghost use Rattle.plan_passes.specs.Segments.{IsSegment, advanced, IsLegalStep, pace_of, cycles_of};
+ghost use Rattle.segment_prep.specs.Taking.{IsNext, nominal};
 
 use crate::Mode;
 use crate::pace::cycles;
 use crate::rule::{Stretch, next_stretch};
 use overrides::Overrides;
-use plan_passes::Plan;
+use plan_passes::{Pace, Plan};
 use planner_ring::Block;
 use step_line::Segment;
 
@@ -43,6 +45,140 @@ fn segment_of(b: &Block, nominal: u64, w_in: u64, stretch: Stretch) -> Segment
     }
 }
 
+/// Whether a block's segment in a mode is one at its nominal speed, and leaves some events of the block.
+#[inline]
+fn is_at_pace(b: &Block, nominal: u64, mode: Mode, s: &Segment) -> bool
+    requires block { IsBlock b.now }
+    requires nominal { nominal ≤ b.now.geom.rapid }
+    ensures { IsTrue result → (mode ≡ Mode.Go) × (s.now.w_in ≡ squared nominal) × (s.now.w_out ≡ squared nominal) × (s.now.n < left_of b.now) }
+{
+    match mode {
+        Mode::Go => {
+            let top = nominal * nominal;
+            s.w_in == top && s.w_out == top && s.n < b.geom.n - b.prepared
+        }
+        Mode::Hold => false,
+    }
+}
+
+/// A block's segment at a pace.
+#[inline]
+fn at_pace(b: &Block, pace: Pace) -> Segment
+    ensures { result ≡ record {
+      line = b.now.line;
+      mv = b.now.mv;
+      first = b.now.prepared;
+      n = pace.n;
+      w_in = pace.w;
+      w_out = pace.w;
+      cycles = pace.cycles;
+    } }
+{
+    let Block {
+        line,
+        mv,
+        prepared,
+        ..
+    } = *b;
+    Segment {
+        line,
+        mv,
+        first: prepared,
+        n: pace.n,
+        w_in: pace.w,
+        w_out: pace.w,
+        cycles: pace.cycles,
+    }
+}
+
+/// The next segment of a plan, at the pace that the plan keeps of its tail.
+#[inline]
+fn tail_at_pace<const N: usize>(plan: &Plan<N>, tail: &Block, pace: Pace) -> Segment
+    requires tail { IsTail plan.now tail.now }
+    requires steady { IsSteadyOf plan.now plan.now.blocks pace }
+    ensures segment { IsNext plan.now Mode.Go result }
+    ensures rule { IsSegment plan.now result.n result.w_out }
+    ensures traceable { 1 ≤ result.line → IsTraceable result }
+    ensures takes_time { 1 ≤ result.cycles }
+{
+    at_pace(tail, pace)
+}
+
+/// The next segment of a plan where it is one at the pace that the plan keeps: none of its numbers is worked out anew.
+#[inline]
+fn segment_at_pace<const N: usize>(plan: &Plan<N>, mode: Mode) -> Option<Segment>
+    ensures going { IfSome result (λ s. mode ≡ Mode.Go) }
+    ensures segment { IfSome result (λ s. IsNext plan.now mode s) }
+    ensures rule { IfSome result (λ s. IsSegment plan.now s.n s.w_out) }
+    ensures traceable { IfSome result (λ s. 1 ≤ s.line → IsTraceable s) }
+    ensures takes_time { IfSome result (λ s. 1 ≤ s.cycles) }
+{
+    match mode {
+        Mode::Hold => None,
+        Mode::Go => {
+            let pace = plan.steady()?;
+            let tail = plan.tail()?;
+            Some(tail_at_pace(plan, tail, pace))
+        }
+    }
+}
+
+/// The nominal speed of a plan's tail, in µm/s.
+#[inline]
+#[tactic(auto, using(crate::proofs::Sizes::tail_nominal, plan_passes::proofs::Bounds::bounds_of))]
+fn tail_nominal<const N: usize>(plan: &Plan<N>, tail: &Block, o: &Overrides) -> u64
+    requires tail { IsTail plan.now tail.now }
+    requires reached { IsReached plan.now }
+    requires same { 0 < length plan.now.blocks → o.now ≡ plan.now.overrides }
+    ensures nominal { result ≡ nominal plan.now tail.now }
+    ensures rapid { result ≤ tail.now.geom.rapid }
+{
+    o.nominal(&tail.rate, tail.geom.rapid)
+}
+
+/// The next segment of a plan, worked out. Where it is one at the tail's nominal speed the plan keeps its pace.
+#[tactic(auto, using(crate::proofs::Sizes::tail_nominal, plan_passes::proofs::Bounds::bounds_of))]
+fn segment_anew<const N: usize>(plan: &mut Plan<N>, o: &Overrides, mode: Mode) -> Option<Segment>
+    requires same { 0 < length plan.old.blocks → o.now ≡ plan.old.overrides }
+    ensures same { plan.new ≡ plan.old }
+    ensures none { IsNone result ↔ ((plan.old.blocks ≡ []) ⊎ ((mode ≡ Mode.Hold) × (plan.old.speed ≡ 0))) }
+    ensures segment { IfSome result (λ s. IsNext plan.old mode s) }
+    ensures rule { IfSome result (λ s. IsSegment plan.old s.n s.w_out) }
+    ensures traceable { IfSome result (λ s. 1 ≤ s.line → IsTraceable s) }
+    ensures takes_time { IfSome result (λ s. 1 ≤ s.cycles) }
+{
+    let b = plan.tail()?;
+    let w_in = plan.speed();
+    let nominal = tail_nominal(plan, b, o);
+    let stretch = next_stretch(plan, b, nominal, mode)?;
+    let segment = segment_of(b, nominal, w_in, stretch);
+    if is_at_pace(b, nominal, mode, &segment) {
+        plan.keep_pace(Pace {
+            n: segment.n,
+            w: segment.w_out,
+            cycles: segment.cycles,
+        });
+    }
+    Some(segment)
+}
+
+/// The next segment of a plan, whose numbers are those of its pace, or are worked out.
+#[inline]
+fn segment_next<const N: usize>(plan: &mut Plan<N>, o: &Overrides, mode: Mode) -> Option<Segment>
+    requires same { 0 < length plan.old.blocks → o.now ≡ plan.old.overrides }
+    ensures same { plan.new ≡ plan.old }
+    ensures none { IsNone result ↔ ((plan.old.blocks ≡ []) ⊎ ((mode ≡ Mode.Hold) × (plan.old.speed ≡ 0))) }
+    ensures segment { IfSome result (λ s. IsNext plan.old mode s) }
+    ensures rule { IfSome result (λ s. IsSegment plan.old s.n s.w_out) }
+    ensures traceable { IfSome result (λ s. 1 ≤ s.line → IsTraceable s) }
+    ensures takes_time { IfSome result (λ s. 1 ≤ s.cycles) }
+{
+    match segment_at_pace(plan, mode) {
+        Some(segment) => Some(segment),
+        None => segment_anew(plan, o, mode),
+    }
+}
+
 /// Takes the next segment of a plan in a mode, and advances the plan by it. Where a block stands, `o` are the overrides
 /// that the plan is made for.
 ///
@@ -50,7 +186,6 @@ fn segment_of(b: &Block, nominal: u64, w_in: u64, stretch: Stretch) -> Segment
 /// Hold it has no more of them than it takes to stop, and each slows the plan down. None comes exactly where no block
 /// stands, or where the mode is Hold and the plan stands still; then the plan stays as it is.
 #[inline]
-#[tactic(auto, using(crate::proofs::Sizes::tail_nominal, plan_passes::proofs::Bounds::bounds_of))]
 pub fn next_segment<const N: usize>(
     plan: &mut Plan<N>,
     o: &Overrides,
@@ -66,11 +201,7 @@ pub fn next_segment<const N: usize>(
     ensures traceable { IfSome result (λ s. 1 ≤ s.line → IsTraceable s) }
     ensures takes_time { IfSome result (λ s. 1 ≤ s.cycles) }
 {
-    let b = plan.tail()?;
-    let nominal = o.nominal(&b.rate, b.geom.rapid);
-    let w_in = plan.speed();
-    let stretch = next_stretch(plan, b, nominal, mode)?;
-    let segment = segment_of(b, nominal, w_in, stretch);
+    let segment = segment_next(plan, o, mode)?;
     plan.advance(segment.n, segment.w_out);
     Some(segment)
 }

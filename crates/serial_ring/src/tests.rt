@@ -1,6 +1,6 @@
 //! The first calls on a fresh link, and two threads.
 
-ghost use Rattle.std.specs.Prelude.{◌≡◌, false, []};
+ghost use Rattle.std.specs.Prelude.{◌≡◌, ◌≤◌, false, [], length};
 ghost use Rattle.serial_ring.specs.Ends.{closed_by, stored_by, answered_by};
 
 use super::*;
@@ -23,14 +23,23 @@ fn last_byte_comes_before_closed(rt: HostRuntime) {
 }
 
 #[test]
+fn fresh_link_is_closed_at_once(rt: HostRuntime) {
+    let (mut host, mut board) = link::<128>(rt.alloc()).expect(&rt, "memory");
+    host.close();
+    assert_eq!(rt; board.byte(), ByteIn::Closed);
+    assert_eq!(rt; board.byte(), ByteIn::Closed);
+}
+
+#[test]
 fn room_for_128_bytes_and_16_replies(rt: HostRuntime) {
     let (host, board) = link::<128>(rt.alloc()).expect(&rt, "memory");
-    let (_host, stored) = fill(&rt, host);
+    let (mut host, stored) = fill(&rt, host);
     assert_eq!(rt; stored, 128);
     let (mut board, answered) = fill_replies(&rt, board);
     assert_eq!(rt; answered, 16);
     assert_eq!(rt; board.byte(), ByteIn::Byte(0));
     assert_eq!(rt; board.free(), 1);
+    assert_eq!(rt; host.store(b'X'), Stored::Stored);
 }
 
 #[test]
@@ -54,6 +63,7 @@ fn refused_memory_is_told(rt: HostRuntime) {
 /// Stores bytes until one is dropped, and counts those that were not.
 fn fill<R: Wait, const RX: usize>(rt: &R, mut host: HostEnd<RX>) -> (HostEnd<RX>, u32)
     requires { (closed_by host ≡ false) × (stored_by host ≡ []) }
+    ensures { (closed_by result.0 ≡ false) × (length (stored_by result.0) ≤ 1000) }
 {
     let mut stored = 0_u32;
     for _ in rt.forever() {

@@ -1,6 +1,7 @@
 -- Lines that are appended part by part.
-use Rattle.std.specs.Prelude.{codes}
-use Rattle.std.proofs.Common.{◌≡◌, ℕ, ◌^◌, ◌≤◌, ◌<◌, ℤ, List, [], ◌∷◌, ◌++◌, length, decimal, append_assoc, arith}
+use Rattle.std.proofs.Common.{◌≡◌, ℕ, ◌^◌, ◌+◌, ◌-◌, ◌≤◌, ◌<◌, ℤ, List, [], ◌∷◌, ◌++◌, length, drop, set, length-set, decimal, append_assoc, refl, ap, ◌∙◌, arith}
+use Rattle.std.proofs.Math.ListN.{drop_of_length-le}
+use Rattle.std.proofs.lemmas.List.{drop-set}
 use Rattle.std.proofs.lemmas.Fmt.{length-decimal-le}
 use Rattle.step_line.specs.declared.Bits.{Bits}
 use Rattle.step_line.specs.declared.Head.{Head}
@@ -22,7 +23,27 @@ event_parts b o o1 o2 o3 o4 x y z x-is y-is z-is first second third last =
     rw (last, third, second, first, x-is, y-is, z-is) (simp append_assoc)
 
 -- the numbers of a head, each with the byte that ends it
-pub head_parts : (h : Head) (o o1 o2 o3 o4 o5 : List ℕ) → o1 ≡ o ++ codes "s " → o2 ≡ o1 ++ (decimal h.line ++ 32 ∷ []) → o3 ≡ o2 ++ (decimal h.n ++ 32 ∷ [])
-    → o4 ≡ o3 ++ (decimal h.w ++ 32 ∷ []) → o5 ≡ o4 ++ (decimal h.cycles ++ 10 ∷ []) → o5 ≡ o ++ head_text h
+head_whole : (h : Head) → 115 ∷ 32 ∷ (decimal h.line ++ 32 ∷ (decimal h.n ++ 32 ∷ (decimal h.w ++ 32 ∷ (decimal h.cycles ++ 10 ∷ [])))) ≡ head_text h
 unfolding head_text
-head_parts h o o1 o2 o3 o4 o5 name line n w cycles = rw (cycles, w, n, line, name) (simp append_assoc)
+head_whole h = simp append_assoc
+
+pub head_behind : (h : Head) (empty cycles_line w_line n_line line : List ℕ) (cycles w n at : ℕ) → length empty ≡ 66
+    → drop cycles cycles_line ≡ decimal h.cycles ++ 10 ∷ drop 66 empty → drop w w_line ≡ decimal h.w ++ 32 ∷ drop cycles cycles_line
+    → drop n n_line ≡ decimal h.n ++ 32 ∷ drop w w_line → drop at line ≡ decimal h.line ++ 32 ∷ drop n n_line
+    → drop at line ≡ decimal h.line ++ 32 ∷ (decimal h.n ++ 32 ∷ (decimal h.w ++ 32 ∷ (decimal h.cycles ++ 10 ∷ [])))
+head_behind h empty cycles_line w_line n_line line cycles w n at long cycles_is w_is n_is line_is =
+    let none : drop 66 empty ≡ [] = drop_of_length-le empty {i = 66} (omega (arith, long)) in
+    rw (line_is, n_is, w_is, cycles_is, none) refl
+
+-- and the letter in front of them
+pub head_line : (h : Head) (line : List ℕ) (at : ℕ) → 2 ≤ at → at ≤ length line
+    → drop at line ≡ decimal h.line ++ 32 ∷ (decimal h.n ++ 32 ∷ (decimal h.w ++ 32 ∷ (decimal h.cycles ++ 10 ∷ [])))
+    → drop (at - 2) (set (set line (at - 1) 32) (at - 2) 115) ≡ head_text h
+head_line h line at low within numbers =
+    let one : at - 2 + 1 ≡ at - 1 = omega (arith, low) in
+    let two : at - 1 + 1 ≡ at = omega (arith, low) in
+    let long = length-set line (at - 1) 32 in
+    drop-set (set line (at - 1) 32) (at - 2) 115 (omega (arith, long, low, within))
+    ∙ ap (λ (k : ℕ). 115 ∷ drop k (set line (at - 1) 32)) one
+    ∙ ap (λ (xs : List ℕ). 115 ∷ xs) (drop-set line (at - 1) 32 (omega (arith, low, within)) ∙ ap (λ (k : ℕ). 32 ∷ drop k line) two ∙ ap (λ (xs : List ℕ). 32 ∷ xs) numbers)
+    ∙ head_whole h

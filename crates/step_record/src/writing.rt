@@ -1,12 +1,12 @@
 //! Records, written as lines.
 
-ghost use Rattle.std.specs.Prelude.{◌≡◌, ℕ, ◌+◌, ◌≤◌, [], ◌∷◌, ◌++◌, ◌↔◌, length, decimal, IsTrue};
+ghost use Rattle.std.specs.Prelude.{◌≡◌, ℕ, ◌+◌, ◌≤◌, [], ◌∷◌, ◌++◌, length, drop, decimal};
 ghost use Rattle.arrayvec.specs.ArrayVec.{array_vec_len};
 ghost use Rattle.step_line.specs.Records.{IsHead, IsMark, IsRecord};
 ghost use Rattle.step_record.specs.Texts.{axis_text, event_text, head_text, mark_text, record_text};
 
 use arrayvec::ArrayVec;
-use itoa::Buffer;
+use itoa::{Buffer, write_digits};
 use step_line::{Bits, Head, Mark, Record, SpindleCode};
 use units::{Text, append};
 
@@ -16,18 +16,6 @@ pub const LONGEST_LINE: usize = 66;
 /// The most bytes that the line of an event has.
 pub const LONGEST_EVENT: usize = 7;
 
-/// Appends the few digits of a number.
-#[inline]
-fn push_digits<const N: usize>(digits: &[u8], out: &mut ArrayVec<u8, N>)
-    requires { array_vec_len out.old + length digits.now ≤ N }
-    ensures text { out.new.items ≡ out.old.items ++ digits.now }
-    ensures room { array_vec_len out.new ≡ array_vec_len out.old + length digits.now }
-{
-    for digit in digits {
-        out.push(*digit);
-    }
-}
-
 /// Appends a number, and the byte that ends it.
 fn push_number<const N: usize>(n: u64, end: u8, out: &mut ArrayVec<u8, N>)
     requires { array_vec_len out.old + length (decimal n) + 1 ≤ N }
@@ -35,7 +23,7 @@ fn push_number<const N: usize>(n: u64, end: u8, out: &mut ArrayVec<u8, N>)
     ensures room { array_vec_len out.new ≡ array_vec_len out.old + length (decimal n) + 1 }
 {
     let mut buffer = Buffer::new();
-    push_digits(buffer.format(n).as_bytes(), out);
+    append(buffer.format(n).as_bytes(), out);
     out.push(end);
 }
 
@@ -67,19 +55,45 @@ pub fn push_event<const N: usize>(bits: &Bits, out: &mut ArrayVec<u8, N>)
     out.push(b'\n');
 }
 
-/// Appends the line of a segment's head.
+/// Writes a number and the byte that ends it in front of a place. Where they begin is answered.
+#[inline]
+fn write_number(n: u64, ending: u8, line: &mut [u8], end: usize) -> usize
+    requires { (length (decimal n) + 1 ≤ end) × (end ≤ length line.old) }
+    ensures text { drop result line.new ≡ decimal n ++ ending ∷ drop end line.old }
+    ensures begins { result + length (decimal n) + 1 ≡ end }
+    ensures room { length line.new ≡ length line.old }
+{
+    line[end - 1] = ending;
+    write_digits(n, line, end - 1)
+}
+
+/// Writes the line of a segment's head at the end of a row of bytes, its last number first. Where it begins is answered.
+#[inline]
 #[tactic(auto, using(crate::proofs::Appended::short_numbers))]
+fn write_head(head: &Head, line: &mut [u8; LONGEST_LINE]) -> usize
+    requires { IsHead head.now }
+    ensures text { drop result line.new ≡ head_text head.now }
+    ensures within { result ≤ LONGEST_LINE }
+{
+    let cycles = write_number(head.cycles, b'\n', line, LONGEST_LINE);
+    let w = write_number(head.w, b' ', line, cycles);
+    let n = write_number(head.n as u64, b' ', line, w);
+    let number = write_number(head.line as u64, b' ', line, n);
+    line[number - 1] = b' ';
+    line[number - 2] = b's';
+    number - 2
+}
+
+/// Appends the line of a segment's head.
 fn push_head<const N: usize>(head: &Head, out: &mut ArrayVec<u8, N>)
     requires head { IsHead head.now }
     requires room { array_vec_len out.old + LONGEST_LINE ≤ N }
     ensures text { out.new.items ≡ out.old.items ++ head_text head.now }
     ensures room { array_vec_len out.new ≤ array_vec_len out.old + LONGEST_LINE }
 {
-    append(b"s ", out);
-    push_number(head.line as u64, b' ', out);
-    push_number(head.n as u64, b' ', out);
-    push_number(head.w, b' ', out);
-    push_number(head.cycles, b'\n', out);
+    let mut line = [0; LONGEST_LINE];
+    let start = write_head(head, &mut line);
+    append(&line[start..], out);
 }
 
 /// Appends a number behind what says what it is.

@@ -20,7 +20,7 @@ j1 = read_some (10 ∷ 88 ∷ []) ∷ j0
 
 c1 : Conducted j1
 unfolding cut_within
-c1 = ((record { going = refl; on = refl; sends = refl; used = refl; free = refl }, (omega arith), (omega arith)), c0)
+c1 = ((record { going = refl; on = refl; sends = refl; used = refl; free = refl; none_due = refl; shown = inr refl }, (omega arith), (omega arith)), c0)
 
 abbrev j2 : Journal
 j2 = turned Did ∷ j1
@@ -34,7 +34,7 @@ j3 = scanned 10 ∷ j2
 
 c3 : Conducted j3
 unfolding cut_within
-c3 = (record { going = refl; next = refl; few = omega arith; sends = refl; free = refl }, c2)
+c3 = (record { going = refl; next = refl; few = omega arith; sends = refl; free = refl; none_due = refl }, c2)
 
 abbrev j4 : Journal
 j4 = at_port (stored 10) ∷ j3
@@ -55,21 +55,21 @@ j6 = scanned 88 ∷ j5
 
 c6 : Conducted j6
 unfolding cut_within
-c6 = (record { going = refl; next = refl; few = omega arith; sends = refl; free = refl }, c5)
+c6 = (record { going = refl; next = refl; few = omega arith; sends = refl; free = refl; none_due = refl }, c5)
 
 abbrev j7 : Journal
 j7 = read_end ∷ j6
 
 c7 : Conducted j7
 unfolding cut_within
-c7 = (record { going = refl; on = refl; sends = refl; used = refl; free = refl }, c6)
+c7 = (record { going = refl; on = refl; sends = refl; used = refl; free = refl; none_due = refl; shown = inr refl }, c6)
 
 abbrev j8 : Journal
 j8 = line_over ∷ j7
 
 c8 : Conducted j8
 unfolding cut_within
-c8 = (record { going = refl; at_end = refl; used = refl; some = omega arith; sends = refl; free = refl }, c7)
+c8 = (record { going = refl; at_end = refl; used = refl; some = omega arith; sends = refl; free = refl; none_due = refl }, c7)
 
 abbrev j9 : Journal
 j9 = at_port (stored 88) ∷ j8
@@ -90,7 +90,7 @@ j11 = at_port no_reply ∷ j10
 
 c11 : Conducted j11
 unfolding cut_within
-c11 = (refl, c10)
+c11 = (record { going = refl; rested = omega arith }, c10)
 
 abbrev j12 : Journal
 j12 = at_port (stored 10) ∷ j11
@@ -111,7 +111,7 @@ j14 = at_port shut ∷ j13
 
 c14 : Conducted j14
 unfolding cut_within
-c14 = (record { going = refl; sent = record { free = refl; all = inr (refl, refl) } }, c13)
+c14 = (record { going = refl; sent = record { free = refl; all = inr (refl, refl) }; all_raised = refl }, c13)
 
 abbrev j15 : Journal
 j15 = turned Did ∷ j14
@@ -125,7 +125,7 @@ j16 = at_port (got Banner) ∷ j15
 
 c16 : Conducted j16
 unfolding cut_within
-c16 = (record { going = refl; few = omega arith }, c15)
+c16 = (record { poll = record { going = refl; rested = omega arith }; few = omega arith }, c15)
 
 abbrev j17 : Journal
 j17 = turned Did ∷ j16
@@ -139,7 +139,7 @@ j18 = at_port (got Ok) ∷ j17
 
 c18 : Conducted j18
 unfolding cut_within
-c18 = (record { going = refl; few = omega arith }, c17)
+c18 = (record { poll = record { going = refl; rested = omega arith }; few = omega arith }, c17)
 
 abbrev j19 : Journal
 j19 = turned Did ∷ j18
@@ -153,7 +153,7 @@ j20 = at_port (got Ok) ∷ j19
 
 c20 : Conducted j20
 unfolding cut_within
-c20 = (record { going = refl; few = omega arith }, c19)
+c20 = (record { poll = record { going = refl; rested = omega arith }; few = omega arith }, c19)
 
 abbrev j21 : Journal
 j21 = turned Did ∷ j20
@@ -167,7 +167,7 @@ j22 = at_port (got Bye) ∷ j21
 
 c22 : Conducted j22
 unfolding cut_within
-c22 = (record { going = refl; few = omega arith }, c21)
+c22 = (record { poll = record { going = refl; rested = omega arith }; few = omega arith }, c21)
 
 abbrev j23 : Journal
 j23 = turned Did ∷ j22

@@ -1,9 +1,9 @@
 -- What one step of a host makes of what it keeps.
-use Rattle.std.proofs.Common.{◌≡◌, ℕ, ◌&&◌, ◌+◌, ◌≤◌, ◌<◌, ◌⊎◌, ◌||◌, ◌^◌, inl, inr, Bool, true, false, cond, not, List, [], ◌∷◌, ◌++◌, length, map, take, drop, nat_eq, nat_lt, sum, refl, sym, ap, ◌∙◌, arith, subst, append-nil, length-append}
-use Rattle.std.specs.List.{list_any, count_by}
+use Rattle.std.proofs.Common.{◌≡◌, ℕ, ◌&&◌, ◌+◌, ◌≤◌, ◌<◌, ◌⊎◌, ◌||◌, inl, inr, Bool, true, false, cond, not, List, [], ◌∷◌, ◌++◌, length, map, take, drop, nat_eq, nat_lt, sum, option_to_list, Some, None, refl, sym, ap, ◌∙◌, arith, subst, length-append}
+use Rattle.std.specs.List.{count_by}
 use Rattle.std.proofs.lemmas.Bool.Decides.{nat_tests}
 use Rattle.std.proofs.lemmas.List.{map-append, drop-append-le, length-drop, length-take, drop_all}
-use Rattle.std.proofs.lemmas.List.Sums.{sum_by-append, sum_by-cons}
+use Rattle.std.proofs.lemmas.List.Sums.{sum_by-cons}
 use Rattle.gcode_words.specs.Stripping.{plain}
 use Rattle.run_rules.specs.Readings.{largest_job}
 use Rattle.stream_host.specs.declared.Reading.{Reading}
@@ -12,21 +12,23 @@ use Rattle.stream_host.specs.declared.line.SentLine.{SentLine}
 use Rattle.stream_host.specs.declared.reader.Reader.{Reader}
 use Rattle.stream_host.specs.declared.host.Host.{Host}
 use Rattle.stream_host.specs.Links.{on_link}
-use Rattle.stream_host.specs.Jobs.{is_long, ends_sending, MayHaveRead}
-use Rattle.stream_host.specs.Steps.{Step, Journal, port_log, got_of, has_bye, answered_of, read_of, reading_of, scanned_of, unscanned_of, raw_of, cut_of, to_store, begun_of, stop_of, stop_at, text_of, this_turn}
-use Rattle.stream_host.specs.Steps.PortStep.{stored, got, shut}
+use Rattle.stream_host.specs.Jobs.{resume, is_served, is_long, ends_sending, MayHaveRead}
+use Rattle.stream_host.specs.Steps.{Step, Journal, port_log, got_of, answered_of, read_of, reading_of, scanned_of, unscanned_of, raw_of, cut_of, to_store, begun_of, due_of, more_served, PortLog, polls_of, empty_polls, text_of, this_turn}
+use Rattle.stream_host.specs.Steps.PortStep.{stored, raised, no_reply, shut}
 use Rattle.stream_host.specs.Steps.Step.{at_port, scanned, wrote, gave_up}
-use Rattle.stream_host.specs.Conduct.{Conducted, MayScanNext, MayStore, HasSentAll, HasNoMore, publishing}
-use Rattle.stream_host.specs.Hosts.{HostFits, HasLine, IsStoring, KeepsLine, KeepsJob, KeepsCounts, KeepsText, IsQuiet, line_length, lengths, IsSummed, unread}
+use Rattle.stream_host.specs.Conduct.{Conducted, MayScanNext, MayRaise, MayStore, HasSentAll, HasNoMore, publishing}
+use Rattle.stream_host.specs.Hosts.{HostFits, HasLine, IsStoring, KeepsLine, KeepsDue, KeepsPolls, KeepsJob, KeepsCounts, IsQuiet, line_length, lengths, IsSummed, unread}
 use Rattle.stream_host.specs.declared.counts.Counts.{Counts}
 use Rattle.status_report.specs.declared.Reply.{Reply}
-use Rattle.status_report.specs.Answering.{answers_in, is_answer, is_bye}
+use Rattle.status_report.specs.Answering.{answers_in}
 use Rattle.stream_host.specs.Hosts.{HasRoom, MayScanOn, MayReadOn, IsPiece}
-use Rattle.stream_host.specs.Ports.{TakesByte, SeemsFull, IsOpen, AnswersLines}
+use Rattle.stream_host.specs.Ports.{TakesByte, TakesRaise, SeemsFull, IsOpen}
 use Rattle.stream_host.proofs.Pieces.{none_ends}
 use Rattle.stream_host.proofs.Kept.{kept_whole}
 use Rattle.stream_host.proofs.Keeping.{read_is, few_scanned, reading_fits, open_is}
 use Rattle.stream_host.proofs.Sending as sending
+use Rattle.std.specs.declared.option.Option.{Option}
+use Rattle.stream_host.proofs.Raising.{none_at_lf}
 use Rattle.stream_host.proofs.Waiting.{all_begun, begun_is, over_full}
 use Rattle.std.specs.Io.KnownBytes.{Consumes}
 use Rattle.std.proofs.lemmas.List.{drop-drop}
@@ -35,16 +37,6 @@ use Rattle.text_writer.specs.Writers.{Writing, Writes, TookSome, WriteFailed, Wr
 use Rattle.text_writer.proofs.Arriving.{well, once_more}
 use Rattle.stream_host.specs.Steps.{written_of}
 use Rattle.stream_host.specs.Hosts.{DidAlone, HostTellsOn, TellsJob}
-use Rattle.std.proofs.lemmas.List.{drop-map}
-use Rattle.std.proofs.lemmas.Grind.{flat_map-append}
-use Rattle.std.proofs.lemmas.List.Folds.{list_any-append}
-use Rattle.outside.proofs.Written.{more_waits}
-use Rattle.status_report.specs.declared.Reply.TheVariants as replies
-use Rattle.status_report.specs.Replies.{reply_text}
-use Rattle.run_rules.specs.Told.{replies_text, is_error, errors_among}
-use Rattle.text_writer.specs.Writers.{with_text, with_all_asked}
-use Rattle.stream_host.specs.Steps.{has_given_up}
-use Rattle.stream_host.specs.Hosts.{shown}
 
 -- ---- the line in hand
 
@@ -123,10 +115,101 @@ has_room s h f free =
     let lines = f.counts_are.lines_are in
     record { few = omega arith; small = omega arith; summed = f.counts_are.summed; lines = omega arith }
 
+-- ---- a byte is raised
+
+pub none_due_by : (s : Host) (h : Journal) → HostFits s h → s.line.due ≡ None → due_of h ≡ []
+none_due_by s h f none = sym f.due_is.due_is ∙ ap option_to_list none
+
+pub none_due_now : (s : Host) (h : Journal) → HostFits s h → due_of h ≡ [] → s.line.due ≡ None
+none_due_now s h f none = by_due s.line.due (f.due_is.due_is ∙ none)
+  where
+    by_due : (d : Option ℕ) → option_to_list d ≡ [] → d ≡ None
+    by_due None e = refl
+    by_due (Some b) e = absurd cc
+
+not_tired : (n : ℕ) → n < empty_polls → nat_eq n empty_polls ≡ false
+not_tired n few = grind (arith, nat_tests)
+
+tired_now : (n : ℕ) → n ≡ empty_polls → nat_eq n empty_polls ≡ true
+tired_now n e = grind (arith, nat_tests)
+
+pub never_raised : (s : Host) (b : ℕ) (h : Journal) → HostFits s h → due_of h ≡ [] → MayRaise b h → ⊥
+never_raised s b h f none may = absurd (let e = sym none ∙ may.next f.polls_are.few in cc)
+
+due_next : (s : Host) (b : ℕ) (h : Journal) → HostFits s h → s.line.due ≡ Some b → due_of h ≡ b ∷ []
+due_next s b h f is = sym f.due_is.due_is ∙ ap option_to_list is
+
+pub takes_raise : (s : Host) (b : ℕ) (h : Journal) → HostFits s h → s.line.due ≡ Some b → TakesRaise b (port_log h)
+takes_raise s b h f is query_now = absurd (let e = sym (ap is_served query_now) ∙ f.due_is.served b is in cc)
+
+pub takes_resume : (l : PortLog) → TakesRaise resume l
+takes_resume l query_now = absurd cc
+
+same_line : (l : SentLine) (raw left : List ℕ) (d : Option ℕ) → KeepsLine l raw left → KeepsLine (record l { due = d }) raw left
+same_line l raw left d k = record {
+  scanning = λ e. let n = k.scanning e in (record { stripper = n.0.stripper; kept = n.0.kept; long = n.0.long; begun = n.0.begun }, n.1);
+  storing = λ e. let n = k.storing e in record { none = n.none; short = n.short; within = n.within; left_is = n.left_is };
+}
+
+pub raised_byte : (s : Host) (b : ℕ) (down : Bool) (h : Journal) → HostFits s h → s.line.due ≡ Some b → HostFits (record s { line = record s.line { due = None } }) (at_port (raised b down) ∷ h)
+raised_byte s b down h f is =
+    let next = due_next s b h f is in
+    let going = not_tired (polls_of h) f.polls_are.few in
+    record {
+      conducted = (record { resumes = λ e. absurd (let n = f.polls_are.few in omega arith); next = λ e. next ∙ ap (λ (t : List ℕ). b ∷ drop 1 t) (sym next) }, f.conducted);
+      job_is = f.job_is;
+      line_is = same_line s.line (raw_of h) (to_store h) None f.line_is;
+      due_is = record { due_is = sym (ap (λ t. cond t (due_of h) (drop 1 (due_of h))) going ∙ ap (drop 1) next); served = λ c e. absurd cc };
+      counts_are = f.counts_are;
+      polls_are = subst (λ t. KeepsPolls s.polls (cond t 0 (polls_of h))) (sym going) f.polls_are;
+      text_is = f.text_is;
+      shut_is = f.shut_is;
+      bye_is = f.bye_is;
+      over = f.over;
+    }
+
+-- a poll that found no reply is counted
+pub polled : (s : Host) (n : ℕ) (h : Journal) → HostFits s h → s.bye ≡ false → n ≡ s.polls + 1 → n < empty_polls → HostFits (record s { polls = n }) (at_port no_reply ∷ h)
+polled s n h f going is few = record {
+  conducted = (record { going = sym f.bye_is ∙ going; rested = f.polls_are.few }, f.conducted);
+  job_is = f.job_is;
+  line_is = f.line_is;
+  due_is = f.due_is;
+  counts_are = f.counts_are;
+  polls_are = record { polls_are = is ∙ ap (λ m. m + 1) f.polls_are.polls_are; few = (let e = f.polls_are.polls_are in omega arith) };
+  text_is = f.text_is;
+  shut_is = f.shut_is;
+  bye_is = f.bye_is;
+  over = f.over;
+}
+
+-- the machine is resumed
+pub resumed : (s : Host) (down : Bool) (h : Journal) → HostFits s h → s.bye ≡ false → empty_polls ≤ s.polls + 1 → HostFits (record s { polls = 0 }) (at_port (raised resume down) ∷ at_port no_reply ∷ h)
+resumed s down h f going full =
+    let few = f.polls_are.few in let is = f.polls_are.polls_are in
+    let all : polls_of h + 1 ≡ empty_polls = omega arith in
+    let tired = tired_now (polls_of h + 1) all in
+    record {
+      conducted = (
+        record { resumes = λ e. refl; next = λ fewer. absurd (omega arith) },
+        (record { going = sym f.bye_is ∙ going; rested = few }, f.conducted),
+      );
+      job_is = f.job_is;
+      line_is = f.line_is;
+      due_is = subst (λ t. KeepsDue s.line.due (cond t (due_of h) (drop 1 (due_of h)))) (sym tired) f.due_is;
+      counts_are = f.counts_are;
+      polls_are = subst (λ t. KeepsPolls 0 (cond t 0 (polls_of h + 1))) (sym tired) (record { polls_are = refl; few = omega arith });
+      text_is = f.text_is;
+      shut_is = f.shut_is;
+      bye_is = f.bye_is;
+      over = f.over;
+    }
+
 -- ---- a byte is scanned
 
 pub may_scan_next : (s : Host) (r : Reader) (b : ℕ) (h : Journal) → HostFits s h → MayScanOn s → s.shut ≡ false → unread s.job ≡ b ∷ unread r → MayScanNext b h
 may_scan_next s r b h f may going next = record {
+  none_due = none_due_by s h f may.none_due;
   going = sym f.shut_is ∙ going;
   next = sym f.job_is.left_is ∙ next ∙ ap (λ (t : List ℕ). b ∷ drop 1 t) (sym next ∙ f.job_is.left_is);
   few = (let n = f.job_is.scanned_is in let m = may.few in omega arith);
@@ -143,20 +226,25 @@ job_scanned s r b h f next piece count reading = record {
   scanned_is = count ∙ ap (λ n. n + 1) f.job_is.scanned_is ∙ sym (length-append (scanned_of h) (b ∷ []));
 }
 
+pub nothing_due : (d : Option ℕ) (due : List ℕ) → d ≡ None → due ≡ [] → KeepsDue d due
+nothing_due d due none is = record { due_is = ap option_to_list none ∙ sym is; served = λ b e. absurd (let g = sym none ∙ e in cc) }
+
 -- a job at its end has no byte left
 not_over : (s : Host) (r : Reader) (b : ℕ) (h : Journal) {A : Type 0} → HostFits s h → unread s.job ≡ b ∷ unread r → reading_of h ≡ Ended → A
 not_over s r b h f next e = absurd (let g = sym (f.over e).0 ∙ sym f.job_is.left_is ∙ next in cc)
 
 pub scanned_byte : (s : Host) (r : Reader) (l : SentLine) (b : ℕ) (h : Journal) → HostFits s h → MayScanOn s → s.shut ≡ false → unread s.job ≡ b ∷ unread r → IsPiece r → r.scanned ≡ s.job.scanned + 1 → r.reading ≡ s.job.reading
-    → nat_eq b 10 ≡ false → ((raw : List ℕ) → HasLine s.line raw → HasLine l (raw ++ b ∷ [])) → l.whole ≡ s.line.whole → HostFits (record s { job = r; line = l }) (scanned b ∷ h)
-scanned_byte s r l b h f may going next piece count reading other fed whole = record {
+    → nat_eq b 10 ≡ false → ((raw : List ℕ) → HasLine s.line raw → HasLine l (raw ++ b ∷ [])) → ((raw : List ℕ) → HasLine s.line raw → KeepsDue l.due (more_served raw b)) → l.whole ≡ s.line.whole → HostFits (record s { job = r; line = l }) (scanned b ∷ h)
+scanned_byte s r l b h f may going next piece count reading other fed due whole = record {
   conducted = (may_scan_next s r b h f may going next, f.conducted);
   job_is = job_scanned s r b h f next piece count reading;
   line_is = subst (λ t. KeepsLine l (cond t [] (raw_of h ++ b ∷ [])) (cond t (plain (raw_of h) ++ 10 ∷ []) (to_store h))) (sym other) (record {
     scanning = λ e. let now = f.line_is.scanning may.scanning in (fed (raw_of h) now.0, now.1);
     storing = λ e. absurd (let g = sym e ∙ whole ∙ may.scanning in cc);
   });
+  due_is = subst (λ (d : List ℕ). KeepsDue l.due (d ++ more_served (raw_of h) b)) (sym (none_due_by s h f may.none_due)) (due (raw_of h) (f.line_is.scanning may.scanning).0);
   counts_are = subst (λ t. KeepsCounts s.counts (cond t (cut_of h ++ raw_of h ∷ []) (cut_of h)) (got_of h)) (sym other) f.counts_are;
+  polls_are = f.polls_are;
   text_is = f.text_is;
   shut_is = f.shut_is;
   bye_is = f.bye_is;
@@ -164,12 +252,14 @@ scanned_byte s r l b h f may going next piece count reading other fed whole = re
 }
 
 pub scanned_lf : (s : Host) (r : Reader) (l : SentLine) (c : Counts) (b : ℕ) (h : Journal) → HostFits s h → MayScanOn s → s.shut ≡ false → unread s.job ≡ b ∷ unread r → IsPiece r → r.scanned ≡ s.job.scanned + 1 → r.reading ≡ s.job.reading
-    → nat_eq b 10 ≡ true → KeepsLine l [] (plain (raw_of h) ++ 10 ∷ []) → KeepsCounts c (cut_of h ++ raw_of h ∷ []) (got_of h) → HostFits (record s { job = r; line = l; counts = c }) (scanned b ∷ h)
-scanned_lf s r l c b h f may going next piece count reading lf line counts = record {
+    → nat_eq b 10 ≡ true → KeepsLine l [] (plain (raw_of h) ++ 10 ∷ []) → l.due ≡ s.line.due → KeepsCounts c (cut_of h ++ raw_of h ∷ []) (got_of h) → HostFits (record s { job = r; line = l; counts = c }) (scanned b ∷ h)
+scanned_lf s r l c b h f may going next piece count reading lf line due counts = record {
   conducted = (may_scan_next s r b h f may going next, f.conducted);
   job_is = job_scanned s r b h f next piece count reading;
   line_is = subst (λ t. KeepsLine l (cond t [] (raw_of h ++ b ∷ [])) (cond t (plain (raw_of h) ++ 10 ∷ []) (to_store h))) (sym lf) line;
+  due_is = nothing_due l.due _ (due ∙ may.none_due) (ap (λ (d : List ℕ). d ++ more_served (raw_of h) b) (none_due_by s h f may.none_due) ∙ none_at_lf (raw_of h) b lf);
   counts_are = subst (λ t. KeepsCounts c (cond t (cut_of h ++ raw_of h ∷ []) (cut_of h)) (got_of h)) (sym lf) counts;
+  polls_are = f.polls_are;
   text_is = f.text_is;
   shut_is = f.shut_is;
   bye_is = f.bye_is;
@@ -199,6 +289,7 @@ not_dropped s b h f may full = let l = sending.room_is b h f.conducted may in ab
 pub record Advances (l m : SentLine) : Type 0 where
   pub more : l.place < length l.kept.items → m ≡ record l { place = l.place + 1 }
   pub last : l.place ≡ length l.kept.items → HasLine m [] × (m.whole ≡ false)
+  pub due : m.due ≡ l.due
 
 line_stored : (l m : SentLine) (b : ℕ) (raw left : List ℕ) → l.whole ≡ true → Advances l m → IsStoring l raw left → drop l.place (l.kept.items ++ 10 ∷ []) ≡ b ∷ drop (l.place + 1) (l.kept.items ++ 10 ∷ []) → KeepsLine m raw (drop 1 left)
 line_stored l m b raw left whole stores is next = by_place (nat_lt l.place (length l.kept.items)) refl
@@ -227,7 +318,9 @@ stored_byte s m b h f whole may stores next = record {
   conducted = (may, f.conducted);
   job_is = f.job_is;
   line_is = line_stored s.line m b (raw_of h) (to_store h) whole stores (f.line_is.storing whole) next;
+  due_is = subst (λ d. KeepsDue d (due_of h)) (sym stores.due) f.due_is;
   counts_are = f.counts_are;
+  polls_are = f.polls_are;
   text_is = f.text_is;
   shut_is = f.shut_is;
   bye_is = f.bye_is;
@@ -256,37 +349,40 @@ none_left_large h c at none =
     let l = ap length (read_is h c) in let m = length-append (scanned_of h) (unscanned_of h) in let n = ap length none in let k = few_scanned h c in
     absurd (omega arith)
 
-no_more_by : (s : Host) (h : Journal) → HostFits s h → (MayScanOn s → ⊥) → (MayReadOn s → ⊥) → s.line.whole ≡ false → s.line.long ≡ false
+no_more_by : (s : Host) (h : Journal) → HostFits s h → (MayScanOn s → ⊥) → (MayReadOn s → ⊥) → s.line.whole ≡ false → s.line.long ≡ false → s.line.due ≡ None
     → (r : Reading) → reading_of h ≡ r → (left : List ℕ) → unscanned_of h ≡ left → HasNoMore r (unscanned_of h) (raw_of h) (length (scanned_of h))
-no_more_by s h f no_scan no_read whole long Ended at left is = f.over at
-no_more_by s h f no_scan no_read whole long Failed at [] is = is
-no_more_by s h f no_scan no_read whole long Stopped at [] is = absurd (no_read (record { scanning = whole; short = long; used = used_by s.job (f.job_is.left_is ∙ is) f.job_is.piece; on = f.job_is.reading_is ∙ at }))
-no_more_by s h f no_scan no_read whole long Large at [] is = none_left_large h f.conducted at is
-no_more_by s h f no_scan no_read whole long r at (b ∷ left) is = over_full h f.conducted b left is (full (nat_lt (length (scanned_of h)) largest_job) refl) r at
+no_more_by s h f no_scan no_read whole long none Ended at left is = f.over at
+no_more_by s h f no_scan no_read whole long none Failed at [] is = is
+no_more_by s h f no_scan no_read whole long none Stopped at [] is = absurd (no_read (record { scanning = whole; short = long; none_due = none; used = used_by s.job (f.job_is.left_is ∙ is) f.job_is.piece; on = f.job_is.reading_is ∙ at }))
+no_more_by s h f no_scan no_read whole long none Large at [] is = none_left_large h f.conducted at is
+no_more_by s h f no_scan no_read whole long none r at (b ∷ left) is = over_full h f.conducted b left is (full (nat_lt (length (scanned_of h)) largest_job) refl) r at
   where
     full : (t : Bool) → nat_lt (length (scanned_of h)) largest_job ≡ t → largest_job ≤ length (scanned_of h)
     full false e = grind (arith, nat_tests)
     full true e = absurd (no_scan (record {
       scanning = whole;
       short = long;
+      none_due = none;
       some = some_by s.job b left (f.job_is.left_is ∙ is);
       few = (let n = f.job_is.scanned_is in grind (arith, nat_tests));
     }))
 
 -- all is sent where nothing may be scanned or read
-pub has_sent : (s : Host) (h : Journal) → HostFits s h → s.line.whole ≡ false → (MayScanOn s → ⊥) → (MayReadOn s → ⊥) → HasSentAll h
-has_sent s h f whole no_scan no_read = record { free = (f.line_is.scanning whole).1; all = by_long s.line.long refl }
+pub has_sent : (s : Host) (h : Journal) → HostFits s h → s.line.whole ≡ false → s.line.due ≡ None → (MayScanOn s → ⊥) → (MayReadOn s → ⊥) → HasSentAll h
+has_sent s h f whole none no_scan no_read = record { free = (f.line_is.scanning whole).1; all = by_long s.line.long refl }
   where
     by_long : (t : Bool) → s.line.long ≡ t → (ends_sending (raw_of h) ≡ true) ⊎ HasNoMore (reading_of h) (unscanned_of h) (raw_of h) (length (scanned_of h))
     by_long true e = inl (long_is s h f whole ∙ e)
-    by_long false e = inr (no_more_by s h f no_scan no_read whole e (reading_of h) refl (unscanned_of h) refl)
+    by_long false e = inr (no_more_by s h f no_scan no_read whole e none (reading_of h) refl (unscanned_of h) refl)
 
-pub closed : (s : Host) (h : Journal) → HostFits s h → s.line.whole ≡ false → s.shut ≡ false → (MayScanOn s → ⊥) → (MayReadOn s → ⊥) → HostFits (record s { shut = true }) (at_port shut ∷ h)
-closed s h f whole going no_scan no_read = record {
-  conducted = (record { going = sym f.shut_is ∙ going; sent = has_sent s h f whole no_scan no_read }, f.conducted);
+pub closed : (s : Host) (h : Journal) → HostFits s h → s.line.whole ≡ false → s.shut ≡ false → s.line.due ≡ None → (MayScanOn s → ⊥) → (MayReadOn s → ⊥) → HostFits (record s { shut = true }) (at_port shut ∷ h)
+closed s h f whole going none no_scan no_read = record {
+  conducted = (record { going = sym f.shut_is ∙ going; sent = has_sent s h f whole none no_scan no_read; all_raised = none_due_by s h f none }, f.conducted);
   job_is = f.job_is;
   line_is = f.line_is;
+  due_is = f.due_is;
   counts_are = f.counts_are;
+  polls_are = f.polls_are;
   text_is = f.text_is;
   shut_is = refl;
   bye_is = f.bye_is;
@@ -331,7 +427,9 @@ wrote_some s w h now later f due took =
           conducted = (record { going = sym f.text_is.failed_is ∙ going; some = took.some; front = omega arith }, f.conducted);
           job_is = f.job_is;
           line_is = f.line_is;
+          due_is = f.due_is;
           counts_are = f.counts_are;
+          polls_are = f.polls_are;
           text_is = record {
             failed_is = ap (λ v. v.failed) left ∙ f.text_is.failed_is;
             waits = λ e. ap (λ v. v.waiting) left ∙ ap (drop took.count) waits ∙ drop-drop took.count (written_of h) (text_of h);
@@ -367,7 +465,9 @@ wrote_none s w h now later f due fault =
           conducted = (record { going = sym f.text_is.failed_is ∙ going; some = omega arith }, f.conducted);
           job_is = f.job_is;
           line_is = f.line_is;
+          due_is = f.due_is;
           counts_are = f.counts_are;
+          polls_are = f.polls_are;
           text_is = record {
             failed_is = gone;
             waits = λ e. absurd (let g = sym gone ∙ e in cc);
@@ -398,123 +498,3 @@ wrote_none s w h now later f due fault =
 pub wrote_on : (s : Host) (w : Writing) (h : Journal) (now later : SinkState) → HostFits s h → Writes s.text → WroteOnce s.text w now later → (next : Journal) × DidAlone s (record s { text = w }) h next × ((job : SourceState) → HostTellsOn s (record s { text = w }) h next job job now later)
 wrote_on s w h now later f due (inl took) = wrote_some s w h now later f due took
 wrote_on s w h now later f due (inr fault) = wrote_none s w h now later f due fault
-
--- ---- a reply
-
-pub is_no_answer : (r : Reply) → (r ≡ replies.Ok → ⊥) → ((n : ℕ) → r ≡ replies.Error n → ⊥) → (is_answer r ≡ false) × (is_error r ≡ false)
-is_no_answer replies.Banner o e = (refl, refl)
-is_no_answer replies.Ok o e = absurd (o refl)
-is_no_answer (replies.Error n) o e = absurd (e n refl)
-is_no_answer (replies.Alarm n) o e = (refl, refl)
-is_no_answer (replies.Message m) o e = (refl, refl)
-is_no_answer (replies.Report t) o e = (refl, refl)
-is_no_answer (replies.Setting n v) o e = (refl, refl)
-is_no_answer (replies.Modes m) o e = (refl, refl)
-is_no_answer (replies.Offset row at) o e = (refl, refl)
-is_no_answer replies.Bye o e = (refl, refl)
-
-errors_push : (rs : List Reply) (r : Reply) → errors_among (rs ++ r ∷ []) ≡ errors_among rs + cond {A = ℕ} (is_error r) 1 0
-errors_push rs r = let e = sum_by-append (λ x. cond {A = ℕ} (is_error x) 1 0) rs (r ∷ []) in omega arith
-
-one_more_if : (b : Bool) (n : ℕ) → cond b (n + 1) n ≡ n + cond {A = ℕ} b 1 0
-one_more_if true n = refl
-one_more_if false n = omega arith
-
--- an answer is counted
-pub counted_answer : (c d : Counts) (r : Reply) (cuts : List (List ℕ)) (rs : List Reply) → KeepsCounts c cuts rs → is_answer r ≡ true
-    → lengths d.unanswered ≡ drop 1 (lengths c.unanswered) → IsSummed d.unanswered → d.lines ≡ c.lines → d.answered ≡ c.answered + 1 → d.errors ≡ cond (is_error r) (c.errors + 1) c.errors
-    → KeepsCounts d cuts (rs ++ r ∷ [])
-counted_answer c d r cuts rs k is fewer summed lines answered errors =
-    let more : answers_in (rs ++ r ∷ []) ≡ answers_in rs + 1 = sending.answers_push rs r ∙ ap (λ b. answers_in rs + cond {A = ℕ} b 1 0) is in
-    record {
-      unanswered_are =
-          fewer ∙ ap (drop 1) k.unanswered_are ∙ drop-map line_length 1 (drop (answers_in rs) cuts) ∙ ap (map line_length) (drop-drop 1 (answers_in rs) cuts)
-          ∙ ap (λ n. map line_length (drop n cuts)) (sym more);
-      summed = summed;
-      lines_are = lines ∙ k.lines_are;
-      answered_is = answered ∙ ap (λ n. n + 1) k.answered_is ∙ sym more;
-      errors_are = errors ∙ ap (λ n. cond (is_error r) (n + 1) n) k.errors_are ∙ one_more_if (is_error r) (errors_among rs) ∙ sym (errors_push rs r);
-    }
-
--- what is no answer counts nothing
-pub counted_other : (c : Counts) (r : Reply) (cuts : List (List ℕ)) (rs : List Reply) → KeepsCounts c cuts rs → is_answer r ≡ false → is_error r ≡ false → KeepsCounts c cuts (rs ++ r ∷ [])
-counted_other c r cuts rs k is none =
-    let same : answers_in (rs ++ r ∷ []) ≡ answers_in rs = (let e = sending.answers_push rs r in let g = ap (λ b. cond {A = ℕ} b 1 0) is in omega arith) in
-    let errors : errors_among (rs ++ r ∷ []) ≡ errors_among rs = (let e = errors_push rs r in let g = ap (λ b. cond {A = ℕ} b 1 0) none in omega arith) in
-    record {
-      unanswered_are = k.unanswered_are ∙ ap (λ n. map line_length (drop n cuts)) (sym same);
-      summed = k.summed;
-      lines_are = k.lines_are;
-      answered_is = k.answered_is ∙ sym same;
-      errors_are = k.errors_are ∙ sym errors;
-    }
-
--- the numbers fit
-pub few_counted : (s : Host) (h : Journal) → HostFits s h → (s.counts.answered + 1 < 2 ^ 32) × (s.counts.errors + 1 < 2 ^ 32)
-few_counted s h f =
-    let n = sending.counts_are h f.conducted in let a = n.0 in let b = n.1 in let d = n.2 in
-    let e = f.counts_are.answered_is in let g = f.counts_are.errors_are in (omega arith, omega arith)
-
-text_push : (rs : List Reply) (r : Reply) → replies_text (rs ++ r ∷ []) ≡ replies_text rs ++ reply_text r
-text_push rs r = flat_map-append reply_text rs (r ∷ []) ∙ ap (λ t. replies_text rs ++ t) (append-nil (reply_text r))
-
-bye_push : (rs : List Reply) (r : Reply) → list_any is_bye (rs ++ r ∷ []) ≡ (list_any is_bye rs || is_bye r)
-bye_push rs r = list_any-append is_bye rs (r ∷ []) ∙ ap (λ b. list_any is_bye rs || b) (or_none (is_bye r))
-  where
-    or_none : (b : Bool) → (b || false) ≡ b
-    or_none true = refl
-    or_none false = refl
-
-shown_failed : (v : Writing) (r : Reply) → (shown v r).failed ≡ v.failed
-shown_failed v r = by_bye (is_bye r)
-  where
-    by_bye : (b : Bool) → (cond b (with_all_asked (with_text v (reply_text r))) (with_text v (reply_text r))).failed ≡ v.failed
-    by_bye true = refl
-    by_bye false = refl
-
-shown_waiting : (v : Writing) (r : Reply) → (shown v r).waiting ≡ cond v.failed v.waiting (v.waiting ++ reply_text r)
-shown_waiting v r = by_bye (is_bye r)
-  where
-    by_bye : (b : Bool) → (cond b (with_all_asked (with_text v (reply_text r))) (with_text v (reply_text r))).waiting ≡ cond v.failed v.waiting (v.waiting ++ reply_text r)
-    by_bye true = refl
-    by_bye false = refl
-
-shown_asked : (v : Writing) (r : Reply) (bye : Bool) → bye ≡ false → (bye || is_bye r) ≡ true → (shown v r).asked ≡ true
-shown_asked v r bye none is = by_bye (is_bye r) (ap (λ b. b || is_bye r) (sym none) ∙ is)
-  where
-    by_bye : (b : Bool) → b ≡ true → (cond b (with_all_asked (with_text v (reply_text r))) (with_text v (reply_text r))).asked ≡ true
-    by_bye true e = refl
-    by_bye false e = absurd cc
-
-got_text : (s : Host) (w : Writing) (r : Reply) (h : Journal) → HostFits s h → s.bye ≡ false → w ≡ shown s.text r → KeepsText w (text_of (at_port (got r) ∷ h)) (written_of h) (has_given_up h) (has_bye (at_port (got r) ∷ h))
-got_text s w r h f going is = record {
-  failed_is = ap (λ v. v.failed) is ∙ shown_failed s.text r ∙ f.text_is.failed_is;
-  waits = λ e.
-      let well : s.text.failed ≡ false = sym (ap (λ v. v.failed) is ∙ shown_failed s.text r) ∙ e in
-      ap (λ v. v.waiting) is ∙ shown_waiting s.text r ∙ ap (λ b. cond b s.text.waiting (s.text.waiting ++ reply_text r)) well
-      ∙ ap (λ t. t ++ reply_text r) (f.text_is.waits well) ∙ sym (drop-append-le (written_of h) (text_of h) (reply_text r) f.text_is.within)
-      ∙ ap (drop (written_of h)) (sym (text_push (got_of h) r));
-  within = (let l = ap length (text_push (got_of h) r) in let m = length-append (text_of h) (reply_text r) in let n = f.text_is.within in omega arith);
-  all_asked = λ e. ap (λ v. v.asked) is ∙ shown_asked s.text r (has_bye h) (sym f.bye_is ∙ going) (sym (bye_push (got_of h) r) ∙ e);
-}
-
-pub got_reply : (s : Host) (w : Writing) (c : Counts) (bye : Bool) (r : Reply) (h : Journal) → HostFits s h → s.bye ≡ false → AnswersLines (got r ∷ port_log h) → w ≡ shown s.text r → bye ≡ (s.bye || is_bye r)
-    → KeepsCounts c (cut_of h) (got_of h ++ r ∷ []) → HostFits (record s { text = w; counts = c; bye = bye }) (at_port (got r) ∷ h)
-got_reply s w c bye r h f going lines text is counts = record {
-  conducted = (record { going = sym f.bye_is ∙ going; few = lines }, f.conducted);
-  job_is = f.job_is;
-  line_is = f.line_is;
-  counts_are = counts;
-  text_is = got_text s w r h f going text;
-  shut_is = f.shut_is;
-  bye_is = is ∙ ap (λ b. b || is_bye r) f.bye_is ∙ sym (bye_push (got_of h) r);
-  over = f.over;
-}
-
-pub tells_reply : (s t : Host) (r : Reply) (h : Journal) (job : SourceState) (console : SinkState) → t.text ≡ shown s.text r → HostTellsOn s t h (at_port (got r) ∷ h) job job console console
-tells_reply s t r h job console is = record {
-  job = λ before j. same_job h (at_port (got r) ∷ h) before job refl refl j;
-  console = λ before j.
-      let more = more_waits before console s.text.failed s.text.waiting (text_of h) (reply_text r) j in
-      rw (is, shown_failed s.text r, shown_waiting s.text r, text_push (got_of h) r) more;
-}

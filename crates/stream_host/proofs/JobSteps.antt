@@ -14,12 +14,12 @@ use Rattle.stream_host.specs.declared.line.SentLine.{SentLine}
 use Rattle.stream_host.specs.declared.reader.Reader.{Reader}
 use Rattle.stream_host.specs.declared.counts.Counts.{Counts}
 use Rattle.stream_host.specs.declared.host.Host.{Host}
-use Rattle.stream_host.specs.Steps.{Journal, port_log, got_in, got_of, read_of, reading_of, scanned_of, unscanned_of, raw_of, cut_of, to_store}
+use Rattle.stream_host.specs.Steps.{Journal, port_log, got_in, got_of, read_of, reading_of, scanned_of, unscanned_of, raw_of, cut_of, to_store, due_of}
 use Rattle.stream_host.specs.Steps.Step.{read_some, read_end, read_failed, scanned, line_over}
-use Rattle.stream_host.specs.Conduct.{MayRead, moving}
+use Rattle.stream_host.specs.Conduct.{MayRead, HasWritten, moving}
 use Rattle.stream_host.specs.Hosts.{HostFits, KeepsLine, KeepsCounts, IsQuiet, MayReadOn, GaveBytes, GaveEnd, GaveNone, DidAlone, HostTellsOn, TellsJob, unread}
 use Rattle.stream_host.proofs.Keeping.{read_is}
-use Rattle.stream_host.proofs.Hosting.{long_is, used_by, quiet_on, same_job}
+use Rattle.stream_host.proofs.Hosting.{none_due_by, none_due_now, nothing_due, long_is, used_by, quiet_on, same_job}
 
 -- ---- some bytes are scanned
 
@@ -63,13 +63,15 @@ did_scan s t h same (bytes, some, fits) = (
 
 -- ---- the job is read
 
-pub may_read : (s : Host) (h : Journal) → HostFits s h → MayReadOn s → s.shut ≡ false → MayRead h
-may_read s h f may going = record {
+pub may_read : (s : Host) (h : Journal) → HostFits s h → MayReadOn s → s.shut ≡ false → HasWritten h → MayRead h
+may_read s h f may going written = record {
   going = sym f.shut_is ∙ going;
   on = sym f.job_is.reading_is ∙ may.on;
   sends = long_is s h f may.scanning ∙ may.short;
   used = sym f.job_is.left_is ∙ drop_all s.job.place (take s.job.end s.job.bytes) (let l = length-take s.job.end s.job.bytes in let u = may.used in omega arith);
   free = (f.line_is.scanning may.scanning).1;
+  none_due = none_due_by s h f may.none_due;
+  shown = written;
 }
 
 none_whole : (s : Host) (h : Journal) → HostFits s h → to_store h ≡ [] → (t : Bool) → s.line.whole ≡ t → s.line.whole ≡ false
@@ -84,6 +86,7 @@ may_read_on s h f may =
     let whole = none_whole s h f may.free s.line.whole refl in record {
       scanning = whole;
       short = sym (long_is s h f whole) ∙ may.sends;
+      none_due = none_due_now s h f may.none_due;
       used = used_by s.job (f.job_is.left_is ∙ may.used) f.job_is.piece;
       on = f.job_is.reading_is ∙ may.on;
     }
@@ -100,10 +103,10 @@ never_failed : (b : Bool) {A : Type 0} → cond b Large Stopped ≡ Failed → A
 never_failed true e = absurd cc
 never_failed false e = absurd cc
 
-pub did_read : (s : Host) (r : Reader) (h : Journal) (now later : SourceState) → HostFits s h → MayReadOn s → s.shut ≡ false → GaveBytes s.job r now later
+pub did_read : (s : Host) (r : Reader) (h : Journal) (now later : SourceState) → HostFits s h → MayReadOn s → s.shut ≡ false → HasWritten h → GaveBytes s.job r now later
     → (next : Journal) × DidAlone s (record s { job = r }) h next × ((console : SinkState) → HostTellsOn s (record s { job = r }) h next now later console console)
-did_read s r h now later f on going gave =
-    let may = may_read s h f on going in (
+did_read s r h now later f on going written gave =
+    let may = may_read s h f on going written in (
       read_some (unread r) ∷ h,
       record {
         fits = record {
@@ -117,7 +120,9 @@ did_read s r h now later f on going gave =
             scanned_is = gave.scanned ∙ f.job_is.scanned_is;
           };
           line_is = f.line_is;
+          due_is = f.due_is;
           counts_are = f.counts_are;
+          polls_are = f.polls_are;
           text_is = f.text_is;
           shut_is = f.shut_is;
           bye_is = f.bye_is;
@@ -140,17 +145,19 @@ did_read s r h now later f on going gave =
       },
     )
 
-pub did_fail : (s : Host) (r : Reader) (h : Journal) (now later : SourceState) → HostFits s h → MayReadOn s → s.shut ≡ false → GaveNone s.job r now later
+pub did_fail : (s : Host) (r : Reader) (h : Journal) (now later : SourceState) → HostFits s h → MayReadOn s → s.shut ≡ false → HasWritten h → GaveNone s.job r now later
     → (next : Journal) × DidAlone s (record s { job = r }) h next × ((console : SinkState) → HostTellsOn s (record s { job = r }) h next now later console console)
-did_fail s r h now later f on going gave =
-    let may = may_read s h f on going in (
+did_fail s r h now later f on going written gave =
+    let may = may_read s h f on going written in (
       read_failed ∷ h,
       record {
         fits = record {
           conducted = (may, f.conducted);
           job_is = record { piece = gave.piece; left_is = gave.none ∙ sym may.used; reading_is = gave.reading; scanned_is = gave.scanned ∙ f.job_is.scanned_is };
           line_is = f.line_is;
+          due_is = f.due_is;
           counts_are = f.counts_are;
+          polls_are = f.polls_are;
           text_is = f.text_is;
           shut_is = f.shut_is;
           bye_is = f.bye_is;
@@ -188,10 +195,10 @@ none_begun (x ∷ xs) e = absurd (grind (arith, nat_tests))
 some_begun : (xs : List ℕ) → nat_lt 0 (length xs) ≡ true → 0 < length xs
 some_begun xs e = grind (arith, nat_tests)
 
-pub did_end : (s : Host) (r : Reader) (h : Journal) (now later : SourceState) → HostFits s h → MayReadOn s → s.shut ≡ false → s.line.begun ≡ false → GaveEnd s.job r now later
+pub did_end : (s : Host) (r : Reader) (h : Journal) (now later : SourceState) → HostFits s h → MayReadOn s → s.shut ≡ false → HasWritten h → s.line.begun ≡ false → GaveEnd s.job r now later
     → (next : Journal) × DidAlone s (record s { job = r }) h next × ((console : SinkState) → HostTellsOn s (record s { job = r }) h next now later console console)
-did_end s r h now later f on going none gave =
-    let may = may_read s h f on going in
+did_end s r h now later f on going written none gave =
+    let may = may_read s h f on going written in
     let raw : raw_of h ≡ [] = none_begun (raw_of h) (sym (f.line_is.scanning on.scanning).0.begun ∙ none) in (
       read_end ∷ h,
       record {
@@ -199,7 +206,9 @@ did_end s r h now later f on going none gave =
           conducted = (may, f.conducted);
           job_is = record { piece = gave.piece; left_is = gave.none ∙ sym may.used; reading_is = gave.reading; scanned_is = gave.scanned ∙ f.job_is.scanned_is };
           line_is = f.line_is;
+          due_is = f.due_is;
           counts_are = f.counts_are;
+          polls_are = f.polls_are;
           text_is = f.text_is;
           shut_is = f.shut_is;
           bye_is = f.bye_is;
@@ -218,11 +227,11 @@ did_end s r h now later f on going none gave =
     )
 
 -- the last line has no LF
-pub did_end_line : (s : Host) (r : Reader) (l : SentLine) (c : Counts) (h : Journal) (now later : SourceState) → HostFits s h → MayReadOn s → s.shut ≡ false → s.line.begun ≡ true → GaveEnd s.job r now later
-    → KeepsLine l [] (plain (raw_of h) ++ 10 ∷ []) → KeepsCounts c (cut_of h ++ raw_of h ∷ []) (got_of h)
+pub did_end_line : (s : Host) (r : Reader) (l : SentLine) (c : Counts) (h : Journal) (now later : SourceState) → HostFits s h → MayReadOn s → s.shut ≡ false → HasWritten h → s.line.begun ≡ true → GaveEnd s.job r now later
+    → KeepsLine l [] (plain (raw_of h) ++ 10 ∷ []) → l.due ≡ s.line.due → KeepsCounts c (cut_of h ++ raw_of h ∷ []) (got_of h)
     → (next : Journal) × DidAlone s (record s { job = r; line = l; counts = c }) h next × ((console : SinkState) → HostTellsOn s (record s { job = r; line = l; counts = c }) h next now later console console)
-did_end_line s r l c h now later f on going begun gave line counts =
-    let may = may_read s h f on going in (
+did_end_line s r l c h now later f on going written begun gave line due counts =
+    let may = may_read s h f on going written in (
       line_over ∷ read_end ∷ h,
       record {
         fits = record {
@@ -234,12 +243,15 @@ did_end_line s r l c h now later f on going begun gave line counts =
               some = some_begun (raw_of h) (sym (f.line_is.scanning on.scanning).0.begun ∙ begun);
               sends = may.sends;
               free = may.free;
+              none_due = may.none_due;
             },
             (may, f.conducted),
           );
           job_is = record { piece = gave.piece; left_is = gave.none ∙ sym may.used; reading_is = gave.reading; scanned_is = gave.scanned ∙ f.job_is.scanned_is };
           line_is = line;
+          due_is = nothing_due l.due (due_of h) (due ∙ on.none_due) may.none_due;
           counts_are = counts;
+          polls_are = f.polls_are;
           text_is = f.text_is;
           shut_is = f.shut_is;
           bye_is = f.bye_is;

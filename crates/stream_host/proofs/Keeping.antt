@@ -15,7 +15,7 @@ use Rattle.stream_host.specs.Links.{on_link}
 use Rattle.stream_host.specs.Jobs.{ends_sending, ends_in, but_last, MayHaveRead}
 use Rattle.stream_host.specs.Steps.{Step, Journal, stored_of, is_shut, read_of, reading_of, scanned_of, unscanned_of, raw_of, cut_of, to_store}
 use Rattle.stream_host.specs.Steps.PortStep.{stored, dropped, raised, got, no_reply, shut}
-use Rattle.stream_host.specs.Steps.Step.{at_port, read_some, read_end, read_failed, scanned, line_over, wrote, gave_up, tired, turned}
+use Rattle.stream_host.specs.Steps.Step.{at_port, read_some, read_end, read_failed, scanned, line_over, wrote, gave_up, turned}
 use Rattle.stream_host.specs.Conduct.{Conducted, MayScanNext, HasSentAll}
 use Rattle.stream_host.proofs.Links.{all_push}
 use Rattle.stream_host.proofs.Pieces.{IsSendable, any_is, none_any, none_ends}
@@ -32,7 +32,6 @@ read_is (scanned b ∷ h) c = read_is h c.1 ∙ ap (λ (t : List ℕ). scanned_o
 read_is (line_over ∷ h) c = read_is h c.1
 read_is (wrote n ∷ h) c = read_is h c.1
 read_is (gave_up ∷ h) c = read_is h c.1
-read_is (tired ∷ h) c = absurd c.0
 read_is (turned t ∷ h) c = read_is h c.1
 
 -- ---- what is stored of a line, and what is still to be stored, is the line
@@ -58,7 +57,7 @@ pub stored_is : (h : Journal) → Conducted h → stored_of h ++ to_store h ≡ 
 stored_is [] c = refl
 stored_is (at_port (stored b) ∷ h) c = append_assoc (stored_of h) (b ∷ []) (drop 1 (to_store h)) ∙ ap (λ (t : List ℕ). stored_of h ++ t) (sym c.0.next) ∙ stored_is h c.1
 stored_is (at_port (dropped b) ∷ h) c = absurd c.0
-stored_is (at_port (raised b down) ∷ h) c = absurd c.0
+stored_is (at_port (raised b down) ∷ h) c = stored_is h c.1
 stored_is (at_port (got r) ∷ h) c = stored_is h c.1
 stored_is (at_port no_reply ∷ h) c = stored_is h c.1
 stored_is (at_port shut ∷ h) c = stored_is h c.1
@@ -69,7 +68,6 @@ stored_is (scanned b ∷ h) c = linked_byte (stored_of h) (to_store h) (cut_of h
 stored_is (line_over ∷ h) c = linked_line (stored_of h) (to_store h) (cut_of h) (raw_of h) c.0.free (stored_is h c.1)
 stored_is (wrote n ∷ h) c = stored_is h c.1
 stored_is (gave_up ∷ h) c = stored_is h c.1
-stored_is (tired ∷ h) c = absurd c.0
 stored_is (turned t ∷ h) c = stored_is h c.1
 
 -- ---- what is scanned is cut
@@ -127,7 +125,6 @@ cut_is (scanned b ∷ h) c = cut_scan b h c.0 (cut_is h c.1)
 cut_is (line_over ∷ h) c = cut_end h c.0.at_end c.0.used c.0.some (cut_is h c.1)
 cut_is (wrote n ∷ h) c = cut_is h c.1
 cut_is (gave_up ∷ h) c = cut_is h c.1
-cut_is (tired ∷ h) c = absurd c.0
 cut_is (turned t ∷ h) c = cut_is h c.1
 
 -- ---- no line in which the sending ends is cut
@@ -146,7 +143,6 @@ sendable_is (scanned b ∷ h) c = sendable_push (cut_of h) (raw_of h) (nat_eq b 
 sendable_is (line_over ∷ h) c = sendable_push (cut_of h) (raw_of h) true c.0.sends (sendable_is h c.1)
 sendable_is (wrote n ∷ h) c = sendable_is h c.1
 sendable_is (gave_up ∷ h) c = sendable_is h c.1
-sendable_is (tired ∷ h) c = absurd c.0
 sendable_is (turned t ∷ h) c = sendable_is h c.1
 
 -- a test that only lines pass in which the sending ends is passed in what is scanned just where the line in hand passes
@@ -181,7 +177,6 @@ early_is (scanned b ∷ h) c = ap ends_in (but_last_is (scanned_of h) b) ∙ end
 early_is (line_over ∷ h) c = early_is h c.1
 early_is (wrote n ∷ h) c = early_is h c.1
 early_is (gave_up ∷ h) c = early_is h c.1
-early_is (tired ∷ h) c = absurd c.0
 early_is (turned t ∷ h) c = early_is h c.1
 
 -- ---- how much is read and scanned
@@ -196,7 +191,6 @@ few_scanned (scanned b ∷ h) c = let l = length-append (scanned_of h) (b ∷ []
 few_scanned (line_over ∷ h) c = few_scanned h c.1
 few_scanned (wrote n ∷ h) c = few_scanned h c.1
 few_scanned (gave_up ∷ h) c = few_scanned h c.1
-few_scanned (tired ∷ h) c = absurd c.0
 few_scanned (turned t ∷ h) c = few_scanned h c.1
 
 -- what is read and not scanned is of one piece
@@ -210,7 +204,6 @@ few_unscanned (scanned b ∷ h) c = let l = ap length c.0.next in let m = few_un
 few_unscanned (line_over ∷ h) c = few_unscanned h c.1
 few_unscanned (wrote n ∷ h) c = few_unscanned h c.1
 few_unscanned (gave_up ∷ h) c = few_unscanned h c.1
-few_unscanned (tired ∷ h) c = absurd c.0
 few_unscanned (turned t ∷ h) c = few_unscanned h c.1
 
 -- a job is read for so many bytes at most
@@ -238,20 +231,19 @@ reading_fits (scanned b ∷ h) c = reading_fits h c.1
 reading_fits (line_over ∷ h) c = reading_fits h c.1
 reading_fits (wrote n ∷ h) c = reading_fits h c.1
 reading_fits (gave_up ∷ h) c = reading_fits h c.1
-reading_fits (tired ∷ h) c = absurd c.0
 reading_fits (turned t ∷ h) c = reading_fits h c.1
 
 -- ---- a link that is closed has all that is sent
 
 -- a step that is only done while the link is open
-open_link : (h : Journal) {A : Type 0} → is_shut h ≡ false → is_shut h ≡ true → A
+pub open_link : (h : Journal) {A : Type 0} → is_shut h ≡ false → is_shut h ≡ true → A
 open_link h going closed = absurd (let e = sym going ∙ closed in cc)
 
 pub shut_is : (h : Journal) → Conducted h → is_shut h ≡ true → HasSentAll h
 shut_is [] c e = absurd cc
 shut_is (at_port (stored b) ∷ h) c e = absurd (none_next (to_store h) b (shut_is h c.1 e).free c.0.next)
 shut_is (at_port (dropped b) ∷ h) c e = absurd c.0
-shut_is (at_port (raised b down) ∷ h) c e = absurd c.0
+shut_is (at_port (raised b down) ∷ h) c e = let s = shut_is h c.1 e in record { free = s.free; all = s.all }
 shut_is (at_port (got r) ∷ h) c e = let s = shut_is h c.1 e in record { free = s.free; all = s.all }
 shut_is (at_port no_reply ∷ h) c e = let s = shut_is h c.1 e in record { free = s.free; all = s.all }
 shut_is (at_port shut ∷ h) c e = record { free = c.0.sent.free; all = c.0.sent.all }
@@ -262,7 +254,6 @@ shut_is (scanned b ∷ h) c e = open_link h c.0.going e
 shut_is (line_over ∷ h) c e = open_link h c.0.going e
 shut_is (wrote n ∷ h) c e = let s = shut_is h c.1 e in record { free = s.free; all = s.all }
 shut_is (gave_up ∷ h) c e = let s = shut_is h c.1 e in record { free = s.free; all = s.all }
-shut_is (tired ∷ h) c e = absurd c.0
 shut_is (turned t ∷ h) c e = let s = shut_is h c.1 e in record { free = s.free; all = s.all }
 
 -- nothing is stored behind the closing

@@ -1,5 +1,6 @@
 pub mod Counting
 pub mod Hosting
+pub mod Replying
 pub mod JobSteps
 pub mod Turns
 pub mod Kept
@@ -7,6 +8,7 @@ pub mod Links
 pub mod Pieces
 pub mod Keeping
 pub mod Sending
+pub mod Raising
 pub mod Waiting
 pub mod Example
 pub mod Running

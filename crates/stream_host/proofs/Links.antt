@@ -6,7 +6,7 @@ use Rattle.std.proofs.lemmas.List.Sums.{sum_by-append, sum_by-cons}
 use Rattle.gcode_words.specs.Comments.{cut_within}
 use Rattle.gcode_words.specs.declared.stripping.Comment.{Comment}
 use Rattle.gcode_words.specs.declared.stripping.Comment.TheVariants.{Outside, Paren, Semicolon}
-use Rattle.gcode_words.specs.Stripping.{plain, capital, is_plain}
+use Rattle.gcode_words.specs.Stripping.{realtime, plain, capital, is_plain}
 use Rattle.gcode_words.proofs.Scanning.{next, seen, shown}
 use Rattle.gcode_words.proofs.Fed.{kept_of, plain-append}
 use Rattle.run_rules.specs.Lines.{HasNoLf, ended}
@@ -36,6 +36,10 @@ plain_is line = plain-append [] line
 
 pub plain_nil : plain [] ≡ []
 plain_nil = plain_is []
+
+pub realtime_nil : realtime [] ≡ []
+unfolding cut_within
+realtime_nil = refl
 
 pub plain_no_lf : (line : List ℕ) → HasNoLf (plain line)
 plain_no_lf line = subst HasNoLf (sym (plain_is line)) (kept_no_lf (shown Outside line))

@@ -1,5 +1,5 @@
 -- A journal that is conducted and finished is a whole run of the host.
-use Rattle.std.proofs.Common.{◌≡◌, ℕ, inl, inr, Bool, true, false, List, [], length, drop, refl, sym, ◌∙◌, arith, Some, None}
+use Rattle.std.proofs.Common.{◌≡◌, ℕ, inl, inr, Bool, true, false, List, [], length, drop, refl, sym, ◌∙◌, arith, subst, Some, None}
 use Rattle.std.proofs.lemmas.List.{nil_from_length, length-drop}
 use Rattle.std.proofs.KnownBytes.{Appends-nil}
 use Rattle.std.specs.declared.option.Option.{Option}
@@ -9,12 +9,13 @@ use Rattle.outside.specs.Writing.{Wrote, Took}
 use Rattle.stream_host.specs.declared.Reading.{Reading}
 use Rattle.stream_host.specs.declared.Reading.TheVariants.{Ended, Failed, Large, Stopped}
 use Rattle.stream_host.specs.declared.host.Host.{Host}
-use Rattle.stream_host.specs.Steps.{Journal, stored_of, got_of, is_shut, read_of, reading_of, scanned_of, cut_of, to_store, stop_of, text_of, written_of, has_given_up, has_bye}
+use Rattle.stream_host.specs.Steps.{Journal, stored_of, got_of, is_shut, read_of, reading_of, scanned_of, cut_of, to_store, due_of, raises_of, resumes_of, stop_of, text_of, written_of, has_given_up, has_bye}
 use Rattle.stream_host.specs.Conduct.{Conducted, HasWritten}
 use Rattle.stream_host.specs.Hosts.{HostFits, HostRests, TellsJob, TellsText}
-use Rattle.stream_host.specs.Ran.{HostRan, HostRuns, HasFinished, TellsConsole, end_of, is_failed}
+use Rattle.stream_host.specs.Ran.{AreRaised, HostRan, HostRuns, HasFinished, TellsConsole, end_of, is_failed}
 use Rattle.stream_host.proofs.Keeping.{stored_is}
 use Rattle.stream_host.proofs.Sending.{sent_so_far, sent_all, all_stored}
+use Rattle.stream_host.proofs.Raising.{raised_is, none_due_shut}
 use Rattle.stream_host.proofs.Turns.{has_written}
 
 none_left : (n : ℕ) (text : List ℕ) → n ≡ length text → drop n text ≡ []
@@ -44,7 +45,7 @@ failed_is Large e = absurd cc
 failed_is Stopped e = absurd cc
 
 pub has_run : (h : Journal) (job_was job_is : SourceState) (console_was console_is : SinkState) → Conducted h → HasFinished h → TellsJob h job_was job_is → TellsConsole h console_was console_is
-    → HostRan job_was job_is console_was console_is (stored_of h) (is_shut h) (got_of h) (end_of h)
+    → HostRan job_was job_is console_was console_is (stored_of h) (is_shut h) (raises_of h) (got_of h) (end_of h)
 has_run h job_was job_is console_was console_is c finished job console = record {
   read = read_of h;
   reading = reading_of h;
@@ -54,6 +55,8 @@ has_run h job_was job_is console_was console_is c finished job console = record 
   at_end = job.at_end;
   sent = λ shut. sent_all h c shut;
   link = λ shut. all_stored h c shut;
+  resumes = resumes_of h;
+  raises = λ shut. subst (λ due. AreRaised (scanned_of h) (raises_of h) due (resumes_of h)) (none_due_shut h c shut) (raised_is h c);
   bye = finished.bye;
   console = took_of console_was console_is (has_given_up h) (drop (written_of h) (text_of h)) (text_of h) console (wrote_all h finished.written);
   answered = refl;
@@ -63,7 +66,7 @@ has_run h job_was job_is console_was console_is c finished job console = record 
 }
 
 pub runs_so_far : (h : Journal) (job_was job_is : SourceState) (console_was console_is : SinkState) → Conducted h → TellsJob h job_was job_is → TellsConsole h console_was console_is
-    → HostRuns job_was job_is console_was console_is (stored_of h) (got_of h)
+    → HostRuns job_was job_is console_was console_is (stored_of h) (raises_of h) (got_of h)
 runs_so_far h job_was job_is console_was console_is c job console = record {
   read = read_of h;
   reading = reading_of h;
@@ -74,6 +77,9 @@ runs_so_far h job_was job_is console_was console_is c job console = record {
   sent = sent_so_far h c;
   left = to_store h;
   link = stored_is h c;
+  due = due_of h;
+  resumes = resumes_of h;
+  raises = raised_is h c;
   failed = has_given_up h;
   waiting = drop (written_of h) (text_of h);
   console = console;

@@ -19,7 +19,7 @@ use Rattle.status_report.specs.Answering.{receive_room, lfs_in, is_answer, answe
 use Rattle.stream_host.specs.Jobs.{is_long, ends_sending, lines_to_send, ScansFront, MayLeave, MayScan, long_line, stop_by, IsSentSoFar, IsSent}
 use Rattle.stream_host.specs.Steps.{Journal, stored_of, got_of, is_shut, answered_of, errors_of, read_of, reading_of, scanned_of, unscanned_of, raw_of, cut_of, to_store, begun_of, stop_at, stop_of}
 use Rattle.stream_host.specs.Steps.PortStep.{stored, dropped, raised, got, no_reply, shut}
-use Rattle.stream_host.specs.Steps.Step.{at_port, read_some, read_end, read_failed, scanned, line_over, wrote, gave_up, tired, turned}
+use Rattle.stream_host.specs.Steps.Step.{at_port, read_some, read_end, read_failed, scanned, line_over, wrote, gave_up, turned}
 use Rattle.stream_host.specs.Conduct.{Conducted, HasSentAll, HasNoMore, MayStore}
 use Rattle.stream_host.proofs.Links.{lfs_push, behind_append, behind_ended, plain_no_lf, plains_no_lf}
 use Rattle.stream_host.proofs.Pieces.{none_ends, sent_front, front_on, front_ends, sends_on, sends_none, no_whole, few_cut, few_whole}
@@ -204,7 +204,7 @@ pub sum_is : (h : Journal) → Conducted h → length (on_link (drop (answered_o
 sum_is [] c = omega arith
 sum_is (at_port (stored b) ∷ h) c = c.0.room
 sum_is (at_port (dropped b) ∷ h) c = absurd c.0
-sum_is (at_port (raised b down) ∷ h) c = absurd c.0
+sum_is (at_port (raised b down) ∷ h) c = sum_is h c.1
 sum_is (at_port (got r) ∷ h) c = fewer_left (got_of h) r (begun_of h) (sum_is h c.1)
 sum_is (at_port no_reply ∷ h) c = sum_is h c.1
 sum_is (at_port shut ∷ h) c = sum_is h c.1
@@ -215,7 +215,6 @@ sum_is (scanned b ∷ h) c = sum_is h c.1
 sum_is (line_over ∷ h) c = sum_is h c.1
 sum_is (wrote n ∷ h) c = sum_is h c.1
 sum_is (gave_up ∷ h) c = sum_is h c.1
-sum_is (tired ∷ h) c = absurd c.0
 sum_is (turned t ∷ h) c = sum_is h c.1
 
 -- no more answers than lines were stored
@@ -223,7 +222,7 @@ pub answers_are_few : (h : Journal) → Conducted h → answered_of h ≤ lfs_in
 answers_are_few [] c = omega arith
 answers_are_few (at_port (stored b) ∷ h) c = let m = answers_are_few h c.1 in let p = lfs_push (stored_of h) b in omega arith
 answers_are_few (at_port (dropped b) ∷ h) c = absurd c.0
-answers_are_few (at_port (raised b down) ∷ h) c = absurd c.0
+answers_are_few (at_port (raised b down) ∷ h) c = answers_are_few h c.1
 answers_are_few (at_port (got r) ∷ h) c = c.0.few
 answers_are_few (at_port no_reply ∷ h) c = answers_are_few h c.1
 answers_are_few (at_port shut ∷ h) c = answers_are_few h c.1
@@ -234,7 +233,6 @@ answers_are_few (scanned b ∷ h) c = answers_are_few h c.1
 answers_are_few (line_over ∷ h) c = answers_are_few h c.1
 answers_are_few (wrote n ∷ h) c = answers_are_few h c.1
 answers_are_few (gave_up ∷ h) c = answers_are_few h c.1
-answers_are_few (tired ∷ h) c = absurd c.0
 answers_are_few (turned t ∷ h) c = answers_are_few h c.1
 
 -- what stands on the link behind the answers that were got, with what is still to be stored, is the lines without an answer

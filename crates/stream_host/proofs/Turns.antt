@@ -1,5 +1,5 @@
 -- The turns of a host.
-use Rattle.std.proofs.Common.{◌≡◌, ℕ, ◌≤◌, ◌<◌, ◌||◌, ◌&&◌, inl, inr, Bool, true, false, cond, not, List, [], ◌∷◌, ◌++◌, length, drop, nat_lt, refl, sym, ap, ◌∙◌, arith, subst, append_assoc, length-append}
+use Rattle.std.proofs.Common.{◌≡◌, ℕ, ◌≤◌, ◌<◌, ◌||◌, ◌&&◌, inl, inr, Bool, true, false, cond, not, List, [], ◌∷◌, ◌++◌, length, drop, nat_lt, None, refl, sym, ap, ◌∙◌, arith, subst, append_assoc, length-append}
 use Rattle.std.specs.List.{count_by}
 use Rattle.std.proofs.lemmas.Bool.Decides.{nat_tests}
 use Rattle.std.proofs.lemmas.List.{length-drop}
@@ -13,11 +13,11 @@ use Rattle.status_report.specs.declared.Reply.{Reply}
 use Rattle.text_writer.specs.Writers.{Writing, is_due, with_all_asked}
 use Rattle.stream_host.specs.declared.host.Host.{Host}
 use Rattle.stream_host.specs.Steps.{Step, Journal, is_shut, has_bye, to_store, text_of, written_of, this_turn}
-use Rattle.stream_host.specs.Steps.PortStep.{stored, got, no_reply, shut}
+use Rattle.stream_host.specs.Steps.PortStep.{stored, raised, got, no_reply, shut}
 use Rattle.stream_host.specs.Steps.Step.{at_port, turned}
 use Rattle.stream_host.specs.Conduct.{HasWritten, publishing, moving}
 use Rattle.stream_host.specs.Hosts.{HostFits, HostWorked, HostTurned, HostTellsOn, HasPolled, IsQuiet, IsBetween, DidAlone, HasShown, HostRests, rank}
-use Rattle.stream_host.proofs.Hosting.{quiet_on, same_job, total_is}
+use Rattle.stream_host.proofs.Hosting.{none_due_by, never_raised, quiet_on, same_job, total_is}
 
 -- ---- what waits for the console
 
@@ -85,11 +85,20 @@ few_stored_now b h quiet = few_on (at_port (stored b)) h quiet
 pub few_shut_now : (h : Journal) → IsQuiet h → count_by publishing (this_turn (at_port shut ∷ h)) ≤ 1
 few_shut_now h quiet = few_on (at_port shut) h quiet
 
+pub few_raised_now : (b : ℕ) (down : Bool) (h : Journal) → IsQuiet h → count_by publishing (this_turn (at_port (raised b down) ∷ h)) ≤ 1
+few_raised_now b down h quiet = few_on (at_port (raised b down)) h quiet
+
 pub few_got_now : (r : Reply) (h : Journal) → IsQuiet h → count_by publishing (this_turn (at_port (got r) ∷ h)) ≤ 1
 few_got_now r h quiet = few_on (at_port (got r)) h quiet
 
 pub tells_stored : (s t : Host) (b : ℕ) (h : Journal) (job : SourceState) (console : SinkState) → t.text ≡ s.text → HostTellsOn s t h (at_port (stored b) ∷ h) job job console console
 tells_stored s t b h job console same = record { job = λ before j. same_job h (at_port (stored b) ∷ h) before job refl refl j; console = λ before j. rw same j }
+
+pub tells_raised : (s t : Host) (b : ℕ) (down : Bool) (h : Journal) (job : SourceState) (console : SinkState) → t.text ≡ s.text → HostTellsOn s t h (at_port (raised b down) ∷ h) job job console console
+tells_raised s t b down h job console same = record { job = λ before j. same_job h (at_port (raised b down) ∷ h) before job refl refl j; console = λ before j. rw same j }
+
+pub tells_resumed : (s t : Host) (b : ℕ) (down : Bool) (h : Journal) (job : SourceState) (console : SinkState) → t.text ≡ s.text → HostTellsOn s t h (at_port (raised b down) ∷ at_port no_reply ∷ h) job job console console
+tells_resumed s t b down h job console same = record { job = λ before j. same_job h (at_port (raised b down) ∷ at_port no_reply ∷ h) before job refl refl j; console = λ before j. rw same j }
 
 pub tells_shut : (s t : Host) (h : Journal) (job : SourceState) (console : SinkState) → t.text ≡ s.text → HostTellsOn s t h (at_port shut ∷ h) job job console console
 tells_shut s t h job console same = record { job = λ before j. same_job h (at_port shut ∷ h) before job refl refl j; console = λ before j. rw same j }
@@ -103,8 +112,8 @@ some_left : (xs : List ℕ) (n : ℕ) (ys : List ℕ) → xs ≡ drop n (ys ++ 1
 some_left xs n ys is within none =
     let a = ap length (sym is ∙ none) in let b = length-drop n (ys ++ 10 ∷ []) in let d = length-append ys (10 ∷ []) in absurd (omega arith)
 
-pub waits_for_room : (s : Host) (h : Journal) → HostFits s h → HasPolled h → HasShown s.text → s.line.whole ≡ true → 128 < s.counts.unanswered.total → HostWorked (Wait Answer) s s h h
-waits_for_room s h f polled shown whole full =
+pub waits_for_room : (s : Host) (h : Journal) → HostFits s h → HasPolled h → HasShown s.text → s.line.due ≡ None → s.line.whole ≡ true → 128 < s.counts.unanswered.total → HostWorked (Wait Answer) s s h h
+waits_for_room s h f polled shown none whole full =
     let is = f.line_is.storing whole in
     let busy : to_store h ≡ [] → ⊥ = some_left (to_store h) s.line.place s.line.kept.items is.left_is is.within in
     record {
@@ -116,6 +125,7 @@ waits_for_room s h f polled shown whole full =
         no_read = λ m. busy m.free;
         no_scan = λ b m. busy m.free;
         no_line = λ m. busy m.free;
+        no_raise = λ b m. never_raised s b h f (none_due_by s h f none) m;
         no_store = λ b m. (let t = total_is s h f in let r = m.room in absurd (omega arith));
         no_close = λ m. busy m.sent.free;
         written = has_written s h f shown;
@@ -123,8 +133,8 @@ waits_for_room s h f polled shown whole full =
       moves = λ e. absurd cc;
     }
 
-pub waits_shut : (s : Host) (h : Journal) → HostFits s h → HasPolled h → HasShown s.text → s.line.whole ≡ false → s.shut ≡ true → HostWorked (Wait Answer) s s h h
-waits_shut s h f polled shown whole closed =
+pub waits_shut : (s : Host) (h : Journal) → HostFits s h → HasPolled h → HasShown s.text → s.line.due ≡ None → s.line.whole ≡ false → s.shut ≡ true → HostWorked (Wait Answer) s s h h
+waits_shut s h f polled shown none whole closed =
     let over : is_shut h ≡ false → ⊥ = (λ e. absurd (let g = sym closed ∙ f.shut_is ∙ e in cc)) in
     let free = (f.line_is.scanning whole).1 in
     record {
@@ -136,6 +146,7 @@ waits_shut s h f polled shown whole closed =
         no_read = λ m. over m.going;
         no_scan = λ b m. over m.going;
         no_line = λ m. over m.going;
+        no_raise = λ b m. never_raised s b h f (none_due_by s h f none) m;
         no_store = λ b m. absurd (let g = sym free ∙ m.next in cc);
         no_close = λ m. over m.going;
         written = has_written s h f shown;
@@ -150,20 +161,10 @@ all_asked s h f = record {
   conducted = f.conducted;
   job_is = f.job_is;
   line_is = f.line_is;
+  due_is = f.due_is;
   counts_are = f.counts_are;
+  polls_are = f.polls_are;
   text_is = record { failed_is = f.text_is.failed_is; waits = f.text_is.waits; within = f.text_is.within; all_asked = λ e. refl };
-  shut_is = f.shut_is;
-  bye_is = f.bye_is;
-  over = f.over;
-}
-
-pub polled : (s : Host) (h : Journal) → HostFits s h → s.bye ≡ false → HostFits s (at_port no_reply ∷ h)
-polled s h f going = record {
-  conducted = (sym f.bye_is ∙ going, f.conducted);
-  job_is = f.job_is;
-  line_is = f.line_is;
-  counts_are = f.counts_are;
-  text_is = f.text_is;
   shut_is = f.shut_is;
   bye_is = f.bye_is;
   over = f.over;
@@ -176,22 +177,22 @@ pub has_polled : (h : Journal) → IsBetween h → HasPolled (at_port no_reply �
 has_polled h between = record { poll = refl; quiet = quiet_on (at_port no_reply) h refl (quiet_between h between) }
 
 -- what is done behind a poll is done in the turn
-pub worked_on : (t : Turn) (s u : Host) (h next : Journal) → HostWorked t s u (at_port no_reply ∷ h) next → HostWorked t s u h next
-worked_on t s u h next w = record {
+pub worked_on : (t : Turn) (s v u : Host) (h next : Journal) → v.text ≡ s.text → HostWorked t v u (at_port no_reply ∷ h) next → HostWorked t s u h next
+worked_on t s v u h next same w = record {
   fits = w.fits;
   steps = w.steps ++ at_port no_reply ∷ [];
   are = w.are ∙ sym (append_assoc w.steps (at_port no_reply ∷ []) h);
   may = w.may;
   moves = λ e. elim (w.moves e) [
     | inl any ↦ inl (list_any-append moving w.steps (at_port no_reply ∷ []) ∙ ap (λ b. b || false) any)
-    | inr less ↦ inr less
+    | inr less ↦ inr (subst (λ (x : Writing). rank u < cond {A = ℕ} x.failed 0 1) same less)
   ];
 }
 
-pub tells_polled : (s u : Host) (h next : Journal) (job later : SourceState) (now after : SinkState) → HostTellsOn s u (at_port no_reply ∷ h) next job later now after → HostTellsOn s u h next job later now after
-tells_polled s u h next job later now after t = record {
+pub tells_polled : (s v u : Host) (h next : Journal) (job later : SourceState) (now after : SinkState) → v.text ≡ s.text → HostTellsOn v u (at_port no_reply ∷ h) next job later now after → HostTellsOn s u h next job later now after
+tells_polled s v u h next job later now after same t = record {
   job = λ before j. t.job before (same_job h (at_port no_reply ∷ h) before job refl refl j);
-  console = λ before j. t.console before j;
+  console = λ before j. t.console before (rw same j);
 }
 
 pub is_done : (s : Host) (h : Journal) → HostFits s h → IsBetween h → HostRests s → HostWorked Done s s h h
@@ -211,7 +212,9 @@ ends t s u h next w = (
     conducted = (w.may, w.fits.conducted);
     job_is = w.fits.job_is;
     line_is = w.fits.line_is;
+    due_is = w.fits.due_is;
     counts_are = w.fits.counts_are;
+    polls_are = w.fits.polls_are;
     text_is = w.fits.text_is;
     shut_is = w.fits.shut_is;
     bye_is = w.fits.bye_is;

@@ -9,13 +9,14 @@ use Rattle.stream_host.specs.declared.Reading.TheVariants.{Ended, Failed, Large,
 use Rattle.stream_host.specs.Links.{on_link}
 use Rattle.status_report.specs.Answering.{receive_room, lfs_in}
 use Rattle.stream_host.specs.Jobs.{ends_sending, MayHaveRead}
-use Rattle.stream_host.specs.Steps.{Journal, stored_of, is_shut, answered_of, read_of, reading_of, scanned_of, unscanned_of, raw_of, cut_of, to_store, begun_of}
+use Rattle.stream_host.specs.Steps.{Journal, stored_of, is_shut, answered_of, read_of, reading_of, scanned_of, unscanned_of, raw_of, cut_of, to_store, begun_of, due_of}
 use Rattle.stream_host.specs.Steps.PortStep.{stored, dropped, raised, got, no_reply, shut}
-use Rattle.stream_host.specs.Steps.Step.{at_port, read_some, read_end, read_failed, scanned, line_over, wrote, gave_up, tired, turned}
+use Rattle.stream_host.specs.Steps.Step.{at_port, read_some, read_end, read_failed, scanned, line_over, wrote, gave_up, turned}
 use Rattle.stream_host.specs.Conduct.{Conducted, HasNoMore, Waits}
 use Rattle.stream_host.proofs.Pieces.{IsSendable}
 use Rattle.stream_host.proofs.Keeping.{read_is, stored_is, linked_push, few_scanned, reading_fits}
 use Rattle.stream_host.proofs.Sending.{sum_is, answers_are_few, lfs_linked}
+use Rattle.stream_host.proofs.Raising.{none_due_waiting}
 
 -- ---- which lines are begun
 
@@ -50,7 +51,7 @@ pub begun_is : (h : Journal) → Conducted h → IsBegun h
 begun_is [] c = inl refl
 begun_is (at_port (stored b) ∷ h) c = inl refl
 begun_is (at_port (dropped b) ∷ h) c = absurd c.0
-begun_is (at_port (raised b down) ∷ h) c = absurd c.0
+begun_is (at_port (raised b down) ∷ h) c = begun_is h c.1
 begun_is (at_port (got r) ∷ h) c = begun_is h c.1
 begun_is (at_port no_reply ∷ h) c = begun_is h c.1
 begun_is (at_port shut ∷ h) c = begun_is h c.1
@@ -61,7 +62,6 @@ begun_is (scanned b ∷ h) c = begin_by (cut_of h) (begun_of h) (raw_of h) (to_s
 begun_is (line_over ∷ h) c = begin_by (cut_of h) (begun_of h) (raw_of h) (to_store h) true c.0.sends (all_begun h c.0.free (begun_is h c.1))
 begun_is (wrote n ∷ h) c = begun_is h c.1
 begun_is (gave_up ∷ h) c = begun_is h c.1
-begun_is (tired ∷ h) c = absurd c.0
 begun_is (turned t ∷ h) c = begun_is h c.1
 
 -- ---- a line that may not be stored yet
@@ -90,22 +90,22 @@ too_many h c many (inr f) =
 
 -- ---- nothing is to be stored: the job goes on
 
-shuts : (h : Journal) → is_shut h ≡ false → to_store h ≡ [] → Waits h → (ends_sending (raw_of h) ≡ true) ⊎ HasNoMore (reading_of h) (unscanned_of h) (raw_of h) (length (scanned_of h)) → ⊥
-shuts h going free w all = w.no_close (record { going = going; sent = record { free = free; all = all } })
+shuts : (h : Journal) → is_shut h ≡ false → to_store h ≡ [] → due_of h ≡ [] → Waits h → (ends_sending (raw_of h) ≡ true) ⊎ HasNoMore (reading_of h) (unscanned_of h) (raw_of h) (length (scanned_of h)) → ⊥
+shuts h going free none w all = w.no_close (record { going = going; sent = record { free = free; all = all }; all_raised = none })
 
 -- all that was read is scanned
-all_scanned : (h : Journal) → Conducted h → is_shut h ≡ false → to_store h ≡ [] → ends_sending (raw_of h) ≡ false → unscanned_of h ≡ [] → Waits h → (r : Reading) → reading_of h ≡ r → (raw : List ℕ) → raw_of h ≡ raw → ⊥
-all_scanned h c going free short used w Stopped at raw is = w.no_read (record { going = going; on = at; sends = short; used = used; free = free })
-all_scanned h c going free short used w Failed at raw is =
-    shuts h going free w (inr (subst (λ (r : Reading). HasNoMore r (unscanned_of h) (raw_of h) (length (scanned_of h))) (sym at) used))
-all_scanned h c going free short used w Large at raw is =
+all_scanned : (h : Journal) → Conducted h → is_shut h ≡ false → to_store h ≡ [] → due_of h ≡ [] → ends_sending (raw_of h) ≡ false → unscanned_of h ≡ [] → Waits h → (r : Reading) → reading_of h ≡ r → (raw : List ℕ) → raw_of h ≡ raw → ⊥
+all_scanned h c going free none short used w Stopped at raw is = w.no_read (record { going = going; on = at; sends = short; used = used; free = free; none_due = none; shown = w.written })
+all_scanned h c going free none short used w Failed at raw is =
+    shuts h going free none w (inr (subst (λ (r : Reading). HasNoMore r (unscanned_of h) (raw_of h) (length (scanned_of h))) (sym at) used))
+all_scanned h c going free none short used w Large at raw is =
     let more : largest_job < length (read_of h) = (subst (λ (r : Reading). MayHaveRead r (length (read_of h))) at (reading_fits h c)).0 in
     let l = ap length (read_is h c) in let m = length-append (scanned_of h) (unscanned_of h) in let n = ap length used in let s = few_scanned h c in
     absurd (omega arith)
-all_scanned h c going free short used w Ended at [] is =
-    shuts h going free w (inr (subst (λ (r : Reading). HasNoMore r (unscanned_of h) (raw_of h) (length (scanned_of h))) (sym at) (used, is)))
-all_scanned h c going free short used w Ended at (b ∷ raw) is =
-    w.no_line (record { going = going; at_end = at; used = used; some = (let l = ap length is in omega arith); sends = short; free = free })
+all_scanned h c going free none short used w Ended at [] is =
+    shuts h going free none w (inr (subst (λ (r : Reading). HasNoMore r (unscanned_of h) (raw_of h) (length (scanned_of h))) (sym at) (used, is)))
+all_scanned h c going free none short used w Ended at (b ∷ raw) is =
+    w.no_line (record { going = going; at_end = at; used = used; some = (let l = ap length is in omega arith); sends = short; free = free; none_due = none })
 
 pub over_full : (h : Journal) → Conducted h → (b : ℕ) (bytes : List ℕ) → unscanned_of h ≡ b ∷ bytes → largest_job ≤ length (scanned_of h) → (r : Reading) → reading_of h ≡ r → HasNoMore r (unscanned_of h) (raw_of h) (length (scanned_of h))
 over_full h c b bytes next full Large at = (let s = few_scanned h c in omega arith)
@@ -128,10 +128,10 @@ over_full h c b bytes next full Stopped at = absurd (too_long Stopped at (λ f. 
         let f = few (subst (λ (q : Reading). MayHaveRead q (length (read_of h))) at (reading_fits h c)) in
         let l = ap length (read_is h c) in let m = length-append (scanned_of h) (unscanned_of h) in let n = ap length next in absurd (omega arith)
 
-goes_on : (h : Journal) → Conducted h → is_shut h ≡ false → to_store h ≡ [] → Waits h → (t : Bool) → ends_sending (raw_of h) ≡ t → (left : List ℕ) → unscanned_of h ≡ left → ⊥
-goes_on h c going free w true long left is = shuts h going free w (inl long)
-goes_on h c going free w false short [] is = all_scanned h c going free short is w (reading_of h) refl (raw_of h) refl
-goes_on h c going free w false short (b ∷ bytes) is = by_room (nat_lt (length (scanned_of h)) largest_job) refl
+goes_on : (h : Journal) → Conducted h → is_shut h ≡ false → to_store h ≡ [] → due_of h ≡ [] → Waits h → (t : Bool) → ends_sending (raw_of h) ≡ t → (left : List ℕ) → unscanned_of h ≡ left → ⊥
+goes_on h c going free none w true long left is = shuts h going free none w (inl long)
+goes_on h c going free none w false short [] is = all_scanned h c going free none short is w (reading_of h) refl (raw_of h) refl
+goes_on h c going free none w false short (b ∷ bytes) is = by_room (nat_lt (length (scanned_of h)) largest_job) refl
   where
     next : unscanned_of h ≡ b ∷ drop 1 (unscanned_of h)
     next = is ∙ ap (λ (t : List ℕ). b ∷ drop 1 t) (sym is)
@@ -143,8 +143,8 @@ goes_on h c going free w false short (b ∷ bytes) is = by_room (nat_lt (length 
     above n e = grind (arith, nat_tests)
 
     by_room : (t : Bool) → nat_lt (length (scanned_of h)) largest_job ≡ t → ⊥
-    by_room true e = w.no_scan b (record { going = going; next = next; few = below (length (scanned_of h)) e; sends = short; free = free })
-    by_room false e = shuts h going free w (inr (over_full h c b bytes is (above (length (scanned_of h)) e) (reading_of h) refl))
+    by_room true e = w.no_scan b (record { going = going; next = next; few = below (length (scanned_of h)) e; sends = short; free = free; none_due = none })
+    by_room false e = shuts h going free none w (inr (over_full h c b bytes is (above (length (scanned_of h)) e) (reading_of h) refl))
 
 pub waits_are_for_answers : (h : Journal) → Conducted h → Waits h → is_shut h ≡ false → 0 < length (drop (answered_of h) (begun_of h))
 waits_are_for_answers h c w going = by_left (to_store h) refl
@@ -157,7 +157,7 @@ waits_are_for_answers h c w going = by_left (to_store h) refl
         by_test false e = absurd (full (grind (arith, nat_tests)))
 
     by_left : (left : List ℕ) → to_store h ≡ left → 0 < length (drop (answered_of h) (begun_of h))
-    by_left [] free = absurd (goes_on h c going free w (ends_sending (raw_of h)) refl (unscanned_of h) refl)
+    by_left [] free = absurd (goes_on h c going free (none_due_waiting h c w) w (ends_sending (raw_of h)) refl (unscanned_of h) refl)
     by_left (b ∷ left) is =
         let next : to_store h ≡ b ∷ drop 1 (to_store h) = is ∙ ap (λ (t : List ℕ). b ∷ drop 1 t) (sym is) in
         too_many h c (no_room (length (on_link (drop (answered_of h) (cut_of h)))) (λ room. w.no_store b (record { next = next; room = room }))) (begun_is h c)

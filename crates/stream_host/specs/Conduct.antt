@@ -10,30 +10,37 @@ use Rattle.stream_host.specs.declared.Reading.{Reading}
 use Rattle.stream_host.specs.declared.Reading.TheVariants.{Ended, Failed, Large, Stopped}
 use Rattle.stream_host.specs.Links.{on_link}
 use Rattle.status_report.specs.Answering.{receive_room, lfs_in, answers_in}
-use Rattle.stream_host.specs.Jobs.{ends_sending}
-use Rattle.stream_host.specs.Steps.{PortStep, Step, Journal, stored_of, got_of, is_shut, has_bye, answered_of, reading_of, scanned_of, unscanned_of, raw_of, cut_of, to_store, text_of, written_of, has_given_up, this_turn}
+use Rattle.stream_host.specs.Jobs.{resume, ends_sending}
+use Rattle.stream_host.specs.Steps.{PortStep, Step, Journal, stored_of, got_of, is_shut, has_bye, answered_of, reading_of, scanned_of, unscanned_of, raw_of, cut_of, to_store, due_of, polls_of, empty_polls, text_of, written_of, has_given_up, this_turn}
 use Rattle.stream_host.specs.Steps.PortStep.{stored, dropped, raised, got, no_reply, shut}
-use Rattle.stream_host.specs.Steps.Step.{at_port, read_some, read_end, read_failed, scanned, line_over, wrote, gave_up, tired, turned}
+use Rattle.stream_host.specs.Steps.Step.{at_port, read_some, read_end, read_failed, scanned, line_over, wrote, gave_up, turned}
 
--- The job is read on: all that was read is scanned and stored, no end of the reading was met, and the sending has not
--- ended in the line that is being scanned.
+-- all that was got is written, but behind a write that failed
+abbrev pub HasWritten : Journal → Type 0
+HasWritten h = (has_given_up h ≡ true) ⊎ (written_of h ≡ length (text_of h))
+
+-- The job is read on: all that was read is scanned, raised and stored, all that was got is shown, no end of the reading was
+-- met, and the sending has not ended in the line that is being scanned.
 pub record MayRead (h : Journal) : Type 0 where
   pub going : is_shut h ≡ false
   pub on : reading_of h ≡ Stopped
   pub sends : ends_sending (raw_of h) ≡ false
   pub used : unscanned_of h ≡ []
   pub free : to_store h ≡ []
+  pub none_due : due_of h ≡ []
+  pub shown : HasWritten h
 
--- The next byte that was read is scanned: the line before its own is wholly stored, the job may have so many bytes, and the
--- sending has not ended in its line.
+-- The next byte that was read is scanned: no byte is to be raised, the line before its own is wholly stored, the job may
+-- have so many bytes, and the sending has not ended in its line.
 pub record MayScanNext (b : ℕ) (h : Journal) : Type 0 where
   pub going : is_shut h ≡ false
   pub next : unscanned_of h ≡ b ∷ drop 1 (unscanned_of h)
   pub few : length (scanned_of h) < largest_job
   pub sends : ends_sending (raw_of h) ≡ false
   pub free : to_store h ≡ []
+  pub none_due : due_of h ≡ []
 
--- The last line is over: the source's end was read, and bytes stand behind the last LF.
+-- The last line is over: the source's end was read, bytes stand behind the last LF, and none is to be raised.
 pub record MayEndLine (h : Journal) : Type 0 where
   pub going : is_shut h ≡ false
   pub at_end : reading_of h ≡ Ended
@@ -41,6 +48,12 @@ pub record MayEndLine (h : Journal) : Type 0 where
   pub some : 0 < length (raw_of h)
   pub sends : ends_sending (raw_of h) ≡ false
   pub free : to_store h ≡ []
+  pub none_due : due_of h ≡ []
+
+-- A realtime byte is raised: a resume where so many polls have found no reply, else the next that is due.
+pub record MayRaise (b : ℕ) (h : Journal) : Type 0 where
+  pub resumes : polls_of h ≡ empty_polls → b ≡ resume
+  pub next : polls_of h < empty_polls → due_of h ≡ b ∷ drop 1 (due_of h)
 
 -- The next byte of the line in hand is stored: the lines that have no answer, this one among them, take at most 128 bytes.
 pub record MayStore (b : ℕ) (h : Journal) : Type 0 where
@@ -62,19 +75,25 @@ pub record HasSentAll (h : Journal) : Type 0 where
 pub record MayShut (h : Journal) : Type 0 where
   pub going : is_shut h ≡ false
   pub sent : HasSentAll h
+  pub all_raised : due_of h ≡ []
+
+-- a reply is looked for: Bye was not got, and no resume is to be raised
+pub record MayPoll (h : Journal) : Type 0 where
+  pub going : has_bye h ≡ false
+  pub rested : polls_of h < empty_polls
 
 -- a reply is taken; no more of them are answers than lines were stored, as the port promises
 pub record MayGet (r : Reply) (h : Journal) : Type 0 where
-  pub going : has_bye h ≡ false
+  pub poll : MayPoll h
   pub few : answers_in (got_of h ++ r ∷ []) ≤ lfs_in (stored_of h)
 
--- no realtime byte is raised yet, and no byte is ever dropped
+-- no byte is ever dropped
 abbrev pub MayAtPort : PortStep → Journal → Type 0
 MayAtPort (stored b) h = MayStore b h
 MayAtPort (dropped b) h = ⊥
-MayAtPort (raised b down) h = ⊥
+MayAtPort (raised b down) h = MayRaise b h
 MayAtPort (got r) h = MayGet r h
-MayAtPort no_reply h = has_bye h ≡ false
+MayAtPort no_reply h = MayPoll h
 MayAtPort shut h = MayShut h
 
 -- more of the replies' text is written, and none behind a write that failed
@@ -106,16 +125,11 @@ moving (scanned b) = true
 moving line_over = false
 moving (wrote n) = true
 moving gave_up = false
-moving tired = false
 moving (turned t) = false
 
 abbrev pub found_none : Step → Bool
 found_none (at_port no_reply) = true
 found_none _ = false
-
--- all that was got is written, but behind a write that failed
-abbrev pub HasWritten : Journal → Type 0
-HasWritten h = (has_given_up h ≡ true) ⊎ (written_of h ≡ length (text_of h))
 
 -- A reply is waited for: none was found in this turn, and nothing else may be done.
 pub record Waits (h : Journal) : Type 0 where
@@ -123,6 +137,7 @@ pub record Waits (h : Journal) : Type 0 where
   pub no_read : MayRead h → ⊥
   pub no_scan : (b : ℕ) → MayScanNext b h → ⊥
   pub no_line : MayEndLine h → ⊥
+  pub no_raise : (b : ℕ) → MayRaise b h → ⊥
   pub no_store : (b : ℕ) → MayStore b h → ⊥
   pub no_close : MayShut h → ⊥
   pub written : HasWritten h
@@ -148,7 +163,6 @@ MayStep (scanned b) h = MayScanNext b h
 MayStep line_over h = MayEndLine h
 MayStep (wrote n) h = MayWrite n h
 MayStep gave_up h = MayGiveUp h
-MayStep tired h = ⊥
 MayStep (turned t) h = MayTurn t h
 
 abbrev pub Conducted : Journal → Type 0

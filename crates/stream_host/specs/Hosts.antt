@@ -1,5 +1,5 @@
 -- What the fields of a host say of what it has done.
-use Rattle.std.specs.Prelude.{◌≡◌, ℕ, ◌+◌, ◌^◌, ◌≤◌, ◌<◌, ◌⊎◌, Bool, true, false, cond, nat_lt, List, [], ◌∷◌, ◌++◌, length, take, drop, map, reverse, sum}
+use Rattle.std.specs.Prelude.{◌≡◌, ℕ, ◌+◌, ◌^◌, ◌≤◌, ◌<◌, ◌⊎◌, Bool, true, false, cond, nat_lt, List, [], ◌∷◌, ◌++◌, length, take, drop, map, reverse, sum, option_to_list, Some, None}
 use Rattle.std.specs.Io.KnownBytes.{Consumes, IsAtEnd, Keeps}
 use Rattle.std.specs.List.{list_any, count_by}
 use Rattle.outside.specs.Causes.{Rose, SourceState, SinkState}
@@ -21,7 +21,9 @@ use Rattle.stream_host.specs.declared.counts.Counts.{Counts}
 use Rattle.stream_host.specs.declared.host.Host.{Host}
 use Rattle.run_rules.specs.Told.{errors_among}
 use Rattle.status_report.specs.Answering.{answers_in, is_bye}
-use Rattle.stream_host.specs.Steps.{Step, Journal, port_log, got_of, is_shut, has_bye, read_of, reading_of, scanned_of, unscanned_of, raw_of, cut_of, to_store, text_of, written_of, has_given_up, this_turn}
+use Rattle.std.specs.declared.option.Option.{Option}
+use Rattle.stream_host.specs.Jobs.{is_served}
+use Rattle.stream_host.specs.Steps.{Step, Journal, port_log, got_of, is_shut, has_bye, read_of, reading_of, scanned_of, unscanned_of, raw_of, cut_of, to_store, due_of, polls_of, empty_polls, text_of, written_of, has_given_up, this_turn}
 use Rattle.stream_host.specs.Steps.Step.{turned}
 use Rattle.stream_host.specs.Conduct.{Conducted, MayTurn, publishing, moving, found_none}
 
@@ -111,6 +113,16 @@ pub record KeepsLine (l : SentLine) (raw left : List ℕ) : Type 0 where
   pub scanning : l.whole ≡ false → HasLine l raw × (left ≡ [])
   pub storing : l.whole ≡ true → IsStoring l raw left
 
+-- the byte that is to be raised
+pub record KeepsDue (l : Option ℕ) (due : List ℕ) : Type 0 where
+  pub due_is : option_to_list l ≡ due
+  pub served : (b : ℕ) → l ≡ Some b → is_served b ≡ true
+
+-- the polls in a row that found no reply: one more may be made
+pub record KeepsPolls (count polls : ℕ) : Type 0 where
+  pub polls_are : count ≡ polls
+  pub few : polls < empty_polls
+
 -- the counts, by the lines that were scanned whole, and the replies
 pub record KeepsCounts (c : Counts) (cuts : List (List ℕ)) (got : List Reply) : Type 0 where
   pub unanswered_are : lengths c.unanswered ≡ map line_length (drop (answers_in got) cuts)
@@ -135,7 +147,9 @@ pub record HostFits (host : Host) (h : Journal) : Type 0 where
   pub conducted : Conducted h
   pub job_is : KeepsJob host.job (unscanned_of h) (reading_of h) (length (scanned_of h))
   pub line_is : KeepsLine host.line (raw_of h) (to_store h)
+  pub due_is : KeepsDue host.line.due (due_of h)
   pub counts_are : KeepsCounts host.counts (cut_of h) (got_of h)
+  pub polls_are : KeepsPolls host.polls (polls_of h)
   pub text_is : KeepsText host.text (text_of h) (written_of h) (has_given_up h) (has_bye h)
   pub shut_is : host.shut ≡ is_shut h
   pub bye_is : host.bye ≡ has_bye h
@@ -216,6 +230,7 @@ pub record HasRoom (c : Counts) : Type 0 where
 pub record MayScanOn (host : Host) : Type 0 where
   pub scanning : host.line.whole ≡ false
   pub short : host.line.long ≡ false
+  pub none_due : host.line.due ≡ None
   pub some : host.job.place < host.job.end
   pub few : host.job.scanned < largest_job
 
@@ -223,6 +238,7 @@ pub record MayScanOn (host : Host) : Type 0 where
 pub record MayReadOn (host : Host) : Type 0 where
   pub scanning : host.line.whole ≡ false
   pub short : host.line.long ≡ false
+  pub none_due : host.line.due ≡ None
   pub used : host.job.end ≤ host.job.place
   pub on : host.job.reading ≡ Stopped
 

@@ -1,7 +1,8 @@
 -- Which bytes of a job are scanned, and which of its lines are sent.
-use Rattle.std.specs.Prelude.{◌≡◌, ℕ, ◌+◌, ◌-◌, ◌≤◌, ◌<◌, Bool, false, not, cond, List, [], ◌++◌, length, take, nat_lt}
-use Rattle.std.specs.List.{list_any, take_while}
-use Rattle.gcode_words.specs.Stripping.{plain}
+use Rattle.std.specs.Prelude.{◌≡◌, ℕ, ◌+◌, ◌-◌, ◌≤◌, ◌<◌, Bool, false, not, cond, ◌||◌, List, [], ◌++◌, length, take, nat_eq, nat_lt}
+use Rattle.std.specs.List.{filter, flat_map, list_any, take_while}
+use Rattle.code_table.specs.Tables.{query}
+use Rattle.gcode_words.specs.Stripping.{plain, realtime}
 use Rattle.run_rules.specs.Lines.{HasNoLf, lines_of}
 use Rattle.run_rules.specs.Readings.{largest_job, largest_piece, job_of, sent_lines}
 use Rattle.run_rules.specs.declared.Reading.TheVariants as runs
@@ -9,6 +10,22 @@ use Rattle.stream_host.specs.declared.Reading.{Reading}
 use Rattle.stream_host.specs.declared.Reading.TheVariants.{Ended, Failed, Large, Stopped}
 use Rattle.stream_host.specs.declared.Stop.{Stop}
 use Rattle.stream_host.specs.declared.Stop.TheVariants.{End, LongLine, TooLarge}
+
+-- `~` resumes the machine
+abbrev pub resume : ℕ
+resume = 0x7e
+
+-- A realtime byte that is raised. As yet a reset, `?` and the cancel of a jog are not.
+abbrev pub is_served : ℕ → Bool
+is_served b = not (nat_eq b 0x18 || nat_eq b query || nat_eq b 0x85)
+
+-- the realtime bytes of a line that are raised
+abbrev pub served : List ℕ → List ℕ
+served line = filter is_served (realtime line)
+
+-- those of a text
+abbrev pub served_in : List ℕ → List ℕ
+served_in text = flat_map served (lines_of text)
 
 -- so many bytes of a line are kept at most
 abbrev pub most_kept_by_host : ℕ

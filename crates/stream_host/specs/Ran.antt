@@ -1,6 +1,6 @@
 -- What a host has done in a whole run, and so far, on plain lists.
-use Rattle.std.specs.Prelude.{◌≡◌, ℕ, Bool, true, false, List, ◌++◌, drop}
-use Rattle.std.specs.List.{list_any}
+use Rattle.std.specs.Prelude.{◌≡◌, ℕ, ◌+◌, Bool, true, false, cond, List, [], ◌++◌, drop}
+use Rattle.std.specs.List.{count_by, list_any}
 use Rattle.std.specs.Io.KnownBytes.{Consumes, IsAtEnd}
 use Rattle.outside.specs.Causes.{Rose, SourceState, SinkState}
 use Rattle.outside.specs.Writing.{Wrote, Took}
@@ -11,7 +11,7 @@ use Rattle.stream_host.specs.declared.Reading.TheVariants.{Ended, Failed, Large,
 use Rattle.stream_host.specs.declared.Stop.{Stop}
 use Rattle.stream_host.specs.Links.{on_link}
 use Rattle.status_report.specs.Answering.{answers_in, is_bye}
-use Rattle.stream_host.specs.Jobs.{IsSent, IsSentSoFar}
+use Rattle.stream_host.specs.Jobs.{resume, served_in, IsSent, IsSentSoFar}
 use Rattle.stream_host.specs.Steps.{Journal, has_bye, answered_of, errors_of, reading_of, stop_of, text_of, written_of, has_given_up}
 use Rattle.stream_host.specs.Conduct.{HasWritten}
 
@@ -30,9 +30,16 @@ is_failed Failed = true
 is_failed Large = false
 is_failed Stopped = false
 
--- A host has run: it read a job, stored its lines, closed the link or not, and got replies up to Bye. Where the link is
--- closed, all that is sent of the job is stored. The console has the text of the replies, all of it where no write failed.
-pub record HostRan (job_was job_is : SourceState) (console_was console_is : SinkState) (stored : List ℕ) (shut : Bool) (got : List Reply) (end : HostEnd) : Type 0 where
+-- The realtime bytes that were raised, and those that still are to be, are those of what was scanned, and so many resumes
+-- of the host's own.
+abbrev pub AreRaised : List ℕ → List ℕ → List ℕ → ℕ → Type 0
+AreRaised scanned raised due resumes =
+    (p : ℕ → Bool) → count_by p raised + count_by p due ≡ count_by p (served_in scanned) + cond (p resume) resumes 0
+
+-- A host has run: it read a job, raised its realtime bytes, stored its lines, closed the link or not, and got replies up to
+-- Bye. Where the link is closed, all that is sent of the job is raised and stored. The console has the text of the replies,
+-- all of it where no write failed.
+pub record HostRan (job_was job_is : SourceState) (console_was console_is : SinkState) (stored : List ℕ) (shut : Bool) (raised : List ℕ) (got : List Reply) (end : HostEnd) : Type 0 where
   pub read : List ℕ
   pub reading : Reading
   pub scanned : List ℕ
@@ -41,6 +48,8 @@ pub record HostRan (job_was job_is : SourceState) (console_was console_is : Sink
   pub at_end : reading ≡ Ended → IsAtEnd job_is.left
   pub sent : shut ≡ true → IsSent read reading scanned lines end.stop
   pub link : shut ≡ true → stored ≡ on_link lines
+  pub resumes : ℕ
+  pub raises : shut ≡ true → AreRaised scanned raised [] resumes
   pub bye : list_any is_bye got ≡ true
   pub console : Took console_was console_is end.console_failed (replies_text got)
   pub answered : end.answered ≡ answers_in got
@@ -48,8 +57,9 @@ pub record HostRan (job_was job_is : SourceState) (console_was console_is : Sink
   pub failed : end.source_failed ≡ is_failed reading
   pub source : end.source_failed ≡ true → Rose job_was.faults job_is.faults
 
--- A host runs: it has read a job so far, and stored a front of its lines. The console has a front of the replies' text.
-pub record HostRuns (job_was job_is : SourceState) (console_was console_is : SinkState) (stored : List ℕ) (got : List Reply) : Type 0 where
+-- A host runs: it has read a job so far, raised its realtime bytes but for those that are due, and stored a front of its
+-- lines. The console has a front of the replies' text.
+pub record HostRuns (job_was job_is : SourceState) (console_was console_is : SinkState) (stored raised : List ℕ) (got : List Reply) : Type 0 where
   pub read : List ℕ
   pub reading : Reading
   pub scanned : List ℕ
@@ -59,6 +69,9 @@ pub record HostRuns (job_was job_is : SourceState) (console_was console_is : Sin
   pub sent : IsSentSoFar read reading scanned lines stop
   pub left : List ℕ
   pub link : stored ++ left ≡ on_link lines
+  pub due : List ℕ
+  pub resumes : ℕ
+  pub raises : AreRaised scanned raised due resumes
   pub failed : Bool
   pub waiting : List ℕ
   pub console : Wrote console_was console_is failed waiting (replies_text got)

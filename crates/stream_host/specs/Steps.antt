@@ -11,12 +11,12 @@ use Rattle.stream_host.specs.declared.Reading.TheVariants.{Ended, Failed, Large,
 use Rattle.stream_host.specs.declared.Stop.{Stop}
 use Rattle.stream_host.specs.declared.Stop.TheVariants.{End, LongLine, TooLarge}
 use Rattle.status_report.specs.Answering.{answers_in, is_bye}
-use Rattle.stream_host.specs.Jobs.{is_long}
+use Rattle.stream_host.specs.Jobs.{is_long, served}
 
 pub data PortStep : Type 0 where
   stored : ℕ → PortStep
   dropped : ℕ → PortStep
-  -- the bit of a realtime byte, and whether it was found down
+  -- a realtime byte, and whether its flag was found down
   raised : ℕ → Bool → PortStep
   got : Reply → PortStep
   no_reply : PortStep
@@ -39,8 +39,6 @@ pub data Step : Type 0 where
   wrote : ℕ → Step
   -- a write failed
   gave_up : Step
-  -- so many polls found no reply that a resume is due
-  tired : Step
   turned : Turn → Step
 
 abbrev pub Journal : Type 0
@@ -56,7 +54,6 @@ port_log (scanned b ∷ h) = port_log h
 port_log (line_over ∷ h) = port_log h
 port_log (wrote n ∷ h) = port_log h
 port_log (gave_up ∷ h) = port_log h
-port_log (tired ∷ h) = port_log h
 port_log (turned t ∷ h) = port_log h
 
 -- ---- projections of the port's log
@@ -106,6 +103,78 @@ answered_of h = answers_in (got_of h)
 abbrev pub errors_of : Journal → ℕ
 errors_of h = errors_among (got_of h)
 
+-- ---- the polls, and what is raised
+
+-- so many polls in a row that find no reply are enough for the host to resume the machine by itself
+abbrev pub empty_polls : ℕ
+empty_polls = 4096
+
+-- the polls that found no reply since the last that found one, or that the host answered with a resume
+abbrev pub polls_in : PortLog → ℕ
+polls_in [] = 0
+polls_in (stored b ∷ h) = polls_in h
+polls_in (dropped b ∷ h) = polls_in h
+polls_in (raised b down ∷ h) = cond (nat_eq (polls_in h) empty_polls) 0 (polls_in h)
+polls_in (got r ∷ h) = 0
+polls_in (no_reply ∷ h) = polls_in h + 1
+polls_in (shut ∷ h) = polls_in h
+
+-- what is raised next is a resume of the host's own
+abbrev pub resumes_next : PortLog → Bool
+resumes_next h = nat_eq (polls_in h) empty_polls
+
+-- the bytes that were raised
+abbrev pub raises_in : PortLog → List ℕ
+raises_in [] = []
+raises_in (stored b ∷ h) = raises_in h
+raises_in (dropped b ∷ h) = raises_in h
+raises_in (raised b down ∷ h) = raises_in h ++ b ∷ []
+raises_in (got r ∷ h) = raises_in h
+raises_in (no_reply ∷ h) = raises_in h
+raises_in (shut ∷ h) = raises_in h
+
+-- those among them that stood in a line
+abbrev pub line_raises_in : PortLog → List ℕ
+line_raises_in [] = []
+line_raises_in (stored b ∷ h) = line_raises_in h
+line_raises_in (dropped b ∷ h) = line_raises_in h
+line_raises_in (raised b down ∷ h) = cond (resumes_next h) (line_raises_in h) (line_raises_in h ++ b ∷ [])
+line_raises_in (got r ∷ h) = line_raises_in h
+line_raises_in (no_reply ∷ h) = line_raises_in h
+line_raises_in (shut ∷ h) = line_raises_in h
+
+-- the number of the others
+abbrev pub resumes_in : PortLog → ℕ
+resumes_in [] = 0
+resumes_in (stored b ∷ h) = resumes_in h
+resumes_in (dropped b ∷ h) = resumes_in h
+resumes_in (raised b down ∷ h) = cond (resumes_next h) (resumes_in h + 1) (resumes_in h)
+resumes_in (got r ∷ h) = resumes_in h
+resumes_in (no_reply ∷ h) = resumes_in h
+resumes_in (shut ∷ h) = resumes_in h
+
+-- all polls that found no reply
+abbrev pub all_empty_in : PortLog → ℕ
+all_empty_in [] = 0
+all_empty_in (stored b ∷ h) = all_empty_in h
+all_empty_in (dropped b ∷ h) = all_empty_in h
+all_empty_in (raised b down ∷ h) = all_empty_in h
+all_empty_in (got r ∷ h) = all_empty_in h
+all_empty_in (no_reply ∷ h) = all_empty_in h + 1
+all_empty_in (shut ∷ h) = all_empty_in h
+
+abbrev pub polls_of : Journal → ℕ
+polls_of h = polls_in (port_log h)
+
+abbrev pub raises_of : Journal → List ℕ
+raises_of h = raises_in (port_log h)
+
+abbrev pub line_raises_of : Journal → List ℕ
+line_raises_of h = line_raises_in (port_log h)
+
+abbrev pub resumes_of : Journal → ℕ
+resumes_of h = resumes_in (port_log h)
+
 -- ---- what was read and scanned
 
 abbrev pub read_of : Journal → List ℕ
@@ -118,7 +187,6 @@ read_of (scanned b ∷ h) = read_of h
 read_of (line_over ∷ h) = read_of h
 read_of (wrote n ∷ h) = read_of h
 read_of (gave_up ∷ h) = read_of h
-read_of (tired ∷ h) = read_of h
 read_of (turned t ∷ h) = read_of h
 
 -- how the reading goes; Stopped while it may go on
@@ -132,7 +200,6 @@ reading_of (scanned b ∷ h) = reading_of h
 reading_of (line_over ∷ h) = reading_of h
 reading_of (wrote n ∷ h) = reading_of h
 reading_of (gave_up ∷ h) = reading_of h
-reading_of (tired ∷ h) = reading_of h
 reading_of (turned t ∷ h) = reading_of h
 
 abbrev pub scanned_of : Journal → List ℕ
@@ -145,7 +212,6 @@ scanned_of (scanned b ∷ h) = scanned_of h ++ b ∷ []
 scanned_of (line_over ∷ h) = scanned_of h
 scanned_of (wrote n ∷ h) = scanned_of h
 scanned_of (gave_up ∷ h) = scanned_of h
-scanned_of (tired ∷ h) = scanned_of h
 scanned_of (turned t ∷ h) = scanned_of h
 
 -- read, and not scanned
@@ -159,7 +225,6 @@ unscanned_of (scanned b ∷ h) = drop 1 (unscanned_of h)
 unscanned_of (line_over ∷ h) = unscanned_of h
 unscanned_of (wrote n ∷ h) = unscanned_of h
 unscanned_of (gave_up ∷ h) = unscanned_of h
-unscanned_of (tired ∷ h) = unscanned_of h
 unscanned_of (turned t ∷ h) = unscanned_of h
 
 -- ---- the lines
@@ -175,7 +240,6 @@ raw_of (scanned b ∷ h) = cond (nat_eq b 10) [] (raw_of h ++ b ∷ [])
 raw_of (line_over ∷ h) = []
 raw_of (wrote n ∷ h) = raw_of h
 raw_of (gave_up ∷ h) = raw_of h
-raw_of (tired ∷ h) = raw_of h
 raw_of (turned t ∷ h) = raw_of h
 
 -- the lines that were scanned whole
@@ -189,7 +253,6 @@ cut_of (scanned b ∷ h) = cond (nat_eq b 10) (cut_of h ++ raw_of h ∷ []) (cut
 cut_of (line_over ∷ h) = cut_of h ++ raw_of h ∷ []
 cut_of (wrote n ∷ h) = cut_of h
 cut_of (gave_up ∷ h) = cut_of h
-cut_of (tired ∷ h) = cut_of h
 cut_of (turned t ∷ h) = cut_of h
 
 abbrev pub left_at : PortStep → List ℕ → List ℕ
@@ -207,7 +270,6 @@ to_store (scanned b ∷ h) = cond (nat_eq b 10) (plain (raw_of h) ++ 10 ∷ []) 
 to_store (line_over ∷ h) = plain (raw_of h) ++ 10 ∷ []
 to_store (wrote n ∷ h) = to_store h
 to_store (gave_up ∷ h) = to_store h
-to_store (tired ∷ h) = to_store h
 to_store (turned t ∷ h) = to_store h
 
 abbrev pub begun_at : PortStep → List (List ℕ) → List (List ℕ) → List (List ℕ)
@@ -225,8 +287,30 @@ begun_of (scanned b ∷ h) = begun_of h
 begun_of (line_over ∷ h) = begun_of h
 begun_of (wrote n ∷ h) = begun_of h
 begun_of (gave_up ∷ h) = begun_of h
-begun_of (tired ∷ h) = begun_of h
 begun_of (turned t ∷ h) = begun_of h
+
+-- ---- realtime bytes
+
+-- the realtime bytes to be raised that a line has more with one byte more
+abbrev pub more_served : List ℕ → ℕ → List ℕ
+more_served raw b = drop (length (served raw)) (served (raw ++ b ∷ []))
+
+abbrev pub due_at : PortStep → Bool → List ℕ → List ℕ
+due_at (raised b down) resumes bytes = cond resumes bytes (drop 1 bytes)
+due_at e resumes bytes = bytes
+
+-- the bytes that are scanned and still to be raised
+abbrev pub due_of : Journal → List ℕ
+due_of [] = []
+due_of (at_port e ∷ h) = due_at e (resumes_next (port_log h)) (due_of h)
+due_of (read_some bytes ∷ h) = due_of h
+due_of (read_end ∷ h) = due_of h
+due_of (read_failed ∷ h) = due_of h
+due_of (scanned b ∷ h) = due_of h ++ more_served (raw_of h) b
+due_of (line_over ∷ h) = due_of h
+due_of (wrote n ∷ h) = due_of h
+due_of (gave_up ∷ h) = due_of h
+due_of (turned t ∷ h) = due_of h
 
 -- why it sends no more: by how the reading goes, the line that is being scanned, and the number of those before it
 abbrev pub stop_at : Reading → List ℕ → ℕ → Stop
@@ -252,7 +336,6 @@ written_of (scanned b ∷ h) = written_of h
 written_of (line_over ∷ h) = written_of h
 written_of (wrote n ∷ h) = written_of h + n
 written_of (gave_up ∷ h) = written_of h
-written_of (tired ∷ h) = written_of h
 written_of (turned t ∷ h) = written_of h
 
 abbrev pub has_given_up : Journal → Bool
@@ -265,33 +348,7 @@ has_given_up (scanned b ∷ h) = has_given_up h
 has_given_up (line_over ∷ h) = has_given_up h
 has_given_up (wrote n ∷ h) = has_given_up h
 has_given_up (gave_up ∷ h) = true
-has_given_up (tired ∷ h) = has_given_up h
 has_given_up (turned t ∷ h) = has_given_up h
-
--- ---- the polls
-
--- so many polls that find no reply are enough for the host to resume the machine by itself
-abbrev pub empty_polls : ℕ
-empty_polls = 4096
-
-abbrev pub polls_at : PortStep → ℕ → ℕ
-polls_at (got r) n = 0
-polls_at no_reply n = n + 1
-polls_at e n = n
-
--- the polls that found no reply since the last that found one
-abbrev pub polls_of : Journal → ℕ
-polls_of [] = 0
-polls_of (at_port e ∷ h) = polls_at e (polls_of h)
-polls_of (read_some bytes ∷ h) = polls_of h
-polls_of (read_end ∷ h) = polls_of h
-polls_of (read_failed ∷ h) = polls_of h
-polls_of (scanned b ∷ h) = polls_of h
-polls_of (line_over ∷ h) = polls_of h
-polls_of (wrote n ∷ h) = polls_of h
-polls_of (gave_up ∷ h) = polls_of h
-polls_of (tired ∷ h) = 0
-polls_of (turned t ∷ h) = polls_of h
 
 -- ---- the turn
 
@@ -305,5 +362,4 @@ this_turn (scanned b ∷ h) = scanned b ∷ this_turn h
 this_turn (line_over ∷ h) = line_over ∷ this_turn h
 this_turn (wrote n ∷ h) = wrote n ∷ this_turn h
 this_turn (gave_up ∷ h) = gave_up ∷ this_turn h
-this_turn (tired ∷ h) = tired ∷ this_turn h
 this_turn (turned t ∷ h) = []

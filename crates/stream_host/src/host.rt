@@ -1,14 +1,15 @@
 //! The host.
 
-ghost use Rattle.std.specs.Prelude.{◌≡◌, ◌≢◌, ◌↔◌, ◌≤◌, ◌<◌, ◌∷◌, [], ◌++◌, ℕ, List, true, false, length, ◌||◌};
+ghost use Rattle.std.specs.Prelude.{◌≡◌, ◌≢◌, ◌↔◌, ◌≤◌, ◌<◌, ◌∷◌, [], ◌++◌, ℕ, List, true, false, length, ◌||◌, Bool, Some, None};
 ghost use Rattle.status_report.specs.Replies.{IsReply};
 ghost use Rattle.outside.specs.declared.Turn.TheVariants.{Did};
 ghost use Rattle.text_writer.specs.Writers.{is_due};
 ghost use Rattle.stream_host.specs.Ports.{AnswersLines};
 ghost use Rattle.stream_host.specs.Steps.{Journal, port_log, got_of, stop_of, stop_at, raw_of, cut_of, reading_of, has_given_up, answered_of, errors_of};
-ghost use Rattle.stream_host.specs.Steps.PortStep.{stored, got, no_reply, shut};
+ghost use Rattle.stream_host.specs.Steps.PortStep.{stored, raised, got, no_reply, shut};
 ghost use Rattle.stream_host.specs.Steps.Step.{at_port, scanned, turned};
 ghost use Rattle.status_report.specs.Answering.{answers_in, is_bye};
+ghost use Rattle.stream_host.specs.Jobs.{resume};
 ghost use Rattle.stream_host.specs.Conduct.{MayRead, HasWritten};
 ghost use Rattle.stream_host.specs.Hosts.{HostFits, HostWorked, HostTurned, HostTellsOn, HasPolled, IsBetween, DidAlone, MayScanOn, MayReadOn, HasRoom, HasShown, HostRests, HasLine, KeepsLine, KeepsCounts, unread, shown};
 ghost use Rattle.outside.specs.Causes.{SourceState, SinkState};
@@ -28,13 +29,20 @@ use units::Text;
 /// So many bytes on the link at most are of lines that have no answer.
 const RECEIVE_ROOM: usize = 128;
 
-/// Reads a job, sends its lines by counting characters, and shows the replies.
+/// So many polls in a row that find no reply are enough to resume the machine.
+const EMPTY_POLLS: u16 = 4096;
+
+/// The realtime byte that resumes the machine.
+const RESUME: u8 = b'~';
+
+/// Reads a job, raises its realtime bytes, sends its lines by counting characters, and shows the replies.
 #[derive(Drop)]
 pub struct Host {
     job: Reader,
     line: SentLine,
     counts: Counts,
     text: TextWriter,
+    polls: u16,
     shut: bool,
     bye: bool,
 }
@@ -49,6 +57,7 @@ impl Host {
             line: SentLine::new(),
             counts: Counts::new(),
             text: TextWriter::new(),
+            polls: 0,
             shut: false,
             bye: false,
         }
@@ -144,7 +153,7 @@ impl Host {
         }
     }
 
-    /// A reply was got: it is counted, and its text waits for the console.
+    /// A reply was got: it is counted, and its text waits for the console. The polls are counted anew.
     fn take_reply(&mut self, reply: &Reply)
         requires reply { IsReply reply.now }
         requires ready { is_due self.old.text ≡ false }
@@ -155,6 +164,7 @@ impl Host {
     {
         self.count(reply);
         self.show(reply);
+        self.polls = 0;
     }
 
     /// Whether the next byte may be scanned.
@@ -164,6 +174,7 @@ impl Host {
     {
         !self.line.whole
             && !self.line.long
+            && self.line.due.is_none()
             && self.job.place < self.job.end
             && self.job.scanned < LARGEST_JOB
     }
@@ -186,7 +197,7 @@ impl Host {
         }
     }
 
-    /// Scans the piece until the line ends, has too many bytes, or the piece is used up.
+    /// Scans the piece until a byte is to be raised, the line ends or has too many bytes, or the piece is used up.
     fn scan(&mut self)
         requires may { MayScanOn self.old }
         requires going { self.old.shut ≡ false }
@@ -203,6 +214,7 @@ impl Host {
     /// Reads the next piece. Where there is none, a last line without LF is over.
     fn read<So: Source>(&mut self, job: &mut So)
         requires may { MayReadOn self.old }
+        requires shown { HasShown self.old.text }
         requires going { self.old.shut ≡ false }
         requires fits { (h : Journal) × HostFits self.old h }
         ensures { (h : Journal) → HostFits self.old h → (next : Journal) × DidAlone self.old self.new h next
@@ -216,6 +228,36 @@ impl Host {
         if self.line.begun {
             finish_line(&mut self.line, &mut self.counts);
         }
+    }
+
+    /// Raises the byte that is due.
+    fn raise<P: HostPort>(&mut self, port: &mut P, byte: u8)
+        requires due { self.old.line.due ≡ Some byte }
+        requires stands { (rest : P.Rest) × (h : Journal) × P.stands port.old rest (port_log h) × HostFits self.old h }
+        ensures raised { (rest : P.Rest) (h : Journal) → P.stands port.old rest (port_log h) → HostFits self.old h → (down : Bool) × P.stands port.new rest (raised byte down ∷ port_log h)
+            × HostFits self.new (at_port (raised byte down) ∷ h) }
+        ensures text { self.new.text ≡ self.old.text }
+    {
+        port.raise(byte);
+        self.line.due = None;
+    }
+
+    /// A poll found no reply. Where so many have, the machine is resumed. Answers whether it is.
+    fn count_poll<P: HostPort>(&mut self, port: &mut P) -> bool
+        requires going { self.old.bye ≡ false }
+        requires stands { (rest : P.Rest) × (h : Journal) × P.stands port.old rest (no_reply ∷ port_log h) × HostFits self.old h }
+        ensures resumed { result ≡ true → (rest : P.Rest) (h : Journal) → P.stands port.old rest (no_reply ∷ port_log h) → HostFits self.old h
+            → (down : Bool) × P.stands port.new rest (raised resume down ∷ no_reply ∷ port_log h) × HostFits self.new (at_port (raised resume down) ∷ at_port no_reply ∷ h) }
+        ensures counted { result ≡ false → (port.new ≡ port.old) × ((h : Journal) → HostFits self.old h → HostFits self.new (at_port no_reply ∷ h)) }
+        ensures text { self.new.text ≡ self.old.text }
+    {
+        self.polls += 1;
+        if self.polls < EMPTY_POLLS {
+            return false;
+        }
+        self.polls = 0;
+        port.raise(RESUME);
+        true
     }
 
     /// Stores the next byte of the line in hand.
@@ -238,6 +280,7 @@ impl Host {
     fn close<P: HostPort>(&mut self, port: &mut P)
         requires scanning { self.old.line.whole ≡ false }
         requires going { self.old.shut ≡ false }
+        requires none_due { self.old.line.due ≡ None }
         requires no_scan { MayScanOn self.old → ⊥ }
         requires no_read { MayReadOn self.old → ⊥ }
         requires stands { (rest : P.Rest) × (h : Journal) × P.stands port.old rest (port_log h) × HostFits self.old h }
@@ -254,7 +297,8 @@ impl Host {
         ensures may { result ≡ true → MayReadOn self.now }
         ensures may_not { result ≡ false → MayReadOn self.now → ⊥ }
     {
-        !self.line.whole
+        self.line.due.is_none()
+            && !self.line.whole
             && !self.line.long
             && self.job.end <= self.job.place
             && matches!(self.job.reading, Reading::Stopped)
@@ -270,10 +314,10 @@ impl Host {
         !self.text.has_text()
     }
 
-    /// Whether the next turn reads the job, unless it finds a reply: it may be read, and all that was got is written. Any
-    /// other turn waits for nobody.
+    /// Whether the next turn reads the job, unless it finds a reply or resumes the machine. Any other turn waits for
+    /// nobody.
     pub fn reads_next(&self) -> bool
-        ensures { (h : Journal) → HostFits self.now h → (result ≡ true) ↔ (MayRead h × HasWritten h) }
+        ensures { (h : Journal) → HostFits self.now h → (result ≡ true) ↔ MayRead h }
     {
         if self.shut {
             return false;
@@ -284,8 +328,8 @@ impl Host {
         self.may_read()
     }
 
-    /// Takes one step of sending: stores a byte, scans, reads, or closes the link. Where it may do none, a reply is waited
-    /// for.
+    /// Takes one step of sending: raises a byte, stores one, scans, reads, or closes the link. Where it may do none, a
+    /// reply is waited for.
     fn send<P: HostPort, So: Source>(&mut self, port: &mut P, job: &mut So) -> Turn
         requires shown { HasShown self.old.text }
         requires stands { (rest : P.Rest) × (h : Journal) × P.stands port.old rest (port_log h) × HostFits self.old h × HasPolled h }
@@ -294,6 +338,10 @@ impl Host {
             × ((console : SinkState) → HostTellsOn self.old self.new h next (So.state job.old) (So.state job.new) console console) }
         ensures going { result ≢ Turn.Done }
     {
+        if let Some(byte) = self.line.due {
+            self.raise(port, byte);
+            return Turn::Did;
+        }
         if self.line.whole {
             if self.counts.unanswered.total > RECEIVE_ROOM {
                 return Turn::Wait(On::Answer);
@@ -330,7 +378,8 @@ impl Host {
         ensures going { result ≢ Turn.Done }
     {
         self.text.ask();
-        if self.text.is_due() {
+        let shows = self.text.is_due();
+        if shows {
             self.write(console);
             return Turn::Did;
         }
@@ -363,12 +412,17 @@ impl Host {
                 self.take_reply(&reply);
                 Turn::Did
             }
-            None => self.without_reply(port, job, console),
+            None => {
+                if self.count_poll(port) {
+                    return Turn::Did;
+                }
+                self.without_reply(port, job, console)
+            }
         }
     }
 
-    /// Takes a turn: writes text that is due, takes a reply, or takes one step of sending; at most one thing is published.
-    /// Where a poll found no reply, and the rules allow nothing else, it answers `Wait(Answer)`. It is done once Bye was
+    /// Takes a turn: writes text that is due, takes a reply, resumes the machine where 4,096 polls in a row have found none,
+    /// or takes one step of sending; at most one thing is published. Where a poll found no reply, and the rules allow nothing else, it answers `Wait(Answer)`. It is done once Bye was
     /// got and all text is written or the console has failed; from then on nothing changes.
     ///
     /// The rules of the host are those of its journal: whatever it has done before, it goes on as they allow.
@@ -396,6 +450,7 @@ fn finish_line(line: &mut SentLine, counts: &mut Counts)
     ensures line { (raw : List ℕ) → HasLine line.old raw → KeepsLine line.new [] (plain raw ++ 10 ∷ []) }
     ensures counts { (raw : List ℕ) (cuts : List (List ℕ)) (got : List Reply) → HasLine line.old raw → KeepsCounts counts.old cuts got → answers_in got ≤ length cuts
         → KeepsCounts counts.new (cuts ++ raw ∷ []) got }
+    ensures due { line.new.due ≡ line.old.due }
 {
     let size = line.finish();
     counts.add_line(size);

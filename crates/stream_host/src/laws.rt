@@ -1,20 +1,20 @@
 //! Laws of hosts.
 
-ghost use Rattle.std.specs.Prelude.{◌≡◌, ℕ, ◌+◌, ◌≤◌, ◌<◌, true, false, List, [], ◌∷◌, ◌++◌, length, map, drop};
+ghost use Rattle.std.specs.Prelude.{◌≡◌, ℕ, ◌+◌, ◌*◌, ◌≤◌, ◌<◌, true, false, List, [], ◌∷◌, ◌++◌, length, map, drop};
 ghost use Rattle.gcode_words.specs.Stripping.{plain};
 ghost use Rattle.run_rules.specs.Lines.{whole_lines};
 ghost use Rattle.run_rules.specs.Readings.{largest_job, largest_piece};
 ghost use Rattle.stream_host.specs.Links.{behind, on_link};
 ghost use Rattle.status_report.specs.Answering.{receive_room, lfs_in};
-ghost use Rattle.stream_host.specs.Jobs.{ends_sending, lines_read, lines_to_send, IsSent, IsSentSoFar};
+ghost use Rattle.stream_host.specs.Jobs.{served_in, ends_sending, lines_read, lines_to_send, IsSent, IsSentSoFar};
 ghost use Rattle.stream_host.specs.declared.Reading.{Reading};
 ghost use Rattle.std.specs.List.{AllByRecursion};
-ghost use Rattle.stream_host.specs.Steps.{Journal, stored_of, got_of, is_shut, answered_of, errors_of, read_of, reading_of, scanned_of, cut_of, to_store, begun_of, stop_of};
+ghost use Rattle.stream_host.specs.Steps.{Journal, stored_of, got_of, is_shut, answered_of, errors_of, read_of, reading_of, scanned_of, cut_of, to_store, begun_of, due_of, stop_of, port_log, raises_of, line_raises_of, resumes_of, polls_of, all_empty_in, empty_polls};
 ghost use Rattle.stream_host.specs.Conduct.{Conducted, MayStore, Waits};
 ghost use Rattle.outside.specs.Causes.{SourceState, SinkState};
 ghost use Rattle.stream_host.specs.declared.host.Host.{Host};
 ghost use Rattle.stream_host.specs.Hosts.{HostFits, HostRests, TellsJob, TellsText};
-ghost use Rattle.stream_host.specs.Ran.{HostRan, HostRuns, HasFinished, TellsConsole, end_of};
+ghost use Rattle.stream_host.specs.Ran.{AreRaised, HostRan, HostRuns, HasFinished, TellsConsole, end_of};
 
 /// What a host that keeps to its rules stores is what is kept of the lines that it cuts, each with LF. These are the lines
 /// that are sent of the job, and what it scans, and why it stops, is what the job allows: so far, and all once it has
@@ -34,6 +34,18 @@ pub fn hosts_keep_to_their_count()
     ensures answers { (h : Journal) → Conducted h → (errors_of h ≤ answered_of h) × (answered_of h ≤ length (cut_of h)) × (length (cut_of h) ≤ largest_job) }
     ensures read { (h : Journal) → Conducted h → (length (scanned_of h) ≤ largest_job) × (length (read_of h) ≤ length (scanned_of h) + largest_piece) }
     ensures bytes { (h : Journal) → Conducted h → length (stored_of h) ≤ largest_job + 1 }
+{}
+
+/// Of the realtime bytes that a host scans, each that is served is raised once, in order, or is due: none is while a byte of
+/// the line that it stands in may be stored. What else is raised are its own resumes. Before each of them 4,096 polls in a
+/// row found no reply, and no more.
+pub fn hosts_raise_what_they_scan()
+    ensures raised { (h : Journal) → Conducted h → AreRaised (scanned_of h) (raises_of h) (due_of h) (resumes_of h) }
+    ensures in_order { (h : Journal) → Conducted h → line_raises_of h ++ due_of h ≡ served_in (scanned_of h) }
+    ensures first { (b : ℕ) (h : Journal) → Conducted h → MayStore b h → due_of h ≡ [] }
+    ensures closed { (h : Journal) → Conducted h → is_shut h ≡ true → due_of h ≡ [] }
+    ensures tired { (h : Journal) → Conducted h → polls_of h ≤ empty_polls }
+    ensures rested { (h : Journal) → Conducted h → empty_polls * resumes_of h + polls_of h ≤ all_empty_in (port_log h) }
 {}
 
 /// A host whose link is open waits only where a line that it has sent has no answer: its rules always allow it one of its
@@ -56,10 +68,10 @@ pub fn links_carry_lines()
 pub fn hosts_have_run()
     ensures so_far { (h : Journal) (job_was job_is : SourceState) (console_was console_is : SinkState) →
         Conducted h → TellsJob h job_was job_is → TellsConsole h console_was console_is →
-        HostRuns job_was job_is console_was console_is (stored_of h) (got_of h) }
+        HostRuns job_was job_is console_was console_is (stored_of h) (raises_of h) (got_of h) }
     ensures whole { (h : Journal) (job_was job_is : SourceState) (console_was console_is : SinkState) →
         Conducted h → HasFinished h → TellsJob h job_was job_is → TellsConsole h console_was console_is →
-        HostRan job_was job_is console_was console_is (stored_of h) (is_shut h) (got_of h) (end_of h) }
+        HostRan job_was job_is console_was console_is (stored_of h) (is_shut h) (raises_of h) (got_of h) (end_of h) }
     ensures finished { (host : Host) (h : Journal) → HostFits host h → HostRests host → HasFinished h }
     ensures console { (host : Host) (h : Journal) (was is : SinkState) → HostFits host h → TellsText host.text h was is → TellsConsole h was is }
     ensures beginning { (job : SourceState) (console : SinkState) → TellsJob [] job job × TellsConsole [] console console }

@@ -13,8 +13,8 @@ mod unanswered;
 
 pub use host::Host;
 pub use laws::{
-    hosts_have_run, hosts_keep_to_their_count, hosts_send_their_lines, hosts_wait_for_answers,
-    links_carry_lines,
+    hosts_have_run, hosts_keep_to_their_count, hosts_raise_what_they_scan, hosts_send_their_lines,
+    hosts_wait_for_answers, links_carry_lines,
 };
 pub use ports::HostPort;
 

@@ -1,27 +1,51 @@
 //! The line in hand: first it is scanned, then it is stored.
 
-ghost use Rattle.std.specs.Prelude.{◌≡◌, ◌≢◌, ℕ, ◌+◌, ◌≤◌, ◌<◌, ◌++◌, ◌∷◌, [], List, take, drop, length, nat_lt, true, false};
-ghost use Rattle.stream_host.specs.Hosts.{HasLine};
+ghost use Rattle.std.specs.Prelude.{◌≡◌, ◌≢◌, ℕ, ◌+◌, ◌≤◌, ◌<◌, ◌++◌, ◌∷◌, [], List, take, drop, length, nat_lt, true, false, option_to_list, None};
+ghost use Rattle.std.specs.List.{filter};
+ghost use Rattle.gcode_words.specs.Stripping.{taken_by};
+ghost use Rattle.stream_host.specs.Jobs.{is_served};
+ghost use Rattle.stream_host.specs.Steps.{more_served};
+ghost use Rattle.stream_host.specs.Hosts.{HasLine, KeepsDue};
 
 use arrayvec::ArrayVec;
 use gcode_words::{Stripped, Stripper};
 
 /// What has come of a line: where the stripper stands in it, the first 127 kept bytes, whether there were more, and
-/// whether any byte came; whether it is whole, and how much of it is stored then.
+/// whether any byte came; the realtime byte that is to be raised before it goes on, if any; whether it is whole, and how
+/// much of it is stored then.
 #[derive(Drop)]
 pub(crate) struct SentLine {
     pub(crate) stripper: Stripper,
     pub(crate) kept: ArrayVec<u8, 127>,
     pub(crate) long: bool,
     pub(crate) begun: bool,
+    pub(crate) due: Option<u8>,
     pub(crate) whole: bool,
     pub(crate) place: usize,
+}
+
+/// Whether a realtime byte is raised.
+fn is_served(byte: u8) -> bool
+    ensures { result ≡ is_served byte }
+{
+    !matches!(byte, 0x18 | b'?' | 0x85)
+}
+
+/// The realtime byte that is to be raised, where a byte of a line is one.
+fn due_in(stripped: Stripped) -> Option<u8>
+    ensures { KeepsDue result (filter is_served (taken_by stripped)) }
+{
+    match stripped {
+        Stripped::Realtime(byte) if is_served(byte) => Some(byte),
+        _ => None,
+    }
 }
 
 impl SentLine {
     /// Nothing has come.
     pub(crate) fn new() -> SentLine
         ensures fresh { HasLine result [] }
+        ensures due { result.due ≡ None }
         ensures scanned { result.whole ≡ false }
     {
         SentLine {
@@ -29,6 +53,7 @@ impl SentLine {
             kept: ArrayVec::new(),
             long: false,
             begun: false,
+            due: None,
             whole: false,
             place: 0,
         }
@@ -37,6 +62,7 @@ impl SentLine {
     /// The line is stored, and the next begins.
     fn clear(&mut self)
         ensures fresh { HasLine self.new [] }
+        ensures due { self.new.due ≡ self.old.due }
         ensures scanned { self.new.whole ≡ false }
     {
         self.stripper = Stripper::new();
@@ -52,6 +78,7 @@ impl SentLine {
         ensures long { (all : List ℕ) → self.old.kept.items ≡ take 127 all → self.old.long ≡ nat_lt 127 (length all) → self.new.long ≡ nat_lt 127 (length (all ++ byte ∷ [])) }
         ensures stripper { self.new.stripper ≡ self.old.stripper }
         ensures begun { self.new.begun ≡ self.old.begun }
+        ensures due { self.new.due ≡ self.old.due }
         ensures whole { self.new.whole ≡ self.old.whole }
     {
         if self.kept.len() < 127 {
@@ -61,14 +88,17 @@ impl SentLine {
         }
     }
 
-    /// One byte more, no line feed.
+    /// One byte more, no line feed. One that asks for what is done in real time is to be raised.
     pub(crate) fn feed(&mut self, byte: u8)
-        requires { byte ≢ 10 }
+        requires text { byte ≢ 10 }
+        requires none_due { self.old.due ≡ None }
         ensures fed { (raw : List ℕ) → HasLine self.old raw → HasLine self.new (raw ++ byte ∷ []) }
+        ensures due { (raw : List ℕ) → HasLine self.old raw → KeepsDue self.new.due (more_served raw byte) }
         ensures whole { self.new.whole ≡ self.old.whole }
     {
         self.begun = true;
         let stripped = self.stripper.feed(byte);
+        self.due = due_in(stripped);
         if let Stripped::Keep(kept) = stripped {
             self.keep(kept);
         }
@@ -79,6 +109,7 @@ impl SentLine {
         ensures length { result ≡ length self.old.kept.items + 1 }
         ensures kept { self.new.kept.items ≡ self.old.kept.items }
         ensures long { self.new.long ≡ self.old.long }
+        ensures due { self.new.due ≡ self.old.due }
         ensures whole { self.new.whole ≡ true }
         ensures place { self.new.place ≡ 0 }
     {
@@ -105,6 +136,7 @@ impl SentLine {
         requires whole { self.old.whole ≡ true }
         ensures more { self.old.place < length self.old.kept.items → self.new ≡ record self.old { place = self.old.place + 1 } }
         ensures last { self.old.place ≡ length self.old.kept.items → HasLine self.new [] × (self.new.whole ≡ false) }
+        ensures due { self.new.due ≡ self.old.due }
     {
         if self.place < self.kept.len() {
             self.place += 1;

@@ -11,7 +11,7 @@ use status_report::Reply;
 use std::marker::Model;
 use std::test::Fail;
 
-/// A board that takes each byte at once. It tells the banner, answers the lines one by one, and says Bye once the link is
+/// A board that takes each byte at once, also those that are raised. It tells the banner, answers the lines one by one, and says Bye once the link is
 /// closed and each line has its answer. So many polls find no reply before each.
 #[derive(Drop)]
 struct Board<'a> {
@@ -64,6 +64,7 @@ impl HostPort for Board<'_> {
     }
 
     fn raise(&mut self, byte: u8) -> Raised {
+        let _ = self.taken.write(&[byte]);
         match realtime_rows().find(u16::from(byte)) {
             Some(bit) if bit < 16 => Raised::Exec,
             Some(_) => Raised::Override,
@@ -274,6 +275,50 @@ fn jobs_are_sent_and_answered(rt: HostRuntime) -> Result<(), Fail> {
             row.bad_writes.len() > 0,
             "row {i}"
         );
+    }
+    Ok(())
+}
+
+/// Realtime bytes are raised as they are scanned, before the text of their line, and one a turn.
+#[test]
+fn realtime_bytes_are_raised(rt: HostRuntime) -> Result<(), Fail> {
+    let rows: [(&[u8], &[u8]); 7] = [
+        (b"!G0X1~\n", b"!~G0X1\n"),
+        (b"G0!X1\n~M2\n!", b"!G0X1\n~M2\n!\n"),
+        (b"G0(!)X1;~\n(~", b"G0X1\n\n"),
+        (b"?G0\x18X1\x85\n", b"G0X1\n"),
+        (b"\xA0G0\x91\n", b"\xA0\x91G0\n"),
+        (b"!!!!\n", b"!!!!\n"),
+        (b"\n~", b"\n~\n"),
+    ];
+    for (i, (bytes, taken)) in rows.iter().enumerate() {
+        let mut job = MemSource::new(bytes, 4096, &[]);
+        let mut console = MemSink::new(rt.alloc(), 400, &[])?;
+        let mut line = Line::new(MemSink::new(rt.alloc(), 400, &[])?, false, 0);
+        let mut last = Turn::Did;
+        for _ in 0..100 {
+            let before = line.board.taken.held().len();
+            last = line.turn(&mut job, &mut console);
+            assert!(rt;
+                line.board.taken.held().len() <= before.saturating_add(1),
+                "row {i}"
+            );
+        }
+        assert_eq!(rt; last, Turn::Done, "row {i}");
+        assert!(rt; line.board.taken.held() == *taken, "row {i}");
+    }
+    Ok(())
+}
+
+/// The banner is told, and nothing more: the 4,096th poll behind it, and each 4,096th from there on, resumes the machine.
+#[test]
+fn machines_are_resumed(rt: HostRuntime) -> Result<(), Fail> {
+    let mut job = MemSource::new(b"", 4096, &[]);
+    let mut console = MemSink::new(rt.alloc(), 400, &[])?;
+    let mut line = Line::new(MemSink::new(rt.alloc(), 400, &[])?, false, u32::MAX);
+    for (turns, taken) in [(4096, ""), (1, "~"), (4095, "~"), (1, "~~")] {
+        line.run(Turn::Done, turns, &mut job, &mut console);
+        assert!(rt; line.board.taken.held() == taken.as_bytes(), "{taken}");
     }
     Ok(())
 }

@@ -12,6 +12,8 @@ mod heads;
 #[cfg(test)]
 mod offsets;
 #[cfg(test)]
+mod realtime;
+#[cfg(test)]
 mod rows;
 #[cfg(test)]
 mod runs;

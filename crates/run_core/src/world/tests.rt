@@ -1,7 +1,7 @@
 //! Whole jobs, by a schedule and in lockstep, and a host alone.
 
 use super::*;
-use crate::{run_lockstep, run_schedule};
+use crate::{run_lockstep, run_patiently, run_schedule};
 use outside::{MemSink, MemSource, On};
 use std::test::Fail;
 use stream_host::Stop;
@@ -105,6 +105,34 @@ fn jobs_are_done_in_lockstep(rt: HostRuntime) -> Result<(), Fail> {
                 "row {i}, seed {seed}"
             );
             assert_eq!(rt; world.end(), end_of(row), "row {i}, seed {seed}");
+        }
+    }
+    Ok(())
+}
+
+/// Nobody resumes the machine but the host by itself. The order in which the host reads is one in which a machine that
+/// waits for a resume has the job read on.
+#[test]
+fn held_machines_are_resumed(rt: HostRuntime) -> Result<(), Fail> {
+    let rows = [
+        ("M0\nG0X0.004\n", "s 2 1 0 320000\nX+\nE\n"),
+        ("!G0X0.004\n\n", "s 1 1 0 320000\nX+\nE\n"),
+        ("M0\n~G0X0.004\n", "s 2 1 0 320000\nX+\nE\n"),
+    ];
+    for patient in [false, true] {
+        for (i, (text, records)) in rows.iter().enumerate() {
+            let mut job = MemSource::new(text.as_bytes(), 3, &[]);
+            let mut console = MemSink::new(rt.alloc(), 400, &[])?;
+            let mut steps = MemSink::new(rt.alloc(), 400, &[])?;
+            let mut world = World::new(rt.alloc())?;
+            if patient {
+                run_patiently(&rt, &mut world, &mut job, &mut console, &mut steps);
+            } else {
+                run_lockstep(&rt, &mut world, 0, &mut job, &mut console, &mut steps);
+            }
+            assert!(rt; steps.held() == records.as_bytes(), "row {i}");
+            assert_eq!(rt; world.end().answered, 2, "row {i}");
+            assert_eq!(rt; world.end().errors, 0, "row {i}");
         }
     }
     Ok(())

@@ -1,6 +1,3 @@
-use Rattle.run_rules.specs.declared.State.{State}
-use Rattle.board_rules.specs.Steps.{Journal}
-use Rattle.board_rules.specs.Conduct.{Conducted}
 use Rattle.run_law.proofs.Boarding.{Kept, board_ran, board_runs}
 use Rattle.run_law.proofs.boards_have_run.Goals as goal
 
@@ -13,7 +10,7 @@ returns-clause-whole c = λ first h opening conducted finished.
       bye = c.boards_keep_to_their_lines.ensures.bye first h conducted;
       asked = c.boards_keep_to_their_lines.ensures.asked first h conducted;
       run = c.boards_run_their_plan.ensures.run first h conducted;
-      undisturbed = c.boards_run_their_plan.ensures.undisturbed first h conducted;
+      disturbed = c.boards_run_their_plan.ensures.disturbed first h conducted;
       hand = c.boards_run_their_plan.ensures.hand first h conducted;
       end = c.boards_run_their_plan.ensures.end first h conducted;
     } in
@@ -29,7 +26,7 @@ returns-clause-so_far c = λ first h opening conducted.
       bye = c.boards_keep_to_their_lines.ensures.bye first h conducted;
       asked = c.boards_keep_to_their_lines.ensures.asked first h conducted;
       run = c.boards_run_their_plan.ensures.run first h conducted;
-      undisturbed = c.boards_run_their_plan.ensures.undisturbed first h conducted;
+      disturbed = c.boards_run_their_plan.ensures.disturbed first h conducted;
       hand = c.boards_run_their_plan.ensures.hand first h conducted;
       end = c.boards_run_their_plan.ensures.end first h conducted;
     })

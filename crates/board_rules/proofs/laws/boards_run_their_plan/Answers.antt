@@ -1,4 +1,4 @@
-use Rattle.board_rules.proofs.Keeping.{run_is, undisturbed_is, hand_is}
+use Rattle.board_rules.proofs.Keeping.{run_is, disturbed_is, overrides_are, held_by_word, hand_is}
 use Rattle.board_rules.proofs.Ending.{turns_are, next_turns}
 use Rattle.board_rules.proofs.Closing.{one_end}
 use Rattle.board_rules.proofs.laws.boards_run_their_plan.Goals as goal
@@ -6,8 +6,20 @@ use Rattle.board_rules.proofs.laws.boards_run_their_plan.Goals as goal
 pub returns-clause-run : goal.returns-clause-run
 returns-clause-run c = run_is
 
-pub returns-clause-undisturbed : goal.returns-clause-undisturbed
-returns-clause-undisturbed c = undisturbed_is
+pub returns-clause-disturbed : goal.returns-clause-disturbed
+returns-clause-disturbed c = disturbed_is
+
+pub returns-clause-overrides : goal.returns-clause-overrides
+returns-clause-overrides c = overrides_are
+
+pub returns-clause-held : goal.returns-clause-held
+returns-clause-held c = held_by_word
+
+pub returns-clause-going : goal.returns-clause-going
+returns-clause-going c = λ first h ps conducted. conducted.0.0.state
+
+pub returns-clause-slowing : goal.returns-clause-slowing
+returns-clause-slowing c = λ first h ps conducted. conducted.0.0.state
 
 pub returns-clause-hand : goal.returns-clause-hand
 returns-clause-hand c = hand_is

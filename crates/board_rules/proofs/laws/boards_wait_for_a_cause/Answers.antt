@@ -13,5 +13,11 @@ returns-clause-segment_room c = λ first h conducted. pieces_lack_room first h c
 pub returns-clause-motion : goal.returns-clause-motion
 returns-clause-motion c = λ first h conducted. (conducted.0.cause.undone, conducted.0.cause.awaits)
 
+pub returns-clause-resume : goal.returns-clause-resume
+returns-clause-resume c = λ first h conducted. (conducted.0.cause.held, conducted.0.cause.held_up)
+
+pub returns-clause-unasked : goal.returns-clause-unasked
+returns-clause-unasked c = λ first h conducted. conducted.0.cause.unasked
+
 pub returns-clause-causes : goal.returns-clause-causes
 returns-clause-causes c = λ first h o conducted. one_cause o h conducted.0.cause

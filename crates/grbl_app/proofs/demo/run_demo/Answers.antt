@@ -1,10 +1,13 @@
-use Rattle.std.proofs.Common.{◌≡◌, not, Ok, Err, refl, subst, sym}
+use Rattle.std.proofs.Common.{◌≡◌, ◌∙◌, ◌+◌, not, Ok, Err, refl, subst, arith}
 use Rattle.std.specs.declared.result.Result.{Result}
 use Rattle.std.specs.Result.{is_ok, is_err}
 use Rattle.std.proofs.Common.{List, ℕ}
+use Rattle.outside.specs.Writing.{Took}
 use Rattle.run_law.specs.Runs.{IsRun}
 use Rattle.run_core.specs.Worlds.{devices, no_history}
 use Rattle.grbl_app.specs.Demos.{generated, keeps_nothing}
+use Rattle.grbl_app.proofs.Accepted.{runs_whole}
+use Rattle.grbl_app.proofs.Demos.{well_ended, told_whole}
 use Rattle.grbl_app.proofs.demo.run_demo.Goals as goal
 
 errs : {A B : Type 0} (r : Result A B) → is_err r ≡ not (is_ok r)
@@ -16,13 +19,23 @@ returns g c =
     let was = devices (generated c.new-job.result) keeps_nothing (g.St.Sink.state c.args.steps.now) in
     let done = c.run_lockstep.ensures.goes_on.runs.on was no_history (c.requires.fresh was) in
     let ran = c.end-end.ensures.whole was _ done.0 done.1 c.run_lockstep.ensures.done in
+    let end = c.end-end.result in
+    let left = c.run_lockstep.new.job in
+    let run = subst (λ (text : List ℕ). IsRun (generated text) (generated left)
+    (record { console = keeps_nothing; steps = g.St.Sink.state c.args.steps.now })
+    (record { console = keeps_nothing; steps = g.St.Sink.state c.run_lockstep.new.steps }) end) c.new-job.ensures ran in
+    let whole = runs_whole c.args.moves left _ _ end c.requires.moves.0 c.requires.moves.1 run in
+    let ok : c.saturating_sub.result ≡ c.args.moves + 3 = omega (arith, c.saturating_sub.ensures, whole.answered, whole.errors) in
+    let told = told_whole c.args.moves c.saturating_sub.result end.errors ok whole.errors in
     record {
-      end = c.end-end.result;
-      left = c.run_lockstep.new.job;
-      run = subst (λ (text : List ℕ). IsRun (generated text) (generated c.run_lockstep.new.job)
-          (record { console = keeps_nothing; steps = g.St.Sink.state c.args.steps.now })
-          (record { console = keeps_nothing; steps = g.St.Sink.state c.run_lockstep.new.steps }) c.end-end.result) c.new-job.ensures ran;
+      end = end;
+      left = left;
+      run = run;
+      sent = whole.sent;
+      accepted = whole.errors;
+      asks = whole.asks;
       console_failed = c.is_err-console_failed.result;
-      console = rw (c.is_err-console_failed.ensures.value, errs c.tell_summary.result, sym c.saturating_sub.ensures) c.tell_summary.ensures;
-      status_is = c.status_of.ensures;
+      console = rw (c.is_err-console_failed.ensures.value, errs c.tell_summary.result)
+          (subst (Took (g.Co.Sink.state c.args.console.now) (g.Co.Sink.state c.tell_summary.new.console) (not (is_ok c.tell_summary.result))) told c.tell_summary.ensures);
+      status_is = c.status_of.ensures ∙ well_ended end c.is_err-console_failed.result whole.read whole.stop whole.errors;
     }

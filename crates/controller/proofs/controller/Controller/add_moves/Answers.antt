@@ -9,30 +9,30 @@ use Rattle.controller.proofs.controller.Controller.add_moves.Goals as goal
 
 pub returns-then-is_full-clause-added : goal.returns-then-is_full-clause-added
 returns-then-is_full-clause-added c h k =
-    let n = c.loop-m.invariant.0 h k in
-    (n.0, n.1, has_added h n.0 n.2 (none_fits_full c.loop-m.self n.0 n.1 (sym c.is_full.ensures ∙ c.if-is_full.true)))
+    let n = c.loop-self.invariant.0 h k in
+    (n.0, n.1, has_added h n.0 n.2 (none_fits_full c.loop-self.self n.0 n.1 (sym c.is_full.ensures ∙ c.if-is_full.true)))
 
 pub add-requires-clause-range : goal.add-requires-clause-range
-add-requires-clause-range c = let r = c.requires in let n = c.loop-m.invariant.0 r.0 r.1 in in_range c.loop-m.self n.0 n.1
+add-requires-clause-range c = let r = c.requires in let n = c.loop-self.invariant.0 r.0 r.1 in in_range c.loop-self.self n.0 n.1
 
 pub add-requires-clause-same : goal.add-requires-clause-same
-add-requires-clause-same c = let r = c.requires in let n = c.loop-m.invariant.0 r.0 r.1 in same_overrides c.loop-m.self n.0 n.1
+add-requires-clause-same c = let r = c.requires in let n = c.loop-self.invariant.0 r.0 r.1 in same_overrides c.loop-self.self n.0 n.1
 
-pub loop-m-preserved : goal.loop-m-preserved
-loop-m-preserved c = (
+pub loop-self-preserved : goal.loop-self-preserved
+loop-self-preserved c = (
   λ h k.
-      let n = c.loop-m.invariant.0 h k in let m = c.in-Move.m in let s = c.loop-m.self in
-      let next = is_next s n.0 _ n.1 c.in-Move.ensures.0 in (
+      let n = c.loop-self.invariant.0 h k in let m = c.planned_move.result in let s = c.loop-self.self in
+      let next = is_next s n.0 _ n.1 c.planned_move.ensures.next in (
         did (Add m) [] ∷ n.0,
-        added_move s _ _ m n.0 n.1 next c.in-Move.ensures.1 (has_room_now s n.0 n.1 (sym c.is_full.ensures ∙ c.if-is_full.false))
+        added_move s _ _ m n.0 n.1 next c.planned_move.ensures.planned (has_room_now s n.0 n.1 (sym c.is_full.ensures ∙ c.if-is_full.false))
             (c.add.ensures (plan_of n.0) (motion_of n.0) (hand_of n.0) (given_of n.0) n.1.machine) c.done.ensures,
         adds_one m h n.0 n.2 next,
       ),
-  ap (λ (x : Controller). record x { machine = c.add.new.self; lines = c.done.new.self }) c.loop-m.invariant.1,
+  ap (λ (x : Controller). record x { machine = c.add.new.self; lines = c.done.new.self }) c.loop-self.invariant.1,
 )
 
 pub returns : goal.returns
 returns c = record {
-  added = λ h k. let n = c.loop-m.invariant.0 h k in (n.0, n.1, has_added h n.0 n.2 (none_fits_other c.loop-m.self n.0 c.todo.result n.1 c.todo.ensures c.in_default.not-Move));
-  same = c.loop-m.invariant.1;
+  added = λ h k. let n = c.loop-self.invariant.0 h k in (n.0, n.1, has_added h n.0 n.2 (none_fits_other c.loop-self.self n.0 c.todo.result n.1 c.todo.ensures c.in_default.not-Move));
+  same = c.loop-self.invariant.1;
 }

@@ -4,9 +4,9 @@ use Rattle.controller.specs.Boards.{Keeps}
 use Rattle.controller.proofs.Adding.{Adds}
 use Rattle.controller.proofs.controller.Controller.add_moves.Given as goal
 
-abbrev pub invariant-loop-m : goal.invariant-loop-m
-invariant-loop-m l =
+abbrev pub invariant-loop-self : goal.invariant-loop-self
+invariant-loop-self l =
     ((h : Journal) → Keeps l.fn.self h → (mid : Journal) × Keeps l.self mid × Adds h mid) × (l.self ≡ record l.fn.self { machine = l.self.machine; lines = l.self.lines })
 
-abbrev pub decreases-loop-m : goal.decreases-loop-m
-decreases-loop-m l = length l.self.lines.left
+abbrev pub decreases-loop-self : goal.decreases-loop-self
+decreases-loop-self l = length l.self.lines.left

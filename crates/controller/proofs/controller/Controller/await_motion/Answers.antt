@@ -42,12 +42,12 @@ returns-then-done-self-clause-waits g c = λ rest h stands k may.
     let none = blocks_are s h c.has_blocks.result k c.has_blocks.ensures ∙ c.if-has_blocks.false in (
       at_port (loaded done) ∷ h,
       c.done.ensures.done rest (port_log h) stands,
-      waits_for_motion s h done k may c.requires.beat (c.done.ensures.known rest (port_log h) stands) hand none c.if-done-self.true,
+      waits_for_motion s h done k may c.requires.beat c.requires.flags (c.done.ensures.known rest (port_log h) stands) hand none c.if-done-self.true,
     )
 
 -- src/controller.rt:274:9
 pub drain-requires : goal.drain-requires
-drain-requires g c = let r = c.requires.stands in idle_or_run c.args.self.now r.1 r.3
+drain-requires g c = let r = c.requires.stands in idle_or_run c.args.self.now r.1 r.3 r.4.going
 
 -- src/controller.rt:258:5
 pub returns-clause-over : goal.returns-clause-over
@@ -61,7 +61,7 @@ returns-clause-over g c = λ rest h stands k may.
     let d = all_done s h done k hand none all in (
       became on_drained motions.Idle ∷ at_port (loaded done) ∷ h,
       c.done.ensures.done rest (port_log h) stands,
-      over s c.drain.new.self h done k known hand none all (c.drain.ensures.runs (plan_of h) (motion_of h) (hand_of h) (given_of h) k.machine),
+      over s c.drain.new.self h done k may.going known hand none all (c.drain.ensures.runs (plan_of h) (motion_of h) (hand_of h) (given_of h) k.machine),
       record { drained = record { plan = d.plan; hand = d.hand; done = d.done }; stands = refl },
       over_passes h done,
       refl,

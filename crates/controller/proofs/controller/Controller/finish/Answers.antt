@@ -1,11 +1,12 @@
-use Rattle.std.proofs.Common.{[], ◌∷◌, refl, subst, inl}
+use Rattle.std.proofs.Common.{◌∷◌, subst, inl}
 use Rattle.step_line.specs.declared.Piece.TheVariants as pieces
 use Rattle.board_rules.specs.Steps.{hand_of, plan_of, motion_of, given_of}
 use Rattle.board_rules.specs.Steps.Step.{made_end}
 use Rattle.controller.specs.Machines.{Runs}
 use Rattle.controller.proofs.Steps.{ended}
 use Rattle.controller.proofs.Lasts.{closes_at_end}
-use Rattle.controller.proofs.Ends.{works_on}
+use Rattle.controller.proofs.Ends.{works_passed}
+use Rattle.controller.proofs.Tries.{passes_end}
 use Rattle.controller.proofs.Nexts.{may_run_ended, none_behind}
 use Rattle.controller.proofs.controller.Controller.finish.Goals as goal
 
@@ -24,5 +25,5 @@ returns-clause-goes_on g c = λ rest h stands keeps may stopped next.
     let is = closes_at_end keeps.first h keeps.conducted next in
     let runs = c.put_end.ensures (plan_of h) (motion_of h) (given_of h) (subst (λ hand. Runs s.machine (plan_of h) (motion_of h) hand (given_of h)) stopped.drained.hand keeps.machine) in
     let now = ended s _ _ h keeps next stopped.drained stopped.stands is.closes runs c.done.ensures in
-    works_on (g.P.BoardPort.stands c.run.new.port rest) c.run.result _ h (made_end ∷ h) (made_end ∷ []) refl
+    works_passed (g.P.BoardPort.stands c.run.new.port rest) c.run.result _ _ h (made_end ∷ h) (passes_end h)
     (c.run.ensures.goes_on rest (made_end ∷ h) stands now (may_run_ended h may stopped next is) (inl (none_behind (hand_of h) pieces.End)))

@@ -1,27 +1,37 @@
-use Rattle.std.proofs.Common.{[], refl, sym, ap, ◌∙◌, arith}
+use Rattle.std.proofs.Common.{[], inl, refl, sym, ap, ◌∙◌, arith}
 use Rattle.run_rules.specs.Work.Task.{ask}
 use Rattle.step_line.specs.Asking.Asked.{a_move}
 use Rattle.board_rules.specs.Turns.{is_full}
 use Rattle.controller.specs.declared.controller.Controller.{Controller}
-use Rattle.controller.proofs.Ends.{did_filled, may_run}
+use Rattle.controller.proofs.Ends.{did_filled, may_run, takes_none}
 use Rattle.controller.proofs.Nexts.{few_working, full_piece, some_next}
 use Rattle.controller.proofs.controller.Controller.go.Goals as goal
 
 pub run-requires-clause-stands : goal.run-requires-clause-stands
 run-requires-clause-stands g c =
     let r = c.requires.stands in
-    let full = sym (c.if-is_full.ensures ∙ ap is_full r.3.machine.plan_is) in
-    (r.0, r.1, r.2, r.3, may_run r.1 r.4 (some_next r.1 (ask (a_move r.5.0)) r.5.1), full_piece r.3.first r.1 r.3.conducted r.4.none_waits full)
+    let full = sym (c.if-is_full.ensures ∙ ap is_full r.3.machine.plan_is) in (
+      r.0,
+      r.1,
+      r.2,
+      r.3,
+      may_run r.3.first r.1 r.3.conducted r.4 (some_next r.1 (ask (a_move r.6.0)) r.6.1),
+      full_piece r.3.first r.1 r.3.conducted r.4.none_waits r.5 r.6 full,
+    )
 
 pub returns-then-is_full-clause-goes_on : goal.returns-then-is_full-clause-goes_on
-returns-then-is_full-clause-goes_on g c = λ rest h stands keeps ready move.
+returns-then-is_full-clause-goes_on g c = λ rest h stands keeps ready goes move.
     let full = sym (c.if-is_full.ensures ∙ ap is_full keeps.machine.plan_is) in
-    c.run.ensures.goes_on rest h stands keeps (may_run h ready (some_next h (ask (a_move move.0)) move.1)) (full_piece keeps.first h keeps.conducted ready.none_waits full)
+    c.run.ensures.goes_on rest h stands keeps (may_run keeps.first h keeps.conducted ready (some_next h (ask (a_move move.0)) move.1))
+    (full_piece keeps.first h keeps.conducted ready.none_waits goes move full)
 
 pub returns-clause-goes_on : goal.returns-clause-goes_on
-returns-clause-goes_on g c = λ rest h stands keeps ready move.
+returns-clause-goes_on g c = λ rest h stands keeps ready goes move.
     let n = c.fill.ensures.filled h keeps in
     let few = few_working keeps.first h keeps.conducted ready (some_next h (ask (a_move move.0)) move.1) in
     let quiet = ready.quiet.quiet in
     let room = sym (c.if-is_full.ensures ∙ ap is_full keeps.machine.plan_is) in
-    (n.0, rw n.2.alone.port stands, did_filled _ h h n.0 [] refl n.1 (ap (λ (b : Controller). b.beat) c.fill.ensures.same ∙ c.requires.beat) n.2 (omega arith) ready.unpolled few (n.2.moved move room))
+    let beat = ap (λ (b : Controller). b.beat) c.fill.ensures.same ∙ c.requires.beat in
+    let none = ap (λ (b : Controller). b.flags) c.fill.ensures.same ∙ c.requires.flags in
+    let taken = takes_none c.fill.new.self n.0 none (n.2.alone.passes.flags ∙ ready.quiet.flags) in
+    (n.0, rw n.2.alone.port stands, did_filled _ _ h h n.0 [] refl n.1 beat taken n.2 ready.quiet.worked (omega arith) ready.unpolled few (inl (n.2.moved move room)))

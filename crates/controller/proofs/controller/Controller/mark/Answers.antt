@@ -7,11 +7,25 @@ use Rattle.board_rules.specs.Steps.{hand_of, plan_of, motion_of, given_of}
 use Rattle.board_rules.specs.Steps.Step.{did}
 use Rattle.controller.specs.Machines.{Runs}
 use Rattle.controller.proofs.Marks.{mark_at_rest}
-use Rattle.controller.proofs.Standing.{hand_none}
+use Rattle.controller.proofs.Standing.{hand_none, hand_some}
 use Rattle.controller.proofs.Steps.{is_next, few_ticks, marked}
-use Rattle.controller.proofs.Ends.{works_on}
-use Rattle.controller.proofs.Nexts.{may_run_marked, none_behind}
+use Rattle.controller.proofs.Ends.{may_run, works_passed}
+use Rattle.controller.proofs.Tries.{passes_did}
+use Rattle.controller.proofs.Nexts.{may_run_marked, none_behind, some_next}
 use Rattle.controller.proofs.controller.Controller.mark.Goals as goal
+
+pub run-requires-clause-stands : goal.run-requires-clause-stands
+run-requires-clause-stands g c =
+    let r = c.requires.stands in
+    let s = c.args.self.now in
+    let next = is_next s r.1 (ask (a_mark c.args.mark)) r.3 c.requires.next in
+    (r.0, r.1, r.2, r.3, may_run r.3.first r.1 r.3.conducted r.4 (some_next r.1 (ask (a_mark c.args.mark)) next), inl (hand_some s r.1 r.3 (sym c.if-is_some.ensures)))
+
+pub returns-then-is_some-clause-goes_on : goal.returns-then-is_some-clause-goes_on
+returns-then-is_some-clause-goes_on g c = λ rest h stands keeps ready.
+    let s = c.args.self.now in
+    let next = is_next s h (ask (a_mark c.args.mark)) keeps c.requires.next in
+    c.run.ensures.goes_on rest h stands keeps (may_run keeps.first h keeps.conducted ready (some_next h (ask (a_mark c.args.mark)) next)) (inl (hand_some s h keeps (sym c.if-is_some.ensures)))
 
 pub put_mark-requires : goal.put_mark-requires
 put_mark-requires g c = let r = c.requires.stands in record { few = few_ticks c.args.self.now r.1 r.3 }
@@ -42,5 +56,5 @@ returns-clause-goes_on g c = λ rest h stands keeps ready.
     let mid = did (Mark m) (pieces.Mark m ∷ []) ∷ h in
     let now = marked s _ _ m h keeps next c.requires.mark empty (mark_at_rest keeps.first h m keeps.conducted next) runs c.done.ensures in
     let may = may_run_marked keeps.first h m (pieces.Mark m ∷ []) keeps.conducted ready next in
-    works_on (g.P.BoardPort.stands c.run-2.new.port rest) c.run-2.result _ h mid (did (Mark m) (pieces.Mark m ∷ []) ∷ []) refl
+    works_passed (g.P.BoardPort.stands c.run-2.new.port rest) c.run-2.result _ _ h mid (passes_did (Mark m) (pieces.Mark m ∷ []) h refl)
     (c.run-2.ensures.goes_on rest mid stands now may (inl (none_behind (hand_of h) (pieces.Mark m))))

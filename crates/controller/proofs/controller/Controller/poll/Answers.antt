@@ -1,4 +1,4 @@
-use Rattle.std.proofs.Common.{[], ◌∷◌, refl, ap, ◌∙◌}
+use Rattle.std.proofs.Common.{[], ◌∷◌, refl, ap, ◌∙◌, arith}
 use Rattle.board_rules.specs.Steps.{port_log}
 use Rattle.board_rules.specs.Steps.Step.{at_port}
 use Rattle.board_rules.specs.Ports.PortStep.{took, found_empty, found_closed}
@@ -22,14 +22,16 @@ pub returns-in-Byte-clause-goes_on : goal.returns-in-Byte-clause-goes_on
 returns-in-Byte-clause-goes_on g c = λ rest h stands keeps ready may.
     let b = c.in-Byte.byte in
     let kept = c.keep.ensures.kept h keeps (record { polls = may; few = c.byte.ensures.few b c.in-Byte.is rest (port_log h) stands }) in
-    (at_port (took b) ∷ h, c.byte.ensures.byte b c.in-Byte.is rest (port_log h) stands, took_worked _ b h kept ready may (ap (λ (s : Controller). s.beat) c.keep.ensures.same ∙ c.requires.beat))
+    let takes = c.keep.ensures.flags h ready.quiet.flags in
+    let beat = ap (λ (s : Controller). s.beat) c.keep.ensures.same ∙ c.requires.beat in
+    (at_port (took b) ∷ h, c.byte.ensures.byte b c.in-Byte.is rest (port_log h) stands, took_worked c.args.self.now.flags _ b h kept takes ready may beat)
 
 pub returns-in-Empty-clause-goes_on : goal.returns-in-Empty-clause-goes_on
 returns-in-Empty-clause-goes_on g c = λ rest h stands keeps ready may.
-    works_on (g.P.BoardPort.stands c.without_byte.new.port rest) c.without_byte.result _ h (at_port found_empty ∷ h) (at_port found_empty ∷ []) refl
+    works_on (g.P.BoardPort.stands c.without_byte.new.port rest) c.without_byte.result c.args.self.now.flags _ h (at_port found_empty ∷ h) (at_port found_empty ∷ []) refl (omega arith)
     (c.without_byte.ensures.goes_on rest (at_port found_empty ∷ h) (c.byte.ensures.empty c.in-Empty.is rest (port_log h) stands) (polled_empty c.args.self.now h keeps may) (polled_none h ready may) refl)
 
 pub returns-in-Closed-clause-goes_on : goal.returns-in-Closed-clause-goes_on
 returns-in-Closed-clause-goes_on g c = λ rest h stands keeps ready may.
-    works_on (g.P.BoardPort.stands c.close.new.port rest) c.close.result _ h (at_port found_closed ∷ h) (at_port found_closed ∷ []) refl
+    works_on (g.P.BoardPort.stands c.close.new.port rest) c.close.result c.args.self.now.flags _ h (at_port found_closed ∷ h) (at_port found_closed ∷ []) refl (omega arith)
     (c.close.ensures.goes_on rest (at_port found_closed ∷ h) (c.byte.ensures.closed c.in-Closed.is rest (port_log h) stands) (polled_closed c.args.self.now h keeps may) (polled_end h ready may) refl)

@@ -1,4 +1,4 @@
-use Rattle.std.proofs.Common.{false, ◌∷◌, sym, ap, ◌∙◌}
+use Rattle.std.proofs.Common.{false, ◌∷◌, refl, arith, sym, ap, ◌∙◌}
 use Rattle.feed_hold.specs.declared.Motion.TheVariants as motions
 use Rattle.feed_hold.specs.Motions.Call.{on_start}
 use Rattle.board_rules.specs.Steps.{hand_of, given_of, plan_of, motion_of}
@@ -18,5 +18,5 @@ returns-then-is_waiting-clause-started c = λ h k looked.
       started c.args.self.now c.start.new.self h k (sym k.machine.motion_is ∙ waiting.0) (may_start h looked blocks (sym k.input.dollar_is ∙ c.if-self.true))
           (c.start.ensures.runs (plan_of h) (motion_of h) (hand_of h) (given_of h) k.machine),
       judges_started h looked blocks,
-      alone_motion (on_start false) motions.Run h,
+      alone_motion (on_start false) motions.Run h refl (omega arith),
     )

@@ -1,45 +1,72 @@
-use Rattle.std.proofs.Common.{[], ◌∷◌, refl, ap, ◌∙◌, arith}
+use Rattle.std.proofs.Common.{[], ◌∷◌, inl, refl, ap, ◌∙◌, arith}
 use Rattle.run_rules.specs.Work.Task.{tell}
 use Rattle.board_rules.specs.Steps.{port_log}
 use Rattle.board_rules.specs.Turns.{this_turn}
 use Rattle.board_rules.specs.Steps.Step.{at_port}
 use Rattle.board_rules.specs.Ports.PortStep.{answered, no_reply_room}
 use Rattle.controller.specs.declared.controller.Controller.{Controller}
-use Rattle.controller.proofs.Steps.{is_next, may_answer, told, hand_empty}
-use Rattle.controller.proofs.Tries.{publishes_one}
-use Rattle.controller.proofs.Ends.{did_filled}
+use Rattle.controller.proofs.Steps.{is_next, may_answer, told, hand_empty, hand_left}
+use Rattle.controller.proofs.Tries.{publishes_one, worked_behind}
+use Rattle.controller.proofs.Ends.{did_filled, may_run, takes_none}
 use Rattle.controller.proofs.Nexts.{few_working, told_later, some_next}
 use Rattle.controller.proofs.controller.Controller.tell.Goals as goal
+
+pub run-requires-clause-stands : goal.run-requires-clause-stands
+run-requires-clause-stands g c =
+    let r = c.requires.stands in
+    let s = c.args.self.now in
+    let next = is_next s r.1 (tell c.reply-reply.result) r.3 c.reply-reply.ensures.next in (
+      r.0,
+      r.1,
+      r.2,
+      r.3,
+      may_run r.3.first r.1 r.3.conducted r.4 (some_next r.1 (tell c.reply-reply.result) next),
+      inl (hand_left s r.1 r.3 (c.holds_back.ensures.yes c.if-holds_back.true)),
+    )
+
+pub returns-then-holds_back-clause-goes_on : goal.returns-then-holds_back-clause-goes_on
+returns-then-holds_back-clause-goes_on g c = λ rest h stands keeps ready.
+    let s = c.args.self.now in
+    let next = is_next s h (tell c.reply-reply.result) keeps c.reply-reply.ensures.next in
+    c.run.ensures.goes_on rest h stands keeps (may_run keeps.first h keeps.conducted ready (some_next h (tell c.reply-reply.result) next))
+    (inl (hand_left s h keeps (c.holds_back.ensures.yes c.if-holds_back.true)))
 
 pub answer-requires : goal.answer-requires
 answer-requires g c =
     let r = c.requires.stands in
     let s = c.args.self.now in
-    (r.0, port_log r.1, r.2, may_answer s r.1 c.args.reply r.3 (is_next s r.1 (tell c.args.reply) r.3 c.requires.next) c.requires.text)
+    let reply = c.reply-reply.result in
+    (r.0, port_log r.1, r.2, may_answer s r.1 reply r.3 (is_next s r.1 (tell reply) r.3 c.reply-reply.ensures.next) c.reply-reply.ensures.valid)
 
 pub returns-in_default-clause-goes_on : goal.returns-in_default-clause-goes_on
 returns-in_default-clause-goes_on g c = λ rest h stands keeps ready.
     let s = c.args.self.now in
+    let reply = c.reply-reply.result in
     let back = c.in_default.ensures.full rest (port_log h) stands in
-    (at_port no_reply_room ∷ h, back.0, told_later s h c.args.reply keeps ready (is_next s h (tell c.args.reply) keeps c.requires.next) c.requires.beat)
+    (at_port no_reply_room ∷ h, back.0, told_later _ s h reply keeps ready (is_next s h (tell reply) keeps c.reply-reply.ensures.next) c.requires.beat c.requires.flags)
 
 pub fill-requires : goal.fill-requires
 fill-requires g c =
     let r = c.requires.stands in
     let s = c.args.self.now in
-    let next = is_next s r.1 (tell c.args.reply) r.3 c.requires.next in
-    (at_port (answered c.args.reply) ∷ r.1, told s _ c.args.reply r.1 r.3 next (λ bye. hand_empty s r.1 r.3 (c.if-holds_back.ensures.no refl bye)) c.done.ensures)
+    let reply = c.reply-reply.result in
+    let next = is_next s r.1 (tell reply) r.3 c.reply-reply.ensures.next in
+    (at_port (answered reply) ∷ r.1, told s _ reply r.1 r.3 next (λ bye. hand_empty s r.1 r.3 (c.if-holds_back.ensures.no refl bye)) c.done.ensures)
 
 pub returns-clause-goes_on : goal.returns-clause-goes_on
 returns-clause-goes_on g c = λ rest h stands keeps ready.
     let s = c.args.self.now in
-    let r = c.args.reply in
-    let next = is_next s h (tell r) keeps c.requires.next in
+    let r = c.reply-reply.result in
+    let next = is_next s h (tell r) keeps c.reply-reply.ensures.next in
     let mid = at_port (answered r) ∷ h in
     let now = told s _ r h keeps next (λ bye. hand_empty s h keeps (c.if-holds_back.ensures.no refl bye)) c.done.ensures in
-    let stood = c.in-Ok.ensures.ok rest (port_log h) stands (may_answer s h r keeps next c.requires.text) in
+    let stood = c.in-Ok.ensures.ok rest (port_log h) stands (may_answer s h r keeps next c.reply-reply.ensures.valid) in
     let n = c.fill.ensures.filled mid now in
     let few = few_working keeps.first h keeps.conducted ready (some_next h (tell r) next) in
     let one = publishes_one (at_port (answered r)) (this_turn h) refl in
     let quiet = ready.quiet.quiet in
-    (n.0, rw n.2.alone.port stood, did_filled _ h mid n.0 (at_port (answered r) ∷ []) refl n.1 (ap (λ (b : Controller). b.beat) c.fill.ensures.same ∙ c.requires.beat) n.2 (omega arith) ready.unpolled few (n.2.alone.passes.moves refl))
+    let worked = worked_behind (at_port (answered r)) h mid refl (record { no_requests = refl; none_obeyed = refl; no_changes = refl; none_planned = refl }) ready.quiet.worked in
+    let beat = ap (λ (b : Controller). b.beat) c.fill.ensures.same ∙ c.requires.beat in
+    let none = ap (λ (b : Controller). b.flags) c.fill.ensures.same ∙ c.requires.flags in
+    let taken = takes_none c.fill.new.self n.0 none (n.2.alone.passes.flags ∙ ready.quiet.flags) in
+    (n.0, rw n.2.alone.port stood, did_filled _ _ h mid n.0 (at_port (answered r) ∷ []) refl n.1 beat taken n.2 worked (omega (arith, one, quiet)) ready.unpolled few (inl (n.2.alone.passes.moves refl)))

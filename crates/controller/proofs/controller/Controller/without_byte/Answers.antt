@@ -4,4 +4,4 @@ use Rattle.controller.proofs.controller.Controller.without_byte.Goals as goal
 pub returns-then-not-is_waiting-clause-goes_on : goal.returns-then-not-is_waiting-clause-goes_on
 returns-then-not-is_waiting-clause-goes_on g c = λ rest h stands keeps polled found.
     let s = c.args.self.now in
-    (h, stands, waits_for_byte s h keeps polled found (none_waiting s h keeps (c.is_waiting.ensures.no c.if-not-is_waiting.true)) c.requires.beat)
+    (h, stands, waits_for_byte s.flags s h keeps polled found (none_waiting s h keeps (c.is_waiting.ensures.no c.if-not-is_waiting.true)) c.requires.beat c.requires.flags)

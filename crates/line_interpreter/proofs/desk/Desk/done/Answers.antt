@@ -10,4 +10,4 @@ overflow_add-self c =
 pub returns-clause-left : goal.returns-clause-left
 returns-clause-left c =
     let d = c.args.self.now in
-    c.settle.ensures.left ∙ one_done d.line d.state (part_is_left d.line d.state c.requires.settled c.requires.some)
+    c.settle.ensures.left _ ∙ one_done d.line d.state (part_is_left d.line d.state c.requires.settled c.requires.some)

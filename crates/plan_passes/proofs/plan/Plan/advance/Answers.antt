@@ -6,27 +6,28 @@ use Rattle.plan_passes.proofs.Filling.{row_small}
 use Rattle.plan_passes.proofs.Reached.{moved_reached, length-moved, legal_step, segment_some, segment_within}
 use Rattle.plan_passes.proofs.Kept.{kept_anew, kept_on, tabled_moved}
 use Rattle.plan_passes.proofs.Onward.{onward_anew}
+use Rattle.plan_passes.proofs.Paces.{pace_moved}
 use Rattle.plan_passes.proofs.plan.Plan.advance.Goals as goal
 
 pub prepare-gap-requires : goal.prepare-gap-requires
 prepare-gap-requires g c =
     let p = c.self.inside in
     let segment = subst (λ (p : Planned). IsSegment p c.args.n c.args.w) (sym c.self.view_is) c.requires in
-    let few = c.self.invariant.few in
+    let few = c.self.invariant.0.few in
     let some = segment_some p.ring p.speed c.args.n c.args.w p.overrides segment in
-    let within = segment_within p.ring p.speed c.args.n c.args.w p.overrides c.self.invariant.reached segment in
-    (search rules, (some, (c.self.invariant.reached.each, within)))
+    let within = segment_within p.ring p.speed c.args.n c.args.w p.overrides c.self.invariant.0.reached segment in
+    (search rules, (some, (c.self.invariant.0.reached.each, within)))
 
 pub plan_from-self-inside-requires : goal.plan_from-self-inside-requires
 plan_from-self-inside-requires g c =
     let p = c.self.inside in
     let segment = subst (λ (p : Planned). IsSegment p c.args.n c.args.w) (sym c.self.view_is) c.requires in
     let reached = moved_reached p.ring c.prepare-gap.new.ring p.speed c.args.n c.args.w p.overrides
-    c.prepare-gap.ensures.moved c.self.invariant.reached segment in
+    c.prepare-gap.ensures.moved c.self.invariant.0.reached segment in
     let tabled = tabled_moved g.row.N c.args.n c.prepare-gap.result p.overrides p.gaps c.put_first.new.gaps p.softs c.put_first.new.softs
     c.put_first.ensures.gaps_left c.put_first.ensures.softs_left c.put_first.ensures.gaps_gone c.put_first.ensures.softs_gone
-    p.speed c.args.w p.settled p.planned p.ring c.prepare-gap.new.ring c.self.invariant segment c.prepare-gap.ensures.moved c.prepare-gap.ensures.gap in
-    let few = c.self.invariant.few in
+    p.speed c.args.w p.settled p.planned p.ring c.prepare-gap.new.ring c.self.invariant.0 segment c.prepare-gap.ensures.moved c.prepare-gap.ensures.gap in
+    let few = c.self.invariant.0.few in
     let count = c.len-count.ensures.few in (
       search rules,
       (
@@ -51,22 +52,25 @@ plan_from-self-inside-requires g c =
 pub invariant_of-self : goal.invariant_of-self
 invariant_of-self g c =
     let p = c.self.inside in
-    let kept = c.self.invariant in
+    let kept = c.self.invariant.0 in
     let segment = subst (λ (p : Planned). IsSegment p c.args.n c.args.w) (sym c.self.view_is) c.requires in
     let now = c.prepare-gap.ensures.moved in
     let reach : distance c.args.w (get_or p.planned 1 0) ≤ c.prepare-gap.result = omega (arith, c.abs_diff.ensures) in
     let tabled = tabled_moved g.row.N c.args.n c.prepare-gap.result p.overrides p.gaps c.put_first.new.gaps p.softs c.put_first.new.softs
     c.put_first.ensures.gaps_left c.put_first.ensures.softs_left c.put_first.ensures.gaps_gone c.put_first.ensures.softs_gone
-    p.speed c.args.w p.settled p.planned p.ring c.prepare-gap.new.ring kept segment now c.prepare-gap.ensures.gap in
-    kept_on g.row.N p.speed c.args.n c.args.w c.prepare-gap.result p.settled c.point_behind-self-inside.result p.overrides p.planned c.put_first.new.planned p.gaps p.softs
-    c.put_first.new.gaps c.put_first.new.softs c.put_first.ensures.planned_left c.put_first.ensures.planned_gone
-    c.point_behind-self-inside.ensures.left c.point_behind-self-inside.ensures.gone
-    p.ring c.prepare-gap.new.ring kept segment now c.prepare-gap.ensures.gap reach tabled
+    p.speed c.args.w p.settled p.planned p.ring c.prepare-gap.new.ring kept segment now c.prepare-gap.ensures.gap in (
+      kept_on g.row.N p.speed c.args.n c.args.w c.prepare-gap.result p.settled c.point_behind-self-inside.result p.overrides p.planned c.put_first.new.planned p.gaps p.softs
+          c.put_first.new.gaps c.put_first.new.softs c.put_first.ensures.planned_left c.put_first.ensures.planned_gone
+          c.point_behind-self-inside.ensures.left c.point_behind-self-inside.ensures.gone
+          p.ring c.prepare-gap.new.ring kept segment now c.prepare-gap.ensures.gap reach tabled,
+      pace_moved p.speed c.args.n c.args.w c.prepare-gap.result p.overrides p.pace c.pace_behind-self-inside.result p.ring c.prepare-gap.new.ring
+          c.pace_behind-self-inside.ensures.left c.pace_behind-self-inside.ensures.gone kept.reached segment now c.prepare-gap.ensures.gap c.self.invariant.1,
+    )
 
 pub invariant_of-self-2 : goal.invariant_of-self-2
 invariant_of-self-2 g c =
     let p = c.self.inside in
-    let kept = c.self.invariant in
+    let kept = c.self.invariant.0 in
     let segment = subst (λ (p : Planned). IsSegment p c.args.n c.args.w) (sym c.self.view_is) c.requires in
     let now = c.prepare-gap.ensures.moved in
     let reached = moved_reached p.ring c.prepare-gap.new.ring p.speed c.args.n c.args.w p.overrides
@@ -75,17 +79,20 @@ invariant_of-self-2 g c =
     c.put_first.ensures.gaps_left c.put_first.ensures.softs_left c.put_first.ensures.gaps_gone c.put_first.ensures.softs_gone
     p.speed c.args.w p.settled p.planned p.ring c.prepare-gap.new.ring kept segment now c.prepare-gap.ensures.gap in
     let fewer = length-moved c.args.n p.ring in
-    let many = ap length now in
-    kept_anew g.row.N c.args.w c.len-count.result c.plan_from-self-inside.result c.prepare-gap.new.ring p.overrides c.plan_from-self-inside.new.speeds c.put_first.new.gaps
-    c.put_first.new.softs kept.some kept.few (omega (arith, kept.room, fewer, many)) reached tabled c.len-count.ensures.len
-    c.plan_from-self-inside.ensures.planned c.plan_from-self-inside.ensures.settled c.plan_from-self-inside.ensures.none
+    let many = ap length now in (
+      kept_anew g.row.N c.args.w c.len-count.result c.plan_from-self-inside.result c.prepare-gap.new.ring p.overrides c.plan_from-self-inside.new.speeds c.put_first.new.gaps
+          c.put_first.new.softs kept.some kept.few (omega (arith, kept.room, fewer, many)) reached tabled c.len-count.ensures.len
+          c.plan_from-self-inside.ensures.planned c.plan_from-self-inside.ensures.settled c.plan_from-self-inside.ensures.none,
+      pace_moved p.speed c.args.n c.args.w c.prepare-gap.result p.overrides p.pace c.pace_behind-self-inside.result p.ring c.prepare-gap.new.ring
+          c.pace_behind-self-inside.ensures.left c.pace_behind-self-inside.ensures.gone kept.reached segment now c.prepare-gap.ensures.gap c.self.invariant.1,
+    )
 
 pub returns-then-abs_diff-gap-clause-legal : goal.returns-then-abs_diff-gap-clause-legal
 returns-then-abs_diff-gap-clause-legal g c =
     legal_step c.args.self.now.blocks c.args.self.now.speed c.args.n c.args.w c.args.self.now.overrides
-    (subst IsReached c.self.view_is c.self.invariant.reached) c.requires
+    (subst IsReached c.self.view_is c.self.invariant.0.reached) c.requires
 
 pub returns-clause-legal : goal.returns-clause-legal
 returns-clause-legal g c =
     legal_step c.args.self.now.blocks c.args.self.now.speed c.args.n c.args.w c.args.self.now.overrides
-    (subst IsReached c.self.view_is c.self.invariant.reached) c.requires
+    (subst IsReached c.self.view_is c.self.invariant.0.reached) c.requires

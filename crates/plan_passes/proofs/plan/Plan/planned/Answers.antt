@@ -8,8 +8,8 @@ use Rattle.plan_passes.proofs.plan.Plan.planned.Goals as goal
 pub plan_from-requires : goal.plan_from-requires
 plan_from-requires g c =
     let p = c.self.inside in
-    let kept = c.self.invariant in
-    let few = c.self.invariant.few in
+    let kept = c.self.invariant.0 in
+    let few = c.self.invariant.0.few in
     let count = c.len-count.ensures.few in (
       search rules,
       (
@@ -34,5 +34,5 @@ pub returns : goal.returns
 returns g c =
     let p = c.self.inside in
     subst (λ (p : Planned). IsLastPoint p c.plan_from.result) c.self.view_is
-    (last_point p.speed c.len-count.result c.plan_from.result p.ring p.overrides p.gaps p.softs c.self.invariant.tabled c.len-count.ensures.len
+    (last_point p.speed c.len-count.result c.plan_from.result p.ring p.overrides p.gaps p.softs c.self.invariant.0.tabled c.len-count.ensures.len
     c.plan_from.ensures.settled c.plan_from.ensures.none)

@@ -1,16 +1,17 @@
-use Rattle.std.proofs.Common.{arith, rules}
+use Rattle.std.proofs.Common.{arith, rules, refl}
 use Rattle.plan_passes.proofs.Filling.{row_small}
 use Rattle.plan_passes.proofs.Reached.{reached_replanned}
 use Rattle.plan_passes.proofs.Kept.{kept_anew}
 use Rattle.plan_passes.proofs.Onward.{onward_anew}
+use Rattle.plan_passes.proofs.Paces.{no_pace}
 use Rattle.plan_passes.proofs.plan.Plan.replan.Goals as goal
 
 pub plan_from-self-inside-requires : goal.plan_from-self-inside-requires
 plan_from-self-inside-requires g c =
     let p = c.self.inside in
-    let kept = c.self.invariant in
+    let kept = c.self.invariant.0 in
     let reached = reached_replanned p.ring p.speed p.overrides c.args.o.now kept.reached c.requires in
-    let few = c.self.invariant.few in
+    let few = c.self.invariant.0.few in
     let count = c.len-count.ensures.few in (
       search rules,
       (
@@ -35,8 +36,10 @@ plan_from-self-inside-requires g c =
 pub invariant_of-self : goal.invariant_of-self
 invariant_of-self g c =
     let p = c.self.inside in
-    let kept = c.self.invariant in
-    let reached = reached_replanned p.ring p.speed p.overrides c.args.o.now kept.reached c.requires in
-    kept_anew g.row.N p.speed c.len-count.result c.plan_from-self-inside.result p.ring c.args.o.now c.plan_from-self-inside.new.speeds p.gaps c.fill_softs.new.softs
-    kept.some kept.few kept.room reached (record { gaps = kept.tabled.gaps; softs = c.fill_softs.ensures })
-    c.len-count.ensures.len c.plan_from-self-inside.ensures.planned c.plan_from-self-inside.ensures.settled c.plan_from-self-inside.ensures.none
+    let kept = c.self.invariant.0 in
+    let reached = reached_replanned p.ring p.speed p.overrides c.args.o.now kept.reached c.requires in (
+      kept_anew g.row.N p.speed c.len-count.result c.plan_from-self-inside.result p.ring c.args.o.now c.plan_from-self-inside.new.speeds p.gaps c.fill_softs.new.softs
+          kept.some kept.few kept.room reached (record { gaps = kept.tabled.gaps; softs = c.fill_softs.ensures })
+          c.len-count.ensures.len c.plan_from-self-inside.ensures.planned c.plan_from-self-inside.ensures.settled c.plan_from-self-inside.ensures.none,
+      no_pace p.ring c.args.o.now _ refl,
+    )

@@ -7,4 +7,4 @@ pub returns-clause-some : goal.returns-clause-some
 returns-clause-some g c =
     let p : Planned = plan_of c.self.inside.ring c.self.inside.speed c.self.inside.overrides in
     subst (λ (p : Planned). IfSome c.tail.result (λ b. IsTail p b.now)) c.self.view_is
-    (tail_if c.tail.result p c.tail.ensures.some c.self.invariant.reached)
+    (tail_if c.tail.result p c.tail.ensures.some c.self.invariant.0.reached)

@@ -1,7 +1,7 @@
 use Rattle.std.proofs.Common.{refl, ap}
 use Rattle.status_report.specs.declared.Reply.TheVariants.{Ok, Error}
 use Rattle.stream_host.specs.Steps.{cut_of, got_of}
-use Rattle.stream_host.proofs.Hosting.{counted_answer, counted_other, few_counted, is_no_answer}
+use Rattle.stream_host.proofs.Replying.{counted_answer, counted_other, few_counted, is_no_answer}
 use Rattle.stream_host.proofs.host.Host.count.Goals as goal
 
 pub add_answer-requires-clause-answered : goal.add_answer-requires-clause-answered

@@ -1,12 +1,21 @@
 use Rattle.std.proofs.Common.{◌∷◌, refl}
-use Rattle.stream_host.specs.Steps.PortStep.{stored, shut}
+use Rattle.stream_host.specs.Steps.PortStep.{stored, raised, shut}
 use Rattle.stream_host.specs.Steps.Step.{at_port}
-use Rattle.stream_host.proofs.Turns.{did_alone, did_at_port, few_stored_now, few_shut_now, tells_stored, tells_shut, tells_same, waits_for_room, waits_shut}
+use Rattle.stream_host.proofs.Turns.{did_alone, did_at_port, few_stored_now, few_raised_now, few_shut_now, tells_stored, tells_raised, tells_shut, tells_same, waits_for_room, waits_shut}
 use Rattle.stream_host.proofs.host.Host.send.Goals as goal
+
+pub returns-in-Some-clause-goes_on : goal.returns-in-Some-clause-goes_on
+returns-in-Some-clause-goes_on g c = λ rest h stands f polled.
+    let b = c.in-Some.byte in let t = c.raise.ensures.raised rest h stands f in (
+      at_port (raised b t.0) ∷ h,
+      t.1,
+      did_at_port c.args.self.now _ (at_port (raised b t.0)) h refl polled.quiet t.2 (few_raised_now b t.0 h polled.quiet),
+      λ console. tells_raised c.args.self.now _ b t.0 h _ console c.raise.ensures.text,
+    )
 
 pub returns-then-self-gt-RECEIVE_ROOM-clause-goes_on : goal.returns-then-self-gt-RECEIVE_ROOM-clause-goes_on
 returns-then-self-gt-RECEIVE_ROOM-clause-goes_on g c = λ rest h stands f polled.
-    (h, stands, waits_for_room c.args.self.now h f polled c.requires.shown c.if-self.true c.if-self-gt-RECEIVE_ROOM.true, λ console. tells_same c.args.self.now h _ console)
+    (h, stands, waits_for_room c.args.self.now h f polled c.requires.shown c.in_default.is c.if-self.true c.if-self-gt-RECEIVE_ROOM.true, λ console. tells_same c.args.self.now h _ console)
 
 pub returns-then-self-clause-goes_on : goal.returns-then-self-clause-goes_on
 returns-then-self-clause-goes_on g c = λ rest h stands f polled.
@@ -19,7 +28,7 @@ returns-then-self-clause-goes_on g c = λ rest h stands f polled.
 
 pub returns-then-self-2-clause-goes_on : goal.returns-then-self-2-clause-goes_on
 returns-then-self-2-clause-goes_on g c = λ rest h stands f polled.
-    (h, stands, waits_shut c.args.self.now h f polled c.requires.shown c.if-self.false c.if-self-2.true, λ console. tells_same c.args.self.now h _ console)
+    (h, stands, waits_shut c.args.self.now h f polled c.requires.shown c.in_default.is c.if-self.false c.if-self-2.true, λ console. tells_same c.args.self.now h _ console)
 
 pub returns-then-may_scan-clause-goes_on : goal.returns-then-may_scan-clause-goes_on
 returns-then-may_scan-clause-goes_on g c = λ rest h stands f polled.

@@ -20,5 +20,5 @@ returns-clause-stored g c = λ rest h stands f.
     let may = may_store s b h f c.requires.storing c.requires.room c.next_byte-byte.ensures in (
       b,
       c.store.ensures.stored c.in-Stored.is rest (port_log h) stands (takes_byte s b h f may),
-      stored_byte s _ b h f c.requires.storing may (record { more = c.advance.ensures.more; last = c.advance.ensures.last }) c.next_byte-byte.ensures,
+      stored_byte s _ b h f c.requires.storing may (record { more = c.advance.ensures.more; last = c.advance.ensures.last; due = c.advance.ensures.due }) c.next_byte-byte.ensures,
     )

@@ -2,7 +2,7 @@ use Rattle.std.proofs.Common.{ap, ◌∙◌}
 use Rattle.stream_host.specs.Hosts.{shown}
 use Rattle.status_report.specs.Answering.{is_bye}
 use Rattle.std.proofs.Common.{◌||◌}
-use Rattle.stream_host.proofs.Hosting.{got_reply, tells_reply}
+use Rattle.stream_host.proofs.Replying.{got_reply, tells_reply}
 use Rattle.stream_host.proofs.host.Host.take_reply.Goals as goal
 
 pub returns-clause-tells : goal.returns-clause-tells

@@ -1,8 +1,9 @@
 use Rattle.std.proofs.Common.{◌∷◌, ◌∙◌, sym, refl}
 use Rattle.stream_host.specs.Steps.{port_log}
-use Rattle.stream_host.specs.Steps.PortStep.{got, no_reply}
+use Rattle.stream_host.specs.Steps.PortStep.{raised, got, no_reply}
 use Rattle.stream_host.specs.Steps.Step.{at_port}
-use Rattle.stream_host.proofs.Turns.{did_alone, did_at_port, few_got_now, quiet_between, has_polled, polled, worked_on, tells_polled, tells_same, is_done}
+use Rattle.stream_host.specs.Jobs.{resume}
+use Rattle.stream_host.proofs.Turns.{did_alone, did_at_port, few_got_now, quiet_between, has_polled, worked_on, few_raised_now, tells_polled, tells_resumed, tells_same, is_done}
 use Rattle.stream_host.proofs.host.Host.work.Goals as goal
 
 pub returns-then-is_due-clause-goes_on : goal.returns-then-is_due-clause-goes_on
@@ -14,15 +15,31 @@ pub returns-then-self-clause-goes_on : goal.returns-then-self-clause-goes_on
 returns-then-self-clause-goes_on g c = λ rest h stands f between.
     (h, stands, is_done c.args.self.now h f between (record { bye = c.if-self.true; none = sym c.is_due.ensures.due ∙ c.if-is_due.false }), tells_same c.args.self.now h _ _)
 
+pub count_poll-requires-clause-stands : goal.count_poll-requires-clause-stands
+count_poll-requires-clause-stands g c = let r = c.requires.stands in (r.0, r.1, c.in-None.ensures.none r.0 (port_log r.1) r.2, r.3)
+
+pub returns-then-count_poll-clause-goes_on : goal.returns-then-count_poll-clause-goes_on
+returns-then-count_poll-clause-goes_on g c = λ rest h stands f between.
+    let t = c.count_poll.ensures.resumed c.if-count_poll.true rest h (c.in-None.ensures.none rest (port_log h) stands) f in
+    let next = at_port (raised resume t.0) ∷ at_port no_reply ∷ h in (
+      next,
+      t.1,
+      worked_on _ _ _ _ h next refl
+          (did_at_port c.args.self.now _ (at_port (raised resume t.0)) (at_port no_reply ∷ h) refl (has_polled h between).quiet t.2 (few_raised_now resume t.0 (at_port no_reply ∷ h) (has_polled h between).quiet)),
+      tells_resumed c.args.self.now _ resume t.0 h _ _ c.count_poll.ensures.text,
+    )
+
 pub without_reply-requires : goal.without_reply-requires
 without_reply-requires g c =
     let r = c.requires.stands in
-    record { stands = (r.0, at_port no_reply ∷ r.1, c.in-None.ensures.none r.0 (port_log r.1) r.2, polled c.args.self.now r.1 r.3 c.if-self.false, has_polled r.1 r.4) }
+    let n = c.count_poll.ensures.counted c.if-count_poll.false in
+    record { stands = (r.0, at_port no_reply ∷ r.1, rw n.0 (c.in-None.ensures.none r.0 (port_log r.1) r.2), n.1 r.1 r.3, has_polled r.1 r.4) }
 
-pub returns-in-None-clause-goes_on : goal.returns-in-None-clause-goes_on
-returns-in-None-clause-goes_on g c = λ rest h stands f between.
-    let n = c.without_reply.ensures.goes_on rest (at_port no_reply ∷ h) (c.in-None.ensures.none rest (port_log h) stands) (polled c.args.self.now h f c.if-self.false) (has_polled h between) in
-    (n.0, n.1, worked_on _ _ _ h n.0 n.2, tells_polled _ _ h n.0 _ _ _ _ n.3)
+pub returns-else-count_poll-clause-goes_on : goal.returns-else-count_poll-clause-goes_on
+returns-else-count_poll-clause-goes_on g c = λ rest h stands f between.
+    let counted = c.count_poll.ensures.counted c.if-count_poll.false in
+    let n = c.without_reply.ensures.goes_on rest (at_port no_reply ∷ h) (rw counted.0 (c.in-None.ensures.none rest (port_log h) stands)) (counted.1 h f) (has_polled h between) in
+    (n.0, n.1, worked_on _ c.args.self.now _ _ h n.0 c.count_poll.ensures.text n.2, tells_polled c.args.self.now _ _ h n.0 _ _ _ _ c.count_poll.ensures.text n.3)
 
 pub take_reply-requires-clause-fits : goal.take_reply-requires-clause-fits
 take_reply-requires-clause-fits g c =

@@ -1,0 +1,456 @@
+-- Where what is next is held up, the stop is waited for, and then the resume.
+use Rattle.std.proofs.Common.{◌≡◌, ℕ, ◌+◌, ◌≤◌, ◌<◌, inl, inr, Bool, true, false, ◌&&◌, ◌||◌, not, List, [], ◌∷◌, ◌++◌, length, nat_eq, Some, refl, sym, ap, ◌∙◌, subst, arith}
+use Rattle.std.specs.List.{list_any, count_by}
+use Rattle.std.proofs.lemmas.Bool.Decides.{nat_tests}
+use Rattle.std.proofs.Math.Numerals.{lt_of_le_of_ne}
+use Rattle.code_table.specs.declared.flags.Exec.{Exec}
+use Rattle.feed_hold.specs.declared.Motion.{Motion as AnyMotion}
+use Rattle.feed_hold.specs.declared.Motion.TheVariants as motions
+use Rattle.feed_hold.specs.Motions.{asks, hold_byte, cancel_byte, start_byte, after_word, after_requests, after_hold, after_cancel, after_start, is_stopping}
+use Rattle.feed_hold.specs.Motions.Call.{on_exec}
+use Rattle.outside.specs.declared.On.TheVariants as on
+use Rattle.outside.specs.declared.Turn.TheVariants.{Did, Wait}
+use Rattle.status_report.specs.declared.Reply.{Reply}
+use Rattle.planner_ring.specs.declared.Block.{Block}
+use Rattle.plan_passes.specs.Plans.{Planned}
+use Rattle.step_line.specs.Asking.Asked.{a_move}
+use Rattle.step_line.specs.declared.Piece.{Piece}
+use Rattle.step_line.specs.declared.planned_move.PlannedMove.{PlannedMove}
+use Rattle.step_line.specs.Finishing.{ticks_together}
+use Rattle.step_line.proofs.Finished.{together_on}
+use Rattle.run_rules.specs.declared.State.{State}
+use Rattle.run_rules.specs.Work.{Task, pauses}
+use Rattle.run_rules.specs.Work.Task.{ask}
+use Rattle.board_rules.specs.Ports.PortStep.{took, found_empty, found_closed, found_free, answered, no_reply_room, took_exec, took_ovr, published, no_piece_room, loaded}
+use Rattle.board_rules.specs.Steps.{Step, Journal, left_of, whole_of, known_of, published_of, hand_of, plan_of, motion_of}
+use Rattle.board_rules.specs.Steps.Step.{at_port, began, did, made_end, evened, paused, became, closing, turned}
+use Rattle.board_rules.specs.Turns.{this_turn, publishing, takes_requests, obeys, takes_changes, replans, asks_no_start, flags_taken, has_blocks, has_segment, is_full, is_due, is_halting, is_counted, is_held_up, needs_motion, awaits_motion, starts_cycle, tries_of, most_tries}
+use Rattle.board_rules.specs.Conduct.{Conducted, EndsTurn, IsNextTask, AreWaiting, HasSlowedDown, ticks_published}
+use Rattle.board_rules.proofs.Staying.{both_taken, stays_held}
+use Rattle.units.specs.Truths.{one_if}
+use Rattle.controller.specs.declared.controller.Controller.{Controller}
+use Rattle.controller.specs.declared.controller.Beat.TheVariants.{Motion}
+use Rattle.controller.specs.declared.controller.Flags.{Flags}
+use Rattle.controller.specs.declared.controller.Flags.TheVariants as words
+use Rattle.controller.specs.Boards.{Keeps, Rounds, TakesFlags, words_left, changes_left, number_of}
+use Rattle.controller.specs.Turning.{HasPiece, IsHalted, MayRun, HasSettled, AreWorked, BoardWorked, obeyed}
+use Rattle.controller.proofs.Facts.{uncounted, uncounted_line}
+use Rattle.controller.proofs.Tries.{counts_none, counts_one}
+use Rattle.controller.proofs.Steps.{at_rest}
+use Rattle.controller.proofs.Standing.{all_published}
+use Rattle.controller.proofs.Ends.{rounds_still}
+
+-- ---- what is held up
+
+some_left : (h : Journal) → is_held_up h ≡ true → whole_of h ≡ false → left_of h ≡ [] → ⊥
+some_left h held_up partial none =
+    let same = ap (λ (ts : List Task). needs_motion ts (whole_of h) (is_full (plan_of h))) none in
+    absurd (let e = sym partial ∙ sym same ∙ held_up in cc)
+
+-- few tries stand behind the last poll
+few_halted : (h : Journal) → IsHalted h → tries_of h + one_if (whole_of h) ≤ 1
+few_halted h halted = by_whole (whole_of h) refl
+  where
+    by_whole : (w : Bool) → whole_of h ≡ w → tries_of h + one_if (whole_of h) ≤ 1
+    by_whole true e = let none = halted.ready.held halted.halts e in let w = ap one_if e in omega (arith, none, w)
+    by_whole false e = let few = halted.ready.few (some_left h halted.held_up e) in let w = ap one_if e in omega (arith, few, w)
+
+uncounted_halted : (h : Journal) → IsHalted h → is_counted h ≡ false
+uncounted_halted h halted = by_whole (whole_of h) refl
+  where
+    by_whole : (w : Bool) → whole_of h ≡ w → is_counted h ≡ false
+    by_whole true e = uncounted_line h halted.halts e
+    by_whole false e = uncounted h (some_left h halted.held_up e)
+
+-- what is in hand or due may be tried to be published
+pub may_run_halted : (h : Journal) → IsHalted h → MayRun h
+may_run_halted h halted = record {
+  quiet = halted.ready.quiet;
+  polled = λ e. absurd (let f = sym halted.ready.unpolled ∙ e in cc);
+  first = λ counted. absurd (let f = sym (uncounted_halted h halted) ∙ counted in cc);
+  few = λ e. few_halted h halted;
+  held = halted.ready.held;
+}
+
+-- a move that is held up has no room
+full_held_up : (h : Journal) (m : PlannedMove) → is_held_up h ≡ true → IsNextTask (ask (a_move m)) h → is_full (plan_of h) ≡ true
+full_held_up h m held_up next = sym (ap (λ (ts : List Task). needs_motion ts (whole_of h) (is_full (plan_of h))) next) ∙ held_up
+
+none_wait : (h : Journal) → is_halting (motion_of h) ≡ true → AreWaiting h → ⊥
+none_wait h halts w = absurd (let e = sym halts ∙ ap is_halting w.stands in cc)
+
+-- ---- behind a stop that was looked for
+
+still_held_up : (h next : Journal) → HasSettled h next → is_held_up h ≡ true → is_held_up next ≡ true
+still_held_up h next s held_up =
+    ap (λ (ts : List Task). needs_motion ts (whole_of next) (is_full (plan_of next))) s.left ∙ ap (λ w. needs_motion (left_of h) w (is_full (plan_of next))) s.passes.whole
+    ∙ ap (λ (p : Planned). needs_motion (left_of h) (whole_of h) (is_full p)) s.plan ∙ held_up
+
+few_settled : (h next : Journal) → HasSettled h next → tries_of h + one_if (whole_of h) ≤ 1 → tries_of next + one_if (whole_of next) ≤ 1
+few_settled h next s few = let t = s.passes.tries in let w = ap one_if s.passes.whole in omega (arith, few, t, w)
+
+ends_settled : (h next : Journal) → IsHalted h → HasSettled h next → EndsTurn next
+ends_settled h next halted s =
+    let quiet = s.passes.quiet in
+    let none = halted.ready.quiet.quiet in
+    let few = few_settled h next s (few_halted h halted) in
+    let worked = s.passes.worked halted.ready.quiet.worked in
+    record {
+      once = omega (arith, quiet, none);
+      adds = λ m move. full_held_up next m (still_held_up h next s halted.held_up) move;
+      starts = λ w. absurd (none_wait next (s.halts ∙ halted.halts) w);
+      tries = omega (arith, few);
+      obeyed = worked.obeyed;
+      changed = worked.changed;
+    }
+
+rounds_settled : (board : Controller) (h next : Journal) → IsHalted h → HasSettled h next → board.beat ≡ Motion → Rounds board.beat next
+rounds_settled board h next halted s beat =
+    subst (λ b. Rounds b next) (sym beat) (rounds_still next (λ w. absurd (none_wait next (s.halts ∙ halted.halts) w)) (few_settled h next s (few_halted h halted)))
+
+-- a board's number, where no word of flags is to be taken
+fewer_words : (f was : Flags) (h next : Journal) → f ≡ words.None → was ≡ words.None → number_of words.None next < number_of words.None h → number_of f next < number_of was h
+fewer_words f was h next e g falls = let a = ap words_left e in let b = ap words_left g in omega (arith, falls, a, b)
+
+-- the machine is held
+pub did_stop : (board : Controller) (was : Flags) (h next : Journal) → Keeps board next → IsHalted h → HasSettled h next → motion_of h ≡ motions.Holding → motion_of next ≡ motions.Held
+    → board.beat ≡ Motion → board.flags ≡ words.None → was ≡ words.None → BoardWorked Did was board h next
+did_stop board was h next k halted s slows held beat no_word none = record {
+  keeps = k;
+  rounds = rounds_settled board h next halted s beat;
+  flags = subst (λ f. TakesFlags f next) (sym no_word) (s.passes.flags ∙ halted.ready.quiet.flags);
+  still = λ e. no_word;
+  beat = λ o e. beat;
+  steps = s.passes.steps;
+  are = s.passes.are;
+  may = ends_settled h next halted s;
+  moves = λ e. inr (fewer_words board.flags was h next no_word none falls);
+}
+  where
+    falls : number_of words.None next < number_of words.None h
+    falls =
+        let two = ap changes_left slows in
+        let one = ap changes_left held in
+        let p = ap (λ (ts : List Task). pauses ts) s.left in
+        let e = ap (λ (rs : List Reply). one_if (nat_eq (length rs) 0)) s.passes.closed in
+        omega (arith, two, one, p, e)
+
+-- ---- a stop that is waited for
+
+holding_by : (m : AnyMotion) → is_halting m ≡ true → (m ≡ motions.Held → ⊥) → m ≡ motions.Holding
+holding_by motions.Idle is other = absurd cc
+holding_by motions.Run is other = absurd cc
+holding_by motions.Holding is other = refl
+holding_by motions.Held is other = absurd (other refl)
+holding_by motions.Jog is other = absurd cc
+holding_by motions.Cancelling is other = absurd cc
+holding_by motions.Stopping is other = absurd cc
+holding_by motions.Alarm is other = absurd cc
+
+not_due : (h : Journal) → (HasPiece h → ⊥) → is_due h ≡ false
+not_due h none = by_due (is_due h) refl
+  where
+    by_due : (d : Bool) → is_due h ≡ d → is_due h ≡ false
+    by_due true e = absurd (none (inr e))
+    by_due false e = e
+
+none_in_hand : (h : Journal) → (HasPiece h → ⊥) → hand_of h ≡ []
+none_in_hand h none = by_hand (hand_of h) (λ some. none (inl some))
+  where
+    by_hand : (ps : List Piece) → ((ps ≡ [] → ⊥) → ⊥) → ps ≡ []
+    by_hand [] f = refl
+    by_hand (p ∷ ps) f = absurd (f (λ e. absurd cc))
+
+by_speed : (v : ℕ) (some : Bool) → some ≡ true → (not (nat_eq v 0) && some) ≡ false → nat_eq v 0 ≡ true
+by_speed v some is none = by_test (nat_eq v 0) some is none
+  where
+    by_test : (t some : Bool) → some ≡ true → (not t && some) ≡ false → t ≡ true
+    by_test true some is none = refl
+    by_test false true is none = absurd cc
+    by_test false false is none = absurd cc
+
+-- a machine that slows down, with no segment due, stands still
+slow_stands : (board : Controller) (h : Journal) → Keeps board h → motion_of h ≡ motions.Holding → is_due h ≡ false → (plan_of h).speed ≡ 0
+slow_stands board h k slows due = by_blocks (plan_of h).blocks refl
+  where
+    by_blocks : (bs : List Block) → (plan_of h).blocks ≡ bs → (plan_of h).speed ≡ 0
+    by_blocks [] e = (at_rest board h k e).speed
+    by_blocks (b ∷ bs) e =
+        let none = sym (ap (λ m. has_segment m (plan_of h)) slows) ∙ due in
+        let zero = by_speed (plan_of h).speed (has_blocks (plan_of h).blocks) (ap has_blocks e) none in
+        grind (arith, nat_tests, zero)
+
+at_most : (a b d : ℕ) → a ≤ b → b ≤ d → a ≤ d
+at_most a b d e f = omega (arith, e, f)
+
+more_published : (known : ℕ) (ps : List Piece) (p : Piece) → known ≤ ticks_together ps → known ≤ ticks_together (ps ++ p ∷ [])
+more_published known ps p within = let e = together_on ps p in omega (arith, e, within)
+
+-- no more ticks are found done than were published
+known_within : (first : State) (h : Journal) → Conducted first h → known_of h ≤ ticks_published h
+known_within first [] c = omega arith
+known_within first (at_port (took b) ∷ h) c = known_within first h c.1
+known_within first (at_port found_empty ∷ h) c = known_within first h c.1
+known_within first (at_port found_closed ∷ h) c = known_within first h c.1
+known_within first (at_port (found_free n) ∷ h) c = known_within first h c.1
+known_within first (at_port (answered r) ∷ h) c = known_within first h c.1
+known_within first (at_port no_reply_room ∷ h) c = known_within first h c.1
+known_within first (at_port (took_exec word) ∷ h) c = known_within first h c.1
+known_within first (at_port (took_ovr word) ∷ h) c = known_within first h c.1
+known_within first (at_port (published p) ∷ h) c = more_published (known_of h) (published_of h) p (known_within first h c.1)
+known_within first (at_port (no_piece_room done) ∷ h) c = known_within first h c.1
+known_within first (at_port (loaded done) ∷ h) c = c.0.below
+known_within first (began o ∷ h) c = known_within first h c.1
+known_within first (did a ps ∷ h) c = known_within first h c.1
+known_within first (made_end ∷ h) c = known_within first h c.1
+known_within first (evened ∷ h) c = known_within first h c.1
+known_within first (paused ∷ h) c = known_within first h c.1
+known_within first (became call m ∷ h) c = known_within first h c.1
+known_within first (closing ∷ h) c = known_within first h c.1
+known_within first (turned t ∷ h) c = known_within first h c.1
+
+-- the stop is waited for: ticks are found not to be done
+pub waits_for_stop : (board : Controller) (was : Flags) (h next : Journal) → Keeps board next → IsHalted h → (HasPiece h → ⊥) → HasSettled h next → motion_of h ≡ motions.Holding
+    → (motion_of next ≡ motions.Held → ⊥) → board.beat ≡ Motion → board.flags ≡ words.None → BoardWorked (Wait on.Motion) was board h next
+waits_for_stop board was h next k halted none s slows moves beat no_word = record {
+  keeps = k;
+  rounds = rounds_settled board h next halted s beat;
+  flags = subst (λ f. TakesFlags f next) (sym no_word) taken;
+  still = λ e. no_word;
+  beat = λ o e. beat;
+  steps = s.passes.steps;
+  are = s.passes.are;
+  may = record {
+    ends = ends_settled h next halted s;
+    cause = record {
+      load = s.looked slowed;
+      undone = lt_of_le_of_ne (known_within k.first next k.conducted) (λ e. s.stopped (record { slowed = slowed; done = e ∙ all_published board next k empty }));
+      awaits = or_true (awaits_motion (left_of next)) (is_stopping (motion_of next) && is_held_up next) (stops (is_stopping (motion_of next)) (is_held_up next) (ap is_stopping still) (still_held_up h next s halted.held_up));
+    };
+    still = s.passes.still ∙ halted.ready.quiet.still;
+    flags = taken;
+    round = λ due has. absurd (let e = sym due_next ∙ due in cc);
+  };
+  moves = λ e. absurd cc;
+}
+  where
+    taken : flags_taken next ≡ true
+    taken = s.passes.flags ∙ halted.ready.quiet.flags
+
+    still : motion_of next ≡ motions.Holding
+    still = holding_by (motion_of next) (s.halts ∙ halted.halts) moves
+
+    due_next : is_due next ≡ false
+    due_next = ap (λ m. has_segment m (plan_of next)) (still ∙ sym slows) ∙ ap (λ (p : Planned). has_segment (motion_of h) p) s.plan ∙ not_due h none
+
+    empty : hand_of next ≡ []
+    empty = s.hand ∙ none_in_hand h none
+
+    slowed : HasSlowedDown next
+    slowed = record { slows = still; speed = slow_stands board next k still due_next; empty = empty }
+
+    or_true : (a b : Bool) → b ≡ true → (a || b) ≡ true
+    or_true true b e = refl
+    or_true false b e = e
+
+    stops : (a b : Bool) → a ≡ true → b ≡ true → (a && b) ≡ true
+    stops true b e f = f
+    stops false b e f = absurd cc
+
+-- ---- a word of requests is taken, and obeyed
+
+start_idle : (asked : Bool) (m : AnyMotion) → after_start asked true m ≡ motions.Idle → m ≡ motions.Idle
+start_idle false m e = e
+start_idle true motions.Idle e = refl
+start_idle true motions.Run e = absurd cc
+start_idle true motions.Holding e = absurd cc
+start_idle true motions.Held e = absurd cc
+start_idle true motions.Jog e = absurd cc
+start_idle true motions.Cancelling e = absurd cc
+start_idle true motions.Stopping e = absurd cc
+start_idle true motions.Alarm e = absurd cc
+
+cancel_idle : (asked : Bool) (m : AnyMotion) → after_cancel asked m ≡ motions.Idle → m ≡ motions.Idle
+cancel_idle false m e = e
+cancel_idle true motions.Idle e = refl
+cancel_idle true motions.Run e = absurd cc
+cancel_idle true motions.Holding e = absurd cc
+cancel_idle true motions.Held e = absurd cc
+cancel_idle true motions.Jog e = absurd cc
+cancel_idle true motions.Cancelling e = absurd cc
+cancel_idle true motions.Stopping e = absurd cc
+cancel_idle true motions.Alarm e = absurd cc
+
+hold_idle : (asked : Bool) (m : AnyMotion) → after_hold asked m ≡ motions.Idle → m ≡ motions.Idle
+hold_idle false m e = e
+hold_idle true motions.Idle e = refl
+hold_idle true motions.Run e = absurd cc
+hold_idle true motions.Holding e = absurd cc
+hold_idle true motions.Held e = absurd cc
+hold_idle true motions.Jog e = absurd cc
+hold_idle true motions.Cancelling e = absurd cc
+hold_idle true motions.Stopping e = absurd cc
+hold_idle true motions.Alarm e = absurd cc
+
+-- where blocks are queued, a machine that stands behind a word stood before
+idle_before : (word : Exec) (m : AnyMotion) → after_word word true m ≡ motions.Idle → m ≡ motions.Idle
+idle_before word m e =
+    let hold = asks word hold_byte in
+    let cancel = asks word cancel_byte in
+    hold_idle hold m (cancel_idle cancel (after_hold hold m) (start_idle (asks word start_byte && not hold) (after_cancel cancel (after_hold hold m)) e))
+
+pub waited_before : (word : Exec) (h : Journal) → AreWaiting (obeyed word h) → AreWaiting h
+waited_before word h w = record {
+  stands = idle_before word (motion_of h) (subst (λ queued. after_word word queued (motion_of h) ≡ motions.Idle) w.blocks w.stands);
+  blocks = w.blocks;
+}
+
+worked_obeyed : (word : Exec) (h : Journal) → AreWorked h → AreWorked (obeyed word h)
+worked_obeyed word h w =
+    let call = became (on_exec word (has_blocks (plan_of h).blocks)) (after_word word (has_blocks (plan_of h).blocks) (motion_of h)) in
+    let took = at_port (took_exec word) in
+    let ss = this_turn h in
+    let o = counts_one obeys call (took ∷ ss) refl in
+    let p = counts_none obeys took ss refl in
+    let q = counts_none takes_requests call (took ∷ ss) refl in
+    let r = counts_one takes_requests took ss refl in
+    let a = counts_none replans call (took ∷ ss) refl in
+    let b = counts_none replans took ss refl in
+    let c = counts_none takes_changes call (took ∷ ss) refl in
+    let d = counts_none takes_changes took ss refl in
+    record {
+      obeyed = o ∙ ap (λ n. n + 1) (p ∙ w.obeyed) ∙ sym (q ∙ r);
+      changed = a ∙ b ∙ w.changed ∙ sym (c ∙ d);
+    }
+
+pub ends_obeyed : (word : Exec) (h : Journal) → count_by publishing (this_turn h) ≡ 0 → AreWorked h → ((m : PlannedMove) → IsNextTask (ask (a_move m)) h → is_full (plan_of h) ≡ true)
+    → (AreWaiting h → starts_cycle h ≡ false) → tries_of h ≤ most_tries → EndsTurn (obeyed word h)
+ends_obeyed word h quiet w adds starts few =
+    let call = became (on_exec word (has_blocks (plan_of h).blocks)) (after_word word (has_blocks (plan_of h).blocks) (motion_of h)) in
+    let took = at_port (took_exec word) in
+    let a = counts_none publishing call (took ∷ this_turn h) refl in
+    let b = counts_one publishing took (this_turn h) refl in
+    let worked = worked_obeyed word h w in
+    record {
+      once = omega (arith, a, b, quiet);
+      adds = adds;
+      starts = λ waits. starts (waited_before word h waits);
+      tries = few;
+      obeyed = worked.obeyed;
+      changed = worked.changed;
+    }
+
+-- ---- the resume
+
+held_by : (m : AnyMotion) → is_halting m ≡ true → changes_left m ≤ 1 → m ≡ motions.Held
+held_by motions.Idle is few = absurd cc
+held_by motions.Run is few = absurd cc
+held_by motions.Holding is few = absurd (omega (arith, few))
+held_by motions.Held is few = refl
+held_by motions.Jog is few = absurd cc
+held_by motions.Cancelling is few = absurd cc
+held_by motions.Stopping is few = absurd cc
+held_by motions.Alarm is few = absurd cc
+
+-- a machine that is held stays so until the word is taken
+still_held : (h mid : Journal) → HasSettled h mid → motion_of h ≡ motions.Held → motion_of mid ≡ motions.Held
+still_held h mid s held =
+    let one = ap changes_left held in
+    let few = s.passes.changes in
+    held_by (motion_of mid) (s.halts ∙ ap is_halting held) (omega (arith, one, few))
+
+resumed_by : (hold cancel start queued : Bool) → (after_requests hold cancel start queued motions.Held ≡ motions.Held → ⊥) → changes_left (after_requests hold cancel start queued motions.Held) ≡ 0
+resumed_by true true true queued f = absurd (f refl)
+resumed_by true true false queued f = absurd (f refl)
+resumed_by true false true queued f = absurd (f refl)
+resumed_by true false false queued f = absurd (f refl)
+resumed_by false true true true f = refl
+resumed_by false true true false f = refl
+resumed_by false true false queued f = absurd (f refl)
+resumed_by false false true true f = refl
+resumed_by false false true false f = refl
+resumed_by false false false queued f = absurd (f refl)
+
+ends_awaited : (word : Exec) (h mid : Journal) → IsHalted h → HasSettled h mid → EndsTurn (obeyed word mid)
+ends_awaited word h mid halted s =
+    let ends = ends_settled h mid halted s in
+    ends_obeyed word mid (s.passes.quiet ∙ halted.ready.quiet.quiet) (s.passes.worked halted.ready.quiet.worked) ends.adds ends.starts ends.tries
+
+rounds_awaited : (word : Exec) (board : Controller) (h mid : Journal) → IsHalted h → HasSettled h mid → board.beat ≡ Motion → Rounds board.beat (obeyed word mid)
+rounds_awaited word board h mid halted s beat =
+    subst (λ b. Rounds b (obeyed word mid)) (sym beat)
+    (rounds_still (obeyed word mid) (λ w. absurd (none_wait mid (s.halts ∙ halted.halts) (waited_before word mid w))) (few_settled h mid s (few_halted h halted)))
+
+-- the steps of a word that is obeyed
+abbrev pub obeying : Exec → Journal → List Step → List Step
+obeying word mid steps =
+    became (on_exec word (has_blocks (plan_of mid).blocks)) (after_word word (has_blocks (plan_of mid).blocks) (motion_of mid)) ∷ (at_port (took_exec word) ∷ steps)
+
+pub obeying_are : (word : Exec) (h mid : Journal) (steps : List Step) → mid ≡ steps ++ h → obeyed word mid ≡ obeying word mid steps ++ h
+obeying_are word h mid steps are =
+    ap (λ (j : Journal). became (on_exec word (has_blocks (plan_of mid).blocks)) (after_word word (has_blocks (plan_of mid).blocks) (motion_of mid)) ∷ (at_port (took_exec word) ∷ j)) are
+
+-- the machine is resumed
+pub did_resume : (board : Controller) (was : Flags) (word : Exec) (h mid : Journal) → Keeps board (obeyed word mid) → IsHalted h → HasSettled h mid → motion_of h ≡ motions.Held
+    → (motion_of (obeyed word mid) ≡ motions.Held → ⊥) → board.beat ≡ Motion → board.flags ≡ words.None → was ≡ words.None → BoardWorked Did was board h (obeyed word mid)
+did_resume board was word h mid k halted s held resumes beat no_word none = record {
+  keeps = k;
+  rounds = rounds_awaited word board h mid halted s beat;
+  flags = subst (λ f. TakesFlags f (obeyed word mid)) (sym no_word) (both_taken mid (s.passes.flags ∙ halted.ready.quiet.flags)).1;
+  still = λ e. no_word;
+  beat = λ o e. beat;
+  steps = obeying word mid s.passes.steps;
+  are = obeying_are word h mid s.passes.steps s.passes.are;
+  may = ends_awaited word h mid halted s;
+  moves = λ e. inr (fewer_words board.flags was h (obeyed word mid) no_word none falls);
+}
+  where
+    is_held : motion_of mid ≡ motions.Held
+    is_held = still_held h mid s held
+
+    gone : changes_left (motion_of (obeyed word mid)) ≡ 0
+    gone =
+        ap (λ m. changes_left (after_word word (has_blocks (plan_of mid).blocks) m)) is_held
+        ∙ resumed_by (asks word hold_byte) (asks word cancel_byte) (asks word start_byte) (has_blocks (plan_of mid).blocks)
+        (λ e. resumes (ap (λ m. after_word word (has_blocks (plan_of mid).blocks) m) is_held ∙ e))
+
+    falls : number_of words.None (obeyed word mid) < number_of words.None h
+    falls =
+        let zero = gone in
+        let one = ap changes_left held in
+        let p = ap (λ (ts : List Task). pauses ts) s.left in
+        let e = ap (λ (rs : List Reply). one_if (nat_eq (length rs) 0)) s.passes.closed in
+        omega (arith, zero, one, p, e)
+
+-- the resume is waited for
+pub waits_for_resume : (board : Controller) (was : Flags) (word : Exec) (h mid : Journal) → Keeps board (obeyed word mid) → IsHalted h → HasSettled h mid → motion_of h ≡ motions.Held
+    → motion_of (obeyed word mid) ≡ motions.Held → board.beat ≡ Motion → board.flags ≡ words.None → BoardWorked (Wait on.Resume) was board h (obeyed word mid)
+waits_for_resume board was word h mid k halted s held stays beat no_word = record {
+  keeps = k;
+  rounds = rounds_awaited word board h mid halted s beat;
+  flags = subst (λ f. TakesFlags f (obeyed word mid)) (sym no_word) taken;
+  still = λ e. no_word;
+  beat = λ o e. beat;
+  steps = obeying word mid s.passes.steps;
+  are = obeying_are word h mid s.passes.steps s.passes.are;
+  may = record {
+    ends = ends_awaited word h mid halted s;
+    cause = record { held = stays; unasked = or_first (asks_no_start (at_port (took_exec word))) (list_any asks_no_start (this_turn mid)) unasked; held_up = still_held_up h mid s halted.held_up };
+    still = s.passes.still ∙ halted.ready.quiet.still;
+    flags = taken;
+    round = λ due has. absurd (let e : false ≡ true = sym (ap (λ m. has_segment m (plan_of mid)) stays) ∙ due in cc);
+  };
+  moves = λ e. absurd cc;
+}
+  where
+    taken : flags_taken (obeyed word mid) ≡ true
+    taken = (both_taken mid (s.passes.flags ∙ halted.ready.quiet.flags)).1
+
+    unasked : asks_no_start (at_port (took_exec word)) ≡ true
+    unasked =
+        (stays_held word (has_blocks (plan_of mid).blocks)).1
+        (ap (λ m. Some m) (sym (ap (λ m. after_word word (has_blocks (plan_of mid).blocks) m) (still_held h mid s held)) ∙ stays))
+
+    or_first : (a b : Bool) → a ≡ true → (a || b) ≡ true
+    or_first true b e = refl
+    or_first false b e = absurd cc

@@ -1,0 +1,60 @@
+-- The machine is held for a pause where it has stopped.
+use Rattle.std.proofs.Common.{◌≡◌, inr, ◌≤◌, ◌<◌, List, [], ◌∷◌, ◌++◌, length, nat_eq, refl, sym, ap, ◌∙◌, subst, arith, append_assoc}
+use Rattle.outside.specs.declared.Turn.TheVariants.{Did}
+use Rattle.run_rules.specs.Work.{Task}
+use Rattle.run_rules.specs.Work as work
+use Rattle.run_rules.specs.Work.Task.{pause}
+use Rattle.status_report.specs.declared.Reply.{Reply}
+use Rattle.board_rules.specs.Steps.{Journal, left_of}
+use Rattle.board_rules.specs.Steps.Step.{paused}
+use Rattle.board_rules.specs.Turns.{this_turn, tries_of}
+use Rattle.board_rules.specs.Conduct.{IsNextTask}
+use Rattle.board_rules.proofs.Tasks.{none_next}
+use Rattle.units.specs.Truths.{one_if}
+use Rattle.controller.specs.declared.controller.Controller.{Controller}
+use Rattle.controller.specs.declared.controller.Beat.TheVariants.{Motion}
+use Rattle.controller.specs.declared.controller.Flags.TheVariants as flags
+use Rattle.controller.specs.Boards.{Keeps, Rounds, TakesFlags, number_of}
+use Rattle.controller.specs.Turning.{IsReady, PassesNothing, HasFilled, BoardWorked}
+use Rattle.controller.proofs.Facts.{not_whole}
+use Rattle.controller.proofs.Tries.{publishes_none, worked_behind}
+use Rattle.controller.proofs.Ends.{none_called, rounds_still}
+
+-- a pause less is left
+falls : (h next : Journal) → IsNextTask pause h → PassesNothing (paused ∷ h) next → number_of flags.None next < number_of flags.None h
+falls h next task passes =
+    let fewer = passes.pauses in
+    let slower = passes.changes in
+    let one = ap work.pauses task in
+    let same = ap (λ (rs : List Reply). one_if (nat_eq (length rs) 0)) passes.closed in
+    omega (arith, fewer, slower, one, same)
+
+-- it is held, and what comes next is added
+pub paused_filled : (board was : Controller) (h next : Journal) → Keeps was h → IsReady h → IsNextTask pause h → HasFilled (paused ∷ h) next → Keeps board next → board.beat ≡ Motion → board.flags ≡ flags.None
+    → BoardWorked Did flags.None board h next
+paused_filled board was h next k ready task filled keeps beat no_word =
+    let a = filled.alone.passes in
+    let some : left_of h ≡ [] → ⊥ = (λ none. none_next (left_of h) pause none task) in
+    let none_whole = ap one_if (not_whole k.first h k.conducted some) in
+    let few : tries_of h ≤ 1 = ready.few some in
+    let t = a.tries in
+    let w = ap one_if a.whole in
+    let worked = a.worked (worked_behind paused h (paused ∷ h) refl (record { no_requests = refl; none_obeyed = refl; no_changes = refl; none_planned = refl }) ready.quiet.worked) in
+    record {
+      keeps = keeps;
+      rounds = subst (λ b. Rounds b next) (sym beat) (rounds_still next filled.none_waits (omega (arith, few, t, w, none_whole)));
+      flags = subst (λ f. TakesFlags f next) (sym no_word) (a.flags ∙ ready.quiet.flags);
+      beat = λ o e. beat;
+      still = λ e. no_word;
+      steps = a.steps ++ paused ∷ [];
+      are = a.are ∙ sym (append_assoc a.steps (paused ∷ []) h);
+      may = record {
+        once = (let q = a.quiet in let p = publishes_none paused (this_turn h) refl in let r = ready.quiet.quiet in omega (arith, q, p, r));
+        adds = filled.adds;
+        starts = none_called next (a.polled ∙ ready.unpolled) filled.none_waits;
+        tries = omega (arith, few, t);
+        obeyed = worked.obeyed;
+        changed = worked.changed;
+      };
+      moves = λ e. inr (subst (λ f. number_of f next < number_of flags.None h) (sym no_word) (falls h next task a));
+    }

@@ -1,0 +1,14 @@
+use Rattle.std.proofs.Common.{sym, ◌∙◌}
+use Rattle.controller.proofs.Halting.{may_run_halted}
+use Rattle.controller.proofs.controller.Controller.halt.Goals as goal
+
+pub returns-then-has_piece-clause-goes_on : goal.returns-then-has_piece-clause-goes_on
+returns-then-has_piece-clause-goes_on g c rest h stands k halted = c.run.ensures.goes_on rest h stands k (may_run_halted h halted) ((c.has_piece.ensures h k).0 c.if-has_piece.true)
+
+pub returns-then-is_held-clause-goes_on : goal.returns-then-is_held-clause-goes_on
+returns-then-is_held-clause-goes_on g c rest h stands k halted =
+    c.await_resume.ensures.goes_on rest h stands k halted (λ piece. absurd (let e = sym c.if-has_piece.false ∙ (c.has_piece.ensures h k).1 piece in cc))
+
+pub returns-clause-goes_on : goal.returns-clause-goes_on
+returns-clause-goes_on g c rest h stands k halted =
+    c.await_stop.ensures.goes_on rest h stands k halted (λ piece. absurd (let e = sym c.if-has_piece.false ∙ (c.has_piece.ensures h k).1 piece in cc))

@@ -1,0 +1,37 @@
+use Rattle.std.proofs.Common.{rules, List, sym, ap, ◌∙◌, subst}
+use Rattle.run_rules.specs.Work.{Task}
+use Rattle.run_rules.specs.Work.Task.{ask, normal}
+use Rattle.step_line.specs.Asking.Asked.{a_rest}
+use Rattle.line_interpreter.specs.Lefts.{IsNextOf}
+use Rattle.controller.specs.declared.controller.Controller.{Controller}
+use Rattle.controller.specs.Turning.{IsPassed}
+use Rattle.controller.proofs.Tries.{alone_on}
+use Rattle.controller.proofs.Resting.{no_rest, no_normal, none_passed}
+use Rattle.controller.proofs.controller.Controller.pass.Goals as goal
+
+pub loop-self-preserved : goal.loop-self-preserved
+loop-self-preserved c =
+    let i = c.loop-self.invariant in
+    let next : IsPassed c.loop-self.self.lines.left = search rules in
+    record {
+      passed = λ h k stopped. let n = i.passed h k stopped in let m = c.pass_next.ensures.passed n.0 n.1 n.2 in (m.0, m.1, m.2, alone_on h n.0 m.0 n.3 m.3);
+      same = c.pass_next.ensures.same ∙ ap (λ (b : Controller). record b { machine = c.pass_next.new.self.machine; lines = c.pass_next.new.self.lines }) i.same;
+      closing = λ h k closing. absurd (none_passed c.args.self.now h k closing (subst (λ (b : Controller). IsPassed b.lines.left) (i.closing h k closing) next));
+    }
+
+pub returns : goal.returns
+returns c =
+    let i = c.loop-self.invariant in
+    record {
+      passed = λ h k stopped.
+          let n = i.passed h k stopped in (
+            n.0,
+            n.1,
+            n.2,
+            n.3,
+            λ next. no_rest c.todo.result c.loop-self.self.lines.left c.todo.ensures c.in_default.not-Rest (subst (λ (ts : List Task). IsNextOf (ask a_rest) ts) (sym n.1.lines.left_is) next),
+            λ next. no_normal c.todo.result c.loop-self.self.lines.left c.todo.ensures c.in_default.not-Normal (subst (λ (ts : List Task). IsNextOf normal ts) (sym n.1.lines.left_is) next),
+          );
+      same = i.same;
+      closing = i.closing;
+    }

@@ -1,0 +1,15 @@
+use Rattle.std.proofs.Common.{◌≡◌, true, length}
+use Rattle.board_rules.specs.Steps.{Journal}
+use Rattle.controller.specs.Boards.{Keeps}
+use Rattle.controller.specs.Turning.{HasStopped, DidAlone}
+use Rattle.controller.proofs.controller.Controller.pass.Given as goal
+
+abbrev pub invariant-loop-self : goal.invariant-loop-self
+invariant-loop-self l = record {
+  passed : (h : Journal) → Keeps l.fn.self h → HasStopped h → (next : Journal) × Keeps l.self next × HasStopped next × DidAlone h next;
+  same : l.self ≡ record l.fn.self { machine = l.self.machine; lines = l.self.lines };
+  closing : (h : Journal) → Keeps l.fn.self h → l.fn.self.closing ≡ true → l.self ≡ l.fn.self;
+}
+
+abbrev pub decreases-loop-self : goal.decreases-loop-self
+decreases-loop-self l = length l.self.lines.left

@@ -1,0 +1,25 @@
+use Rattle.std.proofs.Common.{◌∷◌, ap, ◌∙◌}
+use Rattle.board_rules.specs.Steps.{hand_of, given_of, plan_of, motion_of}
+use Rattle.board_rules.specs.Steps.Step.{paused}
+use Rattle.controller.specs.declared.controller.Controller.{Controller}
+use Rattle.controller.proofs.Steps.{held_for_pause}
+use Rattle.controller.proofs.Pausing.{paused_filled}
+use Rattle.controller.proofs.controller.Controller.pause.Goals as goal
+
+pub fill-requires : goal.fill-requires
+fill-requires c =
+    let r = c.requires.stands in
+    let h = r.0 in
+    let k = r.1 in
+    let stopped = r.3 in
+    (paused ∷ h, held_for_pause c.args.self.now _ _ h k r.4 stopped.drained stopped.stands (c.pause.ensures (plan_of h) (motion_of h) (hand_of h) (given_of h) k.machine) c.done.ensures)
+
+pub returns-clause-goes_on : goal.returns-clause-goes_on
+returns-clause-goes_on c h k ready stopped task =
+    let s = c.args.self.now in
+    let keeps = held_for_pause s _ _ h k task stopped.drained stopped.stands (c.pause.ensures (plan_of h) (motion_of h) (hand_of h) (given_of h) k.machine) c.done.ensures in
+    let n = c.fill.ensures.filled (paused ∷ h) keeps in (
+      n.0,
+      n.2.alone.port,
+      paused_filled _ s h n.0 k ready task n.2 n.1 (ap (λ (b : Controller). b.beat) c.fill.ensures.same ∙ c.requires.beat) (ap (λ (b : Controller). b.flags) c.fill.ensures.same ∙ c.requires.flags),
+    )

@@ -1,0 +1,21 @@
+use Rattle.std.proofs.Common.{rules, ◌≡◌, true, sym, subst}
+use Rattle.board_rules.specs.Ports.{has_changes}
+use Rattle.board_rules.specs.Steps.{Journal, port_log, hand_of, given_of, plan_of, motion_of}
+use Rattle.controller.specs.Boards.{Keeps}
+use Rattle.controller.proofs.Steps.{in_range, changes}
+use Rattle.controller.proofs.Settling.{replanned_some}
+use Rattle.controller.proofs.controller.Controller.take_changes.Goals as goal
+
+pub change-requires : goal.change-requires
+change-requires g c = let r = c.requires.stands in record { range = in_range c.args.self.now r.1 r.3 }
+
+pub returns-then-not-is_empty-clause-goes_on : goal.returns-then-not-is_empty-clause-goes_on
+returns-then-not-is_empty-clause-goes_on g c rest h stands k =
+    let word = c.take_override-word.result in
+    let some : has_changes word ≡ true = search rules in
+    let runs = c.change.ensures.runs (plan_of h) (motion_of h) (hand_of h) (given_of h) k.machine in
+    let e = sym (replanned_some word h some) in (
+      word,
+      subst (λ (j : Journal). g.P.BoardPort.stands c.take_override-word.new.self rest (port_log j)) e (c.take_override-word.ensures rest (port_log h) stands),
+      subst (λ (j : Journal). Keeps (record c.args.self.now { machine = c.change.new.self }) j) e (changes c.args.self.now c.change.new.self word h k some c.change.ensures.range runs),
+    )

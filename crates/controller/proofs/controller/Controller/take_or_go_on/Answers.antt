@@ -1,0 +1,27 @@
+use Rattle.std.proofs.Common.{refl, ap}
+use Rattle.controller.specs.declared.controller.Controller.{Controller}
+use Rattle.controller.specs.declared.controller.Flags.TheVariants as words
+use Rattle.controller.specs.Turning.{obeyed, replanned}
+use Rattle.controller.proofs.Steps.{other_flags}
+use Rattle.controller.proofs.Words.{took_changes, took_requests}
+use Rattle.controller.proofs.controller.Controller.take_or_go_on.Goals as goal
+
+pub returns-in-Both-clause-goes_on : goal.returns-in-Both-clause-goes_on
+returns-in-Both-clause-goes_on g c rest h stands f between =
+    let n = c.take_changes.ensures.goes_on rest h stands f.keeps in
+    let next = replanned n.0 h in (
+      next,
+      n.1,
+      took_changes c.args.self.now (record c.take_changes.new.self { flags = words.Requests }) n.0 h f between c.in-Both.is (other_flags c.take_changes.new.self words.Requests next n.2)
+          (ap (λ (b : Controller). b.beat) c.take_changes.ensures.same) refl,
+    )
+
+pub returns-in-Requests-clause-goes_on : goal.returns-in-Requests-clause-goes_on
+returns-in-Requests-clause-goes_on g c rest h stands f between =
+    let n = c.take_requests.ensures.goes_on rest h stands f.keeps in
+    let next = obeyed n.0 n.1 in (
+      next,
+      n.3,
+      took_requests c.args.self.now (record c.take_requests.new.self { flags = words.None }) n.0 h n.1 f between c.in-Requests.is n.2 (other_flags c.take_requests.new.self words.None next n.4)
+          (ap (λ (b : Controller). b.beat) c.take_requests.ensures.same) refl,
+    )

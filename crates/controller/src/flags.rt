@@ -1,0 +1,107 @@
+//! How a board takes its words of flags, and waits for a machine that is to be held, or is held.
+
+ghost use Rattle.std.specs.Prelude.{◌≡◌, ◌≢◌, ◌<◌, None};
+ghost use Rattle.code_table.specs.declared.flags.Exec.{Exec as AnyExec};
+ghost use Rattle.code_table.specs.declared.flags.Ovr.{Ovr as AnyOvr};
+ghost use Rattle.feed_hold.specs.declared.Motion.TheVariants.{Holding, Held};
+ghost use Rattle.outside.specs.declared.Turn.TheVariants.{Done};
+ghost use Rattle.board_rules.specs.Steps.{Journal, port_log};
+ghost use Rattle.controller.specs.Boards.{Keeps};
+ghost use Rattle.controller.specs.Turning.{HasPiece, IsHalted, HasSettled, obeyed, replanned, WorksOn};
+
+use crate::controller::{Beat, Controller, Flags};
+use crate::ports::BoardPort;
+use bitflags::Flags as _;
+use outside::{On, Turn};
+
+impl Controller {
+    /// Where the machine has slowed down to a stop, looks how many ticks are done, and holds it where each is.
+    pub(crate) fn settle<P: BoardPort>(&mut self, port: &mut P)
+        requires stands { (rest : P.Rest) × (h : Journal) × P.stands port.old rest (port_log h) × Keeps self.old h }
+        ensures goes_on { (rest : P.Rest) (h : Journal) → P.stands port.old rest (port_log h) → Keeps self.old h
+            → (next : Journal) × P.stands port.new rest (port_log next) × Keeps self.new next × HasSettled h next }
+        ensures same { self.new ≡ record self.old { machine = self.new.machine } }
+    {
+        if self.machine.has_slowed_down() && port.done() == self.machine.given {
+            self.machine.stop();
+        }
+    }
+
+    /// Takes the word of requests, and does what it asks of the motion. A machine that has stopped is held before.
+    pub(crate) fn take_requests<P: BoardPort>(&mut self, port: &mut P)
+        requires stands { (rest : P.Rest) × (h : Journal) × P.stands port.old rest (port_log h) × Keeps self.old h }
+        ensures goes_on { (rest : P.Rest) (h : Journal) → P.stands port.old rest (port_log h) → Keeps self.old h
+            → (word : AnyExec) × (mid : Journal) × HasSettled h mid × P.stands port.new rest (port_log (obeyed word mid)) × Keeps self.new (obeyed word mid) }
+        ensures same { self.new ≡ record self.old { machine = self.new.machine } }
+    {
+        self.settle(port);
+        let word = port.take_exec();
+        self.machine.obey(word);
+    }
+
+    /// Takes the word of changes of overrides, and plans anew where it holds one.
+    pub(crate) fn take_changes<P: BoardPort>(&mut self, port: &mut P)
+        requires stands { (rest : P.Rest) × (h : Journal) × P.stands port.old rest (port_log h) × Keeps self.old h }
+        ensures goes_on { (rest : P.Rest) (h : Journal) → P.stands port.old rest (port_log h) → Keeps self.old h
+            → (word : AnyOvr) × P.stands port.new rest (port_log (replanned word h)) × Keeps self.new (replanned word h) }
+        ensures same { self.new ≡ record self.old { machine = self.new.machine } }
+    {
+        let word = port.take_override();
+        if !word.is_empty() {
+            self.machine.change(word);
+        }
+    }
+
+    /// Waits for a machine that slows down, and holds it once it has stopped.
+    pub(crate) fn await_stop<P: BoardPort>(&mut self, port: &mut P) -> Turn
+        requires stands { (rest : P.Rest) × (h : Journal) × P.stands port.old rest (port_log h) × Keeps self.old h × IsHalted h × (HasPiece h → ⊥) }
+        requires slows { self.old.machine.hold.motion ≡ Holding }
+        requires beat { self.old.beat ≡ Beat.Motion }
+        requires flags { self.old.flags ≡ Flags.None }
+        ensures goes_on { (rest : P.Rest) (h : Journal) → P.stands port.old rest (port_log h) → Keeps self.old h → IsHalted h → (HasPiece h → ⊥)
+            → WorksOn (P.stands port.new rest) result self.old.flags self.new h }
+        ensures going { result ≢ Done }
+    {
+        self.settle(port);
+        if self.machine.is_held() {
+            return Turn::Did;
+        }
+        Turn::Wait(On::Motion)
+    }
+
+    /// Waits for the resume of a machine that is held.
+    pub(crate) fn await_resume<P: BoardPort>(&mut self, port: &mut P) -> Turn
+        requires stands { (rest : P.Rest) × (h : Journal) × P.stands port.old rest (port_log h) × Keeps self.old h × IsHalted h × (HasPiece h → ⊥) }
+        requires held { self.old.machine.hold.motion ≡ Held }
+        requires beat { self.old.beat ≡ Beat.Motion }
+        requires flags { self.old.flags ≡ Flags.None }
+        ensures goes_on { (rest : P.Rest) (h : Journal) → P.stands port.old rest (port_log h) → Keeps self.old h → IsHalted h → (HasPiece h → ⊥)
+            → WorksOn (P.stands port.new rest) result self.old.flags self.new h }
+        ensures going { result ≢ Done }
+    {
+        self.take_requests(port);
+        if self.machine.is_held() {
+            return Turn::Wait(On::Resume);
+        }
+        Turn::Did
+    }
+
+    /// What is done where what is next is held up: what is in hand or due is published, and then the stop is waited for, and the
+    /// resume.
+    pub(crate) fn halt<P: BoardPort>(&mut self, port: &mut P) -> Turn
+        requires stands { (rest : P.Rest) × (h : Journal) × P.stands port.old rest (port_log h) × Keeps self.old h × IsHalted h }
+        requires beat { self.old.beat ≡ Beat.Motion }
+        requires flags { self.old.flags ≡ Flags.None }
+        ensures goes_on { (rest : P.Rest) (h : Journal) → P.stands port.old rest (port_log h) → Keeps self.old h → IsHalted h
+            → WorksOn (P.stands port.new rest) result self.old.flags self.new h }
+        ensures going { result ≢ Done }
+    {
+        if self.has_piece() {
+            return self.run(port);
+        }
+        if self.machine.is_held() {
+            return self.await_resume(port);
+        }
+        self.await_stop(port)
+    }
+}

@@ -1,0 +1,201 @@
+//! How a board tells replies, adds moves, and publishes what is in hand or due.
+
+ghost use Rattle.std.specs.Prelude.{◌≡◌, ◌≢◌, ◌↔◌, ◌<◌, ◌||◌, true, false, None};
+ghost use Rattle.feed_hold.specs.declared.Motion.TheVariants.{Idle};
+ghost use Rattle.outside.specs.declared.Turn.TheVariants.{Done};
+ghost use Rattle.run_rules.specs.Work.Task.{ask, tell, finish};
+ghost use Rattle.status_report.specs.declared.Reply.{Reply as AnyReply};
+ghost use Rattle.step_line.specs.Asking.Asked.{a_mark};
+ghost use Rattle.step_line.specs.Records.{IsMark};
+ghost use Rattle.line_interpreter.specs.Lefts.{IsNextOf};
+ghost use Rattle.board_rules.specs.Steps.{Journal, port_log};
+ghost use Rattle.board_rules.specs.Turns.{awaits_motion, has_blocks, is_full};
+ghost use Rattle.board_rules.specs.Conduct.{IsNextTask};
+ghost use Rattle.controller.specs.Boards.{Keeps};
+ghost use Rattle.controller.specs.Turning.{IsNextMove, HasPiece, IsReady, MayRun, HasStopped, HasAdded, HasFilled, Tried, HasTried, GoesOn, WorksOn};
+
+use crate::controller::{Beat, Controller, Flags};
+use crate::ports::BoardPort;
+use line_interpreter::Todo;
+use outside::{On, Turn};
+use status_report::Reply;
+use step_line::Mark;
+
+impl Controller {
+    /// Whether a piece is in hand, or a segment is due.
+    #[inline]
+    pub(crate) fn has_piece(&self) -> bool
+        ensures { (h : Journal) → Keeps self.now h → (result ≡ true) ↔ HasPiece h }
+    {
+        self.machine.hand.is_some() || self.machine.is_due()
+    }
+
+    /// Adds the moves that are next, as far as they have room.
+    pub(crate) fn add_moves(&mut self)
+        requires { (h : Journal) × Keeps self.old h }
+        ensures added { (h : Journal) → Keeps self.old h → (next : Journal) × Keeps self.new next × HasAdded h next }
+        ensures same { self.new ≡ record self.old { machine = self.new.machine; lines = self.new.lines } }
+    {
+        while let Todo::Move = self.lines.todo() {
+            if self.machine.is_full() {
+                return;
+            }
+            self.machine.add(&self.lines.planned_move());
+            self.lines.done();
+        }
+    }
+
+    /// Whether queued blocks wait, where no other has room, or what is next waits for the motion.
+    pub(crate) fn needs_start(&self) -> bool
+        ensures yes { result ≡ true → (self.now.machine.hold.motion ≡ Idle) × (has_blocks self.now.machine.plan.blocks ≡ true)
+            × ((is_full self.now.machine.plan || awaits_motion self.now.lines.left) ≡ true) }
+        ensures no { result ≡ false → self.now.machine.hold.motion ≡ Idle → has_blocks self.now.machine.plan.blocks ≡ true
+            → (is_full self.now.machine.plan || awaits_motion self.now.lines.left) ≡ false }
+    {
+        self.machine.is_waiting() && (self.machine.is_full() || self.awaits_motion())
+    }
+
+    /// Adds the moves that are next, as far as they have room, and starts queued blocks where no other has room, or what is
+    /// next waits for the motion.
+    pub(crate) fn fill(&mut self)
+        requires { (h : Journal) × Keeps self.old h }
+        ensures filled { (h : Journal) → Keeps self.old h → (next : Journal) × Keeps self.new next × HasFilled h next }
+        ensures same { self.new ≡ record self.old { machine = self.new.machine; lines = self.new.lines } }
+    {
+        self.add_moves();
+        if self.needs_start() {
+            self.machine.start();
+        }
+    }
+
+    /// Tries to publish the piece in hand. Answers whether it is published.
+    pub(crate) fn publish<P: BoardPort>(&mut self, port: &mut P) -> bool
+        requires stands { (rest : P.Rest) × (h : Journal) × P.stands port.old rest (port_log h) × Keeps self.old h }
+        requires some { self.old.machine.hand ≢ None }
+        ensures goes_on { (rest : P.Rest) (h : Journal) → P.stands port.old rest (port_log h) → Keeps self.old h
+            → (next : Journal) × P.stands port.new rest (port_log next) × Keeps self.new next × Tried result h next }
+        ensures same { self.new ≡ record self.old { machine = self.new.machine } }
+    {
+        let Some(piece) = self.machine.hand else {
+            return false;
+        };
+        let Ok(()) = port.publish(piece) else {
+            return false;
+        };
+        self.machine.drop_hand();
+        true
+    }
+
+    /// Tries to publish the piece in hand, or else the segment that is due, which comes into the hand before. Answers whether
+    /// it is published.
+    pub(crate) fn publish_next<P: BoardPort>(&mut self, port: &mut P) -> bool
+        requires stands { (rest : P.Rest) × (h : Journal) × P.stands port.old rest (port_log h) × Keeps self.old h × HasPiece h }
+        ensures goes_on { (rest : P.Rest) (h : Journal) → P.stands port.old rest (port_log h) → Keeps self.old h → HasPiece h
+            → (next : Journal) × P.stands port.new rest (port_log next) × Keeps self.new next × HasTried result h next }
+        ensures same { self.new ≡ record self.old { machine = self.new.machine } }
+    {
+        if self.machine.hand.is_some() {
+            return self.publish(port);
+        }
+        self.machine.take();
+        self.publish(port)
+    }
+
+    /// Tries to publish what is in hand or due, and answers the turn: where there is no room for it, that is waited for.
+    pub(crate) fn run<P: BoardPort>(&mut self, port: &mut P) -> Turn
+        requires stands { (rest : P.Rest) × (h : Journal) × P.stands port.old rest (port_log h) × Keeps self.old h × MayRun h × HasPiece h }
+        requires beat { self.old.beat ≡ Beat.Motion }
+        requires flags { self.old.flags ≡ Flags.None }
+        ensures goes_on { (rest : P.Rest) (h : Journal) → P.stands port.old rest (port_log h) → Keeps self.old h → MayRun h → HasPiece h
+            → WorksOn (P.stands port.new rest) result self.old.flags self.new h }
+        ensures going { result ≢ Done }
+    {
+        let published = self.publish_next(port);
+        self.fill();
+        if !published {
+            return Turn::Wait(On::SegmentRoom);
+        }
+        self.beat = Beat::Main;
+        Turn::Did
+    }
+
+    /// Whether a reply is not told yet: Bye waits until the piece in hand is published.
+    #[inline]
+    pub(crate) fn holds_back(&self, reply: Reply) -> bool
+        ensures yes { result ≡ true → self.now.machine.hand ≢ None }
+        ensures no { result ≡ false → reply ≡ Reply.Bye → self.now.machine.hand ≡ None }
+    {
+        reply == Reply::Bye && self.machine.hand.is_some()
+    }
+
+    /// Tells the reply that is next.
+    pub(crate) fn tell<P: BoardPort>(&mut self, port: &mut P) -> Turn
+        requires stands { (rest : P.Rest) × (h : Journal) × P.stands port.old rest (port_log h) × Keeps self.old h × IsReady h }
+        requires next { (reply : AnyReply) × IsNextOf (tell reply) self.old.lines.left }
+        requires beat { self.old.beat ≡ Beat.Motion }
+        requires flags { self.old.flags ≡ Flags.None }
+        ensures goes_on { (rest : P.Rest) (h : Journal) → P.stands port.old rest (port_log h) → Keeps self.old h → IsReady h
+            → WorksOn (P.stands port.new rest) result self.old.flags self.new h }
+        ensures going { result ≢ Done }
+    {
+        let reply = self.lines.reply();
+        if self.holds_back(reply) {
+            return self.run(port);
+        }
+        let Ok(()) = port.answer(reply) else {
+            return Turn::Wait(On::ReplyRoom);
+        };
+        self.lines.done();
+        self.fill();
+        Turn::Did
+    }
+
+    /// Adds the moves that are next, or runs what is planned where they have no room.
+    pub(crate) fn go<P: BoardPort>(&mut self, port: &mut P) -> Turn
+        requires stands { (rest : P.Rest) × (h : Journal) × P.stands port.old rest (port_log h) × Keeps self.old h × IsReady h × GoesOn h × IsNextMove h }
+        requires beat { self.old.beat ≡ Beat.Motion }
+        requires flags { self.old.flags ≡ Flags.None }
+        ensures goes_on { (rest : P.Rest) (h : Journal) → P.stands port.old rest (port_log h) → Keeps self.old h → IsReady h → GoesOn h → IsNextMove h
+            → WorksOn (P.stands port.new rest) result self.old.flags self.new h }
+        ensures going { result ≢ Done }
+    {
+        if self.machine.is_full() {
+            return self.run(port);
+        }
+        self.fill();
+        Turn::Did
+    }
+
+    /// Gives the mark that is next to the machine, which stands, and tries to publish it.
+    pub(crate) fn mark<P: BoardPort>(&mut self, port: &mut P, mark: Mark) -> Turn
+        requires stands { (rest : P.Rest) × (h : Journal) × P.stands port.old rest (port_log h) × Keeps self.old h × IsReady h }
+        requires next { IsNextOf (ask (a_mark mark)) self.old.lines.left }
+        requires mark { IsMark mark }
+        requires beat { self.old.beat ≡ Beat.Motion }
+        requires flags { self.old.flags ≡ Flags.None }
+        ensures goes_on { (rest : P.Rest) (h : Journal) → P.stands port.old rest (port_log h) → Keeps self.old h → IsReady h
+            → WorksOn (P.stands port.new rest) result self.old.flags self.new h }
+        ensures going { result ≢ Done }
+    {
+        if self.machine.hand.is_some() {
+            return self.run(port);
+        }
+        self.machine.put_mark(mark);
+        self.lines.done();
+        self.run(port)
+    }
+
+    /// Makes the end, and tries to publish it.
+    pub(crate) fn finish<P: BoardPort>(&mut self, port: &mut P) -> Turn
+        requires stands { (rest : P.Rest) × (h : Journal) × P.stands port.old rest (port_log h) × Keeps self.old h × MayRun h × HasStopped h × IsNextTask finish h }
+        requires beat { self.old.beat ≡ Beat.Motion }
+        requires flags { self.old.flags ≡ Flags.None }
+        ensures goes_on { (rest : P.Rest) (h : Journal) → P.stands port.old rest (port_log h) → Keeps self.old h → MayRun h → HasStopped h → IsNextTask finish h
+            → WorksOn (P.stands port.new rest) result self.old.flags self.new h }
+        ensures going { result ≢ Done }
+    {
+        self.machine.put_end();
+        self.lines.done();
+        self.run(port)
+    }
+}

@@ -1,0 +1,25 @@
+use Rattle.std.proofs.Common.{◌≡◌, ◌≤◌, ◌+◌, sym, ap, ◌∙◌, arith, subst, append-nil, length, take, List, ℕ}
+use Rattle.units.specs.declared.Steps3.{Steps3}
+use Rattle.step_line.specs.declared.Segment.{Segment}
+use Rattle.step_line.specs.declared.Piece.{Piece}
+use Rattle.step_line.specs.declared.Piece.TheVariants as pieces
+use Rattle.step_line.specs.Pieces.{IsTraceable}
+use Rattle.step_line.specs.Finishing.{tick_count}
+use Rattle.flight.specs.Flights.{IsFit}
+use Rattle.flight.proofs.Counts.{segment_ticks}
+use Rattle.flight.proofs.Places.{few_events, within_move, some_of_one}
+use Rattle.flight.proofs.flight.place_within.Goals as goal
+
+pub overflow_add-segment : goal.overflow_add-segment
+overflow_add-segment c =
+    let fits = subst IsFit c.in-Segment.is c.requires.fits in
+    let few = within_move c.in-Segment.segment c.args.done fits (subst (λ (p : Piece). c.args.done ≤ tick_count p) c.in-Segment.is c.requires.few) in
+    omega (arith, few, few_events c.in-Segment.segment.mv fits.mv)
+
+pub position_after-requires-clause-events : goal.position_after-requires-clause-events
+position_after-requires-clause-events c =
+    let fits = subst IsFit c.in-Segment.is c.requires.fits in
+    within_move c.in-Segment.segment c.args.done fits (subst (λ (p : Piece). c.args.done ≤ tick_count p) c.in-Segment.is c.requires.few)
+
+pub returns-in-Segment-clause-place : goal.returns-in-Segment-clause-place
+returns-in-Segment-clause-place c = rw c.in-Segment.is (λ begins. c.position_after.ensures.place ∙ sym (some_of_one c.args.from c.in-Segment.segment c.args.done begins (subst (λ (p : Piece). c.args.done ≤ tick_count p) c.in-Segment.is c.requires.few)))

@@ -1,0 +1,29 @@
+-- Where the machine is while pieces are run: it goes by their events, and nothing else moves it.
+use Rattle.std.specs.Prelude.{ℕ, pos, List, [], ◌∷◌, take}
+use Rattle.std.specs.List.{flat_map}
+use Rattle.units.specs.declared.Steps3.{Steps3}
+use Rattle.step_line.specs.declared.Piece.{Piece}
+use Rattle.step_line.specs.declared.Record.{Record}
+use Rattle.step_line.specs.declared.Record.TheVariants as kinds
+use Rattle.step_line.specs.Pieces.{ticks_of}
+use Rattle.step_line.specs.Places.{stepped}
+
+-- a place, some records further: the sum of their events
+abbrev pub moved_by : Steps3 → List Record → Steps3
+moved_by p [] = p
+moved_by p (kinds.Event b ∷ rs) = moved_by (stepped p b) rs
+moved_by p (kinds.Mark m ∷ rs) = moved_by p rs
+moved_by p (kinds.Head h ∷ rs) = moved_by p rs
+moved_by p (kinds.End ∷ rs) = moved_by p rs
+
+-- where a machine begins
+abbrev pub origin : Steps3
+origin = record { x = pos 0; y = pos 0; z = pos 0 }
+
+-- where the machine is once the first so many ticks of some pieces are done
+abbrev pub machine_at : List Piece → ℕ → Steps3
+machine_at ps done = moved_by origin (take done (flat_map ticks_of ps))
+
+-- where all ticks of some pieces lead
+abbrev pub end_of : List Piece → Steps3
+end_of ps = moved_by origin (flat_map ticks_of ps)

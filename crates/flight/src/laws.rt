@@ -1,0 +1,26 @@
+//! What holds wherever a machine goes by pieces.
+
+ghost use Rattle.std.specs.Prelude.{◌≡◌, ℕ, ◌+◌, ◌≤◌, List, [], ◌∷◌, ◌++◌};
+ghost use Rattle.units.specs.declared.Steps3.{Steps3};
+ghost use Rattle.step_line.specs.declared.Mark.{Mark};
+ghost use Rattle.step_line.specs.declared.Segment.{Segment};
+ghost use Rattle.step_line.specs.declared.Piece.{Piece};
+ghost use Rattle.step_line.specs.Pieces.{GoesOn};
+ghost use Rattle.step_line.specs.Places.{place_after};
+ghost use Rattle.step_line.specs.Finishing.{ticks_together};
+ghost use Rattle.flight.specs.Places.{machine_at, end_of};
+ghost use Rattle.flight.specs.Flights.{BeginsAt};
+
+/// Where the machine is does not hang on later pieces; within a segment it is where the segment's move is, and no mark
+/// moves it. So a segment begins where the ticks before it lead if it begins its move, which starts there, or goes on
+/// with the segment before it.
+#[tactic(auto, using(crate::proofs::Places::earlier, crate::proofs::Places::at_end_of, crate::proofs::Places::in_segment, crate::proofs::Places::ends, crate::proofs::Places::begins, crate::proofs::Places::goes_on, crate::proofs::Places::stays))]
+pub fn pieces_lead_the_machine()
+    ensures earlier { (ps qs : List Piece) (done : ℕ) → done ≤ ticks_together ps → machine_at (ps ++ qs) done ≡ machine_at ps done }
+    ensures end { (ps : List Piece) → machine_at ps (ticks_together ps) ≡ end_of ps }
+    ensures segment { (ps qs : List Piece) (s : Segment) (j : ℕ) → BeginsAt (end_of ps) (Piece.Segment s) → j ≤ s.n → machine_at (ps ++ Piece.Segment s ∷ qs) (ticks_together ps + j) ≡ place_after s.mv (s.first + j) }
+    ensures after { (ps : List Piece) (s : Segment) → BeginsAt (end_of ps) (Piece.Segment s) → end_of (ps ++ Piece.Segment s ∷ []) ≡ place_after s.mv (s.first + s.n) }
+    ensures mark { (ps : List Piece) (m : Mark) → end_of (ps ++ Piece.Mark m ∷ []) ≡ end_of ps }
+    ensures begins { (place : Steps3) (s : Segment) → s.first ≡ 0 → s.mv.from ≡ place → BeginsAt place (Piece.Segment s) }
+    ensures goes_on { (ps : List Piece) (s t : Segment) → BeginsAt (end_of ps) (Piece.Segment s) → GoesOn s t → BeginsAt (end_of (ps ++ Piece.Segment s ∷ [])) (Piece.Segment t) }
+{}

@@ -1,0 +1,28 @@
+use Rattle.std.proofs.Common.{◌+◌, ◌∷◌, refl, arith}
+use Rattle.std.proofs.lemmas.Result.{on_ok_weaker, on_err_weaker}
+use Rattle.status_report.specs.declared.Reply.TheVariants.{Ok}
+use Rattle.board_rules.specs.Ports.PortStep.{answered, no_reply_room}
+use Rattle.link_ports.proofs.Standing.{answer_more, reply_more}
+use Rattle.link_ports.proofs.tests.answer_line.Goals as goal
+
+pub answer-requires : goal.answer-requires
+answer-requires c = let q = c.requires in let w = c.ranges.answered.fits in
+    ((_, _, _), q.log, (refl, refl, refl, q.did), record { line = λ e. (let f = q.owes in omega arith); text = tt; few = (let f = q.few in omega arith) })
+
+pub returns-clause-ok : goal.returns-clause-ok
+returns-clause-ok c = let q = c.requires in let w = c.ranges.answered.fits in on_ok_weaker c.answer.result
+    (λ s. record {
+      log = answered Ok ∷ q.log;
+      did = (s (_, _, _) q.log (refl, refl, refl, q.did) (record { line = λ e. (let f = q.owes in omega arith); text = tt; few = (let f = q.few in omega arith) })).3;
+      owes = (let m = answer_more Ok q.log _ q.owes in omega arith);
+      few = reply_more Ok q.log _ q.few;
+    })
+    c.answer.ensures.ok
+
+pub returns-clause-full : goal.returns-clause-full
+returns-clause-full c = let q = c.requires in on_err_weaker c.answer.result
+    (λ s. let t = (s (_, _, _) q.log (refl, refl, refl, q.did)).0.3 in (
+      record { log = no_reply_room ∷ q.log; did = t; owes = q.owes; few = q.few },
+      record { log = no_reply_room ∷ q.log; did = t; owes = (let f = q.owes in omega arith); few = q.few },
+    ))
+    c.answer.ensures.full

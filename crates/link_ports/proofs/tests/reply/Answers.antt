@@ -1,0 +1,9 @@
+use Rattle.std.proofs.Common.{◌∷◌, refl}
+use Rattle.stream_host.specs.Steps.PortStep.{got, no_reply}
+use Rattle.link_ports.proofs.Standing.{by_option}
+use Rattle.link_ports.proofs.tests.reply.Goals as goal
+
+pub returns : goal.returns
+returns c n q = by_option c.reply.result c.reply.ensures.some c.reply.ensures.none
+    (λ r s. record { log = got r ∷ q.log; did = (s (_, _) q.log (refl, refl, q.did)).2; going = q.going; few = q.few })
+    (λ s. record { log = no_reply ∷ q.log; did = (s (_, _) q.log (refl, refl, q.did)).2; going = q.going; few = q.few })

@@ -1,0 +1,6 @@
+use Rattle.std.proofs.Common.{◌∷◌, refl}
+use Rattle.board_rules.specs.Ports.PortStep.{took_exec}
+use Rattle.link_ports.proofs.tests.requests.Goals as goal
+
+pub returns : goal.returns
+returns c owed n q = record { log = took_exec c.take_exec.result ∷ q.log; did = (c.take_exec.ensures.taken (_, _, _) q.log (refl, refl, refl, q.did)).3; owes = q.owes; few = q.few }

@@ -1,0 +1,14 @@
+use Rattle.std.proofs.Common.{[], refl, rules}
+use Rattle.motion_ring.specs.Ends.{ring_of_in}
+use Rattle.motion_ports.proofs.tests.Line.new.Goals as goal
+
+pub invariant_of-result : goal.invariant_of-result
+invariant_of-result c = let q = c.requires.idle in record {
+  got = [];
+  put = [];
+  ring = ring_of_in c.args.end;
+  start = c.args.records.end;
+  pieces_are = (refl, q.0, q.1, q.2);
+  records_are = (search rules, c.requires.fresh);
+  fits = c.new.ensures;
+}

@@ -1,0 +1,5 @@
+use Rattle.run_law.proofs.Taking.{taken_were_raised}
+use Rattle.run_law.proofs.flags_that_are_taken_were_raised.Goals as goal
+
+pub returns : goal.returns
+returns c = taken_were_raised

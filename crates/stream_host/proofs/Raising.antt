@@ -1,0 +1,290 @@
+-- What is raised is scanned, but for the resumes of the host's own.
+use Rattle.std.proofs.Common.{◌≡◌, ℕ, ◌+◌, ◌*◌, ◌≤◌, ◌<◌, ◌⊎◌, inl, inr, Bool, true, false, cond, List, [], ◌∷◌, ◌++◌, length, drop, nat_eq, nat_lt, refl, sym, ap, ◌∙◌, arith, subst, append-nil, append_assoc}
+use Rattle.std.specs.List.{count_by, filter, flat_map}
+use Rattle.std.proofs.lemmas.Bool.Decides.{nat_tests}
+use Rattle.std.proofs.lemmas.Grind.{flat_map-append}
+use Rattle.std.proofs.lemmas.List.Elements.{filter-append}
+use Rattle.std.proofs.lemmas.List.Sums.{sum_by-append}
+use Rattle.std.proofs.Math.Seq.{drop-append_seam}
+use Rattle.gcode_words.specs.Comments.{comment_after}
+use Rattle.gcode_words.specs.declared.stripping.Comment.{Comment}
+use Rattle.gcode_words.specs.declared.stripping.Comment.TheVariants.{Outside, Paren, Semicolon}
+use Rattle.gcode_words.specs.Stripping.{is_realtime, realtime, taken_by}
+use Rattle.gcode_words.specs.declared.stripping.Stripped.{Stripped}
+use Rattle.std.specs.declared.option.Option.{Option}
+use Rattle.stream_host.specs.Hosts.{KeepsDue}
+use Rattle.gcode_words.proofs.Scanning.{shown}
+use Rattle.gcode_words.proofs.Fed.{realtime-append}
+use Rattle.run_rules.proofs.Cutting.{lines_are, some_bytes}
+use Rattle.stream_host.specs.Jobs.{resume, is_served, served, served_in}
+use Rattle.stream_host.specs.Steps.{Journal, port_log, is_shut, scanned_of, raw_of, cut_of, to_store, due_of, more_served, empty_polls, polls_of, raises_of, line_raises_of, resumes_of, resumes_next, all_empty_in}
+use Rattle.stream_host.specs.Steps.PortStep.{stored, dropped, raised, got, no_reply, shut}
+use Rattle.stream_host.specs.Steps.Step.{at_port, read_some, read_end, read_failed, scanned, line_over, wrote, gave_up, turned}
+use Rattle.stream_host.specs.Conduct.{Conducted, MayStore, Waits}
+use Rattle.stream_host.specs.Ran.{AreRaised}
+use Rattle.stream_host.proofs.Links.{realtime_nil}
+use Rattle.stream_host.proofs.Keeping.{IsCut, cut_is, open_link}
+
+-- ---- the realtime bytes of a line
+
+served_nil : served [] ≡ []
+served_nil = ap (filter is_served) realtime_nil
+
+more_of : List ℕ → ℕ → List ℕ
+more_of raw b = filter is_served (filter is_realtime (shown (comment_after raw) (b ∷ [])))
+
+served_more : (raw : List ℕ) (b : ℕ) → served (raw ++ b ∷ []) ≡ served raw ++ more_of raw b
+unfolding more_of
+served_more raw b =
+    ap (filter is_served) (realtime-append raw (b ∷ [])) ∙ filter-append is_served (realtime raw) (filter is_realtime (shown (comment_after raw) (b ∷ [])))
+
+more_is : (raw : List ℕ) (b : ℕ) → more_served raw b ≡ more_of raw b
+more_is raw b = ap (drop (length (served raw))) (served_more raw b) ∙ drop-append_seam (served raw) (more_of raw b)
+
+-- the line has those that it had, and one byte's more
+pub served_on : (raw : List ℕ) (b : ℕ) → served raw ++ more_served raw b ≡ served (raw ++ b ∷ [])
+served_on raw b = ap (λ (t : List ℕ). served raw ++ t) (more_is raw b) ∙ sym (served_more raw b)
+
+-- what a line has more with a byte is what its realtime bytes have more
+pub more_by : (raw : List ℕ) (b : ℕ) (more : List ℕ) → served (raw ++ b ∷ []) ≡ served raw ++ more → more_served raw b ≡ more
+more_by raw b more is = ap (drop (length (served raw))) is ∙ drop-append_seam (served raw) more
+
+-- so it is by what a stripper has taken of the byte
+pub due_more : (raw : List ℕ) (b : ℕ) (a : Stripped) (d : Option ℕ) → realtime (raw ++ b ∷ []) ≡ realtime raw ++ taken_by a → KeepsDue d (filter is_served (taken_by a)) → KeepsDue d (more_served raw b)
+due_more raw b a d taken due = subst (KeepsDue d) (sym (more_by raw b (filter is_served (taken_by a)) (ap (filter is_served) taken ∙ filter-append is_served (realtime raw) (taken_by a)))) due
+
+-- a line feed is none
+pub none_at_lf : (raw : List ℕ) (b : ℕ) → nat_eq b 10 ≡ true → more_served raw b ≡ []
+unfolding more_of
+none_at_lf raw b e = more_is raw b ∙ ap (λ c. filter is_served (filter is_realtime (shown (comment_after raw) (c ∷ [])))) (lf b e) ∙ by_comment (comment_after raw)
+  where
+    lf : (b : ℕ) → nat_eq b 10 ≡ true → b ≡ 10
+    lf b e = grind (arith, nat_tests)
+
+    by_comment : (s : Comment) → filter is_served (filter is_realtime (shown s (10 ∷ []))) ≡ []
+    by_comment Outside = refl
+    by_comment Paren = refl
+    by_comment Semicolon = refl
+
+-- ---- the polls
+
+is_enough : (n : ℕ) → nat_eq n empty_polls ≡ true → n ≡ empty_polls
+is_enough n e = grind (arith, nat_tests)
+
+is_fewer : (n : ℕ) → n ≤ empty_polls → nat_eq n empty_polls ≡ false → n < empty_polls
+is_fewer n few e = grind (arith, nat_tests)
+
+few_or_none : (t : Bool) (n : ℕ) → n ≤ empty_polls → cond t 0 n ≤ empty_polls
+few_or_none true n few = omega arith
+few_or_none false n few = few
+
+-- no more than so many polls in a row find no reply before the host resumes
+pub few_polls : (h : Journal) → Conducted h → polls_of h ≤ empty_polls
+few_polls [] c = omega arith
+few_polls (at_port (stored b) ∷ h) c = few_polls h c.1
+few_polls (at_port (dropped b) ∷ h) c = absurd c.0
+few_polls (at_port (raised b down) ∷ h) c = few_or_none (nat_eq (polls_of h) empty_polls) (polls_of h) (few_polls h c.1)
+few_polls (at_port (got r) ∷ h) c = omega arith
+few_polls (at_port no_reply ∷ h) c = let r = c.0.rested in omega arith
+few_polls (at_port shut ∷ h) c = few_polls h c.1
+few_polls (read_some bytes ∷ h) c = few_polls h c.1
+few_polls (read_end ∷ h) c = few_polls h c.1
+few_polls (read_failed ∷ h) c = few_polls h c.1
+few_polls (scanned b ∷ h) c = few_polls h c.1
+few_polls (line_over ∷ h) c = few_polls h c.1
+few_polls (wrote n ∷ h) c = few_polls h c.1
+few_polls (gave_up ∷ h) c = few_polls h c.1
+few_polls (turned t ∷ h) c = few_polls h c.1
+
+rested_by : (t : Bool) (polls resumes empty : ℕ) → nat_eq polls empty_polls ≡ t → empty_polls * resumes + polls ≤ empty → empty_polls * cond t (resumes + 1) resumes + cond t 0 polls ≤ empty
+rested_by true polls resumes empty e was = let n = is_enough polls e in omega arith
+rested_by false polls resumes empty e was = was
+
+-- so many polls of its own stand before each resume
+pub rested_is : (h : Journal) → Conducted h → empty_polls * resumes_of h + polls_of h ≤ all_empty_in (port_log h)
+rested_is [] c = omega arith
+rested_is (at_port (stored b) ∷ h) c = rested_is h c.1
+rested_is (at_port (dropped b) ∷ h) c = absurd c.0
+rested_is (at_port (raised b down) ∷ h) c = rested_by (nat_eq (polls_of h) empty_polls) (polls_of h) (resumes_of h) (all_empty_in (port_log h)) refl (rested_is h c.1)
+rested_is (at_port (got r) ∷ h) c = let m = rested_is h c.1 in omega arith
+rested_is (at_port no_reply ∷ h) c = let m = rested_is h c.1 in omega arith
+rested_is (at_port shut ∷ h) c = rested_is h c.1
+rested_is (read_some bytes ∷ h) c = rested_is h c.1
+rested_is (read_end ∷ h) c = rested_is h c.1
+rested_is (read_failed ∷ h) c = rested_is h c.1
+rested_is (scanned b ∷ h) c = rested_is h c.1
+rested_is (line_over ∷ h) c = rested_is h c.1
+rested_is (wrote n ∷ h) c = rested_is h c.1
+rested_is (gave_up ∷ h) c = rested_is h c.1
+rested_is (turned t ∷ h) c = rested_is h c.1
+
+-- ---- what is raised for the lines is what is scanned, but for what is due
+
+-- the realtime bytes of lines, with those of one more
+served_line : (lines : List (List ℕ)) (raw : List ℕ) → flat_map served (lines ++ raw ∷ []) ++ served [] ≡ flat_map served lines ++ served raw
+served_line lines raw =
+    ap (λ (t : List ℕ). flat_map served (lines ++ raw ∷ []) ++ t) served_nil ∙ append-nil (flat_map served (lines ++ raw ∷ []))
+    ∙ flat_map-append served lines (raw ∷ []) ∙ ap (λ (t : List ℕ). flat_map served lines ++ t) (append-nil (served raw))
+
+on_raise : (b polls : ℕ) (t : Bool) (gone due all : List ℕ) → nat_eq polls empty_polls ≡ t → polls ≤ empty_polls → (polls < empty_polls → due ≡ b ∷ drop 1 due) → gone ++ due ≡ all
+    → cond t gone (gone ++ b ∷ []) ++ cond t due (drop 1 due) ≡ all
+on_raise b polls true gone due all e few next was = was
+on_raise b polls false gone due all e few next was =
+    append_assoc gone (b ∷ []) (drop 1 due) ∙ ap (λ (t : List ℕ). gone ++ t) (sym (next (is_fewer polls few e))) ∙ was
+
+on_byte : (b : ℕ) (gone due raw : List ℕ) (lines : List (List ℕ)) (t : Bool) → nat_eq b 10 ≡ t → gone ++ due ≡ flat_map served lines ++ served raw
+    → gone ++ (due ++ more_served raw b) ≡ flat_map served (cond t (lines ++ raw ∷ []) lines) ++ served (cond t [] (raw ++ b ∷ []))
+on_byte b gone due raw lines true e was =
+    ap (λ (t : List ℕ). gone ++ (due ++ t)) (none_at_lf raw b e) ∙ ap (λ (t : List ℕ). gone ++ t) (append-nil due) ∙ was ∙ sym (served_line lines raw)
+on_byte b gone due raw lines false e was =
+    sym (append_assoc gone due (more_served raw b)) ∙ ap (λ (t : List ℕ). t ++ more_served raw b) was
+    ∙ append_assoc (flat_map served lines) (served raw) (more_served raw b) ∙ ap (λ (t : List ℕ). flat_map served lines ++ t) (served_on raw b)
+
+in_lines : (h : Journal) → Conducted h → line_raises_of h ++ due_of h ≡ flat_map served (cut_of h) ++ served (raw_of h)
+in_lines [] c = sym served_nil
+in_lines (at_port (stored b) ∷ h) c = in_lines h c.1
+in_lines (at_port (dropped b) ∷ h) c = absurd c.0
+in_lines (at_port (raised b down) ∷ h) c =
+    on_raise b (polls_of h) (nat_eq (polls_of h) empty_polls) (line_raises_of h) (due_of h) (flat_map served (cut_of h) ++ served (raw_of h)) refl (few_polls h c.1) c.0.next (in_lines h c.1)
+in_lines (at_port (got r) ∷ h) c = in_lines h c.1
+in_lines (at_port no_reply ∷ h) c = in_lines h c.1
+in_lines (at_port shut ∷ h) c = in_lines h c.1
+in_lines (read_some bytes ∷ h) c = in_lines h c.1
+in_lines (read_end ∷ h) c = in_lines h c.1
+in_lines (read_failed ∷ h) c = in_lines h c.1
+in_lines (scanned b ∷ h) c = on_byte b (line_raises_of h) (due_of h) (raw_of h) (cut_of h) (nat_eq b 10) refl (in_lines h c.1)
+in_lines (line_over ∷ h) c = in_lines h c.1 ∙ sym (served_line (cut_of h) (raw_of h))
+in_lines (wrote n ∷ h) c = in_lines h c.1
+in_lines (gave_up ∷ h) c = in_lines h c.1
+in_lines (turned t ∷ h) c = in_lines h c.1
+
+-- the bytes that stood in a line are raised in order, and the rest is due
+pub in_order : (h : Journal) → Conducted h → line_raises_of h ++ due_of h ≡ served_in (scanned_of h)
+in_order h c = in_lines h c ∙ by_cut (cut_is h c)
+  where
+    last : (raw : List ℕ) → flat_map served (cond (nat_lt 0 (length raw)) (raw ∷ []) []) ≡ served raw
+    last [] = sym served_nil
+    last (x ∷ xs) = ap (λ t. flat_map served (cond t ((x ∷ xs) ∷ []) [])) (some_bytes x xs) ∙ append-nil (served (x ∷ xs))
+
+    by_cut : IsCut h → flat_map served (cut_of h) ++ served (raw_of h) ≡ served_in (scanned_of h)
+    by_cut (inl is) = sym (
+        ap (flat_map served) (lines_are (scanned_of h) (cut_of h) (raw_of h) is)
+        ∙ flat_map-append served (cut_of h) (cond (nat_lt 0 (length (raw_of h))) (raw_of h ∷ []) [])
+        ∙ ap (λ (t : List ℕ). flat_map served (cut_of h) ++ t) (last (raw_of h))
+        )
+    by_cut (inr over) =
+        ap (λ (t : List ℕ). flat_map served (cut_of h) ++ t) (ap served over.none ∙ served_nil) ∙ append-nil (flat_map served (cut_of h)) ∙ ap (flat_map served) (sym over.whole)
+
+-- ---- what else is raised are resumes
+
+count_on : (p : ℕ → Bool) (xs ys : List ℕ) → count_by p (xs ++ ys) ≡ count_by p xs + count_by p ys
+count_on p xs ys = sum_by-append (λ x. cond (p x) 1 0) xs ys
+
+resumed_by : (p : ℕ → Bool) (b polls resumes : ℕ) (t u : Bool) (all gone : List ℕ) → nat_eq polls empty_polls ≡ t → (polls ≡ empty_polls → b ≡ resume) → p resume ≡ u
+    → count_by p all ≡ count_by p gone + cond u resumes 0 → count_by p (all ++ b ∷ []) ≡ count_by p (cond t gone (gone ++ b ∷ [])) + cond u (cond t (resumes + 1) resumes) 0
+resumed_by p b polls resumes true u all gone e is pass was =
+    count_on p all (b ∷ []) ∙ ap (λ c. count_by p all + count_by p (c ∷ [])) (is (is_enough polls e)) ∙ by_pass u pass was
+  where
+    by_pass : (u : Bool) → p resume ≡ u → count_by p all ≡ count_by p gone + cond u resumes 0 → count_by p all + count_by p (resume ∷ []) ≡ count_by p gone + cond u (resumes + 1) 0
+    by_pass true pass was = let one = ap (λ x. cond {A = ℕ} x 1 0) pass in omega arith
+    by_pass false pass was = let one = ap (λ x. cond {A = ℕ} x 1 0) pass in omega arith
+resumed_by p b polls resumes false u all gone e is pass was = let a = count_on p all (b ∷ []) in let g = count_on p gone (b ∷ []) in omega arith
+
+with_resumes : (p : ℕ → Bool) (h : Journal) → Conducted h → count_by p (raises_of h) ≡ count_by p (line_raises_of h) + cond (p resume) (resumes_of h) 0
+with_resumes p [] c = none (p resume)
+  where
+    none : (u : Bool) → 0 ≡ 0 + cond u 0 0
+    none true = refl
+    none false = refl
+with_resumes p (at_port (stored b) ∷ h) c = with_resumes p h c.1
+with_resumes p (at_port (dropped b) ∷ h) c = absurd c.0
+with_resumes p (at_port (raised b down) ∷ h) c =
+    resumed_by p b (polls_of h) (resumes_of h) (nat_eq (polls_of h) empty_polls) (p resume) (raises_of h) (line_raises_of h) refl c.0.resumes refl (with_resumes p h c.1)
+with_resumes p (at_port (got r) ∷ h) c = with_resumes p h c.1
+with_resumes p (at_port no_reply ∷ h) c = with_resumes p h c.1
+with_resumes p (at_port shut ∷ h) c = with_resumes p h c.1
+with_resumes p (read_some bytes ∷ h) c = with_resumes p h c.1
+with_resumes p (read_end ∷ h) c = with_resumes p h c.1
+with_resumes p (read_failed ∷ h) c = with_resumes p h c.1
+with_resumes p (scanned b ∷ h) c = with_resumes p h c.1
+with_resumes p (line_over ∷ h) c = with_resumes p h c.1
+with_resumes p (wrote n ∷ h) c = with_resumes p h c.1
+with_resumes p (gave_up ∷ h) c = with_resumes p h c.1
+with_resumes p (turned t ∷ h) c = with_resumes p h c.1
+
+pub raised_is : (h : Journal) → Conducted h → AreRaised (scanned_of h) (raises_of h) (due_of h) (resumes_of h)
+raised_is h c p =
+    let w = with_resumes p h c in let s = ap (count_by p) (in_order h c) in let a = count_on p (line_raises_of h) (due_of h) in omega arith
+
+-- ---- where nothing is due
+
+still_none : (t : Bool) (due : List ℕ) → due ≡ [] → cond t due (drop 1 due) ≡ []
+still_none true due none = none
+still_none false due none = ap (drop 1) none
+
+-- a line of which something is to be stored has nothing due
+abbrev IsCalm : Journal → Type 0
+IsCalm h = (to_store h ≡ []) ⊎ (due_of h ≡ [])
+
+none_more : (raw : List ℕ) (b : ℕ) (due left line : List ℕ) (t : Bool) → nat_eq b 10 ≡ t → left ≡ [] → due ≡ [] → (cond t line left ≡ []) ⊎ (due ++ more_served raw b ≡ [])
+none_more raw b due left line true e free none = inr (ap (λ (d : List ℕ). d ++ more_served raw b) none ∙ none_at_lf raw b e)
+none_more raw b due left line false e free none = inl free
+
+calm_is : (h : Journal) → Conducted h → IsCalm h
+calm_is [] c = inl refl
+calm_is (at_port (stored b) ∷ h) c = elim (calm_is h c.1) [
+  | inl free ↦ inl (ap (drop 1) free)
+  | inr none ↦ inr none
+]
+calm_is (at_port (dropped b) ∷ h) c = absurd c.0
+calm_is (at_port (raised b down) ∷ h) c = elim (calm_is h c.1) [
+  | inl free ↦ inl free
+  | inr none ↦ inr (still_none (resumes_next (port_log h)) (due_of h) none)
+]
+calm_is (at_port (got r) ∷ h) c = calm_is h c.1
+calm_is (at_port no_reply ∷ h) c = calm_is h c.1
+calm_is (at_port shut ∷ h) c = calm_is h c.1
+calm_is (read_some bytes ∷ h) c = calm_is h c.1
+calm_is (read_end ∷ h) c = calm_is h c.1
+calm_is (read_failed ∷ h) c = calm_is h c.1
+calm_is (scanned b ∷ h) c = none_more (raw_of h) b (due_of h) (to_store h) _ (nat_eq b 10) refl c.0.free c.0.none_due
+calm_is (line_over ∷ h) c = inr c.0.none_due
+calm_is (wrote n ∷ h) c = calm_is h c.1
+calm_is (gave_up ∷ h) c = calm_is h c.1
+calm_is (turned t ∷ h) c = calm_is h c.1
+
+pub none_due_first : (b : ℕ) (h : Journal) → Conducted h → MayStore b h → due_of h ≡ []
+none_due_first b h c may = elim (calm_is h c) [
+  | inl free ↦ absurd (let e = sym free ∙ may.next in cc)
+  | inr none ↦ none
+]
+
+pub none_due_shut : (h : Journal) → Conducted h → is_shut h ≡ true → due_of h ≡ []
+none_due_shut [] c e = absurd cc
+none_due_shut (at_port (stored b) ∷ h) c e = none_due_shut h c.1 e
+none_due_shut (at_port (dropped b) ∷ h) c e = absurd c.0
+none_due_shut (at_port (raised b down) ∷ h) c e = still_none (resumes_next (port_log h)) (due_of h) (none_due_shut h c.1 e)
+none_due_shut (at_port (got r) ∷ h) c e = none_due_shut h c.1 e
+none_due_shut (at_port no_reply ∷ h) c e = none_due_shut h c.1 e
+none_due_shut (at_port shut ∷ h) c e = c.0.all_raised
+none_due_shut (read_some bytes ∷ h) c e = open_link h c.0.0.going e
+none_due_shut (read_end ∷ h) c e = open_link h c.0.going e
+none_due_shut (read_failed ∷ h) c e = open_link h c.0.going e
+none_due_shut (scanned b ∷ h) c e = open_link h c.0.going e
+none_due_shut (line_over ∷ h) c e = open_link h c.0.going e
+none_due_shut (wrote n ∷ h) c e = none_due_shut h c.1 e
+none_due_shut (gave_up ∷ h) c e = none_due_shut h c.1 e
+none_due_shut (turned t ∷ h) c e = none_due_shut h c.1 e
+
+-- a host that waits has nothing to raise
+pub none_due_waiting : (h : Journal) → Conducted h → Waits h → due_of h ≡ []
+none_due_waiting h c w = by_due (due_of h) refl
+  where
+    by_polls : (b : ℕ) → due_of h ≡ b ∷ drop 1 (due_of h) → (t : Bool) → nat_eq (polls_of h) empty_polls ≡ t → ⊥
+    by_polls b next true e = w.no_raise resume (record { resumes = λ n. refl; next = λ fewer. absurd (let n = is_enough (polls_of h) e in omega arith) })
+    by_polls b next false e =
+        w.no_raise b (record { resumes = λ n. absurd (let m = is_fewer (polls_of h) (few_polls h c) e in omega arith); next = λ fewer. next })
+
+    by_due : (due : List ℕ) → due_of h ≡ due → due ≡ []
+    by_due [] is = refl
+    by_due (b ∷ bytes) is = absurd (by_polls b (is ∙ ap (λ (t : List ℕ). b ∷ drop 1 t) (sym is)) (nat_eq (polls_of h) empty_polls) refl)

@@ -1,0 +1,20 @@
+use Rattle.stream_host.proofs.Raising.{raised_is, in_order, none_due_first, none_due_shut, few_polls, rested_is}
+use Rattle.stream_host.proofs.laws.hosts_raise_what_they_scan.Goals as goal
+
+pub returns-clause-raised : goal.returns-clause-raised
+returns-clause-raised c = raised_is
+
+pub returns-clause-in_order : goal.returns-clause-in_order
+returns-clause-in_order c = in_order
+
+pub returns-clause-first : goal.returns-clause-first
+returns-clause-first c = none_due_first
+
+pub returns-clause-closed : goal.returns-clause-closed
+returns-clause-closed c = none_due_shut
+
+pub returns-clause-tired : goal.returns-clause-tired
+returns-clause-tired c = few_polls
+
+pub returns-clause-rested : goal.returns-clause-rested
+returns-clause-rested c = rested_is
