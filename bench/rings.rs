@@ -1,9 +1,9 @@
 //! The rings that two threads share, in plain Rust: the same words, the same slots and the same orderings as those of
 //! `crates/motion_ring`, `serial_ring`, `realtime_flags` and `rtrb`, to measure the proved ones beside them.
 //!
-//! Its words are what goes through (pieces, bytes, kept, flags or records), how the two sides lie (apart or beside), and
-//! how many times. It writes how many came. `kept` is bytes where each side loads the other's count only where its last
-//! load leaves no room, or no byte.
+//! Its words are what goes through (pieces, bytes, kept, flags, records or polled), how the two sides lie (apart or beside),
+//! and how many times. It writes how many came. `kept` is bytes where each side loads the other's count only where its last
+//! load leaves no room, or no byte. `polled` is records where a side that finds nothing polls again at once.
 use std::cell::UnsafeCell;
 use std::mem::MaybeUninit;
 use std::sync::atomic::{AtomicU64, Ordering::SeqCst};
@@ -71,6 +71,13 @@ impl Polls {
             thread::yield_now();
         }
         self.0 = self.0.wrapping_add(1);
+    }
+}
+
+/// Lets others run for a while, so that some hundred records come meanwhile.
+fn rest() {
+    for _ in 0..4 {
+        thread::yield_now();
     }
 }
 
@@ -264,7 +271,7 @@ enum Record {
 }
 
 /// 1,024 places; each side loads the other's count only where its last load leaves nothing.
-fn records<P: Place<AtomicU64>, Q: Place<Own>>(count: u64) -> u64 {
+fn records<P: Place<AtomicU64>, Q: Place<Own>, const POLLED: bool>(count: u64) -> u64 {
     const ROOM: usize = 1024;
     let mut sides = Sides::<P, Q>::new();
     let slots = Box::new(Slots::<Record, ROOM>::new());
@@ -277,7 +284,7 @@ fn records<P: Place<AtomicU64>, Q: Place<Own>>(count: u64) -> u64 {
                 if pulse.count - pulse.known >= ROOM as u64 {
                     pulse.known = head.load(SeqCst);
                     if pulse.count - pulse.known >= ROOM as u64 {
-                        polls.poll();
+                        if POLLED { polls.poll() } else { rest() }
                         continue;
                     }
                 }
@@ -293,7 +300,7 @@ fn records<P: Place<AtomicU64>, Q: Place<Own>>(count: u64) -> u64 {
                 if recorder.known == recorder.count {
                     recorder.known = tail.load(SeqCst);
                     if recorder.known == recorder.count {
-                        polls.poll();
+                        if POLLED { polls.poll() } else { rest() }
                         continue;
                     }
                 }
@@ -314,7 +321,8 @@ fn send<P: Place<AtomicU64>, Q: Place<Own>>(what: &str, count: u64) -> Option<u6
         "bytes" => Some(bytes::<P, Q, false>(count)),
         "kept" => Some(bytes::<P, Q, true>(count)),
         "flags" => Some(flags::<P, Q>(count)),
-        "records" => Some(records::<P, Q>(count)),
+        "records" => Some(records::<P, Q, false>(count)),
+        "polled" => Some(records::<P, Q, true>(count)),
         _ => None,
     }
 }

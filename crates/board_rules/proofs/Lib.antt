@@ -17,3 +17,6 @@ pub mod Limits
 pub mod Turning
 pub mod Waiting
 pub mod MovingExample
+pub mod Refusing
+pub mod Leading
+pub mod Placing

@@ -1,14 +1,15 @@
 -- What a board that keeps to its rules has taken, when it stands, and what one that is finished leaves.
-use Rattle.std.specs.Prelude.{◌≡◌, ℕ, ◌⊎◌, Bool, true, false, cond, List, [], ◌∷◌, ◌++◌}
-use Rattle.std.specs.List.{AllByRecursion}
+use Rattle.std.specs.Prelude.{◌≡◌, ◌≢◌, ℕ, ◌<◌, ◌⊎◌, Bool, true, false, cond, List, [], ◌∷◌, ◌++◌}
+use Rattle.std.specs.List.{AllByRecursion, list_any}
 use Rattle.planner_runs.specs.Runs.{IsAtRest}
 use Rattle.run_rules.specs.Lines.{HasNoLf, ended}
 use Rattle.run_rules.specs.Work.{Task, Outcome, has_moves}
 use Rattle.run_rules.specs.Work.Task.{ask, tell, pause, normal, finish}
 use Rattle.step_line.specs.Asking.Asked.{a_move, a_mark, a_rest}
 use Rattle.step_line.specs.declared.Piece.TheVariants as pieces
-use Rattle.board_rules.specs.Steps.{Journal, known_of, given_of, planned_of, hand_of, plan_of, whole_of, has_closed, left_of}
-use Rattle.board_rules.specs.Conduct.{IsDrained, ticks_given}
+use Rattle.board_rules.specs.Steps.{Journal, known_of, given_of, planned_of, hand_of, plan_of, whole_of, has_closed, left_of, motion_of}
+use Rattle.board_rules.specs.Turns.{this_turn, loads, has_blocks, is_run}
+use Rattle.board_rules.specs.Conduct.{IsDrained, ticks_given, ticks_published}
 
 -- bytes that are taken: lines, each ended by LF, and the line that is not begun, with its LF where it was taken whole
 pub record AreLines (taken : List ℕ) (lines : List (List ℕ)) (raw : List ℕ) (whole : Bool) : Type 0 where
@@ -64,6 +65,13 @@ pub record IsQuiet (h : Journal) : Type 0 where
 -- it stands, or will be waited for
 abbrev pub ComesToRest : Journal → Type 0
 ComesToRest h = (comes_to_rest (left_of h) ≡ true) ⊎ IsQuiet h
+
+-- A line is begun where the machine was found moving: it runs; the done ticks were loaded in this turn, and they were fewer
+-- than those of the published pieces, or an event is left to run: a block is queued, or a piece is in hand.
+pub record IsFoundMoving (h : Journal) : Type 0 where
+  pub runs : is_run (motion_of h) ≡ true
+  pub loaded : list_any loads (this_turn h) ≡ true
+  pub left : (known_of h < ticks_published h) ⊎ ((has_blocks (plan_of h).blocks ≡ true) ⊎ (hand_of h ≢ []))
 
 -- no byte of a line is taken while a task of the line before is left
 abbrev pub OneByOne : List Task → List ℕ → Bool → Type 0

@@ -7,12 +7,15 @@ ghost use Rattle.feed_hold.specs.declared.Motion.{Motion as AnyMotion};
 ghost use Rattle.feed_hold.specs.declared.Motion.TheVariants.{Idle, Run, Holding, Held};
 ghost use Rattle.feed_hold.specs.Motions.{after, is_stopping};
 ghost use Rattle.feed_hold.specs.Motions.Call.{on_exec, on_stopped};
+ghost use Rattle.flight.specs.Flights.{BeginsAt};
+ghost use Rattle.flight.specs.Places.{machine_at, end_of};
 ghost use Rattle.outside.specs.declared.On.{On as AnyOn};
 ghost use Rattle.outside.specs.declared.On.TheVariants as causes;
 ghost use Rattle.outside.specs.declared.Turn.TheVariants.{Wait};
 ghost use Rattle.planner_runs.specs.declared.Action.TheVariants.{Take};
 ghost use Rattle.planner_runs.specs.Runs.{IsPlannerRun, DisturbedOnlyBy, normal_overrides, all_asked};
 ghost use Rattle.run_rules.specs.declared.State.{State};
+ghost use Rattle.run_rules.specs.States.{IsOpening};
 ghost use Rattle.run_rules.specs.Work.{Outcome, tells, asks, has_normal};
 ghost use Rattle.run_rules.specs.Work.Task.{ask, tell};
 ghost use Rattle.run_rules.specs.Told.{replies_in, asked_in};
@@ -21,11 +24,13 @@ ghost use Rattle.run_rules.specs.Outcomes.Passed.{a_line};
 ghost use Rattle.status_report.specs.declared.Reply.{Reply as AnyReply};
 ghost use Rattle.segment_prep.specs.declared.Mode.TheVariants.{Go, Hold};
 ghost use Rattle.step_line.specs.Asking.Asked.{a_move};
-ghost use Rattle.step_line.specs.Finishing.{tick_count, unfinished, most_unfinished};
+ghost use Rattle.step_line.specs.Finishing.{tick_count, ticks_together, unfinished, most_unfinished};
 ghost use Rattle.step_line.specs.declared.planned_move.PlannedMove.{PlannedMove as AnyMove};
 ghost use Rattle.step_line.specs.Ordering.{InTurn, ComesNext};
 ghost use Rattle.status_report.specs.Answering.{lfs_in, is_answer, answers_in};
 ghost use Rattle.step_line.specs.declared.Piece.{Piece as AnyPiece};
+ghost use Rattle.step_line.specs.declared.Segment.{Segment as AnySegment};
+ghost use Rattle.step_line.specs.Places.{place_after};
 ghost use Rattle.board_rules.specs.Steps.Step.{at_port, began, did, became, turned};
 ghost use Rattle.board_rules.specs.Ports.{has_held_in, has_changed_in};
 ghost use Rattle.board_rules.specs.Ports.PortStep.{took_exec};
@@ -75,7 +80,7 @@ ghost use Rattle.board_rules.specs.Turns.{
   begun_while_due,
   waits_while_due,
 };
-ghost use Rattle.board_rules.specs.Whole.{AreLines, IsSpent, OneByOne, WorkRests, ComesToRest};
+ghost use Rattle.board_rules.specs.Whole.{AreLines, IsSpent, OneByOne, WorkRests, ComesToRest, IsFoundMoving};
 
 /// The bytes that a board has taken are its lines, and each line that it has begun is followed by what becomes of it. What
 /// it has answered, and is still to tell, is what the lines tell, and Bye, once, where it is being closed; what was asked of the
@@ -125,6 +130,15 @@ pub fn boards_run_their_plan()
     ensures next { (first : State) (h : Journal) (p : AnyPiece) → Conducted first h → IsInHand p h → ComesNext (reverse (published_of h)) p }
 {}
 
+/// Each piece that is to be published begins where the ticks of the pieces before it lead, from the origin on: the moves of
+/// the lines join, and so do the blocks of the plan and the segments that it gives. So once some ticks of a segment that was
+/// published are done, and all before it, the machine is where so many events of the segment's move lead.
+pub fn boards_lead_the_machine()
+    ensures next { (first : State) (h : Journal) (p : AnyPiece) → IsOpening first → Conducted first h → IsInHand p h → BeginsAt (end_of (published_of h)) p }
+    ensures within { (first : State) (h : Journal) (early late : List AnyPiece) (s : AnySegment) (j : ℕ) → IsOpening first → Conducted first h →
+        published_of h ≡ early ++ AnyPiece.Segment s ∷ late → j ≤ s.n → machine_at (published_of h) (ticks_together early + j) ≡ place_after s.mv (s.first + j) }
+{}
+
 /// Where no line has moved since the last that settles, the machine stands or will be waited for; so where nothing is left
 /// to do, each tick that was given is done, and a machine that does not stand there has moved. So a line that is served
 /// only at rest may be refused while the machine runs, as the rules ask. What there is to do of a line brings the machine to
@@ -141,6 +155,14 @@ pub fn boards_stand_where_nothing_moved()
         Becomes (is_run (motion_of h)) (before_of first h) (open_of h) (refused (before_of first h) 8) }
     ensures works { (runs : Bool) (before : Before) (kept : List ℕ) (outcome : Outcome) → Becomes runs before kept outcome → WorkRests outcome }
     ensures motion { (first : State) (h : Journal) → Conducted first h → (motion_of h ≡ Idle) ⊎ ((motion_of h ≡ Run) ⊎ ((motion_of h ≡ Holding) ⊎ (motion_of h ≡ Held))) }
+{}
+
+/// A line is refused with error 8 only where the machine was found moving, unless it is refused so wherever the machine
+/// stands: in its turn a load of the done ticks found fewer than are published where it is begun, or an event was left to run,
+/// in the plan or in hand.
+pub fn boards_refuse_only_while_they_move()
+    ensures moving { (first : State) (h : Journal) (o : Outcome) → Conducted first (began o ∷ h) → o ≡ refused (before_of first h) 8 →
+        (Becomes false (before_of first h) (open_of h) o → ⊥) → IsFoundMoving h }
 {}
 
 /// A board publishes one thing a turn at most, and between two turns no more than five tries to publish stand behind its last

@@ -52,7 +52,7 @@ module _ (f : Flying) (published : List Piece) (known : ℕ) (is : Flies f publi
       ∙ count_begun f.kept (known - ticks_together is.finished) have_ticks (subst (λ n. EndsWithin f.kept (known - n)) is.before is.within))
 
 -- a piece behind others
-joined_on : (place : Steps3) (ps : List Piece) (p : Piece) → Join place ps → BeginsAt (moved_by place (flat_map ticks_of ps)) p → Join place (ps ++ p ∷ [])
+pub joined_on : (place : Steps3) (ps : List Piece) (p : Piece) → Join place ps → BeginsAt (moved_by place (flat_map ticks_of ps)) p → Join place (ps ++ p ∷ [])
 joined_on place [] p joined begins = (begins, tt)
 joined_on place (q ∷ ps) p joined begins =
     (joined.0, joined_on (moved_by place (ticks_of q)) ps p joined.1 (subst (λ (at : Steps3). BeginsAt at p) (moved_on place (ticks_of q) (flat_map ticks_of ps)) begins))

@@ -5,22 +5,23 @@ use Rattle.stream_host.specs.declared.Stop.TheVariants as stops
 use Rattle.grbl_app.specs.declared.status.Status.{Status}
 use Rattle.grbl_app.specs.declared.status.Status.TheVariants.{Done, LineErrors, Usage, SourceFault, ConsoleFault, StepsFault, LongLine, Reset, Alarm, TooLarge, OutOfMemory}
 use Rattle.run_law.specs.declared.RunEnd.{RunEnd}
-use Rattle.grbl_app.specs.Ends.{status_of, HasNotBegun, HasRun}
+use Rattle.grbl_app.specs.Ends.{status_of, IsWhole, HasNotBegun, HasRun}
 use Rattle.demo_job.specs.Jobs.{job_events, stop, summary, summary_of}
 use Rattle.grbl_app.specs.Demos.{IsDemo}
 
--- a job was run, and a fault comes only where its device's count rose
+-- a job was run, a fault comes only where its device's count rose, and the demo is done only where no count did
 pub record DemoCauses (console_was console_is steps_was steps_is : SinkState) (status : Status) : Type 0 where
   pub has_run : HasRun status
   pub console : status ≡ ConsoleFault → Rose console_was.faults console_is.faults
   pub steps : status ≡ StepsFault → Rose steps_was.faults steps_is.faults
+  pub faultless : IsWhole status → (console_is.faults ≡ console_was.faults) × (steps_is.faults ≡ steps_was.faults)
 
 by_faults : (n : ℕ) (console_was console_is steps_was steps_is : SinkState) (status : Status) (demo : IsDemo n console_was console_is steps_was steps_is status) (sf cf : Bool)
     → demo.end.steps_failed ≡ sf → demo.console_failed ≡ cf
     → DemoCauses console_was console_is steps_was steps_is (cond sf StepsFault (cond cf ConsoleFault Done))
-by_faults n a b c d status demo true cf es ec = record { has_run = tt; console = λ e. absurd cc; steps = λ e. demo.run.steps.cause es }
-by_faults n a b c d status demo false true es ec = record { has_run = tt; console = λ e. demo.console.cause ec; steps = λ e. absurd cc }
-by_faults n a b c d status demo false false es ec = record { has_run = tt; console = λ e. absurd cc; steps = λ e. absurd cc }
+by_faults n a b c d status demo true cf es ec = record { has_run = tt; console = λ e. absurd cc; steps = λ e. demo.run.steps.cause es; faultless = λ w. absurd w }
+by_faults n a b c d status demo false true es ec = record { has_run = tt; console = λ e. demo.console.cause ec; steps = λ e. absurd cc; faultless = λ w. absurd w }
+by_faults n a b c d status demo false false es ec = record { has_run = tt; console = λ e. absurd cc; steps = λ e. absurd cc; faultless = λ w. (demo.console.same ec, demo.run.steps.same es) }
 
 pub demo_causes : (n : ℕ) (console_was console_is steps_was steps_is : SinkState) (status : Status) → IsDemo n console_was console_is steps_was steps_is status
     → DemoCauses console_was console_is steps_was steps_is status

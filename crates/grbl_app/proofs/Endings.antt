@@ -163,6 +163,7 @@ by_cases job_was job_is was is end run true cf nf stop es ec en et = record {
   large = λ e. absurd cc;
   long = λ k e. absurd cc;
   whole = λ w. absurd w;
+  faultless = λ w. absurd w;
   complete = λ job source console steps. absurd (steps (run.steps.cause es));
 }
 by_cases job_was job_is was is end run false true nf stop es ec en et = record {
@@ -173,6 +174,7 @@ by_cases job_was job_is was is end run false true nf stop es ec en et = record {
   large = λ e. absurd cc;
   long = λ k e. absurd cc;
   whole = λ w. absurd w;
+  faultless = λ w. absurd w;
   complete = λ job source console steps. absurd (console (run.console.cause ec));
 }
 by_cases job_was job_is was is end run false false true stop es ec en et = record {
@@ -183,6 +185,7 @@ by_cases job_was job_is was is end run false false true stop es ec en et = recor
   large = λ e. absurd cc;
   long = λ k e. absurd cc;
   whole = λ w. absurd w;
+  faultless = λ w. absurd w;
   complete = λ job source console steps. absurd (source (run.source en));
 }
 by_cases job_was job_is was is end run false false false stops.TooLarge es ec en et = record {
@@ -197,6 +200,7 @@ by_cases job_was job_is was is end run false false false stops.TooLarge es ec en
   };
   long = λ k e. absurd cc;
   whole = λ w. absurd w;
+  faultless = λ w. absurd w;
   complete = λ job source console steps. absurd (let e = sym (complete job_was job_is was is end run job en).stop ∙ et in cc);
 }
 by_cases job_was job_is was is end run false false false (stops.LongLine k) es ec en et = record {
@@ -216,6 +220,7 @@ by_cases job_was job_is was is end run false false false (stops.LongLine k) es e
         first = same ∙ why.1;
       };
   whole = λ w. absurd w;
+  faultless = λ w. absurd w;
   complete = λ job source console steps. absurd (let e = sym (complete job_was job_is was is end run job en).stop ∙ et in cc);
 }
 by_cases job_was job_is was is end run false false false stops.Reset es ec en et = never_reset run.reading run.scanned (sym et ∙ run.sent.cause)
@@ -244,6 +249,7 @@ by_cases job_was job_is was is end run false false false stops.End es ec en et =
         steps = whole_text was.steps is.steps end.steps_failed _ es run.steps;
         status_is = ap by_errors run.errors;
       };
+      faultless = λ w. record { source = run.source_same en; console = run.console.same ec; steps = run.steps.same es };
       complete = λ job source console steps. ap by_errors (complete job_was job_is was is end run job en).errors;
     }
 

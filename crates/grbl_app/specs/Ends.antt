@@ -103,6 +103,12 @@ HasRun Usage = ⊥
 HasRun OutOfMemory = ⊥
 HasRun _ = Unit {0}
 
+-- no device has failed: each count of faults is as before
+pub record IsFaultless (job_was job_is : SourceState) (was is : Sinks) : Type 0 where
+  pub source : job_is.faults ≡ job_was.faults
+  pub console : is.console.faults ≡ was.console.faults
+  pub steps : is.steps.faults ≡ was.steps.faults
+
 -- a status and its cause, what a run to the end has done, and which runs end with `Done`
 pub record HasCauses (job_was job_is : SourceState) (was is : Sinks) (status : Status) : Type 0 where
   pub has_run : HasRun status
@@ -112,5 +118,6 @@ pub record HasCauses (job_was job_is : SourceState) (was is : Sinks) (status : S
   pub large : status ≡ TooLarge → TookMore job_was job_is
   pub long : (k : ℕ) → status ≡ LongLine k → HasLongLine job_was job_is k
   pub whole : IsWhole status → IsWholeRun job_was job_is was is status
+  pub faultless : IsWhole status → IsFaultless job_was job_is was is
   pub complete : IsAcceptedJob job_was → ¬ Rose job_was.faults job_is.faults
       → ¬ Rose was.console.faults is.console.faults → ¬ Rose was.steps.faults is.steps.faults → status ≡ Done

@@ -8,7 +8,7 @@ ghost use Rattle.run_law.specs.Complete.{IsAcceptedJob};
 ghost use Rattle.command_line.specs.Command.{Asks, Refuses};
 ghost use Rattle.command_line.specs.declared.Task.TheVariants as tasks;
 ghost use Rattle.grbl_app.specs.Demos.{IsDemo};
-ghost use Rattle.grbl_app.specs.Ends.{EndsWith, IsWhole, IsWholeRun, TookMore, HasLongLine, HasNotBegun, HasRun, HasCauses};
+ghost use Rattle.grbl_app.specs.Ends.{EndsWith, IsWhole, IsWholeRun, IsFaultless, TookMore, HasLongLine, HasNotBegun, HasRun, HasCauses};
 
 mod demo;
 mod status;
@@ -114,6 +114,11 @@ pub fn run_grbl<
     ensures whole_run { (seed : _) → Asks (tasks.Stream seed) (map (λ w. w.now) words.now) → IsWhole result → IsWholeRun (So.state job.old) (So.state job.new)
         (record { console = Co.state console.old; steps = St.state steps.old })
         (record { console = Co.state console.new; steps = St.state steps.new }) result }
+
+    // Nothing hides a fault: with `Done` and `LineErrors` no count of faults rose.
+    ensures faultless { IsWhole result → IsFaultless (So.state job.old) (So.state job.new)
+        (record { console = Co.state console.old; steps = St.state steps.old })
+        (record { console = Co.state console.new; steps = St.state steps.new }) }
 
     // A job whose lines are all accepted is done, where no device fails.
     ensures complete { (seed : _) → Asks (tasks.Stream seed) (map (λ w. w.now) words.now) → ¬ Refuses (map (λ w. w.now) words.now) → IsAcceptedJob (So.state job.old) →

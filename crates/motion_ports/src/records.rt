@@ -1,7 +1,7 @@
 //! The ring of records.
 
 ghost use Rattle.std.specs.Prelude.{◌≡◌, List, [], ◌++◌, IfOk};
-ghost use Rattle.rtrb.specs.Ring.{sent, received, IsPair};
+ghost use Rattle.rtrb.specs.Ring.{sent, received, producer_capacity, IsPair};
 ghost use Rattle.step_line.specs.declared.Record.{Record};
 
 use outside::OutOfMemory;
@@ -76,6 +76,7 @@ impl RecordIn for RecordPort {
 pub fn record_ring(alloc: Global) -> Result<(RecordOut, RecordPort), OutOfMemory>
     ensures pair { IfOk result (λ r. IsPair r.0.end r.1.end) }
     ensures fresh { IfOk result (λ r. (sent r.0.end ≡ []) × (received r.1.end ≡ [])) }
+    ensures room { IfOk result (λ r. producer_capacity r.0.end ≡ 1024) }
 {
     let (out, into) = RingBuffer::with_protocol(alloc, RECORD_ROOM)?;
     Ok((RecordOut { end: out }, RecordPort { end: into }))

@@ -24,6 +24,14 @@ pub(crate) fn poll(polls: u32) -> u32 {
     polls.wrapping_add(1)
 }
 
+/// Lets other threads run for a while where there was no record, or no room for one: so many come meanwhile that the
+/// two sides seldom touch the same ones.
+pub(crate) fn rest() {
+    for _ in 0..4 {
+        thread::yield_now();
+    }
+}
+
 /// The words that the program was called with, without its own name.
 fn read_words(rt: &HostRuntime) -> io::Result<Vec<String>> {
     let mut words = Vec::new(rt.alloc());

@@ -1,7 +1,7 @@
 //! Records from a pulse to a recorder.
 
 use crate::places::Apart;
-use crate::poll;
+use crate::rest;
 use motion_ports::{RecordOut, RecordPort, record_ring};
 use pulse_engine::TickOut;
 use std::alloc::Global;
@@ -13,14 +13,13 @@ use step_record::RecordIn;
 /// Puts so many events.
 fn put_all<R: Wait>(rt: &R, records: &mut RecordOut, count: u32) {
     let mut put = 0_u32;
-    let mut polls = 0_u32;
     for _ in rt.forever() {
         if put >= count {
             break;
         }
         match records.put(Record::Event(Bits { x: 1, y: 0, z: 0 })) {
             Ok(()) => put = put.saturating_add(1),
-            Err(_) => polls = poll(polls),
+            Err(_) => rest(),
         }
     }
 }
@@ -28,14 +27,13 @@ fn put_all<R: Wait>(rt: &R, records: &mut RecordOut, count: u32) {
 /// Takes so many.
 fn take_all<R: Wait>(rt: &R, records: &mut RecordPort, count: u32) -> u32 {
     let mut taken = 0_u32;
-    let mut polls = 0_u32;
     for _ in rt.forever() {
         if taken >= count {
             break;
         }
         match records.take() {
             Some(_) => taken = taken.saturating_add(1),
-            None => polls = poll(polls),
+            None => rest(),
         }
     }
     taken

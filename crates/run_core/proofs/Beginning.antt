@@ -12,7 +12,7 @@ use Rattle.run_core.specs.Worlds.{Seen, Devices, Holds, Stands, no_history}
 use Rattle.step_record.specs.Recording.{RecorderFits}
 
 -- a host that has done nothing has shown nothing
-shows_nothing : (host : Host) (now : SinkState) → HostFits host [] → TellsText host.text [] now now
+pub shows_nothing : (host : Host) (now : SinkState) → HostFits host [] → TellsText host.text [] now now
 shows_nothing host now f = let failed = f.text_is.failed_is in record {
   front = [];
   back = [];

@@ -36,3 +36,14 @@ stay_ended actor e w w' alone still ended = record {
 -- no actor has answered Done
 pub none_ended : (w : Seen) → AreEnded (record { host = false; board = false; pulse = false; recorder = false }) w
 none_ended w = record { host = λ yes. absurd cc; board = λ yes. absurd cc; pulse = λ yes. absurd cc; recorder = λ yes. absurd cc }
+
+-- one more has
+pub ends_too : (actor : Actor) (e next : Ended) (w w' : Seen) → next ≡ with_end actor e → IsDone actor w → ActsAlone actor w w' → (IsDone actor w → w' ≡ w) → AreEnded e w → AreEnded next w'
+ends_too actor e next w w' is done alone still ended =
+    subst (λ (n : Ended). AreEnded n w') (sym is) (added actor (stays_done actor actor w w' alone still done) (stay_ended actor e w w' alone still ended))
+  where
+    added : (a : Actor) → IsDone a w' → AreEnded e w' → AreEnded (with_end a e) w'
+    added actors.Host done all = record { host = λ yes. done; board = all.board; pulse = all.pulse; recorder = all.recorder }
+    added actors.Board done all = record { host = all.host; board = λ yes. done; pulse = all.pulse; recorder = all.recorder }
+    added actors.Pulse done all = record { host = all.host; board = all.board; pulse = λ yes. done; recorder = all.recorder }
+    added actors.Record done all = record { host = all.host; board = all.board; pulse = all.pulse; recorder = λ yes. done }

@@ -8,3 +8,5 @@ pub mod Beginning
 pub mod Schedules
 pub mod Ending
 pub mod Running
+pub mod Patience
+pub mod Meeting

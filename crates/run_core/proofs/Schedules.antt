@@ -1,9 +1,11 @@
 -- Turns one after the other.
-use Rattle.std.proofs.Common.{◌≡◌, ℕ, ◌+◌, ◌<◌, List, [], ◌∷◌, ◌++◌, length, take, get_or, suc, add-one, refl, subst}
+use Rattle.std.proofs.Common.{◌≡◌, ℕ, ◌+◌, ◌/◌, ◌^◌, ◌<◌, Bool, false, List, [], ◌∷◌, ◌++◌, length, take, get_or, suc, add-one, refl, sym, ap, ◌∙◌, subst}
 use Rattle.std.proofs.Math.Seq.{take-suc}
 use Rattle.outside.specs.declared.Actor.{Actor}
+use Rattle.outside.specs.declared.Actor.TheVariants as actors
 use Rattle.outside.specs.declared.Turn.{Turn}
 use Rattle.run_core.specs.Worlds.{Seen, History, Devices, Adds, Turns, TurnsOn, RunsOn, HasRunOn}
+use Rattle.run_core.specs.Lockstep.{state_after, number_of, actor_of, state_at, order_from, RunsInOrder}
 
 -- one turn more
 one_more : (schedule : List Actor) (actor : Actor) (t : Turn) (w mid w' : Seen) (hist between next : History) → Turns schedule w mid hist between → Adds actor t mid w' between next
@@ -42,3 +44,33 @@ some_more actor t before now after w mid w' has turns = record {
   schedule = has.schedule ++ actor ∷ [];
   runs = runs_more has.schedule actor t before now after w mid w' has.runs turns;
 }
+
+-- ---- in the order that a seed gives
+
+-- so far, where no turn is left out: the turns that a seed gives, up to this number of the generator
+pub record IsInOrder (seed state : ℕ) (before after : Devices) (w w' : Seen) : Type 0 where
+  pub order : RunsInOrder seed before after w w'
+  pub state_is : state ≡ state_at seed order.count
+
+actor_is : (a : Actor) (n : ℕ) → number_of a ≡ n → a ≡ actor_of n
+actor_is actors.Host n is = ap actor_of is
+actor_is actors.Board n is = ap actor_of is
+actor_is actors.Pulse n is = ap actor_of is
+actor_is actors.Record n is = ap actor_of is
+
+pub order_nothing : (seed : ℕ) (now : Devices) (w : Seen) → IsInOrder seed seed now now w w
+order_nothing seed now w = record { order = record { count = 0; runs = runs_nothing now w }; state_is = refl }
+
+pub order_more : (seed state next : ℕ) (actor : Actor) (t : Turn) (before now after : Devices) (w mid w' : Seen) → IsInOrder seed state before now w mid
+    → next ≡ state_after state → number_of actor ≡ next / 2 ^ 62 → TurnsOn actor t now after mid w' → IsInOrder seed next before after w w'
+order_more seed state next actor t before now after w mid w' so steps chosen turns =
+    let n = so.order.count in
+    let is : next ≡ state_at seed (suc n) = steps ∙ ap state_after so.state_is in
+    let same : actor ≡ actor_of (state_at seed (suc n) / 2 ^ 62) = actor_is actor (next / 2 ^ 62) chosen ∙ ap (λ x. actor_of (x / 2 ^ 62)) is in
+    record {
+      order = record {
+        count = suc n;
+        runs = subst (λ a. RunsOn (order_from seed n ++ a ∷ []) before after w w') same (runs_more (order_from seed n) actor t before now after w mid w' so.order.runs turns);
+      };
+      state_is = is;
+    }

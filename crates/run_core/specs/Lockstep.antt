@@ -1,8 +1,8 @@
 -- The order of turns in lockstep.
-use Rattle.std.specs.Prelude.{◌≡◌, ℕ, ◌+◌, ◌*◌, ◌%◌, ◌^◌, true}
+use Rattle.std.specs.Prelude.{◌≡◌, ℕ, zero, suc, ◌+◌, ◌*◌, ◌/◌, ◌%◌, ◌^◌, true, cond, nat_eq, List, [], ◌∷◌, ◌++◌}
 use Rattle.outside.specs.declared.Actor.{Actor}
 use Rattle.outside.specs.declared.Actor.TheVariants as actors
-use Rattle.run_core.specs.Worlds.{Seen, IsDone}
+use Rattle.run_core.specs.Worlds.{Seen, Devices, IsDone, RunsOn}
 use Rattle.run_core.specs.declared.lockstep.Ended.{Ended}
 
 -- the numbers of a linear congruential generator, one behind the other
@@ -15,6 +15,25 @@ number_of actors.Host = 0
 number_of actors.Board = 1
 number_of actors.Pulse = 2
 number_of actors.Record = 3
+
+-- the actor of a number
+abbrev pub actor_of : ℕ → Actor
+actor_of n = cond (nat_eq n 0) actors.Host (cond (nat_eq n 1) actors.Board (cond (nat_eq n 2) actors.Pulse actors.Record))
+
+-- the number of the generator behind so many steps from a seed
+abbrev pub state_at : ℕ → ℕ → ℕ
+state_at seed zero = seed
+state_at seed (suc n) = state_after (state_at seed n)
+
+-- the first n turns that a seed gives: of each number of the generator the two highest bits choose the actor
+abbrev pub order_from : ℕ → ℕ → List Actor
+order_from seed zero = []
+order_from seed (suc n) = order_from seed n ++ actor_of (state_at seed (suc n) / 2 ^ 62) ∷ []
+
+-- the turns that a seed gives, as many as there were
+pub record RunsInOrder (seed : ℕ) (before after : Devices) (w w' : Seen) : Type 0 where
+  pub count : ℕ
+  pub runs : RunsOn (order_from seed count) before after w w'
 
 -- an actor has answered Done
 abbrev pub with_end : Actor → Ended → Ended

@@ -11,17 +11,21 @@ mod host_port;
 mod laws;
 mod lists;
 mod lockstep;
+mod loops;
 mod pulse_port;
 mod records;
+mod rig;
 mod schedule;
+mod sides;
 #[cfg(test)]
 mod tests;
 mod world;
 
-pub use laws::worlds_run;
+pub use laws::{rigs_run, worlds_run};
 pub use lists::Lists;
 pub use lockstep::{Order, run_lockstep, run_patiently};
 pub use records::Records;
+pub use rig::{Rig, run_threads};
 pub use run_law::RunEnd;
 pub use schedule::run_schedule;
 pub use world::World;

@@ -1,6 +1,6 @@
 //! The lists between a host, a board and a pulse.
 
-ghost use Rattle.std.specs.Prelude.{◌≡◌, ◌≤◌, ◌+◌, [], length, IfOk};
+ghost use Rattle.std.specs.Prelude.{◌≡◌, ◌↔◌, ◌≤◌, ◌+◌, true, [], length, IfOk};
 ghost use Rattle.status_report.specs.Answering.{receive_room, reply_room};
 ghost use Rattle.step_line.specs.Finishing.{tick_count};
 ghost use Rattle.run_core.specs.Joining.{Joined, one_if_some};
@@ -62,6 +62,13 @@ pub(crate) fn ticks(piece: &Piece) -> u32
 }
 
 impl Lists {
+    /// Whether no reply is on its way.
+    pub(crate) fn has_no_reply(&self) -> bool
+        ensures { (result ≡ true) ↔ (self.now.replies ≡ []) }
+    {
+        self.replies.is_empty()
+    }
+
     /// Lists in which nothing is on its way, and the link is open.
     pub fn new(alloc: Global) -> Result<Lists, AllocError>
         ensures { IfOk result (λ lists. Joined lists [] [] []) }

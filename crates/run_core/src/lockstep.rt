@@ -1,8 +1,8 @@
 //! Lockstep: the actors take their turns in an order that one number gives, until each has answered Done.
 
-ghost use Rattle.std.specs.Prelude.{◌≡◌, ◌↔◌, ◌/◌, ◌^◌, true};
+ghost use Rattle.std.specs.Prelude.{◌≡◌, ◌↔◌, ◌/◌, ◌^◌, true, false};
 ghost use Rattle.run_core.specs.Worlds.{devices, HasRunOn, AreDone};
-ghost use Rattle.run_core.specs.Lockstep.{state_after, number_of, with_end, HaveAllEnded};
+ghost use Rattle.run_core.specs.Lockstep.{state_after, number_of, RunsInOrder, with_end, HaveAllEnded};
 
 use crate::World;
 use outside::{Actor, Sink, Source, Turn};
@@ -79,6 +79,7 @@ fn run<R: Wait, J: Source, C: Sink, S: Sink>(
     steps: &mut S,
 )
     ensures goes_on { HasRunOn (devices (J.state job.old) (C.state console.old) (S.state steps.old)) (devices (J.state job.new) (C.state console.new) (S.state steps.new)) world.old world.new }
+    ensures order { patient ≡ false → RunsInOrder seed (devices (J.state job.old) (C.state console.old) (S.state steps.old)) (devices (J.state job.new) (C.state console.new) (S.state steps.new)) world.old world.new }
     ensures done { AreDone world.new }
 {
     let mut order = Order { state: seed };
@@ -118,6 +119,7 @@ pub fn run_lockstep<R: Wait, J: Source, C: Sink, S: Sink>(
     steps: &mut S,
 )
     ensures goes_on { HasRunOn (devices (J.state job.old) (C.state console.old) (S.state steps.old)) (devices (J.state job.new) (C.state console.new) (S.state steps.new)) world.old world.new }
+    ensures order { RunsInOrder seed (devices (J.state job.old) (C.state console.old) (S.state steps.old)) (devices (J.state job.new) (C.state console.new) (S.state steps.new)) world.old world.new }
     ensures done { AreDone world.new }
 {
     run(rt, world, seed, false, job, console, steps);

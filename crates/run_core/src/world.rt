@@ -6,6 +6,7 @@ ghost use Rattle.stream_host.specs.Hosts.{HostRests};
 ghost use Rattle.controller.specs.Boards.{BoardRests};
 ghost use Rattle.step_record.specs.Recording.{Rests};
 ghost use Rattle.run_core.specs.Worlds.{Devices, devices, History, no_history, Holds, Stands, LinkIsKept, FlagsAreKept, MotionIsKept, TurnsOn, ActsAlone, IsDone, AreDone, end_after, HasRun};
+ghost use Rattle.run_core.specs.Patience.{IsIdle, ReadsEarly};
 
 use crate::{Lists, Records, worlds_run};
 use controller::Controller;
@@ -127,16 +128,30 @@ impl World {
         self.waiting.have_room();
     }
 
-    /// Whether the host's next turn would read the job before what was sent is answered: the board, which answered so in its
-    /// last turn, did not wait for a byte, or one is on its way; nor for a resume, which may be the next byte of the job. A
-    /// host that finds a reply does not read.
-    pub(crate) fn reads_early(&self, board: Turn) -> bool {
-        let idle = match board {
+    /// Whether the board, which answered so in its last turn, has nothing to go on with: it waits for a byte, and none is on
+    /// its way, or for a resume, which may be the next byte of the job.
+    fn is_idle(&self, board: Turn) -> bool
+        ensures { (hist : History) → Holds self.now hist → (result ≡ true) ↔ IsIdle board hist }
+    {
+        match board {
             Turn::Wait(On::Byte) => self.lists.bytes.is_empty(),
             Turn::Wait(On::Resume) => true,
             _ => false,
-        };
-        !idle && self.lists.replies.is_empty() && self.host.reads_next()
+        }
+    }
+
+    /// Whether the host's next turn would read the job before what was sent is answered: it may read, no reply is on its way,
+    /// and the board, which answered so in its last turn, is not idle. A host that finds a reply does not read.
+    pub(crate) fn reads_early(&self, board: Turn) -> bool
+        ensures { (hist : History) → Holds self.now hist → (result ≡ true) ↔ ReadsEarly board hist }
+    {
+        if self.is_idle(board) {
+            return false;
+        }
+        if !self.lists.has_no_reply() {
+            return false;
+        }
+        self.host.reads_next()
     }
 
     /// How the run ends: why no more of the job was sent, what was answered, and which devices have failed. Where all four

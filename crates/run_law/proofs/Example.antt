@@ -78,7 +78,7 @@ nothing = record { left = Some []; faults = 0 }
 host_ran : HostRan one_line nothing silent silent (10 ∷ []) true [] (replies.Banner ∷ replies.Ok ∷ replies.Bye ∷ []) ended_so
 unfolding cut_within reply_text
 host_ran = has_run all_done one_line nothing silent silent host_keeps (record { bye = refl; written = inr refl })
-    (record { taken = refl; at_end = λ e. refl; later = omega arith; cause = λ e. absurd cc })
+    (record { taken = refl; at_end = λ e. refl; later = omega arith; cause = λ e. absurd cc; same = λ e. refl })
     (record { front = hosts.text_of before_text; back = []; whole = refl; held = tt; all = λ e. refl; same = λ e. refl; later = omega arith; cause = λ e. absurd cc })
 
 -- ---- the board, the pulse and the recorder

@@ -100,4 +100,5 @@ runs job_was job_is was is end steps_failed stored raised taken shut closed held
       errors = host.errors ∙ ap errors_among told ∙ errors_are true (start board.first) (map plain host.lines) board.outcomes board.last follows;
       failed = host.failed;
       source = host.source;
+      source_same = host.source_same;
     }

@@ -1,5 +1,5 @@
 -- What a run of a job is, and how it ends, with no word of who has done it.
-use Rattle.std.specs.Prelude.{◌≡◌, ℕ, Bool, true, List, [], ◌∷◌, ◌++◌, ◌||◌, length, map}
+use Rattle.std.specs.Prelude.{◌≡◌, ℕ, Bool, true, false, List, [], ◌∷◌, ◌++◌, ◌||◌, length, map}
 use Rattle.std.specs.List.{list_any}
 use Rattle.std.specs.Io.KnownBytes.{Consumes, IsAtEnd}
 use Rattle.outside.specs.Causes.{Rose, SourceState, SinkState}
@@ -55,7 +55,8 @@ ends_program outcomes = list_any (λ o. has_normal o.work) outcomes
 -- the lines: their events and marks, in order and each once, heads with legal speeds, and the end. Holds, resumes and overrides
 -- change no event: the ticks are those of the lines. A segment slows down for a hold only where a `!` was scanned, and it is
 -- planned for other overrides only where a byte that changes them was scanned, or a program ended. Each text is whole where
--- its sink did not fail.
+-- its sink did not fail. Of each of the three devices, the count of faults rose where a call failed, and is as before where
+-- none did.
 pub record IsRun (job_was job_is : SourceState) (was is : Sinks) (end : RunEnd) : Type 0 where
   pub read : List ℕ
   pub reading : Reading
@@ -80,3 +81,4 @@ pub record IsRun (job_was job_is : SourceState) (was is : Sinks) (end : RunEnd) 
   pub errors : end.errors ≡ errors_in outcomes
   pub failed : end.source_failed ≡ is_failed reading
   pub source : end.source_failed ≡ true → Rose job_was.faults job_is.faults
+  pub source_same : end.source_failed ≡ false → job_is.faults ≡ job_was.faults

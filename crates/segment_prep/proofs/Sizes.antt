@@ -1,5 +1,5 @@
 -- How large the numbers of a segment are.
-use Rattle.std.proofs.Common.{◌≡◌, ℕ, ◌+◌, ◌-◌, ◌*◌, ◌/◌, ◌≤◌, ◌<◌, inl, inr, arith, sym}
+use Rattle.std.proofs.Common.{◌≡◌, ℕ, ◌+◌, ◌-◌, ◌*◌, ◌/◌, ◌≤◌, ◌<◌, min, inl, inr, arith, sym}
 use Rattle.std.proofs.lemmas.Bool.{cases_lt}
 use Rattle.std.proofs.lemmas.Nat.{mul-le, le-div, div_below}
 use Rattle.units.specs.Roots.{IsRoot, root_of}
@@ -95,3 +95,8 @@ one_event x n length slow =
     let less = slow_root x r n length low slow in
     let twice : r * 10 * n ≡ 2 * (r * 5 * n) = grind arith in
     div_below (r * 10 * n) length 2 (omega (arith, less)) (omega (arith, less, twice))
+
+-- a mean that is less than the square of a speed is the one that is meant, though its parts were held to 64 bits
+pub clipped_mean : (square s c d k : ℕ) → square ≤ 1111111088888889 → d ≡ min c 18446744073709551615
+    → k ≡ min (s + d) 18446744073709551615 → k / 2 < square → k / 2 ≡ min square ((s + c) / 2)
+clipped_mean square s c d k small part whole below = omega arith

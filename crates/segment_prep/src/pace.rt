@@ -5,8 +5,9 @@ ghost use Rattle.units.specs.Roots.{root_of};
 ghost use Rattle.plan_passes.specs.Blocks.{IsBlock, left_of, squared};
 ghost use Rattle.plan_passes.specs.Segments.{pace_of, cycles_of};
 
+use crate::rule::change;
 use planner_ring::Block;
-use units::root_near;
+use units::small_root;
 
 /// The greatest speed on the way from a squared speed on, in µm/s: the nominal one, or that of the beginning where it was
 /// higher.
@@ -14,13 +15,13 @@ use units::root_near;
 #[tactic(auto, using(crate::proofs::Sizes::root_below, units::proofs::Places::one_root))]
 fn top(nominal: u64, w: u64) -> u64
     requires nominal { nominal < 2 ^ 32 }
-    requires speed { w < 2 ^ 62 }
+    requires speed { w < 2 ^ 53 }
     ensures top { result ≡ max nominal (root_of w) }
 {
     if w <= nominal * nominal {
         return nominal;
     }
-    nominal.max(root_near(w, nominal))
+    nominal.max(small_root(w))
 }
 
 /// How fast n events go that change the squared speed from w to v, in µm/s: never below 1, and at most at the nominal
@@ -37,12 +38,11 @@ fn pace(b: &Block, nominal: u64, w: u64, v: u64, n: u32) -> u64
     ensures rapid { result ≤ b.now.geom.rapid }
 {
     let top = top(nominal, w);
-    let square = (top * top) as u128;
-    let mean = (w as u128 + v as u128 + b.geom.q as u128 * n as u128) / 2;
-    if square <= mean {
+    let mean = (w + v).saturating_add(change(b, n)) / 2;
+    if top * top <= mean {
         return top.max(1);
     }
-    root_near(mean as u64, top).max(1)
+    small_root(mean).max(1)
 }
 
 /// The cycles of a clock of 16 MHz from one of them to the next, rounded up.

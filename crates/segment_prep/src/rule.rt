@@ -1,6 +1,6 @@
 //! The segment rule: how many events are taken, and the speed behind them.
 
-ghost use Rattle.std.specs.Prelude.{◌≡◌, ◌≤◌, ◌<◌, ◌+◌, ◌-◌, ◌*◌, ◌/◌, ◌↔◌, IsNone, IfSome, IsTrue};
+ghost use Rattle.std.specs.Prelude.{◌≡◌, ◌≤◌, ◌<◌, ◌+◌, ◌-◌, ◌*◌, ◌/◌, ◌↔◌, min, IsNone, IfSome, IsTrue};
 ghost use Rattle.units.specs.Roots.{root_of};
 ghost use Rattle.overrides.specs.Percents.{nominal_of};
 ghost use Rattle.profile.specs.Slowing.{speed_after};
@@ -12,13 +12,21 @@ ghost use Rattle.segment_prep.specs.Taking.{ByMode, nominal};
 use crate::Mode;
 use plan_passes::Plan;
 use planner_ring::Block;
-use units::root_near;
+use units::small_root;
 
 /// Some events of a block, and the squared speed behind them.
 #[derive(Clone, Copy)]
 pub(crate) struct Stretch {
     pub(crate) n: u32,
     pub(crate) w_out: u64,
+}
+
+/// How much n events of a block may change the squared speed, or the greatest number of 64 bits where that is less.
+#[inline]
+pub(crate) fn change(b: &Block, n: u32) -> u64
+    ensures { result ≡ min (b.now.geom.q * n) 18446744073709551615 }
+{
+    b.geom.q.saturating_mul(n as u64)
 }
 
 /// Whether fewer than two events of a block take 10 ms at a squared speed: told by squares, without a root.
@@ -36,13 +44,12 @@ fn is_slow(b: &Block, w: u64) -> bool
 }
 
 /// How many events of a block are taken at a squared speed: those of about 10 ms, but one at least, and no more than are
-/// left. A speed that may be near, in µm/s, helps to find the root.
+/// left.
 #[inline]
 #[tactic(auto, using(plan_passes::proofs::Bounds::bounds_of, plan_passes::proofs::Bounds::rapid_small, units::proofs::Places::one_root))]
-fn count(b: &Block, w: u64, near: u64) -> u32
+fn count(b: &Block, w: u64) -> u32
     requires block { IsBlock b.now }
     requires speed { w ≤ squared b.now.geom.rapid }
-    requires near { near ≤ b.now.geom.rapid }
     ensures count { result ≡ count_of b.now w }
     ensures some { 0 < result }
     ensures within { result ≤ left_of b.now }
@@ -54,7 +61,7 @@ fn count(b: &Block, w: u64, near: u64) -> u32
     if is_slow(b, w) {
         return 1;
     }
-    let root = root_near(w + b.geom.q, near);
+    let root = small_root(w + b.geom.q);
     let events = root * 10 * b.geom.n as u64 / b.geom.length;
     events.min(left as u64).max(1) as u32
 }
@@ -71,13 +78,12 @@ fn speed_going(b: &Block, w: u64, n: u32, exit: u64, nominal: u64) -> u64
     ensures speed { result ≡ speed_after w b.now.geom.q n (left_of b.now - n) exit (squared nominal) }
     ensures rapid { result ≤ squared b.now.geom.rapid }
 {
-    let q = b.geom.q as u128;
-    let change = q * n as u128;
+    let spread = change(b, n);
     let rest = b.geom.n - b.prepared - n;
-    let for_exit = exit as u128 + q * rest as u128;
-    let fastest = (w as u128 + change).min((nominal * nominal) as u128);
-    let slowest = (w as u128).saturating_sub(change);
-    for_exit.min(fastest.max(slowest)) as u64
+    let for_exit = exit.saturating_add(change(b, rest));
+    let fastest = w.saturating_add(spread).min(nominal * nominal);
+    let slowest = w.saturating_sub(spread);
+    for_exit.min(fastest.max(slowest))
 }
 
 /// What is taken of the tail in mode Go.
@@ -92,7 +98,7 @@ fn going<const N: usize>(plan: &Plan<N>, b: &Block, nominal: u64) -> Stretch
     ensures rapid { result.w_out ≤ squared b.now.geom.rapid }
 {
     let w = plan.speed();
-    let n = count(b, w, nominal);
+    let n = count(b, w);
     let w_out = speed_going(b, w, n, plan.exit_of_tail(), nominal);
     Stretch { n, w_out }
 }
@@ -111,8 +117,8 @@ fn holding<const N: usize>(plan: &Plan<N>, b: &Block) -> Stretch
     let w = plan.speed();
     let q = b.geom.q;
     let stop = (w + q - 1) / q;
-    let n = (count(b, w, b.geom.rapid) as u64).min(stop) as u32;
-    let w_out = (w as u128).saturating_sub(q as u128 * n as u128) as u64;
+    let n = (count(b, w) as u64).min(stop) as u32;
+    let w_out = w.saturating_sub(change(b, n));
     Stretch { n, w_out }
 }
 

@@ -443,6 +443,7 @@ ties room slots id v c storing taking s k size at small =
           unread = k.bytes.rest;
           bytes = h.1.stored_are ∙ (k.bytes.fifo ∙ ap (λ z. k.bytes.rest ++ z) (sym b.1.taken_are));
           few_bytes = k.bytes.few;
+          closes = λ e. h.1.closed_is ∙ (b.1.over_is e).0;
           all_bytes = λ e. h.1.stored_are ∙ ((b.1.over_is e).1 ∙ sym b.1.taken_are);
           untaken = k.replies.rest;
           replies = b.1.answered_are ∙ (k.replies.fifo ∙ ap (λ (z : List Reply). k.replies.rest ++ z) (sym h.1.got_are));

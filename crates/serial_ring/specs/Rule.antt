@@ -254,12 +254,13 @@ abbrev pub gave : At → Sat → ℕ → Sat → Type 0
 gave st m n m' = (k : ℕ) (r : Reply) → m.1 ≡ (k, Some r) ∷ [] → m' ≡ (with_answered m.0 r, [])
 
 -- what the lists of the two ends have to do with each other
-pub record AreTied (room : ℕ) (stored taken : List ℕ) (over : Bool) (answered got : List Reply) : Type 0 where
+pub record AreTied (room : ℕ) (stored : List ℕ) (closed : Bool) (taken : List ℕ) (over : Bool) (answered got : List Reply) : Type 0 where
   -- the bytes taken are the first of those stored, and at most so many behind
   pub unread : List ℕ
   pub bytes : stored ≡ unread ++ taken
   pub few_bytes : length unread ≤ room
-  -- where the board found the link closed, they are all of them
+  -- where the board found the link closed, it is closed, and they are all of them
+  pub closes : over ≡ true → closed ≡ true
   pub all_bytes : over ≡ true → stored ≡ taken
   -- the replies got are the first of those answered
   pub untaken : List Reply
@@ -268,4 +269,4 @@ pub record AreTied (room : ℕ) (stored taken : List ℕ) (over : Bool) (answere
   pub fewer : answers_in answered ≤ lfs_in taken
 
 abbrev pub tied : ℕ → At → Sat → ℕ → Sat → Type 0
-tied room st m n m' = (m' ≡ m) × AreTied room m.0.stored m.0.taken m.0.over m.0.answered m.0.got
+tied room st m n m' = (m' ≡ m) × AreTied room m.0.stored m.0.closed m.0.taken m.0.over m.0.answered m.0.got

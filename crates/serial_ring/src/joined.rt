@@ -65,11 +65,11 @@ pub fn link<const RX: usize>(alloc: Global) -> Result<(HostEnd<RX>, BoardEnd<RX>
 }
 
 /// Ends the link of these two ends. The bytes taken are the first of those stored, at most the link's room
-/// behind, and all of them where the board found the link closed; the replies got are the first of those
+/// behind, and all of them where the board found the link closed, as it then is; the replies got are the first of those
 /// answered, at most 16 behind; and no more lines were answered than had their end taken.
 pub fn join_link<const RX: usize>(host: HostEnd<RX>, board: BoardEnd<RX>)
     requires { link_of_host host ≡ link_of_board board }
-    ensures { AreTied RX (stored_by host.entry) (taken_by board.entry) (found_closed board.entry) (answered_by board.entry) (got_by host.entry) }
+    ensures { AreTied RX (stored_by host.entry) (closed_by host.entry) (taken_by board.entry) (found_closed board.entry) (answered_by board.entry) (got_by host.entry) }
 {
     let HostEnd {
         table,

@@ -404,6 +404,7 @@ same_job h next before now read reading t = record {
   at_end = λ e. t.at_end (sym reading ∙ e);
   later = t.later;
   cause = λ e. t.cause (sym reading ∙ e);
+  same = λ well. t.same (λ e. well (reading ∙ e));
 }
 
 some_waits : (v : Writing) → Writes v → 0 < length v.waiting

@@ -1,5 +1,5 @@
 -- What a host makes of its job by itself.
-use Rattle.std.proofs.Common.{◌≡◌, ℕ, ◌+◌, ◌≤◌, ◌<◌, inl, Bool, true, false, cond, List, [], ◌∷◌, ◌++◌, length, map, take, nat_lt, refl, sym, ap, ◌∙◌, arith, subst, append-nil, length-append}
+use Rattle.std.proofs.Common.{◌≡◌, ◌≢◌, ℕ, ◌+◌, ◌≤◌, ◌<◌, inl, Bool, true, false, cond, List, [], ◌∷◌, ◌++◌, length, map, take, nat_lt, refl, sym, ap, ◌∙◌, arith, subst, append-nil, length-append}
 use Rattle.std.specs.List.{list_any}
 use Rattle.std.proofs.lemmas.Bool.Decides.{nat_tests}
 use Rattle.std.proofs.lemmas.List.{length-take, length-drop, drop_all}
@@ -103,6 +103,10 @@ never_failed : (b : Bool) {A : Type 0} → cond b Large Stopped ≡ Failed → A
 never_failed true e = absurd cc
 never_failed false e = absurd cc
 
+-- no read has failed where the job may be read on
+still_reads : (h : Journal) → reading_of h ≡ Stopped → reading_of h ≢ Failed
+still_reads h on bad = absurd (let e = sym on ∙ bad in cc)
+
 pub did_read : (s : Host) (r : Reader) (h : Journal) (now later : SourceState) → HostFits s h → MayReadOn s → s.shut ≡ false → HasWritten h → GaveBytes s.job r now later
     → (next : Journal) × DidAlone s (record s { job = r }) h next × ((console : SinkState) → HostTellsOn s (record s { job = r }) h next now later console console)
 did_read s r h now later f on going written gave =
@@ -140,6 +144,7 @@ did_read s r h now later f on going written gave =
           at_end = λ e. never_ended (nat_lt largest_job (length (read_of h ++ unread r))) e;
           later = (let a = t.later in let b = gave.later in omega arith);
           cause = λ e. never_failed (nat_lt largest_job (length (read_of h ++ unread r))) e;
+          same = λ well. gave.same ∙ t.same (still_reads h may.on);
         };
         console = λ before t. t;
       },
@@ -175,17 +180,19 @@ did_fail s r h now later f on going written gave =
           at_end = λ e. absurd cc;
           later = (let a = t.later in let b = gave.later in omega arith);
           cause = λ e. (let a = t.later in let rose : Rose now.faults later.faults = gave.rose in omega arith);
+          same = λ well. absurd (well refl);
         };
         console = λ before t. t;
       },
     )
 
-at_the_end : (h next : Journal) (before now later : SourceState) → read_of next ≡ read_of h → reading_of next ≡ Ended → Consumes now.left later.left [] → IsAtEnd later.left → now.faults ≤ later.faults → TellsJob h before now → TellsJob next before later
-at_the_end h next before now later same ended taken at_end more t = record {
+at_the_end : (h next : Journal) (before now later : SourceState) → read_of next ≡ read_of h → reading_of next ≡ Ended → Consumes now.left later.left [] → IsAtEnd later.left → now.faults ≤ later.faults → later.faults ≡ now.faults → reading_of h ≡ Stopped → TellsJob h before now → TellsJob next before later
+at_the_end h next before now later same ended taken at_end more kept on t = record {
   taken = subst (Consumes before.left later.left) (append-nil (read_of h) ∙ sym same) (Consumes-trans _ _ _ (read_of h) [] t.taken taken);
   at_end = λ e. at_end;
   later = (let a = t.later in omega arith);
   cause = λ e. absurd (let g = sym ended ∙ e in cc);
+  same = λ well. kept ∙ t.same (still_reads h on);
 }
 
 none_begun : (xs : List ℕ) → nat_lt 0 (length xs) ≡ false → xs ≡ []
@@ -221,7 +228,7 @@ did_end s r h now later f on going written none gave =
         moves = inl refl;
       },
       λ console. record {
-        job = λ before t. at_the_end h (read_end ∷ h) before now later refl refl gave.taken gave.at_end gave.later t;
+        job = λ before t. at_the_end h (read_end ∷ h) before now later refl refl gave.taken gave.at_end gave.later gave.same may.on t;
         console = λ before t. t;
       },
     )
@@ -264,7 +271,7 @@ did_end_line s r l c h now later f on going written begun gave line due counts =
         moves = inl refl;
       },
       λ console. record {
-        job = λ before t. at_the_end h (line_over ∷ read_end ∷ h) before now later refl refl gave.taken gave.at_end gave.later t;
+        job = λ before t. at_the_end h (line_over ∷ read_end ∷ h) before now later refl refl gave.taken gave.at_end gave.later gave.same may.on t;
         console = λ before t. t;
       },
     )

@@ -1,5 +1,5 @@
 -- A journal that is conducted and finished is a whole run of the host.
-use Rattle.std.proofs.Common.{◌≡◌, ℕ, inl, inr, Bool, true, false, List, [], length, drop, refl, sym, ◌∙◌, arith, subst, Some, None}
+use Rattle.std.proofs.Common.{◌≡◌, ◌≢◌, ℕ, inl, inr, Bool, true, false, List, [], length, drop, refl, sym, ap, ◌∙◌, arith, subst, Some, None}
 use Rattle.std.proofs.lemmas.List.{nil_from_length, length-drop}
 use Rattle.std.proofs.KnownBytes.{Appends-nil}
 use Rattle.std.specs.declared.option.Option.{Option}
@@ -44,6 +44,9 @@ failed_is Ended e = absurd cc
 failed_is Large e = absurd cc
 failed_is Stopped e = absurd cc
 
+not_failed : (r : Reading) → is_failed r ≡ false → r ≢ Failed
+not_failed r well bad = absurd (let e = sym (ap is_failed bad) ∙ well in cc)
+
 pub has_run : (h : Journal) (job_was job_is : SourceState) (console_was console_is : SinkState) → Conducted h → HasFinished h → TellsJob h job_was job_is → TellsConsole h console_was console_is
     → HostRan job_was job_is console_was console_is (stored_of h) (is_shut h) (raises_of h) (got_of h) (end_of h)
 has_run h job_was job_is console_was console_is c finished job console = record {
@@ -63,6 +66,7 @@ has_run h job_was job_is console_was console_is c finished job console = record 
   errors = refl;
   failed = refl;
   source = λ e. job.cause (failed_is (reading_of h) e);
+  source_same = λ e. job.same (not_failed (reading_of h) e);
 }
 
 pub runs_so_far : (h : Journal) (job_was job_is : SourceState) (console_was console_is : SinkState) → Conducted h → TellsJob h job_was job_is → TellsConsole h console_was console_is
@@ -110,7 +114,7 @@ nothing_taken (Some bytes) = refl
 
 -- nothing is told before anything is done
 pub tells_nothing : (job : SourceState) → TellsJob [] job job
-tells_nothing job = record { taken = nothing_taken job.left; at_end = λ e. absurd cc; later = omega arith; cause = λ e. absurd cc }
+tells_nothing job = record { taken = nothing_taken job.left; at_end = λ e. absurd cc; later = omega arith; cause = λ e. absurd cc; same = λ e. refl }
 
 pub shows_nothing : (console : SinkState) → TellsConsole [] console console
 shows_nothing console = record { front = []; back = []; whole = refl; held = Appends-nil console.held; all = λ e. refl; same = λ e. refl; later = omega arith; cause = λ e. absurd cc }

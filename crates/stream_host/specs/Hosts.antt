@@ -1,5 +1,5 @@
 -- What the fields of a host say of what it has done.
-use Rattle.std.specs.Prelude.{◌≡◌, ℕ, ◌+◌, ◌^◌, ◌≤◌, ◌<◌, ◌⊎◌, Bool, true, false, cond, nat_lt, List, [], ◌∷◌, ◌++◌, length, take, drop, map, reverse, sum, option_to_list, Some, None}
+use Rattle.std.specs.Prelude.{◌≡◌, ◌≢◌, ℕ, ◌+◌, ◌^◌, ◌≤◌, ◌<◌, ◌⊎◌, Bool, true, false, cond, nat_lt, List, [], ◌∷◌, ◌++◌, length, take, drop, map, reverse, sum, option_to_list, Some, None}
 use Rattle.std.specs.Io.KnownBytes.{Consumes, IsAtEnd, Keeps}
 use Rattle.std.specs.List.{list_any, count_by}
 use Rattle.outside.specs.Causes.{Rose, SourceState, SinkState}
@@ -191,12 +191,13 @@ pub record HostTurned (t : Turn) (old new : Host) (h next : Journal) : Type 0 wh
 
 -- ---- what a host tells of its devices
 
--- the source gave what was read since a moment
+-- The source gave what was read since a moment. Where a read failed, the count of faults rose; where none did, it is as before.
 pub record TellsJob (h : Journal) (before now : SourceState) : Type 0 where
   pub taken : Consumes before.left now.left (read_of h)
   pub at_end : reading_of h ≡ Ended → IsAtEnd now.left
   pub later : before.faults ≤ now.faults
   pub cause : reading_of h ≡ Failed → Rose before.faults now.faults
+  pub same : reading_of h ≢ Failed → now.faults ≡ before.faults
 
 -- the console was given the text of the replies since a moment, as far as it does not wait
 abbrev pub TellsText : Writing → Journal → SinkState → SinkState → Type 0

@@ -38,7 +38,7 @@ AreRaised scanned raised due resumes =
 
 -- A host has run: it read a job, raised its realtime bytes, stored its lines, closed the link or not, and got replies up to
 -- Bye. Where the link is closed, all that is sent of the job is raised and stored. The console has the text of the replies,
--- all of it where no write failed.
+-- all of it where no write failed. The source's count of faults rose where a read failed, and is as before where none did.
 pub record HostRan (job_was job_is : SourceState) (console_was console_is : SinkState) (stored : List ℕ) (shut : Bool) (raised : List ℕ) (got : List Reply) (end : HostEnd) : Type 0 where
   pub read : List ℕ
   pub reading : Reading
@@ -56,6 +56,7 @@ pub record HostRan (job_was job_is : SourceState) (console_was console_is : Sink
   pub errors : end.errors ≡ errors_among got
   pub failed : end.source_failed ≡ is_failed reading
   pub source : end.source_failed ≡ true → Rose job_was.faults job_is.faults
+  pub source_same : end.source_failed ≡ false → job_is.faults ≡ job_was.faults
 
 -- A host runs: it has read a job so far, raised its realtime bytes but for those that are due, and stored a front of its
 -- lines. The console has a front of the replies' text.

@@ -157,7 +157,7 @@ impl<'a> Line<'a> {
 #[derive(Clone, Copy)]
 struct Row<'a> {
     job: &'a str,
-    /// So many bytes are read at once at most.
+    /// So many bytes are read at once at most, and written to the console.
     piece: usize,
     strict: bool,
     pause: u32,
@@ -256,7 +256,7 @@ fn rows() -> [Row<'static>; 8] {
 fn jobs_are_sent_and_answered(rt: HostRuntime) -> Result<(), Fail> {
     for (i, row) in rows().iter().enumerate() {
         let mut job = MemSource::new(row.job.as_bytes(), row.piece.max(1), row.bad_reads);
-        let mut console = MemSink::new(rt.alloc(), 400, row.bad_writes)?;
+        let mut console = MemSink::short(rt.alloc(), 400, row.piece.max(1), row.bad_writes)?;
         let mut line = Line::new(MemSink::new(rt.alloc(), 400, &[])?, row.strict, row.pause);
         let last = line.run(Turn::Done, 2000, &mut job, &mut console);
         assert_eq!(rt; last, Turn::Done, "row {i}");

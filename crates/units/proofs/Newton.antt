@@ -33,3 +33,7 @@ falls_above x g some above = let less = div_below x g g some above in omega (ari
 -- half the places of a number of 64 bits
 pub power_small : (k : ℕ) → k < 64 → 2 ^ ((k + 1) / 2) ≤ 2 ^ 32
 power_small k h = let le : (k + 1) / 2 ≤ 32 = omega arith in pow-le-pow_right {n = 2} (let p : 0 < 2 = lit< tt in p) le
+
+-- the square of a number of 32 bits
+pub square_small : (r : ℕ) → r < 2 ^ 32 → r * r < 2 ^ 64
+square_small r h = let square = mul-le r r 4294967295 4294967295 (omega (arith, h)) (omega (arith, h)) in omega (arith, square)

@@ -1,6 +1,7 @@
-//! Square roots of whole numbers: Newton's steps below 2^62, and bit by bit from there on.
+//! Square roots of whole numbers: a float's root below 2^53, which a test confirms, Newton's steps below 2^62, and bit by
+//! bit from there on.
 
-ghost use Rattle.std.specs.Prelude.{◌≡◌, ℕ, ◌≤◌, ◌<◌, ◌+◌, ◌*◌, ◌^◌};
+ghost use Rattle.std.specs.Prelude.{◌≡◌, ℕ, ◌≤◌, ◌<◌, ◌+◌, ◌*◌, ◌^◌, IsTrue};
 ghost use Rattle.units.specs.Roots.{IsRoot, root_of};
 
 /// Newton's step towards the square root of x.
@@ -31,6 +32,47 @@ pub fn root_near(x: u64, guess: u64) -> u64
         root = step(x, root);
     }
     root
+}
+
+/// Whether a number is the whole part of the square root of x.
+#[inline]
+#[tactic(auto, using(crate::proofs::Newton::square_small))]
+fn is_root(x: u64, root: u64) -> bool
+    requires { root < 2 ^ 32 }
+    ensures { IsTrue result → IsRoot x root }
+{
+    let square = root * root;
+    square <= x && x - square <= 2 * root
+}
+
+/// The whole part of a float's root of x, of which nothing is promised. With 2^52 less a half added to a float, its lowest
+/// bits are its whole part.
+#[inline]
+fn float_root(x: u64) -> u64
+    requires { x < 2 ^ 53 }
+    ensures { result < 2 ^ 32 }
+{
+    let raised = (x as i64 as f64).sqrt() + 4503599627370495.5;
+    if raised >= 4503599627370496.0 {
+        f64::to_bits(raised) & 0xffff_ffff
+    } else {
+        0
+    }
+}
+
+/// The whole part of the square root of a number below 2^53: a float's, or, where a test denies it, by Newton's steps from
+/// there.
+#[inline]
+pub fn small_root(x: u64) -> u64
+    requires { x < 2 ^ 53 }
+    ensures { IsRoot x result }
+{
+    let root = float_root(x);
+    if is_root(x, root) {
+        root
+    } else {
+        root_near(x, root)
+    }
 }
 
 /// A number within six percent of the square root of x: the mean of the power of two that is nearest to it and of what
@@ -65,8 +107,8 @@ fn root_by_bits(x: u128) -> u64
 pub fn isqrt(x: u128) -> u64
     ensures { IsRoot x result }
 {
-    if x == 0 {
-        return 0;
+    if x < 1 << 53 {
+        return small_root(x as u64);
     }
     if x >= 1 << 62 {
         return root_by_bits(x);

@@ -22,6 +22,9 @@ returns-clause-console_fault g c = (demo_causes _ _ _ _ _ _ c.run_demo.ensures).
 pub returns-clause-steps_fault : goal.returns-clause-steps_fault
 returns-clause-steps_fault g c = (demo_causes _ _ _ _ _ _ c.run_demo.ensures).steps
 
+pub returns-clause-faultless : goal.returns-clause-faultless
+returns-clause-faultless g c = λ whole. let all = (demo_causes _ _ _ _ _ _ c.run_demo.ensures).faultless whole in record { source = refl; console = all.0; steps = all.1 }
+
 pub returns-clause-demo : goal.returns-clause-demo
 returns-clause-demo g c = λ n asks run.
     let words = map (λ w. w.now) c.args.words.now in

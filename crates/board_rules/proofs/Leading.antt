@@ -1,0 +1,174 @@
+-- The moves that a line asks for join: the first begins at the position before the line, each other where the one before ends,
+-- and the last ends at the position behind.
+use Rattle.std.proofs.Common.{◌≡◌, ℕ, ◌==◌, inl, inr, List, [], ◌∷◌, ◌++◌, length, true, false, Bool, nat_eq, nat_lt, sym, refl, ap, ◌∙◌, arith, subst, Ok, Err, Some, None}
+use Rattle.std.specs.declared.option.Option.{Option}
+use Rattle.std.specs.declared.result.Result.{Result}
+use Rattle.std.proofs.lemmas.Bool.Decides.{nat_tests}
+use Rattle.units.specs.declared.Decimal.{Decimal}
+use Rattle.units.specs.declared.Rate.{Rate}
+use Rattle.units.specs.declared.Move.{Move as Way}
+use Rattle.units.specs.declared.Steps3.{Steps3}
+use Rattle.gcode_words.specs.declared.Word.{Word}
+use Rattle.gcode_words.specs.declared.WordFault.{WordFault}
+use Rattle.gcode_words.specs.Words.{words_of}
+use Rattle.code_table.specs.declared.Code.{Code}
+use Rattle.line_words.specs.Targets.{targets}
+use Rattle.gcode_check.specs.Effects.{stops}
+use Rattle.gcode_check.specs.Items.{items_of}
+use Rattle.gcode_check.specs.Laws.{Join}
+use Rattle.gcode_check.specs.Verdicts.{verdict}
+use Rattle.gcode_check.specs.declared.Accept.{Accept as Accepted}
+use Rattle.gcode_check.specs.declared.Item.{Item}
+use Rattle.gcode_check.specs.declared.Item.TheVariants as items
+use Rattle.gcode_check.specs.declared.Verdict.{Verdict}
+use Rattle.gcode_check.specs.declared.Verdict.TheVariants.{Accept, Refuse, Limit}
+use Rattle.gcode_check.proofs.Causes.{is_accepted}
+use Rattle.gcode_check.proofs.Joining.{line}
+use Rattle.gcode_check.proofs.Moves.{after_steps}
+use Rattle.modal_state.specs.declared.Parser.{Parser}
+use Rattle.modal_state.specs.declared.SpindleMode.{SpindleMode}
+use Rattle.modal_state.specs.declared.SpindleMode.TheVariants.{Off, Cw, Ccw}
+use Rattle.settings.specs.declared.Settings.{Settings}
+use Rattle.system_lines.specs.Commands.{command_of}
+use Rattle.system_lines.specs.Setting.{apply_refusal}
+use Rattle.system_lines.specs.declared.Command.{Command}
+use Rattle.system_lines.specs.declared.Command.TheVariants.{ListSettings, ListModes, ListOffsets, Unlock, Set}
+use Rattle.status_report.specs.Lists.{setting_replies, modes_replies, offset_replies}
+use Rattle.status_report.specs.declared.Reply.{Reply}
+use Rattle.status_report.specs.declared.Reply.TheVariants as replies
+use Rattle.step_line.specs.Counting.{events_of}
+use Rattle.step_line.specs.Places.{place_after}
+use Rattle.step_line.specs.Asking.Asked.{a_move, a_mark, a_rest}
+use Rattle.step_line.proofs.Sums.{at_start, at_end}
+use Rattle.run_rules.specs.declared.State.{State}
+use Rattle.run_rules.specs.Asks.{move_asked, planned, item_work, work_of}
+use Rattle.run_rules.specs.Outcomes.{Before, Becomes, ByKept, ByDollar, ByCommand, BySetting, ByWords, ByVerdict, either, most_kept, refused, told, fault_number}
+use Rattle.run_rules.specs.Work.{Task, Outcome, asking, telling}
+use Rattle.run_rules.specs.Work.Task.{ask, tell, pause, normal, finish}
+
+-- the moves that tasks ask for join, from a place to another
+abbrev pub TasksLead : Steps3 → List Task → Steps3 → Type 0
+TasksLead from [] to = from ≡ to
+TasksLead from (ask (a_move m) ∷ ts) to = (m.mv.from ≡ from) × TasksLead m.mv.to ts to
+TasksLead from (ask (a_mark m) ∷ ts) to = TasksLead from ts to
+TasksLead from (ask a_rest ∷ ts) to = TasksLead from ts to
+TasksLead from (tell r ∷ ts) to = TasksLead from ts to
+TasksLead from (pause ∷ ts) to = TasksLead from ts to
+TasksLead from (normal ∷ ts) to = TasksLead from ts to
+TasksLead from (finish ∷ ts) to = TasksLead from ts to
+
+pub tasks_start : (a b : Steps3) (ts : List Task) (c : Steps3) → a ≡ b → TasksLead b ts c → TasksLead a ts c
+tasks_start a b ts c e lead = subst (λ (p : Steps3). TasksLead p ts c) (sym e) lead
+
+together : (a b c : Steps3) (xs ys : List Task) → TasksLead a xs b → TasksLead b ys c → TasksLead a (xs ++ ys) c
+together a b c [] ys e on = tasks_start a b ys c e on
+together a b c (ask (a_move m) ∷ ts) ys e on = (e.0, together m.mv.to b c ts ys e.1 on)
+together a b c (ask (a_mark m) ∷ ts) ys e on = together a b c ts ys e on
+together a b c (ask a_rest ∷ ts) ys e on = together a b c ts ys e on
+together a b c (tell r ∷ ts) ys e on = together a b c ts ys e on
+together a b c (pause ∷ ts) ys e on = together a b c ts ys e on
+together a b c (normal ∷ ts) ys e on = together a b c ts ys e on
+together a b c (finish ∷ ts) ys e on = together a b c ts ys e on
+
+-- ---- the items of an accepted line
+
+-- a move of no events stays
+no_events : (mv : Way) → events_of mv ≡ 0 → mv.from ≡ mv.to
+no_events mv none = sym (at_start mv) ∙ ap (place_after mv) (sym none) ∙ at_end mv
+
+move_leads : (line : ℕ) (s : Settings) (mv : Way) (rate : Rate) (more : List Task) (from to : Steps3) → mv.from ≡ from → TasksLead mv.to more to → (b : Bool) → (events_of mv == 0) ≡ b
+    → TasksLead from (asking (move_asked (planned line s mv rate)) ++ more) to
+move_leads line s mv rate more from to begins on true is =
+    let none : events_of mv ≡ 0 = grind (arith, nat_tests) in
+    rw is (tasks_start from mv.to more to (sym begins ∙ no_events mv none) on)
+move_leads line s mv rate more from to begins on false is = rw is (begins, on)
+
+end_stays : (line : ℕ) (s : Settings) (spindle : SpindleMode) (flood : Bool) (from : Steps3) → TasksLead from (item_work line s spindle flood items.ProgramEnd) from
+end_stays line s Off true from = refl
+end_stays line s Off false from = refl
+end_stays line s Cw true from = refl
+end_stays line s Cw false from = refl
+end_stays line s Ccw true from = refl
+end_stays line s Ccw false from = refl
+
+work_leads : (line : ℕ) (s : Settings) (spindle : SpindleMode) (flood : Bool) (all : List Item) (from to : Steps3) → Join from all to → TasksLead from (work_of line s spindle flood all) to
+work_leads line s spindle flood [] from to e = e
+work_leads line s spindle flood (items.Move mv rate ∷ more) from to e =
+    move_leads line s mv rate (work_of line s spindle flood more) from to e.0 (work_leads line s spindle flood more mv.to to e.1) (events_of mv == 0) refl
+work_leads line s spindle flood (items.Spindle mode speed ∷ more) from to e = work_leads line s mode flood more from to e
+work_leads line s spindle flood (items.Coolant on ∷ more) from to e = work_leads line s spindle on more from to e
+work_leads line s spindle flood (items.Dwell ms ∷ more) from to e = work_leads line s spindle flood more from to e
+work_leads line s spindle flood (items.Pause ∷ more) from to e = work_leads line s spindle flood more from to e
+work_leads line s spindle flood (items.ProgramEnd ∷ more) from to e =
+    together from from to (item_work line s spindle flood items.ProgramEnd) (work_of line s Off false more) (end_stays line s spindle flood from) (work_leads line s Off false more from to e)
+
+end : (all : List Item) (a b c : Steps3) → b ≡ c → Join a all b → Join a all c
+end all a b c e joined = rw (sym e) joined
+
+same : (at : Steps3) (a b : Accepted) → a ≡ b → Join at a.items.items a.next.pos_steps → Join at b.items.items b.next.pos_steps
+same at a b e joined = rw (sym e) joined
+
+verdict_leads : (p : Parser) (s : Settings) (ws : List Word) (a : Accepted) → verdict p s ws ≡ Accept a → Join p.pos_steps a.items.items a.next.pos_steps
+verdict_leads p s ws a e =
+    let is = (is_accepted p s ws a e).2 in
+    same p.pos_steps _ a is
+    (end (items_of p ws (stops p s ws)) p.pos_steps _ _ (sym (after_steps p ws (targets p ws) (stops p s ws))) (line p ws (stops p s ws)))
+
+-- ---- what becomes of a line
+
+abbrev pub Leads : Before → Outcome → Type 0
+Leads b o = TasksLead b.state.parser.pos_steps o.work o.next.parser.pos_steps
+
+tells_stay : (at : Steps3) (rs : List Reply) → TasksLead at (telling rs) at
+tells_stay at [] = refl
+tells_stay at (r ∷ rs) = tells_stay at rs
+
+refused_leads : (b : Before) (n : ℕ) (o : Outcome) → o ≡ refused b n → Leads b o
+refused_leads b n o is = subst (Leads b) (sym is) (let stays : Leads b (refused b n) = refl in stays)
+
+told_leads : (b : Before) (next : State) (body : List Reply) (o : Outcome) → next.parser ≡ b.state.parser → o ≡ told next body → Leads b o
+told_leads b next body o stays is =
+    let at = b.state.parser.pos_steps in
+    let there : Leads b (told next body) = subst (λ (p : Parser). TasksLead at (telling (body ++ replies.Ok ∷ [])) p.pos_steps) (sym stays) (tells_stay at (body ++ replies.Ok ∷ [])) in
+    subst (Leads b) (sym is) there
+
+by_verdict : (b : Before) (ws : List Word) (v : Verdict) (o : Outcome) → verdict b.state.parser b.state.settings ws ≡ v → ByVerdict b v o → Leads b o
+by_verdict b ws (Accept a) o e is =
+    let at = b.state.parser.pos_steps in
+    let modal = b.state.parser.modal in
+    let work = work_of b.number b.state.settings modal.spindle modal.flood a.items.items in
+    let leads = work_leads b.number b.state.settings modal.spindle modal.flood a.items.items at a.next.pos_steps (verdict_leads b.state.parser b.state.settings ws a e) in
+    subst (Leads b) (sym is) (together at a.next.pos_steps a.next.pos_steps work (tell replies.Ok ∷ []) leads refl)
+by_verdict b ws (Refuse code) o e is = refused_leads b code.0 o is
+by_verdict b ws Limit o e is = absurd is
+
+by_words : (b : Before) (ws : Result (List Word) WordFault) (o : Outcome) → ByWords b ws o → Leads b o
+by_words b (Err fault) o is = refused_leads b (fault_number fault) o is
+by_words b (Ok ws) o is = by_verdict b ws (verdict b.state.parser b.state.settings ws) o refl is
+
+by_setting : (b : Before) (n : ℕ) (value : Decimal) (code : Option Code) (o : Outcome) → BySetting b n value code o → Leads b o
+by_setting b n value (Some code) o is = refused_leads b code.0 o is
+by_setting b n value None o is = told_leads b _ [] o refl is.outcome
+
+by_command : (b : Before) (c : Result Command Code) (o : Outcome) → ByCommand b c o → Leads b o
+by_command b (Err code) o is = refused_leads b code.0 o is
+by_command b (Ok ListSettings) o is = told_leads b b.state (setting_replies b.state.settings) o refl is
+by_command b (Ok ListModes) o is = told_leads b b.state (modes_replies b.state.parser) o refl is
+by_command b (Ok ListOffsets) o is = told_leads b b.state (offset_replies b.state.parser.offsets) o refl is
+by_command b (Ok Unlock) o is = told_leads b b.state [] o refl is
+by_command b (Ok (Set n value)) o is = by_setting b n value (apply_refusal n value) o is
+
+by_dollar : (runs : Bool) (b : Before) (kept : List ℕ) (o : Outcome) → ByDollar runs b kept o → Leads b o
+by_dollar runs b kept o (inl busy) = refused_leads b 8 o busy.outcome
+by_dollar runs b kept o (inr is) = by_command b (command_of kept) o is
+
+by_either : (t : Bool) (A B C : Type 0) → (A → C) → (B → C) → either t A B → C
+by_either true A B C first second is = first is
+by_either false A B C first second is = second is
+
+by_kept : (runs : Bool) (b : Before) (kept : List ℕ) (o : Outcome) → ByKept runs b kept o → Leads b o
+by_kept runs b [] o is = told_leads b b.state [] o refl is
+by_kept runs b (c ∷ cs) o is = by_either (nat_eq c 36) _ _ _ (by_dollar runs b (c ∷ cs) o) (by_words b (words_of (c ∷ cs)) o) is
+
+pub line_leads : (runs : Bool) (b : Before) (kept : List ℕ) (o : Outcome) → Becomes runs b kept o → Leads b o
+line_leads runs b kept o is = by_either (nat_lt most_kept (length kept)) _ _ _ (refused_leads b 11 o) (by_kept runs b kept o) is

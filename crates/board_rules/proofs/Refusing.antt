@@ -1,0 +1,100 @@
+-- A line that is refused because the machine runs is begun where it does.
+use Rattle.std.proofs.Common.{◌≡◌, ◌≢◌, ℕ, ◌+◌, ◌≤◌, ◌<◌, ◌⊎◌, inl, inr, List, [], ◌∷◌, ◌++◌, Bool, true, false, nat_lt, refl, sym, ap, ◌∙◌, append-nil, subst, arith}
+use Rattle.std.proofs.lemmas.Bool.Decides.{nat_tests}
+use Rattle.feed_hold.specs.declared.Motion.{Motion}
+use Rattle.feed_hold.specs.declared.Motion.TheVariants.{Idle, Run, Holding, Held, Jog, Cancelling, Stopping, Alarm}
+use Rattle.planner_ring.specs.declared.Block.{Block}
+use Rattle.plan_passes.specs.Plans.{Planned}
+use Rattle.planner_runs.specs.Runs.{IsAtRest, fresh_plan, most_blocks}
+use Rattle.planner_runs.proofs.Runs.{fresh_starts, rests_behind}
+use Rattle.step_line.specs.declared.Piece.{Piece}
+use Rattle.step_line.specs.Finishing.{tick_count, ticks_together}
+use Rattle.step_line.proofs.Finished.{together_both}
+use Rattle.run_rules.specs.declared.State.{State}
+use Rattle.run_rules.specs.Work.{Outcome}
+use Rattle.run_rules.specs.Outcomes.{Before, Becomes, refused}
+use Rattle.board_rules.specs.Ports.PortStep.{took, found_empty, found_closed, found_free, answered, no_reply_room, took_exec, took_ovr, published, no_piece_room, loaded}
+use Rattle.board_rules.specs.Steps.{Journal, before_of, open_of, known_of, given_of, published_of, planned_of, actions_of, hand_of, plan_of, motion_of}
+use Rattle.board_rules.specs.Steps.Step.{at_port, began, did, made_end, evened, paused, became, closing, turned}
+use Rattle.board_rules.specs.Turns.{has_blocks, is_run, is_going}
+use Rattle.board_rules.specs.Conduct.{Conducted, IsDrained, ticks_given, ticks_published}
+use Rattle.board_rules.specs.Whole.{IsFoundMoving}
+use Rattle.board_rules.proofs.Given.{published_within}
+use Rattle.board_rules.proofs.Keeping.{run_is, hand_is}
+
+-- no more is found done than is published
+pub known_within : (first : State) (h : Journal) → Conducted first h → known_of h ≤ ticks_published h
+known_within first [] c = omega arith
+known_within first (at_port (took b) ∷ h) c = known_within first h c.1
+known_within first (at_port found_empty ∷ h) c = known_within first h c.1
+known_within first (at_port found_closed ∷ h) c = known_within first h c.1
+known_within first (at_port (found_free n) ∷ h) c = known_within first h c.1
+known_within first (at_port (answered r) ∷ h) c = known_within first h c.1
+known_within first (at_port no_reply_room ∷ h) c = known_within first h c.1
+known_within first (at_port (took_exec word) ∷ h) c = known_within first h c.1
+known_within first (at_port (took_ovr word) ∷ h) c = known_within first h c.1
+known_within first (at_port (published p) ∷ h) c =
+    let low = known_within first h c.1 in
+    let all : ticks_together (published_of h ++ p ∷ []) ≡ ticks_published h + ticks_together (p ∷ []) = together_both (published_of h) (p ∷ []) in omega (arith, low, all)
+known_within first (at_port (no_piece_room done) ∷ h) c = known_within first h c.1
+known_within first (at_port (loaded done) ∷ h) c = c.0.below
+known_within first (began o ∷ h) c = known_within first h c.1
+known_within first (did a ps ∷ h) c = known_within first h c.1
+known_within first (made_end ∷ h) c = known_within first h c.1
+known_within first (evened ∷ h) c = known_within first h c.1
+known_within first (paused ∷ h) c = known_within first h c.1
+known_within first (became call m ∷ h) c = known_within first h c.1
+known_within first (closing ∷ h) c = known_within first h c.1
+known_within first (turned t ∷ h) c = known_within first h c.1
+
+run_goes : (m : Motion) → is_run m ≡ true → is_going m ≡ true
+run_goes Idle is = absurd cc
+run_goes Run is = refl
+run_goes Holding is = absurd cc
+run_goes Held is = absurd cc
+run_goes Jog is = absurd cc
+run_goes Cancelling is = absurd cc
+run_goes Stopping is = absurd cc
+run_goes Alarm is = absurd cc
+
+no_blocks : (blocks : List Block) → has_blocks blocks ≡ false → blocks ≡ []
+no_blocks [] none = refl
+no_blocks (b ∷ blocks) none = absurd cc
+
+-- it runs where the line is refused, and would not be if it stood
+it_runs : (b : Before) (kept : List ℕ) (o : Outcome) (runs : Bool) → Becomes runs b kept o → (Becomes false b kept o → ⊥) → runs ≡ true
+it_runs b kept o true becomes other = refl
+it_runs b kept o false becomes other = absurd (other becomes)
+
+drained : (first : State) (h : Journal) → Conducted first h → (plan_of h).blocks ≡ [] → hand_of h ≡ [] → ticks_published h ≤ known_of h → IsDrained h
+drained first h c none empty done =
+    let same : given_of h ≡ published_of h = hand_is first h c ∙ ap (λ (ps : List Piece). published_of h ++ ps) empty ∙ append-nil (published_of h) in
+    let all = ap ticks_together same in
+    let low = known_within first h c in
+    record {
+      plan = (rests_behind most_blocks fresh_plan (plan_of h) (actions_of h) (planned_of h) fresh_starts (run_is first h c) none).rest;
+      hand = empty;
+      done = omega (arith, all, low, done);
+    }
+
+-- what is left where it is not drained
+what_is_left : (first : State) (h : Journal) → Conducted first h → (IsDrained h → ⊥)
+    → (known_of h < ticks_published h) ⊎ ((has_blocks (plan_of h).blocks ≡ true) ⊎ (hand_of h ≢ []))
+what_is_left first h c undrained = by_parts (nat_lt (known_of h) (ticks_published h)) (has_blocks (plan_of h).blocks) (hand_of h) refl refl refl
+  where
+    by_parts : (fewer some : Bool) (ps : List Piece) → nat_lt (known_of h) (ticks_published h) ≡ fewer → has_blocks (plan_of h).blocks ≡ some → hand_of h ≡ ps
+        → (known_of h < ticks_published h) ⊎ ((has_blocks (plan_of h).blocks ≡ true) ⊎ (hand_of h ≢ []))
+    by_parts true some ps e f g = inl (grind (arith, nat_tests))
+    by_parts false true ps e f g = inr (inl f)
+    by_parts false false (p ∷ ps) e f g = inr (inr (λ none. absurd (let same = sym g ∙ none in cc)))
+    by_parts false false [] e f g = absurd (undrained (drained first h c (no_blocks (plan_of h).blocks f) g (grind (arith, nat_tests))))
+
+pub found_moving : (first : State) (h : Journal) (o : Outcome) → Conducted first (began o ∷ h) → o ≡ refused (before_of first h) 8
+    → (Becomes false (before_of first h) (open_of h) o → ⊥) → IsFoundMoving h
+found_moving first h o c is other =
+    let runs = it_runs (before_of first h) (open_of h) o (is_run (motion_of h)) c.0.becomes other in
+    record {
+      runs = runs;
+      loaded = c.0.load;
+      left = what_is_left first h c.1 (λ drained. absurd (let goes = sym (run_goes (motion_of h) runs) ∙ c.0.idle drained in cc));
+    }

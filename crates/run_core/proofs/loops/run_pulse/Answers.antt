@@ -1,0 +1,21 @@
+use Rattle.std.proofs.Common.{[], refl}
+use Rattle.motion_ring.specs.Ends.{ring_of_in}
+use Rattle.run_core.proofs.loops.run_pulse.Goals as goal
+
+pub loop-init : goal.loop-init
+loop-init g c = record { got = []; put = []; pieces = c.requires.got; records = (((refl, refl, refl, refl), refl), c.requires.put); fits = c.requires.fits }
+
+pub turn-requires : goal.turn-requires
+turn-requires g c = let i = c.loop.invariant in (ring_of_in c.args.side.now.pieces.end, c.args.side.now.records, i.got, i.put, i.pieces, i.records, i.fits)
+
+pub loop-preserved-in-Did : goal.loop-preserved-in-Did
+loop-preserved-in-Did g c =
+    let i = c.loop.invariant in
+    let t = c.turn.ensures.logs (ring_of_in c.args.side.now.pieces.end) c.args.side.now.records i.got i.put i.pieces i.records i.fits in
+    record { got = t.0; put = t.1; pieces = t.2; records = t.3; fits = t.4 }
+
+pub loop-preserved : goal.loop-preserved
+loop-preserved g c =
+    let i = c.loop.invariant in
+    let t = c.turn.ensures.logs (ring_of_in c.args.side.now.pieces.end) c.args.side.now.records i.got i.put i.pieces i.records i.fits in
+    record { got = t.0; put = t.1; pieces = t.2; records = t.3; fits = t.4 }

@@ -1,0 +1,97 @@
+//! What each of the four threads does: an actor takes its turns until it answers Done.
+//!
+//! Before each turn the actor passes a gate. Where a turn has to wait, the thread lets others run a few times before
+//! it tries again; it never spins.
+
+ghost use Rattle.run_core.specs.Sides.{HostIsNew, HostRanAt, BoardIsNew, BoardRanAt, PulseIsNew, PulseRanAt, RecorderIsNew, RecorderRanAt};
+
+use crate::sides::{BoardSide, HostSide, PulseSide, RecorderSide};
+use outside::{Actor, Gate, Sink, Source, Turn};
+use std::sync::Wait;
+use std::thread;
+
+/// How many times a thread lets others run where its actor has to wait: so long that the other side then has a batch ready
+/// of some hundreds.
+const YIELDS: u32 = 16;
+
+/// Lets other threads run.
+fn yield_often() {
+    for _ in 0..YIELDS {
+        thread::yield_now();
+    }
+}
+
+/// Runs a host until it is done.
+pub(crate) fn run_host<R: Wait, J: Source, C: Sink, G: Gate>(
+    rt: &R,
+    side: &mut HostSide,
+    job: &mut J,
+    console: &mut C,
+    gate: &G,
+)
+    requires { HostIsNew side.old }
+    ensures { HostRanAt (J.state job.old) (J.state job.new) (C.state console.old) (C.state console.new) side.old side.new }
+{
+    for _ in rt.forever() {
+        gate.pass(Actor::Host);
+        match side.host.turn(&mut side.link, job, console) {
+            Turn::Did => {}
+            Turn::Wait(_) => yield_often(),
+            Turn::Done => return,
+        }
+    }
+    unreachable!()
+}
+
+/// Runs a board until it is done.
+pub(crate) fn run_board<R: Wait, G: Gate>(rt: &R, side: &mut BoardSide, gate: &G)
+    requires { BoardIsNew side.old }
+    ensures { BoardRanAt side.old side.new }
+{
+    for _ in rt.forever() {
+        gate.pass(Actor::Board);
+        match side.board.turn(&mut side.link) {
+            Turn::Did => {}
+            Turn::Wait(_) => yield_often(),
+            Turn::Done => return,
+        }
+    }
+    unreachable!()
+}
+
+/// Runs a pulse until it is done.
+pub(crate) fn run_pulse<R: Wait, G: Gate>(rt: &R, side: &mut PulseSide, gate: &G)
+    requires { PulseIsNew side.old }
+    ensures { PulseRanAt side.old side.new }
+{
+    for _ in rt.forever() {
+        gate.pass(Actor::Pulse);
+        match side.pulse.turn(&mut side.pieces, &mut side.records) {
+            Turn::Did => {}
+            Turn::Wait(_) => yield_often(),
+            Turn::Done => return,
+        }
+    }
+    unreachable!()
+}
+
+/// Runs a recorder until it is done.
+pub(crate) fn run_recorder<R: Wait, S: Sink, G: Gate>(
+    rt: &R,
+    side: &mut RecorderSide,
+    steps: &mut S,
+    gate: &G,
+)
+    requires { RecorderIsNew side.old }
+    ensures { RecorderRanAt (S.state steps.old) (S.state steps.new) side.old side.new }
+{
+    for _ in rt.forever() {
+        gate.pass(Actor::Record);
+        match side.recorder.turn(&mut side.records, steps) {
+            Turn::Did => {}
+            Turn::Wait(_) => yield_often(),
+            Turn::Done => return,
+        }
+    }
+    unreachable!()
+}
