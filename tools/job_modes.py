@@ -15,7 +15,8 @@ def kept_text(line):
 
 
 def refused_lines(console):
-    """The numbers of the lines that a console text refuses: each line of the job has one answer, in order."""
+    """The numbers of the lines that a console text refuses: each line of the job has one answer, in order. Status reports
+    and what else is told are no answers."""
     texts = (text.strip() for text in console.split(b"\n"))
     answers = [text for text in texts if text == b"ok" or text.startswith(b"error:")]
     return {number for number, answer in enumerate(answers, 1) if answer != b"ok"}

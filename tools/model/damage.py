@@ -2,10 +2,11 @@
 from model.jobs import some_job
 from model.machine import LARGEST_JOB
 
-FLOODS = b"?!~\x18\x85X\x00\r (;)$0\xff\x7fG\n"  # each a job of 16 MB
+FLOODS = b"?!~\x18\x85X\x00\r (;)$0\xff\x7fG\n"  # each a job of 16 MB, or less
+FEWER = {b"\n": 500_000, b"?": 1_000_000}  # since each is a line, or may have a report
 PIECES = (b"?", b"!", b"~", b"\x18", b"\x85", b"\0", b"\r", b" ", b"\t", b"(", b";", b")", b"$", b"/", b"\n", b"0", b"X",
           b"\r\n", b"G0X0.01\n", b"\n\r", b"\xc3\xa9", b"\xe2\x88\x92", b"\xef\xbb\xbf", b"\xf0\x9f\x94\xa9", b"\xff", b"\x7f",
-          b"(\n", b";\n", b"$$\n", b"M2\n")
+          b"(\n", b";\n", b"$$\n", b"M2\n", b"?\n", b"$10=2\n")
 ALPHABETS = (bytes(range(256)), bytes(range(32, 127)) + b"\n", b"GXYZMFS0123456789.-+\n\n ", b"GM0123\nXYZ.", b"$=0123\n#GX",
              b"()?!~;\n\r\0 X1")
 ROOM = (78, 79, 80, 81, 126, 127, 128, 129, 255, 256, 4_095, 4_096, 4_097, 20_000)
@@ -71,11 +72,12 @@ DAMAGES = (put_bytes, put_bytes, put_flood, put_flood, turn_byte, turn_byte, los
 
 
 def flood(chance, number):
-    """About 16 MB of one byte: just a job, or a byte too many, alone or between lines."""
-    byte = FLOODS[number % len(FLOODS)]
-    size = LARGEST_JOB + chance.choice((-8, 0, 0, 1, 1, 5_000)) if byte != ord("\n") else 500_000  # each is a line
+    """About 16 MB of one byte: just a job, or a byte too many, alone or between lines; or less where each costs more."""
+    byte, size = bytes([FLOODS[number % len(FLOODS)]]), LARGEST_JOB + chance.choice((-8, 0, 0, 1, 1, 5_000))
     before, behind = chance.choice(((b"", b""), (b"G0X0.004\n", b""), (b"(", b"\nG0X0.004\n"), (b"M3S5\n", b"\n")))
-    return before + bytes([byte]) * (size - len(before) - len(behind)) + behind
+    if byte == b"\n" or before != b"(":
+        size = FEWER.get(byte, size)
+    return before + byte * (size - len(before) - len(behind)) + behind
 
 
 def damaged_job(chance, number):

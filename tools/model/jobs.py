@@ -18,8 +18,15 @@ PLACES = """
 """.split()
 FLOW = ("M0", "M0", "M1", "M2", "M30", "M2S100", "M30X0.01", "M0Y0.02", "M3S500M2", "M8M30", "G4P0.01M2")
 SYSTEM_LINES = ("$$", "$#", "$G", "$X", "$", "$H", "$J=X1", "$RST=*", "$Z", "$1.5=1", "$-1=5", "$+10=3", "$5=1", "$20=0.9")
-REALTIME = ("?", "!", "~", "\x18", "\x85", "\x90", "\xa0", "\xff", "?!~", "\x84\x9d")
-HANDS = ("!", "!", "!~", "~", "~!", "\x90", "\x91", "\x91\x91\x91", "\x92", "\x92\x92\x92", "\x93", "\x94", "\x95", "\x96", "\x97", "\x99\x9a", "!\x92~")
+REALTIME = ("?", "!", "~", "\x85", "\x90", "\xa0", "\xff", "?!~", "\x84\x9d")
+HANDS = ("!", "!", "!~", "~", "~!", "\x90", "\x91", "\x91\x91\x91", "\x92", "\x92\x92\x92", "\x93", "\x94", "\x95",
+         "\x96", "\x97", "\x99\x9a", "\x9a", "\x9b", "\x9c\x9d", "!\x92~", "!?", "!?", "!?? ?", "?!?~?", "\x9a?")
+QUERIES = ("?", "?", "?", "?", "?", "??", "???", "(?)", "?(??)", "? ?", ";?", "?~")
+# What reports tell of, as no default is. Overrides are in `HANDS`, and so is a hold, which is told in its own line alone.
+TOLD = """
+    $10=0 $10=1 $10=2 $10=3 G92X0.1Y-0.2 G10L2P1X0.05Z-1.234 G10L2P2Y-0.1Z0.02 G10L20P0X0.0004Y-0.0005 G55 G54 G92.1
+    M3S12345 M4S999 M5 S777 G4P0 M2 M0
+""".split()
 JUNK = ("(a comment ? ! ~)", "(cut", " ", "\t", "/", "\r", ";the rest", "\0", "\xc3\xa9", "( ; )", ";(", ")") + REALTIME
 
 
@@ -42,7 +49,8 @@ class JobMaker:
         chance = self.chance
         if chance.random() < 0.01:
             return chance.choice((b"", b"\n", b"\r", b" ", b"?", b"\n\n", b"("))
-        mix, has_hand = chance.choice(self.MIXES), chance.random() < 0.2
+        mix, has_hand, has_query = chance.choice(self.MIXES), chance.random() < 0.2, chance.random() < 1 / 3
+        has_reset = chance.random() < 0.06
         if mix is self.MIXES[1]:
             # Few steps per mm, so that the moves of all those numbers are short.
             self.lines += [f"$10{axis}={chance.choice((2, 4, 5.5))}" for axis in range(3)]
@@ -55,8 +63,12 @@ class JobMaker:
             self.guess_modes(self.lines[-1])
             if mix is not self.MIXES[0] and chance.random() < 0.15:
                 self.spoil()
+            if has_query:
+                self.ask()
             if has_hand and chance.random() < 0.1:
                 self.put(chance.choice(HANDS))
+            if has_reset and chance.random() < 0.05:
+                self.put("\x18")
         if chance.random() < 0.7:
             self.lines += ["$#", "$G", "$$"]
         end = "\r\n" if chance.random() < 0.15 else "\n"
@@ -77,6 +89,14 @@ class JobMaker:
         self.put(self.chance.choice(JUNK))
         if self.chance.random() < 0.2:
             self.lines[-1] = self.lines[-1].lower()
+
+    def ask(self):
+        """Now and then asks for a report in the last line, or changes what a report tells."""
+        if self.chance.random() < 0.1:
+            self.lines.append(self.chance.choice(TOLD))
+            self.guess_modes(self.lines[-1])
+        if self.chance.random() < 0.25:
+            self.put(self.chance.choice(QUERIES))
 
     def say_feed(self):
         thousandths = self.chance.choice((1_000, 16_500, 60_000, 200_000, 499_999, 900_000))
@@ -127,6 +147,7 @@ class JobMaker:
             (110, ("1", "90", "500", "6000")),
             (120, ("1", "10", "77.777", "500")),
             (11, ("0", "0.002", "0.010", "0.050", "10")),
+            (10, ("0", "1", "2", "3")),
             (None, ("1", "4", "2.5", "3.9999", "10", "0", "-1", "0.0005", "12", "", "1X", "7.")),
         ))
         value = self.chance.choice(values)

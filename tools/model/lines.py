@@ -5,6 +5,8 @@ from dataclasses import dataclass, field
 WHOLE = 1_000_000  # a value is kept in millionths
 AXES = "XYZ"
 LONGEST = 79  # so many kept characters at most
+LONGEST_SENT = 127  # so many kept characters of a line at most are sent
+RESET, TOO_LONG = "\x18", "too long"  # what ends the sending in a line
 
 GROUPS = {
     "not modal": "G4 G10 G28 G28.1 G30 G30.1 G53 G92 G92.1",
@@ -32,8 +34,11 @@ SYSTEMS = ("G54", "G55", "G56", "G57", "G58", "G59")
 # In a text of bytes, each a character: comments, blanks, the slash, and the realtime bytes.
 DROPPED = re.compile(r"\([^)]*\)?|;.*|[\x00-\x20/?!~\x80-\xff]+", re.DOTALL)
 COMMENT = re.compile(r"\([^)]*\)?|;.*", re.DOTALL)
-# The realtime bytes that change how fast the machine goes: a hold, and the changes of overrides.
+# The realtime bytes that change how fast the machine goes, a hold and the changes of overrides, and with those that ask for
+# a report; and all that is neither.
 HAND = re.compile(r"[!\x90-\x97\x99-\x9d]")
+REALTIME = re.compile(r"[?!\x90-\x97\x99-\x9d]")
+OTHERS = re.compile(r"[^?!\x90-\x97\x99-\x9d]+")
 NUMBER = re.compile(r"[+-]?([0-9]*\.[0-9]*|[0-9]+)")
 
 
@@ -51,9 +56,29 @@ def kept_of(line):
     return DROPPED.sub("", line).upper()
 
 
+def realtime_of(line):
+    """The realtime bytes of a line that ask for a report, hold, or change overrides."""
+    return OTHERS.sub("", COMMENT.sub("", line)) if REALTIME.search(line) else ""
+
+
 def has_hand(line):
     """Whether a realtime byte of a line changes how fast the machine goes."""
     return bool(HAND.search(COMMENT.sub("", line)))
+
+
+def scan(line):
+    """What is scanned of a line, and what ends the sending in it: that it is too long to be sent, a reset, or None."""
+    if len(line) <= LONGEST_SENT and RESET not in line:
+        return line, None
+    kept, at = 0, 0
+    for gap in DROPPED.finditer(line):
+        kept += gap.start() - at
+        if kept > LONGEST_SENT:
+            return line[: gap.start()], TOO_LONG
+        at = gap.end()
+        if gap[0][0] not in "(;" and RESET in gap[0]:
+            return line[: gap.start() + gap[0].index(RESET) + 1], RESET
+    return line, TOO_LONG if kept + len(line) - at > LONGEST_SENT else None
 
 
 def read_number(text, at):

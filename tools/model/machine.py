@@ -1,12 +1,13 @@
 """What the lines of a job do: answers and what is told, modes, offsets and settings, marks and moves."""
 from dataclasses import dataclass
 
-from model.lines import AXES, LONGEST, SYSTEMS, WHOLE, Line, Refused, cut, has_hand, kept_of, read_number
+from model.lines import (AXES, LONGEST, LONGEST_SENT, RESET, SYSTEMS, TOO_LONG, WHOLE, Line, Refused, cut, has_hand, kept_of,
+                         read_number, scan)
 from model.motion import Limits, Script, nearest, to_steps
+from model.reports import NOTHING, Course, Left, Work
 
 FARTHEST = 10_000 * 10**6  # in nm
 LARGEST_JOB = 16_777_216  # bytes
-LONGEST_SENT = 127  # so many kept characters of a line at most
 OFFSETS = (*SYSTEMS, "G28", "G30", "G92")
 
 # Default, least and greatest value of each setting, in thousandths; 10 and 20 are whole numbers.
@@ -28,34 +29,41 @@ def thousandths(value):
 
 @dataclass
 class Run:
-    """What a run leaves behind: its exit status, and the texts of the console, of the steps and of standard error."""
+    """What a run leaves behind: its exit status; the texts of the console without reports, of the steps and of standard
+    error; and the reports, each with the number of answers before it."""
 
     status: int
     console: str
     steps: str
     errors: str
+    reports: list
 
 
 def run_of(job, most_events, told):
     """The run of a job, and its machine. Where a line may be refused since the machine still moves, it is so if the console
-    that was told says so. A job that moves more events than these is left: `TooLong`. The steps are the machine's script."""
+    that was told says so. A job that moves more events than these is left: `TooLong`. The steps are the machine's script,
+    and what reports may tell follows from its course."""
     machine = Machine(most_events, told.split("\r\n"))
     lines = job[:LARGEST_JOB].decode("latin-1").split("\n")
     rest = lines.pop() if len(job) > LARGEST_JOB or not lines[-1] else None
-    too_long = next((at for at, line in enumerate(lines + [rest or ""], 1) if len(kept_of(line)) > LONGEST_SENT), None)
-    for line in lines[: too_long and too_long - 1]:
+    over = next((at for at, line in enumerate(lines) if scan(line)[1]), len(lines))
+    for line in lines[:over]:
         machine.answer(line)
-    machine.script.has_hand = any(map(has_hand, lines[:too_long] + [rest or ""]))
+    unsent, ending = scan([*lines, rest or ""][over])
+    machine.course.add_unsent(unsent)
+    machine.script.has_hand = any(map(has_hand, [*lines[:over], unsent]))
     machine.script.mark("E")
     status, errors = 0, ""
-    if too_long:
-        status, errors = 6, f"fault: line {too_long} is longer than {LONGEST_SENT} bytes\n"
+    if ending == TOO_LONG:
+        status, errors = 6, f"fault: line {over + 1} is longer than {LONGEST_SENT} bytes\n"
+    elif ending == RESET:
+        status, errors = 7, "stopped: reset\n"
     elif len(job) > LARGEST_JOB:
         status, errors = 9, f"fault: the job is larger than {LARGEST_JOB} bytes\n"
     elif machine.refused:
         status, errors = 1, f"{machine.refused} lines refused\n"
     machine.console.append("")
-    return Run(status, "\r\n".join(machine.console), "", errors), machine
+    return Run(status, "\r\n".join(machine.console), "", errors, []), machine
 
 
 class Machine:
@@ -70,13 +78,21 @@ class Machine:
         self.script, self.number, self.refused = Script(most_events), 0, 0
         self.console, self.told = ["", "Grbl 1.1h ['$' for help]"], told
         self.moved = False  # a line has moved since the last accepted one whose last item is no move
+        self.left, self.work = self.leave(), NOTHING
+        self.course = Course(self.left)
 
     def answer(self, line):
         self.number += 1
         kept = kept_of(line) if line else line
-        if not kept:
+        self.work = NOTHING
+        if kept:
+            self.judge(kept)
+            self.left = self.leave()
+        else:
             self.console.append("ok")
-            return
+        self.course.add(line, len(kept) + 1, self.left, self.script.ticks, self.work)
+
+    def judge(self, kept):
         try:
             if len(kept) > LONGEST:
                 raise Refused(11)
@@ -88,6 +104,12 @@ class Machine:
         except Refused as refused:
             self.console.append(f"error:{refused}")
             self.refused += 1
+
+    def leave(self):
+        """What the last line leaves for reports to tell."""
+        offset = zip(self.offsets[self.modes["system"]], self.offsets["G92"])
+        return Left(self.settings[10] // 1000, tuple(self.settings[100 + axis] for axis in range(3)),
+                    tuple(nearest(sum(both), 1000) for both in offset), 0 if self.spindle == "M5" else self.speed)
 
     # ---- lines that begin with `$`
 
@@ -171,6 +193,7 @@ class Machine:
             self.end_program()
         settles = line.has("M0", "M2", "M30") or (marks and not ways)
         self.moved = not settles and (self.moved or any(moves))
+        self.work = Work(any(moves), settles, line.has("M0"), line.has("M2", "M30"))
 
     def test(self, line, modes, named, feed):
         values, taker, off = line.values, line.taker, modes["motion"] == "G80"

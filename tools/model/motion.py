@@ -96,6 +96,7 @@ class Script:
 
     def __init__(self, most_events):
         self.stretches, self.moves, self.room = [], [], most_events
+        self.ticks = 0  # events and marks
         self.has_hand = False  # a realtime byte of the job changes how fast the machine goes
 
     def rest(self):
@@ -106,6 +107,7 @@ class Script:
 
     def mark(self, text):
         """A mark comes where the machine stands."""
+        self.ticks += 1
         self.stretches.append((self.moves, text))
         self.moves = []
 
@@ -117,6 +119,7 @@ class Script:
         self.room -= move.events
         if self.room < 0:
             raise TooLong
+        self.ticks += move.events
         self.moves.append(move)
         return True
 

@@ -14,6 +14,7 @@ from pathlib import Path
 
 from model.machine import Run, run_of
 from model.motion import TooLong, Wrong, heads_of
+from model.reports import fault_in, part
 
 PROGRAM = Path(__file__).resolve().parent.parent.parent / "crates/grbl/out/grbl"
 SECONDS = 10  # of processor time
@@ -44,8 +45,9 @@ def run_program(words, job, folder):
         return f"the program was ended by {signal.Signals(-ran.returncode).name}"
     if not steps.exists():
         return f"the program ended with {ran.returncode} and made no steps.out"
-    texts = (ran.stdout, steps.read_bytes(), ran.stderr)
-    return Run(ran.returncode, *(text.decode("latin-1") for text in texts))
+    console, made, errors = (text.decode("latin-1") for text in (ran.stdout, steps.read_bytes(), ran.stderr))
+    console, reports = part(console)
+    return Run(ran.returncode, console, made, errors, reports)
 
 
 # ---- comparing
@@ -63,13 +65,15 @@ def shown(line):
     return repr(line) if len(line) < 120 else f"{line[:100]!r} with {len(line) - 100} characters behind it"
 
 
-def what_is_wrong(told, right, script):
-    """What a run tells that the model does not allow, or None, and how many heads it has."""
+def what_is_wrong(told, right, machine):
+    """What a run tells that the model does not allow, or None, and how many heads it has. Reports are audited where the rest
+    is right, since they are judged by it."""
     wrong = (first_difference("console", told.console, right.console, "\r\n")
              or first_difference("standard error", told.errors, right.errors))
     heads = 0
     try:
-        heads = heads_of(script, told.steps)
+        heads = heads_of(machine.script, told.steps)
+        wrong = wrong or fault_in(told.reports, machine.course, told.steps)
     except Wrong as fault:
         wrong = wrong or str(fault)
     status = f"; it ended with {told.status}, and by the model with {right.status}" if told.status != right.status else ""
@@ -81,12 +85,13 @@ def what_is_wrong(told, right, script):
 
 @dataclass
 class Tally:
-    """What was tried: jobs, and the lines and heads of their runs; and the jobs that are left out, since the model would take
-    too long."""
+    """What was tried: jobs, and the lines, heads and reports of their runs; and the jobs that are left out, since the model
+    would take too long."""
 
     jobs: int = 0
     lines: int = 0
     heads: int = 0
+    reports: int = 0
     left_out: int = 0
 
     def add(self, other):
@@ -95,7 +100,8 @@ class Tally:
 
     def __str__(self):
         rest = f"; {self.left_out} are left out, since they have too many steps" if self.left_out else ""
-        return f"{self.jobs} jobs, each as a stream and in lockstep, in all {self.lines} lines with {self.heads} heads{rest}"
+        return (f"{self.jobs} jobs, each as a stream and in lockstep, in all {self.lines} lines with {self.heads} heads and "
+                f"{self.reports} reports{rest}")
 
 
 @dataclass
@@ -131,8 +137,8 @@ class Trial:
             except TooLong:
                 tally.left_out += 1
                 return None
-            wrong, heads = what_is_wrong(told, right, machine.script)
-            tally.add(Tally(0, machine.number, heads))
+            wrong, heads = what_is_wrong(told, right, machine)
+            tally.add(Tally(0, machine.number, heads, len(told.reports)))
             if wrong:
                 return Failure(number, job, f"{' '.join(words)}: {wrong}")
         return None

@@ -3,7 +3,7 @@ use Rattle.std.proofs.Common.{◌≡◌, ℕ, ◌+◌, ◌<◌, List, [], ◌∷
 use Rattle.std.specs.List.{AllByRecursion}
 use Rattle.status_report.specs.declared.Reply.{Reply}
 use Rattle.status_report.specs.declared.Reply.TheVariants as replies
-use Rattle.status_report.specs.Answering.{lfs_in, is_answer, answers_in}
+use Rattle.status_report.specs.Answering.{lfs_in, is_answer, answers_in, without_reports}
 use Rattle.status_report.proofs.Answered.{lfs_first, lfs_on, answers_first, answers_on}
 use Rattle.run_rules.specs.declared.State.{State}
 use Rattle.run_rules.specs.Lines.{HasNoLf, ended}
@@ -16,6 +16,7 @@ use Rattle.board_rules.specs.Steps.{Journal, taken_of, answered_of, whole_of, op
 use Rattle.board_rules.specs.Steps.Step.{at_port, began, did, made_end, evened, paused, became, closing, turned}
 use Rattle.board_rules.specs.Conduct.{Conducted, IsNextTask}
 use Rattle.board_rules.specs.Whole.{AreLines}
+use Rattle.board_rules.proofs.Plain.{answers_without}
 use Rattle.board_rules.proofs.Keeping.{told_is}
 use Rattle.board_rules.proofs.Lines.{bytes_are, lines_follow}
 
@@ -60,7 +61,8 @@ answers_are first h c =
     let lfs = lfs_of_lines (taken_of h) (lines_of h) (open_of h) (whole_of h) (bytes_are first h c) in
     let t = ap answers_in (told_is first h c) in
     let left = answers_on (replies_in (outcomes_of h)) (closed_tells h) in
-    let right = answers_on (answered_of h) (tells (left_of h)) in
+    let right = answers_on (without_reports (answered_of h)) (tells (left_of h)) in
+    let same = answers_without (answered_of h) in
     let none = closing_none h in
     omega arith
 

@@ -17,7 +17,7 @@ use Rattle.run_rules.specs.declared.State.{State}
 use Rattle.run_rules.specs.Work.{Task, closing_work}
 use Rattle.run_rules.specs.Work.Task.{ask, tell, pause, normal, finish}
 use Rattle.board_rules.specs.Ports.{MayBeDone}
-use Rattle.board_rules.specs.Ports.PortStep.{took, found_empty, found_closed, found_free, answered, no_reply_room, took_exec, took_ovr, published, no_piece_room, loaded}
+use Rattle.board_rules.specs.Ports.PortStep.{took, found_empty, found_closed, found_free, answered, reported, no_reply_room, took_exec, took_ovr, published, no_piece_room, loaded}
 use Rattle.board_rules.specs.Steps.{Journal, port_log, known_of, given_of, planned_of, hand_of, plan_of, left_of, behind, whole_of, has_closed, closed_tells}
 use Rattle.board_rules.specs.Steps.Step.{at_port, began, did, made_end, evened, paused, became, closing, turned}
 use Rattle.board_rules.specs.Conduct.{Conducted, Gives, MayDo, MayEnd, MayEven, MayPause, MayTell, IsFinished}
@@ -151,6 +151,7 @@ phase_is first (at_port found_empty ∷ h) c = phase_is first h c.1
 phase_is first (at_port found_closed ∷ h) c = phase_is first h c.1
 phase_is first (at_port (found_free n) ∷ h) c = phase_is first h c.1
 phase_is first (at_port (answered r) ∷ h) c = on_answer h r c.0 (phase_is first h c.1)
+phase_is first (at_port (reported r) ∷ h) c = phase_is first h c.1
 phase_is first (at_port no_reply_room ∷ h) c = phase_is first h c.1
 phase_is first (at_port (took_exec word) ∷ h) c = phase_is first h c.1
 phase_is first (at_port (took_ovr word) ∷ h) c = phase_is first h c.1
@@ -194,6 +195,7 @@ closed_first first (at_port found_empty ∷ h) c = closed_first first h c.1
 closed_first first (at_port found_closed ∷ h) c = inr refl
 closed_first first (at_port (found_free n) ∷ h) c = closed_first first h c.1
 closed_first first (at_port (answered r) ∷ h) c = closed_first first h c.1
+closed_first first (at_port (reported r) ∷ h) c = closed_first first h c.1
 closed_first first (at_port no_reply_room ∷ h) c = closed_first first h c.1
 closed_first first (at_port (took_exec word) ∷ h) c = closed_first first h c.1
 closed_first first (at_port (took_ovr word) ∷ h) c = closed_first first h c.1

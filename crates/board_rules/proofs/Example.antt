@@ -81,13 +81,13 @@ abbrev j1 : Settings → Journal
 j1 s = at_port (answered Banner) ∷ j0 s
 
 c1 : (s : Settings) → Conducted (first_state s) (j1 s)
-c1 s = (record { next = refl; empty = λ e. absurd cc }, c0 s)
+c1 s = (record { next = refl; plain = refl; unowed = refl; empty = λ e. absurd cc }, c0 s)
 
 abbrev j2 : Settings → Journal
 j2 s = turned Did ∷ j1 s
 
 c2 : (s : Settings) → Conducted (first_state s) (j2 s)
-c2 s = (record { once = omega arith; adds = λ m e. absurd cc; starts = λ w. absurd (let b = w.blocks in cc); tries = omega arith; obeyed = refl; changed = refl }, c1 s)
+c2 s = (record { once = omega arith; adds = λ m e. absurd cc; starts = λ w. absurd (let b = w.blocks in cc); tries = omega arith; obeyed = λ e. refl; changed = refl }, c1 s)
 
 abbrev j3 : Settings → Journal
 j3 s = at_port (took 77) ∷ j2 s
@@ -99,7 +99,7 @@ abbrev j4 : Settings → Journal
 j4 s = turned Did ∷ j3 s
 
 c4 : (s : Settings) → Conducted (first_state s) (j4 s)
-c4 s = (record { once = omega arith; adds = λ m e. absurd cc; starts = λ w. absurd (let b = w.blocks in cc); tries = omega arith; obeyed = refl; changed = refl }, c3 s)
+c4 s = (record { once = omega arith; adds = λ m e. absurd cc; starts = λ w. absurd (let b = w.blocks in cc); tries = omega arith; obeyed = λ e. refl; changed = refl }, c3 s)
 
 abbrev j5 : Settings → Journal
 j5 s = at_port (took 56) ∷ j4 s
@@ -111,7 +111,7 @@ abbrev j6 : Settings → Journal
 j6 s = turned Did ∷ j5 s
 
 c6 : (s : Settings) → Conducted (first_state s) (j6 s)
-c6 s = (record { once = omega arith; adds = λ m e. absurd cc; starts = λ w. absurd (let b = w.blocks in cc); tries = omega arith; obeyed = refl; changed = refl }, c5 s)
+c6 s = (record { once = omega arith; adds = λ m e. absurd cc; starts = λ w. absurd (let b = w.blocks in cc); tries = omega arith; obeyed = λ e. refl; changed = refl }, c5 s)
 
 abbrev j7 : Settings → Journal
 j7 s = at_port (took 10) ∷ j6 s
@@ -123,7 +123,7 @@ abbrev j8 : Settings → Journal
 j8 s = turned Did ∷ j7 s
 
 c8 : (s : Settings) → Conducted (first_state s) (j8 s)
-c8 s = (record { once = omega arith; adds = λ m e. absurd cc; starts = λ w. absurd (let b = w.blocks in cc); tries = omega arith; obeyed = refl; changed = refl }, c7 s)
+c8 s = (record { once = omega arith; adds = λ m e. absurd cc; starts = λ w. absurd (let b = w.blocks in cc); tries = omega arith; obeyed = λ e. refl; changed = refl }, c7 s)
 
 abbrev j9 : Settings → Journal
 j9 s = unchanged no_changes (j8 s)
@@ -135,25 +135,25 @@ abbrev j10 : Settings → Journal
 j10 s = requested hold motions.Held (j9 s)
 
 c10 : (s : Settings) → Conducted (first_state s) (j10 s)
-c10 s = may_request (first_state s) hold motions.Held (j9 s) (c9 s) refl (λ slows. absurd cc) refl (λ e. absurd cc)
+c10 s = may_request (first_state s) hold motions.Held (j9 s) (c9 s) refl refl refl (λ slows. absurd cc) refl (λ e. absurd cc)
 
 abbrev j11 : Settings → Journal
 j11 s = at_port (took_exec nothing) ∷ j10 s
 
 c11 : (s : Settings) → Conducted (first_state s) (j11 s)
-c11 s = (tt, c10 s)
+c11 s = (record { obeyed = refl; few = λ asks. absurd cc }, c10 s)
 
 abbrev j12 : Settings → Journal
 j12 s = became (on_exec nothing false) motions.Held ∷ j11 s
 
 c12 : (s : Settings) → Conducted (first_state s) (j12 s)
-c12 s = ((refl, record { earlier = _; last = refl; blocks = refl; looked = λ s. absurd (let e = s.slows in cc); stopped = λ s. absurd (let e = s.slowed.slows in cc) }), c11 s)
+c12 s = ((refl, record { next = refl; reported = λ owed. absurd cc; blocks = refl; looked = λ s. absurd (let e = s.slows in cc); stopped = λ s. absurd (let e = s.slowed.slows in cc) }), c11 s)
 
 abbrev j13 : Settings → Journal
 j13 s = turned (Wait on.Resume) ∷ j12 s
 
 c13 : (s : Settings) → Conducted (first_state s) (j13 s)
-c13 s = (record { ends = record { once = omega arith; adds = λ m e. absurd cc; starts = λ w. absurd (let b = w.blocks in cc); tries = omega arith; obeyed = refl; changed = refl }; cause = record { held = refl; unasked = refl; held_up = refl }; still = refl; flags = refl; round = λ due. absurd cc }, c12 s)
+c13 s = (record { ends = record { once = omega arith; adds = λ m e. absurd cc; starts = λ w. absurd (let b = w.blocks in cc); tries = omega arith; obeyed = λ e. refl; changed = refl }; cause = record { held = refl; unasked = refl; held_up = refl }; still = refl; flags = refl; obeyed = refl; unowed = λ owed. absurd cc; round = λ due. absurd cc }, c12 s)
 
 abbrev j14 : Settings → Journal
 j14 s = unchanged no_changes (j13 s)
@@ -165,19 +165,19 @@ abbrev j15 : Settings → Journal
 j15 s = requested resume motions.Idle (j14 s)
 
 c15 : (s : Settings) → Conducted (first_state s) (j15 s)
-c15 s = may_request (first_state s) resume motions.Idle (j14 s) (c14 s) refl (λ slows. absurd cc) refl (λ e. inr refl)
+c15 s = may_request (first_state s) resume motions.Idle (j14 s) (c14 s) refl refl refl (λ slows. absurd cc) refl (λ e. inr refl)
 
 abbrev j16 : Settings → Journal
 j16 s = at_port (loaded 0) ∷ j15 s
 
 c16 : (s : Settings) → Conducted (first_state s) (j16 s)
-c16 s = (record { later = omega arith; below = omega arith }, c15 s)
+c16 s = (record { later = omega arith; below = omega arith; few = omega arith }, c15 s)
 
 abbrev j17 : Settings → Journal
 j17 s = began (flood (next_state s)) ∷ j16 s
 
 c17 : (s : Settings) → Conducted (first_state s) (j17 s)
-c17 s = (record { free = refl; going = refl; whole = refl; becomes = is_flood s; refuses = λ runs. absurd cc; begins = refl; flags = refl; load = refl; idle = λ drained. refl; starts = λ w. absurd (let b = w.blocks in cc); tried = refl }, c16 s)
+c17 s = (record { free = refl; going = refl; whole = refl; becomes = is_flood s; refuses = λ runs. absurd cc; begins = refl; flags = refl; obeyed = refl; unowed = refl; load = refl; idle = λ drained. refl; starts = λ w. absurd (let b = w.blocks in cc); tried = refl }, c16 s)
 
 abbrev j18 : Settings → Journal
 j18 s = did Rest [] ∷ j17 s
@@ -201,19 +201,19 @@ abbrev j21 : Settings → Journal
 j21 s = turned Did ∷ j20 s
 
 c21 : (s : Settings) → Conducted (first_state s) (j21 s)
-c21 s = (record { once = omega arith; adds = λ m e. absurd cc; starts = λ w. absurd (let b = w.blocks in cc); tries = omega arith; obeyed = refl; changed = refl }, c20 s)
+c21 s = (record { once = omega arith; adds = λ m e. absurd cc; starts = λ w. absurd (let b = w.blocks in cc); tries = omega arith; obeyed = λ e. refl; changed = refl }, c20 s)
 
 abbrev j22 : Settings → Journal
 j22 s = at_port (loaded 0) ∷ j21 s
 
 c22 : (s : Settings) → Conducted (first_state s) (j22 s)
-c22 s = (record { later = omega arith; below = omega arith }, c21 s)
+c22 s = (record { later = omega arith; below = omega arith; few = omega arith }, c21 s)
 
 abbrev j23 : Settings → Journal
 j23 s = turned (Wait on.Motion) ∷ j22 s
 
 c23 : (s : Settings) → Conducted (first_state s) (j23 s)
-c23 s = (record { ends = record { once = omega arith; adds = λ m e. absurd cc; starts = λ w. absurd (let b = w.blocks in cc); tries = omega arith; obeyed = refl; changed = refl }; cause = record { load = refl; undone = omega arith; awaits = refl }; still = refl; flags = refl; round = λ due. absurd cc }, c22 s)
+c23 s = (record { ends = record { once = omega arith; adds = λ m e. absurd cc; starts = λ w. absurd (let b = w.blocks in cc); tries = omega arith; obeyed = λ e. refl; changed = refl }; cause = record { load = refl; undone = omega arith; awaits = refl }; still = refl; flags = refl; obeyed = refl; unowed = λ owed. absurd cc; round = λ due. absurd cc }, c22 s)
 
 abbrev j24 : Settings → Journal
 j24 s = unchanged no_changes (j23 s)
@@ -225,13 +225,13 @@ abbrev j25 : Settings → Journal
 j25 s = requested nothing motions.Idle (j24 s)
 
 c25 : (s : Settings) → Conducted (first_state s) (j25 s)
-c25 s = may_request (first_state s) nothing motions.Idle (j24 s) (c24 s) refl (λ slows. absurd cc) refl (λ e. inl refl)
+c25 s = may_request (first_state s) nothing motions.Idle (j24 s) (c24 s) refl refl refl (λ slows. absurd cc) refl (λ e. inl refl)
 
 abbrev j26 : Settings → Journal
 j26 s = at_port (loaded 1) ∷ j25 s
 
 c26 : (s : Settings) → Conducted (first_state s) (j26 s)
-c26 s = (record { later = omega arith; below = omega arith }, c25 s)
+c26 s = (record { later = omega arith; below = omega arith; few = omega arith }, c25 s)
 
 abbrev j27 : Settings → Journal
 j27 s = did Rest [] ∷ j26 s
@@ -243,13 +243,13 @@ abbrev j28 : Settings → Journal
 j28 s = at_port (answered Ok) ∷ j27 s
 
 c28 : (s : Settings) → Conducted (first_state s) (j28 s)
-c28 s = (record { next = refl; empty = λ e. absurd cc }, c27 s)
+c28 s = (record { next = refl; plain = refl; unowed = refl; empty = λ e. absurd cc }, c27 s)
 
 abbrev j29 : Settings → Journal
 j29 s = turned Did ∷ j28 s
 
 c29 : (s : Settings) → Conducted (first_state s) (j29 s)
-c29 s = (record { once = omega arith; adds = λ m e. absurd cc; starts = λ w. absurd (let b = w.blocks in cc); tries = omega arith; obeyed = refl; changed = refl }, c28 s)
+c29 s = (record { once = omega arith; adds = λ m e. absurd cc; starts = λ w. absurd (let b = w.blocks in cc); tries = omega arith; obeyed = λ e. refl; changed = refl }, c28 s)
 
 abbrev j30 : Settings → Journal
 j30 s = at_port found_empty ∷ j29 s
@@ -261,7 +261,7 @@ abbrev j31 : Settings → Journal
 j31 s = turned (Wait on.Byte) ∷ j30 s
 
 c31 : (s : Settings) → Conducted (first_state s) (j31 s)
-c31 s = (record { ends = record { once = omega arith; adds = λ m e. absurd cc; starts = λ w. absurd (let b = w.blocks in cc); tries = omega arith; obeyed = refl; changed = refl }; cause = record { poll = refl; free = refl; partial = refl }; still = refl; flags = refl; round = λ due. absurd cc }, c30 s)
+c31 s = (record { ends = record { once = omega arith; adds = λ m e. absurd cc; starts = λ w. absurd (let b = w.blocks in cc); tries = omega arith; obeyed = λ e. refl; changed = refl }; cause = record { poll = refl; free = refl; partial = refl }; still = refl; flags = refl; obeyed = refl; unowed = λ owed. absurd cc; round = λ due. absurd cc }, c30 s)
 
 abbrev j32 : Settings → Journal
 j32 s = unchanged no_changes (j31 s)
@@ -273,7 +273,7 @@ abbrev j33 : Settings → Journal
 j33 s = requested nothing motions.Idle (j32 s)
 
 c33 : (s : Settings) → Conducted (first_state s) (j33 s)
-c33 s = may_request (first_state s) nothing motions.Idle (j32 s) (c32 s) refl (λ slows. absurd cc) refl (λ e. inl refl)
+c33 s = may_request (first_state s) nothing motions.Idle (j32 s) (c32 s) refl refl refl (λ slows. absurd cc) refl (λ e. inl refl)
 
 abbrev j34 : Settings → Journal
 j34 s = at_port found_closed ∷ j33 s
@@ -303,19 +303,19 @@ abbrev j38 : Settings → Journal
 j38 s = turned Did ∷ j37 s
 
 c38 : (s : Settings) → Conducted (first_state s) (j38 s)
-c38 s = (record { once = omega arith; adds = λ m e. absurd cc; starts = λ w. absurd (let b = w.blocks in cc); tries = omega arith; obeyed = refl; changed = refl }, c37 s)
+c38 s = (record { once = omega arith; adds = λ m e. absurd cc; starts = λ w. absurd (let b = w.blocks in cc); tries = omega arith; obeyed = λ e. refl; changed = refl }, c37 s)
 
 abbrev j39 : Settings → Journal
 j39 s = at_port (answered Bye) ∷ j38 s
 
 c39 : (s : Settings) → Conducted (first_state s) (j39 s)
-c39 s = (record { next = refl; empty = λ e. refl }, c38 s)
+c39 s = (record { next = refl; plain = refl; unowed = refl; empty = λ e. refl }, c38 s)
 
 abbrev j40 : Settings → Journal
 j40 s = turned Did ∷ j39 s
 
 c40 : (s : Settings) → Conducted (first_state s) (j40 s)
-c40 s = (record { once = omega arith; adds = λ m e. absurd cc; starts = λ w. absurd (let b = w.blocks in cc); tries = omega arith; obeyed = refl; changed = refl }, c39 s)
+c40 s = (record { once = omega arith; adds = λ m e. absurd cc; starts = λ w. absurd (let b = w.blocks in cc); tries = omega arith; obeyed = λ e. refl; changed = refl }, c39 s)
 
 abbrev j41 : Settings → Journal
 j41 s = turned Done ∷ j40 s

@@ -7,9 +7,11 @@ use Rattle.feed_hold.specs.declared.Motion.{Motion}
 use Rattle.feed_hold.specs.declared.Motion.TheVariants.{Holding}
 use Rattle.feed_hold.specs.Motions as motions
 use Rattle.feed_hold.specs.Motions.{Call}
-use Rattle.feed_hold.specs.Motions.Call.{on_exec}
+use Rattle.feed_hold.specs.Motions.Call.{on_exec, on_start, on_limit, on_pause, on_stopped, on_drained}
 use Rattle.feed_hold.proofs.Reaching.{StaysOrReaches, reached}
 use Rattle.overrides.specs.declared.Overrides.{Overrides}
+use Rattle.code_table.specs.declared.flags.Exec.{Exec}
+use Rattle.status_report.specs.Answering.{without_reports}
 use Rattle.status_report.specs.declared.Reply.{Reply}
 use Rattle.status_report.specs.declared.Reply.TheVariants.{Banner, Bye}
 use Rattle.step_line.specs.declared.Piece.{Piece}
@@ -27,10 +29,12 @@ use Rattle.run_rules.specs.Work as work
 use Rattle.run_rules.specs.Work.Task.{ask, tell, pause, normal, finish}
 use Rattle.run_rules.specs.Told.{replies_in, asked_in}
 use Rattle.board_rules.specs.Ports.{PortStep, has_changes, holds_at, has_held_in, changes_at, has_changed_in}
-use Rattle.board_rules.specs.Ports.PortStep.{took, found_empty, found_closed, found_free, answered, no_reply_room, took_exec, took_ovr, published, no_piece_room, loaded}
+use Rattle.board_rules.specs.Ports.PortStep.{took, found_empty, found_closed, found_free, answered, reported, no_reply_room, took_exec, took_ovr, published, no_piece_room, loaded}
 use Rattle.board_rules.specs.Steps.{Journal, port_log, outcomes_of, answered_of, actions_of, planned_of, given_of, published_of, hand_of, plan_of, motion_of, left_of, left_by, behind, closed_tells}
 use Rattle.board_rules.specs.Steps.Step.{at_port, began, did, made_end, evened, paused, became, closing, turned}
+use Rattle.board_rules.specs.Turns.{unobeyed_of}
 use Rattle.board_rules.specs.Conduct.{Conducted, MayDo, MayHappen, AreChanged}
+use Rattle.board_rules.proofs.Plain.{plain_push, report_push}
 
 -- ---- what disturbs the plan
 
@@ -42,12 +46,13 @@ or_right : (a b : Bool) → b ≡ true → (a || b) ≡ true
 or_right true b e = refl
 or_right false b e = e
 
-held_before : (e : PortStep) (held : Bool) → held ≡ true → holds_at e held ≡ true
+pub held_before : (e : PortStep) (held : Bool) → held ≡ true → holds_at e held ≡ true
 held_before (took b) held is = is
 held_before found_empty held is = is
 held_before found_closed held is = is
 held_before (found_free n) held is = is
 held_before (answered r) held is = is
+held_before (reported r) held is = is
 held_before no_reply_room held is = is
 held_before (took_exec word) held is = or_right (motions.asks word motions.hold_byte) held is
 held_before (took_ovr word) held is = is
@@ -61,6 +66,7 @@ changed_before found_empty changed is = is
 changed_before found_closed changed is = is
 changed_before (found_free n) changed is = is
 changed_before (answered r) changed is = is
+changed_before (reported r) changed is = is
 changed_before no_reply_room changed is = is
 changed_before (took_exec word) changed is = is
 changed_before (took_ovr word) changed is = or_right (has_changes word) changed is
@@ -68,11 +74,55 @@ changed_before (published p) changed is = is
 changed_before (no_piece_room done) changed is = is
 changed_before (loaded done) changed is = is
 
+abbrev asks_hold : Exec → Bool
+asks_hold word = motions.asks word motions.hold_byte
+
+drop_any : (p : Exec → Bool) (words : List Exec) → list_any p (drop 1 words) ≡ true → list_any p words ≡ true
+drop_any p [] is = is
+drop_any p (w ∷ words) is = or_right (p w) (list_any p words) is
+
+-- of a word that is taken, or of one before
+one_more : (before held asked : Bool) → (before ≡ true → held ≡ true) → (before || (asked || false)) ≡ true → (asked || held) ≡ true
+one_more true held asked was is = or_right asked held (was refl)
+one_more false held true was is = refl
+one_more false held false was is = absurd cc
+
+-- a word that is not obeyed yet was taken
+unobeyed_taken : (h : Journal) → list_any asks_hold (unobeyed_of h) ≡ true → has_held_in (port_log h) ≡ true
+unobeyed_taken [] is = absurd cc
+unobeyed_taken (at_port (took_exec word) ∷ h) is =
+    one_more (list_any asks_hold (unobeyed_of h)) (has_held_in (port_log h)) (asks_hold word) (unobeyed_taken h)
+    (sym (list_any-append asks_hold (unobeyed_of h) (word ∷ [])) ∙ is)
+unobeyed_taken (at_port (took b) ∷ h) is = unobeyed_taken h is
+unobeyed_taken (at_port found_empty ∷ h) is = unobeyed_taken h is
+unobeyed_taken (at_port found_closed ∷ h) is = unobeyed_taken h is
+unobeyed_taken (at_port (found_free n) ∷ h) is = unobeyed_taken h is
+unobeyed_taken (at_port (answered r) ∷ h) is = unobeyed_taken h is
+unobeyed_taken (at_port (reported r) ∷ h) is = unobeyed_taken h is
+unobeyed_taken (at_port no_reply_room ∷ h) is = unobeyed_taken h is
+unobeyed_taken (at_port (took_ovr word) ∷ h) is = unobeyed_taken h is
+unobeyed_taken (at_port (published p) ∷ h) is = unobeyed_taken h is
+unobeyed_taken (at_port (no_piece_room done) ∷ h) is = unobeyed_taken h is
+unobeyed_taken (at_port (loaded done) ∷ h) is = unobeyed_taken h is
+unobeyed_taken (began o ∷ h) is = unobeyed_taken h is
+unobeyed_taken (did a ps ∷ h) is = unobeyed_taken h is
+unobeyed_taken (made_end ∷ h) is = unobeyed_taken h is
+unobeyed_taken (evened ∷ h) is = unobeyed_taken h is
+unobeyed_taken (paused ∷ h) is = unobeyed_taken h is
+unobeyed_taken (became (on_exec word queued) m ∷ h) is = unobeyed_taken h (drop_any asks_hold (unobeyed_of h) is)
+unobeyed_taken (became (on_start b) m ∷ h) is = unobeyed_taken h is
+unobeyed_taken (became on_limit m ∷ h) is = unobeyed_taken h is
+unobeyed_taken (became on_pause m ∷ h) is = unobeyed_taken h is
+unobeyed_taken (became on_stopped m ∷ h) is = unobeyed_taken h is
+unobeyed_taken (became on_drained m ∷ h) is = unobeyed_taken h is
+unobeyed_taken (closing ∷ h) is = unobeyed_taken h is
+unobeyed_taken (turned t ∷ h) is = unobeyed_taken h is
+
 -- a machine slows down to be held only by a word that asks for it
-by_call : (h : Journal) (call : Call) → MayHappen call h → motions.IsBy motions.hold_byte call → has_held_in (port_log h) ≡ true
+pub by_call : (h : Journal) (call : Call) → MayHappen call h → motions.IsBy motions.hold_byte call → has_held_in (port_log h) ≡ true
 by_call h call may (word, queued, is, asked) =
     let obeys : MayHappen (on_exec word queued) h = subst (λ (x : Call). MayHappen x h) is may in
-    ap has_held_in obeys.last ∙ or_left (motions.asks word motions.hold_byte) (has_held_in obeys.earlier) asked
+    unobeyed_taken h (ap (list_any asks_hold) obeys.next ∙ or_left (motions.asks word motions.hold_byte) false asked)
 
 by_motion : (h : Journal) (call : Call) (m : Motion) → MayHappen call h → StaysOrReaches m call (motion_of h) → m ≡ Holding
     → (motion_of h ≡ Holding → has_held_in (port_log h) ≡ true) → has_held_in (port_log h) ≡ true
@@ -124,6 +174,7 @@ ends_by_line first (at_port found_empty ∷ h) c is = ends_by_line first h c.1 i
 ends_by_line first (at_port found_closed ∷ h) c is = ends_by_line first h c.1 is
 ends_by_line first (at_port (found_free n) ∷ h) c is = ends_by_line first h c.1 is
 ends_by_line first (at_port (answered r) ∷ h) c is = ends_by_line first h c.1 (normal_before (left_of h) is)
+ends_by_line first (at_port (reported r) ∷ h) c is = ends_by_line first h c.1 is
 ends_by_line first (at_port no_reply_room ∷ h) c is = ends_by_line first h c.1 is
 ends_by_line first (at_port (took_exec word) ∷ h) c is = ends_by_line first h c.1 is
 ends_by_line first (at_port (took_ovr word) ∷ h) c is = ends_by_line first h c.1 is
@@ -209,7 +260,7 @@ run_is first (closing ∷ h) c = run_is first h c.1
 run_is first (turned t ∷ h) c = run_is first h c.1
 
 -- a word that did not come before did not come earlier
-unchanged_before : (e : PortStep) (changed : Bool) → changes_at e changed ≡ false → changed ≡ false
+pub unchanged_before : (e : PortStep) (changed : Bool) → changes_at e changed ≡ false → changed ≡ false
 unchanged_before e false is = refl
 unchanged_before e true is = absurd (let s = changed_before e true refl in cc)
 
@@ -247,6 +298,7 @@ hand_is first (at_port found_empty ∷ h) c = hand_is first h c.1
 hand_is first (at_port found_closed ∷ h) c = hand_is first h c.1
 hand_is first (at_port (found_free n) ∷ h) c = hand_is first h c.1
 hand_is first (at_port (answered r) ∷ h) c = hand_is first h c.1
+hand_is first (at_port (reported r) ∷ h) c = hand_is first h c.1
 hand_is first (at_port no_reply_room ∷ h) c = hand_is first h c.1
 hand_is first (at_port (took_exec word) ∷ h) c = hand_is first h c.1
 hand_is first (at_port (took_ovr word) ∷ h) c = hand_is first h c.1
@@ -305,6 +357,7 @@ asked_is first (at_port found_empty ∷ h) c = asked_is first h c.1
 asked_is first (at_port found_closed ∷ h) c = asked_is first h c.1
 asked_is first (at_port (found_free n) ∷ h) c = asked_is first h c.1
 asked_is first (at_port (answered r) ∷ h) c = asked_is first h c.1 ∙ ap (asked h) c.0.next
+asked_is first (at_port (reported r) ∷ h) c = asked_is first h c.1
 asked_is first (at_port no_reply_room ∷ h) c = asked_is first h c.1
 asked_is first (at_port (took_exec word) ∷ h) c = asked_is first h c.1
 asked_is first (at_port (took_ovr word) ∷ h) c = asked_is first h c.1
@@ -328,12 +381,12 @@ asked_is first (turned t ∷ h) c = asked_is first h c.1
 abbrev told : Journal → List Reply
 told h = replies_in (outcomes_of h) ++ closed_tells h
 
--- what was answered, and what is left to tell
+-- what was answered, reports left out, and what is left to tell
 abbrev sides : Journal → List Task → List Reply
-sides h tasks = answered_of h ++ tells tasks
+sides h tasks = without_reports (answered_of h) ++ tells tasks
 
 told_by_next : (h : Journal) (t : Task) → left_of h ≡ t ∷ drop 1 (left_of h) → told_by t ≡ [] → sides h (left_of h) ≡ sides h (drop 1 (left_of h))
-told_by_next h t next none = ap (sides h) next ∙ ap (λ (rs : List Reply). answered_of h ++ (rs ++ tells (drop 1 (left_of h)))) none
+told_by_next h t next none = ap (sides h) next ∙ ap (λ (rs : List Reply). without_reports (answered_of h) ++ (rs ++ tells (drop 1 (left_of h)))) none
 
 told_behind : (h : Journal) (a : Action) → MayDo a h → sides h (left_of h) ≡ sides h (left_by a (left_of h))
 told_behind h (Add m) may = told_by_next h (ask (a_move m)) may refl
@@ -345,7 +398,7 @@ told_behind h (Override o) may = refl
 told_behind h Clear may = absurd may
 told_behind h Reset may = absurd may
 
--- what is told of the lines is what was answered, and what is left to tell
+-- what is told of the lines is what was answered, reports left out, and what is left to tell
 pub told_is : (first : State) (h : Journal) → Conducted first h → told h ≡ sides h (left_of h)
 told_is first [] c = refl
 told_is first (at_port (took b) ∷ h) c = told_is first h c.1
@@ -353,7 +406,10 @@ told_is first (at_port found_empty ∷ h) c = told_is first h c.1
 told_is first (at_port found_closed ∷ h) c = told_is first h c.1
 told_is first (at_port (found_free n) ∷ h) c = told_is first h c.1
 told_is first (at_port (answered r) ∷ h) c =
-    told_is first h c.1 ∙ ap (sides h) c.0.next ∙ sym (append_assoc (answered_of h) (r ∷ []) (tells (drop 1 (left_of h))))
+    told_is first h c.1 ∙ ap (sides h) c.0.next ∙ sym (append_assoc (without_reports (answered_of h)) (r ∷ []) (tells (drop 1 (left_of h))))
+    ∙ ap (λ (rs : List Reply). rs ++ tells (drop 1 (left_of h))) (sym (plain_push (answered_of h) r c.0.plain))
+told_is first (at_port (reported r) ∷ h) c =
+    told_is first h c.1 ∙ ap (λ (rs : List Reply). rs ++ tells (left_of h)) (sym (report_push (answered_of h) r))
 told_is first (at_port no_reply_room ∷ h) c = told_is first h c.1
 told_is first (at_port (took_exec word) ∷ h) c = told_is first h c.1
 told_is first (at_port (took_ovr word) ∷ h) c = told_is first h c.1
@@ -367,7 +423,7 @@ told_is first (began o ∷ h) c =
     ∙ ap (λ (a : List Reply). replies_in (outcomes_of h) ++ a) (append-nil (tells o.work))
     ∙ ap (λ (a : List Reply). a ++ tells o.work)
     (sym (append-nil (replies_in (outcomes_of h))) ∙ ap (λ (rs : List Reply). replies_in (outcomes_of h) ++ rs) (sym c.0.going)
-    ∙ told_is first h c.1 ∙ ap (sides h) c.0.free ∙ append-nil (answered_of h))
+    ∙ told_is first h c.1 ∙ ap (sides h) c.0.free ∙ append-nil (without_reports (answered_of h)))
 told_is first (did a ps ∷ h) c = told_is first h c.1 ∙ told_behind h a c.0.0
 told_is first (made_end ∷ h) c = told_is first h c.1 ∙ told_by_next h finish c.0.rests.next refl
 told_is first (evened ∷ h) c = told_is first h c.1 ∙ told_by_next h normal c.0.rests.next refl
@@ -375,5 +431,5 @@ told_is first (paused ∷ h) c = told_is first h c.1 ∙ told_by_next h pause c.
 told_is first (became call m ∷ h) c = told_is first h c.1
 told_is first (closing ∷ h) c =
     sym (append_assoc (replies_in (outcomes_of h)) (closed_tells h) (Bye ∷ []))
-    ∙ ap (λ (rs : List Reply). rs ++ Bye ∷ []) (told_is first h c.1 ∙ ap (sides h) c.0.free ∙ append-nil (answered_of h))
+    ∙ ap (λ (rs : List Reply). rs ++ Bye ∷ []) (told_is first h c.1 ∙ ap (sides h) c.0.free ∙ append-nil (without_reports (answered_of h)))
 told_is first (turned t ∷ h) c = told_is first h c.1

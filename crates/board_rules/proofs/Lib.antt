@@ -1,4 +1,5 @@
 pub mod Tasks
+pub mod Plain
 pub mod Keeping
 pub mod Given
 pub mod Lines
@@ -17,6 +18,11 @@ pub mod Limits
 pub mod Turning
 pub mod Waiting
 pub mod MovingExample
-pub mod Refusing
 pub mod Leading
 pub mod Placing
+pub mod Owing
+pub mod Growing
+pub mod Phases
+pub mod Calming
+pub mod Reporting
+pub mod Refusing

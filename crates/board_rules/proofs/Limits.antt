@@ -6,6 +6,7 @@ use Rattle.std.proofs.lemmas.List.{length-append, length-map}
 use Rattle.std.proofs.lemmas.List.Sums.{count_by-le-length}
 use Rattle.units.specs.declared.Move.{Move as Way}
 use Rattle.units.specs.Lengths.{IsCoordinate, IsMove}
+use Rattle.status_report.specs.Answering.{without_reports}
 use Rattle.status_report.specs.declared.Reply.{Reply}
 use Rattle.step_line.specs.declared.Piece.{Piece}
 use Rattle.step_line.specs.declared.Piece.TheVariants as pieces
@@ -30,10 +31,12 @@ use Rattle.run_rules.specs.Work.{Outcome, asks, tells}
 use Rattle.run_rules.specs.Outcomes.{Before, Follows, start, after}
 use Rattle.run_rules.specs.Outcomes.Passed.{a_line}
 use Rattle.run_rules.specs.Told.{asked_in, replies_in}
-use Rattle.board_rules.specs.Ports.PortStep.{took, found_empty, found_closed, found_free, answered, no_reply_room, took_exec, took_ovr, published, no_piece_room, loaded}
+use Rattle.board_rules.specs.Ports.PortStep.{took, found_empty, found_closed, found_free, answered, reported, no_reply_room, took_exec, took_ovr, published, no_piece_room, loaded}
 use Rattle.board_rules.specs.Steps.{Journal, taken_of, answered_of, published_of, lines_of, outcomes_of, before_of, left_of, closed_tells, actions_of, planned_of, hand_of, plan_of, open_of, whole_of}
 use Rattle.board_rules.specs.Steps.Step.{at_port, began, did, made_end, evened, paused, became, closing, turned}
 use Rattle.board_rules.specs.Conduct.{Conducted, IsInHand, ticks_given, ticks_published}
+use Rattle.board_rules.proofs.Plain.{length_apart}
+use Rattle.board_rules.proofs.Owing.{few_reports}
 use Rattle.board_rules.proofs.Keeping.{run_is, never_clears, asked_is, told_is, hand_is}
 use Rattle.board_rules.proofs.Lines.{bytes_are, lines_follow}
 use Rattle.step_line.proofs.Finished.{together_both}
@@ -54,6 +57,7 @@ few_taken first (at_port found_empty ∷ h) c = few_taken first h c.1
 few_taken first (at_port found_closed ∷ h) c = few_taken first h c.1
 few_taken first (at_port (found_free n) ∷ h) c = few_taken first h c.1
 few_taken first (at_port (answered r) ∷ h) c = few_taken first h c.1
+few_taken first (at_port (reported r) ∷ h) c = few_taken first h c.1
 few_taken first (at_port no_reply_room ∷ h) c = few_taken first h c.1
 few_taken first (at_port (took_exec word) ∷ h) c = few_taken first h c.1
 few_taken first (at_port (took_ovr word) ∷ h) c = few_taken first h c.1
@@ -143,7 +147,7 @@ moves_planned most p last (Mark m ∷ more) (pieces.Segment s ∷ ps) run = absu
 moves_planned most p last (Mark m ∷ more) (pieces.End ∷ ps) run = absurd run
 
 -- the end has none
-same_ticks : (h : Journal) → At h → ticks_given h ≡ ticks_together (planned_of h)
+pub same_ticks : (h : Journal) → At h → ticks_given h ≡ ticks_together (planned_of h)
 same_ticks h (going e is) = ap ticks_together is
 same_ticks h (to_finish e l w is) = ap ticks_together is
 same_ticks h (to_tell e l w p is k) = ap ticks_together is ∙ no_more_ticks (planned_of h)
@@ -188,5 +192,7 @@ few_answered first h c =
     let closed = closing_few h (phase_is first h c) in
     let same = ap (λ (rs : List Reply). length rs) (told_is first h c) in
     let left = length-append (replies_in (outcomes_of h)) (closed_tells h) in
-    let right = length-append (answered_of h) (tells (left_of h)) in
+    let right = length-append (without_reports (answered_of h)) (tells (left_of h)) in
+    let apart = length_apart (answered_of h) in
+    let reports = few_reports first h c in
     omega arith

@@ -15,7 +15,7 @@ use Rattle.run_rules.specs.Outcomes.{Passed, Follows, start, after}
 use Rattle.run_rules.specs.Outcomes.Passed.{a_line}
 use Rattle.run_rules.proofs.Going.{goes_on, becomes_on}
 use Rattle.board_rules.specs.Steps.{Journal, taken_of, open_of, whole_of, lines_of, outcomes_of, before_of, motion_of, left_of, left_by, closed_tells}
-use Rattle.board_rules.specs.Ports.PortStep.{took, found_empty, found_closed, found_free, answered, no_reply_room, took_exec, took_ovr, published, no_piece_room, loaded}
+use Rattle.board_rules.specs.Ports.PortStep.{took, found_empty, found_closed, found_free, answered, reported, no_reply_room, took_exec, took_ovr, published, no_piece_room, loaded}
 use Rattle.board_rules.specs.Steps.Step.{at_port, began, did, made_end, evened, paused, became, closing, turned}
 use Rattle.board_rules.specs.Turns.{is_run}
 use Rattle.board_rules.specs.Conduct.{Conducted, MayDo}
@@ -62,6 +62,7 @@ bytes_are first (at_port found_empty ∷ h) c = bytes_are first h c.1
 bytes_are first (at_port found_closed ∷ h) c = bytes_are first h c.1
 bytes_are first (at_port (found_free n) ∷ h) c = bytes_are first h c.1
 bytes_are first (at_port (answered r) ∷ h) c = bytes_are first h c.1
+bytes_are first (at_port (reported r) ∷ h) c = bytes_are first h c.1
 bytes_are first (at_port no_reply_room ∷ h) c = bytes_are first h c.1
 bytes_are first (at_port (took_exec word) ∷ h) c = bytes_are first h c.1
 bytes_are first (at_port (took_ovr word) ∷ h) c = bytes_are first h c.1
@@ -121,6 +122,7 @@ one_by_one first (at_port found_empty ∷ h) c going = one_by_one first h c.1 go
 one_by_one first (at_port found_closed ∷ h) c going = one_by_one first h c.1 going
 one_by_one first (at_port (found_free n) ∷ h) c going = one_by_one first h c.1 going
 one_by_one first (at_port (answered r) ∷ h) c going = on_task h (tell r) c.0.next (one_by_one first h c.1 going)
+one_by_one first (at_port (reported r) ∷ h) c going = one_by_one first h c.1 going
 one_by_one first (at_port no_reply_room ∷ h) c going = one_by_one first h c.1 going
 one_by_one first (at_port (took_exec word) ∷ h) c going = one_by_one first h c.1 going
 one_by_one first (at_port (took_ovr word) ∷ h) c going = one_by_one first h c.1 going

@@ -1,5 +1,5 @@
 -- A whole run of a board to which one line comes that moves the machine by one segment: the rules allow it.
-use Rattle.std.proofs.Common.{◌≡◌, [], ◌∷◌, inl, true, false, refl, sym, ap, ◌∙◌, arith}
+use Rattle.std.proofs.Common.{◌≡◌, ℕ, ◌≤◌, Bool, cond, nat_lt, [], ◌∷◌, inl, true, false, refl, sym, ap, ◌∙◌, arith}
 use Rattle.std.specs.List.{Contains}
 use Rattle.feed_hold.specs.declared.Motion.TheVariants as motions
 use Rattle.feed_hold.specs.Motions.Call.{on_start, on_drained}
@@ -20,7 +20,7 @@ use Rattle.step_line.specs.Asking.Asked.{a_move}
 use Rattle.step_line.specs.declared.Piece.TheVariants as pieces
 use Rattle.step_line.specs.declared.Segment.{Segment}
 use Rattle.step_line.specs.declared.planned_move.PlannedMove.{PlannedMove}
-use Rattle.step_line.specs.Finishing.{ticks_together}
+use Rattle.step_line.specs.Finishing.{tick_count, ticks_together}
 use Rattle.board_rules.specs.Ports.PortStep.{took, found_empty, found_closed, answered, published, loaded}
 use Rattle.board_rules.specs.Steps.{Journal}
 use Rattle.board_rules.specs.Steps.Step.{at_port, began, did, made_end, became, closing, turned}
@@ -43,6 +43,10 @@ pub record IsOneSegment (first last : State) (m : PlannedMove) (s : Segment) : T
 no_blocks : (m : PlannedMove) (s : Segment) → IsAtRest (advanced (with_move fresh_plan m) s.n s.w_out) → has_blocks (advanced (with_move fresh_plan m) s.n s.w_out).blocks ≡ true → ⊥
 no_blocks m s rests some = absurd (let e = sym some ∙ ap has_blocks rests.blocks in cc)
 
+one_unfinished : (is : Bool) → cond {A = ℕ} is 1 0 ≤ 5
+one_unfinished true = omega arith
+one_unfinished false = omega arith
+
 none_in : (o : On) → Contains [] o → ⊥
 none_in o c = absurd (let f = c.1 in omega arith)
 
@@ -56,13 +60,13 @@ abbrev j1 : State → PlannedMove → Segment → Journal
 j1 last m s = at_port (answered Banner) ∷ j0 last m s
 
 c1 : (first last : State) (m : PlannedMove) (s : Segment) → IsOneSegment first last m s → Conducted first (j1 last m s)
-c1 first last m s p = (record { next = refl; empty = λ e. absurd cc }, c0 first last m s p)
+c1 first last m s p = (record { next = refl; plain = refl; unowed = refl; empty = λ e. absurd cc }, c0 first last m s p)
 
 abbrev j2 : State → PlannedMove → Segment → Journal
 j2 last m s = turned Did ∷ j1 last m s
 
 c2 : (first last : State) (m : PlannedMove) (s : Segment) → IsOneSegment first last m s → Conducted first (j2 last m s)
-c2 first last m s p = (record { once = omega arith; adds = λ m e. absurd cc; starts = λ w. absurd (let b = w.blocks in cc); tries = omega arith; obeyed = refl; changed = refl }, c1 first last m s p)
+c2 first last m s p = (record { once = omega arith; adds = λ m e. absurd cc; starts = λ w. absurd (let b = w.blocks in cc); tries = omega arith; obeyed = λ e. refl; changed = refl }, c1 first last m s p)
 
 abbrev j3 : State → PlannedMove → Segment → Journal
 j3 last m s = at_port (took 71) ∷ j2 last m s
@@ -74,7 +78,7 @@ abbrev j4 : State → PlannedMove → Segment → Journal
 j4 last m s = turned Did ∷ j3 last m s
 
 c4 : (first last : State) (m : PlannedMove) (s : Segment) → IsOneSegment first last m s → Conducted first (j4 last m s)
-c4 first last m s p = (record { once = omega arith; adds = λ m e. absurd cc; starts = λ w. absurd (let b = w.blocks in cc); tries = omega arith; obeyed = refl; changed = refl }, c3 first last m s p)
+c4 first last m s p = (record { once = omega arith; adds = λ m e. absurd cc; starts = λ w. absurd (let b = w.blocks in cc); tries = omega arith; obeyed = λ e. refl; changed = refl }, c3 first last m s p)
 
 abbrev j5 : State → PlannedMove → Segment → Journal
 j5 last m s = at_port (took 10) ∷ j4 last m s
@@ -86,7 +90,7 @@ abbrev j6 : State → PlannedMove → Segment → Journal
 j6 last m s = turned Did ∷ j5 last m s
 
 c6 : (first last : State) (m : PlannedMove) (s : Segment) → IsOneSegment first last m s → Conducted first (j6 last m s)
-c6 first last m s p = (record { once = omega arith; adds = λ m e. absurd cc; starts = λ w. absurd (let b = w.blocks in cc); tries = omega arith; obeyed = refl; changed = refl }, c5 first last m s p)
+c6 first last m s p = (record { once = omega arith; adds = λ m e. absurd cc; starts = λ w. absurd (let b = w.blocks in cc); tries = omega arith; obeyed = λ e. refl; changed = refl }, c5 first last m s p)
 
 abbrev j7 : State → PlannedMove → Segment → Journal
 j7 last m s = unchanged no_changes (j6 last m s)
@@ -98,19 +102,19 @@ abbrev j8 : State → PlannedMove → Segment → Journal
 j8 last m s = requested nothing motions.Idle (j7 last m s)
 
 c8 : (first last : State) (m : PlannedMove) (s : Segment) → IsOneSegment first last m s → Conducted first (j8 last m s)
-c8 first last m s p = may_request first nothing motions.Idle (j7 last m s) (c7 first last m s p) refl (λ slows. absurd cc) refl (λ e. inl refl)
+c8 first last m s p = may_request first nothing motions.Idle (j7 last m s) (c7 first last m s p) refl refl refl (λ slows. absurd cc) refl (λ e. inl refl)
 
 abbrev j9 : State → PlannedMove → Segment → Journal
 j9 last m s = at_port (loaded 0) ∷ j8 last m s
 
 c9 : (first last : State) (m : PlannedMove) (s : Segment) → IsOneSegment first last m s → Conducted first (j9 last m s)
-c9 first last m s p = (record { later = omega arith; below = omega arith }, c8 first last m s p)
+c9 first last m s p = (record { later = omega arith; below = omega arith; few = omega arith }, c8 first last m s p)
 
 abbrev j10 : State → PlannedMove → Segment → Journal
 j10 last m s = began (moved m last) ∷ j9 last m s
 
 c10 : (first last : State) (m : PlannedMove) (s : Segment) → IsOneSegment first last m s → Conducted first (j10 last m s)
-c10 first last m s p = (record { free = refl; going = refl; whole = refl; becomes = p.becomes; refuses = λ runs. absurd cc; begins = refl; flags = refl; load = refl; idle = λ d. refl; starts = λ w. absurd (let b = w.blocks in cc); tried = refl }, c9 first last m s p)
+c10 first last m s p = (record { free = refl; going = refl; whole = refl; becomes = p.becomes; refuses = λ runs. absurd cc; begins = refl; flags = refl; obeyed = refl; unowed = refl; load = refl; idle = λ d. refl; starts = λ w. absurd (let b = w.blocks in cc); tried = refl }, c9 first last m s p)
 
 abbrev j11 : State → PlannedMove → Segment → Journal
 j11 last m s = did (Add m) [] ∷ j10 last m s
@@ -122,19 +126,19 @@ abbrev j12 : State → PlannedMove → Segment → Journal
 j12 last m s = turned Did ∷ j11 last m s
 
 c12 : (first last : State) (m : PlannedMove) (s : Segment) → IsOneSegment first last m s → Conducted first (j12 last m s)
-c12 first last m s p = (record { once = omega arith; adds = λ m e. absurd cc; starts = λ w. refl; tries = omega arith; obeyed = refl; changed = refl }, c11 first last m s p)
+c12 first last m s p = (record { once = omega arith; adds = λ m e. absurd cc; starts = λ w. refl; tries = omega arith; obeyed = λ e. refl; changed = refl }, c11 first last m s p)
 
 abbrev j13 : State → PlannedMove → Segment → Journal
 j13 last m s = at_port (answered Ok) ∷ j12 last m s
 
 c13 : (first last : State) (m : PlannedMove) (s : Segment) → IsOneSegment first last m s → Conducted first (j13 last m s)
-c13 first last m s p = (record { next = refl; empty = λ e. absurd cc }, c12 first last m s p)
+c13 first last m s p = (record { next = refl; plain = refl; unowed = refl; empty = λ e. absurd cc }, c12 first last m s p)
 
 abbrev j14 : State → PlannedMove → Segment → Journal
 j14 last m s = turned Did ∷ j13 last m s
 
 c14 : (first last : State) (m : PlannedMove) (s : Segment) → IsOneSegment first last m s → Conducted first (j14 last m s)
-c14 first last m s p = (record { once = omega arith; adds = λ m e. absurd cc; starts = λ w. refl; tries = omega arith; obeyed = refl; changed = refl }, c13 first last m s p)
+c14 first last m s p = (record { once = omega arith; adds = λ m e. absurd cc; starts = λ w. refl; tries = omega arith; obeyed = λ e. refl; changed = refl }, c13 first last m s p)
 
 abbrev j15 : State → PlannedMove → Segment → Journal
 j15 last m s = at_port found_empty ∷ j14 last m s
@@ -152,7 +156,7 @@ abbrev j17 : State → PlannedMove → Segment → Journal
 j17 last m s = turned (Wait on.Byte) ∷ j16 last m s
 
 c17 : (first last : State) (m : PlannedMove) (s : Segment) → IsOneSegment first last m s → Conducted first (j17 last m s)
-c17 first last m s p = (record { ends = record { once = omega arith; adds = λ m e. absurd cc; starts = λ w. absurd (let b = w.stands in cc); tries = omega arith; obeyed = refl; changed = refl }; cause = record { poll = refl; free = refl; partial = refl }; still = refl; flags = refl; round = λ due c. none_in on.Byte c }, c16 first last m s p)
+c17 first last m s p = (record { ends = record { once = omega arith; adds = λ m e. absurd cc; starts = λ w. absurd (let b = w.stands in cc); tries = omega arith; obeyed = λ e. refl; changed = refl }; cause = record { poll = refl; free = refl; partial = refl }; still = refl; flags = refl; obeyed = refl; unowed = λ owed. absurd cc; round = λ due c. none_in on.Byte c }, c16 first last m s p)
 
 abbrev j18 : State → PlannedMove → Segment → Journal
 j18 last m s = unchanged no_changes (j17 last m s)
@@ -164,7 +168,7 @@ abbrev j19 : State → PlannedMove → Segment → Journal
 j19 last m s = requested nothing motions.Run (j18 last m s)
 
 c19 : (first last : State) (m : PlannedMove) (s : Segment) → IsOneSegment first last m s → Conducted first (j19 last m s)
-c19 first last m s p = may_request first nothing motions.Run (j18 last m s) (c18 first last m s p) refl (λ slows. absurd cc) refl (λ e. absurd cc)
+c19 first last m s p = may_request first nothing motions.Run (j18 last m s) (c18 first last m s p) refl refl refl (λ slows. absurd cc) refl (λ e. absurd cc)
 
 abbrev j20 : State → PlannedMove → Segment → Journal
 j20 last m s = did (Take Go) (pieces.Segment s ∷ []) ∷ j19 last m s
@@ -182,7 +186,7 @@ abbrev j22 : State → PlannedMove → Segment → Journal
 j22 last m s = turned Did ∷ j21 last m s
 
 c22 : (first last : State) (m : PlannedMove) (s : Segment) → IsOneSegment first last m s → Conducted first (j22 last m s)
-c22 first last m s p = (record { once = omega arith; adds = λ m e. absurd cc; starts = λ w. absurd (let b = w.stands in cc); tries = omega arith; obeyed = refl; changed = refl }, c21 first last m s p)
+c22 first last m s p = (record { once = omega arith; adds = λ m e. absurd cc; starts = λ w. absurd (let b = w.stands in cc); tries = omega arith; obeyed = λ e. refl; changed = refl }, c21 first last m s p)
 
 abbrev j23 : State → PlannedMove → Segment → Journal
 j23 last m s = at_port found_empty ∷ j22 last m s
@@ -194,7 +198,7 @@ abbrev j24 : State → PlannedMove → Segment → Journal
 j24 last m s = at_port (loaded (ticks_together (pieces.Segment s ∷ []))) ∷ j23 last m s
 
 c24 : (first last : State) (m : PlannedMove) (s : Segment) → IsOneSegment first last m s → Conducted first (j24 last m s)
-c24 first last m s p = (record { later = omega arith; below = omega arith }, c23 first last m s p)
+c24 first last m s p = (record { later = omega arith; below = omega arith; few = one_unfinished (nat_lt (ticks_together (pieces.Segment s ∷ [])) (tick_count (pieces.Segment s))) }, c23 first last m s p)
 
 abbrev j25 : State → PlannedMove → Segment → Journal
 j25 last m s = became on_drained motions.Idle ∷ j24 last m s
@@ -206,7 +210,7 @@ abbrev j26 : State → PlannedMove → Segment → Journal
 j26 last m s = turned (Wait on.Byte) ∷ j25 last m s
 
 c26 : (first last : State) (m : PlannedMove) (s : Segment) → IsOneSegment first last m s → Conducted first (j26 last m s)
-c26 first last m s p = (record { ends = record { once = omega arith; adds = λ m e. absurd cc; starts = λ w. absurd (no_blocks m s p.rests w.blocks); tries = omega arith; obeyed = refl; changed = refl }; cause = record { poll = refl; free = refl; partial = refl }; still = refl; flags = refl; round = λ due. absurd cc }, c25 first last m s p)
+c26 first last m s p = (record { ends = record { once = omega arith; adds = λ m e. absurd cc; starts = λ w. absurd (no_blocks m s p.rests w.blocks); tries = omega arith; obeyed = λ e. refl; changed = refl }; cause = record { poll = refl; free = refl; partial = refl }; still = refl; flags = refl; obeyed = refl; unowed = λ owed. absurd cc; round = λ due. absurd cc }, c25 first last m s p)
 
 abbrev j27 : State → PlannedMove → Segment → Journal
 j27 last m s = unchanged no_changes (j26 last m s)
@@ -218,7 +222,7 @@ abbrev j28 : State → PlannedMove → Segment → Journal
 j28 last m s = requested nothing motions.Idle (j27 last m s)
 
 c28 : (first last : State) (m : PlannedMove) (s : Segment) → IsOneSegment first last m s → Conducted first (j28 last m s)
-c28 first last m s p = may_request first nothing motions.Idle (j27 last m s) (c27 first last m s p) refl (λ slows. absurd cc) refl (λ e. inl refl)
+c28 first last m s p = may_request first nothing motions.Idle (j27 last m s) (c27 first last m s p) refl refl refl (λ slows. absurd cc) refl (λ e. inl refl)
 
 abbrev j29 : State → PlannedMove → Segment → Journal
 j29 last m s = at_port found_closed ∷ j28 last m s
@@ -248,19 +252,19 @@ abbrev j33 : State → PlannedMove → Segment → Journal
 j33 last m s = turned Did ∷ j32 last m s
 
 c33 : (first last : State) (m : PlannedMove) (s : Segment) → IsOneSegment first last m s → Conducted first (j33 last m s)
-c33 first last m s p = (record { once = omega arith; adds = λ m e. absurd cc; starts = λ w. absurd (no_blocks m s p.rests w.blocks); tries = omega arith; obeyed = refl; changed = refl }, c32 first last m s p)
+c33 first last m s p = (record { once = omega arith; adds = λ m e. absurd cc; starts = λ w. absurd (no_blocks m s p.rests w.blocks); tries = omega arith; obeyed = λ e. refl; changed = refl }, c32 first last m s p)
 
 abbrev j34 : State → PlannedMove → Segment → Journal
 j34 last m s = at_port (answered Bye) ∷ j33 last m s
 
 c34 : (first last : State) (m : PlannedMove) (s : Segment) → IsOneSegment first last m s → Conducted first (j34 last m s)
-c34 first last m s p = (record { next = refl; empty = λ e. refl }, c33 first last m s p)
+c34 first last m s p = (record { next = refl; plain = refl; unowed = refl; empty = λ e. refl }, c33 first last m s p)
 
 abbrev j35 : State → PlannedMove → Segment → Journal
 j35 last m s = turned Did ∷ j34 last m s
 
 c35 : (first last : State) (m : PlannedMove) (s : Segment) → IsOneSegment first last m s → Conducted first (j35 last m s)
-c35 first last m s p = (record { once = omega arith; adds = λ m e. absurd cc; starts = λ w. absurd (no_blocks m s p.rests w.blocks); tries = omega arith; obeyed = refl; changed = refl }, c34 first last m s p)
+c35 first last m s p = (record { once = omega arith; adds = λ m e. absurd cc; starts = λ w. absurd (no_blocks m s p.rests w.blocks); tries = omega arith; obeyed = λ e. refl; changed = refl }, c34 first last m s p)
 
 abbrev j36 : State → PlannedMove → Segment → Journal
 j36 last m s = turned Done ∷ j35 last m s

@@ -187,7 +187,7 @@ on_did first h Clear ps c may run j = absurd may
 on_did first h Reset ps c may run j = absurd may
 
 -- of what is done at the port only a reply that is answered is a task less
-on_port : (first : State) (h : Journal) (e : PortStep) → MayAtPort e h → JournalLeads first h → JournalLeads first (at_port e ∷ h)
+on_port : (first : State) (h : Journal) (e : PortStep) → MayAtPort first e h → JournalLeads first h → JournalLeads first (at_port e ∷ h)
 on_port first h (answered r) may j = keeps first h (at_port (answered r)) refl refl refl (popped first h (tell r) may.next refl j) j
 on_port first h e may j = keeps first h (at_port e) refl refl refl j.tasks j
 

@@ -16,7 +16,7 @@ use Rattle.run_rules.specs.Outcomes.{Before, Becomes, either, most_kept, refused
 use Rattle.system_lines.specs.Commands.{kind_of, needs_rest}
 use Rattle.board_rules.specs.Turns.{is_run, is_served_at_rest}
 use Rattle.board_rules.specs.Ports.{MayBeDone}
-use Rattle.board_rules.specs.Ports.PortStep.{took, found_empty, found_closed, found_free, answered, no_reply_room, took_exec, took_ovr, published, no_piece_room, loaded}
+use Rattle.board_rules.specs.Ports.PortStep.{took, found_empty, found_closed, found_free, answered, reported, no_reply_room, took_exec, took_ovr, published, no_piece_room, loaded}
 use Rattle.board_rules.specs.Steps.{Step, Journal, port_log, given_of, hand_of, known_of, plan_of, left_of, left_by, behind, before_of, closed_tells, open_of, motion_of}
 use Rattle.board_rules.specs.Steps.Step.{at_port, began, did, made_end, evened, paused, became, closing, turned}
 use Rattle.board_rules.specs.Conduct.{Conducted, Gives, MayDo, MayRest, MayPause, MayEven, IsDrained, ticks_given}
@@ -154,6 +154,7 @@ quiet first (at_port found_empty ∷ h) c going still = on_other h (at_port foun
 quiet first (at_port found_closed ∷ h) c going still = on_other h (at_port found_closed) refl refl refl refl refl (quiet first h c.1 going still)
 quiet first (at_port (found_free n) ∷ h) c going still = on_other h (at_port (found_free n)) refl refl refl refl refl (quiet first h c.1 going still)
 quiet first (at_port (answered r) ∷ h) c going still = on_answer h r c.0.next (quiet first h c.1 going still)
+quiet first (at_port (reported r) ∷ h) c going still = on_other h (at_port (reported r)) refl refl refl refl refl (quiet first h c.1 going still)
 quiet first (at_port no_reply_room ∷ h) c going still = on_other h (at_port no_reply_room) refl refl refl refl refl (quiet first h c.1 going still)
 quiet first (at_port (took_exec word) ∷ h) c going still = on_other h (at_port (took_exec word)) refl refl refl refl refl (quiet first h c.1 going still)
 quiet first (at_port (took_ovr word) ∷ h) c going still = on_other h (at_port (took_ovr word)) refl refl refl refl refl (quiet first h c.1 going still)

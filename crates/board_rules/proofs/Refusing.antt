@@ -1,51 +1,23 @@
 -- A line that is refused because the machine runs is begun where it does.
-use Rattle.std.proofs.Common.{◌≡◌, ◌≢◌, ℕ, ◌+◌, ◌≤◌, ◌<◌, ◌⊎◌, inl, inr, List, [], ◌∷◌, ◌++◌, Bool, true, false, nat_lt, refl, sym, ap, ◌∙◌, append-nil, subst, arith}
+use Rattle.std.proofs.Common.{◌≡◌, ◌≢◌, ℕ, ◌≤◌, ◌<◌, ◌⊎◌, inl, inr, List, [], ◌∷◌, ◌++◌, Bool, true, false, nat_lt, refl, sym, ap, ◌∙◌, append-nil, arith}
 use Rattle.std.proofs.lemmas.Bool.Decides.{nat_tests}
 use Rattle.feed_hold.specs.declared.Motion.{Motion}
 use Rattle.feed_hold.specs.declared.Motion.TheVariants.{Idle, Run, Holding, Held, Jog, Cancelling, Stopping, Alarm}
 use Rattle.planner_ring.specs.declared.Block.{Block}
-use Rattle.plan_passes.specs.Plans.{Planned}
-use Rattle.planner_runs.specs.Runs.{IsAtRest, fresh_plan, most_blocks}
+use Rattle.planner_runs.specs.Runs.{fresh_plan, most_blocks}
 use Rattle.planner_runs.proofs.Runs.{fresh_starts, rests_behind}
 use Rattle.step_line.specs.declared.Piece.{Piece}
-use Rattle.step_line.specs.Finishing.{tick_count, ticks_together}
-use Rattle.step_line.proofs.Finished.{together_both}
+use Rattle.step_line.specs.Finishing.{ticks_together}
 use Rattle.run_rules.specs.declared.State.{State}
 use Rattle.run_rules.specs.Work.{Outcome}
 use Rattle.run_rules.specs.Outcomes.{Before, Becomes, refused}
-use Rattle.board_rules.specs.Ports.PortStep.{took, found_empty, found_closed, found_free, answered, no_reply_room, took_exec, took_ovr, published, no_piece_room, loaded}
 use Rattle.board_rules.specs.Steps.{Journal, before_of, open_of, known_of, given_of, published_of, planned_of, actions_of, hand_of, plan_of, motion_of}
-use Rattle.board_rules.specs.Steps.Step.{at_port, began, did, made_end, evened, paused, became, closing, turned}
+use Rattle.board_rules.specs.Steps.Step.{began}
 use Rattle.board_rules.specs.Turns.{has_blocks, is_run, is_going}
-use Rattle.board_rules.specs.Conduct.{Conducted, IsDrained, ticks_given, ticks_published}
+use Rattle.board_rules.specs.Conduct.{Conducted, IsDrained, ticks_published}
 use Rattle.board_rules.specs.Whole.{IsFoundMoving}
-use Rattle.board_rules.proofs.Given.{published_within}
+use Rattle.board_rules.proofs.Given.{known_within}
 use Rattle.board_rules.proofs.Keeping.{run_is, hand_is}
-
--- no more is found done than is published
-pub known_within : (first : State) (h : Journal) → Conducted first h → known_of h ≤ ticks_published h
-known_within first [] c = omega arith
-known_within first (at_port (took b) ∷ h) c = known_within first h c.1
-known_within first (at_port found_empty ∷ h) c = known_within first h c.1
-known_within first (at_port found_closed ∷ h) c = known_within first h c.1
-known_within first (at_port (found_free n) ∷ h) c = known_within first h c.1
-known_within first (at_port (answered r) ∷ h) c = known_within first h c.1
-known_within first (at_port no_reply_room ∷ h) c = known_within first h c.1
-known_within first (at_port (took_exec word) ∷ h) c = known_within first h c.1
-known_within first (at_port (took_ovr word) ∷ h) c = known_within first h c.1
-known_within first (at_port (published p) ∷ h) c =
-    let low = known_within first h c.1 in
-    let all : ticks_together (published_of h ++ p ∷ []) ≡ ticks_published h + ticks_together (p ∷ []) = together_both (published_of h) (p ∷ []) in omega (arith, low, all)
-known_within first (at_port (no_piece_room done) ∷ h) c = known_within first h c.1
-known_within first (at_port (loaded done) ∷ h) c = c.0.below
-known_within first (began o ∷ h) c = known_within first h c.1
-known_within first (did a ps ∷ h) c = known_within first h c.1
-known_within first (made_end ∷ h) c = known_within first h c.1
-known_within first (evened ∷ h) c = known_within first h c.1
-known_within first (paused ∷ h) c = known_within first h c.1
-known_within first (became call m ∷ h) c = known_within first h c.1
-known_within first (closing ∷ h) c = known_within first h c.1
-known_within first (turned t ∷ h) c = known_within first h c.1
 
 run_goes : (m : Motion) → is_run m ≡ true → is_going m ≡ true
 run_goes Idle is = absurd cc

@@ -1,13 +1,18 @@
 -- What a board does turn by turn.
-use Rattle.std.proofs.Common.{◌≡◌, ℕ, ◌+◌, ◌≤◌, List, [], ◌∷◌, Bool, false, cond, refl, ap, arith}
+use Rattle.std.proofs.Common.{◌≡◌, ℕ, ◌+◌, ◌≤◌, List, [], ◌∷◌, ◌++◌, Bool, false, cond, length, drop, refl, ap, arith}
 use Rattle.std.specs.List.{count_by}
+use Rattle.std.proofs.lemmas.List.{length-append}
 use Rattle.std.proofs.lemmas.List.Sums.{sum_by-cons}
+use Rattle.code_table.specs.declared.flags.Exec.{Exec}
+use Rattle.feed_hold.specs.declared.Motion.{Motion}
+use Rattle.feed_hold.specs.Motions.Call.{on_exec, on_start, on_limit, on_pause, on_stopped, on_drained}
 use Rattle.outside.specs.declared.Turn.{Turn}
 use Rattle.outside.specs.declared.Turn.TheVariants.{Did, Wait, Done}
 use Rattle.run_rules.specs.declared.State.{State}
+use Rattle.board_rules.specs.Ports.PortStep.{took, found_empty, found_closed, found_free, answered, reported, no_reply_room, took_exec, took_ovr, published, no_piece_room, loaded}
 use Rattle.board_rules.specs.Steps.{Step, Journal}
 use Rattle.board_rules.specs.Steps.Step.{at_port, began, did, made_end, evened, paused, became, closing, turned}
-use Rattle.board_rules.specs.Turns.{this_turn, publishing, ends_turn, takes_requests, obeys, takes_changes, replans, tries_of, most_tries}
+use Rattle.board_rules.specs.Turns.{this_turn, publishing, ends_turn, takes_requests, obeys, unobeyed_of, owes_report, takes_changes, replans, tries_of, most_tries}
 use Rattle.board_rules.specs.Conduct.{Conducted, MayTurn}
 
 -- published so far, beside the turns that ended
@@ -116,14 +121,106 @@ as_often f g b first h c between =
     let right = ap (λ (ss : List Step). count_by g ss) between in
     omega arith
 
-obeyed_in : (t : Turn) (h : Journal) → MayTurn t h → count_by obeys (this_turn h) ≡ count_by takes_requests (this_turn h)
-obeyed_in Did h may = may.obeyed
-obeyed_in (Wait o) h may = may.ends.obeyed
-obeyed_in Done h may = rw may.still refl
+-- a word is taken, obeyed, or neither
+abbrev Obeys : Journal → List Exec → Type 0
+Obeys h words = count_by obeys h + length words ≡ count_by takes_requests h
 
--- each word of requests that was taken is obeyed
-pub obeyed_each : (first : State) (h : Journal) → Conducted first h → this_turn h ≡ [] → count_by obeys h ≡ count_by takes_requests h
-obeyed_each = as_often obeys takes_requests (record { left = λ t. refl; right = λ t. refl; each = obeyed_in })
+on_neither : (s : Step) (h : Journal) (words : List Exec) → obeys s ≡ false → takes_requests s ≡ false → Obeys h words → Obeys (s ∷ h) words
+on_neither s h words no_one none obeyed =
+    let a = sum_by-cons (λ x. cond (obeys x) 1 0) s h in
+    let b = sum_by-cons (λ x. cond (takes_requests x) 1 0) s h in
+    let left = ap (λ (is : Bool). cond {A = ℕ} is 1 0) no_one in
+    let right = ap (λ (is : Bool). cond {A = ℕ} is 1 0) none in
+    omega arith
+
+on_taken : (word : Exec) (h : Journal) (words : List Exec) → Obeys h words → Obeys (at_port (took_exec word) ∷ h) (words ++ word ∷ [])
+on_taken word h words obeyed =
+    let a = sum_by-cons (λ x. cond (obeys x) 1 0) (at_port (took_exec word)) h in
+    let b = sum_by-cons (λ x. cond (takes_requests x) 1 0) (at_port (took_exec word)) h in
+    let e = length-append words (word ∷ []) in
+    omega arith
+
+on_obeyed : (word : Exec) (queued : Bool) (m : Motion) (h : Journal) (words : List Exec) → words ≡ word ∷ [] → Obeys h words
+    → Obeys (became (on_exec word queued) m ∷ h) (drop 1 words)
+on_obeyed word queued m h words next obeyed =
+    let a = sum_by-cons (λ x. cond (obeys x) 1 0) (became (on_exec word queued) m) h in
+    let b = sum_by-cons (λ x. cond (takes_requests x) 1 0) (became (on_exec word queued) m) h in
+    let e = ap (λ (ws : List Exec). length ws) next in
+    let d = ap (λ (ws : List Exec). length (drop 1 ws)) next in
+    omega arith
+
+-- each word of requests that was taken is obeyed once, or not yet
+pub obeyed_each : (first : State) (h : Journal) → Conducted first h → count_by obeys h + length (unobeyed_of h) ≡ count_by takes_requests h
+obeyed_each first [] c = refl
+obeyed_each first (at_port (took b) ∷ h) c = on_neither (at_port (took b)) h (unobeyed_of h) refl refl (obeyed_each first h c.1)
+obeyed_each first (at_port found_empty ∷ h) c = on_neither (at_port found_empty) h (unobeyed_of h) refl refl (obeyed_each first h c.1)
+obeyed_each first (at_port found_closed ∷ h) c = on_neither (at_port found_closed) h (unobeyed_of h) refl refl (obeyed_each first h c.1)
+obeyed_each first (at_port (found_free n) ∷ h) c = on_neither (at_port (found_free n)) h (unobeyed_of h) refl refl (obeyed_each first h c.1)
+obeyed_each first (at_port (answered r) ∷ h) c = on_neither (at_port (answered r)) h (unobeyed_of h) refl refl (obeyed_each first h c.1)
+obeyed_each first (at_port (reported r) ∷ h) c = on_neither (at_port (reported r)) h (unobeyed_of h) refl refl (obeyed_each first h c.1)
+obeyed_each first (at_port no_reply_room ∷ h) c = on_neither (at_port no_reply_room) h (unobeyed_of h) refl refl (obeyed_each first h c.1)
+obeyed_each first (at_port (took_exec word) ∷ h) c = on_taken word h (unobeyed_of h) (obeyed_each first h c.1)
+obeyed_each first (at_port (took_ovr word) ∷ h) c = on_neither (at_port (took_ovr word)) h (unobeyed_of h) refl refl (obeyed_each first h c.1)
+obeyed_each first (at_port (published p) ∷ h) c = on_neither (at_port (published p)) h (unobeyed_of h) refl refl (obeyed_each first h c.1)
+obeyed_each first (at_port (no_piece_room done) ∷ h) c = on_neither (at_port (no_piece_room done)) h (unobeyed_of h) refl refl (obeyed_each first h c.1)
+obeyed_each first (at_port (loaded done) ∷ h) c = on_neither (at_port (loaded done)) h (unobeyed_of h) refl refl (obeyed_each first h c.1)
+obeyed_each first (began o ∷ h) c = on_neither (began o) h (unobeyed_of h) refl refl (obeyed_each first h c.1)
+obeyed_each first (did a ps ∷ h) c = on_neither (did a ps) h (unobeyed_of h) refl refl (obeyed_each first h c.1)
+obeyed_each first (made_end ∷ h) c = on_neither made_end h (unobeyed_of h) refl refl (obeyed_each first h c.1)
+obeyed_each first (evened ∷ h) c = on_neither evened h (unobeyed_of h) refl refl (obeyed_each first h c.1)
+obeyed_each first (paused ∷ h) c = on_neither paused h (unobeyed_of h) refl refl (obeyed_each first h c.1)
+obeyed_each first (became (on_exec word queued) m ∷ h) c = on_obeyed word queued m h (unobeyed_of h) c.0.1.next (obeyed_each first h c.1)
+obeyed_each first (became (on_start b) m ∷ h) c = on_neither (became (on_start b) m) h (unobeyed_of h) refl refl (obeyed_each first h c.1)
+obeyed_each first (became on_limit m ∷ h) c = on_neither (became on_limit m) h (unobeyed_of h) refl refl (obeyed_each first h c.1)
+obeyed_each first (became on_pause m ∷ h) c = on_neither (became on_pause m) h (unobeyed_of h) refl refl (obeyed_each first h c.1)
+obeyed_each first (became on_stopped m ∷ h) c = on_neither (became on_stopped m) h (unobeyed_of h) refl refl (obeyed_each first h c.1)
+obeyed_each first (became on_drained m ∷ h) c = on_neither (became on_drained m) h (unobeyed_of h) refl refl (obeyed_each first h c.1)
+obeyed_each first (closing ∷ h) c = on_neither closing h (unobeyed_of h) refl refl (obeyed_each first h c.1)
+obeyed_each first (turned t ∷ h) c = on_neither (turned t) h (unobeyed_of h) refl refl (obeyed_each first h c.1)
+
+-- one at most is not obeyed
+pub one_unobeyed : (first : State) (h : Journal) → Conducted first h → length (unobeyed_of h) ≤ 1
+one_unobeyed first [] c = omega arith
+one_unobeyed first (at_port (took b) ∷ h) c = one_unobeyed first h c.1
+one_unobeyed first (at_port found_empty ∷ h) c = one_unobeyed first h c.1
+one_unobeyed first (at_port found_closed ∷ h) c = one_unobeyed first h c.1
+one_unobeyed first (at_port (found_free n) ∷ h) c = one_unobeyed first h c.1
+one_unobeyed first (at_port (answered r) ∷ h) c = one_unobeyed first h c.1
+one_unobeyed first (at_port (reported r) ∷ h) c = one_unobeyed first h c.1
+one_unobeyed first (at_port no_reply_room ∷ h) c = one_unobeyed first h c.1
+one_unobeyed first (at_port (took_exec word) ∷ h) c = let e = ap (λ (ws : List Exec). length (ws ++ word ∷ [])) c.0.obeyed in omega arith
+one_unobeyed first (at_port (took_ovr word) ∷ h) c = one_unobeyed first h c.1
+one_unobeyed first (at_port (published p) ∷ h) c = one_unobeyed first h c.1
+one_unobeyed first (at_port (no_piece_room done) ∷ h) c = one_unobeyed first h c.1
+one_unobeyed first (at_port (loaded done) ∷ h) c = one_unobeyed first h c.1
+one_unobeyed first (began o ∷ h) c = one_unobeyed first h c.1
+one_unobeyed first (did a ps ∷ h) c = one_unobeyed first h c.1
+one_unobeyed first (made_end ∷ h) c = one_unobeyed first h c.1
+one_unobeyed first (evened ∷ h) c = one_unobeyed first h c.1
+one_unobeyed first (paused ∷ h) c = one_unobeyed first h c.1
+one_unobeyed first (became (on_exec word queued) m ∷ h) c = let e = ap (λ (ws : List Exec). length (drop 1 ws)) c.0.1.next in omega arith
+one_unobeyed first (became (on_start b) m ∷ h) c = one_unobeyed first h c.1
+one_unobeyed first (became on_limit m ∷ h) c = one_unobeyed first h c.1
+one_unobeyed first (became on_pause m ∷ h) c = one_unobeyed first h c.1
+one_unobeyed first (became on_stopped m ∷ h) c = one_unobeyed first h c.1
+one_unobeyed first (became on_drained m ∷ h) c = one_unobeyed first h c.1
+one_unobeyed first (closing ∷ h) c = one_unobeyed first h c.1
+one_unobeyed first (turned t ∷ h) c = one_unobeyed first h c.1
+
+-- and between two turns only where a report is owed
+pub obeyed_between : (first : State) (h : Journal) → Conducted first h → this_turn h ≡ [] → owes_report h ≡ false → unobeyed_of h ≡ []
+obeyed_between first [] c between unowed = refl
+obeyed_between first (at_port e ∷ h) c between unowed = absurd cc
+obeyed_between first (began o ∷ h) c between unowed = absurd cc
+obeyed_between first (did a ps ∷ h) c between unowed = absurd cc
+obeyed_between first (made_end ∷ h) c between unowed = absurd cc
+obeyed_between first (evened ∷ h) c between unowed = absurd cc
+obeyed_between first (paused ∷ h) c between unowed = absurd cc
+obeyed_between first (became call m ∷ h) c between unowed = absurd cc
+obeyed_between first (closing ∷ h) c between unowed = absurd cc
+obeyed_between first (turned Did ∷ h) c between unowed = c.0.obeyed unowed
+obeyed_between first (turned (Wait o) ∷ h) c between unowed = c.0.obeyed
+obeyed_between first (turned Done ∷ h) c between unowed = obeyed_between first h c.1 c.0.still unowed
 
 changed_in : (t : Turn) (h : Journal) → MayTurn t h → count_by replans (this_turn h) ≡ count_by takes_changes (this_turn h)
 changed_in Did h may = may.changed

@@ -14,11 +14,11 @@ use Rattle.run_rules.specs.Work.Task.{ask, pause, normal, finish}
 use Rattle.step_line.specs.Asking.Asked.{a_move, a_mark, a_rest}
 use Rattle.step_line.specs.Finishing.{unfinished, most_unfinished}
 use Rattle.step_line.specs.declared.planned_move.PlannedMove.{PlannedMove}
-use Rattle.board_rules.specs.Ports.{PortStep}
-use Rattle.board_rules.specs.Ports.PortStep.{took, found_empty, found_closed, found_free, answered, no_reply_room, took_exec, took_ovr, published, no_piece_room, loaded}
+use Rattle.board_rules.specs.Ports.{PortStep, asks_report}
+use Rattle.board_rules.specs.Ports.PortStep.{took, found_empty, found_closed, found_free, answered, reported, no_reply_room, took_exec, took_ovr, published, no_piece_room, loaded}
 use Rattle.board_rules.specs.Steps.{Journal, published_of, left_of, plan_of}
 use Rattle.board_rules.specs.Steps.Step.{at_port, began, did, made_end, evened, paused, became, closing, turned}
-use Rattle.board_rules.specs.Turns.{this_turn, passing, found_none, lacks_piece_room, lacks_reply_room, tells_next, has_blocks, is_full, has_segment, is_due, starts_cycle, missed_of, begun_while_due, waits_at, waits_by, waits_of, waits_while_due}
+use Rattle.board_rules.specs.Turns.{this_turn, passing, found_none, lacks_piece_room, lacks_reply_room, owes_report, tells_next, has_blocks, is_full, has_segment, is_due, starts_cycle, missed_of, begun_while_due, waits_at, waits_by, waits_of, waits_while_due}
 use Rattle.board_rules.specs.Conduct.{Conducted, MayTurn, Needs, IsNextTask, AreWaiting}
 use Rattle.board_rules.proofs.Closing.{spent}
 
@@ -41,6 +41,7 @@ pieces_lack_room first (at_port found_empty ∷ h) c lacks still = pieces_lack_r
 pieces_lack_room first (at_port found_closed ∷ h) c lacks still = pieces_lack_room first h c.1 lacks still
 pieces_lack_room first (at_port (found_free n) ∷ h) c lacks still = pieces_lack_room first h c.1 lacks still
 pieces_lack_room first (at_port (answered r) ∷ h) c lacks still = absurd cc
+pieces_lack_room first (at_port (reported r) ∷ h) c lacks still = absurd cc
 pieces_lack_room first (at_port no_reply_room ∷ h) c lacks still = pieces_lack_room first h c.1 lacks still
 pieces_lack_room first (at_port (took_exec word) ∷ h) c lacks still = pieces_lack_room first h c.1 lacks still
 pieces_lack_room first (at_port (took_ovr word) ∷ h) c lacks still = pieces_lack_room first h c.1 lacks still
@@ -63,34 +64,51 @@ no_tell tasks t others none next tells = absurd (let e = sym tells ∙ ap tells_
 none_told : {A : Type 0} (tasks : List Task) → tasks ≡ [] → tells_next tasks ≡ true → A
 none_told tasks none tells = absurd (let e = sym tells ∙ ap tells_next none in cc)
 
--- where room for a reply lacked in such a turn, a reply is next
+-- a report that is owed stays so
+kept : (tells owes now : Bool) → (tells ≡ true → now ≡ true) → (tells || owes) ≡ true → (now || owes) ≡ true
+kept true owes now stays is = by_now now (stays refl)
+  where
+    by_now : (b : Bool) → b ≡ true → (b || owes) ≡ true
+    by_now true is = refl
+    by_now false is = absurd cc
+kept false true true stays is = refl
+kept false true false stays is = refl
+kept false false now stays is = absurd cc
+
+owed_more : (tells owes asks : Bool) → (tells || owes) ≡ true → (tells || (asks || owes)) ≡ true
+owed_more true owes asks is = refl
+owed_more false owes true is = refl
+owed_more false owes false is = is
+
+-- where room for a reply lacked in such a turn, a reply is next, or a report is owed
 pub reply_is_next : (first : State) (h : Journal) → Conducted first h → list_any lacks_reply_room (this_turn h) ≡ true → list_any passing (this_turn h) ≡ false
-    → tells_next (left_of h) ≡ true
+    → (tells_next (left_of h) || owes_report h) ≡ true
 reply_is_next first [] c lacks still = absurd cc
 reply_is_next first (at_port (took b) ∷ h) c lacks still = absurd cc
 reply_is_next first (at_port found_empty ∷ h) c lacks still = reply_is_next first h c.1 lacks still
 reply_is_next first (at_port found_closed ∷ h) c lacks still = reply_is_next first h c.1 lacks still
 reply_is_next first (at_port (found_free n) ∷ h) c lacks still = reply_is_next first h c.1 lacks still
 reply_is_next first (at_port (answered r) ∷ h) c lacks still = absurd cc
+reply_is_next first (at_port (reported r) ∷ h) c lacks still = absurd cc
 reply_is_next first (at_port no_reply_room ∷ h) c lacks still = c.0
-reply_is_next first (at_port (took_exec word) ∷ h) c lacks still = reply_is_next first h c.1 lacks still
+reply_is_next first (at_port (took_exec word) ∷ h) c lacks still = owed_more (tells_next (left_of h)) (owes_report h) (asks_report word) (reply_is_next first h c.1 lacks still)
 reply_is_next first (at_port (took_ovr word) ∷ h) c lacks still = reply_is_next first h c.1 lacks still
 reply_is_next first (at_port (published p) ∷ h) c lacks still = absurd cc
 reply_is_next first (at_port (no_piece_room done) ∷ h) c lacks still = reply_is_next first h c.1 lacks still
 reply_is_next first (at_port (loaded done) ∷ h) c lacks still = reply_is_next first h c.1 lacks still
 reply_is_next first (began o ∷ h) c lacks still = absurd cc
 reply_is_next first (did (Take m) ps ∷ h) c lacks still = reply_is_next first h c.1 lacks still
-reply_is_next first (did (Add m) ps ∷ h) c lacks still = no_tell (left_of h) (ask (a_move m)) _ refl c.0.0 (reply_is_next first h c.1 lacks still)
-reply_is_next first (did (Mark m) ps ∷ h) c lacks still = no_tell (left_of h) (ask (a_mark m)) _ refl c.0.0.next (reply_is_next first h c.1 lacks still)
-reply_is_next first (did Rest ps ∷ h) c lacks still = no_tell (left_of h) (ask a_rest) _ refl c.0.0.next (reply_is_next first h c.1 lacks still)
+reply_is_next first (did (Add m) ps ∷ h) c lacks still = kept (tells_next (left_of h)) (owes_report h) (tells_next (left_of (did (Add m) ps ∷ h))) (no_tell (left_of h) (ask (a_move m)) _ refl c.0.0) (reply_is_next first h c.1 lacks still)
+reply_is_next first (did (Mark m) ps ∷ h) c lacks still = kept (tells_next (left_of h)) (owes_report h) (tells_next (left_of (did (Mark m) ps ∷ h))) (no_tell (left_of h) (ask (a_mark m)) _ refl c.0.0.next) (reply_is_next first h c.1 lacks still)
+reply_is_next first (did Rest ps ∷ h) c lacks still = kept (tells_next (left_of h)) (owes_report h) (tells_next (left_of (did Rest ps ∷ h))) (no_tell (left_of h) (ask a_rest) _ refl c.0.0.next) (reply_is_next first h c.1 lacks still)
 reply_is_next first (did (Override o) ps ∷ h) c lacks still = reply_is_next first h c.1 lacks still
 reply_is_next first (did Clear ps ∷ h) c lacks still = absurd c.0.0
 reply_is_next first (did Reset ps ∷ h) c lacks still = absurd c.0.0
-reply_is_next first (made_end ∷ h) c lacks still = no_tell (left_of h) finish _ refl c.0.rests.next (reply_is_next first h c.1 lacks still)
-reply_is_next first (evened ∷ h) c lacks still = no_tell (left_of h) normal _ refl c.0.rests.next (reply_is_next first h c.1 lacks still)
-reply_is_next first (paused ∷ h) c lacks still = no_tell (left_of h) pause _ refl c.0.rests.next (reply_is_next first h c.1 lacks still)
+reply_is_next first (made_end ∷ h) c lacks still = kept (tells_next (left_of h)) (owes_report h) (tells_next (left_of (made_end ∷ h))) (no_tell (left_of h) finish _ refl c.0.rests.next) (reply_is_next first h c.1 lacks still)
+reply_is_next first (evened ∷ h) c lacks still = kept (tells_next (left_of h)) (owes_report h) (tells_next (left_of (evened ∷ h))) (no_tell (left_of h) normal _ refl c.0.rests.next) (reply_is_next first h c.1 lacks still)
+reply_is_next first (paused ∷ h) c lacks still = kept (tells_next (left_of h)) (owes_report h) (tells_next (left_of (paused ∷ h))) (no_tell (left_of h) pause _ refl c.0.rests.next) (reply_is_next first h c.1 lacks still)
 reply_is_next first (became call m ∷ h) c lacks still = reply_is_next first h c.1 lacks still
-reply_is_next first (closing ∷ h) c lacks still = none_told (left_of h) c.0.free (reply_is_next first h c.1 lacks still)
+reply_is_next first (closing ∷ h) c lacks still = kept (tells_next (left_of h)) (owes_report h) (tells_next (left_of (closing ∷ h))) (none_told (left_of h) c.0.free) (reply_is_next first h c.1 lacks still)
 reply_is_next first (turned t ∷ h) c lacks still = absurd cc
 
 -- ---- what is done between two turns
@@ -144,6 +162,7 @@ missed_at_port found_empty h m = m
 missed_at_port found_closed h m = m
 missed_at_port (found_free n) h m = m
 missed_at_port (answered r) h m = m
+missed_at_port (reported r) h m = m
 missed_at_port no_reply_room h m = m
 missed_at_port (took_exec word) h m = m
 missed_at_port (took_ovr word) h m = m
@@ -273,6 +292,7 @@ none_at o found_empty all due few n = few n
 none_at o found_closed all due few n = few n
 none_at o (found_free k) all due few n = few n
 none_at o (answered r) all due few n = few n
+none_at o (reported r) all due few n = few n
 none_at o no_reply_room all due few n = few n
 none_at o (took_exec word) all due few n = few n
 none_at o (took_ovr word) all due few n = few n
@@ -313,6 +333,7 @@ apart_at found_empty due apart = apart
 apart_at found_closed due apart = apart
 apart_at (found_free k) due apart = apart
 apart_at (answered r) due apart = apart
+apart_at (reported r) due apart = apart
 apart_at no_reply_room due apart = apart
 apart_at (took_exec word) due apart = apart
 apart_at (took_ovr word) due apart = apart

@@ -1,5 +1,6 @@
 -- The rules of a board: what it may do next.
-use Rattle.std.specs.Prelude.{◌≡◌, ℕ, ◌≤◌, ◌<◌, Bool, true, false, ◌&&◌, ◌||◌, List, [], ◌∷◌, drop, Some}
+use Rattle.std.specs.Prelude.{◌≡◌, ℕ, ◌+◌, ◌*◌, ◌/◌, ◌≤◌, ◌<◌, Bool, true, false, ◌&&◌, ◌||◌, cond, nat_lt, List, [], ◌∷◌, length, drop, Some, None}
+use Rattle.std.specs.declared.option.Option.{Option}
 use Rattle.std.specs.List.{Contains, list_any, count_by}
 use Rattle.code_table.specs.declared.flags.Exec.{Exec}
 use Rattle.code_table.specs.declared.flags.Ovr.{Ovr}
@@ -7,6 +8,7 @@ use Rattle.feed_hold.specs.declared.Motion.{Motion}
 use Rattle.feed_hold.specs.declared.Motion.TheVariants as motions
 use Rattle.feed_hold.specs.Motions.{Call, after, is_stopping}
 use Rattle.feed_hold.specs.Motions.Call.{on_exec, on_start, on_limit, on_pause, on_stopped, on_drained}
+use Rattle.flight.specs.Places.{machine_at}
 use Rattle.outside.specs.declared.On.{On}
 use Rattle.outside.specs.declared.On.TheVariants as on
 use Rattle.outside.specs.declared.Turn.{Turn}
@@ -21,23 +23,29 @@ use Rattle.run_rules.specs.declared.State.{State}
 use Rattle.run_rules.specs.Work.{Task, Outcome}
 use Rattle.run_rules.specs.Work.Task.{ask, tell, pause, normal, finish}
 use Rattle.run_rules.specs.Outcomes.{Becomes, refused}
+use Rattle.run_rules.specs.Reports.{Shows}
 use Rattle.segment_prep.specs.declared.Mode.TheVariants.{Go, Hold}
 use Rattle.status_report.specs.declared.Reply.{Reply}
 use Rattle.status_report.specs.declared.Reply.TheVariants.{Bye}
+use Rattle.status_report.specs.declared.reports.Report.{Report}
+use Rattle.status_report.specs.declared.reports.State.{State as Shown}
+use Rattle.status_report.specs.declared.reports.State.TheVariants as shown
+use Rattle.status_report.specs.Answering.{is_report}
+use Rattle.units.specs.Roots.{root_of}
 use Rattle.step_line.specs.Asking.Asked.{a_move, a_mark, a_rest}
 use Rattle.step_line.specs.declared.Piece.{Piece}
 use Rattle.step_line.specs.declared.planned_move.PlannedMove.{PlannedMove}
 use Rattle.step_line.specs.Finishing.{ticks_together}
-use Rattle.board_rules.specs.Ports.{PortStep, PortLog, has_changes, MayBeDone, HasTakenFew, LacksPieceRoom}
-use Rattle.board_rules.specs.Ports.PortStep.{took, found_empty, found_closed, found_free, answered, no_reply_room, took_exec, took_ovr, published, no_piece_room, loaded}
+use Rattle.board_rules.specs.Ports.{PortStep, PortLog, asks_report, has_changes, MayBeDone, HasTakenFew, HasFewReports, LacksPieceRoom}
+use Rattle.board_rules.specs.Ports.PortStep.{took, found_empty, found_closed, found_free, answered, reported, no_reply_room, took_exec, took_ovr, published, no_piece_room, loaded}
 use Rattle.board_rules.specs.Steps.{Step, Journal, port_log, has_closed, published_of, known_of, open_of, whole_of, before_of, left_of, closed_tells, given_of, hand_of, plan_of, motion_of, behind}
 use Rattle.board_rules.specs.Steps.Step.{at_port, began, did, made_end, evened, paused, became, closing, turned}
 use Rattle.board_rules.specs.Turns.{
   this_turn,
   publishing,
   passing,
-  takes_requests,
-  obeys,
+  unobeyed_of,
+  owes_report,
   takes_changes,
   replans,
   asks_no_start,
@@ -45,6 +53,7 @@ use Rattle.board_rules.specs.Turns.{
   found_nothing,
   lacks_reply_room,
   lacks_piece_room,
+  finds_free,
   loads,
   tells_next,
   awaits_motion,
@@ -72,6 +81,10 @@ IsNextTask t h = left_of h ≡ t ∷ drop 1 (left_of h)
 abbrev pub IsInHand : Piece → Journal → Type 0
 IsInHand p h = hand_of h ≡ p ∷ drop 1 (hand_of h)
 
+-- no report is owed
+abbrev pub OwesNone : Journal → Type 0
+OwesNone h = owes_report h ≡ false
+
 abbrev pub ticks_given : Journal → ℕ
 ticks_given h = ticks_together (given_of h)
 
@@ -84,7 +97,7 @@ pub record IsDrained (h : Journal) : Type 0 where
   pub hand : hand_of h ≡ []
   pub done : known_of h ≡ ticks_given h
 
--- ---- at the port
+-- ---- what is said at the port
 
 -- The next byte is polled for: nothing is left to do, no line waits to be begun, and the run is not being closed.
 pub record MayPoll (h : Journal) : Type 0 where
@@ -97,29 +110,24 @@ pub record MayTake (h : Journal) : Type 0 where
   pub polls : MayPoll h
   pub few : HasTakenFew (port_log h)
 
--- The next reply is answered; Bye only with an empty hand, so that all that was given is published by then.
+-- The next reply is answered, while no report is owed; Bye only with an empty hand, so that all that was given is
+-- published by then.
 pub record MayTell (r : Reply) (h : Journal) : Type 0 where
   pub next : IsNextTask (tell r) h
+  pub plain : is_report r ≡ false
+  pub unowed : OwesNone h
   pub empty : r ≡ Bye → hand_of h ≡ []
+
+-- A word of requests is taken once the last one is obeyed. Fewer than 2 ^ 31 that ask for a report were taken before one that
+-- does, as the port promises.
+pub record MayTakeRequests (word : Exec) (h : Journal) : Type 0 where
+  pub obeyed : unobeyed_of h ≡ []
+  pub few : asks_report word ≡ true → HasFewReports (port_log h)
 
 -- a piece is handed back where the port has no room, as it promises
 pub record MayKeep (done : ℕ) (h : Journal) : Type 0 where
   pub some : (hand_of h ≡ []) → ⊥
   pub full : LacksPieceRoom done (port_log h)
-
--- Pieces are published in the order in which they were given.
-abbrev pub MayAtPort : PortStep → Journal → Type 0
-MayAtPort (took b) h = MayTake h
-MayAtPort found_empty h = MayPoll h
-MayAtPort found_closed h = MayPoll h
-MayAtPort (found_free n) h = Unit {0}
-MayAtPort (answered r) h = MayTell r h
-MayAtPort no_reply_room h = tells_next (left_of h) ≡ true
-MayAtPort (took_exec word) h = Unit {0}
-MayAtPort (took_ovr word) h = Unit {0}
-MayAtPort (published p) h = IsInHand p h
-MayAtPort (no_piece_room done) h = MayKeep done h
-MayAtPort (loaded done) h = MayBeDone done (port_log h)
 
 -- ---- the plan
 
@@ -179,11 +187,12 @@ pub record IsStopped (h : Journal) : Type 0 where
   pub slowed : HasSlowedDown h
   pub done : known_of h ≡ ticks_given h
 
--- A word of requests was just taken, while blocks are queued or none is. A machine that slowed down was looked after in this
--- turn, and is held already where each tick is done, so that the word may resume it.
+-- A word of requests was taken, while blocks are queued or none is. A report is told before, if it asks for one, or
+-- finds no room. A machine that slowed down was looked after in this turn, and is held already where each tick is done,
+-- so that the word may resume it.
 pub record MayObey (word : Exec) (queued : Bool) (h : Journal) : Type 0 where
-  pub earlier : PortLog
-  pub last : port_log h ≡ took_exec word ∷ earlier
+  pub next : unobeyed_of h ≡ word ∷ []
+  pub reported : owes_report h ≡ true → list_any lacks_reply_room (this_turn h) ≡ true
   pub blocks : queued ≡ has_blocks (plan_of h).blocks
   pub looked : HasSlowedDown h → list_any loads (this_turn h) ≡ true
   pub stopped : IsStopped h → ⊥
@@ -218,11 +227,65 @@ pub record AreWaiting (h : Journal) : Type 0 where
   pub stands : motion_of h ≡ motions.Idle
   pub blocks : has_blocks (plan_of h).blocks ≡ true
 
+-- ---- reports
+
+-- the state of the motion, as reports tell it
+abbrev pub shown_as : Motion → Shown
+shown_as motions.Idle = shown.Idle
+shown_as motions.Run = shown.Run
+shown_as motions.Holding = shown.Hold1
+shown_as motions.Held = shown.Hold0
+shown_as motions.Jog = shown.Jog
+shown_as motions.Cancelling = shown.Jog
+shown_as motions.Stopping = shown.Hold1
+shown_as motions.Alarm = shown.Alarm
+
+-- a squared speed, in µm/s, as a feed in mm per minute
+abbrev pub feed_of : ℕ → ℕ
+feed_of speed = root_of speed * 60 / 1000
+
+-- the room that a report tells, where it tells any: for blocks of the plan, and for bytes of the link, by a load in this turn
+abbrev pub IsRoom : Option (ℕ × ℕ) → Journal → Type 0
+IsRoom None h = Unit {0}
+IsRoom (Some (blocks, bytes)) h = (blocks + length (plan_of h).blocks ≡ most_blocks) × (list_any (finds_free bytes) (this_turn h) ≡ true)
+
+-- A report is answered that a word asked for which was taken. In its turn the done ticks were loaded: the place is that
+-- after these, on all axes; the cycle is over where nothing is left to run and each is done, and a machine that has
+-- stopped is held. The feed is 0 where each tick that was given is done.
+pub record IsReportAt (first : State) (r : Report) (h : Journal) : Type 0 where
+  pub owed : owes_report h ≡ true
+  pub load : list_any loads (this_turn h) ≡ true
+  pub idle : IsDrained h → is_going (motion_of h) ≡ false
+  pub stopped : IsStopped h → ⊥
+  pub shows : Shows (machine_at (published_of h) (known_of h)) (before_of first h).state r
+  pub room : IsRoom r.buffer h
+  pub feed : r.f ≡ cond (nat_lt (known_of h) (ticks_given h)) (feed_of (plan_of h).speed) 0
+  pub overrides : r.ov ≡ (plan_of h).overrides
+  pub state : r.state ≡ shown_as (motion_of h)
+
+-- ---- at the port
+
+-- Pieces are published in the order in which they were given.
+abbrev pub MayAtPort : State → PortStep → Journal → Type 0
+MayAtPort first (took b) h = MayTake h
+MayAtPort first found_empty h = MayPoll h
+MayAtPort first found_closed h = MayPoll h
+MayAtPort first (found_free n) h = Unit {0}
+MayAtPort first (answered r) h = MayTell r h
+MayAtPort first (reported r) h = IsReportAt first r h
+MayAtPort first no_reply_room h = (tells_next (left_of h) || owes_report h) ≡ true
+MayAtPort first (took_exec word) h = MayTakeRequests word h
+MayAtPort first (took_ovr word) h = Unit {0}
+MayAtPort first (published p) h = IsInHand p h
+MayAtPort first (no_piece_room done) h = MayKeep done h
+MayAtPort first (loaded done) h = MayBeDone done (port_log h)
+
 -- ---- the lines
 
--- A line that was taken whole is begun, once both words of flags were taken behind it. In its turn the done ticks were
--- loaded, and the cycle is over where nothing is left to run and each is done. A line that is served only at rest is refused
--- while the machine runs; and where a segment was due since the line before, one was tried to be published.
+-- A line that was taken whole is begun, once both words of flags were taken behind it, obeyed, and reported. In its
+-- turn the done ticks were loaded, and the cycle is over where nothing is left to run and each is done. A line that is
+-- served only at rest is refused while the machine runs; and where a segment was due since the line before, one was
+-- tried to be published.
 pub record MayBegin (first : State) (o : Outcome) (h : Journal) : Type 0 where
   pub free : left_of h ≡ []
   pub going : closed_tells h ≡ []
@@ -231,6 +294,8 @@ pub record MayBegin (first : State) (o : Outcome) (h : Journal) : Type 0 where
   pub refuses : is_run (motion_of h) ≡ true → is_served_at_rest (open_of h) ≡ true → o ≡ refused (before_of first h) 8
   pub begins : begins_in (motion_of h) ≡ true
   pub flags : flags_taken h ≡ true
+  pub obeyed : unobeyed_of h ≡ []
+  pub unowed : OwesNone h
   pub load : list_any loads (this_turn h) ≡ true
   pub idle : IsDrained h → is_going (motion_of h) ≡ false
   pub starts : AreWaiting h → starts_before_line h ≡ false
@@ -246,14 +311,14 @@ pub record MayClose (h : Journal) : Type 0 where
 -- ---- the turns
 
 -- What holds at the end of a turn: at most one thing was published; a move that is next is added unless the plan is full; no
--- queued block waits for a start that is called for; no more than five tries to publish stand behind the last poll; and what
--- the words of flags ask for that were taken is done, each once.
+-- queued block waits for a start that is called for; no more than five tries to publish stand behind the last poll; the word
+-- of requests that was taken is obeyed, unless a report is told first; and the plan is made anew for each change, once.
 pub record EndsTurn (h : Journal) : Type 0 where
   pub once : count_by publishing (this_turn h) ≤ 1
   pub adds : (m : PlannedMove) → IsNextTask (ask (a_move m)) h → is_full (plan_of h) ≡ true
   pub starts : AreWaiting h → starts_cycle h ≡ false
   pub tries : tries_of h ≤ most_tries
-  pub obeyed : count_by obeys (this_turn h) ≡ count_by takes_requests (this_turn h)
+  pub obeyed : owes_report h ≡ false → unobeyed_of h ≡ []
   pub changed : count_by replans (this_turn h) ≡ count_by takes_changes (this_turn h)
 
 -- no byte was found, and nothing is left to do
@@ -285,12 +350,15 @@ Needs on.Resume h = NeedsResume h
 Needs o h = ⊥
 
 -- Something is waited for: there is a cause, nothing went on its way in this turn, both words of flags were taken since
--- anything was waited for last, and where a segment is due, one was tried to be published since the same was.
+-- anything was waited for last, and obeyed, and where a segment is due, one was tried to be published since the same
+-- was. Where a report is owed, there was no room for it in this turn.
 pub record Waits (o : On) (h : Journal) : Type 0 where
   pub ends : EndsTurn h
   pub cause : Needs o h
   pub still : list_any passing (this_turn h) ≡ false
   pub flags : flags_taken h ≡ true
+  pub obeyed : unobeyed_of h ≡ []
+  pub unowed : owes_report h ≡ true → list_any lacks_reply_room (this_turn h) ≡ true
   pub round : is_due h ≡ true → Contains (waits_of h) o → ⊥
 
 -- the run was closed, and nothing is left to do
@@ -312,7 +380,7 @@ MayTurn Done h = IsOver h
 -- ---- all of it
 
 abbrev pub MayStep : State → Step → Journal → Type 0
-MayStep first (at_port e) h = MayAtPort e h
+MayStep first (at_port e) h = MayAtPort first e h
 MayStep first (began o) h = MayBegin first o h
 MayStep first (did a ps) h = MayDo a h × Gives a ps (plan_of h)
 MayStep first made_end h = MayEnd h

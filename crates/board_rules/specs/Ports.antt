@@ -6,6 +6,8 @@ use Rattle.code_table.specs.Tables.{query}
 use Rattle.feed_hold.specs.Motions.{asks, hold_byte}
 use Rattle.code_table.specs.Flags.{ovr_bits}
 use Rattle.status_report.specs.declared.Reply.{Reply}
+use Rattle.status_report.specs.declared.Reply.TheVariants as replies
+use Rattle.status_report.specs.declared.reports.Report.{Report}
 use Rattle.status_report.specs.Answering.{reply_room, lfs_in, is_answer, answers_in}
 use Rattle.status_report.specs.Replies.{IsReply}
 use Rattle.step_line.specs.declared.Piece.{Piece}
@@ -20,8 +22,10 @@ pub data PortStep : Type 0 where
   found_closed : PortStep
   -- the link had room for so many bytes
   found_free : ℕ → PortStep
+  -- a reply that is no report was answered; a report was
   answered : Reply → PortStep
-  -- a reply was handed back
+  reported : Report → PortStep
+  -- a reply, or a report, was handed back
   no_reply_room : PortStep
   took_exec : Exec → PortStep
   took_ovr : Ovr → PortStep
@@ -33,6 +37,11 @@ pub data PortStep : Type 0 where
 
 abbrev pub PortLog : Type 0
 PortLog = NewestFirst PortStep
+
+-- what it is to answer with a reply
+abbrev pub said : Reply → PortStep
+said (replies.Report r) = reported r
+said r = answered r
 
 -- ---- what was done, as lists in the order in which it was done
 
@@ -55,6 +64,7 @@ has_closed_in (e ∷ l) = closed_at e (has_closed_in l)
 
 abbrev pub answered_at : PortStep → List Reply → List Reply
 answered_at (answered r) rs = rs ++ r ∷ []
+answered_at (reported r) rs = rs ++ replies.Report r ∷ []
 answered_at e rs = rs
 
 abbrev pub answered_in : PortLog → List Reply
@@ -77,6 +87,16 @@ reports_at e n = n
 abbrev pub reports_in : PortLog → ℕ
 reports_in [] = 0
 reports_in (e ∷ l) = reports_at e (reports_in l)
+
+abbrev pub owes_at : PortStep → Bool → Bool
+owes_at (took_exec word) owes = asks_report word || owes
+owes_at (reported r) owes = false
+owes_at e owes = owes
+
+-- a word that asks for a report was taken, and none was answered since
+abbrev pub owes_in : PortLog → Bool
+owes_in [] = false
+owes_in (e ∷ l) = owes_at e (owes_in l)
 
 abbrev pub holds_at : PortStep → Bool → Bool
 holds_at (took_exec word) held = asks word hold_byte || held
@@ -145,8 +165,9 @@ pub record LacksPieceRoom (done : ℕ) (l : PortLog) : Type 0 where
   pub later : known_in l ≤ done
   pub full : unfinished (published_in l) done ≡ most_unfinished
 
--- So many ticks may be found done: no fewer than before, and no more than those of the published pieces. So nothing is
--- done before it is published.
+-- So many ticks may be found done: no fewer than before, and no more than those of the published pieces, so that nothing is
+-- done before it is published. At most five pieces are unfinished then.
 pub record MayBeDone (done : ℕ) (l : PortLog) : Type 0 where
   pub later : known_in l ≤ done
   pub below : done ≤ ticks_together (published_in l)
+  pub few : unfinished (published_in l) done ≤ most_unfinished

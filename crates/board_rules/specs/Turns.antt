@@ -1,10 +1,12 @@
 -- The turns of a board: what it has done in this one, and what it owes its port from turn to turn.
-use Rattle.std.specs.Prelude.{ℕ, ◌+◌, Bool, true, false, ◌&&◌, ◌||◌, not, cond, nat_eq, nat_le, nat_lt, List, [], ◌∷◌, length}
+use Rattle.std.specs.Prelude.{ℕ, ◌+◌, Bool, true, false, ◌&&◌, ◌||◌, not, cond, nat_eq, nat_le, nat_lt, List, [], ◌∷◌, ◌++◌, length, drop}
 use Rattle.std.specs.List.{list_any}
 use Rattle.feed_hold.specs.declared.Motion.{Motion}
 use Rattle.feed_hold.specs.declared.Motion.TheVariants.{Idle, Run, Holding, Held, Jog, Alarm}
 use Rattle.feed_hold.specs.Motions.{asks, hold_byte, start_byte, is_stopping}
+use Rattle.feed_hold.specs.Motions.{Call}
 use Rattle.feed_hold.specs.Motions.Call.{on_exec}
+use Rattle.code_table.specs.declared.flags.Exec.{Exec}
 use Rattle.outside.specs.declared.On.{On}
 use Rattle.outside.specs.declared.Turn.{Turn}
 use Rattle.outside.specs.declared.Turn.TheVariants.{Wait}
@@ -17,9 +19,9 @@ use Rattle.run_rules.specs.Work.Task.{ask, tell, pause, normal, finish}
 use Rattle.run_rules.specs.Outcomes.{most_kept}
 use Rattle.step_line.specs.Asking.Asked.{a_move, a_rest}
 use Rattle.system_lines.specs.Commands.{kind_of, needs_rest}
-use Rattle.board_rules.specs.Ports.{PortStep, has_changes}
-use Rattle.board_rules.specs.Ports.PortStep.{took, found_empty, found_closed, answered, no_reply_room, took_exec, took_ovr, published, no_piece_room, loaded}
-use Rattle.board_rules.specs.Steps.{Step, Journal, open_of, whole_of, left_of, plan_of, motion_of}
+use Rattle.board_rules.specs.Ports.{PortStep, has_changes, owes_in}
+use Rattle.board_rules.specs.Ports.PortStep.{took, found_empty, found_closed, found_free, answered, reported, no_reply_room, took_exec, took_ovr, published, no_piece_room, loaded}
+use Rattle.board_rules.specs.Steps.{Step, Journal, port_log, open_of, whole_of, left_of, plan_of, motion_of}
 use Rattle.board_rules.specs.Steps.Step.{at_port, began, did, made_end, evened, paused, became, closing, turned}
 
 -- the steps behind the last turn's end
@@ -39,6 +41,7 @@ this_turn (turned t ∷ h) = []
 abbrev pub publishing : Step → Bool
 publishing (at_port (took b)) = true
 publishing (at_port (answered r)) = true
+publishing (at_port (reported r)) = true
 publishing (at_port (took_exec word)) = true
 publishing (at_port (took_ovr word)) = true
 publishing (at_port (published p)) = true
@@ -48,6 +51,7 @@ publishing _ = false
 abbrev pub passing : Step → Bool
 passing (at_port (took b)) = true
 passing (at_port (answered r)) = true
+passing (at_port (reported r)) = true
 passing (at_port (published p)) = true
 passing (began o) = true
 passing _ = false
@@ -78,6 +82,10 @@ abbrev pub lacks_piece_room : Step → Bool
 lacks_piece_room (at_port (no_piece_room done)) = true
 lacks_piece_room _ = false
 
+abbrev pub finds_free : ℕ → Step → Bool
+finds_free n (at_port (found_free free)) = nat_eq n free
+finds_free n _ = false
+
 abbrev pub loads : Step → Bool
 loads (at_port (loaded done)) = true
 loads _ = false
@@ -87,6 +95,31 @@ loads _ = false
 abbrev pub takes_requests : Step → Bool
 takes_requests (at_port (took_exec word)) = true
 takes_requests _ = false
+
+abbrev pub unobeyed_at : PortStep → List Exec → List Exec
+unobeyed_at (took_exec word) words = words ++ word ∷ []
+unobeyed_at e words = words
+
+abbrev pub unobeyed_by : Call → List Exec → List Exec
+unobeyed_by (on_exec word queued) words = drop 1 words
+unobeyed_by call words = words
+
+-- the words of requests that were taken, and are not obeyed yet
+abbrev pub unobeyed_of : Journal → List Exec
+unobeyed_of [] = []
+unobeyed_of (at_port e ∷ h) = unobeyed_at e (unobeyed_of h)
+unobeyed_of (began o ∷ h) = unobeyed_of h
+unobeyed_of (did a ps ∷ h) = unobeyed_of h
+unobeyed_of (made_end ∷ h) = unobeyed_of h
+unobeyed_of (evened ∷ h) = unobeyed_of h
+unobeyed_of (paused ∷ h) = unobeyed_of h
+unobeyed_of (became call m ∷ h) = unobeyed_by call (unobeyed_of h)
+unobeyed_of (closing ∷ h) = unobeyed_of h
+unobeyed_of (turned t ∷ h) = unobeyed_of h
+
+-- a report is owed: a word that asks for one was taken, and none was answered since
+abbrev pub owes_report : Journal → Bool
+owes_report h = owes_in (port_log h)
 
 -- what a word of requests asks of the motion is done
 abbrev pub obeys : Step → Bool
@@ -242,14 +275,14 @@ is_held_up h = needs_motion (left_of h) (whole_of h) (is_full (plan_of h))
 
 -- ---- from turn to turn
 
--- a try to publish a piece is counted: nothing is left to do, and no line waits for a machine that is held, or slows down for
--- that
+-- a try to publish a piece is counted: nothing is left to do, no report is owed, and no line waits for a machine that
+-- is held, or slows down for that
 abbrev pub counts_tries : List Task → (whole : Bool) → Motion → Bool
 counts_tries [] whole m = not (is_halting m && whole)
 counts_tries tasks whole m = false
 
 abbrev pub is_counted : Journal → Bool
-is_counted h = counts_tries (left_of h) (whole_of h) (motion_of h)
+is_counted h = not (owes_report h) && counts_tries (left_of h) (whole_of h) (motion_of h)
 
 abbrev pub tries_at : PortStep → (counted : Bool) → ℕ → ℕ
 tries_at (took b) counted n = 0
@@ -259,8 +292,8 @@ tries_at (published p) counted n = cond counted (n + 1) n
 tries_at (no_piece_room done) counted n = cond counted (n + 1) n
 tries_at e counted n = n
 
--- how often a piece was tried to be published since the last poll for a byte, while nothing was left to do, and no line waited
--- for a machine that is held, or slows down for that
+-- how often a piece was tried to be published since the last poll for a byte, while nothing was left to do, no report
+-- was owed, and no line waited for a machine that is held, or slows down for that
 abbrev pub tries_of : Journal → ℕ
 tries_of [] = 0
 tries_of (at_port e ∷ h) = tries_at e (is_counted h) (tries_of h)

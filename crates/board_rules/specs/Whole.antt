@@ -1,13 +1,17 @@
 -- What a board that keeps to its rules has taken, when it stands, and what one that is finished leaves.
 use Rattle.std.specs.Prelude.{◌≡◌, ◌≢◌, ℕ, ◌<◌, ◌⊎◌, Bool, true, false, cond, List, [], ◌∷◌, ◌++◌}
-use Rattle.std.specs.List.{AllByRecursion, list_any}
+use Rattle.std.specs.List.{AllByRecursion, flat_map, list_any}
 use Rattle.planner_runs.specs.Runs.{IsAtRest}
+use Rattle.run_rules.specs.declared.State.{State}
 use Rattle.run_rules.specs.Lines.{HasNoLf, ended}
+use Rattle.run_rules.specs.Reports.{Course}
 use Rattle.run_rules.specs.Work.{Task, Outcome, has_moves}
 use Rattle.run_rules.specs.Work.Task.{ask, tell, pause, normal, finish}
 use Rattle.step_line.specs.Asking.Asked.{a_move, a_mark, a_rest}
 use Rattle.step_line.specs.declared.Piece.TheVariants as pieces
-use Rattle.board_rules.specs.Steps.{Journal, known_of, given_of, planned_of, hand_of, plan_of, whole_of, has_closed, left_of, motion_of}
+use Rattle.step_line.specs.Pieces.{ticks_of}
+use Rattle.board_rules.specs.Ports.{has_held_in, has_changed_in}
+use Rattle.board_rules.specs.Steps.{Journal, port_log, published_of, outcomes_of, known_of, given_of, planned_of, hand_of, plan_of, whole_of, has_closed, left_of, motion_of}
 use Rattle.board_rules.specs.Turns.{this_turn, loads, has_blocks, is_run}
 use Rattle.board_rules.specs.Conduct.{IsDrained, ticks_given, ticks_published}
 
@@ -76,3 +80,14 @@ pub record IsFoundMoving (h : Journal) : Type 0 where
 -- no byte of a line is taken while a task of the line before is left
 abbrev pub OneByOne : List Task → List ℕ → Bool → Type 0
 OneByOne left raw whole = (left ≡ []) ⊎ ((raw ≡ []) × (whole ≡ false))
+
+-- what reports are judged by
+abbrev pub course_of : State → Journal → Course
+course_of first h = record {
+  first = first;
+  outcomes = outcomes_of h;
+  ticks = flat_map ticks_of (published_of h);
+  given = ticks_given h;
+  held = has_held_in (port_log h);
+  changed = has_changed_in (port_log h);
+}

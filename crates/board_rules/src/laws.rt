@@ -27,13 +27,16 @@ ghost use Rattle.step_line.specs.Asking.Asked.{a_move};
 ghost use Rattle.step_line.specs.Finishing.{tick_count, ticks_together, unfinished, most_unfinished};
 ghost use Rattle.step_line.specs.declared.planned_move.PlannedMove.{PlannedMove as AnyMove};
 ghost use Rattle.step_line.specs.Ordering.{InTurn, ComesNext};
-ghost use Rattle.status_report.specs.Answering.{lfs_in, is_answer, answers_in};
+ghost use Rattle.status_report.specs.Answering.{lfs_in, is_answer, answers_in, without_reports, reports_among};
 ghost use Rattle.step_line.specs.declared.Piece.{Piece as AnyPiece};
 ghost use Rattle.step_line.specs.declared.Segment.{Segment as AnySegment};
 ghost use Rattle.step_line.specs.Places.{place_after};
 ghost use Rattle.board_rules.specs.Steps.Step.{at_port, began, did, became, turned};
-ghost use Rattle.board_rules.specs.Ports.{has_held_in, has_changed_in};
-ghost use Rattle.board_rules.specs.Ports.PortStep.{took_exec};
+ghost use Rattle.board_rules.specs.Ports.{has_held_in, has_changed_in, reports_in};
+ghost use Rattle.board_rules.specs.Whole.{course_of};
+ghost use Rattle.run_rules.specs.Reports.{Reported};
+ghost use Rattle.board_rules.specs.Ports.PortStep.{took_exec, reported};
+ghost use Rattle.status_report.specs.declared.reports.Report.{Report as AnyReport};
 ghost use Rattle.board_rules.specs.Steps.{
   Journal,
   port_log,
@@ -55,16 +58,19 @@ ghost use Rattle.board_rules.specs.Steps.{
   plan_of,
   motion_of,
 };
-ghost use Rattle.board_rules.specs.Conduct.{Conducted, AreWaiting, IsDrained, HasSlowedDown, IsStopped, IsInHand, IsNextTask, IsFinished, ticks_given, ticks_published};
+ghost use Rattle.board_rules.specs.Conduct.{Conducted, AreWaiting, IsDrained, HasSlowedDown, IsStopped, IsInHand, IsNextTask, IsFinished, IsRoom, ticks_given, ticks_published};
 ghost use Rattle.board_rules.specs.Turns.{
   this_turn,
   publishing,
   ends_turn,
+  lacks_reply_room,
   tells_next,
   awaits_motion,
   is_held_up,
   takes_requests,
   obeys,
+  unobeyed_of,
+  owes_report,
   takes_changes,
   replans,
   asks_no_start,
@@ -74,6 +80,7 @@ ghost use Rattle.board_rules.specs.Turns.{
   is_full,
   starts_cycle,
   is_run,
+  is_going,
   is_served_at_rest,
   tries_of,
   most_tries,
@@ -82,13 +89,14 @@ ghost use Rattle.board_rules.specs.Turns.{
 };
 ghost use Rattle.board_rules.specs.Whole.{AreLines, IsSpent, OneByOne, WorkRests, ComesToRest, IsFoundMoving};
 
-/// The bytes that a board has taken are its lines, and each line that it has begun is followed by what becomes of it. What
-/// it has answered, and is still to tell, is what the lines tell, and Bye, once, where it is being closed; what was asked of the
-/// plan, and is still to be asked, is what they ask. No byte of a line is taken while a task of the line before is left.
+/// The bytes that a board has taken are its lines, and each line that it has begun is followed by what becomes of it.
+/// What it has answered, reports left out, and is still to tell, is what the lines tell, and Bye, once, where it is
+/// being closed; what was asked of the plan, and is still to be asked, is what they ask. No byte of a line is taken
+/// while a task of the line before is left.
 pub fn boards_keep_to_their_lines()
     ensures bytes { (first : State) (h : Journal) → Conducted first h → AreLines (taken_of h) (lines_of h) (open_of h) (whole_of h) }
     ensures follow { (first : State) (h : Journal) → Conducted first h → Follows true (start first) (lines_of h) (map a_line (outcomes_of h)) (before_of first h) }
-    ensures told { (first : State) (h : Journal) → Conducted first h → replies_in (outcomes_of h) ++ closed_tells h ≡ answered_of h ++ tells (left_of h) }
+    ensures told { (first : State) (h : Journal) → Conducted first h → replies_in (outcomes_of h) ++ closed_tells h ≡ without_reports (answered_of h) ++ tells (left_of h) }
     ensures bye { (first : State) (h : Journal) → Conducted first h → (closed_tells h ≡ []) ⊎ (closed_tells h ≡ AnyReply.Bye ∷ []) }
     ensures asked { (first : State) (h : Journal) → Conducted first h → asked_in (outcomes_of h) ≡ all_asked (actions_of h) ++ asks (left_of h) }
     ensures one_by_one { (first : State) (h : Journal) → Conducted first h → closed_tells h ≡ [] → OneByOne (left_of h) (open_of h) (whole_of h) }
@@ -112,10 +120,11 @@ pub fn boards_do_a_bounded_amount()
     ensures replies { (first : State) (h : Journal) → Conducted first h → length (answered_of h) < 2 ^ 62 }
 {}
 
-/// What a board does to its plan is a planner run. Only a word that asks for a hold slows it down, and only a word that changes
-/// overrides, or the end of a program, plans it for others; before that they are at 100 percent. Segments go on while the
-/// machine runs, and slow it down while it is being held. What was given is what the plan gave, and the end behind it where it
-/// was made; it is published, or in hand, and comes in turn, so that the piece in hand may be published.
+/// What a board does to its plan is a planner run. Only a word that asks for a hold slows it down, and only a word that
+/// changes overrides, or the end of a program, plans it for others; before that they are at 100 percent. Segments go on
+/// while the machine runs, and slow it down while it is being held. What was given is what the plan gave, and the end
+/// behind it where it was made; it is published, or in hand, and comes in turn, so that the piece in hand may be
+/// published.
 pub fn boards_run_their_plan()
     ensures run { (first : State) (h : Journal) → Conducted first h → IsPlannerRun (actions_of h) (planned_of h) (plan_of h) }
     ensures disturbed { (first : State) (h : Journal) → Conducted first h →
@@ -158,46 +167,67 @@ pub fn boards_stand_where_nothing_moved()
 {}
 
 /// A line is refused with error 8 only where the machine was found moving, unless it is refused so wherever the machine
-/// stands: in its turn a load of the done ticks found fewer than are published where it is begun, or an event was left to run,
-/// in the plan or in hand.
+/// stands: in its turn a load of the done ticks found fewer than are published where it is begun, or an event was left
+/// to run, in the plan or in hand.
 pub fn boards_refuse_only_while_they_move()
     ensures moving { (first : State) (h : Journal) (o : Outcome) → Conducted first (began o ∷ h) → o ≡ refused (before_of first h) 8 →
         (Becomes false (before_of first h) (open_of h) o → ⊥) → IsFoundMoving h }
 {}
 
-/// A board publishes one thing a turn at most, and between two turns no more than five tries to publish stand behind its last
-/// poll, while nothing was left to do, and no line waited for a machine that is held, or slows down for that. Between two turns
-/// each word of requests that was taken is obeyed, and for each word that changes overrides the plan is made anew, once each.
+/// A board publishes one thing a turn at most, and between two turns no more than five tries to publish stand behind
+/// its last poll, while nothing was left to do, no report was owed, and no line waited for a machine that is held, or
+/// slows down for that. Each word of requests that was taken is obeyed once, in order, or is the last one: between two
+/// turns it waits only for a report that is owed. For each word that changes overrides the plan is made anew, once.
 pub fn boards_take_turns()
     ensures once { (first : State) (h : Journal) → Conducted first h → this_turn h ≡ [] → count_by publishing h ≤ count_by ends_turn h }
     ensures tries { (first : State) (h : Journal) → Conducted first h → this_turn h ≡ [] → tries_of h ≤ most_tries }
-    ensures obeyed { (first : State) (h : Journal) → Conducted first h → this_turn h ≡ [] → count_by obeys h ≡ count_by takes_requests h }
+    ensures obeyed { (first : State) (h : Journal) → Conducted first h → count_by obeys h + length (unobeyed_of h) ≡ count_by takes_requests h }
+    ensures one { (first : State) (h : Journal) → Conducted first h → length (unobeyed_of h) ≤ 1 }
+    ensures waits { (first : State) (h : Journal) → Conducted first h → this_turn h ≡ [] → owes_report h ≡ false → unobeyed_of h ≡ [] }
     ensures changed { (first : State) (h : Journal) → Conducted first h → this_turn h ≡ [] → count_by replans h ≡ count_by takes_changes h }
 {}
 
-/// A line is begun once both words of flags were taken behind its LF. Where anything is waited for, both were taken since the
-/// last wait. A word of requests lets a machine that is held stay so where it asks for no start, or for a hold. A machine that
-/// slows down is held once it has stopped and each tick is done; that is looked after before it obeys a word, so that a
-/// machine that has stopped is held by then.
+/// A line is begun once both words of flags were taken behind its LF, what they ask for is done, and no report is owed.
+/// Where anything is waited for, both were taken since the last wait, and obeyed. A word of requests lets a machine
+/// that is held stay so where it asks for no start, or for a hold. A machine that slows down is held once it has
+/// stopped and each tick is done; that is looked after before it obeys a word, so that a machine that has stopped is
+/// held by then. A word is obeyed while a report is owed only where there was no room for it in that turn.
 pub fn boards_take_their_flags()
     ensures begun { (first : State) (h : Journal) (o : Outcome) → Conducted first (began o ∷ h) → (requests_taken h ≡ true) × (changes_taken h ≡ true) }
-    ensures waited { (first : State) (h : Journal) (o : AnyOn) → Conducted first (turned (Wait o) ∷ h) → (requests_taken h ≡ true) × (changes_taken h ≡ true) }
+    ensures worked { (first : State) (h : Journal) (o : Outcome) → Conducted first (began o ∷ h) → (unobeyed_of h ≡ []) × (owes_report h ≡ false) }
+    ensures waited { (first : State) (h : Journal) (o : AnyOn) → Conducted first (turned (Wait o) ∷ h) → (requests_taken h ≡ true) × ((changes_taken h ≡ true) × (unobeyed_of h ≡ [])) }
     ensures stays { (word : AnyExec) (queued : Bool) → (asks_no_start (at_port (took_exec word)) ≡ true) ↔ (after (on_exec word queued) Held ≡ Some Held) }
     ensures held { (first : State) (h : Journal) (m : AnyMotion) → Conducted first (became on_stopped m ∷ h) → IsStopped h }
+    ensures reported { (first : State) (h : Journal) (word : AnyExec) (queued : Bool) (m : AnyMotion) → Conducted first (became (on_exec word queued) m ∷ h) →
+        owes_report h ≡ true → list_any lacks_reply_room (this_turn h) ≡ true }
     ensures looked { (first : State) (h : Journal) (word : AnyExec) (queued : Bool) (m : AnyMotion) → Conducted first (became (on_exec word queued) m ∷ h) →
         HasSlowedDown h → list_any loads (this_turn h) ≡ true }
     ensures stopped { (first : State) (h : Journal) (word : AnyExec) (queued : Bool) (m : AnyMotion) → Conducted first (became (on_exec word queued) m ∷ h) →
         IsStopped h → ⊥ }
 {}
 
-/// A turn that ends in a wait has a cause. For a byte: none was found, and nothing is left to do. For room for a reply: a
-/// reply is next. For room for a segment: five of the published pieces are unfinished, while so many ticks are done. For
-/// motion: some of the published ticks were found not to be done, and what is next waits for them, or for the machine that is
-/// being held. For a resume: the machine is held, the word of requests that was taken lets it stay so, and what is next does
-/// not go on before. It waits for nothing else.
+/// Each report fits what was done before it: the place is that after the ticks that were found done in its turn, on all
+/// axes, and all else is of the same moment. A machine that has run out is not told as running, nor one that has
+/// stopped as slowing down. So it fits the whole run: the ticks that reports show never fall, they are at least those
+/// of the lines up to the last answered one that settles, and at most those of the next line; and a machine that
+/// nothing moves stands. For each word that asks for a report there is one at most.
+pub fn boards_report_where_they_are()
+    ensures fits { (first : State) (h : Journal) → Conducted first h → Reported (course_of first h) (reverse (answered_of h)) (known_of h) }
+    ensures told { (first : State) (h : Journal) (r : AnyReport) → Conducted first (at_port (reported r) ∷ h) →
+        (list_any loads (this_turn h) ≡ true) × ((IsDrained h → is_going (motion_of h) ≡ false) × ((IsStopped h → ⊥) × IsRoom r.buffer h)) }
+    ensures few { (first : State) (h : Journal) → Conducted first h → reports_among (answered_of h) + cond (owes_report h) 1 0 ≤ reports_in (port_log h) }
+{}
+
+/// A turn that ends in a wait has a cause. For a byte: none was found, and nothing is left to do. For room for a reply:
+/// a reply is next, or a report is owed; and where one is owed, there was no room for it in that turn. For room for a
+/// segment: five of the published pieces are unfinished, while so many ticks are done. For motion: some of the
+/// published ticks were found not to be done, and what is next waits for them, or for the machine that is being held.
+/// For a resume: the machine is held, the word of requests that was taken lets it stay so, and what is next does not go
+/// on before. It waits for nothing else.
 pub fn boards_wait_for_a_cause()
     ensures byte { (first : State) (h : Journal) → Conducted first (turned (Wait causes.Byte) ∷ h) → (left_of h ≡ []) × (whole_of h ≡ false) }
-    ensures reply_room { (first : State) (h : Journal) → Conducted first (turned (Wait causes.ReplyRoom) ∷ h) → tells_next (left_of h) ≡ true }
+    ensures reply_room { (first : State) (h : Journal) → Conducted first (turned (Wait causes.ReplyRoom) ∷ h) → (tells_next (left_of h) || owes_report h) ≡ true }
+    ensures report { (first : State) (h : Journal) (o : AnyOn) → Conducted first (turned (Wait o) ∷ h) → owes_report h ≡ true → list_any lacks_reply_room (this_turn h) ≡ true }
     ensures segment_room { (first : State) (h : Journal) → Conducted first (turned (Wait causes.SegmentRoom) ∷ h) →
         (done : ℕ) × (unfinished (published_of h) done ≡ most_unfinished) }
     ensures motion { (first : State) (h : Journal) → Conducted first (turned (Wait causes.Motion) ∷ h) →

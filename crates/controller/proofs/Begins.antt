@@ -24,11 +24,11 @@ use Rattle.units.specs.Truths.{one_if}
 use Rattle.controller.specs.declared.controller.Flags.{Flags}
 use Rattle.controller.specs.declared.controller.Flags.TheVariants as words
 use Rattle.controller.specs.declared.controller.Beat.TheVariants.{Motion}
-use Rattle.controller.specs.Boards.{Keeps, Reads}
+use Rattle.controller.specs.Boards.{Keeps, Reads, IsFree}
 use Rattle.controller.specs.Turning.{IsReady, IsWholeLine, IsLooked, MayJudge, PassesNothing, DidAlone, HasLooked, HasFilled, BoardWorked}
 use Rattle.controller.proofs.Standing.{blocks_undrained}
 use Rattle.controller.proofs.Tries.{worked_behind}
-use Rattle.controller.proofs.Ends.{takes_none, did_filled}
+use Rattle.controller.proofs.Ends.{takes_none, did_filled, free_of, free_passed}
 
 -- ---- what becomes of it
 
@@ -107,6 +107,8 @@ may_begin first h o c may found = record {
   refuses = λ runs is. refuses (before_of first h) (open_of h) o is (subst (λ (r : Bool). Found r (before_of first h) (open_of h) o) runs found);
   begins = may.looked.begins;
   flags = may.looked.flags;
+  obeyed = may.looked.worked.obeyed may.looked.unowed;
+  unowed = may.looked.unowed;
   load = may.looked.load;
   idle = may.looked.idle;
   starts = λ waiting. or_none (list_any found_none (this_turn h)) (is_full (plan_of h) || awaits_motion (left_of h)) (whole_of h) (begins_with_dollar (open_of h)) may.looked.unpolled (may.looked.none_waits waiting) (may.starts waiting);
@@ -128,6 +130,8 @@ begun board lines input h o k may found is reads = record {
     number_is = ap (λ (i : Interpreting). i.number) is ∙ ap (λ n. n + 1) k.lines.number_is;
   };
   input = reads;
+  flight = record { known = k.flight.known; found = k.flight.found; flies = k.flight.flies };
+  owes_is = k.owes_is;
   going = k.going;
   closed = k.closed;
 }
@@ -145,6 +149,7 @@ looked_whole h next ready line l =
       begins = l.begins;
       worked = p.worked ready.quiet.worked;
       flags = p.flags ∙ ready.quiet.flags;
+      unowed = p.owed ∙ ready.quiet.unowed;
       load = l.load;
       idle = l.idle;
       none_waits = l.none_waits ready.none_waits;
@@ -167,8 +172,9 @@ judges_started h l blocks = record {
     going = l.going;
     whole = l.whole;
     begins = refl;
-    worked = worked_behind (became (on_start false) motions.Run) h (became (on_start false) motions.Run ∷ h) refl (record { no_requests = refl; none_obeyed = refl; no_changes = refl; none_planned = refl }) l.worked;
+    worked = worked_behind (became (on_start false) motions.Run) h (became (on_start false) motions.Run ∷ h) refl (record { no_changes = refl; none_planned = refl }) refl refl l.worked;
     flags = l.flags;
+    unowed = l.unowed;
     load = l.load;
     idle = λ d. absurd (blocks_undrained (became (on_start false) motions.Run ∷ h) blocks d);
     none_waits = λ w. absurd (let e = w.stands in cc);
@@ -192,8 +198,10 @@ did_begin was board h seen mid next o ready line look alone keeps beat no_word f
     let few = few_where_whole (tries_of h) (whole_of h) line.whole ready.tries in
     let quiet : count_by publishing (this_turn mid) ≡ 0 = a.quiet ∙ look.quiet ∙ ready.quiet.quiet in
     let tries : tries_of mid ≡ tries_of h = a.tries ∙ look.tries in
-    let worked = worked_behind (began o) mid (began o ∷ mid) refl (record { no_requests = refl; none_obeyed = refl; no_changes = refl; none_planned = refl }) (a.worked (look.worked ready.quiet.worked)) in
-    let taken = takes_none board next no_word (filled.alone.passes.flags ∙ a.flags ∙ look.flags ∙ ready.quiet.flags) in
+    let worked = worked_behind (began o) mid (began o ∷ mid) refl (record { no_changes = refl; none_planned = refl }) refl refl (a.worked (look.worked ready.quiet.worked)) in
+    let free = free_passed seen mid a (free_passed h seen look (free_of h ready.quiet)) in
+    let now : IsFree (began o ∷ mid) = record { flags = free.flags; obeyed = free.obeyed; unowed = free.unowed } in
+    let taken = takes_none board next no_word (free_passed (began o ∷ mid) next filled.alone.passes now) in
     did_filled was board h (began o ∷ mid) next (began o ∷ (a.steps ++ look.steps))
     (ap (λ (j : Journal). began o ∷ j) (a.are ∙ ap (λ (j : Journal). a.steps ++ j) look.are ∙ sym (append_assoc a.steps look.steps h)))
     keeps beat taken filled worked (omega (arith, quiet)) (a.polled ∙ look.polled ∙ ready.unpolled) (omega (arith, few, tries)) (inl (filled.alone.passes.moves refl))

@@ -21,8 +21,8 @@ use Rattle.board_rules.specs.Turns.{
   passing,
   moving,
   found_none,
-  takes_requests,
-  obeys,
+  unobeyed_of,
+  owes_report,
   takes_changes,
   replans,
   flags_taken,
@@ -39,15 +39,16 @@ use Rattle.board_rules.specs.Turns.{
   waits_of,
   waits_by,
 }
-use Rattle.board_rules.specs.Conduct.{Conducted, AreWaiting, IsNextTask}
+use Rattle.board_rules.specs.Conduct.{Conducted, AreWaiting, IsNextTask, MayTurn, Waits}
 use Rattle.units.specs.Truths.{one_if}
 use Rattle.controller.specs.declared.controller.Controller.{Controller}
 use Rattle.controller.specs.declared.controller.Flags.{Flags}
 use Rattle.controller.specs.declared.controller.Flags.TheVariants as words
 use Rattle.controller.specs.declared.controller.Beat.TheVariants.{Motion, Main}
-use Rattle.controller.specs.Boards.{Keeps, Rounds, NoneWaits, IsBetween, TakesFlags, BoardFits, BoardTurned, has_published, changes_left, number_of}
+use Rattle.controller.specs.Boards.{Keeps, Rounds, NoneWaits, IsBetween, IsFree, TakesFlags, takes_no_word, BoardFits, BoardTurned, has_published, changes_left, number_of}
 use Rattle.controller.specs.Turning.{IsNextMove, AreWorked, IsQuiet, IsReady, MayRun, MayAwait, HasStopped, NeedsNoWait, GoesOn, PassesNothing, HasFilled, HasTried, BoardWorked, WorksOn}
-use Rattle.controller.proofs.Facts.{not_whole, uncounted, uncounted_line}
+pub use Rattle.controller.proofs.Freeing.{free_of, takes_none, no_word_left, free_passed, free_tried, flags_tried, flags_passed, taken_by, obeyed_by}
+use Rattle.controller.proofs.Facts.{not_whole, uncounted, uncounted_line, uncounted_owing}
 use Rattle.controller.proofs.Steps.{other_beat, other_flags, ends}
 
 -- ---- what follows
@@ -130,6 +131,7 @@ rounds_still h none few = record {
   tries = omega arith;
   few = λ some. omega arith;
   held = λ halts whole. let w = ap one_if whole in omega (arith, few, w);
+  owed = λ e. few;
 }
 
 -- ---- a piece that was tried to be published
@@ -191,12 +193,11 @@ none_for_line h mid next p may tried filled halts whole =
     let w = ap one_if line in
     omega (arith, f, t, m, w)
 
-pub takes_none : (board : Controller) (h : Journal) → board.flags ≡ words.None → flags_taken h ≡ true → TakesFlags board.flags h
-takes_none board h none taken = subst (λ f. TakesFlags f h) (sym none) taken
+-- ---- a piece that is published
 
-pub sent : (was : Flags) (board : Controller) (h mid next : Journal) → MayTry h → HasTried true h mid → HasFilled mid next → Keeps board next → board.flags ≡ words.None
+pub sent_by : (was : Flags) (board : Controller) (h mid next : Journal) → MayTry h → HasTried true h mid → HasFilled mid next → Keeps board next → takes_no_word board.flags ≡ true → TakesFlags board.flags next
     → BoardWorked Did was (record board { beat = Main }) h next
-sent was board h mid next may tried filled keeps no_word =
+sent_by was board h mid next may tried filled keeps no_word takes =
     let a = filled.alone.passes in
     let tries = few_tries h mid next true may tried filled in
     let worked = a.worked (tried.worked may.worked) in
@@ -212,8 +213,11 @@ sent was board h mid next may tried filled keeps no_word =
             (let left : left_of h ≡ [] → ⊥ = (λ e. a.less some (tried.left ∙ e)) in
             let f = tried.later (uncounted h left) in let m = may.tries in let t = a.tries in omega (arith, f, m, t));
         held = none_for_line h mid next true may tried filled;
+        owed = λ owed.
+            (let f = tried.later (uncounted_owing h (sym (a.owed ∙ tried.owed) ∙ owed)) in let m = may.tries in let t = a.tries in let w = ap one_if (a.whole ∙ tried.whole) in
+            omega (arith, f, m, t, w));
       };
-      flags = takes_none board next no_word (a.flags ∙ tried.flags ∙ may.flags);
+      flags = takes;
       still = λ e. no_word;
       beat = λ o e. absurd cc;
       steps = a.steps ++ tried.steps;
@@ -228,6 +232,11 @@ sent was board h mid next may tried filled keeps no_word =
       };
       moves = λ e. inl (a.moves (tried.moves refl));
     }
+
+pub sent : (was : Flags) (board : Controller) (h mid next : Journal) → MayTry h → IsFree h → HasTried true h mid → HasFilled mid next → Keeps board next → board.flags ≡ words.None
+    → BoardWorked Did was (record board { beat = Main }) h next
+sent was board h mid next may free tried filled keeps none =
+    sent_by was board h mid next may tried filled keeps (no_word_left board.flags none) (takes_none board next none (free_passed mid next filled.alone.passes (free_tried true h mid tried free)))
 
 -- what may be run may be tried to be published
 by_counted : {A : Type 0} (counted : Bool) → (counted ≡ true → A) → (counted ≡ false → A) → A
@@ -254,12 +263,12 @@ handed_back was board h mid next may tried filled keeps beat no_word =
     let few : tries_of next + one_if (whole_of next) ≤ 1 =
     by_counted (is_counted h) (λ e. let f = tried.first in let m = may.first e in omega (arith, w, t, f, m)) (λ e. let f = tried.later e in let m = may.few e in omega (arith, w, t, f, m)) in
     let worked = a.worked (tried.worked may.quiet.worked) in
-    let taken = a.flags ∙ tried.flags ∙ may.quiet.flags in
+    let free = free_passed mid next a (free_tried false h mid tried (free_of h may.quiet)) in
     record {
       keeps = keeps;
       rounds = subst (λ b. Rounds b next) (sym beat) (rounds_still next filled.none_waits few);
-      flags = takes_none board next no_word taken;
-      still = λ e. no_word;
+      flags = takes_none board next no_word free;
+      still = λ e. no_word_left board.flags no_word;
       beat = λ o e. beat;
       steps = a.steps ++ tried.steps;
       are = a.are ∙ ap (λ (x : Journal). a.steps ++ x) tried.are ∙ sym (append_assoc a.steps tried.steps h);
@@ -274,7 +283,9 @@ handed_back was board h mid next may tried filled keeps beat no_word =
         };
         cause = a.room ∙ tried.room refl;
         still = a.still ∙ tried.still refl ∙ may.quiet.still;
-        flags = taken;
+        flags = free.flags;
+        obeyed = free.obeyed;
+        unowed = λ e. absurd (let f = sym e ∙ free.unowed in cc);
         round = λ due. none_waited next SegmentRoom (a.waits ∙ tried.waits);
       };
       moves = λ e. absurd cc;
@@ -283,27 +294,33 @@ handed_back was board h mid next may tried filled keeps beat no_word =
 -- ---- what is next, behind that
 
 -- between two turns nothing was done in this one
-none_between : (h : Journal) (f : Step → Bool) → IsBetween h → list_any f (this_turn h) ≡ false
+pub none_between : (h : Journal) (f : Step → Bool) → IsBetween h → list_any f (this_turn h) ≡ false
 none_between h f between = ap (λ (ss : List Step). list_any f ss) between
 
-count_between : (h : Journal) → IsBetween h → count_by publishing (this_turn h) ≡ 0
+pub count_between : (h : Journal) → IsBetween h → count_by publishing (this_turn h) ≡ 0
 count_between h between = ap (λ (ss : List Step). count_by publishing ss) between
 
-none_worked : (h : Journal) → IsBetween h → AreWorked h
-none_worked h between = record {
-  obeyed = ap (λ (ss : List Step). count_by obeys ss) between ∙ sym (ap (λ (ss : List Step). count_by takes_requests ss) between);
+pub none_worked : (h : Journal) → IsBetween h → (owes_report h ≡ false → unobeyed_of h ≡ []) → AreWorked h
+none_worked h between obeyed = record {
+  obeyed = obeyed;
   changed = ap (λ (ss : List Step). count_by replans ss) between ∙ sym (ap (λ (ss : List Step). count_by takes_changes ss) between);
 }
 
 -- nothing is done yet
-quiet_between : (h : Journal) → IsBetween h → flags_taken h ≡ true → IsQuiet h
-quiet_between h between taken = record { still = none_between h passing between; quiet = count_between h between; worked = none_worked h between; flags = taken }
-
-pub may_try_first : (h : Journal) → Rounds Motion h → IsBetween h → flags_taken h ≡ true → MayTry h
-may_try_first h r between taken = record {
+quiet_between : (h : Journal) → IsBetween h → IsFree h → IsQuiet h
+quiet_between h between free = record {
+  still = none_between h passing between;
   quiet = count_between h between;
-  worked = none_worked h between;
-  flags = taken;
+  worked = none_worked h between (λ e. free.obeyed);
+  flags = free.flags;
+  unowed = free.unowed;
+}
+
+pub may_try_first : (f : Flags) (h : Journal) → Rounds Motion h → IsBetween h → takes_no_word f ≡ true → TakesFlags f h → MayTry h
+may_try_first f h r between none takes = record {
+  quiet = count_between h between;
+  worked = none_worked h between (obeyed_by f h none takes);
+  flags = taken_by f h none takes;
   polled = λ e. absurd (let n = none_between h found_none between in cc);
   tries = (let t = r.tries in omega (arith, t));
 }
@@ -314,16 +331,17 @@ still_none_waits h next p tried none waiting =
     (less_or (is_full (plan_of next)) (is_full (plan_of h)) (awaits_motion (left_of h)) tried.full (none (tried.waiting waiting)))
 
 -- what was tried first was handed back
-pub ready_tried : (h next : Journal) → Rounds Motion h → IsBetween h → flags_taken h ≡ true → HasTried false h next → IsReady next
-ready_tried h next r between taken tried =
+pub ready_tried : (h next : Journal) → Rounds Motion h → IsBetween h → IsFree h → HasTried false h next → IsReady next
+ready_tried h next r between free tried =
     let w = ap one_if tried.whole in
     let rt = r.tries in
     record {
       quiet = record {
         still = tried.still refl ∙ none_between h passing between;
         quiet = (let q = tried.quiet in let c = count_between h between in omega arith);
-        worked = tried.worked (none_worked h between);
-        flags = tried.flags ∙ taken;
+        worked = tried.worked (none_worked h between (λ e. free.obeyed));
+        flags = tried.flags ∙ free.flags;
+        unowed = tried.owed ∙ free.unowed;
       };
       unpolled = tried.polled ∙ none_between h found_none between;
       tried = λ due. tried.waits;
@@ -337,7 +355,7 @@ ready_tried h next r between taken tried =
     }
 
 -- the last turn published
-pub ready_sent : (h : Journal) → Rounds Main h → IsBetween h → flags_taken h ≡ true → IsReady h
+pub ready_sent : (h : Journal) → Rounds Main h → IsBetween h → IsFree h → IsReady h
 ready_sent h r between taken = record {
   quiet = quiet_between h between taken;
   unpolled = none_between h found_none between;
@@ -350,7 +368,7 @@ ready_sent h r between taken = record {
 }
 
 -- nothing is due
-pub ready_idle : (h : Journal) → Rounds Motion h → IsBetween h → flags_taken h ≡ true → is_due h ≡ false → missed_of h ≡ false → IsReady h
+pub ready_idle : (h : Journal) → Rounds Motion h → IsBetween h → IsFree h → is_due h ≡ false → missed_of h ≡ false → IsReady h
 ready_idle h r between taken idle unmissed = record {
   quiet = quiet_between h between taken;
   unpolled = none_between h found_none between;
@@ -398,6 +416,7 @@ ready_stopped h next ready passes stopped =
         quiet = passes.quiet ∙ ready.quiet.quiet;
         worked = passes.worked ready.quiet.worked;
         flags = passes.flags ∙ ready.quiet.flags;
+        unowed = passes.owed ∙ ready.quiet.unowed;
       };
       unpolled = passes.polled ∙ ready.unpolled;
       tried = λ due. absurd (let e = sym due ∙ not_due next stopped in cc);
@@ -491,6 +510,7 @@ rounds_turned t was board h next w = record {
   tries = w.rounds.tries;
   few = w.rounds.few;
   held = w.rounds.held;
+  owed = w.rounds.owed;
 }
   where
     by_turn : (t : Turn) → ((o : On) → t ≡ Wait o → board.beat ≡ Motion) → has_published board.beat ≡ true → waits_by t (waits_of next) ≡ []
@@ -499,16 +519,21 @@ rounds_turned t was board h next w = record {
     by_turn Done still e = w.rounds.waits e
 
 -- the words of flags are to be taken that were before, or both behind a wait
-flags_turned : (t : Turn) (f : Flags) (next : Journal) → TakesFlags f next → TakesFlags (flags_behind t f) (turned t ∷ next)
-flags_turned (Wait o) f next takes = tt
-flags_turned Did words.Both next takes = tt
-flags_turned Did words.Requests next takes = takes
-flags_turned Did words.None next takes = takes
-flags_turned Done words.Both next takes = tt
-flags_turned Done words.Requests next takes = takes
-flags_turned Done words.None next takes = takes
+may_waits : (o : On) (next : Journal) → Waits o next → unobeyed_of next ≡ []
+may_waits o next w = w.obeyed
 
-still_turned : (t : Turn) (was : Flags) (board : Controller) (h next : Journal) → BoardWorked t was board h next → has_published board.beat ≡ true → flags_behind t board.flags ≡ words.None
+flags_turned : (t : Turn) (f : Flags) (next : Journal) → MayTurn t next → TakesFlags f next → TakesFlags (flags_behind t f) (turned t ∷ next)
+flags_turned (Wait o) f next may takes = may_waits o next may
+flags_turned Did words.Both next may takes = takes
+flags_turned Did words.Requests next may takes = record { changes = takes.changes; obeyed = takes.obeyed }
+flags_turned Did (words.Report word) next may takes = record { flags = takes.flags; next = takes.next; owed = takes.owed }
+flags_turned Did words.None next may takes = record { flags = takes.flags; obeyed = takes.obeyed; unowed = takes.unowed }
+flags_turned Done words.Both next may takes = takes
+flags_turned Done words.Requests next may takes = record { changes = takes.changes; obeyed = takes.obeyed }
+flags_turned Done (words.Report word) next may takes = record { flags = takes.flags; next = takes.next; owed = takes.owed }
+flags_turned Done words.None next may takes = record { flags = takes.flags; obeyed = takes.obeyed; unowed = takes.unowed }
+
+still_turned : (t : Turn) (was : Flags) (board : Controller) (h next : Journal) → BoardWorked t was board h next → has_published board.beat ≡ true → takes_no_word (flags_behind t board.flags) ≡ true
 still_turned Did was board h next w e = w.still e
 still_turned (Wait o) was board h next w e = absurd (let s = ap has_published (w.beat o refl) in cc)
 still_turned Done was board h next w e = w.still e
@@ -517,7 +542,7 @@ pub turned_on : (t : Turn) (was : Flags) (board : Controller) (h next : Journal)
 turned_on t was board h next w = record {
   keeps = other_flags board (flags_behind t board.flags) (turned t ∷ next) (ends board t next w.keeps w.may);
   rounds = rounds_turned t was board h next w;
-  flags = flags_turned t board.flags next w.flags;
+  flags = flags_turned t board.flags next w.may w.flags;
   still = still_turned t was board h next w;
 }
 

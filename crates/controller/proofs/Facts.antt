@@ -1,5 +1,5 @@
 -- What holds of every journal that the rules allow, and of one between two turns.
-use Rattle.std.proofs.Common.{◌≡◌, ◌+◌, ◌⊎◌, inl, inr, Bool, true, false, ◌&&◌, not, List, [], ◌∷◌, length, drop, refl, arith, length-append}
+use Rattle.std.proofs.Common.{◌≡◌, ◌+◌, ◌⊎◌, inl, inr, Bool, true, false, ◌&&◌, not, List, [], ◌∷◌, length, drop, refl, ap, arith, length-append}
 use Rattle.status_report.specs.declared.Reply.TheVariants.{Bye}
 use Rattle.step_line.specs.Asking.Asked.{a_move, a_mark, a_rest}
 use Rattle.segment_prep.specs.declared.Mode.TheVariants.{Go, Hold}
@@ -8,10 +8,10 @@ use Rattle.planner_runs.specs.declared.Action.TheVariants.{Add, Take, Override, 
 use Rattle.run_rules.specs.declared.State.{State}
 use Rattle.run_rules.specs.Work.{Task}
 use Rattle.run_rules.specs.Work.Task.{ask, tell, pause, normal, finish}
-use Rattle.board_rules.specs.Ports.PortStep.{took, found_empty, found_closed, found_free, answered, no_reply_room, took_exec, took_ovr, published, no_piece_room, loaded}
+use Rattle.board_rules.specs.Ports.PortStep.{took, found_empty, found_closed, found_free, answered, reported, no_reply_room, took_exec, took_ovr, published, no_piece_room, loaded}
 use Rattle.board_rules.specs.Steps.{Journal, outcomes_of, before_of, left_of, left_by, whole_of, closed_tells, motion_of}
 use Rattle.board_rules.specs.Steps.Step.{at_port, began, did, made_end, evened, paused, became, closing, turned}
-use Rattle.board_rules.specs.Turns.{this_turn, missed_of, is_due, is_halting, is_counted, counts_tries}
+use Rattle.board_rules.specs.Turns.{this_turn, missed_of, is_due, is_halting, is_counted, counts_tries, owes_report}
 use Rattle.board_rules.specs.Conduct.{Conducted, IsNextTask, MayDo}
 use Rattle.board_rules.proofs.Closing.{At, going, to_finish, to_tell, over, phase_is}
 use Rattle.board_rules.proofs.Tasks.{none_next, none_first, head_is}
@@ -42,6 +42,7 @@ free_is first (at_port found_empty ∷ h) c = free_is first h c.1
 free_is first (at_port found_closed ∷ h) c = free_is first h c.1
 free_is first (at_port (found_free n) ∷ h) c = free_is first h c.1
 free_is first (at_port (answered r) ∷ h) c = one_less (left_of h) (whole_of h) (tell r) c.0.next (free_is first h c.1)
+free_is first (at_port (reported r) ∷ h) c = free_is first h c.1
 free_is first (at_port no_reply_room ∷ h) c = free_is first h c.1
 free_is first (at_port (took_exec word) ∷ h) c = free_is first h c.1
 free_is first (at_port (took_ovr word) ∷ h) c = free_is first h c.1
@@ -65,9 +66,17 @@ not_whole first h c some = by_free (free_is first h c)
     by_free (inl none) = absurd (some none)
     by_free (inr partial) = partial
 
+and_none : (a b : Bool) → b ≡ false → (a && b) ≡ false
+and_none true b e = e
+and_none false b e = refl
+
+-- nor is one while a report is owed
+pub uncounted_owing : (h : Journal) → owes_report h ≡ true → is_counted h ≡ false
+uncounted_owing h owed = ap (λ b. not b && counts_tries (left_of h) (whole_of h) (motion_of h)) owed
+
 -- no try to publish is counted then
 pub uncounted : (h : Journal) → (left_of h ≡ [] → ⊥) → is_counted h ≡ false
-uncounted h some = by_left (left_of h) some
+uncounted h some = and_none (not (owes_report h)) (counts_tries (left_of h) (whole_of h) (motion_of h)) (by_left (left_of h) some)
   where
     by_left : (ts : List Task) → (ts ≡ [] → ⊥) → counts_tries ts (whole_of h) (motion_of h) ≡ false
     by_left [] some = absurd (some refl)
@@ -75,7 +84,7 @@ uncounted h some = by_left (left_of h) some
 
 -- nor is one while a line waits for a machine that is held, or slows down for that
 pub uncounted_line : (h : Journal) → is_halting (motion_of h) ≡ true → whole_of h ≡ true → is_counted h ≡ false
-uncounted_line h halts whole = by_left (left_of h)
+uncounted_line h halts whole = and_none (not (owes_report h)) (counts_tries (left_of h) (whole_of h) (motion_of h)) (by_left (left_of h))
   where
     none : (a b : Bool) → a ≡ true → b ≡ true → not (a && b) ≡ false
     none true true e f = refl

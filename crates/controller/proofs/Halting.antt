@@ -1,5 +1,5 @@
 -- Where what is next is held up, the stop is waited for, and then the resume.
-use Rattle.std.proofs.Common.{◌≡◌, ℕ, ◌+◌, ◌≤◌, ◌<◌, inl, inr, Bool, true, false, ◌&&◌, ◌||◌, not, List, [], ◌∷◌, ◌++◌, length, nat_eq, Some, refl, sym, ap, ◌∙◌, subst, arith}
+use Rattle.std.proofs.Common.{◌≡◌, ℕ, ◌+◌, ◌≤◌, ◌<◌, inl, inr, Bool, true, false, ◌&&◌, ◌||◌, not, List, [], ◌∷◌, ◌++◌, length, drop, nat_eq, Some, refl, sym, ap, ◌∙◌, subst, arith}
 use Rattle.std.specs.List.{list_any, count_by}
 use Rattle.std.proofs.lemmas.Bool.Decides.{nat_tests}
 use Rattle.std.proofs.Math.Numerals.{lt_of_le_of_ne}
@@ -21,24 +21,25 @@ use Rattle.step_line.proofs.Finished.{together_on}
 use Rattle.run_rules.specs.declared.State.{State}
 use Rattle.run_rules.specs.Work.{Task, pauses}
 use Rattle.run_rules.specs.Work.Task.{ask}
-use Rattle.board_rules.specs.Ports.PortStep.{took, found_empty, found_closed, found_free, answered, no_reply_room, took_exec, took_ovr, published, no_piece_room, loaded}
+use Rattle.board_rules.specs.Ports.PortStep.{took_exec}
 use Rattle.board_rules.specs.Steps.{Step, Journal, left_of, whole_of, known_of, published_of, hand_of, plan_of, motion_of}
-use Rattle.board_rules.specs.Steps.Step.{at_port, began, did, made_end, evened, paused, became, closing, turned}
-use Rattle.board_rules.specs.Turns.{this_turn, publishing, takes_requests, obeys, takes_changes, replans, asks_no_start, flags_taken, has_blocks, has_segment, is_full, is_due, is_halting, is_counted, is_held_up, needs_motion, awaits_motion, starts_cycle, tries_of, most_tries}
+use Rattle.board_rules.specs.Steps.Step.{at_port, became}
+use Rattle.board_rules.specs.Turns.{this_turn, publishing, unobeyed_of, owes_report, takes_changes, replans, asks_no_start, flags_taken, has_blocks, has_segment, is_full, is_due, is_halting, is_counted, is_held_up, needs_motion, awaits_motion, starts_cycle, tries_of, most_tries}
 use Rattle.board_rules.specs.Conduct.{Conducted, EndsTurn, IsNextTask, AreWaiting, HasSlowedDown, ticks_published}
 use Rattle.board_rules.proofs.Staying.{both_taken, stays_held}
+use Rattle.board_rules.proofs.Given.{known_within}
 use Rattle.units.specs.Truths.{one_if}
 use Rattle.controller.specs.declared.controller.Controller.{Controller}
 use Rattle.controller.specs.declared.controller.Beat.TheVariants.{Motion}
 use Rattle.controller.specs.declared.controller.Flags.{Flags}
 use Rattle.controller.specs.declared.controller.Flags.TheVariants as words
-use Rattle.controller.specs.Boards.{Keeps, Rounds, TakesFlags, words_left, changes_left, number_of}
+use Rattle.controller.specs.Boards.{Keeps, Rounds, IsFree, IsAsked, TakesFlags, takes_no_word, words_left, changes_left, number_of}
 use Rattle.controller.specs.Turning.{HasPiece, IsHalted, MayRun, HasSettled, AreWorked, BoardWorked, obeyed}
 use Rattle.controller.proofs.Facts.{uncounted, uncounted_line}
 use Rattle.controller.proofs.Tries.{counts_none, counts_one}
 use Rattle.controller.proofs.Steps.{at_rest}
 use Rattle.controller.proofs.Standing.{all_published}
-use Rattle.controller.proofs.Ends.{rounds_still}
+use Rattle.controller.proofs.Ends.{rounds_still, takes_none, no_word_left, free_of, free_passed}
 
 -- ---- what is held up
 
@@ -108,6 +109,10 @@ rounds_settled : (board : Controller) (h next : Journal) → IsHalted h → HasS
 rounds_settled board h next halted s beat =
     subst (λ b. Rounds b next) (sym beat) (rounds_still next (λ w. absurd (none_wait next (s.halts ∙ halted.halts) w)) (few_settled h next s (few_halted h halted)))
 
+-- no word is to be taken, none waits, and no report is owed
+free_settled : (h next : Journal) → IsHalted h → HasSettled h next → IsFree next
+free_settled h next halted s = free_passed h next s.passes (free_of h halted.ready.quiet)
+
 -- a board's number, where no word of flags is to be taken
 fewer_words : (f was : Flags) (h next : Journal) → f ≡ words.None → was ≡ words.None → number_of words.None next < number_of words.None h → number_of f next < number_of was h
 fewer_words f was h next e g falls = let a = ap words_left e in let b = ap words_left g in omega (arith, falls, a, b)
@@ -118,8 +123,8 @@ pub did_stop : (board : Controller) (was : Flags) (h next : Journal) → Keeps b
 did_stop board was h next k halted s slows held beat no_word none = record {
   keeps = k;
   rounds = rounds_settled board h next halted s beat;
-  flags = subst (λ f. TakesFlags f next) (sym no_word) (s.passes.flags ∙ halted.ready.quiet.flags);
-  still = λ e. no_word;
+  flags = takes_none board next no_word (free_settled h next halted s);
+  still = λ e. no_word_left board.flags no_word;
   beat = λ o e. beat;
   steps = s.passes.steps;
   are = s.passes.are;
@@ -180,43 +185,14 @@ slow_stands board h k slows due = by_blocks (plan_of h).blocks refl
         let zero = by_speed (plan_of h).speed (has_blocks (plan_of h).blocks) (ap has_blocks e) none in
         grind (arith, nat_tests, zero)
 
-at_most : (a b d : ℕ) → a ≤ b → b ≤ d → a ≤ d
-at_most a b d e f = omega (arith, e, f)
-
-more_published : (known : ℕ) (ps : List Piece) (p : Piece) → known ≤ ticks_together ps → known ≤ ticks_together (ps ++ p ∷ [])
-more_published known ps p within = let e = together_on ps p in omega (arith, e, within)
-
--- no more ticks are found done than were published
-known_within : (first : State) (h : Journal) → Conducted first h → known_of h ≤ ticks_published h
-known_within first [] c = omega arith
-known_within first (at_port (took b) ∷ h) c = known_within first h c.1
-known_within first (at_port found_empty ∷ h) c = known_within first h c.1
-known_within first (at_port found_closed ∷ h) c = known_within first h c.1
-known_within first (at_port (found_free n) ∷ h) c = known_within first h c.1
-known_within first (at_port (answered r) ∷ h) c = known_within first h c.1
-known_within first (at_port no_reply_room ∷ h) c = known_within first h c.1
-known_within first (at_port (took_exec word) ∷ h) c = known_within first h c.1
-known_within first (at_port (took_ovr word) ∷ h) c = known_within first h c.1
-known_within first (at_port (published p) ∷ h) c = more_published (known_of h) (published_of h) p (known_within first h c.1)
-known_within first (at_port (no_piece_room done) ∷ h) c = known_within first h c.1
-known_within first (at_port (loaded done) ∷ h) c = c.0.below
-known_within first (began o ∷ h) c = known_within first h c.1
-known_within first (did a ps ∷ h) c = known_within first h c.1
-known_within first (made_end ∷ h) c = known_within first h c.1
-known_within first (evened ∷ h) c = known_within first h c.1
-known_within first (paused ∷ h) c = known_within first h c.1
-known_within first (became call m ∷ h) c = known_within first h c.1
-known_within first (closing ∷ h) c = known_within first h c.1
-known_within first (turned t ∷ h) c = known_within first h c.1
-
 -- the stop is waited for: ticks are found not to be done
 pub waits_for_stop : (board : Controller) (was : Flags) (h next : Journal) → Keeps board next → IsHalted h → (HasPiece h → ⊥) → HasSettled h next → motion_of h ≡ motions.Holding
     → (motion_of next ≡ motions.Held → ⊥) → board.beat ≡ Motion → board.flags ≡ words.None → BoardWorked (Wait on.Motion) was board h next
 waits_for_stop board was h next k halted none s slows moves beat no_word = record {
   keeps = k;
   rounds = rounds_settled board h next halted s beat;
-  flags = subst (λ f. TakesFlags f next) (sym no_word) taken;
-  still = λ e. no_word;
+  flags = takes_none board next no_word free;
+  still = λ e. no_word_left board.flags no_word;
   beat = λ o e. beat;
   steps = s.passes.steps;
   are = s.passes.are;
@@ -228,14 +204,16 @@ waits_for_stop board was h next k halted none s slows moves beat no_word = recor
       awaits = or_true (awaits_motion (left_of next)) (is_stopping (motion_of next) && is_held_up next) (stops (is_stopping (motion_of next)) (is_held_up next) (ap is_stopping still) (still_held_up h next s halted.held_up));
     };
     still = s.passes.still ∙ halted.ready.quiet.still;
-    flags = taken;
+    flags = free.flags;
+    obeyed = free.obeyed;
+    unowed = λ e. absurd (let f = sym e ∙ free.unowed in cc);
     round = λ due has. absurd (let e = sym due_next ∙ due in cc);
   };
   moves = λ e. absurd cc;
 }
   where
-    taken : flags_taken next ≡ true
-    taken = s.passes.flags ∙ halted.ready.quiet.flags
+    free : IsFree next
+    free = free_settled h next halted s
 
     still : motion_of next ≡ motions.Holding
     still = holding_by (motion_of next) (s.halts ∙ halted.halts) moves
@@ -293,7 +271,7 @@ hold_idle true motions.Stopping e = absurd cc
 hold_idle true motions.Alarm e = absurd cc
 
 -- where blocks are queued, a machine that stands behind a word stood before
-idle_before : (word : Exec) (m : AnyMotion) → after_word word true m ≡ motions.Idle → m ≡ motions.Idle
+pub idle_before : (word : Exec) (m : AnyMotion) → after_word word true m ≡ motions.Idle → m ≡ motions.Idle
 idle_before word m e =
     let hold = asks word hold_byte in
     let cancel = asks word cancel_byte in
@@ -305,32 +283,28 @@ waited_before word h w = record {
   blocks = w.blocks;
 }
 
-worked_obeyed : (word : Exec) (h : Journal) → AreWorked h → AreWorked (obeyed word h)
-worked_obeyed word h w =
+worked_obeyed : (word : Exec) (h : Journal) → unobeyed_of h ≡ [] → AreWorked h → AreWorked (obeyed word h)
+worked_obeyed word h none w =
     let call = became (on_exec word (has_blocks (plan_of h).blocks)) (after_word word (has_blocks (plan_of h).blocks) (motion_of h)) in
     let took = at_port (took_exec word) in
     let ss = this_turn h in
-    let o = counts_one obeys call (took ∷ ss) refl in
-    let p = counts_none obeys took ss refl in
-    let q = counts_none takes_requests call (took ∷ ss) refl in
-    let r = counts_one takes_requests took ss refl in
     let a = counts_none replans call (took ∷ ss) refl in
     let b = counts_none replans took ss refl in
     let c = counts_none takes_changes call (took ∷ ss) refl in
     let d = counts_none takes_changes took ss refl in
     record {
-      obeyed = o ∙ ap (λ n. n + 1) (p ∙ w.obeyed) ∙ sym (q ∙ r);
+      obeyed = λ e. ap (λ (ws : List Exec). drop 1 (ws ++ word ∷ [])) none;
       changed = a ∙ b ∙ w.changed ∙ sym (c ∙ d);
     }
 
-pub ends_obeyed : (word : Exec) (h : Journal) → count_by publishing (this_turn h) ≡ 0 → AreWorked h → ((m : PlannedMove) → IsNextTask (ask (a_move m)) h → is_full (plan_of h) ≡ true)
+pub ends_obeyed : (word : Exec) (h : Journal) → count_by publishing (this_turn h) ≡ 0 → unobeyed_of h ≡ [] → AreWorked h → ((m : PlannedMove) → IsNextTask (ask (a_move m)) h → is_full (plan_of h) ≡ true)
     → (AreWaiting h → starts_cycle h ≡ false) → tries_of h ≤ most_tries → EndsTurn (obeyed word h)
-ends_obeyed word h quiet w adds starts few =
+ends_obeyed word h quiet none w adds starts few =
     let call = became (on_exec word (has_blocks (plan_of h).blocks)) (after_word word (has_blocks (plan_of h).blocks) (motion_of h)) in
     let took = at_port (took_exec word) in
     let a = counts_none publishing call (took ∷ this_turn h) refl in
     let b = counts_one publishing took (this_turn h) refl in
-    let worked = worked_obeyed word h w in
+    let worked = worked_obeyed word h none w in
     record {
       once = omega (arith, a, b, quiet);
       adds = adds;
@@ -339,6 +313,31 @@ ends_obeyed word h quiet w adds starts few =
       obeyed = worked.obeyed;
       changed = worked.changed;
     }
+
+-- a word was taken behind which a report is told first
+abbrev pub taken : Exec → Journal → Journal
+taken word h = at_port (took_exec word) ∷ h
+
+pub ends_taken : (word : Exec) (h : Journal) → owes_report (taken word h) ≡ true → count_by publishing (this_turn h) ≡ 0 → AreWorked h → ((m : PlannedMove) → IsNextTask (ask (a_move m)) h → is_full (plan_of h) ≡ true)
+    → (AreWaiting h → starts_cycle h ≡ false) → tries_of h ≤ most_tries → EndsTurn (taken word h)
+ends_taken word h owed quiet w adds starts few =
+    let took = at_port (took_exec word) in
+    let a = counts_one publishing took (this_turn h) refl in
+    record {
+      once = omega (arith, a, quiet);
+      adds = adds;
+      starts = λ waits. starts (record { stands = waits.stands; blocks = waits.blocks });
+      tries = few;
+      obeyed = λ e. absurd (let f = sym e ∙ owed in cc);
+      changed = counts_none replans took (this_turn h) refl ∙ w.changed ∙ sym (counts_none takes_changes took (this_turn h) refl);
+    }
+
+-- both words were taken, and this one waits for the report
+pub asked_now : (word : Exec) (h : Journal) → flags_taken (taken word h) ≡ true → unobeyed_of h ≡ [] → owes_report (taken word h) ≡ true → IsAsked (Some word) (taken word h)
+asked_now word h flags none owed = record { flags = flags; next = ap (λ (ws : List Exec). ws ++ word ∷ []) none; owed = owed }
+
+pub free_now : (word : Exec) (h : Journal) → flags_taken (obeyed word h) ≡ true → unobeyed_of h ≡ [] → owes_report (taken word h) ≡ false → IsFree (obeyed word h)
+free_now word h flags none unowed = record { flags = flags; obeyed = ap (λ (ws : List Exec). drop 1 (ws ++ word ∷ [])) none; unowed = unowed }
 
 -- ---- the resume
 
@@ -374,7 +373,7 @@ resumed_by false false false queued f = absurd (f refl)
 ends_awaited : (word : Exec) (h mid : Journal) → IsHalted h → HasSettled h mid → EndsTurn (obeyed word mid)
 ends_awaited word h mid halted s =
     let ends = ends_settled h mid halted s in
-    ends_obeyed word mid (s.passes.quiet ∙ halted.ready.quiet.quiet) (s.passes.worked halted.ready.quiet.worked) ends.adds ends.starts ends.tries
+    ends_obeyed word mid (s.passes.quiet ∙ halted.ready.quiet.quiet) (free_settled h mid halted s).obeyed (s.passes.worked halted.ready.quiet.worked) ends.adds ends.starts ends.tries
 
 rounds_awaited : (word : Exec) (board : Controller) (h mid : Journal) → IsHalted h → HasSettled h mid → board.beat ≡ Motion → Rounds board.beat (obeyed word mid)
 rounds_awaited word board h mid halted s beat =
@@ -392,12 +391,12 @@ obeying_are word h mid steps are =
 
 -- the machine is resumed
 pub did_resume : (board : Controller) (was : Flags) (word : Exec) (h mid : Journal) → Keeps board (obeyed word mid) → IsHalted h → HasSettled h mid → motion_of h ≡ motions.Held
-    → (motion_of (obeyed word mid) ≡ motions.Held → ⊥) → board.beat ≡ Motion → board.flags ≡ words.None → was ≡ words.None → BoardWorked Did was board h (obeyed word mid)
-did_resume board was word h mid k halted s held resumes beat no_word none = record {
+    → (motion_of (obeyed word mid) ≡ motions.Held → ⊥) → owes_report (taken word mid) ≡ false → board.beat ≡ Motion → board.flags ≡ words.None → was ≡ words.None → BoardWorked Did was board h (obeyed word mid)
+did_resume board was word h mid k halted s held resumes unowed beat no_word none = record {
   keeps = k;
   rounds = rounds_awaited word board h mid halted s beat;
-  flags = subst (λ f. TakesFlags f (obeyed word mid)) (sym no_word) (both_taken mid (s.passes.flags ∙ halted.ready.quiet.flags)).1;
-  still = λ e. no_word;
+  flags = takes_none board (obeyed word mid) no_word (free_now word mid (both_taken mid (s.passes.flags ∙ halted.ready.quiet.flags)).1 (free_settled h mid halted s).obeyed unowed);
+  still = λ e. no_word_left board.flags no_word;
   beat = λ o e. beat;
   steps = obeying word mid s.passes.steps;
   are = obeying_are word h mid s.passes.steps s.passes.are;
@@ -424,12 +423,12 @@ did_resume board was word h mid k halted s held resumes beat no_word none = reco
 
 -- the resume is waited for
 pub waits_for_resume : (board : Controller) (was : Flags) (word : Exec) (h mid : Journal) → Keeps board (obeyed word mid) → IsHalted h → HasSettled h mid → motion_of h ≡ motions.Held
-    → motion_of (obeyed word mid) ≡ motions.Held → board.beat ≡ Motion → board.flags ≡ words.None → BoardWorked (Wait on.Resume) was board h (obeyed word mid)
-waits_for_resume board was word h mid k halted s held stays beat no_word = record {
+    → motion_of (obeyed word mid) ≡ motions.Held → owes_report (taken word mid) ≡ false → board.beat ≡ Motion → board.flags ≡ words.None → BoardWorked (Wait on.Resume) was board h (obeyed word mid)
+waits_for_resume board was word h mid k halted s held stays unowed beat no_word = record {
   keeps = k;
   rounds = rounds_awaited word board h mid halted s beat;
-  flags = subst (λ f. TakesFlags f (obeyed word mid)) (sym no_word) taken;
-  still = λ e. no_word;
+  flags = takes_none board (obeyed word mid) no_word free;
+  still = λ e. no_word_left board.flags no_word;
   beat = λ o e. beat;
   steps = obeying word mid s.passes.steps;
   are = obeying_are word h mid s.passes.steps s.passes.are;
@@ -437,14 +436,16 @@ waits_for_resume board was word h mid k halted s held stays beat no_word = recor
     ends = ends_awaited word h mid halted s;
     cause = record { held = stays; unasked = or_first (asks_no_start (at_port (took_exec word))) (list_any asks_no_start (this_turn mid)) unasked; held_up = still_held_up h mid s halted.held_up };
     still = s.passes.still ∙ halted.ready.quiet.still;
-    flags = taken;
+    flags = free.flags;
+    obeyed = free.obeyed;
+    unowed = λ e. absurd (let f = sym e ∙ free.unowed in cc);
     round = λ due has. absurd (let e : false ≡ true = sym (ap (λ m. has_segment m (plan_of mid)) stays) ∙ due in cc);
   };
   moves = λ e. absurd cc;
 }
   where
-    taken : flags_taken (obeyed word mid) ≡ true
-    taken = (both_taken mid (s.passes.flags ∙ halted.ready.quiet.flags)).1
+    free : IsFree (obeyed word mid)
+    free = free_now word mid (both_taken mid (s.passes.flags ∙ halted.ready.quiet.flags)).1 (free_settled h mid halted s).obeyed unowed
 
     unasked : asks_no_start (at_port (took_exec word)) ≡ true
     unasked =
@@ -454,3 +455,29 @@ waits_for_resume board was word h mid k halted s held stays beat no_word = recor
     or_first : (a b : Bool) → a ≡ true → (a || b) ≡ true
     or_first true b e = refl
     or_first false b e = absurd cc
+
+-- a report is asked for while the resume is waited for
+pub did_ask : (board : Controller) (was : Flags) (word : Exec) (h mid : Journal) → Keeps board (taken word mid) → IsHalted h → HasSettled h mid → owes_report (taken word mid) ≡ true
+    → board.beat ≡ Motion → board.flags ≡ words.Report (Some word) → was ≡ words.None → BoardWorked Did was board h (taken word mid)
+did_ask board was word h mid k halted s owed beat asks none = record {
+  keeps = k;
+  rounds = subst (λ b. Rounds b (taken word mid)) (sym beat)
+      (rounds_still (taken word mid) (λ w. absurd (none_wait mid (s.halts ∙ halted.halts) (record { stands = w.stands; blocks = w.blocks }))) (few_settled h mid s (few_halted h halted)));
+  flags = subst (λ f. TakesFlags f (taken word mid)) (sym asks) (asked_now word mid (both_taken mid (s.passes.flags ∙ halted.ready.quiet.flags)).1 (free_settled h mid halted s).obeyed owed);
+  still = λ e. ap takes_no_word asks;
+  beat = λ o e. beat;
+  steps = at_port (took_exec word) ∷ s.passes.steps;
+  are = ap (λ (j : Journal). at_port (took_exec word) ∷ j) s.passes.are;
+  may = (let ends = ends_settled h mid halted s in
+      ends_taken word mid owed (s.passes.quiet ∙ halted.ready.quiet.quiet) (s.passes.worked halted.ready.quiet.worked) ends.adds ends.starts ends.tries);
+  moves = λ e. inr falls;
+}
+  where
+    falls : number_of board.flags (taken word mid) < number_of was h
+    falls =
+        let zero = ap words_left asks in
+        let one = ap words_left none in
+        let m = s.passes.changes in
+        let p = ap (λ (ts : List Task). pauses ts) s.left in
+        let e = ap (λ (rs : List Reply). one_if (nat_eq (length rs) 0)) s.passes.closed in
+        omega (arith, zero, one, m, p, e)

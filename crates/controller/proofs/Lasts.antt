@@ -16,7 +16,7 @@ use Rattle.run_rules.specs.Asks.{spindle_after, flood_after, item_work, work_of,
 use Rattle.run_rules.specs.Work.{Task, Outcome, telling, asking}
 use Rattle.run_rules.specs.Work.Task.{ask, tell, pause, normal, finish}
 use Rattle.run_rules.specs.Outcomes.{Before, Becomes}
-use Rattle.board_rules.specs.Ports.PortStep.{took, found_empty, found_closed, found_free, answered, no_reply_room, took_exec, took_ovr, published, no_piece_room, loaded}
+use Rattle.board_rules.specs.Ports.PortStep.{took, found_empty, found_closed, found_free, answered, reported, no_reply_room, took_exec, took_ovr, published, no_piece_room, loaded}
 use Rattle.board_rules.specs.Steps.{Journal, before_of, open_of, left_of, left_by, closed_tells, motion_of}
 use Rattle.board_rules.specs.Steps.Step.{at_port, began, did, made_end, evened, paused, became, closing, turned}
 use Rattle.board_rules.specs.Turns.{is_run}
@@ -138,6 +138,7 @@ told_is first (at_port found_empty ∷ h) c on = told_is first h c.1 on
 told_is first (at_port found_closed ∷ h) c on = told_is first h c.1 on
 told_is first (at_port (found_free n) ∷ h) c on = told_is first h c.1 on
 told_is first (at_port (answered r) ∷ h) c on = told_behind (left_of h) (told_is first h c.1 on)
+told_is first (at_port (reported r) ∷ h) c on = told_is first h c.1 on
 told_is first (at_port no_reply_room ∷ h) c on = told_is first h c.1 on
 told_is first (at_port (took_exec word) ∷ h) c on = told_is first h c.1 on
 told_is first (at_port (took_ovr word) ∷ h) c on = told_is first h c.1 on

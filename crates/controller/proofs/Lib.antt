@@ -1,6 +1,7 @@
 pub mod Marks
 pub mod Facts
 pub mod Begins
+pub mod Known
 pub mod Steps
 pub mod Standing
 pub mod Settling
@@ -11,7 +12,12 @@ pub mod Resting
 pub mod Tries
 pub mod Adding
 pub mod Machining
+pub mod Flying
+pub mod Freeing
+pub mod Telling
 pub mod Ends
+pub mod Owing
+pub mod Owed
 pub mod Lasts
 pub mod Nexts
 pub mod Numbers

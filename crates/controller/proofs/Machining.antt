@@ -1,7 +1,10 @@
 -- What is done to the plan of a machine.
-use Rattle.std.proofs.Common.{◌≡◌, ◌+◌, false, List, [], ◌∷◌, ◌++◌, Some, refl, sym, ap, ◌∙◌, subst}
+use Rattle.std.proofs.Common.{◌≡◌, ℕ, ◌+◌, ◌==◌, Bool, true, false, cond, nat_eq, List, [], ◌∷◌, ◌++◌, Some, None, refl, sym, ap, ◌∙◌, subst, arith}
+use Rattle.std.proofs.lemmas.Bool.Decides.{nat_tests}
+use Rattle.std.specs.Option.{option_to_list}
 use Rattle.std.proofs.lemmas.List.{length-map}
 use Rattle.feed_hold.specs.declared.Motion.{Motion}
+use Rattle.feed_hold.specs.declared.Motion.TheVariants as motions
 use Rattle.line_geom.specs.declared.Cap.TheVariants.{Free}
 use Rattle.line_geom.specs.declared.Geom.{Geom}
 use Rattle.line_geom.specs.Geometry.{IsGeom}
@@ -15,7 +18,7 @@ use Rattle.planner_runs.specs.Runs.{with_move, most_blocks}
 use Rattle.planner_runs.proofs.Runs.{block_added}
 use Rattle.step_line.specs.Asking.{IsPlannedMove}
 use Rattle.step_line.proofs.Order.{length_after}
-use Rattle.board_rules.specs.Turns.{is_full}
+use Rattle.board_rules.specs.Turns.{is_full, is_run, has_blocks}
 use Rattle.controller.proofs.Steps.{has_room}
 use Rattle.step_line.specs.declared.Piece.{Piece}
 use Rattle.step_line.specs.declared.Piece.TheVariants as pieces
@@ -26,7 +29,7 @@ use Rattle.step_line.specs.Events.{events_after}
 use Rattle.step_line.specs.Finishing.{ticks_together, tick_count}
 use Rattle.step_line.proofs.Finished.{together_on}
 use Rattle.controller.specs.declared.machine.Machine.{Machine}
-use Rattle.controller.specs.Machines.{Runs, mode_in}
+use Rattle.controller.specs.Machines.{Runs, mode_in, settled, observed}
 
 -- a move is put behind the others, as a block with its geometry
 pub put : (m : Machine) (mv : PlannedMove) (g : Geom) (after p : Planned) (now : Motion) (in_hand given : List Piece) → IsPlannedMove mv → is_full m.plan ≡ false → IsGeom mv.mv mv.limits g
@@ -62,3 +65,45 @@ taken m s mode after p now given is next e r = (
     given_is = ap (λ k. k + s.n) r.given_is ∙ ap (λ k. ticks_together given + k) (sym (segment_ticks s)) ∙ sym (together_on given (pieces.Segment s));
   },
 )
+
+-- ---- it was looked how many ticks are done
+
+observed_is : (now : Motion) (p : Planned) (in_hand : List Piece) (all : Bool) → in_hand ≡ [] → all ≡ true → observed now p in_hand all ≡ settled now p
+observed_is now p [] true e f = refl
+observed_is now p [] false e f = absurd cc
+observed_is now p (piece ∷ pieces) all e f = absurd cc
+
+run_by : (now : Motion) → is_run now ≡ true → now ≡ motions.Run
+run_by motions.Idle e = absurd cc
+run_by motions.Run e = refl
+run_by motions.Holding e = absurd cc
+run_by motions.Held e = absurd cc
+run_by motions.Jog e = absurd cc
+run_by motions.Cancelling e = absurd cc
+run_by motions.Stopping e = absurd cc
+run_by motions.Alarm e = absurd cc
+
+-- each tick that was given is done, and nothing is in hand
+all_done : (m : Machine) (p : Planned) (now : Motion) (in_hand given : List Piece) (done : ℕ) → Runs m p now in_hand given → m.hand ≡ None → done ≡ m.given
+    → observed now p in_hand (done == ticks_together given) ≡ settled now p
+all_done m p now in_hand given done r empty all =
+    let same : done ≡ ticks_together given = all ∙ r.given_is in
+    observed_is now p in_hand (done == ticks_together given) (sym r.hand_is ∙ ap (λ o. option_to_list o) empty) (grind (arith, nat_tests, same))
+
+-- it has slowed down, and is held
+pub stopped : (m n : Machine) (p : Planned) (now : Motion) (in_hand given : List Piece) (done : ℕ) → Runs m p now in_hand given → m.hand ≡ None → done ≡ m.given
+    → (m.hold.motion ≡ motions.Holding) × (m.plan.speed ≡ 0) × (m.hand ≡ None) → Runs n p motions.Held in_hand given → Runs n p (observed now p in_hand (done == ticks_together given)) in_hand given
+stopped m n p now in_hand given done r empty all slowed runs =
+    let holding : now ≡ motions.Holding = sym r.motion_is ∙ slowed.0 in
+    let still : p.speed ≡ 0 = sym (ap (λ (q : Planned). q.speed) r.plan_is) ∙ slowed.1 in
+    let is : settled now p ≡ motions.Held = ap (λ x. settled x p) holding ∙ ap (λ v. cond {A = Motion} (nat_eq v 0) motions.Held motions.Holding) still in
+    subst (λ x. Runs n p x in_hand given) (sym (all_done m p now in_hand given done r empty all ∙ is)) runs
+
+-- nothing is left to run, and the cycle is over
+pub over : (m n : Machine) (p : Planned) (now : Motion) (in_hand given : List Piece) (done : ℕ) → Runs m p now in_hand given → m.hand ≡ None → done ≡ m.given
+    → is_run m.hold.motion ≡ true → has_blocks m.plan.blocks ≡ false → Runs n p motions.Idle in_hand given → Runs n p (observed now p in_hand (done == ticks_together given)) in_hand given
+over m n p now in_hand given done r empty all run none runs =
+    let runs_now : now ≡ motions.Run = run_by now (sym (ap is_run r.motion_is) ∙ run) in
+    let no_block : has_blocks p.blocks ≡ false = sym (ap (λ (q : Planned). has_blocks q.blocks) r.plan_is) ∙ none in
+    let is : settled now p ≡ motions.Idle = ap (λ x. settled x p) runs_now ∙ ap (λ b. cond {A = Motion} b motions.Run motions.Idle) no_block in
+    subst (λ x. Runs n p x in_hand given) (sym (all_done m p now in_hand given done r empty all ∙ is)) runs

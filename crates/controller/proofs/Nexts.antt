@@ -47,18 +47,18 @@ use Rattle.controller.specs.declared.controller.Flags.{Flags}
 use Rattle.controller.specs.declared.controller.Flags.TheVariants as words
 use Rattle.controller.specs.declared.controller.Beat.{Beat}
 use Rattle.controller.specs.declared.controller.Beat.TheVariants.{Motion, Main}
-use Rattle.controller.specs.Boards.{Keeps, Rounds, NoneWaits, IsBetween, TakesFlags, has_published, number_of}
+use Rattle.controller.specs.Boards.{Keeps, Rounds, NoneWaits, IsBetween, IsFree, TakesFlags, has_published, number_of}
 use Rattle.controller.specs.Turning.{IsNextMove, IsQuiet, IsReady, HasPiece, HasPolled, MayRun, MayAwait, HasStopped, IsWholeLine, NeedsNoWait, GoesOn, PassesNothing, BoardWorked}
 use Rattle.controller.proofs.Steps.{is_next, not_told}
 use Rattle.controller.proofs.Facts.{not_whole, uncounted, unmissed}
 use Rattle.controller.proofs.Tries.{publishes_none, publishes_one, worked_behind, passes_did, passes_end, passes_motion}
 use Rattle.controller.proofs.Lasts.{behind_asked, IsClosing}
-use Rattle.controller.proofs.Ends.{none_called, none_waited, rounds_still, one_at_most, takes_none, ready_sent, ready_idle, may_await, not_waiting}
+use Rattle.controller.proofs.Ends.{none_called, none_waited, rounds_still, one_at_most, takes_none, ready_sent, ready_idle, may_await, not_waiting, free_of, no_word_left}
 
 -- ---- how a turn begins
 
 -- where it does not begin with a piece, what is next may be done
-pub ready_now : (beat : Beat) (h : Journal) → Rounds beat h → IsBetween h → flags_taken h ≡ true → (beat ≡ Motion → HasPiece h → ⊥) → IsReady h
+pub ready_now : (beat : Beat) (h : Journal) → Rounds beat h → IsBetween h → IsFree h → (beat ≡ Motion → HasPiece h → ⊥) → IsReady h
 ready_now Main h r between taken none = ready_sent h r between taken
 ready_now Motion h r between taken none =
     let idle : is_due h ≡ false = by_due (is_due h) refl in
@@ -179,6 +179,7 @@ quiet_on h next quiet passes = record {
   quiet = passes.quiet ∙ quiet.quiet;
   worked = passes.worked quiet.worked;
   flags = passes.flags ∙ quiet.flags;
+  unowed = passes.owed ∙ quiet.unowed;
 }
 
 pub may_run_marked : (first : State) (h : Journal) (m : AnyMark) (ps : List Piece) → Conducted first h → IsReady h → IsNextTask (ask (a_mark m)) h → MayRun (did (Mark m) ps ∷ h)
@@ -214,14 +215,15 @@ may_run_ended h may stopped next is =
 pub told_later : (was : Flags) (board : Controller) (h : Journal) (r : Reply) → Keeps board h → IsReady h → IsNextTask (tell r) h → board.beat ≡ Motion → board.flags ≡ words.None
     → BoardWorked (Wait ReplyRoom) was board h (at_port no_reply_room ∷ h)
 told_later was board h r k ready next beat no_word =
-    let worked = worked_behind (at_port no_reply_room) h (at_port no_reply_room ∷ h) refl (record { no_requests = refl; none_obeyed = refl; no_changes = refl; none_planned = refl }) ready.quiet.worked in
+    let worked = worked_behind (at_port no_reply_room) h (at_port no_reply_room ∷ h) refl (record { no_changes = refl; none_planned = refl }) refl refl ready.quiet.worked in
     let few = few_working k.first h k.conducted ready (some_next h (tell r) next) in
+    let free = free_of h ready.quiet in
     let none : NoneWaits (at_port no_reply_room ∷ h) = (λ waiting. ready.none_waits (record { stands = waiting.stands; blocks = waiting.blocks })) in
     record {
       keeps = not_told board h k (ap tells_next next);
       rounds = subst (λ b. Rounds b (at_port no_reply_room ∷ h)) (sym beat) (rounds_still (at_port no_reply_room ∷ h) none few);
-      flags = takes_none board (at_port no_reply_room ∷ h) no_word ready.quiet.flags;
-      still = λ e. no_word;
+      flags = takes_none board (at_port no_reply_room ∷ h) no_word (record { flags = free.flags; obeyed = free.obeyed; unowed = free.unowed });
+      still = λ e. no_word_left board.flags no_word;
       beat = λ o e. beat;
       steps = at_port no_reply_room ∷ [];
       are = refl;
@@ -237,6 +239,8 @@ told_later was board h r k ready next beat no_word =
         cause = refl;
         still = ready.quiet.still;
         flags = ready.quiet.flags;
+        obeyed = free.obeyed;
+        unowed = λ e. refl;
         round = λ due. none_waited (at_port no_reply_room ∷ h) ReplyRoom (ready.tried due);
       };
       moves = λ e. absurd cc;
@@ -249,7 +253,7 @@ pub took_worked : (was : Flags) (board : Controller) (b : ℕ) (h : Journal) →
 took_worked was board b h keeps takes ready may beat =
     let none : NoneWaits (at_port (took b) ∷ h) = (λ waiting. ready.none_waits (record { stands = waiting.stands; blocks = waiting.blocks })) in
     let one = one_at_most (nat_eq b 10) in
-    let worked = worked_behind (at_port (took b)) h (at_port (took b) ∷ h) refl (record { no_requests = refl; none_obeyed = refl; no_changes = refl; none_planned = refl }) ready.quiet.worked in
+    let worked = worked_behind (at_port (took b)) h (at_port (took b) ∷ h) refl (record { no_changes = refl; none_planned = refl }) refl refl ready.quiet.worked in
     record {
       keeps = keeps;
       rounds = subst (λ t. Rounds t (at_port (took b) ∷ h)) (sym beat) (rounds_still (at_port (took b) ∷ h) none (omega arith));
@@ -274,8 +278,9 @@ polled_none h ready may = record {
   quiet = record {
     still = ready.quiet.still;
     quiet = publishes_none (at_port found_empty) (this_turn h) refl ∙ ready.quiet.quiet;
-    worked = worked_behind (at_port found_empty) h (at_port found_empty ∷ h) refl (record { no_requests = refl; none_obeyed = refl; no_changes = refl; none_planned = refl }) ready.quiet.worked;
+    worked = worked_behind (at_port found_empty) h (at_port found_empty ∷ h) refl (record { no_changes = refl; none_planned = refl }) refl refl ready.quiet.worked;
     flags = ready.quiet.flags;
+    unowed = ready.quiet.unowed;
   };
   found = refl;
   free = may.all_done;
@@ -291,8 +296,9 @@ polled_end h ready may = record {
   quiet = record {
     still = ready.quiet.still;
     quiet = publishes_none (at_port found_closed) (this_turn h) refl ∙ ready.quiet.quiet;
-    worked = worked_behind (at_port found_closed) h (at_port found_closed ∷ h) refl (record { no_requests = refl; none_obeyed = refl; no_changes = refl; none_planned = refl }) ready.quiet.worked;
+    worked = worked_behind (at_port found_closed) h (at_port found_closed ∷ h) refl (record { no_changes = refl; none_planned = refl }) refl refl ready.quiet.worked;
     flags = ready.quiet.flags;
+    unowed = ready.quiet.unowed;
   };
   found = refl;
   free = may.all_done;
@@ -315,8 +321,8 @@ waits_for_byte was board h k polled found none beat no_word =
     record {
       keeps = k;
       rounds = subst (λ b. Rounds b h) (sym beat) (rounds_still h (λ waiting. absurd (none waiting)) (omega arith));
-      flags = takes_none board h no_word polled.quiet.flags;
-      still = λ e. no_word;
+      flags = takes_none board h no_word (free_of h polled.quiet);
+      still = λ e. no_word_left board.flags no_word;
       beat = λ o e. beat;
       steps = [];
       are = refl;
@@ -332,6 +338,8 @@ waits_for_byte was board h k polled found none beat no_word =
         cause = record { poll = found; free = polled.free; partial = polled.partial };
         still = polled.quiet.still;
         flags = polled.quiet.flags;
+        obeyed = polled.quiet.worked.obeyed polled.quiet.unowed;
+        unowed = λ e. absurd (let f = sym e ∙ polled.quiet.unowed in cc);
         round = λ due. none_waited h Byte (polled.tried due);
       };
       moves = λ e. absurd cc;
@@ -384,12 +392,13 @@ closes_worked board is h keeps polled none beat no_word_was no_word =
     let none_now : AreWaiting (closing ∷ h) → ⊥ = (λ waiting. none (record { stands = waiting.stands; blocks = waiting.blocks })) in
     let t = polled.tries in
     let w = ap one_if polled.partial in
-    let worked = worked_behind closing h (closing ∷ h) refl (record { no_requests = refl; none_obeyed = refl; no_changes = refl; none_planned = refl }) polled.quiet.worked in
+    let free = free_of h polled.quiet in
+    let worked = worked_behind closing h (closing ∷ h) refl (record { no_changes = refl; none_planned = refl }) refl refl polled.quiet.worked in
     record {
       keeps = keeps;
       rounds = subst (λ b. Rounds b (closing ∷ h)) (sym beat) (rounds_still (closing ∷ h) (λ waiting. absurd (none_now waiting)) (omega arith));
-      flags = takes_none is (closing ∷ h) no_word polled.quiet.flags;
-      still = λ e. no_word;
+      flags = takes_none is (closing ∷ h) no_word (record { flags = free.flags; obeyed = free.obeyed; unowed = free.unowed });
+      still = λ e. no_word_left is.flags no_word;
       beat = λ o e. beat;
       steps = closing ∷ [];
       are = refl;

@@ -5,7 +5,7 @@ use Rattle.feed_hold.specs.declared.Motion.TheVariants as motions
 use Rattle.run_rules.specs.declared.State.{State}
 use Rattle.run_rules.specs.Work.{pauses}
 use Rattle.run_rules.proofs.Pausing.{pauses_once}
-use Rattle.board_rules.specs.Ports.PortStep.{took, found_empty, found_closed, found_free, answered, no_reply_room, took_exec, took_ovr, published, no_piece_room, loaded}
+use Rattle.board_rules.specs.Ports.PortStep.{took, found_empty, found_closed, found_free, answered, reported, no_reply_room, took_exec, took_ovr, published, no_piece_room, loaded}
 use Rattle.board_rules.specs.Steps.{Journal, before_of, open_of, left_of, closed_tells, motion_of}
 use Rattle.board_rules.specs.Steps.Step.{at_port, began, did, made_end, evened, paused, became, closing, turned}
 use Rattle.board_rules.specs.Turns.{is_run}
@@ -28,6 +28,7 @@ pause_once first (at_port found_empty ∷ h) c = pause_once first h c.1
 pause_once first (at_port found_closed ∷ h) c = pause_once first h c.1
 pause_once first (at_port (found_free n) ∷ h) c = pause_once first h c.1
 pause_once first (at_port (answered r) ∷ h) c = less_too _ _ (fewer_pauses (left_of h)) (pause_once first h c.1)
+pause_once first (at_port (reported r) ∷ h) c = pause_once first h c.1
 pause_once first (at_port no_reply_room ∷ h) c = pause_once first h c.1
 pause_once first (at_port (took_exec word) ∷ h) c = pause_once first h c.1
 pause_once first (at_port (took_ovr word) ∷ h) c = pause_once first h c.1
@@ -43,9 +44,10 @@ pause_once first (became call m ∷ h) c = pause_once first h c.1
 pause_once first (closing ∷ h) c = omega arith
 pause_once first (turned t ∷ h) c = pause_once first h c.1
 
-few_words : (f : Flags) → words_left f ≤ 2
+few_words : (f : Flags) → words_left f ≤ 3
 few_words words.Both = omega arith
 few_words words.Requests = omega arith
+few_words (words.Report word) = omega arith
 few_words words.None = omega arith
 
 few_changes : (m : Motion) → changes_left m ≤ 2

@@ -18,7 +18,7 @@ use Rattle.controller.specs.Boards.{Keeps, Rounds, TakesFlags, number_of}
 use Rattle.controller.specs.Turning.{IsReady, PassesNothing, HasFilled, BoardWorked}
 use Rattle.controller.proofs.Facts.{not_whole}
 use Rattle.controller.proofs.Tries.{publishes_none, worked_behind}
-use Rattle.controller.proofs.Ends.{none_called, rounds_still}
+use Rattle.controller.proofs.Ends.{none_called, rounds_still, free_of, free_passed, takes_none, no_word_left}
 
 -- a pause less is left
 falls : (h next : Journal) → IsNextTask pause h → PassesNothing (paused ∷ h) next → number_of flags.None next < number_of flags.None h
@@ -37,15 +37,16 @@ paused_filled board was h next k ready task filled keeps beat no_word =
     let some : left_of h ≡ [] → ⊥ = (λ none. none_next (left_of h) pause none task) in
     let none_whole = ap one_if (not_whole k.first h k.conducted some) in
     let few : tries_of h ≤ 1 = ready.few some in
+    let free = free_of h ready.quiet in
     let t = a.tries in
     let w = ap one_if a.whole in
-    let worked = a.worked (worked_behind paused h (paused ∷ h) refl (record { no_requests = refl; none_obeyed = refl; no_changes = refl; none_planned = refl }) ready.quiet.worked) in
+    let worked = a.worked (worked_behind paused h (paused ∷ h) refl (record { no_changes = refl; none_planned = refl }) refl refl ready.quiet.worked) in
     record {
       keeps = keeps;
       rounds = subst (λ b. Rounds b next) (sym beat) (rounds_still next filled.none_waits (omega (arith, few, t, w, none_whole)));
-      flags = subst (λ f. TakesFlags f next) (sym no_word) (a.flags ∙ ready.quiet.flags);
+      flags = takes_none board next no_word (free_passed (paused ∷ h) next a (record { flags = free.flags; obeyed = free.obeyed; unowed = free.unowed }));
       beat = λ o e. beat;
-      still = λ e. no_word;
+      still = λ e. no_word_left board.flags no_word;
       steps = a.steps ++ paused ∷ [];
       are = a.are ∙ sym (append_assoc a.steps (paused ∷ []) h);
       may = record {

@@ -33,7 +33,7 @@ use Rattle.controller.specs.Turning.{HasPiece, HasLooked, MayAwait, PassesNothin
 use Rattle.controller.proofs.Facts.{uncounted, and_false}
 use Rattle.controller.proofs.Steps.{at_rest, hand_empty, none_by_test, looked, drained}
 use Rattle.controller.proofs.Tries.{passes_load, passes_motion, passes_on}
-use Rattle.controller.proofs.Ends.{rounds_still, some_awaited}
+use Rattle.controller.proofs.Ends.{rounds_still, some_awaited, free_of, free_passed, takes_none, no_word_left}
 
 -- ---- hands and blocks
 
@@ -172,13 +172,14 @@ waits_for_motion b h done k may beat no_word found hand none fewer =
     let waits_none : AreWaiting next → ⊥ = λ a. none_waits h may (record { stands = a.stands; blocks = a.blocks }) in
     let quiet = may.run.quiet in
     let worked = (passes_load done h).worked quiet.worked in
+    let free = free_passed h next (passes_load done h) (free_of h quiet) in
     let same = all_published b h k hand in
     let given : b.machine.given ≡ ticks_given h = k.machine.given_is in
     record {
       keeps = looked b done h k found;
       rounds = subst (λ x. Rounds x next) (sym beat) (rounds_still next (λ a. absurd (waits_none a)) few);
-      flags = subst (λ f. TakesFlags f next) (sym no_word) quiet.flags;
-      still = λ e. no_word;
+      flags = takes_none b next no_word free;
+      still = λ e. no_word_left b.flags no_word;
       beat = λ other e. beat;
       steps = at_port (loaded done) ∷ [];
       are = refl;
@@ -194,6 +195,8 @@ waits_for_motion b h done k may beat no_word found hand none fewer =
         cause = record { load = refl; undone = omega (arith, fewer, same, given); awaits = ap (λ b. b || (is_stopping (motion_of h) && is_held_up h)) may.awaits };
         still = quiet.still;
         flags = quiet.flags;
+        obeyed = free.obeyed;
+        unowed = λ e. absurd (let f = sym e ∙ free.unowed in cc);
         round = λ due already. absurd (let e = sym (and_false (is_going (motion_of h) || is_slowing (motion_of h) (plan_of h).speed) (has_blocks (plan_of h).blocks) none) ∙ due in cc);
       };
       moves = λ e. absurd cc;

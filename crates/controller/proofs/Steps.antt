@@ -1,22 +1,21 @@
 -- One lemma a step: a board keeps on what its fields say of what it has done.
-use Rattle.std.proofs.Common.{◌≡◌, ℕ, ◌<◌, ◌^◌, ◌⊎◌, inl, inr, List, [], ◌∷◌, ◌++◌, length, drop, true, false, Some, None, sym, refl, ap, ◌∙◌, subst, arith, append-nil}
-use Rattle.std.specs.List.{list_any}
+use Rattle.std.proofs.Common.{◌≡◌, ℕ, ◌<◌, ◌⊎◌, inl, inr, List, [], ◌∷◌, ◌++◌, length, drop, Bool, true, false, ◌||◌, Some, None, sym, refl, ap, ◌∙◌, subst, arith, append-nil}
 use Rattle.std.proofs.lemmas.Bool.Decides.{nat_tests}
-use Rattle.std.specs.Option.{option_to_list, is_some}
-use Rattle.std.specs.declared.option.Option.{Option}
 use Rattle.code_table.specs.declared.flags.Exec.{Exec}
 use Rattle.code_table.specs.declared.flags.Ovr.{Ovr}
 use Rattle.feed_hold.specs.declared.Motion.{Motion}
 use Rattle.feed_hold.specs.declared.Motion.TheVariants as motions
 use Rattle.feed_hold.specs.Motions.{after, after_word}
-use Rattle.feed_hold.specs.Motions.Call.{on_start, on_pause, on_stopped, on_drained}
+use Rattle.feed_hold.specs.Motions.Call.{on_exec, on_start, on_pause, on_stopped, on_drained}
 use Rattle.outside.specs.declared.Turn.{Turn}
 use Rattle.run_rules.specs.declared.State.{State}
 use Rattle.run_rules.specs.Work.{Task}
 use Rattle.run_rules.specs.Work.Task.{ask, tell, pause, normal, finish}
 use Rattle.status_report.specs.declared.Reply.{Reply}
 use Rattle.status_report.specs.declared.Reply.TheVariants.{Bye}
-use Rattle.status_report.specs.Replies.{IsReply}
+use Rattle.status_report.specs.Answering.{is_report}
+use Rattle.status_report.specs.declared.reports.Report.{Report}
+use Rattle.flight.specs.Flights.{Flying, Flies}
 use Rattle.step_line.specs.declared.Mark.{Mark as AnyMark}
 use Rattle.step_line.specs.declared.Piece.{Piece}
 use Rattle.step_line.specs.declared.Piece.TheVariants as pieces
@@ -31,118 +30,39 @@ use Rattle.plan_passes.specs.Segments.{advanced}
 use Rattle.segment_prep.specs.Taking.{IsNext}
 use Rattle.segment_prep.specs.declared.Mode.{Mode}
 use Rattle.planner_runs.specs.declared.Action.TheVariants.{Add, Take, Override, Mark, Rest}
-use Rattle.planner_runs.specs.Runs.{IsAtRest, with_move, normal_overrides, most_blocks, fresh_plan}
-use Rattle.planner_runs.proofs.Runs.{fresh_starts, rests_behind, reached_from}
+use Rattle.planner_runs.specs.Runs.{IsAtRest, with_move, normal_overrides, most_blocks}
+use Rattle.planner_runs.proofs.Runs.{fresh_starts}
 use Rattle.line_interpreter.specs.Interpreting.{Interpreting}
-use Rattle.line_interpreter.specs.Lefts.{IsNextOf}
-use Rattle.board_rules.specs.Ports.{MayAnswer, MayPublish, MayBeDone, LacksPieceRoom, has_changes}
-use Rattle.board_rules.specs.Ports.PortStep.{found_empty, found_closed, answered, no_reply_room, took_ovr, published, no_piece_room, loaded}
-use Rattle.board_rules.specs.Steps.{Journal, port_log, before_of, left_of, closed_tells, given_of, hand_of, plan_of, motion_of, planned_of, actions_of}
+use Rattle.board_rules.specs.Ports.{MayBeDone, LacksPieceRoom, has_changes}
+use Rattle.board_rules.specs.Ports.PortStep.{found_empty, found_closed, found_free, answered, reported, no_reply_room, took_exec, took_ovr, published, no_piece_room, loaded}
+use Rattle.board_rules.specs.Steps.{Journal, port_log, published_of, before_of, left_of, closed_tells, given_of, hand_of, plan_of, motion_of}
 use Rattle.board_rules.specs.Steps.Step.{at_port, did, made_end, evened, paused, became, closing, turned}
-use Rattle.board_rules.specs.Turns.{this_turn, loads, tells_next, is_full, is_due, has_segment, has_blocks}
-use Rattle.board_rules.specs.Conduct.{MayTurn, MayDo, IsNextTask, IsInHand, IsDrained, HasSlowedDown, IsStopped, MayPoll, MayStart, MayClose}
-use Rattle.board_rules.proofs.Keeping.{run_is}
-use Rattle.board_rules.proofs.Ending.{next_turns}
-use Rattle.board_rules.proofs.Motions.{motion_is}
-use Rattle.board_rules.proofs.Limits.{few_given, few_next, few_answered}
-use Rattle.board_rules.proofs.Answering.{answer_is_due}
+use Rattle.board_rules.specs.Turns.{owes_report, tells_next, is_full, is_due, has_blocks}
+use Rattle.board_rules.specs.Conduct.{MayTurn, MayDo, IsNextTask, IsDrained, IsStopped, MayPoll, MayStart, MayClose, MayTakeRequests, MayObey, IsReportAt}
 use Rattle.controller.specs.declared.controller.Controller.{Controller}
 use Rattle.controller.specs.declared.controller.Beat.{Beat}
 use Rattle.controller.specs.declared.controller.Flags.{Flags}
 use Rattle.controller.specs.declared.machine.Machine.{Machine}
 use Rattle.controller.specs.Machines.{Runs, mode_in}
-use Rattle.controller.specs.Boards.{Keeps, Works}
-use Rattle.controller.specs.Turning.{HasPiece, obeyed}
-
--- ---- what is known of a board that keeps its journal
-
--- what is next of what is left, is next of the journal's tasks
-pub is_next : (c : Controller) (h : Journal) (t : Task) → Keeps c h → IsNextOf t c.lines.left → IsNextTask t h
-is_next c h t k e = subst (λ ts. IsNextOf t ts) k.lines.left_is e
-
-pub hand_empty : (c : Controller) (h : Journal) → Keeps c h → c.machine.hand ≡ None → hand_of h ≡ []
-hand_empty c h k e = sym k.machine.hand_is ∙ ap (λ o. option_to_list o) e
-
-pub none_by_test : {A : Type 0} (o : Option A) → is_some o ≡ false → o ≡ None
-none_by_test None e = refl
-none_by_test (Some x) e = absurd cc
-
-pub in_hand : (c : Controller) (h : Journal) (p : Piece) → Keeps c h → c.machine.hand ≡ Some p → hand_of h ≡ p ∷ []
-in_hand c h p k e = sym k.machine.hand_is ∙ ap (λ o. option_to_list o) e
-
-pub some_in_hand : (c : Controller) (h : Journal) (p : Piece) → Keeps c h → c.machine.hand ≡ Some p → hand_of h ≡ [] → ⊥
-some_in_hand c h p k e none = let x = sym (in_hand c h p k e) ∙ none in absurd cc
-
-pub hand_left : (c : Controller) (h : Journal) → Keeps c h → (c.machine.hand ≡ None → ⊥) → hand_of h ≡ [] → ⊥
-hand_left c h k some none = by_hand c.machine.hand refl
-  where
-    by_hand : (o : Option Piece) → c.machine.hand ≡ o → ⊥
-    by_hand None e = some e
-    by_hand (Some p) e = some_in_hand c h p k e none
-
--- there is one piece at most
-pub one_in_hand : (c : Controller) (h : Journal) → Keeps c h → drop 1 (hand_of h) ≡ []
-one_in_hand c h k = subst (λ (ps : List Piece). drop 1 ps ≡ []) k.machine.hand_is (by_hand c.machine.hand)
-  where
-    by_hand : (o : Option Piece) → drop 1 (option_to_list o) ≡ []
-    by_hand None = refl
-    by_hand (Some p) = refl
-
-pub hand_of_one : (c : Controller) (h : Journal) (p : Piece) → Keeps c h → hand_of h ≡ p ∷ [] → c.machine.hand ≡ None → ⊥
-hand_of_one c h p k is none = let x = sym (hand_empty c h k none) ∙ is in absurd cc
-
--- the machine runs, or slows down to a stop, where a segment is due
-pub due_moves : (c : Controller) (h : Journal) → Keeps c h → is_due h ≡ true → (motion_of h ≡ motions.Run) ⊎ (motion_of h ≡ motions.Holding)
-due_moves c h k due = by_motion (motion_is k.first h k.conducted)
-  where
-    by_motion : (motion_of h ≡ motions.Idle) ⊎ ((motion_of h ≡ motions.Run) ⊎ ((motion_of h ≡ motions.Holding) ⊎ (motion_of h ≡ motions.Held)))
-        → (motion_of h ≡ motions.Run) ⊎ (motion_of h ≡ motions.Holding)
-    by_motion (inl idle) = absurd (let x : false ≡ true = ap (λ now. has_segment now (plan_of h)) (sym idle) ∙ due in cc)
-    by_motion (inr (inl run)) = inl run
-    by_motion (inr (inr (inl holding))) = inr holding
-    by_motion (inr (inr (inr held))) = absurd (let x : false ≡ true = ap (λ now. has_segment now (plan_of h)) (sym held) ∙ due in cc)
-
--- where no piece is in hand, a segment is due
-pub due_now : (c : Controller) (h : Journal) → Keeps c h → HasPiece h → c.machine.hand ≡ None → is_due h ≡ true
-due_now c h k (inl some) none = absurd (some (hand_empty c h k none))
-due_now c h k (inr due) none = due
-
--- where no block stands nothing is left to run
-pub at_rest : (c : Controller) (h : Journal) → Keeps c h → (plan_of h).blocks ≡ [] → IsAtRest (plan_of h)
-at_rest c h k none = (rests_behind most_blocks fresh_plan (plan_of h) (actions_of h) (planned_of h) fresh_starts (run_is k.first h k.conducted) none).rest
-
-pub few_ticks : (c : Controller) (h : Journal) → Keeps c h → c.machine.given < 2 ^ 62
-few_ticks c h k = subst (λ n. n < 2 ^ 62) (sym k.machine.given_is) (few_given k.first h k.conducted)
-
-pub in_range : (c : Controller) (h : Journal) → Keeps c h → IsOverrides c.machine.overrides
-in_range c h k =
-    subst IsOverrides k.machine.same (reached_from most_blocks fresh_plan (plan_of h) (actions_of h) (planned_of h) fresh_starts (run_is k.first h k.conducted)).overrides
-
-pub same_overrides : (c : Controller) (h : Journal) → Keeps c h → c.machine.plan.overrides ≡ c.machine.overrides
-same_overrides c h k = ap (λ (p : Planned). p.overrides) k.machine.plan_is ∙ k.machine.same
-
--- the piece in hand may be published
-pub may_publish : (c : Controller) (h : Journal) (p : Piece) → Keeps c h → hand_of h ≡ p ∷ [] → MayPublish (port_log h) p
-may_publish c h p k is =
-    let next : IsInHand p h = is ∙ ap (λ (ps : List Piece). p ∷ drop 1 ps) (sym is) in
-    record { next = next_turns k.first h p k.conducted next; few = few_next k.first h p k.conducted next }
-
--- the reply that is next may be answered
-pub may_answer : (c : Controller) (h : Journal) (r : Reply) → Keeps c h → IsNextTask (tell r) h → IsReply r → MayAnswer (port_log h) r
-may_answer c h r k next text = record { line = λ e. answer_is_due k.first h r k.conducted next e; text = text; few = few_answered k.first h k.conducted }
+use Rattle.controller.specs.Boards.{Keeps, Works, IsFlown}
+use Rattle.controller.specs.Turning.{HasPiece}
+pub use Rattle.controller.proofs.Known.{is_next, hand_empty, none_by_test, in_hand, some_in_hand, hand_left, one_in_hand, hand_of_one, due_moves, due_now, at_rest, few_ticks, in_range, same_overrides, may_publish, may_answer}
 
 -- ---- at the port
 
 -- a piece is published
-pub sent : (c : Controller) (m : Machine) (p : Piece) (h : Journal) → Keeps c h → hand_of h ≡ p ∷ [] → Runs m (plan_of h) (motion_of h) [] (given_of h)
-    → Keeps (record c { machine = m }) (at_port (published p) ∷ h)
-sent c m p h k is runs = record {
+pub sent : (c : Controller) (m : Machine) (f : Flying) (p : Piece) (h : Journal) → Keeps c h → hand_of h ≡ p ∷ [] → Runs m (plan_of h) (motion_of h) [] (given_of h)
+    → ((known : ℕ) → Flies c.flight (published_of h) known → Flies f (published_of h ++ p ∷ []) known)
+    → Keeps (record c { machine = m; flight = f }) (at_port (published p) ∷ h)
+sent c m f p h k is runs flies = record {
   first = k.first;
   opening = k.opening;
   conducted = (is ∙ ap (λ (ps : List Piece). p ∷ drop 1 ps) (sym is), k.conducted);
   machine = subst (λ (ps : List Piece). Runs m (plan_of h) (motion_of h) (drop 1 ps) (given_of h)) (sym is) runs;
   lines = k.lines;
   input = k.input;
+  flight = record { known = k.flight.known; found = k.flight.found; flies = flies k.flight.known k.flight.flies };
+  owes_is = k.owes_is;
   going = k.going;
   closed = k.closed;
 }
@@ -156,6 +76,8 @@ not_sent c done h k some full = record {
   machine = k.machine;
   lines = k.lines;
   input = k.input;
+  flight = record { known = k.flight.known; found = k.flight.found; flies = k.flight.flies };
+  owes_is = k.owes_is;
   going = k.going;
   closed = k.closed;
 }
@@ -169,6 +91,8 @@ looked c done h k may = record {
   machine = k.machine;
   lines = k.lines;
   input = k.input;
+  flight = record { known = k.flight.known; found = let a = k.flight.found in let b = may.later in omega (arith, a, b); flies = k.flight.flies };
+  owes_is = k.owes_is;
   going = k.going;
   closed = k.closed;
 }
@@ -183,15 +107,17 @@ one_less c i first h w is = record {
 }
 
 -- a reply is told
-pub told : (c : Controller) (i : Interpreting) (r : Reply) (h : Journal) → Keeps c h → IsNextTask (tell r) h → (r ≡ Bye → hand_of h ≡ []) → i ≡ record c.lines { left = drop 1 c.lines.left }
+pub told : (c : Controller) (i : Interpreting) (r : Reply) (h : Journal) → Keeps c h → IsNextTask (tell r) h → is_report r ≡ false → owes_report h ≡ false → (r ≡ Bye → hand_of h ≡ []) → i ≡ record c.lines { left = drop 1 c.lines.left }
     → Keeps (record c { lines = i }) (at_port (answered r) ∷ h)
-told c i r h k next empty is = record {
+told c i r h k next plain unowed empty is = record {
   first = k.first;
   opening = k.opening;
-  conducted = (record { next = next; empty = empty }, k.conducted);
+  conducted = (record { next = next; plain = plain; unowed = unowed; empty = empty }, k.conducted);
   machine = k.machine;
   lines = one_less c i k.first h k.lines is;
   input = k.input;
+  flight = record { known = k.flight.known; found = k.flight.found; flies = k.flight.flies };
+  owes_is = k.owes_is;
   going = k.going;
   closed = k.closed;
 }
@@ -201,10 +127,61 @@ pub not_told : (c : Controller) (h : Journal) → Keeps c h → tells_next (left
 not_told c h k next = record {
   first = k.first;
   opening = k.opening;
-  conducted = (next, k.conducted);
+  conducted = (ap (λ b. b || owes_report h) next, k.conducted);
   machine = k.machine;
   lines = k.lines;
   input = k.input;
+  flight = record { known = k.flight.known; found = k.flight.found; flies = k.flight.flies };
+  owes_is = k.owes_is;
+  going = k.going;
+  closed = k.closed;
+}
+
+-- a report is told
+pub report_told : (c : Controller) (r : Report) (h : Journal) (k : Keeps c h) → IsReportAt k.first r h → Keeps (record c { owes = false }) (at_port (reported r) ∷ h)
+report_told c r h k may = record {
+  first = k.first;
+  opening = k.opening;
+  conducted = (may, k.conducted);
+  machine = k.machine;
+  lines = k.lines;
+  input = k.input;
+  flight = record { known = k.flight.known; found = k.flight.found; flies = k.flight.flies };
+  owes_is = refl;
+  going = k.going;
+  closed = k.closed;
+}
+
+or_true : (a b : Bool) → b ≡ true → (a || b) ≡ true
+or_true true b e = refl
+or_true false b e = e
+
+-- it is handed back
+pub report_kept : (c : Controller) (h : Journal) → Keeps c h → owes_report h ≡ true → Keeps (record c { owes = true }) (at_port no_reply_room ∷ h)
+report_kept c h k owed = record {
+  first = k.first;
+  opening = k.opening;
+  conducted = (or_true (tells_next (left_of h)) (owes_report h) owed, k.conducted);
+  machine = k.machine;
+  lines = k.lines;
+  input = k.input;
+  flight = record { known = k.flight.known; found = k.flight.found; flies = k.flight.flies };
+  owes_is = sym owed;
+  going = k.going;
+  closed = k.closed;
+}
+
+-- the room on the link is asked for
+pub room_found : (c : Controller) (bytes : ℕ) (h : Journal) → Keeps c h → Keeps c (at_port (found_free bytes) ∷ h)
+room_found c bytes h k = record {
+  first = k.first;
+  opening = k.opening;
+  conducted = (tt, k.conducted);
+  machine = k.machine;
+  lines = k.lines;
+  input = k.input;
+  flight = record { known = k.flight.known; found = k.flight.found; flies = k.flight.flies };
+  owes_is = k.owes_is;
   going = k.going;
   closed = k.closed;
 }
@@ -218,6 +195,8 @@ polled_empty c h k may = record {
   machine = k.machine;
   lines = k.lines;
   input = k.input;
+  flight = record { known = k.flight.known; found = k.flight.found; flies = k.flight.flies };
+  owes_is = k.owes_is;
   going = k.going;
   closed = k.closed;
 }
@@ -231,6 +210,8 @@ polled_closed c h k may = record {
   machine = k.machine;
   lines = k.lines;
   input = k.input;
+  flight = record { known = k.flight.known; found = k.flight.found; flies = k.flight.flies };
+  owes_is = k.owes_is;
   going = k.going;
   closed = k.closed;
 }
@@ -252,6 +233,8 @@ added_move c m i mv h k next planned room runs is = record {
   machine = rw (append-nil (hand_of h), append-nil (given_of h)) runs;
   lines = one_less c i k.first h k.lines is;
   input = k.input;
+  flight = record { known = k.flight.known; found = k.flight.found; flies = k.flight.flies };
+  owes_is = k.owes_is;
   going = k.going;
   closed = k.closed;
 }
@@ -271,6 +254,8 @@ took_segment c m s h k moves empty next runs = record {
   machine = rw empty runs;
   lines = k.lines;
   input = k.input;
+  flight = record { known = k.flight.known; found = k.flight.found; flies = k.flight.flies };
+  owes_is = k.owes_is;
   going = k.going;
   closed = k.closed;
 }
@@ -297,6 +282,8 @@ marked c m i mark h k next good empty rest runs is = record {
   machine = rw empty runs;
   lines = one_less c i k.first h k.lines is;
   input = k.input;
+  flight = record { known = k.flight.known; found = k.flight.found; flies = k.flight.flies };
+  owes_is = k.owes_is;
   going = k.going;
   closed = k.closed;
 }
@@ -311,6 +298,8 @@ rested c i h k next drained stands is = record {
   machine = rw (append-nil (hand_of h), append-nil (given_of h)) k.machine;
   lines = one_less c i k.first h k.lines is;
   input = k.input;
+  flight = record { known = k.flight.known; found = k.flight.found; flies = k.flight.flies };
+  owes_is = k.owes_is;
   going = k.going;
   closed = k.closed;
 }
@@ -326,6 +315,8 @@ evens c m i h k next drained stands runs is = record {
   machine = runs;
   lines = one_less c i k.first h k.lines is;
   input = k.input;
+  flight = record { known = k.flight.known; found = k.flight.found; flies = k.flight.flies };
+  owes_is = k.owes_is;
   going = k.going;
   closed = k.closed;
 }
@@ -340,6 +331,8 @@ held_for_pause c m i h k next drained stands runs is = record {
   machine = runs;
   lines = one_less c i k.first h k.lines is;
   input = k.input;
+  flight = record { known = k.flight.known; found = k.flight.found; flies = k.flight.flies };
+  owes_is = k.owes_is;
   going = k.going;
   closed = k.closed;
 }
@@ -355,6 +348,8 @@ ended c m i h k next drained stands closes runs is = record {
   machine = rw drained.hand runs;
   lines = one_less c i k.first h k.lines is;
   input = k.input;
+  flight = record { known = k.flight.known; found = k.flight.found; flies = k.flight.flies };
+  owes_is = k.owes_is;
   going = k.going;
   closed = k.closed;
 }
@@ -371,6 +366,8 @@ started c m h k stands may runs = record {
   machine = runs;
   lines = k.lines;
   input = k.input;
+  flight = record { known = k.flight.known; found = k.flight.found; flies = k.flight.flies };
+  owes_is = k.owes_is;
   going = k.going;
   closed = k.closed;
 }
@@ -389,6 +386,8 @@ drained c m h k was may runs = record {
   machine = runs;
   lines = k.lines;
   input = k.input;
+  flight = record { known = k.flight.known; found = k.flight.found; flies = k.flight.flies };
+  owes_is = k.owes_is;
   going = k.going;
   closed = k.closed;
 }
@@ -403,34 +402,43 @@ stops c m h k stopped runs = record {
   machine = runs;
   lines = k.lines;
   input = k.input;
+  flight = record { known = k.flight.known; found = k.flight.found; flies = k.flight.flies };
+  owes_is = k.owes_is;
   going = k.going;
   closed = k.closed;
 }
 
 -- ---- the words of flags
 
--- a word of requests is taken, and obeyed
-pub obeys : (c : Controller) (m : Machine) (word : Exec) (h : Journal) → Keeps c h → (HasSlowedDown h → list_any loads (this_turn h) ≡ true) → (IsStopped h → ⊥)
-    → Runs m (plan_of h) (after_word word (has_blocks (plan_of h).blocks) (motion_of h)) (hand_of h) (given_of h) → Keeps (record c { machine = m }) (obeyed word h)
-obeys c m word h k looked stopped runs = record {
+-- a word of requests is taken
+pub takes_word : (c : Controller) (owes : Bool) (word : Exec) (h : Journal) → Keeps c h → MayTakeRequests word h → owes ≡ owes_report (at_port (took_exec word) ∷ h)
+    → Keeps (record c { owes = owes }) (at_port (took_exec word) ∷ h)
+takes_word c owes word h k may is = record {
   first = k.first;
   opening = k.opening;
-  conducted = (
-    (
-      refl,
-      record {
-        earlier = port_log h;
-        last = refl;
-        blocks = refl;
-        looked = λ s. looked (record { slows = s.slows; speed = s.speed; empty = s.empty });
-        stopped = λ s. stopped (record { slowed = record { slows = s.slowed.slows; speed = s.slowed.speed; empty = s.slowed.empty }; done = s.done });
-      },
-    ),
-    (tt, k.conducted),
-  );
+  conducted = (may, k.conducted);
+  machine = k.machine;
+  lines = k.lines;
+  input = k.input;
+  flight = record { known = k.flight.known; found = k.flight.found; flies = k.flight.flies };
+  owes_is = is;
+  going = k.going;
+  closed = k.closed;
+}
+
+-- a word that was taken is obeyed
+pub obeys : (c : Controller) (m : Machine) (word : Exec) (h : Journal) → Keeps c h → MayObey word (has_blocks (plan_of h).blocks) h
+    → Runs m (plan_of h) (after_word word (has_blocks (plan_of h).blocks) (motion_of h)) (hand_of h) (given_of h)
+    → Keeps (record c { machine = m }) (became (on_exec word (has_blocks (plan_of h).blocks)) (after_word word (has_blocks (plan_of h).blocks) (motion_of h)) ∷ h)
+obeys c m word h k may runs = record {
+  first = k.first;
+  opening = k.opening;
+  conducted = ((refl, may), k.conducted);
   machine = runs;
   lines = k.lines;
   input = k.input;
+  flight = record { known = k.flight.known; found = k.flight.found; flies = k.flight.flies };
+  owes_is = k.owes_is;
   going = k.going;
   closed = k.closed;
 }
@@ -449,6 +457,8 @@ changes c m word h k some range runs = record {
   machine = rw (append-nil (hand_of h), append-nil (given_of h)) runs;
   lines = k.lines;
   input = k.input;
+  flight = record { known = k.flight.known; found = k.flight.found; flies = k.flight.flies };
+  owes_is = k.owes_is;
   going = k.going;
   closed = k.closed;
 }
@@ -469,6 +479,8 @@ closes c i h k may is = record {
     number_is = ap (λ (j : Interpreting). j.number) is ∙ k.lines.number_is;
   };
   input = k.input;
+  flight = record { known = k.flight.known; found = k.flight.found; flies = k.flight.flies };
+  owes_is = k.owes_is;
   going = λ e. absurd (cc);
   closed = λ e. ap (λ (rs : List Reply). rs ++ Bye ∷ []) may.going;
 }
@@ -482,6 +494,8 @@ ends c t h k may = record {
   machine = k.machine;
   lines = k.lines;
   input = k.input;
+  flight = record { known = k.flight.known; found = k.flight.found; flies = k.flight.flies };
+  owes_is = k.owes_is;
   going = k.going;
   closed = k.closed;
 }
@@ -495,6 +509,8 @@ other_beat c b h k = record {
   machine = k.machine;
   lines = k.lines;
   input = k.input;
+  flight = record { known = k.flight.known; found = k.flight.found; flies = k.flight.flies };
+  owes_is = k.owes_is;
   going = k.going;
   closed = k.closed;
 }
@@ -507,6 +523,23 @@ other_flags c f h k = record {
   machine = k.machine;
   lines = k.lines;
   input = k.input;
+  flight = record { known = k.flight.known; found = k.flight.found; flies = k.flight.flies };
+  owes_is = k.owes_is;
+  going = k.going;
+  closed = k.closed;
+}
+
+-- the flight may know of more ticks
+pub other_flight : (c : Controller) (f : Flying) (h : Journal) → Keeps c h → IsFlown f h → Keeps (record c { flight = f }) h
+other_flight c f h k flown = record {
+  first = k.first;
+  opening = k.opening;
+  conducted = k.conducted;
+  machine = k.machine;
+  lines = k.lines;
+  input = k.input;
+  flight = flown;
+  owes_is = k.owes_is;
   going = k.going;
   closed = k.closed;
 }

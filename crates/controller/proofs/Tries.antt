@@ -1,11 +1,13 @@
 -- What a step adds to a turn: what nothing passes with, and what was tried to be published.
-use Rattle.std.proofs.Common.{◌≡◌, ℕ, ◌+◌, ◌≤◌, Bool, List, [], ◌∷◌, ◌++◌, ◌||◌, cond, length, drop, true, false, refl, sym, ap, ◌∙◌, subst, arith, append_assoc, nat_eq}
+use Rattle.std.proofs.Common.{◌≡◌, ℕ, ◌+◌, ◌≤◌, ◌⊎◌, inl, inr, Bool, List, [], ◌∷◌, ◌++◌, ◌||◌, cond, length, drop, true, false, refl, sym, ap, ◌∙◌, subst, arith, append_assoc, nat_eq}
 use Rattle.std.specs.List.{list_any, count_by}
 use Rattle.std.proofs.lemmas.List.Sums.{sum_by-cons}
 use Rattle.std.proofs.lemmas.Bool.Decides.{nat_tests}
 use Rattle.feed_hold.specs.declared.Motion.{Motion}
 use Rattle.feed_hold.specs.declared.Motion.TheVariants as motions
 use Rattle.feed_hold.specs.Motions.{Call}
+use Rattle.feed_hold.specs.Motions.Call.{on_exec, on_start, on_limit, on_pause, on_stopped, on_drained}
+use Rattle.code_table.specs.declared.flags.Exec.{Exec}
 use Rattle.run_rules.specs.Work.{Task, pauses}
 use Rattle.run_rules.specs.Work.Task.{ask, tell, pause, normal, finish}
 use Rattle.step_line.specs.declared.Piece.{Piece}
@@ -21,10 +23,10 @@ use Rattle.planner_runs.specs.declared.Action.TheVariants.{Add, Take, Override, 
 use Rattle.board_rules.specs.Ports.PortStep.{published, no_piece_room, loaded}
 use Rattle.board_rules.specs.Steps.{Step, Journal, left_of, left_by, hand_of, plan_of, motion_of}
 use Rattle.board_rules.specs.Steps.Step.{at_port, did, made_end, evened, became}
-use Rattle.board_rules.specs.Turns.{this_turn, publishing, moving, takes_requests, obeys, takes_changes, replans, is_full, has_segment, is_due, is_counted, tries_of}
+use Rattle.board_rules.specs.Turns.{this_turn, publishing, moving, obeys, unobeyed_by, unobeyed_of, owes_report, takes_changes, replans, is_full, has_segment, is_due, is_counted, tries_of}
 use Rattle.units.specs.Truths.{one_if}
 use Rattle.controller.specs.Boards.{changes_left}
-use Rattle.controller.specs.Turning.{AreWorked, PassesNothing, DidAlone, Tried, HasTried}
+use Rattle.controller.specs.Turning.{AreWorked, PassesNothing, DidAlone, MayHaveLooked, Tried, HasTried}
 
 -- ---- one step of a turn
 
@@ -44,15 +46,12 @@ publishes_one s ss one = counts_one publishing s ss one
 
 -- a step that has nothing to do with words of flags
 pub record IsNoWord (s : Step) : Type 0 where
-  pub no_requests : takes_requests s ≡ false
-  pub none_obeyed : obeys s ≡ false
   pub no_changes : takes_changes s ≡ false
   pub none_planned : replans s ≡ false
 
-pub worked_behind : (s : Step) (h next : Journal) → this_turn next ≡ s ∷ this_turn h → IsNoWord s → AreWorked h → AreWorked next
-worked_behind s h next is plain w = record {
-  obeyed = ap (λ (ss : List Step). count_by obeys ss) is ∙ counts_none obeys s (this_turn h) plain.none_obeyed ∙ w.obeyed ∙ sym (counts_none takes_requests s (this_turn h) plain.no_requests)
-      ∙ sym (ap (λ (ss : List Step). count_by takes_requests ss) is);
+pub worked_behind : (s : Step) (h next : Journal) → this_turn next ≡ s ∷ this_turn h → IsNoWord s → owes_report next ≡ owes_report h → unobeyed_of next ≡ unobeyed_of h → AreWorked h → AreWorked next
+worked_behind s h next is plain owed words w = record {
+  obeyed = λ none. words ∙ w.obeyed (sym owed ∙ none);
   changed = ap (λ (ss : List Step). count_by replans ss) is ∙ counts_none replans s (this_turn h) plain.none_planned ∙ w.changed ∙ sym (counts_none takes_changes s (this_turn h) plain.no_changes)
       ∙ sym (ap (λ (ss : List Step). count_by takes_changes ss) is);
 }
@@ -110,7 +109,10 @@ passes_did a ps h same = record {
   whole = refl;
   closed = refl;
   flags = refl;
-  worked = worked_behind (did a ps) h (did a ps ∷ h) refl (record { no_requests = refl; none_obeyed = refl; no_changes = refl; none_planned = same });
+  replies = refl;
+  owed = refl;
+  words = refl;
+  worked = worked_behind (did a ps) h (did a ps ∷ h) refl (record { no_changes = refl; none_planned = same }) refl refl;
   pauses = pauses_by a (left_of h);
   changes = no_more (changes_left (motion_of h));
   less = λ some none. some (ap (left_by a) none ∙ none_left a);
@@ -134,7 +136,10 @@ passes_end h = record {
   whole = refl;
   closed = refl;
   flags = refl;
-  worked = worked_behind made_end h (made_end ∷ h) refl (record { no_requests = refl; none_obeyed = refl; no_changes = refl; none_planned = refl });
+  replies = refl;
+  owed = refl;
+  words = refl;
+  worked = worked_behind made_end h (made_end ∷ h) refl (record { no_changes = refl; none_planned = refl }) refl refl;
   pauses = fewer_pauses (left_of h);
   changes = no_more (changes_left (motion_of h));
   less = λ some none. some (ap (λ (ts : List Task). drop 1 ts) none);
@@ -158,11 +163,23 @@ passes_even h = record {
   whole = refl;
   closed = refl;
   flags = refl;
-  worked = worked_behind evened h (evened ∷ h) refl (record { no_requests = refl; none_obeyed = refl; no_changes = refl; none_planned = refl });
+  replies = refl;
+  owed = refl;
+  words = refl;
+  worked = worked_behind evened h (evened ∷ h) refl (record { no_changes = refl; none_planned = refl }) refl refl;
   pauses = fewer_pauses (left_of h);
   changes = no_more (changes_left (motion_of h));
   less = λ some none. some (ap (λ (ts : List Task). drop 1 ts) none);
 }
+
+-- a call that is no word leaves the words
+words_stay : (call : Call) (now : Motion) (words : List Exec) → obeys (became call now) ≡ false → unobeyed_by call words ≡ words
+words_stay (on_exec word queued) now words by_itself = absurd cc
+words_stay (on_start jog) now words by_itself = refl
+words_stay on_limit now words by_itself = refl
+words_stay on_pause now words by_itself = refl
+words_stay on_stopped now words by_itself = refl
+words_stay on_drained now words by_itself = refl
 
 -- the motion starts, or is over
 pub passes_motion : (call : Call) (now : Motion) (h : Journal) → obeys (became call now) ≡ false → changes_left now ≤ changes_left (motion_of h) → PassesNothing h (became call now ∷ h)
@@ -182,7 +199,10 @@ passes_motion call now h by_itself fewer = record {
   whole = refl;
   closed = refl;
   flags = refl;
-  worked = worked_behind (became call now) h (became call now ∷ h) refl (record { no_requests = refl; none_obeyed = by_itself; no_changes = refl; none_planned = refl });
+  replies = refl;
+  owed = refl;
+  words = words_stay call now (unobeyed_of h) by_itself;
+  worked = worked_behind (became call now) h (became call now ∷ h) refl (record { no_changes = refl; none_planned = refl }) refl (words_stay call now (unobeyed_of h) by_itself);
   pauses = no_more (pauses (left_of h));
   changes = fewer;
   less = λ some. some;
@@ -206,7 +226,10 @@ passes_load done h = record {
   whole = refl;
   closed = refl;
   flags = refl;
-  worked = worked_behind (at_port (loaded done)) h (at_port (loaded done) ∷ h) refl (record { no_requests = refl; none_obeyed = refl; no_changes = refl; none_planned = refl });
+  replies = refl;
+  owed = refl;
+  words = refl;
+  worked = worked_behind (at_port (loaded done)) h (at_port (loaded done) ∷ h) refl (record { no_changes = refl; none_planned = refl }) refl refl;
   pauses = no_more (pauses (left_of h));
   changes = no_more (changes_left (motion_of h));
   less = λ some. some;
@@ -231,6 +254,9 @@ passes_none h = record {
   whole = refl;
   closed = refl;
   flags = refl;
+  replies = refl;
+  owed = refl;
+  words = refl;
   worked = λ w. w;
   pauses = no_more (pauses (left_of h));
   changes = no_more (changes_left (motion_of h));
@@ -260,6 +286,9 @@ passes_on h mid next a b = record {
   whole = b.whole ∙ a.whole;
   closed = b.closed ∙ a.closed;
   flags = b.flags ∙ a.flags;
+  replies = b.replies ∙ a.replies;
+  owed = b.owed ∙ a.owed;
+  words = b.words ∙ a.words;
   worked = λ w. b.worked (a.worked w);
   pauses = at_most _ _ _ a.pauses b.pauses;
   changes = at_most _ _ _ a.changes b.changes;
@@ -309,7 +338,10 @@ tried_sent p h one = record {
   motion = refl;
   closed = refl;
   flags = refl;
-  worked = worked_behind (at_port (published p)) h (at_port (published p) ∷ h) refl (record { no_requests = refl; none_obeyed = refl; no_changes = refl; none_planned = refl });
+  replies = refl;
+  owed = refl;
+  words = refl;
+  worked = worked_behind (at_port (published p)) h (at_port (published p) ∷ h) refl (record { no_changes = refl; none_planned = refl }) refl refl;
   waiting = λ w. record { stands = w.stands; blocks = w.blocks };
   full = λ e. e;
 }
@@ -334,16 +366,59 @@ tried_kept done h = record {
   motion = refl;
   closed = refl;
   flags = refl;
-  worked = worked_behind (at_port (no_piece_room done)) h (at_port (no_piece_room done) ∷ h) refl (record { no_requests = refl; none_obeyed = refl; no_changes = refl; none_planned = refl });
+  replies = refl;
+  owed = refl;
+  words = refl;
+  worked = worked_behind (at_port (no_piece_room done)) h (at_port (no_piece_room done) ∷ h) refl (record { no_changes = refl; none_planned = refl }) refl refl;
   waiting = λ w. record { stands = w.stands; blocks = w.blocks };
   full = λ e. e;
 }
 
-pub tried : (sent : Bool) (h next : Journal) → drop 1 (hand_of h) ≡ [] → Tried sent h next → HasTried sent h next
-tried true h next one t = subst (HasTried true h) (sym t.1) (tried_sent t.0 h one)
-tried false h next one t = subst (HasTried false h) (sym t.1) (tried_kept t.0 h)
+-- it was looked how many ticks are done before
+looked_before : (sent : Bool) (done : ℕ) (h next : Journal) → HasTried sent (at_port (loaded done) ∷ h) next → HasTried sent h next
+looked_before sent done h next t =
+    let p = passes_load done h in
+    record {
+      steps = t.steps ++ at_port (loaded done) ∷ [];
+      are = are_both h (at_port (loaded done) ∷ h) next (at_port (loaded done) ∷ []) t.steps refl t.are;
+      still = λ e. t.still e ∙ p.still;
+      quiet = t.quiet ∙ ap (λ n. n + one_if sent) p.quiet;
+      polled = t.polled ∙ p.polled;
+      room = t.room;
+      moves = t.moves;
+      sent = t.sent;
+      waits = t.waits;
+      missed = t.missed;
+      first = t.first;
+      later = t.later;
+      left = t.left;
+      whole = t.whole;
+      motion = t.motion;
+      closed = t.closed;
+      flags = t.flags;
+      replies = t.replies;
+      owed = t.owed;
+      words = t.words;
+      worked = λ w. t.worked (p.worked w);
+      waiting = λ w. (let v = t.waiting w in record { stands = v.stands; blocks = v.blocks });
+      full = t.full;
+    }
 
-fewer_moved : (n : ℕ) (bs : List Block) → length (moved n bs) ≤ length bs
+tried_now : (sent : Bool) (h mid next : Journal) → MayHaveLooked h mid → HasTried sent mid next → HasTried sent h next
+tried_now sent h mid next (inl same) t = subst (λ (j : Journal). HasTried sent j next) same t
+tried_now sent h mid next (inr looked) t = looked_before sent looked.0 h next (subst (λ (j : Journal). HasTried sent j next) looked.1 t)
+
+-- the hand is as before
+hand_looked : (h mid : Journal) → MayHaveLooked h mid → hand_of mid ≡ hand_of h
+hand_looked h mid (inl same) = ap hand_of same
+hand_looked h mid (inr looked) = ap hand_of looked.1
+
+pub tried : (sent : Bool) (h next : Journal) → drop 1 (hand_of h) ≡ [] → Tried sent h next → HasTried sent h next
+tried true h next one t =
+    tried_now true h t.1 next t.2 (subst (HasTried true t.1) (sym t.3) (tried_sent t.0 t.1 (ap (λ (ps : List Piece). drop 1 ps) (hand_looked h t.1 t.2) ∙ one)))
+tried false h next one t = tried_now false h t.1 next t.2 (subst (HasTried false t.1) (sym t.3) (tried_kept t.0 t.1))
+
+pub fewer_moved : (n : ℕ) (bs : List Block) → length (moved n bs) ≤ length bs
 fewer_moved n [] = omega arith
 fewer_moved n (b ∷ bs) = by_end (nat_eq n (blocks.left_of b))
   where
@@ -379,6 +454,9 @@ tried_behind mode s sent h next due t = record {
   motion = t.motion;
   closed = t.closed;
   flags = t.flags;
+  replies = t.replies;
+  owed = t.owed;
+  words = t.words;
   worked = λ w. t.worked (p.worked w);
   waiting = λ w. absurd (not_due (plan_of h) (motion_of h) due (t.waiting w).stands);
   full = λ e. full_before (plan_of h) s.n s.w_out (t.full e);

@@ -1,5 +1,5 @@
 -- A turn takes a word of flags, and does what that asks for.
-use Rattle.std.proofs.Common.{◌≡◌, ◌+◌, ◌≤◌, ◌<◌, Bool, true, false, ◌||◌, List, [], ◌∷◌, ◌++◌, length, nat_eq, drop, refl, sym, ap, ◌∙◌, subst, arith, inr}
+use Rattle.std.proofs.Common.{◌≡◌, ◌+◌, ◌≤◌, ◌<◌, Bool, true, false, ◌||◌, List, [], ◌∷◌, ◌++◌, cond, length, nat_eq, drop, Some, refl, sym, ap, ◌∙◌, subst, arith, inr}
 use Rattle.std.specs.List.{list_any, count_by}
 use Rattle.code_table.specs.declared.flags.Exec.{Exec}
 use Rattle.code_table.specs.declared.flags.Ovr.{Ovr}
@@ -15,33 +15,33 @@ use Rattle.step_line.specs.declared.planned_move.PlannedMove.{PlannedMove}
 use Rattle.run_rules.specs.Work.{Task, pauses}
 use Rattle.run_rules.specs.Work.Task.{ask}
 use Rattle.board_rules.specs.Ports.{has_changes}
-use Rattle.board_rules.specs.Ports.PortStep.{took_ovr}
+use Rattle.board_rules.specs.Ports.PortStep.{took_exec, took_ovr}
 use Rattle.board_rules.specs.Steps.{Step, Journal, left_of, whole_of, closed_tells, plan_of, motion_of}
 use Rattle.board_rules.specs.Steps.Step.{at_port, did}
-use Rattle.board_rules.specs.Turns.{this_turn, publishing, found_none, takes_requests, obeys, takes_changes, replans, changes_taken, is_full, awaits_motion, tries_of}
-use Rattle.board_rules.specs.Conduct.{IsNextTask, AreWaiting}
+use Rattle.board_rules.specs.Turns.{this_turn, publishing, found_none, unobeyed_of, owes_report, takes_changes, replans, changes_taken, starts_cycle, has_blocks, is_full, awaits_motion, tries_of}
+use Rattle.board_rules.specs.Conduct.{IsNextTask, AreWaiting, MayObey}
 use Rattle.board_rules.proofs.Waiting.{adds}
 use Rattle.units.specs.Truths.{one_if}
 use Rattle.controller.specs.declared.controller.Controller.{Controller}
 use Rattle.controller.specs.declared.controller.Beat.{Beat}
 use Rattle.controller.specs.declared.controller.Beat.TheVariants.{Motion, Main}
 use Rattle.controller.specs.declared.controller.Flags.TheVariants as words
-use Rattle.controller.specs.Boards.{Keeps, Rounds, NoneWaits, TakesFlags, IsBetween, BoardFits, has_published, words_left, changes_left, number_of}
-use Rattle.controller.specs.Turning.{HasSettled, AreWorked, BoardWorked, obeyed, replanned}
+use Rattle.controller.specs.Boards.{Keeps, Rounds, NoneWaits, HasChanges, TakesFlags, IsBetween, BoardFits, takes_no_word, has_published, words_left, changes_left, number_of}
+use Rattle.controller.specs.Turning.{HasSettled, AreWorked, BoardWorked, asked, flags_behind, obeyed, replanned}
 use Rattle.controller.proofs.Tries.{counts_none, counts_one}
-use Rattle.controller.proofs.Ends.{none_called, rounds_still}
+use Rattle.controller.proofs.Ends.{none_called, rounds_still, takes_none, no_word_left}
 use Rattle.controller.proofs.Settling.{replanned_some, replanned_none}
-use Rattle.controller.proofs.Halting.{waited_before, ends_obeyed, obeying, obeying_are}
+use Rattle.controller.proofs.Halting.{waited_before, ends_obeyed, ends_taken, obeying, obeying_are, taken as taken_word, free_now, asked_now}
 
 -- ---- between two turns
 
 -- where words of flags are to be taken, the last turn published no piece
-beat_is : (board : Controller) (h : Journal) → BoardFits board h → (board.flags ≡ words.None → ⊥) → board.beat ≡ Motion
+beat_is : (board : Controller) (h : Journal) → BoardFits board h → takes_no_word board.flags ≡ false → board.beat ≡ Motion
 beat_is board h f some = by_beat board.beat f.still
   where
-    by_beat : (b : Beat) → (has_published b ≡ true → board.flags ≡ words.None) → b ≡ Motion
+    by_beat : (b : Beat) → (has_published b ≡ true → takes_no_word board.flags ≡ true) → b ≡ Motion
     by_beat Motion still = refl
-    by_beat Main still = absurd (some (still refl))
+    by_beat Main still = absurd (let e = sym some ∙ still refl in cc)
 
 few_between : (board : Controller) (h : Journal) → BoardFits board h → board.beat ≡ Motion → tries_of h + one_if (whole_of h) ≤ 1
 few_between board h f beat = let t = f.rounds.tries in let b = ap (λ x. one_if (has_published x)) beat in omega (arith, t, b)
@@ -49,9 +49,9 @@ few_between board h f beat = let t = f.rounds.tries in let b = ap (λ x. one_if 
 count_between : (h : Journal) (f : Step → Bool) → IsBetween h → count_by f (this_turn h) ≡ 0
 count_between h f between = ap (λ (ss : List Step). count_by f ss) between
 
-worked_between : (h : Journal) → IsBetween h → AreWorked h
-worked_between h between = record {
-  obeyed = count_between h obeys between ∙ sym (count_between h takes_requests between);
+worked_between : (h : Journal) → IsBetween h → unobeyed_of h ≡ [] → AreWorked h
+worked_between h between none = record {
+  obeyed = λ e. none;
   changed = count_between h replans between ∙ sym (count_between h takes_changes between);
 }
 
@@ -72,6 +72,7 @@ record TakesChanges (h next : Journal) : Type 0 where
   waiting : AreWaiting next → AreWaiting h
   full : is_full (plan_of next) ≡ is_full (plan_of h)
   taken : changes_taken next ≡ true
+  words : unobeyed_of next ≡ unobeyed_of h
 
 none_changed : (word : Ovr) (h : Journal) → has_changes word ≡ false → TakesChanges h (at_port (took_ovr word) ∷ h)
 none_changed word h none = record {
@@ -79,7 +80,7 @@ none_changed word h none = record {
   are = refl;
   one = counts_one publishing (at_port (took_ovr word)) (this_turn h) refl;
   worked = λ w. record {
-    obeyed = counts_none obeys (at_port (took_ovr word)) (this_turn h) refl ∙ w.obeyed ∙ sym (counts_none takes_requests (at_port (took_ovr word)) (this_turn h) refl);
+    obeyed = w.obeyed;
     changed = counts_none replans (at_port (took_ovr word)) (this_turn h) refl ∙ w.changed ∙ sym (counts_none takes_changes (at_port (took_ovr word)) (this_turn h) none);
   };
   polled = refl;
@@ -91,6 +92,7 @@ none_changed word h none = record {
   waiting = λ w. record { stands = w.stands; blocks = w.blocks };
   full = refl;
   taken = refl;
+  words = refl;
 }
 
 some_changed : (word : Ovr) (h : Journal) → has_changes word ≡ true → TakesChanges h (did (Override (taken (plan_of h).overrides word)) [] ∷ (at_port (took_ovr word) ∷ h))
@@ -103,8 +105,7 @@ some_changed word h some =
       are = refl;
       one = counts_none publishing plans (takes ∷ ss) refl ∙ counts_one publishing takes ss refl;
       worked = λ w. record {
-        obeyed = counts_none obeys plans (takes ∷ ss) refl ∙ counts_none obeys takes ss refl ∙ w.obeyed
-            ∙ sym (counts_none takes_requests plans (takes ∷ ss) refl ∙ counts_none takes_requests takes ss refl);
+        obeyed = w.obeyed;
         changed = counts_one replans plans (takes ∷ ss) refl ∙ ap (λ n. n + 1) (counts_none replans takes ss refl ∙ w.changed)
             ∙ sym (counts_none takes_changes plans (takes ∷ ss) refl ∙ counts_one takes_changes takes ss some);
       };
@@ -117,6 +118,7 @@ some_changed word h some =
       waiting = λ w. record { stands = w.stands; blocks = w.blocks };
       full = refl;
       taken = refl;
+      words = refl;
     }
 
 takes_changes_of : (word : Ovr) (h : Journal) → TakesChanges h (replanned word h)
@@ -135,7 +137,7 @@ changes_worked : (was board : Controller) (h next : Journal) → BoardFits was h
 changes_worked was board h next f between both t keeps same_beat flag = record {
   keeps = keeps;
   rounds = subst (λ b. Rounds b next) (sym beat) (rounds_still next none few);
-  flags = subst (λ x. TakesFlags x next) (sym flag) t.taken;
+  flags = subst (λ x. TakesFlags x next) (sym flag) (record { changes = t.taken; obeyed = t.words ∙ none_left });
   still = λ e. absurd (let x = sym (ap has_published beat) ∙ e in cc);
   beat = λ o e. absurd cc;
   steps = t.steps;
@@ -145,14 +147,17 @@ changes_worked was board h next f between both t keeps same_beat flag = record {
     adds = λ m move. t.full ∙ adds f.keeps.first h m f.keeps.conducted between (subst (λ (ts : List Task). ts ≡ ask (a_move m) ∷ drop 1 ts) t.left move);
     starts = none_called next (t.polled ∙ ap (λ (ss : List Step). list_any found_none ss) between) none;
     tries = omega (arith, few);
-    obeyed = (t.worked (worked_between h between)).obeyed;
-    changed = (t.worked (worked_between h between)).changed;
+    obeyed = (t.worked (worked_between h between none_left)).obeyed;
+    changed = (t.worked (worked_between h between none_left)).changed;
   };
   moves = λ e. inr falls;
 }
   where
     beat : board.beat ≡ Motion
-    beat = same_beat ∙ beat_is was h f (λ e. absurd (let x = sym both ∙ e in cc))
+    beat = same_beat ∙ beat_is was h f (ap takes_no_word both)
+
+    none_left : unobeyed_of h ≡ []
+    none_left = subst (λ x. TakesFlags x h) both f.flags
 
     none : NoneWaits next
     none = none_waits_changed h next t f.rounds.none_waits
@@ -190,40 +195,152 @@ two_at_most motions.Cancelling = omega arith
 two_at_most motions.Stopping = omega arith
 two_at_most motions.Alarm = omega arith
 
+-- what the word of requests is taken behind
+record TakesRequests (was board : Controller) (h mid : Journal) : Type 0 where
+  fits : BoardFits was h
+  between : IsBetween h
+  flag : was.flags ≡ words.Requests
+  settled : HasSettled h mid
+  same_beat : board.beat ≡ was.beat
+
+has_changes_at : (was : Controller) (h : Journal) → BoardFits was h → was.flags ≡ words.Requests → HasChanges h
+has_changes_at was h f flag = subst (λ x. TakesFlags x h) flag f.flags
+
+beat_there : (was board : Controller) (h mid : Journal) → TakesRequests was board h mid → board.beat ≡ Motion
+beat_there was board h mid t = t.same_beat ∙ beat_is was h t.fits (ap takes_no_word t.flag)
+
+few_there : (was board : Controller) (h mid : Journal) → TakesRequests was board h mid → tries_of mid + one_if (whole_of mid) ≤ 1
+few_there was board h mid t =
+    let b = few_between was h t.fits (sym t.same_beat ∙ beat_there was board h mid t) in
+    let n = t.settled.passes.tries in let w = ap one_if t.settled.passes.whole in omega (arith, b, n, w)
+
+none_left_there : (was board : Controller) (h mid : Journal) → TakesRequests was board h mid → unobeyed_of mid ≡ []
+none_left_there was board h mid t = t.settled.passes.words ∙ (has_changes_at was h t.fits t.flag).obeyed
+
+may_add_there : (was board : Controller) (h mid : Journal) → TakesRequests was board h mid → (m : PlannedMove) → IsNextTask (ask (a_move m)) mid → is_full (plan_of mid) ≡ true
+may_add_there was board h mid t m move =
+    ap (λ (p : Planned). is_full p) t.settled.plan
+    ∙ adds t.fits.keeps.first h m t.fits.keeps.conducted t.between (subst (λ (ts : List Task). ts ≡ ask (a_move m) ∷ drop 1 ts) t.settled.left move)
+
+none_there : (was board : Controller) (h mid : Journal) → TakesRequests was board h mid → NoneWaits mid
+none_there was board h mid t = none_waits_settled h mid t.settled t.fits.rounds.none_waits
+
+none_called_there : (was board : Controller) (h mid : Journal) → TakesRequests was board h mid → AreWaiting mid → starts_cycle mid ≡ false
+none_called_there was board h mid t =
+    none_called mid (t.settled.passes.polled ∙ ap (λ (ss : List Step). list_any found_none ss) t.between) (none_there was board h mid t)
+
 -- the word of requests was taken, and obeyed
-pub took_requests : (was board : Controller) (word : Exec) (h mid : Journal) → BoardFits was h → IsBetween h → was.flags ≡ words.Requests → HasSettled h mid → Keeps board (obeyed word mid)
-    → board.beat ≡ was.beat → board.flags ≡ words.None → BoardWorked Did was.flags board h (obeyed word mid)
-took_requests was board word h mid f between flag s keeps same_beat no_word = record {
+took_obeyed : (was board : Controller) (word : Exec) (h mid : Journal) → TakesRequests was board h mid → Keeps board (obeyed word mid) → owes_report (taken_word word mid) ≡ false
+    → board.flags ≡ words.None → BoardWorked Did was.flags board h (obeyed word mid)
+took_obeyed was board word h mid t keeps unowed no_word = record {
   keeps = keeps;
-  rounds = subst (λ b. Rounds b (obeyed word mid)) (sym beat) (rounds_still (obeyed word mid) (λ w. none (waited_before word mid w)) few);
-  flags = subst (λ x. TakesFlags x (obeyed word mid)) (sym no_word) (s.changes ∙ subst (λ x. TakesFlags x h) flag f.flags);
-  still = λ e. no_word;
+  rounds = subst (λ b. Rounds b (obeyed word mid)) (sym beat) (rounds_still (obeyed word mid) (λ w. none_there was board h mid t (waited_before word mid w)) few);
+  flags = takes_none board (obeyed word mid) no_word (free_now word mid (s.changes ∙ (has_changes_at was h t.fits t.flag).changes) none_left unowed);
+  still = λ e. no_word_left board.flags no_word;
   beat = λ o e. absurd cc;
   steps = obeying word mid s.passes.steps;
   are = obeying_are word h mid s.passes.steps s.passes.are;
-  may = ends_obeyed word mid (s.passes.quiet ∙ count_between h publishing between) (s.passes.worked (worked_between h between)) may_add
-      (none_called mid (s.passes.polled ∙ ap (λ (ss : List Step). list_any found_none ss) between) none) (omega (arith, few));
+  may = ends_obeyed word mid (s.passes.quiet ∙ count_between h publishing t.between) none_left (s.passes.worked (worked_between h t.between (has_changes_at was h t.fits t.flag).obeyed))
+      (may_add_there was board h mid t) (none_called_there was board h mid t) (omega (arith, few));
   moves = λ e. inr falls;
 }
   where
-    beat : board.beat ≡ Motion
-    beat = same_beat ∙ beat_is was h f (λ e. absurd (let x = sym flag ∙ e in cc))
+    s : HasSettled h mid
+    s = t.settled
 
-    none : NoneWaits mid
-    none = none_waits_settled h mid s f.rounds.none_waits
+    beat : board.beat ≡ Motion
+    beat = beat_there was board h mid t
 
     few : tries_of mid + one_if (whole_of mid) ≤ 1
-    few = let b = few_between was h f (sym same_beat ∙ beat) in let n = s.passes.tries in let w = ap one_if s.passes.whole in omega (arith, b, n, w)
+    few = few_there was board h mid t
 
-    may_add : (m : PlannedMove) → IsNextTask (ask (a_move m)) mid → is_full (plan_of mid) ≡ true
-    may_add m move =
-        ap (λ (p : Planned). is_full p) s.plan ∙ adds f.keeps.first h m f.keeps.conducted between (subst (λ (ts : List Task). ts ≡ ask (a_move m) ∷ drop 1 ts) s.left move)
+    none_left : unobeyed_of mid ≡ []
+    none_left = none_left_there was board h mid t
 
     falls : number_of board.flags (obeyed word mid) < number_of was.flags h
     falls =
-        let one = ap words_left flag in
+        let one = ap words_left t.flag in
         let zero = ap words_left no_word in
         let p = ap (λ (ts : List Task). pauses ts) s.left in
         let two = two_at_most (motion_of (obeyed word mid)) in
         let e = ap (λ (rs : List Reply). one_if (nat_eq (length rs) 0)) s.passes.closed in
         omega (arith, one, zero, p, two, e)
+
+-- it was taken, and a report is told first
+took_asked : (was board : Controller) (word : Exec) (h mid : Journal) → TakesRequests was board h mid → Keeps board (taken_word word mid) → owes_report (taken_word word mid) ≡ true
+    → board.flags ≡ words.Report (Some word) → BoardWorked Did was.flags board h (taken_word word mid)
+took_asked was board word h mid t keeps owed asks = record {
+  keeps = keeps;
+  rounds = subst (λ b. Rounds b (taken_word word mid)) (sym beat)
+      (rounds_still (taken_word word mid) (λ w. none_there was board h mid t (record { stands = w.stands; blocks = w.blocks })) few);
+  flags = subst (λ f. TakesFlags f (taken_word word mid)) (sym asks) (asked_now word mid (s.changes ∙ (has_changes_at was h t.fits t.flag).changes) (none_left_there was board h mid t) owed);
+  still = λ e. ap takes_no_word asks;
+  beat = λ o e. absurd cc;
+  steps = at_port (took_exec word) ∷ s.passes.steps;
+  are = ap (λ (j : Journal). at_port (took_exec word) ∷ j) s.passes.are;
+  may = ends_taken word mid owed (s.passes.quiet ∙ count_between h publishing t.between) (s.passes.worked (worked_between h t.between (has_changes_at was h t.fits t.flag).obeyed))
+      (may_add_there was board h mid t) (none_called_there was board h mid t) (omega (arith, few));
+  moves = λ e. inr falls;
+}
+  where
+    s : HasSettled h mid
+    s = t.settled
+
+    beat : board.beat ≡ Motion
+    beat = beat_there was board h mid t
+
+    few : tries_of mid + one_if (whole_of mid) ≤ 1
+    few = few_there was board h mid t
+
+    falls : number_of board.flags (taken_word word mid) < number_of was.flags h
+    falls =
+        let one = ap words_left t.flag in
+        let zero = ap words_left asks in
+        let p = ap (λ (ts : List Task). pauses ts) s.left in
+        let m = s.passes.changes in
+        let e = ap (λ (rs : List Reply). one_if (nat_eq (length rs) 0)) s.passes.closed in
+        omega (arith, one, zero, p, m, e)
+
+-- the word of requests was taken, and obeyed unless a report is told first
+pub took_requests : (was board : Controller) (word : Exec) (h mid : Journal) → BoardFits was h → IsBetween h → was.flags ≡ words.Requests → HasSettled h mid → Keeps board (asked word mid)
+    → board.beat ≡ was.beat → board.flags ≡ flags_behind (owes_report (taken_word word mid)) word → BoardWorked Did was.flags board h (asked word mid)
+took_requests was board word h mid f between flag s keeps same_beat flags = by_owed (owes_report (taken_word word mid)) refl
+  where
+    t : TakesRequests was board h mid
+    t = record { fits = f; between = between; flag = flag; settled = s; same_beat = same_beat }
+
+    by_owed : (owed : Bool) → owes_report (taken_word word mid) ≡ owed → BoardWorked Did was.flags board h (asked word mid)
+    by_owed true e =
+        let is : asked word mid ≡ taken_word word mid = ap (λ b. cond b (taken_word word mid) (obeyed word mid)) e in
+        subst (λ (j : Journal). BoardWorked Did was.flags board h j) (sym is)
+        (took_asked was board word h mid t (subst (λ (j : Journal). Keeps board j) is keeps) e (flags ∙ ap (λ b. flags_behind b word) e))
+    by_owed false e =
+        let is : asked word mid ≡ obeyed word mid = ap (λ b. cond b (taken_word word mid) (obeyed word mid)) e in
+        subst (λ (j : Journal). BoardWorked Did was.flags board h j) (sym is)
+        (took_obeyed was board word h mid t (subst (λ (j : Journal). Keeps board j) is keeps) e (flags ∙ ap (λ b. flags_behind b word) e))
+
+-- ---- what a word that was taken leads to
+
+pub asked_owed : (word : Exec) (h : Journal) → owes_report (taken_word word h) ≡ true → asked word h ≡ taken_word word h
+asked_owed word h e = ap (λ b. cond b (taken_word word h) (obeyed word h)) e
+
+pub asked_free : (word : Exec) (h : Journal) → owes_report (taken_word word h) ≡ false → asked word h ≡ obeyed word h
+asked_free word h e = ap (λ b. cond b (taken_word word h) (obeyed word h)) e
+
+-- whether a report is owed is the same with the word obeyed
+pub asked_owes : (word : Exec) (h : Journal) → owes_report (asked word h) ≡ owes_report (taken_word word h)
+asked_owes word h = by_owed (owes_report (taken_word word h)) refl
+  where
+    by_owed : (b : Bool) → owes_report (taken_word word h) ≡ b → owes_report (asked word h) ≡ owes_report (taken_word word h)
+    by_owed true e = ap owes_report (asked_owed word h e)
+    by_owed false e = ap owes_report (asked_free word h e)
+
+-- the word that was taken may be obeyed at once
+pub obeys_at_once : (word : Exec) (h mid : Journal) → HasSettled h mid → unobeyed_of mid ≡ [] → owes_report (taken_word word mid) ≡ false → MayObey word (has_blocks (plan_of mid).blocks) (taken_word word mid)
+obeys_at_once word h mid s none unowed = record {
+  next = ap (λ (ws : List Exec). ws ++ word ∷ []) none;
+  reported = λ e. absurd (let f = sym e ∙ unowed in cc);
+  blocks = refl;
+  looked = λ x. s.looked (record { slows = x.slows; speed = x.speed; empty = x.empty });
+  stopped = λ x. s.stopped (record { slowed = record { slows = x.slowed.slows; speed = x.slowed.speed; empty = x.slowed.empty }; done = x.done });
+}

@@ -10,9 +10,13 @@ use Rattle.run_rules.specs.Outcomes.{Before}
 use Rattle.status_report.specs.declared.Reply.TheVariants.{Bye}
 use Rattle.line_interpreter.specs.Keeping.{IsKept}
 use Rattle.line_interpreter.specs.Interpreting.{Interpreting}
-use Rattle.board_rules.specs.Steps.{Step, Journal, open_of, whole_of, before_of, left_of, closed_tells, given_of, hand_of, plan_of, motion_of}
+use Rattle.flight.specs.Flights.{Flying, Flies}
+use Rattle.code_table.specs.declared.flags.Exec.{Exec}
+use Rattle.std.specs.Option.{option_to_list}
+use Rattle.std.specs.declared.option.Option.{Option}
+use Rattle.board_rules.specs.Steps.{Step, Journal, published_of, known_of, open_of, whole_of, before_of, left_of, closed_tells, given_of, hand_of, plan_of, motion_of}
 use Rattle.board_rules.specs.Steps.Step.{turned}
-use Rattle.board_rules.specs.Turns.{this_turn, moving, begins_with_dollar, is_full, is_halting, awaits_motion, changes_taken, flags_taken, tries_of, missed_of, waits_of}
+use Rattle.board_rules.specs.Turns.{this_turn, unobeyed_of, owes_report, moving, begins_with_dollar, is_full, is_halting, awaits_motion, changes_taken, flags_taken, tries_of, missed_of, waits_of}
 use Rattle.board_rules.specs.Conduct.{Conducted, AreWaiting}
 use Rattle.units.specs.Truths.{one_if}
 use Rattle.controller.specs.declared.controller.Controller.{Controller}
@@ -39,6 +43,12 @@ pub record Reads (i : Input) (bytes : List ℕ) (whole : Bool) : Type 0 where
   pub begun : i.begun ≡ true → bytes ≡ [] → ⊥
   pub dollar_is : i.dollar ≡ begins_with_dollar bytes
 
+-- a flight of the pieces that were published, which knows of some of the ticks that were found done
+pub record IsFlown (f : Flying) (h : Journal) : Type 0 where
+  pub known : ℕ
+  pub found : known ≤ known_of h
+  pub flies : Flies f (published_of h) known
+
 -- What the fields of a board keep of all that it did, which its rules allow, from its opening state on.
 pub record Keeps (board : Controller) (h : Journal) : Type 0 where
   pub first : State
@@ -47,6 +57,8 @@ pub record Keeps (board : Controller) (h : Journal) : Type 0 where
   pub machine : Runs board.machine (plan_of h) (motion_of h) (hand_of h) (given_of h)
   pub lines : Works board.lines (left_of h) (before_of first h)
   pub input : Reads board.input (open_of h) (whole_of h)
+  pub flight : IsFlown board.flight h
+  pub owes_is : board.owes ≡ owes_report h
   pub going : board.closing ≡ false → closed_tells h ≡ []
   pub closed : board.closing ≡ true → closed_tells h ≡ Bye ∷ []
 
@@ -68,12 +80,38 @@ pub record Rounds (beat : Beat) (h : Journal) : Type 0 where
   pub tries : tries_of h + one_if (whole_of h) ≤ 1 + one_if (has_published beat)
   pub few : (left_of h ≡ [] → ⊥) → tries_of h ≤ 1
   pub held : is_halting (motion_of h) ≡ true → whole_of h ≡ true → tries_of h ≡ 0
+  pub owed : owes_report h ≡ true → tries_of h + one_if (whole_of h) ≤ 1
 
--- what the words of flags say that are to be taken before the board goes on
+-- both words of flags were taken since the last line feed, and since the last wait; what they ask for is done
+pub record IsFree (h : Journal) : Type 0 where
+  pub flags : flags_taken h ≡ true
+  pub obeyed : unobeyed_of h ≡ []
+  pub unowed : owes_report h ≡ false
+
+-- they were taken, and a report is told next; then this word of requests is obeyed, if one waits for that
+pub record IsAsked (word : Option Exec) (h : Journal) : Type 0 where
+  pub flags : flags_taken h ≡ true
+  pub next : unobeyed_of h ≡ option_to_list word
+  pub owed : owes_report h ≡ true
+
+-- the word of changes of overrides was taken
+pub record HasChanges (h : Journal) : Type 0 where
+  pub changes : changes_taken h ≡ true
+  pub obeyed : unobeyed_of h ≡ []
+
+-- what the words of flags say that are to be taken, or obeyed, before the board goes on
 abbrev pub TakesFlags : Flags → Journal → Type 0
-TakesFlags words.Both h = Unit {0}
-TakesFlags words.Requests h = changes_taken h ≡ true
-TakesFlags words.None h = flags_taken h ≡ true
+TakesFlags words.Both h = unobeyed_of h ≡ []
+TakesFlags words.Requests h = HasChanges h
+TakesFlags (words.Report word) h = IsAsked word h
+TakesFlags words.None h = IsFree h
+
+-- no word of flags is to be taken
+abbrev pub takes_no_word : Flags → Bool
+takes_no_word words.Both = false
+takes_no_word words.Requests = false
+takes_no_word (words.Report word) = true
+takes_no_word words.None = true
 
 -- between two turns
 abbrev pub IsBetween : Journal → Type 0
@@ -84,15 +122,16 @@ pub record BoardFits (board : Controller) (h : Journal) : Type 0 where
   pub keeps : Keeps board h
   pub rounds : Rounds board.beat h
   pub flags : TakesFlags board.flags h
-  pub still : has_published board.beat ≡ true → board.flags ≡ words.None
+  pub still : has_published board.beat ≡ true → takes_no_word board.flags ≡ true
 
 -- ---- a board's number
 
--- how many words of flags are to be taken
+-- how much is left of the words of flags: to take them, and to go on without a report
 abbrev pub words_left : Flags → ℕ
-words_left words.Both = 2
-words_left words.Requests = 1
-words_left words.None = 0
+words_left words.Both = 3
+words_left words.Requests = 2
+words_left words.None = 1
+words_left (words.Report word) = 0
 
 -- a machine that slows down is to be held, and one that is held to be resumed
 abbrev pub changes_left : AnyMotion → ℕ
@@ -100,8 +139,8 @@ changes_left motions.Holding = 2
 changes_left motions.Held = 1
 changes_left _ = 0
 
--- What a board can do with which nothing moves: words of flags are taken, pauses begin, a hold comes to its end, the machine is
--- resumed, and the run is closed. It falls in each turn that answers Did and moves nothing.
+-- What a board can do with which nothing moves: words of flags are taken, pauses begin, a hold comes to its end, the
+-- machine is resumed, and the run is closed. It falls in each turn that answers Did and moves nothing.
 abbrev pub number_of : Flags → Journal → ℕ
 number_of f h = 3 * (words_left f + pauses (left_of h)) + changes_left (motion_of h) + one_if (nat_eq (length (closed_tells h)) 0)
 

@@ -1,5 +1,6 @@
 pub mod Machines
 pub mod Boards
 pub mod Turning
+pub mod Reporting
 pub use Rattle.board_rules.specs.Conduct
 pub use Rattle.board_rules.specs.Turns

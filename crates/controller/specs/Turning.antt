@@ -1,6 +1,12 @@
 -- What is known within a turn of a board, and what its parts add.
-use Rattle.std.specs.Prelude.{◌≡◌, ◌⊎◌, ℕ, ◌+◌, ◌≤◌, ◌<◌, Bool, true, false, cond, List, [], ◌∷◌, ◌++◌}
+use Rattle.std.specs.Prelude.{◌≡◌, ◌⊎◌, ℕ, ◌+◌, ◌≤◌, ◌<◌, Bool, true, false, cond, nat_lt, List, [], ◌∷◌, ◌++◌, Some, None}
 use Rattle.std.specs.List.{list_any, count_by}
+use Rattle.std.specs.Option.{option_to_list}
+use Rattle.std.specs.declared.option.Option.{Option}
+use Rattle.flight.specs.Places.{machine_at}
+use Rattle.run_rules.specs.Reports.{Shows}
+use Rattle.status_report.specs.declared.reports.Report.{Report}
+use Rattle.status_report.specs.Reports.{IsReport}
 use Rattle.code_table.specs.declared.flags.Exec.{Exec}
 use Rattle.code_table.specs.declared.flags.Ovr.{Ovr}
 use Rattle.overrides.specs.Percents.{taken}
@@ -19,8 +25,8 @@ use Rattle.step_line.specs.declared.Piece.{Piece}
 use Rattle.step_line.specs.declared.planned_move.PlannedMove.{PlannedMove}
 use Rattle.board_rules.specs.Ports.{PortLog}
 use Rattle.board_rules.specs.Ports.{has_changes}
-use Rattle.board_rules.specs.Ports.PortStep.{took_exec, took_ovr, published, no_piece_room}
-use Rattle.board_rules.specs.Steps.{Step, Journal, port_log, open_of, whole_of, left_of, closed_tells, hand_of, plan_of, motion_of}
+use Rattle.board_rules.specs.Ports.PortStep.{found_free, took_exec, took_ovr, published, no_piece_room, loaded}
+use Rattle.board_rules.specs.Steps.{Step, Journal, port_log, published_of, known_of, open_of, whole_of, left_of, closed_tells, hand_of, plan_of, motion_of}
 use Rattle.board_rules.specs.Steps.Step.{at_port, did, became}
 use Rattle.board_rules.specs.Turns.{
   this_turn,
@@ -29,6 +35,7 @@ use Rattle.board_rules.specs.Turns.{
   moving,
   found_none,
   loads,
+  lacks_reply_room,
   lacks_piece_room,
   begins_with_dollar,
   has_blocks,
@@ -42,21 +49,21 @@ use Rattle.board_rules.specs.Turns.{
   is_counted,
   changes_taken,
   flags_taken,
-  takes_requests,
-  obeys,
+  unobeyed_of,
+  owes_report,
   takes_changes,
   replans,
   tries_of,
   missed_of,
   waits_of,
 }
-use Rattle.board_rules.specs.Conduct.{MayTurn, IsNextTask, IsDrained, HasSlowedDown, IsStopped, AreWaiting}
+use Rattle.board_rules.specs.Conduct.{MayTurn, IsNextTask, IsDrained, HasSlowedDown, IsStopped, AreWaiting, IsRoom, feed_of, shown_as, ticks_given}
 use Rattle.units.specs.Truths.{one_if}
 use Rattle.controller.specs.declared.controller.Controller.{Controller}
 use Rattle.controller.specs.declared.controller.Beat.TheVariants.{Motion}
 use Rattle.controller.specs.declared.controller.Flags.{Flags}
 use Rattle.controller.specs.declared.controller.Flags.TheVariants as words
-use Rattle.controller.specs.Boards.{Keeps, Rounds, NoneWaits, TakesFlags, has_published, changes_left, number_of}
+use Rattle.controller.specs.Boards.{Keeps, Rounds, NoneWaits, TakesFlags, IsAsked, takes_no_word, has_published, changes_left, number_of}
 
 -- ---- what is known
 
@@ -68,17 +75,19 @@ IsNextMove h = (m : PlannedMove) × IsNextTask (ask (a_move m)) h
 abbrev pub HasPiece : Journal → Type 0
 HasPiece h = (hand_of h ≡ [] → ⊥) ⊎ (is_due h ≡ true)
 
--- what the words of flags ask for that were taken in this turn is done, each once
+-- the word of requests that was taken is obeyed, unless a report is owed; and the plan was made anew for each change of
+-- this turn
 pub record AreWorked (h : Journal) : Type 0 where
-  pub obeyed : count_by obeys (this_turn h) ≡ count_by takes_requests (this_turn h)
+  pub obeyed : owes_report h ≡ false → unobeyed_of h ≡ []
   pub changed : count_by replans (this_turn h) ≡ count_by takes_changes (this_turn h)
 
--- Nothing has passed in this turn, and nothing was published. No word of flags is to be taken.
+-- Nothing has passed in this turn, and nothing was published. No word of flags is to be taken, and no report is owed.
 pub record IsQuiet (h : Journal) : Type 0 where
   pub still : list_any passing (this_turn h) ≡ false
   pub quiet : count_by publishing (this_turn h) ≡ 0
   pub worked : AreWorked h
   pub flags : flags_taken h ≡ true
+  pub unowed : owes_report h ≡ false
 
 -- Nothing has passed in this turn, and no byte was polled for. Where a segment is due one was tried to be published since
 -- anything was waited for, and since a line was begun.
@@ -159,6 +168,7 @@ pub record IsLooked (h : Journal) : Type 0 where
   pub begins : begins_in (motion_of h) ≡ true
   pub worked : AreWorked h
   pub flags : flags_taken h ≡ true
+  pub unowed : owes_report h ≡ false
   pub load : list_any loads (this_turn h) ≡ true
   pub idle : IsDrained h → is_going (motion_of h) ≡ false
   pub none_waits : NoneWaits h
@@ -189,6 +199,9 @@ pub record PassesNothing (h next : Journal) : Type 0 where
   pub whole : whole_of next ≡ whole_of h
   pub closed : closed_tells next ≡ closed_tells h
   pub flags : flags_taken next ≡ flags_taken h
+  pub replies : list_any lacks_reply_room (this_turn next) ≡ list_any lacks_reply_room (this_turn h)
+  pub owed : owes_report next ≡ owes_report h
+  pub words : unobeyed_of next ≡ unobeyed_of h
   pub worked : AreWorked h → AreWorked next
   pub pauses : pauses (left_of next) ≤ pauses (left_of h)
   pub changes : changes_left (motion_of next) ≤ changes_left (motion_of h)
@@ -230,10 +243,14 @@ pub record HasFilled (h next : Journal) : Type 0 where
   pub moved : IsNextMove h → is_full (plan_of h) ≡ false → list_any moving (this_turn next) ≡ true
   pub waiting : (IsNextMove h → ⊥) → AreWaiting next → AreWaiting h
 
+-- nothing was done, or it was looked how many ticks are done
+abbrev pub MayHaveLooked : Journal → Journal → Type 0
+MayHaveLooked h next = (next ≡ h) ⊎ ((done : ℕ) × (next ≡ at_port (loaded done) ∷ h))
+
 -- a piece was tried to be published: it was, or it was handed back
 abbrev pub Tried : Bool → Journal → Journal → Type 0
-Tried true h next = (p : Piece) × (next ≡ at_port (published p) ∷ h)
-Tried false h next = (done : ℕ) × (next ≡ at_port (no_piece_room done) ∷ h)
+Tried true h next = (p : Piece) × (mid : Journal) × MayHaveLooked h mid × (next ≡ at_port (published p) ∷ mid)
+Tried false h next = (done : ℕ) × (mid : Journal) × MayHaveLooked h mid × (next ≡ at_port (no_piece_room done) ∷ mid)
 
 -- The piece in hand was tried to be published, or a segment, which came into the hand before.
 pub record HasTried (published : Bool) (h next : Journal) : Type 0 where
@@ -254,6 +271,9 @@ pub record HasTried (published : Bool) (h next : Journal) : Type 0 where
   pub motion : motion_of next ≡ motion_of h
   pub closed : closed_tells next ≡ closed_tells h
   pub flags : flags_taken next ≡ flags_taken h
+  pub replies : list_any lacks_reply_room (this_turn next) ≡ list_any lacks_reply_room (this_turn h)
+  pub owed : owes_report next ≡ owes_report h
+  pub words : unobeyed_of next ≡ unobeyed_of h
   pub worked : AreWorked h → AreWorked next
   pub waiting : AreWaiting next → AreWaiting h
   pub full : is_full (plan_of next) ≡ true → is_full (plan_of h) ≡ true
@@ -262,6 +282,14 @@ pub record HasTried (published : Bool) (h next : Journal) : Type 0 where
 abbrev pub obeyed : Exec → Journal → Journal
 obeyed word h =
     became (on_exec word (has_blocks (plan_of h).blocks)) (after_word word (has_blocks (plan_of h).blocks) (motion_of h)) ∷ (at_port (took_exec word) ∷ h)
+
+-- a word of requests was taken; where a report is owed then, it is told before the word is obeyed
+abbrev pub asked : Exec → Journal → Journal
+asked word h = cond (owes_report (at_port (took_exec word) ∷ h)) (at_port (took_exec word) ∷ h) (obeyed word h)
+
+-- so the words of flags go on
+abbrev pub flags_behind : Bool → Exec → Flags
+flags_behind owes word = cond owes (words.Report (Some word)) words.None
 
 -- a word of changes of overrides was taken, and it is planned for what they come to, where it holds one
 abbrev pub replanned : Ovr → Journal → Journal
@@ -285,7 +313,7 @@ pub record BoardWorked (t : Turn) (was : Flags) (board : Controller) (h next : J
   pub keeps : Keeps board next
   pub rounds : Rounds board.beat next
   pub flags : TakesFlags board.flags next
-  pub still : has_published board.beat ≡ true → board.flags ≡ words.None
+  pub still : has_published board.beat ≡ true → takes_no_word board.flags ≡ true
   pub beat : (on : On) → t ≡ Wait on → board.beat ≡ Motion
   pub steps : List Step
   pub are : next ≡ steps ++ h

@@ -12,12 +12,14 @@ ghost use Rattle.board_rules.specs.Steps.{Journal, port_log, left_of, motion_of,
 ghost use Rattle.board_rules.specs.Steps.Step.{at_port, began};
 ghost use Rattle.board_rules.specs.Turns.{this_turn, awaits_motion, needs_motion, flags_taken, found_nothing, has_blocks, is_full, is_halting};
 ghost use Rattle.board_rules.specs.Conduct.{IsNextTask, MayTake, MayPoll};
-ghost use Rattle.controller.specs.Boards.{Keeps, BoardFits, BoardTurned, BoardRests, IsBetween, TakesFlags, number_of};
-ghost use Rattle.controller.specs.Turning.{IsNextMove, HasPiece, IsReady, MayRun, MayAwait, MayJudge, IsLooked, NeedsNoWait, IsWholeLine, HasPolled, HasStopped, PassesNothing, DidAlone, HasLooked, HasAdded, HasFilled, Tried, HasTried, BoardWorked, IsHalted, GoesOn, HasSettled, IsPassed, obeyed, replanned, WorksOn};
+ghost use Rattle.controller.specs.Boards.{Keeps, BoardFits, BoardTurned, BoardRests, IsBetween, IsFree, TakesFlags, takes_no_word, number_of};
+ghost use Rattle.controller.specs.Turning.{IsNextMove, HasPiece, IsReady, MayRun, MayAwait, MayJudge, IsLooked, NeedsNoWait, IsWholeLine, HasPolled, HasStopped, PassesNothing, DidAlone, HasLooked, HasAdded, HasFilled, Tried, HasTried, BoardWorked, IsHalted, GoesOn, HasSettled, IsPassed, WorksOn};
 
 use crate::input::Input;
 use crate::machine::Machine;
 use crate::ports::BoardPort;
+use code_table::Exec;
+use flight::Flight;
 use line_interpreter::{Interpreter, Todo};
 use outside::{On, Turn};
 use serial_ring::ByteIn;
@@ -30,6 +32,8 @@ pub(crate) enum Flags {
     Both,
     /// The word of requests.
     Requests,
+    /// None: a report is told next, and then this word of requests is obeyed, where one waits for that.
+    Report(Option<Exec>),
     /// None.
     None,
 }
@@ -47,9 +51,11 @@ pub(crate) enum Beat {
 #[derive(Drop)]
 pub struct Controller {
     pub(crate) machine: Machine,
+    pub(crate) flight: Flight,
     pub(crate) lines: Interpreter,
     pub(crate) input: Input,
     pub(crate) flags: Flags,
+    pub(crate) owes: bool,
     pub(crate) beat: Beat,
     pub(crate) closing: bool,
 }
@@ -61,9 +67,11 @@ impl Controller {
     {
         Controller {
             machine: Machine::new(),
+            flight: Flight::new(),
             lines: Interpreter::new(),
             input: Input::new(),
             flags: Flags::None,
+            owes: false,
             beat: Beat::Motion,
             closing: false,
         }
@@ -170,7 +178,7 @@ impl Controller {
     fn keep(&mut self, byte: u8)
         requires flags { self.old.flags ≡ Flags.None }
         ensures kept { (h : Journal) → Keeps self.old h → MayTake h → Keeps self.new (at_port (took byte) ∷ h) }
-        ensures flags { (h : Journal) → flags_taken h ≡ true → TakesFlags self.new.flags (at_port (took byte) ∷ h) }
+        ensures flags { (h : Journal) → IsFree h → TakesFlags self.new.flags (at_port (took byte) ∷ h) }
         ensures same { self.new ≡ record self.old { input = self.new.input; flags = self.new.flags } }
     {
         if byte == b'\n' {
@@ -383,29 +391,35 @@ impl Controller {
         }
     }
 
-    /// Publishes what is in hand or due, and where there is no room for it does what is next.
+    /// Publishes what is in hand or due, and where there is no room for it tells the report that is owed, or does what
+    /// is next.
     fn publish_first<P: BoardPort>(&mut self, port: &mut P) -> Turn
         requires stands { (rest : P.Rest) × (h : Journal) × P.stands port.old rest (port_log h) × BoardFits self.old h × IsBetween h × HasPiece h }
         requires open { self.old.lines.left ≡ [] → self.old.closing ≡ false }
         requires beat { self.old.beat ≡ Beat.Motion }
-        requires flags { self.old.flags ≡ Flags.None }
+        requires flags { takes_no_word self.old.flags ≡ true }
         ensures goes_on { (rest : P.Rest) (h : Journal) → P.stands port.old rest (port_log h) → BoardFits self.old h → IsBetween h → HasPiece h
             → WorksOn (P.stands port.new rest) result self.old.flags self.new h }
         ensures going { result ≢ Done }
     {
-        if !self.publish_next(port) {
-            return self.main(port);
+        let published = self.publish_next(port);
+        if published {
+            self.fill();
+            self.beat = Beat::Main;
+            return Turn::Did;
         }
-        self.fill();
-        self.beat = Beat::Main;
-        Turn::Did
+        if let Flags::Report(word) = self.flags {
+            self.fill();
+            return self.report(port, word);
+        }
+        self.main(port)
     }
 
-    /// Takes no word of flags: publishes a piece, or does what is next.
+    /// Takes no word of flags: publishes a piece, tells a report that is owed, or does what is next.
     fn go_on<P: BoardPort>(&mut self, port: &mut P) -> Turn
         requires stands { (rest : P.Rest) × (h : Journal) × P.stands port.old rest (port_log h) × BoardFits self.old h × IsBetween h }
         requires open { self.old.lines.left ≡ [] → self.old.closing ≡ false }
-        requires flags { self.old.flags ≡ Flags.None }
+        requires flags { takes_no_word self.old.flags ≡ true }
         ensures goes_on { (rest : P.Rest) (h : Journal) → P.stands port.old rest (port_log h) → BoardFits self.old h → IsBetween h
             → WorksOn (P.stands port.new rest) result self.old.flags self.new h }
         ensures going { result ≢ Done }
@@ -414,6 +428,9 @@ impl Controller {
             return self.publish_first(port);
         }
         self.beat = Beat::Motion;
+        if let Flags::Report(word) = self.flags {
+            return self.report(port, word);
+        }
         self.main(port)
     }
 
@@ -433,10 +450,9 @@ impl Controller {
             }
             Flags::Requests => {
                 self.take_requests(port);
-                self.flags = Flags::None;
                 Turn::Did
             }
-            Flags::None => self.go_on(port),
+            Flags::Report(_) | Flags::None => self.go_on(port),
         }
     }
 
@@ -454,11 +470,12 @@ impl Controller {
         self.take_or_go_on(port)
     }
 
-    /// Takes a turn: behind a line feed and behind each wait it takes a word of flags, and does what that asks for; else it
-    /// publishes a piece where one is in hand or a segment is due, and else, or where there was no room for it, does the next
-    /// thing: tells a reply, adds moves, makes a mark or the end, begins a line, or takes a byte. At most one thing is
-    /// published. Where the rules allow nothing, it answers what it waits for: for a machine that is held, its resume. It is
-    /// done once Bye was told; from then on nothing changes. A turn that answers Did and moves nothing lowers the board's
+    /// Takes a turn: behind a line feed and behind each wait it takes a word of flags, and does what that asks for;
+    /// else it publishes a piece where one is in hand or a segment is due, and else, or where there was no room for it,
+    /// does the next thing: tells a status report that was asked for, and then does what else its word asks for; tells
+    /// a reply, adds moves, makes a mark or the end, begins a line, or takes a byte. At most one thing is published.
+    /// Where the rules allow nothing, it answers what it waits for: for a machine that is held, its resume. It is done
+    /// once Bye was told; from then on nothing changes. A turn that answers Did and moves nothing lowers the board's
     /// number, which is less than 64.
     ///
     /// The rules of the board are those of its journal: whatever it has done before, it goes on as they allow.

@@ -1,16 +1,20 @@
 //! How a board takes its words of flags, and waits for a machine that is to be held, or is held.
 
-ghost use Rattle.std.specs.Prelude.{◌≡◌, ◌≢◌, ◌<◌, None};
+ghost use Rattle.std.specs.Prelude.{◌≡◌, ◌≢◌, ◌∷◌, []};
 ghost use Rattle.code_table.specs.declared.flags.Exec.{Exec as AnyExec};
 ghost use Rattle.code_table.specs.declared.flags.Ovr.{Ovr as AnyOvr};
 ghost use Rattle.feed_hold.specs.declared.Motion.TheVariants.{Holding, Held};
 ghost use Rattle.outside.specs.declared.Turn.TheVariants.{Done};
 ghost use Rattle.board_rules.specs.Steps.{Journal, port_log};
 ghost use Rattle.controller.specs.Boards.{Keeps};
-ghost use Rattle.controller.specs.Turning.{HasPiece, IsHalted, HasSettled, obeyed, replanned, WorksOn};
+ghost use Rattle.board_rules.specs.Ports.PortStep.{took_exec};
+ghost use Rattle.board_rules.specs.Steps.Step.{at_port};
+ghost use Rattle.board_rules.specs.Turns.{unobeyed_of, owes_report};
+ghost use Rattle.controller.specs.Turning.{HasPiece, IsHalted, HasSettled, asked, flags_behind, replanned, WorksOn};
 
 use crate::controller::{Beat, Controller, Flags};
 use crate::ports::BoardPort;
+use crate::reports::asks_report;
 use bitflags::Flags as _;
 use outside::{On, Turn};
 
@@ -27,15 +31,23 @@ impl Controller {
         }
     }
 
-    /// Takes the word of requests, and does what it asks of the motion. A machine that has stopped is held before.
+    /// Takes the word of requests, and does what it asks of the motion; where a report is owed then, that comes first.
+    /// A machine that has stopped is held before.
     pub(crate) fn take_requests<P: BoardPort>(&mut self, port: &mut P)
-        requires stands { (rest : P.Rest) × (h : Journal) × P.stands port.old rest (port_log h) × Keeps self.old h }
-        ensures goes_on { (rest : P.Rest) (h : Journal) → P.stands port.old rest (port_log h) → Keeps self.old h
-            → (word : AnyExec) × (mid : Journal) × HasSettled h mid × P.stands port.new rest (port_log (obeyed word mid)) × Keeps self.new (obeyed word mid) }
-        ensures same { self.new ≡ record self.old { machine = self.new.machine } }
+        requires stands { (rest : P.Rest) × (h : Journal) × P.stands port.old rest (port_log h) × Keeps self.old h × (unobeyed_of h ≡ []) }
+        ensures goes_on { (rest : P.Rest) (h : Journal) → P.stands port.old rest (port_log h) → Keeps self.old h → unobeyed_of h ≡ []
+            → (word : AnyExec) × (mid : Journal) × HasSettled h mid × P.stands port.new rest (port_log (asked word mid)) × Keeps self.new (asked word mid)
+            × (self.new.flags ≡ flags_behind (owes_report (at_port (took_exec word) ∷ mid)) word) }
+        ensures same { self.new ≡ record self.old { machine = self.new.machine; flags = self.new.flags; owes = self.new.owes } }
     {
         self.settle(port);
         let word = port.take_exec();
+        self.owes = asks_report(word) | self.owes;
+        if self.owes {
+            self.flags = Flags::Report(Some(word));
+            return;
+        }
+        self.flags = Flags::None;
         self.machine.obey(word);
     }
 
@@ -69,7 +81,7 @@ impl Controller {
         Turn::Wait(On::Motion)
     }
 
-    /// Waits for the resume of a machine that is held.
+    /// Waits for the resume of a machine that is held, unless a report is asked for.
     pub(crate) fn await_resume<P: BoardPort>(&mut self, port: &mut P) -> Turn
         requires stands { (rest : P.Rest) × (h : Journal) × P.stands port.old rest (port_log h) × Keeps self.old h × IsHalted h × (HasPiece h → ⊥) }
         requires held { self.old.machine.hold.motion ≡ Held }
@@ -80,14 +92,17 @@ impl Controller {
         ensures going { result ≢ Done }
     {
         self.take_requests(port);
+        if self.owes {
+            return Turn::Did;
+        }
         if self.machine.is_held() {
             return Turn::Wait(On::Resume);
         }
         Turn::Did
     }
 
-    /// What is done where what is next is held up: what is in hand or due is published, and then the stop is waited for, and the
-    /// resume.
+    /// What is done where what is next is held up: what is in hand or due is published, and then the stop is waited
+    /// for, and the resume.
     pub(crate) fn halt<P: BoardPort>(&mut self, port: &mut P) -> Turn
         requires stands { (rest : P.Rest) × (h : Journal) × P.stands port.old rest (port_log h) × Keeps self.old h × IsHalted h }
         requires beat { self.old.beat ≡ Beat.Motion }

@@ -7,6 +7,7 @@ mod input;
 mod machine;
 mod pieces;
 mod ports;
+mod reports;
 
 pub use controller::Controller;
 pub use ports::BoardPort;

@@ -1,6 +1,6 @@
 //! What a board moves: the plan, the piece in hand, and the state of the motion.
 
-ghost use Rattle.std.specs.Prelude.{◌≡◌, ◌↔◌, ◌⊎◌, ℕ, ◌<◌, ◌^◌, List, [], ◌∷◌, ◌++◌, ◌&&◌, ◌||◌, true, false, Some, None};
+ghost use Rattle.std.specs.Prelude.{◌≡◌, ◌↔◌, ◌⊎◌, ℕ, ◌<◌, ◌^◌, List, [], ◌∷◌, ◌++◌, ◌+◌, ◌≤◌, ◌==◌, ◌&&◌, ◌||◌, cond, nat_lt, length, true, false, Some, None};
 ghost use Rattle.feed_hold.specs.declared.Motion.{Motion as AnyMotion};
 ghost use Rattle.feed_hold.specs.declared.Motion.TheVariants as motions;
 ghost use Rattle.step_line.specs.Asking.{IsPlannedMove};
@@ -11,9 +11,11 @@ ghost use Rattle.feed_hold.specs.Motions.{after_word};
 ghost use Rattle.plan_passes.specs.Plans.{Planned};
 ghost use Rattle.plan_passes.specs.Segments.{advanced};
 ghost use Rattle.segment_prep.specs.Taking.{IsNext};
-ghost use Rattle.planner_runs.specs.Runs.{fresh_plan, normal_overrides, with_move};
+ghost use Rattle.planner_runs.specs.Runs.{fresh_plan, most_blocks, normal_overrides, with_move};
+ghost use Rattle.step_line.specs.Finishing.{ticks_together};
+ghost use Rattle.board_rules.specs.Conduct.{feed_of, shown_as};
 ghost use Rattle.board_rules.specs.Turns.{has_blocks, has_segment, is_full, is_going, is_run, is_slowing};
-ghost use Rattle.controller.specs.Machines.{Runs, is_halting, mode_in};
+ghost use Rattle.controller.specs.Machines.{Runs, is_halting, mode_in, observed};
 
 use code_table::{Exec, Ovr};
 use feed_hold::{Hold, Motion};
@@ -23,7 +25,9 @@ use overrides::Overrides;
 use plan_passes::Plan;
 use planner_ring::Block;
 use segment_prep::{Mode, next_segment};
+use status_report::State;
 use step_line::{Mark, Piece, PlannedMove};
+use units::isqrt;
 
 /// So many blocks stand at most.
 const MOST_BLOCKS: usize = 15;
@@ -260,6 +264,56 @@ impl Machine {
         ensures { (p : Planned) (now : AnyMotion) (hand given : List AnyPiece) → Runs self.old p now hand given → Runs self.new p motions.Held hand given }
     {
         self.hold.on_stopped();
+    }
+
+    /// So many ticks were found done. Where each that was given is, a machine that has slowed down to a stop is held,
+    /// and the cycle is over where nothing is left to run.
+    pub(crate) fn observe(&mut self, done: u64)
+        ensures { (p : Planned) (now : AnyMotion) (hand given : List AnyPiece) → Runs self.old p now hand given
+            → Runs self.new p (observed now p hand (done == ticks_together given)) hand given }
+    {
+        if self.hand.is_some() || done != self.given {
+            return;
+        }
+        if self.has_slowed_down() {
+            self.stop();
+        } else if self.is_running() && !self.has_blocks() {
+            self.drain();
+        }
+    }
+
+    /// The state, as reports tell it.
+    pub(crate) fn shown(&self) -> State
+        ensures { result ≡ shown_as self.now.hold.motion }
+    {
+        match self.hold.motion {
+            Motion::Idle => State::Idle,
+            Motion::Run => State::Run,
+            Motion::Holding | Motion::Stopping => State::Hold1,
+            Motion::Held => State::Hold0,
+            Motion::Jog | Motion::Cancelling => State::Jog,
+            Motion::Alarm => State::Alarm,
+        }
+    }
+
+    /// For how many blocks more there is room.
+    pub(crate) fn free_blocks(&self) -> u8
+        requires { length self.now.plan.blocks ≤ 15 }
+        ensures { result + length self.now.plan.blocks ≡ most_blocks }
+    {
+        (MOST_BLOCKS - self.plan.len()) as u8
+    }
+
+    /// The feed, in mm per minute, by the speed behind the last segment that was given; 0 where each tick that was
+    /// given is known to be done.
+    pub(crate) fn feed(&self, known: u64) -> u64
+        ensures { result ≡ cond (nat_lt known self.now.given) (feed_of self.now.plan.speed) 0 }
+    {
+        if known < self.given {
+            isqrt(u128::from(self.plan.speed())) * 60 / 1000
+        } else {
+            0
+        }
     }
 
     /// The machine, which stands, is held for a pause.

@@ -1,6 +1,6 @@
 //! How a board tells replies, adds moves, and publishes what is in hand or due.
 
-ghost use Rattle.std.specs.Prelude.{◌≡◌, ◌≢◌, ◌↔◌, ◌<◌, ◌||◌, true, false, None};
+ghost use Rattle.std.specs.Prelude.{◌≡◌, ◌≢◌, ◌↔◌, ◌<◌, ◌||◌, length, true, false, None};
 ghost use Rattle.feed_hold.specs.declared.Motion.TheVariants.{Idle};
 ghost use Rattle.outside.specs.declared.Turn.TheVariants.{Done};
 ghost use Rattle.run_rules.specs.Work.Task.{ask, tell, finish};
@@ -12,7 +12,8 @@ ghost use Rattle.board_rules.specs.Steps.{Journal, port_log};
 ghost use Rattle.board_rules.specs.Turns.{awaits_motion, has_blocks, is_full};
 ghost use Rattle.board_rules.specs.Conduct.{IsNextTask};
 ghost use Rattle.controller.specs.Boards.{Keeps};
-ghost use Rattle.controller.specs.Turning.{IsNextMove, HasPiece, IsReady, MayRun, HasStopped, HasAdded, HasFilled, Tried, HasTried, GoesOn, WorksOn};
+ghost use Rattle.flight.specs.Flights.{flight_room};
+ghost use Rattle.controller.specs.Turning.{IsNextMove, HasPiece, IsReady, MayRun, MayHaveLooked, HasStopped, HasAdded, HasFilled, Tried, HasTried, GoesOn, WorksOn};
 
 use crate::controller::{Beat, Controller, Flags};
 use crate::ports::BoardPort;
@@ -68,21 +69,37 @@ impl Controller {
         }
     }
 
+    /// Where the flight has no room for another piece, looks how many ticks are done: then it has.
+    fn make_room<P: BoardPort>(&mut self, port: &mut P)
+        requires stands { (rest : P.Rest) × (h : Journal) × P.stands port.old rest (port_log h) × Keeps self.old h }
+        ensures goes_on { (rest : P.Rest) (h : Journal) → P.stands port.old rest (port_log h) → Keeps self.old h
+            → (next : Journal) × P.stands port.new rest (port_log next) × Keeps self.new next × MayHaveLooked h next }
+        ensures room { length self.new.flight.kept < flight_room }
+        ensures same { self.new ≡ record self.old { flight = self.new.flight } }
+    {
+        if self.flight.is_full() {
+            let done = port.done();
+            self.flight.learn(done);
+        }
+    }
+
     /// Tries to publish the piece in hand. Answers whether it is published.
     pub(crate) fn publish<P: BoardPort>(&mut self, port: &mut P) -> bool
         requires stands { (rest : P.Rest) × (h : Journal) × P.stands port.old rest (port_log h) × Keeps self.old h }
         requires some { self.old.machine.hand ≢ None }
         ensures goes_on { (rest : P.Rest) (h : Journal) → P.stands port.old rest (port_log h) → Keeps self.old h
             → (next : Journal) × P.stands port.new rest (port_log next) × Keeps self.new next × Tried result h next }
-        ensures same { self.new ≡ record self.old { machine = self.new.machine } }
+        ensures same { self.new ≡ record self.old { machine = self.new.machine; flight = self.new.flight } }
     {
         let Some(piece) = self.machine.hand else {
             return false;
         };
+        self.make_room(port);
         let Ok(()) = port.publish(piece) else {
             return false;
         };
         self.machine.drop_hand();
+        self.flight.push(piece);
         true
     }
 
@@ -92,7 +109,7 @@ impl Controller {
         requires stands { (rest : P.Rest) × (h : Journal) × P.stands port.old rest (port_log h) × Keeps self.old h × HasPiece h }
         ensures goes_on { (rest : P.Rest) (h : Journal) → P.stands port.old rest (port_log h) → Keeps self.old h → HasPiece h
             → (next : Journal) × P.stands port.new rest (port_log next) × Keeps self.new next × HasTried result h next }
-        ensures same { self.new ≡ record self.old { machine = self.new.machine } }
+        ensures same { self.new ≡ record self.old { machine = self.new.machine; flight = self.new.flight } }
     {
         if self.machine.hand.is_some() {
             return self.publish(port);

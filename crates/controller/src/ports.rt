@@ -1,9 +1,9 @@
 //! The port of a board.
 
 ghost use Rattle.std.specs.Prelude.{◌≡◌, ℕ, ◌∷◌, ◌≤◌, true, OnOk, OnErr, IfErr};
-ghost use Rattle.board_rules.specs.Ports.{PortLog, MayAnswer, MayPublish, MayBeDone, HasTakenFew, HasFewReports, LacksReplyRoom, LacksPieceRoom, asks_report};
+ghost use Rattle.board_rules.specs.Ports.{PortLog, MayAnswer, MayPublish, MayBeDone, said, HasTakenFew, HasFewReports, LacksReplyRoom, LacksPieceRoom, asks_report};
 ghost use Rattle.status_report.specs.Answering.{receive_room};
-ghost use Rattle.board_rules.specs.Ports.PortStep.{took, found_empty, found_closed, found_free, answered, no_reply_room, took_exec, took_ovr, published, no_piece_room, loaded};
+ghost use Rattle.board_rules.specs.Ports.PortStep.{took, found_empty, found_closed, found_free, no_reply_room, took_exec, took_ovr, published, no_piece_room, loaded};
 
 use code_table::{Exec, Ovr};
 use serial_ring::ByteIn;
@@ -35,7 +35,7 @@ pub trait BoardPort {
     /// been answered than were taken to their LF. Fewer than 2^62 replies must have been answered.
     fn answer(&mut self, r: Reply) -> Result<(), Reply>
         requires { (rest : Rest) × (l : PortLog) × stands self.old rest l × MayAnswer l r }
-        ensures ok { OnOk result ((rest : Rest) (l : PortLog) → stands self.old rest l → MayAnswer l r → stands self.new rest (answered r ∷ l)) }
+        ensures ok { OnOk result ((rest : Rest) (l : PortLog) → stands self.old rest l → MayAnswer l r → stands self.new rest (said r ∷ l)) }
         ensures full { OnErr result ((rest : Rest) (l : PortLog) → stands self.old rest l → stands self.new rest (no_reply_room ∷ l) × LacksReplyRoom l) }
         ensures back { IfErr result (λ handed. handed ≡ r) };
 
@@ -57,7 +57,8 @@ pub trait BoardPort {
         ensures full { OnErr result ((rest : Rest) (l : PortLog) → stands self.old rest l → (done : ℕ) × stands self.new rest (no_piece_room done ∷ l) × LacksPieceRoom done l) }
         ensures back { IfErr result (λ handed. handed ≡ p) };
 
-    /// How many ticks are done: no fewer than were known, and no more than were published.
+    /// How many ticks are done: no fewer than were known, and no more than were published. At most five published pieces are
+    /// unfinished then.
     fn done(&mut self) -> u64
         ensures done { (rest : Rest) (l : PortLog) → stands self.old rest l → stands self.new rest (loaded result ∷ l) }
         ensures known { (rest : Rest) (l : PortLog) → stands self.old rest l → MayBeDone result l };

@@ -13,7 +13,7 @@ use Rattle.run_rules.specs.Lines.{HasNoLf, ended, lines_of}
 use Rattle.run_rules.proofs.Cutting.{lines_without}
 use Rattle.run_rules.proofs.Determined.{one_opening}
 use Rattle.demo_job.specs.Jobs.{job_lines, job_text, move_line, tenths_text, x_tenths, y_tenths}
-use Rattle.demo_law.specs.Accepted.{IsNoSystemLine, IsAccepted}
+use Rattle.demo_law.specs.Accepted.{IsNoSystemLine, IsCalm, IsAccepted}
 use Rattle.demo_law.specs.Asked.{demo_asks}
 use Rattle.demo_law.proofs.Moves.{moved}
 use Rattle.demo_law.proofs.Following.{opening, all_accepted}
@@ -66,10 +66,14 @@ unfolding cut_within
 no_system n = each_line IsNoSystemLine n (λ e. absurd cc) (λ e. absurd cc)
     (λ i. let m = moved i in no_dollar (plain (move_line (i + 1))) (ap (λ l. slice_get l 0) m.kept)) (λ e. absurd cc)
 
+calm : (n : ℕ) → AllByRecursion IsCalm (job_lines n)
+unfolding cut_within
+calm n = each_line IsCalm n refl refl (λ i. let m = moved i in m.calm) refl
+
 of_opening : (n : ℕ) → 1 ≤ n → n ≤ 100000 → IsAccepted (job_text n) (job_lines n) (demo_asks opening.settings n) opening
 of_opening n some most =
     let all = all_accepted n some in
-    record { few = few n most; cut = cut_so n; outcomes = all.outcomes; last = all.last; follows = all.follows; accepted = all.none; asks = all.asks; anywhere = no_system n }
+    record { few = few n most; cut = cut_so n; outcomes = all.outcomes; last = all.last; follows = all.follows; accepted = all.none; asks = all.asks; anywhere = no_system n; calm = calm n }
 
 pub accepted : (n : ℕ) (first : State) → 1 ≤ n → n ≤ 100000 → IsOpening first → IsAccepted (job_text n) (job_lines n) (demo_asks first.settings n) first
 accepted n first some most is =

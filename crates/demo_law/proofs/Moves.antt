@@ -3,7 +3,7 @@
 use Rattle.std.proofs.Common.{◌≡◌, ℕ, zero, suc, ◌+◌, ◌*◌, ◌%◌, ◌<◌, false, nat_eq, List, [], ◌∷◌, ◌++◌, map, refl, subst, ap, ◌∙◌, codes, Ok, pos, arith}
 use Rattle.std.specs.List.{range_with_len}
 use Rattle.gcode_words.specs.Comments.{cut_within}
-use Rattle.gcode_words.specs.Stripping.{plain}
+use Rattle.gcode_words.specs.Stripping.{plain, realtime}
 use Rattle.gcode_words.specs.Words.{words_of, first_word, words_within}
 use Rattle.gcode_words.specs.declared.Word.{Word}
 use Rattle.units.specs.Reading.{decimal_from}
@@ -107,6 +107,10 @@ kept_rows : map (λ k. plain (line_to (place (k + 1)))) (range_with_len 0 150) �
 unfolding cut_within
 kept_rows = refl
 
+calm_rows : map (λ k. realtime (line_to (place (k + 1)))) (range_with_len 0 150) ≡ map (λ k. []) (range_with_len 0 150)
+unfolding cut_within
+calm_rows = refl
+
 word_rows : map (λ k. words_of (line_to (place (k + 1)))) (range_with_len 0 150) ≡ map (λ k. Ok (words_to (place (k + 1)))) (range_with_len 0 150)
 unfolding words_within first_word decimal_from front_number digits_say
 word_rows = refl
@@ -123,6 +127,7 @@ event_rows = refl
 -- a move's line is kept, read and accepted, and has events
 pub record IsMoved (from to : Place) : Type 0 where
   pub kept : plain (line_to to) ≡ line_to to
+  pub calm : realtime (line_to to) ≡ []
   pub words : words_of (line_to to) ≡ Ok (words_to to)
   pub accepted : verdict (moved_to from) machine (words_to to) ≡ Accept (by_move from to)
   pub events : nat_eq (events_of (way_to from to)) 0 ≡ false
@@ -130,6 +135,7 @@ pub record IsMoved (from to : Place) : Type 0 where
 moved_early : (k : ℕ) → k < 150 → IsMoved (place k) (place (k + 1))
 moved_early k lt = record {
   kept = in_table (λ k. plain (line_to (place (k + 1)))) (λ k. line_to (place (k + 1))) 150 k kept_rows lt;
+  calm = in_table (λ k. realtime (line_to (place (k + 1)))) (λ k. []) 150 k calm_rows lt;
   words = in_table (λ k. words_of (line_to (place (k + 1)))) (λ k. Ok (words_to (place (k + 1)))) 150 k word_rows lt;
   accepted = in_table (λ k. verdict (moved_to (place k)) machine (words_to (place (k + 1)))) (λ k. Accept (by_move (place k) (place (k + 1)))) 150 k verdict_rows lt;
   events = in_table (λ k. nat_eq (events_of (way_to (place k) (place (k + 1)))) 0) (λ k. false) 150 k event_rows lt;

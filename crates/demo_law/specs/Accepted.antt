@@ -1,7 +1,7 @@
 -- Jobs whose lines are all accepted, wherever the machine may be found running.
-use Rattle.std.specs.Prelude.{◌≡◌, ◌≢◌, ℕ, ◌≤◌, false, List, length, map, slice_get, Some}
+use Rattle.std.specs.Prelude.{◌≡◌, ◌≢◌, ℕ, ◌≤◌, false, List, [], length, map, slice_get, Some}
 use Rattle.std.specs.List.{AllByRecursion}
-use Rattle.gcode_words.specs.Stripping.{plain}
+use Rattle.gcode_words.specs.Stripping.{plain, realtime}
 use Rattle.run_rules.specs.declared.State.{State}
 use Rattle.run_rules.specs.Lines.{lines_of}
 use Rattle.run_rules.specs.Readings.{largest_job}
@@ -15,8 +15,13 @@ use Rattle.step_line.specs.Asking.{Asked}
 abbrev pub IsNoSystemLine : List ℕ → Type 0
 IsNoSystemLine line = slice_get (plain line) 0 ≢ Some 36
 
+-- no realtime byte stands in a line, outside its comments
+abbrev pub IsCalm : List ℕ → Type 0
+IsCalm line = realtime line ≡ []
+
 -- A job of at most 16,777,216 bytes that is these lines. All of them are accepted from this state on, and together ask for
--- this. None of them begins with `$`, so that none is served only at rest.
+-- this. None of them begins with `$`, so that none is served only at rest, and
+-- none has a realtime byte.
 pub record IsAccepted (job : List ℕ) (lines : List (List ℕ)) (asked : List Asked) (first : State) : Type 0 where
   pub few : length job ≤ largest_job
   pub cut : lines_of job ≡ lines
@@ -26,3 +31,4 @@ pub record IsAccepted (job : List ℕ) (lines : List (List ℕ)) (asked : List A
   pub accepted : errors_in outcomes ≡ 0
   pub asks : asked_in outcomes ≡ asked
   pub anywhere : AllByRecursion IsNoSystemLine lines
+  pub calm : AllByRecursion IsCalm lines

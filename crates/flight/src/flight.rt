@@ -177,6 +177,13 @@ impl Flight {
         self.learn_within(done);
     }
 
+    /// How many ticks are known to be done.
+    pub fn known(&self) -> u64
+        ensures { result ≡ self.now.known }
+    {
+        self.known
+    }
+
     /// Where the machine is: after the ticks that are known to be done.
     pub fn place(&self) -> Steps3
         ensures place { (published : List AnyPiece) (known : ℕ) → Flies self.now published known → result ≡ machine_at published known }

@@ -1,18 +1,19 @@
 -- The generated job is accepted, and so it is carried out whole.
-use Rattle.std.proofs.Common.{◌≡◌, ℕ, ◌+◌, ◌≤◌, Bool, true, false, List, [], ◌∷◌, length, map, refl, sym, ap, ◌∙◌, subst, arith}
-use Rattle.std.specs.List.{AllByRecursion}
+use Rattle.std.proofs.Common.{◌≡◌, ℕ, ◌+◌, ◌≤◌, ◌||◌, Bool, true, false, List, [], ◌∷◌, length, map, refl, sym, ap, ◌∙◌, subst, arith}
+use Rattle.std.specs.List.{AllByRecursion, list_any}
 use Rattle.outside.specs.Causes.{SourceState}
 use Rattle.gcode_words.specs.Stripping.{plain}
 use Rattle.run_rules.specs.Outcomes.{Before, Passed, Follows, start}
 use Rattle.run_rules.specs.Outcomes.Passed.{a_line}
 use Rattle.run_rules.specs.Told.{asked_in}
+use Rattle.stream_host.specs.Jobs.{is_reset, holds_reset}
 use Rattle.stream_host.specs.declared.Stop.TheVariants as stops
 use Rattle.run_law.specs.declared.RunEnd.{RunEnd}
 use Rattle.run_law.specs.Complete.{AreServed, IsAcceptedJob}
 use Rattle.run_law.specs.Runs.{Sinks, IsRun}
 use Rattle.run_law.proofs.Completing.{complete}
 use Rattle.demo_job.specs.Jobs.{job_lines, job_text}
-use Rattle.demo_law.specs.Accepted.{IsNoSystemLine}
+use Rattle.demo_law.specs.Accepted.{IsNoSystemLine, IsCalm}
 use Rattle.demo_law.specs.Asked.{demo_asks}
 use Rattle.demo_law.proofs.Cutting.{accepted, as_many}
 use Rattle.grbl_app.specs.Demos.{generated}
@@ -22,6 +23,11 @@ all_served : (lines : List (List ℕ)) (b : Before) (ps : List Passed) → AllBy
 all_served [] b ps none = tt
 all_served (l ∷ ls) b [] none = tt
 all_served (l ∷ ls) b (a_line o ∷ ps) none = (λ dollar. absurd (none.0 dollar), all_served ls _ ps none.1)
+
+-- lines without a realtime byte have no reset
+no_reset : (lines : List (List ℕ)) → AllByRecursion IsCalm lines → list_any holds_reset lines ≡ false
+no_reset [] calm = refl
+no_reset (l ∷ ls) calm = ap (λ (bytes : List ℕ). list_any is_reset bytes || list_any holds_reset ls) calm.0 ∙ no_reset ls calm.1
 
 -- what a run of the generated job is
 pub record RunsWhole (n : ℕ) (job_was job_is : SourceState) (was is : Sinks) (end : RunEnd) (run : IsRun job_was job_is was is end) : Type 0 where
@@ -47,6 +53,7 @@ runs_whole n left was is end some most run =
       bytes = job_text n;
       told = refl;
       few = of.few;
+      going = ap (list_any holds_reset) of.cut ∙ no_reset (job_lines n) of.calm;
       first = run.first;
       outcomes = of.outcomes;
       last = of.last;

@@ -6,93 +6,101 @@ use Rattle.std.proofs.lemmas.List.{take_all}
 use Rattle.outside.specs.Causes.{SourceState, SinkState}
 use Rattle.outside.specs.Writing.{Took}
 use Rattle.gcode_words.specs.Stripping.{plain}
-use Rattle.status_report.specs.declared.Reply.{Reply}
-use Rattle.status_report.specs.declared.Reply.TheVariants.{Bye}
-use Rattle.status_report.specs.Replies.{reply_text}
+use Rattle.step_line.specs.Asking.{ticks_among}
 use Rattle.run_rules.specs.Lines.{lines_of}
 use Rattle.run_rules.specs.Readings.{largest_job, job_of}
 use Rattle.run_rules.specs.Work.{Outcome}
 use Rattle.run_rules.specs.Outcomes.{Before, Follows, start}
 use Rattle.run_rules.specs.Outcomes.Passed.{a_line}
-use Rattle.run_rules.specs.Told.{replies_in, replies_text, asked_in, errors_in}
+use Rattle.run_rules.specs.Told.{replies_text, asked_in, errors_in}
 use Rattle.stream_host.specs.declared.Reading.{Reading}
 use Rattle.stream_host.specs.declared.Reading.TheVariants.{Ended, Failed, Large, Stopped}
 use Rattle.stream_host.specs.declared.Stop.{Stop}
 use Rattle.stream_host.specs.declared.Stop.TheVariants as stops
-use Rattle.stream_host.specs.Jobs.{MayHaveRead, MayLeave, ends_sending, ends_in, is_long, is_sent, long_line, lines_to_send, stop_by}
+use Rattle.stream_host.specs.Jobs.{MayHaveRead, MayLeave, ends_sending, ends_in, is_long, holds_reset, is_sent, long_line, lines_to_send, stop_by}
 use Rattle.stream_host.specs.Ran.{is_failed}
-use Rattle.stream_host.proofs.Pieces.{all_are_sent}
+use Rattle.stream_host.proofs.Pieces.{neither, all_are_sent}
 use Rattle.run_law.specs.declared.RunEnd.{RunEnd}
 use Rattle.planner_runs.specs.Driven.{IsDriven}
-use Rattle.run_law.specs.Runs.{Sinks, asks_hold, asks_change, ends_program, IsRun}
+use Rattle.run_law.specs.Runs.{Sinks, AreReports, asks_hold, asks_change, ends_program, IsRun}
 use Rattle.run_law.proofs.Completing.{complete}
 use Rattle.grbl_app.specs.declared.status.Status.{Status}
-use Rattle.grbl_app.specs.declared.status.Status.TheVariants.{SourceFault, ConsoleFault, StepsFault, LongLine, TooLarge}
+use Rattle.grbl_app.specs.declared.status.Status.TheVariants.{SourceFault, ConsoleFault, StepsFault, LongLine, Reset, TooLarge}
 use Rattle.grbl_app.specs.Ends.{by_errors, by_stop, status_of, EndsWith, IsWholeRun, HasLongLine, HasRun, HasCauses}
 
 -- ---- why no more of a job was sent
 
-no_long : (t : Bool) (lines : List (List ℕ)) → stops.End ≡ cond t (long_line lines) stops.End → t ≡ false
-no_long true lines e = absurd cc
-no_long false lines e = refl
+no_cause : (long reset : Bool) (lines : List (List ℕ)) → stops.End ≡ cond long (long_line lines) (cond reset stops.Reset stops.End) → (long ≡ false) × (reset ≡ false)
+no_cause true reset lines e = absurd cc
+no_cause false true lines e = absurd cc
+no_cause false false lines e = (refl, refl)
 
--- to the end of the job: it is not too large, and no line is too long
-end_means : (r : Reading) (text : List ℕ) → stops.End ≡ stop_by r text → (list_any is_long (lines_of text) ≡ false) × (r ≡ Large → ⊥)
-end_means Ended text e = (no_long (list_any is_long (lines_of text)) (lines_of text) e, λ x. cc)
-end_means Failed text e = (no_long (list_any is_long (lines_of text)) (lines_of text) e, λ x. cc)
+-- to the end of the job: it is not too large, no line is too long, and none has a reset
+record MeansEnd (r : Reading) (lines : List (List ℕ)) : Type 0 where
+  short : (list_any is_long lines ≡ false) × (list_any holds_reset lines ≡ false)
+  small : r ≡ Large → ⊥
+
+end_means : (r : Reading) (text : List ℕ) → stops.End ≡ stop_by r text → MeansEnd r (lines_of text)
+end_means Ended text e = record { short = no_cause (list_any is_long (lines_of text)) (list_any holds_reset (lines_of text)) (lines_of text) e; small = λ x. cc }
+end_means Failed text e = record { short = no_cause (list_any is_long (lines_of text)) (list_any holds_reset (lines_of text)) (lines_of text) e; small = λ x. cc }
 end_means Large text e = absurd cc
-end_means Stopped text e = (no_long (list_any is_long (lines_of text)) (lines_of text) e, λ x. cc)
+end_means Stopped text e = record { short = no_cause (list_any is_long (lines_of text)) (list_any holds_reset (lines_of text)) (lines_of text) e; small = λ x. cc }
 
-not_large : {A : Type 0} (t : Bool) (lines : List (List ℕ)) → stops.TooLarge ≡ cond t (long_line lines) stops.End → A
-not_large true lines e = absurd cc
-not_large false lines e = absurd cc
+not_large : {A : Type 0} (t r : Bool) (lines : List (List ℕ)) → stops.TooLarge ≡ cond t (long_line lines) (cond r stops.Reset stops.End) → A
+not_large true r lines e = absurd cc
+not_large false true lines e = absurd cc
+not_large false false lines e = absurd cc
 
 large_means : (r : Reading) (text : List ℕ) → stops.TooLarge ≡ stop_by r text → r ≡ Large
-large_means Ended text e = not_large (list_any is_long (lines_of text)) (lines_of text) e
-large_means Failed text e = not_large (list_any is_long (lines_of text)) (lines_of text) e
+large_means Ended text e = not_large (list_any is_long (lines_of text)) (list_any holds_reset (lines_of text)) (lines_of text) e
+large_means Failed text e = not_large (list_any is_long (lines_of text)) (list_any holds_reset (lines_of text)) (lines_of text) e
 large_means Large text e = refl
-large_means Stopped text e = not_large (list_any is_long (lines_of text)) (lines_of text) e
+large_means Stopped text e = not_large (list_any is_long (lines_of text)) (list_any holds_reset (lines_of text)) (lines_of text) e
 
-one_long : (k : ℕ) (t : Bool) (lines : List (List ℕ)) → stops.LongLine k ≡ cond t (long_line lines) stops.End → (t ≡ true) × (k ≡ length (take_while is_sent lines) + 1)
-one_long k true lines e = (refl, cc)
-one_long k false lines e = absurd cc
+one_long : (k : ℕ) (t r : Bool) (lines : List (List ℕ)) → stops.LongLine k ≡ cond t (long_line lines) (cond r stops.Reset stops.End) → (t ≡ true) × (k ≡ length (take_while is_sent lines) + 1)
+one_long k true r lines e = (refl, cc)
+one_long k false true lines e = absurd cc
+one_long k false false lines e = absurd cc
 
 long_means : (k : ℕ) (r : Reading) (text : List ℕ) → stops.LongLine k ≡ stop_by r text
     → (list_any is_long (lines_of text) ≡ true) × (k ≡ length (take_while is_sent (lines_of text)) + 1)
-long_means k Ended text e = one_long k (list_any is_long (lines_of text)) (lines_of text) e
-long_means k Failed text e = one_long k (list_any is_long (lines_of text)) (lines_of text) e
+long_means k Ended text e = one_long k (list_any is_long (lines_of text)) (list_any holds_reset (lines_of text)) (lines_of text) e
+long_means k Failed text e = one_long k (list_any is_long (lines_of text)) (list_any holds_reset (lines_of text)) (lines_of text) e
 long_means k Large text e = absurd cc
-long_means k Stopped text e = one_long k (list_any is_long (lines_of text)) (lines_of text) e
+long_means k Stopped text e = one_long k (list_any is_long (lines_of text)) (list_any holds_reset (lines_of text)) (lines_of text) e
 
-no_reset : {A : Type 0} (t : Bool) (lines : List (List ℕ)) → stops.Reset ≡ cond t (long_line lines) stops.End → A
-no_reset true lines e = absurd cc
-no_reset false lines e = absurd cc
+one_reset : (long reset : Bool) (lines : List (List ℕ)) → stops.Reset ≡ cond long (long_line lines) (cond reset stops.Reset stops.End) → (reset ≡ true) × (long ≡ false)
+one_reset true reset lines e = absurd cc
+one_reset false true lines e = (refl, refl)
+one_reset false false lines e = absurd cc
 
-never_reset : {A : Type 0} (r : Reading) (text : List ℕ) → stops.Reset ≡ stop_by r text → A
-never_reset Ended text e = no_reset (list_any is_long (lines_of text)) (lines_of text) e
-never_reset Failed text e = no_reset (list_any is_long (lines_of text)) (lines_of text) e
-never_reset Large text e = absurd cc
-never_reset Stopped text e = no_reset (list_any is_long (lines_of text)) (lines_of text) e
+reset_means : (r : Reading) (text : List ℕ) → stops.Reset ≡ stop_by r text → (list_any holds_reset (lines_of text) ≡ true) × (list_any is_long (lines_of text) ≡ false)
+reset_means Ended text e = one_reset (list_any is_long (lines_of text)) (list_any holds_reset (lines_of text)) (lines_of text) e
+reset_means Failed text e = one_reset (list_any is_long (lines_of text)) (list_any holds_reset (lines_of text)) (lines_of text) e
+reset_means Large text e = absurd cc
+reset_means Stopped text e = one_reset (list_any is_long (lines_of text)) (list_any holds_reset (lines_of text)) (lines_of text) e
 
-no_alarm : {A : Type 0} (k : ℕ) (t : Bool) (lines : List (List ℕ)) → stops.Alarm k ≡ cond t (long_line lines) stops.End → A
-no_alarm k true lines e = absurd cc
-no_alarm k false lines e = absurd cc
+no_alarm : {A : Type 0} (k : ℕ) (t r : Bool) (lines : List (List ℕ)) → stops.Alarm k ≡ cond t (long_line lines) (cond r stops.Reset stops.End) → A
+no_alarm k true r lines e = absurd cc
+no_alarm k false true lines e = absurd cc
+no_alarm k false false lines e = absurd cc
 
 never_alarm : {A : Type 0} (k : ℕ) (r : Reading) (text : List ℕ) → stops.Alarm k ≡ stop_by r text → A
-never_alarm k Ended text e = no_alarm k (list_any is_long (lines_of text)) (lines_of text) e
-never_alarm k Failed text e = no_alarm k (list_any is_long (lines_of text)) (lines_of text) e
+never_alarm k Ended text e = no_alarm k (list_any is_long (lines_of text)) (list_any holds_reset (lines_of text)) (lines_of text) e
+never_alarm k Failed text e = no_alarm k (list_any is_long (lines_of text)) (list_any holds_reset (lines_of text)) (lines_of text) e
 never_alarm k Large text e = absurd cc
-never_alarm k Stopped text e = no_alarm k (list_any is_long (lines_of text)) (lines_of text) e
+never_alarm k Stopped text e = no_alarm k (list_any is_long (lines_of text)) (list_any holds_reset (lines_of text)) (lines_of text) e
 
 -- ---- a job that was sent to its end
 
-neither : (a b : Bool) → (a || b) ≡ false → (a ≡ false) × (b ≡ false)
-neither true b e = absurd cc
-neither false b e = (refl, e)
-
-all_short : (lines : List (List ℕ)) → list_any is_long lines ≡ false → AllByRecursion (λ l. ends_sending l ≡ false) lines
-all_short [] e = tt
-all_short (l ∷ ls) e = let p = neither (is_long l) (list_any is_long ls) e in (p.0, all_short ls p.1)
+none_ends : (lines : List (List ℕ)) → list_any is_long lines ≡ false → list_any holds_reset lines ≡ false → (list_any ends_sending lines ≡ false) × AllByRecursion (λ l. ends_sending l ≡ false) lines
+none_ends [] e r = (refl, tt)
+none_ends (l ∷ ls) e r =
+    let p = neither (is_long l) (list_any is_long ls) e in
+    let q = neither (holds_reset l) (list_any holds_reset ls) r in
+    let one : ends_sending l ≡ false = ap (λ b. b || holds_reset l) p.0 ∙ q.0 in
+    let rest = none_ends ls p.1 q.1 in
+    (ap (λ b. b || list_any ends_sending ls) one ∙ rest.0, (one, rest.1))
 
 read_to_end : (r : Reading) (text left : List ℕ) → is_failed r ≡ false → (r ≡ Large → ⊥) → MayLeave r left → r ≡ Ended
 read_to_end Ended text left well small leaves = refl
@@ -112,14 +120,15 @@ sent_all : (job_was job_is : SourceState) (was is : Sinks) (end : RunEnd) (run :
 sent_all job_was job_is was is end run well stop =
     let sent = run.sent in
     let why = end_means run.reading run.scanned (sym stop ∙ sent.cause) in
-    let leaves = sent.scans.whole why.0 in
-    let over : run.reading ≡ Ended = read_to_end run.reading run.scanned sent.scans.scans.left (sym run.failed ∙ well) why.1 leaves in
+    let none_over = none_ends (lines_of run.scanned) why.short.0 why.short.1 in
+    let leaves = sent.scans.whole none_over.0 in
+    let over : run.reading ≡ Ended = read_to_end run.reading run.scanned sent.scans.scans.left (sym run.failed ∙ well) why.small leaves in
     let few : length run.read ≤ largest_job = subst (λ r. MayHaveRead r (length run.read)) over sent.fits in
     let whole : job_of run.read ≡ run.read = take_all largest_job run.read few in
     let none : sent.scans.scans.left ≡ [] = subst (λ r. MayLeave r sent.scans.scans.left) over leaves in
     let all : run.read ≡ run.scanned = sym whole ∙ sent.scans.scans.front ∙ ap (λ (x : List ℕ). run.scanned ++ x) none ∙ append-nil run.scanned in
     let short : AllByRecursion (λ l. ends_sending l ≡ false) (lines_of run.read) =
-    subst (λ (x : List ℕ). AllByRecursion (λ l. ends_sending l ≡ false) (lines_of x)) (sym all) (all_short (lines_of run.scanned) why.0) in
+    subst (λ (x : List ℕ). AllByRecursion (λ l. ends_sending l ≡ false) (lines_of x)) (sym all) none_over.1 in
     record {
       over = over;
       few = few;
@@ -132,20 +141,11 @@ sent_all job_was job_is was is end run well stop =
 whole_text : (a b : SinkState) (failed : Bool) (text : List ℕ) → failed ≡ false → Took a b failed text → Appends a.held b.held text
 whole_text a b failed text well was = rw (was.whole, was.all well, append-nil was.front) was.held
 
--- Bye has no text
-without_bye : (replies : List Reply) → replies_text (replies ++ Bye ∷ []) ≡ replies_text replies
-unfolding reply_text
-without_bye [] = refl
-without_bye (r ∷ rs) = ap (λ (t : List ℕ). reply_text r ++ t) (without_bye rs)
-
-told_text : (replies : List Reply) (outcomes : List Outcome) → replies ≡ replies_in outcomes ++ Bye ∷ [] → replies_text replies ≡ replies_text (replies_in outcomes)
-told_text replies outcomes told = ap replies_text told ∙ without_bye (replies_in outcomes)
-
 -- ---- the causes
 
-pub by_errors_not : (n : ℕ) → (by_errors n ≢ SourceFault) × (by_errors n ≢ ConsoleFault) × (by_errors n ≢ StepsFault) × (by_errors n ≢ TooLarge) × ((k : ℕ) → by_errors n ≢ LongLine k)
-by_errors_not zero = ((λ e. cc), (λ e. cc), (λ e. cc), (λ e. cc), (λ k e. cc))
-by_errors_not (suc n) = ((λ e. cc), (λ e. cc), (λ e. cc), (λ e. cc), (λ k e. cc))
+pub by_errors_not : (n : ℕ) → (by_errors n ≢ SourceFault) × (by_errors n ≢ ConsoleFault) × (by_errors n ≢ StepsFault) × (by_errors n ≢ TooLarge) × ((k : ℕ) → by_errors n ≢ LongLine k) × (by_errors n ≢ Reset)
+by_errors_not zero = ((λ e. cc), (λ e. cc), (λ e. cc), (λ e. cc), (λ k e. cc), (λ e. cc))
+by_errors_not (suc n) = ((λ e. cc), (λ e. cc), (λ e. cc), (λ e. cc), (λ k e. cc), (λ e. cc))
 
 pub errors_have_run : (n : ℕ) → HasRun (by_errors n)
 errors_have_run zero = tt
@@ -162,6 +162,7 @@ by_cases job_was job_is was is end run true cf nf stop es ec en et = record {
   steps = λ e. run.steps.cause es;
   large = λ e. absurd cc;
   long = λ k e. absurd cc;
+  reset = λ e. absurd cc;
   whole = λ w. absurd w;
   faultless = λ w. absurd w;
   complete = λ job source console steps. absurd (steps (run.steps.cause es));
@@ -173,6 +174,7 @@ by_cases job_was job_is was is end run false true nf stop es ec en et = record {
   steps = λ e. absurd cc;
   large = λ e. absurd cc;
   long = λ k e. absurd cc;
+  reset = λ e. absurd cc;
   whole = λ w. absurd w;
   faultless = λ w. absurd w;
   complete = λ job source console steps. absurd (console (run.console.cause ec));
@@ -184,6 +186,7 @@ by_cases job_was job_is was is end run false false true stop es ec en et = recor
   steps = λ e. absurd cc;
   large = λ e. absurd cc;
   long = λ k e. absurd cc;
+  reset = λ e. absurd cc;
   whole = λ w. absurd w;
   faultless = λ w. absurd w;
   complete = λ job source console steps. absurd (source (run.source en));
@@ -199,6 +202,7 @@ by_cases job_was job_is was is end run false false false stops.TooLarge es ec en
     more = subst (λ r. MayHaveRead r (length run.read)) (large_means run.reading run.scanned (sym et ∙ run.sent.cause)) run.sent.fits;
   };
   long = λ k e. absurd cc;
+  reset = λ e. absurd cc;
   whole = λ w. absurd w;
   faultless = λ w. absurd w;
   complete = λ job source console steps. absurd (let e = sym (complete job_was job_is was is end run job en).stop ∙ et in cc);
@@ -219,11 +223,32 @@ by_cases job_was job_is was is end run false false false (stops.LongLine k) es e
         some = why.0;
         first = same ∙ why.1;
       };
+  reset = λ e. absurd cc;
   whole = λ w. absurd w;
   faultless = λ w. absurd w;
   complete = λ job source console steps. absurd (let e = sym (complete job_was job_is was is end run job en).stop ∙ et in cc);
 }
-by_cases job_was job_is was is end run false false false stops.Reset es ec en et = never_reset run.reading run.scanned (sym et ∙ run.sent.cause)
+by_cases job_was job_is was is end run false false false stops.Reset es ec en et = record {
+  has_run = tt;
+  source = λ e. absurd cc;
+  console = λ e. absurd cc;
+  steps = λ e. absurd cc;
+  large = λ e. absurd cc;
+  long = λ k e. absurd cc;
+  reset = λ e.
+      let why = reset_means run.reading run.scanned (sym et ∙ run.sent.cause) in record {
+        read = run.read;
+        reading = run.reading;
+        scanned = run.scanned;
+        taken = run.taken;
+        scans = run.sent.scans;
+        some = why.0;
+        none = why.1;
+      };
+  whole = λ w. absurd w;
+  faultless = λ w. absurd w;
+  complete = λ job source console steps. absurd (let e = sym (complete job_was job_is was is end run job en).stop ∙ et in cc);
+}
 by_cases job_was job_is was is end run false false false (stops.Alarm k) es ec en et = never_alarm k run.reading run.scanned (sym et ∙ run.sent.cause)
 by_cases job_was job_is was is end run false false false stops.End es ec en et =
     let none = by_errors_not end.errors in let all = sent_all job_was job_is was is end run en et in record {
@@ -233,6 +258,7 @@ by_cases job_was job_is was is end run false false false stops.End es ec en et =
       steps = λ e. absurd (none.2 e);
       large = λ e. absurd (none.3 e);
       long = λ k e. absurd (none.4 k e);
+      reset = λ e. absurd (none.5 e);
       whole = λ w. record {
         job = run.read;
         first = run.first;
@@ -243,7 +269,11 @@ by_cases job_was job_is was is end run false false false stops.End es ec en et =
         few = all.few;
         opening = run.opening;
         answered = subst (λ (ls : List (List ℕ)). Follows true (start run.first) (map plain ls) (map a_line run.outcomes) run.last) all.lines run.follows;
-        console = rw (← told_text run.replies run.outcomes run.told) (whole_text was.console is.console end.console_failed (replies_text run.replies) ec run.console);
+        replies = run.replies;
+        told = run.told;
+        console = whole_text was.console is.console end.console_failed (replies_text run.replies) ec run.console;
+        reports = subst (λ (text : List ℕ). AreReports run.first run.outcomes (ticks_among run.records) (lines_of run.read) text run.replies) (sym all.all)
+            (subst (λ (ls : List (List ℕ)). AreReports run.first run.outcomes (ticks_among run.records) ls run.scanned run.replies) all.lines run.reports);
         records = run.records;
         driven = subst (λ (text : List ℕ). IsDriven (asks_hold text) (asks_change text || ends_program run.outcomes) (asked_in run.outcomes) run.records) (sym all.all) run.driven;
         steps = whole_text was.steps is.steps end.steps_failed _ es run.steps;

@@ -8,7 +8,7 @@ ghost use Rattle.run_law.specs.Complete.{IsAcceptedJob};
 ghost use Rattle.command_line.specs.Command.{Asks, Refuses};
 ghost use Rattle.command_line.specs.declared.Task.TheVariants as tasks;
 ghost use Rattle.grbl_app.specs.Demos.{IsDemo};
-ghost use Rattle.grbl_app.specs.Ends.{EndsWith, IsWhole, IsWholeRun, IsFaultless, TookMore, HasLongLine, HasNotBegun, HasRun, HasCauses};
+ghost use Rattle.grbl_app.specs.Ends.{EndsWith, IsWhole, IsWholeRun, IsFaultless, TookMore, HasLongLine, HasReset, HasNotBegun, HasRun, HasCauses};
 
 mod demo;
 mod status;
@@ -97,12 +97,13 @@ pub fn run_grbl<
     ensures untouched { HasNotBegun result →
         (So.state job.new ≡ So.state job.old) × (Co.state console.new ≡ Co.state console.old) × (St.state steps.new ≡ St.state steps.old) }
 
-    // A fault comes only where its device's count of faults rose, and the job is cut only where it is too large or a line is
-    // too long.
+    // A fault comes only where its device's count of faults rose, and the job is cut only where it is too large, a line is
+    // too long, or a reset stands in it.
     ensures source_fault { (seed : _) → Asks (tasks.Stream seed) (map (λ w. w.now) words.now) → result ≡ Status.SourceFault → Rose (So.state job.old).faults (So.state job.new).faults }
     ensures console_fault { result ≡ Status.ConsoleFault → Rose (Co.state console.old).faults (Co.state console.new).faults }
     ensures steps_fault { result ≡ Status.StepsFault → Rose (St.state steps.old).faults (St.state steps.new).faults }
     ensures too_large { (seed : _) → Asks (tasks.Stream seed) (map (λ w. w.now) words.now) → result ≡ Status.TooLarge → TookMore (So.state job.old) (So.state job.new) }
+    ensures reset { (seed : _) → Asks (tasks.Stream seed) (map (λ w. w.now) words.now) → result ≡ Status.Reset → HasReset (So.state job.old) (So.state job.new) }
     ensures long_line { (seed : _) (k : ℕ) → Asks (tasks.Stream seed) (map (λ w. w.now) words.now) → result ≡ Status.LongLine k → HasLongLine (So.state job.old) (So.state job.new) k }
 
     // What is written, and the status, for every job and every fault.

@@ -2,3 +2,4 @@ pub mod Parts
 pub mod Keeping
 pub mod Judging
 pub mod Views
+pub mod Nearness

@@ -13,6 +13,7 @@ ghost use Rattle.line_interpreter.specs.Keeping.{IsKept};
 ghost use Rattle.line_interpreter.specs.Lefts.{IsSound, IsSettled, IsTodo, IsNextOf, work_left};
 ghost use Rattle.run_rules.specs.Work.Task.{ask, tell};
 ghost use Rattle.status_report.specs.Replies.{IsReply};
+ghost use Rattle.status_report.specs.Answering.{is_report};
 ghost use Rattle.status_report.specs.declared.Reply.{Reply as AnyReply};
 ghost use Rattle.step_line.specs.Asking.{IsPlannedMove};
 ghost use Rattle.step_line.specs.Asking.Asked.{a_move};
@@ -277,6 +278,7 @@ impl Desk {
         requires some { (reply : AnyReply) × IsNextOf (tell reply) (work_left self.now.line self.now.state) }
         ensures next { IsNextOf (tell result) (work_left self.now.line self.now.state) }
         ensures valid { IsReply result }
+        ensures plain { is_report result ≡ false }
     {
         self.line.part_reply(&self.state)
     }

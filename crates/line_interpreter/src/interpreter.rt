@@ -11,6 +11,9 @@ ghost use Rattle.line_interpreter.specs.Finding.{Found};
 ghost use Rattle.line_interpreter.specs.Lefts.{IsTodo, IsNextOf};
 ghost use Rattle.run_rules.specs.Work.Task.{ask, tell};
 ghost use Rattle.status_report.specs.Replies.{IsReply};
+ghost use Rattle.status_report.specs.Answering.{is_report};
+ghost use Rattle.run_rules.specs.Reports.{Shows, has_room, shows_room};
+ghost use Rattle.units.specs.Lengths.{IsPlace};
 ghost use Rattle.status_report.specs.declared.Reply.{Reply as AnyReply};
 ghost use Rattle.step_line.specs.Asking.{IsPlannedMove};
 ghost use Rattle.step_line.specs.Asking.Asked.{a_move};
@@ -19,8 +22,9 @@ ghost use Rattle.line_interpreter.specs.Interpreting.{stands_before};
 
 use crate::desk::Desk;
 use crate::kept::KeptLine;
+use crate::reporting::{Seen, report, shows_room};
 use crate::tasks::Todo;
-use status_report::Reply;
+use status_report::{Reply, Report};
 use std::marker::Model;
 use step_line::PlannedMove;
 
@@ -89,6 +93,7 @@ impl Interpreter {
         requires some { (reply : AnyReply) × IsNextOf (tell reply) self.now.left }
         ensures next { IsNextOf (tell result) self.now.left }
         ensures valid { IsReply result }
+        ensures plain { is_report result ≡ false }
     {
         self.desk.reply()
     }
@@ -100,6 +105,29 @@ impl Interpreter {
         ensures planned { IsPlannedMove result }
     {
         self.desk.planned_move()
+    }
+
+    /// Whether reports tell the free room.
+    pub fn shows_room(&self) -> bool
+        ensures { result ≡ shows_room self.now.state.settings.report }
+    {
+        shows_room(&self.desk.state)
+    }
+
+    /// The report of a machine, behind the lines that were begun: its position in thousandths of a mm, as the settings
+    /// have the steps, and what the lines left of offsets and spindle. It tells the free room where the settings ask
+    /// for it.
+    pub fn report(&self, seen: &Seen) -> Report
+        requires place { IsPlace seen.now.place }
+        requires room { has_room seen.now.buffer ≡ shows_room self.now.state.settings.report }
+        ensures shows { Shows seen.now.place self.now.state result }
+        ensures state { result.state ≡ seen.now.state }
+        ensures buffer { result.buffer ≡ seen.now.buffer }
+        ensures feed { result.f ≡ seen.now.feed }
+        ensures overrides { result.ov ≡ seen.now.overrides }
+        ensures valid { IsReply (replies.Report result) }
+    {
+        report(&self.desk.state, seen)
     }
 
     /// What there was to do next is done.

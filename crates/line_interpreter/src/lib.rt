@@ -7,10 +7,12 @@
 mod desk;
 mod interpreter;
 mod kept;
+mod reporting;
 mod tasks;
 #[cfg(test)]
 mod tests;
 
 pub use interpreter::{Interpreter, found_lines_become};
 pub use kept::KeptLine;
+pub use reporting::Seen;
 pub use tasks::Todo;

@@ -9,6 +9,7 @@ ghost use Rattle.run_rules.specs.Asks.{planned, move_asked, spindle_off, coolant
 ghost use Rattle.run_rules.specs.Work.{telling, asking, closing_work};
 ghost use Rattle.run_rules.specs.Work.Task.{ask, tell, pause, normal, finish};
 ghost use Rattle.status_report.specs.Replies.{IsReply};
+ghost use Rattle.status_report.specs.Answering.{is_report};
 ghost use Rattle.status_report.specs.Lists.{setting_replies, modes_replies, offset_replies};
 ghost use Rattle.units.specs.Lengths.{IsMove};
 ghost use Rattle.units.specs.Limits.{IsRate, IsLimits};
@@ -276,6 +277,7 @@ fn closing_todo(stage: u8) -> Todo
 fn setting_told(settings: &Settings, stage: u8) -> Reply
     ensures next { (reply : AnyReply) → IsNextOf (tell reply) (drop stage (telling (setting_replies settings.now ++ Reply.Ok ∷ []))) → result ≡ reply }
     ensures valid { IsReply result }
+    ensures plain { is_report result ≡ false }
 {
     let place = stage as usize;
     if place < SETTING_REPLIES {
@@ -289,6 +291,7 @@ fn setting_told(settings: &Settings, stage: u8) -> Reply
 fn offset_told(offsets: &Offsets, stage: u8) -> Reply
     ensures next { (reply : AnyReply) → IsNextOf (tell reply) (drop stage (telling (offset_replies offsets.now ++ Reply.Ok ∷ []))) → result ≡ reply }
     ensures valid { IsReply result }
+    ensures plain { is_report result ≡ false }
 {
     let place = stage as usize;
     if place < OFFSET_REPLIES {
@@ -303,6 +306,7 @@ fn modes_told(parser: &Parser, stage: u8) -> Reply
     requires { IsParser parser.now }
     ensures next { (reply : AnyReply) → IsNextOf (tell reply) (drop stage (telling (modes_replies parser.now ++ Reply.Ok ∷ []))) → result ≡ reply }
     ensures valid { IsReply result }
+    ensures plain { is_report result ≡ false }
 {
     if stage == 0 {
         Reply::Modes(Modes::of(parser))
@@ -367,6 +371,7 @@ impl Line {
         requires body { self.now.body ≡ Body.Items }
         ensures next { (s : AnyState) (reply : AnyReply) → IsNextOf (tell reply) (part_left self.now s) → result ≡ reply }
         ensures valid { IsReply result }
+        ensures plain { is_report result ≡ false }
     {
         if self.place < self.items.len() {
             Reply::Message(Message::ProgramEnd)
@@ -380,6 +385,7 @@ impl Line {
         requires state { IsState state.now }
         ensures next { (reply : AnyReply) → IsNextOf (tell reply) (part_left self.now state.now) → result ≡ reply }
         ensures valid { IsReply result }
+        ensures plain { is_report result ≡ false }
     {
         match self.body {
             Body::Opening => Reply::Banner,

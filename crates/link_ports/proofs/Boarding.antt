@@ -1,6 +1,5 @@
 -- What a board's log says through each call.
-use Rattle.std.proofs.Common.{◌≡◌, ℕ, ◌+◌, ◌/◌, ◌^◌, ◌≤◌, ◌<◌, Bool, true, false, ◌&&◌, cond, nat_eq, List, [], ◌∷◌, ◌++◌, length, reverse, refl, sym, ap, ◌∙◌, subst, arith}
-use Rattle.std.specs.Int.{bit_at}
+use Rattle.std.proofs.Common.{◌≡◌, ℕ, ◌+◌, ◌/◌, ◌^◌, ◌≤◌, ◌<◌, Bool, true, false, cond, nat_eq, List, [], ◌∷◌, ◌++◌, length, reverse, refl, sym, ap, ◌∙◌, subst, arith}
 use Rattle.std.specs.Int.Bits.{bit_and}
 use Rattle.std.proofs.lemmas.List.{length-reverse, reverse-reverse}
 use Rattle.std.proofs.lemmas.Nat.Bits.{shr_and_one}
@@ -11,17 +10,24 @@ use Rattle.status_report.specs.declared.Reply.{Reply}
 use Rattle.status_report.specs.Answering.{lfs_in, answers_in}
 use Rattle.step_line.specs.declared.Piece.{Piece}
 use Rattle.step_line.specs.Ordering.{ComesNext}
-use Rattle.step_line.specs.Finishing.{tick_count, ticks_together, unfinished}
+use Rattle.step_line.specs.Finishing.{ticks_together, unfinished}
 use Rattle.realtime_flags.specs.declared.words.Take.{Take}
 use Rattle.realtime_flags.specs.declared.words.Take.TheVariants as words
 use Rattle.realtime_flags.specs.Bits.{report_flag, stood_in, counted, takes_with}
 use Rattle.serial_ring.specs.Lists as link
 use Rattle.motion_ring.specs.Ticks as ring
 use Rattle.motion_ring.proofs.Ticks.{together_reversed}
-use Rattle.board_rules.specs.Ports.{PortLog, asks_report, taken_in, answered_in, reports_in, published_in, known_in, MayAnswer, MayPublish, HasTakenFew, HasFewReports, LacksReplyRoom, LacksPieceRoom, MayBeDone}
-use Rattle.board_rules.specs.Ports.PortStep.{took, found_empty, found_closed, found_free, answered, no_reply_room, took_exec, took_ovr, published, no_piece_room, loaded}
+use Rattle.board_rules.specs.Ports.{PortLog, said, asks_report, reports_in, published_in, MayAnswer, MayPublish, HasTakenFew, HasFewReports, LacksReplyRoom, LacksPieceRoom, MayBeDone}
+use Rattle.board_rules.specs.Ports.PortStep.{took, found_empty, found_closed, found_free, answered, reported, no_reply_room, took_exec, took_ovr, published, no_piece_room, loaded}
 use Rattle.link_ports.specs.Boards.{BoardDid, takes_in}
-use Rattle.link_ports.proofs.Lists.{reverse_on, same_answers, same_lines}
+use Rattle.link_ports.proofs.Lists.{reverse_on, same_answers, same_lines, by_said}
+
+-- a port that stands for a reply stands for what it is to answer with it
+as_said : (bytes : List ℕ) (over : Bool) (replies : List Reply) (takes : List Take) (pieces : List Piece) (known : ℕ) (l : PortLog) (r : Reply)
+    → BoardDid bytes over replies takes pieces known (answered r ∷ l) → BoardDid bytes over replies takes pieces known (said r ∷ l)
+as_said bytes over replies takes pieces known l = by_said (λ r e. BoardDid bytes over replies takes pieces known (answered r ∷ l) → BoardDid bytes over replies takes pieces known (e ∷ l))
+    (λ r d. d)
+    (λ p d. record { bytes_are = d.bytes_are; over_is = d.over_is; replies_are = d.replies_are; takes_are = d.takes_are; pieces_are = d.pieces_are; known_is = d.known_is })
 
 module _ (bytes bytes' : List ℕ) (over over' : Bool) (replies replies' : List Reply) (takes : List Take) (pieces : List Piece) (known : ℕ) (l : PortLog) (d : BoardDid bytes over replies takes pieces known l) where
   pub byte_taken : (b : ℕ) → bytes' ≡ b ∷ bytes → (over ≡ true → over' ≡ true) → replies' ≡ replies → BoardDid bytes' over' replies' takes pieces known (took b ∷ l)
@@ -43,8 +49,8 @@ module _ (bytes bytes' : List ℕ) (over over' : Bool) (replies replies' : List 
   pub room_found : (n : ℕ) → bytes' ≡ bytes → (over ≡ true → over' ≡ true) → replies' ≡ replies → BoardDid bytes' over' replies' takes pieces known (found_free n ∷ l)
   room_found n e o g = record { bytes_are = d.bytes_are ∙ sym (ap reverse e); over_is = λ c. o (d.over_is c); replies_are = d.replies_are ∙ sym (ap reverse g); takes_are = d.takes_are; pieces_are = d.pieces_are; known_is = d.known_is }
 
-  pub reply_answered : (r : Reply) → bytes' ≡ bytes → over' ≡ over → replies' ≡ r ∷ replies → BoardDid bytes' over' replies' takes pieces known (answered r ∷ l)
-  reply_answered r e o g = record {
+  answered_on : (r : Reply) → bytes' ≡ bytes → over' ≡ over → replies' ≡ r ∷ replies → BoardDid bytes' over' replies' takes pieces known (answered r ∷ l)
+  answered_on r e o g = record {
     bytes_are = d.bytes_are ∙ sym (ap reverse e);
     over_is = λ c. o ∙ d.over_is c;
     replies_are = ap (λ (z : List Reply). z ++ r ∷ []) d.replies_are ∙ (sym (reverse_on r replies) ∙ sym (ap reverse g));
@@ -52,6 +58,9 @@ module _ (bytes bytes' : List ℕ) (over over' : Bool) (replies replies' : List 
     pieces_are = d.pieces_are;
     known_is = d.known_is;
   }
+
+  pub reply_answered : (r : Reply) → bytes' ≡ bytes → over' ≡ over → replies' ≡ r ∷ replies → BoardDid bytes' over' replies' takes pieces known (said r ∷ l)
+  reply_answered r e o g = as_said bytes' over' replies' takes pieces known l r (answered_on r e o g)
 
   pub reply_refused : bytes' ≡ bytes → over' ≡ over → replies' ≡ replies → BoardDid bytes' over' replies' takes pieces known (no_reply_room ∷ l)
   reply_refused e o g = record { bytes_are = d.bytes_are ∙ sym (ap reverse e); over_is = λ c. o ∙ d.over_is c; replies_are = d.replies_are ∙ sym (ap reverse g); takes_are = d.takes_are; pieces_are = d.pieces_are; known_is = d.known_is }
@@ -67,6 +76,7 @@ reports_taken (found_empty ∷ l) = reports_taken l
 reports_taken (found_closed ∷ l) = reports_taken l
 reports_taken (found_free n ∷ l) = reports_taken l
 reports_taken (answered r ∷ l) = reports_taken l
+reports_taken (reported p ∷ l) = reports_taken l
 reports_taken (no_reply_room ∷ l) = reports_taken l
 reports_taken (took_exec word ∷ l) = ap (λ n. counted (stood_in report_flag (words.Exec word)) n) (reports_taken l) ∙ ap (λ b. cond b (reports_in l + 1) (reports_in l)) (sym (asked word))
 reports_taken (took_ovr word ∷ l) = reports_taken l
@@ -134,8 +144,12 @@ module _ (bytes : List ℕ) (over : Bool) (replies : List Reply) (takes takes' :
   pub lacks_piece_room : known ≤ known' → ring.unfinished_of pieces known' ≡ 5 → LacksPieceRoom known' l
   lacks_piece_room more full = record { later = (let k = d.known_is in omega arith); full = ap (λ (z : List Piece). unfinished z known') d.pieces_are ∙ full }
 
-  pub may_be_done : (n : ℕ) → known ≤ n → n ≤ ticks_together pieces → MayBeDone n l
-  may_be_done n more most = record { later = (let k = d.known_is in omega arith); below = (let s = same_ticks in omega arith) }
+  pub may_be_done : (n : ℕ) → known ≤ n → n ≤ ticks_together pieces → ring.unfinished_of pieces n ≤ 5 → MayBeDone n l
+  may_be_done n more most few = record {
+    later = (let k = d.known_is in omega arith);
+    below = (let s = same_ticks in omega arith);
+    few = (let u = ap (λ (z : List Piece). unfinished z n) d.pieces_are in omega arith);
+  }
 
 -- the ends of fresh tables
 pub fresh_board : (bytes : List ℕ) (over : Bool) (replies : List Reply) (takes : List Take) (pieces : List Piece) (known : ℕ)

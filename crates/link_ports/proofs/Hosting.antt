@@ -1,5 +1,5 @@
 -- What a host's log says through each call.
-use Rattle.std.proofs.Common.{◌≡◌, ℕ, ◌+◌, ◌^◌, ◌≤◌, ◌<◌, Bool, true, false, cond, nat_eq, List, [], ◌∷◌, ◌++◌, length, reverse, Some, None, IfSome, refl, sym, ap, ◌∙◌, subst, arith}
+use Rattle.std.proofs.Common.{◌≡◌, ℕ, ◌+◌, ◌^◌, ◌≤◌, ◌<◌, Bool, true, false, List, [], ◌∷◌, ◌++◌, length, reverse, Some, None, IfSome, sym, ap, ◌∙◌, arith}
 use Rattle.std.specs.declared.option.Option.{Option}
 use Rattle.std.proofs.lemmas.List.{length-reverse}
 use Rattle.status_report.specs.declared.Reply.{Reply}
@@ -9,8 +9,8 @@ use Rattle.serial_ring.specs.Lists as link
 use Rattle.stream_host.specs.Links as host
 use Rattle.stream_host.specs.Ports.{TakesByte, SeemsFull, AnswersLines}
 use Rattle.stream_host.specs.Steps.{PortLog, stored_in, got_in}
-use Rattle.stream_host.specs.Steps.PortStep.{stored, dropped, raised, got, no_reply, shut}
-use Rattle.link_ports.specs.Hosts.{HostDid, raise_at}
+use Rattle.stream_host.specs.Steps.PortStep.{stored, dropped, got, no_reply, shut}
+use Rattle.link_ports.specs.Hosts.{HostDid}
 use Rattle.link_ports.proofs.Lists.{reverse_on, same_answers, same_lines, fewer_behind}
 
 -- what holds of a reply, where there is one, by two things that do

@@ -1,11 +1,15 @@
 -- Logs of which the newest stands first, beside lists in the order in which things were done.
-use Rattle.std.proofs.Common.{◌≡◌, ℕ, zero, suc, ◌+◌, ◌-◌, ◌≤◌, ◌<◌, Bool, true, false, cond, nat_eq, nat_le, List, [], ◌∷◌, ◌++◌, length, reverse, refl, sym, ap, ◌∙◌, arith, length-append}
+use Rattle.std.proofs.Common.{◌≡◌, ℕ, zero, suc, ◌+◌, ◌-◌, ◌≤◌, Bool, true, false, cond, nat_eq, nat_le, List, [], ◌∷◌, ◌++◌, length, reverse, refl, sym, ap, ◌∙◌, arith, length-append}
 use Rattle.std.proofs.lemmas.List.Sorted.{sum_by-IsPermutation, IsPermutation-reverse}
 use Rattle.std.proofs.lemmas.Bool.Decides.{nat_tests}
 use Rattle.std.proofs.lemmas.Grind.{reverse_onto}
 use Rattle.status_report.specs.declared.Reply.{Reply}
+use Rattle.status_report.specs.declared.Reply.TheVariants as replies
+use Rattle.status_report.specs.declared.reports.Report.{Report}
 use Rattle.status_report.specs.Answering.{lfs_in, is_answer, answers_in}
 use Rattle.status_report.proofs.Answered.{lfs_first}
+use Rattle.board_rules.specs.Ports.{PortStep, said}
+use Rattle.board_rules.specs.Ports.PortStep.{answered, reported}
 use Rattle.serial_ring.specs.Lists as link
 use Rattle.stream_host.specs.Links as host
 
@@ -17,6 +21,19 @@ same_answers rs = sum_by-IsPermutation (λ (r : Reply). cond (is_answer r) 1 0) 
 
 pub same_lines : (bytes : List ℕ) → lfs_in (reverse bytes) ≡ lfs_in bytes
 same_lines bytes = sum_by-IsPermutation (λ (b : ℕ). cond (nat_eq b 10) 1 0) bytes (reverse bytes) (IsPermutation-reverse bytes)
+
+-- what holds of an answer, and of a report that is answered, holds of what it is to answer with any reply
+pub by_said : (Q : Reply → PortStep → Type 0) → ((r : Reply) → Q r (answered r)) → ((p : Report) → Q (replies.Report p) (reported p)) → (r : Reply) → Q r (said r)
+by_said Q other report replies.Banner = other replies.Banner
+by_said Q other report replies.Ok = other replies.Ok
+by_said Q other report (replies.Error n) = other (replies.Error n)
+by_said Q other report (replies.Alarm n) = other (replies.Alarm n)
+by_said Q other report (replies.Message m) = other (replies.Message m)
+by_said Q other report (replies.Report p) = report p
+by_said Q other report (replies.Setting n v) = other (replies.Setting n v)
+by_said Q other report (replies.Modes m) = other (replies.Modes m)
+by_said Q other report (replies.Offset row at) = other (replies.Offset row at)
+by_said Q other report replies.Bye = other replies.Bye
 
 -- ---- bytes behind lines
 

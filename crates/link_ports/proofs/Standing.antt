@@ -1,13 +1,14 @@
 -- What a call leaves of a port that stands for a log.
-use Rattle.std.proofs.Common.{◌≡◌, ℕ, ◌+◌, ◌≤◌, cond, nat_eq, [], ◌∷◌, ◌++◌, Bool, true, false, length, Some, None, IfSome, IfNone, refl, arith, length-append}
+use Rattle.std.proofs.Common.{◌≡◌, ℕ, ◌+◌, ◌≤◌, cond, [], ◌∷◌, ◌++◌, Bool, true, false, length, Some, None, IfSome, IfNone, refl, ap, ◌∙◌, arith, length-append}
 use Rattle.std.specs.declared.option.Option.{Option}
 use Rattle.serial_ring.specs.declared.view.ByteIn.{ByteIn}
 use Rattle.serial_ring.specs.declared.view.ByteIn.TheVariants as found
 use Rattle.status_report.specs.declared.Reply.{Reply}
 use Rattle.status_report.specs.Answering.{lfs_in, is_answer, answers_in}
 use Rattle.status_report.proofs.Answered.{lfs_first, lfs_on, answers_first, answers_on}
-use Rattle.board_rules.specs.Ports.{PortLog, taken_in, answered_in}
-use Rattle.board_rules.specs.Ports.PortStep.{took, answered}
+use Rattle.board_rules.specs.Ports.{PortLog, said, taken_in, answered_in}
+use Rattle.board_rules.specs.Ports.PortStep.{took}
+use Rattle.link_ports.proofs.Lists.{by_said}
 
 pub by_option : {A R Q : Type 0} {P : A → Type 0} (o : Option A) → IfSome o P → IfNone o R → ((a : A) → P a → Q) → (R → Q) → Q
 by_option None p r there none = none r
@@ -33,16 +34,22 @@ none_at : (b : Bool) → b ≡ false → ◌≡◌ {A = ℕ} (cond b 1 0) 0
 none_at true is = absurd cc
 none_at false is = refl
 
-pub other_more : (r : Reply) (l : PortLog) (k n : ℕ) → is_answer r ≡ false → answers_in (answered_in l) + k ≤ n → answers_in (answered_in (answered r ∷ l)) + k ≤ n
-other_more r l k n is le =
-    let e = answers_on (answered_in l) (r ∷ []) in
+-- a reply adds itself to what was answered, and no byte to what was taken
+adds_reply : (l : PortLog) (r : Reply) → (answered_in (said r ∷ l) ≡ answered_in l ++ r ∷ []) × (taken_in (said r ∷ l) ≡ taken_in l)
+adds_reply l = by_said (λ r e. (answered_in (e ∷ l) ≡ answered_in l ++ r ∷ []) × (taken_in (e ∷ l) ≡ taken_in l)) (λ r. (refl, refl)) (λ p. (refl, refl))
+
+pub other_more : (r : Reply) (l : PortLog) (k : ℕ) → is_answer r ≡ false → answers_in (answered_in l) + k ≤ lfs_in (taken_in l) → answers_in (answered_in (said r ∷ l)) + k ≤ lfs_in (taken_in (said r ∷ l))
+other_more r l k is le =
+    let s = adds_reply l r in
+    let t = ap lfs_in s.1 in
+    let e = ap answers_in s.0 ∙ answers_on (answered_in l) (r ∷ []) in
     let g = answers_first r [] in omega (arith, none_at (is_answer r) is)
 
-pub answer_more : (r : Reply) (l : PortLog) (n : ℕ) → answers_in (answered_in l) + 1 ≤ n → answers_in (answered_in (answered r ∷ l)) ≤ n
+pub answer_more : (r : Reply) (l : PortLog) (n : ℕ) → answers_in (answered_in l) + 1 ≤ n → answers_in (answered_in (said r ∷ l)) ≤ n
 answer_more r l n le =
-    let e = answers_on (answered_in l) (r ∷ []) in
+    let e = ap answers_in (adds_reply l r).0 ∙ answers_on (answered_in l) (r ∷ []) in
     let g = answers_first r [] in
     let h = one_at_most (is_answer r) in omega arith
 
-pub reply_more : (r : Reply) (l : PortLog) (n : ℕ) → length (answered_in l) ≤ n → length (answered_in (answered r ∷ l)) ≤ n + 1
-reply_more r l n le = let e = length-append (answered_in l) (r ∷ []) in omega arith
+pub reply_more : (r : Reply) (l : PortLog) (n : ℕ) → length (answered_in l) ≤ n → length (answered_in (said r ∷ l)) ≤ n + 1
+reply_more r l n le = let e = ap length (adds_reply l r).0 ∙ length-append (answered_in l) (r ∷ []) in omega arith

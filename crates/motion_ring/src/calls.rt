@@ -94,11 +94,12 @@ impl SegOut {
     }
 
     /// How many ticks are done, as it loads: no fewer than this end was told before, and no more than were
-    /// published.
+    /// published. At most five published pieces are unfinished then.
     pub fn done(&mut self) -> u64
         ensures loaded { result ≡ known_by self.new }
         ensures load { done_loads_of self.new ≡ done_loads_of self.old + 1 }
         ensures known { (known_by self.old ≤ result) × (result ≤ ticks_together (published_by self.old)) }
+        ensures few { unfinished_of (published_by self.old) result ≤ most_unfinished }
         ensures published { published_by self.new ≡ published_by self.old }
         ensures ring { ring_of_out self.new ≡ ring_of_out self.old }
     {

@@ -12,7 +12,7 @@ use Rattle.serial_ring.specs.Rule.{AreTied}
 use Rattle.stream_host.specs.Steps.{PortLog as HostLog}
 use Rattle.stream_host.specs.Steps.PortStep.{stored, dropped, raised, got, no_reply, shut}
 use Rattle.board_rules.specs.Ports.{PortLog as BoardLog}
-use Rattle.board_rules.specs.Ports.PortStep.{took, found_empty, found_closed, found_free, answered, no_reply_room, took_exec, took_ovr, published, no_piece_room, loaded}
+use Rattle.board_rules.specs.Ports.PortStep.{took, found_empty, found_closed, found_free, answered, reported, no_reply_room, took_exec, took_ovr, published, no_piece_room, loaded}
 use Rattle.link_ports.specs.Hosts as host
 use Rattle.link_ports.specs.Boards as board
 use Rattle.run_law.specs.Ran.{IsLinked}
@@ -41,6 +41,7 @@ same_takes (found_empty ∷ l) = same_takes l
 same_takes (found_closed ∷ l) = same_takes l
 same_takes (found_free n ∷ l) = same_takes l
 same_takes (answered r ∷ l) = same_takes l
+same_takes (reported r ∷ l) = same_takes l
 same_takes (no_reply_room ∷ l) = same_takes l
 same_takes (took_exec word ∷ l) = ap (λ (z : List Take). takes.Exec word ∷ z) (same_takes l)
 same_takes (took_ovr word ∷ l) = ap (λ (z : List Take). takes.Override word ∷ z) (same_takes l)

@@ -16,15 +16,15 @@ none_waits put taken waiting is = (
 )
 
 -- where a reply is on its way, the host finds it
-pub finds_reply : (w : Seen) (hist : History) (board : Turn) → Holds w hist → w.lists.replies ≢ [] → (false ≡ true) ↔ ReadsEarly board hist
+pub finds_reply : (w : Seen) (hist : History) (board : Turn) → Holds w hist → w.lists.replies ≢ [] → (false ≡ true) ↔ ReadsEarly board w hist
 finds_reply w hist board h some = (
   (λ e. absurd cc),
   (λ early. absurd (some ((none_waits (answered_of hist.board) (got_of hist.host) w.lists.replies h.joined.replies.fifo).1 early.got))),
 )
 
 -- where none is, and the board goes on, it reads where it may
-pub reads_where_it_may : (w : Seen) (hist : History) (board : Turn) (reads : Bool) → Holds w hist → w.lists.replies ≡ [] → (IsIdle board hist → ⊥) → ((reads ≡ true) ↔ MayRead hist.host)
-    → (reads ≡ true) ↔ ReadsEarly board hist
+pub reads_where_it_may : (w : Seen) (hist : History) (board : Turn) (reads : Bool) → Holds w hist → w.lists.replies ≡ [] → (IsIdle board w hist → ⊥) → ((reads ≡ true) ↔ MayRead hist.host)
+    → (reads ≡ true) ↔ ReadsEarly board w hist
 reads_where_it_may w hist board reads h none going may = (
   (λ yes. record { reads = may.0 yes; got = (none_waits (answered_of hist.board) (got_of hist.host) w.lists.replies h.joined.replies.fifo).0 none; going = going }),
   (λ early. may.1 early.reads),

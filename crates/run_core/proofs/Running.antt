@@ -19,7 +19,7 @@ use Rattle.run_core.specs.Passing.{record_room}
 use Rattle.run_core.specs.Worlds.{Seen, History, Holds, LinkIsKept, FlagsAreKept, MotionIsKept}
 use Rattle.run_law.proofs.Taking.{taken_were_raised}
 use Rattle.run_law.specs.Flags.{AreTaken}
-use Rattle.board_rules.specs.Ports.{has_held_in, has_changed_in}
+use Rattle.board_rules.specs.Ports.{has_held_in, has_changed_in, reports_in}
 
 -- ---- what one side got is a front of what the other gave
 
@@ -44,7 +44,7 @@ link w hist h = record {
 }
 
 -- what the board took of flags was raised
-pub flags_taken : (w : Seen) (hist : History) → Holds w hist → AreTaken (raises_of hist.host) (has_held_in (board_log hist.board)) (has_changed_in (board_log hist.board))
+pub flags_taken : (w : Seen) (hist : History) → Holds w hist → AreTaken (raises_of hist.host) (has_held_in (board_log hist.board)) (has_changed_in (board_log hist.board)) (reports_in (board_log hist.board))
 flags_taken w hist h = taken_were_raised (w.lists.exec ∷ w.lists.override ∷ []) (host_log hist.host) (board_log hist.board) h.joined.flags.balance
 
 -- a board that rests is finished

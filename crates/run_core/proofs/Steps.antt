@@ -133,5 +133,6 @@ module _ (l : Listed) (host : HostLog) (board : BoardLog) (pulse : PieceLog) (j 
     record {
       later = j.pieces.known_is;
       below = pieces.done_within l.pieces l.left l.done (published_in board) (known_in board) (pieces_of pulse) (counted pulse) (uncounted pulse) j.pieces;
+      few = j.pieces.few;
     },
   )

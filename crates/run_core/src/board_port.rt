@@ -3,8 +3,8 @@
 ghost use Rattle.std.specs.Prelude.{◌≡◌, ℕ, ◌+◌, ◌∷◌, ◌≤◌, true, length, OnOk, OnErr, IfErr};
 ghost use Rattle.std.specs.List.{slice_get};
 ghost use Rattle.status_report.specs.Answering.{receive_room, reply_room};
-ghost use Rattle.board_rules.specs.Ports.{PortLog as BoardLog, MayAnswer, HasTakenFew, HasFewReports, LacksReplyRoom, asks_report};
-ghost use Rattle.board_rules.specs.Ports.PortStep.{took, found_empty, found_closed, found_free, answered, no_reply_room, took_exec, took_ovr};
+ghost use Rattle.board_rules.specs.Ports.{PortLog as BoardLog, said, MayAnswer, said, HasTakenFew, HasFewReports, LacksReplyRoom, asks_report};
+ghost use Rattle.board_rules.specs.Ports.PortStep.{took, found_empty, found_closed, found_free, no_reply_room, took_exec, took_ovr};
 ghost use Rattle.stream_host.specs.Steps.{PortLog as HostLog};
 ghost use Rattle.pulse_engine.specs.Logs.{PieceLog};
 ghost use Rattle.run_core.specs.Joining.{Joined};
@@ -53,7 +53,7 @@ impl BoardPort for Lists {
     /// Answers, or hands the reply back where 16 wait.
     fn answer(&mut self, r: Reply) -> Result<(), Reply>
         requires { (far : HostLog × PieceLog) × (l : BoardLog) × Joined self.old far.0 l far.1 × MayAnswer l r }
-        ensures ok { OnOk result ((far : HostLog × PieceLog) (l : BoardLog) → Joined self.old far.0 l far.1 → MayAnswer l r → Joined self.new far.0 (answered r ∷ l) far.1) }
+        ensures ok { OnOk result ((far : HostLog × PieceLog) (l : BoardLog) → Joined self.old far.0 l far.1 → MayAnswer l r → Joined self.new far.0 (said r ∷ l) far.1) }
         ensures full { OnErr result ((far : HostLog × PieceLog) (l : BoardLog) → Joined self.old far.0 l far.1 → Joined self.new far.0 (no_reply_room ∷ l) far.1 × LacksReplyRoom l) }
         ensures back { IfErr result (λ handed. handed ≡ r) }
         ensures cause { OnErr result (reply_room ≤ length self.old.replies) }

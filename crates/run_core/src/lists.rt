@@ -69,6 +69,13 @@ impl Lists {
         self.replies.is_empty()
     }
 
+    /// Whether no flag is up.
+    pub(crate) fn has_no_flag(&self) -> bool
+        ensures { (result ≡ true) ↔ (self.now.exec ≡ 0) × (self.now.override ≡ 0) }
+    {
+        self.exec.bits() == 0 && self.overrides.bits() == 0
+    }
+
     /// Lists in which nothing is on its way, and the link is open.
     pub fn new(alloc: Global) -> Result<Lists, AllocError>
         ensures { IfOk result (λ lists. Joined lists [] [] []) }

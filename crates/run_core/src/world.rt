@@ -128,11 +128,14 @@ impl World {
         self.waiting.have_room();
     }
 
-    /// Whether the board, which answered so in its last turn, has nothing to go on with: it waits for a byte, and none is on
-    /// its way, or for a resume, which may be the next byte of the job.
+    /// Whether the board, which answered so in its last turn, has nothing to go on with: no flag is up, and it waits for a
+    /// byte, and none is on its way, or for a resume, which may be the next byte of the job.
     fn is_idle(&self, board: Turn) -> bool
-        ensures { (hist : History) → Holds self.now hist → (result ≡ true) ↔ IsIdle board hist }
+        ensures { (hist : History) → Holds self.now hist → (result ≡ true) ↔ IsIdle board self.now hist }
     {
+        if !self.lists.has_no_flag() {
+            return false;
+        }
         match board {
             Turn::Wait(On::Byte) => self.lists.bytes.is_empty(),
             Turn::Wait(On::Resume) => true,
@@ -143,7 +146,7 @@ impl World {
     /// Whether the host's next turn would read the job before what was sent is answered: it may read, no reply is on its way,
     /// and the board, which answered so in its last turn, is not idle. A host that finds a reply does not read.
     pub(crate) fn reads_early(&self, board: Turn) -> bool
-        ensures { (hist : History) → Holds self.now hist → (result ≡ true) ↔ ReadsEarly board hist }
+        ensures { (hist : History) → Holds self.now hist → (result ≡ true) ↔ ReadsEarly board self.now hist }
     {
         if self.is_idle(board) {
             return false;

@@ -1,5 +1,5 @@
 -- A job whose lines are accepted is carried out whole.
-use Rattle.std.proofs.Common.{◌≡◌, ℕ, ◌+◌, ◌≤◌, inl, inr, Bool, true, false, cond, List, [], ◌∷◌, ◌++◌, length, map, nat_eq, nat_lt, append-nil, append_assoc, length-append, Some, None, refl, sym, ap, ◌∙◌, subst, arith}
+use Rattle.std.proofs.Common.{◌≡◌, ℕ, ◌+◌, ◌≤◌, inl, inr, ◌||◌, Bool, true, false, cond, List, [], ◌∷◌, ◌++◌, length, map, nat_eq, nat_lt, append-nil, append_assoc, length-append, Some, None, refl, sym, ap, ◌∙◌, subst, arith}
 use Rattle.std.specs.Prelude.{slice_get}
 use Rattle.std.specs.declared.option.Option.{Option}
 use Rattle.std.specs.List.{AllByRecursion, list_any}
@@ -21,10 +21,10 @@ use Rattle.run_rules.specs.Told.{is_error, errors_in}
 use Rattle.run_rules.proofs.Determined.{one_outcome, one_opening}
 use Rattle.stream_host.specs.declared.Reading.{Reading}
 use Rattle.stream_host.specs.declared.Reading.TheVariants.{Ended, Failed, Large, Stopped}
-use Rattle.stream_host.specs.declared.Stop.TheVariants.{End}
-use Rattle.stream_host.specs.Jobs.{ends_sending, is_long, ends_in, long_line, stop_by, lines_to_send, MayHaveRead, MayLeave}
+use Rattle.stream_host.specs.declared.Stop.TheVariants.{End, Reset}
+use Rattle.stream_host.specs.Jobs.{ends_sending, is_long, holds_reset, ends_in, long_line, stop_by, lines_to_send, MayHaveRead, MayLeave}
 use Rattle.stream_host.specs.Ran.{is_failed}
-use Rattle.stream_host.proofs.Pieces.{ends_on, all_are_sent}
+use Rattle.stream_host.proofs.Pieces.{neither, ends_on, all_are_sent}
 use Rattle.run_law.specs.declared.RunEnd.{RunEnd}
 use Rattle.run_law.specs.Runs.{Sinks, IsRun}
 use Rattle.run_law.specs.SoFar.{BeginsWith}
@@ -72,7 +72,7 @@ error_11 : (c : Bool) (b : Before) (o : Outcome) (D : Type 0) → either c (o �
 error_11 false b o D is none = refl
 error_11 true b o D is none = absurd (let e = sym none ∙ ap (λ (x : Outcome). is_error x.answer) is in cc)
 
-short_kept : (line : List ℕ) → nat_lt most_kept (length (plain line)) ≡ false → ends_sending line ≡ false
+short_kept : (line : List ℕ) → nat_lt most_kept (length (plain line)) ≡ false → is_long line ≡ false
 short_kept line e = under (length (plain line)) e
   where
     under : (n : ℕ) → nat_lt 79 n ≡ false → nat_lt 127 n ≡ false
@@ -83,12 +83,28 @@ first_none true n m e none = absurd (omega arith)
 first_none false n m e none = (refl, omega arith)
 
 short_lines : (b t : Before) (lines : List (List ℕ)) (os : List Outcome) → Follows false b (map plain lines) (map a_line os) t → errors_in os ≡ 0
-    → AllByRecursion (λ l. ends_sending l ≡ false) lines
+    → AllByRecursion (λ l. is_long l ≡ false) lines
 short_lines b t [] os f none = tt
 short_lines b t (l ∷ ls) [] f none = absurd f
 short_lines b t (l ∷ ls) (o ∷ os) f none =
     let parts = first_none (is_error o.answer) (errors_in (o ∷ os)) (errors_in os) (sum_by-cons (λ (x : Outcome). cond (is_error x.answer) 1 0) o os) none in
     (short_kept l (error_11 (nat_lt most_kept (length (plain l))) b o (ByKept false b (plain l) o) f.0 parts.0), short_lines (after b o) t ls os f.1 parts.1)
+
+-- so the sending ends in none of them, where none has a reset
+none_ends : (lines : List (List ℕ)) → AllByRecursion (λ l. is_long l ≡ false) lines → list_any holds_reset lines ≡ false → AllByRecursion (λ l. ends_sending l ≡ false) lines
+none_ends [] short calm = tt
+none_ends (l ∷ ls) short calm =
+    let first = neither (holds_reset l) (list_any holds_reset ls) calm in
+    (ap (λ b. b || holds_reset l) short.0 ∙ first.0, none_ends ls short.1 first.1)
+
+-- where the sending ends in no line, none is too long, and none has a reset
+either_none : (lines : List (List ℕ)) → list_any ends_sending lines ≡ false → (list_any is_long lines ≡ false) × (list_any holds_reset lines ≡ false)
+either_none [] none = (refl, refl)
+either_none (l ∷ ls) none =
+    let first = neither (ends_sending l) (list_any ends_sending ls) none in
+    let both = neither (is_long l) (holds_reset l) first.0 in
+    let rest = either_none ls first.1 in
+    (ap (λ b. b || list_any is_long ls) both.0 ∙ rest.0, ap (λ b. b || list_any holds_reset ls) both.1 ∙ rest.1)
 
 -- ---- a front of such a job
 
@@ -145,8 +161,10 @@ read_front (Some xs) (Some ys) bytes read told taken =
 whole_job : (read : List ℕ) → length read ≤ largest_job → job_of read ≡ read
 whole_job read few = take_all largest_job read few
 
-stops_at_end : (r : Reading) (text : List ℕ) → r ≡ Ended → list_any is_long (lines_of text) ≡ false → stop_by r text ≡ End
-stops_at_end r text e none = ap (λ q. stop_by q text) e ∙ ap (λ b. cond b (long_line (lines_of text)) End) none
+stops_at_end : (r : Reading) (text : List ℕ) → r ≡ Ended → ends_in text ≡ false → stop_by r text ≡ End
+stops_at_end r text e none =
+    let parts = either_none (lines_of text) none in
+    ap (λ q. stop_by q text) e ∙ ap (λ b. cond b (long_line (lines_of text)) (cond (list_any holds_reset (lines_of text)) Reset End)) parts.0 ∙ ap (λ b. cond b Reset End) parts.1
 
 -- how the reading of such a job ends
 ended : (r : Reading) (n : ℕ) (text left : List ℕ) → MayHaveRead r n → n ≤ largest_job → is_failed r ≡ false → (ends_in text ≡ false → MayLeave r left) → ends_in text ≡ false → r ≡ Ended
@@ -162,7 +180,7 @@ complete job_was job_is was is end run job well =
     let few : length run.read ≤ largest_job =
     (let e = ap length front.0.is in let a = length-append run.read front.0.rest in let f = job.few in omega arith) in
     let sent = run.sent in
-    let short = short_lines (start job.first) job.last (lines_of job.bytes) job.outcomes job.follows job.accepted in
+    let short = none_ends (lines_of job.bytes) (short_lines (start job.first) job.last (lines_of job.bytes) job.outcomes job.follows job.accepted) job.going in
     let scanned : job.bytes ≡ run.scanned ++ (sent.scans.scans.left ++ front.0.rest) =
     front.0.is ∙ ap (λ (x : List ℕ). x ++ front.0.rest) (sym (whole_job run.read few) ∙ sent.scans.scans.front)
     ∙ append_assoc run.scanned sent.scans.scans.left front.0.rest in

@@ -53,7 +53,7 @@ host_keeps = (
           (
             record { going = refl; on = refl; sends = refl; used = refl; free = refl; none_due = refl; shown = inr refl },
             (
-              record { next = refl; room = omega arith },
+              record { next = refl; reported = refl; room = omega arith },
               (
                 record { going = refl; next = refl; few = omega arith; sends = refl; free = refl; none_due = refl },
                 ((record { going = refl; on = refl; sends = refl; used = refl; free = refl; none_due = refl; shown = inr refl }, omega arith, omega arith), tt),
@@ -83,7 +83,7 @@ host_ran = has_run all_done one_line nothing silent silent host_keeps (record { 
 
 -- ---- the board, the pulse and the recorder
 
-board_ran : (first : State) → IsOpening first → BoardRan (10 ∷ []) true false false (replies.Banner ∷ replies.Ok ∷ replies.Bye ∷ []) (pieces.End ∷ [])
+board_ran : (first : State) → IsOpening first → BoardRan (10 ∷ []) true false false 0 (replies.Banner ∷ replies.Ok ∷ replies.Bye ∷ []) (pieces.End ∷ [])
 board_ran first opening = record {
   first = first;
   outcomes = told first [] ∷ [];
@@ -100,6 +100,8 @@ board_ran first opening = record {
   rests = record { blocks = refl; speed = refl };
   asks = refl;
   gave = refl;
+  reported = (0, tt);
+  reports = omega arith;
 }
 
 pulse_ran : PulseRan (pieces.End ∷ []) 0 (kinds.End ∷ [])
@@ -115,6 +117,6 @@ recorder_ran = record {
 
 pub a_run : (first : State) → IsOpening first → IsRun one_line nothing sinks sinks (ended ended_so false)
 a_run first opening =
-    runs one_line nothing sinks sinks ended_so false (10 ∷ []) [] (10 ∷ []) true true false false
+    runs one_line nothing sinks sinks ended_so false (10 ∷ []) [] (10 ∷ []) true true false false 0
     (replies.Banner ∷ replies.Ok ∷ replies.Bye ∷ []) (replies.Banner ∷ replies.Ok ∷ replies.Bye ∷ []) (pieces.End ∷ []) (pieces.End ∷ []) 0 (kinds.End ∷ []) (kinds.End ∷ [])
-    host_ran (board_ran first opening) pulse_ran recorder_ran (record { rest = []; front = refl; closes = λ e. refl; all = λ e. refl }) (record { held_by = λ e. absurd cc; changed_by = λ e. absurd cc }) refl refl refl
+    host_ran (board_ran first opening) pulse_ran recorder_ran (record { rest = []; front = refl; closes = λ e. refl; all = λ e. refl }) (record { held_by = λ e. absurd cc; changed_by = λ e. absurd cc; asked_by = omega arith }) refl refl refl

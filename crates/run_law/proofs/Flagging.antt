@@ -41,9 +41,9 @@ scanned_where_raised p scanned raised due resumes none are any =
     passes_some p (served_in scanned) (omega arith)
 
 -- what disturbs a plan is scanned
-pub disturbed_by : (scanned raised due : List ℕ) (resumes : ℕ) (held changed : Bool) (outcomes : List Outcome) (actions : List Action) → AreRaised scanned raised due resumes → AreTaken raised held changed
+pub disturbed_by : (scanned raised due : List ℕ) (resumes : ℕ) (held changed : Bool) (asked : ℕ) (outcomes : List Outcome) (actions : List Action) → AreRaised scanned raised due resumes → AreTaken raised held changed asked
     → DisturbedOnlyBy held (changed || ends_program outcomes) actions → DisturbedOnlyBy (asks_hold scanned) (asks_change scanned || ends_program outcomes) actions
-disturbed_by scanned raised due resumes held changed outcomes actions are taken was =
+disturbed_by scanned raised due resumes held changed asked outcomes actions are taken was =
     disturbed_more held (changed || ends_program outcomes) (asks_hold scanned) (asks_change scanned || ends_program outcomes) actions
     (λ is. scanned_where_raised is_hold scanned raised due resumes refl are (taken.held_by is))
     (λ is. by_change changed (ends_program outcomes) (asks_change scanned) (λ now. scanned_where_raised is_change scanned raised due resumes refl are (taken.changed_by now)) is)

@@ -18,14 +18,15 @@ use Rattle.planner_runs.specs.Runs.{Plans, with_move, cleared, fresh_plan, most_
 use Rattle.run_rules.specs.Outcomes.{start}
 use Rattle.run_rules.specs.Lines.{whole_lines}
 use Rattle.run_rules.specs.Told.{replies_in}
-use Rattle.status_report.specs.Answering.{is_bye}
+use Rattle.status_report.specs.Answering.{is_bye, without_reports}
 use Rattle.stream_host.specs.Ran.{HostEnd, HostRan}
 use Rattle.run_law.specs.Flags.{AreTaken}
 use Rattle.run_law.specs.Runs.{Sinks, ended, IsRun}
 use Rattle.run_law.specs.Ran.{BoardRan, PulseRan, RecorderRan, IsLinked}
 use Rattle.run_law.specs.SoFar.{BeginsWith}
 use Rattle.run_rules.proofs.Answering.{NoByes, none_is_bye}
-use Rattle.run_law.proofs.Law.{runs, drive}
+use Rattle.run_law.proofs.Reporting.{plain_front, bye_without}
+use Rattle.run_law.proofs.Law.{runs_by, drive}
 
 abbrev Others : {X : Type 0} → X → List X → Type 0
 Others {X} x ys = AllByRecursion (λ (y : X). y ≡ x → ⊥) ys
@@ -103,16 +104,16 @@ replies_whole answered got front is none some more =
 -- ---- the run
 
 pub ends : (job_was job_is : SourceState) (was is : Sinks) (end : HostEnd) (steps_failed : Bool)
-    (stored raised taken : List ℕ) (shut closed held changed : Bool) (got answered : List Reply) (got_pieces published : List Piece) (ticks : ℕ) (got_records put : List Record)
-    → HostRan job_was job_is was.console is.console stored shut raised got end → BoardRan taken closed held changed answered published → PulseRan got_pieces ticks put
+    (stored raised taken : List ℕ) (shut closed held changed : Bool) (asked : ℕ) (got answered : List Reply) (got_pieces published : List Piece) (ticks : ℕ) (got_records put : List Record)
+    → HostRan job_was job_is was.console is.console stored shut raised got end → BoardRan taken closed held changed asked answered published → PulseRan got_pieces ticks put
     → RecorderRan was.steps is.steps got_records steps_failed
-    → IsLinked stored shut taken closed → AreTaken raised held changed → BeginsWith answered got → BeginsWith published got_pieces → BeginsWith put got_records
+    → IsLinked stored shut taken closed → AreTaken raised held changed asked → BeginsWith answered got → BeginsWith published got_pieces → BeginsWith put got_records
     → IsRun job_was job_is was is (ended end steps_failed)
-ends job_was job_is was is end steps_failed stored raised taken shut closed held changed got answered got_pieces published ticks got_records put host board pulse recorder link flags some_replies some_pieces some_records =
+ends job_was job_is was is end steps_failed stored raised taken shut closed held changed asked got answered got_pieces published ticks got_records put host board pulse recorder link flags some_replies some_pieces some_records =
     let none = none_is_bye true (start board.first) (whole_lines taken) board.outcomes board.last board.follows in
-    let same_replies = replies_whole answered got (replies_in board.outcomes) board.told none host.bye some_replies in
+    let same_replies = replies_whole (without_reports answered) (without_reports got) (replies_in board.outcomes) board.told none (bye_without got host.bye) (plain_front answered got some_replies) in
     let same_pieces : got_pieces ≡ published =
     whole_front pieces.End published got_pieces board.given pulse.before (no_ends most_blocks fresh_plan board.plan board.actions board.given board.run) board.gave pulse.ends some_pieces in
-    let ended : IsEnded put = (drive taken closed held changed answered published got_pieces ticks put board pulse same_pieces).ended in
-    runs job_was job_is was is end steps_failed stored raised taken shut closed held changed got answered got_pieces published ticks got_records put host board pulse recorder link flags
-    same_replies same_pieces (records_whole put got_records ended recorder.ended some_records)
+    let ended : IsEnded put = (drive taken closed held changed asked answered published got_pieces ticks put board pulse same_pieces).ended in
+    runs_by job_was job_is was is end steps_failed stored raised taken shut closed held changed asked got answered got_pieces published ticks got_records put host board pulse recorder link flags
+    same_replies some_replies same_pieces (records_whole put got_records ended recorder.ended some_records)

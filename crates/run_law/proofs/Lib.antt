@@ -1,9 +1,11 @@
 pub mod Flagging
+pub mod Querying
 pub mod Taking
 pub mod Law
 pub mod Fronts
 pub mod SoFar
 pub mod Having
+pub mod Reporting
 pub mod Boarding
 pub mod Completing
 pub mod Example

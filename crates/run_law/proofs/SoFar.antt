@@ -6,6 +6,7 @@ use Rattle.std.proofs.lemmas.List.Elements.{filter-append}
 use Rattle.outside.specs.Causes.{SourceState}
 use Rattle.gcode_words.specs.Stripping.{plain}
 use Rattle.status_report.specs.declared.Reply.{Reply}
+use Rattle.status_report.specs.Answering.{without_reports}
 use Rattle.status_report.specs.declared.Reply.TheVariants as replies
 use Rattle.step_line.specs.declared.Piece.{Piece}
 use Rattle.step_line.specs.declared.Piece.TheVariants as pieces
@@ -29,7 +30,8 @@ use Rattle.run_law.specs.Flags.{AreTaken}
 use Rattle.run_law.specs.Runs.{Sinks, ends_program}
 use Rattle.run_law.proofs.Flagging.{disturbed_by}
 use Rattle.run_law.specs.SoFar.{BeginsWith, BoardRuns, PulseRuns, RecorderRuns, IsSoFar}
-use Rattle.run_law.proofs.Law.{ended_records}
+use Rattle.run_law.proofs.Reporting.{plain_front}
+use Rattle.run_law.proofs.Law.{ended_records, ended_ticks, reports_are}
 
 -- ---- fronts
 
@@ -66,9 +68,6 @@ lines_begin whole front b = begins_by (whole_lines (front ++ b.rest)) (whole_lin
 
 -- ---- ticks
 
-ended_ticks : (given : List Piece) → ticks_among (all_records given ++ kinds.End ∷ []) ≡ flat_map ticks_of given
-ended_ticks given = filter-append is_tick (all_records given) (kinds.End ∷ []) ∙ append-nil (ticks_among (all_records given)) ∙ ticks_of_pieces given
-
 ticks_begin : (held changed : Bool) (asked : List Asked) (actions : List Action) (given : List Piece) (plan : Planned) (records : List Record) → IsPlannerRun actions given plan → DisturbedOnlyBy held changed actions
     → BeginsWith asked (all_asked actions) → BeginsWith (all_records given ++ kinds.End ∷ []) records → BeginsWith (ticks_of_all asked) (ticks_among records)
 ticks_begin held changed asked actions given plan records run disturbed more rest =
@@ -85,11 +84,11 @@ ticks_begin held changed asked actions given plan records run disturbed more res
 
 -- ---- the run
 
-pub runs_so_far : (job_was job_is : SourceState) (was is : Sinks) (stored raised taken : List ℕ) (held changed : Bool) (got answered : List Reply) (got_pieces published : List Piece) (got_records put : List Record)
-    → HostRuns job_was job_is was.console is.console stored raised got → BoardRuns taken held changed answered published → PulseRuns got_pieces put → RecorderRuns was.steps is.steps got_records
-    → BeginsWith stored taken → AreTaken raised held changed → BeginsWith answered got → BeginsWith published got_pieces → BeginsWith put got_records
+pub runs_so_far : (job_was job_is : SourceState) (was is : Sinks) (stored raised taken : List ℕ) (held changed : Bool) (asked : ℕ) (got answered : List Reply) (got_pieces published : List Piece) (got_records put : List Record)
+    → HostRuns job_was job_is was.console is.console stored raised got → BoardRuns taken held changed asked answered published → PulseRuns got_pieces put → RecorderRuns was.steps is.steps got_records
+    → BeginsWith stored taken → AreTaken raised held changed asked → BeginsWith answered got → BeginsWith published got_pieces → BeginsWith put got_records
     → IsSoFar job_was job_is was is
-runs_so_far job_was job_is was is stored raised taken held changed got answered got_pieces published got_records put host board pulse recorder bytes flags some_replies some_pieces some_records =
+runs_so_far job_was job_is was is stored raised taken held changed asked got answered got_pieces published got_records put host board pulse recorder bytes flags some_replies some_pieces some_records =
     let on_the_link : BeginsWith (on_link host.lines) taken = begins_on (on_link host.lines) stored taken (record { rest = host.left; is = sym host.link }) bytes in
     let lines : BeginsWith (map plain host.lines) (whole_lines taken) =
     begins_by (whole_lines (on_link host.lines)) (map plain host.lines) (whole_lines taken) (sym (lines_back host.lines)) (lines_begin (on_link host.lines) taken on_the_link) in
@@ -117,7 +116,7 @@ runs_so_far job_was job_is was is stored raised taken held changed got answered 
       begun = begins_on (map plain host.lines) (whole_lines taken) board.lines lines board.begun;
       follows = board.follows;
       got = got;
-      told = begins_on told_all answered got board.told some_replies;
+      told = begins_on told_all (without_reports answered) (without_reports got) board.told (plain_front answered got some_replies);
       console_failed = host.failed;
       text_left = host.waiting;
       console = host.console;
@@ -125,11 +124,13 @@ runs_so_far job_was job_is was is stored raised taken held changed got answered 
       given = board.given;
       plan = board.plan;
       run = board.run;
-      disturbed = disturbed_by host.scanned raised host.due host.resumes held changed board.outcomes board.actions host.raises flags board.disturbed;
+      disturbed = disturbed_by host.scanned raised host.due host.resumes held changed asked board.outcomes board.actions host.raises flags board.disturbed;
       asks = board.asks;
       records = got_records;
       recorded = records_are;
       ticks = ticks_begin held (changed || ends_program board.outcomes) (asked_in board.outcomes) board.actions board.given board.plan got_records board.run board.disturbed board.asks records_are;
+      reports = reports_are board.first board.outcomes board.given host.scanned raised host.due host.resumes held changed asked host.lines (ticks_among (all_records board.given)) answered got host.raises flags board.reported board.reports some_replies
+          (ticks_of_pieces board.given) host.reported;
       steps_failed = recorder.failed;
       lines_left = recorder.waiting;
       steps = recorder.steps;

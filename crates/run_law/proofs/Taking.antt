@@ -23,10 +23,11 @@ use Rattle.realtime_flags.proofs.Bits.{same_flag}
 use Rattle.stream_host.specs.Steps.{PortLog as HostLog}
 use Rattle.stream_host.specs.Steps as hosts
 use Rattle.stream_host.specs.Steps.PortStep.{stored, dropped, raised, got, no_reply, shut}
-use Rattle.board_rules.specs.Ports.{PortLog as BoardLog, has_changes, has_held_in, has_changed_in}
-use Rattle.board_rules.specs.Ports.PortStep.{took, found_empty, found_closed, found_free, answered, no_reply_room, took_exec, took_ovr, published, no_piece_room, loaded}
+use Rattle.board_rules.specs.Ports.{PortLog as BoardLog, has_changes, has_held_in, has_changed_in, reports_in}
+use Rattle.board_rules.specs.Ports.PortStep.{took, found_empty, found_closed, found_free, answered, reported, no_reply_room, took_exec, took_ovr, published, no_piece_room, loaded}
 use Rattle.run_law.specs.Flags.{is_hold, is_override, is_change, AreTaken}
 use Rattle.run_law.specs.Taking.{raised_to, raises_in, takes_in}
+use Rattle.run_law.proofs.Querying.{asked_few}
 
 abbrev hold_flag : Flag
 hold_flag = flags.Exec 1
@@ -60,6 +61,7 @@ hold_taken (found_empty ∷ l) e = hold_taken l e
 hold_taken (found_closed ∷ l) e = hold_taken l e
 hold_taken (found_free n ∷ l) e = hold_taken l e
 hold_taken (answered r ∷ l) e = hold_taken l e
+hold_taken (reported r ∷ l) e = hold_taken l e
 hold_taken (no_reply_room ∷ l) e = hold_taken l e
 hold_taken (took_exec word ∷ l) e = held_by_word (holds.asks word hold_byte) (has_held_in l) (nat_eq (bit_at word.0 1) 1) (takes_with hold_flag (takes_in l)) (asks_hold_bit word) (hold_taken l) e
 hold_taken (took_ovr word ∷ l) e = hold_taken l e
@@ -102,6 +104,7 @@ change_taken (found_empty ∷ l) e = change_taken l e
 change_taken (found_closed ∷ l) e = change_taken l e
 change_taken (found_free n ∷ l) e = change_taken l e
 change_taken (answered r ∷ l) e = change_taken l e
+change_taken (reported r ∷ l) e = change_taken l e
 change_taken (no_reply_room ∷ l) e = change_taken l e
 change_taken (took_exec word ∷ l) e = change_taken l e
 change_taken (took_ovr word ∷ l) e = changed_by_word word (takes_in l) (has_changes word) (has_changed_in l) refl (change_taken l) e
@@ -187,7 +190,7 @@ change_bytes place b is = change_row (value_of b rows_of_bytes) place is
 taken_was_down : (is : Bool) (raises takes : ℕ) → raises ≡ counted is takes → 0 < takes → 0 < raises
 taken_was_down is raises takes e some = let m = more_counted is takes some in omega arith
 
-pub taken_were_raised : (words : List ℕ) (host : HostLog) (board : BoardLog) → IsBalanced words (raises_in host) (takes_in board) → AreTaken (hosts.raises_in host) (has_held_in board) (has_changed_in board)
+pub taken_were_raised : (words : List ℕ) (host : HostLog) (board : BoardLog) → IsBalanced words (raises_in host) (takes_in board) → AreTaken (hosts.raises_in host) (has_held_in board) (has_changed_in board) (reports_in board)
 taken_were_raised words host board balance = record {
   held_by = λ held. flag_was_raised hold_flag is_hold hold_bytes host
       (taken_was_down (is_up hold_flag words) (raised_down hold_flag (raises_in host)) (takes_with hold_flag (takes_in board)) (balance hold_flag) (hold_taken board held));
@@ -195,4 +198,5 @@ taken_were_raised words host board balance = record {
       let c = change_taken board changed in
       flag_was_raised (flags.Override c.0) is_change (change_bytes c.0) host
       (taken_was_down (is_up (flags.Override c.0) words) (raised_down (flags.Override c.0) (raises_in host)) (takes_with (flags.Override c.0) (takes_in board)) (balance (flags.Override c.0)) c.1);
+  asked_by = asked_few words host board balance;
 }

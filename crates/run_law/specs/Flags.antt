@@ -1,10 +1,11 @@
 -- The realtime bytes that change how a machine moves, and what a board takes of those that a host raises.
-use Rattle.std.specs.Prelude.{◌≡◌, ℕ, Bool, true, false, nat_eq, List, Some}
-use Rattle.std.specs.List.{list_any}
+use Rattle.std.specs.Prelude.{◌≡◌, ℕ, ◌≤◌, Bool, true, false, nat_eq, List, Some}
+use Rattle.std.specs.List.{count_by, list_any}
 use Rattle.std.specs.declared.option.Option.{Option}
 use Rattle.code_table.specs.Flags.{Flag, flag_of}
 use Rattle.code_table.specs.Flags.Flag.{in_ovr}
 use Rattle.feed_hold.specs.Motions.{hold_byte}
+use Rattle.run_rules.specs.Reports.{is_query}
 
 -- `!` holds the machine
 abbrev pub is_hold : ℕ → Bool
@@ -18,7 +19,9 @@ is_override f = false
 abbrev pub is_change : ℕ → Bool
 is_change b = is_override (flag_of b)
 
--- Whether a hold, and a change of overrides, was taken: only where one of the bytes that were raised asks for it.
-pub record AreTaken (raised : List ℕ) (held changed : Bool) : Type 0 where
+-- Whether a hold, and a change of overrides, was taken, and how many words that ask for a report were: only where one
+-- of the bytes that were raised asks for it, and as many at most.
+pub record AreTaken (raised : List ℕ) (held changed : Bool) (asked : ℕ) : Type 0 where
   pub held_by : held ≡ true → list_any is_hold raised ≡ true
   pub changed_by : changed ≡ true → list_any is_change raised ≡ true
+  pub asked_by : asked ≤ count_by is_query raised

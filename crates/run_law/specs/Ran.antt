@@ -1,6 +1,6 @@
 -- What the board, the pulse and the recorder have done in a whole run, on plain lists, and how the bytes of the link go
 -- together.
-use Rattle.std.specs.Prelude.{◌≡◌, ℕ, Bool, true, List, [], ◌∷◌, ◌++◌, ◌||◌, map, reverse}
+use Rattle.std.specs.Prelude.{◌≡◌, ℕ, ◌≤◌, Bool, true, List, [], ◌∷◌, ◌++◌, ◌||◌, map, reverse}
 use Rattle.std.specs.List.{flat_map}
 use Rattle.outside.specs.Causes.{SinkState}
 use Rattle.outside.specs.Writing.{Took}
@@ -11,7 +11,7 @@ use Rattle.step_line.specs.declared.Piece.TheVariants as pieces
 use Rattle.step_line.specs.declared.Record.{Record}
 use Rattle.step_line.specs.Ending.{IsEnded}
 use Rattle.step_line.specs.Ordering.{InTurn}
-use Rattle.step_line.specs.Pieces.{records_of}
+use Rattle.step_line.specs.Pieces.{records_of, ticks_of}
 use Rattle.plan_passes.specs.Plans.{Planned}
 use Rattle.planner_runs.specs.declared.Action.{Action}
 use Rattle.planner_runs.specs.Runs.{IsPlannerRun, DisturbedOnlyBy, IsAtRest, all_asked}
@@ -22,21 +22,30 @@ use Rattle.run_rules.specs.States.{IsOpening}
 use Rattle.run_rules.specs.Work.{Outcome}
 use Rattle.run_rules.specs.Outcomes.{Before, Follows, start}
 use Rattle.run_rules.specs.Outcomes.Passed.{a_line}
+use Rattle.run_rules.specs.Reports.{Reported}
 use Rattle.run_rules.specs.Told.{replies_in, asked_in, records_text}
-use Rattle.run_law.specs.Runs.{ends_program}
+use Rattle.status_report.specs.Answering.{without_reports, reports_among}
+use Rattle.run_law.specs.Runs.{course, ends_program}
+
+-- Each report among these replies fits lines of which this became, for which these pieces were given, while a hold was
+-- taken, or a change of overrides, or not.
+abbrev pub HasReported : State → List Outcome → List Piece → Bool → Bool → List Reply → Type 0
+HasReported first outcomes given held changed answered =
+    (known : ℕ) × Reported (course first outcomes (flat_map ticks_of given) held changed) (reverse answered) known
 
 -- A board has run: it found the link closed behind the bytes that it took, answered their lines, once and in order, and
--- told Bye. What the lines ask for was asked of the plan, which has nothing left to run, and which nothing else disturbed than
--- a hold, where one was taken, and a change of overrides, where one was taken or a program ended. Its pieces were published,
--- and the end behind them.
-pub record BoardRan (taken : List ℕ) (closed held changed : Bool) (answered : List Reply) (published : List Piece) : Type 0 where
+-- told Bye. Each report tells what was so where it was answered; there are as many at most as words that asked for one.
+-- What the lines ask for was asked of the plan, which has nothing left to run, and which nothing else disturbed than a
+-- hold, where one was taken, and a change of overrides, where one was taken or a program ended. Its pieces were
+-- published, and the end behind them.
+pub record BoardRan (taken : List ℕ) (closed held changed : Bool) (asked : ℕ) (answered : List Reply) (published : List Piece) : Type 0 where
   pub first : State
   pub outcomes : List Outcome
   pub last : Before
   pub opening : IsOpening first
   pub found : closed ≡ true
   pub follows : Follows true (start first) (whole_lines taken) (map a_line outcomes) last
-  pub told : answered ≡ replies_in outcomes ++ Bye ∷ []
+  pub told : without_reports answered ≡ replies_in outcomes ++ Bye ∷ []
   pub actions : List Action
   pub given : List Piece
   pub plan : Planned
@@ -45,6 +54,8 @@ pub record BoardRan (taken : List ℕ) (closed held changed : Bool) (answered : 
   pub rests : IsAtRest plan
   pub asks : all_asked actions ≡ asked_in outcomes
   pub gave : published ≡ given ++ pieces.End ∷ []
+  pub reported : HasReported first outcomes given held changed answered
+  pub reports : reports_among answered ≤ asked
 
 -- A pulse has run: the pieces that it got came in turn, the end at last. It put what is recorded of each, and counted each
 -- tick of it.

@@ -1,6 +1,6 @@
 -- What a run of a job is, and how it ends, with no word of who has done it.
-use Rattle.std.specs.Prelude.{◌≡◌, ℕ, Bool, true, false, List, [], ◌∷◌, ◌++◌, ◌||◌, length, map}
-use Rattle.std.specs.List.{list_any}
+use Rattle.std.specs.Prelude.{◌≡◌, ℕ, ◌≤◌, Bool, true, false, List, [], ◌∷◌, ◌++◌, ◌||◌, length, map, reverse}
+use Rattle.std.specs.List.{count_by, list_any}
 use Rattle.std.specs.Io.KnownBytes.{Consumes, IsAtEnd}
 use Rattle.outside.specs.Causes.{Rose, SourceState, SinkState}
 use Rattle.outside.specs.Writing.{Took}
@@ -13,6 +13,9 @@ use Rattle.run_rules.specs.States.{IsOpening}
 use Rattle.run_rules.specs.Work.{Outcome, has_normal}
 use Rattle.run_rules.specs.Outcomes.{Before, Follows, start}
 use Rattle.run_rules.specs.Outcomes.Passed.{a_line}
+use Rattle.run_rules.specs.Reports.{Course, Reported, AreReported, is_query}
+use Rattle.status_report.specs.Answering.{without_reports, reports_among}
+use Rattle.step_line.specs.Asking.{ticks_among}
 use Rattle.run_rules.specs.Told.{replies_in, replies_text, asked_in, records_text, errors_in}
 use Rattle.planner_runs.specs.Driven.{IsDriven}
 use Rattle.stream_host.specs.declared.Reading.{Reading}
@@ -49,14 +52,34 @@ asks_change scanned = list_any is_change (served_in scanned)
 abbrev pub ends_program : List Outcome → Bool
 ends_program outcomes = list_any (λ o. has_normal o.work) outcomes
 
+-- what reports are judged by, where these ticks were made in all
+abbrev pub course : State → List Outcome → List Record → Bool → Bool → Course
+course first outcomes ticks held changed = record {
+  first = first;
+  outcomes = outcomes;
+  ticks = ticks;
+  given = length ticks;
+  held = held;
+  changed = changed;
+}
+
+-- The reports among these replies: each fits the lines and the ticks of a run in which these bytes were scanned. There
+-- are as many at most as `?` were scanned outside comments, and each line with one that is answered has one, behind the
+-- answers to the lines before it.
+pub record AreReports (first : State) (outcomes : List Outcome) (ticks : List Record) (lines : List (List ℕ)) (scanned : List ℕ) (replies : List Reply) : Type 0 where
+  pub known : ℕ
+  pub fit : Reported (course first outcomes ticks (asks_hold scanned) (asks_change scanned)) (reverse replies) known
+  pub few : reports_among replies ≤ count_by is_query (served_in scanned)
+  pub each : AreReported lines replies
+
 -- A run of a job, whatever failed. Some of the job was read, and some lines of it were sent. What is kept of each is
--- answered, once and in order, where the machine may be found running. The console takes the banner, what is told of each
--- line, and Bye, which has no text. The steps take the records of a drive that was asked for the moves, marks and rests of
--- the lines: their events and marks, in order and each once, heads with legal speeds, and the end. Holds, resumes and overrides
--- change no event: the ticks are those of the lines. A segment slows down for a hold only where a `!` was scanned, and it is
--- planned for other overrides only where a byte that changes them was scanned, or a program ended. Each text is whole where
--- its sink did not fail. Of each of the three devices, the count of faults rose where a call failed, and is as before where
--- none did.
+-- answered, once and in order, where the machine may be found running. The console takes the banner, what is told of
+-- each line, and Bye, which has no text, and status reports among that. The steps take the records of a drive that was
+-- asked for the moves, marks and rests of the lines: their events and marks, in order and each once, heads with legal
+-- speeds, and the end. Holds, resumes and overrides change no event: the ticks are those of the lines. A segment slows
+-- down for a hold only where a `!` was scanned, and it is planned for other overrides only where a byte that changes
+-- them was scanned, or a program ended. Each text is whole where its sink did not fail. Of each of the three devices,
+-- the count of faults rose where a call failed, and is as before where none did.
 pub record IsRun (job_was job_is : SourceState) (was is : Sinks) (end : RunEnd) : Type 0 where
   pub read : List ℕ
   pub reading : Reading
@@ -71,11 +94,12 @@ pub record IsRun (job_was job_is : SourceState) (was is : Sinks) (end : RunEnd) 
   pub opening : IsOpening first
   pub follows : Follows true (start first) (map plain lines) (map a_line outcomes) last
   pub replies : List Reply
-  pub told : replies ≡ replies_in outcomes ++ Bye ∷ []
+  pub told : without_reports replies ≡ replies_in outcomes ++ Bye ∷ []
   pub console : Took was.console is.console end.console_failed (replies_text replies)
   pub records : List Record
   pub driven : IsDriven (asks_hold scanned) (asks_change scanned || ends_program outcomes) (asked_in outcomes) records
   pub steps : Took was.steps is.steps end.steps_failed (records_text records)
+  pub reports : AreReports first outcomes (ticks_among records) lines scanned replies
   -- each line has one answer
   pub answered : end.answered ≡ length lines
   pub errors : end.errors ≡ errors_in outcomes

@@ -1,5 +1,5 @@
 -- What a run has done so far, and what the board, the pulse and the recorder have.
-use Rattle.std.specs.Prelude.{◌≡◌, ℕ, Bool, true, List, [], ◌∷◌, ◌++◌, ◌||◌, map, reverse}
+use Rattle.std.specs.Prelude.{◌≡◌, ℕ, ◌≤◌, Bool, true, List, [], ◌∷◌, ◌++◌, ◌||◌, map, reverse}
 use Rattle.std.specs.List.{flat_map}
 use Rattle.std.specs.Io.KnownBytes.{Consumes}
 use Rattle.outside.specs.Causes.{SourceState, SinkState}
@@ -27,17 +27,19 @@ use Rattle.run_rules.specs.Told.{replies_in, replies_text, asked_in, records_tex
 use Rattle.stream_host.specs.declared.Reading.{Reading}
 use Rattle.stream_host.specs.declared.Stop.{Stop}
 use Rattle.stream_host.specs.Jobs.{IsSentSoFar}
-use Rattle.run_law.specs.Runs.{Sinks, asks_hold, asks_change, ends_program}
+use Rattle.status_report.specs.Answering.{without_reports, reports_among}
+use Rattle.run_law.specs.Runs.{Sinks, AreReports, asks_hold, asks_change, ends_program}
+use Rattle.run_law.specs.Ran.{HasReported}
 
 -- a list begins with another
 pub record BeginsWith {A : Type 0} (whole front : List A) : Type 0 where
   pub rest : List A
   pub is : whole ≡ front ++ rest
 
--- A board runs: it has begun a front of the lines that it took, and what was told, asked and published is a front of what
--- these tell and ask for. Nothing else disturbed the plan than a hold, where one was taken, and a change of overrides, where one
--- was taken or a program ended.
-pub record BoardRuns (taken : List ℕ) (held changed : Bool) (answered : List Reply) (published : List Piece) : Type 0 where
+-- A board runs: it has begun a front of the lines that it took, and what was told, asked and published is a front of
+-- what these tell and ask for. Nothing else disturbed the plan than a hold, where one was taken, and a change of
+-- overrides, where one was taken or a program ended.
+pub record BoardRuns (taken : List ℕ) (held changed : Bool) (asked : ℕ) (answered : List Reply) (published : List Piece) : Type 0 where
   pub first : State
   pub lines : List (List ℕ)
   pub outcomes : List Outcome
@@ -45,7 +47,7 @@ pub record BoardRuns (taken : List ℕ) (held changed : Bool) (answered : List R
   pub opening : IsOpening first
   pub begun : BeginsWith (whole_lines taken) lines
   pub follows : Follows true (start first) lines (map a_line outcomes) last
-  pub told : BeginsWith (replies_in outcomes ++ Bye ∷ []) answered
+  pub told : BeginsWith (replies_in outcomes ++ Bye ∷ []) (without_reports answered)
   pub actions : List Action
   pub given : List Piece
   pub plan : Planned
@@ -53,6 +55,8 @@ pub record BoardRuns (taken : List ℕ) (held changed : Bool) (answered : List R
   pub disturbed : DisturbedOnlyBy held (changed || ends_program outcomes) actions
   pub asks : BeginsWith (asked_in outcomes) (all_asked actions)
   pub gave : BeginsWith (given ++ pieces.End ∷ []) published
+  pub reported : HasReported first outcomes given held changed answered
+  pub reports : reports_among answered ≤ asked
 
 -- a pulse runs: the pieces that it got came in turn, and it put a front of what is recorded of them
 pub record PulseRuns (got : List Piece) (put : List Record) : Type 0 where
@@ -65,10 +69,10 @@ pub record RecorderRuns (was is : SinkState) (taken : List Record) : Type 0 wher
   pub waiting : List ℕ
   pub steps : Wrote was is failed waiting (records_text taken)
 
--- A run so far. A front of the lines that are sent was begun, and each is followed by what becomes of it. A front of what
--- they tell was got, and a front of its text is on the console. A front of what they ask for was done, as a planner run,
--- and a front of what is recorded of its pieces was taken: its ticks begin the ticks that the lines ask for. It is disturbed by
--- no more than a hold and a change of overrides, as in a whole run.
+-- A run so far. A front of the lines that are sent was begun, and each is followed by what becomes of it. A front of
+-- what they tell was got, and status reports among that, and a front of its text is on the console. A front of what
+-- they ask for was done, as a planner run, and a front of what is recorded of its pieces was taken: its ticks begin the
+-- ticks that the lines ask for. It is disturbed by no more than a hold and a change of overrides, as in a whole run.
 pub record IsSoFar (job_was job_is : SourceState) (was is : Sinks) : Type 0 where
   pub read : List ℕ
   pub reading : Reading
@@ -85,7 +89,7 @@ pub record IsSoFar (job_was job_is : SourceState) (was is : Sinks) : Type 0 wher
   pub begun : BeginsWith (map plain lines) lines_begun
   pub follows : Follows true (start first) lines_begun (map a_line outcomes) last
   pub got : List Reply
-  pub told : BeginsWith (replies_in outcomes ++ Bye ∷ []) got
+  pub told : BeginsWith (replies_in outcomes ++ Bye ∷ []) (without_reports got)
   pub console_failed : Bool
   pub text_left : List ℕ
   pub console : Wrote was.console is.console console_failed text_left (replies_text got)
@@ -98,6 +102,7 @@ pub record IsSoFar (job_was job_is : SourceState) (was is : Sinks) : Type 0 wher
   pub records : List Record
   pub recorded : BeginsWith (all_records given ++ kinds.End ∷ []) records
   pub ticks : BeginsWith (ticks_of_all (asked_in outcomes)) (ticks_among records)
+  pub reports : AreReports first outcomes (ticks_among (all_records given)) lines scanned got
   pub steps_failed : Bool
   pub lines_left : List ℕ
   pub steps : Wrote was.steps is.steps steps_failed lines_left (records_text records)

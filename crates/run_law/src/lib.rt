@@ -16,7 +16,7 @@ ghost use Rattle.step_record.specs.Recording.{RecorderFits, Rests};
 ghost use Rattle.run_rules.specs.declared.State.{State};
 ghost use Rattle.run_rules.specs.States.{IsOpening};
 ghost use Rattle.board_rules.specs.Steps.{Journal, port_log, taken_of, has_closed, answered_of, published_of};
-ghost use Rattle.board_rules.specs.Ports.{has_held_in, has_changed_in};
+ghost use Rattle.board_rules.specs.Ports.{has_held_in, has_changed_in, reports_in};
 ghost use Rattle.board_rules.specs.Conduct.{Conducted, IsFinished};
 ghost use Rattle.stream_host.specs.Ran.{HostEnd, HostRan, HostRuns};
 ghost use Rattle.realtime_flags.specs.Bits.{IsBalanced};
@@ -29,7 +29,10 @@ ghost use Rattle.run_law.specs.Complete.{IsAcceptedJob, IsComplete};
 ghost use Rattle.run_law.specs.Ran.{BoardRan, PulseRan, RecorderRan, IsLinked};
 ghost use Rattle.run_law.specs.SoFar.{BeginsWith, BoardRuns, PulseRuns, RecorderRuns, IsSoFar};
 
-use board_rules::{boards_end_well, boards_keep_to_their_lines, boards_run_their_plan};
+use board_rules::{
+    boards_end_well, boards_keep_to_their_lines, boards_report_where_they_are,
+    boards_run_their_plan,
+};
 use stream_host::Stop;
 
 /// How a run ends: why no more of the job was sent; how many lines were answered, and how many of these with an error;
@@ -50,10 +53,10 @@ pub struct RunEnd {
 /// asked for what they ask for.
 pub fn actors_make_a_run()
     ensures { (job_was job_is : SourceState) (was is : Sinks) (end : HostEnd) (steps_failed : Bool)
-        (stored raised taken : List ℕ) (shut closed held changed : Bool) (got answered : List Reply) (got_pieces published : List Piece) (ticks : ℕ) (got_records put : List Record) →
-        HostRan job_was job_is was.console is.console stored shut raised got end → BoardRan taken closed held changed answered published → PulseRan got_pieces ticks put →
+        (stored raised taken : List ℕ) (shut closed held changed : Bool) (asked : ℕ) (got answered : List Reply) (got_pieces published : List Piece) (ticks : ℕ) (got_records put : List Record) →
+        HostRan job_was job_is was.console is.console stored shut raised got end → BoardRan taken closed held changed asked answered published → PulseRan got_pieces ticks put →
         RecorderRan was.steps is.steps got_records steps_failed →
-        IsLinked stored shut taken closed → AreTaken raised held changed → got ≡ answered → got_pieces ≡ published → got_records ≡ put →
+        IsLinked stored shut taken closed → AreTaken raised held changed asked → got ≡ answered → got_pieces ≡ published → got_records ≡ put →
         IsRun job_was job_is was is (ended end steps_failed) }
 {}
 
@@ -61,18 +64,18 @@ pub fn actors_make_a_run()
 /// behind Bye, nor behind the end.
 pub fn actors_that_end_make_a_run()
     ensures { (job_was job_is : SourceState) (was is : Sinks) (end : HostEnd) (steps_failed : Bool)
-        (stored raised taken : List ℕ) (shut closed held changed : Bool) (got answered : List Reply) (got_pieces published : List Piece) (ticks : ℕ) (got_records put : List Record) →
-        HostRan job_was job_is was.console is.console stored shut raised got end → BoardRan taken closed held changed answered published → PulseRan got_pieces ticks put →
+        (stored raised taken : List ℕ) (shut closed held changed : Bool) (asked : ℕ) (got answered : List Reply) (got_pieces published : List Piece) (ticks : ℕ) (got_records put : List Record) →
+        HostRan job_was job_is was.console is.console stored shut raised got end → BoardRan taken closed held changed asked answered published → PulseRan got_pieces ticks put →
         RecorderRan was.steps is.steps got_records steps_failed →
-        IsLinked stored shut taken closed → AreTaken raised held changed → BeginsWith answered got → BeginsWith published got_pieces → BeginsWith put got_records →
+        IsLinked stored shut taken closed → AreTaken raised held changed asked → BeginsWith answered got → BeginsWith published got_pieces → BeginsWith put got_records →
         IsRun job_was job_is was is (ended end steps_failed) }
 {}
 
 /// Four actors that run, where each has got a front of what the other gave, have done a run so far.
 pub fn actors_make_a_run_so_far()
-    ensures { (job_was job_is : SourceState) (was is : Sinks) (stored raised taken : List ℕ) (held changed : Bool) (got answered : List Reply) (got_pieces published : List Piece) (got_records put : List Record) →
-        HostRuns job_was job_is was.console is.console stored raised got → BoardRuns taken held changed answered published → PulseRuns got_pieces put → RecorderRuns was.steps is.steps got_records →
-        BeginsWith stored taken → AreTaken raised held changed → BeginsWith answered got → BeginsWith published got_pieces → BeginsWith put got_records →
+    ensures { (job_was job_is : SourceState) (was is : Sinks) (stored raised taken : List ℕ) (held changed : Bool) (asked : ℕ) (got answered : List Reply) (got_pieces published : List Piece) (got_records put : List Record) →
+        HostRuns job_was job_is was.console is.console stored raised got → BoardRuns taken held changed asked answered published → PulseRuns got_pieces put → RecorderRuns was.steps is.steps got_records →
+        BeginsWith stored taken → AreTaken raised held changed asked → BeginsWith answered got → BeginsWith published got_pieces → BeginsWith put got_records →
         IsSoFar job_was job_is was is }
 {}
 
@@ -86,11 +89,12 @@ pub fn accepted_jobs_are_complete()
 /// A board that keeps to its rules, and has closed its run and nothing left to do, has run; before, it runs.
 pub fn boards_have_run()
     ensures whole { (first : State) (h : Journal) → IsOpening first → Conducted first h → IsFinished h →
-        BoardRan (taken_of h) (has_closed h) (has_held_in (port_log h)) (has_changed_in (port_log h)) (answered_of h) (published_of h) }
+        BoardRan (taken_of h) (has_closed h) (has_held_in (port_log h)) (has_changed_in (port_log h)) (reports_in (port_log h)) (answered_of h) (published_of h) }
     ensures so_far { (first : State) (h : Journal) → IsOpening first → Conducted first h →
-        BoardRuns (taken_of h) (has_held_in (port_log h)) (has_changed_in (port_log h)) (answered_of h) (published_of h) }
+        BoardRuns (taken_of h) (has_held_in (port_log h)) (has_changed_in (port_log h)) (reports_in (port_log h)) (answered_of h) (published_of h) }
 {
     boards_keep_to_their_lines();
+    boards_report_where_they_are();
     boards_run_their_plan();
     boards_end_well();
 }
@@ -99,7 +103,7 @@ pub fn boards_have_run()
 /// it, and by one more where it is up.
 pub fn flags_that_are_taken_were_raised()
     ensures { (words : List ℕ) (host : HostLog) (board : BoardLog) → IsBalanced words (raises_in host) (takes_in board) →
-        AreTaken (bytes_raised_in host) (has_held_in board) (has_changed_in board) }
+        AreTaken (bytes_raised_in host) (has_held_in board) (has_changed_in board) (reports_in board) }
 {}
 
 /// A pulse that has put the end has run, and every pulse runs.

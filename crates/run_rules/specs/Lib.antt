@@ -5,6 +5,7 @@ pub mod Work
 pub mod Asks
 pub mod Outcomes
 pub mod Told
+pub mod Reports
 pub use Rattle.gcode_words.specs.Stripping
 pub use Rattle.gcode_words.specs.Words
 pub use Rattle.gcode_check.specs.Items

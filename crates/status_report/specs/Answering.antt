@@ -1,8 +1,8 @@
 -- The link between a host and a board: what may stand on it at once, and which lines its replies answer.
-use Rattle.std.specs.Prelude.{ℕ, Bool, true, false, List, nat_eq}
-use Rattle.std.specs.List.{count_by}
+use Rattle.std.specs.Prelude.{ℕ, Bool, true, false, not, List, nat_eq}
+use Rattle.std.specs.List.{count_by, filter}
 use Rattle.status_report.specs.declared.Reply.{Reply}
-use Rattle.status_report.specs.declared.Reply.TheVariants.{Ok, Error, Bye}
+use Rattle.status_report.specs.declared.Reply.TheVariants.{Ok, Error, Report, Bye}
 
 -- so many bytes may stand on the link at once
 abbrev pub receive_room : ℕ
@@ -30,3 +30,19 @@ is_bye _ = false
 -- how many lines some replies answer
 abbrev pub answers_in : List Reply → ℕ
 answers_in replies = count_by is_answer replies
+
+-- a reply is a status report
+abbrev pub is_report : Reply → Bool
+is_report (Report r) = true
+is_report _ = false
+
+-- how many replies are reports
+abbrev pub reports_among : List Reply → ℕ
+reports_among replies = count_by is_report replies
+
+abbrev pub is_plain : Reply → Bool
+is_plain r = not (is_report r)
+
+-- the others, in order
+abbrev pub without_reports : List Reply → List Reply
+without_reports replies = filter is_plain replies

@@ -1,11 +1,12 @@
 //! The replies that `$$`, `$G` and `$#` list, one by one.
 
-ghost use Rattle.std.specs.Prelude.{◌≡◌, ◌<◌, length, Some, slice_get};
+ghost use Rattle.std.specs.Prelude.{◌≡◌, ◌<◌, false, length, Some, slice_get};
 ghost use Rattle.modal_state.specs.Modes.{IsParser};
 ghost use Rattle.modal_state.specs.declared.Offsets.{Offsets};
 ghost use Rattle.settings.specs.declared.Settings.{Settings};
 ghost use Rattle.status_report.specs.Lists.{setting_replies, modes_of, offset_replies};
 ghost use Rattle.status_report.specs.Replies.{IsModes, IsReply};
+ghost use Rattle.status_report.specs.Answering.{is_report};
 
 use crate::{Modes, Reply};
 use modal_state::{Offsets, Parser};
@@ -34,6 +35,7 @@ pub fn setting_reply(settings: &Settings, place: usize) -> Reply
     requires { place < SETTING_REPLIES }
     ensures listed { slice_get (setting_replies settings.now) place ≡ Some result }
     ensures valid { IsReply result }
+    ensures plain { is_report result ≡ false }
 {
     match place {
         0 => setting(10, u32::from(settings.report)),
@@ -96,6 +98,7 @@ pub fn offset_reply(offsets: &Offsets, place: usize) -> Reply
     requires { place < OFFSET_REPLIES }
     ensures listed { slice_get (offset_replies offsets.now) place ≡ Some result }
     ensures valid { IsReply result }
+    ensures plain { is_report result ≡ false }
 {
     let row = place as u8;
     Reply::Offset {

@@ -41,7 +41,7 @@ j4 = at_port (stored 10) ∷ j3
 
 c4 : Conducted j4
 unfolding cut_within
-c4 = (record { next = refl; room = omega arith }, c3)
+c4 = (record { next = refl; reported = refl; room = omega arith }, c3)
 
 abbrev j5 : Journal
 j5 = turned Did ∷ j4
@@ -76,7 +76,7 @@ j9 = at_port (stored 88) ∷ j8
 
 c9 : Conducted j9
 unfolding cut_within
-c9 = (record { next = refl; room = omega arith }, c8)
+c9 = (record { next = refl; reported = refl; room = omega arith }, c8)
 
 abbrev j10 : Journal
 j10 = turned Did ∷ j9
@@ -97,7 +97,7 @@ j12 = at_port (stored 10) ∷ j11
 
 c12 : Conducted j12
 unfolding cut_within
-c12 = (record { next = refl; room = omega arith }, c11)
+c12 = (record { next = refl; reported = refl; room = omega arith }, c11)
 
 abbrev j13 : Journal
 j13 = turned Did ∷ j12

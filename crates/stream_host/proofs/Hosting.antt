@@ -1,5 +1,5 @@
 -- What one step of a host makes of what it keeps.
-use Rattle.std.proofs.Common.{◌≡◌, ℕ, ◌&&◌, ◌+◌, ◌≤◌, ◌<◌, ◌⊎◌, ◌||◌, inl, inr, Bool, true, false, cond, not, List, [], ◌∷◌, ◌++◌, length, map, take, drop, nat_eq, nat_lt, sum, option_to_list, Some, None, refl, sym, ap, ◌∙◌, arith, subst, length-append}
+use Rattle.std.proofs.Common.{◌≡◌, ◌↔◌, ℕ, ◌&&◌, ◌+◌, ◌≤◌, ◌<◌, ◌⊎◌, ◌||◌, inl, inr, Bool, true, false, cond, not, List, [], ◌∷◌, ◌++◌, length, map, take, drop, nat_eq, nat_lt, sum, option_to_list, Some, None, refl, sym, ap, ◌∙◌, arith, subst, length-append}
 use Rattle.std.specs.List.{count_by}
 use Rattle.std.proofs.lemmas.Bool.Decides.{nat_tests}
 use Rattle.std.proofs.lemmas.List.{map-append, drop-append-le, length-drop, length-take, drop_all}
@@ -12,23 +12,26 @@ use Rattle.stream_host.specs.declared.line.SentLine.{SentLine}
 use Rattle.stream_host.specs.declared.reader.Reader.{Reader}
 use Rattle.stream_host.specs.declared.host.Host.{Host}
 use Rattle.stream_host.specs.Links.{on_link}
-use Rattle.stream_host.specs.Jobs.{resume, is_served, is_long, ends_sending, MayHaveRead}
-use Rattle.stream_host.specs.Steps.{Step, Journal, port_log, got_of, answered_of, read_of, reading_of, scanned_of, unscanned_of, raw_of, cut_of, to_store, begun_of, due_of, more_served, PortLog, polls_of, empty_polls, text_of, this_turn}
+use Rattle.stream_host.specs.Jobs.{resume, is_long, holds_reset, ends_sending, MayHaveRead}
+use Rattle.stream_host.specs.Steps.{Step, Journal, port_log, got_of, answered_of, read_of, reading_of, scanned_of, unscanned_of, raw_of, cut_of, to_store, begun_of, due_of, asking_of, asked_more, is_waiting, more_served, PortLog, polls_of, empty_polls, text_of, this_turn}
 use Rattle.stream_host.specs.Steps.PortStep.{stored, raised, no_reply, shut}
 use Rattle.stream_host.specs.Steps.Step.{at_port, scanned, wrote, gave_up}
-use Rattle.stream_host.specs.Conduct.{Conducted, MayScanNext, MayRaise, MayStore, HasSentAll, HasNoMore, publishing}
-use Rattle.stream_host.specs.Hosts.{HostFits, HasLine, IsStoring, KeepsLine, KeepsDue, KeepsPolls, KeepsJob, KeepsCounts, IsQuiet, line_length, lengths, IsSummed, unread}
+use Rattle.code_table.specs.Tables.{query}
+use Rattle.stream_host.specs.declared.line.Asking.{Asking}
+use Rattle.stream_host.specs.declared.line.Asking.TheVariants.{Nothing, Awaits, HasOne}
+use Rattle.stream_host.specs.Conduct.{Conducted, AreAnswered, MayScanNext, MayRaise, MayStore, HasSentAll, HasNoMore, publishing}
+use Rattle.stream_host.specs.Hosts.{HostFits, HasLine, IsStoring, KeepsLine, KeepsDue, KeepsPolls, KeepsJob, KeepsCounts, IsQuiet, is_over, line_length, lengths, IsSummed, unread}
 use Rattle.stream_host.specs.declared.counts.Counts.{Counts}
 use Rattle.status_report.specs.declared.Reply.{Reply}
 use Rattle.status_report.specs.Answering.{answers_in}
 use Rattle.stream_host.specs.Hosts.{HasRoom, MayScanOn, MayReadOn, IsPiece}
 use Rattle.stream_host.specs.Ports.{TakesByte, TakesRaise, SeemsFull, IsOpen}
-use Rattle.stream_host.proofs.Pieces.{none_ends}
+use Rattle.stream_host.proofs.Pieces.{none_long, none_reset, neither}
 use Rattle.stream_host.proofs.Kept.{kept_whole}
 use Rattle.stream_host.proofs.Keeping.{read_is, few_scanned, reading_fits, open_is}
 use Rattle.stream_host.proofs.Sending as sending
 use Rattle.std.specs.declared.option.Option.{Option}
-use Rattle.stream_host.proofs.Raising.{none_at_lf}
+use Rattle.stream_host.proofs.Raising.{none_at_lf, few_queries}
 use Rattle.stream_host.proofs.Waiting.{all_begun, begun_is, over_full}
 use Rattle.std.specs.Io.KnownBytes.{Consumes}
 use Rattle.std.proofs.lemmas.List.{drop-drop}
@@ -40,36 +43,43 @@ use Rattle.stream_host.specs.Hosts.{DidAlone, HostTellsOn, TellsJob}
 
 -- ---- the line in hand
 
--- a line that is being scanned ends the sending where it is long
-pub long_is : (s : Host) (h : Journal) → HostFits s h → s.line.whole ≡ false → ends_sending (raw_of h) ≡ s.line.long
-long_is s h f e = sym (f.line_is.scanning e).0.long
+-- a line that is being scanned ends the sending where it is long, or has a reset
+pub ends_is : (s : Host) (h : Journal) → HostFits s h → s.line.whole ≡ false → ends_sending (raw_of h) ≡ is_over s.line
+ends_is s h f e = let l = (f.line_is.scanning e).0 in ap (λ b. b || holds_reset (raw_of h)) (sym l.long) ∙ ap (λ b. s.line.long || b) (sym l.reset)
 
 -- whichever it is
 long_by : (l : SentLine) (raw left : List ℕ) (whole : Bool) → l.whole ≡ whole → KeepsLine l raw left → l.long ≡ is_long raw
 long_by l raw left false e k = (k.scanning e).0.long
-long_by l raw left true e k = let i = k.storing e in i.short ∙ sym none_ends ∙ ap (λ (t : List ℕ). is_long t) (sym i.none)
+long_by l raw left true e k = let i = k.storing e in (neither l.long l.reset i.sends).0 ∙ sym none_long ∙ ap is_long (sym i.none)
+
+reset_by : (l : SentLine) (raw left : List ℕ) (whole : Bool) → l.whole ≡ whole → KeepsLine l raw left → l.reset ≡ holds_reset raw
+reset_by l raw left false e k = (k.scanning e).0.reset
+reset_by l raw left true e k = let i = k.storing e in (neither l.long l.reset i.sends).1 ∙ sym none_reset ∙ ap holds_reset (sym i.none)
 
 pub is_long_now : (s : Host) (h : Journal) → HostFits s h → s.line.long ≡ is_long (raw_of h)
 is_long_now s h f = long_by s.line (raw_of h) (to_store h) s.line.whole refl f.line_is
 
+pub has_reset_now : (s : Host) (h : Journal) → HostFits s h → s.line.reset ≡ holds_reset (raw_of h)
+has_reset_now s h f = reset_by s.line (raw_of h) (to_store h) s.line.whole refl f.line_is
+
 -- a line is over
-pub finished : (l m : SentLine) (raw : List ℕ) → HasLine l raw → l.long ≡ false → m.kept.items ≡ l.kept.items → m.long ≡ l.long → m.whole ≡ true → m.place ≡ 0
+pub finished : (l m : SentLine) (raw : List ℕ) → HasLine l raw → is_over l ≡ false → m.kept.items ≡ l.kept.items → is_over m ≡ is_over l → m.whole ≡ true → m.place ≡ 0
     → KeepsLine m [] (plain raw ++ 10 ∷ [])
-finished l m raw has short kept long whole place = record {
+finished l m raw has sends kept over whole place = record {
   scanning = λ e. absurd (let f = sym whole ∙ e in cc);
   storing = λ e. record {
     none = refl;
-    short = long ∙ short;
+    sends = over ∙ sends;
     within = omega arith;
     left_is = ap (λ (k : List ℕ). k ++ 10 ∷ []) (sym (kept ∙ all_kept)) ∙ ap (λ n. drop n (m.kept.items ++ 10 ∷ [])) (sym place);
   };
 }
   where
     all_kept : l.kept.items ≡ plain raw
-    all_kept = kept_whole 127 l.kept.items (plain raw) has.kept (sym has.long ∙ short)
+    all_kept = kept_whole 127 l.kept.items (plain raw) has.kept (sym has.long ∙ (neither l.long l.reset sends).0)
 
-pub size_is : (l : SentLine) (raw : List ℕ) (n : ℕ) → HasLine l raw → l.long ≡ false → n ≡ length l.kept.items + 1 → n ≡ line_length raw
-size_is l raw n has short size = size ∙ ap (λ (k : List ℕ). length k + 1) (kept_whole 127 l.kept.items (plain raw) has.kept (sym has.long ∙ short))
+pub size_is : (l : SentLine) (raw : List ℕ) (n : ℕ) → HasLine l raw → is_over l ≡ false → n ≡ length l.kept.items + 1 → n ≡ line_length raw
+size_is l raw n has sends size = size ∙ ap (λ (k : List ℕ). length k + 1) (kept_whole 127 l.kept.items (plain raw) has.kept (sym has.long ∙ (neither l.long l.reset sends).0))
 
 -- ---- the counts
 
@@ -136,30 +146,40 @@ tired_now n e = grind (arith, nat_tests)
 pub never_raised : (s : Host) (b : ℕ) (h : Journal) → HostFits s h → due_of h ≡ [] → MayRaise b h → ⊥
 never_raised s b h f none may = absurd (let e = sym none ∙ may.next f.polls_are.few in cc)
 
-due_next : (s : Host) (b : ℕ) (h : Journal) → HostFits s h → s.line.due ≡ Some b → due_of h ≡ b ∷ []
+pub due_next : (s : Host) (b : ℕ) (h : Journal) → HostFits s h → s.line.due ≡ Some b → due_of h ≡ b ∷ []
 due_next s b h f is = sym f.due_is.due_is ∙ ap option_to_list is
 
-pub takes_raise : (s : Host) (b : ℕ) (h : Journal) → HostFits s h → s.line.due ≡ Some b → TakesRaise b (port_log h)
-takes_raise s b h f is query_now = absurd (let e = sym (ap is_served query_now) ∙ f.due_is.served b is in cc)
+-- no more reports are asked for than bytes were scanned
+pub takes_raise : (b : ℕ) (h : Journal) → Conducted h → TakesRaise b (port_log h)
+takes_raise b h c query_now = let q = few_queries h c in let n = few_scanned h c in omega arith
 
 pub takes_resume : (l : PortLog) → TakesRaise resume l
 takes_resume l query_now = absurd cc
 
+-- a `?` waits while fewer lines are answered than were scanned whole
+pub early_by : (s : Host) (b : ℕ) (h : Journal) (t : Bool) → HostFits s h → b ≡ query → t ≡ nat_lt s.counts.answered s.counts.lines → (t ≡ false) ↔ (b ≡ query → AreAnswered h)
+early_by s b h t f is test = (
+  λ none q. (let few = (sending.counts_are h f.conducted).1 in let a = f.counts_are.answered_is in let l = f.counts_are.lines_are in grind (arith, nat_tests)),
+  λ after. (let all = after is in let a = f.counts_are.answered_is in let l = f.counts_are.lines_are in grind (arith, nat_tests)),
+)
+
 same_line : (l : SentLine) (raw left : List ℕ) (d : Option ℕ) → KeepsLine l raw left → KeepsLine (record l { due = d }) raw left
 same_line l raw left d k = record {
-  scanning = λ e. let n = k.scanning e in (record { stripper = n.0.stripper; kept = n.0.kept; long = n.0.long; begun = n.0.begun }, n.1);
-  storing = λ e. let n = k.storing e in record { none = n.none; short = n.short; within = n.within; left_is = n.left_is };
+  scanning = λ e. let n = k.scanning e in (record { stripper = n.0.stripper; kept = n.0.kept; long = n.0.long; reset = n.0.reset; begun = n.0.begun }, n.1);
+  storing = λ e. let n = k.storing e in record { none = n.none; sends = n.sends; within = n.within; left_is = n.left_is };
 }
 
-pub raised_byte : (s : Host) (b : ℕ) (down : Bool) (h : Journal) → HostFits s h → s.line.due ≡ Some b → HostFits (record s { line = record s.line { due = None } }) (at_port (raised b down) ∷ h)
-raised_byte s b down h f is =
+pub raised_byte : (s : Host) (b : ℕ) (down : Bool) (a : Asking) (h : Journal) → HostFits s h → s.line.due ≡ Some b → (b ≡ query → AreAnswered h) → a ≡ cond (nat_eq b query) (asked_more s.asking) s.asking
+    → HostFits (record s { line = record s.line { due = None }; asking = a }) (at_port (raised b down) ∷ h)
+raised_byte s b down a h f is after asks =
     let next = due_next s b h f is in
     let going = not_tired (polls_of h) f.polls_are.few in
     record {
-      conducted = (record { resumes = λ e. absurd (let n = f.polls_are.few in omega arith); next = λ e. next ∙ ap (λ (t : List ℕ). b ∷ drop 1 t) (sym next) }, f.conducted);
+      conducted = (record { resumes = λ e. absurd (let n = f.polls_are.few in omega arith); next = λ e. next ∙ ap (λ (t : List ℕ). b ∷ drop 1 t) (sym next); after = after }, f.conducted);
       job_is = f.job_is;
       line_is = same_line s.line (raw_of h) (to_store h) None f.line_is;
       due_is = record { due_is = sym (ap (λ t. cond t (due_of h) (drop 1 (due_of h))) going ∙ ap (drop 1) next); served = λ c e. absurd cc };
+      asking_is = asks ∙ ap (λ (x : Asking). cond (nat_eq b query) (asked_more x) x) f.asking_is;
       counts_are = f.counts_are;
       polls_are = subst (λ t. KeepsPolls s.polls (cond t 0 (polls_of h))) (sym going) f.polls_are;
       text_is = f.text_is;
@@ -175,6 +195,7 @@ polled s n h f going is few = record {
   job_is = f.job_is;
   line_is = f.line_is;
   due_is = f.due_is;
+  asking_is = f.asking_is;
   counts_are = f.counts_are;
   polls_are = record { polls_are = is ∙ ap (λ m. m + 1) f.polls_are.polls_are; few = (let e = f.polls_are.polls_are in omega arith) };
   text_is = f.text_is;
@@ -191,12 +212,13 @@ resumed s down h f going full =
     let tired = tired_now (polls_of h + 1) all in
     record {
       conducted = (
-        record { resumes = λ e. refl; next = λ fewer. absurd (omega arith) },
+        record { resumes = λ e. refl; next = λ fewer. absurd (omega arith); after = λ e. absurd cc },
         (record { going = sym f.bye_is ∙ going; rested = few }, f.conducted),
       );
       job_is = f.job_is;
       line_is = f.line_is;
       due_is = subst (λ t. KeepsDue s.line.due (cond t (due_of h) (drop 1 (due_of h)))) (sym tired) f.due_is;
+      asking_is = f.asking_is;
       counts_are = f.counts_are;
       polls_are = subst (λ t. KeepsPolls 0 (cond t 0 (polls_of h + 1))) (sym tired) (record { polls_are = refl; few = omega arith });
       text_is = f.text_is;
@@ -213,7 +235,7 @@ may_scan_next s r b h f may going next = record {
   going = sym f.shut_is ∙ going;
   next = sym f.job_is.left_is ∙ next ∙ ap (λ (t : List ℕ). b ∷ drop 1 t) (sym next ∙ f.job_is.left_is);
   few = (let n = f.job_is.scanned_is in let m = may.few in omega arith);
-  sends = long_is s h f may.scanning ∙ may.short;
+  sends = ends_is s h f may.scanning ∙ may.sends;
   free = (f.line_is.scanning may.scanning).1;
 }
 
@@ -233,9 +255,21 @@ nothing_due d due none is = record { due_is = ap option_to_list none ∙ sym is;
 not_over : (s : Host) (r : Reader) (b : ℕ) (h : Journal) {A : Type 0} → HostFits s h → unread s.job ≡ b ∷ unread r → reading_of h ≡ Ended → A
 not_over s r b h f next e = absurd (let g = sym (f.over e).0 ∙ sym f.job_is.left_is ∙ next in cc)
 
-pub scanned_byte : (s : Host) (r : Reader) (l : SentLine) (b : ℕ) (h : Journal) → HostFits s h → MayScanOn s → s.shut ≡ false → unread s.job ≡ b ∷ unread r → IsPiece r → r.scanned ≡ s.job.scanned + 1 → r.reading ≡ s.job.reading
-    → nat_eq b 10 ≡ false → ((raw : List ℕ) → HasLine s.line raw → HasLine l (raw ++ b ∷ [])) → ((raw : List ℕ) → HasLine s.line raw → KeepsDue l.due (more_served raw b)) → l.whole ≡ s.line.whole → HostFits (record s { job = r; line = l }) (scanned b ∷ h)
-scanned_byte s r l b h f may going next piece count reading other fed due whole = record {
+-- the first byte of a line has asked for nothing
+asking_scanned : (s : Host) (a : Asking) (h : Journal) → HostFits s h → s.line.whole ≡ false → a ≡ cond s.line.begun s.asking Nothing → a ≡ cond (nat_eq (length (raw_of h)) 0) Nothing (asking_of h)
+asking_scanned s a h f whole is =
+    is ∙ ap (λ t. cond t s.asking Nothing) (f.line_is.scanning whole).0.begun ∙ ap (λ (x : Asking). cond (nat_lt 0 (length (raw_of h))) x Nothing) f.asking_is
+    ∙ by_tests (length (raw_of h)) (nat_lt 0 (length (raw_of h))) (nat_eq (length (raw_of h)) 0) refl refl
+  where
+    by_tests : (n : ℕ) (t u : Bool) → nat_lt 0 n ≡ t → nat_eq n 0 ≡ u → cond t (asking_of h) Nothing ≡ cond u Nothing (asking_of h)
+    by_tests n true false e g = refl
+    by_tests n false true e g = refl
+    by_tests n true true e g = absurd (grind (arith, nat_tests))
+    by_tests n false false e g = absurd (grind (arith, nat_tests))
+
+pub scanned_byte : (s : Host) (r : Reader) (l : SentLine) (a : Asking) (b : ℕ) (h : Journal) → HostFits s h → MayScanOn s → s.shut ≡ false → unread s.job ≡ b ∷ unread r → IsPiece r → r.scanned ≡ s.job.scanned + 1 → r.reading ≡ s.job.reading
+    → nat_eq b 10 ≡ false → ((raw : List ℕ) → HasLine s.line raw → HasLine l (raw ++ b ∷ [])) → ((raw : List ℕ) → HasLine s.line raw → KeepsDue l.due (more_served raw b)) → l.whole ≡ s.line.whole → a ≡ cond s.line.begun s.asking Nothing → HostFits (record s { job = r; line = l; asking = a }) (scanned b ∷ h)
+scanned_byte s r l a b h f may going next piece count reading other fed due whole asks = record {
   conducted = (may_scan_next s r b h f may going next, f.conducted);
   job_is = job_scanned s r b h f next piece count reading;
   line_is = subst (λ t. KeepsLine l (cond t [] (raw_of h ++ b ∷ [])) (cond t (plain (raw_of h) ++ 10 ∷ []) (to_store h))) (sym other) (record {
@@ -243,6 +277,7 @@ scanned_byte s r l b h f may going next piece count reading other fed due whole 
     storing = λ e. absurd (let g = sym e ∙ whole ∙ may.scanning in cc);
   });
   due_is = subst (λ (d : List ℕ). KeepsDue l.due (d ++ more_served (raw_of h) b)) (sym (none_due_by s h f may.none_due)) (due (raw_of h) (f.line_is.scanning may.scanning).0);
+  asking_is = asking_scanned s a h f may.scanning asks;
   counts_are = subst (λ t. KeepsCounts s.counts (cond t (cut_of h ++ raw_of h ∷ []) (cut_of h)) (got_of h)) (sym other) f.counts_are;
   polls_are = f.polls_are;
   text_is = f.text_is;
@@ -251,13 +286,14 @@ scanned_byte s r l b h f may going next piece count reading other fed due whole 
   over = λ e. not_over s r b h f next e;
 }
 
-pub scanned_lf : (s : Host) (r : Reader) (l : SentLine) (c : Counts) (b : ℕ) (h : Journal) → HostFits s h → MayScanOn s → s.shut ≡ false → unread s.job ≡ b ∷ unread r → IsPiece r → r.scanned ≡ s.job.scanned + 1 → r.reading ≡ s.job.reading
-    → nat_eq b 10 ≡ true → KeepsLine l [] (plain (raw_of h) ++ 10 ∷ []) → l.due ≡ s.line.due → KeepsCounts c (cut_of h ++ raw_of h ∷ []) (got_of h) → HostFits (record s { job = r; line = l; counts = c }) (scanned b ∷ h)
-scanned_lf s r l c b h f may going next piece count reading lf line due counts = record {
+pub scanned_lf : (s : Host) (r : Reader) (l : SentLine) (c : Counts) (a : Asking) (b : ℕ) (h : Journal) → HostFits s h → MayScanOn s → s.shut ≡ false → unread s.job ≡ b ∷ unread r → IsPiece r → r.scanned ≡ s.job.scanned + 1 → r.reading ≡ s.job.reading
+    → nat_eq b 10 ≡ true → KeepsLine l [] (plain (raw_of h) ++ 10 ∷ []) → l.due ≡ s.line.due → KeepsCounts c (cut_of h ++ raw_of h ∷ []) (got_of h) → a ≡ cond s.line.begun s.asking Nothing → HostFits (record s { job = r; line = l; counts = c; asking = a }) (scanned b ∷ h)
+scanned_lf s r l c a b h f may going next piece count reading lf line due counts asks = record {
   conducted = (may_scan_next s r b h f may going next, f.conducted);
   job_is = job_scanned s r b h f next piece count reading;
   line_is = subst (λ t. KeepsLine l (cond t [] (raw_of h ++ b ∷ [])) (cond t (plain (raw_of h) ++ 10 ∷ []) (to_store h))) (sym lf) line;
   due_is = nothing_due l.due _ (due ∙ may.none_due) (ap (λ (d : List ℕ). d ++ more_served (raw_of h) b) (none_due_by s h f may.none_due) ∙ none_at_lf (raw_of h) b lf);
+  asking_is = asking_scanned s a h f may.scanning asks;
   counts_are = subst (λ t. KeepsCounts c (cond t (cut_of h ++ raw_of h ∷ []) (cut_of h)) (got_of h)) (sym lf) counts;
   polls_are = f.polls_are;
   text_is = f.text_is;
@@ -271,11 +307,20 @@ few_answers s h f = (sending.counts_are h f.conducted).1
 
 -- ---- a byte is stored
 
-pub may_store : (s : Host) (b : ℕ) (h : Journal) → HostFits s h → s.line.whole ≡ true → s.counts.unanswered.total ≤ 128 → drop s.line.place (s.line.kept.items ++ 10 ∷ []) ≡ b ∷ drop (s.line.place + 1) (s.line.kept.items ++ 10 ∷ []) → MayStore b h
-may_store s b h f whole room next =
+not_waiting : (a b : Asking) → a ≡ b → (a ≡ Awaits → ⊥) → is_waiting b ≡ false
+not_waiting a Nothing is none = refl
+not_waiting a Awaits is none = absurd (none is)
+not_waiting a HasOne is none = refl
+
+pub awaits_by : (a b : Asking) → a ≡ b → a ≡ Awaits → is_waiting b ≡ true
+awaits_by a b is e = ap is_waiting (sym is ∙ e)
+
+pub may_store : (s : Host) (b : ℕ) (h : Journal) → HostFits s h → s.line.whole ≡ true → (s.asking ≡ Awaits → ⊥) → s.counts.unanswered.total ≤ 128 → drop s.line.place (s.line.kept.items ++ 10 ∷ []) ≡ b ∷ drop (s.line.place + 1) (s.line.kept.items ++ 10 ∷ []) → MayStore b h
+may_store s b h f whole reported room next =
     let left = (f.line_is.storing whole).left_is in
     record {
       next = left ∙ next ∙ ap (λ (t : List ℕ). b ∷ drop 1 t) (sym next ∙ sym left);
+      reported = not_waiting s.asking (asking_of h) f.asking_is reported;
       room = (let t = total_is s h f in omega arith);
     }
 
@@ -300,7 +345,7 @@ line_stored l m b raw left whole stores is next = by_place (nat_lt l.place (leng
     by_place : (t : Bool) → nat_lt l.place (length l.kept.items) ≡ t → KeepsLine m raw (drop 1 left)
     by_place true e = let below : l.place < length l.kept.items = grind (arith, nat_tests) in rw (stores.more below) (record {
       scanning = λ w. absurd (let g = sym whole ∙ w in cc);
-      storing = λ w. record { none = is.none; short = is.short; within = omega arith; left_is = rest };
+      storing = λ w. record { none = is.none; sends = is.sends; within = omega arith; left_is = rest };
     })
     by_place false e =
         let at : l.place ≡ length l.kept.items = (let w = is.within in grind (arith, nat_tests)) in
@@ -319,6 +364,7 @@ stored_byte s m b h f whole may stores next = record {
   job_is = f.job_is;
   line_is = line_stored s.line m b (raw_of h) (to_store h) whole stores (f.line_is.storing whole) next;
   due_is = subst (λ d. KeepsDue d (due_of h)) (sym stores.due) f.due_is;
+  asking_is = f.asking_is;
   counts_are = f.counts_are;
   polls_are = f.polls_are;
   text_is = f.text_is;
@@ -349,11 +395,11 @@ none_left_large h c at none =
     let l = ap length (read_is h c) in let m = length-append (scanned_of h) (unscanned_of h) in let n = ap length none in let k = few_scanned h c in
     absurd (omega arith)
 
-no_more_by : (s : Host) (h : Journal) → HostFits s h → (MayScanOn s → ⊥) → (MayReadOn s → ⊥) → s.line.whole ≡ false → s.line.long ≡ false → s.line.due ≡ None
+no_more_by : (s : Host) (h : Journal) → HostFits s h → (MayScanOn s → ⊥) → (MayReadOn s → ⊥) → s.line.whole ≡ false → is_over s.line ≡ false → s.line.due ≡ None
     → (r : Reading) → reading_of h ≡ r → (left : List ℕ) → unscanned_of h ≡ left → HasNoMore r (unscanned_of h) (raw_of h) (length (scanned_of h))
 no_more_by s h f no_scan no_read whole long none Ended at left is = f.over at
 no_more_by s h f no_scan no_read whole long none Failed at [] is = is
-no_more_by s h f no_scan no_read whole long none Stopped at [] is = absurd (no_read (record { scanning = whole; short = long; none_due = none; used = used_by s.job (f.job_is.left_is ∙ is) f.job_is.piece; on = f.job_is.reading_is ∙ at }))
+no_more_by s h f no_scan no_read whole long none Stopped at [] is = absurd (no_read (record { scanning = whole; sends = long; none_due = none; used = used_by s.job (f.job_is.left_is ∙ is) f.job_is.piece; on = f.job_is.reading_is ∙ at }))
 no_more_by s h f no_scan no_read whole long none Large at [] is = none_left_large h f.conducted at is
 no_more_by s h f no_scan no_read whole long none r at (b ∷ left) is = over_full h f.conducted b left is (full (nat_lt (length (scanned_of h)) largest_job) refl) r at
   where
@@ -361,7 +407,7 @@ no_more_by s h f no_scan no_read whole long none r at (b ∷ left) is = over_ful
     full false e = grind (arith, nat_tests)
     full true e = absurd (no_scan (record {
       scanning = whole;
-      short = long;
+      sends = long;
       none_due = none;
       some = some_by s.job b left (f.job_is.left_is ∙ is);
       few = (let n = f.job_is.scanned_is in grind (arith, nat_tests));
@@ -369,11 +415,11 @@ no_more_by s h f no_scan no_read whole long none r at (b ∷ left) is = over_ful
 
 -- all is sent where nothing may be scanned or read
 pub has_sent : (s : Host) (h : Journal) → HostFits s h → s.line.whole ≡ false → s.line.due ≡ None → (MayScanOn s → ⊥) → (MayReadOn s → ⊥) → HasSentAll h
-has_sent s h f whole none no_scan no_read = record { free = (f.line_is.scanning whole).1; all = by_long s.line.long refl }
+has_sent s h f whole none no_scan no_read = record { free = (f.line_is.scanning whole).1; all = by_over (is_over s.line) refl }
   where
-    by_long : (t : Bool) → s.line.long ≡ t → (ends_sending (raw_of h) ≡ true) ⊎ HasNoMore (reading_of h) (unscanned_of h) (raw_of h) (length (scanned_of h))
-    by_long true e = inl (long_is s h f whole ∙ e)
-    by_long false e = inr (no_more_by s h f no_scan no_read whole e none (reading_of h) refl (unscanned_of h) refl)
+    by_over : (t : Bool) → is_over s.line ≡ t → (ends_sending (raw_of h) ≡ true) ⊎ HasNoMore (reading_of h) (unscanned_of h) (raw_of h) (length (scanned_of h))
+    by_over true e = inl (ends_is s h f whole ∙ e)
+    by_over false e = inr (no_more_by s h f no_scan no_read whole e none (reading_of h) refl (unscanned_of h) refl)
 
 pub closed : (s : Host) (h : Journal) → HostFits s h → s.line.whole ≡ false → s.shut ≡ false → s.line.due ≡ None → (MayScanOn s → ⊥) → (MayReadOn s → ⊥) → HostFits (record s { shut = true }) (at_port shut ∷ h)
 closed s h f whole going none no_scan no_read = record {
@@ -381,6 +427,7 @@ closed s h f whole going none no_scan no_read = record {
   job_is = f.job_is;
   line_is = f.line_is;
   due_is = f.due_is;
+  asking_is = f.asking_is;
   counts_are = f.counts_are;
   polls_are = f.polls_are;
   text_is = f.text_is;
@@ -429,6 +476,7 @@ wrote_some s w h now later f due took =
           job_is = f.job_is;
           line_is = f.line_is;
           due_is = f.due_is;
+          asking_is = f.asking_is;
           counts_are = f.counts_are;
           polls_are = f.polls_are;
           text_is = record {
@@ -467,6 +515,7 @@ wrote_none s w h now later f due fault =
           job_is = f.job_is;
           line_is = f.line_is;
           due_is = f.due_is;
+          asking_is = f.asking_is;
           counts_are = f.counts_are;
           polls_are = f.polls_are;
           text_is = record {

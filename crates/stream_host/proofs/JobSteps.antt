@@ -19,7 +19,7 @@ use Rattle.stream_host.specs.Steps.Step.{read_some, read_end, read_failed, scann
 use Rattle.stream_host.specs.Conduct.{MayRead, HasWritten, moving}
 use Rattle.stream_host.specs.Hosts.{HostFits, KeepsLine, KeepsCounts, IsQuiet, MayReadOn, GaveBytes, GaveEnd, GaveNone, DidAlone, HostTellsOn, TellsJob, unread}
 use Rattle.stream_host.proofs.Keeping.{read_is}
-use Rattle.stream_host.proofs.Hosting.{none_due_by, none_due_now, nothing_due, long_is, used_by, quiet_on, same_job}
+use Rattle.stream_host.proofs.Hosting.{none_due_by, none_due_now, nothing_due, ends_is, used_by, quiet_on, same_job}
 
 -- ---- some bytes are scanned
 
@@ -67,7 +67,7 @@ pub may_read : (s : Host) (h : Journal) → HostFits s h → MayReadOn s → s.s
 may_read s h f may going written = record {
   going = sym f.shut_is ∙ going;
   on = sym f.job_is.reading_is ∙ may.on;
-  sends = long_is s h f may.scanning ∙ may.short;
+  sends = ends_is s h f may.scanning ∙ may.sends;
   used = sym f.job_is.left_is ∙ drop_all s.job.place (take s.job.end s.job.bytes) (let l = length-take s.job.end s.job.bytes in let u = may.used in omega arith);
   free = (f.line_is.scanning may.scanning).1;
   none_due = none_due_by s h f may.none_due;
@@ -85,7 +85,7 @@ pub may_read_on : (s : Host) (h : Journal) → HostFits s h → MayRead h → Ma
 may_read_on s h f may =
     let whole = none_whole s h f may.free s.line.whole refl in record {
       scanning = whole;
-      short = sym (long_is s h f whole) ∙ may.sends;
+      sends = sym (ends_is s h f whole) ∙ may.sends;
       none_due = none_due_now s h f may.none_due;
       used = used_by s.job (f.job_is.left_is ∙ may.used) f.job_is.piece;
       on = f.job_is.reading_is ∙ may.on;
@@ -125,6 +125,7 @@ did_read s r h now later f on going written gave =
           };
           line_is = f.line_is;
           due_is = f.due_is;
+          asking_is = f.asking_is;
           counts_are = f.counts_are;
           polls_are = f.polls_are;
           text_is = f.text_is;
@@ -161,6 +162,7 @@ did_fail s r h now later f on going written gave =
           job_is = record { piece = gave.piece; left_is = gave.none ∙ sym may.used; reading_is = gave.reading; scanned_is = gave.scanned ∙ f.job_is.scanned_is };
           line_is = f.line_is;
           due_is = f.due_is;
+          asking_is = f.asking_is;
           counts_are = f.counts_are;
           polls_are = f.polls_are;
           text_is = f.text_is;
@@ -214,6 +216,7 @@ did_end s r h now later f on going written none gave =
           job_is = record { piece = gave.piece; left_is = gave.none ∙ sym may.used; reading_is = gave.reading; scanned_is = gave.scanned ∙ f.job_is.scanned_is };
           line_is = f.line_is;
           due_is = f.due_is;
+          asking_is = f.asking_is;
           counts_are = f.counts_are;
           polls_are = f.polls_are;
           text_is = f.text_is;
@@ -257,6 +260,7 @@ did_end_line s r l c h now later f on going written begun gave line due counts =
           job_is = record { piece = gave.piece; left_is = gave.none ∙ sym may.used; reading_is = gave.reading; scanned_is = gave.scanned ∙ f.job_is.scanned_is };
           line_is = line;
           due_is = nothing_due l.due (due_of h) (due ∙ on.none_due) may.none_due;
+          asking_is = f.asking_is;
           counts_are = counts;
           polls_are = f.polls_are;
           text_is = f.text_is;

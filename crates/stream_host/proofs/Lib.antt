@@ -10,5 +10,6 @@ pub mod Keeping
 pub mod Sending
 pub mod Raising
 pub mod Waiting
+pub mod Reporting
 pub mod Example
 pub mod Running

@@ -1,31 +1,48 @@
 -- Lines of a text, and those that are sent.
 use Rattle.std.proofs.Common.{◌≡◌, ℕ, ◌+◌, ◌≤◌, Bool, true, false, not, cond, ◌||◌, List, [], ◌∷◌, ◌++◌, length, map, nat_eq, nat_lt, refl, sym, ap, ◌∙◌, arith, append-nil, append_assoc, length-append}
-use Rattle.std.specs.List.{AllByRecursion, list_any, take_while}
+use Rattle.std.specs.List.{AllByRecursion, filter, list_any, take_while}
 use Rattle.std.proofs.lemmas.Bool.Decides.{nat_tests}
 use Rattle.std.proofs.lemmas.List.Sums.{take_while-cons}
 use Rattle.std.proofs.lemmas.List.Folds.{list_any-append}
 use Rattle.gcode_words.specs.Comments.{comment_after}
-use Rattle.gcode_words.specs.Stripping.{plain}
+use Rattle.gcode_words.specs.Stripping.{plain, realtime, is_realtime}
 use Rattle.gcode_words.proofs.Scanning.{shown}
-use Rattle.gcode_words.proofs.Fed.{kept_of, plain-append}
+use Rattle.gcode_words.proofs.Fed.{kept_of, plain-append, realtime-append}
 use Rattle.run_rules.specs.Lines.{CutsInto, HasNoLf, ended, lines_of, whole_lines, onto_line, onto_first}
 use Rattle.run_rules.proofs.Cutting.{lines_are, some_bytes}
 use Rattle.stream_host.specs.declared.Reading.{Reading}
 use Rattle.stream_host.specs.declared.Reading.TheVariants.{Ended, Failed, Large, Stopped}
 use Rattle.stream_host.specs.Links.{on_link}
-use Rattle.stream_host.specs.Jobs.{ends_sending, is_sent, lines_read, lines_to_send}
-use Rattle.stream_host.proofs.Links.{plain_nil, plains_no_lf, few_plain}
+use Rattle.stream_host.specs.Jobs.{is_long, is_reset, holds_reset, ends_sending, is_sent, lines_read, lines_to_send}
+use Rattle.stream_host.proofs.Links.{plain_nil, realtime_nil, plains_no_lf, few_plain}
 
 abbrev pub IsSendable : List ℕ → Type 0
 IsSendable line = ends_sending line ≡ false
 
 -- ---- one line
 
-pub none_ends : ends_sending [] ≡ false
-none_ends = ap (λ (l : List ℕ). nat_lt 127 (length l)) plain_nil
+pub none_long : is_long [] ≡ false
+none_long = ap (λ (l : List ℕ). nat_lt 127 (length l)) plain_nil
 
-pub ends_on : (raw more : List ℕ) → ends_sending raw ≡ true → ends_sending (raw ++ more) ≡ true
-ends_on raw more h =
+pub none_reset : holds_reset [] ≡ false
+none_reset = ap (list_any is_reset) realtime_nil
+
+pub none_ends : ends_sending [] ≡ false
+none_ends = ap (λ b. b || holds_reset []) none_long ∙ none_reset
+
+-- neither of two holds
+pub neither : (a b : Bool) → (a || b) ≡ false → (a ≡ false) × (b ≡ false)
+neither true b h = absurd cc
+neither false b h = (refl, h)
+
+pub not_long : (line : List ℕ) → IsSendable line → is_long line ≡ false
+not_long line h = (neither (is_long line) (holds_reset line) h).0
+
+pub no_reset : (line : List ℕ) → IsSendable line → holds_reset line ≡ false
+no_reset line h = (neither (is_long line) (holds_reset line) h).1
+
+long_on : (raw more : List ℕ) → is_long raw ≡ true → is_long (raw ++ more) ≡ true
+long_on raw more h =
     let e = plain-append raw more in
     let l = length-append (plain raw) (kept_of (shown (comment_after raw) more)) in
     let w = ap length e in
@@ -33,6 +50,20 @@ ends_on raw more h =
   where
     over : (m n : ℕ) → m ≤ n → nat_lt 127 m ≡ true → nat_lt 127 n ≡ true
     over m n l h = grind (arith, nat_tests)
+
+reset_on : (raw more : List ℕ) → holds_reset raw ≡ true → holds_reset (raw ++ more) ≡ true
+reset_on raw more h =
+    ap (list_any is_reset) (realtime-append raw more)
+    ∙ list_any-append is_reset (realtime raw) (filter is_realtime (shown (comment_after raw) more))
+    ∙ ap (λ b. b || list_any is_reset (filter is_realtime (shown (comment_after raw) more))) h
+
+pub ends_on : (raw more : List ℕ) → ends_sending raw ≡ true → ends_sending (raw ++ more) ≡ true
+ends_on raw more h = by_cases (is_long raw) (holds_reset raw) (is_long (raw ++ more)) (holds_reset (raw ++ more)) (long_on raw more) (reset_on raw more) h
+  where
+    by_cases : (a b c d : Bool) → (a ≡ true → c ≡ true) → (b ≡ true → d ≡ true) → (a || b) ≡ true → (c || d) ≡ true
+    by_cases true b c d f g h = ap (λ x. x || d) (f refl)
+    by_cases false b true d f g h = refl
+    by_cases false b false d f g h = g h
 
 -- ---- lists of lines
 

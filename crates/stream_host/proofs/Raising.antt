@@ -1,12 +1,14 @@
 -- What is raised is scanned, but for the resumes of the host's own.
-use Rattle.std.proofs.Common.{◌≡◌, ℕ, ◌+◌, ◌*◌, ◌≤◌, ◌<◌, ◌⊎◌, inl, inr, Bool, true, false, cond, List, [], ◌∷◌, ◌++◌, length, drop, nat_eq, nat_lt, refl, sym, ap, ◌∙◌, arith, subst, append-nil, append_assoc}
-use Rattle.std.specs.List.{count_by, filter, flat_map}
+use Rattle.std.proofs.Common.{◌≡◌, ℕ, ◌+◌, ◌*◌, ◌≤◌, ◌<◌, ◌⊎◌, ◌||◌, inl, inr, Bool, true, false, cond, List, [], ◌∷◌, ◌++◌, length, drop, nat_eq, nat_lt, refl, sym, ap, ◌∙◌, arith, subst, append-nil, append_assoc, length-append}
+use Rattle.std.specs.List.{count_by, filter, flat_map, list_any}
 use Rattle.std.proofs.lemmas.Bool.Decides.{nat_tests}
 use Rattle.std.proofs.lemmas.Grind.{flat_map-append}
 use Rattle.std.proofs.lemmas.List.Elements.{filter-append}
-use Rattle.std.proofs.lemmas.List.Sums.{sum_by-append}
+use Rattle.std.proofs.lemmas.List.Folds.{list_any-append}
+use Rattle.std.proofs.lemmas.List.Sums.{sum_by-append, length-filter, count_by-le-length}
 use Rattle.std.proofs.Math.Seq.{drop-append_seam}
-use Rattle.gcode_words.specs.Comments.{comment_after}
+use Rattle.code_table.specs.Tables.{query}
+use Rattle.gcode_words.specs.Comments.{comment_after, begins_comment}
 use Rattle.gcode_words.specs.declared.stripping.Comment.{Comment}
 use Rattle.gcode_words.specs.declared.stripping.Comment.TheVariants.{Outside, Paren, Semicolon}
 use Rattle.gcode_words.specs.Stripping.{is_realtime, realtime, taken_by}
@@ -16,18 +18,19 @@ use Rattle.stream_host.specs.Hosts.{KeepsDue}
 use Rattle.gcode_words.proofs.Scanning.{shown}
 use Rattle.gcode_words.proofs.Fed.{realtime-append}
 use Rattle.run_rules.proofs.Cutting.{lines_are, some_bytes}
-use Rattle.stream_host.specs.Jobs.{resume, is_served, served, served_in}
+use Rattle.stream_host.specs.Jobs.{resume, is_served, is_reset, holds_reset, served, served_in}
 use Rattle.stream_host.specs.Steps.{Journal, port_log, is_shut, scanned_of, raw_of, cut_of, to_store, due_of, more_served, empty_polls, polls_of, raises_of, line_raises_of, resumes_of, resumes_next, all_empty_in}
 use Rattle.stream_host.specs.Steps.PortStep.{stored, dropped, raised, got, no_reply, shut}
 use Rattle.stream_host.specs.Steps.Step.{at_port, read_some, read_end, read_failed, scanned, line_over, wrote, gave_up, turned}
-use Rattle.stream_host.specs.Conduct.{Conducted, MayStore, Waits}
+use Rattle.stream_host.specs.Conduct.{Conducted, AreAnswered, MayStore, Waits}
+use Rattle.stream_host.specs.Ports.{queries_in}
 use Rattle.stream_host.specs.Ran.{AreRaised}
 use Rattle.stream_host.proofs.Links.{realtime_nil}
 use Rattle.stream_host.proofs.Keeping.{IsCut, cut_is, open_link}
 
 -- ---- the realtime bytes of a line
 
-served_nil : served [] ≡ []
+pub served_nil : served [] ≡ []
 served_nil = ap (filter is_served) realtime_nil
 
 more_of : List ℕ → ℕ → List ℕ
@@ -53,6 +56,12 @@ more_by raw b more is = ap (drop (length (served raw))) is ∙ drop-append_seam 
 pub due_more : (raw : List ℕ) (b : ℕ) (a : Stripped) (d : Option ℕ) → realtime (raw ++ b ∷ []) ≡ realtime raw ++ taken_by a → KeepsDue d (filter is_served (taken_by a)) → KeepsDue d (more_served raw b)
 due_more raw b a d taken due = subst (KeepsDue d) (sym (more_by raw b (filter is_served (taken_by a)) (ap (filter is_served) taken ∙ filter-append is_served (realtime raw) (taken_by a)))) due
 
+-- a line has a reset where it had one, or the byte is one
+pub reset_more : (raw : List ℕ) (b : ℕ) (a : Stripped) (old is : Bool) → realtime (raw ++ b ∷ []) ≡ realtime raw ++ taken_by a → old ≡ holds_reset raw → is ≡ list_any is_reset (taken_by a)
+    → (old || is) ≡ holds_reset (raw ++ b ∷ [])
+reset_more raw b a old is taken was now =
+    ap (λ x. x || is) was ∙ ap (λ x. holds_reset raw || x) now ∙ sym (list_any-append is_reset (realtime raw) (taken_by a)) ∙ sym (ap (list_any is_reset) taken)
+
 -- a line feed is none
 pub none_at_lf : (raw : List ℕ) (b : ℕ) → nat_eq b 10 ≡ true → more_served raw b ≡ []
 unfolding more_of
@@ -68,10 +77,10 @@ none_at_lf raw b e = more_is raw b ∙ ap (λ c. filter is_served (filter is_rea
 
 -- ---- the polls
 
-is_enough : (n : ℕ) → nat_eq n empty_polls ≡ true → n ≡ empty_polls
+pub is_enough : (n : ℕ) → nat_eq n empty_polls ≡ true → n ≡ empty_polls
 is_enough n e = grind (arith, nat_tests)
 
-is_fewer : (n : ℕ) → n ≤ empty_polls → nat_eq n empty_polls ≡ false → n < empty_polls
+pub is_fewer : (n : ℕ) → n ≤ empty_polls → nat_eq n empty_polls ≡ false → n < empty_polls
 is_fewer n few e = grind (arith, nat_tests)
 
 few_or_none : (t : Bool) (n : ℕ) → n ≤ empty_polls → cond t 0 n ≤ empty_polls
@@ -276,15 +285,64 @@ none_due_shut (wrote n ∷ h) c e = none_due_shut h c.1 e
 none_due_shut (gave_up ∷ h) c e = none_due_shut h c.1 e
 none_due_shut (turned t ∷ h) c e = none_due_shut h c.1 e
 
--- a host that waits has nothing to raise
-pub none_due_waiting : (h : Journal) → Conducted h → Waits h → due_of h ≡ []
-none_due_waiting h c w = by_due (due_of h) refl
-  where
-    by_polls : (b : ℕ) → due_of h ≡ b ∷ drop 1 (due_of h) → (t : Bool) → nat_eq (polls_of h) empty_polls ≡ t → ⊥
-    by_polls b next true e = w.no_raise resume (record { resumes = λ n. refl; next = λ fewer. absurd (let n = is_enough (polls_of h) e in omega arith) })
-    by_polls b next false e =
-        w.no_raise b (record { resumes = λ n. absurd (let m = is_fewer (polls_of h) (few_polls h c) e in omega arith); next = λ fewer. next })
+resumes_only : resume ≡ query → ⊥
+resumes_only e = cc
 
-    by_due : (due : List ℕ) → due_of h ≡ due → due ≡ []
-    by_due [] is = refl
-    by_due (b ∷ bytes) is = absurd (by_polls b (is ∙ ap (λ (t : List ℕ). b ∷ drop 1 t) (sym is)) (nat_eq (polls_of h) empty_polls) refl)
+-- a host that waits may raise no byte that is due: it is a `?`, and a line before its own has no answer
+pub early_waiting : (b : ℕ) (h : Journal) → Conducted h → Waits h → due_of h ≡ b ∷ drop 1 (due_of h) → (b ≡ query → AreAnswered h) → ⊥
+early_waiting b h c w next after = by_polls (nat_eq (polls_of h) empty_polls) refl
+  where
+    by_polls : (t : Bool) → nat_eq (polls_of h) empty_polls ≡ t → ⊥
+    by_polls true e = w.no_raise resume (record { resumes = λ n. refl; next = λ fewer. absurd (let n = is_enough (polls_of h) e in omega arith); after = λ q. absurd (resumes_only q) })
+    by_polls false e = w.no_raise b (record { resumes = λ n. absurd (let m = is_fewer (polls_of h) (few_polls h c) e in omega arith); next = λ fewer. next; after = after })
+
+-- ---- the reports that are asked for
+
+one_more : (raw : List ℕ) (b : ℕ) → length (more_served raw b) ≤ 1
+unfolding more_of
+one_more raw b =
+    let outer = length-filter is_served (filter is_realtime (shown (comment_after raw) (b ∷ []))) in
+    let few = count_by-le-length is_served (filter is_realtime (shown (comment_after raw) (b ∷ []))) in
+    let inner = length-filter is_realtime (shown (comment_after raw) (b ∷ [])) in
+    let fewer = count_by-le-length is_realtime (shown (comment_after raw) (b ∷ [])) in
+    let same = ap length (more_is raw b) in
+    let seen = by_comment (comment_after raw) in
+    omega arith
+  where
+    by_test : (t : Bool) → length (cond t [] (b ∷ []) ++ []) ≤ 1
+    by_test true = omega arith
+    by_test false = omega arith
+
+    by_comment : (s : Comment) → length (shown s (b ∷ [])) ≤ 1
+    by_comment Outside = by_test (begins_comment b)
+    by_comment Paren = omega arith
+    by_comment Semicolon = omega arith
+
+asked_by : (b n all : ℕ) (resumes t : Bool) (due : List ℕ) → nat_eq b query ≡ t → (resumes ≡ true → b ≡ resume) → (resumes ≡ false → due ≡ b ∷ drop 1 due) → n + length due ≤ all
+    → cond t (n + 1) n + length (cond resumes due (drop 1 due)) ≤ all
+asked_by b n all true true due is tired next was = absurd (let e = ap (λ x. nat_eq x query) (tired refl) in let g = sym is ∙ e in cc)
+asked_by b n all true false due is tired next was = was
+asked_by b n all false true due is tired next was = let l = ap length (next refl) in omega arith
+asked_by b n all false false due is tired next was = let l = ap length (next refl) in omega arith
+
+-- each `?` that is raised is scanned, and so is what is due
+pub few_queries : (h : Journal) → Conducted h → queries_in (port_log h) + length (due_of h) ≤ length (scanned_of h)
+few_queries [] c = omega arith
+few_queries (at_port (stored b) ∷ h) c = few_queries h c.1
+few_queries (at_port (dropped b) ∷ h) c = absurd c.0
+few_queries (at_port (raised b down) ∷ h) c =
+    asked_by b (queries_in (port_log h)) (length (scanned_of h)) (nat_eq (polls_of h) empty_polls) (nat_eq b query) (due_of h) refl
+    (λ e. c.0.resumes (is_enough (polls_of h) e)) (λ e. c.0.next (is_fewer (polls_of h) (few_polls h c.1) e)) (few_queries h c.1)
+few_queries (at_port (got r) ∷ h) c = few_queries h c.1
+few_queries (at_port no_reply ∷ h) c = few_queries h c.1
+few_queries (at_port shut ∷ h) c = few_queries h c.1
+few_queries (read_some bytes ∷ h) c = few_queries h c.1
+few_queries (read_end ∷ h) c = few_queries h c.1
+few_queries (read_failed ∷ h) c = few_queries h c.1
+few_queries (scanned b ∷ h) c =
+    let m = few_queries h c.1 in let o = one_more (raw_of h) b in
+    let a = length-append (due_of h) (more_served (raw_of h) b) in let s = length-append (scanned_of h) (b ∷ []) in omega arith
+few_queries (line_over ∷ h) c = few_queries h c.1
+few_queries (wrote n ∷ h) c = few_queries h c.1
+few_queries (gave_up ∷ h) c = few_queries h c.1
+few_queries (turned t ∷ h) c = few_queries h c.1

@@ -4,13 +4,14 @@ use Rattle.std.specs.List.{list_any}
 use Rattle.std.proofs.lemmas.List.{drop-append-le}
 use Rattle.std.proofs.lemmas.List.Sums.{sum_by-append}
 use Rattle.stream_host.specs.declared.host.Host.{Host}
-use Rattle.stream_host.specs.Steps.{Journal, port_log, got_of, has_bye, cut_of, text_of}
+use Rattle.stream_host.specs.declared.line.Asking.{Asking}
+use Rattle.stream_host.specs.Steps.{Journal, port_log, got_of, has_bye, cut_of, got_one, text_of}
 use Rattle.stream_host.specs.Steps.PortStep.{got}
 use Rattle.stream_host.specs.Steps.Step.{at_port}
 use Rattle.stream_host.specs.Hosts.{HostFits, KeepsCounts, KeepsText, line_length, lengths, IsSummed}
 use Rattle.stream_host.specs.declared.counts.Counts.{Counts}
 use Rattle.status_report.specs.declared.Reply.{Reply}
-use Rattle.status_report.specs.Answering.{answers_in, is_answer, is_bye}
+use Rattle.status_report.specs.Answering.{answers_in, is_answer, is_bye, is_report}
 use Rattle.stream_host.specs.Ports.{AnswersLines}
 use Rattle.stream_host.proofs.Sending as sending
 use Rattle.std.proofs.lemmas.List.{drop-drop}
@@ -129,13 +130,14 @@ got_text s w r h f going is = record {
   all_asked = λ e. ap (λ v. v.asked) is ∙ shown_asked s.text r (has_bye h) (sym f.bye_is ∙ going) (sym (bye_push (got_of h) r) ∙ e);
 }
 
-pub got_reply : (s : Host) (w : Writing) (c : Counts) (bye : Bool) (r : Reply) (h : Journal) → HostFits s h → s.bye ≡ false → AnswersLines (got r ∷ port_log h) → w ≡ shown s.text r → bye ≡ (s.bye || is_bye r)
-    → KeepsCounts c (cut_of h) (got_of h ++ r ∷ []) → HostFits (record s { text = w; counts = c; polls = 0; bye = bye }) (at_port (got r) ∷ h)
-got_reply s w c bye r h f going lines text is counts = record {
+pub got_reply : (s : Host) (w : Writing) (c : Counts) (a : Asking) (bye : Bool) (r : Reply) (h : Journal) → HostFits s h → s.bye ≡ false → AnswersLines (got r ∷ port_log h) → w ≡ shown s.text r → bye ≡ (s.bye || is_bye r)
+    → KeepsCounts c (cut_of h) (got_of h ++ r ∷ []) → a ≡ cond (is_report r) (got_one s.asking) s.asking → HostFits (record s { text = w; counts = c; asking = a; polls = 0; bye = bye }) (at_port (got r) ∷ h)
+got_reply s w c a bye r h f going lines text is counts asks = record {
   conducted = (record { poll = record { going = sym f.bye_is ∙ going; rested = f.polls_are.few }; few = lines }, f.conducted);
   job_is = f.job_is;
   line_is = f.line_is;
   due_is = f.due_is;
+  asking_is = asks ∙ ap (λ (x : Asking). cond (is_report r) (got_one x) x) f.asking_is;
   counts_are = counts;
   polls_are = record { polls_are = refl; few = omega arith };
   text_is = got_text s w r h f going text;

@@ -16,6 +16,7 @@ use Rattle.stream_host.specs.Ran.{AreRaised, HostRan, HostRuns, HasFinished, Tel
 use Rattle.stream_host.proofs.Keeping.{stored_is}
 use Rattle.stream_host.proofs.Sending.{sent_so_far, sent_all, all_stored}
 use Rattle.stream_host.proofs.Raising.{raised_is, none_due_shut}
+use Rattle.stream_host.proofs.Reporting.{reported_is}
 use Rattle.stream_host.proofs.Turns.{has_written}
 
 none_left : (n : ℕ) (text : List ℕ) → n ≡ length text → drop n text ≡ []
@@ -60,6 +61,7 @@ has_run h job_was job_is console_was console_is c finished job console = record 
   link = λ shut. all_stored h c shut;
   resumes = resumes_of h;
   raises = λ shut. subst (λ due. AreRaised (scanned_of h) (raises_of h) due (resumes_of h)) (none_due_shut h c shut) (raised_is h c);
+  reported = λ shut. reported_is h c;
   bye = finished.bye;
   console = took_of console_was console_is (has_given_up h) (drop (written_of h) (text_of h)) (text_of h) console (wrote_all h finished.written);
   answered = refl;
@@ -84,6 +86,7 @@ runs_so_far h job_was job_is console_was console_is c job console = record {
   due = due_of h;
   resumes = resumes_of h;
   raises = raised_is h c;
+  reported = reported_is h c;
   failed = has_given_up h;
   waiting = drop (written_of h) (text_of h);
   console = console;

@@ -1,5 +1,5 @@
 -- What a host that keeps to its rules sends of a job, and how much is unanswered.
-use Rattle.std.proofs.Common.{◌≡◌, ℕ, suc, zero, ◌+◌, ◌-◌, ◌≤◌, ◌<◌, ◌⊎◌, inl, inr, Bool, true, false, cond, List, [], ◌∷◌, ◌++◌, length, map, take, drop, nat_eq, nat_lt, refl, sym, ap, ◌∙◌, arith, subst, append-nil, length-append}
+use Rattle.std.proofs.Common.{◌≡◌, ◌||◌, ℕ, suc, zero, ◌+◌, ◌-◌, ◌≤◌, ◌<◌, ◌⊎◌, inl, inr, Bool, true, false, cond, List, [], ◌∷◌, ◌++◌, length, map, take, drop, nat_eq, nat_lt, refl, sym, ap, ◌∙◌, arith, subst, append-nil, length-append}
 use Rattle.std.specs.List.{list_any}
 use Rattle.std.proofs.lemmas.List.{take_all, drop-drop, drop-map}
 use Rattle.std.proofs.lemmas.List.Sums.{sum_by-append, sum_by-cons}
@@ -13,16 +13,16 @@ use Rattle.run_rules.specs.Told.{is_error, errors_among}
 use Rattle.run_rules.proofs.Cutting.{lines_with}
 use Rattle.stream_host.specs.declared.Reading.{Reading}
 use Rattle.stream_host.specs.declared.Reading.TheVariants.{Ended, Failed, Large, Stopped}
-use Rattle.stream_host.specs.declared.Stop.TheVariants.{End, LongLine}
+use Rattle.stream_host.specs.declared.Stop.TheVariants.{End, LongLine, Reset}
 use Rattle.stream_host.specs.Links.{behind, on_link}
 use Rattle.status_report.specs.Answering.{receive_room, lfs_in, is_answer, answers_in}
-use Rattle.stream_host.specs.Jobs.{is_long, ends_sending, lines_to_send, ScansFront, MayLeave, MayScan, long_line, stop_by, IsSentSoFar, IsSent}
+use Rattle.stream_host.specs.Jobs.{is_long, holds_reset, ends_sending, lines_to_send, ScansFront, MayLeave, MayScan, long_line, stop_by, IsSentSoFar, IsSent}
 use Rattle.stream_host.specs.Steps.{Journal, stored_of, got_of, is_shut, answered_of, errors_of, read_of, reading_of, scanned_of, unscanned_of, raw_of, cut_of, to_store, begun_of, stop_at, stop_of}
 use Rattle.stream_host.specs.Steps.PortStep.{stored, dropped, raised, got, no_reply, shut}
 use Rattle.stream_host.specs.Steps.Step.{at_port, read_some, read_end, read_failed, scanned, line_over, wrote, gave_up, turned}
 use Rattle.stream_host.specs.Conduct.{Conducted, HasSentAll, HasNoMore, MayStore}
 use Rattle.stream_host.proofs.Links.{lfs_push, behind_append, behind_ended, plain_no_lf, plains_no_lf}
-use Rattle.stream_host.proofs.Pieces.{none_ends, sent_front, front_on, front_ends, sends_on, sends_none, no_whole, few_cut, few_whole}
+use Rattle.stream_host.proofs.Pieces.{none_ends, sent_front, front_on, front_ends, sends_on, sends_none, no_whole, few_cut, few_whole, none_long, none_reset, not_long, no_reset}
 use Rattle.stream_host.proofs.Keeping.{read_is, stored_is, IsCut, cut_is, sendable_is, ends_now, any_now, early_is, few_scanned, reading_fits, shut_is, some_is}
 
 -- ---- the job
@@ -136,16 +136,22 @@ first_ends h c l = by_cut (cut_is h c)
         ∙ ap (λ (ls : List (List ℕ)). cut_of h ++ ls) (front_ends (raw_of h) [] l) ∙ append-nil (cut_of h)
     by_cut (inr over) = absurd (none_ends_in (raw_of h) over.none l)
 
-stop_cond : (text : List ℕ) (lines : List (List ℕ)) (long long_in : Bool) → long_in ≡ long → (long ≡ true → sent_front (lines_of text) ≡ lines)
-    → cond long (LongLine (length lines + 1)) End ≡ cond long_in (long_line (lines_of text)) End
-stop_cond text lines true long_in e first = ap (λ (ls : List (List ℕ)). LongLine (length ls + 1)) (sym (first refl)) ∙ ap (λ b. cond b (long_line (lines_of text)) End) (sym e)
-stop_cond text lines false long_in e first = ap (λ b. cond b (long_line (lines_of text)) End) (sym e)
+stop_cond : (text : List ℕ) (lines : List (List ℕ)) (long reset long_in reset_in : Bool) → long_in ≡ long → reset_in ≡ reset → (long ≡ true → sent_front (lines_of text) ≡ lines)
+    → cond long (LongLine (length lines + 1)) (cond reset Reset End) ≡ cond long_in (long_line (lines_of text)) (cond reset_in Reset End)
+stop_cond text lines true reset long_in reset_in e f first =
+    ap (λ (ls : List (List ℕ)). LongLine (length ls + 1)) (sym (first refl)) ∙ ap (λ b. cond b (long_line (lines_of text)) (cond reset_in Reset End)) (sym e)
+stop_cond text lines false reset long_in reset_in e f first =
+    ap (λ b. cond b Reset End) (sym f) ∙ ap (λ b. cond b (long_line (lines_of text)) (cond reset_in Reset End)) (sym e)
 
 pub stop_is : (h : Journal) → Conducted h → stop_of h ≡ stop_by (reading_of h) (scanned_of h)
 stop_is h c = by_reading (reading_of h)
   where
-    else_by : cond (is_long (raw_of h)) (LongLine (length (cut_of h) + 1)) End ≡ stop_by Ended (scanned_of h)
-    else_by = stop_cond (scanned_of h) (cut_of h) (is_long (raw_of h)) (list_any is_long (lines_of (scanned_of h))) (any_now is_long none_ends (λ l e. e) h c) (first_ends h c)
+    first : is_long (raw_of h) ≡ true → sent_front (lines_of (scanned_of h)) ≡ cut_of h
+    first l = first_ends h c (ap (λ b. b || holds_reset (raw_of h)) l)
+
+    else_by : cond (is_long (raw_of h)) (LongLine (length (cut_of h) + 1)) (cond (holds_reset (raw_of h)) Reset End) ≡ stop_by Ended (scanned_of h)
+    else_by = stop_cond (scanned_of h) (cut_of h) (is_long (raw_of h)) (holds_reset (raw_of h)) (list_any is_long (lines_of (scanned_of h))) (list_any holds_reset (lines_of (scanned_of h)))
+        (any_now is_long none_long not_long h c) (any_now holds_reset none_reset no_reset h c) first
 
     by_reading : (r : Reading) → stop_at r (raw_of h) (length (cut_of h)) ≡ stop_by r (scanned_of h)
     by_reading Large = refl

@@ -1,5 +1,5 @@
 -- The turns of a host.
-use Rattle.std.proofs.Common.{◌≡◌, ℕ, ◌≤◌, ◌<◌, ◌||◌, ◌&&◌, inl, inr, Bool, true, false, cond, not, List, [], ◌∷◌, ◌++◌, length, drop, nat_lt, None, refl, sym, ap, ◌∙◌, arith, subst, append_assoc, length-append}
+use Rattle.std.proofs.Common.{◌≡◌, ℕ, ◌≤◌, ◌<◌, ◌||◌, ◌&&◌, inl, inr, Bool, true, false, cond, not, List, [], ◌∷◌, ◌++◌, length, drop, nat_lt, None, Some, refl, sym, ap, ◌∙◌, arith, subst, append_assoc, length-append}
 use Rattle.std.specs.List.{count_by}
 use Rattle.std.proofs.lemmas.Bool.Decides.{nat_tests}
 use Rattle.std.proofs.lemmas.List.{length-drop}
@@ -12,12 +12,14 @@ use Rattle.outside.specs.declared.Turn.TheVariants.{Did, Wait, Done}
 use Rattle.status_report.specs.declared.Reply.{Reply}
 use Rattle.text_writer.specs.Writers.{Writing, is_due, with_all_asked}
 use Rattle.stream_host.specs.declared.host.Host.{Host}
-use Rattle.stream_host.specs.Steps.{Step, Journal, is_shut, has_bye, to_store, text_of, written_of, this_turn}
+use Rattle.stream_host.specs.Steps.{Step, Journal, is_shut, has_bye, to_store, due_of, awaits_report, text_of, written_of, this_turn}
 use Rattle.stream_host.specs.Steps.PortStep.{stored, raised, got, no_reply, shut}
 use Rattle.stream_host.specs.Steps.Step.{at_port, turned}
-use Rattle.stream_host.specs.Conduct.{HasWritten, publishing, moving}
+use Rattle.stream_host.specs.Conduct.{AreAnswered, HasWritten, publishing, moving}
 use Rattle.stream_host.specs.Hosts.{HostFits, HostWorked, HostTurned, HostTellsOn, HasPolled, IsQuiet, IsBetween, DidAlone, HasShown, HostRests, rank}
-use Rattle.stream_host.proofs.Hosting.{none_due_by, never_raised, quiet_on, same_job, total_is}
+use Rattle.code_table.specs.Tables.{query}
+use Rattle.stream_host.proofs.Raising.{none_due_first}
+use Rattle.stream_host.proofs.Hosting.{none_due_by, never_raised, due_next, quiet_on, same_job, total_is}
 
 -- ---- what waits for the console
 
@@ -112,8 +114,34 @@ some_left : (xs : List ℕ) (n : ℕ) (ys : List ℕ) → xs ≡ drop n (ys ++ 1
 some_left xs n ys is within none =
     let a = ap length (sym is ∙ none) in let b = length-drop n (ys ++ 10 ∷ []) in let d = length-append ys (10 ∷ []) in absurd (omega arith)
 
-pub waits_for_room : (s : Host) (h : Journal) → HostFits s h → HasPolled h → HasShown s.text → s.line.due ≡ None → s.line.whole ≡ true → 128 < s.counts.unanswered.total → HostWorked (Wait Answer) s s h h
-waits_for_room s h f polled shown none whole full =
+-- a `?` waits for answers
+pub waits_early : (s : Host) (b : ℕ) (h : Journal) → HostFits s h → HasPolled h → HasShown s.text → s.line.due ≡ Some b → ((b ≡ query → AreAnswered h) → ⊥) → HostWorked (Wait Answer) s s h h
+waits_early s b h f polled shown is early =
+    let due = due_next s b h f is in
+    let busy : due_of h ≡ [] → ⊥ = (λ e. absurd (let g = sym due ∙ e in cc)) in
+    record {
+      fits = f;
+      steps = [];
+      are = refl;
+      may = record {
+        poll = polled.poll;
+        no_read = λ m. busy m.none_due;
+        no_scan = λ d m. busy m.none_due;
+        no_line = λ m. busy m.none_due;
+        no_raise = λ d m. early (subst (λ x. x ≡ query → AreAnswered h) (same_first d b (drop 1 (due_of h)) (sym (m.next f.polls_are.few) ∙ due)) m.after);
+        no_store = λ d m. busy (none_due_first d h f.conducted m);
+        no_close = λ m. busy m.all_raised;
+        written = has_written s h f shown;
+      };
+      moves = λ e. absurd cc;
+    }
+  where
+    same_first : (x y : ℕ) (xs : List ℕ) → x ∷ xs ≡ y ∷ [] → x ≡ y
+    same_first x y xs e = cc
+
+-- a line waits for a report, or for room
+pub waits_held_back : (s : Host) (h : Journal) → HostFits s h → HasPolled h → HasShown s.text → s.line.due ≡ None → s.line.whole ≡ true → ((awaits_report h ≡ false) × (s.counts.unanswered.total ≤ 128) → ⊥) → HostWorked (Wait Answer) s s h h
+waits_held_back s h f polled shown none whole held =
     let is = f.line_is.storing whole in
     let busy : to_store h ≡ [] → ⊥ = some_left (to_store h) s.line.place s.line.kept.items is.left_is is.within in
     record {
@@ -126,7 +154,7 @@ waits_for_room s h f polled shown none whole full =
         no_scan = λ b m. busy m.free;
         no_line = λ m. busy m.free;
         no_raise = λ b m. never_raised s b h f (none_due_by s h f none) m;
-        no_store = λ b m. (let t = total_is s h f in let r = m.room in absurd (omega arith));
+        no_store = λ b m. held (m.reported, (let t = total_is s h f in let r = m.room in omega arith));
         no_close = λ m. busy m.sent.free;
         written = has_written s h f shown;
       };
@@ -162,6 +190,7 @@ all_asked s h f = record {
   job_is = f.job_is;
   line_is = f.line_is;
   due_is = f.due_is;
+  asking_is = f.asking_is;
   counts_are = f.counts_are;
   polls_are = f.polls_are;
   text_is = record { failed_is = f.text_is.failed_is; waits = f.text_is.waits; within = f.text_is.within; all_asked = λ e. refl };
@@ -213,6 +242,7 @@ ends t s u h next w = (
     job_is = w.fits.job_is;
     line_is = w.fits.line_is;
     due_is = w.fits.due_is;
+    asking_is = w.fits.asking_is;
     counts_are = w.fits.counts_are;
     polls_are = w.fits.polls_are;
     text_is = w.fits.text_is;

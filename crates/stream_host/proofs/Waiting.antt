@@ -1,7 +1,7 @@
 -- Why a host that keeps to its rules waits.
-use Rattle.std.proofs.Common.{◌≡◌, ℕ, ◌≤◌, ◌<◌, ◌⊎◌, inl, inr, Bool, true, false, cond, List, [], ◌∷◌, ◌++◌, length, drop, nat_eq, nat_lt, refl, sym, ap, ◌∙◌, arith, subst, length-append}
+use Rattle.std.proofs.Common.{◌≡◌, ◌≢◌, ℕ, ◌-◌, ◌≤◌, ◌<◌, ◌⊎◌, inl, inr, Bool, true, false, cond, List, [], ◌∷◌, ◌++◌, length, drop, nat_eq, nat_lt, refl, sym, ap, ◌∙◌, arith, subst, length-append}
 use Rattle.std.proofs.lemmas.Bool.Decides.{nat_tests}
-use Rattle.std.proofs.lemmas.List.{append_cancel_right, drop-append-le}
+use Rattle.std.proofs.lemmas.List.{append_cancel_right, drop-append-le, length-drop}
 use Rattle.gcode_words.specs.Stripping.{plain}
 use Rattle.run_rules.specs.Readings.{largest_job}
 use Rattle.stream_host.specs.declared.Reading.{Reading}
@@ -9,14 +9,14 @@ use Rattle.stream_host.specs.declared.Reading.TheVariants.{Ended, Failed, Large,
 use Rattle.stream_host.specs.Links.{on_link}
 use Rattle.status_report.specs.Answering.{receive_room, lfs_in}
 use Rattle.stream_host.specs.Jobs.{ends_sending, MayHaveRead}
-use Rattle.stream_host.specs.Steps.{Journal, stored_of, is_shut, answered_of, read_of, reading_of, scanned_of, unscanned_of, raw_of, cut_of, to_store, begun_of, due_of}
+use Rattle.stream_host.specs.Steps.{Journal, stored_of, is_shut, answered_of, read_of, reading_of, scanned_of, unscanned_of, raw_of, cut_of, to_store, begun_of, due_of, awaits_report}
 use Rattle.stream_host.specs.Steps.PortStep.{stored, dropped, raised, got, no_reply, shut}
 use Rattle.stream_host.specs.Steps.Step.{at_port, read_some, read_end, read_failed, scanned, line_over, wrote, gave_up, turned}
 use Rattle.stream_host.specs.Conduct.{Conducted, HasNoMore, Waits}
 use Rattle.stream_host.proofs.Pieces.{IsSendable}
 use Rattle.stream_host.proofs.Keeping.{read_is, stored_is, linked_push, few_scanned, reading_fits}
-use Rattle.stream_host.proofs.Sending.{sum_is, answers_are_few, lfs_linked}
-use Rattle.stream_host.proofs.Raising.{none_due_waiting}
+use Rattle.stream_host.proofs.Sending.{sum_is, answers_are_few, counts_are, lfs_linked}
+use Rattle.stream_host.proofs.Raising.{early_waiting}
 
 -- ---- which lines are begun
 
@@ -73,14 +73,19 @@ some_lines : (lines : List (List ℕ)) → 0 < length (on_link lines) → 0 < le
 some_lines [] some = absurd (let s : 0 < 0 = some in omega arith)
 some_lines (l ∷ ls) some = omega arith
 
-too_many : (h : Journal) → Conducted h → receive_room < length (on_link (drop (answered_of h) (cut_of h))) → IsBegun h → 0 < length (drop (answered_of h) (begun_of h))
-too_many h c many (inl e) = absurd (let s = sum_is h c in let d = ap (λ (ls : List (List ℕ)). length (on_link (drop (answered_of h) ls))) e in omega arith)
-too_many h c many (inr f) =
+-- the line that is not begun has no answer
+pub few_fresh : (h : Journal) → Conducted h → IsFresh (cut_of h) (begun_of h) (to_store h) → answered_of h ≤ length (begun_of h)
+few_fresh h c f =
     let kept : stored_of h ≡ on_link (begun_of h) =
     append_cancel_right (stored_of h) (on_link (begun_of h)) (plain f.line ++ 10 ∷ [])
     (ap (λ (t : List ℕ). stored_of h ++ t) (sym f.all) ∙ stored_is h c ∙ ap on_link f.one ∙ linked_push (begun_of h) f.line) in
     let a = answers_are_few h c in let b = ap lfs_in kept in let l = lfs_linked (begun_of h) in
-    let few : answered_of h ≤ length (begun_of h) = omega arith in
+    omega arith
+
+too_many : (h : Journal) → Conducted h → receive_room < length (on_link (drop (answered_of h) (cut_of h))) → IsBegun h → 0 < length (drop (answered_of h) (begun_of h))
+too_many h c many (inl e) = absurd (let s = sum_is h c in let d = ap (λ (ls : List (List ℕ)). length (on_link (drop (answered_of h) ls))) e in omega arith)
+too_many h c many (inr f) =
+    let few = few_fresh h c f in
     let d : drop (answered_of h) (cut_of h) ≡ drop (answered_of h) (begun_of h) ++ f.line ∷ [] = ap (drop (answered_of h)) f.one ∙ drop-append-le (answered_of h) (begun_of h) (f.line ∷ []) few in
     let e = ap length (ap on_link d ∙ linked_push (drop (answered_of h) (begun_of h)) f.line) in
     let m = length-append (on_link (drop (answered_of h) (begun_of h))) (plain f.line ++ 10 ∷ []) in
@@ -146,7 +151,20 @@ goes_on h c going free none w false short (b ∷ bytes) is = by_room (nat_lt (le
     by_room true e = w.no_scan b (record { going = going; next = next; few = below (length (scanned_of h)) e; sends = short; free = free; none_due = none })
     by_room false e = shuts h going free none w (inr (over_full h c b bytes is (above (length (scanned_of h)) e) (reading_of h) refl))
 
-pub waits_are_for_answers : (h : Journal) → Conducted h → Waits h → is_shut h ≡ false → 0 < length (drop (answered_of h) (begun_of h))
+-- ---- a byte that may not be raised yet
+
+early : (h : Journal) → Conducted h → to_store h ≡ [] → (b : ℕ) → due_of h ≡ b ∷ drop 1 (due_of h) → Waits h → 0 < length (drop (answered_of h) (begun_of h))
+early h c free b next w =
+    let begun = ap (λ (ls : List (List ℕ)). length (drop (answered_of h) ls)) (all_begun h free (begun_is h c)) in
+    let l = length-drop (answered_of h) (cut_of h) in
+    let few = (counts_are h c).1 in
+    let more : answered_of h ≢ length (cut_of h) = (λ e. early_waiting b h c w next (λ q. e)) in
+    by_less (answered_of h) (length (cut_of h)) (length (drop (answered_of h) (begun_of h))) more few (begun ∙ l)
+  where
+    by_less : (m n k : ℕ) → m ≢ n → m ≤ n → k ≡ n - m → 0 < k
+    by_less m n k ne le e = grind arith
+
+pub waits_are_for_answers : (h : Journal) → Conducted h → Waits h → is_shut h ≡ false → (0 < length (drop (answered_of h) (begun_of h))) ⊎ (awaits_report h ≡ true)
 waits_are_for_answers h c w going = by_left (to_store h) refl
   where
     no_room : (n : ℕ) → (n ≤ receive_room → ⊥) → receive_room < n
@@ -156,8 +174,15 @@ waits_are_for_answers h c w going = by_left (to_store h) refl
         by_test true e = grind (arith, nat_tests)
         by_test false e = absurd (full (grind (arith, nat_tests)))
 
-    by_left : (left : List ℕ) → to_store h ≡ left → 0 < length (drop (answered_of h) (begun_of h))
-    by_left [] free = absurd (goes_on h c going free (none_due_waiting h c w) w (ends_sending (raw_of h)) refl (unscanned_of h) refl)
-    by_left (b ∷ left) is =
-        let next : to_store h ≡ b ∷ drop 1 (to_store h) = is ∙ ap (λ (t : List ℕ). b ∷ drop 1 t) (sym is) in
-        too_many h c (no_room (length (on_link (drop (answered_of h) (cut_of h)))) (λ room. w.no_store b (record { next = next; room = room }))) (begun_is h c)
+    by_due : to_store h ≡ [] → (due : List ℕ) → due_of h ≡ due → 0 < length (drop (answered_of h) (begun_of h))
+    by_due free [] none = absurd (goes_on h c going free none w (ends_sending (raw_of h)) refl (unscanned_of h) refl)
+    by_due free (b ∷ due) is = early h c free b (is ∙ ap (λ (t : List ℕ). b ∷ drop 1 t) (sym is)) w
+
+    by_report : (b : ℕ) → to_store h ≡ b ∷ drop 1 (to_store h) → (t : Bool) → awaits_report h ≡ t → (0 < length (drop (answered_of h) (begun_of h))) ⊎ (awaits_report h ≡ true)
+    by_report b next true e = inr e
+    by_report b next false e =
+        inl (too_many h c (no_room (length (on_link (drop (answered_of h) (cut_of h)))) (λ room. w.no_store b (record { next = next; reported = e; room = room }))) (begun_is h c))
+
+    by_left : (left : List ℕ) → to_store h ≡ left → (0 < length (drop (answered_of h) (begun_of h))) ⊎ (awaits_report h ≡ true)
+    by_left [] free = inl (by_due free (due_of h) refl)
+    by_left (b ∷ left) is = by_report b (is ∙ ap (λ (t : List ℕ). b ∷ drop 1 t) (sym is)) (awaits_report h) refl

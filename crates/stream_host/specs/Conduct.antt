@@ -1,6 +1,7 @@
 -- The rules of a host: what it may do next.
 use Rattle.std.specs.Prelude.{◌≡◌, ℕ, ◌+◌, ◌≤◌, ◌<◌, ◌⊎◌, Bool, true, false, List, [], ◌∷◌, ◌++◌, length, drop}
 use Rattle.std.specs.List.{list_any, count_by}
+use Rattle.code_table.specs.Tables.{query}
 use Rattle.run_rules.specs.Readings.{largest_job, largest_piece}
 use Rattle.status_report.specs.declared.Reply.{Reply}
 use Rattle.outside.specs.declared.On.TheVariants.{Answer}
@@ -11,7 +12,7 @@ use Rattle.stream_host.specs.declared.Reading.TheVariants.{Ended, Failed, Large,
 use Rattle.stream_host.specs.Links.{on_link}
 use Rattle.status_report.specs.Answering.{receive_room, lfs_in, answers_in}
 use Rattle.stream_host.specs.Jobs.{resume, ends_sending}
-use Rattle.stream_host.specs.Steps.{PortStep, Step, Journal, stored_of, got_of, is_shut, has_bye, answered_of, reading_of, scanned_of, unscanned_of, raw_of, cut_of, to_store, due_of, polls_of, empty_polls, text_of, written_of, has_given_up, this_turn}
+use Rattle.stream_host.specs.Steps.{PortStep, Step, Journal, stored_of, got_of, is_shut, has_bye, answered_of, reading_of, scanned_of, unscanned_of, raw_of, cut_of, to_store, due_of, awaits_report, polls_of, empty_polls, text_of, written_of, has_given_up, this_turn}
 use Rattle.stream_host.specs.Steps.PortStep.{stored, dropped, raised, got, no_reply, shut}
 use Rattle.stream_host.specs.Steps.Step.{at_port, read_some, read_end, read_failed, scanned, line_over, wrote, gave_up, turned}
 
@@ -50,14 +51,22 @@ pub record MayEndLine (h : Journal) : Type 0 where
   pub free : to_store h ≡ []
   pub none_due : due_of h ≡ []
 
--- A realtime byte is raised: a resume where so many polls have found no reply, else the next that is due.
+-- the lines before the one in hand are answered
+abbrev pub AreAnswered : Journal → Type 0
+AreAnswered h = answered_of h ≡ length (cut_of h)
+
+-- A realtime byte is raised: a resume where so many polls have found no reply, else the next that is due; that is a `?` only
+-- once each line before its own is answered.
 pub record MayRaise (b : ℕ) (h : Journal) : Type 0 where
   pub resumes : polls_of h ≡ empty_polls → b ≡ resume
   pub next : polls_of h < empty_polls → due_of h ≡ b ∷ drop 1 (due_of h)
+  pub after : b ≡ query → AreAnswered h
 
--- The next byte of the line in hand is stored: the lines that have no answer, this one among them, take at most 128 bytes.
+-- The next byte of the line in hand is stored: the lines that have no answer, this one among them, take at most 128
+-- bytes, and where the line asked for a report, one was got since.
 pub record MayStore (b : ℕ) (h : Journal) : Type 0 where
   pub next : to_store h ≡ b ∷ drop 1 (to_store h)
+  pub reported : awaits_report h ≡ false
   pub room : length (on_link (drop (answered_of h) (cut_of h))) ≤ receive_room
 
 -- nothing more of the job is to be scanned, nor to be made a line: by what is read and not scanned, the line that is being

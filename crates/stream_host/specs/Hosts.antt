@@ -1,5 +1,5 @@
 -- What the fields of a host say of what it has done.
-use Rattle.std.specs.Prelude.{◌≡◌, ◌≢◌, ℕ, ◌+◌, ◌^◌, ◌≤◌, ◌<◌, ◌⊎◌, Bool, true, false, cond, nat_lt, List, [], ◌∷◌, ◌++◌, length, take, drop, map, reverse, sum, option_to_list, Some, None}
+use Rattle.std.specs.Prelude.{◌≡◌, ◌≢◌, ℕ, ◌+◌, ◌^◌, ◌≤◌, ◌<◌, ◌⊎◌, Bool, true, false, ◌||◌, cond, nat_lt, List, [], ◌∷◌, ◌++◌, length, take, drop, map, reverse, sum, option_to_list, Some, None}
 use Rattle.std.specs.Io.KnownBytes.{Consumes, IsAtEnd, Keeps}
 use Rattle.std.specs.List.{list_any, count_by}
 use Rattle.outside.specs.Causes.{Rose, SourceState, SinkState}
@@ -22,8 +22,8 @@ use Rattle.stream_host.specs.declared.host.Host.{Host}
 use Rattle.run_rules.specs.Told.{errors_among}
 use Rattle.status_report.specs.Answering.{answers_in, is_bye}
 use Rattle.std.specs.declared.option.Option.{Option}
-use Rattle.stream_host.specs.Jobs.{is_served}
-use Rattle.stream_host.specs.Steps.{Step, Journal, port_log, got_of, is_shut, has_bye, read_of, reading_of, scanned_of, unscanned_of, raw_of, cut_of, to_store, due_of, polls_of, empty_polls, text_of, written_of, has_given_up, this_turn}
+use Rattle.stream_host.specs.Jobs.{is_served, holds_reset}
+use Rattle.stream_host.specs.Steps.{Step, Journal, port_log, got_of, is_shut, has_bye, read_of, reading_of, scanned_of, unscanned_of, raw_of, cut_of, to_store, due_of, asking_of, polls_of, empty_polls, text_of, written_of, has_given_up, this_turn}
 use Rattle.stream_host.specs.Steps.Step.{turned}
 use Rattle.stream_host.specs.Conduct.{Conducted, MayTurn, publishing, moving, found_none}
 
@@ -81,7 +81,12 @@ pub record HasLine (l : SentLine) (raw : List ℕ) : Type 0 where
   pub stripper : l.stripper ≡ comment_after raw
   pub kept : l.kept.items ≡ take 127 (plain raw)
   pub long : l.long ≡ nat_lt 127 (length (plain raw))
+  pub reset : l.reset ≡ holds_reset raw
   pub begun : l.begun ≡ nat_lt 0 (length raw)
+
+-- the sending ends in it
+abbrev pub is_over : SentLine → Bool
+is_over l = l.long || l.reset
 
 -- ---- the lines that have no answer
 
@@ -104,7 +109,7 @@ pub record KeepsJob (r : Reader) (left : List ℕ) (reading : Reading) (n : ℕ)
 -- a whole line that is being stored: from a place on it is left
 pub record IsStoring (l : SentLine) (raw left : List ℕ) : Type 0 where
   pub none : raw ≡ []
-  pub short : l.long ≡ false
+  pub sends : is_over l ≡ false
   pub within : l.place ≤ length l.kept.items
   pub left_is : left ≡ drop l.place (l.kept.items ++ 10 ∷ [])
 
@@ -148,6 +153,7 @@ pub record HostFits (host : Host) (h : Journal) : Type 0 where
   pub job_is : KeepsJob host.job (unscanned_of h) (reading_of h) (length (scanned_of h))
   pub line_is : KeepsLine host.line (raw_of h) (to_store h)
   pub due_is : KeepsDue host.line.due (due_of h)
+  pub asking_is : host.asking ≡ asking_of h
   pub counts_are : KeepsCounts host.counts (cut_of h) (got_of h)
   pub polls_are : KeepsPolls host.polls (polls_of h)
   pub text_is : KeepsText host.text (text_of h) (written_of h) (has_given_up h) (has_bye h)
@@ -191,7 +197,8 @@ pub record HostTurned (t : Turn) (old new : Host) (h next : Journal) : Type 0 wh
 
 -- ---- what a host tells of its devices
 
--- The source gave what was read since a moment. Where a read failed, the count of faults rose; where none did, it is as before.
+-- The source gave what was read since a moment. Where a read failed, the count of faults rose; where none did, it is as
+-- before.
 pub record TellsJob (h : Journal) (before now : SourceState) : Type 0 where
   pub taken : Consumes before.left now.left (read_of h)
   pub at_end : reading_of h ≡ Ended → IsAtEnd now.left
@@ -230,7 +237,7 @@ pub record HasRoom (c : Counts) : Type 0 where
 -- the next byte may be scanned
 pub record MayScanOn (host : Host) : Type 0 where
   pub scanning : host.line.whole ≡ false
-  pub short : host.line.long ≡ false
+  pub sends : is_over host.line ≡ false
   pub none_due : host.line.due ≡ None
   pub some : host.job.place < host.job.end
   pub few : host.job.scanned < largest_job
@@ -238,7 +245,7 @@ pub record MayScanOn (host : Host) : Type 0 where
 -- the job may be read on
 pub record MayReadOn (host : Host) : Type 0 where
   pub scanning : host.line.whole ≡ false
-  pub short : host.line.long ≡ false
+  pub sends : is_over host.line ≡ false
   pub none_due : host.line.due ≡ None
   pub used : host.job.end ≤ host.job.place
   pub on : host.job.reading ≡ Stopped

@@ -1,7 +1,6 @@
 -- Which bytes of a job are scanned, and which of its lines are sent.
 use Rattle.std.specs.Prelude.{◌≡◌, ℕ, ◌+◌, ◌-◌, ◌≤◌, ◌<◌, Bool, false, not, cond, ◌||◌, List, [], ◌++◌, length, take, nat_eq, nat_lt}
 use Rattle.std.specs.List.{filter, flat_map, list_any, take_while}
-use Rattle.code_table.specs.Tables.{query}
 use Rattle.gcode_words.specs.Stripping.{plain, realtime}
 use Rattle.run_rules.specs.Lines.{HasNoLf, lines_of}
 use Rattle.run_rules.specs.Readings.{largest_job, largest_piece, job_of, sent_lines}
@@ -9,15 +8,15 @@ use Rattle.run_rules.specs.declared.Reading.TheVariants as runs
 use Rattle.stream_host.specs.declared.Reading.{Reading}
 use Rattle.stream_host.specs.declared.Reading.TheVariants.{Ended, Failed, Large, Stopped}
 use Rattle.stream_host.specs.declared.Stop.{Stop}
-use Rattle.stream_host.specs.declared.Stop.TheVariants.{End, LongLine, TooLarge}
+use Rattle.stream_host.specs.declared.Stop.TheVariants.{End, LongLine, TooLarge, Reset}
 
 -- `~` resumes the machine
 abbrev pub resume : ℕ
 resume = 0x7e
 
--- A realtime byte that is raised. As yet a reset, `?` and the cancel of a jog are not.
+-- A realtime byte that is raised. As yet the cancel of a jog is not.
 abbrev pub is_served : ℕ → Bool
-is_served b = not (nat_eq b 0x18 || nat_eq b query || nat_eq b 0x85)
+is_served b = not (nat_eq b 0x85)
 
 -- the realtime bytes of a line that are raised
 abbrev pub served : List ℕ → List ℕ
@@ -34,9 +33,17 @@ most_kept_by_host = 127
 abbrev pub is_long : List ℕ → Bool
 is_long line = nat_lt most_kept_by_host (length (plain line))
 
--- the sending ends in a line with these bytes. Later: or where it holds a 0x18 outside its comments
+-- 0x18 resets the machine
+abbrev pub is_reset : ℕ → Bool
+is_reset b = nat_eq b 0x18
+
+-- a reset stands outside the line's comments
+abbrev pub holds_reset : List ℕ → Bool
+holds_reset line = list_any is_reset (realtime line)
+
+-- the sending ends in a line with these bytes: it is too long, or has a reset
 abbrev pub ends_sending : List ℕ → Bool
-ends_sending line = is_long line
+ends_sending line = is_long line || holds_reset line
 
 abbrev pub is_sent : List ℕ → Bool
 is_sent line = not (ends_sending line)
@@ -86,14 +93,15 @@ pub record MayScan (reading : Reading) (job text : List ℕ) : Type 0 where
   pub scans : ScansFront job text
   pub whole : ends_in text ≡ false → MayLeave reading scans.left
 
--- the first line in which the sending ends, which is too long, by its number
+-- the first line in which the sending ends, where it is too long, by its number
 abbrev pub long_line : List (List ℕ) → Stop
 long_line lines = LongLine (length (take_while is_sent lines) + 1)
 
--- why a run in which these bytes were scanned sends no more, the first that holds: the job was too large, a line too long
+-- why a run in which these bytes were scanned sends no more, the first that holds: the job was too large, a line too long,
+-- a reset was raised
 abbrev pub stop_by : Reading → List ℕ → Stop
 stop_by Large text = TooLarge
-stop_by _ text = cond (list_any is_long (lines_of text)) (long_line (lines_of text)) End
+stop_by _ text = cond (list_any is_long (lines_of text)) (long_line (lines_of text)) (cond (list_any holds_reset (lines_of text)) Reset End)
 
 -- What was sent of a job in a run so far: by what was read of it and how the reading goes, the bytes that were scanned,
 -- the lines that were cut, and why no more is sent.

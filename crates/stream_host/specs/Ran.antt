@@ -4,6 +4,7 @@ use Rattle.std.specs.List.{count_by, list_any}
 use Rattle.std.specs.Io.KnownBytes.{Consumes, IsAtEnd}
 use Rattle.outside.specs.Causes.{Rose, SourceState, SinkState}
 use Rattle.outside.specs.Writing.{Wrote, Took}
+use Rattle.run_rules.specs.Reports.{AreReported}
 use Rattle.run_rules.specs.Told.{replies_text, errors_among}
 use Rattle.status_report.specs.declared.Reply.{Reply}
 use Rattle.stream_host.specs.declared.Reading.{Reading}
@@ -37,8 +38,9 @@ AreRaised scanned raised due resumes =
     (p : ℕ → Bool) → count_by p raised + count_by p due ≡ count_by p (served_in scanned) + cond (p resume) resumes 0
 
 -- A host has run: it read a job, raised its realtime bytes, stored its lines, closed the link or not, and got replies up to
--- Bye. Where the link is closed, all that is sent of the job is raised and stored. The console has the text of the replies,
--- all of it where no write failed. The source's count of faults rose where a read failed, and is as before where none did.
+-- Bye. Where the link is closed, all that is sent of the job is raised and stored. Each line that asks for a report and is
+-- answered has one, behind the answers to the lines before it. The console has the text of the replies, all of it where no
+-- write failed. The source's count of faults rose where a read failed, and is as before where none did.
 pub record HostRan (job_was job_is : SourceState) (console_was console_is : SinkState) (stored : List ℕ) (shut : Bool) (raised : List ℕ) (got : List Reply) (end : HostEnd) : Type 0 where
   pub read : List ℕ
   pub reading : Reading
@@ -50,6 +52,7 @@ pub record HostRan (job_was job_is : SourceState) (console_was console_is : Sink
   pub link : shut ≡ true → stored ≡ on_link lines
   pub resumes : ℕ
   pub raises : shut ≡ true → AreRaised scanned raised [] resumes
+  pub reported : shut ≡ true → AreReported lines got
   pub bye : list_any is_bye got ≡ true
   pub console : Took console_was console_is end.console_failed (replies_text got)
   pub answered : end.answered ≡ answers_in got
@@ -73,6 +76,7 @@ pub record HostRuns (job_was job_is : SourceState) (console_was console_is : Sin
   pub due : List ℕ
   pub resumes : ℕ
   pub raises : AreRaised scanned raised due resumes
+  pub reported : AreReported lines got
   pub failed : Bool
   pub waiting : List ℕ
   pub console : Wrote console_was console_is failed waiting (replies_text got)

@@ -9,9 +9,12 @@ use Rattle.outside.specs.declared.Turn.{Turn}
 use Rattle.stream_host.specs.declared.Reading.{Reading}
 use Rattle.stream_host.specs.declared.Reading.TheVariants.{Ended, Failed, Large, Stopped}
 use Rattle.stream_host.specs.declared.Stop.{Stop}
-use Rattle.stream_host.specs.declared.Stop.TheVariants.{End, LongLine, TooLarge}
-use Rattle.status_report.specs.Answering.{answers_in, is_bye}
-use Rattle.stream_host.specs.Jobs.{is_long, served}
+use Rattle.stream_host.specs.declared.line.Asking.{Asking}
+use Rattle.stream_host.specs.declared.line.Asking.TheVariants.{Nothing, Awaits, HasOne}
+use Rattle.stream_host.specs.declared.Stop.TheVariants.{End, LongLine, TooLarge, Reset}
+use Rattle.code_table.specs.Tables.{query}
+use Rattle.status_report.specs.Answering.{answers_in, is_bye, is_report}
+use Rattle.stream_host.specs.Jobs.{is_long, holds_reset, served}
 
 pub data PortStep : Type 0 where
   stored : ℕ → PortStep
@@ -312,10 +315,53 @@ due_of (wrote n ∷ h) = due_of h
 due_of (gave_up ∷ h) = due_of h
 due_of (turned t ∷ h) = due_of h
 
+-- ---- reports
+
+-- one report more is asked for; one is got
+abbrev pub asked_more : Asking → Asking
+asked_more Nothing = Awaits
+asked_more Awaits = Awaits
+asked_more HasOne = HasOne
+
+abbrev pub got_one : Asking → Asking
+got_one Nothing = Nothing
+got_one Awaits = HasOne
+got_one HasOne = HasOne
+
+abbrev pub asking_at : PortStep → Asking → Asking
+asking_at (raised b down) a = cond (nat_eq b query) (asked_more a) a
+asking_at (got r) a = cond (is_report r) (got_one a) a
+asking_at e a = a
+
+-- Whether the line in hand has asked for a report, and whether one was got since. It is the line that is scanned, or
+-- else the last one that was scanned whole.
+abbrev pub asking_of : Journal → Asking
+asking_of [] = Nothing
+asking_of (at_port e ∷ h) = asking_at e (asking_of h)
+asking_of (read_some bytes ∷ h) = asking_of h
+asking_of (read_end ∷ h) = asking_of h
+asking_of (read_failed ∷ h) = asking_of h
+asking_of (scanned b ∷ h) = cond (nat_eq (length (raw_of h)) 0) Nothing (asking_of h)
+asking_of (line_over ∷ h) = asking_of h
+asking_of (wrote n ∷ h) = asking_of h
+asking_of (gave_up ∷ h) = asking_of h
+asking_of (turned t ∷ h) = asking_of h
+
+-- a report was asked for, and none was got since
+abbrev pub is_waiting : Asking → Bool
+is_waiting Nothing = false
+is_waiting Awaits = true
+is_waiting HasOne = false
+
+abbrev pub awaits_report : Journal → Bool
+awaits_report h = is_waiting (asking_of h)
+
+-- ---- the end
+
 -- why it sends no more: by how the reading goes, the line that is being scanned, and the number of those before it
 abbrev pub stop_at : Reading → List ℕ → ℕ → Stop
 stop_at Large raw lines = TooLarge
-stop_at _ raw lines = cond (is_long raw) (LongLine (lines + 1)) End
+stop_at _ raw lines = cond (is_long raw) (LongLine (lines + 1)) (cond (holds_reset raw) Reset End)
 
 abbrev pub stop_of : Journal → Stop
 stop_of h = stop_at (reading_of h) (raw_of h) (length (cut_of h))

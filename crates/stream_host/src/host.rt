@@ -5,18 +5,19 @@ ghost use Rattle.status_report.specs.Replies.{IsReply};
 ghost use Rattle.outside.specs.declared.Turn.TheVariants.{Did};
 ghost use Rattle.text_writer.specs.Writers.{is_due};
 ghost use Rattle.stream_host.specs.Ports.{AnswersLines};
-ghost use Rattle.stream_host.specs.Steps.{Journal, port_log, got_of, stop_of, stop_at, raw_of, cut_of, reading_of, has_given_up, answered_of, errors_of};
+ghost use Rattle.stream_host.specs.Steps.{Journal, port_log, got_of, stop_of, stop_at, raw_of, cut_of, reading_of, has_given_up, answered_of, errors_of, awaits_report};
 ghost use Rattle.stream_host.specs.Steps.PortStep.{stored, raised, got, no_reply, shut};
 ghost use Rattle.stream_host.specs.Steps.Step.{at_port, scanned, turned};
 ghost use Rattle.status_report.specs.Answering.{answers_in, is_bye};
 ghost use Rattle.stream_host.specs.Jobs.{resume};
-ghost use Rattle.stream_host.specs.Conduct.{MayRead, HasWritten};
-ghost use Rattle.stream_host.specs.Hosts.{HostFits, HostWorked, HostTurned, HostTellsOn, HasPolled, IsBetween, DidAlone, MayScanOn, MayReadOn, HasRoom, HasShown, HostRests, HasLine, KeepsLine, KeepsCounts, unread, shown};
+ghost use Rattle.code_table.specs.Tables.{query};
+ghost use Rattle.stream_host.specs.Conduct.{AreAnswered, MayRead, HasWritten};
+ghost use Rattle.stream_host.specs.Hosts.{HostFits, HostWorked, HostTurned, HostTellsOn, HasPolled, IsBetween, DidAlone, MayScanOn, MayReadOn, HasRoom, HasShown, HostRests, HasLine, KeepsLine, KeepsCounts, is_over, unread, shown};
 ghost use Rattle.outside.specs.Causes.{SourceState, SinkState};
 ghost use Rattle.gcode_words.specs.Stripping.{plain};
 
 use crate::counts::Counts;
-use crate::line::SentLine;
+use crate::line::{Asking, SentLine};
 use crate::ports::HostPort;
 use crate::reader::{Gave, LARGEST_JOB, Reader};
 use crate::{Reading, Stop};
@@ -35,11 +36,15 @@ const EMPTY_POLLS: u16 = 4096;
 /// The realtime byte that resumes the machine.
 const RESUME: u8 = b'~';
 
+/// The realtime byte that asks for a report.
+const QUERY: u8 = b'?';
+
 /// Reads a job, raises its realtime bytes, sends its lines by counting characters, and shows the replies.
 #[derive(Drop)]
 pub struct Host {
     job: Reader,
     line: SentLine,
+    asking: Asking,
     counts: Counts,
     text: TextWriter,
     polls: u16,
@@ -55,6 +60,7 @@ impl Host {
         Host {
             job: Reader::new(),
             line: SentLine::new(),
+            asking: Asking::Nothing,
             counts: Counts::new(),
             text: TextWriter::new(),
             polls: 0,
@@ -69,6 +75,8 @@ impl Host {
     {
         if self.line.long {
             Stop::LongLine(self.counts.lines.saturating_add(1))
+        } else if self.line.reset {
+            Stop::Reset
         } else {
             Stop::End
         }
@@ -164,6 +172,7 @@ impl Host {
     {
         self.count(reply);
         self.show(reply);
+        self.asking = self.asking.told(reply);
         self.polls = 0;
     }
 
@@ -173,7 +182,7 @@ impl Host {
         ensures may_not { result ≡ false → MayScanOn self.now → ⊥ }
     {
         !self.line.whole
-            && !self.line.long
+            && !self.line.is_over()
             && self.line.due.is_none()
             && self.job.place < self.job.end
             && self.job.scanned < LARGEST_JOB
@@ -190,6 +199,7 @@ impl Host {
         ensures fewer { length (unread self.new.job) < length (unread self.old.job) }
     {
         let byte = self.job.next_byte();
+        self.asking = self.asking.scanned(self.line.begun);
         if byte == b'\n' {
             finish_line(&mut self.line, &mut self.counts);
         } else {
@@ -230,9 +240,25 @@ impl Host {
         }
     }
 
+    /// Whether a byte that is due is not raised yet: a `?` waits until each line before its own is answered.
+    fn is_early(&self, byte: u8) -> bool
+        ensures { (h : Journal) → HostFits self.now h → (result ≡ false) ↔ (byte ≡ query → AreAnswered h) }
+    {
+        byte == QUERY && self.counts.answered < self.counts.lines
+    }
+
+    /// Whether the line in hand is not stored yet: it waits for a report that it asked for, or the lines that have no answer
+    /// leave no room for it.
+    fn is_held_back(&self) -> bool
+        ensures { (h : Journal) → HostFits self.now h → (result ≡ false) ↔ ((awaits_report h ≡ false) × (self.now.counts.unanswered.total ≤ 128)) }
+    {
+        self.asking == Asking::Awaits || self.counts.unanswered.total > RECEIVE_ROOM
+    }
+
     /// Raises the byte that is due.
     fn raise<P: HostPort>(&mut self, port: &mut P, byte: u8)
         requires due { self.old.line.due ≡ Some byte }
+        requires after { (h : Journal) → HostFits self.old h → byte ≡ query → AreAnswered h }
         requires stands { (rest : P.Rest) × (h : Journal) × P.stands port.old rest (port_log h) × HostFits self.old h }
         ensures raised { (rest : P.Rest) (h : Journal) → P.stands port.old rest (port_log h) → HostFits self.old h → (down : Bool) × P.stands port.new rest (raised byte down ∷ port_log h)
             × HostFits self.new (at_port (raised byte down) ∷ h) }
@@ -240,6 +266,7 @@ impl Host {
     {
         port.raise(byte);
         self.line.due = None;
+        self.asking = self.asking.raised(byte);
     }
 
     /// A poll found no reply. Where so many have, the machine is resumed. Answers whether it is.
@@ -264,6 +291,7 @@ impl Host {
     fn store<P: HostPort>(&mut self, port: &mut P)
         requires storing { self.old.line.whole ≡ true }
         requires room { self.old.counts.unanswered.total ≤ 128 }
+        requires reported { self.old.asking ≢ Asking.Awaits }
         requires stands { (rest : P.Rest) × (h : Journal) × P.stands port.old rest (port_log h) × HostFits self.old h }
         ensures stored { (rest : P.Rest) (h : Journal) → P.stands port.old rest (port_log h) → HostFits self.old h → (b : ℕ) × P.stands port.new rest (stored b ∷ port_log h)
             × HostFits self.new (at_port (stored b) ∷ h) }
@@ -299,7 +327,7 @@ impl Host {
     {
         self.line.due.is_none()
             && !self.line.whole
-            && !self.line.long
+            && !self.line.is_over()
             && self.job.end <= self.job.place
             && matches!(self.job.reading, Reading::Stopped)
     }
@@ -339,11 +367,14 @@ impl Host {
         ensures going { result ≢ Turn.Done }
     {
         if let Some(byte) = self.line.due {
+            if self.is_early(byte) {
+                return Turn::Wait(On::Answer);
+            }
             self.raise(port, byte);
             return Turn::Did;
         }
         if self.line.whole {
-            if self.counts.unanswered.total > RECEIVE_ROOM {
+            if self.is_held_back() {
                 return Turn::Wait(On::Answer);
             }
             self.store(port);
@@ -421,9 +452,10 @@ impl Host {
         }
     }
 
-    /// Takes a turn: writes text that is due, takes a reply, resumes the machine where 4,096 polls in a row have found none,
-    /// or takes one step of sending; at most one thing is published. Where a poll found no reply, and the rules allow nothing else, it answers `Wait(Answer)`. It is done once Bye was
-    /// got and all text is written or the console has failed; from then on nothing changes.
+    /// Takes a turn: writes text that is due, takes a reply, resumes the machine where 4,096 polls in a row have found
+    /// none, or takes one step of sending; at most one thing is published. Where a poll found no reply, and the rules
+    /// allow nothing else, it answers `Wait(Answer)`. It is done once Bye was got and all text is written or the
+    /// console has failed; from then on nothing changes.
     ///
     /// The rules of the host are those of its journal: whatever it has done before, it goes on as they allow.
     pub fn turn<P: HostPort, So: Source, Co: Sink>(
@@ -446,7 +478,7 @@ impl Host {
 /// The line in hand is over, and is to be stored.
 fn finish_line(line: &mut SentLine, counts: &mut Counts)
     requires room { HasRoom counts.old }
-    requires short { line.old.long ≡ false }
+    requires sends { is_over line.old ≡ false }
     ensures line { (raw : List ℕ) → HasLine line.old raw → KeepsLine line.new [] (plain raw ++ 10 ∷ []) }
     ensures counts { (raw : List ℕ) (cuts : List (List ℕ)) (got : List Reply) → HasLine line.old raw → KeepsCounts counts.old cuts got → answers_in got ≤ length cuts
         → KeepsCounts counts.new (cuts ++ raw ∷ []) got }

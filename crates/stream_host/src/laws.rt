@@ -1,6 +1,6 @@
 //! Laws of hosts.
 
-ghost use Rattle.std.specs.Prelude.{◌≡◌, ℕ, ◌+◌, ◌*◌, ◌≤◌, ◌<◌, true, false, List, [], ◌∷◌, ◌++◌, length, map, drop};
+ghost use Rattle.std.specs.Prelude.{◌≡◌, ℕ, ◌+◌, ◌*◌, ◌≤◌, ◌<◌, ◌⊎◌, Bool, true, false, List, [], ◌∷◌, ◌++◌, length, map, drop};
 ghost use Rattle.gcode_words.specs.Stripping.{plain};
 ghost use Rattle.run_rules.specs.Lines.{whole_lines};
 ghost use Rattle.run_rules.specs.Readings.{largest_job, largest_piece};
@@ -9,7 +9,11 @@ ghost use Rattle.status_report.specs.Answering.{receive_room, lfs_in};
 ghost use Rattle.stream_host.specs.Jobs.{served_in, ends_sending, lines_read, lines_to_send, IsSent, IsSentSoFar};
 ghost use Rattle.stream_host.specs.declared.Reading.{Reading};
 ghost use Rattle.std.specs.List.{AllByRecursion};
-ghost use Rattle.stream_host.specs.Steps.{Journal, stored_of, got_of, is_shut, answered_of, errors_of, read_of, reading_of, scanned_of, cut_of, to_store, begun_of, due_of, stop_of, port_log, raises_of, line_raises_of, resumes_of, polls_of, all_empty_in, empty_polls};
+ghost use Rattle.stream_host.specs.Steps.{Journal, stored_of, got_of, is_shut, answered_of, errors_of, read_of, reading_of, scanned_of, cut_of, to_store, begun_of, due_of, stop_of, port_log, raises_of, line_raises_of, resumes_of, polls_of, awaits_report, all_empty_in, empty_polls};
+ghost use Rattle.stream_host.specs.Steps.Step.{at_port};
+ghost use Rattle.stream_host.specs.Steps.PortStep.{raised};
+ghost use Rattle.code_table.specs.Tables.{query};
+ghost use Rattle.run_rules.specs.Reports.{AreReported};
 ghost use Rattle.stream_host.specs.Conduct.{Conducted, MayStore, Waits};
 ghost use Rattle.outside.specs.Causes.{SourceState, SinkState};
 ghost use Rattle.stream_host.specs.declared.host.Host.{Host};
@@ -38,20 +42,23 @@ pub fn hosts_keep_to_their_count()
 
 /// Of the realtime bytes that a host scans, each that is served is raised once, in order, or is due: none is while a byte of
 /// the line that it stands in may be stored. What else is raised are its own resumes. Before each of them 4,096 polls in a
-/// row found no reply, and no more.
+/// row found no reply, and no more. A `?` is raised once each line before its own is answered, and each line that asks for a
+/// report and has its answer has a report, behind the answers to the lines before it.
 pub fn hosts_raise_what_they_scan()
     ensures raised { (h : Journal) → Conducted h → AreRaised (scanned_of h) (raises_of h) (due_of h) (resumes_of h) }
     ensures in_order { (h : Journal) → Conducted h → line_raises_of h ++ due_of h ≡ served_in (scanned_of h) }
     ensures first { (b : ℕ) (h : Journal) → Conducted h → MayStore b h → due_of h ≡ [] }
     ensures closed { (h : Journal) → Conducted h → is_shut h ≡ true → due_of h ≡ [] }
+    ensures query { (h : Journal) (down : Bool) → Conducted (at_port (raised query down) ∷ h) → answered_of h ≡ length (cut_of h) }
+    ensures reported { (h : Journal) → Conducted h → AreReported (cut_of h) (got_of h) }
     ensures tired { (h : Journal) → Conducted h → polls_of h ≤ empty_polls }
     ensures rested { (h : Journal) → Conducted h → empty_polls * resumes_of h + polls_of h ≤ all_empty_in (port_log h) }
 {}
 
-/// A host whose link is open waits only where a line that it has sent has no answer: its rules always allow it one of its
-/// steps else.
+/// A host whose link is open waits only where a line that it has sent has no answer, or where it has asked for a report
+/// and got none since: its rules always allow it one of its steps else.
 pub fn hosts_wait_for_answers()
-    ensures { (h : Journal) → Conducted h → Waits h → is_shut h ≡ false → 0 < length (drop (answered_of h) (begun_of h)) }
+    ensures { (h : Journal) → Conducted h → Waits h → is_shut h ≡ false → (0 < length (drop (answered_of h) (begun_of h))) ⊎ (awaits_report h ≡ true) }
 {}
 
 /// A job in which no line ends the sending is sent whole. Lines come back from the link as what is kept of them. Behind the

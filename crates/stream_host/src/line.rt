@@ -1,34 +1,82 @@
 //! The line in hand: first it is scanned, then it is stored.
 
-ghost use Rattle.std.specs.Prelude.{◌≡◌, ◌≢◌, ℕ, ◌+◌, ◌≤◌, ◌<◌, ◌++◌, ◌∷◌, [], List, take, drop, length, nat_lt, true, false, option_to_list, None};
-ghost use Rattle.std.specs.List.{filter};
+ghost use Rattle.std.specs.Prelude.{◌≡◌, ◌≢◌, ℕ, ◌+◌, ◌≤◌, ◌<◌, ◌++◌, ◌∷◌, [], List, take, drop, length, cond, nat_eq, nat_lt, true, false, option_to_list, None};
+ghost use Rattle.std.specs.List.{filter, list_any};
+ghost use Rattle.code_table.specs.Tables.{query};
 ghost use Rattle.gcode_words.specs.Stripping.{taken_by};
-ghost use Rattle.stream_host.specs.Jobs.{is_served};
-ghost use Rattle.stream_host.specs.Steps.{more_served};
-ghost use Rattle.stream_host.specs.Hosts.{HasLine, KeepsDue};
+ghost use Rattle.status_report.specs.Answering.{is_report};
+ghost use Rattle.stream_host.specs.Jobs.{is_served, is_reset};
+ghost use Rattle.stream_host.specs.Steps.{more_served, asked_more, got_one};
+ghost use Rattle.stream_host.specs.declared.line.Asking.TheVariants.{Nothing};
+ghost use Rattle.stream_host.specs.Hosts.{HasLine, KeepsDue, is_over};
 
 use arrayvec::ArrayVec;
 use gcode_words::{Stripped, Stripper};
+use status_report::Reply;
 
-/// What has come of a line: where the stripper stands in it, the first 127 kept bytes, whether there were more, and
-/// whether any byte came; the realtime byte that is to be raised before it goes on, if any; whether it is whole, and how
-/// much of it is stored then.
+/// The realtime byte that resets the machine.
+const RESET: u8 = 0x18;
+
+/// What has come of a line: where the stripper stands in it, the first 127 kept bytes, whether there were more, whether
+/// a reset was among them, and whether any byte came; the realtime byte that is to be raised before it goes on, if any;
+/// whether it is whole, and how much of it is stored then.
 #[derive(Drop)]
 pub(crate) struct SentLine {
     pub(crate) stripper: Stripper,
     pub(crate) kept: ArrayVec<u8, 127>,
     pub(crate) long: bool,
+    pub(crate) reset: bool,
     pub(crate) begun: bool,
     pub(crate) due: Option<u8>,
     pub(crate) whole: bool,
     pub(crate) place: usize,
 }
 
+/// Whether a line has asked for a report, and whether one was got since.
+#[derive(Clone, Copy, Debug, PartialEq, Eq)]
+pub(crate) enum Asking {
+    /// It has not asked for one.
+    Nothing,
+    /// It has, and none was got since.
+    Awaits,
+    /// It has, and one was got.
+    HasOne,
+}
+
+impl Asking {
+    /// A byte is scanned. With its first one a line has not asked for a report.
+    pub(crate) fn scanned(self, begun: bool) -> Asking
+        ensures { result ≡ cond begun self Nothing }
+    {
+        if begun { self } else { Asking::Nothing }
+    }
+
+    /// A realtime byte is raised: a `?` asks for one report more.
+    pub(crate) fn raised(self, byte: u8) -> Asking
+        ensures { result ≡ cond (nat_eq byte query) (asked_more self) self }
+    {
+        match self {
+            Asking::Nothing if byte == b'?' => Asking::Awaits,
+            _ => self,
+        }
+    }
+
+    /// A reply is got: one report is, where it is one.
+    pub(crate) fn told(self, reply: &Reply) -> Asking
+        ensures { result ≡ cond (is_report reply.now) (got_one self) self }
+    {
+        match (self, reply) {
+            (Asking::Awaits, Reply::Report(_)) => Asking::HasOne,
+            _ => self,
+        }
+    }
+}
+
 /// Whether a realtime byte is raised.
 fn is_served(byte: u8) -> bool
     ensures { result ≡ is_served byte }
 {
-    !matches!(byte, 0x18 | b'?' | 0x85)
+    byte != 0x85
 }
 
 /// The realtime byte that is to be raised, where a byte of a line is one.
@@ -39,6 +87,13 @@ fn due_in(stripped: Stripped) -> Option<u8>
         Stripped::Realtime(byte) if is_served(byte) => Some(byte),
         _ => None,
     }
+}
+
+/// Whether a byte of a line is a reset.
+fn is_reset(stripped: Stripped) -> bool
+    ensures { result ≡ list_any is_reset (taken_by stripped) }
+{
+    matches!(stripped, Stripped::Realtime(RESET))
 }
 
 impl SentLine {
@@ -52,6 +107,7 @@ impl SentLine {
             stripper: Stripper::new(),
             kept: ArrayVec::new(),
             long: false,
+            reset: false,
             begun: false,
             due: None,
             whole: false,
@@ -68,8 +124,16 @@ impl SentLine {
         self.stripper = Stripper::new();
         self.kept.clear();
         self.long = false;
+        self.reset = false;
         self.begun = false;
         self.whole = false;
+    }
+
+    /// Whether the sending ends in it: it is too long, or has a reset.
+    pub(crate) fn is_over(&self) -> bool
+        ensures { result ≡ is_over self.now }
+    {
+        self.long || self.reset
     }
 
     /// One kept byte more.
@@ -77,6 +141,7 @@ impl SentLine {
         ensures kept { (all : List ℕ) → self.old.kept.items ≡ take 127 all → self.new.kept.items ≡ take 127 (all ++ byte ∷ []) }
         ensures long { (all : List ℕ) → self.old.kept.items ≡ take 127 all → self.old.long ≡ nat_lt 127 (length all) → self.new.long ≡ nat_lt 127 (length (all ++ byte ∷ [])) }
         ensures stripper { self.new.stripper ≡ self.old.stripper }
+        ensures reset { self.new.reset ≡ self.old.reset }
         ensures begun { self.new.begun ≡ self.old.begun }
         ensures due { self.new.due ≡ self.old.due }
         ensures whole { self.new.whole ≡ self.old.whole }
@@ -99,6 +164,7 @@ impl SentLine {
         self.begun = true;
         let stripped = self.stripper.feed(byte);
         self.due = due_in(stripped);
+        self.reset |= is_reset(stripped);
         if let Stripped::Keep(kept) = stripped {
             self.keep(kept);
         }
@@ -108,7 +174,7 @@ impl SentLine {
     pub(crate) fn finish(&mut self) -> u8
         ensures length { result ≡ length self.old.kept.items + 1 }
         ensures kept { self.new.kept.items ≡ self.old.kept.items }
-        ensures long { self.new.long ≡ self.old.long }
+        ensures over { is_over self.new ≡ is_over self.old }
         ensures due { self.new.due ≡ self.old.due }
         ensures whole { self.new.whole ≡ true }
         ensures place { self.new.place ≡ 0 }

@@ -5,17 +5,24 @@ ghost use Rattle.std.specs.Prelude.{◌≡◌, ◌+◌, ◌≤◌, []};
 use super::*;
 use code_table::realtime_rows;
 use outside::{MemSink, MemSource, On, Sink, Turn};
+use overrides::Overrides;
 use realtime_flags::Raised;
 use serial_ring::Stored;
-use status_report::Reply;
+use status_report::{Reply, Report, State};
 use std::marker::Model;
 use std::test::Fail;
+use units::Nm3;
 
-/// A board that takes each byte at once, also those that are raised. It tells the banner, answers the lines one by one, and says Bye once the link is
-/// closed and each line has its answer. So many polls find no reply before each.
+/// A board that takes each byte at once, also those that are raised. It tells the banner, reports where it was asked
+/// to, answers the lines one by one, and says Bye once the link is closed and each line has its answer. So many polls
+/// find no reply before each.
 #[derive(Drop)]
 struct Board<'a> {
     taken: MemSink<'a>,
+    /// Among what is taken stand a `<` for each report and a `=` for each answer, at the place where they are told.
+    marked: bool,
+    /// A `?` was raised, and nothing is reported since.
+    asked: bool,
     /// Lines that have no answer.
     owed: u32,
     told: u32,
@@ -28,7 +35,7 @@ struct Board<'a> {
 }
 
 impl Board<'_> {
-    ghost use Rattle.std.specs.Prelude.{◌≡◌, true};
+    ghost use Rattle.std.specs.Prelude.{◌≡◌, true, false};
     ghost use Rattle.status_report.specs.Replies.{IsReply};
     ghost use Rattle.status_report.specs.Answering.{is_answer};
 
@@ -41,6 +48,37 @@ impl Board<'_> {
             Reply::Error(20)
         } else {
             Reply::Ok
+        }
+    }
+
+    /// What is reported: a machine that stands.
+    fn report(&self) -> Reply
+        ensures text { IsReply result }
+        ensures other { is_answer result ≡ false }
+    {
+        let zero = Nm3 { x: 0, y: 0, z: 0 };
+        Reply::Report(Report {
+            state: State::Idle,
+            machine: false,
+            at: zero,
+            buffer: None,
+            f: 0,
+            s: 0,
+            wco: zero,
+            ov: Overrides {
+                feed: 100,
+                rapid: 100,
+                spindle: 100,
+            },
+        })
+    }
+
+    /// Marks that a reply is told.
+    fn mark(&mut self, byte: u8)
+        ensures { self.new ≡ record self.old { taken = self.new.taken } }
+    {
+        if self.marked {
+            let _ = self.taken.write(&[byte]);
         }
     }
 }
@@ -65,6 +103,9 @@ impl HostPort for Board<'_> {
 
     fn raise(&mut self, byte: u8) -> Raised {
         let _ = self.taken.write(&[byte]);
+        if byte == b'?' {
+            self.asked = true;
+        }
         match realtime_rows().find(u16::from(byte)) {
             Some(bit) if bit < 16 => Raised::Exec,
             Some(_) => Raised::Override,
@@ -83,8 +124,14 @@ impl HostPort for Board<'_> {
             self.told = 1;
             return Some(Reply::Banner);
         }
+        if self.asked {
+            self.asked = false;
+            self.mark(b'<');
+            return Some(self.report());
+        }
         if self.owed > 0 {
             self.owed -= 1;
+            self.mark(b'=');
             self.told = self.told.saturating_add(1);
             return Some(self.answer());
         }
@@ -122,10 +169,17 @@ impl<'a> Model for Line<'a> {
 
 impl<'a> Line<'a> {
     fn new(taken: MemSink<'a>, strict: bool, pause: u32) -> Line<'a> {
+        Line::marked(taken, strict, pause, false)
+    }
+
+    /// One whose board marks its replies, or not.
+    fn marked(taken: MemSink<'a>, strict: bool, pause: u32, marked: bool) -> Line<'a> {
         Line {
             host: Host::new(),
             board: Board {
                 taken,
+                marked,
+                asked: false,
                 owed: 0,
                 told: 0,
                 strict,
@@ -282,11 +336,12 @@ fn jobs_are_sent_and_answered(rt: HostRuntime) -> Result<(), Fail> {
 /// Realtime bytes are raised as they are scanned, before the text of their line, and one a turn.
 #[test]
 fn realtime_bytes_are_raised(rt: HostRuntime) -> Result<(), Fail> {
-    let rows: [(&[u8], &[u8]); 7] = [
+    let rows: [(&[u8], &[u8]); 8] = [
         (b"!G0X1~\n", b"!~G0X1\n"),
         (b"G0!X1\n~M2\n!", b"!G0X1\n~M2\n!\n"),
         (b"G0(!)X1;~\n(~", b"G0X1\n\n"),
-        (b"?G0\x18X1\x85\n", b"G0X1\n"),
+        (b"?G0X1\x85\n", b"?G0X1\n"),
+        (b"X1\n~G0\x18X2\n!", b"X1\n~\x18"),
         (b"\xA0G0\x91\n", b"\xA0\x91G0\n"),
         (b"!!!!\n", b"!!!!\n"),
         (b"\n~", b"\n~\n"),
@@ -306,6 +361,39 @@ fn realtime_bytes_are_raised(rt: HostRuntime) -> Result<(), Fail> {
         }
         assert_eq!(rt; last, Turn::Done, "row {i}");
         assert!(rt; line.board.taken.held() == *taken, "row {i}");
+    }
+    Ok(())
+}
+
+/// A `?` is raised once each line before its own is answered, and its line is stored once something is reported. One in a
+/// comment is not raised, and one in a rest that is never sent holds nothing up.
+#[test]
+fn reports_are_asked_for(rt: HostRuntime) -> Result<(), Fail> {
+    let waits = Turn::Wait(On::Answer);
+    let none: &[u64] = &[];
+    let rows: [(&[u8], u32, &[u64], &[u8], Turn); 9] = [
+        (b"?\n", 0, none, b"?<\n=", Turn::Done),
+        (b"G0\n?G1?\n", 0, none, b"G0\n=?<?<G1\n=", Turn::Done),
+        (b"G0\n?G1?\n", 6, none, b"G0\n=??<G1\n=", Turn::Done),
+        (b"?G0\n?G1", 2, none, b"?<G0\n=?<G1\n=", Turn::Done),
+        (b"G0(?)X1;?\nM2\n", 6, none, b"G0X1\nM2\n==", Turn::Done),
+        (b"G0\nM2?\n", u32::MAX, none, b"G0\n", waits),
+        (b"?G0\nM2\n", u32::MAX, none, b"?", waits),
+        (b"G0\nM2?", 6, &[2], b"G0\n=?<", Turn::Done),
+        (b"G0\nM2?", 0, &[2], b"G0\n=?<", Turn::Done),
+    ];
+    for (i, (bytes, pause, bad_reads, taken, last)) in rows.iter().enumerate() {
+        let mut job = MemSource::new(bytes, 4096, bad_reads);
+        let mut console = MemSink::new(rt.alloc(), 1000, &[])?;
+        let sink = MemSink::new(rt.alloc(), 400, &[])?;
+        let mut line = Line::marked(sink, false, *pause, true);
+        let mut answer = Turn::Did;
+        for _ in 0..200 {
+            answer = line.turn(&mut job, &mut console);
+        }
+        assert_eq!(rt; answer, *last, "row {i}");
+        assert!(rt; line.board.taken.held() == *taken, "row {i}");
+        assert!(rt; !line.host.console_failed(), "row {i}");
     }
     Ok(())
 }

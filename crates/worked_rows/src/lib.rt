@@ -14,6 +14,8 @@ mod offsets;
 #[cfg(test)]
 mod realtime;
 #[cfg(test)]
+mod reports;
+#[cfg(test)]
 mod rows;
 #[cfg(test)]
 mod runs;

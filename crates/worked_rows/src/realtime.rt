@@ -1,6 +1,6 @@
 //! Realtime bytes: holds, resumes, pauses and overrides. None of them changes an answer, an event or a mark.
 
-use crate::runs::{BANNER, Run, append_times, expect, text_of};
+use crate::runs::{BANNER, Run, append_times, expect, text_of, without_heads};
 use grbl_app::{Status, run_grbl};
 use outside::{MemSink, MemSource, OpenGate};
 use std::alloc::Global;
@@ -9,7 +9,7 @@ use std::sync::Wait;
 use std::thread::Threads;
 
 /// The words of a run as a stream, and of runs in lockstep.
-const WORDS: [&[&str]; 4] = [
+pub(crate) const WORDS: [&[&str]; 4] = [
     &["stream"],
     &["stream", "--lockstep", "0"],
     &["stream", "--lockstep", "7"],
@@ -79,7 +79,7 @@ fn realtime_bytes_change_no_answer_and_no_event(rt: HostRuntime) {
         (b"F100\nG1X1\n\x92\x92\n\x94\n\x93X0", 5, back.as_slice()),
         // In a comment, and those without effect.
         (b"(!)G0X1;!\nX0(\x97)", 2, back.as_slice()),
-        (b"?G0\x18X1\n\x85X0?\n", 2, back.as_slice()),
+        (b"G0X1\n\x85X0\n", 2, back.as_slice()),
         (b"\x84\xa0\xff\x98G0X1", 1, there.as_slice()),
     ];
     for (job, lines, steps) in rows {
@@ -110,6 +110,43 @@ fn a_hold_stops_the_machine_in_a_move(rt: HostRuntime) {
         job.extend_from_slice(last).expect(&rt, "memory");
         for words in WORDS {
             assert_eq!(rt; starts_of(&rt, alloc, words, job.as_slice()), times);
+        }
+    }
+}
+
+#[test]
+fn a_reset_ends_the_sending(rt: HostRuntime) {
+    let alloc = rt.alloc();
+    // Nothing behind the reset is sent, nor is its own line; what is recorded is a front of the events of the lines
+    // before it. In a comment it is no reset.
+    let rows: [(&[u8], &[u8], usize, Status); 4] = [
+        (b"G0X100\n\x18", b"ok\r\n", 25_000, Status::Reset),
+        (b"G0X1\nX0\x18.5\nX7", b"ok\r\n", 250, Status::Reset),
+        (b"\x18G0X1", b"", 0, Status::Reset),
+        (b"G0X1(\x18)\n;\x18", b"ok\r\nok\r\n", 250, Status::Done),
+    ];
+    for (job, answers, most, status) in rows {
+        let mut console = Vec::from_slice(alloc, BANNER).expect(&rt, "memory");
+        append_times(&rt, &mut console, answers, 1);
+        for words in WORDS {
+            let mut source = MemSource::new(job, 3, &[]);
+            let mut out = MemSink::new(alloc, 10_000, &[]).expect(&rt, "memory");
+            let mut steps = MemSink::new(alloc, 1_000_000, &[]).expect(&rt, "memory");
+            let got = run_grbl(
+                &rt,
+                alloc,
+                words,
+                &mut source,
+                &mut out,
+                &mut steps,
+                &OpenGate,
+            );
+            assert_eq!(rt; got, status);
+            assert!(rt; console.as_slice().starts_with(out.held()));
+            let text = without_heads(&rt, alloc, steps.held());
+            let whole = text_of(&rt, alloc, &[(b"X+\n", most)]);
+            let events = text.as_slice().strip_suffix(b"E\n").expect(&rt, "an end");
+            assert!(rt; whole.as_slice().starts_with(events));
         }
     }
 }

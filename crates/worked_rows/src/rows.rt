@@ -83,7 +83,7 @@ fn jobs_give_their_answers_and_their_events(rt: HostRuntime) {
         },
         // Comments, blanks, small letters, realtime bytes, CR LF.
         Row {
-            job: b"g0 x0.0(in ?! 1)04 ; out !\r\n/y?-.004~\r\n\x18X0\n",
+            job: b"g0 x0.0(in ?! 1)04 ; out !\r\n/y-.004~\r\n\x85X0\n",
             answers: b"ok\r\nok\r\nok\r\n",
             steps: b"X+\nY-\nX-\nE\n",
             status: Status::Done,

@@ -13,6 +13,8 @@ returns-clause-whole c = λ first h opening conducted finished.
       disturbed = c.boards_run_their_plan.ensures.disturbed first h conducted;
       hand = c.boards_run_their_plan.ensures.hand first h conducted;
       end = c.boards_run_their_plan.ensures.end first h conducted;
+      fits = c.boards_report_where_they_are.ensures.fits first h conducted;
+      few = c.boards_report_where_they_are.ensures.few first h conducted;
     } in
     board_ran first h opening kept finished (c.boards_end_well.ensures first h conducted finished)
 
@@ -29,4 +31,6 @@ returns-clause-so_far c = λ first h opening conducted.
       disturbed = c.boards_run_their_plan.ensures.disturbed first h conducted;
       hand = c.boards_run_their_plan.ensures.hand first h conducted;
       end = c.boards_run_their_plan.ensures.end first h conducted;
+      fits = c.boards_report_where_they_are.ensures.fits first h conducted;
+      few = c.boards_report_where_they_are.ensures.few first h conducted;
     })

@@ -1,4 +1,4 @@
-use Rattle.board_rules.proofs.Turning.{one_a_turn, few_tries, obeyed_each, changed_each}
+use Rattle.board_rules.proofs.Turning.{one_a_turn, few_tries, obeyed_each, one_unobeyed, obeyed_between, changed_each}
 use Rattle.board_rules.proofs.laws.boards_take_turns.Goals as goal
 
 pub returns-clause-once : goal.returns-clause-once
@@ -9,6 +9,12 @@ returns-clause-tries c = few_tries
 
 pub returns-clause-obeyed : goal.returns-clause-obeyed
 returns-clause-obeyed c = obeyed_each
+
+pub returns-clause-one : goal.returns-clause-one
+returns-clause-one c = one_unobeyed
+
+pub returns-clause-waits : goal.returns-clause-waits
+returns-clause-waits c = obeyed_between
 
 pub returns-clause-changed : goal.returns-clause-changed
 returns-clause-changed c = changed_each

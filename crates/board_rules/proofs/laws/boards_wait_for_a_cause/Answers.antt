@@ -7,6 +7,9 @@ returns-clause-byte c = λ first h conducted. (conducted.0.cause.free, conducted
 pub returns-clause-reply_room : goal.returns-clause-reply_room
 returns-clause-reply_room c = λ first h conducted. reply_is_next first h conducted.1 conducted.0.cause conducted.0.still
 
+pub returns-clause-report : goal.returns-clause-report
+returns-clause-report c = λ first h o conducted. conducted.0.unowed
+
 pub returns-clause-segment_room : goal.returns-clause-segment_room
 returns-clause-segment_room c = λ first h conducted. pieces_lack_room first h conducted.1 conducted.0.cause conducted.0.still
 

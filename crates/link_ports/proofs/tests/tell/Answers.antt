@@ -1,6 +1,7 @@
 use Rattle.std.proofs.Common.{◌+◌, ◌∷◌, refl, arith}
 use Rattle.std.proofs.lemmas.Result.{on_ok_weaker, on_err_weaker}
-use Rattle.board_rules.specs.Ports.PortStep.{answered, no_reply_room}
+use Rattle.board_rules.specs.Ports.{said}
+use Rattle.board_rules.specs.Ports.PortStep.{no_reply_room}
 use Rattle.link_ports.proofs.Standing.{other_more, reply_more}
 use Rattle.link_ports.proofs.tests.tell.Goals as goal
 
@@ -11,9 +12,9 @@ answer-requires c = let q = c.requires.owes in let o = c.requires.other in let w
 pub returns-clause-ok : goal.returns-clause-ok
 returns-clause-ok c = let q = c.requires.owes in let o = c.requires.other in let w = c.ranges.answered.fits in on_ok_weaker c.answer.result
     (λ s. record {
-      log = answered c.args.reply ∷ q.log;
+      log = said c.args.reply ∷ q.log;
       did = (s (_, _, _) q.log (refl, refl, refl, q.did) (record { line = λ e. absurd (let is = o.1 in cc); text = o.0; few = (let f = q.few in omega arith) })).3;
-      owes = other_more c.args.reply q.log 0 _ o.1 q.owes;
+      owes = other_more c.args.reply q.log 0 o.1 q.owes;
       few = reply_more c.args.reply q.log _ q.few;
     })
     c.answer.ensures.ok

@@ -3,10 +3,10 @@ use Rattle.stream_host.proofs.Hosting.{finished, size_is, counted_line}
 use Rattle.stream_host.proofs.host.finish_line.Goals as goal
 
 pub returns-clause-line : goal.returns-clause-line
-returns-clause-line c = λ raw has. let f = c.finish-size.ensures in finished c.args.line.now _ raw has c.requires.short f.kept f.long f.whole f.place
+returns-clause-line c = λ raw has. let f = c.finish-size.ensures in finished c.args.line.now _ raw has c.requires.sends f.kept f.over f.whole f.place
 
 pub returns-clause-counts : goal.returns-clause-counts
 returns-clause-counts c = λ raw cuts got has keeps few.
     let a = c.add_line.ensures in
     counted_line c.args.counts.now _ raw cuts got c.finish-size.result keeps few a.more a.summed (ap (λ d. d.lines) a.same) (ap (λ d. d.answered) a.same) (ap (λ d. d.errors) a.same)
-    (size_is c.args.line.now raw c.finish-size.result has c.requires.short c.finish-size.ensures.length)
+    (size_is c.args.line.now raw c.finish-size.result has c.requires.sends c.finish-size.ensures.length)

@@ -1,4 +1,6 @@
+use Rattle.std.proofs.Common.{refl}
 use Rattle.stream_host.proofs.Raising.{raised_is, in_order, none_due_first, none_due_shut, few_polls, rested_is}
+use Rattle.stream_host.proofs.Reporting.{reported_is}
 use Rattle.stream_host.proofs.laws.hosts_raise_what_they_scan.Goals as goal
 
 pub returns-clause-raised : goal.returns-clause-raised
@@ -12,6 +14,12 @@ returns-clause-first c = none_due_first
 
 pub returns-clause-closed : goal.returns-clause-closed
 returns-clause-closed c = none_due_shut
+
+pub returns-clause-query : goal.returns-clause-query
+returns-clause-query c = λ h down conducted. conducted.0.after refl
+
+pub returns-clause-reported : goal.returns-clause-reported
+returns-clause-reported c = reported_is
 
 pub returns-clause-tired : goal.returns-clause-tired
 returns-clause-tired c = few_polls

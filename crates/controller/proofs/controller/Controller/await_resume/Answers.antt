@@ -1,26 +1,52 @@
-use Rattle.std.proofs.Common.{sym, ap, ◌∙◌}
+use Rattle.std.proofs.Common.{◌≡◌, ◌∷◌, true, false, Bool, refl, sym, ap, ◌∙◌, subst}
+use Rattle.board_rules.specs.Steps.{Journal, port_log}
+use Rattle.board_rules.specs.Turns.{owes_report}
 use Rattle.controller.specs.declared.controller.Controller.{Controller}
-use Rattle.controller.specs.Turning.{obeyed}
-use Rattle.controller.proofs.Halting.{did_resume, waits_for_resume}
+use Rattle.controller.specs.Boards.{Keeps}
+use Rattle.controller.specs.Turning.{asked, obeyed, flags_behind}
+use Rattle.controller.proofs.Ends.{free_of}
+use Rattle.controller.proofs.Halting.{taken, did_ask, did_resume, waits_for_resume}
+use Rattle.controller.proofs.Words.{asked_owed, asked_free, asked_owes}
 use Rattle.controller.proofs.controller.Controller.await_resume.Goals as goal
 
+pub take_requests-requires : goal.take_requests-requires
+take_requests-requires g c = let r = c.requires.stands in record { stands = (r.0, r.1, r.2, r.3, (free_of r.1 r.4.ready.quiet).obeyed) }
+
+pub returns-then-self-clause-goes_on : goal.returns-then-self-clause-goes_on
+returns-then-self-clause-goes_on g c = λ rest h stands k halted none.
+    let n = c.take_requests.ensures.goes_on rest h stands k (free_of h halted.ready.quiet).obeyed in
+    let same = c.take_requests.ensures.same in
+    let owed = sym (n.4.owes_is ∙ asked_owes n.0 n.1) ∙ c.if-self.true in
+    let is = asked_owed n.0 n.1 owed in (
+      taken n.0 n.1,
+      subst (λ (x : Journal). g.P.BoardPort.stands c.take_requests.new.port rest (port_log x)) is n.3,
+      did_ask c.take_requests.new.self c.args.self.now.flags n.0 h n.1 (subst (λ (x : Journal). Keeps c.take_requests.new.self x) is n.4) halted n.2 owed
+          (ap (λ (b : Controller). b.beat) same ∙ c.requires.beat) (n.5 ∙ ap (λ b. flags_behind b n.0) owed) c.requires.flags,
+    )
+
 pub returns-then-is_held-clause-goes_on : goal.returns-then-is_held-clause-goes_on
-returns-then-is_held-clause-goes_on g c rest h stands k halted none =
-    let n = c.take_requests.ensures.goes_on rest h stands k in
-    let same = c.take_requests.ensures.same in (
+returns-then-is_held-clause-goes_on g c = λ rest h stands k halted none.
+    let n = c.take_requests.ensures.goes_on rest h stands k (free_of h halted.ready.quiet).obeyed in
+    let same = c.take_requests.ensures.same in
+    let unowed = sym (n.4.owes_is ∙ asked_owes n.0 n.1) ∙ c.if-self.false in
+    let is = asked_free n.0 n.1 unowed in
+    let keeps = subst (λ (x : Journal). Keeps c.take_requests.new.self x) is n.4 in (
       obeyed n.0 n.1,
-      n.3,
-      waits_for_resume c.take_requests.new.self c.args.self.now.flags n.0 h n.1 n.4 halted n.2 (sym k.machine.motion_is ∙ c.requires.held)
-          (sym n.4.machine.motion_is ∙ c.is_held.ensures.0 c.if-is_held.true) (ap (λ (b : Controller). b.beat) same ∙ c.requires.beat) (ap (λ (b : Controller). b.flags) same ∙ c.requires.flags),
+      subst (λ (x : Journal). g.P.BoardPort.stands c.take_requests.new.port rest (port_log x)) is n.3,
+      waits_for_resume c.take_requests.new.self c.args.self.now.flags n.0 h n.1 keeps halted n.2 (sym k.machine.motion_is ∙ c.requires.held)
+          (sym keeps.machine.motion_is ∙ c.is_held.ensures.0 c.if-is_held.true) unowed (ap (λ (b : Controller). b.beat) same ∙ c.requires.beat) (n.5 ∙ ap (λ b. flags_behind b n.0) unowed),
     )
 
 pub returns-clause-goes_on : goal.returns-clause-goes_on
-returns-clause-goes_on g c rest h stands k halted none =
-    let n = c.take_requests.ensures.goes_on rest h stands k in
-    let same = c.take_requests.ensures.same in (
+returns-clause-goes_on g c = λ rest h stands k halted none.
+    let n = c.take_requests.ensures.goes_on rest h stands k (free_of h halted.ready.quiet).obeyed in
+    let same = c.take_requests.ensures.same in
+    let unowed = sym (n.4.owes_is ∙ asked_owes n.0 n.1) ∙ c.if-self.false in
+    let is = asked_free n.0 n.1 unowed in
+    let keeps = subst (λ (x : Journal). Keeps c.take_requests.new.self x) is n.4 in (
       obeyed n.0 n.1,
-      n.3,
-      did_resume c.take_requests.new.self c.args.self.now.flags n.0 h n.1 n.4 halted n.2 (sym k.machine.motion_is ∙ c.requires.held)
-          (λ held. absurd (let e = sym c.if-is_held.false ∙ c.is_held.ensures.1 (n.4.machine.motion_is ∙ held) in cc))
-          (ap (λ (b : Controller). b.beat) same ∙ c.requires.beat) (ap (λ (b : Controller). b.flags) same ∙ c.requires.flags) c.requires.flags,
+      subst (λ (x : Journal). g.P.BoardPort.stands c.take_requests.new.port rest (port_log x)) is n.3,
+      did_resume c.take_requests.new.self c.args.self.now.flags n.0 h n.1 keeps halted n.2 (sym k.machine.motion_is ∙ c.requires.held)
+          (λ held. absurd (let e = sym c.if-is_held.false ∙ c.is_held.ensures.1 (keeps.machine.motion_is ∙ held) in cc))
+          unowed (ap (λ (b : Controller). b.beat) same ∙ c.requires.beat) (n.5 ∙ ap (λ b. flags_behind b n.0) unowed) c.requires.flags,
     )

@@ -9,6 +9,9 @@ use Rattle.controller.proofs.Tries.{alone_on}
 use Rattle.controller.proofs.Resting.{no_rest, no_normal, none_passed}
 use Rattle.controller.proofs.controller.Controller.pass.Goals as goal
 
+pub pass_next-requires-clause-stands : goal.pass_next-requires-clause-stands
+pass_next-requires-clause-stands c = let r = c.requires in let n = c.loop-self.invariant.passed r.0 r.1 r.2 in (n.0, n.1, n.2)
+
 pub loop-self-preserved : goal.loop-self-preserved
 loop-self-preserved c =
     let i = c.loop-self.invariant in

@@ -4,7 +4,7 @@ use Rattle.board_rules.specs.Steps.Step.{at_port}
 use Rattle.board_rules.specs.Ports.PortStep.{took, found_empty, found_closed}
 use Rattle.controller.specs.declared.controller.Controller.{Controller}
 use Rattle.controller.proofs.Steps.{polled_empty, polled_closed}
-use Rattle.controller.proofs.Ends.{works_on}
+use Rattle.controller.proofs.Ends.{works_on, free_of}
 use Rattle.controller.proofs.Nexts.{took_worked, polled_none, polled_end}
 use Rattle.controller.proofs.controller.Controller.poll.Goals as goal
 
@@ -22,7 +22,7 @@ pub returns-in-Byte-clause-goes_on : goal.returns-in-Byte-clause-goes_on
 returns-in-Byte-clause-goes_on g c = λ rest h stands keeps ready may.
     let b = c.in-Byte.byte in
     let kept = c.keep.ensures.kept h keeps (record { polls = may; few = c.byte.ensures.few b c.in-Byte.is rest (port_log h) stands }) in
-    let takes = c.keep.ensures.flags h ready.quiet.flags in
+    let takes = c.keep.ensures.flags h (free_of h ready.quiet) in
     let beat = ap (λ (s : Controller). s.beat) c.keep.ensures.same ∙ c.requires.beat in
     (at_port (took b) ∷ h, c.byte.ensures.byte b c.in-Byte.is rest (port_log h) stands, took_worked c.args.self.now.flags _ b h kept takes ready may beat)
 

@@ -1,28 +1,45 @@
-use Rattle.std.proofs.Common.{◌∷◌, refl, subst}
-use Rattle.board_rules.specs.Steps.{port_log, plan_of, motion_of, given_of}
-use Rattle.controller.specs.Machines.{Runs}
+use Rattle.std.proofs.Common.{◌≡◌, [], ◌∷◌, Some, refl, sym, ap, ◌∙◌, subst}
+use Rattle.step_line.specs.declared.Piece.{Piece}
+use Rattle.board_rules.specs.Steps.{Journal, port_log, published_of, hand_of, plan_of, motion_of, given_of}
 use Rattle.board_rules.specs.Ports.PortStep.{published, no_piece_room}
 use Rattle.board_rules.specs.Steps.Step.{at_port}
+use Rattle.controller.specs.Machines.{Runs}
+use Rattle.controller.specs.declared.controller.Controller.{Controller}
 use Rattle.controller.proofs.Steps.{in_hand, some_in_hand, may_publish, sent, not_sent}
+use Rattle.controller.proofs.Flying.{fits_next, begins_next}
 use Rattle.controller.proofs.controller.Controller.publish.Goals as goal
 
 pub publish-requires : goal.publish-requires
 publish-requires g c =
-    let r = c.requires.stands in let s = c.args.self.now in let p = c.in-Some.piece in
-    (r.0, port_log r.1, r.2, may_publish s r.1 p r.3 (in_hand s r.1 p r.3 c.in-Some.is))
+    let r = c.requires.stands in let s = c.make_room.new.self in let p = c.in-Some.piece in
+    let m = c.make_room.ensures.goes_on r.0 r.1 r.2 r.3 in
+    let hand = ap (λ (b : Controller). b.machine.hand) c.make_room.ensures.same ∙ c.in-Some.is in
+    (r.0, port_log m.0, m.1, may_publish s m.0 p m.2 (in_hand s m.0 p m.2 hand))
 
 pub returns-in_default-publish-clause-goes_on : goal.returns-in_default-publish-clause-goes_on
 returns-in_default-publish-clause-goes_on g c = λ rest h stands k.
-    let full = c.in_default-publish.ensures.full rest (port_log h) stands in
-    let s = c.args.self.now in
-    (at_port (no_piece_room full.0) ∷ h, full.1, not_sent s full.0 h k (some_in_hand s h c.in-Some.piece k c.in-Some.is) full.2, (full.0, refl))
+    let s = c.make_room.new.self in
+    let m = c.make_room.ensures.goes_on rest h stands k in
+    let hand = ap (λ (b : Controller). b.machine.hand) c.make_room.ensures.same ∙ c.in-Some.is in
+    let full = c.in_default-publish.ensures.full rest (port_log m.0) m.1 in
+    (at_port (no_piece_room full.0) ∷ m.0, full.1, not_sent s full.0 m.0 m.2 (some_in_hand s m.0 c.in-Some.piece m.2 hand) full.2, (full.0, m.0, m.3, refl))
+
+pub push-requires-clause-fits : goal.push-requires-clause-fits
+push-requires-clause-fits g c =
+    let r = c.requires.stands in let s = c.make_room.new.self in let p = c.in-Some.piece in
+    let m = c.make_room.ensures.goes_on r.0 r.1 r.2 r.3 in
+    let hand = ap (λ (b : Controller). b.machine.hand) c.make_room.ensures.same ∙ c.in-Some.is in
+    fits_next p m.0 (may_publish s m.0 p m.2 (in_hand s m.0 p m.2 hand)).next
 
 pub returns-clause-goes_on : goal.returns-clause-goes_on
 returns-clause-goes_on g c = λ rest h stands k.
-    let s = c.args.self.now in let p = c.in-Some.piece in
-    let is = in_hand s h p k c.in-Some.is in (
-      at_port (published p) ∷ h,
-      c.in-Ok.ensures.ok rest (port_log h) stands (may_publish s h p k is),
-      sent s _ p h k is (c.drop_hand.ensures (plan_of h) (motion_of h) p (given_of h) (subst (λ ps. Runs s.machine (plan_of h) (motion_of h) ps (given_of h)) is k.machine)),
-      (p, refl),
+    let s = c.make_room.new.self in let p = c.in-Some.piece in
+    let m = c.make_room.ensures.goes_on rest h stands k in
+    let hand = ap (λ (b : Controller). b.machine.hand) c.make_room.ensures.same ∙ c.in-Some.is in
+    let is = in_hand s m.0 p m.2 hand in
+    let runs = c.drop_hand.ensures (plan_of m.0) (motion_of m.0) p (given_of m.0) (subst (λ ps. Runs s.machine (plan_of m.0) (motion_of m.0) ps (given_of m.0)) is m.2.machine) in (
+      at_port (published p) ∷ m.0,
+      c.in-Ok.ensures.ok rest (port_log m.0) m.1 (may_publish s m.0 p m.2 is),
+      sent s c.drop_hand.new.self c.push.new.self p m.0 m.2 is runs (λ known flies. c.push.ensures (published_of m.0) known flies (begins_next s m.0 p m.2 is)),
+      (p, m.0, m.3, refl),
     )

@@ -1,34 +1,82 @@
-use Rattle.std.proofs.Common.{subst, ap, ◌∙◌}
+use Rattle.std.proofs.Common.{◌≡◌, true, false, [], sym, subst, ap, ◌∙◌}
 use Rattle.controller.specs.declared.controller.Controller.{Controller}
-use Rattle.controller.specs.Boards.{Rounds, TakesFlags}
+use Rattle.controller.specs.Boards.{Rounds, TakesFlags, takes_no_word}
 use Rattle.controller.specs.Turning.{HasTried, WorksOn}
-use Rattle.controller.proofs.Ends.{works_on, number_tried, may_try_first, ready_tried, sent}
+use Rattle.controller.proofs.Ends.{works_on, works_passed, number_tried, may_try_first, ready_tried, sent_by, flags_tried, flags_passed}
+use Rattle.controller.proofs.Owing.{none_left, owing_tried}
 use Rattle.controller.proofs.controller.Controller.publish_first.Goals as goal
 
-pub main-requires-clause-stands : goal.main-requires-clause-stands
-main-requires-clause-stands g c =
-    let r = c.requires.stands in
-    let n = c.publish_next.ensures.goes_on r.0 r.1 r.2 r.3.keeps r.5 in
-    (r.0, n.0, n.1, n.2, ready_tried r.1 n.0 (subst (λ b. Rounds b r.1) c.requires.beat r.3.rounds) r.4 (subst (λ f. TakesFlags f r.1) c.requires.flags r.3.flags) (subst (λ b. HasTried b r.1 n.0) c.if-not-publish_next.true n.3))
-
-pub returns-then-not-publish_next-clause-goes_on : goal.returns-then-not-publish_next-clause-goes_on
-returns-then-not-publish_next-clause-goes_on g c = λ rest h stands f between piece.
-    let n = c.publish_next.ensures.goes_on rest h stands f.keeps piece in
-    let ready = ready_tried h n.0 (subst (λ b. Rounds b h) c.requires.beat f.rounds) between (subst (λ w. TakesFlags w h) c.requires.flags f.flags) (subst (λ b. HasTried b h n.0) c.if-not-publish_next.true n.3) in
-    subst (λ f. WorksOn (g.P.BoardPort.stands c.main.new.port rest) c.main.result f c.main.new.self h) (ap (λ (b : Controller). b.flags) c.publish_next.ensures.same)
-    (works_on (g.P.BoardPort.stands c.main.new.port rest) c.main.result c.publish_next.new.self.flags c.main.new.self h n.0 n.3.steps n.3.are
-    (number_tried c.publish_next.new.self.flags c.publish_next.result h n.0 n.3) (c.main.ensures.goes_on rest n.0 n.1 n.2 ready))
-
-pub returns-clause-goes_on : goal.returns-clause-goes_on
-returns-clause-goes_on g c = λ rest h stands f between piece.
-    let n = c.publish_next.ensures.goes_on rest h stands f.keeps piece in
+pub returns-then-published-clause-goes_on : goal.returns-then-published-clause-goes_on
+returns-then-published-clause-goes_on g c = λ rest h stands f between piece.
+    let s = c.args.self.now in
+    let n = c.publish_next-published.ensures.goes_on rest h stands f.keeps piece in
     let m = c.fill.ensures.filled n.0 n.2 in
-    let may = may_try_first h (subst (λ b. Rounds b h) c.requires.beat f.rounds) between (subst (λ w. TakesFlags w h) c.requires.flags f.flags) in
-    let none = ap (λ (b : Controller). b.flags) c.fill.ensures.same ∙ ap (λ (b : Controller). b.flags) c.publish_next.ensures.same ∙ c.requires.flags in
-    (m.0, rw m.2.alone.port n.1, sent _ _ h n.0 m.0 may (subst (λ b. HasTried b h n.0) c.if-not-publish_next.false n.3) m.2 m.1 none)
+    let tried = subst (λ b. HasTried b h n.0) c.if-published.true n.3 in
+    let may = may_try_first s.flags h (subst (λ b. Rounds b h) c.requires.beat f.rounds) between c.requires.flags f.flags in
+    let same = ap (λ (b : Controller). b.flags) c.fill.ensures.same ∙ ap (λ (b : Controller). b.flags) c.publish_next-published.ensures.same in
+    let takes = flags_passed s.flags n.0 m.0 c.requires.flags m.2.alone.passes (flags_tried true s.flags h n.0 c.requires.flags tried f.flags) in (
+      m.0,
+      rw m.2.alone.port n.1,
+      sent_by s.flags c.fill.new.self h n.0 m.0 may tried m.2 m.1 (ap takes_no_word same ∙ c.requires.flags) (subst (λ x. TakesFlags x m.0) (sym same) takes),
+    )
 
-pub fill-requires : goal.fill-requires
-fill-requires g c =
+pub fill-requires-in-Report : goal.fill-requires-in-Report
+fill-requires-in-Report g c =
     let r = c.requires.stands in
-    let n = c.publish_next.ensures.goes_on r.0 r.1 r.2 r.3.keeps r.5 in
+    let n = c.publish_next-published.ensures.goes_on r.0 r.1 r.2 r.3.keeps r.5 in
     (n.0, n.2)
+
+pub report-requires-clause-stands : goal.report-requires-clause-stands
+report-requires-clause-stands g c =
+    let r = c.requires.stands in
+    let n = c.publish_next-published.ensures.goes_on r.0 r.1 r.2 r.3.keeps r.5 in
+    let m = c.fill-in-Report.ensures.filled n.0 n.2 in
+    let same = sym (ap (λ (b : Controller). b.flags) c.publish_next-published.ensures.same) ∙ c.in-Report.is in
+    let asked = subst (λ x. TakesFlags x r.1) same r.3.flags in
+    (r.0, m.0, rw m.2.alone.port n.1, m.1, owing_tried c.in-Report.word r.1 n.0 m.0 (subst (λ b. Rounds b r.1) c.requires.beat r.3.rounds) r.4 asked (subst (λ b. HasTried b r.1 n.0) c.if-published.false n.3) m.2)
+
+pub main-requires : goal.main-requires
+main-requires g c =
+    let r = c.requires.stands in
+    let n = c.publish_next-published.ensures.goes_on r.0 r.1 r.2 r.3.keeps r.5 in
+    let same = ap (λ (b : Controller). b.flags) c.publish_next-published.ensures.same in
+    let none = none_left _ (ap takes_no_word same ∙ c.requires.flags) c.in_default.not-Report in
+    let free = subst (λ x. TakesFlags x r.1) (sym same ∙ none) r.3.flags in
+    let tried = subst (λ b. HasTried b r.1 n.0) c.if-published.false n.3 in
+    record {
+      stands = (r.0, n.0, n.1, n.2, ready_tried r.1 n.0 (subst (λ b. Rounds b r.1) c.requires.beat r.3.rounds) r.4 free tried);
+      «open» = subst (λ (b : Controller). b.lines.left ≡ [] → b.closing ≡ false) (sym c.publish_next-published.ensures.same) c.requires.open;
+      beat = ap (λ (b : Controller). b.beat) c.publish_next-published.ensures.same ∙ c.requires.beat;
+      flags = none;
+    }
+
+pub returns-in-Report-clause-goes_on : goal.returns-in-Report-clause-goes_on
+returns-in-Report-clause-goes_on g c = λ rest h stands f between piece.
+    let s = c.args.self.now in
+    let n = c.publish_next-published.ensures.goes_on rest h stands f.keeps piece in
+    let m = c.fill-in-Report.ensures.filled n.0 n.2 in
+    let same = sym (ap (λ (b : Controller). b.flags) c.publish_next-published.ensures.same) ∙ c.in-Report.is in
+    let asked = subst (λ x. TakesFlags x h) same f.flags in
+    let tried = subst (λ b. HasTried b h n.0) c.if-published.false n.3 in
+    let owing = owing_tried c.in-Report.word h n.0 m.0 (subst (λ b. Rounds b h) c.requires.beat f.rounds) between asked tried m.2 in
+    let old = g.P.BoardPort.stands c.report.new.port rest in
+    works_on old c.report.result s.flags c.report.new.self h n.0 tried.steps tried.are (number_tried s.flags false h n.0 tried)
+    (works_passed old c.report.result s.flags c.report.new.self n.0 m.0 m.2.alone.passes (c.report.ensures.goes_on rest m.0 s.flags (rw m.2.alone.port n.1) m.1 owing))
+
+pub returns : goal.returns
+returns g c =
+    let s = c.args.self.now in
+    let same = ap (λ (b : Controller). b.flags) c.publish_next-published.ensures.same in
+    let none = none_left _ (ap takes_no_word same ∙ c.requires.flags) c.in_default.not-Report in
+    record {
+      goes_on = λ rest h stands f between piece.
+          (let n = c.publish_next-published.ensures.goes_on rest h stands f.keeps piece in
+          let free = subst (λ x. TakesFlags x h) (sym same ∙ none) f.flags in
+          let tried = subst (λ b. HasTried b h n.0) c.if-published.false n.3 in
+          let ready = ready_tried h n.0 (subst (λ b. Rounds b h) c.requires.beat f.rounds) between free tried in
+          let was = c.publish_next-published.new.self.flags in
+          let old = g.P.BoardPort.stands c.main.new.port rest in
+          subst (λ x. WorksOn old c.main.result x c.main.new.self h) same
+          (works_on old c.main.result was c.main.new.self h n.0 tried.steps tried.are (number_tried was false h n.0 tried) (c.main.ensures.goes_on rest n.0 n.1 n.2 ready)));
+      going = c.main.ensures.going;
+    }

@@ -1,7 +1,7 @@
 use Rattle.std.proofs.Common.{ap, subst, ◌∙◌}
 use Rattle.controller.specs.declared.controller.Controller.{Controller}
 use Rattle.controller.specs.Turning.{HasTried}
-use Rattle.controller.proofs.Ends.{may_try, sent, handed_back}
+use Rattle.controller.proofs.Ends.{may_try, sent, handed_back, free_of}
 use Rattle.controller.proofs.controller.Controller.run.Goals as goal
 
 pub returns-then-not-published-clause-goes_on : goal.returns-then-not-published-clause-goes_on
@@ -19,7 +19,7 @@ returns-clause-goes_on g c rest h stands k may has =
     let n = c.fill.ensures.filled m.0 m.2 in
     let none = ap (λ (x : Controller). x.flags) c.fill.ensures.same ∙ ap (λ (x : Controller). x.flags) c.publish_next-published.ensures.same ∙ c.requires.flags in
     let tried = subst (λ b. HasTried b h m.0) c.if-not-published.false m.3 in
-    (n.0, rw n.2.alone.port m.1, sent _ _ h m.0 n.0 (may_try h may) tried n.2 n.1 none)
+    (n.0, rw n.2.alone.port m.1, sent _ _ h m.0 n.0 (may_try h may) (free_of h may.quiet) tried n.2 n.1 none)
 
 pub fill-requires : goal.fill-requires
 fill-requires g c =

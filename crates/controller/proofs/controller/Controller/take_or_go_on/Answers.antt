@@ -1,7 +1,8 @@
-use Rattle.std.proofs.Common.{refl, ap}
+use Rattle.std.proofs.Common.{refl, ap, subst}
 use Rattle.controller.specs.declared.controller.Controller.{Controller}
 use Rattle.controller.specs.declared.controller.Flags.TheVariants as words
-use Rattle.controller.specs.Turning.{obeyed, replanned}
+use Rattle.controller.specs.Boards.{TakesFlags}
+use Rattle.controller.specs.Turning.{asked, replanned}
 use Rattle.controller.proofs.Steps.{other_flags}
 use Rattle.controller.proofs.Words.{took_changes, took_requests}
 use Rattle.controller.proofs.controller.Controller.take_or_go_on.Goals as goal
@@ -16,12 +17,15 @@ returns-in-Both-clause-goes_on g c rest h stands f between =
           (ap (λ (b : Controller). b.beat) c.take_changes.ensures.same) refl,
     )
 
+pub take_requests-requires : goal.take_requests-requires
+take_requests-requires g c =
+    let r = c.requires.stands in
+    record { stands = (r.0, r.1, r.2, r.3.keeps, (subst (λ x. TakesFlags x r.1) c.in-Requests.is r.3.flags).obeyed) }
+
 pub returns-in-Requests-clause-goes_on : goal.returns-in-Requests-clause-goes_on
 returns-in-Requests-clause-goes_on g c rest h stands f between =
-    let n = c.take_requests.ensures.goes_on rest h stands f.keeps in
-    let next = obeyed n.0 n.1 in (
-      next,
+    let n = c.take_requests.ensures.goes_on rest h stands f.keeps (subst (λ x. TakesFlags x h) c.in-Requests.is f.flags).obeyed in (
+      asked n.0 n.1,
       n.3,
-      took_requests c.args.self.now (record c.take_requests.new.self { flags = words.None }) n.0 h n.1 f between c.in-Requests.is n.2 (other_flags c.take_requests.new.self words.None next n.4)
-          (ap (λ (b : Controller). b.beat) c.take_requests.ensures.same) refl,
+      took_requests c.args.self.now c.take_requests.new.self n.0 h n.1 f between c.in-Requests.is n.2 n.4 (ap (λ (b : Controller). b.beat) c.take_requests.ensures.same) n.5,
     )

@@ -1,4 +1,4 @@
-use Rattle.std.proofs.Common.{[], ◌∷◌, inl, refl, ap, ◌∙◌, arith}
+use Rattle.std.proofs.Common.{[], ◌∷◌, inl, refl, sym, ap, ◌∙◌, arith}
 use Rattle.run_rules.specs.Work.Task.{tell}
 use Rattle.board_rules.specs.Steps.{port_log}
 use Rattle.board_rules.specs.Turns.{this_turn}
@@ -7,7 +7,9 @@ use Rattle.board_rules.specs.Ports.PortStep.{answered, no_reply_room}
 use Rattle.controller.specs.declared.controller.Controller.{Controller}
 use Rattle.controller.proofs.Steps.{is_next, may_answer, told, hand_empty, hand_left}
 use Rattle.controller.proofs.Tries.{publishes_one, worked_behind}
-use Rattle.controller.proofs.Ends.{did_filled, may_run, takes_none}
+use Rattle.controller.specs.Boards.{IsFree}
+use Rattle.controller.proofs.Known.{said_plain}
+use Rattle.controller.proofs.Ends.{did_filled, may_run, takes_none, free_of, free_passed}
 use Rattle.controller.proofs.Nexts.{few_working, told_later, some_next}
 use Rattle.controller.proofs.controller.Controller.tell.Goals as goal
 
@@ -51,7 +53,7 @@ fill-requires g c =
     let s = c.args.self.now in
     let reply = c.reply-reply.result in
     let next = is_next s r.1 (tell reply) r.3 c.reply-reply.ensures.next in
-    (at_port (answered reply) ∷ r.1, told s _ reply r.1 r.3 next (λ bye. hand_empty s r.1 r.3 (c.if-holds_back.ensures.no refl bye)) c.done.ensures)
+    (at_port (answered reply) ∷ r.1, told s _ reply r.1 r.3 next c.reply-reply.ensures.plain r.4.quiet.unowed (λ bye. hand_empty s r.1 r.3 (c.if-holds_back.ensures.no refl bye)) c.done.ensures)
 
 pub returns-clause-goes_on : goal.returns-clause-goes_on
 returns-clause-goes_on g c = λ rest h stands keeps ready.
@@ -59,14 +61,17 @@ returns-clause-goes_on g c = λ rest h stands keeps ready.
     let r = c.reply-reply.result in
     let next = is_next s h (tell r) keeps c.reply-reply.ensures.next in
     let mid = at_port (answered r) ∷ h in
-    let now = told s _ r h keeps next (λ bye. hand_empty s h keeps (c.if-holds_back.ensures.no refl bye)) c.done.ensures in
+    let now = told s _ r h keeps next c.reply-reply.ensures.plain ready.quiet.unowed (λ bye. hand_empty s h keeps (c.if-holds_back.ensures.no refl bye)) c.done.ensures in
+    let said_is = said_plain r c.reply-reply.ensures.plain in
     let stood = c.in-Ok.ensures.ok rest (port_log h) stands (may_answer s h r keeps next c.reply-reply.ensures.valid) in
+    let free = free_of h ready.quiet in
+    let freed : IsFree mid = record { flags = free.flags; obeyed = free.obeyed; unowed = free.unowed } in
     let n = c.fill.ensures.filled mid now in
     let few = few_working keeps.first h keeps.conducted ready (some_next h (tell r) next) in
     let one = publishes_one (at_port (answered r)) (this_turn h) refl in
     let quiet = ready.quiet.quiet in
-    let worked = worked_behind (at_port (answered r)) h mid refl (record { no_requests = refl; none_obeyed = refl; no_changes = refl; none_planned = refl }) ready.quiet.worked in
+    let worked = worked_behind (at_port (answered r)) h mid refl (record { no_changes = refl; none_planned = refl }) refl refl ready.quiet.worked in
     let beat = ap (λ (b : Controller). b.beat) c.fill.ensures.same ∙ c.requires.beat in
     let none = ap (λ (b : Controller). b.flags) c.fill.ensures.same ∙ c.requires.flags in
-    let taken = takes_none c.fill.new.self n.0 none (n.2.alone.passes.flags ∙ ready.quiet.flags) in
-    (n.0, rw n.2.alone.port stood, did_filled _ _ h mid n.0 (at_port (answered r) ∷ []) refl n.1 beat taken n.2 worked (omega (arith, one, quiet)) ready.unpolled few (inl (n.2.alone.passes.moves refl)))
+    let taken = takes_none c.fill.new.self n.0 none (free_passed mid n.0 n.2.alone.passes freed) in
+    (n.0, rw (n.2.alone.port, sym said_is) stood, did_filled _ _ h mid n.0 (at_port (answered r) ∷ []) refl n.1 beat taken n.2 worked (omega (arith, one, quiet)) ready.unpolled few (inl (n.2.alone.passes.moves refl)))

@@ -1,4 +1,4 @@
-use Rattle.std.proofs.Common.{[], false, rules}
+use Rattle.std.proofs.Common.{[], rules}
 use Rattle.link_ports.proofs.Boarding.{may_answer}
 use Rattle.link_ports.proofs.board.BoardLinkBoardPort.answer.Goals as goal
 

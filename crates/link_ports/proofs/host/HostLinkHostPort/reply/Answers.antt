@@ -1,5 +1,4 @@
-use Rattle.std.proofs.Common.{[], false, ◌∙◌, ap}
-use Rattle.serial_ring.specs.Ends.{stored_by, got_by}
+use Rattle.std.proofs.Common.{[], false}
 use Rattle.link_ports.proofs.Hosting.{answers_lines, both_some}
 use Rattle.link_ports.proofs.host.HostLinkHostPort.reply.Goals as goal
 

@@ -3,9 +3,9 @@ use Rattle.stream_host.proofs.Hosting.{takes_raise, raised_byte}
 use Rattle.stream_host.proofs.host.Host.raise.Goals as goal
 
 pub raise-requires : goal.raise-requires
-raise-requires g c = let r = c.requires.stands in (r.0, port_log r.1, r.2, takes_raise c.args.self.now c.args.byte r.1 r.3 c.requires.due)
+raise-requires g c = let r = c.requires.stands in (r.0, port_log r.1, r.2, takes_raise c.args.byte r.1 r.3.conducted)
 
 pub returns-clause-raised : goal.returns-clause-raised
 returns-clause-raised g c = λ rest h stands f.
-    let t = c.raise.ensures.raised rest (port_log h) stands (takes_raise c.args.self.now c.args.byte h f c.requires.due) in
-    (t.0, t.1, raised_byte c.args.self.now c.args.byte t.0 h f c.requires.due)
+    let t = c.raise.ensures.raised rest (port_log h) stands (takes_raise c.args.byte h f.conducted) in
+    (t.0, t.1, raised_byte c.args.self.now c.args.byte t.0 _ h f c.requires.due (c.requires.after h f) c.raised-self.ensures)

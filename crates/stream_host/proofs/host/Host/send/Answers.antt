@@ -1,7 +1,10 @@
-use Rattle.std.proofs.Common.{◌∷◌, refl}
+use Rattle.std.proofs.Common.{◌≡◌, ◌≤◌, false, ◌∷◌, refl, sym, ◌∙◌}
+use Rattle.code_table.specs.Tables.{query}
+use Rattle.stream_host.specs.Steps.{awaits_report}
+use Rattle.stream_host.specs.Conduct.{AreAnswered}
 use Rattle.stream_host.specs.Steps.PortStep.{stored, raised, shut}
 use Rattle.stream_host.specs.Steps.Step.{at_port}
-use Rattle.stream_host.proofs.Turns.{did_alone, did_at_port, few_stored_now, few_raised_now, few_shut_now, tells_stored, tells_raised, tells_shut, tells_same, waits_for_room, waits_shut}
+use Rattle.stream_host.proofs.Turns.{did_alone, did_at_port, few_stored_now, few_raised_now, few_shut_now, tells_stored, tells_raised, tells_shut, tells_same, waits_early, waits_held_back, waits_shut}
 use Rattle.stream_host.proofs.host.Host.send.Goals as goal
 
 pub returns-in-Some-clause-goes_on : goal.returns-in-Some-clause-goes_on
@@ -13,9 +16,15 @@ returns-in-Some-clause-goes_on g c = λ rest h stands f polled.
       λ console. tells_raised c.args.self.now _ b t.0 h _ console c.raise.ensures.text,
     )
 
-pub returns-then-self-gt-RECEIVE_ROOM-clause-goes_on : goal.returns-then-self-gt-RECEIVE_ROOM-clause-goes_on
-returns-then-self-gt-RECEIVE_ROOM-clause-goes_on g c = λ rest h stands f polled.
-    (h, stands, waits_for_room c.args.self.now h f polled c.requires.shown c.in_default.is c.if-self.true c.if-self-gt-RECEIVE_ROOM.true, λ console. tells_same c.args.self.now h _ console)
+pub returns-then-is_early-clause-goes_on : goal.returns-then-is_early-clause-goes_on
+returns-then-is_early-clause-goes_on g c = λ rest h stands f polled.
+    let early : (c.in-Some.byte ≡ query → AreAnswered h) → ⊥ = (λ after. absurd (let e = sym c.if-is_early.true ∙ (c.is_early.ensures h f).1 after in cc)) in
+    (h, stands, waits_early c.args.self.now c.in-Some.byte h f polled c.requires.shown c.in-Some.is early, λ console. tells_same c.args.self.now h _ console)
+
+pub returns-then-is_held_back-clause-goes_on : goal.returns-then-is_held_back-clause-goes_on
+returns-then-is_held_back-clause-goes_on g c = λ rest h stands f polled.
+    let held : (awaits_report h ≡ false) × (c.args.self.now.counts.unanswered.total ≤ 128) → ⊥ = (λ free. absurd (let e = sym c.if-is_held_back.true ∙ (c.is_held_back.ensures h f).1 free in cc)) in
+    (h, stands, waits_held_back c.args.self.now h f polled c.requires.shown c.in_default.is c.if-self.true held, λ console. tells_same c.args.self.now h _ console)
 
 pub returns-then-self-clause-goes_on : goal.returns-then-self-clause-goes_on
 returns-then-self-clause-goes_on g c = λ rest h stands f polled.

@@ -2,7 +2,7 @@ use Rattle.std.proofs.Common.{refl, ◌≡◌, ◌++◌, ◌∷◌, [], ap, ◌�
 use Rattle.gcode_words.specs.Stripping.{plain, kept_by}
 use Rattle.gcode_words.proofs.Fed.{not_kept}
 use Rattle.stream_host.proofs.Kept.{begun_more}
-use Rattle.stream_host.proofs.Raising.{due_more}
+use Rattle.stream_host.proofs.Raising.{due_more, reset_more}
 use Rattle.stream_host.proofs.line.SentLine.feed.Goals as goal
 
 pub returns-in-Keep-clause-fed : goal.returns-in-Keep-clause-fed
@@ -14,6 +14,7 @@ returns-in-Keep-clause-fed c = λ bytes was.
       stripper = c.keep.ensures.stripper ∙ fed.comment bytes c.requires.text was.stripper;
       kept = rw more (c.keep.ensures.kept (plain bytes) was.kept);
       long = rw more (c.keep.ensures.long (plain bytes) was.kept was.long);
+      reset = c.keep.ensures.reset ∙ reset_more bytes c.args.byte c.feed-stripped.result _ _ (fed.taken bytes c.requires.text was.stripper) was.reset c.is_reset.ensures;
       begun = c.keep.ensures.begun ∙ begun_more bytes c.args.byte;
     }
 
@@ -31,6 +32,7 @@ returns-in_default c = record {
         stripper = fed.comment bytes c.requires.text was.stripper;
         kept = rw same was.kept;
         long = rw same was.long;
+        reset = reset_more bytes c.args.byte c.feed-stripped.result _ _ (fed.taken bytes c.requires.text was.stripper) was.reset c.is_reset.ensures;
         begun = begun_more bytes c.args.byte;
       };
   due = λ bytes was. due_more bytes c.args.byte c.feed-stripped.result c.due_in-self.result (c.feed-stripped.ensures.taken bytes c.requires.text was.stripper) c.due_in-self.ensures;

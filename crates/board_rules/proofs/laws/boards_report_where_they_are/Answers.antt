@@ -1,0 +1,12 @@
+use Rattle.board_rules.proofs.Owing.{owes_few}
+use Rattle.board_rules.proofs.Reporting.{reported_is}
+use Rattle.board_rules.proofs.laws.boards_report_where_they_are.Goals as goal
+
+pub returns-clause-fits : goal.returns-clause-fits
+returns-clause-fits c = reported_is
+
+pub returns-clause-few : goal.returns-clause-few
+returns-clause-few c = owes_few
+
+pub returns-clause-told : goal.returns-clause-told
+returns-clause-told c = λ first h r d. (d.0.load, (d.0.idle, (d.0.stopped, d.0.room)))

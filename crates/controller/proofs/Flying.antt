@@ -1,0 +1,49 @@
+-- The flight of a board, which knows the pieces that were published.
+use Rattle.std.proofs.Common.{◌≡◌, ℕ, ◌≤◌, ◌<◌, List, [], ◌∷◌, ◌++◌, reverse, max, min, refl, subst, arith}
+use Rattle.step_line.specs.declared.Piece.{Piece}
+use Rattle.step_line.specs.declared.Piece.TheVariants as pieces
+use Rattle.step_line.specs.Finishing.{ticks_together}
+use Rattle.step_line.specs.Ordering.{ComesNext}
+use Rattle.flight.specs.Flights.{Flying, Flies, IsFit, BeginsAt}
+use Rattle.flight.specs.Places.{end_of}
+use Rattle.board_rules.specs.Ports.{MayBeDone}
+use Rattle.board_rules.specs.Ports.PortStep.{loaded}
+use Rattle.board_rules.specs.Steps.{Journal, port_log, published_of, known_of, hand_of}
+use Rattle.board_rules.specs.Steps.Step.{at_port}
+use Rattle.board_rules.proofs.Placing.{next_begins}
+use Rattle.controller.specs.declared.controller.Controller.{Controller}
+use Rattle.controller.specs.Boards.{Keeps, IsFlown}
+
+-- a piece that comes next can be traced
+pub fits_next : (p : Piece) (h : Journal) → ComesNext (reverse (published_of h)) p → IsFit p
+fits_next (pieces.Segment s) h next = next.follows.0
+fits_next (pieces.Mark m) h next = tt
+fits_next pieces.End h next = tt
+
+-- it begins where the flight leads
+pub begins_next : (b : Controller) (h : Journal) (p : Piece) → Keeps b h → hand_of h ≡ p ∷ [] → BeginsAt (end_of (published_of h)) p
+begins_next b h p k is = next_begins k.first h k.opening k.conducted p (rw is refl)
+
+no_more : (a b c d : ℕ) → a ≤ d → d ≤ b → max a (min b c) ≤ b
+no_more a b c d e f = grind (arith, e, f)
+
+exactly : (a b c d : ℕ) → a ≤ d → d ≤ b → b ≤ c → max a (min b c) ≡ b
+exactly a b c d e f g = grind (arith, e, f, g)
+
+-- a flight that learns how many ticks are done
+pub learned : (b : Controller) (f : Flying) (h : Journal) (done : ℕ) → Keeps b h → MayBeDone done (port_log h)
+    → ((published : List Piece) (known : ℕ) → Flies b.flight published known → Flies f published (max known (min done (ticks_together published))))
+    → IsFlown f (at_port (loaded done) ∷ h)
+learned b f h done k may learns = record {
+  known = max k.flight.known (min done (ticks_together (published_of h)));
+  found = no_more k.flight.known done (ticks_together (published_of h)) (known_of h) k.flight.found may.later;
+  flies = learns (published_of h) k.flight.known k.flight.flies;
+}
+
+-- it then knows exactly what was found done
+pub learned_all : (b : Controller) (f : Flying) (h : Journal) (done : ℕ) → Keeps b h → MayBeDone done (port_log h)
+    → ((published : List Piece) (known : ℕ) → Flies b.flight published known → Flies f published (max known (min done (ticks_together published))))
+    → Flies f (published_of h) done
+learned_all b f h done k may learns =
+    subst (λ n. Flies f (published_of h) n) (exactly k.flight.known done (ticks_together (published_of h)) (known_of h) k.flight.found may.later may.below)
+    (learns (published_of h) k.flight.known k.flight.flies)

@@ -1,0 +1,118 @@
+-- What is known of a board that keeps its journal.
+use Rattle.std.proofs.Common.{◌≡◌, ◌<◌, ◌^◌, ◌⊎◌, inl, inr, List, [], ◌∷◌, drop, true, false, Some, None, sym, refl, ap, ◌∙◌, subst, arith}
+use Rattle.std.specs.Option.{option_to_list, is_some}
+use Rattle.std.specs.declared.option.Option.{Option}
+use Rattle.feed_hold.specs.declared.Motion.TheVariants as motions
+use Rattle.run_rules.specs.Work.{Task}
+use Rattle.run_rules.specs.Work.Task.{tell}
+use Rattle.status_report.specs.declared.Reply.{Reply}
+use Rattle.status_report.specs.declared.Reply.TheVariants as replies
+use Rattle.status_report.specs.Answering.{is_report}
+use Rattle.status_report.specs.declared.reports.Report.{Report}
+use Rattle.status_report.specs.Reports.{IsReport}
+use Rattle.board_rules.specs.Ports.{said}
+use Rattle.board_rules.specs.Ports.PortStep.{answered}
+use Rattle.status_report.specs.Replies.{IsReply}
+use Rattle.step_line.specs.declared.Piece.{Piece}
+use Rattle.overrides.specs.Percents.{IsOverrides}
+use Rattle.plan_passes.specs.Plans.{Planned}
+use Rattle.planner_runs.specs.Runs.{IsAtRest, most_blocks, fresh_plan}
+use Rattle.planner_runs.proofs.Runs.{fresh_starts, rests_behind, reached_from}
+use Rattle.line_interpreter.specs.Lefts.{IsNextOf}
+use Rattle.board_rules.specs.Ports.{MayAnswer, MayPublish}
+use Rattle.board_rules.specs.Ports.PortStep.{answered, published}
+use Rattle.board_rules.specs.Steps.{Journal, port_log, hand_of, plan_of, motion_of, planned_of, actions_of}
+use Rattle.board_rules.specs.Turns.{is_due, has_segment}
+use Rattle.board_rules.specs.Conduct.{IsNextTask, IsInHand}
+use Rattle.board_rules.proofs.Keeping.{run_is}
+use Rattle.board_rules.proofs.Ending.{next_turns}
+use Rattle.board_rules.proofs.Motions.{motion_is}
+use Rattle.board_rules.proofs.Limits.{few_given, few_next, few_answered}
+use Rattle.board_rules.proofs.Answering.{answer_is_due}
+use Rattle.controller.specs.declared.controller.Controller.{Controller}
+use Rattle.controller.specs.Boards.{Keeps}
+use Rattle.controller.specs.Turning.{HasPiece}
+
+-- what is next of what is left, is next of the journal's tasks
+pub is_next : (c : Controller) (h : Journal) (t : Task) → Keeps c h → IsNextOf t c.lines.left → IsNextTask t h
+is_next c h t k e = subst (λ ts. IsNextOf t ts) k.lines.left_is e
+
+pub hand_empty : (c : Controller) (h : Journal) → Keeps c h → c.machine.hand ≡ None → hand_of h ≡ []
+hand_empty c h k e = sym k.machine.hand_is ∙ ap (λ o. option_to_list o) e
+
+pub none_by_test : {A : Type 0} (o : Option A) → is_some o ≡ false → o ≡ None
+none_by_test None e = refl
+none_by_test (Some x) e = absurd cc
+
+pub in_hand : (c : Controller) (h : Journal) (p : Piece) → Keeps c h → c.machine.hand ≡ Some p → hand_of h ≡ p ∷ []
+in_hand c h p k e = sym k.machine.hand_is ∙ ap (λ o. option_to_list o) e
+
+pub some_in_hand : (c : Controller) (h : Journal) (p : Piece) → Keeps c h → c.machine.hand ≡ Some p → hand_of h ≡ [] → ⊥
+some_in_hand c h p k e none = let x = sym (in_hand c h p k e) ∙ none in absurd cc
+
+pub hand_left : (c : Controller) (h : Journal) → Keeps c h → (c.machine.hand ≡ None → ⊥) → hand_of h ≡ [] → ⊥
+hand_left c h k some none = by_hand c.machine.hand refl
+  where
+    by_hand : (o : Option Piece) → c.machine.hand ≡ o → ⊥
+    by_hand None e = some e
+    by_hand (Some p) e = some_in_hand c h p k e none
+
+-- there is one piece at most
+pub one_in_hand : (c : Controller) (h : Journal) → Keeps c h → drop 1 (hand_of h) ≡ []
+one_in_hand c h k = subst (λ (ps : List Piece). drop 1 ps ≡ []) k.machine.hand_is (by_hand c.machine.hand)
+  where
+    by_hand : (o : Option Piece) → drop 1 (option_to_list o) ≡ []
+    by_hand None = refl
+    by_hand (Some p) = refl
+
+pub hand_of_one : (c : Controller) (h : Journal) (p : Piece) → Keeps c h → hand_of h ≡ p ∷ [] → c.machine.hand ≡ None → ⊥
+hand_of_one c h p k is none = let x = sym (hand_empty c h k none) ∙ is in absurd cc
+
+-- the machine runs, or slows down to a stop, where a segment is due
+pub due_moves : (c : Controller) (h : Journal) → Keeps c h → is_due h ≡ true → (motion_of h ≡ motions.Run) ⊎ (motion_of h ≡ motions.Holding)
+due_moves c h k due = by_motion (motion_is k.first h k.conducted)
+  where
+    by_motion : (motion_of h ≡ motions.Idle) ⊎ ((motion_of h ≡ motions.Run) ⊎ ((motion_of h ≡ motions.Holding) ⊎ (motion_of h ≡ motions.Held)))
+        → (motion_of h ≡ motions.Run) ⊎ (motion_of h ≡ motions.Holding)
+    by_motion (inl idle) = absurd (let x : false ≡ true = ap (λ now. has_segment now (plan_of h)) (sym idle) ∙ due in cc)
+    by_motion (inr (inl run)) = inl run
+    by_motion (inr (inr (inl holding))) = inr holding
+    by_motion (inr (inr (inr held))) = absurd (let x : false ≡ true = ap (λ now. has_segment now (plan_of h)) (sym held) ∙ due in cc)
+
+-- where no piece is in hand, a segment is due
+pub due_now : (c : Controller) (h : Journal) → Keeps c h → HasPiece h → c.machine.hand ≡ None → is_due h ≡ true
+due_now c h k (inl some) none = absurd (some (hand_empty c h k none))
+due_now c h k (inr due) none = due
+
+-- where no block stands nothing is left to run
+pub at_rest : (c : Controller) (h : Journal) → Keeps c h → (plan_of h).blocks ≡ [] → IsAtRest (plan_of h)
+at_rest c h k none = (rests_behind most_blocks fresh_plan (plan_of h) (actions_of h) (planned_of h) fresh_starts (run_is k.first h k.conducted) none).rest
+
+pub few_ticks : (c : Controller) (h : Journal) → Keeps c h → c.machine.given < 2 ^ 62
+few_ticks c h k = subst (λ n. n < 2 ^ 62) (sym k.machine.given_is) (few_given k.first h k.conducted)
+
+pub in_range : (c : Controller) (h : Journal) → Keeps c h → IsOverrides c.machine.overrides
+in_range c h k =
+    subst IsOverrides k.machine.same (reached_from most_blocks fresh_plan (plan_of h) (actions_of h) (planned_of h) fresh_starts (run_is k.first h k.conducted)).overrides
+
+pub same_overrides : (c : Controller) (h : Journal) → Keeps c h → c.machine.plan.overrides ≡ c.machine.overrides
+same_overrides c h k = ap (λ (p : Planned). p.overrides) k.machine.plan_is ∙ k.machine.same
+
+-- the piece in hand may be published
+pub may_publish : (c : Controller) (h : Journal) (p : Piece) → Keeps c h → hand_of h ≡ p ∷ [] → MayPublish (port_log h) p
+may_publish c h p k is =
+    let next : IsInHand p h = is ∙ ap (λ (ps : List Piece). p ∷ drop 1 ps) (sym is) in
+    record { next = next_turns k.first h p k.conducted next; few = few_next k.first h p k.conducted next }
+
+-- the reply that is next may be answered
+pub may_answer : (c : Controller) (h : Journal) (r : Reply) → Keeps c h → IsNextTask (tell r) h → IsReply r → MayAnswer (port_log h) r
+may_answer c h r k next text = record { line = λ e. answer_is_due k.first h r k.conducted next e; text = text; few = few_answered k.first h k.conducted }
+
+-- a reply that is no report is answered as such
+pub said_plain : (r : Reply) → is_report r ≡ false → said r ≡ answered r
+said_plain (replies.Report r) none = absurd cc
+said_plain r none = refl
+
+-- a report may be answered
+pub may_answer_report : (c : Controller) (h : Journal) (r : Report) → Keeps c h → IsReport r → MayAnswer (port_log h) (replies.Report r)
+may_answer_report c h r k text = record { line = λ e. absurd cc; text = text; few = few_answered k.first h k.conducted }

@@ -1,0 +1,65 @@
+-- A report that is owed is told next: where a piece that was tried first was handed back, and where no piece comes first.
+use Rattle.std.proofs.Common.{◌≡◌, inr, Bool, true, false, [], sym, refl, ap, ◌∙◌, subst, arith}
+use Rattle.std.specs.declared.option.Option.{Option}
+use Rattle.code_table.specs.declared.flags.Exec.{Exec}
+use Rattle.run_rules.specs.declared.State.{State}
+use Rattle.board_rules.specs.Steps.{Journal, whole_of}
+use Rattle.board_rules.specs.Turns.{passing, found_none, is_due, waits_of}
+use Rattle.board_rules.specs.Conduct.{Conducted}
+use Rattle.board_rules.proofs.Waiting.{adds}
+use Rattle.units.specs.Truths.{one_if}
+use Rattle.controller.specs.declared.controller.Flags.{Flags}
+use Rattle.controller.specs.declared.controller.Flags.TheVariants as words
+use Rattle.controller.specs.declared.controller.Beat.{Beat}
+use Rattle.controller.specs.declared.controller.Beat.TheVariants.{Motion, Main}
+use Rattle.controller.specs.Boards.{Rounds, IsBetween, IsAsked, TakesFlags, takes_no_word}
+use Rattle.controller.specs.Turning.{HasPiece, HasFilled, HasTried}
+use Rattle.controller.specs.Reporting.{IsToReport}
+use Rattle.controller.proofs.Facts.{uncounted_owing}
+use Rattle.controller.proofs.Ends.{none_between, count_between, none_worked}
+
+-- ---- which words are left
+
+-- where no word of flags is to be taken, and no report is told, none is left
+pub none_left : (f : Flags) → takes_no_word f ≡ true → ((word : Option Exec) → f ≡ words.Report word → ⊥) → f ≡ words.None
+none_left words.Both none no_report = absurd cc
+none_left words.Requests none no_report = absurd cc
+none_left (words.Report word) none no_report = absurd (no_report word refl)
+none_left words.None none no_report = refl
+
+-- ---- a report that is owed
+
+-- what was tried first was handed back, and moves were added
+pub owing_tried : (word : Option Exec) (h mid next : Journal) → Rounds Motion h → IsBetween h → IsAsked word h → HasTried false h mid → HasFilled mid next → IsToReport word next
+owing_tried word h mid next r between asked tried filled =
+    let a = filled.alone.passes in
+    let w = ap one_if (a.whole ∙ tried.whole) in
+    record {
+      still = a.still ∙ tried.still refl ∙ none_between h passing between;
+      quiet = (let b = a.quiet in let q = tried.quiet in let c = count_between h between in omega (arith, b, q, c));
+      worked = a.worked (tried.worked (none_worked h between (λ e. absurd (let f = sym asked.owed ∙ e in cc))));
+      asked = record { flags = a.flags ∙ tried.flags ∙ asked.flags; next = a.words ∙ tried.words ∙ asked.next; owed = a.owed ∙ tried.owed ∙ asked.owed };
+      unpolled = a.polled ∙ tried.polled ∙ none_between h found_none between;
+      tried = λ due. a.waits ∙ tried.waits;
+      none_waits = filled.none_waits;
+      adds = filled.adds;
+      tries = (let t = a.tries in let f = tried.later (uncounted_owing h asked.owed) in let o = r.owed asked.owed in omega (arith, t, f, o, w));
+    }
+
+-- no piece comes first
+pub owing_now : (first : State) (beat : Beat) (word : Option Exec) (h : Journal) → Conducted first h → Rounds beat h → IsBetween h → IsAsked word h → (beat ≡ Motion → HasPiece h → ⊥) → IsToReport word h
+owing_now first beat word h c r between asked none = record {
+  still = none_between h passing between;
+  quiet = count_between h between;
+  worked = none_worked h between (λ e. absurd (let f = sym asked.owed ∙ e in cc));
+  asked = asked;
+  unpolled = none_between h found_none between;
+  tried = λ due. by_beat beat r none due;
+  none_waits = r.none_waits;
+  adds = λ m next. adds first h m c between next;
+  tries = r.owed asked.owed;
+}
+  where
+    by_beat : (b : Beat) → Rounds b h → (b ≡ Motion → HasPiece h → ⊥) → is_due h ≡ true → waits_of h ≡ []
+    by_beat Main rounds no_piece due = rounds.waits refl
+    by_beat Motion rounds no_piece due = absurd (no_piece refl (inr due))

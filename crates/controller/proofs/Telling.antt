@@ -1,0 +1,297 @@
+-- It is looked how many ticks are done before a report is told, and the room is asked for.
+use Rattle.std.proofs.Common.{◌≡◌, ℕ, ◌+◌, ◌≤◌, ◌⊎◌, inl, inr, Bool, true, false, ◌||◌, cond, not, nat_eq, List, [], ◌∷◌, length, max, min, Some, None, sym, refl, ap, ◌∙◌, subst, arith, length-append}
+use Rattle.std.specs.declared.option.Option.{Option}
+use Rattle.std.proofs.lemmas.Bool.Decides.{nat_tests}
+use Rattle.std.specs.List.{list_any}
+use Rattle.code_table.specs.declared.flags.Exec.{Exec}
+use Rattle.feed_hold.specs.declared.Motion.{Motion as AnyMotion}
+use Rattle.feed_hold.specs.declared.Motion.TheVariants as motions
+use Rattle.feed_hold.specs.Motions.{after_word}
+use Rattle.feed_hold.specs.Motions.Call.{on_stopped, on_drained}
+use Rattle.flight.specs.Flights.{Flying, Flies}
+use Rattle.plan_passes.specs.Plans.{Planned, entered}
+use Rattle.plan_passes.specs.Blocks as blocks
+use Rattle.plan_passes.specs.Segments.{moved, advanced}
+use Rattle.planner_ring.specs.declared.Block.{Block}
+use Rattle.planner_runs.specs.declared.Action.{Action}
+use Rattle.planner_runs.specs.declared.Action.TheVariants.{Add, Take, Override, Mark, Rest, Clear, Reset}
+use Rattle.planner_runs.specs.Runs.{Plans, block_of, fresh_plan, most_blocks, with_move, cleared}
+use Rattle.step_line.specs.declared.Piece.{Piece}
+use Rattle.step_line.specs.declared.Piece.TheVariants as pieces
+use Rattle.step_line.specs.Finishing.{ticks_together}
+use Rattle.board_rules.specs.Ports.{MayBeDone}
+use Rattle.board_rules.specs.Ports.PortStep.{found_free, loaded}
+use Rattle.board_rules.specs.Steps.{Journal, port_log, published_of, known_of, given_of, hand_of, plan_of, motion_of, actions_of, planned_of}
+use Rattle.board_rules.specs.Steps.Step.{at_port, became}
+use Rattle.board_rules.specs.Turns.{this_turn, has_blocks, is_going, is_halting, finds_free}
+use Rattle.board_rules.specs.Conduct.{IsDrained, HasSlowedDown, IsStopped, ticks_given, MayObey}
+use Rattle.board_rules.proofs.Keeping.{run_is}
+use Rattle.board_rules.proofs.Motions.{motion_is}
+use Rattle.controller.specs.declared.controller.Controller.{Controller}
+use Rattle.controller.specs.declared.machine.Machine.{Machine}
+use Rattle.controller.specs.Machines.{Runs, observed, settled}
+use Rattle.controller.specs.Boards.{Keeps}
+use Rattle.controller.specs.Reporting.{HasObserved, HasAskedRoom, IsReported, obeying}
+use Rattle.controller.proofs.Steps.{looked, stops, drained, obeys, other_flight, at_rest}
+use Rattle.controller.proofs.Tries.{passes_load, passes_motion, passes_on}
+
+-- ---- what is observed
+
+observed_kept : (m : AnyMotion) (p : Planned) (hand : List Piece) (all : Bool) → (hand ≡ [] → ⊥) → observed m p hand all ≡ m
+observed_kept m p [] all some = absurd (some refl)
+observed_kept m p (x ∷ xs) all some = refl
+
+observed_later : (m : AnyMotion) (p : Planned) (hand : List Piece) (all : Bool) → all ≡ false → observed m p hand all ≡ m
+observed_later m p [] false e = refl
+observed_later m p [] true e = absurd cc
+observed_later m p (x ∷ xs) all e = refl
+
+observed_now : (m now : AnyMotion) (p : Planned) (hand : List Piece) (all : Bool) → hand ≡ [] → all ≡ true → m ≡ now → observed m p hand all ≡ settled now p
+observed_now m now p [] true none e is = ap (λ x. settled x p) is
+observed_now m now p [] false none e is = absurd cc
+observed_now m now p (x ∷ xs) all none e is = absurd cc
+
+-- a machine that keeps its plan, its motion and its hand
+pub other_machine : (c : Controller) (m : Machine) (h : Journal) → Keeps c h → Runs m (plan_of h) (motion_of h) (hand_of h) (given_of h) → Keeps (record c { machine = m }) h
+other_machine c m h k runs = record {
+  first = k.first;
+  opening = k.opening;
+  conducted = k.conducted;
+  machine = runs;
+  lines = k.lines;
+  input = k.input;
+  flight = record { known = k.flight.known; found = k.flight.found; flies = k.flight.flies };
+  owes_is = k.owes_is;
+  going = k.going;
+  closed = k.closed;
+}
+
+-- ---- the steps behind a look
+
+-- the machine goes on as it did
+observed_stays : (h : Journal) (done : ℕ) → (IsDrained (at_port (loaded done) ∷ h) → is_going (motion_of h) ≡ false) → (IsStopped (at_port (loaded done) ∷ h) → ⊥)
+    → HasObserved h (at_port (loaded done) ∷ h)
+observed_stays h done idle stopped = record {
+  passes = passes_load done h;
+  load = refl;
+  left = refl;
+  hand = refl;
+  plan = refl;
+  given = refl;
+  idle = idle;
+  stopped = stopped;
+  waiting = λ w. record { stands = w.stands; blocks = w.blocks };
+  due = λ e. e;
+  halts = λ e. e;
+}
+
+-- it is held
+observed_held : (h : Journal) (done : ℕ) → motion_of h ≡ motions.Holding → HasObserved h (became on_stopped motions.Held ∷ at_port (loaded done) ∷ h)
+observed_held h done slows =
+    let mid : Journal = at_port (loaded done) ∷ h in
+    record {
+      passes = passes_on h mid (became on_stopped motions.Held ∷ mid) (passes_load done h) (passes_motion on_stopped motions.Held mid refl (rw slows (omega arith)));
+      load = refl;
+      left = refl;
+      hand = refl;
+      plan = refl;
+      given = refl;
+      idle = λ d. refl;
+      stopped = λ s. absurd (let e = s.slowed.slows in cc);
+      waiting = λ w. absurd (let e = w.stands in cc);
+      due = λ e. absurd cc;
+      halts = λ e. ap is_halting slows;
+    }
+
+-- the cycle is over
+observed_over : (h : Journal) (done : ℕ) → has_blocks (plan_of h).blocks ≡ false → HasObserved h (became on_drained motions.Idle ∷ at_port (loaded done) ∷ h)
+observed_over h done none =
+    let mid : Journal = at_port (loaded done) ∷ h in
+    record {
+      passes = passes_on h mid (became on_drained motions.Idle ∷ mid) (passes_load done h) (passes_motion on_drained motions.Idle mid refl (omega arith));
+      load = refl;
+      left = refl;
+      hand = refl;
+      plan = refl;
+      given = refl;
+      idle = λ d. refl;
+      stopped = λ s. absurd (let e = s.slowed.slows in cc);
+      waiting = λ w. absurd (let e = sym none ∙ w.blocks in cc);
+      due = λ e. absurd cc;
+      halts = λ e. absurd cc;
+    }
+
+-- ---- a look
+
+-- what a board with another machine and another flight has observed
+abbrev pub Observes : Controller → Machine → Flying → ℕ → Journal → Type 0
+Observes c m f done h =
+    (next : Journal) × (port_log next ≡ loaded done ∷ port_log h) × Keeps (record c { machine = m; flight = f }) next × HasObserved h next × Flies f (published_of next) (known_of next)
+
+-- the flight knows each tick that was found done
+pub learned : (c : Controller) (f : Flying) (done : ℕ) (h : Journal) → Keeps c h → MayBeDone done (port_log h)
+    → ((published : List Piece) (known : ℕ) → Flies c.flight published known → Flies f published (max known (min done (ticks_together published)))) → Flies f (published_of h) done
+learned c f done h k may learns =
+    let known = k.flight.known in
+    let a = k.flight.found in
+    let b = may.later in
+    let d = may.below in
+    let same : max known (min done (ticks_together (published_of h))) ≡ done = omega (arith, a, b, d) in
+    subst (λ n. Flies f (published_of h) n) same (learns (published_of h) known k.flight.flies)
+
+no_blocks : (bs : List Block) → has_blocks bs ≡ false → bs ≡ []
+no_blocks [] is = refl
+no_blocks (b ∷ bs) is = absurd cc
+
+true_is : (a b : ℕ) → nat_eq a b ≡ true → a ≡ b
+true_is a b e = grind (arith, nat_tests, e)
+
+equal_tests : (a b : ℕ) → a ≡ b → nat_eq a b ≡ true
+equal_tests a b e = grind (arith, nat_tests, e)
+
+pub looks : (c : Controller) (m : Machine) (f : Flying) (done : ℕ) (h : Journal) → Keeps c h → MayBeDone done (port_log h) → Flies f (published_of h) done
+    → Runs m (plan_of h) (observed (motion_of h) (plan_of h) (hand_of h) (nat_eq done (ticks_given h))) (hand_of h) (given_of h) → Observes c m f done h
+looks c m f done h k may flies runs = by_hand (hand_of h) refl
+  where
+    mid : Journal
+    mid = at_port (loaded done) ∷ h
+
+    found : Keeps c (at_port (loaded done) ∷ h)
+    found = looked c done h k may
+
+    runs_as : (now : AnyMotion) → observed (motion_of h) (plan_of h) (hand_of h) (nat_eq done (ticks_given h)) ≡ now → Runs m (plan_of h) now (hand_of h) (given_of h)
+    runs_as now is = subst (λ x. Runs m (plan_of h) x (hand_of h) (given_of h)) is runs
+
+    stays : observed (motion_of h) (plan_of h) (hand_of h) (nat_eq done (ticks_given h)) ≡ motion_of h → (IsDrained (at_port (loaded done) ∷ h) → is_going (motion_of h) ≡ false)
+        → (IsStopped (at_port (loaded done) ∷ h) → ⊥) → Observes c m f done h
+    stays is idle stopped = (
+      at_port (loaded done) ∷ h,
+      refl,
+      other_flight (record c { machine = m }) f (at_port (loaded done) ∷ h) (other_machine c m (at_port (loaded done) ∷ h) found (runs_as (motion_of h) is))
+          (record { known = done; found = omega arith; flies = flies }),
+      observed_stays h done idle stopped,
+      flies,
+    )
+
+    holds : hand_of h ≡ [] → nat_eq done (ticks_given h) ≡ true → motion_of h ≡ motions.Holding → (speed : Bool) → nat_eq (plan_of h).speed 0 ≡ speed → Observes c m f done h
+    holds none all slows true e =
+        let runs_held = runs_as motions.Held (observed_now (motion_of h) motions.Holding (plan_of h) (hand_of h) (nat_eq done (ticks_given h)) none all slows ∙ ap (λ t. cond t motions.Held motions.Holding) e) in
+        let slowed : HasSlowedDown (at_port (loaded done) ∷ h) = record { slows = slows; speed = true_is (plan_of h).speed 0 e; empty = none } in (
+          became on_stopped motions.Held ∷ at_port (loaded done) ∷ h,
+          refl,
+          other_flight (record c { machine = m }) f (became on_stopped motions.Held ∷ at_port (loaded done) ∷ h)
+              (stops c m (at_port (loaded done) ∷ h) found (record { slowed = slowed; done = true_is done (ticks_given h) all }) runs_held)
+              (record { known = done; found = omega arith; flies = flies }),
+          observed_held h done slows,
+          flies,
+        )
+    holds none all slows false e =
+        stays (observed_now (motion_of h) motions.Holding (plan_of h) (hand_of h) (nat_eq done (ticks_given h)) none all slows ∙ ap (λ t. cond t motions.Held motions.Holding) e ∙ sym slows)
+        (λ d. ap is_going slows) (λ s. absurd (let t = sym e ∙ equal_tests (plan_of h).speed 0 s.slowed.speed in cc))
+
+    running : hand_of h ≡ [] → nat_eq done (ticks_given h) ≡ true → motion_of h ≡ motions.Run → (some : Bool) → has_blocks (plan_of h).blocks ≡ some → Observes c m f done h
+    running none all runs_on false e =
+        let runs_idle = runs_as motions.Idle (observed_now (motion_of h) motions.Run (plan_of h) (hand_of h) (nat_eq done (ticks_given h)) none all runs_on ∙ ap (λ t. cond t motions.Run motions.Idle) e) in
+        let over : IsDrained (at_port (loaded done) ∷ h) = record { plan = at_rest c h k (no_blocks (plan_of h).blocks e); hand = none; done = true_is done (ticks_given h) all } in (
+          became on_drained motions.Idle ∷ at_port (loaded done) ∷ h,
+          refl,
+          other_flight (record c { machine = m }) f (became on_drained motions.Idle ∷ at_port (loaded done) ∷ h) (drained c m (at_port (loaded done) ∷ h) found (inr runs_on) over runs_idle)
+              (record { known = done; found = omega arith; flies = flies }),
+          observed_over h done e,
+          flies,
+        )
+    running none all runs_on true e =
+        stays (observed_now (motion_of h) motions.Run (plan_of h) (hand_of h) (nat_eq done (ticks_given h)) none all runs_on ∙ ap (λ t. cond t motions.Run motions.Idle) e ∙ sym runs_on)
+        (λ d. absurd (let t = sym e ∙ ap has_blocks d.plan.blocks in cc)) (λ s. absurd (let t = sym runs_on ∙ s.slowed.slows in cc))
+
+    by_motion : hand_of h ≡ [] → nat_eq done (ticks_given h) ≡ true
+        → (motion_of h ≡ motions.Idle) ⊎ ((motion_of h ≡ motions.Run) ⊎ ((motion_of h ≡ motions.Holding) ⊎ (motion_of h ≡ motions.Held))) → Observes c m f done h
+    by_motion none all (inl e) =
+        stays (observed_now (motion_of h) motions.Idle (plan_of h) (hand_of h) (nat_eq done (ticks_given h)) none all e ∙ sym e) (λ d. ap is_going e)
+        (λ s. absurd (let t = sym e ∙ s.slowed.slows in cc))
+    by_motion none all (inr (inl e)) = running none all e (has_blocks (plan_of h).blocks) refl
+    by_motion none all (inr (inr (inl e))) = holds none all e (nat_eq (plan_of h).speed 0) refl
+    by_motion none all (inr (inr (inr e))) =
+        stays (observed_now (motion_of h) motions.Held (plan_of h) (hand_of h) (nat_eq done (ticks_given h)) none all e ∙ sym e) (λ d. ap is_going e)
+        (λ s. absurd (let t = sym e ∙ s.slowed.slows in cc))
+
+    by_done : hand_of h ≡ [] → (all : Bool) → nat_eq done (ticks_given h) ≡ all → Observes c m f done h
+    by_done none true e = by_motion none e (motion_is k.first h k.conducted)
+    by_done none false e =
+        stays (observed_later (motion_of h) (plan_of h) (hand_of h) (nat_eq done (ticks_given h)) e)
+        (λ d. absurd (let t = sym e ∙ equal_tests done (ticks_given h) d.done in cc)) (λ s. absurd (let t = sym e ∙ equal_tests done (ticks_given h) s.done in cc))
+
+    by_hand : (ps : List Piece) → hand_of h ≡ ps → Observes c m f done h
+    by_hand [] e = by_done e (nat_eq done (ticks_given h)) refl
+    by_hand (p ∷ ps) e =
+        let some : hand_of h ≡ [] → ⊥ = (λ none. let t = sym e ∙ none in absurd cc) in
+        stays (observed_kept (motion_of h) (plan_of h) (hand_of h) (nat_eq done (ticks_given h)) some) (λ d. absurd (some d.hand)) (λ s. absurd (some s.slowed.empty))
+
+-- ---- the room
+
+fewer_moved : (n most : ℕ) (bs : List Block) → length bs ≤ most → length (moved n bs) ≤ most
+fewer_moved n most [] few = few
+fewer_moved n most (b ∷ bs) few = by_end (nat_eq n (blocks.left_of b))
+  where
+    by_end : (gone : Bool) → length (cond gone bs (record b { prepared = b.prepared + n } ∷ bs)) ≤ most
+    by_end true = omega (arith, few)
+    by_end false = few
+
+-- no more blocks stand than may
+few_behind : (most : ℕ) (p last : Planned) (actions : List Action) (given : List Piece) → length p.blocks ≤ most → Plans most p actions given last → length last.blocks ≤ most
+few_behind most p last [] [] few run = subst (λ (q : Planned). length q.blocks ≤ most) (sym run) few
+few_behind most p last (Add m ∷ rest) ps few run =
+    few_behind most (with_move p m) last rest ps (let l = length-append p.blocks (entered p.blocks (block_of m) m.deviation ∷ []) in let r = run.0.room in omega (arith, l, r)) run.1
+few_behind most p last (Override o ∷ rest) ps few run = few_behind most (record p { overrides = o }) last rest ps few run.1
+few_behind most p last (Rest ∷ rest) ps few run = few_behind most p last rest ps few run.1
+few_behind most p last (Clear ∷ rest) ps few run = few_behind most (cleared p) last rest ps (omega arith) run.1
+few_behind most p last (Reset ∷ rest) ps few run = subst (λ (q : Planned). length q.blocks ≤ most) (sym run.2) (omega arith)
+few_behind most p last (Take mode ∷ rest) (pieces.Segment s ∷ ps) few run =
+    few_behind most (advanced p s.n s.w_out) last rest ps (fewer_moved s.n most p.blocks few) run.1
+few_behind most p last (Mark m ∷ rest) (pieces.Mark g ∷ ps) few run = few_behind most p last rest ps few run.3
+few_behind most p last rest ps few run = absurd run
+
+pub few_blocks : (c : Controller) (h : Journal) → Keeps c h → length c.machine.plan.blocks ≤ most_blocks
+few_blocks c h k =
+    subst (λ (p : Planned). length p.blocks ≤ most_blocks) (sym k.machine.plan_is)
+    (few_behind most_blocks fresh_plan (plan_of h) (actions_of h) (planned_of h) (omega arith) (run_is k.first h k.conducted))
+
+same_number : (n : ℕ) → nat_eq n n ≡ true
+same_number n = equal_tests n n refl
+
+either : (a b : Bool) → a ≡ true → (a || b) ≡ true
+either true b e = refl
+either false b e = absurd cc
+
+pub asked_room : (c : Controller) (free bytes : ℕ) (h : Journal) → Keeps c h → free + length c.machine.plan.blocks ≡ most_blocks → HasAskedRoom (Some (free, bytes)) h (at_port (found_free bytes) ∷ h)
+asked_room c free bytes h k room = record {
+  are = inr (bytes, refl);
+  room = (
+    subst (λ (p : Planned). free + length p.blocks ≡ most_blocks) k.machine.plan_is room,
+    either (nat_eq bytes bytes) (list_any (finds_free bytes) (this_turn h)) (same_number bytes),
+  );
+}
+
+pub asked_none : (h : Journal) → HasAskedRoom None h h
+asked_none h = record { are = inl refl; room = tt }
+
+-- ---- a word that waits for a report
+
+told_or_lacks : (told : Bool) (A : Type 0) → (told ≡ false → A) → not told ≡ true → A
+told_or_lacks true A f e = absurd cc
+told_or_lacks false A f e = f refl
+
+pub may_obey : (told : Bool) (word : Exec) (h : Journal) → IsReported told (Some word) h → MayObey word (has_blocks (plan_of h).blocks) h
+may_obey told word h r = record {
+  next = r.words;
+  reported = λ owed. told_or_lacks told _ r.lacks (sym r.owed ∙ owed);
+  blocks = refl;
+  looked = λ s. r.load;
+  stopped = r.stopped;
+}
+
+pub obeys_waiting : (c : Controller) (m : Machine) (waiting : Option Exec) (word : Exec) (told : Bool) (h : Journal) → waiting ≡ Some word → Keeps c h → IsReported told waiting h
+    → Runs m (plan_of h) (after_word word (has_blocks (plan_of h).blocks) (motion_of h)) (hand_of h) (given_of h) → Keeps (record c { machine = m }) (obeying waiting h)
+obeys_waiting c m waiting word told h is k reported runs =
+    let r = subst (λ (w : Option Exec). IsReported told w h) is reported in
+    subst (λ (w : Option Exec). Keeps (record c { machine = m }) (obeying w h)) (sym is) (obeys c m word h k (may_obey told word h r) runs)

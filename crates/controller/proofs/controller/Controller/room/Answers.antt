@@ -1,0 +1,16 @@
+use Rattle.std.proofs.Common.{◌∷◌}
+use Rattle.board_rules.specs.Ports.PortStep.{found_free}
+use Rattle.board_rules.specs.Steps.{port_log}
+use Rattle.board_rules.specs.Steps.Step.{at_port}
+use Rattle.controller.proofs.Steps.{room_found}
+use Rattle.controller.proofs.Telling.{few_blocks, asked_room}
+use Rattle.controller.proofs.controller.Controller.room.Goals as goal
+
+pub free_blocks-requires : goal.free_blocks-requires
+free_blocks-requires g c = let r = c.requires.stands in few_blocks c.args.self.now r.1 r.3
+
+pub returns-clause-goes_on : goal.returns-clause-goes_on
+returns-clause-goes_on g c rest h stands k =
+    let s = c.args.self.now in
+    let bytes = c.free-bytes.result in
+    (at_port (found_free bytes) ∷ h, c.free-bytes.ensures.free rest (port_log h) stands, room_found s bytes h k, asked_room s c.free_blocks.result bytes h k c.free_blocks.ensures)

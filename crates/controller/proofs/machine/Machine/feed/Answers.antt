@@ -1,0 +1,6 @@
+use Rattle.std.proofs.Common.{◌≡◌, ℕ, ◌*◌, ◌/◌, rules, ap}
+use Rattle.units.proofs.Places.{one_root}
+use Rattle.controller.proofs.machine.Machine.feed.Goals as goal
+
+pub returns-then-known-self : goal.returns-then-known-self
+returns-then-known-self c = let e = one_root _ _ c.isqrt.ensures in search (rules, e)

@@ -1,0 +1,139 @@
+//! How a board tells status reports.
+
+ghost use Rattle.std.specs.Prelude.{◌≡◌, ◌≢◌, Bool, true};
+ghost use Rattle.std.specs.List.{list_any};
+ghost use Rattle.outside.specs.declared.Turn.TheVariants.{Did, Done};
+ghost use Rattle.flight.specs.Flights.{Flies};
+ghost use Rattle.run_rules.specs.Reports.{has_room, shows_room};
+ghost use Rattle.board_rules.specs.Ports.{asks_report};
+ghost use Rattle.board_rules.specs.Steps.{Journal, port_log, published_of, known_of};
+ghost use Rattle.board_rules.specs.Turns.{this_turn, moving};
+ghost use Rattle.controller.specs.declared.controller.Flags.{Flags as AnyFlags};
+ghost use Rattle.controller.specs.Boards.{Keeps};
+ghost use Rattle.controller.specs.Turning.{BoardWorked, WorksOn};
+ghost use Rattle.controller.specs.Reporting.{HasAskedRoom, HasObserved, IsBehind, IsReported, IsTold, IsToReport, LacksRoom, obeying};
+
+use crate::controller::{Beat, Controller, Flags};
+use crate::ports::BoardPort;
+use bitflags::Flags as _;
+use code_table::Exec;
+use line_interpreter::Seen;
+use outside::{On, Turn};
+use status_report::{Reply, Report};
+
+/// Whether a word of requests asks for a report.
+pub(crate) fn asks_report(word: Exec) -> bool
+    ensures { result ≡ asks_report word }
+{
+    word.contains(Exec::REPORT)
+}
+
+impl Controller {
+    /// Looks how many ticks are done. A machine that has stopped is held where each is, and where nothing is left to
+    /// run and each is, the cycle is over.
+    fn observe<P: BoardPort>(&mut self, port: &mut P)
+        requires stands { (rest : P.Rest) × (h : Journal) × P.stands port.old rest (port_log h) × Keeps self.old h }
+        ensures goes_on { (rest : P.Rest) (h : Journal) → P.stands port.old rest (port_log h) → Keeps self.old h
+            → (next : Journal) × P.stands port.new rest (port_log next) × Keeps self.new next × HasObserved h next × Flies self.new.flight (published_of next) (known_of next) }
+        ensures same { self.new ≡ record self.old { machine = self.new.machine; flight = self.new.flight } }
+    {
+        let done = port.done();
+        self.flight.learn(done);
+        self.machine.observe(done);
+    }
+
+    /// The free blocks of the plan and the free bytes of the link, where the settings ask for them.
+    fn room<P: BoardPort>(&self, port: &mut P) -> Option<(u8, u8)>
+        requires stands { (rest : P.Rest) × (h : Journal) × P.stands port.old rest (port_log h) × Keeps self.now h }
+        ensures goes_on { (rest : P.Rest) (h : Journal) → P.stands port.old rest (port_log h) → Keeps self.now h
+            → (next : Journal) × P.stands port.new rest (port_log next) × Keeps self.now next × HasAskedRoom result h next }
+        ensures shown { has_room result ≡ shows_room self.now.lines.state.settings.report }
+    {
+        if !self.lines.shows_room() {
+            return None;
+        }
+        let bytes = port.free();
+        Some((self.machine.free_blocks(), bytes))
+    }
+
+    /// The report of what was found in this turn.
+    fn report_now(&self, buffer: Option<(u8, u8)>) -> Report
+        requires stands { (h : Journal) × Keeps self.now h × Flies self.now.flight (published_of h) (known_of h) }
+        requires room { has_room buffer ≡ shows_room self.now.lines.state.settings.report }
+        ensures told { (h : Journal) → Keeps self.now h → Flies self.now.flight (published_of h) (known_of h) → HasAskedRoom buffer h h → IsTold self.now result h }
+    {
+        self.lines.report(&Seen {
+            state: self.machine.shown(),
+            place: self.flight.place(),
+            buffer,
+            feed: self.machine.feed(self.flight.known()),
+            overrides: self.machine.overrides,
+        })
+    }
+
+    /// Does what a word of requests asks of the motion that waited for a report, if one did.
+    fn obey_waiting(&mut self, word: Option<Exec>)
+        ensures goes_on { (h : Journal) (told : Bool) → Keeps self.old h → IsReported told word h → Keeps self.new (obeying word h) }
+        ensures same { self.new ≡ record self.old { machine = self.new.machine } }
+    {
+        if let Some(word) = word {
+            self.machine.obey(word);
+        }
+    }
+
+    /// Tries to tell the report that is owed, of what is found in this turn. Answers whether it is told.
+    fn tell_report<P: BoardPort>(&mut self, port: &mut P, word: Option<Exec>) -> bool
+        requires stands { (rest : P.Rest) × (h : Journal) × P.stands port.old rest (port_log h) × Keeps self.old h × IsToReport word h }
+        ensures goes_on { (rest : P.Rest) (h : Journal) → P.stands port.old rest (port_log h) → Keeps self.old h → IsToReport word h
+            → (next : Journal) × P.stands port.new rest (port_log next) × Keeps self.new next × IsReported result word next × IsBehind h next }
+        ensures same { self.new ≡ record self.old { machine = self.new.machine; flight = self.new.flight; owes = self.new.owes } }
+    {
+        self.observe(port);
+        let buffer = self.room(port);
+        let report = self.report_now(buffer);
+        let told = port.answer(Reply::Report(report)).is_ok();
+        self.owes = !told;
+        told
+    }
+
+    /// Goes on where there was no room for a report: what is in hand or due is tried to be published, and else the room
+    /// is waited for. The report is still owed.
+    fn go_on_owing<P: BoardPort>(&mut self, port: &mut P) -> Turn
+        requires stands { (rest : P.Rest) × (h : Journal) × P.stands port.old rest (port_log h) × Keeps self.old h × LacksRoom h }
+        requires beat { self.old.beat ≡ Beat.Motion }
+        ensures goes_on { (rest : P.Rest) (h : Journal) (was : AnyFlags) → P.stands port.old rest (port_log h) → Keeps self.old h → LacksRoom h
+            → (next : Journal) × P.stands port.new rest (port_log next) × BoardWorked result was self.new h next × (result ≡ Did → list_any moving (this_turn next) ≡ true) }
+        ensures going { result ≢ Done }
+    {
+        self.flags = Flags::Both;
+        if !self.has_piece() {
+            return Turn::Wait(On::ReplyRoom);
+        }
+        let published = self.publish_next(port);
+        self.fill();
+        if !published {
+            return Turn::Wait(On::ReplyRoom);
+        }
+        self.flags = Flags::Report(None);
+        self.beat = Beat::Main;
+        Turn::Did
+    }
+
+    /// Tells the report that is owed, and then does what the word that waits for it asks of the motion. Where there is
+    /// no room for the report, it is still owed.
+    pub(crate) fn report<P: BoardPort>(&mut self, port: &mut P, word: Option<Exec>) -> Turn
+        requires stands { (rest : P.Rest) × (h : Journal) × P.stands port.old rest (port_log h) × Keeps self.old h × IsToReport word h }
+        requires beat { self.old.beat ≡ Beat.Motion }
+        ensures goes_on { (rest : P.Rest) (h : Journal) (was : AnyFlags) → P.stands port.old rest (port_log h) → Keeps self.old h → IsToReport word h
+            → WorksOn (P.stands port.new rest) result was self.new h }
+        ensures going { result ≢ Done }
+    {
+        let told = self.tell_report(port, word);
+        self.obey_waiting(word);
+        if !told {
+            return self.go_on_owing(port);
+        }
+        self.flags = Flags::None;
+        Turn::Did
+    }
+}

@@ -1,0 +1,304 @@
+"""Status reports: how a console is parted into them and the rest, and an auditor of what they tell. Which tick was the last
+one of a report, and which line, is not told by a run. So each report must fit some number of ticks that may have been done
+then, where these never fall, and what one of two lines left."""
+import re
+from array import array
+from bisect import bisect_left, bisect_right
+from collections import Counter
+from functools import lru_cache
+from itertools import product
+from math import isqrt
+from typing import NamedTuple, Optional
+
+from model.lines import AXES, realtime_of
+from model.motion import MOST_BLOCKS
+
+RECEIVE_ROOM = 128  # bytes of lines on the link
+RAPIDS = (100, 50, 25)  # percent
+CHANGES = ("\x90\x91\x92\x93\x94", "\x95\x96\x97", "\x99\x9a\x9b\x9c\x9d")  # of each override
+
+LENGTH = r"((?!-0\.000)-?(?:0|[1-9][0-9]*)\.[0-9]{3})"
+COUNT = r"(0|[1-9][0-9]*)"
+PLACE = ",".join([LENGTH] * 3)
+REPORT = re.compile(rf"<(Idle|Run|Hold:[01])\|([MW])Pos:{PLACE}(?:\|Bf:{COUNT},{COUNT})?\|FS:{COUNT},{COUNT}\|WCO:{PLACE}"
+                    rf"\|Ov:{COUNT},{COUNT},{COUNT}>")
+
+
+class Bad(Exception):
+    """A report is none that the rules allow."""
+
+
+def part(console):
+    """The text of a console without its reports, and each report with the number of answers before it."""
+    rest, reports, answers = [], [], 0
+    for line in console.split("\r\n"):
+        if line.startswith("<"):
+            reports.append((answers, line))
+        else:
+            rest.append(line)
+            answers += line == "ok" or line.startswith("error:")
+    return "\r\n".join(rest), reports
+
+
+class Report(NamedTuple):
+    """What a report tells. Places are in thousandths of a mm, and that of the machine is told or follows."""
+
+    state: str
+    is_of_machine: bool
+    place: tuple
+    room: Optional[tuple]
+    feed: int
+    speed: int
+    wco: tuple
+    overrides: tuple
+
+    @classmethod
+    @lru_cache
+    def read(cls, text):
+        found = REPORT.fullmatch(text)
+        if not found:
+            raise Bad("is no report")
+        state, kind, *numbers = found.groups()
+        told = tuple(int(number.replace(".", "")) if number else None for number in numbers)
+        place, room, (feed, speed), wco = told[:3], told[3:5], told[5:7], told[7:10]
+        if kind == "W":
+            place = tuple(map(sum, zip(place, wco)))
+        return cls(state, kind == "M", place, None if room[0] is None else room, feed, speed, wco, told[10:])
+
+
+# ---- what lines do that reports tell of
+
+
+class Left(NamedTuple):
+    """What a line leaves: the mask of `$10`, thousandths of a step per mm, the offset of the work in thousandths of a mm,
+    and the speed of the spindle, 0 where it is off."""
+
+    mask: int
+    per_mm: tuple
+    wco: tuple
+    speed: int
+
+
+class Work(NamedTuple):
+    """What a line does: it moves some steps; it has something to do, and no move last; it pauses; it ends a program."""
+
+    moves: bool = False
+    settles: bool = False
+    pauses: bool = False
+    ends: bool = False
+
+
+NOTHING = Work()
+
+
+class Row(NamedTuple):
+    """Some of the first lines of a job: what they leave; how many ticks they ask for; how many of them move, and pause;
+    how many there are up to the last that settles, and up to the last that ends a program; and how many bytes they have
+    when they are sent, how many `!`, and how many changes of each override. The `?` are those of the last line alone."""
+
+    left: Left
+    ticks: int = 0
+    moves: int = 0
+    pauses: int = 0
+    settled: int = 0
+    ended: int = 0
+    sent: int = 0
+    holds: int = 0
+    changes: tuple = (0, 0, 0)
+    queries: int = 0
+
+
+class Course:
+    """The lines of a job, in rows: none of them, the first, the first two, and so on. Behind those that are answered comes
+    one that is scanned alone, if only of no bytes."""
+
+    def __init__(self, left):
+        self.rows = [Row(left)]
+
+    def add(self, line, sent, left, ticks, work):
+        """Adds a line that is sent as so many bytes. So many ticks are asked for then."""
+        before, number, asked = self.rows[-1], len(self.rows), realtime_of(line)
+        changes = before.changes
+        if asked:
+            changes = tuple(count + sum(map(asked.count, kind)) for count, kind in zip(changes, CHANGES))
+        self.rows.append(Row(left, ticks, before.moves + work.moves, before.pauses + work.pauses,
+                             number if work.settles else before.settled, number if work.ends else before.ended,
+                             before.sent + sent, before.holds + asked.count("!"), changes, asked.count("?")))
+
+    def add_unsent(self, line):
+        """Adds what is scanned and not sent."""
+        self.add(line, 0, self.rows[-1].left, self.rows[-1].ticks, NOTHING)
+
+
+# ---- where the machine is
+
+
+def way_of(event):
+    """The steps of an event on each axis."""
+    return tuple((axis + "+" in event) - (axis + "-" in event) for axis in AXES)
+
+
+EVENTS = {event: way_of(event) for event in map("".join, product(*[("", axis + "+", axis + "-") for axis in AXES])) if event}
+
+
+class Way:
+    """Where the machine is, in steps, after each number of ticks of a step text; and for each feed in mm per minute, rounded
+    down, the numbers of ticks after which a segment begins with it."""
+
+    def __init__(self, steps):
+        here, self.axes, self.feeds = [0] * 3, [array("q", [0]) for _ in AXES], {}
+        for line in steps.split("\n"):
+            if line.startswith("s "):
+                feed = isqrt(int(line.split(" ")[3])) * 60 // 1000
+                self.feeds.setdefault(feed, []).append(len(self.axes[0]) - 1)
+                continue
+            if line in ("", "E"):
+                continue
+            if line in EVENTS:
+                here = [place + step for place, step in zip(here, EVENTS[line])]
+            for axis, place in zip(self.axes, here):
+                axis.append(place)
+
+    def find(self, place, per_mm, low, high):
+        """The least number of ticks, of those from one up to another, after which a place is shown, or None."""
+        in_x, in_y, in_z = map(steps_shown_as, place, per_mm)
+        x, y, z = self.axes
+        return next((at for at in range(low, high + 1) if x[at] in in_x and y[at] in in_y and z[at] in in_z), None)
+
+    def has_feed(self, feed, low, high):
+        """Whether a segment begins with a feed after some number of ticks, of those from one up to another."""
+        ticks = self.feeds.get(feed, [])
+        at = bisect_left(ticks, low)
+        return at < len(ticks) and ticks[at] <= high
+
+
+def steps_shown_as(length, per_mm):
+    """The numbers of steps that are shown as a length."""
+    least, most = (-(-(2 * abs(length) + half) * per_mm // (2 * 10**6)) for half in (-1, 1))
+    if length == 0:
+        return range(1 - most, most)
+    return range(least, most) if length > 0 else range(1 - most, 1 - least)
+
+
+# ---- the auditor
+
+
+class Auditor:
+    """Audits the reports of a run in their order."""
+
+    def __init__(self, rows, way):
+        self.rows, self.way = rows, way
+        self.done = 0  # so many ticks at least were done at the last report
+
+    def audit(self, text, answers, is_first):
+        """Audits a report behind so many answers, the first there or not. It is `Bad`, or has done no less than before."""
+        report = Report.read(text)
+        self.test_overrides(report, answers, is_first)
+        self.test_state(report, answers, is_first)
+        self.test_room(report, answers, is_first)
+        self.done = self.ticks_of(report, answers, self.lefts_of(report, answers))
+
+    def reach(self, answers, is_first):
+        """How many lines may be scanned. Before the first report no byte of the line is sent that asks for it; then the host
+        goes on to the first line that has no room behind it."""
+        if is_first:
+            return answers + 1
+        room = self.rows[answers].sent + RECEIVE_ROOM
+        return min(bisect_right(self.rows, room, answers + 1, key=lambda row: row.sent), len(self.rows) - 1)
+
+    def test_overrides(self, report, answers, is_first):
+        scanned = self.rows[self.reach(answers, is_first)].changes
+        before = self.rows[self.rows[answers].ended].changes
+        feeds, rapids, spindles = (now - then for now, then in zip(scanned, before))
+        feed, rapid, spindle = report.overrides
+        for name, percent, changes in (("feed", feed, feeds), ("spindle", spindle, spindles)):
+            if abs(percent - 100) > 10 * changes or not 10 <= percent <= 200:
+                raise Bad(f"has {percent} percent for the {name}, which was changed {changes} times")
+        if rapid not in (RAPIDS if rapids else (100,)):
+            raise Bad(f"has {rapid} percent for rapids, which were changed {rapids} times")
+
+    def may_move(self, answers):
+        """Whether a line moves behind the last that settles of those answered, up to the next line."""
+        return self.rows[answers + 1].moves > self.rows[self.rows[answers].settled].moves
+
+    def test_state(self, report, answers, is_first):
+        if report.state not in ("Idle", "Hold:0") and not self.may_move(answers):
+            raise Bad(f"has the state {report.state}, and nothing moves")
+        held = self.rows[self.reach(answers, is_first)].holds or self.rows[answers + 1].pauses
+        if report.state.startswith("Hold") and not held:
+            raise Bad(f"has the state {report.state}, and nothing holds")
+
+    def test_room(self, report, answers, is_first):
+        if report.room is None:
+            return
+        blocks, count = report.room
+        if blocks > MOST_BLOCKS or (blocks < MOST_BLOCKS and not self.may_move(answers)):
+            raise Bad(f"has {blocks} free blocks")
+        if count > RECEIVE_ROOM or (count < RECEIVE_ROOM and is_first):
+            raise Bad(f"has {count} free bytes")
+
+    def lefts_of(self, report, answers):
+        """What lines left that the report may tell, up to the last one answered or up to the next."""
+        lefts = [row.left for row in self.rows[answers : answers + 2]]
+        faults = [fault_in_fields(report, left) for left in lefts]
+        if all(faults):
+            raise Bad(" or ".join(dict.fromkeys(faults)))
+        return [left for left, fault in zip(lefts, faults) if not fault]
+
+    def ticks_of(self, report, answers, lefts):
+        """The least number of ticks that the report may tell of. Its feed is that behind the last segment that was given,
+        at which the next one begins."""
+        here, ahead = self.rows[answers], self.rows[answers + 1]
+        low, high = max(self.done, self.rows[here.settled].ticks), ahead.ticks - (report.feed > 0)
+        found, last = None, high
+        for per_mm in dict.fromkeys(left.per_mm for left in lefts):
+            at = self.way.find(report.place, per_mm, low, last)
+            if at is not None:
+                found, last = at, at - 1
+        if found is None:
+            why = ", where more is to be done" if report.feed else ""
+            raise Bad(f"is of no place from tick {low} to tick {high}{why}")
+        if report.feed and not self.way.has_feed(report.feed, found + 1, ahead.ticks):
+            raise Bad(f"has the feed {report.feed}, with which nothing begins behind tick {found} up to tick {ahead.ticks}")
+        return found
+
+
+def fault_in_fields(report, left):
+    """The field of a report that does not tell what lines left, or None."""
+    if report.is_of_machine != bool(left.mask & 1):
+        return f"has the position of the {'machine' if report.is_of_machine else 'work'} by the mask {left.mask}"
+    if (report.room is not None) != bool(left.mask & 2):
+        return f"has {'a' if report.room else 'no'} Bf by the mask {left.mask}"
+    if report.wco != left.wco:
+        return f"has another offset than {left.wco} thousandths of a mm"
+    if report.speed != left.speed * report.overrides[2] // 100:
+        return f"has the speed {report.speed}, where {left.speed} are programmed"
+    return None
+
+
+def fault_in_counts(rows, reports):
+    """The first line whose reports are too many or too few, in words, or None. What is scanned alone needs none."""
+    told = Counter(answers for answers, _ in reports)
+    for number, row in enumerate(rows[1:], 1):
+        count = told[number - 1]
+        if count > row.queries or (count == 0 < row.queries and number < len(rows) - 1):
+            return f"line {number} has {row.queries} `?` and {count} reports"
+    return None
+
+
+def fault_in(reports, course, steps):
+    """What is wrong with the first bad report of a run whose other text and steps are right, in words, or None."""
+    fault = fault_in_counts(course.rows, reports)
+    if fault or not reports:
+        return fault
+    auditor, last = Auditor(course.rows, Way(steps)), (None, None)
+    for report in reports:
+        if report == last:
+            continue  # what might be told once might be told again
+        answers, text = report
+        try:
+            auditor.audit(text, answers, answers != last[0])
+        except Bad as bad:
+            return f"the report {text!r} behind {answers} answers {bad}"
+        last = report
+    return None
