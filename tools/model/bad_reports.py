@@ -3,7 +3,7 @@ from typing import NamedTuple
 
 from model.machine import run_of
 from model.motion import event_lines
-from model.reports import fault_in, part
+from model.reports import Way, fault_in, part
 
 
 def told(at="M 0 0 0", state="Idle", fs="0,0", wco="0 0 0", ov="100,100,100", bf=None):
@@ -33,7 +33,7 @@ CASES = (
     Case(AT_REST, [(3, told("M 1000 0 0"))], [
         ("no place", [(3, told("M 996 0 0"))]),
         ("no place", [(3, told("M 1004 0 0"))]),
-        ("no place", [(3, told("M 1000 0 0", fs="100,0"))]),
+        ("and the feed 100", [(3, told("M 1000 0 0", fs="100,0"))]),
         ("nothing moves", [(3, told("M 1000 0 0", "Run"))]),
         ("nothing holds", [(3, told("M 1000 0 0", "Hold:0"))]),
         ("the mask", [(3, told("M 1000 0 0", bf="15,128"))]),
@@ -49,29 +49,45 @@ CASES = (
         ("no report", [(3, told("M 1000 0 0") + ">")]),
     ]),
     Case(UNDER_WAY, [(2, told("M 500 0 0", "Run", "100,0")), (3, told("M 1000 0 0", "Run", "100,0")),
-                     (3, told("M 1000 24 0"))], [
-        ("no place", [(2, told("M 500 4 0")), (3, told("M 1000 0 0"))]),
-        ("no place", [(2, told("M 500 0 0")), (3, told("M 996 24 0"))]),
-        ("tick 125", [(2, told("M 500 0 0")), (3, told("M 496 0 0"))]),
-        ("tick 256", [(2, told("M 500 0 0")), (3, told("M 1000 24 0")), (3, told("M 1000 20 0"))]),
+                     (3, told("M 1000 24 0", "Run"))], [
+        ("no place", [(2, told("M 500 4 0", "Run")), (3, told("M 1000 0 0"))]),
+        ("no place", [(2, told("M 500 0 0", "Run")), (3, told("M 996 24 0", "Run"))]),
+        ("tick 125", [(2, told("M 500 0 0", "Run")), (3, told("M 496 0 0", "Run"))]),
+        ("tick 256", [(2, told("M 500 0 0", "Run")), (3, told("M 1000 24 0", "Run")), (3, told("M 1000 20 0", "Run"))]),
+        ("the machine stands", [(2, told("M 500 0 0")), (3, told("M 1000 0 0"))]),
+        ("more is to be done", [(2, told("M 1000 0 0", "Run")), (3, told("M 1000 0 0"))]),
         ("more is to be done", [(2, told("M 1000 0 0", "Run", "100,0")), (3, told("M 1000 0 0"))]),
         ("the feed 99", [(2, told("M 500 0 0", "Run", "99,0")), (3, told("M 1000 0 0"))]),
         ("the feed 100", [(2, told("M 996 0 0", "Run", "100,0")), (3, told("M 1000 0 0"))]),
         ("nothing holds", [(2, told("M 500 0 0", "Hold:1", "100,0")), (3, told("M 1000 0 0"))]),
-        ("and 3 reports", [(2, told("M 500 0 0"))] + [(3, told("M 1000 0 0"))] * 3),
-        ("and 1 reports", [(1, told("M 500 0 0")), (2, told("M 500 0 0")), (3, told("M 1000 0 0"))]),
+        ("and 3 reports", [(2, told("M 500 0 0", "Run"))] + [(3, told("M 1000 0 0"))] * 3),
+        ("and 1 reports", [(1, told("M 500 0 0", "Run")), (2, told("M 500 0 0", "Run")), (3, told("M 1000 0 0"))]),
+    ]),
+    Case(b"$10=2\nG28.1\nG28X1\n?", [(3, told("W 4 0 0", "Run", bf="13,128"))],
+         [("free blocks", [(3, told("W 4 0 0", "Run", bf="12,128"))])]),
+    Case(b"F100\n$10=3\nG1X1\n?\nX2", [(3, told("M 4 0 0", "Run", bf="14,128"))], [
+        ("free blocks", [(3, told("M 4 0 0", "Run", bf="13,128"))]),
+        ("free blocks", [(3, told("M 1000 0 0", bf="14,128"))]),
     ]),
     Case(b"F100\nG1X1\n?\n!?", [(2, told()), (3, told("M 4 0 0", "Hold:1", "100,0"))],
-         [("nothing holds", [(2, told("M 4 0 0", "Hold:0")), (3, told("M 4 0 0", "Hold:0"))])]),
+         [("nothing holds", [(2, told("M 4 0 0", "Hold:0")), (3, told("M 4 0 0", "Hold:1"))]),
+          ("the machine stands", [(2, told()), (3, told("M 4 0 0", "Hold:0"))]),
+          ("and the feed 100", [(2, told()), (3, told("M 0 0 0", "Hold:0", "100,0"))])]),
     Case(b"?\nG4P0\nM0?\n?", [(0, told()), (2, told(state="Hold:0")), (3, told(state="Hold:0"))],
          [("nothing holds", [(0, told(state="Hold:0")), (2, told()), (3, told())])]),
     Case(b"\x91\x9a\n?\nM2\n?", [(1, told(ov="110,100,110")), (3, told())], [
         ("for the feed", [(1, told(ov="110,100,110")), (3, told(ov="110,100,100"))]),
         ("for the spindle", [(1, told(ov="110,100,110")), (3, told(ov="100,100,110"))]),
         ("for the feed", [(1, told(ov="120,100,110")), (3, told())]),
+        ("for the feed", [(1, told(ov="101,100,110")), (3, told())]),
+        ("for the feed", [(1, told(ov="90,100,110")), (3, told())]),
+        ("for the spindle", [(1, told(ov="110,100,90")), (3, told())]),
         ("for rapids", [(1, told(ov="110,50,110")), (3, told())]),
     ]),
+    Case(b"\x94\x9b\n?", [(1, told(ov="99,100,90"))],
+         [("for the feed", [(1, told(ov="101,100,90"))]), ("for the spindle", [(1, told(ov="99,100,99"))])]),
     Case(b"?\n\x96", [(0, told())], [("for rapids", [(0, told(ov="100,50,100"))])]),
+    Case(b"\x96\n?", [(1, told(ov="100,50,100"))], [("for rapids", [(1, told(ov="100,25,100"))])]),
     Case(b"M3S1000\n\x9a?\nM5\n?", [(1, told(fs="0,1100", ov="100,100,110")), (3, told(ov="100,100,110"))], [
         ("the speed", [(1, told(fs="0,1000", ov="100,100,110")), (3, told())]),
         ("the speed", [(1, told(fs="0,1000")), (3, told(fs="0,1000"))]),
@@ -128,11 +144,11 @@ def fault_of(job, reports):
     rest, parted = part(console_with(run.console, reports))
     if rest != run.console or parted != reports:
         return "the reports are not parted from the rest"
-    return fault_in(parted, machine.course, steps_of(machine.script))
+    return fault_in(parted, machine.course, Way(steps_of(machine.script)))
 
 
 def wrong_audit():
-    """What the auditor allows or refuses in error, or None."""
+    """What the auditor of reports allows or refuses in error, or None."""
     for case in CASES:
         fault = fault_of(case.job, case.right)
         if fault:

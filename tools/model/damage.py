@@ -2,8 +2,9 @@
 from model.jobs import some_job
 from model.machine import LARGEST_JOB
 
-FLOODS = b"?!~\x18\x85X\x00\r (;)$0\xff\x7fG\n"  # each a job of 16 MB, or less
+FLOODS = b"?!~\x18\x85X\x00\r (;)$0\xff\x7fG\n"  # each a job of 16 MB, or less; and then any other byte
 FEWER = {b"\n": 500_000, b"?": 1_000_000}  # since each is a line, or may have a report
+REALTIME = b"?!~\x85\x90\x91\x92\x93\x94\x95\x96\x97\x98\x99\x9a\x9b\x9c\x9d\x9e"
 PIECES = (b"?", b"!", b"~", b"\x18", b"\x85", b"\0", b"\r", b" ", b"\t", b"(", b";", b")", b"$", b"/", b"\n", b"0", b"X",
           b"\r\n", b"G0X0.01\n", b"\n\r", b"\xc3\xa9", b"\xe2\x88\x92", b"\xef\xbb\xbf", b"\xf0\x9f\x94\xa9", b"\xff", b"\x7f",
           b"(\n", b";\n", b"$$\n", b"M2\n", b"?\n", b"$10=2\n")
@@ -28,6 +29,13 @@ def a_slice(chance, job, most):
 
 
 # ---- what is done to a job
+
+
+def strew(chance, job):
+    """Realtime bytes anywhere, each alone; and now and then a reset."""
+    for _ in range(chance.choice((1, 3, 10, 100))):
+        job = put(chance, job, bytes([chance.choice(REALTIME)]))
+    return put(chance, job, b"\x18") if chance.random() < 0.3 else job
 
 
 def put_bytes(chance, job):
@@ -68,12 +76,13 @@ def set_high_bits(chance, job):
 
 
 DAMAGES = (put_bytes, put_bytes, put_flood, put_flood, turn_byte, turn_byte, lose_slice, double_slice, cut_short, join_lines,
-           set_high_bits)
+           set_high_bits, strew, strew)
 
 
 def flood(chance, number):
     """About 16 MB of one byte: just a job, or a byte too many, alone or between lines; or less where each costs more."""
-    byte, size = bytes([FLOODS[number % len(FLOODS)]]), LARGEST_JOB + chance.choice((-8, 0, 0, 1, 1, 5_000))
+    byte = bytes([FLOODS[number] if number < len(FLOODS) else chance.randrange(256)])
+    size = LARGEST_JOB + chance.choice((-8, 0, 0, 1, 1, 5_000))
     before, behind = chance.choice(((b"", b""), (b"G0X0.004\n", b""), (b"(", b"\nG0X0.004\n"), (b"M3S5\n", b"\n")))
     if byte == b"\n" or before != b"(":
         size = FEWER.get(byte, size)

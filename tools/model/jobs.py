@@ -21,6 +21,7 @@ SYSTEM_LINES = ("$$", "$#", "$G", "$X", "$", "$H", "$J=X1", "$RST=*", "$Z", "$1.
 REALTIME = ("?", "!", "~", "\x85", "\x90", "\xa0", "\xff", "?!~", "\x84\x9d")
 HANDS = ("!", "!", "!~", "~", "~!", "\x90", "\x91", "\x91\x91\x91", "\x92", "\x92\x92\x92", "\x93", "\x94", "\x95",
          "\x96", "\x97", "\x99\x9a", "\x9a", "\x9b", "\x9c\x9d", "!\x92~", "!?", "!?", "!?? ?", "?!?~?", "\x9a?")
+RESETS = ("\x18", "\x18", "\x18", "!\x18", "~\x18", "?\x18", "\x92\x18", "(\x18)", "\x18\x18", "??\x18?!~")
 QUERIES = ("?", "?", "?", "?", "?", "??", "???", "(?)", "?(??)", "? ?", ";?", "?~")
 # What reports tell of, as no default is. Overrides are in `HANDS`, and so is a hold, which is told in its own line alone.
 TOLD = """
@@ -50,7 +51,7 @@ class JobMaker:
         if chance.random() < 0.01:
             return chance.choice((b"", b"\n", b"\r", b" ", b"?", b"\n\n", b"("))
         mix, has_hand, has_query = chance.choice(self.MIXES), chance.random() < 0.2, chance.random() < 1 / 3
-        has_reset = chance.random() < 0.06
+        has_reset = chance.random() < 0.15
         if mix is self.MIXES[1]:
             # Few steps per mm, so that the moves of all those numbers are short.
             self.lines += [f"$10{axis}={chance.choice((2, 4, 5.5))}" for axis in range(3)]
@@ -67,8 +68,10 @@ class JobMaker:
                 self.ask()
             if has_hand and chance.random() < 0.1:
                 self.put(chance.choice(HANDS))
-            if has_reset and chance.random() < 0.05:
-                self.put("\x18")
+            if has_reset and chance.random() < 0.04:
+                self.reset()
+        if has_reset:
+            self.reset()
         if chance.random() < 0.7:
             self.lines += ["$#", "$G", "$$"]
         end = "\r\n" if chance.random() < 0.15 else "\n"
@@ -97,6 +100,12 @@ class JobMaker:
             self.guess_modes(self.lines[-1])
         if self.chance.random() < 0.25:
             self.put(self.chance.choice(QUERIES))
+
+    def reset(self):
+        """Puts a reset into the last line, or into a line behind it."""
+        if self.chance.random() < 0.5:
+            self.lines.append("")
+        self.put(self.chance.choice(RESETS))
 
     def say_feed(self):
         thousandths = self.chance.choice((1_000, 16_500, 60_000, 200_000, 499_999, 900_000))

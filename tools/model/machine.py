@@ -42,7 +42,8 @@ class Run:
 def run_of(job, most_events, told):
     """The run of a job, and its machine. Where a line may be refused since the machine still moves, it is so if the console
     that was told says so. A job that moves more events than these is left: `TooLong`. The steps are the machine's script,
-    and what reports may tell follows from its course."""
+    and what reports may tell follows from its course. Behind a reset a run may be broken off: its console is a front of this
+    one then, and its steps are one of the script."""
     machine = Machine(most_events, told.split("\r\n"))
     lines = job[:LARGEST_JOB].decode("latin-1").split("\n")
     rest = lines.pop() if len(job) > LARGEST_JOB or not lines[-1] else None
@@ -52,7 +53,8 @@ def run_of(job, most_events, told):
     unsent, ending = scan([*lines, rest or ""][over])
     machine.course.add_unsent(unsent)
     machine.script.has_hand = any(map(has_hand, [*lines[:over], unsent]))
-    machine.script.mark("E")
+    machine.script.is_reset = ending == RESET
+    machine.script.end()
     status, errors = 0, ""
     if ending == TOO_LONG:
         status, errors = 6, f"fault: line {over + 1} is longer than {LONGEST_SENT} bytes\n"
@@ -193,7 +195,7 @@ class Machine:
             self.end_program()
         settles = line.has("M0", "M2", "M30") or (marks and not ways)
         self.moved = not settles and (self.moved or any(moves))
-        self.work = Work(any(moves), settles, line.has("M0"), line.has("M2", "M30"))
+        self.work = Work(sum(moves), settles, line.has("M0"), line.has("M2", "M30"))
 
     def test(self, line, modes, named, feed):
         values, taker, off = line.values, line.taker, modes["motion"] == "G80"

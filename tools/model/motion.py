@@ -6,6 +6,7 @@ from model.lines import AXES
 
 MOST_BLOCKS = 15  # moves in the plan
 SLOWEST = 16  # µm/s
+END = "E"  # the last line of the steps
 
 
 class TooLong(Exception):
@@ -98,6 +99,7 @@ class Script:
         self.stretches, self.moves, self.room = [], [], most_events
         self.ticks = 0  # events and marks
         self.has_hand = False  # a realtime byte of the job changes how fast the machine goes
+        self.is_reset = False  # a reset may break it off behind any piece
 
     def rest(self):
         """The machine comes to rest."""
@@ -109,6 +111,11 @@ class Script:
         """A mark comes where the machine stands."""
         self.ticks += 1
         self.stretches.append((self.moves, text))
+        self.moves = []
+
+    def end(self):
+        """Nothing comes behind it."""
+        self.stretches.append((self.moves, END))
         self.moves = []
 
     def add(self, line, ways, feed, limits):
@@ -151,21 +158,27 @@ class Reading:
             raise Wrong(f"line {self.at} of the steps is no head")
         return [int(word) for word in words[1:]]
 
+    def is_at_end(self, lines=0):
+        """Whether the end stands so many lines ahead."""
+        at = self.at + lines
+        return at < len(self.lines) and self.lines[at] == END
+
     def speed_ahead(self, lines):
-        """The squared speed of the head that stands so many lines ahead."""
+        """The squared speed of the head that stands so many lines ahead, or -1 where none does."""
         at = self.at + lines
         words = self.lines[at].split(" ") if at < len(self.lines) else []
-        return int(words[3]) if len(words) == 5 and words[0] == "s" and words[3].isdecimal() else None
+        return int(words[3]) if len(words) == 5 and words[0] == "s" and words[3].isdecimal() else -1
 
 
 class Stretch:
     """Moves that are run from rest to rest. How many of them were known at a segment is not told by the steps: at most
     fifteen from the one that is run on, and none that was known is forgotten."""
 
-    def __init__(self, moves):
-        self.moves = moves
+    def __init__(self, moves, is_reset=False):
+        self.moves, self.is_reset = moves, is_reset
         self.caps = [soft_cap(a, b) for a, b in zip(moves, moves[1:])]
         self.tail, self.known, self.speed = 0, 0, 0
+        self.broken = None  # where it is broken off: how many moves may have been known, and the speed that follows
 
     def exits(self):
         """The squared speed at which the tail may end, for each number of moves that may be known: the greatest that the
@@ -181,35 +194,78 @@ class Stretch:
             if at >= self.known:
                 yield at, min(least, way - first)
 
-    def segment(self, text):
-        """Reads a segment, and answers what is wrong with it or None."""
-        move, w, at = self.moves[self.tail], self.speed, text.at + 1
-        line, count, told, cycles = text.head()
-        right = max(1, min(move.left, isqrt(w + move.change) * 10 * move.events // move.length))
-        if (line, count, told) != (move.line, right, w):
-            raise Wrong(f"line {at} of the steps is the head of line {line} with {count} events at {told}, and by the model of "
-                        f"line {move.line} with {right} at {w}")
-        over = move.left == count and self.tail + 1 == len(self.moves)
-        behind = 0 if over else text.speed_ahead(count)
-        change = move.change * count
-        most = max(min(w + change, move.nominal**2), w - change)
+    def count(self):
+        """How many events the next segment has."""
+        move = self.moves[self.tail]
+        return max(1, min(move.left, isqrt(self.speed + move.change) * 10 * move.events // move.length))
+
+    def ends(self, count):
+        """The squared speed at which a segment of so many events may end, for each number of moves that may be known."""
+        move, change = self.moves[self.tail], self.moves[self.tail].change * count
+        most = max(min(self.speed + change, move.nominal**2), self.speed - change)
         for known, end in self.exits():
-            if behind == min(end + move.change * (move.left - count), most):
-                self.known = known
-                break
-        else:
-            raise Wrong(f"the segment at line {at} of the steps ends at {behind}, whatever moves were known")
+            yield known, min(end + move.change * (move.left - count), most)
+
+    def cycles(self, count, behind):
+        """The cycles of each event of a segment that ends at a squared speed."""
+        move, w = self.moves[self.tail], self.speed
         top = max(move.nominal, isqrt(w))
-        pace = max(1, isqrt(min(top**2, (w + behind + change) // 2)))
-        if cycles != -(-16_000 * move.length // (move.events * pace)):
-            raise Wrong(f"the head at line {at} of the steps has {cycles} cycles for each event")
-        for event in event_lines(move.ways, move.prepared, count):
-            text.expect(event)
+        pace = max(1, isqrt(min(top**2, (w + behind + move.change * count) // 2)))
+        return -(-16_000 * move.length // (move.events * pace))
+
+    def advance(self, count, behind):
+        """A segment of so many events is over."""
+        move = self.moves[self.tail]
         move.prepared += count
         self.speed = behind
         if not move.left:
             self.tail += 1
             self.known = max(self.known, self.tail)
+
+    def is_last(self, count):
+        """Whether a segment of so many events is the last one."""
+        return self.moves[self.tail].left == count and self.tail + 1 == len(self.moves)
+
+    def segment(self, text):
+        """Reads a segment."""
+        move, w, at = self.moves[self.tail], self.speed, text.at + 1
+        line, count, told, cycles = text.head()
+        right = self.count()
+        if (line, count, told) != (move.line, right, w):
+            raise Wrong(f"line {at} of the steps is the head of line {line} with {count} events at {told}, and by the model of "
+                        f"line {move.line} with {right} at {w}")
+        if self.is_reset and text.is_at_end(count) and not self.is_last(count):
+            behind = self.break_off(at, count, cycles)
+        else:
+            behind = self.find_end(at, count, 0 if self.is_last(count) else text.speed_ahead(count))
+            if cycles != self.cycles(count, behind):
+                raise Wrong(f"the head at line {at} of the steps has {cycles} cycles for each event")
+        for event in event_lines(move.ways, move.prepared, count):
+            text.expect(event)
+        self.advance(count, behind)
+
+    def find_end(self, at, count, behind):
+        """Finds how many moves were known at a segment that ends at a squared speed, and answers that speed."""
+        for known, end in self.ends(count):
+            if behind == end:
+                self.known = known
+                return behind
+        raise Wrong(f"the segment at line {at} of the steps ends at {behind}, whatever moves were known")
+
+    def break_off(self, at, count, cycles):
+        """Nothing follows a segment that is not the last one, so that the speed at which it ends is not told."""
+        self.broken = [(known, end) for known, end in self.ends(count) if self.cycles(count, end) == cycles]
+        if not self.broken:
+            raise Wrong(f"the head at line {at} of the steps has {cycles} cycles for each event, whatever moves were known")
+        return self.broken[0][1]
+
+    def speeds_behind(self):
+        """Where it is broken off: the squared speeds at which its last segment may end, and one that was given behind it and
+        dropped, each as the least and the greatest."""
+        for known, end in self.broken:
+            self.known, self.speed = max(known, self.tail), end
+            yield end, end
+            yield from ((behind, behind) for _, behind in self.ends(self.count()))
 
 
 class HandStretch(Stretch):
@@ -219,43 +275,58 @@ class HandStretch(Stretch):
     def segment(self, text):
         move, w, at = self.moves[self.tail], self.speed, text.at + 1
         line, count, told, cycles = text.head()
-        go = max(1, min(move.left, isqrt(w + move.change) * 10 * move.events // move.length))
+        go = self.count()
         hold = min(go, -(-w // move.change))
         if (line, told) != (move.line, w) or count not in (go, hold) or not count:
             raise Wrong(f"line {at} of the steps is the head of line {line} with {count} events at {told}, and by the model of "
                         f"line {move.line} with {go} or {hold} at {w}")
-        over = move.left == count
-        last = over and self.tail + 1 == len(self.moves)
-        behind = 0 if last else text.speed_ahead(count)
-        change = move.change * count
-        if not max(0, w - change) <= (behind or 0) <= w + change:
-            raise Wrong(f"the segment at line {at} of the steps goes from {w} to {behind}")
-        if over and not last and behind > hard_cap(move, self.moves[self.tail + 1]):
-            raise Wrong(f"the segment at line {at} of the steps ends at {behind}, above the junction's cap")
-        if behind > max(w, move.rapid**2):
-            raise Wrong(f"the segment at line {at} of the steps ends at {behind}, above its axes' rates")
-        if cycles < -(-16_000 * move.length // (move.events * max(1, isqrt((w + behind + change) // 2)))):
+        if self.is_reset and text.is_at_end(count) and not self.is_last(count):
+            behind = w + move.change * count
+            self.broken = [(max(0, w - move.change * count), behind)]
+        else:
+            behind = 0 if self.is_last(count) else text.speed_ahead(count)
+            self.test_end(at, count, behind)
+        if cycles < -(-16_000 * move.length // (move.events * max(1, isqrt((w + behind + move.change * count) // 2)))):
             raise Wrong(f"the head at line {at} of the steps has {cycles} cycles for each event")
         for event in event_lines(move.ways, move.prepared, count):
             text.expect(event)
-        move.prepared += count
-        self.speed = behind
-        if not move.left:
-            self.tail += 1
+        self.advance(count, behind)
+
+    def test_end(self, at, count, behind):
+        """Tries the squared speed at which a segment ends."""
+        move, w, change = self.moves[self.tail], self.speed, self.moves[self.tail].change * count
+        if not max(0, w - change) <= behind <= w + change:
+            raise Wrong(f"the segment at line {at} of the steps goes from {w} to {behind}")
+        if move.left == count and not self.is_last(count) and behind > hard_cap(move, self.moves[self.tail + 1]):
+            raise Wrong(f"the segment at line {at} of the steps ends at {behind}, above the junction's cap")
+        if behind > max(w, move.rapid**2):
+            raise Wrong(f"the segment at line {at} of the steps ends at {behind}, above its axes' rates")
+
+    def speeds_behind(self):
+        [(least, most)] = self.broken
+        self.speed = most
+        change = self.moves[self.tail].change * self.count()
+        yield least, most
+        yield max(0, least - change), most + change
 
 
 def heads_of(script, steps):
     """Reads a step text by a script, and answers how many heads it has: each segment as the planner gives it for the moves
-    that may have been known, each event and mark in its order, and nothing more. Else it is `Wrong`."""
-    text, heads = Reading(steps), 0
+    that may have been known, each event and mark in its order, and nothing more. Else it is `Wrong`. Where the script may be
+    broken off, the end may stand behind any piece. At which speeds it may stand there is answered too, where it is in a stretch
+    of moves."""
+    text, heads, stretch = Reading(steps), 0, None
     for moves, mark in script.stretches:
-        stretch = HandStretch(moves) if script.has_hand else Stretch(moves)
-        while stretch.tail < len(moves):
+        stretch = (HandStretch if script.has_hand else Stretch)(moves, script.is_reset)
+        while stretch.tail < len(moves) and not (script.is_reset and text.is_at_end()):
             stretch.segment(text)
             heads += 1
-        if mark is not None:
+        if script.is_reset and text.is_at_end():
+            break
+        if mark not in (None, END):
             text.expect(mark)
+    text.expect(END)
     text.expect("")
     if text.at != len(text.lines):
         raise Wrong(f"line {text.at} of the steps stands behind their end")
-    return heads
+    return heads, sorted(set(stretch.speeds_behind())) if stretch.broken else []

@@ -14,8 +14,9 @@ from model.lines import AXES, realtime_of
 from model.motion import MOST_BLOCKS
 
 RECEIVE_ROOM = 128  # bytes of lines on the link
-RAPIDS = (100, 50, 25)  # percent
-CHANGES = ("\x90\x91\x92\x93\x94", "\x95\x96\x97", "\x99\x9a\x9b\x9c\x9d")  # of each override
+CHANGES = "\x90\x91\x92\x93\x94\x95\x96\x97\x99\x9a\x9b\x9c\x9d"  # of the overrides
+UP_BY_TEN, DOWN_BY_TEN, UP_BY_ONE, DOWN_BY_ONE = range(1, 5)  # for feeds; for the spindle, as many behind its first
+TO_HALF, TO_QUARTER, OF_SPINDLE = 6, 7, 8
 
 LENGTH = r"((?!-0\.000)-?(?:0|[1-9][0-9]*)\.[0-9]{3})"
 COUNT = r"(0|[1-9][0-9]*)"
@@ -52,6 +53,11 @@ class Report(NamedTuple):
     wco: tuple
     overrides: tuple
 
+    @property
+    def moves(self):
+        """Whether the machine runs, or slows down."""
+        return self.state in ("Run", "Hold:1")
+
     @classmethod
     @lru_cache
     def read(cls, text):
@@ -80,9 +86,10 @@ class Left(NamedTuple):
 
 
 class Work(NamedTuple):
-    """What a line does: it moves some steps; it has something to do, and no move last; it pauses; it ends a program."""
+    """What a line does: it has so many moves of some steps; it has something to do, and no move last; it pauses; it ends a
+    program."""
 
-    moves: bool = False
+    moves: int = 0
     settles: bool = False
     pauses: bool = False
     ends: bool = False
@@ -92,9 +99,9 @@ NOTHING = Work()
 
 
 class Row(NamedTuple):
-    """Some of the first lines of a job: what they leave; how many ticks they ask for; how many of them move, and pause;
-    how many there are up to the last that settles, and up to the last that ends a program; and how many bytes they have
-    when they are sent, how many `!`, and how many changes of each override. The `?` are those of the last line alone."""
+    """Some of the first lines of a job: what they leave; how many ticks and moves they ask for; how many of them pause; how
+    many there are up to the last that settles, and up to the last that ends a program; and how many bytes they have when they
+    are sent, how many `!`, and how many of each change. The `?` are those of the last line alone."""
 
     left: Left
     ticks: int = 0
@@ -104,7 +111,7 @@ class Row(NamedTuple):
     ended: int = 0
     sent: int = 0
     holds: int = 0
-    changes: tuple = (0, 0, 0)
+    changes: tuple = (0,) * len(CHANGES)
     queries: int = 0
 
 
@@ -120,7 +127,7 @@ class Course:
         before, number, asked = self.rows[-1], len(self.rows), realtime_of(line)
         changes = before.changes
         if asked:
-            changes = tuple(count + sum(map(asked.count, kind)) for count, kind in zip(changes, CHANGES))
+            changes = tuple(count + asked.count(change) for count, change in zip(changes, CHANGES))
         self.rows.append(Row(left, ticks, before.moves + work.moves, before.pauses + work.pauses,
                              number if work.settles else before.settled, number if work.ends else before.ended,
                              before.sent + sent, before.holds + asked.count("!"), changes, asked.count("?")))
@@ -141,32 +148,52 @@ def way_of(event):
 EVENTS = {event: way_of(event) for event in map("".join, product(*[("", axis + "+", axis + "-") for axis in AXES])) if event}
 
 
-class Way:
-    """Where the machine is, in steps, after each number of ticks of a step text; and for each feed in mm per minute, rounded
-    down, the numbers of ticks after which a segment begins with it."""
+def feed_of(w):
+    """A squared speed as a feed in mm per minute, rounded down."""
+    return isqrt(w) * 60 // 1000
 
-    def __init__(self, steps):
-        here, self.axes, self.feeds = [0] * 3, [array("q", [0]) for _ in AXES], {}
+
+class Way:
+    """Where the machine is, in steps, after each number of ticks of a step text; after which of them it stands; and for each
+    feed the numbers of ticks after which a segment begins with it. Where the steps are broken off, the squared speeds that may
+    follow are given, from the least on."""
+
+    def __init__(self, steps, speeds_behind=()):
+        here, self.axes, self.feeds, self.stops = [0] * 3, [array("q", [0]) for _ in AXES], {}, set()
+        self.feeds_behind = [(feed_of(least), feed_of(most)) for least, most in speeds_behind]
         for line in steps.split("\n"):
             if line.startswith("s "):
-                feed = isqrt(int(line.split(" ")[3])) * 60 // 1000
-                self.feeds.setdefault(feed, []).append(len(self.axes[0]) - 1)
+                w = int(line.split(" ")[3])
+                self.feeds.setdefault(feed_of(w), []).append(self.ticks)
+                self.stops |= set() if w else {self.ticks}
                 continue
-            if line in ("", "E"):
+            if line == "":
                 continue
             if line in EVENTS:
                 here = [place + step for place, step in zip(here, EVENTS[line])]
-            for axis, place in zip(self.axes, here):
-                axis.append(place)
+            elif line != "E" or not speeds_behind or speeds_behind[0][0] == 0:
+                self.stops.add(self.ticks)
+            if line != "E":
+                for axis, place in zip(self.axes, here):
+                    axis.append(place)
 
-    def find(self, place, per_mm, low, high):
-        """The least number of ticks, of those from one up to another, after which a place is shown, or None."""
+    @property
+    def ticks(self):
+        """How many there are."""
+        return len(self.axes[0]) - 1
+
+    def find(self, place, per_mm, low, high, stands):
+        """The least number of ticks, of those from one up to another, after which a place is shown, or None; of those after
+        which the machine stands, or of all."""
         in_x, in_y, in_z = map(steps_shown_as, place, per_mm)
         x, y, z = self.axes
-        return next((at for at in range(low, high + 1) if x[at] in in_x and y[at] in in_y and z[at] in in_z), None)
+        return next((at for at in range(low, high + 1)
+                     if x[at] in in_x and y[at] in in_y and z[at] in in_z and (not stands or at in self.stops)), None)
 
     def has_feed(self, feed, low, high):
         """Whether a segment begins with a feed after some number of ticks, of those from one up to another."""
+        if any(least <= feed <= most for least, most in self.feeds_behind):
+            return True
         ticks = self.feeds.get(feed, [])
         at = bisect_left(ticks, low)
         return at < len(ticks) and ticks[at] <= high
@@ -195,8 +222,8 @@ class Auditor:
         report = Report.read(text)
         self.test_overrides(report, answers, is_first)
         self.test_state(report, answers, is_first)
-        self.test_room(report, answers, is_first)
         self.done = self.ticks_of(report, answers, self.lefts_of(report, answers))
+        self.test_room(report, answers, is_first)
 
     def reach(self, answers, is_first):
         """How many lines may be scanned. Before the first report no byte of the line is sent that asks for it; then the host
@@ -209,30 +236,34 @@ class Auditor:
     def test_overrides(self, report, answers, is_first):
         scanned = self.rows[self.reach(answers, is_first)].changes
         before = self.rows[self.rows[answers].ended].changes
-        feeds, rapids, spindles = (now - then for now, then in zip(scanned, before))
+        changes = [now - then for now, then in zip(scanned, before)]
         feed, rapid, spindle = report.overrides
-        for name, percent, changes in (("feed", feed, feeds), ("spindle", spindle, spindles)):
-            if abs(percent - 100) > 10 * changes or not 10 <= percent <= 200:
-                raise Bad(f"has {percent} percent for the {name}, which was changed {changes} times")
-        if rapid not in (RAPIDS if rapids else (100,)):
-            raise Bad(f"has {rapid} percent for rapids, which were changed {rapids} times")
+        for name, percent, of_it in (("feed", feed, changes), ("spindle", spindle, changes[OF_SPINDLE:])):
+            if not may_be_percent(percent, of_it):
+                raise Bad(f"has {percent} percent for the {name}, which was not changed to that")
+        if rapid not in (100, 50 if changes[TO_HALF] else 100, 25 if changes[TO_QUARTER] else 100):
+            raise Bad(f"has {rapid} percent for rapids, which were not changed to that")
 
     def may_move(self, answers):
         """Whether a line moves behind the last that settles of those answered, up to the next line."""
         return self.rows[answers + 1].moves > self.rows[self.rows[answers].settled].moves
 
     def test_state(self, report, answers, is_first):
-        if report.state not in ("Idle", "Hold:0") and not self.may_move(answers):
+        if report.moves and not self.may_move(answers):
             raise Bad(f"has the state {report.state}, and nothing moves")
+        if report.feed and not report.moves:
+            raise Bad(f"has the state {report.state} and the feed {report.feed}")
         held = self.rows[self.reach(answers, is_first)].holds or self.rows[answers + 1].pauses
         if report.state.startswith("Hold") and not held:
             raise Bad(f"has the state {report.state}, and nothing holds")
 
     def test_room(self, report, answers, is_first):
+        """No move that is in the plan is done, and before the first report of a line nothing is on the link."""
         if report.room is None:
             return
         blocks, count = report.room
-        if blocks > MOST_BLOCKS or (blocks < MOST_BLOCKS and not self.may_move(answers)):
+        done = self.rows[bisect_right(self.rows, self.done, 0, answers + 2, key=lambda row: row.ticks) - 1]
+        if not 0 <= MOST_BLOCKS - blocks <= self.rows[answers + 1].moves - done.moves:
             raise Bad(f"has {blocks} free blocks")
         if count > RECEIVE_ROOM or (count < RECEIVE_ROOM and is_first):
             raise Bad(f"has {count} free bytes")
@@ -246,21 +277,30 @@ class Auditor:
         return [left for left, fault in zip(lefts, faults) if not fault]
 
     def ticks_of(self, report, answers, lefts):
-        """The least number of ticks that the report may tell of. Its feed is that behind the last segment that was given,
-        at which the next one begins."""
+        """The least number of ticks that the report may tell of. A machine that runs has more to do, and one that stands is
+        where the next segment begins at rest. The feed is that behind the last segment that was given, at which the next one
+        begins."""
         here, ahead = self.rows[answers], self.rows[answers + 1]
-        low, high = max(self.done, self.rows[here.settled].ticks), ahead.ticks - (report.feed > 0)
+        low, high = max(self.done, self.rows[here.settled].ticks), min(ahead.ticks - report.moves, self.way.ticks)
         found, last = None, high
         for per_mm in dict.fromkeys(left.per_mm for left in lefts):
-            at = self.way.find(report.place, per_mm, low, last)
+            at = self.way.find(report.place, per_mm, low, last, not report.moves)
             if at is not None:
                 found, last = at, at - 1
         if found is None:
-            why = ", where more is to be done" if report.feed else ""
+            why = ", where more is to be done" if report.moves else " where the machine stands"
             raise Bad(f"is of no place from tick {low} to tick {high}{why}")
         if report.feed and not self.way.has_feed(report.feed, found + 1, ahead.ticks):
             raise Bad(f"has the feed {report.feed}, with which nothing begins behind tick {found} up to tick {ahead.ticks}")
         return found
+
+
+def may_be_percent(percent, changes):
+    """Whether an override may be so by some of these changes: up and down by ten, and by one."""
+    least = 100 - 10 * changes[DOWN_BY_TEN] - changes[DOWN_BY_ONE]
+    most = 100 + 10 * changes[UP_BY_TEN] + changes[UP_BY_ONE]
+    by_ones = changes[UP_BY_ONE] + changes[DOWN_BY_ONE]
+    return max(10, least) <= percent <= min(200, most) and (by_ones > 0 or percent % 10 == 0)
 
 
 def fault_in_fields(report, left):
@@ -286,12 +326,12 @@ def fault_in_counts(rows, reports):
     return None
 
 
-def fault_in(reports, course, steps):
+def fault_in(reports, course, way):
     """What is wrong with the first bad report of a run whose other text and steps are right, in words, or None."""
     fault = fault_in_counts(course.rows, reports)
     if fault or not reports:
         return fault
-    auditor, last = Auditor(course.rows, Way(steps)), (None, None)
+    auditor, last = Auditor(course.rows, way), (None, None)
     for report in reports:
         if report == last:
             continue  # what might be told once might be told again
@@ -301,4 +341,26 @@ def fault_in(reports, course, steps):
         except Bad as bad:
             return f"the report {text!r} behind {answers} answers {bad}"
         last = report
+    return None
+
+
+# ---- where a reset ended the run
+
+
+def fault_in_front(console, right, course, way):
+    """What is wrong with a run that a reset has ended, in words, or None. The right console has all that is told of the lines
+    that were sent. What was told is a front of it, by whole lines; at most one line more was begun; and what was sent and has
+    no answer had room on the link. A `?` of the last line was raised only once each line before was answered. What was recorded
+    is all that the lines ask for up to the last answered one that settles, and nothing behind the one that was begun."""
+    if not console.endswith("\r\n") or not right.startswith(console):
+        return "the console is no front of the model's"
+    rows, answers = course.rows, sum(line == "ok" or line.startswith("error:") for line in console.split("\r\n"))
+    sent = len(rows) - 2
+    if rows[sent].sent - rows[answers].sent > RECEIVE_ROOM:
+        return f"{rows[sent].sent - rows[answers].sent} bytes of lines have no answer"
+    if rows[-1].queries and answers < sent:
+        return f"line {answers + 1} has no answer, and a `?` is scanned behind it"
+    least, most = rows[rows[answers].settled].ticks, rows[answers + 1].ticks
+    if not least <= way.ticks <= most:
+        return f"behind {answers} answers there are {way.ticks} ticks in place of {least} to {most}"
     return None

@@ -1,5 +1,6 @@
 """Tries random jobs on the program: runs it within bounds on time and memory, and compares what it leaves behind with what
 the model says."""
+import contextlib
 import os
 import random
 import resource
@@ -7,47 +8,84 @@ import signal
 import subprocess
 import sys
 import tempfile
+import threading
 import time
 from concurrent.futures import ProcessPoolExecutor
 from dataclasses import dataclass
 from pathlib import Path
 
-from model.machine import Run, run_of
+from model.machine import LARGEST_JOB, Run, run_of
 from model.motion import TooLong, Wrong, heads_of
-from model.reports import fault_in, part
+from model.reports import Way, fault_in, fault_in_front, part
 
 PROGRAM = Path(__file__).resolve().parent.parent.parent / "crates/grbl/out/grbl"
-SECONDS = 10  # of processor time
-KILOBYTES = 12 * 1024  # less than the largest job has, for the code, the stack and all else
+SECONDS = 10  # of processor time, in lockstep
+THREAD_SECONDS = 120  # the same of four threads, which take it while they wait too
+STACK_KILOBYTES = 1024  # of each of the four threads
+KILOBYTES = 14 * 1024  # less than the largest job has, for the code, the stacks and all else
+PIECES = (1, 1, 2, 7, 60, 500, 4_096)  # so many bytes of a job are written to a pipe at once
+MANY_RESETS = 40  # of so many runs that a reset ends, one at least is broken off before all is carried out
 
 
 # ---- the program
 
 
-def bound():
-    resource.setrlimit(resource.RLIMIT_CPU, (SECONDS, SECONDS + 1))
+def bound(seconds):
+    resource.setrlimit(resource.RLIMIT_CPU, (seconds, seconds + 1))
+    resource.setrlimit(resource.RLIMIT_STACK, (STACK_KILOBYTES * 1024,) * 2)
     resource.setrlimit(resource.RLIMIT_AS, (KILOBYTES * 1024,) * 2)
 
 
-def run_program(words, job, folder):
-    """What the program's run of a job leaves behind, or in words why there is nothing. The job comes from a file, so that
-    each read is as long as it may be."""
-    steps, source = folder / "steps.out", folder / "job"
-    steps.unlink(missing_ok=True)
+def start(words, stdin, folder):
+    """Starts the program. Its console and errors go to files."""
+    seconds = SECONDS if "--lockstep" in words else THREAD_SECONDS
+    with stdin, (folder / "console").open("wb") as stdout, (folder / "errors").open("wb") as stderr:
+        return subprocess.Popen(
+            [PROGRAM, *words], stdin=stdin, stdout=stdout, stderr=stderr, cwd=folder, preexec_fn=lambda: bound(seconds)
+        )
+
+
+def start_on_file(words, job, folder):
+    """Starts the program on a file, so that each read is as long as it may be."""
+    source = folder / "job"
     source.write_bytes(job)
+    return start(words, source.open("rb"), folder)
+
+
+def start_on_pipe(words, job, folder):
+    """Starts the program on a pipe, to which a thread writes the job in pieces of any size."""
+    source, sink = os.pipe()
+    program = start(words, os.fdopen(source, "rb"), folder)
+    threading.Thread(target=feed, args=(job, os.fdopen(sink, "wb", buffering=0)), daemon=True).start()
+    return program
+
+
+def feed(job, sink):
+    """Writes a job in pieces, as long as somebody reads."""
+    at, chance = 0, random.Random(len(job))
+    with sink, contextlib.suppress(BrokenPipeError):
+        while at < len(job):
+            at += sink.write(job[at : at + chance.choice(PIECES)])
+
+
+def run_program(start_it, words, job, folder):
+    """What the program's run of a job leaves behind, or in words why there is nothing."""
+    steps = folder / "steps.out"
+    steps.unlink(missing_ok=True)
+    program = start_it(words, job, folder)
     try:
-        with source.open("rb") as stdin:
-            ran = subprocess.run([PROGRAM, *words], stdin=stdin, cwd=folder, capture_output=True, preexec_fn=bound,
-                                 timeout=20 * SECONDS)
+        status = program.wait(20 * SECONDS)
     except subprocess.TimeoutExpired:
+        program.kill()
+        program.wait()
         return f"the program has not ended after {20 * SECONDS} seconds"
-    if ran.returncode < 0:
-        return f"the program was ended by {signal.Signals(-ran.returncode).name}"
+    if status < 0:
+        return f"the program was ended by {signal.Signals(-status).name}"
     if not steps.exists():
-        return f"the program ended with {ran.returncode} and made no steps.out"
-    console, made, errors = (text.decode("latin-1") for text in (ran.stdout, steps.read_bytes(), ran.stderr))
+        return f"the program ended with {status} and made no steps.out"
+    console, made, errors = ((folder / name).read_bytes().decode("latin-1") for name in ("console", "steps.out", "errors"))
     console, reports = part(console)
-    return Run(ran.returncode, console, made, errors, reports)
+    return Run(status, console, made, errors, reports)
 
 
 # ---- comparing
@@ -66,18 +104,22 @@ def shown(line):
 
 
 def what_is_wrong(told, right, machine):
-    """What a run tells that the model does not allow, or None, and how many heads it has. Reports are audited where the rest
-    is right, since they are judged by it."""
-    wrong = (first_difference("console", told.console, right.console, "\r\n")
-             or first_difference("standard error", told.errors, right.errors))
-    heads = 0
+    """What a run tells that the model does not allow, or None, and what was tried. Reports are audited where the rest is right,
+    since they are judged by it."""
+    tally = Tally(lines=machine.number, reports=len(told.reports), resets=int(machine.script.is_reset))
+    wrong = first_difference("standard error", told.errors, right.errors)
+    if not tally.resets:
+        wrong = first_difference("console", told.console, right.console, "\r\n") or wrong
     try:
-        heads = heads_of(machine.script, told.steps)
-        wrong = wrong or fault_in(told.reports, machine.course, told.steps)
+        tally.heads, speeds_behind = heads_of(machine.script, told.steps)
+        way = Way(told.steps, speeds_behind)
+        tally.broken_off = int(told.console != right.console or way.ticks != machine.script.ticks)
+        wrong = wrong or (fault_in_front(told.console, right.console, machine.course, way) if tally.resets else None)
+        wrong = wrong or fault_in(told.reports, machine.course, way)
     except Wrong as fault:
         wrong = wrong or str(fault)
     status = f"; it ended with {told.status}, and by the model with {right.status}" if told.status != right.status else ""
-    return (wrong + status if wrong else status.removeprefix("; ") or None), heads
+    return (wrong + status if wrong else status.removeprefix("; ") or None), tally
 
 
 # ---- jobs
@@ -85,13 +127,15 @@ def what_is_wrong(told, right, machine):
 
 @dataclass
 class Tally:
-    """What was tried: jobs, and the lines, heads and reports of their runs; and the jobs that are left out, since the model
-    would take too long."""
+    """What was tried: jobs, and the lines, heads and reports of their runs; how many runs a reset ended, and how many of these
+    were broken off before all was carried out; and the jobs that are left out, since the model would take too long."""
 
     jobs: int = 0
     lines: int = 0
     heads: int = 0
     reports: int = 0
+    resets: int = 0
+    broken_off: int = 0
     left_out: int = 0
 
     def add(self, other):
@@ -101,7 +145,7 @@ class Tally:
     def __str__(self):
         rest = f"; {self.left_out} are left out, since they have too many steps" if self.left_out else ""
         return (f"{self.jobs} jobs, each as a stream and in lockstep, in all {self.lines} lines with {self.heads} heads and "
-                f"{self.reports} reports{rest}")
+                f"{self.reports} reports, and {self.resets} runs that a reset ended, {self.broken_off} of them early{rest}")
 
 
 @dataclass
@@ -124,12 +168,15 @@ class Trial:
     most_events: int
 
     def try_job(self, number, folder, tally):
-        """Tries the job of a number, as a stream and in lockstep, and answers a failure or None."""
+        """Tries the job of a number, as a stream, of a file or a pipe, and in lockstep, and answers a failure or None."""
         chance = random.Random(self.seed * 1_000_003 + number)
         job = self.make(chance, number)
         tally.jobs += 1
-        for words in (["stream"], ["stream", "--lockstep", str(chance.choice((number, chance.getrandbits(64))))]):
-            told = run_program(words, job, folder)
+        lockstep = ["--lockstep", str(chance.choice((number, chance.getrandbits(64))))]
+        is_piped = len(job) < LARGEST_JOB // 2 and chance.random() < 0.5
+        first = start_on_pipe if is_piped else start_on_file
+        for start_it, words in ((first, ["stream"]), (start_on_file, ["stream", *lockstep])):
+            told = run_program(start_it, words, job, folder)
             if isinstance(told, str):
                 return Failure(number, job, f"{' '.join(words)}: {told}")
             try:
@@ -137,8 +184,8 @@ class Trial:
             except TooLong:
                 tally.left_out += 1
                 return None
-            wrong, heads = what_is_wrong(told, right, machine)
-            tally.add(Tally(0, machine.number, heads, len(told.reports)))
+            wrong, tried = what_is_wrong(told, right, machine)
+            tally.add(tried)
             if wrong:
                 return Failure(number, job, f"{' '.join(words)}: {wrong}")
         return None
@@ -156,8 +203,8 @@ class Trial:
         return tally, None
 
     def run(self):
-        """Tries the jobs on all processors. Answers the exit status, and says what was tried or what is wrong."""
-        name, many = Path(sys.argv[0]).name, os.cpu_count() or 1
+        """Tries the jobs on all processors that it has. Answers the exit status, and says what was tried or what is wrong."""
+        name, many = Path(sys.argv[0]).name, len(os.sched_getaffinity(0))
         if not PROGRAM.exists():
             print(f"{name}: left out, no program is built")
             return 0
@@ -168,6 +215,9 @@ class Trial:
                 failures += [failure] if failure else []
         if failures:
             tell(name, self.seed, min(failures, key=lambda failure: failure.number))
+            return 1
+        if total.resets >= MANY_RESETS and not total.broken_off:
+            print(f"{name}: of {total.resets} runs with a reset none was broken off")
             return 1
         print(f"{name}: ok, {total}")
         return 0

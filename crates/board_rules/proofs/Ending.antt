@@ -18,19 +18,19 @@ use Rattle.board_rules.specs.Conduct.{Conducted, IsInHand}
 use Rattle.board_rules.proofs.Keeping.{run_is, hand_is}
 use Rattle.board_rules.proofs.Closing.{At, going, to_finish, to_tell, over, phase_is}
 
-abbrev NoEnds : List Piece → Type 0
+abbrev pub NoEnds : List Piece → Type 0
 NoEnds ps = AllByRecursion (λ (p : Piece). p ≡ pieces.End → ⊥) ps
 
 no_ends_on : (ps qs : List Piece) → NoEnds ps → NoEnds qs → NoEnds (ps ++ qs)
 no_ends_on [] qs a b = b
 no_ends_on (p ∷ ps) qs a b = (a.0, no_ends_on ps qs a.1 b)
 
-no_ends_back : (ps : List Piece) → NoEnds ps → NoEnds (reverse ps)
+pub no_ends_back : (ps : List Piece) → NoEnds ps → NoEnds (reverse ps)
 no_ends_back [] none = tt
 no_ends_back (p ∷ ps) none = subst NoEnds (sym (reverse-append (p ∷ []) ps)) (no_ends_on (reverse ps) (p ∷ []) (no_ends_back ps none.1) (none.0, tt))
 
 -- no plan gives the end
-planned_no_end : (most : ℕ) (p last : Planned) (actions : List Action) (ps : List Piece) → Plans most p actions ps last → NoEnds ps
+pub planned_no_end : (most : ℕ) (p last : Planned) (actions : List Action) (ps : List Piece) → Plans most p actions ps last → NoEnds ps
 planned_no_end most p last [] [] run = tt
 planned_no_end most p last (Add m ∷ more) ps run = planned_no_end most (with_move p m) last more ps run.1
 planned_no_end most p last (Override o ∷ more) ps run = planned_no_end most (record p { overrides = o }) last more ps run.1
@@ -41,7 +41,7 @@ planned_no_end most p last (Take mode ∷ more) (pieces.Segment s ∷ ps) run = 
 planned_no_end most p last (Mark m ∷ more) (pieces.Mark g ∷ ps) run = ((λ e. absurd cc), planned_no_end most p last more ps run.3)
 planned_no_end most p last actions ps run = absurd run
 
-not_ended : (before : List Piece) → NoEnds before → has_ended before ≡ false
+pub not_ended : (before : List Piece) → NoEnds before → has_ended before ≡ false
 not_ended [] none = refl
 not_ended (pieces.Segment s ∷ ps) none = refl
 not_ended (pieces.Mark m ∷ ps) none = refl

@@ -6,6 +6,7 @@ pub mod Lines
 pub mod Answering
 pub mod Closing
 pub mod Ending
+pub mod Breaking
 pub mod Quieting
 pub mod Resting
 pub mod Works

@@ -3,6 +3,7 @@ pub mod Steps
 pub mod Turns
 pub mod Conduct
 pub mod Whole
+pub mod Breaking
 pub use Rattle.planner_runs.specs.Runs
 pub use Rattle.run_rules.specs.Lines
 pub use Rattle.run_rules.specs.Outcomes

@@ -38,6 +38,10 @@ pub data PortStep : Type 0 where
 abbrev pub PortLog : Type 0
 PortLog = NewestFirst PortStep
 
+-- 0x18 resets the machine
+abbrev pub reset_byte : ℕ
+reset_byte = 0x18
+
 -- what it is to answer with a reply
 abbrev pub said : Reply → PortStep
 said (replies.Report r) = reported r
@@ -106,6 +110,19 @@ holds_at e held = held
 abbrev pub has_held_in : PortLog → Bool
 has_held_in [] = false
 has_held_in (e ∷ l) = holds_at e (has_held_in l)
+
+-- a word of requests asks for a reset
+abbrev pub asks_reset : Exec → Bool
+asks_reset word = asks word reset_byte
+
+abbrev pub resets_at : PortStep → Bool → Bool
+resets_at (took_exec word) reset = asks_reset word || reset
+resets_at e reset = reset
+
+-- a word that asks for a reset was taken
+abbrev pub has_reset_in : PortLog → Bool
+has_reset_in [] = false
+has_reset_in (e ∷ l) = resets_at e (has_reset_in l)
 
 abbrev pub changes_at : PortStep → Bool → Bool
 changes_at (took_ovr word) changed = has_changes word || changed

@@ -132,6 +132,7 @@ begun board lines input h o k may found is reads = record {
   input = reads;
   flight = record { known = k.flight.known; found = k.flight.found; flies = k.flight.flies };
   owes_is = k.owes_is;
+  reset_is = k.reset_is;
   going = k.going;
   closed = k.closed;
 }

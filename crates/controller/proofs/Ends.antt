@@ -45,7 +45,7 @@ use Rattle.controller.specs.declared.controller.Controller.{Controller}
 use Rattle.controller.specs.declared.controller.Flags.{Flags}
 use Rattle.controller.specs.declared.controller.Flags.TheVariants as words
 use Rattle.controller.specs.declared.controller.Beat.TheVariants.{Motion, Main}
-use Rattle.controller.specs.Boards.{Keeps, Rounds, NoneWaits, IsBetween, IsFree, TakesFlags, takes_no_word, BoardFits, BoardTurned, has_published, changes_left, number_of}
+use Rattle.controller.specs.Boards.{Keeps, Rounds, NoneWaits, GoingBetween, IsFree, TakesFlags, takes_no_word, GoingFits, GoingTurned, has_published, changes_left, number_of}
 use Rattle.controller.specs.Turning.{IsNextMove, AreWorked, IsQuiet, IsReady, MayRun, MayAwait, HasStopped, NeedsNoWait, GoesOn, PassesNothing, HasFilled, HasTried, BoardWorked, WorksOn}
 pub use Rattle.controller.proofs.Freeing.{free_of, takes_none, no_word_left, free_passed, free_tried, flags_tried, flags_passed, taken_by, obeyed_by}
 use Rattle.controller.proofs.Facts.{not_whole, uncounted, uncounted_line, uncounted_owing}
@@ -294,20 +294,20 @@ handed_back was board h mid next may tried filled keeps beat no_word =
 -- ---- what is next, behind that
 
 -- between two turns nothing was done in this one
-pub none_between : (h : Journal) (f : Step → Bool) → IsBetween h → list_any f (this_turn h) ≡ false
+pub none_between : (h : Journal) (f : Step → Bool) → GoingBetween h → list_any f (this_turn h) ≡ false
 none_between h f between = ap (λ (ss : List Step). list_any f ss) between
 
-pub count_between : (h : Journal) → IsBetween h → count_by publishing (this_turn h) ≡ 0
+pub count_between : (h : Journal) → GoingBetween h → count_by publishing (this_turn h) ≡ 0
 count_between h between = ap (λ (ss : List Step). count_by publishing ss) between
 
-pub none_worked : (h : Journal) → IsBetween h → (owes_report h ≡ false → unobeyed_of h ≡ []) → AreWorked h
+pub none_worked : (h : Journal) → GoingBetween h → (owes_report h ≡ false → unobeyed_of h ≡ []) → AreWorked h
 none_worked h between obeyed = record {
   obeyed = obeyed;
   changed = ap (λ (ss : List Step). count_by replans ss) between ∙ sym (ap (λ (ss : List Step). count_by takes_changes ss) between);
 }
 
 -- nothing is done yet
-quiet_between : (h : Journal) → IsBetween h → IsFree h → IsQuiet h
+quiet_between : (h : Journal) → GoingBetween h → IsFree h → IsQuiet h
 quiet_between h between free = record {
   still = none_between h passing between;
   quiet = count_between h between;
@@ -316,7 +316,7 @@ quiet_between h between free = record {
   unowed = free.unowed;
 }
 
-pub may_try_first : (f : Flags) (h : Journal) → Rounds Motion h → IsBetween h → takes_no_word f ≡ true → TakesFlags f h → MayTry h
+pub may_try_first : (f : Flags) (h : Journal) → Rounds Motion h → GoingBetween h → takes_no_word f ≡ true → TakesFlags f h → MayTry h
 may_try_first f h r between none takes = record {
   quiet = count_between h between;
   worked = none_worked h between (obeyed_by f h none takes);
@@ -331,7 +331,7 @@ still_none_waits h next p tried none waiting =
     (less_or (is_full (plan_of next)) (is_full (plan_of h)) (awaits_motion (left_of h)) tried.full (none (tried.waiting waiting)))
 
 -- what was tried first was handed back
-pub ready_tried : (h next : Journal) → Rounds Motion h → IsBetween h → IsFree h → HasTried false h next → IsReady next
+pub ready_tried : (h next : Journal) → Rounds Motion h → GoingBetween h → IsFree h → HasTried false h next → IsReady next
 ready_tried h next r between free tried =
     let w = ap one_if tried.whole in
     let rt = r.tries in
@@ -355,7 +355,7 @@ ready_tried h next r between free tried =
     }
 
 -- the last turn published
-pub ready_sent : (h : Journal) → Rounds Main h → IsBetween h → IsFree h → IsReady h
+pub ready_sent : (h : Journal) → Rounds Main h → GoingBetween h → IsFree h → IsReady h
 ready_sent h r between taken = record {
   quiet = quiet_between h between taken;
   unpolled = none_between h found_none between;
@@ -368,7 +368,7 @@ ready_sent h r between taken = record {
 }
 
 -- nothing is due
-pub ready_idle : (h : Journal) → Rounds Motion h → IsBetween h → IsFree h → is_due h ≡ false → missed_of h ≡ false → IsReady h
+pub ready_idle : (h : Journal) → Rounds Motion h → GoingBetween h → IsFree h → is_due h ≡ false → missed_of h ≡ false → IsReady h
 ready_idle h r between taken idle unmissed = record {
   quiet = quiet_between h between taken;
   unpolled = none_between h found_none between;
@@ -538,7 +538,7 @@ still_turned Did was board h next w e = w.still e
 still_turned (Wait o) was board h next w e = absurd (let s = ap has_published (w.beat o refl) in cc)
 still_turned Done was board h next w e = w.still e
 
-pub turned_on : (t : Turn) (was : Flags) (board : Controller) (h next : Journal) → BoardWorked t was board h next → BoardFits (record board { flags = flags_behind t board.flags }) (turned t ∷ next)
+pub turned_on : (t : Turn) (was : Flags) (board : Controller) (h next : Journal) → BoardWorked t was board h next → GoingFits (record board { flags = flags_behind t board.flags }) (turned t ∷ next)
 turned_on t was board h next w = record {
   keeps = other_flags board (flags_behind t board.flags) (turned t ∷ next) (ends board t next w.keeps w.may);
   rounds = rounds_turned t was board h next w;
@@ -547,7 +547,7 @@ turned_on t was board h next w = record {
 }
 
 pub board_turned : (t : Turn) (before board : Controller) (h next : Journal) → BoardWorked t before.flags board h next
-    → BoardTurned t before (record board { flags = flags_behind t board.flags }) h (turned t ∷ next)
+    → GoingTurned t before (record board { flags = flags_behind t board.flags }) h (turned t ∷ next)
 board_turned t before board h next w = record {
   steps = w.steps;
   are = ap (λ (x : Journal). turned t ∷ x) w.are;
@@ -561,9 +561,9 @@ board_turned t before board h next w = record {
 
 -- a turn has ended, behind which these words of flags are to be taken
 pub turned_by : (t : Turn) (before board : Controller) (f : Flags) (h next : Journal) → flags_behind t board.flags ≡ f → BoardWorked t before.flags board h next
-    → BoardFits (record board { flags = f }) (turned t ∷ next) × BoardTurned t before (record board { flags = f }) h (turned t ∷ next)
+    → GoingFits (record board { flags = f }) (turned t ∷ next) × GoingTurned t before (record board { flags = f }) h (turned t ∷ next)
 turned_by t before board f h next is w =
-    subst (λ (x : Flags). BoardFits (record board { flags = x }) (turned t ∷ next) × BoardTurned t before (record board { flags = x }) h (turned t ∷ next)) is
+    subst (λ (x : Flags). GoingFits (record board { flags = x }) (turned t ∷ next) × GoingTurned t before (record board { flags = x }) h (turned t ∷ next)) is
     (turned_on t before.flags board h next w, board_turned t before board h next w)
 
 -- where it does not wait the words stay

@@ -1,5 +1,5 @@
 -- The flight of a board, which knows the pieces that were published.
-use Rattle.std.proofs.Common.{◌≡◌, ℕ, ◌≤◌, ◌<◌, List, [], ◌∷◌, ◌++◌, reverse, max, min, refl, subst, arith}
+use Rattle.std.proofs.Common.{◌≡◌, ℕ, ◌≤◌, List, [], ◌∷◌, reverse, max, min, refl, arith}
 use Rattle.step_line.specs.declared.Piece.{Piece}
 use Rattle.step_line.specs.declared.Piece.TheVariants as pieces
 use Rattle.step_line.specs.Finishing.{ticks_together}
@@ -27,9 +27,6 @@ begins_next b h p k is = next_begins k.first h k.opening k.conducted p (rw is re
 no_more : (a b c d : ℕ) → a ≤ d → d ≤ b → max a (min b c) ≤ b
 no_more a b c d e f = grind (arith, e, f)
 
-exactly : (a b c d : ℕ) → a ≤ d → d ≤ b → b ≤ c → max a (min b c) ≡ b
-exactly a b c d e f g = grind (arith, e, f, g)
-
 -- a flight that learns how many ticks are done
 pub learned : (b : Controller) (f : Flying) (h : Journal) (done : ℕ) → Keeps b h → MayBeDone done (port_log h)
     → ((published : List Piece) (known : ℕ) → Flies b.flight published known → Flies f published (max known (min done (ticks_together published))))
@@ -39,11 +36,3 @@ learned b f h done k may learns = record {
   found = no_more k.flight.known done (ticks_together (published_of h)) (known_of h) k.flight.found may.later;
   flies = learns (published_of h) k.flight.known k.flight.flies;
 }
-
--- it then knows exactly what was found done
-pub learned_all : (b : Controller) (f : Flying) (h : Journal) (done : ℕ) → Keeps b h → MayBeDone done (port_log h)
-    → ((published : List Piece) (known : ℕ) → Flies b.flight published known → Flies f published (max known (min done (ticks_together published))))
-    → Flies f (published_of h) done
-learned_all b f h done k may learns =
-    subst (λ n. Flies f (published_of h) n) (exactly k.flight.known done (ticks_together (published_of h)) (known_of h) k.flight.found may.later may.below)
-    (learns (published_of h) k.flight.known k.flight.flies)

@@ -1,5 +1,5 @@
 -- What is known of a board that keeps its journal.
-use Rattle.std.proofs.Common.{◌≡◌, ◌<◌, ◌^◌, ◌⊎◌, inl, inr, List, [], ◌∷◌, drop, true, false, Some, None, sym, refl, ap, ◌∙◌, subst, arith}
+use Rattle.std.proofs.Common.{◌≡◌, ◌<◌, ◌^◌, ◌⊎◌, inl, inr, List, [], ◌∷◌, drop, true, false, Some, None, sym, refl, ap, ◌∙◌, subst}
 use Rattle.std.specs.Option.{option_to_list, is_some}
 use Rattle.std.specs.declared.option.Option.{Option}
 use Rattle.feed_hold.specs.declared.Motion.TheVariants as motions
@@ -8,8 +8,6 @@ use Rattle.run_rules.specs.Work.Task.{tell}
 use Rattle.status_report.specs.declared.Reply.{Reply}
 use Rattle.status_report.specs.declared.Reply.TheVariants as replies
 use Rattle.status_report.specs.Answering.{is_report}
-use Rattle.status_report.specs.declared.reports.Report.{Report}
-use Rattle.status_report.specs.Reports.{IsReport}
 use Rattle.board_rules.specs.Ports.{said}
 use Rattle.board_rules.specs.Ports.PortStep.{answered}
 use Rattle.status_report.specs.Replies.{IsReply}
@@ -20,7 +18,7 @@ use Rattle.planner_runs.specs.Runs.{IsAtRest, most_blocks, fresh_plan}
 use Rattle.planner_runs.proofs.Runs.{fresh_starts, rests_behind, reached_from}
 use Rattle.line_interpreter.specs.Lefts.{IsNextOf}
 use Rattle.board_rules.specs.Ports.{MayAnswer, MayPublish}
-use Rattle.board_rules.specs.Ports.PortStep.{answered, published}
+use Rattle.board_rules.specs.Ports.PortStep.{answered}
 use Rattle.board_rules.specs.Steps.{Journal, port_log, hand_of, plan_of, motion_of, planned_of, actions_of}
 use Rattle.board_rules.specs.Turns.{is_due, has_segment}
 use Rattle.board_rules.specs.Conduct.{IsNextTask, IsInHand}
@@ -112,7 +110,3 @@ may_answer c h r k next text = record { line = λ e. answer_is_due k.first h r k
 pub said_plain : (r : Reply) → is_report r ≡ false → said r ≡ answered r
 said_plain (replies.Report r) none = absurd cc
 said_plain r none = refl
-
--- a report may be answered
-pub may_answer_report : (c : Controller) (h : Journal) (r : Report) → Keeps c h → IsReport r → MayAnswer (port_log h) (replies.Report r)
-may_answer_report c h r k text = record { line = λ e. absurd cc; text = text; few = few_answered k.first h k.conducted }

@@ -16,6 +16,7 @@ pub mod Flying
 pub mod Freeing
 pub mod Telling
 pub mod Ends
+pub mod Breaking
 pub mod Owing
 pub mod Owed
 pub mod Lasts

@@ -22,22 +22,7 @@ use Rattle.line_interpreter.specs.declared.tasks.Todo.TheVariants as todo
 use Rattle.board_rules.specs.Ports.PortStep.{took, found_empty, found_closed, no_reply_room}
 use Rattle.board_rules.specs.Steps.{Journal, left_of, plan_of, motion_of, whole_of, has_closed}
 use Rattle.board_rules.specs.Steps.Step.{at_port, did, made_end, became, closing}
-use Rattle.board_rules.specs.Turns.{
-  this_turn,
-  found_none,
-  found_nothing,
-  flags_taken,
-  tells_next,
-  awaits_motion,
-  needs_motion,
-  is_held_up,
-  is_halting,
-  is_full,
-  has_blocks,
-  has_segment,
-  is_due,
-  tries_of,
-}
+use Rattle.board_rules.specs.Turns.{this_turn, found_none, found_nothing, tells_next, awaits_motion, needs_motion, is_held_up, is_halting, is_full, has_blocks, has_segment, is_due, tries_of}
 use Rattle.board_rules.specs.Conduct.{Conducted, AreWaiting, IsNextTask, MayPoll, MayStart, MayClose}
 use Rattle.board_rules.proofs.Motions.{motion_is}
 use Rattle.board_rules.proofs.Tasks.{none_next, head_is}
@@ -47,7 +32,7 @@ use Rattle.controller.specs.declared.controller.Flags.{Flags}
 use Rattle.controller.specs.declared.controller.Flags.TheVariants as words
 use Rattle.controller.specs.declared.controller.Beat.{Beat}
 use Rattle.controller.specs.declared.controller.Beat.TheVariants.{Motion, Main}
-use Rattle.controller.specs.Boards.{Keeps, Rounds, NoneWaits, IsBetween, IsFree, TakesFlags, has_published, number_of}
+use Rattle.controller.specs.Boards.{Keeps, Rounds, NoneWaits, GoingBetween, IsFree, TakesFlags, has_published, number_of}
 use Rattle.controller.specs.Turning.{IsNextMove, IsQuiet, IsReady, HasPiece, HasPolled, MayRun, MayAwait, HasStopped, IsWholeLine, NeedsNoWait, GoesOn, PassesNothing, BoardWorked}
 use Rattle.controller.proofs.Steps.{is_next, not_told}
 use Rattle.controller.proofs.Facts.{not_whole, uncounted, unmissed}
@@ -58,7 +43,7 @@ use Rattle.controller.proofs.Ends.{none_called, none_waited, rounds_still, one_a
 -- ---- how a turn begins
 
 -- where it does not begin with a piece, what is next may be done
-pub ready_now : (beat : Beat) (h : Journal) → Rounds beat h → IsBetween h → IsFree h → (beat ≡ Motion → HasPiece h → ⊥) → IsReady h
+pub ready_now : (beat : Beat) (h : Journal) → Rounds beat h → GoingBetween h → IsFree h → (beat ≡ Motion → HasPiece h → ⊥) → IsReady h
 ready_now Main h r between taken none = ready_sent h r between taken
 ready_now Motion h r between taken none =
     let idle : is_due h ≡ false = by_due (is_due h) refl in

@@ -14,7 +14,7 @@ use Rattle.units.specs.Truths.{one_if}
 use Rattle.controller.specs.declared.controller.Controller.{Controller}
 use Rattle.controller.specs.declared.controller.Flags.{Flags}
 use Rattle.controller.specs.declared.controller.Flags.TheVariants as words
-use Rattle.controller.specs.Boards.{BoardFits, words_left, changes_left, number_of}
+use Rattle.controller.specs.Boards.{GoingFits, words_left, changes_left, number_of}
 use Rattle.controller.proofs.Tries.{fewer_pauses, pauses_by}
 
 less_too : (a b : ℕ) → a ≤ b → b ≤ 1 → a ≤ 1
@@ -59,7 +59,7 @@ one_at_most : (b : Bool) → one_if b ≤ 1
 one_at_most true = omega arith
 one_at_most false = omega arith
 
-pub number_few : (board : Controller) (h : Journal) → BoardFits board h → number_of board.flags h < 64
+pub number_few : (board : Controller) (h : Journal) → GoingFits board h → number_of board.flags h < 64
 number_few board h fits =
     let p = pause_once fits.keeps.first h fits.keeps.conducted in
     let w = few_words board.flags in

@@ -1,26 +1,23 @@
 -- A report that is owed is tried to be told, and the turn goes on behind it.
-use Rattle.std.proofs.Common.{◌≡◌, ℕ, ◌+◌, ◌≤◌, ◌<◌, ◌⊎◌, inl, inr, Bool, true, false, ◌||◌, not, cond, Ok, Err, List, [], ◌∷◌, ◌++◌, drop, Some, None, sym, refl, ap, ◌∙◌, subst, arith, append_assoc}
+use Rattle.std.proofs.Common.{◌≡◌, ℕ, ◌+◌, ◌≤◌, ◌⊎◌, inl, inr, Bool, true, false, ◌||◌, not, Ok, Err, List, [], ◌∷◌, ◌++◌, drop, Some, None, sym, refl, ap, ◌∙◌, subst, arith, append_assoc}
 use Rattle.std.specs.Prelude.{OnOk, OnErr}
 use Rattle.std.specs.Result.{is_ok}
 use Rattle.std.specs.declared.result.Result.{Result}
 use Rattle.std.specs.declared.option.Option.{Option}
 use Rattle.std.specs.Option.{option_to_list}
-use Rattle.std.specs.List.{list_any, count_by, Contains}
+use Rattle.std.specs.List.{list_any, count_by}
 use Rattle.code_table.specs.declared.flags.Exec.{Exec}
 use Rattle.flight.specs.Flights.{Flies}
 use Rattle.feed_hold.specs.Motions.{after_word}
 use Rattle.feed_hold.specs.Motions.Call.{on_exec}
 use Rattle.outside.specs.declared.Turn.{Turn}
 use Rattle.outside.specs.declared.Turn.TheVariants.{Did, Wait}
-use Rattle.outside.specs.declared.On.{On}
 use Rattle.outside.specs.declared.On.TheVariants.{ReplyRoom}
 use Rattle.run_rules.specs.declared.State.{State}
 use Rattle.run_rules.specs.Work.{Task}
 use Rattle.run_rules.specs.Work.Task.{ask}
-use Rattle.run_rules.specs.Outcomes.{Before}
 use Rattle.run_rules.specs.Reports.{Shows}
 use Rattle.flight.specs.Places.{machine_at}
-use Rattle.step_line.specs.declared.planned_move.PlannedMove.{PlannedMove}
 use Rattle.step_line.specs.Asking.Asked.{a_move}
 use Rattle.status_report.specs.declared.Reply.{Reply}
 use Rattle.status_report.specs.declared.Reply.TheVariants as replies
@@ -28,7 +25,7 @@ use Rattle.status_report.specs.declared.reports.Report.{Report}
 use Rattle.plan_passes.specs.Plans.{Planned}
 use Rattle.board_rules.specs.Ports.{PortLog, MayAnswer, LacksReplyRoom, said}
 use Rattle.board_rules.specs.Ports.PortStep.{found_free, reported, no_reply_room}
-use Rattle.board_rules.specs.Steps.{Step, Journal, port_log, published_of, known_of, before_of, whole_of, left_of, hand_of, plan_of, motion_of}
+use Rattle.board_rules.specs.Steps.{Step, Journal, port_log, published_of, known_of, whole_of, left_of, plan_of, motion_of}
 use Rattle.board_rules.specs.Steps.Step.{at_port, became}
 use Rattle.board_rules.specs.Turns.{
   this_turn,
@@ -51,7 +48,7 @@ use Rattle.board_rules.specs.Turns.{
   tries_of,
   waits_of,
 }
-use Rattle.board_rules.specs.Conduct.{IsDrained, IsStopped, AreWaiting, IsNextTask, IsReportAt}
+use Rattle.board_rules.specs.Conduct.{IsDrained, IsStopped, IsReportAt}
 use Rattle.board_rules.proofs.Limits.{few_answered}
 use Rattle.units.specs.Truths.{one_if}
 use Rattle.controller.specs.declared.controller.Controller.{Controller}
@@ -59,7 +56,7 @@ use Rattle.controller.specs.declared.controller.Beat.TheVariants.{Motion, Main}
 use Rattle.controller.specs.declared.controller.Flags.{Flags}
 use Rattle.controller.specs.declared.controller.Flags.TheVariants as words
 use Rattle.controller.specs.Boards.{Keeps, Rounds, NoneWaits, TakesFlags, has_published}
-use Rattle.controller.specs.Turning.{AreWorked, NoneFits, HasPiece, HasTried, HasFilled, BoardWorked}
+use Rattle.controller.specs.Turning.{NoneFits, HasPiece, HasTried, HasFilled, BoardWorked}
 use Rattle.controller.specs.Reporting.{HasObserved, HasAskedRoom, IsBehind, IsReported, IsTold, IsToReport, LacksRoom, obeying}
 use Rattle.controller.proofs.Steps.{report_told, report_kept, other_flags}
 use Rattle.controller.proofs.Tries.{counts_none, publishes_none, publishes_one}
@@ -323,10 +320,6 @@ sent_owing board was h mid next k l tried filled =
     )
 
 -- ---- the word that waits for it
-
-none_obeyed : (waiting : Option Exec) (h : Journal) → unobeyed_of h ≡ option_to_list waiting → unobeyed_of (obeying waiting h) ≡ []
-none_obeyed None h is = is
-none_obeyed (Some word) h is = ap (λ (ws : List Exec). drop 1 ws) is
 
 -- what a report leaves behind it holds behind the word too
 pub record IsObeyed (told : Bool) (h : Journal) : Type 0 where

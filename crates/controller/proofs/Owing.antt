@@ -1,9 +1,9 @@
 -- A report that is owed is told next: where a piece that was tried first was handed back, and where no piece comes first.
-use Rattle.std.proofs.Common.{◌≡◌, inr, Bool, true, false, [], sym, refl, ap, ◌∙◌, subst, arith}
+use Rattle.std.proofs.Common.{◌≡◌, inr, true, false, [], sym, refl, ap, ◌∙◌, arith}
 use Rattle.std.specs.declared.option.Option.{Option}
 use Rattle.code_table.specs.declared.flags.Exec.{Exec}
 use Rattle.run_rules.specs.declared.State.{State}
-use Rattle.board_rules.specs.Steps.{Journal, whole_of}
+use Rattle.board_rules.specs.Steps.{Journal}
 use Rattle.board_rules.specs.Turns.{passing, found_none, is_due, waits_of}
 use Rattle.board_rules.specs.Conduct.{Conducted}
 use Rattle.board_rules.proofs.Waiting.{adds}
@@ -12,7 +12,7 @@ use Rattle.controller.specs.declared.controller.Flags.{Flags}
 use Rattle.controller.specs.declared.controller.Flags.TheVariants as words
 use Rattle.controller.specs.declared.controller.Beat.{Beat}
 use Rattle.controller.specs.declared.controller.Beat.TheVariants.{Motion, Main}
-use Rattle.controller.specs.Boards.{Rounds, IsBetween, IsAsked, TakesFlags, takes_no_word}
+use Rattle.controller.specs.Boards.{Rounds, GoingBetween, IsAsked, takes_no_word}
 use Rattle.controller.specs.Turning.{HasPiece, HasFilled, HasTried}
 use Rattle.controller.specs.Reporting.{IsToReport}
 use Rattle.controller.proofs.Facts.{uncounted_owing}
@@ -30,7 +30,7 @@ none_left words.None none no_report = refl
 -- ---- a report that is owed
 
 -- what was tried first was handed back, and moves were added
-pub owing_tried : (word : Option Exec) (h mid next : Journal) → Rounds Motion h → IsBetween h → IsAsked word h → HasTried false h mid → HasFilled mid next → IsToReport word next
+pub owing_tried : (word : Option Exec) (h mid next : Journal) → Rounds Motion h → GoingBetween h → IsAsked word h → HasTried false h mid → HasFilled mid next → IsToReport word next
 owing_tried word h mid next r between asked tried filled =
     let a = filled.alone.passes in
     let w = ap one_if (a.whole ∙ tried.whole) in
@@ -47,7 +47,7 @@ owing_tried word h mid next r between asked tried filled =
     }
 
 -- no piece comes first
-pub owing_now : (first : State) (beat : Beat) (word : Option Exec) (h : Journal) → Conducted first h → Rounds beat h → IsBetween h → IsAsked word h → (beat ≡ Motion → HasPiece h → ⊥) → IsToReport word h
+pub owing_now : (first : State) (beat : Beat) (word : Option Exec) (h : Journal) → Conducted first h → Rounds beat h → GoingBetween h → IsAsked word h → (beat ≡ Motion → HasPiece h → ⊥) → IsToReport word h
 owing_now first beat word h c r between asked none = record {
   still = none_between h passing between;
   quiet = count_between h between;

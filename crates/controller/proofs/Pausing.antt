@@ -14,7 +14,7 @@ use Rattle.units.specs.Truths.{one_if}
 use Rattle.controller.specs.declared.controller.Controller.{Controller}
 use Rattle.controller.specs.declared.controller.Beat.TheVariants.{Motion}
 use Rattle.controller.specs.declared.controller.Flags.TheVariants as flags
-use Rattle.controller.specs.Boards.{Keeps, Rounds, TakesFlags, number_of}
+use Rattle.controller.specs.Boards.{Keeps, Rounds, number_of}
 use Rattle.controller.specs.Turning.{IsReady, PassesNothing, HasFilled, BoardWorked}
 use Rattle.controller.proofs.Facts.{not_whole}
 use Rattle.controller.proofs.Tries.{publishes_none, worked_behind}

@@ -28,7 +28,7 @@ use Rattle.controller.specs.declared.controller.Beat.TheVariants.{Motion as Moti
 use Rattle.controller.specs.declared.controller.Flags.TheVariants as flags
 use Rattle.controller.specs.declared.machine.Machine.{Machine}
 use Rattle.controller.specs.Machines.{Runs, is_halting}
-use Rattle.controller.specs.Boards.{Keeps, Rounds, TakesFlags}
+use Rattle.controller.specs.Boards.{Keeps, Rounds}
 use Rattle.controller.specs.Turning.{HasPiece, HasLooked, MayAwait, PassesNothing, BoardWorked}
 use Rattle.controller.proofs.Facts.{uncounted, and_false}
 use Rattle.controller.proofs.Steps.{at_rest, hand_empty, none_by_test, looked, drained}

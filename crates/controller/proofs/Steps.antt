@@ -33,7 +33,7 @@ use Rattle.planner_runs.specs.declared.Action.TheVariants.{Add, Take, Override, 
 use Rattle.planner_runs.specs.Runs.{IsAtRest, with_move, normal_overrides, most_blocks}
 use Rattle.planner_runs.proofs.Runs.{fresh_starts}
 use Rattle.line_interpreter.specs.Interpreting.{Interpreting}
-use Rattle.board_rules.specs.Ports.{MayBeDone, LacksPieceRoom, has_changes}
+use Rattle.board_rules.specs.Ports.{MayBeDone, LacksPieceRoom, has_changes, has_reset_in}
 use Rattle.board_rules.specs.Ports.PortStep.{found_empty, found_closed, found_free, answered, reported, no_reply_room, took_exec, took_ovr, published, no_piece_room, loaded}
 use Rattle.board_rules.specs.Steps.{Journal, port_log, published_of, before_of, left_of, closed_tells, given_of, hand_of, plan_of, motion_of}
 use Rattle.board_rules.specs.Steps.Step.{at_port, did, made_end, evened, paused, became, closing, turned}
@@ -63,6 +63,7 @@ sent c m f p h k is runs flies = record {
   input = k.input;
   flight = record { known = k.flight.known; found = k.flight.found; flies = flies k.flight.known k.flight.flies };
   owes_is = k.owes_is;
+  reset_is = k.reset_is;
   going = k.going;
   closed = k.closed;
 }
@@ -78,6 +79,7 @@ not_sent c done h k some full = record {
   input = k.input;
   flight = record { known = k.flight.known; found = k.flight.found; flies = k.flight.flies };
   owes_is = k.owes_is;
+  reset_is = k.reset_is;
   going = k.going;
   closed = k.closed;
 }
@@ -93,6 +95,7 @@ looked c done h k may = record {
   input = k.input;
   flight = record { known = k.flight.known; found = let a = k.flight.found in let b = may.later in omega (arith, a, b); flies = k.flight.flies };
   owes_is = k.owes_is;
+  reset_is = k.reset_is;
   going = k.going;
   closed = k.closed;
 }
@@ -118,6 +121,7 @@ told c i r h k next plain unowed empty is = record {
   input = k.input;
   flight = record { known = k.flight.known; found = k.flight.found; flies = k.flight.flies };
   owes_is = k.owes_is;
+  reset_is = k.reset_is;
   going = k.going;
   closed = k.closed;
 }
@@ -133,6 +137,7 @@ not_told c h k next = record {
   input = k.input;
   flight = record { known = k.flight.known; found = k.flight.found; flies = k.flight.flies };
   owes_is = k.owes_is;
+  reset_is = k.reset_is;
   going = k.going;
   closed = k.closed;
 }
@@ -148,6 +153,7 @@ report_told c r h k may = record {
   input = k.input;
   flight = record { known = k.flight.known; found = k.flight.found; flies = k.flight.flies };
   owes_is = refl;
+  reset_is = k.reset_is;
   going = k.going;
   closed = k.closed;
 }
@@ -167,6 +173,7 @@ report_kept c h k owed = record {
   input = k.input;
   flight = record { known = k.flight.known; found = k.flight.found; flies = k.flight.flies };
   owes_is = sym owed;
+  reset_is = k.reset_is;
   going = k.going;
   closed = k.closed;
 }
@@ -182,6 +189,7 @@ room_found c bytes h k = record {
   input = k.input;
   flight = record { known = k.flight.known; found = k.flight.found; flies = k.flight.flies };
   owes_is = k.owes_is;
+  reset_is = k.reset_is;
   going = k.going;
   closed = k.closed;
 }
@@ -197,6 +205,7 @@ polled_empty c h k may = record {
   input = k.input;
   flight = record { known = k.flight.known; found = k.flight.found; flies = k.flight.flies };
   owes_is = k.owes_is;
+  reset_is = k.reset_is;
   going = k.going;
   closed = k.closed;
 }
@@ -212,6 +221,7 @@ polled_closed c h k may = record {
   input = k.input;
   flight = record { known = k.flight.known; found = k.flight.found; flies = k.flight.flies };
   owes_is = k.owes_is;
+  reset_is = k.reset_is;
   going = k.going;
   closed = k.closed;
 }
@@ -235,6 +245,7 @@ added_move c m i mv h k next planned room runs is = record {
   input = k.input;
   flight = record { known = k.flight.known; found = k.flight.found; flies = k.flight.flies };
   owes_is = k.owes_is;
+  reset_is = k.reset_is;
   going = k.going;
   closed = k.closed;
 }
@@ -256,6 +267,7 @@ took_segment c m s h k moves empty next runs = record {
   input = k.input;
   flight = record { known = k.flight.known; found = k.flight.found; flies = k.flight.flies };
   owes_is = k.owes_is;
+  reset_is = k.reset_is;
   going = k.going;
   closed = k.closed;
 }
@@ -284,6 +296,7 @@ marked c m i mark h k next good empty rest runs is = record {
   input = k.input;
   flight = record { known = k.flight.known; found = k.flight.found; flies = k.flight.flies };
   owes_is = k.owes_is;
+  reset_is = k.reset_is;
   going = k.going;
   closed = k.closed;
 }
@@ -300,6 +313,7 @@ rested c i h k next drained stands is = record {
   input = k.input;
   flight = record { known = k.flight.known; found = k.flight.found; flies = k.flight.flies };
   owes_is = k.owes_is;
+  reset_is = k.reset_is;
   going = k.going;
   closed = k.closed;
 }
@@ -317,6 +331,7 @@ evens c m i h k next drained stands runs is = record {
   input = k.input;
   flight = record { known = k.flight.known; found = k.flight.found; flies = k.flight.flies };
   owes_is = k.owes_is;
+  reset_is = k.reset_is;
   going = k.going;
   closed = k.closed;
 }
@@ -333,6 +348,7 @@ held_for_pause c m i h k next drained stands runs is = record {
   input = k.input;
   flight = record { known = k.flight.known; found = k.flight.found; flies = k.flight.flies };
   owes_is = k.owes_is;
+  reset_is = k.reset_is;
   going = k.going;
   closed = k.closed;
 }
@@ -350,6 +366,7 @@ ended c m i h k next drained stands closes runs is = record {
   input = k.input;
   flight = record { known = k.flight.known; found = k.flight.found; flies = k.flight.flies };
   owes_is = k.owes_is;
+  reset_is = k.reset_is;
   going = k.going;
   closed = k.closed;
 }
@@ -368,6 +385,7 @@ started c m h k stands may runs = record {
   input = k.input;
   flight = record { known = k.flight.known; found = k.flight.found; flies = k.flight.flies };
   owes_is = k.owes_is;
+  reset_is = k.reset_is;
   going = k.going;
   closed = k.closed;
 }
@@ -388,6 +406,7 @@ drained c m h k was may runs = record {
   input = k.input;
   flight = record { known = k.flight.known; found = k.flight.found; flies = k.flight.flies };
   owes_is = k.owes_is;
+  reset_is = k.reset_is;
   going = k.going;
   closed = k.closed;
 }
@@ -404,6 +423,7 @@ stops c m h k stopped runs = record {
   input = k.input;
   flight = record { known = k.flight.known; found = k.flight.found; flies = k.flight.flies };
   owes_is = k.owes_is;
+  reset_is = k.reset_is;
   going = k.going;
   closed = k.closed;
 }
@@ -411,9 +431,9 @@ stops c m h k stopped runs = record {
 -- ---- the words of flags
 
 -- a word of requests is taken
-pub takes_word : (c : Controller) (owes : Bool) (word : Exec) (h : Journal) → Keeps c h → MayTakeRequests word h → owes ≡ owes_report (at_port (took_exec word) ∷ h)
-    → Keeps (record c { owes = owes }) (at_port (took_exec word) ∷ h)
-takes_word c owes word h k may is = record {
+pub takes_word : (c : Controller) (owes reset : Bool) (word : Exec) (h : Journal) → Keeps c h → MayTakeRequests word h → owes ≡ owes_report (at_port (took_exec word) ∷ h)
+    → reset ≡ has_reset_in (port_log (at_port (took_exec word) ∷ h)) → Keeps (record c { owes = owes; reset = reset }) (at_port (took_exec word) ∷ h)
+takes_word c owes reset word h k may is resets = record {
   first = k.first;
   opening = k.opening;
   conducted = (may, k.conducted);
@@ -422,6 +442,7 @@ takes_word c owes word h k may is = record {
   input = k.input;
   flight = record { known = k.flight.known; found = k.flight.found; flies = k.flight.flies };
   owes_is = is;
+  reset_is = resets;
   going = k.going;
   closed = k.closed;
 }
@@ -439,6 +460,7 @@ obeys c m word h k may runs = record {
   input = k.input;
   flight = record { known = k.flight.known; found = k.flight.found; flies = k.flight.flies };
   owes_is = k.owes_is;
+  reset_is = k.reset_is;
   going = k.going;
   closed = k.closed;
 }
@@ -459,6 +481,7 @@ changes c m word h k some range runs = record {
   input = k.input;
   flight = record { known = k.flight.known; found = k.flight.found; flies = k.flight.flies };
   owes_is = k.owes_is;
+  reset_is = k.reset_is;
   going = k.going;
   closed = k.closed;
 }
@@ -481,6 +504,7 @@ closes c i h k may is = record {
   input = k.input;
   flight = record { known = k.flight.known; found = k.flight.found; flies = k.flight.flies };
   owes_is = k.owes_is;
+  reset_is = k.reset_is;
   going = λ e. absurd (cc);
   closed = λ e. ap (λ (rs : List Reply). rs ++ Bye ∷ []) may.going;
 }
@@ -496,6 +520,7 @@ ends c t h k may = record {
   input = k.input;
   flight = record { known = k.flight.known; found = k.flight.found; flies = k.flight.flies };
   owes_is = k.owes_is;
+  reset_is = k.reset_is;
   going = k.going;
   closed = k.closed;
 }
@@ -511,6 +536,7 @@ other_beat c b h k = record {
   input = k.input;
   flight = record { known = k.flight.known; found = k.flight.found; flies = k.flight.flies };
   owes_is = k.owes_is;
+  reset_is = k.reset_is;
   going = k.going;
   closed = k.closed;
 }
@@ -525,6 +551,7 @@ other_flags c f h k = record {
   input = k.input;
   flight = record { known = k.flight.known; found = k.flight.found; flies = k.flight.flies };
   owes_is = k.owes_is;
+  reset_is = k.reset_is;
   going = k.going;
   closed = k.closed;
 }
@@ -540,6 +567,7 @@ other_flight c f h k flown = record {
   input = k.input;
   flight = flown;
   owes_is = k.owes_is;
+  reset_is = k.reset_is;
   going = k.going;
   closed = k.closed;
 }

@@ -1,5 +1,5 @@
 -- It is looked how many ticks are done before a report is told, and the room is asked for.
-use Rattle.std.proofs.Common.{◌≡◌, ℕ, ◌+◌, ◌≤◌, ◌⊎◌, inl, inr, Bool, true, false, ◌||◌, cond, not, nat_eq, List, [], ◌∷◌, length, max, min, Some, None, sym, refl, ap, ◌∙◌, subst, arith, length-append}
+use Rattle.std.proofs.Common.{◌≡◌, ℕ, ◌+◌, ◌≤◌, ◌⊎◌, inl, inr, Bool, true, false, ◌||◌, cond, not, nat_eq, List, [], ◌∷◌, length, max, min, Some, sym, refl, ap, ◌∙◌, subst, arith, length-append}
 use Rattle.std.specs.declared.option.Option.{Option}
 use Rattle.std.proofs.lemmas.Bool.Decides.{nat_tests}
 use Rattle.std.specs.List.{list_any}
@@ -62,6 +62,7 @@ other_machine c m h k runs = record {
   input = k.input;
   flight = record { known = k.flight.known; found = k.flight.found; flies = k.flight.flies };
   owes_is = k.owes_is;
+  reset_is = k.reset_is;
   going = k.going;
   closed = k.closed;
 }
@@ -271,9 +272,6 @@ asked_room c free bytes h k room = record {
     either (nat_eq bytes bytes) (list_any (finds_free bytes) (this_turn h)) (same_number bytes),
   );
 }
-
-pub asked_none : (h : Journal) → HasAskedRoom None h h
-asked_none h = record { are = inl refl; room = tt }
 
 -- ---- a word that waits for a report
 

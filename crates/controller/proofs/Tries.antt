@@ -1,5 +1,5 @@
 -- What a step adds to a turn: what nothing passes with, and what was tried to be published.
-use Rattle.std.proofs.Common.{◌≡◌, ℕ, ◌+◌, ◌≤◌, ◌⊎◌, inl, inr, Bool, List, [], ◌∷◌, ◌++◌, ◌||◌, cond, length, drop, true, false, refl, sym, ap, ◌∙◌, subst, arith, append_assoc, nat_eq}
+use Rattle.std.proofs.Common.{◌≡◌, ℕ, ◌+◌, ◌≤◌, inl, inr, Bool, List, [], ◌∷◌, ◌++◌, ◌||◌, cond, length, drop, true, false, refl, sym, ap, ◌∙◌, subst, arith, append_assoc, nat_eq}
 use Rattle.std.specs.List.{list_any, count_by}
 use Rattle.std.proofs.lemmas.List.Sums.{sum_by-cons}
 use Rattle.std.proofs.lemmas.Bool.Decides.{nat_tests}

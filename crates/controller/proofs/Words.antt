@@ -26,7 +26,7 @@ use Rattle.controller.specs.declared.controller.Controller.{Controller}
 use Rattle.controller.specs.declared.controller.Beat.{Beat}
 use Rattle.controller.specs.declared.controller.Beat.TheVariants.{Motion, Main}
 use Rattle.controller.specs.declared.controller.Flags.TheVariants as words
-use Rattle.controller.specs.Boards.{Keeps, Rounds, NoneWaits, HasChanges, TakesFlags, IsBetween, BoardFits, takes_no_word, has_published, words_left, changes_left, number_of}
+use Rattle.controller.specs.Boards.{Keeps, Rounds, NoneWaits, HasChanges, TakesFlags, GoingBetween, GoingFits, takes_no_word, has_published, words_left, changes_left, number_of}
 use Rattle.controller.specs.Turning.{HasSettled, AreWorked, BoardWorked, asked, flags_behind, obeyed, replanned}
 use Rattle.controller.proofs.Tries.{counts_none, counts_one}
 use Rattle.controller.proofs.Ends.{none_called, rounds_still, takes_none, no_word_left}
@@ -36,20 +36,20 @@ use Rattle.controller.proofs.Halting.{waited_before, ends_obeyed, ends_taken, ob
 -- ---- between two turns
 
 -- where words of flags are to be taken, the last turn published no piece
-beat_is : (board : Controller) (h : Journal) → BoardFits board h → takes_no_word board.flags ≡ false → board.beat ≡ Motion
+beat_is : (board : Controller) (h : Journal) → GoingFits board h → takes_no_word board.flags ≡ false → board.beat ≡ Motion
 beat_is board h f some = by_beat board.beat f.still
   where
     by_beat : (b : Beat) → (has_published b ≡ true → takes_no_word board.flags ≡ true) → b ≡ Motion
     by_beat Motion still = refl
     by_beat Main still = absurd (let e = sym some ∙ still refl in cc)
 
-few_between : (board : Controller) (h : Journal) → BoardFits board h → board.beat ≡ Motion → tries_of h + one_if (whole_of h) ≤ 1
+few_between : (board : Controller) (h : Journal) → GoingFits board h → board.beat ≡ Motion → tries_of h + one_if (whole_of h) ≤ 1
 few_between board h f beat = let t = f.rounds.tries in let b = ap (λ x. one_if (has_published x)) beat in omega (arith, t, b)
 
-count_between : (h : Journal) (f : Step → Bool) → IsBetween h → count_by f (this_turn h) ≡ 0
+count_between : (h : Journal) (f : Step → Bool) → GoingBetween h → count_by f (this_turn h) ≡ 0
 count_between h f between = ap (λ (ss : List Step). count_by f ss) between
 
-worked_between : (h : Journal) → IsBetween h → unobeyed_of h ≡ [] → AreWorked h
+worked_between : (h : Journal) → GoingBetween h → unobeyed_of h ≡ [] → AreWorked h
 worked_between h between none = record {
   obeyed = λ e. none;
   changed = count_between h replans between ∙ sym (count_between h takes_changes between);
@@ -132,7 +132,7 @@ none_waits_changed : (h next : Journal) → TakesChanges h next → NoneWaits h 
 none_waits_changed h next t none w =
     ap (λ full. full || awaits_motion (left_of next)) t.full ∙ ap (λ (ts : List Task). is_full (plan_of h) || awaits_motion ts) t.left ∙ none (t.waiting w)
 
-changes_worked : (was board : Controller) (h next : Journal) → BoardFits was h → IsBetween h → was.flags ≡ words.Both → TakesChanges h next → Keeps board next
+changes_worked : (was board : Controller) (h next : Journal) → GoingFits was h → GoingBetween h → was.flags ≡ words.Both → TakesChanges h next → Keeps board next
     → board.beat ≡ was.beat → board.flags ≡ words.Requests → BoardWorked Did was.flags board h next
 changes_worked was board h next f between both t keeps same_beat flag = record {
   keeps = keeps;
@@ -175,7 +175,7 @@ changes_worked was board h next f between both t keeps same_beat flag = record {
         omega (arith, two, one, p, m, e)
 
 -- the word of changes was taken
-pub took_changes : (was board : Controller) (word : Ovr) (h : Journal) → BoardFits was h → IsBetween h → was.flags ≡ words.Both → Keeps board (replanned word h)
+pub took_changes : (was board : Controller) (word : Ovr) (h : Journal) → GoingFits was h → GoingBetween h → was.flags ≡ words.Both → Keeps board (replanned word h)
     → board.beat ≡ was.beat → board.flags ≡ words.Requests → BoardWorked Did was.flags board h (replanned word h)
 took_changes was board word h f between both keeps same_beat flag = changes_worked was board h (replanned word h) f between both (takes_changes_of word h) keeps same_beat flag
 
@@ -197,13 +197,13 @@ two_at_most motions.Alarm = omega arith
 
 -- what the word of requests is taken behind
 record TakesRequests (was board : Controller) (h mid : Journal) : Type 0 where
-  fits : BoardFits was h
-  between : IsBetween h
+  fits : GoingFits was h
+  between : GoingBetween h
   flag : was.flags ≡ words.Requests
   settled : HasSettled h mid
   same_beat : board.beat ≡ was.beat
 
-has_changes_at : (was : Controller) (h : Journal) → BoardFits was h → was.flags ≡ words.Requests → HasChanges h
+has_changes_at : (was : Controller) (h : Journal) → GoingFits was h → was.flags ≡ words.Requests → HasChanges h
 has_changes_at was h f flag = subst (λ x. TakesFlags x h) flag f.flags
 
 beat_there : (was board : Controller) (h mid : Journal) → TakesRequests was board h mid → board.beat ≡ Motion
@@ -302,7 +302,7 @@ took_asked was board word h mid t keeps owed asks = record {
         omega (arith, one, zero, p, m, e)
 
 -- the word of requests was taken, and obeyed unless a report is told first
-pub took_requests : (was board : Controller) (word : Exec) (h mid : Journal) → BoardFits was h → IsBetween h → was.flags ≡ words.Requests → HasSettled h mid → Keeps board (asked word mid)
+pub took_requests : (was board : Controller) (word : Exec) (h mid : Journal) → GoingFits was h → GoingBetween h → was.flags ≡ words.Requests → HasSettled h mid → Keeps board (asked word mid)
     → board.beat ≡ was.beat → board.flags ≡ flags_behind (owes_report (taken_word word mid)) word → BoardWorked Did was.flags board h (asked word mid)
 took_requests was board word h mid f between flag s keeps same_beat flags = by_owed (owes_report (taken_word word mid)) refl
   where

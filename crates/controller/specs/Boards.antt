@@ -5,7 +5,8 @@ use Rattle.outside.specs.declared.Turn.{Turn}
 use Rattle.outside.specs.declared.Turn.TheVariants.{Did}
 use Rattle.run_rules.specs.declared.State.{State}
 use Rattle.run_rules.specs.States.{IsOpening}
-use Rattle.run_rules.specs.Work.{Task, pauses}
+use Rattle.run_rules.specs.Work.{Task, pauses, closing_work}
+use Rattle.run_rules.specs.Work.Task.{tell}
 use Rattle.run_rules.specs.Outcomes.{Before}
 use Rattle.status_report.specs.declared.Reply.TheVariants.{Bye}
 use Rattle.line_interpreter.specs.Keeping.{IsKept}
@@ -14,10 +15,14 @@ use Rattle.flight.specs.Flights.{Flying, Flies}
 use Rattle.code_table.specs.declared.flags.Exec.{Exec}
 use Rattle.std.specs.Option.{option_to_list}
 use Rattle.std.specs.declared.option.Option.{Option}
-use Rattle.board_rules.specs.Steps.{Step, Journal, published_of, known_of, open_of, whole_of, before_of, left_of, closed_tells, given_of, hand_of, plan_of, motion_of}
+use Rattle.board_rules.specs.Ports.{has_reset_in}
+use Rattle.board_rules.specs.Steps.{Step, Journal, port_log, published_of, known_of, open_of, whole_of, before_of, left_of, closed_tells, given_of, hand_of, plan_of, motion_of}
 use Rattle.board_rules.specs.Steps.Step.{turned}
 use Rattle.board_rules.specs.Turns.{this_turn, unobeyed_of, owes_report, moving, begins_with_dollar, is_full, is_halting, awaits_motion, changes_taken, flags_taken, tries_of, missed_of, waits_of}
 use Rattle.board_rules.specs.Conduct.{Conducted, AreWaiting}
+use Rattle.board_rules.specs.Breaking.{Doings, Ending, IsConducted, ending_of, turn_of}
+use Rattle.board_rules.specs.Breaking.Doings.{goes, broke}
+use Rattle.board_rules.specs.Breaking.Ending.{publishes_end, tells_bye, over}
 use Rattle.units.specs.Truths.{one_if}
 use Rattle.controller.specs.declared.controller.Controller.{Controller}
 use Rattle.feed_hold.specs.declared.Motion.{Motion as AnyMotion}
@@ -59,6 +64,7 @@ pub record Keeps (board : Controller) (h : Journal) : Type 0 where
   pub input : Reads board.input (open_of h) (whole_of h)
   pub flight : IsFlown board.flight h
   pub owes_is : board.owes ≡ owes_report h
+  pub reset_is : board.reset ≡ has_reset_in (port_log h)
   pub going : board.closing ≡ false → closed_tells h ≡ []
   pub closed : board.closing ≡ true → closed_tells h ≡ Bye ∷ []
 
@@ -114,11 +120,11 @@ takes_no_word (words.Report word) = true
 takes_no_word words.None = true
 
 -- between two turns
-abbrev pub IsBetween : Journal → Type 0
-IsBetween h = this_turn h ≡ []
+abbrev pub GoingBetween : Journal → Type 0
+GoingBetween h = this_turn h ≡ []
 
 -- What the fields of a board say between two turns. The last one published no piece where words of flags are to be taken.
-pub record BoardFits (board : Controller) (h : Journal) : Type 0 where
+pub record GoingFits (board : Controller) (h : Journal) : Type 0 where
   pub keeps : Keeps board h
   pub rounds : Rounds board.beat h
   pub flags : TakesFlags board.flags h
@@ -145,7 +151,7 @@ abbrev pub number_of : Flags → Journal → ℕ
 number_of f h = 3 * (words_left f + pauses (left_of h)) + changes_left (motion_of h) + one_if (nat_eq (length (closed_tells h)) 0)
 
 -- A turn adds what was done in it, and its answer; where that is Did, something moves, or the board's number falls.
-pub record BoardTurned (t : Turn) (was is : Controller) (h next : Journal) : Type 0 where
+pub record GoingTurned (t : Turn) (was is : Controller) (h next : Journal) : Type 0 where
   pub steps : List Step
   pub are : next ≡ turned t ∷ (steps ++ h)
   pub moves : t ≡ Did → (list_any moving (this_turn (steps ++ h)) ≡ true) ⊎ (number_of is.flags next < number_of was.flags h)
@@ -154,3 +160,47 @@ pub record BoardTurned (t : Turn) (was is : Controller) (h next : Journal) : Typ
 pub record BoardRests (board : Controller) : Type 0 where
   pub closing : board.closing ≡ true
   pub none : board.lines.left ≡ []
+
+-- ---- with its end by a reset
+
+-- what is left to do of the run's end
+abbrev pub left_to_end : Ending → List Task
+left_to_end publishes_end = closing_work
+left_to_end tells_bye = tell Bye ∷ []
+left_to_end over = []
+
+-- What the fields of a board say whose run a reset has ended.
+pub record BrokenFits (board : Controller) (since before : Journal) : Type 0 where
+  pub first : State
+  pub opening : IsOpening first
+  pub conducted : IsConducted first (broke since before)
+  pub reset : board.reset ≡ true
+  pub closing : board.closing ≡ true
+  pub left : board.lines.left ≡ left_to_end (ending_of since before)
+
+-- What the fields of a board say of all that it did. Where a word that asks for a reset was taken, its run is ended, or over.
+abbrev pub BoardFits : Controller → Doings → Type 0
+BoardFits board (goes h) = GoingFits board h × (board.reset ≡ true → BoardRests board)
+BoardFits board (broke since before) = BrokenFits board since before
+
+-- between two turns
+abbrev pub IsBetween : Doings → Type 0
+IsBetween d = turn_of d ≡ []
+
+-- a turn of a run that a reset has ended adds what was done in it, and its answer; where that is Did, something moves
+pub record EndTurned (t : Turn) (since next : Journal) : Type 0 where
+  pub steps : List Step
+  pub are : next ≡ turned t ∷ (steps ++ since)
+  pub moves : t ≡ Did → list_any moving (this_turn (steps ++ since)) ≡ true
+
+-- A turn adds what was done in it. Where it took a word that asks for a reset, the run is ended behind it.
+abbrev pub BoardTurned : Turn → Controller → Controller → Doings → Doings → Type 0
+BoardTurned t was is (goes h) (goes next) = GoingTurned t was is h next
+BoardTurned t was is (goes h) (broke since next) = (since ≡ []) × GoingTurned t was is h next
+BoardTurned t was is (broke since h) (goes next) = ⊥
+BoardTurned t was is (broke since h) (broke next before) = (before ≡ h) × EndTurned t since next
+
+-- the number of a board: where a reset has ended its run, each turn that answers Did moves something
+abbrev pub number_in : Flags → Doings → ℕ
+number_in f (goes h) = number_of f h
+number_in f (broke since before) = 0

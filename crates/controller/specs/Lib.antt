@@ -1,5 +1,6 @@
 pub mod Machines
 pub mod Boards
+pub mod Breaking
 pub mod Turning
 pub mod Reporting
 pub use Rattle.board_rules.specs.Conduct

@@ -1,12 +1,6 @@
 -- What is known within a turn of a board, and what its parts add.
-use Rattle.std.specs.Prelude.{◌≡◌, ◌⊎◌, ℕ, ◌+◌, ◌≤◌, ◌<◌, Bool, true, false, cond, nat_lt, List, [], ◌∷◌, ◌++◌, Some, None}
+use Rattle.std.specs.Prelude.{◌≡◌, ◌⊎◌, ℕ, ◌+◌, ◌≤◌, ◌<◌, Bool, true, false, cond, List, [], ◌∷◌, ◌++◌, Some}
 use Rattle.std.specs.List.{list_any, count_by}
-use Rattle.std.specs.Option.{option_to_list}
-use Rattle.std.specs.declared.option.Option.{Option}
-use Rattle.flight.specs.Places.{machine_at}
-use Rattle.run_rules.specs.Reports.{Shows}
-use Rattle.status_report.specs.declared.reports.Report.{Report}
-use Rattle.status_report.specs.Reports.{IsReport}
 use Rattle.code_table.specs.declared.flags.Exec.{Exec}
 use Rattle.code_table.specs.declared.flags.Ovr.{Ovr}
 use Rattle.overrides.specs.Percents.{taken}
@@ -25,8 +19,8 @@ use Rattle.step_line.specs.declared.Piece.{Piece}
 use Rattle.step_line.specs.declared.planned_move.PlannedMove.{PlannedMove}
 use Rattle.board_rules.specs.Ports.{PortLog}
 use Rattle.board_rules.specs.Ports.{has_changes}
-use Rattle.board_rules.specs.Ports.PortStep.{found_free, took_exec, took_ovr, published, no_piece_room, loaded}
-use Rattle.board_rules.specs.Steps.{Step, Journal, port_log, published_of, known_of, open_of, whole_of, left_of, closed_tells, hand_of, plan_of, motion_of}
+use Rattle.board_rules.specs.Ports.PortStep.{took_exec, took_ovr, published, no_piece_room, loaded}
+use Rattle.board_rules.specs.Steps.{Step, Journal, port_log, open_of, whole_of, left_of, closed_tells, hand_of, plan_of, motion_of}
 use Rattle.board_rules.specs.Steps.Step.{at_port, did, became}
 use Rattle.board_rules.specs.Turns.{
   this_turn,
@@ -57,13 +51,13 @@ use Rattle.board_rules.specs.Turns.{
   missed_of,
   waits_of,
 }
-use Rattle.board_rules.specs.Conduct.{MayTurn, IsNextTask, IsDrained, HasSlowedDown, IsStopped, AreWaiting, IsRoom, feed_of, shown_as, ticks_given}
+use Rattle.board_rules.specs.Conduct.{MayTurn, IsNextTask, IsDrained, HasSlowedDown, IsStopped, AreWaiting}
 use Rattle.units.specs.Truths.{one_if}
 use Rattle.controller.specs.declared.controller.Controller.{Controller}
 use Rattle.controller.specs.declared.controller.Beat.TheVariants.{Motion}
 use Rattle.controller.specs.declared.controller.Flags.{Flags}
 use Rattle.controller.specs.declared.controller.Flags.TheVariants as words
-use Rattle.controller.specs.Boards.{Keeps, Rounds, NoneWaits, TakesFlags, IsAsked, takes_no_word, has_published, changes_left, number_of}
+use Rattle.controller.specs.Boards.{Keeps, Rounds, NoneWaits, TakesFlags, takes_no_word, has_published, changes_left, number_of}
 
 -- ---- what is known
 

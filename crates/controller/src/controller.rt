@@ -10,9 +10,10 @@ ghost use Rattle.step_line.specs.Asking.Asked.{a_rest};
 ghost use Rattle.board_rules.specs.Ports.PortStep.{took};
 ghost use Rattle.board_rules.specs.Steps.{Journal, port_log, left_of, motion_of, has_closed};
 ghost use Rattle.board_rules.specs.Steps.Step.{at_port, began};
+ghost use Rattle.board_rules.specs.Breaking.Doings.{goes};
 ghost use Rattle.board_rules.specs.Turns.{this_turn, awaits_motion, needs_motion, flags_taken, found_nothing, has_blocks, is_full, is_halting};
 ghost use Rattle.board_rules.specs.Conduct.{IsNextTask, MayTake, MayPoll};
-ghost use Rattle.controller.specs.Boards.{Keeps, BoardFits, BoardTurned, BoardRests, IsBetween, IsFree, TakesFlags, takes_no_word, number_of};
+ghost use Rattle.controller.specs.Boards.{Keeps, BoardFits, GoingFits, GoingTurned, BoardRests, GoingBetween, IsFree, TakesFlags, takes_no_word, number_of};
 ghost use Rattle.controller.specs.Turning.{IsNextMove, HasPiece, IsReady, MayRun, MayAwait, MayJudge, IsLooked, NeedsNoWait, IsWholeLine, HasPolled, HasStopped, PassesNothing, DidAlone, HasLooked, HasAdded, HasFilled, Tried, HasTried, BoardWorked, IsHalted, GoesOn, HasSettled, IsPassed, WorksOn};
 
 use crate::input::Input;
@@ -56,6 +57,7 @@ pub struct Controller {
     pub(crate) input: Input,
     pub(crate) flags: Flags,
     pub(crate) owes: bool,
+    pub(crate) reset: bool,
     pub(crate) beat: Beat,
     pub(crate) closing: bool,
 }
@@ -63,7 +65,7 @@ pub struct Controller {
 impl Controller {
     /// A board that has done nothing. The banner is to be told.
     pub fn new() -> Controller
-        ensures { BoardFits result [] }
+        ensures { BoardFits result (goes []) }
     {
         Controller {
             machine: Machine::new(),
@@ -72,6 +74,7 @@ impl Controller {
             input: Input::new(),
             flags: Flags::None,
             owes: false,
+            reset: false,
             beat: Beat::Motion,
             closing: false,
         }
@@ -79,7 +82,7 @@ impl Controller {
 
     /// Whether the run is closed, and nothing is left to do.
     #[inline]
-    fn is_over(&self) -> bool
+    pub(crate) fn is_over(&self) -> bool
         ensures { (result ≡ true) ↔ BoardRests self.now }
     {
         self.closing && self.lines.todo() == Todo::Nothing
@@ -394,11 +397,11 @@ impl Controller {
     /// Publishes what is in hand or due, and where there is no room for it tells the report that is owed, or does what
     /// is next.
     fn publish_first<P: BoardPort>(&mut self, port: &mut P) -> Turn
-        requires stands { (rest : P.Rest) × (h : Journal) × P.stands port.old rest (port_log h) × BoardFits self.old h × IsBetween h × HasPiece h }
+        requires stands { (rest : P.Rest) × (h : Journal) × P.stands port.old rest (port_log h) × GoingFits self.old h × GoingBetween h × HasPiece h }
         requires open { self.old.lines.left ≡ [] → self.old.closing ≡ false }
         requires beat { self.old.beat ≡ Beat.Motion }
         requires flags { takes_no_word self.old.flags ≡ true }
-        ensures goes_on { (rest : P.Rest) (h : Journal) → P.stands port.old rest (port_log h) → BoardFits self.old h → IsBetween h → HasPiece h
+        ensures goes_on { (rest : P.Rest) (h : Journal) → P.stands port.old rest (port_log h) → GoingFits self.old h → GoingBetween h → HasPiece h
             → WorksOn (P.stands port.new rest) result self.old.flags self.new h }
         ensures going { result ≢ Done }
     {
@@ -417,10 +420,10 @@ impl Controller {
 
     /// Takes no word of flags: publishes a piece, tells a report that is owed, or does what is next.
     fn go_on<P: BoardPort>(&mut self, port: &mut P) -> Turn
-        requires stands { (rest : P.Rest) × (h : Journal) × P.stands port.old rest (port_log h) × BoardFits self.old h × IsBetween h }
+        requires stands { (rest : P.Rest) × (h : Journal) × P.stands port.old rest (port_log h) × GoingFits self.old h × GoingBetween h }
         requires open { self.old.lines.left ≡ [] → self.old.closing ≡ false }
         requires flags { takes_no_word self.old.flags ≡ true }
-        ensures goes_on { (rest : P.Rest) (h : Journal) → P.stands port.old rest (port_log h) → BoardFits self.old h → IsBetween h
+        ensures goes_on { (rest : P.Rest) (h : Journal) → P.stands port.old rest (port_log h) → GoingFits self.old h → GoingBetween h
             → WorksOn (P.stands port.new rest) result self.old.flags self.new h }
         ensures going { result ≢ Done }
     {
@@ -436,9 +439,9 @@ impl Controller {
 
     /// Takes a word of flags where one is to be taken, and else goes on.
     fn take_or_go_on<P: BoardPort>(&mut self, port: &mut P) -> Turn
-        requires stands { (rest : P.Rest) × (h : Journal) × P.stands port.old rest (port_log h) × BoardFits self.old h × IsBetween h }
+        requires stands { (rest : P.Rest) × (h : Journal) × P.stands port.old rest (port_log h) × GoingFits self.old h × GoingBetween h }
         requires open { self.old.lines.left ≡ [] → self.old.closing ≡ false }
-        ensures goes_on { (rest : P.Rest) (h : Journal) → P.stands port.old rest (port_log h) → BoardFits self.old h → IsBetween h
+        ensures goes_on { (rest : P.Rest) (h : Journal) → P.stands port.old rest (port_log h) → GoingFits self.old h → GoingBetween h
             → WorksOn (P.stands port.new rest) result self.old.flags self.new h }
         ensures going { result ≢ Done }
     {
@@ -458,8 +461,8 @@ impl Controller {
 
     /// Does what a turn does.
     fn work<P: BoardPort>(&mut self, port: &mut P) -> Turn
-        requires stands { (rest : P.Rest) × (h : Journal) × P.stands port.old rest (port_log h) × BoardFits self.old h × IsBetween h }
-        ensures goes_on { (rest : P.Rest) (h : Journal) → P.stands port.old rest (port_log h) → BoardFits self.old h → IsBetween h
+        requires stands { (rest : P.Rest) × (h : Journal) × P.stands port.old rest (port_log h) × GoingFits self.old h × GoingBetween h }
+        ensures goes_on { (rest : P.Rest) (h : Journal) → P.stands port.old rest (port_log h) → GoingFits self.old h → GoingBetween h
             → WorksOn (P.stands port.new rest) result self.old.flags self.new h }
         ensures done { (result ≡ Done) ↔ BoardRests self.old }
         ensures still { BoardRests self.old → (self.new ≡ self.old) × (port.new ≡ port.old) }
@@ -470,22 +473,14 @@ impl Controller {
         self.take_or_go_on(port)
     }
 
-    /// Takes a turn: behind a line feed and behind each wait it takes a word of flags, and does what that asks for;
-    /// else it publishes a piece where one is in hand or a segment is due, and else, or where there was no room for it,
-    /// does the next thing: tells a status report that was asked for, and then does what else its word asks for; tells
-    /// a reply, adds moves, makes a mark or the end, begins a line, or takes a byte. At most one thing is published.
-    /// Where the rules allow nothing, it answers what it waits for: for a machine that is held, its resume. It is done
-    /// once Bye was told; from then on nothing changes. A turn that answers Did and moves nothing lowers the board's
-    /// number, which is less than 64.
-    ///
-    /// The rules of the board are those of its journal: whatever it has done before, it goes on as they allow.
-    pub fn turn<P: BoardPort>(&mut self, port: &mut P) -> Turn
-        requires stands { (rest : P.Rest) × (h : Journal) × P.stands port.old rest (port_log h) × BoardFits self.old h × IsBetween h }
-        ensures goes_on { (rest : P.Rest) (h : Journal) → P.stands port.old rest (port_log h) → BoardFits self.old h → IsBetween h
-            → (next : Journal) × P.stands port.new rest (port_log next) × BoardFits self.new next × IsBetween next × BoardTurned result self.old self.new h next }
+    /// Takes a turn of a run that goes on.
+    pub(crate) fn carry_on<P: BoardPort>(&mut self, port: &mut P) -> Turn
+        requires stands { (rest : P.Rest) × (h : Journal) × P.stands port.old rest (port_log h) × GoingFits self.old h × GoingBetween h }
+        ensures goes_on { (rest : P.Rest) (h : Journal) → P.stands port.old rest (port_log h) → GoingFits self.old h → GoingBetween h
+            → (next : Journal) × P.stands port.new rest (port_log next) × GoingFits self.new next × GoingBetween next × GoingTurned result self.old self.new h next }
         ensures done { (result ≡ Done) ↔ BoardRests self.old }
         ensures still { BoardRests self.old → (self.new ≡ self.old) × (port.new ≡ port.old) }
-        ensures few { (h : Journal) → BoardFits self.old h → number_of self.old.flags h < 64 }
+        ensures few { (h : Journal) → GoingFits self.old h → number_of self.old.flags h < 64 }
     {
         let turn = self.work(port);
         if let Turn::Wait(_) = turn {

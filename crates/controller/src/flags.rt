@@ -14,7 +14,7 @@ ghost use Rattle.controller.specs.Turning.{HasPiece, IsHalted, HasSettled, asked
 
 use crate::controller::{Beat, Controller, Flags};
 use crate::ports::BoardPort;
-use crate::reports::asks_report;
+use crate::reports::{asks_report, asks_reset};
 use bitflags::Flags as _;
 use outside::{On, Turn};
 
@@ -38,10 +38,11 @@ impl Controller {
         ensures goes_on { (rest : P.Rest) (h : Journal) → P.stands port.old rest (port_log h) → Keeps self.old h → unobeyed_of h ≡ []
             → (word : AnyExec) × (mid : Journal) × HasSettled h mid × P.stands port.new rest (port_log (asked word mid)) × Keeps self.new (asked word mid)
             × (self.new.flags ≡ flags_behind (owes_report (at_port (took_exec word) ∷ mid)) word) }
-        ensures same { self.new ≡ record self.old { machine = self.new.machine; flags = self.new.flags; owes = self.new.owes } }
+        ensures same { self.new ≡ record self.old { machine = self.new.machine; flags = self.new.flags; owes = self.new.owes; reset = self.new.reset } }
     {
         self.settle(port);
         let word = port.take_exec();
+        self.reset = asks_reset(word) | self.reset;
         self.owes = asks_report(word) | self.owes;
         if self.owes {
             self.flags = Flags::Report(Some(word));

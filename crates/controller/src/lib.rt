@@ -2,6 +2,7 @@
 #![tactic(auto)]
 
 mod controller;
+mod ending;
 mod flags;
 mod input;
 mod machine;

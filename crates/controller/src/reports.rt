@@ -5,7 +5,7 @@ ghost use Rattle.std.specs.List.{list_any};
 ghost use Rattle.outside.specs.declared.Turn.TheVariants.{Did, Done};
 ghost use Rattle.flight.specs.Flights.{Flies};
 ghost use Rattle.run_rules.specs.Reports.{has_room, shows_room};
-ghost use Rattle.board_rules.specs.Ports.{asks_report};
+ghost use Rattle.board_rules.specs.Ports.{asks_report, asks_reset};
 ghost use Rattle.board_rules.specs.Steps.{Journal, port_log, published_of, known_of};
 ghost use Rattle.board_rules.specs.Turns.{this_turn, moving};
 ghost use Rattle.controller.specs.declared.controller.Flags.{Flags as AnyFlags};
@@ -26,6 +26,13 @@ pub(crate) fn asks_report(word: Exec) -> bool
     ensures { result ≡ asks_report word }
 {
     word.contains(Exec::REPORT)
+}
+
+/// Whether a word of requests asks for a reset.
+pub(crate) fn asks_reset(word: Exec) -> bool
+    ensures { result ≡ asks_reset word }
+{
+    word.contains(Exec::RESET)
 }
 
 impl Controller {

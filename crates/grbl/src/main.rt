@@ -11,7 +11,7 @@ use limited::Limited;
 use outside::{Failed, OpenGate, ReadSource, Sink, WriteSink};
 use std::alloc::{AllocError, Global};
 use std::env;
-use std::fs::File;
+use std::fs::{self, File};
 use std::io::{self, ErrorKind, Write};
 use std::process::ExitCode;
 use units::Text;
@@ -79,6 +79,11 @@ fn words_fault(error: &io::Error) -> Status
 
 fn main(rt: HostRuntime) -> ExitCode {
     let alloc = rt.alloc();
+    // Standard input, output or error that is closed is a folder from here on, so that no file takes its place: what is
+    // read of it or written to it fails.
+    let _first = fs::open(&rt, "/");
+    let _second = fs::open(&rt, "/");
+    let _third = fs::open(&rt, "/");
     let mut job = ReadSource::new(rt.stdin());
     let mut console = WriteSink::new(Limited::stdout(&rt));
     let mut steps = StepsFile {

@@ -68,7 +68,7 @@ runs_whole n left was is end some most run =
     record {
       stop = done.stop;
       errors = done.errors;
-      answered = run.answered ∙ ap length sent ∙ as_many n;
+      answered = done.answered ∙ ap length sent ∙ as_many n;
       read = read;
       sent = sent;
       asks = ap asked_in done.same ∙ of.asks;

@@ -6,6 +6,9 @@ use Rattle.std.proofs.lemmas.List.{take_all}
 use Rattle.outside.specs.Causes.{SourceState, SinkState}
 use Rattle.outside.specs.Writing.{Took}
 use Rattle.gcode_words.specs.Stripping.{plain}
+use Rattle.status_report.specs.declared.Reply.{Reply}
+use Rattle.status_report.specs.declared.Reply.TheVariants.{Bye}
+use Rattle.step_line.specs.declared.Record.{Record}
 use Rattle.step_line.specs.Asking.{ticks_among}
 use Rattle.run_rules.specs.Lines.{lines_of}
 use Rattle.run_rules.specs.Readings.{largest_job, job_of}
@@ -22,8 +25,8 @@ use Rattle.stream_host.specs.Ran.{is_failed}
 use Rattle.stream_host.proofs.Pieces.{neither, all_are_sent}
 use Rattle.run_law.specs.declared.RunEnd.{RunEnd}
 use Rattle.planner_runs.specs.Driven.{IsDriven}
-use Rattle.run_law.specs.Runs.{Sinks, AreReports, asks_hold, asks_change, ends_program, IsRun}
-use Rattle.run_law.proofs.Completing.{complete}
+use Rattle.run_law.specs.Runs.{Sinks, AreReports, asks_hold, asks_change, asks_reset, ends_program, IsRun}
+use Rattle.run_law.proofs.Completing.{complete, none_served}
 use Rattle.grbl_app.specs.declared.status.Status.{Status}
 use Rattle.grbl_app.specs.declared.status.Status.TheVariants.{SourceFault, ConsoleFault, StepsFault, LongLine, Reset, TooLarge}
 use Rattle.grbl_app.specs.Ends.{by_errors, by_stop, status_of, EndsWith, IsWholeRun, HasLongLine, HasRun, HasCauses}
@@ -90,6 +93,10 @@ never_alarm k Ended text e = no_alarm k (list_any is_long (lines_of text)) (list
 never_alarm k Failed text e = no_alarm k (list_any is_long (lines_of text)) (list_any holds_reset (lines_of text)) (lines_of text) e
 never_alarm k Large text e = absurd cc
 never_alarm k Stopped text e = no_alarm k (list_any is_long (lines_of text)) (list_any holds_reset (lines_of text)) (lines_of text) e
+
+-- no reset was scanned then
+not_reset : (r : Reading) (text : List ℕ) → stops.End ≡ stop_by r text → asks_reset text ≡ false
+not_reset r text e = none_served (lines_of text) (end_means r text e).short.1
 
 -- ---- a job that was sent to its end
 
@@ -251,7 +258,7 @@ by_cases job_was job_is was is end run false false false stops.Reset es ec en et
 }
 by_cases job_was job_is was is end run false false false (stops.Alarm k) es ec en et = never_alarm k run.reading run.scanned (sym et ∙ run.sent.cause)
 by_cases job_was job_is was is end run false false false stops.End es ec en et =
-    let none = by_errors_not end.errors in let all = sent_all job_was job_is was is end run en et in record {
+    let none = by_errors_not end.errors in let all = sent_all job_was job_is was is end run en et in let carried = run.whole (not_reset run.reading run.scanned (sym et ∙ run.sent.cause)) in record {
       has_run = errors_have_run end.errors;
       source = λ e. absurd (none.0 e);
       console = λ e. absurd (none.1 e);
@@ -268,16 +275,17 @@ by_cases job_was job_is was is end run false false false stops.End es ec en et =
         whole = run.at_end all.over;
         few = all.few;
         opening = run.opening;
-        answered = subst (λ (ls : List (List ℕ)). Follows true (start run.first) (map plain ls) (map a_line run.outcomes) run.last) all.lines run.follows;
+        answered = subst (λ (ls : List (List ℕ)). Follows true (start run.first) ls (map a_line run.outcomes) run.last) (carried.begun_are ∙ ap (map plain) all.lines) run.follows;
         replies = run.replies;
-        told = run.told;
+        told = run.told ∙ ap (λ (rs : List Reply). rs ++ Bye ∷ []) carried.said_are;
         console = whole_text was.console is.console end.console_failed (replies_text run.replies) ec run.console;
         reports = subst (λ (text : List ℕ). AreReports run.first run.outcomes (ticks_among run.records) (lines_of run.read) text run.replies) (sym all.all)
-            (subst (λ (ls : List (List ℕ)). AreReports run.first run.outcomes (ticks_among run.records) ls run.scanned run.replies) all.lines run.reports);
+            (subst (λ (ls : List (List ℕ)). AreReports run.first run.outcomes (ticks_among run.records) ls run.scanned run.replies) all.lines
+            (subst (λ (ticks : List Record). AreReports run.first run.outcomes ticks run.lines run.scanned run.replies) carried.ticks_are run.reports));
         records = run.records;
-        driven = subst (λ (text : List ℕ). IsDriven (asks_hold text) (asks_change text || ends_program run.outcomes) (asked_in run.outcomes) run.records) (sym all.all) run.driven;
+        driven = subst (λ (text : List ℕ). IsDriven (asks_hold text) (asks_change text || ends_program run.outcomes) (asked_in run.outcomes) run.records) (sym all.all) carried.driven;
         steps = whole_text was.steps is.steps end.steps_failed _ es run.steps;
-        status_is = ap by_errors run.errors;
+        status_is = ap by_errors carried.errors;
       };
       faultless = λ w. record { source = run.source_same en; console = run.console.same ec; steps = run.steps.same es };
       complete = λ job source console steps. ap by_errors (complete job_was job_is was is end run job en).errors;

@@ -1,9 +1,8 @@
 //! The program: a job is streamed, its lines are answered, and its step events are written.
 #![tactic(auto)]
 
-ghost use Rattle.std.specs.Prelude.{◌≡◌, ◌⊎◌, ℕ, map};
+ghost use Rattle.std.specs.Prelude.{◌≡◌, ◌⊎◌, ℕ, IfOk, OnErr, map};
 ghost use Rattle.outside.specs.Causes.{Rose};
-ghost use Rattle.run_core.specs.Worlds.{Devices, devices, Stands, no_history, HasRunOn, AreDone};
 ghost use Rattle.run_law.specs.Complete.{IsAcceptedJob};
 ghost use Rattle.command_line.specs.Command.{Asks, Refuses};
 ghost use Rattle.command_line.specs.declared.Task.TheVariants as tasks;
@@ -11,6 +10,7 @@ ghost use Rattle.grbl_app.specs.Demos.{IsDemo};
 ghost use Rattle.grbl_app.specs.Ends.{EndsWith, IsWhole, IsWholeRun, IsFaultless, TookMore, HasLongLine, HasReset, HasNotBegun, HasRun, HasCauses};
 
 mod demo;
+mod runs;
 mod status;
 
 pub use command_line::accepted_words;
@@ -18,62 +18,53 @@ use command_line::{Task, WordsFault, read_words};
 use demo::run_demo;
 pub use demo_job::demo_line;
 use outside::{Gate, OutOfMemory, Sink, Source};
-use run_core::{World, run_lockstep, run_patiently};
+use runs::run_job;
 use status::status_of;
 pub use status::{Status, exit_number, put_fault};
 use std::alloc::Global;
 use std::sync::Wait;
 use std::thread::Threads;
 
-/// Lets the four actors of a world run: in lockstep where a seed gives the order of the turns, else so that whoever sends the
-/// job gets each answer before more of it is waited for.
-fn run_world<R: Wait, So: Source, Co: Sink, St: Sink>(
+/// Streams a job: in lockstep where a seed gives the order of the turns, else in four threads. Where there is no room, no device
+/// is touched.
+fn stream<
+    R: Threads + Wait + Sync,
+    So: Source + Send,
+    Co: Sink + Send,
+    St: Sink + Send,
+    G: Gate + Sync,
+>(
     rt: &R,
-    world: &mut World,
+    alloc: Global,
     seed: Option<u64>,
     job: &mut So,
     console: &mut Co,
     steps: &mut St,
-)
-    ensures goes_on { HasRunOn (devices (So.state job.old) (Co.state console.old) (St.state steps.old)) (devices (So.state job.new) (Co.state console.new) (St.state steps.new)) world.old world.new }
-    ensures done { AreDone world.new }
-{
-    match seed {
-        Some(seed) => run_lockstep(rt, world, seed, job, console, steps),
-        None => run_patiently(rt, world, job, console, steps),
-    }
-}
-
-/// Streams a job through a new world.
-fn stream<R: Wait, So: Source, Co: Sink, St: Sink>(
-    rt: &R,
-    world: &mut World,
-    seed: Option<u64>,
-    job: &mut So,
-    console: &mut Co,
-    steps: &mut St,
-) -> Status
-    requires fresh { (now : Devices) → Stands now now world.old no_history }
-    ensures run { EndsWith (So.state job.old) (So.state job.new)
+    gate: &G,
+) -> Result<Status, OutOfMemory>
+    ensures run { IfOk result (λ status. EndsWith (So.state job.old) (So.state job.new)
         (record { console = Co.state console.old; steps = St.state steps.old })
-        (record { console = Co.state console.new; steps = St.state steps.new }) result }
-    ensures causes { HasCauses (So.state job.old) (So.state job.new)
+        (record { console = Co.state console.new; steps = St.state steps.new }) status) }
+    ensures causes { IfOk result (λ status. HasCauses (So.state job.old) (So.state job.new)
         (record { console = Co.state console.old; steps = St.state steps.old })
-        (record { console = Co.state console.new; steps = St.state steps.new }) result }
+        (record { console = Co.state console.new; steps = St.state steps.new }) status) }
+    ensures untouched { OnErr result ((job.new ≡ job.old) × (console.new ≡ console.old) × (steps.new ≡ steps.old)) }
 {
-    run_world(rt, world, seed, job, console, steps);
-    status_of(&world.end())
+    let end = run_job(rt, alloc, seed, job, console, steps, gate)?;
+    Ok(status_of(&end))
 }
 
 /// Runs the command that the words name; they do not hold the program's own name.
 ///
 /// `stream`: the job is read to its end, or up to its first 16,777,216 bytes. The banner, and what each line tells and
 /// is answered, go to the console; the step events and the marks of the lines answered `ok`, and `E`, to the steps. A
-/// sink that fails is given nothing more, and the run goes on to its end. With `--lockstep SEED` the seed gives the order in
-/// which the four actors take turns.
+/// sink that fails is given nothing more, and the run goes on to its end. Each of the four actors has a thread of its own, and
+/// passes the gate before each turn. Where a thread can't be started, its actor goes before or behind another one, and such a
+/// run may wait for ever. With `--lockstep SEED` the four take turns on this thread, in an order that the seed gives, and
+/// pass no gate.
 ///
-/// `demo N`: the generated job of N moves is run so, with N as the seed. The console takes one line on the run, and the job
-/// is left as it is.
+/// `demo N`: the generated job of N moves is run in lockstep, with N as the seed. The console takes one line on the run, and the
+/// job is left as it is.
 #[tactic(auto, using(crate::proofs::Tasks::no_stream, crate::proofs::Tasks::same_moves))]
 pub fn run_grbl<
     R: Threads + Wait + Sync,
@@ -88,7 +79,7 @@ pub fn run_grbl<
     job: &mut So,
     console: &mut Co,
     steps: &mut St,
-    _gate: &G,
+    gate: &G,
 ) -> Status
     // Words that the command line refuses are no run, and then nothing is read or written; so it is where there is no
     // memory.
@@ -137,12 +128,14 @@ pub fn run_grbl<
         Err(WordsFault::Refused) => return Status::Usage,
         Err(WordsFault::OutOfMemory) => return Status::OutOfMemory,
     };
-    let mut world = match World::new(alloc) {
-        Ok(world) => world,
-        Err(OutOfMemory) => return Status::OutOfMemory,
-    };
     match task {
-        Task::Stream(seed) => stream(rt, &mut world, seed, job, console, steps),
-        Task::Demo(moves) => run_demo(rt, &mut world, moves, console, steps),
+        Task::Stream(seed) => match stream(rt, alloc, seed, job, console, steps, gate) {
+            Ok(status) => status,
+            Err(OutOfMemory) => Status::OutOfMemory,
+        },
+        Task::Demo(moves) => match run_demo(rt, alloc, moves, console, steps) {
+            Ok(status) => status,
+            Err(OutOfMemory) => Status::OutOfMemory,
+        },
     }
 }

@@ -11,7 +11,7 @@ use Rattle.stream_host.specs.Steps.{Journal as HostJournal, port_log as host_log
 use Rattle.stream_host.specs.Hosts.{HostFits, HostTurned, HostTellsOn}
 use Rattle.stream_host.specs.Hosts.{IsBetween as IsBetweenOfHost}
 use Rattle.board_rules.specs.Ports.{PortLog as BoardLog}
-use Rattle.board_rules.specs.Steps.{Journal as BoardJournal, port_log as board_log}
+use Rattle.board_rules.specs.Breaking.{Doings as BoardJournal, log_of as board_log}
 use Rattle.controller.specs.declared.controller.Controller.{Controller}
 use Rattle.controller.specs.Boards.{BoardFits, BoardTurned}
 use Rattle.controller.specs.Boards.{IsBetween as IsBetweenOfBoard}

@@ -5,6 +5,7 @@ use Rattle.outside.specs.Causes.{SinkState}
 use Rattle.stream_host.specs.declared.host.Host.{Host}
 use Rattle.stream_host.specs.Hosts.{HostFits, TellsText}
 use Rattle.stream_host.proofs.Running.{tells_nothing}
+use Rattle.board_rules.specs.Breaking.Doings.{goes}
 use Rattle.controller.specs.Boards.{BoardFits}
 use Rattle.pulse_engine.specs.Turns.{PulseFits}
 use Rattle.run_core.specs.Joining.{Joined}
@@ -24,7 +25,7 @@ shows_nothing host now f = let failed = f.text_is.failed_is in record {
   cause = λ e. absurd cc;
 }
 
-pub holds_nothing : (w : Seen) → Joined w.lists [] [] [] → w.waiting ≡ [] → HostFits w.host [] → BoardFits w.board [] → PulseFits w.pulse [] [] → Holds w no_history
+pub holds_nothing : (w : Seen) → Joined w.lists [] [] [] → w.waiting ≡ [] → HostFits w.host [] → BoardFits w.board (goes []) → PulseFits w.pulse [] [] → Holds w no_history
 holds_nothing w joined none host board pulse = record { joined = joined; passed = sym none; host = host; host_between = refl; board = board; board_between = refl; pulse = pulse }
 
 pub begins : (w : Seen) (now : Devices) → Holds w no_history → RecorderFits w.recorder [] now.steps now.steps → Stands now now w no_history

@@ -3,8 +3,8 @@ use Rattle.std.proofs.Common.{◌≡◌, false, sym, subst}
 use Rattle.outside.specs.declared.Actor.{Actor}
 use Rattle.outside.specs.declared.Actor.TheVariants as actors
 use Rattle.run_core.specs.declared.lockstep.Ended.{Ended}
-use Rattle.run_core.specs.Worlds.{Seen, ActsAlone, IsDone, AreDone}
-use Rattle.run_core.specs.Lockstep.{with_end, AreEnded, HaveAllEnded}
+use Rattle.run_core.specs.Worlds.{Seen, ActsAlone, IsDone}
+use Rattle.run_core.specs.Lockstep.{with_end, AreEnded}
 
 -- an actor that is done stays so, whoever takes a turn
 stays_done : (actor other : Actor) (w w' : Seen) → ActsAlone actor w w' → (IsDone actor w → w' ≡ w) → IsDone other w → IsDone other w'

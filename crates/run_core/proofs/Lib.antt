@@ -8,5 +8,9 @@ pub mod Beginning
 pub mod Schedules
 pub mod Ending
 pub mod Running
-pub mod Patience
 pub mod Meeting
+pub mod Asks
+pub mod HostAsks
+pub mod BoardAsks
+pub mod Counting
+pub mod PerLineExample

@@ -1,5 +1,5 @@
 -- What the ends of a rig have to do with each other, by the journals of its actors.
-use Rattle.std.proofs.Common.{◌≡◌, ℕ, ◌+◌, Bool, true, List, [], ◌∷◌, ◌++◌, length, reverse, refl, sym, ap, ◌∙◌, Some, None, arith, length-append}
+use Rattle.std.proofs.Common.{◌≡◌, ℕ, Bool, true, List, [], ◌∷◌, ◌++◌, length, reverse, refl, sym, ap, ◌∙◌, Some, None, arith, length-append}
 use Rattle.std.specs.declared.option.Option.{Option}
 use Rattle.std.proofs.lemmas.List.{reverse-append}
 use Rattle.status_report.specs.declared.Reply.{Reply}
@@ -16,7 +16,7 @@ use Rattle.board_rules.specs.Ports.PortStep.{took, found_empty, found_closed, fo
 use Rattle.link_ports.specs.Hosts as host
 use Rattle.link_ports.specs.Boards as board
 use Rattle.run_law.specs.Ran.{IsLinked}
-use Rattle.run_law.specs.SoFar.{BeginsWith}
+use Rattle.run_law.specs.Fronts.{BeginsWith}
 use Rattle.run_law.specs.Taking as law
 
 -- ---- the flags that a host raised, and the words that a board took

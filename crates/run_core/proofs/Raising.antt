@@ -1,17 +1,10 @@
 -- What calls make of the flags.
-use Rattle.std.proofs.Common.{◌≡◌, ℕ, ◌+◌, ◌<◌, ◌≤◌, ◌^◌, Bool, true, false, cond, not, nat_eq, bit_and, bit_or, List, [], ◌∷◌, refl, ap, arith, Some, None}
-use Rattle.std.proofs.lemmas.Bool.Decides.{nat_tests}
-use Rattle.std.proofs.lemmas.Nat.Bits.{bit_at_and, bit_at-lt}
-use Rattle.std.specs.Int.{bit_at}
-use Rattle.std.specs.declared.option.Option.{Option}
-use Rattle.code_table.specs.declared.flags.Exec.{Exec}
-use Rattle.realtime_flags.specs.declared.words.Flag.{Flag}
+use Rattle.std.proofs.Common.{◌≡◌, ℕ, ◌+◌, ◌<◌, ◌≤◌, ◌^◌, Bool, true, false, cond, not, bit_or, List, [], ◌∷◌, refl, arith}
 use Rattle.realtime_flags.specs.declared.words.Flag.TheVariants as flags
 use Rattle.realtime_flags.specs.declared.words.Raise.{Raise}
 use Rattle.realtime_flags.specs.declared.words.Take.{Take}
 use Rattle.realtime_flags.specs.declared.words.Take.TheVariants as kinds
-use Rattle.realtime_flags.specs.Bits.{is_flag, is_up, report_flag, raises_of, takes_with, stood_in}
-use Rattle.realtime_flags.specs.Bytes.{flag_of_row, flag_of_byte}
+use Rattle.realtime_flags.specs.Bits.{is_flag, is_up, report_flag, raises_of, takes_with}
 use Rattle.realtime_flags.proofs.Bits.{raise_balances, take_balances, down_among, at_least, raised_small}
 use Rattle.board_rules.specs.Ports.{asks_report, reports_in}
 use Rattle.board_rules.specs.Ports.{PortLog as BoardLog}

@@ -1,25 +1,28 @@
 -- What the actors of a world have done is a run of the job.
-use Rattle.std.proofs.Common.{◌≡◌, ℕ, ◌≤◌, Bool, true, false, ◌↔◌, [], ◌∷◌, length, reverse, refl, sym, ◌∙◌, subst, arith}
+use Rattle.std.proofs.Common.{◌≡◌, ℕ, ◌≤◌, Bool, true, false, ◌↔◌, [], ◌∷◌, length, reverse, refl, sym, ap, ◌∙◌, subst, arith}
 use Rattle.stream_host.specs.declared.Reading.{Reading}
 use Rattle.stream_host.specs.declared.Reading.TheVariants.{Ended, Failed, Large, Stopped}
 use Rattle.stream_host.specs.Steps.{is_shut}
 use Rattle.stream_host.specs.Steps.{port_log as host_log, stored_of, raises_of, got_of}
 use Rattle.stream_host.specs.Ran.{is_failed}
 use Rattle.controller.specs.declared.controller.Controller.{Controller}
-use Rattle.controller.specs.Boards.{BoardFits, BoardRests}
-use Rattle.board_rules.specs.Conduct.{IsFinished}
-use Rattle.board_rules.specs.Steps.{Journal, port_log as board_log, taken_of, has_closed, answered_of, published_of}
+use Rattle.controller.specs.Boards.{BoardFits, BoardRests, left_to_end}
+use Rattle.run_rules.specs.declared.State.{State}
+use Rattle.run_rules.specs.States.{IsOpening}
+use Rattle.board_rules.specs.Breaking.Doings.{goes, broke}
+use Rattle.board_rules.specs.Breaking.Ending.{publishes_end, tells_bye, over}
+use Rattle.board_rules.specs.Breaking.{Doings, Ending, HasEnded, IsConducted, ending_of, log_of as board_log, taken_of, has_closed, answered_of, published_of}
 use Rattle.pulse_engine.specs.Logs.{pieces_of, records_put}
 use Rattle.step_record.specs.Taking.{records}
 use Rattle.run_law.specs.Ran.{IsLinked}
-use Rattle.run_law.specs.SoFar.{BeginsWith}
+use Rattle.run_law.specs.Fronts.{BeginsWith}
 use Rattle.status_report.specs.Answering.{receive_room, reply_room}
 use Rattle.step_line.specs.Finishing.{unfinished, most_unfinished}
 use Rattle.run_core.specs.Passing.{record_room}
 use Rattle.run_core.specs.Worlds.{Seen, History, Holds, LinkIsKept, FlagsAreKept, MotionIsKept}
-use Rattle.run_law.proofs.Taking.{taken_were_raised}
+use Rattle.run_law.proofs.Resetting.{taken_were_raised}
 use Rattle.run_law.specs.Flags.{AreTaken}
-use Rattle.board_rules.specs.Ports.{has_held_in, has_changed_in, reports_in}
+use Rattle.board_rules.specs.Ports.{has_held_in, has_changed_in, has_reset_in, reports_in}
 
 -- ---- what one side got is a front of what the other gave
 
@@ -44,12 +47,28 @@ link w hist h = record {
 }
 
 -- what the board took of flags was raised
-pub flags_taken : (w : Seen) (hist : History) → Holds w hist → AreTaken (raises_of hist.host) (has_held_in (board_log hist.board)) (has_changed_in (board_log hist.board)) (reports_in (board_log hist.board))
+pub flags_taken : (w : Seen) (hist : History) → Holds w hist → AreTaken (raises_of hist.host) (has_held_in (board_log hist.board)) (has_changed_in (board_log hist.board)) (has_reset_in (board_log hist.board)) (reports_in (board_log hist.board))
 flags_taken w hist h = taken_were_raised (w.lists.exec ∷ w.lists.override ∷ []) (host_log hist.host) (board_log hist.board) h.joined.flags.balance
 
--- a board that rests is finished
-pub board_finished : (board : Controller) (h : Journal) → BoardFits board h → BoardRests board → IsFinished h
-board_finished board h f rests = record { left = sym f.keeps.lines.left_is ∙ rests.none; closed = f.keeps.closed rests.closing }
+-- what a board has done is what its rules allow, from an opening state on
+pub record Kept (d : Doings) : Type 0 where
+  pub first : State
+  pub opening : IsOpening first
+  pub conducted : IsConducted first d
+
+pub kept_by : (board : Controller) (d : Doings) → BoardFits board d → Kept d
+kept_by board (goes h) f = record { first = f.0.keeps.first; opening = f.0.keeps.opening; conducted = f.0.keeps.conducted }
+kept_by board (broke since before) f = record { first = f.first; opening = f.opening; conducted = f.conducted }
+
+-- a board that rests has ended
+pub board_finished : (board : Controller) (d : Doings) → BoardFits board d → BoardRests board → HasEnded d
+board_finished board (goes h) f rests = record { left = sym f.0.keeps.lines.left_is ∙ rests.none; closed = f.0.keeps.closed rests.closing }
+board_finished board (broke since before) f rests = by_ending (ending_of since before) refl
+  where
+    by_ending : (e : Ending) → ending_of since before ≡ e → ending_of since before ≡ over
+    by_ending publishes_end e = absurd (let l = sym rests.none ∙ f.left ∙ ap left_to_end e in cc)
+    by_ending tells_bye e = absurd (let l = sym rests.none ∙ f.left ∙ ap left_to_end e in cc)
+    by_ending over e = e
 
 -- ---- how it ends
 

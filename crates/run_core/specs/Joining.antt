@@ -1,6 +1,5 @@
 -- The lists between a host, a board and a pulse, and what the three have done with them.
-use Rattle.std.specs.Prelude.{◌≡◌, ℕ, ◌+◌, ◌^◌, ◌<◌, ◌≤◌, Bool, true, cond, nat_lt, List, [], ◌∷◌, ◌++◌, length, drop, reverse, Some, None}
-use Rattle.std.specs.declared.option.Option.{Option}
+use Rattle.std.specs.Prelude.{◌≡◌, ℕ, ◌+◌, ◌^◌, ◌<◌, ◌≤◌, Bool, true, cond, nat_lt, List, [], ◌∷◌, ◌++◌, length, drop, reverse}
 use Rattle.std.specs.List.{All}
 use Rattle.std.specs.Int.Bits.{bit_or}
 use Rattle.status_report.specs.declared.Reply.{Reply}
@@ -9,7 +8,6 @@ use Rattle.realtime_flags.specs.declared.words.Flag.{Flag}
 use Rattle.realtime_flags.specs.declared.words.Flag.TheVariants as flags
 use Rattle.realtime_flags.specs.declared.words.Raise.{Raise}
 use Rattle.realtime_flags.specs.declared.words.Take.{Take}
-use Rattle.realtime_flags.specs.declared.words.Take.TheVariants as takes
 use Rattle.realtime_flags.specs.Bits.{IsBalanced, raises_of, report_flag}
 use Rattle.run_law.specs.Taking.{raises_in, takes_in}
 use Rattle.step_line.specs.declared.Piece.{Piece}
@@ -19,12 +17,11 @@ use Rattle.step_line.specs.Finishing.{ticks_together, unfinished, most_unfinishe
 use Rattle.motion_ring.specs.Ticks.{slots}
 use Rattle.board_rules.specs.Ports.{taken_in, has_closed_in, answered_in, published_in, known_in}
 use Rattle.status_report.specs.Answering.{reply_room, receive_room, lfs_in, answers_in}
-use Rattle.board_rules.specs.Ports.{PortStep as BoardStep, PortLog as BoardLog}
-use Rattle.board_rules.specs.Ports.PortStep.{took_exec, took_ovr}
+use Rattle.board_rules.specs.Ports.{PortLog as BoardLog}
 use Rattle.pulse_engine.specs.Logs.{PieceLog, pieces_of, counted, uncounted}
-use Rattle.stream_host.specs.Steps.PortStep.{stored, dropped, raised, got, no_reply, shut}
 use Rattle.stream_host.specs.Steps.{stored_in, got_in, is_shut_in}
 use Rattle.stream_host.specs.Steps.{PortLog as HostLog}
+use Rattle.run_core.specs.Asked.{AsksBetween, LooksFirst, AsksPass, report_is_up, raised_behind, words_behind, has_looked}
 
 -- what the lists hold: bytes and replies on their way, and whether the link is closed; the two words of flags; pieces on
 -- their way, how many ticks of the piece that was got last are left, and how many ticks are done
@@ -88,9 +85,11 @@ pub record PiecesPass (waiting : List Piece) (left done : ℕ) (published : List
   pub past : ticks_together (drop 1 got_pieces) ≤ done
   pub known_is : known ≤ done
 
--- the lists between the three: each passes on what its two sides have done
+-- The lists between the three: each passes on what its two sides have done. Where the host asks for reports only between lines,
+-- and the board takes its requests behind each line before it answers, each report that is asked for is asked for in its line.
 pub record Joined (l : Listed) (host : HostLog) (board : BoardLog) (pulse : PieceLog) : Type 0 where
   pub bytes : BytesPass l.bytes l.closed (stored_in host) (is_shut_in host) (taken_in board) (has_closed_in board)
   pub replies : RepliesPass l.replies (answered_in board) (got_in host) (taken_in board)
   pub flags : FlagsPass l.exec l.override (raises_in host) (takes_in board)
   pub pieces : PiecesPass l.pieces l.left l.done (published_in board) (known_in board) (pieces_of pulse) (counted pulse) (uncounted pulse)
+  pub asks : AsksBetween host → LooksFirst board → AsksPass (report_is_up l.exec) (λ k. raised_behind k host) (λ k. words_behind k board) (answers_in (answered_in board)) (lfs_in (taken_in board)) (has_looked board)

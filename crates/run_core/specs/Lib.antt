@@ -1,8 +1,9 @@
 pub mod Passing
+pub mod Asked
+pub mod PerLine
 pub mod Joining
 pub mod Worlds
 pub mod Lockstep
 pub mod Finding
-pub mod Patience
 pub mod Sides
 pub mod Rigs

@@ -1,5 +1,5 @@
 -- What each thread of a rig has done at its ends.
-use Rattle.std.specs.Prelude.{◌≡◌, true, [], reverse}
+use Rattle.std.specs.Prelude.{◌≡◌, true, []}
 use Rattle.outside.specs.Causes.{SourceState, SinkState}
 use Rattle.rtrb.specs.Ring.{sent, received}
 use Rattle.serial_ring.specs.Ends.{link_of_host, link_of_board}
@@ -8,7 +8,8 @@ use Rattle.motion_ring.specs.Ends.{ring_of_out, ring_of_in}
 use Rattle.stream_host.specs.Steps.{Journal as HostJournal, port_log as host_log}
 use Rattle.stream_host.specs.Hosts.{HostFits, HostRests, TellsJob, TellsText}
 use Rattle.stream_host.specs.Hosts.{IsBetween as IsBetweenOfHost}
-use Rattle.board_rules.specs.Steps.{Journal as BoardJournal, port_log as board_log}
+use Rattle.board_rules.specs.Breaking.{Doings as BoardJournal, log_of as board_log}
+use Rattle.board_rules.specs.Breaking.Doings.{goes}
 use Rattle.controller.specs.Boards.{BoardFits, BoardRests}
 use Rattle.controller.specs.Boards.{IsBetween as IsBetweenOfBoard}
 use Rattle.pulse_engine.specs.Logs.{PieceLog, RecordLog}
@@ -30,7 +31,7 @@ pub record HostIsNew (side : HostSide) : Type 0 where
 
 pub record BoardIsNew (side : BoardSide) : Type 0 where
   pub did : BoardLogs side.link []
-  pub fits : BoardFits side.board []
+  pub fits : BoardFits side.board (goes [])
 
 pub record PulseIsNew (side : PulseSide) : Type 0 where
   pub got : HasGot side.pieces.end (ring_of_in side.pieces.end) []

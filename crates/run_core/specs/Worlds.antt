@@ -1,5 +1,5 @@
 -- What a world stands for: its actors, the lists between them, and what was done.
-use Rattle.std.specs.Prelude.{◌≡◌, ◌≤◌, true, List, [], ◌∷◌, ◌++◌, length, reverse}
+use Rattle.std.specs.Prelude.{◌≡◌, ℕ, ◌≤◌, Bool, true, List, [], ◌∷◌, ◌++◌, length, reverse}
 use Rattle.outside.specs.Causes.{SourceState, SinkState}
 use Rattle.outside.specs.declared.Actor.{Actor}
 use Rattle.outside.specs.declared.Actor.TheVariants as actors
@@ -11,7 +11,8 @@ use Rattle.stream_host.specs.Steps.{Journal as HostJournal, port_log as host_log
 use Rattle.stream_host.specs.Hosts.{HostFits, HostTurned, HostRests, TellsJob, TellsText}
 use Rattle.stream_host.specs.Hosts.{IsBetween as IsBetweenOfHost}
 use Rattle.stream_host.specs.Ran.{end_of}
-use Rattle.board_rules.specs.Steps.{Journal as BoardJournal, port_log as board_log, taken_of, answered_of, published_of}
+use Rattle.board_rules.specs.Breaking.{Doings as BoardJournal, log_of as board_log, taken_of, answered_of, published_of}
+use Rattle.board_rules.specs.Breaking.Doings.{goes}
 use Rattle.controller.specs.declared.controller.Controller.{Controller}
 use Rattle.controller.specs.Boards.{BoardFits, BoardTurned, BoardRests}
 use Rattle.controller.specs.Boards.{IsBetween as IsBetweenOfBoard}
@@ -29,6 +30,15 @@ use Rattle.run_core.specs.Passing.{HandsOn, record_room}
 use Rattle.realtime_flags.specs.Bits.{IsBalanced}
 use Rattle.run_law.specs.Taking.{raises_in, takes_in}
 use Rattle.run_core.specs.Joining.{Listed, Joined}
+use Rattle.run_core.specs.PerLine.{ReportsPerLine}
+use Rattle.run_rules.specs.Lines.{lines_of}
+use Rattle.run_rules.specs.Told.{replies_text}
+use Rattle.std.specs.Io.KnownBytes.{Consumes}
+use Rattle.outside.specs.Writing.{Wrote}
+use Rattle.status_report.specs.declared.Reply.{Reply}
+use Rattle.stream_host.specs.declared.Reading.{Reading}
+use Rattle.stream_host.specs.declared.Stop.{Stop}
+use Rattle.stream_host.specs.Jobs.{IsSentSoFar}
 
 -- what callers see of a world
 pub record Seen : Type 0 where
@@ -48,7 +58,7 @@ pub record History : Type 0 where
   pub takes : Log
 
 abbrev pub no_history : History
-no_history = record { host = []; board = []; pulse = []; puts = []; takes = [] }
+no_history = record { host = []; board = goes []; pulse = []; puts = []; takes = [] }
 
 -- what a world says of what was done, with no word of a device
 pub record Holds (w : Seen) (hist : History) : Type 0 where
@@ -168,3 +178,21 @@ RunsSoFar was now = IsSoFar was.job now.job (sinks was) (sinks now)
 
 abbrev pub HasRun : Devices → Devices → RunEnd → Type 0
 HasRun was now end = IsRun was.job now.job (sinks was) (sinks now) end
+
+-- ---- its reports, line by line
+
+-- What was read of the job since a moment, and scanned, and the replies whose text the console was given, as far as it does not
+-- wait: each line that was scanned has at most as many reports among them as it has `?`.
+pub record CountsReports (was now : Devices) : Type 0 where
+  pub read : List ℕ
+  pub reading : Reading
+  pub scanned : List ℕ
+  pub lines : List (List ℕ)
+  pub stop : Stop
+  pub taken : Consumes was.job.left now.job.left read
+  pub sent : IsSentSoFar read reading scanned lines stop
+  pub replies : List Reply
+  pub failed : Bool
+  pub waiting : List ℕ
+  pub console : Wrote was.console now.console failed waiting (replies_text replies)
+  pub reports : ReportsPerLine (lines_of scanned) replies

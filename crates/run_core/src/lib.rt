@@ -1,8 +1,10 @@
-//! A run on one thread: the four actors, the plain lists between them, and the order in which they take turns.
+//! A run of four actors: each in a thread of its own, or all in turns on one.
 //!
-//! Bytes and replies between a host and a board, the flags that realtime bytes raise, and pieces on their way to a pulse stand
-//! in `Lists`; records go from a pulse to a recorder through `Records`. `World` is the four actors over these lists. Its
-//! turns go by a schedule, or in lockstep by an order that a seed gives.
+//! `Rig` is the four actors, each with its ends of the rings and words that threads share, and `run_threads` runs them.
+//!
+//! On one thread bytes and replies between a host and a board, the flags that realtime bytes raise, and pieces on their way to a
+//! pulse stand in `Lists`; records go from a pulse to a recorder through `Records`. `World` is the four actors over these lists.
+//! Its turns go by a schedule, or in lockstep by an order that a seed gives.
 #![tactic(auto)]
 
 mod board_port;
@@ -21,9 +23,9 @@ mod sides;
 mod tests;
 mod world;
 
-pub use laws::{rigs_run, worlds_run};
+pub use laws::{rigs_run, worlds_count_reports, worlds_run};
 pub use lists::Lists;
-pub use lockstep::{Order, run_lockstep, run_patiently};
+pub use lockstep::{Order, run_lockstep};
 pub use records::Records;
 pub use rig::{Rig, run_threads};
 pub use run_law::RunEnd;

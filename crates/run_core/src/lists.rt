@@ -1,6 +1,6 @@
 //! The lists between a host, a board and a pulse.
 
-ghost use Rattle.std.specs.Prelude.{◌≡◌, ◌↔◌, ◌≤◌, ◌+◌, true, [], length, IfOk};
+ghost use Rattle.std.specs.Prelude.{◌≡◌, ◌≤◌, ◌+◌, [], length, IfOk};
 ghost use Rattle.status_report.specs.Answering.{receive_room, reply_room};
 ghost use Rattle.step_line.specs.Finishing.{tick_count};
 ghost use Rattle.run_core.specs.Joining.{Joined, one_if_some};
@@ -62,20 +62,6 @@ pub(crate) fn ticks(piece: &Piece) -> u32
 }
 
 impl Lists {
-    /// Whether no reply is on its way.
-    pub(crate) fn has_no_reply(&self) -> bool
-        ensures { (result ≡ true) ↔ (self.now.replies ≡ []) }
-    {
-        self.replies.is_empty()
-    }
-
-    /// Whether no flag is up.
-    pub(crate) fn has_no_flag(&self) -> bool
-        ensures { (result ≡ true) ↔ (self.now.exec ≡ 0) × (self.now.override ≡ 0) }
-    {
-        self.exec.bits() == 0 && self.overrides.bits() == 0
-    }
-
     /// Lists in which nothing is on its way, and the link is open.
     pub fn new(alloc: Global) -> Result<Lists, AllocError>
         ensures { IfOk result (λ lists. Joined lists [] [] []) }

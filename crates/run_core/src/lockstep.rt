@@ -1,6 +1,6 @@
 //! Lockstep: the actors take their turns in an order that one number gives, until each has answered Done.
 
-ghost use Rattle.std.specs.Prelude.{◌≡◌, ◌↔◌, ◌/◌, ◌^◌, true, false};
+ghost use Rattle.std.specs.Prelude.{◌≡◌, ◌↔◌, ◌/◌, ◌^◌, true};
 ghost use Rattle.run_core.specs.Worlds.{devices, HasRunOn, AreDone};
 ghost use Rattle.run_core.specs.Lockstep.{state_after, number_of, RunsInOrder, with_end, HaveAllEnded};
 
@@ -67,48 +67,6 @@ impl Ended {
     }
 }
 
-/// Lets the actors take turns, in the order that a seed gives, until each has answered Done. Where it is patient, it leaves
-/// out the turns in which the host would read the job while what was sent is not answered, unless a resume is waited for.
-fn run<R: Wait, J: Source, C: Sink, S: Sink>(
-    rt: &R,
-    world: &mut World,
-    seed: u64,
-    patient: bool,
-    job: &mut J,
-    console: &mut C,
-    steps: &mut S,
-)
-    ensures goes_on { HasRunOn (devices (J.state job.old) (C.state console.old) (S.state steps.old)) (devices (J.state job.new) (C.state console.new) (S.state steps.new)) world.old world.new }
-    ensures order { patient ≡ false → RunsInOrder seed (devices (J.state job.old) (C.state console.old) (S.state steps.old)) (devices (J.state job.new) (C.state console.new) (S.state steps.new)) world.old world.new }
-    ensures done { AreDone world.new }
-{
-    let mut order = Order { state: seed };
-    let mut ended = Ended {
-        host: false,
-        board: false,
-        pulse: false,
-        recorder: false,
-    };
-    let mut board = Turn::Did;
-    for _ in rt.forever() {
-        let actor = order.next();
-        if patient && actor == Actor::Host && world.reads_early(board) {
-            continue;
-        }
-        let turn = world.turn(actor, job, console, steps);
-        if actor == Actor::Board {
-            board = turn;
-        }
-        if let Turn::Done = turn {
-            ended.add(actor);
-            if ended.all() {
-                return;
-            }
-        }
-    }
-    unreachable!()
-}
-
 /// Lets the actors take turns, in the order that a seed gives, until each has answered Done.
 pub fn run_lockstep<R: Wait, J: Source, C: Sink, S: Sink>(
     rt: &R,
@@ -122,21 +80,22 @@ pub fn run_lockstep<R: Wait, J: Source, C: Sink, S: Sink>(
     ensures order { RunsInOrder seed (devices (J.state job.old) (C.state console.old) (S.state steps.old)) (devices (J.state job.new) (C.state console.new) (S.state steps.new)) world.old world.new }
     ensures done { AreDone world.new }
 {
-    run(rt, world, seed, false, job, console, steps);
-}
-
-/// Lets the actors take turns in the order that zero gives as the seed, until each has answered Done, but for the turns in
-/// which the host would read the job while what was sent is not answered: these are left out, unless the board waits for a
-/// resume, which the job may have next. A read may wait until whoever writes the job goes on, who may wait for an answer.
-pub fn run_patiently<R: Wait, J: Source, C: Sink, S: Sink>(
-    rt: &R,
-    world: &mut World,
-    job: &mut J,
-    console: &mut C,
-    steps: &mut S,
-)
-    ensures goes_on { HasRunOn (devices (J.state job.old) (C.state console.old) (S.state steps.old)) (devices (J.state job.new) (C.state console.new) (S.state steps.new)) world.old world.new }
-    ensures done { AreDone world.new }
-{
-    run(rt, world, 0, true, job, console, steps);
+    let mut order = Order { state: seed };
+    let mut ended = Ended {
+        host: false,
+        board: false,
+        pulse: false,
+        recorder: false,
+    };
+    for _ in rt.forever() {
+        let actor = order.next();
+        let turn = world.turn(actor, job, console, steps);
+        if let Turn::Done = turn {
+            ended.add(actor);
+            if ended.all() {
+                return;
+            }
+        }
+    }
+    unreachable!()
 }

@@ -10,9 +10,9 @@ use outside::{Actor, Gate, Sink, Source, Turn};
 use std::sync::Wait;
 use std::thread;
 
-/// How many times a thread lets others run where its actor has to wait: so long that the other side then has a batch ready
-/// of some hundreds.
-const YIELDS: u32 = 16;
+/// How many times a thread lets others run where its actor has to wait: so long that the other side then mostly has a batch
+/// ready, and no longer, since each time may give a busy machine's processor away.
+const YIELDS: u32 = 4;
 
 /// Lets other threads run.
 fn yield_often() {

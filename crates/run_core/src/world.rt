@@ -6,11 +6,10 @@ ghost use Rattle.stream_host.specs.Hosts.{HostRests};
 ghost use Rattle.controller.specs.Boards.{BoardRests};
 ghost use Rattle.step_record.specs.Recording.{Rests};
 ghost use Rattle.run_core.specs.Worlds.{Devices, devices, History, no_history, Holds, Stands, LinkIsKept, FlagsAreKept, MotionIsKept, TurnsOn, ActsAlone, IsDone, AreDone, end_after, HasRun};
-ghost use Rattle.run_core.specs.Patience.{IsIdle, ReadsEarly};
 
 use crate::{Lists, Records, worlds_run};
 use controller::Controller;
-use outside::{Actor, On, OutOfMemory, Sink, Source, Turn};
+use outside::{Actor, OutOfMemory, Sink, Source, Turn};
 use pulse_engine::Pulse;
 use run_law::RunEnd;
 use std::alloc::Global;
@@ -126,35 +125,6 @@ impl World {
     {
         self.lists.have_room();
         self.waiting.have_room();
-    }
-
-    /// Whether the board, which answered so in its last turn, has nothing to go on with: no flag is up, and it waits for a
-    /// byte, and none is on its way, or for a resume, which may be the next byte of the job.
-    fn is_idle(&self, board: Turn) -> bool
-        ensures { (hist : History) → Holds self.now hist → (result ≡ true) ↔ IsIdle board self.now hist }
-    {
-        if !self.lists.has_no_flag() {
-            return false;
-        }
-        match board {
-            Turn::Wait(On::Byte) => self.lists.bytes.is_empty(),
-            Turn::Wait(On::Resume) => true,
-            _ => false,
-        }
-    }
-
-    /// Whether the host's next turn would read the job before what was sent is answered: it may read, no reply is on its way,
-    /// and the board, which answered so in its last turn, is not idle. A host that finds a reply does not read.
-    pub(crate) fn reads_early(&self, board: Turn) -> bool
-        ensures { (hist : History) → Holds self.now hist → (result ≡ true) ↔ ReadsEarly board self.now hist }
-    {
-        if self.is_idle(board) {
-            return false;
-        }
-        if !self.lists.has_no_reply() {
-            return false;
-        }
-        self.host.reads_next()
     }
 
     /// How the run ends: why no more of the job was sent, what was answered, and which devices have failed. Where all four

@@ -1,13 +1,14 @@
 -- A board that has kept to its rules has run.
-use Rattle.std.proofs.Common.{◌≡◌, ℕ, ◌+◌, ◌≤◌, ◌⊎◌, inl, inr, Bool, true, false, cond, ◌||◌, List, [], ◌∷◌, ◌++◌, map, length, reverse, append-nil, append_assoc, refl, sym, ap, ◌∙◌, subst, arith}
-use Rattle.std.specs.List.{flat_map}
+use Rattle.std.proofs.Common.{◌≡◌, ℕ, ◌+◌, ◌≤◌, ◌⊎◌, inl, inr, Bool, true, false, cond, ◌||◌, List, [], ◌∷◌, ◌++◌, map, length, reverse, append-nil, append_assoc, length-append, refl, sym, ap, ◌∙◌, subst, arith}
+use Rattle.std.specs.List.{flat_map, list_any}
 use Rattle.status_report.specs.declared.Reply.{Reply}
 use Rattle.status_report.specs.declared.Reply.TheVariants.{Bye}
 use Rattle.step_line.specs.declared.Piece.{Piece}
 use Rattle.step_line.specs.declared.Piece.TheVariants as pieces
 use Rattle.step_line.specs.Pieces.{ticks_of}
 use Rattle.step_line.specs.Finishing.{ticks_together}
-use Rattle.status_report.specs.Answering.{without_reports, reports_among}
+use Rattle.status_report.specs.Answering.{answers_in, without_reports, reports_among}
+use Rattle.status_report.proofs.Answered.{answers_on}
 use Rattle.planner_runs.specs.Runs.{IsPlannerRun, DisturbedOnlyBy, all_asked}
 use Rattle.run_rules.specs.declared.State.{State}
 use Rattle.run_rules.specs.Lines.{whole_lines}
@@ -17,17 +18,32 @@ use Rattle.run_rules.specs.Outcomes.{Follows, start}
 use Rattle.run_rules.specs.Outcomes.Passed.{a_line}
 use Rattle.run_rules.specs.Told.{replies_in, asked_in}
 use Rattle.stream_host.proofs.Pieces.{wholes_on, no_whole}
-use Rattle.run_rules.specs.Reports.{Reported}
+use Rattle.run_rules.specs.Reports.{Course, Reported}
 use Rattle.board_rules.specs.Turns.{owes_report}
 use Rattle.board_rules.specs.Steps.{Journal, port_log, taken_of, has_closed, answered_of, published_of, known_of, open_of, whole_of, lines_of, outcomes_of, before_of, left_of, closed_tells, actions_of, planned_of, given_of, hand_of, plan_of}
 use Rattle.board_rules.specs.Ports.{has_held_in, has_changed_in, reports_in}
-use Rattle.board_rules.specs.Conduct.{IsFinished}
+use Rattle.board_rules.specs.Ports.{PortStep, PortLog, answered_in, changes_at, closed_at, has_closed_in, has_reset_in, holds_at, published_in, reports_at, resets_at, taken_at, taken_in}
+use Rattle.board_rules.specs.Ports.PortStep.{answered, no_reply_room, no_piece_room, published}
+use Rattle.board_rules.specs.Breaking.{Doings, Ending, EndsRun, MayBreakOff, ending_of, is_end}
+use Rattle.board_rules.specs.Breaking.Doings.{goes, broke}
+use Rattle.board_rules.specs.Breaking.Ending.{publishes_end, tells_bye, over}
+use Rattle.board_rules.proofs.Breaking.{ended_answers, ended_pieces, none_end, opening_ends, same_since, unanswered, unended}
+use Rattle.board_rules.proofs.Phases.{Phase, count_is, done_of, phase_is}
+use Rattle.board_rules.proofs.Phases.Phase.{between, in_line}
+use Rattle.board_rules.proofs.Plain.{answers_without, reports_on}
+use Rattle.board_rules.specs.Conduct.{Conducted, IsFinished}
 use Rattle.board_rules.specs.Whole.{course_of, AreLines, IsSpent}
 use Rattle.board_rules.proofs.Growing.{reported_still}
-use Rattle.board_rules.proofs.Closing.{no_more_ticks}
+use Rattle.board_rules.proofs.Closing.{no_more_ticks, one_bye, one_end}
+use Rattle.board_rules.proofs.Keeping.{asked_is, disturbed_is, hand_is, run_is, told_is}
+use Rattle.board_rules.proofs.Lines.{bytes_are, lines_follow}
+use Rattle.board_rules.proofs.Owing.{owes_few}
+use Rattle.board_rules.proofs.Reporting.{reported_is}
 use Rattle.run_law.specs.Runs.{course, ends_program}
 use Rattle.run_law.specs.Ran.{HasReported, BoardRan}
-use Rattle.run_law.specs.SoFar.{BeginsWith, BoardRuns}
+use Rattle.run_law.specs.Fronts.{BeginsWith}
+use Rattle.run_law.specs.SoFar.{BoardRuns}
+use Rattle.run_law.proofs.Breaking.{Others, bye_behind, bye_reported, end_is_last, front_before, front_of, no_bye}
 use Rattle.run_law.proofs.Reporting.{planned_ticks}
 
 -- ---- the lines
@@ -44,6 +60,11 @@ all_begun taken lines raw false e is =
     lines_begun taken lines raw false is ∙ ap (λ (x : List ℕ). lines ++ whole_lines x) (append-nil raw)
     ∙ ap (λ (ls : List (List ℕ)). lines ++ ls) (no_whole raw is.partial) ∙ append-nil lines
 
+-- what holds of a board that goes on, and of one whose run a reset has ended
+pub by_doings : (P : Doings → Type 0) → ((h : Journal) → P (goes h)) → ((since before : Journal) → P (broke since before)) → (d : Doings) → P d
+by_doings P going ended (goes h) = going h
+by_doings P going ended (broke since before) = ended since before
+
 -- what the laws of boards say of one that keeps to its rules
 pub record Kept (first : State) (h : Journal) : Type 0 where
   pub bytes : AreLines (taken_of h) (lines_of h) (open_of h) (whole_of h)
@@ -56,14 +77,44 @@ pub record Kept (first : State) (h : Journal) : Type 0 where
   pub hand : given_of h ≡ published_of h ++ hand_of h
   pub end : (given_of h ≡ planned_of h) ⊎ (given_of h ≡ planned_of h ++ pieces.End ∷ [])
   pub fits : Reported (course_of first h) (reverse (answered_of h)) (known_of h)
+  pub one : length (outcomes_of h) ≤ answers_in (answered_of h) + 1
   pub few : reports_among (answered_of h) + cond (owes_report h) 1 0 ≤ reports_in (port_log h)
+
+-- all lines but the last one that was begun are answered
+one_begun : (first : State) (h : Journal) → Conducted first h → length (outcomes_of h) ≤ answers_in (answered_of h) + 1
+one_begun first h conducted = by_phase (phase_is first h conducted) (count_is first h conducted)
+  where
+    by_phase : Phase first h → length (done_of h) ≡ answers_in (answered_of h) → length (outcomes_of h) ≤ answers_in (answered_of h) + 1
+    by_phase (in_line p) count = let e = ap length p.begun in let l = length-append (done_of h) (p.o ∷ []) in omega (arith, e, l, count)
+    by_phase (between p) count = let e = ap length p.all in omega (arith, e, count)
+
+-- they hold of it
+pub keeps : (first : State) (h : Journal) → Conducted first h → Kept first h
+keeps first h conducted = record {
+  bytes = bytes_are first h conducted;
+  follow = lines_follow first h conducted;
+  told = told_is first h conducted;
+  bye = one_bye first h conducted;
+  asked = asked_is first h conducted;
+  run = run_is first h conducted;
+  disturbed = disturbed_is first h conducted;
+  hand = hand_is first h conducted;
+  end = one_end first h conducted;
+  fits = reported_is first h conducted;
+  one = one_begun first h conducted;
+  few = owes_few first h conducted;
+}
+
+-- what its reports are judged by, where all that the plan gave is counted
+abbrev course_so : State → Journal → Course
+course_so first h = course first (outcomes_of h) (flat_map ticks_of (planned_of h)) (has_held_in (port_log h)) (has_changed_in (port_log h))
 
 -- the reports fit what was given of the lines
 kept_reported : (first : State) (h : Journal) → Kept first h → HasReported first (outcomes_of h) (planned_of h) (has_held_in (port_log h)) (has_changed_in (port_log h)) (answered_of h)
 kept_reported first h c =
     let ticks = planned_ticks (given_of h) (planned_of h) (published_of h) (hand_of h) c.end c.hand in (
       known_of h,
-      reported_still (course_of first h) (course first (outcomes_of h) (flat_map ticks_of (planned_of h)) (has_held_in (port_log h)) (has_changed_in (port_log h))) (reverse (answered_of h)) (known_of h)
+      reported_still (course_of first h) (course_so first h) (reverse (answered_of h)) (known_of h)
           (record {
             first = refl;
             more = [];
@@ -83,61 +134,77 @@ kept_reported first h c =
 kept_few : (h : Journal) (first : State) → Kept first h → reports_among (answered_of h) ≤ reports_in (port_log h)
 kept_few h first c = let f = c.few in omega (arith, f)
 
--- ---- a board that is finished
+-- ---- a board that goes on
 
-pub board_ran : (first : State) (h : Journal) → IsOpening first → Kept first h → IsFinished h → IsSpent h → BoardRan (taken_of h) (has_closed h) (has_held_in (port_log h)) (has_changed_in (port_log h)) (reports_in (port_log h)) (answered_of h) (published_of h)
-board_ran first h opening c f s =
-    let lines : whole_lines (taken_of h) ≡ lines_of h = all_begun (taken_of h) (lines_of h) (open_of h) (whole_of h) s.whole c.bytes in
-    record {
-      first = first;
-      outcomes = outcomes_of h;
-      last = before_of first h;
-      opening = opening;
-      found = s.closed;
-      follows = subst (λ (ls : List (List ℕ)). Follows true (start first) ls (map a_line (outcomes_of h)) (before_of first h)) (sym lines) c.follow;
-      told = sym (append-nil (without_reports (answered_of h))) ∙ ap (λ (ts : List Task). without_reports (answered_of h) ++ tells ts) (sym f.left)
-          ∙ sym c.told ∙ ap (λ (rs : List Reply). replies_in (outcomes_of h) ++ rs) f.closed;
-      actions = actions_of h;
-      given = planned_of h;
-      plan = plan_of h;
-      run = c.run;
-      disturbed = c.disturbed;
-      rests = s.plan;
-      asks = sym (append-nil (all_asked (actions_of h))) ∙ ap (λ (ts : List Task). all_asked (actions_of h) ++ asks ts) (sym f.left) ∙ sym c.asked;
-      gave = sym (append-nil (published_of h)) ∙ ap (λ (ps : List Piece). published_of h ++ ps) (sym s.hand) ∙ sym c.hand ∙ s.given;
-      reported = kept_reported first h c;
-      reports = kept_few h first c;
-    }
+nothing_more : {A : Type 0} (xs : List A) → BeginsWith xs xs
+nothing_more xs = record { rest = []; is = sym (append-nil xs) }
 
--- ---- a board that runs
+begun_so : (first : State) (h : Journal) → Kept first h → BeginsWith (whole_lines (taken_of h)) (lines_of h)
+begun_so first h c = record { rest = whole_lines (open_of h ++ cond (whole_of h) (10 ∷ []) []); is = lines_begun (taken_of h) (lines_of h) (open_of h) (whole_of h) c.bytes }
 
-bye_last : (told closed answered left : List Reply) → (closed ≡ []) ⊎ (closed ≡ Bye ∷ []) → told ++ closed ≡ answered ++ left → BeginsWith (told ++ Bye ∷ []) answered
-bye_last told closed answered left (inl none) e = record {
+pub board_ran : (first : State) (h : Journal) → IsOpening first → Kept first h → IsFinished h → IsSpent h
+    → BoardRan (taken_of h) (has_closed h) (has_held_in (port_log h)) (has_changed_in (port_log h)) (has_reset_in (port_log h)) (reports_in (port_log h)) (answered_of h) (published_of h)
+board_ran first h opening c f s = record {
+  first = first;
+  lines = lines_of h;
+  outcomes = outcomes_of h;
+  last = before_of first h;
+  opening = opening;
+  begun = begun_so first h c;
+  follows = c.follow;
+  said = replies_in (outcomes_of h);
+  front = nothing_more (replies_in (outcomes_of h));
+  told = sym (append-nil (without_reports (answered_of h))) ∙ ap (λ (ts : List Task). without_reports (answered_of h) ++ tells ts) (sym f.left)
+      ∙ sym c.told ∙ ap (λ (rs : List Reply). replies_in (outcomes_of h) ++ rs) f.closed;
+  one = c.one;
+  actions = actions_of h;
+  given = planned_of h;
+  plan = plan_of h;
+  run = c.run;
+  disturbed = c.disturbed;
+  asks = record { rest = asks (left_of h); is = c.asked };
+  made = planned_of h;
+  kept = nothing_more (planned_of h);
+  gave = sym (append-nil (published_of h)) ∙ ap (λ (ps : List Piece). published_of h ++ ps) (sym s.hand) ∙ sym c.hand ∙ s.given;
+  reported = kept_reported first h c;
+  reports = kept_few h first c;
+  whole = λ none. record {
+    found = s.closed;
+    begun = sym (all_begun (taken_of h) (lines_of h) (open_of h) (whole_of h) s.whole c.bytes);
+    told = refl;
+    rests = s.plan;
+    asks = sym (append-nil (all_asked (actions_of h))) ∙ ap (λ (ts : List Task). all_asked (actions_of h) ++ asks ts) (sym f.left) ∙ sym c.asked;
+    whole = refl;
+  };
+}
+
+bye_last : (told closed out left : List Reply) → (closed ≡ []) ⊎ (closed ≡ Bye ∷ []) → told ++ closed ≡ out ++ left → BeginsWith (told ++ Bye ∷ []) out
+bye_last told closed out left (inl none) e = record {
   rest = left ++ Bye ∷ [];
-  is = ap (λ (rs : List Reply). rs ++ Bye ∷ []) (sym (append-nil told) ∙ ap (λ (rs : List Reply). told ++ rs) (sym none) ∙ e) ∙ append_assoc answered left (Bye ∷ []);
+  is = ap (λ (rs : List Reply). rs ++ Bye ∷ []) (sym (append-nil told) ∙ ap (λ (rs : List Reply). told ++ rs) (sym none) ∙ e) ∙ append_assoc out left (Bye ∷ []);
 }
-bye_last told closed answered left (inr one) e = record { rest = left; is = ap (λ (rs : List Reply). told ++ rs) (sym one) ∙ e }
+bye_last told closed out left (inr one) e = record { rest = left; is = ap (λ (rs : List Reply). told ++ rs) (sym one) ∙ e }
 
-end_last : (given planned published hand : List Piece) → (given ≡ planned) ⊎ (given ≡ planned ++ pieces.End ∷ []) → given ≡ published ++ hand
-    → BeginsWith (planned ++ pieces.End ∷ []) published
-end_last given planned published hand (inl same) e = record {
+end_last : (given planned out hand : List Piece) → (given ≡ planned) ⊎ (given ≡ planned ++ pieces.End ∷ []) → given ≡ out ++ hand
+    → BeginsWith (planned ++ pieces.End ∷ []) out
+end_last given planned out hand (inl same) e = record {
   rest = hand ++ pieces.End ∷ [];
-  is = ap (λ (ps : List Piece). ps ++ pieces.End ∷ []) (sym same ∙ e) ∙ append_assoc published hand (pieces.End ∷ []);
+  is = ap (λ (ps : List Piece). ps ++ pieces.End ∷ []) (sym same ∙ e) ∙ append_assoc out hand (pieces.End ∷ []);
 }
-end_last given planned published hand (inr whole) e = record { rest = hand; is = sym whole ∙ e }
+end_last given planned out hand (inr whole) e = record { rest = hand; is = sym whole ∙ e }
 
-pub board_runs : (first : State) (h : Journal) → IsOpening first → Kept first h → BoardRuns (taken_of h) (has_held_in (port_log h)) (has_changed_in (port_log h)) (reports_in (port_log h)) (answered_of h) (published_of h)
+pub board_runs : (first : State) (h : Journal) → IsOpening first → Kept first h
+    → BoardRuns (taken_of h) (has_held_in (port_log h)) (has_changed_in (port_log h)) (has_reset_in (port_log h)) (reports_in (port_log h)) (answered_of h) (published_of h)
 board_runs first h opening c = record {
   first = first;
   lines = lines_of h;
   outcomes = outcomes_of h;
   last = before_of first h;
   opening = opening;
-  begun = record {
-    rest = whole_lines (open_of h ++ cond (whole_of h) (10 ∷ []) []);
-    is = lines_begun (taken_of h) (lines_of h) (open_of h) (whole_of h) c.bytes;
-  };
+  begun = begun_so first h c;
   follows = c.follow;
+  said = replies_in (outcomes_of h);
+  front = nothing_more (replies_in (outcomes_of h));
   told = bye_last (replies_in (outcomes_of h)) (closed_tells h) (without_reports (answered_of h)) (tells (left_of h)) c.bye c.told;
   actions = actions_of h;
   given = planned_of h;
@@ -145,7 +212,214 @@ board_runs first h opening c = record {
   run = c.run;
   disturbed = c.disturbed;
   asks = record { rest = asks (left_of h); is = c.asked };
+  made = planned_of h;
+  kept = nothing_more (planned_of h);
   gave = end_last (given_of h) (planned_of h) (published_of h) (hand_of h) c.end c.hand;
   reported = kept_reported first h c;
   reports = kept_few h first c;
+  whole = λ none. (refl, refl);
 }
+
+-- ---- a board whose run a reset has ended
+
+-- the pieces of its run: all that the plan gave, where the end is published, and else those that are published
+abbrev made_of : Journal → List Piece
+made_of h = cond (list_any is_end (published_of h)) (planned_of h) (published_of h)
+
+made_by : (given planned out hand : List Piece) (t : Bool) → list_any is_end out ≡ t → Others pieces.End planned → (given ≡ planned) ⊎ (given ≡ planned ++ pieces.End ∷ []) → given ≡ out ++ hand
+    → BeginsWith planned (cond t planned out) × (out ++ cond t [] (pieces.End ∷ []) ≡ cond t planned out ++ pieces.End ∷ [])
+made_by given planned out hand true some none end is =
+    (nothing_more planned, append-nil out ∙ end_is_last given planned out hand some none end is)
+made_by given planned out hand false none_out none end is =
+    (by_end end, refl)
+  where
+    by_end : (given ≡ planned) ⊎ (given ≡ planned ++ pieces.End ∷ []) → BeginsWith planned out
+    by_end (inl same) = record { rest = hand; is = sym same ∙ is }
+    by_end (inr whole) = front_before pieces.End planned out hand (none_end out none_out) (sym whole ∙ is)
+
+-- a board that kept to its rules until a reset ended its run
+pub record IsBroken (first : State) (since before : Journal) : Type 0 where
+  pub opening : IsOpening first
+  pub kept : Kept first before
+  pub none : Others pieces.End (planned_of before)
+  pub broke_off : MayBreakOff before
+  pub ends : EndsRun since before
+
+abbrev log_behind : Journal → Journal → PortLog
+log_behind since before = port_log since ++ port_log before
+
+-- its log has of a word, a byte and a flag what it had before
+same_log : {X : Type 0} (at : PortStep → X → X) (p : PortLog → X) (since before : Journal) → EndsRun since before → ((e : PortStep) (l : PortLog) → p (e ∷ l) ≡ at e (p l))
+    → ((q : Piece) (x : X) → at (published q) x ≡ x) → ((r : Reply) (x : X) → at (answered r) x ≡ x) → ((n : ℕ) (x : X) → at (no_piece_room n) x ≡ x) → ((x : X) → at no_reply_room x ≡ x)
+    → p (log_behind since before) ≡ p (port_log before)
+same_log at p since before ends step gave told kept full = same_since at p step gave told kept full since before ends
+
+resets_now : (first : State) (since before : Journal) → IsBroken first since before → has_reset_in (log_behind since before) ≡ true
+resets_now first since before k =
+    same_log resets_at has_reset_in since before k.ends (λ e l. refl) (λ q x. refl) (λ r x. refl) (λ n x. refl) (λ x. refl) ∙ k.broke_off.reset
+
+taken_same : (since before : Journal) → EndsRun since before → taken_in (log_behind since before) ≡ taken_of before
+taken_same since before ends = same_log taken_at taken_in since before ends (λ e l. refl) (λ q x. refl) (λ r x. refl) (λ n x. refl) (λ x. refl)
+
+closed_same : (since before : Journal) → EndsRun since before → has_closed_in (log_behind since before) ≡ has_closed before
+closed_same since before ends = same_log closed_at has_closed_in since before ends (λ e l. refl) (λ q x. refl) (λ r x. refl) (λ n x. refl) (λ x. refl)
+
+held_same : (since before : Journal) → EndsRun since before → has_held_in (log_behind since before) ≡ has_held_in (port_log before)
+held_same since before ends = same_log holds_at has_held_in since before ends (λ e l. refl) (λ q x. refl) (λ r x. refl) (λ n x. refl) (λ x. refl)
+
+changed_same : (since before : Journal) → EndsRun since before → has_changed_in (log_behind since before) ≡ has_changed_in (port_log before)
+changed_same since before ends = same_log changes_at has_changed_in since before ends (λ e l. refl) (λ q x. refl) (λ r x. refl) (λ n x. refl) (λ x. refl)
+
+asked_same : (since before : Journal) → EndsRun since before → reports_in (log_behind since before) ≡ reports_in (port_log before)
+asked_same since before ends = same_log reports_at reports_in since before ends (λ e l. refl) (λ q x. refl) (λ r x. refl) (λ n x. refl) (λ x. refl)
+
+-- what it had told, but for reports
+abbrev said_so : Journal → List Reply
+said_so before = without_reports (answered_of before)
+
+front_said : (first : State) (since before : Journal) → IsBroken first since before → BeginsWith (replies_in (outcomes_of before)) (said_so before)
+front_said first since before k =
+    front_of Bye (replies_in (outcomes_of before)) (closed_tells before) (said_so before) (tells (left_of before)) (no_bye (answered_of before) k.broke_off.unsaid) k.kept.bye k.kept.told
+
+abbrev IsMade : Journal → Type 0
+IsMade before = BeginsWith (planned_of before) (made_of before) × (published_of before ++ cond (list_any is_end (published_of before)) [] (pieces.End ∷ []) ≡ made_of before ++ pieces.End ∷ [])
+
+made_is : (first : State) (since before : Journal) → IsBroken first since before → IsMade before
+made_is first since before k =
+    made_by (given_of before) (planned_of before) (published_of before) (hand_of before) (list_any is_end (published_of before)) refl k.none k.kept.end k.kept.hand
+
+-- its reports fit what it had done
+abbrev FitsSo : State → Journal → List Reply → Type 0
+FitsSo first before replies = HasReported first (outcomes_of before) (planned_of before) (has_held_in (port_log before)) (has_changed_in (port_log before)) replies
+
+-- how far its end is, by what it has answered and published
+record Stage (first : State) (before : Journal) (replies : List Reply) (pieces_out : List Piece) : Type 0 where
+  told : BeginsWith (said_so before ++ Bye ∷ []) (without_reports replies)
+  gave : BeginsWith (made_of before ++ pieces.End ∷ []) pieces_out
+  fits : FitsSo first before replies
+  few : reports_among replies ≤ reports_in (port_log before)
+
+with_bye : (before : Journal) (replies : List Reply) → replies ≡ answered_of before ++ Bye ∷ [] → without_reports replies ≡ said_so before ++ Bye ∷ []
+with_bye before replies is = ap without_reports is ∙ bye_behind (answered_of before)
+
+bye_fits : (first : State) (before : Journal) (replies : List Reply) → Kept first before → replies ≡ answered_of before ++ Bye ∷ [] → FitsSo first before replies
+bye_fits first before replies kept is =
+    let was = kept_reported first before kept in
+    subst (λ (rs : List Reply). FitsSo first before rs) (sym is) (was.0, bye_reported (course_so first before) (answered_of before) was.0 was.1)
+
+bye_few : (first : State) (before : Journal) (replies : List Reply) → Kept first before → replies ≡ answered_of before ++ Bye ∷ [] → reports_among replies ≤ reports_in (port_log before)
+bye_few first before replies kept is = let e = ap reports_among is in let s = reports_on (answered_of before) (Bye ∷ []) in let f = kept_few before first kept in omega (arith, e, s, f)
+
+whole_pieces : (first : State) (since before : Journal) → IsBroken first since before → (ending_of since before ≡ publishes_end → ⊥) → published_in (log_behind since before) ≡ made_of before ++ pieces.End ∷ []
+whole_pieces first since before k other = ended_pieces since before k.ends other ∙ (made_is first since before k).1
+
+-- where nothing was answered since
+unanswered_stage : (first : State) (before : Journal) (replies : List Reply) (pieces_out : List Piece) → Kept first before → replies ≡ answered_of before → BeginsWith (made_of before ++ pieces.End ∷ []) pieces_out
+    → Stage first before replies pieces_out
+unanswered_stage first before replies pieces_out kept same gave = record {
+  told = record { rest = Bye ∷ []; is = ap (λ (rs : List Reply). without_reports rs ++ Bye ∷ []) (sym same) };
+  gave = gave;
+  fits = subst (λ (rs : List Reply). FitsSo first before rs) (sym same) (kept_reported first before kept);
+  few = subst (λ (rs : List Reply). reports_among rs ≤ reports_in (port_log before)) (sym same) (kept_few before first kept);
+}
+
+all_pieces : (xs ys : List Piece) → ys ≡ xs → BeginsWith xs ys
+all_pieces xs ys is = record { rest = []; is = sym is ∙ sym (append-nil ys) }
+
+stage : (first : State) (since before : Journal) (e : Ending) → IsBroken first since before → ending_of since before ≡ e → Stage first before (answered_in (log_behind since before)) (published_in (log_behind since before))
+stage first since before publishes_end k e =
+    let un = unended since before k.ends e in
+    let none_out = opening_ends before un.1 in
+    unanswered_stage first before (answered_in (log_behind since before)) (published_in (log_behind since before)) k.kept (unanswered since before k.ends (λ o. absurd (let s = sym e ∙ o in cc)))
+    (record {
+      rest = pieces.End ∷ [];
+      is = ap (λ t. cond t (planned_of before) (published_of before) ++ pieces.End ∷ []) none_out ∙ ap (λ (ps : List Piece). ps ++ pieces.End ∷ []) (sym un.0);
+    })
+stage first since before tells_bye k e =
+    unanswered_stage first before (answered_in (log_behind since before)) (published_in (log_behind since before)) k.kept (unanswered since before k.ends (λ o. absurd (let s = sym e ∙ o in cc)))
+    (all_pieces (made_of before ++ pieces.End ∷ []) (published_in (log_behind since before)) (whole_pieces first since before k (λ p. absurd (let s = sym e ∙ p in cc))))
+stage first since before over k e =
+    let is = ended_answers since before k.ends e in
+    record {
+      told = record { rest = []; is = sym (with_bye before (answered_in (log_behind since before)) is) ∙ sym (append-nil (without_reports (answered_in (log_behind since before)))) };
+      gave = all_pieces (made_of before ++ pieces.End ∷ []) (published_in (log_behind since before)) (whole_pieces first since before k (λ p. absurd (let s = sym e ∙ p in cc)));
+      fits = bye_fits first before (answered_in (log_behind since before)) k.kept is;
+      few = bye_few first before (answered_in (log_behind since before)) k.kept is;
+    }
+
+runs_then : (first : State) (since before : Journal) (replies : List Reply) (pieces_out : List Piece) → IsBroken first since before → Stage first before replies pieces_out
+    → BoardRuns (taken_of before) (has_held_in (port_log before)) (has_changed_in (port_log before)) true (reports_in (port_log before)) replies pieces_out
+runs_then first since before replies pieces_out k s = record {
+  first = first;
+  lines = lines_of before;
+  outcomes = outcomes_of before;
+  last = before_of first before;
+  opening = k.opening;
+  begun = begun_so first before k.kept;
+  follows = k.kept.follow;
+  said = said_so before;
+  front = front_said first since before k;
+  told = s.told;
+  actions = actions_of before;
+  given = planned_of before;
+  plan = plan_of before;
+  run = k.kept.run;
+  disturbed = k.kept.disturbed;
+  asks = record { rest = asks (left_of before); is = k.kept.asked };
+  made = made_of before;
+  kept = (made_is first since before k).0;
+  gave = s.gave;
+  reported = s.fits;
+  reports = s.few;
+  whole = λ e. absurd cc;
+}
+
+pub broken_runs : (first : State) (since before : Journal) → IsBroken first since before
+    → BoardRuns (taken_in (log_behind since before)) (has_held_in (log_behind since before)) (has_changed_in (log_behind since before)) (has_reset_in (log_behind since before)) (reports_in (log_behind since before))
+    (answered_in (log_behind since before)) (published_in (log_behind since before))
+broken_runs first since before k =
+    rw (taken_same since before k.ends, held_same since before k.ends, changed_same since before k.ends, resets_now first since before k, asked_same since before k.ends)
+    (runs_then first since before (answered_in (log_behind since before)) (published_in (log_behind since before)) k (stage first since before (ending_of since before) k refl))
+
+-- a Bye behind them is no answer
+answers_still : (before : Journal) (replies : List Reply) → without_reports replies ≡ said_so before ++ Bye ∷ [] → answers_in replies ≡ answers_in (answered_of before)
+answers_still before replies told =
+    let all = answers_without replies in let was = answers_without (answered_of before) in
+    let e = ap answers_in told in let l = answers_on (said_so before) (Bye ∷ []) in omega (arith, all, was, e, l)
+
+ran_then : (first : State) (since before : Journal) (replies : List Reply) (pieces_out : List Piece) → IsBroken first since before → without_reports replies ≡ said_so before ++ Bye ∷ []
+    → pieces_out ≡ made_of before ++ pieces.End ∷ [] → Stage first before replies pieces_out
+    → BoardRan (taken_of before) (has_closed before) (has_held_in (port_log before)) (has_changed_in (port_log before)) true (reports_in (port_log before)) replies pieces_out
+ran_then first since before replies pieces_out k told gave s = record {
+  first = first;
+  lines = lines_of before;
+  outcomes = outcomes_of before;
+  last = before_of first before;
+  opening = k.opening;
+  begun = begun_so first before k.kept;
+  follows = k.kept.follow;
+  said = said_so before;
+  front = front_said first since before k;
+  told = told;
+  one = (let e = answers_still before replies told in let o = k.kept.one in omega (arith, e, o));
+  actions = actions_of before;
+  given = planned_of before;
+  plan = plan_of before;
+  run = k.kept.run;
+  disturbed = k.kept.disturbed;
+  asks = record { rest = asks (left_of before); is = k.kept.asked };
+  made = made_of before;
+  kept = (made_is first since before k).0;
+  gave = gave;
+  reported = s.fits;
+  reports = s.few;
+  whole = λ e. absurd cc;
+}
+
+pub broken_ran : (first : State) (since before : Journal) → IsBroken first since before → ending_of since before ≡ over
+    → BoardRan (taken_in (log_behind since before)) (has_closed_in (log_behind since before)) (has_held_in (log_behind since before)) (has_changed_in (log_behind since before)) (has_reset_in (log_behind since before))
+    (reports_in (log_behind since before)) (answered_in (log_behind since before)) (published_in (log_behind since before))
+broken_ran first since before k e =
+    rw (taken_same since before k.ends, closed_same since before k.ends, held_same since before k.ends, changed_same since before k.ends, resets_now first since before k, asked_same since before k.ends)
+    (ran_then first since before (answered_in (log_behind since before)) (published_in (log_behind since before)) k (with_bye before (answered_in (log_behind since before)) (ended_answers since before k.ends e))
+    (whole_pieces first since before k (λ p. absurd (let s = sym e ∙ p in cc))) (stage first since before (ending_of since before) k refl))

@@ -2,13 +2,14 @@
 use Rattle.std.proofs.Common.{◌≡◌, ℕ, ◌+◌, ◌≤◌, inl, inr, ◌||◌, Bool, true, false, cond, List, [], ◌∷◌, ◌++◌, length, map, nat_eq, nat_lt, append-nil, append_assoc, length-append, Some, None, refl, sym, ap, ◌∙◌, subst, arith}
 use Rattle.std.specs.Prelude.{slice_get}
 use Rattle.std.specs.declared.option.Option.{Option}
-use Rattle.std.specs.List.{AllByRecursion, list_any}
+use Rattle.std.specs.List.{AllByRecursion, filter, flat_map, list_any}
+use Rattle.std.proofs.lemmas.List.Folds.{list_any-append}
 use Rattle.std.specs.Io.KnownBytes.{Consumes, IsAtEnd}
 use Rattle.std.proofs.lemmas.Bool.Decides.{nat_tests}
 use Rattle.std.proofs.lemmas.List.{take_all}
 use Rattle.std.proofs.lemmas.List.Sums.{sum_by-cons}
 use Rattle.outside.specs.Causes.{SourceState}
-use Rattle.gcode_words.specs.Stripping.{plain}
+use Rattle.gcode_words.specs.Stripping.{plain, realtime}
 use Rattle.gcode_words.specs.Words.{words_of}
 use Rattle.system_lines.specs.Commands.{kind_of, needs_rest}
 use Rattle.run_rules.specs.declared.State.{State}
@@ -22,12 +23,12 @@ use Rattle.run_rules.proofs.Determined.{one_outcome, one_opening}
 use Rattle.stream_host.specs.declared.Reading.{Reading}
 use Rattle.stream_host.specs.declared.Reading.TheVariants.{Ended, Failed, Large, Stopped}
 use Rattle.stream_host.specs.declared.Stop.TheVariants.{End, Reset}
-use Rattle.stream_host.specs.Jobs.{ends_sending, is_long, holds_reset, ends_in, long_line, stop_by, lines_to_send, MayHaveRead, MayLeave}
+use Rattle.stream_host.specs.Jobs.{ends_sending, is_long, is_reset, is_served, holds_reset, served, ends_in, long_line, stop_by, lines_to_send, MayHaveRead, MayLeave}
 use Rattle.stream_host.specs.Ran.{is_failed}
 use Rattle.stream_host.proofs.Pieces.{neither, ends_on, all_are_sent}
 use Rattle.run_law.specs.declared.RunEnd.{RunEnd}
 use Rattle.run_law.specs.Runs.{Sinks, IsRun}
-use Rattle.run_law.specs.SoFar.{BeginsWith}
+use Rattle.run_law.specs.Fronts.{BeginsWith}
 use Rattle.run_law.specs.Complete.{AreServed, IsAcceptedJob, IsComplete}
 
 -- ---- lines that are accepted
@@ -173,6 +174,20 @@ ended Failed n text left fits few well leaves none = absurd cc
 ended Large n text left fits few well leaves none = absurd (let m = fits.0 in omega arith)
 ended Stopped n text left fits few well leaves none = absurd (leaves none)
 
+fewer_by : (b : ℕ) (bytes : List ℕ) (t : Bool) → is_reset b ≡ false → list_any is_reset (filter is_served bytes) ≡ false → list_any is_reset (cond t (b ∷ filter is_served bytes) (filter is_served bytes)) ≡ false
+fewer_by b bytes true first rest = ap (λ c. c || list_any is_reset (filter is_served bytes)) first ∙ rest
+fewer_by b bytes false first rest = rest
+
+fewer : (bytes : List ℕ) → list_any is_reset bytes ≡ false → list_any is_reset (filter is_served bytes) ≡ false
+fewer [] none = refl
+fewer (b ∷ bytes) none = let p = neither (is_reset b) (list_any is_reset bytes) none in fewer_by b bytes (is_served b) p.0 (fewer bytes p.1)
+
+pub none_served : (ls : List (List ℕ)) → list_any holds_reset ls ≡ false → list_any is_reset (flat_map served ls) ≡ false
+none_served [] none = refl
+none_served (l ∷ ls) none =
+    let p = neither (holds_reset l) (list_any holds_reset ls) none in
+    list_any-append is_reset (served l) (flat_map served ls) ∙ ap (λ b. b || list_any is_reset (flat_map served ls)) (fewer (realtime l) p.0) ∙ none_served ls p.1
+
 pub complete : (job_was job_is : SourceState) (was is : Sinks) (end : RunEnd) (run : IsRun job_was job_is was is end) (job : IsAcceptedJob job_was)
     → end.source_failed ≡ false → IsComplete job.bytes run.read run.lines job.outcomes run.outcomes end
 complete job_was job_is was is end run job well =
@@ -190,14 +205,16 @@ complete job_was job_is was is end run job well =
     let lines : run.lines ≡ lines_of job.bytes =
     sent.sent ∙ ap (λ r. lines_to_send r (job_of run.read)) over ∙ ap (lines_to_send Ended) (whole_job run.read few ∙ all) ∙ all_are_sent Ended job.bytes short in
     let first : run.first ≡ job.first = one_opening run.first job.first run.opening job.opening in
+    let carried = run.whole (none_served (lines_of run.scanned) (either_none (lines_of run.scanned) none).1) in
     let follows : Follows true (start job.first) (map plain (lines_of job.bytes)) (map a_line run.outcomes) run.last =
     subst (λ (s : State). Follows true (start s) (map plain (lines_of job.bytes)) (map a_line run.outcomes) run.last) first
-    (subst (λ (ls : List (List ℕ)). Follows true (start run.first) (map plain ls) (map a_line run.outcomes) run.last) lines run.follows) in
+    (subst (λ (ls : List (List ℕ)). Follows true (start run.first) ls (map a_line run.outcomes) run.last) (carried.begun_are ∙ ap (map plain) lines) run.follows) in
     let same : run.outcomes ≡ job.outcomes =
     same_outcomes (start job.first) job.last run.last (map plain (lines_of job.bytes)) job.outcomes run.outcomes job.follows job.served follows in
     record {
       stop = sent.cause ∙ stops_at_end run.reading run.scanned over none;
-      errors = run.errors ∙ ap errors_in same ∙ job.accepted;
+      answered = carried.answered;
+      errors = carried.errors ∙ ap errors_in same ∙ job.accepted;
       all = all;
       sent = lines;
       same = same;

@@ -1,6 +1,6 @@
 -- A run of a job with one empty line: four actors that ran, and what they make together. So all premises of the law can be
 -- met at once.
-use Rattle.std.proofs.Common.{inr, true, false, [], ◌∷◌, length, refl, arith, codes, Some, None}
+use Rattle.std.proofs.Common.{inl, inr, ◌-◌, true, false, [], ◌∷◌, length, refl, arith, codes, Some, None}
 use Rattle.std.proofs.lemmas.List.Elements.{All-nil}
 use Rattle.outside.specs.Causes.{SourceState, SinkState}
 use Rattle.gcode_words.specs.Comments.{cut_within}
@@ -30,37 +30,71 @@ sinks = record { console = silent; steps = silent }
 
 -- ---- the host
 
-abbrev before_text : hosts.Journal
-before_text =
-    hosts.at_port (hosts.got replies.Bye) ∷ hosts.at_port (hosts.got replies.Ok) ∷ hosts.at_port (hosts.got replies.Banner) ∷ hosts.at_port hosts.shut
-    ∷ hosts.read_end ∷ hosts.at_port (hosts.stored 10) ∷ hosts.scanned 10 ∷ hosts.read_some (10 ∷ []) ∷ []
+abbrev greeted : hosts.Journal
+greeted = hosts.at_port (hosts.got replies.Banner) ∷ []
+
+abbrev sent : hosts.Journal
+sent =
+    hosts.at_port (hosts.stored 10) ∷ hosts.scanned 10 ∷ hosts.read_some (10 ∷ [])
+    ∷ hosts.wrote (length (hosts.text_of greeted)) ∷ greeted
+
+abbrev answered : hosts.Journal
+answered = hosts.at_port (hosts.got replies.Ok) ∷ sent
 
 abbrev all_done : hosts.Journal
-all_done = hosts.wrote (length (hosts.text_of before_text)) ∷ before_text
+all_done =
+    hosts.at_port (hosts.got replies.Bye) ∷ hosts.at_port hosts.shut ∷ hosts.read_end
+    ∷ hosts.wrote (length (hosts.text_of answered) - length (hosts.text_of greeted)) ∷ answered
+
+got_keeps : Conducted greeted
+got_keeps = (record { poll = record { going = refl; rested = omega arith }; few = omega arith }, tt)
+
+sent_keeps : Conducted sent
+unfolding cut_within reply_text
+sent_keeps = (
+  record { next = refl; reported = refl; room = omega arith },
+  (
+    record { going = refl; next = refl; few = omega arith; sends = refl; free = refl; none_due = refl },
+    (
+      (
+        record {
+          going = refl;
+          on = refl;
+          sends = refl;
+          used = refl;
+          free = refl;
+          none_due = refl;
+          settled = record { greeted = inl refl; reported = refl; answered = inl refl };
+          shown = inr (omega arith);
+        },
+        omega arith,
+        omega arith,
+      ),
+      (record { going = refl; some = omega arith; front = omega arith }, got_keeps),
+    ),
+  ),
+)
 
 host_keeps : Conducted all_done
 unfolding cut_within reply_text
 host_keeps = (
-  record { going = refl; some = omega arith; front = omega arith },
+  record { poll = record { going = refl; rested = omega arith }; few = omega arith },
   (
-    record { poll = record { going = refl; rested = omega arith }; few = omega arith },
+    record { going = refl; sent = record { free = refl; all = inr (refl, refl) }; all_raised = refl },
     (
-      record { poll = record { going = refl; rested = omega arith }; few = omega arith },
+      record {
+        going = refl;
+        on = refl;
+        sends = refl;
+        used = refl;
+        free = refl;
+        none_due = refl;
+        settled = record { greeted = inl refl; reported = refl; answered = inl refl };
+        shown = inr (omega arith);
+      },
       (
-        record { poll = record { going = refl; rested = omega arith }; few = omega arith },
-        (
-          record { going = refl; sent = record { free = refl; all = inr (refl, refl) }; all_raised = refl },
-          (
-            record { going = refl; on = refl; sends = refl; used = refl; free = refl; none_due = refl; shown = inr refl },
-            (
-              record { next = refl; reported = refl; room = omega arith },
-              (
-                record { going = refl; next = refl; few = omega arith; sends = refl; free = refl; none_due = refl },
-                ((record { going = refl; on = refl; sends = refl; used = refl; free = refl; none_due = refl; shown = inr refl }, omega arith, omega arith), tt),
-              ),
-            ),
-          ),
-        ),
+        record { going = refl; some = omega arith; front = omega arith },
+        (record { poll = record { going = refl; rested = omega arith }; few = omega arith }, sent_keeps),
       ),
     ),
   ),
@@ -77,31 +111,37 @@ nothing = record { left = Some []; faults = 0 }
 
 host_ran : HostRan one_line nothing silent silent (10 ∷ []) true [] (replies.Banner ∷ replies.Ok ∷ replies.Bye ∷ []) ended_so
 unfolding cut_within reply_text
-host_ran = has_run all_done one_line nothing silent silent host_keeps (record { bye = refl; written = inr refl })
+host_ran = has_run all_done one_line nothing silent silent host_keeps (record { bye = refl; written = inr (omega arith) })
     (record { taken = refl; at_end = λ e. refl; later = omega arith; cause = λ e. absurd cc; same = λ e. refl })
-    (record { front = hosts.text_of before_text; back = []; whole = refl; held = tt; all = λ e. refl; same = λ e. refl; later = omega arith; cause = λ e. absurd cc })
+    (record { front = hosts.text_of all_done; back = []; whole = refl; held = tt; all = λ e. refl; same = λ e. refl; later = omega arith; cause = λ e. absurd cc })
 
 -- ---- the board, the pulse and the recorder
 
-board_ran : (first : State) → IsOpening first → BoardRan (10 ∷ []) true false false 0 (replies.Banner ∷ replies.Ok ∷ replies.Bye ∷ []) (pieces.End ∷ [])
+board_ran : (first : State) → IsOpening first → BoardRan (10 ∷ []) true false false false 0 (replies.Banner ∷ replies.Ok ∷ replies.Bye ∷ []) (pieces.End ∷ [])
 board_ran first opening = record {
   first = first;
+  lines = [] ∷ [];
   outcomes = told first [] ∷ [];
   last = after (start first) (told first []);
   opening = opening;
-  found = refl;
+  begun = record { rest = []; is = refl };
   follows = (refl, refl);
+  said = replies.Banner ∷ replies.Ok ∷ [];
+  front = record { rest = []; is = refl };
   told = refl;
+  one = omega arith;
   actions = [];
   given = [];
   plan = fresh_plan;
   run = refl;
   disturbed = tt;
-  rests = record { blocks = refl; speed = refl };
-  asks = refl;
+  asks = record { rest = []; is = refl };
+  made = [];
+  kept = record { rest = []; is = refl };
   gave = refl;
   reported = (0, tt);
   reports = omega arith;
+  whole = λ none. record { found = refl; begun = refl; told = refl; rests = record { blocks = refl; speed = refl }; asks = refl; whole = refl };
 }
 
 pulse_ran : PulseRan (pieces.End ∷ []) 0 (kinds.End ∷ [])
@@ -117,6 +157,6 @@ recorder_ran = record {
 
 pub a_run : (first : State) → IsOpening first → IsRun one_line nothing sinks sinks (ended ended_so false)
 a_run first opening =
-    runs one_line nothing sinks sinks ended_so false (10 ∷ []) [] (10 ∷ []) true true false false 0
+    runs one_line nothing sinks sinks ended_so false (10 ∷ []) [] (10 ∷ []) true true false false false 0
     (replies.Banner ∷ replies.Ok ∷ replies.Bye ∷ []) (replies.Banner ∷ replies.Ok ∷ replies.Bye ∷ []) (pieces.End ∷ []) (pieces.End ∷ []) 0 (kinds.End ∷ []) (kinds.End ∷ [])
-    host_ran (board_ran first opening) pulse_ran recorder_ran (record { rest = []; front = refl; closes = λ e. refl; all = λ e. refl }) (record { held_by = λ e. absurd cc; changed_by = λ e. absurd cc; asked_by = omega arith }) refl refl refl
+    host_ran (board_ran first opening) pulse_ran recorder_ran (record { rest = []; front = refl; closes = λ e. refl; all = λ e. refl }) (record { held_by = λ e. absurd cc; changed_by = λ e. absurd cc; reset_by = λ e. absurd cc; asked_by = omega arith }) refl refl refl

@@ -1,15 +1,15 @@
 -- What a board takes of flags was asked for in what was scanned.
-use Rattle.std.proofs.Common.{◌≡◌, ℕ, ◌+◌, ◌<◌, ◌||◌, Bool, true, false, cond, List, [], ◌∷◌, refl, ap, arith}
+use Rattle.std.proofs.Common.{◌≡◌, ℕ, ◌+◌, ◌<◌, ◌||◌, Bool, true, false, cond, List, [], ◌∷◌, refl, sym, ap, ◌∙◌, arith}
 use Rattle.std.specs.List.{count_by, list_any}
 use Rattle.std.proofs.lemmas.List.Sums.{sum_by-cons}
 use Rattle.run_rules.specs.Work.{Outcome}
-use Rattle.stream_host.specs.Jobs.{resume, served_in}
+use Rattle.stream_host.specs.Jobs.{resume, is_reset, served_in}
 use Rattle.stream_host.specs.Ran.{AreRaised}
 use Rattle.planner_runs.specs.declared.Action.{Action}
 use Rattle.planner_runs.specs.Runs.{DisturbedOnlyBy}
 use Rattle.planner_runs.proofs.Runs.{disturbed_more}
 use Rattle.run_law.specs.Flags.{is_hold, is_change, AreTaken}
-use Rattle.run_law.specs.Runs.{asks_hold, asks_change, ends_program}
+use Rattle.run_law.specs.Runs.{asks_hold, asks_change, asks_reset, ends_program}
 
 -- ---- a test that some element passes
 
@@ -41,9 +41,9 @@ scanned_where_raised p scanned raised due resumes none are any =
     passes_some p (served_in scanned) (omega arith)
 
 -- what disturbs a plan is scanned
-pub disturbed_by : (scanned raised due : List ℕ) (resumes : ℕ) (held changed : Bool) (asked : ℕ) (outcomes : List Outcome) (actions : List Action) → AreRaised scanned raised due resumes → AreTaken raised held changed asked
+pub disturbed_by : (scanned raised due : List ℕ) (resumes : ℕ) (held changed reset : Bool) (asked : ℕ) (outcomes : List Outcome) (actions : List Action) → AreRaised scanned raised due resumes → AreTaken raised held changed reset asked
     → DisturbedOnlyBy held (changed || ends_program outcomes) actions → DisturbedOnlyBy (asks_hold scanned) (asks_change scanned || ends_program outcomes) actions
-disturbed_by scanned raised due resumes held changed asked outcomes actions are taken was =
+disturbed_by scanned raised due resumes held changed reset asked outcomes actions are taken was =
     disturbed_more held (changed || ends_program outcomes) (asks_hold scanned) (asks_change scanned || ends_program outcomes) actions
     (λ is. scanned_where_raised is_hold scanned raised due resumes refl are (taken.held_by is))
     (λ is. by_change changed (ends_program outcomes) (asks_change scanned) (λ now. scanned_where_raised is_change scanned raised due resumes refl are (taken.changed_by now)) is)
@@ -53,3 +53,11 @@ disturbed_by scanned raised due resumes held changed asked outcomes actions are 
     by_change true b c on is = ap (λ t. t || b) (on refl)
     by_change false b true on is = refl
     by_change false b false on is = is
+
+-- where no reset was scanned, none was taken
+pub no_reset : (scanned raised due : List ℕ) (resumes : ℕ) (held changed reset : Bool) (asked : ℕ) → AreRaised scanned raised due resumes → AreTaken raised held changed reset asked → asks_reset scanned ≡ false → reset ≡ false
+no_reset scanned raised due resumes held changed reset asked are taken none = by_reset reset taken.reset_by
+  where
+    by_reset : (t : Bool) → (t ≡ true → list_any is_reset raised ≡ true) → t ≡ false
+    by_reset false by = refl
+    by_reset true by = absurd (let e = sym none ∙ scanned_where_raised is_reset scanned raised due resumes refl are (by refl) in cc)

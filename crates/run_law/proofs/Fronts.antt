@@ -1,7 +1,9 @@
 -- Where each actor has ended, what one got is all that the other gave: its end is the last.
 use Rattle.std.proofs.Common.{◌≡◌, ℕ, Bool, true, List, [], ◌∷◌, ◌++◌, append-nil, append_assoc, refl, sym, ap, ◌∙◌, subst}
 use Rattle.std.specs.List.{AllByRecursion, list_any}
-use Rattle.std.proofs.lemmas.List.Elements.{recursion_from_All}
+use Rattle.std.specs.List.{flat_map}
+use Rattle.std.proofs.lemmas.Grind.{flat_map-append}
+use Rattle.std.proofs.lemmas.List.Elements.{All-from_recursion, recursion_from_All}
 use Rattle.outside.specs.Causes.{SourceState}
 use Rattle.status_report.specs.declared.Reply.{Reply}
 use Rattle.status_report.specs.declared.Reply.TheVariants as replies
@@ -9,24 +11,26 @@ use Rattle.step_line.specs.declared.Piece.{Piece}
 use Rattle.step_line.specs.declared.Piece.TheVariants as pieces
 use Rattle.step_line.specs.declared.Record.{Record}
 use Rattle.step_line.specs.declared.Record.TheVariants as kinds
-use Rattle.step_line.specs.Ending.{IsEnded}
+use Rattle.step_line.specs.Ending.{HasNoEnd, IsEnded}
+use Rattle.step_line.specs.Pieces.{records_of}
+use Rattle.planner_runs.proofs.Driven.{run_has_no_end}
 use Rattle.plan_passes.specs.Plans.{Planned}
 use Rattle.plan_passes.specs.Segments.{advanced}
 use Rattle.planner_runs.specs.declared.Action.{Action}
 use Rattle.planner_runs.specs.declared.Action.TheVariants.{Add, Take, Override, Mark, Rest, Clear, Reset}
-use Rattle.planner_runs.specs.Runs.{Plans, with_move, cleared, fresh_plan, most_blocks}
+use Rattle.planner_runs.specs.Runs.{Plans, all_records, with_move, cleared, fresh_plan, most_blocks}
 use Rattle.run_rules.specs.Outcomes.{start}
-use Rattle.run_rules.specs.Lines.{whole_lines}
 use Rattle.run_rules.specs.Told.{replies_in}
 use Rattle.status_report.specs.Answering.{is_bye, without_reports}
 use Rattle.stream_host.specs.Ran.{HostEnd, HostRan}
 use Rattle.run_law.specs.Flags.{AreTaken}
 use Rattle.run_law.specs.Runs.{Sinks, ended, IsRun}
 use Rattle.run_law.specs.Ran.{BoardRan, PulseRan, RecorderRan, IsLinked}
-use Rattle.run_law.specs.SoFar.{BeginsWith}
+use Rattle.run_law.specs.Fronts.{BeginsWith}
 use Rattle.run_rules.proofs.Answering.{NoByes, none_is_bye}
 use Rattle.run_law.proofs.Reporting.{plain_front, bye_without}
-use Rattle.run_law.proofs.Law.{runs_by, drive}
+use Rattle.run_law.proofs.Begins.{ended_records}
+use Rattle.run_law.proofs.Law.{runs_by}
 
 abbrev Others : {X : Type 0} → X → List X → Type 0
 Others {X} x ys = AllByRecursion (λ (y : X). y ≡ x → ⊥) ys
@@ -101,19 +105,44 @@ replies_whole answered got front is none some more =
     let nothing = last_part b.behind more.rest (none_behind replies.Bye b.before (b.behind ++ more.rest) front none e) in
     sym (more.is ∙ ap (λ (rs : List Reply). got ++ rs) nothing ∙ append-nil got)
 
+-- ---- fronts
+
+first_ones : {X : Type 0} (P : X → Type 0) (ys zs : List X) → AllByRecursion P (ys ++ zs) → AllByRecursion P ys
+first_ones P [] zs all = tt
+first_ones P (y ∷ ys) zs all = (all.0, first_ones P ys zs all.1)
+
+abbrev NotEnd : Record → Type 0
+NotEnd r = r ≡ kinds.End → ⊥
+
+records_end : (given made : List Piece) → BeginsWith given made → HasNoEnd (all_records given) → HasNoEnd (all_records made)
+records_end given made b none =
+    All-from_recursion NotEnd (all_records made)
+    (first_ones NotEnd (all_records made) (all_records b.rest) (recursion_from_All NotEnd (all_records made ++ all_records b.rest) (subst HasNoEnd (ap all_records b.is ∙ flat_map-append records_of made b.rest) none)))
+
+front_none : {X : Type 0} (x : X) (whole front : List X) → BeginsWith whole front → Others x whole → Others x front
+front_none x whole front b none = first_none x front b.rest (subst (Others x) b.is none)
+  where
+    first_none : {X : Type 0} (x : X) (ys zs : List X) → Others x (ys ++ zs) → Others x ys
+    first_none x [] zs none = tt
+    first_none x (y ∷ ys) zs none = (none.0, first_none x ys zs none.1)
+
 -- ---- the run
 
 pub ends : (job_was job_is : SourceState) (was is : Sinks) (end : HostEnd) (steps_failed : Bool)
-    (stored raised taken : List ℕ) (shut closed held changed : Bool) (asked : ℕ) (got answered : List Reply) (got_pieces published : List Piece) (ticks : ℕ) (got_records put : List Record)
-    → HostRan job_was job_is was.console is.console stored shut raised got end → BoardRan taken closed held changed asked answered published → PulseRan got_pieces ticks put
+    (stored raised taken : List ℕ) (shut closed held changed reset : Bool) (asked : ℕ) (got answered : List Reply) (got_pieces published : List Piece) (ticks : ℕ) (got_records put : List Record)
+    → HostRan job_was job_is was.console is.console stored shut raised got end → BoardRan taken closed held changed reset asked answered published → PulseRan got_pieces ticks put
     → RecorderRan was.steps is.steps got_records steps_failed
-    → IsLinked stored shut taken closed → AreTaken raised held changed asked → BeginsWith answered got → BeginsWith published got_pieces → BeginsWith put got_records
+    → IsLinked stored shut taken closed → AreTaken raised held changed reset asked → BeginsWith answered got → BeginsWith published got_pieces → BeginsWith put got_records
     → IsRun job_was job_is was is (ended end steps_failed)
-ends job_was job_is was is end steps_failed stored raised taken shut closed held changed asked got answered got_pieces published ticks got_records put host board pulse recorder link flags some_replies some_pieces some_records =
-    let none = none_is_bye true (start board.first) (whole_lines taken) board.outcomes board.last board.follows in
-    let same_replies = replies_whole (without_reports answered) (without_reports got) (replies_in board.outcomes) board.told none (bye_without got host.bye) (plain_front answered got some_replies) in
-    let same_pieces : got_pieces ≡ published =
-    whole_front pieces.End published got_pieces board.given pulse.before (no_ends most_blocks fresh_plan board.plan board.actions board.given board.run) board.gave pulse.ends some_pieces in
-    let ended : IsEnded put = (drive taken closed held changed asked answered published got_pieces ticks put board pulse same_pieces).ended in
-    runs_by job_was job_is was is end steps_failed stored raised taken shut closed held changed asked got answered got_pieces published ticks got_records put host board pulse recorder link flags
+ends job_was job_is was is end steps_failed stored raised taken shut closed held changed reset asked got answered got_pieces published ticks got_records put host board pulse recorder link flags some_replies some_pieces some_records =
+    let none = front_none replies.Bye (replies_in board.outcomes) board.said board.front (none_is_bye true (start board.first) board.lines board.outcomes board.last board.follows) in
+    let same_replies = replies_whole (without_reports answered) (without_reports got) board.said board.told none (bye_without got host.bye) (plain_front answered got some_replies) in
+    let no_end = front_none pieces.End board.given board.made board.kept (no_ends most_blocks fresh_plan board.plan board.actions board.given board.run) in
+    let same_pieces : got_pieces ≡ published = whole_front pieces.End published got_pieces board.made pulse.before no_end board.gave pulse.ends some_pieces in
+    let ended : IsEnded put = record {
+      front = all_records board.made;
+      last = pulse.records ∙ ap (flat_map records_of) (same_pieces ∙ board.gave) ∙ ended_records board.made;
+      once = records_end board.given board.made board.kept (run_has_no_end most_blocks fresh_plan board.plan board.actions board.given board.run);
+    } in
+    runs_by job_was job_is was is end steps_failed stored raised taken shut closed held changed reset asked got answered got_pieces published ticks got_records put host board pulse recorder link flags
     same_replies some_replies same_pieces (records_whole put got_records ended recorder.ended some_records)

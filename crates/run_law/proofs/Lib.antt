@@ -1,11 +1,14 @@
 pub mod Flagging
 pub mod Querying
 pub mod Taking
+pub mod Resetting
+pub mod Begins
 pub mod Law
 pub mod Fronts
 pub mod SoFar
 pub mod Having
 pub mod Reporting
+pub mod Breaking
 pub mod Boarding
 pub mod Completing
 pub mod Example

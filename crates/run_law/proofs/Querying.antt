@@ -1,5 +1,5 @@
 -- Reports are asked for no more often than `?` was raised.
-use Rattle.std.proofs.Common.{◌≡◌, ℕ, ◌+◌, ◌≤◌, Bool, true, false, cond, nat_eq, bit_and, List, [], ◌∷◌, ◌++◌, refl, ap, ◌∙◌, arith, Some, None}
+use Rattle.std.proofs.Common.{◌≡◌, ℕ, ◌+◌, ◌≤◌, Bool, true, false, cond, nat_eq, bit_and, List, [], ◌∷◌, refl, ap, ◌∙◌, arith, Some, None}
 use Rattle.std.proofs.lemmas.Bool.Decides.{nat_tests}
 use Rattle.std.proofs.lemmas.Nat.Bits.{bit_at_and, bit_at-lt}
 use Rattle.std.proofs.lemmas.List.Sums.{sum_by-append}
@@ -11,7 +11,7 @@ use Rattle.code_table.specs.declared.flags.Exec.{Exec}
 use Rattle.realtime_flags.specs.declared.words.Flag.{Flag}
 use Rattle.realtime_flags.specs.declared.words.Raise.{Raise}
 use Rattle.realtime_flags.specs.declared.words.Take.TheVariants as kinds
-use Rattle.realtime_flags.specs.Bits.{is_flag, is_up, report_flag, raised_down, raises_of, takes_with, stood_in, IsBalanced}
+use Rattle.realtime_flags.specs.Bits.{is_flag, is_up, report_flag, raises_of, takes_with, stood_in, IsBalanced}
 use Rattle.realtime_flags.specs.Bytes.{flag_of_row, flag_of_byte}
 use Rattle.realtime_flags.proofs.Bits.{down_among, at_least}
 use Rattle.run_rules.specs.Reports.{is_query}

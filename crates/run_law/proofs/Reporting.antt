@@ -1,5 +1,5 @@
 -- Reports fit a run, and a run so far.
-use Rattle.std.proofs.Common.{◌≡◌, ℕ, ◌+◌, ◌≤◌, ◌⊎◌, inl, inr, Bool, true, false, not, cond, ◌||◌, List, [], ◌∷◌, ◌++◌, length, reverse, append-nil, refl, sym, ap, ◌∙◌, subst, arith}
+use Rattle.std.proofs.Common.{◌≡◌, ℕ, ◌+◌, ◌≤◌, ◌⊎◌, inl, inr, Bool, true, false, cond, List, [], ◌∷◌, ◌++◌, reverse, append-nil, refl, sym, ap, ◌∙◌, subst, arith}
 use Rattle.std.specs.List.{flat_map, count_by, list_any}
 use Rattle.std.proofs.lemmas.Grind.{flat_map-append}
 use Rattle.std.proofs.lemmas.List.{reverse-append}
@@ -12,18 +12,17 @@ use Rattle.step_line.specs.declared.Piece.{Piece}
 use Rattle.step_line.specs.declared.Piece.TheVariants as pieces
 use Rattle.step_line.specs.declared.Record.{Record}
 use Rattle.step_line.specs.Pieces.{ticks_of}
-use Rattle.step_line.specs.Finishing.{ticks_together}
 use Rattle.run_rules.specs.declared.State.{State}
 use Rattle.run_rules.specs.Work.{Outcome}
 use Rattle.run_rules.specs.Told.{errors_among, is_error}
 use Rattle.run_rules.specs.Reports.{Course, Reported, is_query}
-use Rattle.stream_host.specs.Jobs.{resume, served_in}
+use Rattle.stream_host.specs.Jobs.{served_in}
 use Rattle.stream_host.specs.Ran.{AreRaised}
-use Rattle.board_rules.proofs.Growing.{Grows, reported_still}
+use Rattle.board_rules.proofs.Growing.{Grows}
 use Rattle.board_rules.proofs.Plain.{reports_on}
 use Rattle.run_law.specs.Flags.{is_hold, is_change, AreTaken}
 use Rattle.run_law.specs.Runs.{course, asks_hold, asks_change}
-use Rattle.run_law.specs.SoFar.{BeginsWith}
+use Rattle.run_law.specs.Fronts.{BeginsWith}
 use Rattle.run_law.proofs.Flagging.{scanned_where_raised}
 
 -- ---- the ticks
@@ -39,9 +38,9 @@ planned_ticks given planned published hand (inr whole) e =
 -- ---- what was asked for was scanned
 
 -- what is said of reports by what was taken of flags is said by what was scanned
-pub scanned_grows : (first : State) (outcomes : List Outcome) (ticks : List Record) (scanned raised due : List ℕ) (resumes : ℕ) (held changed : Bool) (asked : ℕ)
-    → AreRaised scanned raised due resumes → AreTaken raised held changed asked → Grows (course first outcomes ticks held changed) (course first outcomes ticks (asks_hold scanned) (asks_change scanned))
-scanned_grows first outcomes ticks scanned raised due resumes held changed asked are taken = record {
+pub scanned_grows : (first : State) (outcomes : List Outcome) (ticks : List Record) (scanned raised due : List ℕ) (resumes : ℕ) (held changed reset : Bool) (asked : ℕ)
+    → AreRaised scanned raised due resumes → AreTaken raised held changed reset asked → Grows (course first outcomes ticks held changed) (course first outcomes ticks (asks_hold scanned) (asks_change scanned))
+scanned_grows first outcomes ticks scanned raised due resumes held changed reset asked are taken = record {
   first = refl;
   more = [];
   outcomes = sym (append-nil outcomes);
@@ -56,9 +55,9 @@ scanned_grows first outcomes ticks scanned raised due resumes held changed asked
     by_test true is none = let e = sym (scanned_where_raised is_change scanned raised due resumes refl are (taken.changed_by is)) ∙ none in e
     by_test false is none = refl
 
-pub scanned_few : (scanned raised due : List ℕ) (resumes : ℕ) (held changed : Bool) (asked : ℕ) → AreRaised scanned raised due resumes → AreTaken raised held changed asked
+pub scanned_few : (scanned raised due : List ℕ) (resumes : ℕ) (held changed reset : Bool) (asked : ℕ) → AreRaised scanned raised due resumes → AreTaken raised held changed reset asked
     → asked ≤ count_by is_query (served_in scanned)
-scanned_few scanned raised due resumes held changed asked are taken = let a = are is_query in let b = taken.asked_by in omega (arith, a, b)
+scanned_few scanned raised due resumes held changed reset asked are taken = let a = are is_query in let b = taken.asked_by in omega (arith, a, b)
 
 -- ---- fronts of replies
 

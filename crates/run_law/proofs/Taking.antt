@@ -17,24 +17,23 @@ use Rattle.realtime_flags.specs.declared.words.Flag.{Flag}
 use Rattle.realtime_flags.specs.declared.words.Flag.TheVariants as flags
 use Rattle.realtime_flags.specs.declared.words.Raise.{Raise}
 use Rattle.realtime_flags.specs.declared.words.Take.{Take}
-use Rattle.realtime_flags.specs.Bits.{is_flag, is_up, counted, raised_down, takes_with, IsBalanced}
+use Rattle.realtime_flags.specs.Bits.{is_flag, counted, raised_down, takes_with}
 use Rattle.realtime_flags.specs.Bytes.{flag_of_row, flag_of_byte}
 use Rattle.realtime_flags.proofs.Bits.{same_flag}
 use Rattle.stream_host.specs.Steps.{PortLog as HostLog}
 use Rattle.stream_host.specs.Steps as hosts
 use Rattle.stream_host.specs.Steps.PortStep.{stored, dropped, raised, got, no_reply, shut}
-use Rattle.board_rules.specs.Ports.{PortLog as BoardLog, has_changes, has_held_in, has_changed_in, reports_in}
+use Rattle.board_rules.specs.Ports.{PortLog as BoardLog, has_changes, has_held_in, has_changed_in}
 use Rattle.board_rules.specs.Ports.PortStep.{took, found_empty, found_closed, found_free, answered, reported, no_reply_room, took_exec, took_ovr, published, no_piece_room, loaded}
-use Rattle.run_law.specs.Flags.{is_hold, is_override, is_change, AreTaken}
+use Rattle.run_law.specs.Flags.{is_hold, is_override, is_change}
 use Rattle.run_law.specs.Taking.{raised_to, raises_in, takes_in}
-use Rattle.run_law.proofs.Querying.{asked_few}
 
-abbrev hold_flag : Flag
+abbrev pub hold_flag : Flag
 hold_flag = flags.Exec 1
 
 -- ---- what was taken
 
-more_counted : (t : Bool) (n : ℕ) → 0 < n → 0 < counted t n
+pub more_counted : (t : Bool) (n : ℕ) → 0 < n → 0 < counted t n
 more_counted true n some = omega arith
 more_counted false n some = some
 
@@ -48,7 +47,7 @@ hold_bit n e =
 asks_hold_bit : (word : Exec) → holds.asks word hold_byte ≡ true → nat_eq (bit_at word.0 1) 1 ≡ true
 asks_hold_bit word e = hold_bit word.0 e
 
-held_by_word : (asked held bit : Bool) (n : ℕ) → (asked ≡ true → bit ≡ true) → (held ≡ true → 0 < n) → (asked || held) ≡ true → 0 < counted bit n
+pub held_by_word : (asked held bit : Bool) (n : ℕ) → (asked ≡ true → bit ≡ true) → (held ≡ true → 0 < n) → (asked || held) ≡ true → 0 < counted bit n
 held_by_word true held true n same rest e = omega arith
 held_by_word true held false n same rest e = absurd (let s : false ≡ true = same refl in cc)
 held_by_word false held bit n same rest e = more_counted bit n (rest e)
@@ -114,7 +113,7 @@ change_taken (loaded n ∷ l) e = change_taken l e
 
 -- ---- what was raised
 
-abbrev IsByteOf : Flag → (ℕ → Bool) → Type 0
+abbrev pub IsByteOf : Flag → (ℕ → Bool) → Type 0
 IsByteOf f p = (b : ℕ) → flag_of_byte b ≡ Some f → p b ≡ true
 
 byte_behind : (p : ℕ → Bool) (bytes : List ℕ) (b : ℕ) → p b ≡ true → list_any p (bytes ++ b ∷ []) ≡ true
@@ -169,7 +168,7 @@ only_hold b = another_row (nat_eq b 24) 3 _ refl (this_row (nat_eq b 33) 1 _ (λ
     (another_row (nat_eq b 149) 21 _ refl (another_row (nat_eq b 150) 22 _ refl (another_row (nat_eq b 151) 23 _ refl
     (another_row (nat_eq b 153) 24 _ refl (another_row (nat_eq b 154) 25 _ refl (another_row (nat_eq b 155) 26 _ refl (another_row (nat_eq b 156) 27 _ refl (another_row (nat_eq b 157) 28 _ refl (λ e. absurd cc))))))))))))))))))
 
-hold_bytes : IsByteOf hold_flag is_hold
+pub hold_bytes : IsByteOf hold_flag is_hold
 unfolding is_hold_flag
 hold_bytes b is = only_hold b (ap is_hold_flag is)
 
@@ -182,21 +181,10 @@ change_row (Some bit) place is = by_word (nat_lt bit 16) is
     by_word true e = absurd cc
     by_word false e = refl
 
-change_bytes : (place : ℕ) → IsByteOf (flags.Override place) is_change
+pub change_bytes : (place : ℕ) → IsByteOf (flags.Override place) is_change
 change_bytes place b is = change_row (value_of b rows_of_bytes) place is
 
 -- ---- what was taken was raised
 
-taken_was_down : (is : Bool) (raises takes : ℕ) → raises ≡ counted is takes → 0 < takes → 0 < raises
+pub taken_was_down : (is : Bool) (raises takes : ℕ) → raises ≡ counted is takes → 0 < takes → 0 < raises
 taken_was_down is raises takes e some = let m = more_counted is takes some in omega arith
-
-pub taken_were_raised : (words : List ℕ) (host : HostLog) (board : BoardLog) → IsBalanced words (raises_in host) (takes_in board) → AreTaken (hosts.raises_in host) (has_held_in board) (has_changed_in board) (reports_in board)
-taken_were_raised words host board balance = record {
-  held_by = λ held. flag_was_raised hold_flag is_hold hold_bytes host
-      (taken_was_down (is_up hold_flag words) (raised_down hold_flag (raises_in host)) (takes_with hold_flag (takes_in board)) (balance hold_flag) (hold_taken board held));
-  changed_by = λ changed.
-      let c = change_taken board changed in
-      flag_was_raised (flags.Override c.0) is_change (change_bytes c.0) host
-      (taken_was_down (is_up (flags.Override c.0) words) (raised_down (flags.Override c.0) (raises_in host)) (takes_with (flags.Override c.0) (takes_in board)) (balance (flags.Override c.0)) c.1);
-  asked_by = asked_few words host board balance;
-}

@@ -42,6 +42,7 @@ pub record IsAcceptedJob (job : SourceState) : Type 0 where
 pub record IsComplete (bytes read : List ℕ) (lines : List (List ℕ)) (outcomes became : List Outcome) (end : RunEnd) : Type 0 where
   pub stop : end.stop ≡ End
   pub errors : end.errors ≡ 0
+  pub answered : end.answered ≡ length lines
   pub all : read ≡ bytes
   pub sent : lines ≡ lines_of bytes
   pub same : became ≡ outcomes

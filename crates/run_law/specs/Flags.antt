@@ -6,6 +6,7 @@ use Rattle.code_table.specs.Flags.{Flag, flag_of}
 use Rattle.code_table.specs.Flags.Flag.{in_ovr}
 use Rattle.feed_hold.specs.Motions.{hold_byte}
 use Rattle.run_rules.specs.Reports.{is_query}
+use Rattle.stream_host.specs.Jobs.{is_reset}
 
 -- `!` holds the machine
 abbrev pub is_hold : ℕ → Bool
@@ -21,7 +22,8 @@ is_change b = is_override (flag_of b)
 
 -- Whether a hold, and a change of overrides, was taken, and how many words that ask for a report were: only where one
 -- of the bytes that were raised asks for it, and as many at most.
-pub record AreTaken (raised : List ℕ) (held changed : Bool) (asked : ℕ) : Type 0 where
+pub record AreTaken (raised : List ℕ) (held changed reset : Bool) (asked : ℕ) : Type 0 where
   pub held_by : held ≡ true → list_any is_hold raised ≡ true
   pub changed_by : changed ≡ true → list_any is_change raised ≡ true
+  pub reset_by : reset ≡ true → list_any is_reset raised ≡ true
   pub asked_by : asked ≤ count_by is_query raised

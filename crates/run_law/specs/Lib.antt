@@ -1,4 +1,5 @@
 pub mod Flags
+pub mod Fronts
 pub mod Taking
 pub mod Runs
 pub mod Ran

@@ -1,6 +1,6 @@
 -- What the board, the pulse and the recorder have done in a whole run, on plain lists, and how the bytes of the link go
 -- together.
-use Rattle.std.specs.Prelude.{◌≡◌, ℕ, ◌≤◌, Bool, true, List, [], ◌∷◌, ◌++◌, ◌||◌, map, reverse}
+use Rattle.std.specs.Prelude.{◌≡◌, ℕ, ◌+◌, ◌≤◌, Bool, true, false, List, [], ◌∷◌, ◌++◌, ◌||◌, length, map, reverse}
 use Rattle.std.specs.List.{flat_map}
 use Rattle.outside.specs.Causes.{SinkState}
 use Rattle.outside.specs.Writing.{Took}
@@ -24,7 +24,8 @@ use Rattle.run_rules.specs.Outcomes.{Before, Follows, start}
 use Rattle.run_rules.specs.Outcomes.Passed.{a_line}
 use Rattle.run_rules.specs.Reports.{Reported}
 use Rattle.run_rules.specs.Told.{replies_in, asked_in, records_text}
-use Rattle.status_report.specs.Answering.{without_reports, reports_among}
+use Rattle.status_report.specs.Answering.{answers_in, without_reports, reports_among}
+use Rattle.run_law.specs.Fronts.{BeginsWith}
 use Rattle.run_law.specs.Runs.{course, ends_program}
 
 -- Each report among these replies fits lines of which this became, for which these pieces were given, while a hold was
@@ -33,29 +34,45 @@ abbrev pub HasReported : State → List Outcome → List Piece → Bool → Bool
 HasReported first outcomes given held changed answered =
     (known : ℕ) × Reported (course first outcomes (flat_map ticks_of given) held changed) (reverse answered) known
 
--- A board has run: it found the link closed behind the bytes that it took, answered their lines, once and in order, and
--- told Bye. Each report tells what was so where it was answered; there are as many at most as words that asked for one.
--- What the lines ask for was asked of the plan, which has nothing left to run, and which nothing else disturbed than a
--- hold, where one was taken, and a change of overrides, where one was taken or a program ended. Its pieces were
--- published, and the end behind them.
-pub record BoardRan (taken : List ℕ) (closed held changed : Bool) (asked : ℕ) (answered : List Reply) (published : List Piece) : Type 0 where
+-- A board has carried out all lines that it took: it found the link closed behind them, told all that is to be told of them,
+-- and did all that they ask for, up to the last of it.
+pub record IsCarriedOut (taken : List ℕ) (closed : Bool) (lines : List (List ℕ)) (outcomes : List Outcome) (said : List Reply) (actions : List Action) (given made : List Piece) (plan : Planned) : Type 0 where
+  pub found : closed ≡ true
+  pub begun : lines ≡ whole_lines taken
+  pub told : said ≡ replies_in outcomes
+  pub rests : IsAtRest plan
+  pub asks : all_asked actions ≡ asked_in outcomes
+  pub whole : made ≡ given
+
+-- A board has run: it has begun a front of the lines that it took, and was told Bye behind a front of what is told of them, once
+-- and in order. Each report tells what was so where it was answered; there are as many at most as words that asked for one. A
+-- front of what the lines ask for was asked of the plan, which nothing else disturbed than a hold, where one was taken, and a
+-- change of overrides, where one was taken or a program ended. A front of its pieces was published, and the end behind them. All
+-- of it was carried out, unless a reset was taken. Of the lines begun all but the last one are answered.
+pub record BoardRan (taken : List ℕ) (closed held changed reset : Bool) (asked : ℕ) (answered : List Reply) (published : List Piece) : Type 0 where
   pub first : State
+  pub lines : List (List ℕ)
   pub outcomes : List Outcome
   pub last : Before
   pub opening : IsOpening first
-  pub found : closed ≡ true
-  pub follows : Follows true (start first) (whole_lines taken) (map a_line outcomes) last
-  pub told : without_reports answered ≡ replies_in outcomes ++ Bye ∷ []
+  pub begun : BeginsWith (whole_lines taken) lines
+  pub follows : Follows true (start first) lines (map a_line outcomes) last
+  pub said : List Reply
+  pub front : BeginsWith (replies_in outcomes) said
+  pub told : without_reports answered ≡ said ++ Bye ∷ []
+  pub one : length outcomes ≤ answers_in answered + 1
   pub actions : List Action
   pub given : List Piece
   pub plan : Planned
   pub run : IsPlannerRun actions given plan
   pub disturbed : DisturbedOnlyBy held (changed || ends_program outcomes) actions
-  pub rests : IsAtRest plan
-  pub asks : all_asked actions ≡ asked_in outcomes
-  pub gave : published ≡ given ++ pieces.End ∷ []
+  pub asks : BeginsWith (asked_in outcomes) (all_asked actions)
+  pub made : List Piece
+  pub kept : BeginsWith given made
+  pub gave : published ≡ made ++ pieces.End ∷ []
   pub reported : HasReported first outcomes given held changed answered
   pub reports : reports_among answered ≤ asked
+  pub whole : reset ≡ false → IsCarriedOut taken closed lines outcomes said actions given made plan
 
 -- A pulse has run: the pieces that it got came in turn, the end at last. It put what is recorded of each, and counted each
 -- tick of it.

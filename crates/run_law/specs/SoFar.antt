@@ -1,5 +1,5 @@
 -- What a run has done so far, and what the board, the pulse and the recorder have.
-use Rattle.std.specs.Prelude.{◌≡◌, ℕ, ◌≤◌, Bool, true, List, [], ◌∷◌, ◌++◌, ◌||◌, map, reverse}
+use Rattle.std.specs.Prelude.{◌≡◌, ℕ, ◌≤◌, Bool, true, false, List, [], ◌∷◌, ◌++◌, ◌||◌, map, reverse}
 use Rattle.std.specs.List.{flat_map}
 use Rattle.std.specs.Io.KnownBytes.{Consumes}
 use Rattle.outside.specs.Causes.{SourceState, SinkState}
@@ -28,18 +28,14 @@ use Rattle.stream_host.specs.declared.Reading.{Reading}
 use Rattle.stream_host.specs.declared.Stop.{Stop}
 use Rattle.stream_host.specs.Jobs.{IsSentSoFar}
 use Rattle.status_report.specs.Answering.{without_reports, reports_among}
-use Rattle.run_law.specs.Runs.{Sinks, AreReports, asks_hold, asks_change, ends_program}
+use Rattle.run_law.specs.Runs.{Sinks, AreReports, asks_hold, asks_change, asks_reset, ends_program}
+use Rattle.run_law.specs.Fronts.{BeginsWith}
 use Rattle.run_law.specs.Ran.{HasReported}
 
--- a list begins with another
-pub record BeginsWith {A : Type 0} (whole front : List A) : Type 0 where
-  pub rest : List A
-  pub is : whole ≡ front ++ rest
-
 -- A board runs: it has begun a front of the lines that it took, and what was told, asked and published is a front of
--- what these tell and ask for. Nothing else disturbed the plan than a hold, where one was taken, and a change of
--- overrides, where one was taken or a program ended.
-pub record BoardRuns (taken : List ℕ) (held changed : Bool) (asked : ℕ) (answered : List Reply) (published : List Piece) : Type 0 where
+-- what these tell and ask for, with its end behind that: behind all of it, unless a reset was taken. Nothing else disturbed the
+-- plan than a hold, where one was taken, and a change of overrides, where one was taken or a program ended.
+pub record BoardRuns (taken : List ℕ) (held changed reset : Bool) (asked : ℕ) (answered : List Reply) (published : List Piece) : Type 0 where
   pub first : State
   pub lines : List (List ℕ)
   pub outcomes : List Outcome
@@ -47,14 +43,19 @@ pub record BoardRuns (taken : List ℕ) (held changed : Bool) (asked : ℕ) (ans
   pub opening : IsOpening first
   pub begun : BeginsWith (whole_lines taken) lines
   pub follows : Follows true (start first) lines (map a_line outcomes) last
-  pub told : BeginsWith (replies_in outcomes ++ Bye ∷ []) (without_reports answered)
+  pub said : List Reply
+  pub front : BeginsWith (replies_in outcomes) said
+  pub told : BeginsWith (said ++ Bye ∷ []) (without_reports answered)
   pub actions : List Action
   pub given : List Piece
   pub plan : Planned
   pub run : IsPlannerRun actions given plan
   pub disturbed : DisturbedOnlyBy held (changed || ends_program outcomes) actions
   pub asks : BeginsWith (asked_in outcomes) (all_asked actions)
-  pub gave : BeginsWith (given ++ pieces.End ∷ []) published
+  pub made : List Piece
+  pub kept : BeginsWith given made
+  pub gave : BeginsWith (made ++ pieces.End ∷ []) published
+  pub whole : reset ≡ false → (said ≡ replies_in outcomes) × (made ≡ given)
   pub reported : HasReported first outcomes given held changed answered
   pub reports : reports_among answered ≤ asked
 
@@ -89,7 +90,9 @@ pub record IsSoFar (job_was job_is : SourceState) (was is : Sinks) : Type 0 wher
   pub begun : BeginsWith (map plain lines) lines_begun
   pub follows : Follows true (start first) lines_begun (map a_line outcomes) last
   pub got : List Reply
-  pub told : BeginsWith (replies_in outcomes ++ Bye ∷ []) (without_reports got)
+  pub said : List Reply
+  pub front : BeginsWith (replies_in outcomes) said
+  pub told : BeginsWith (said ++ Bye ∷ []) (without_reports got)
   pub console_failed : Bool
   pub text_left : List ℕ
   pub console : Wrote was.console is.console console_failed text_left (replies_text got)
@@ -100,7 +103,10 @@ pub record IsSoFar (job_was job_is : SourceState) (was is : Sinks) : Type 0 wher
   pub disturbed : DisturbedOnlyBy (asks_hold scanned) (asks_change scanned || ends_program outcomes) actions
   pub asks : BeginsWith (asked_in outcomes) (all_asked actions)
   pub records : List Record
-  pub recorded : BeginsWith (all_records given ++ kinds.End ∷ []) records
+  pub made : List Piece
+  pub kept : BeginsWith given made
+  pub recorded : BeginsWith (all_records made ++ kinds.End ∷ []) records
+  pub whole : asks_reset scanned ≡ false → (said ≡ replies_in outcomes) × (made ≡ given)
   pub ticks : BeginsWith (ticks_of_all (asked_in outcomes)) (ticks_among records)
   pub reports : AreReports first outcomes (ticks_among (all_records given)) lines scanned got
   pub steps_failed : Bool

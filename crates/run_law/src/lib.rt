@@ -15,9 +15,8 @@ ghost use Rattle.step_record.specs.Taking.{Log, records};
 ghost use Rattle.step_record.specs.Recording.{RecorderFits, Rests};
 ghost use Rattle.run_rules.specs.declared.State.{State};
 ghost use Rattle.run_rules.specs.States.{IsOpening};
-ghost use Rattle.board_rules.specs.Steps.{Journal, port_log, taken_of, has_closed, answered_of, published_of};
-ghost use Rattle.board_rules.specs.Ports.{has_held_in, has_changed_in, reports_in};
-ghost use Rattle.board_rules.specs.Conduct.{Conducted, IsFinished};
+ghost use Rattle.board_rules.specs.Breaking.{Doings, HasEnded, IsConducted, log_of, taken_of, has_closed, answered_of, published_of};
+ghost use Rattle.board_rules.specs.Ports.{has_held_in, has_changed_in, has_reset_in, reports_in};
 ghost use Rattle.stream_host.specs.Ran.{HostEnd, HostRan, HostRuns};
 ghost use Rattle.realtime_flags.specs.Bits.{IsBalanced};
 ghost use Rattle.stream_host.specs.Steps.{PortLog as HostLog, raises_in as bytes_raised_in};
@@ -27,12 +26,10 @@ ghost use Rattle.run_law.specs.Taking.{raises_in, takes_in};
 ghost use Rattle.run_law.specs.Runs.{Sinks, ended, IsRun};
 ghost use Rattle.run_law.specs.Complete.{IsAcceptedJob, IsComplete};
 ghost use Rattle.run_law.specs.Ran.{BoardRan, PulseRan, RecorderRan, IsLinked};
-ghost use Rattle.run_law.specs.SoFar.{BeginsWith, BoardRuns, PulseRuns, RecorderRuns, IsSoFar};
+ghost use Rattle.run_law.specs.Fronts.{BeginsWith};
+ghost use Rattle.run_law.specs.SoFar.{BoardRuns, PulseRuns, RecorderRuns, IsSoFar};
 
-use board_rules::{
-    boards_end_well, boards_keep_to_their_lines, boards_report_where_they_are,
-    boards_run_their_plan,
-};
+use board_rules::boards_end_well;
 use stream_host::Stop;
 
 /// How a run ends: why no more of the job was sent; how many lines were answered, and how many of these with an error;
@@ -53,10 +50,10 @@ pub struct RunEnd {
 /// asked for what they ask for.
 pub fn actors_make_a_run()
     ensures { (job_was job_is : SourceState) (was is : Sinks) (end : HostEnd) (steps_failed : Bool)
-        (stored raised taken : List ℕ) (shut closed held changed : Bool) (asked : ℕ) (got answered : List Reply) (got_pieces published : List Piece) (ticks : ℕ) (got_records put : List Record) →
-        HostRan job_was job_is was.console is.console stored shut raised got end → BoardRan taken closed held changed asked answered published → PulseRan got_pieces ticks put →
+        (stored raised taken : List ℕ) (shut closed held changed reset : Bool) (asked : ℕ) (got answered : List Reply) (got_pieces published : List Piece) (ticks : ℕ) (got_records put : List Record) →
+        HostRan job_was job_is was.console is.console stored shut raised got end → BoardRan taken closed held changed reset asked answered published → PulseRan got_pieces ticks put →
         RecorderRan was.steps is.steps got_records steps_failed →
-        IsLinked stored shut taken closed → AreTaken raised held changed asked → got ≡ answered → got_pieces ≡ published → got_records ≡ put →
+        IsLinked stored shut taken closed → AreTaken raised held changed reset asked → got ≡ answered → got_pieces ≡ published → got_records ≡ put →
         IsRun job_was job_is was is (ended end steps_failed) }
 {}
 
@@ -64,18 +61,18 @@ pub fn actors_make_a_run()
 /// behind Bye, nor behind the end.
 pub fn actors_that_end_make_a_run()
     ensures { (job_was job_is : SourceState) (was is : Sinks) (end : HostEnd) (steps_failed : Bool)
-        (stored raised taken : List ℕ) (shut closed held changed : Bool) (asked : ℕ) (got answered : List Reply) (got_pieces published : List Piece) (ticks : ℕ) (got_records put : List Record) →
-        HostRan job_was job_is was.console is.console stored shut raised got end → BoardRan taken closed held changed asked answered published → PulseRan got_pieces ticks put →
+        (stored raised taken : List ℕ) (shut closed held changed reset : Bool) (asked : ℕ) (got answered : List Reply) (got_pieces published : List Piece) (ticks : ℕ) (got_records put : List Record) →
+        HostRan job_was job_is was.console is.console stored shut raised got end → BoardRan taken closed held changed reset asked answered published → PulseRan got_pieces ticks put →
         RecorderRan was.steps is.steps got_records steps_failed →
-        IsLinked stored shut taken closed → AreTaken raised held changed asked → BeginsWith answered got → BeginsWith published got_pieces → BeginsWith put got_records →
+        IsLinked stored shut taken closed → AreTaken raised held changed reset asked → BeginsWith answered got → BeginsWith published got_pieces → BeginsWith put got_records →
         IsRun job_was job_is was is (ended end steps_failed) }
 {}
 
 /// Four actors that run, where each has got a front of what the other gave, have done a run so far.
 pub fn actors_make_a_run_so_far()
-    ensures { (job_was job_is : SourceState) (was is : Sinks) (stored raised taken : List ℕ) (held changed : Bool) (asked : ℕ) (got answered : List Reply) (got_pieces published : List Piece) (got_records put : List Record) →
-        HostRuns job_was job_is was.console is.console stored raised got → BoardRuns taken held changed asked answered published → PulseRuns got_pieces put → RecorderRuns was.steps is.steps got_records →
-        BeginsWith stored taken → AreTaken raised held changed asked → BeginsWith answered got → BeginsWith published got_pieces → BeginsWith put got_records →
+    ensures { (job_was job_is : SourceState) (was is : Sinks) (stored raised taken : List ℕ) (held changed reset : Bool) (asked : ℕ) (got answered : List Reply) (got_pieces published : List Piece) (got_records put : List Record) →
+        HostRuns job_was job_is was.console is.console stored raised got → BoardRuns taken held changed reset asked answered published → PulseRuns got_pieces put → RecorderRuns was.steps is.steps got_records →
+        BeginsWith stored taken → AreTaken raised held changed reset asked → BeginsWith answered got → BeginsWith published got_pieces → BeginsWith put got_records →
         IsSoFar job_was job_is was is }
 {}
 
@@ -86,16 +83,14 @@ pub fn accepted_jobs_are_complete()
         end.source_failed ≡ false → IsComplete job.bytes run.read run.lines job.outcomes run.outcomes end }
 {}
 
-/// A board that keeps to its rules, and has closed its run and nothing left to do, has run; before, it runs.
+/// A board that keeps to its rules, and has closed its run or ended it at a reset, and has nothing left to do, has run; before,
+/// it runs.
 pub fn boards_have_run()
-    ensures whole { (first : State) (h : Journal) → IsOpening first → Conducted first h → IsFinished h →
-        BoardRan (taken_of h) (has_closed h) (has_held_in (port_log h)) (has_changed_in (port_log h)) (reports_in (port_log h)) (answered_of h) (published_of h) }
-    ensures so_far { (first : State) (h : Journal) → IsOpening first → Conducted first h →
-        BoardRuns (taken_of h) (has_held_in (port_log h)) (has_changed_in (port_log h)) (reports_in (port_log h)) (answered_of h) (published_of h) }
+    ensures whole { (first : State) (d : Doings) → IsOpening first → IsConducted first d → HasEnded d →
+        BoardRan (taken_of d) (has_closed d) (has_held_in (log_of d)) (has_changed_in (log_of d)) (has_reset_in (log_of d)) (reports_in (log_of d)) (answered_of d) (published_of d) }
+    ensures so_far { (first : State) (d : Doings) → IsOpening first → IsConducted first d →
+        BoardRuns (taken_of d) (has_held_in (log_of d)) (has_changed_in (log_of d)) (has_reset_in (log_of d)) (reports_in (log_of d)) (answered_of d) (published_of d) }
 {
-    boards_keep_to_their_lines();
-    boards_report_where_they_are();
-    boards_run_their_plan();
     boards_end_well();
 }
 
@@ -103,7 +98,7 @@ pub fn boards_have_run()
 /// it, and by one more where it is up.
 pub fn flags_that_are_taken_were_raised()
     ensures { (words : List ℕ) (host : HostLog) (board : BoardLog) → IsBalanced words (raises_in host) (takes_in board) →
-        AreTaken (bytes_raised_in host) (has_held_in board) (has_changed_in board) (reports_in board) }
+        AreTaken (bytes_raised_in host) (has_held_in board) (has_changed_in board) (has_reset_in board) (reports_in board) }
 {}
 
 /// A pulse that has put the end has run, and every pulse runs.

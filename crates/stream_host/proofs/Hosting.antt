@@ -13,7 +13,8 @@ use Rattle.stream_host.specs.declared.reader.Reader.{Reader}
 use Rattle.stream_host.specs.declared.host.Host.{Host}
 use Rattle.stream_host.specs.Links.{on_link}
 use Rattle.stream_host.specs.Jobs.{resume, is_long, holds_reset, ends_sending, MayHaveRead}
-use Rattle.stream_host.specs.Steps.{Step, Journal, port_log, got_of, answered_of, read_of, reading_of, scanned_of, unscanned_of, raw_of, cut_of, to_store, begun_of, due_of, asking_of, asked_more, is_waiting, more_served, PortLog, polls_of, empty_polls, text_of, this_turn}
+use Rattle.stream_host.specs.Holding.{held_after, has_pause, pauses}
+use Rattle.stream_host.specs.Steps.{Step, Journal, port_log, got_of, answered_of, read_of, reading_of, scanned_of, unscanned_of, raw_of, cut_of, to_store, begun_of, due_of, asking_of, pause_of, asked_more, is_waiting, more_served, PortLog, polls_of, empty_polls, text_of, this_turn}
 use Rattle.stream_host.specs.Steps.PortStep.{stored, raised, no_reply, shut}
 use Rattle.stream_host.specs.Steps.Step.{at_port, scanned, wrote, gave_up}
 use Rattle.code_table.specs.Tables.{query}
@@ -81,6 +82,10 @@ finished l m raw has sends kept over whole place = record {
 pub size_is : (l : SentLine) (raw : List ℕ) (n : ℕ) → HasLine l raw → is_over l ≡ false → n ≡ length l.kept.items + 1 → n ≡ line_length raw
 size_is l raw n has sends size = size ∙ ap (λ (k : List ℕ). length k + 1) (kept_whole 127 l.kept.items (plain raw) has.kept (sym has.long ∙ (neither l.long l.reset sends).0))
 
+-- what is kept of it asks for a pause or not
+pub pauses_is : (l : SentLine) (raw : List ℕ) (p : Bool) → HasLine l raw → is_over l ≡ false → p ≡ has_pause l.kept.items → p ≡ pauses raw
+pauses_is l raw p has sends is = is ∙ ap has_pause (kept_whole 127 l.kept.items (plain raw) has.kept (sym has.long ∙ (neither l.long l.reset sends).0))
+
 -- ---- the counts
 
 -- a line more is counted
@@ -97,6 +102,15 @@ counted_line c d raw cuts rs n k few more summed lines answered errors size = re
   answered_is = answered ∙ k.answered_is;
   errors_are = errors ∙ k.errors_are;
 }
+
+-- the number of the line that asks for a pause is no count
+same_counts : (c : Counts) (n : ℕ) (cuts : List (List ℕ)) (rs : List Reply) → KeepsCounts c cuts rs → KeepsCounts (record c { pause_at = n }) cuts rs
+same_counts c n cuts rs k = record { unanswered_are = k.unanswered_are; summed = k.summed; lines_are = k.lines_are; answered_is = k.answered_is; errors_are = k.errors_are }
+
+-- the line that is over may ask for one
+pub pause_behind_line : (c d : Counts) (raw : List ℕ) (cuts : List (List ℕ)) (rs : List Reply) (n : ℕ) → KeepsCounts c cuts rs → c.pause_at ≡ n → d.pause_at ≡ cond (pauses raw) (c.lines + 1) c.pause_at
+    → d.pause_at ≡ cond (pauses raw) (length cuts + 1) n
+pause_behind_line c d raw cuts rs n k is asks = asks ∙ ap (λ m. cond (pauses raw) (m + 1) c.pause_at) k.lines_are ∙ ap (cond (pauses raw) (length cuts + 1)) is
 
 -- the sum of the lengths is what the lines take on the link
 link_sum : (lines : List (List ℕ)) → sum (map line_length lines) ≡ length (on_link lines)
@@ -169,9 +183,9 @@ same_line l raw left d k = record {
   storing = λ e. let n = k.storing e in record { none = n.none; sends = n.sends; within = n.within; left_is = n.left_is };
 }
 
-pub raised_byte : (s : Host) (b : ℕ) (down : Bool) (a : Asking) (h : Journal) → HostFits s h → s.line.due ≡ Some b → (b ≡ query → AreAnswered h) → a ≡ cond (nat_eq b query) (asked_more s.asking) s.asking
-    → HostFits (record s { line = record s.line { due = None }; asking = a }) (at_port (raised b down) ∷ h)
-raised_byte s b down a h f is after asks =
+pub raised_byte : (s : Host) (b : ℕ) (down : Bool) (a : Asking) (held : Bool) (n : ℕ) (h : Journal) → HostFits s h → s.line.due ≡ Some b → (b ≡ query → AreAnswered h) → a ≡ cond (nat_eq b query) (asked_more s.asking) s.asking → held ≡ held_after b s.held → n ≡ cond (nat_eq b resume) 0 s.counts.pause_at
+    → HostFits (record s { line = record s.line { due = None }; asking = a; held = held; counts = record s.counts { pause_at = n } }) (at_port (raised b down) ∷ h)
+raised_byte s b down a held n h f is after asks hold pause =
     let next = due_next s b h f is in
     let going = not_tired (polls_of h) f.polls_are.few in
     record {
@@ -180,8 +194,11 @@ raised_byte s b down a h f is after asks =
       line_is = same_line s.line (raw_of h) (to_store h) None f.line_is;
       due_is = record { due_is = sym (ap (λ t. cond t (due_of h) (drop 1 (due_of h))) going ∙ ap (drop 1) next); served = λ c e. absurd cc };
       asking_is = asks ∙ ap (λ (x : Asking). cond (nat_eq b query) (asked_more x) x) f.asking_is;
-      counts_are = f.counts_are;
+      counts_are = same_counts s.counts n (cut_of h) (got_of h) f.counts_are;
       polls_are = subst (λ t. KeepsPolls s.polls (cond t 0 (polls_of h))) (sym going) f.polls_are;
+      held_is = hold ∙ ap (held_after b) f.held_is;
+      greeted_is = f.greeted_is;
+      pause_is = pause ∙ ap (λ m. cond (nat_eq b resume) 0 m) f.pause_is;
       text_is = f.text_is;
       shut_is = f.shut_is;
       bye_is = f.bye_is;
@@ -198,6 +215,9 @@ polled s n h f going is few = record {
   asking_is = f.asking_is;
   counts_are = f.counts_are;
   polls_are = record { polls_are = is ∙ ap (λ m. m + 1) f.polls_are.polls_are; few = (let e = f.polls_are.polls_are in omega arith) };
+  held_is = f.held_is;
+  greeted_is = f.greeted_is;
+  pause_is = f.pause_is;
   text_is = f.text_is;
   shut_is = f.shut_is;
   bye_is = f.bye_is;
@@ -205,7 +225,7 @@ polled s n h f going is few = record {
 }
 
 -- the machine is resumed
-pub resumed : (s : Host) (down : Bool) (h : Journal) → HostFits s h → s.bye ≡ false → empty_polls ≤ s.polls + 1 → HostFits (record s { polls = 0 }) (at_port (raised resume down) ∷ at_port no_reply ∷ h)
+pub resumed : (s : Host) (down : Bool) (h : Journal) → HostFits s h → s.bye ≡ false → empty_polls ≤ s.polls + 1 → HostFits (record s { polls = 0; held = false; counts = record s.counts { pause_at = 0 } }) (at_port (raised resume down) ∷ at_port no_reply ∷ h)
 resumed s down h f going full =
     let few = f.polls_are.few in let is = f.polls_are.polls_are in
     let all : polls_of h + 1 ≡ empty_polls = omega arith in
@@ -219,8 +239,11 @@ resumed s down h f going full =
       line_is = f.line_is;
       due_is = subst (λ t. KeepsDue s.line.due (cond t (due_of h) (drop 1 (due_of h)))) (sym tired) f.due_is;
       asking_is = f.asking_is;
-      counts_are = f.counts_are;
+      counts_are = same_counts s.counts 0 (cut_of h) (got_of h) f.counts_are;
       polls_are = subst (λ t. KeepsPolls 0 (cond t 0 (polls_of h + 1))) (sym tired) (record { polls_are = refl; few = omega arith });
+      held_is = refl;
+      greeted_is = f.greeted_is;
+      pause_is = refl;
       text_is = f.text_is;
       shut_is = f.shut_is;
       bye_is = f.bye_is;
@@ -280,6 +303,9 @@ scanned_byte s r l a b h f may going next piece count reading other fed due whol
   asking_is = asking_scanned s a h f may.scanning asks;
   counts_are = subst (λ t. KeepsCounts s.counts (cond t (cut_of h ++ raw_of h ∷ []) (cut_of h)) (got_of h)) (sym other) f.counts_are;
   polls_are = f.polls_are;
+  held_is = f.held_is;
+  greeted_is = f.greeted_is;
+  pause_is = f.pause_is ∙ ap (λ t. cond t (cond (pauses (raw_of h)) (length (cut_of h) + 1) (pause_of h)) (pause_of h)) (sym other);
   text_is = f.text_is;
   shut_is = f.shut_is;
   bye_is = f.bye_is;
@@ -287,8 +313,8 @@ scanned_byte s r l a b h f may going next piece count reading other fed due whol
 }
 
 pub scanned_lf : (s : Host) (r : Reader) (l : SentLine) (c : Counts) (a : Asking) (b : ℕ) (h : Journal) → HostFits s h → MayScanOn s → s.shut ≡ false → unread s.job ≡ b ∷ unread r → IsPiece r → r.scanned ≡ s.job.scanned + 1 → r.reading ≡ s.job.reading
-    → nat_eq b 10 ≡ true → KeepsLine l [] (plain (raw_of h) ++ 10 ∷ []) → l.due ≡ s.line.due → KeepsCounts c (cut_of h ++ raw_of h ∷ []) (got_of h) → a ≡ cond s.line.begun s.asking Nothing → HostFits (record s { job = r; line = l; counts = c; asking = a }) (scanned b ∷ h)
-scanned_lf s r l c a b h f may going next piece count reading lf line due counts asks = record {
+    → nat_eq b 10 ≡ true → KeepsLine l [] (plain (raw_of h) ++ 10 ∷ []) → l.due ≡ s.line.due → KeepsCounts c (cut_of h ++ raw_of h ∷ []) (got_of h) → c.pause_at ≡ cond (pauses (raw_of h)) (s.counts.lines + 1) s.counts.pause_at → a ≡ cond s.line.begun s.asking Nothing → HostFits (record s { job = r; line = l; counts = c; asking = a }) (scanned b ∷ h)
+scanned_lf s r l c a b h f may going next piece count reading lf line due counts pause asks = record {
   conducted = (may_scan_next s r b h f may going next, f.conducted);
   job_is = job_scanned s r b h f next piece count reading;
   line_is = subst (λ t. KeepsLine l (cond t [] (raw_of h ++ b ∷ [])) (cond t (plain (raw_of h) ++ 10 ∷ []) (to_store h))) (sym lf) line;
@@ -296,6 +322,11 @@ scanned_lf s r l c a b h f may going next piece count reading lf line due counts
   asking_is = asking_scanned s a h f may.scanning asks;
   counts_are = subst (λ t. KeepsCounts c (cond t (cut_of h ++ raw_of h ∷ []) (cut_of h)) (got_of h)) (sym lf) counts;
   polls_are = f.polls_are;
+  held_is = f.held_is;
+  greeted_is = f.greeted_is;
+  pause_is =
+      pause_behind_line s.counts c (raw_of h) (cut_of h) (got_of h) (pause_of h) f.counts_are f.pause_is pause
+      ∙ ap (λ t. cond t (cond (pauses (raw_of h)) (length (cut_of h) + 1) (pause_of h)) (pause_of h)) (sym lf);
   text_is = f.text_is;
   shut_is = f.shut_is;
   bye_is = f.bye_is;
@@ -307,7 +338,7 @@ few_answers s h f = (sending.counts_are h f.conducted).1
 
 -- ---- a byte is stored
 
-not_waiting : (a b : Asking) → a ≡ b → (a ≡ Awaits → ⊥) → is_waiting b ≡ false
+pub not_waiting : (a b : Asking) → a ≡ b → (a ≡ Awaits → ⊥) → is_waiting b ≡ false
 not_waiting a Nothing is none = refl
 not_waiting a Awaits is none = absurd (none is)
 not_waiting a HasOne is none = refl
@@ -367,6 +398,9 @@ stored_byte s m b h f whole may stores next = record {
   asking_is = f.asking_is;
   counts_are = f.counts_are;
   polls_are = f.polls_are;
+  held_is = f.held_is;
+  greeted_is = f.greeted_is;
+  pause_is = f.pause_is;
   text_is = f.text_is;
   shut_is = f.shut_is;
   bye_is = f.bye_is;
@@ -430,6 +464,9 @@ closed s h f whole going none no_scan no_read = record {
   asking_is = f.asking_is;
   counts_are = f.counts_are;
   polls_are = f.polls_are;
+  held_is = f.held_is;
+  greeted_is = f.greeted_is;
+  pause_is = f.pause_is;
   text_is = f.text_is;
   shut_is = refl;
   bye_is = f.bye_is;
@@ -479,6 +516,9 @@ wrote_some s w h now later f due took =
           asking_is = f.asking_is;
           counts_are = f.counts_are;
           polls_are = f.polls_are;
+          held_is = f.held_is;
+          greeted_is = f.greeted_is;
+          pause_is = f.pause_is;
           text_is = record {
             failed_is = ap (λ v. v.failed) left ∙ f.text_is.failed_is;
             waits = λ e. ap (λ v. v.waiting) left ∙ ap (drop took.count) waits ∙ drop-drop took.count (written_of h) (text_of h);
@@ -518,6 +558,9 @@ wrote_none s w h now later f due fault =
           asking_is = f.asking_is;
           counts_are = f.counts_are;
           polls_are = f.polls_are;
+          held_is = f.held_is;
+          greeted_is = f.greeted_is;
+          pause_is = f.pause_is;
           text_is = record {
             failed_is = gone;
             waits = λ e. absurd (let g = sym gone ∙ e in cc);

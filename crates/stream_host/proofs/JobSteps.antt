@@ -14,12 +14,13 @@ use Rattle.stream_host.specs.declared.line.SentLine.{SentLine}
 use Rattle.stream_host.specs.declared.reader.Reader.{Reader}
 use Rattle.stream_host.specs.declared.counts.Counts.{Counts}
 use Rattle.stream_host.specs.declared.host.Host.{Host}
-use Rattle.stream_host.specs.Steps.{Journal, port_log, got_in, got_of, read_of, reading_of, scanned_of, unscanned_of, raw_of, cut_of, to_store, due_of}
+use Rattle.stream_host.specs.Steps.{Journal, port_log, got_in, got_of, read_of, reading_of, scanned_of, unscanned_of, raw_of, cut_of, pause_of, to_store, due_of}
+use Rattle.stream_host.specs.Holding.{pauses}
 use Rattle.stream_host.specs.Steps.Step.{read_some, read_end, read_failed, scanned, line_over}
-use Rattle.stream_host.specs.Conduct.{MayRead, HasWritten, moving}
+use Rattle.stream_host.specs.Conduct.{IsSettled, MayRead, HasWritten, moving}
 use Rattle.stream_host.specs.Hosts.{HostFits, KeepsLine, KeepsCounts, IsQuiet, MayReadOn, GaveBytes, GaveEnd, GaveNone, DidAlone, HostTellsOn, TellsJob, unread}
 use Rattle.stream_host.proofs.Keeping.{read_is}
-use Rattle.stream_host.proofs.Hosting.{none_due_by, none_due_now, nothing_due, ends_is, used_by, quiet_on, same_job}
+use Rattle.stream_host.proofs.Hosting.{none_due_by, none_due_now, nothing_due, ends_is, pause_behind_line, used_by, quiet_on, same_job}
 
 -- ---- some bytes are scanned
 
@@ -63,14 +64,19 @@ did_scan s t h same (bytes, some, fits) = (
 
 -- ---- the job is read
 
-pub may_read : (s : Host) (h : Journal) → HostFits s h → MayReadOn s → s.shut ≡ false → HasWritten h → MayRead h
-may_read s h f may going written = record {
+-- all of a piece that is used up is scanned
+pub used_up : (s : Host) (h : Journal) → HostFits s h → s.job.end ≤ s.job.place → unscanned_of h ≡ []
+used_up s h f used = sym f.job_is.left_is ∙ drop_all s.job.place (take s.job.end s.job.bytes) (let l = length-take s.job.end s.job.bytes in omega arith)
+
+pub may_read : (s : Host) (h : Journal) → HostFits s h → MayReadOn s → s.shut ≡ false → IsSettled h → HasWritten h → MayRead h
+may_read s h f may going settled written = record {
   going = sym f.shut_is ∙ going;
   on = sym f.job_is.reading_is ∙ may.on;
   sends = ends_is s h f may.scanning ∙ may.sends;
-  used = sym f.job_is.left_is ∙ drop_all s.job.place (take s.job.end s.job.bytes) (let l = length-take s.job.end s.job.bytes in let u = may.used in omega arith);
+  used = used_up s h f may.used;
   free = (f.line_is.scanning may.scanning).1;
   none_due = none_due_by s h f may.none_due;
+  settled = settled;
   shown = written;
 }
 
@@ -107,10 +113,10 @@ never_failed false e = absurd cc
 still_reads : (h : Journal) → reading_of h ≡ Stopped → reading_of h ≢ Failed
 still_reads h on bad = absurd (let e = sym on ∙ bad in cc)
 
-pub did_read : (s : Host) (r : Reader) (h : Journal) (now later : SourceState) → HostFits s h → MayReadOn s → s.shut ≡ false → HasWritten h → GaveBytes s.job r now later
+pub did_read : (s : Host) (r : Reader) (h : Journal) (now later : SourceState) → HostFits s h → MayReadOn s → s.shut ≡ false → IsSettled h → HasWritten h → GaveBytes s.job r now later
     → (next : Journal) × DidAlone s (record s { job = r }) h next × ((console : SinkState) → HostTellsOn s (record s { job = r }) h next now later console console)
-did_read s r h now later f on going written gave =
-    let may = may_read s h f on going written in (
+did_read s r h now later f on going settled written gave =
+    let may = may_read s h f on going settled written in (
       read_some (unread r) ∷ h,
       record {
         fits = record {
@@ -128,6 +134,9 @@ did_read s r h now later f on going written gave =
           asking_is = f.asking_is;
           counts_are = f.counts_are;
           polls_are = f.polls_are;
+          held_is = f.held_is;
+          greeted_is = f.greeted_is;
+          pause_is = f.pause_is;
           text_is = f.text_is;
           shut_is = f.shut_is;
           bye_is = f.bye_is;
@@ -151,10 +160,10 @@ did_read s r h now later f on going written gave =
       },
     )
 
-pub did_fail : (s : Host) (r : Reader) (h : Journal) (now later : SourceState) → HostFits s h → MayReadOn s → s.shut ≡ false → HasWritten h → GaveNone s.job r now later
+pub did_fail : (s : Host) (r : Reader) (h : Journal) (now later : SourceState) → HostFits s h → MayReadOn s → s.shut ≡ false → IsSettled h → HasWritten h → GaveNone s.job r now later
     → (next : Journal) × DidAlone s (record s { job = r }) h next × ((console : SinkState) → HostTellsOn s (record s { job = r }) h next now later console console)
-did_fail s r h now later f on going written gave =
-    let may = may_read s h f on going written in (
+did_fail s r h now later f on going settled written gave =
+    let may = may_read s h f on going settled written in (
       read_failed ∷ h,
       record {
         fits = record {
@@ -165,6 +174,9 @@ did_fail s r h now later f on going written gave =
           asking_is = f.asking_is;
           counts_are = f.counts_are;
           polls_are = f.polls_are;
+          held_is = f.held_is;
+          greeted_is = f.greeted_is;
+          pause_is = f.pause_is;
           text_is = f.text_is;
           shut_is = f.shut_is;
           bye_is = f.bye_is;
@@ -204,10 +216,10 @@ none_begun (x ∷ xs) e = absurd (grind (arith, nat_tests))
 some_begun : (xs : List ℕ) → nat_lt 0 (length xs) ≡ true → 0 < length xs
 some_begun xs e = grind (arith, nat_tests)
 
-pub did_end : (s : Host) (r : Reader) (h : Journal) (now later : SourceState) → HostFits s h → MayReadOn s → s.shut ≡ false → HasWritten h → s.line.begun ≡ false → GaveEnd s.job r now later
+pub did_end : (s : Host) (r : Reader) (h : Journal) (now later : SourceState) → HostFits s h → MayReadOn s → s.shut ≡ false → IsSettled h → HasWritten h → s.line.begun ≡ false → GaveEnd s.job r now later
     → (next : Journal) × DidAlone s (record s { job = r }) h next × ((console : SinkState) → HostTellsOn s (record s { job = r }) h next now later console console)
-did_end s r h now later f on going written none gave =
-    let may = may_read s h f on going written in
+did_end s r h now later f on going settled written none gave =
+    let may = may_read s h f on going settled written in
     let raw : raw_of h ≡ [] = none_begun (raw_of h) (sym (f.line_is.scanning on.scanning).0.begun ∙ none) in (
       read_end ∷ h,
       record {
@@ -219,6 +231,9 @@ did_end s r h now later f on going written none gave =
           asking_is = f.asking_is;
           counts_are = f.counts_are;
           polls_are = f.polls_are;
+          held_is = f.held_is;
+          greeted_is = f.greeted_is;
+          pause_is = f.pause_is;
           text_is = f.text_is;
           shut_is = f.shut_is;
           bye_is = f.bye_is;
@@ -237,11 +252,11 @@ did_end s r h now later f on going written none gave =
     )
 
 -- the last line has no LF
-pub did_end_line : (s : Host) (r : Reader) (l : SentLine) (c : Counts) (h : Journal) (now later : SourceState) → HostFits s h → MayReadOn s → s.shut ≡ false → HasWritten h → s.line.begun ≡ true → GaveEnd s.job r now later
-    → KeepsLine l [] (plain (raw_of h) ++ 10 ∷ []) → l.due ≡ s.line.due → KeepsCounts c (cut_of h ++ raw_of h ∷ []) (got_of h)
+pub did_end_line : (s : Host) (r : Reader) (l : SentLine) (c : Counts) (h : Journal) (now later : SourceState) → HostFits s h → MayReadOn s → s.shut ≡ false → IsSettled h → HasWritten h → s.line.begun ≡ true → GaveEnd s.job r now later
+    → KeepsLine l [] (plain (raw_of h) ++ 10 ∷ []) → l.due ≡ s.line.due → KeepsCounts c (cut_of h ++ raw_of h ∷ []) (got_of h) → c.pause_at ≡ cond (pauses (raw_of h)) (s.counts.lines + 1) s.counts.pause_at
     → (next : Journal) × DidAlone s (record s { job = r; line = l; counts = c }) h next × ((console : SinkState) → HostTellsOn s (record s { job = r; line = l; counts = c }) h next now later console console)
-did_end_line s r l c h now later f on going written begun gave line due counts =
-    let may = may_read s h f on going written in (
+did_end_line s r l c h now later f on going settled written begun gave line due counts pause =
+    let may = may_read s h f on going settled written in (
       line_over ∷ read_end ∷ h,
       record {
         fits = record {
@@ -263,6 +278,9 @@ did_end_line s r l c h now later f on going written begun gave line due counts =
           asking_is = f.asking_is;
           counts_are = counts;
           polls_are = f.polls_are;
+          held_is = f.held_is;
+          greeted_is = f.greeted_is;
+          pause_is = pause_behind_line s.counts c (raw_of h) (cut_of h) (got_of h) (pause_of h) f.counts_are f.pause_is pause;
           text_is = f.text_is;
           shut_is = f.shut_is;
           bye_is = f.bye_is;

@@ -3,12 +3,14 @@ pub mod Hosting
 pub mod Replying
 pub mod JobSteps
 pub mod Turns
+pub mod Settling
 pub mod Kept
 pub mod Links
 pub mod Pieces
 pub mod Keeping
 pub mod Sending
 pub mod Raising
+pub mod Resetting
 pub mod Waiting
 pub mod Reporting
 pub mod Example

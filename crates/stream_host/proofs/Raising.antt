@@ -227,19 +227,19 @@ raised_is h c p =
 
 -- ---- where nothing is due
 
-still_none : (t : Bool) (due : List ℕ) → due ≡ [] → cond t due (drop 1 due) ≡ []
+pub still_none : (t : Bool) (due : List ℕ) → due ≡ [] → cond t due (drop 1 due) ≡ []
 still_none true due none = none
 still_none false due none = ap (drop 1) none
 
 -- a line of which something is to be stored has nothing due
-abbrev IsCalm : Journal → Type 0
+abbrev pub IsCalm : Journal → Type 0
 IsCalm h = (to_store h ≡ []) ⊎ (due_of h ≡ [])
 
 none_more : (raw : List ℕ) (b : ℕ) (due left line : List ℕ) (t : Bool) → nat_eq b 10 ≡ t → left ≡ [] → due ≡ [] → (cond t line left ≡ []) ⊎ (due ++ more_served raw b ≡ [])
 none_more raw b due left line true e free none = inr (ap (λ (d : List ℕ). d ++ more_served raw b) none ∙ none_at_lf raw b e)
 none_more raw b due left line false e free none = inl free
 
-calm_is : (h : Journal) → Conducted h → IsCalm h
+pub calm_is : (h : Journal) → Conducted h → IsCalm h
 calm_is [] c = inl refl
 calm_is (at_port (stored b) ∷ h) c = elim (calm_is h c.1) [
   | inl free ↦ inl (ap (drop 1) free)
@@ -298,7 +298,7 @@ early_waiting b h c w next after = by_polls (nat_eq (polls_of h) empty_polls) re
 
 -- ---- the reports that are asked for
 
-one_more : (raw : List ℕ) (b : ℕ) → length (more_served raw b) ≤ 1
+pub one_more : (raw : List ℕ) (b : ℕ) → length (more_served raw b) ≤ 1
 unfolding more_of
 one_more raw b =
     let outer = length-filter is_served (filter is_realtime (shown (comment_after raw) (b ∷ []))) in

@@ -1,5 +1,6 @@
 -- What a host keeps where it gets a reply.
-use Rattle.std.proofs.Common.{◌≡◌, ℕ, ◌+◌, ◌<◌, ◌||◌, ◌^◌, Bool, true, false, cond, List, [], ◌∷◌, ◌++◌, length, map, drop, refl, sym, ap, ◌∙◌, arith, append-nil, length-append}
+use Rattle.std.proofs.Common.{◌≡◌, ℕ, ◌+◌, ◌<◌, ◌||◌, ◌^◌, Bool, true, false, cond, List, [], ◌∷◌, ◌++◌, length, map, drop, nat_lt, refl, sym, ap, ◌∙◌, arith, append-nil, length-append}
+use Rattle.std.proofs.lemmas.Bool.Decides.{nat_tests}
 use Rattle.std.specs.List.{list_any}
 use Rattle.std.proofs.lemmas.List.{drop-append-le}
 use Rattle.std.proofs.lemmas.List.Sums.{sum_by-append}
@@ -130,9 +131,13 @@ got_text s w r h f going is = record {
   all_asked = λ e. ap (λ v. v.asked) is ∙ shown_asked s.text r (has_bye h) (sym f.bye_is ∙ going) (sym (bye_push (got_of h) r) ∙ e);
 }
 
+-- some reply is got
+some_got : (rs : List Reply) (r : Reply) → true ≡ nat_lt 0 (length (rs ++ r ∷ []))
+some_got rs r = let l = length-append rs (r ∷ []) in grind (arith, nat_tests, l)
+
 pub got_reply : (s : Host) (w : Writing) (c : Counts) (a : Asking) (bye : Bool) (r : Reply) (h : Journal) → HostFits s h → s.bye ≡ false → AnswersLines (got r ∷ port_log h) → w ≡ shown s.text r → bye ≡ (s.bye || is_bye r)
-    → KeepsCounts c (cut_of h) (got_of h ++ r ∷ []) → a ≡ cond (is_report r) (got_one s.asking) s.asking → HostFits (record s { text = w; counts = c; asking = a; polls = 0; bye = bye }) (at_port (got r) ∷ h)
-got_reply s w c a bye r h f going lines text is counts asks = record {
+    → KeepsCounts c (cut_of h) (got_of h ++ r ∷ []) → c.pause_at ≡ s.counts.pause_at → a ≡ cond (is_report r) (got_one s.asking) s.asking → HostFits (record s { text = w; counts = c; asking = a; polls = 0; bye = bye; greeted = true }) (at_port (got r) ∷ h)
+got_reply s w c a bye r h f going lines text is counts pause asks = record {
   conducted = (record { poll = record { going = sym f.bye_is ∙ going; rested = f.polls_are.few }; few = lines }, f.conducted);
   job_is = f.job_is;
   line_is = f.line_is;
@@ -140,6 +145,9 @@ got_reply s w c a bye r h f going lines text is counts asks = record {
   asking_is = asks ∙ ap (λ (x : Asking). cond (is_report r) (got_one x) x) f.asking_is;
   counts_are = counts;
   polls_are = record { polls_are = refl; few = omega arith };
+  held_is = f.held_is;
+  greeted_is = some_got (got_of h) r;
+  pause_is = pause ∙ f.pause_is;
   text_is = got_text s w r h f going text;
   shut_is = f.shut_is;
   bye_is = is ∙ ap (λ b. b || is_bye r) f.bye_is ∙ sym (bye_push (got_of h) r);

@@ -53,14 +53,10 @@ AreAsked h =
 -- ---- a byte is raised
 
 more_is_some : (a : Asking) → asked_more a ≡ Nothing → ⊥
-more_is_some Nothing e = absurd cc
-more_is_some Awaits e = absurd cc
-more_is_some HasOne e = absurd cc
+more_is_some a e = absurd cc
 
 more_has : (a : Asking) → asked_more a ≡ HasOne → a ≡ HasOne
-more_has Nothing e = absurd cc
-more_has Awaits e = absurd cc
-more_has HasOne e = refl
+more_has a e = absurd cc
 
 first_is : (b : ℕ) (due : List ℕ) → due ≡ b ∷ drop 1 due → has_query due ≡ (nat_eq b query || has_query (drop 1 due))
 unfolding has_query

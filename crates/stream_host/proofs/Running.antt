@@ -15,9 +15,11 @@ use Rattle.stream_host.specs.Hosts.{HostFits, HostRests, TellsJob, TellsText}
 use Rattle.stream_host.specs.Ran.{AreRaised, HostRan, HostRuns, HasFinished, TellsConsole, end_of, is_failed}
 use Rattle.stream_host.proofs.Keeping.{stored_is}
 use Rattle.stream_host.proofs.Sending.{sent_so_far, sent_all, all_stored}
-use Rattle.stream_host.proofs.Raising.{raised_is, none_due_shut}
+use Rattle.stream_host.proofs.Raising.{raised_is}
+use Rattle.stream_host.proofs.Resetting.{sent_out}
 use Rattle.stream_host.proofs.Reporting.{reported_is}
 use Rattle.stream_host.proofs.Turns.{has_written}
+use Rattle.stream_host.proofs.Waiting.{few_unanswered}
 
 none_left : (n : ℕ) (text : List ℕ) → n ≡ length text → drop n text ≡ []
 none_left n text e = nil_from_length (drop n text) (let l = length-drop n text in omega arith)
@@ -57,11 +59,12 @@ has_run h job_was job_is console_was console_is c finished job console = record 
   lines = cut_of h;
   taken = job.taken;
   at_end = job.at_end;
-  sent = λ shut. sent_all h c shut;
-  link = λ shut. all_stored h c shut;
+  sent = λ out. sent_all h c (sent_out h c out).all;
+  link = λ out. all_stored h c (sent_out h c out).all;
+  few = λ out. few_unanswered h c (sent_out h c out).all.free;
   resumes = resumes_of h;
-  raises = λ shut. subst (λ due. AreRaised (scanned_of h) (raises_of h) due (resumes_of h)) (none_due_shut h c shut) (raised_is h c);
-  reported = λ shut. reported_is h c;
+  raises = λ out. subst (λ due. AreRaised (scanned_of h) (raises_of h) due (resumes_of h)) (sent_out h c out).none_due (raised_is h c);
+  reported = reported_is h c;
   bye = finished.bye;
   console = took_of console_was console_is (has_given_up h) (drop (written_of h) (text_of h)) (text_of h) console (wrote_all h finished.written);
   answered = refl;

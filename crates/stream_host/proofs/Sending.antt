@@ -17,13 +17,13 @@ use Rattle.stream_host.specs.declared.Stop.TheVariants.{End, LongLine, Reset}
 use Rattle.stream_host.specs.Links.{behind, on_link}
 use Rattle.status_report.specs.Answering.{receive_room, lfs_in, is_answer, answers_in}
 use Rattle.stream_host.specs.Jobs.{is_long, holds_reset, ends_sending, lines_to_send, ScansFront, MayLeave, MayScan, long_line, stop_by, IsSentSoFar, IsSent}
-use Rattle.stream_host.specs.Steps.{Journal, stored_of, got_of, is_shut, answered_of, errors_of, read_of, reading_of, scanned_of, unscanned_of, raw_of, cut_of, to_store, begun_of, stop_at, stop_of}
+use Rattle.stream_host.specs.Steps.{Journal, stored_of, got_of, answered_of, errors_of, read_of, reading_of, scanned_of, unscanned_of, raw_of, cut_of, to_store, begun_of, stop_at, stop_of}
 use Rattle.stream_host.specs.Steps.PortStep.{stored, dropped, raised, got, no_reply, shut}
 use Rattle.stream_host.specs.Steps.Step.{at_port, read_some, read_end, read_failed, scanned, line_over, wrote, gave_up, turned}
 use Rattle.stream_host.specs.Conduct.{Conducted, HasSentAll, HasNoMore, MayStore}
 use Rattle.stream_host.proofs.Links.{lfs_push, behind_append, behind_ended, plain_no_lf, plains_no_lf}
 use Rattle.stream_host.proofs.Pieces.{none_ends, sent_front, front_on, front_ends, sends_on, sends_none, no_whole, few_cut, few_whole, none_long, none_reset, not_long, no_reset}
-use Rattle.stream_host.proofs.Keeping.{read_is, stored_is, IsCut, cut_is, sendable_is, ends_now, any_now, early_is, few_scanned, reading_fits, shut_is, some_is}
+use Rattle.stream_host.proofs.Keeping.{read_is, stored_is, IsCut, cut_is, sendable_is, ends_now, any_now, early_is, few_scanned, reading_fits, some_is}
 
 -- ---- the job
 
@@ -93,13 +93,13 @@ none_left h c all = by_all all.all (raw_has_none h (cut_is h c))
     by_all (inr more) none = no_more (reading_of h) (unscanned_of h) (raw_of h) (length (scanned_of h)) none more
 
 -- all lines that are to be sent are, and all of them is stored
-pub all_sent : (h : Journal) → Conducted h → is_shut h ≡ true → cut_of h ≡ lines_to_send (reading_of h) (job_of (read_of h))
+pub all_sent : (h : Journal) → Conducted h → HasSentAll h → cut_of h ≡ lines_to_send (reading_of h) (job_of (read_of h))
 all_sent h c e =
-    sym (append-nil (cut_of h)) ∙ ap (λ (ls : List (List ℕ)). cut_of h ++ ls) (sym (none_left h c (shut_is h c e))) ∙ sym (sends_are h c)
+    sym (append-nil (cut_of h)) ∙ ap (λ (ls : List (List ℕ)). cut_of h ++ ls) (sym (none_left h c e)) ∙ sym (sends_are h c)
 
-pub all_stored : (h : Journal) → Conducted h → is_shut h ≡ true → stored_of h ≡ on_link (cut_of h)
+pub all_stored : (h : Journal) → Conducted h → HasSentAll h → stored_of h ≡ on_link (cut_of h)
 all_stored h c e =
-    sym (append-nil (stored_of h)) ∙ ap (λ (t : List ℕ). stored_of h ++ t) (sym (shut_is h c e).free) ∙ stored_is h c
+    sym (append-nil (stored_of h)) ∙ ap (λ (t : List ℕ). stored_of h ++ t) (sym e.free) ∙ stored_is h c
 
 -- ---- what is scanned
 
@@ -112,9 +112,9 @@ leaves Failed unread raw n more = subst HasNoLf (sym (none_of (largest_job - n) 
 leaves Large unread raw n more = let z : largest_job - n ≡ 0 = (let m : n ≡ largest_job = more in omega arith) in ap (λ k. take k unread) z
 leaves Stopped unread raw n more = absurd more
 
-pub scan_is : (h : Journal) → Conducted h → is_shut h ≡ true → MayScan (reading_of h) (job_of (read_of h)) (scanned_of h)
+pub scan_is : (h : Journal) → Conducted h → HasSentAll h → MayScan (reading_of h) (job_of (read_of h)) (scanned_of h)
 unfolding scans_are
-scan_is h c e = record { scans = scans_are h c; whole = λ none. by_all (shut_is h c e).all (sym (ends_now h c) ∙ none) }
+scan_is h c e = record { scans = scans_are h c; whole = λ none. by_all e.all (sym (ends_now h c) ∙ none) }
   where
     by_all : (ends_sending (raw_of h) ≡ true) ⊎ HasNoMore (reading_of h) (unscanned_of h) (raw_of h) (length (scanned_of h)) → ends_sending (raw_of h) ≡ false → MayLeave (reading_of h) (left_of h)
     by_all (inl l) none = absurd (let f = sym l ∙ none in cc)
@@ -182,7 +182,7 @@ sent_so_far h c = record {
   cause = stop_is h c;
 }
 
-pub sent_all : (h : Journal) → Conducted h → is_shut h ≡ true → IsSent (read_of h) (reading_of h) (scanned_of h) (cut_of h) (stop_of h)
+pub sent_all : (h : Journal) → Conducted h → HasSentAll h → IsSent (read_of h) (reading_of h) (scanned_of h) (cut_of h) (stop_of h)
 sent_all h c e = record { fits = reading_fits h c; scans = scan_is h c e; sent = all_sent h c e; cause = stop_is h c }
 
 -- ---- the count

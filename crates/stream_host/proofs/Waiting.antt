@@ -9,10 +9,10 @@ use Rattle.stream_host.specs.declared.Reading.TheVariants.{Ended, Failed, Large,
 use Rattle.stream_host.specs.Links.{on_link}
 use Rattle.status_report.specs.Answering.{receive_room, lfs_in}
 use Rattle.stream_host.specs.Jobs.{ends_sending, MayHaveRead}
-use Rattle.stream_host.specs.Steps.{Journal, stored_of, is_shut, answered_of, read_of, reading_of, scanned_of, unscanned_of, raw_of, cut_of, to_store, begun_of, due_of, awaits_report}
+use Rattle.stream_host.specs.Steps.{Journal, stored_of, is_shut, is_greeted, answered_of, read_of, reading_of, scanned_of, unscanned_of, raw_of, cut_of, to_store, begun_of, due_of, awaits_report}
 use Rattle.stream_host.specs.Steps.PortStep.{stored, dropped, raised, got, no_reply, shut}
 use Rattle.stream_host.specs.Steps.Step.{at_port, read_some, read_end, read_failed, scanned, line_over, wrote, gave_up, turned}
-use Rattle.stream_host.specs.Conduct.{Conducted, HasNoMore, Waits}
+use Rattle.stream_host.specs.Conduct.{AwaitsSome, Conducted, HasNoMore, IsSettled, Waits}
 use Rattle.stream_host.proofs.Pieces.{IsSendable}
 use Rattle.stream_host.proofs.Keeping.{read_is, stored_is, linked_push, few_scanned, reading_fits}
 use Rattle.stream_host.proofs.Sending.{sum_is, answers_are_few, counts_are, lfs_linked}
@@ -99,17 +99,17 @@ shuts : (h : Journal) → is_shut h ≡ false → to_store h ≡ [] → due_of h
 shuts h going free none w all = w.no_close (record { going = going; sent = record { free = free; all = all }; all_raised = none })
 
 -- all that was read is scanned
-all_scanned : (h : Journal) → Conducted h → is_shut h ≡ false → to_store h ≡ [] → due_of h ≡ [] → ends_sending (raw_of h) ≡ false → unscanned_of h ≡ [] → Waits h → (r : Reading) → reading_of h ≡ r → (raw : List ℕ) → raw_of h ≡ raw → ⊥
-all_scanned h c going free none short used w Stopped at raw is = w.no_read (record { going = going; on = at; sends = short; used = used; free = free; none_due = none; shown = w.written })
-all_scanned h c going free none short used w Failed at raw is =
+all_scanned : (h : Journal) → Conducted h → is_shut h ≡ false → to_store h ≡ [] → due_of h ≡ [] → IsSettled h → ends_sending (raw_of h) ≡ false → unscanned_of h ≡ [] → Waits h → (r : Reading) → reading_of h ≡ r → (raw : List ℕ) → raw_of h ≡ raw → ⊥
+all_scanned h c going free none settled short used w Stopped at raw is = w.no_read (record { going = going; on = at; sends = short; used = used; free = free; none_due = none; settled = settled; shown = w.written })
+all_scanned h c going free none settled short used w Failed at raw is =
     shuts h going free none w (inr (subst (λ (r : Reading). HasNoMore r (unscanned_of h) (raw_of h) (length (scanned_of h))) (sym at) used))
-all_scanned h c going free none short used w Large at raw is =
+all_scanned h c going free none settled short used w Large at raw is =
     let more : largest_job < length (read_of h) = (subst (λ (r : Reading). MayHaveRead r (length (read_of h))) at (reading_fits h c)).0 in
     let l = ap length (read_is h c) in let m = length-append (scanned_of h) (unscanned_of h) in let n = ap length used in let s = few_scanned h c in
     absurd (omega arith)
-all_scanned h c going free none short used w Ended at [] is =
+all_scanned h c going free none settled short used w Ended at [] is =
     shuts h going free none w (inr (subst (λ (r : Reading). HasNoMore r (unscanned_of h) (raw_of h) (length (scanned_of h))) (sym at) (used, is)))
-all_scanned h c going free none short used w Ended at (b ∷ raw) is =
+all_scanned h c going free none settled short used w Ended at (b ∷ raw) is =
     w.no_line (record { going = going; at_end = at; used = used; some = (let l = ap length is in omega arith); sends = short; free = free; none_due = none })
 
 pub over_full : (h : Journal) → Conducted h → (b : ℕ) (bytes : List ℕ) → unscanned_of h ≡ b ∷ bytes → largest_job ≤ length (scanned_of h) → (r : Reading) → reading_of h ≡ r → HasNoMore r (unscanned_of h) (raw_of h) (length (scanned_of h))
@@ -133,10 +133,10 @@ over_full h c b bytes next full Stopped at = absurd (too_long Stopped at (λ f. 
         let f = few (subst (λ (q : Reading). MayHaveRead q (length (read_of h))) at (reading_fits h c)) in
         let l = ap length (read_is h c) in let m = length-append (scanned_of h) (unscanned_of h) in let n = ap length next in absurd (omega arith)
 
-goes_on : (h : Journal) → Conducted h → is_shut h ≡ false → to_store h ≡ [] → due_of h ≡ [] → Waits h → (t : Bool) → ends_sending (raw_of h) ≡ t → (left : List ℕ) → unscanned_of h ≡ left → ⊥
-goes_on h c going free none w true long left is = shuts h going free none w (inl long)
-goes_on h c going free none w false short [] is = all_scanned h c going free none short is w (reading_of h) refl (raw_of h) refl
-goes_on h c going free none w false short (b ∷ bytes) is = by_room (nat_lt (length (scanned_of h)) largest_job) refl
+goes_on : (h : Journal) → Conducted h → is_shut h ≡ false → to_store h ≡ [] → due_of h ≡ [] → IsSettled h → Waits h → (t : Bool) → ends_sending (raw_of h) ≡ t → (left : List ℕ) → unscanned_of h ≡ left → ⊥
+goes_on h c going free none settled w true long left is = shuts h going free none w (inl long)
+goes_on h c going free none settled w false short [] is = all_scanned h c going free none settled short is w (reading_of h) refl (raw_of h) refl
+goes_on h c going free none settled w false short (b ∷ bytes) is = by_room (nat_lt (length (scanned_of h)) largest_job) refl
   where
     next : unscanned_of h ≡ b ∷ drop 1 (unscanned_of h)
     next = is ∙ ap (λ (t : List ℕ). b ∷ drop 1 t) (sym is)
@@ -164,7 +164,15 @@ early h c free b next w =
     by_less : (m n k : ℕ) → m ≢ n → m ≤ n → k ≡ n - m → 0 < k
     by_less m n k ne le e = grind arith
 
-pub waits_are_for_answers : (h : Journal) → Conducted h → Waits h → is_shut h ≡ false → (0 < length (drop (answered_of h) (begun_of h))) ⊎ (awaits_report h ≡ true)
+-- a line that was sent has no answer
+unanswered : (h : Journal) → Conducted h → to_store h ≡ [] → nat_lt (answered_of h) (length (cut_of h)) ≡ true → 0 < length (drop (answered_of h) (begun_of h))
+unanswered h c free e =
+    let begun = ap (λ (ls : List (List ℕ)). length (drop (answered_of h) ls)) (all_begun h free (begun_is h c)) in
+    let l = length-drop (answered_of h) (cut_of h) in
+    let more : answered_of h < length (cut_of h) = grind (arith, nat_tests) in
+    omega arith
+
+pub waits_are_for_answers : (h : Journal) → Conducted h → Waits h → is_shut h ≡ false → AwaitsSome h
 waits_are_for_answers h c w going = by_left (to_store h) refl
   where
     no_room : (n : ℕ) → (n ≤ receive_room → ⊥) → receive_room < n
@@ -174,15 +182,33 @@ waits_are_for_answers h c w going = by_left (to_store h) refl
         by_test true e = grind (arith, nat_tests)
         by_test false e = absurd (full (grind (arith, nat_tests)))
 
-    by_due : to_store h ≡ [] → (due : List ℕ) → due_of h ≡ due → 0 < length (drop (answered_of h) (begun_of h))
-    by_due free [] none = absurd (goes_on h c going free none w (ends_sending (raw_of h)) refl (unscanned_of h) refl)
-    by_due free (b ∷ due) is = early h c free b (is ∙ ap (λ (t : List ℕ). b ∷ drop 1 t) (sym is)) w
+    by_answers : to_store h ≡ [] → due_of h ≡ [] → is_greeted h ≡ true → awaits_report h ≡ false → (t : Bool) → nat_lt (answered_of h) (length (cut_of h)) ≡ t → 0 < length (drop (answered_of h) (begun_of h))
+    by_answers free none greeted no_report true e = unanswered h c free e
+    by_answers free none greeted no_report false e =
+        let few = (counts_are h c).1 in
+        absurd (goes_on h c going free none (record { greeted = inl greeted; reported = no_report; answered = inl (grind (arith, nat_tests)) }) w (ends_sending (raw_of h)) refl (unscanned_of h) refl)
 
-    by_report : (b : ℕ) → to_store h ≡ b ∷ drop 1 (to_store h) → (t : Bool) → awaits_report h ≡ t → (0 < length (drop (answered_of h) (begun_of h))) ⊎ (awaits_report h ≡ true)
-    by_report b next true e = inr e
+    by_awaited : to_store h ≡ [] → due_of h ≡ [] → is_greeted h ≡ true → (t : Bool) → awaits_report h ≡ t → AwaitsSome h
+    by_awaited free none greeted true e = inr (inr e)
+    by_awaited free none greeted false e = inr (inl (by_answers free none greeted e (nat_lt (answered_of h) (length (cut_of h))) refl))
+
+    by_greeted : to_store h ≡ [] → due_of h ≡ [] → (t : Bool) → is_greeted h ≡ t → AwaitsSome h
+    by_greeted free none true e = by_awaited free none e (awaits_report h) refl
+    by_greeted free none false e = inl e
+
+    by_due : to_store h ≡ [] → (due : List ℕ) → due_of h ≡ due → AwaitsSome h
+    by_due free [] none = by_greeted free none (is_greeted h) refl
+    by_due free (b ∷ due) is = inr (inl (early h c free b (is ∙ ap (λ (t : List ℕ). b ∷ drop 1 t) (sym is)) w))
+
+    by_report : (b : ℕ) → to_store h ≡ b ∷ drop 1 (to_store h) → (t : Bool) → awaits_report h ≡ t → AwaitsSome h
+    by_report b next true e = inr (inr e)
     by_report b next false e =
-        inl (too_many h c (no_room (length (on_link (drop (answered_of h) (cut_of h)))) (λ room. w.no_store b (record { next = next; reported = e; room = room }))) (begun_is h c))
+        inr (inl (too_many h c (no_room (length (on_link (drop (answered_of h) (cut_of h)))) (λ room. w.no_store b (record { next = next; reported = e; room = room }))) (begun_is h c)))
 
-    by_left : (left : List ℕ) → to_store h ≡ left → (0 < length (drop (answered_of h) (begun_of h))) ⊎ (awaits_report h ≡ true)
-    by_left [] free = inl (by_due free (due_of h) refl)
+    by_left : (left : List ℕ) → to_store h ≡ left → AwaitsSome h
+    by_left [] free = by_due free (due_of h) refl
     by_left (b ∷ left) is = by_report b (is ∙ ap (λ (t : List ℕ). b ∷ drop 1 t) (sym is)) (awaits_report h) refl
+
+-- where nothing is to be stored, the lines that have no answer take at most 128 bytes
+pub few_unanswered : (h : Journal) → Conducted h → to_store h ≡ [] → length (on_link (drop (answered_of h) (cut_of h))) ≤ receive_room
+few_unanswered h c free = subst (λ (ls : List (List ℕ)). length (on_link (drop (answered_of h) ls)) ≤ receive_room) (all_begun h free (begun_is h c)) (sum_is h c)

@@ -1,5 +1,5 @@
 -- The rules of a host: what it may do next.
-use Rattle.std.specs.Prelude.{◌≡◌, ℕ, ◌+◌, ◌≤◌, ◌<◌, ◌⊎◌, Bool, true, false, List, [], ◌∷◌, ◌++◌, length, drop}
+use Rattle.std.specs.Prelude.{◌≡◌, ℕ, ◌+◌, ◌≤◌, ◌<◌, ◌⊎◌, Bool, true, false, ◌||◌, List, [], ◌∷◌, ◌++◌, length, drop, nat_lt}
 use Rattle.std.specs.List.{list_any, count_by}
 use Rattle.code_table.specs.Tables.{query}
 use Rattle.run_rules.specs.Readings.{largest_job, largest_piece}
@@ -12,7 +12,7 @@ use Rattle.stream_host.specs.declared.Reading.TheVariants.{Ended, Failed, Large,
 use Rattle.stream_host.specs.Links.{on_link}
 use Rattle.status_report.specs.Answering.{receive_room, lfs_in, answers_in}
 use Rattle.stream_host.specs.Jobs.{resume, ends_sending}
-use Rattle.stream_host.specs.Steps.{PortStep, Step, Journal, stored_of, got_of, is_shut, has_bye, answered_of, reading_of, scanned_of, unscanned_of, raw_of, cut_of, to_store, due_of, awaits_report, polls_of, empty_polls, text_of, written_of, has_given_up, this_turn}
+use Rattle.stream_host.specs.Steps.{PortStep, Step, Journal, stored_of, got_of, is_shut, has_bye, is_greeted, answered_of, reading_of, scanned_of, unscanned_of, raw_of, cut_of, begun_of, to_store, due_of, awaits_report, polls_of, empty_polls, held_polls, holds_of, pause_of, text_of, written_of, has_given_up, this_turn}
 use Rattle.stream_host.specs.Steps.PortStep.{stored, dropped, raised, got, no_reply, shut}
 use Rattle.stream_host.specs.Steps.Step.{at_port, read_some, read_end, read_failed, scanned, line_over, wrote, gave_up, turned}
 
@@ -20,8 +20,37 @@ use Rattle.stream_host.specs.Steps.Step.{at_port, read_some, read_end, read_fail
 abbrev pub HasWritten : Journal → Type 0
 HasWritten h = (has_given_up h ≡ true) ⊎ (written_of h ≡ length (text_of h))
 
--- The job is read on: all that was read is scanned, raised and stored, all that was got is shown, no end of the reading was
--- met, and the sending has not ended in the line that is being scanned.
+-- the lines before the one in hand are answered
+abbrev pub AreAnswered : Journal → Type 0
+AreAnswered h = answered_of h ≡ length (cut_of h)
+
+-- something is awaited: the banner, the answer to a line that was sent, or a report
+abbrev pub AwaitsSome : Journal → Type 0
+AwaitsSome h = (is_greeted h ≡ false) ⊎ ((0 < length (drop (answered_of h) (begun_of h))) ⊎ (awaits_report h ≡ true))
+
+-- The machine may be held: a `!` was raised and no `~` since, or a line that has no answer asks for a pause, and no `~` was
+-- raised since it was scanned.
+abbrev pub may_be_held : Journal → Bool
+may_be_held h = holds_of h || nat_lt (answered_of h) (pause_of h)
+
+-- the machine may be held, and so many polls in a row have found no reply
+pub record SeemsHeld (h : Journal) : Type 0 where
+  pub held : may_be_held h ≡ true
+  pub polls : held_polls ≤ polls_of h
+
+-- the banner was got, or the board says nothing: so many polls in a row have found no reply
+abbrev pub IsGreeted : Journal → Type 0
+IsGreeted h = (is_greeted h ≡ true) ⊎ (held_polls ≤ polls_of h)
+
+-- Nothing is awaited: the banner was got, and a report since the last one was asked for, and each line that was sent has its
+-- answer, or the machine seems held: then the resume may stand in what was not read yet.
+pub record IsSettled (h : Journal) : Type 0 where
+  pub greeted : IsGreeted h
+  pub reported : awaits_report h ≡ false
+  pub answered : AreAnswered h ⊎ SeemsHeld h
+
+-- The job is read on: all that was read is scanned, raised and stored, nothing is awaited but of a machine that seems held,
+-- all that was got is shown, no end of the reading was met, and the sending has not ended in the line that is being scanned.
 pub record MayRead (h : Journal) : Type 0 where
   pub going : is_shut h ≡ false
   pub on : reading_of h ≡ Stopped
@@ -29,6 +58,7 @@ pub record MayRead (h : Journal) : Type 0 where
   pub used : unscanned_of h ≡ []
   pub free : to_store h ≡ []
   pub none_due : due_of h ≡ []
+  pub settled : IsSettled h
   pub shown : HasWritten h
 
 -- The next byte that was read is scanned: no byte is to be raised, the line before its own is wholly stored, the job may
@@ -50,10 +80,6 @@ pub record MayEndLine (h : Journal) : Type 0 where
   pub sends : ends_sending (raw_of h) ≡ false
   pub free : to_store h ≡ []
   pub none_due : due_of h ≡ []
-
--- the lines before the one in hand are answered
-abbrev pub AreAnswered : Journal → Type 0
-AreAnswered h = answered_of h ≡ length (cut_of h)
 
 -- A realtime byte is raised: a resume where so many polls have found no reply, else the next that is due; that is a `?` only
 -- once each line before its own is answered.

@@ -1,5 +1,6 @@
 pub mod Links
 pub mod Jobs
+pub mod Holding
 pub mod Steps
 pub mod Conduct
 pub mod Ports

@@ -1,5 +1,5 @@
 -- What a host has done in a whole run, and so far, on plain lists.
-use Rattle.std.specs.Prelude.{◌≡◌, ℕ, ◌+◌, Bool, true, false, cond, List, [], ◌++◌, drop}
+use Rattle.std.specs.Prelude.{◌≡◌, ℕ, ◌+◌, ◌≤◌, Bool, true, false, ◌||◌, cond, List, [], ◌++◌, length, drop}
 use Rattle.std.specs.List.{count_by, list_any}
 use Rattle.std.specs.Io.KnownBytes.{Consumes, IsAtEnd}
 use Rattle.outside.specs.Causes.{Rose, SourceState, SinkState}
@@ -11,8 +11,8 @@ use Rattle.stream_host.specs.declared.Reading.{Reading}
 use Rattle.stream_host.specs.declared.Reading.TheVariants.{Ended, Failed, Large, Stopped}
 use Rattle.stream_host.specs.declared.Stop.{Stop}
 use Rattle.stream_host.specs.Links.{on_link}
-use Rattle.status_report.specs.Answering.{answers_in, is_bye}
-use Rattle.stream_host.specs.Jobs.{resume, served_in, IsSent, IsSentSoFar}
+use Rattle.status_report.specs.Answering.{receive_room, answers_in, is_bye}
+use Rattle.stream_host.specs.Jobs.{resume, is_reset, served_in, IsSent, IsSentSoFar}
 use Rattle.stream_host.specs.Steps.{Journal, has_bye, answered_of, errors_of, reading_of, stop_of, text_of, written_of, has_given_up}
 use Rattle.stream_host.specs.Conduct.{HasWritten}
 
@@ -37,9 +37,14 @@ abbrev pub AreRaised : List ℕ → List ℕ → List ℕ → ℕ → Type 0
 AreRaised scanned raised due resumes =
     (p : ℕ → Bool) → count_by p raised + count_by p due ≡ count_by p (served_in scanned) + cond (p resume) resumes 0
 
+-- all that is sent of the job is raised and stored: the link is closed, or a reset was raised
+abbrev pub is_sent_out : Bool → List ℕ → Bool
+is_sent_out shut raised = shut || list_any is_reset raised
+
 -- A host has run: it read a job, raised its realtime bytes, stored its lines, closed the link or not, and got replies up to
--- Bye. Where the link is closed, all that is sent of the job is raised and stored. Each line that asks for a report and is
--- answered has one, behind the answers to the lines before it. The console has the text of the replies, all of it where no
+-- Bye. Where the link is closed, or a reset was raised, all that is sent of the job is raised and stored, and the lines that
+-- have no answer take at most 128 bytes, each with its LF. Each line that asks for a report and is answered has one, behind the
+-- answers to the lines before it. The console has the text of the replies, all of it where no
 -- write failed. The source's count of faults rose where a read failed, and is as before where none did.
 pub record HostRan (job_was job_is : SourceState) (console_was console_is : SinkState) (stored : List ℕ) (shut : Bool) (raised : List ℕ) (got : List Reply) (end : HostEnd) : Type 0 where
   pub read : List ℕ
@@ -48,11 +53,12 @@ pub record HostRan (job_was job_is : SourceState) (console_was console_is : Sink
   pub lines : List (List ℕ)
   pub taken : Consumes job_was.left job_is.left read
   pub at_end : reading ≡ Ended → IsAtEnd job_is.left
-  pub sent : shut ≡ true → IsSent read reading scanned lines end.stop
-  pub link : shut ≡ true → stored ≡ on_link lines
+  pub sent : is_sent_out shut raised ≡ true → IsSent read reading scanned lines end.stop
+  pub link : is_sent_out shut raised ≡ true → stored ≡ on_link lines
+  pub few : is_sent_out shut raised ≡ true → length (on_link (drop end.answered lines)) ≤ receive_room
   pub resumes : ℕ
-  pub raises : shut ≡ true → AreRaised scanned raised [] resumes
-  pub reported : shut ≡ true → AreReported lines got
+  pub raises : is_sent_out shut raised ≡ true → AreRaised scanned raised [] resumes
+  pub reported : AreReported lines got
   pub bye : list_any is_bye got ≡ true
   pub console : Took console_was console_is end.console_failed (replies_text got)
   pub answered : end.answered ≡ answers_in got

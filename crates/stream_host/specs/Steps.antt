@@ -14,7 +14,8 @@ use Rattle.stream_host.specs.declared.line.Asking.TheVariants.{Nothing, Awaits, 
 use Rattle.stream_host.specs.declared.Stop.TheVariants.{End, LongLine, TooLarge, Reset}
 use Rattle.code_table.specs.Tables.{query}
 use Rattle.status_report.specs.Answering.{answers_in, is_bye, is_report}
-use Rattle.stream_host.specs.Jobs.{is_long, holds_reset, served}
+use Rattle.stream_host.specs.Jobs.{resume, is_long, holds_reset, served}
+use Rattle.stream_host.specs.Holding.{held_after, pauses}
 
 pub data PortStep : Type 0 where
   stored : ℕ → PortStep
@@ -100,6 +101,10 @@ is_shut h = is_shut_in (port_log h)
 abbrev pub has_bye : Journal → Bool
 has_bye h = list_any is_bye (got_of h)
 
+-- a reply was got: the banner comes first
+abbrev pub is_greeted : Journal → Bool
+is_greeted h = nat_lt 0 (length (got_of h))
+
 abbrev pub answered_of : Journal → ℕ
 answered_of h = answers_in (got_of h)
 
@@ -111,6 +116,10 @@ errors_of h = errors_among (got_of h)
 -- so many polls in a row that find no reply are enough for the host to resume the machine by itself
 abbrev pub empty_polls : ℕ
 empty_polls = 4096
+
+-- half as many are enough for it to read on where the machine may be held
+abbrev pub held_polls : ℕ
+held_polls = 2048
 
 -- the polls that found no reply since the last that found one, or that the host answered with a resume
 abbrev pub polls_in : PortLog → ℕ
@@ -156,6 +165,16 @@ resumes_in (got r ∷ h) = resumes_in h
 resumes_in (no_reply ∷ h) = resumes_in h
 resumes_in (shut ∷ h) = resumes_in h
 
+-- a `!` was raised, and no `~` since
+abbrev pub holds_in : PortLog → Bool
+holds_in [] = false
+holds_in (stored b ∷ h) = holds_in h
+holds_in (dropped b ∷ h) = holds_in h
+holds_in (raised b down ∷ h) = held_after b (holds_in h)
+holds_in (got r ∷ h) = holds_in h
+holds_in (no_reply ∷ h) = holds_in h
+holds_in (shut ∷ h) = holds_in h
+
 -- all polls that found no reply
 abbrev pub all_empty_in : PortLog → ℕ
 all_empty_in [] = 0
@@ -168,6 +187,9 @@ all_empty_in (shut ∷ h) = all_empty_in h
 
 abbrev pub polls_of : Journal → ℕ
 polls_of h = polls_in (port_log h)
+
+abbrev pub holds_of : Journal → Bool
+holds_of h = holds_in (port_log h)
 
 abbrev pub raises_of : Journal → List ℕ
 raises_of h = raises_in (port_log h)
@@ -292,6 +314,25 @@ begun_of (wrote n ∷ h) = begun_of h
 begun_of (gave_up ∷ h) = begun_of h
 begun_of (turned t ∷ h) = begun_of h
 
+-- ---- pauses
+
+abbrev pub pause_behind : PortStep → ℕ → ℕ
+pause_behind (raised b down) n = cond (nat_eq b resume) 0 n
+pause_behind e n = n
+
+-- the number of the last line that asks for a pause, of those that were scanned whole since the last `~`; 0 where none does
+abbrev pub pause_of : Journal → ℕ
+pause_of [] = 0
+pause_of (at_port e ∷ h) = pause_behind e (pause_of h)
+pause_of (read_some bytes ∷ h) = pause_of h
+pause_of (read_end ∷ h) = pause_of h
+pause_of (read_failed ∷ h) = pause_of h
+pause_of (scanned b ∷ h) = cond (nat_eq b 10) (cond (pauses (raw_of h)) (length (cut_of h) + 1) (pause_of h)) (pause_of h)
+pause_of (line_over ∷ h) = cond (pauses (raw_of h)) (length (cut_of h) + 1) (pause_of h)
+pause_of (wrote n ∷ h) = pause_of h
+pause_of (gave_up ∷ h) = pause_of h
+pause_of (turned t ∷ h) = pause_of h
+
 -- ---- realtime bytes
 
 -- the realtime bytes to be raised that a line has more with one byte more
@@ -317,11 +358,9 @@ due_of (turned t ∷ h) = due_of h
 
 -- ---- reports
 
--- one report more is asked for; one is got
+-- a report is asked for, whether one was got before or not; one is got
 abbrev pub asked_more : Asking → Asking
-asked_more Nothing = Awaits
-asked_more Awaits = Awaits
-asked_more HasOne = HasOne
+asked_more a = Awaits
 
 abbrev pub got_one : Asking → Asking
 got_one Nothing = Nothing
@@ -333,7 +372,7 @@ asking_at (raised b down) a = cond (nat_eq b query) (asked_more a) a
 asking_at (got r) a = cond (is_report r) (got_one a) a
 asking_at e a = a
 
--- Whether the line in hand has asked for a report, and whether one was got since. It is the line that is scanned, or
+-- Whether the line in hand has asked for a report, and whether one was got since it last did. It is the line that is scanned, or
 -- else the last one that was scanned whole.
 abbrev pub asking_of : Journal → Asking
 asking_of [] = Nothing

@@ -1,17 +1,19 @@
 //! How many lines are sent and answered.
 
-ghost use Rattle.std.specs.Prelude.{◌≡◌, ◌+◌, ◌^◌, ◌≤◌, ◌<◌, [], ◌∷◌, ◌++◌, length, drop};
+ghost use Rattle.std.specs.Prelude.{◌≡◌, ◌+◌, ◌^◌, ◌≤◌, ◌<◌, [], ◌∷◌, ◌++◌, length, drop, cond};
 ghost use Rattle.stream_host.specs.Hosts.{lengths, IsSummed};
 
 use crate::unanswered::Unanswered;
 
-/// The lines without an answer, and the numbers of lines sent, of answers got, and of those that are errors.
+/// The lines without an answer, and the numbers of lines sent, of answers got, and of those that are errors; and the number
+/// of the last line that asks for a pause, or 0.
 #[derive(Drop)]
 pub(crate) struct Counts {
     pub(crate) unanswered: Unanswered,
     pub(crate) lines: u32,
     pub(crate) answered: u32,
     pub(crate) errors: u32,
+    pub(crate) pause_at: u32,
 }
 
 impl Counts {
@@ -22,27 +24,32 @@ impl Counts {
         ensures lines { result.lines ≡ 0 }
         ensures answered { result.answered ≡ 0 }
         ensures errors { result.errors ≡ 0 }
+        ensures pause { result.pause_at ≡ 0 }
     {
         Counts {
             unanswered: Unanswered::new(),
             lines: 0,
             answered: 0,
             errors: 0,
+            pause_at: 0,
         }
     }
 
-    /// A line of this length is to be sent.
-    pub(crate) fn add_line(&mut self, size: u8)
+    /// A line of this length is to be sent, which asks for a pause or not.
+    pub(crate) fn add_line(&mut self, size: u8, pauses: bool)
         requires few { length (lengths self.old.unanswered) < 129 }
         requires small { self.old.unanswered.total ≤ 128 }
         requires summed { IsSummed self.old.unanswered }
         requires lines { self.old.lines + 1 < 2 ^ 32 }
         ensures more { lengths self.new.unanswered ≡ lengths self.old.unanswered ++ size ∷ [] }
         ensures summed { IsSummed self.new.unanswered }
-        ensures same { self.new ≡ record self.old { unanswered = self.new.unanswered; lines = self.old.lines + 1 } }
+        ensures same { self.new ≡ record self.old { unanswered = self.new.unanswered; lines = self.old.lines + 1; pause_at = cond pauses (self.old.lines + 1) self.old.pause_at } }
     {
         self.unanswered.push(size);
         self.lines += 1;
+        if pauses {
+            self.pause_at = self.lines;
+        }
     }
 
     /// The oldest line has its answer.

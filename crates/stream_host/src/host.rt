@@ -1,23 +1,25 @@
 //! The host.
 
-ghost use Rattle.std.specs.Prelude.{◌≡◌, ◌≢◌, ◌↔◌, ◌≤◌, ◌<◌, ◌∷◌, [], ◌++◌, ℕ, List, true, false, length, ◌||◌, Bool, Some, None};
+ghost use Rattle.std.specs.Prelude.{◌+◌, ◌≡◌, ◌≢◌, ◌↔◌, ◌≤◌, ◌<◌, ◌∷◌, [], ◌++◌, ℕ, List, true, false, length, ◌||◌, Bool, Some, None, cond, nat_eq};
 ghost use Rattle.status_report.specs.Replies.{IsReply};
 ghost use Rattle.outside.specs.declared.Turn.TheVariants.{Did};
 ghost use Rattle.text_writer.specs.Writers.{is_due};
 ghost use Rattle.stream_host.specs.Ports.{AnswersLines};
 ghost use Rattle.stream_host.specs.Steps.{Journal, port_log, got_of, stop_of, stop_at, raw_of, cut_of, reading_of, has_given_up, answered_of, errors_of, awaits_report};
+ghost use Rattle.stream_host.specs.Holding.{held_after, pauses};
 ghost use Rattle.stream_host.specs.Steps.PortStep.{stored, raised, got, no_reply, shut};
 ghost use Rattle.stream_host.specs.Steps.Step.{at_port, scanned, turned};
 ghost use Rattle.status_report.specs.Answering.{answers_in, is_bye};
 ghost use Rattle.stream_host.specs.Jobs.{resume};
 ghost use Rattle.code_table.specs.Tables.{query};
-ghost use Rattle.stream_host.specs.Conduct.{AreAnswered, MayRead, HasWritten};
+ghost use Rattle.stream_host.specs.Conduct.{AreAnswered, may_be_held, IsGreeted, IsSettled};
 ghost use Rattle.stream_host.specs.Hosts.{HostFits, HostWorked, HostTurned, HostTellsOn, HasPolled, IsBetween, DidAlone, MayScanOn, MayReadOn, HasRoom, HasShown, HostRests, HasLine, KeepsLine, KeepsCounts, is_over, unread, shown};
 ghost use Rattle.outside.specs.Causes.{SourceState, SinkState};
 ghost use Rattle.gcode_words.specs.Stripping.{plain};
 
 use crate::counts::Counts;
 use crate::line::{Asking, SentLine};
+use crate::pause::has_pause;
 use crate::ports::HostPort;
 use crate::reader::{Gave, LARGEST_JOB, Reader};
 use crate::{Reading, Stop};
@@ -32,6 +34,12 @@ const RECEIVE_ROOM: usize = 128;
 
 /// So many polls in a row that find no reply are enough to resume the machine.
 const EMPTY_POLLS: u16 = 4096;
+
+/// Half as many are enough to read on where the machine may be held, or the board has said nothing yet.
+const HELD_POLLS: u16 = 2048;
+
+/// The realtime byte that holds the machine.
+const HOLD: u8 = b'!';
 
 /// The realtime byte that resumes the machine.
 const RESUME: u8 = b'~';
@@ -48,6 +56,9 @@ pub struct Host {
     counts: Counts,
     text: TextWriter,
     polls: u16,
+    /// A `!` was raised, and no `~` since.
+    held: bool,
+    greeted: bool,
     shut: bool,
     bye: bool,
 }
@@ -64,6 +75,8 @@ impl Host {
             counts: Counts::new(),
             text: TextWriter::new(),
             polls: 0,
+            held: false,
+            greeted: false,
             shut: false,
             bye: false,
         }
@@ -135,6 +148,7 @@ impl Host {
     fn count(&mut self, reply: &Reply)
         requires { (h : Journal) × HostFits self.old h × AnswersLines (got reply.now ∷ port_log h) }
         ensures counts { (h : Journal) → HostFits self.old h → AnswersLines (got reply.now ∷ port_log h) → KeepsCounts self.new.counts (cut_of h) (got_of h ++ reply.now ∷ []) }
+        ensures pause { self.new.counts.pause_at ≡ self.old.counts.pause_at }
         ensures same { self.new ≡ record self.old { counts = self.new.counts } }
     {
         match reply {
@@ -174,6 +188,7 @@ impl Host {
         self.show(reply);
         self.asking = self.asking.told(reply);
         self.polls = 0;
+        self.greeted = true;
     }
 
     /// Whether the next byte may be scanned.
@@ -226,6 +241,7 @@ impl Host {
         requires may { MayReadOn self.old }
         requires shown { HasShown self.old.text }
         requires going { self.old.shut ≡ false }
+        requires settled { (h : Journal) → HostFits self.old h → IsSettled h }
         requires fits { (h : Journal) × HostFits self.old h }
         ensures { (h : Journal) → HostFits self.old h → (next : Journal) × DidAlone self.old self.new h next
             × ((console : SinkState) → HostTellsOn self.old self.new h next (So.state job.old) (So.state job.new) console console) }
@@ -267,6 +283,8 @@ impl Host {
         port.raise(byte);
         self.line.due = None;
         self.asking = self.asking.raised(byte);
+        self.held = is_held_after(byte, self.held);
+        self.counts.pause_at = pause_after(byte, self.counts.pause_at);
     }
 
     /// A poll found no reply. Where so many have, the machine is resumed. Answers whether it is.
@@ -284,6 +302,8 @@ impl Host {
         }
         self.polls = 0;
         port.raise(RESUME);
+        self.held = false;
+        self.counts.pause_at = 0;
         true
     }
 
@@ -320,7 +340,38 @@ impl Host {
         self.shut = true;
     }
 
-    /// Whether the job may be read on.
+    /// Whether the banner is awaited: none was got, and the board may still tell it.
+    fn awaits_banner(&self) -> bool
+        ensures { (h : Journal) → HostFits self.now h → (result ≡ false) ↔ IsGreeted h }
+    {
+        !self.greeted && self.polls < HELD_POLLS
+    }
+
+    /// Whether the machine may be held: a `!` was raised and no `~` since, or a line that has no answer asks for a pause, and
+    /// no `~` was raised since it was scanned.
+    fn may_be_held(&self) -> bool
+        ensures { (h : Journal) → HostFits self.now h → result ≡ may_be_held h }
+    {
+        self.held || self.counts.answered < self.counts.pause_at
+    }
+
+    /// Whether nothing is awaited, or only the answers of a machine that seems held.
+    fn is_settled(&self) -> bool
+        ensures { (h : Journal) → HostFits self.now h → (result ≡ true) ↔ IsSettled h }
+    {
+        if self.awaits_banner() {
+            return false;
+        }
+        if self.asking == Asking::Awaits {
+            return false;
+        }
+        if self.counts.answered == self.counts.lines {
+            return true;
+        }
+        self.may_be_held() && self.polls >= HELD_POLLS
+    }
+
+    /// Whether the piece and the line in hand let the job be read on.
     fn may_read(&self) -> bool
         ensures may { result ≡ true → MayReadOn self.now }
         ensures may_not { result ≡ false → MayReadOn self.now → ⊥ }
@@ -332,32 +383,8 @@ impl Host {
             && matches!(self.job.reading, Reading::Stopped)
     }
 
-    /// Whether all that was got is written, or a write has failed.
-    fn has_written(&self) -> bool
-        ensures { (h : Journal) → HostFits self.now h → (result ≡ true) ↔ HasWritten h }
-    {
-        if self.text.failed() {
-            return true;
-        }
-        !self.text.has_text()
-    }
-
-    /// Whether the next turn reads the job, unless it finds a reply or resumes the machine. Any other turn waits for
-    /// nobody.
-    pub fn reads_next(&self) -> bool
-        ensures { (h : Journal) → HostFits self.now h → (result ≡ true) ↔ MayRead h }
-    {
-        if self.shut {
-            return false;
-        }
-        if !self.has_written() {
-            return false;
-        }
-        self.may_read()
-    }
-
-    /// Takes one step of sending: raises a byte, stores one, scans, reads, or closes the link. Where it may do none, a
-    /// reply is waited for.
+    /// Takes one step of sending: raises a byte, stores one, scans, reads once nothing is awaited, or closes the link. Where
+    /// it may do none, a reply is waited for.
     fn send<P: HostPort, So: Source>(&mut self, port: &mut P, job: &mut So) -> Turn
         requires shown { HasShown self.old.text }
         requires stands { (rest : P.Rest) × (h : Journal) × P.stands port.old rest (port_log h) × HostFits self.old h × HasPolled h }
@@ -388,6 +415,9 @@ impl Host {
             return Turn::Did;
         }
         if self.may_read() {
+            if !self.is_settled() {
+                return Turn::Wait(On::Answer);
+            }
             self.read(job);
             return Turn::Did;
         }
@@ -457,6 +487,12 @@ impl Host {
     /// allow nothing else, it answers `Wait(Answer)`. It is done once Bye was got and all text is written or the
     /// console has failed; from then on nothing changes.
     ///
+    /// A read may wait for whoever writes the job, and what the board gives meanwhile is not shown. So the job is read on
+    /// only once each line that was sent has its answer and no report is awaited. Without a hold the board answers each
+    /// whole line sooner or later, so the host goes on. A machine that is held may answer nothing before it is resumed, and
+    /// the resume may be what is to be read next: where the machine may be held, the job is read on once 2,048 polls in a
+    /// row have found no reply. At the end of the job nothing is awaited before the link is closed.
+    ///
     /// The rules of the host are those of its journal: whatever it has done before, it goes on as they allow.
     pub fn turn<P: HostPort, So: Source, Co: Sink>(
         &mut self,
@@ -475,6 +511,27 @@ impl Host {
     }
 }
 
+/// Whether the machine may be held behind a realtime byte: a `!` holds it, a `~` resumes it.
+fn is_held_after(byte: u8, held: bool) -> bool
+    ensures { result ≡ held_after byte held }
+{
+    match byte {
+        HOLD => true,
+        RESUME => false,
+        _ => held,
+    }
+}
+
+/// The number of the last line that asks for a pause, behind a realtime byte: a `~` ends all pauses before it.
+fn pause_after(byte: u8, pause: u32) -> u32
+    ensures { result ≡ cond (nat_eq byte resume) 0 pause }
+{
+    match byte {
+        RESUME => 0,
+        _ => pause,
+    }
+}
+
 /// The line in hand is over, and is to be stored.
 fn finish_line(line: &mut SentLine, counts: &mut Counts)
     requires room { HasRoom counts.old }
@@ -483,7 +540,9 @@ fn finish_line(line: &mut SentLine, counts: &mut Counts)
     ensures counts { (raw : List ℕ) (cuts : List (List ℕ)) (got : List Reply) → HasLine line.old raw → KeepsCounts counts.old cuts got → answers_in got ≤ length cuts
         → KeepsCounts counts.new (cuts ++ raw ∷ []) got }
     ensures due { line.new.due ≡ line.old.due }
+    ensures pause { (raw : List ℕ) → HasLine line.old raw → counts.new.pause_at ≡ cond (pauses raw) (counts.old.lines + 1) counts.old.pause_at }
 {
+    let pauses = has_pause(line.kept.as_slice());
     let size = line.finish();
-    counts.add_line(size);
+    counts.add_line(size, pauses);
 }

@@ -14,7 +14,7 @@ ghost use Rattle.stream_host.specs.Steps.Step.{at_port};
 ghost use Rattle.stream_host.specs.Steps.PortStep.{raised};
 ghost use Rattle.code_table.specs.Tables.{query};
 ghost use Rattle.run_rules.specs.Reports.{AreReported};
-ghost use Rattle.stream_host.specs.Conduct.{Conducted, MayStore, Waits};
+ghost use Rattle.stream_host.specs.Conduct.{AwaitsSome, Conducted, MayStore, Waits};
 ghost use Rattle.outside.specs.Causes.{SourceState, SinkState};
 ghost use Rattle.stream_host.specs.declared.host.Host.{Host};
 ghost use Rattle.stream_host.specs.Hosts.{HostFits, HostRests, TellsJob, TellsText};
@@ -55,10 +55,10 @@ pub fn hosts_raise_what_they_scan()
     ensures rested { (h : Journal) → Conducted h → empty_polls * resumes_of h + polls_of h ≤ all_empty_in (port_log h) }
 {}
 
-/// A host whose link is open waits only where a line that it has sent has no answer, or where it has asked for a report
-/// and got none since: its rules always allow it one of its steps else.
+/// A host whose link is open waits only where it awaits something: the banner, the answer to a line that it has sent, or a
+/// report that it has asked for. Its rules always allow it one of its steps else.
 pub fn hosts_wait_for_answers()
-    ensures { (h : Journal) → Conducted h → Waits h → is_shut h ≡ false → (0 < length (drop (answered_of h) (begun_of h))) ⊎ (awaits_report h ≡ true) }
+    ensures { (h : Journal) → Conducted h → Waits h → is_shut h ≡ false → AwaitsSome h }
 {}
 
 /// A job in which no line ends the sending is sent whole. Lines come back from the link as what is kept of them. Behind the

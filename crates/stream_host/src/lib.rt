@@ -5,6 +5,7 @@ mod counts;
 mod host;
 mod laws;
 mod line;
+mod pause;
 mod ports;
 mod reader;
 #[cfg(test)]

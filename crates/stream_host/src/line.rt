@@ -32,14 +32,14 @@ pub(crate) struct SentLine {
     pub(crate) place: usize,
 }
 
-/// Whether a line has asked for a report, and whether one was got since.
+/// Whether a line has asked for a report, and whether one was got since it last did.
 #[derive(Clone, Copy, Debug, PartialEq, Eq)]
 pub(crate) enum Asking {
     /// It has not asked for one.
     Nothing,
     /// It has, and none was got since.
     Awaits,
-    /// It has, and one was got.
+    /// It has, and one was got since.
     HasOne,
 }
 
@@ -55,8 +55,8 @@ impl Asking {
     pub(crate) fn raised(self, byte: u8) -> Asking
         ensures { result ≡ cond (nat_eq byte query) (asked_more self) self }
     {
-        match self {
-            Asking::Nothing if byte == b'?' => Asking::Awaits,
+        match byte {
+            b'?' => Asking::Awaits,
             _ => self,
         }
     }

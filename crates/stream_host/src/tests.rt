@@ -3,6 +3,7 @@
 ghost use Rattle.std.specs.Prelude.{◌≡◌, ◌+◌, ◌≤◌, []};
 
 use super::*;
+use crate::pause::has_pause;
 use code_table::realtime_rows;
 use outside::{MemSink, MemSource, On, Sink, Turn};
 use overrides::Overrides;
@@ -407,6 +408,52 @@ fn machines_are_resumed(rt: HostRuntime) -> Result<(), Fail> {
     for (turns, taken) in [(4096, ""), (1, "~"), (4095, "~"), (1, "~~")] {
         line.run(Turn::Done, turns, &mut job, &mut console);
         assert!(rt; line.board.taken.held() == taken.as_bytes(), "{taken}");
+    }
+    Ok(())
+}
+
+/// A job is read on once nothing is awaited. Where the machine may be held, 2,048 polls that find no reply are enough. The
+/// 2,048th behind the banner comes in turn 2,049; the next turn scans what is read then, and the one behind it raises or
+/// stores its first byte.
+#[test]
+fn jobs_are_read_on_once_all_is_answered(rt: HostRuntime) -> Result<(), Fail> {
+    let never = u32::MAX;
+    // the job, the size of its pieces, the polls before each reply, how many turns are taken, and what the board has then
+    let rows: [(&[u8], usize, u32, u32, &[u8]); 13] = [
+        (b"G0\nG1\n", 3, 10, 100, b"G0\nG1\n"),
+        (b"G0\nG1\n", 3, never, 4000, b"G0\n"),
+        (b"G0\nG1\n", 3, never, 6000, b"G0\n~"),
+        (b"!\n~\n", 2, never, 2050, b"!\n"),
+        (b"!\n~\n", 2, never, 2051, b"!\n~"),
+        (b"M0\nG1\n", 3, never, 2050, b"M0\n"),
+        (b"M0\nG1\n", 3, never, 2051, b"M0\nG"),
+        (b"M03\nG1\n", 4, never, 4000, b"M03\n"),
+        (b"M0\nM3\nG1\n", 6, 10, 100, b"M0\nM3\nG1\n"),
+        (b"!~\nG1\n", 3, never, 4000, b"!~\n"),
+        (b"?~\n", 1, never, 4000, b"?"),
+        (b"!?~\n", 2, never, 4000, b"!?"),
+        (b"M0\n~\nG1\n", 3, never, 4000, b"M0\n~\n"),
+    ];
+    for (i, (bytes, piece, pause, turns, taken)) in rows.iter().enumerate() {
+        let mut job = MemSource::new(bytes, (*piece).max(1), &[]);
+        let mut console = MemSink::new(rt.alloc(), 400, &[])?;
+        let mut line = Line::new(MemSink::new(rt.alloc(), 400, &[])?, false, *pause);
+        line.run(Turn::Done, *turns, &mut job, &mut console);
+        assert!(rt; line.board.taken.held() == *taken, "row {i}");
+    }
+    Ok(())
+}
+
+/// The number 0 is a pause behind an `M` alone, and with no other digit.
+#[test]
+fn pauses_are_found(rt: HostRuntime) -> Result<(), Fail> {
+    for text in ["M0", "M00", "M000X1", "M0.", "G0X0M0", "M30M0", "M3M0F0"] {
+        assert!(rt; has_pause(text.as_bytes()), "{text}");
+    }
+    for text in [
+        "", "M", "0", "M03", "M30", "M003", "M1", "X0M", "MM3", "MX0",
+    ] {
+        assert!(rt; !has_pause(text.as_bytes()), "{text}");
     }
     Ok(())
 }

@@ -1,5 +1,6 @@
-//! The generated job, run in lockstep, and the line on it.
+//! The generated job, run in lockstep, and the line on it; a job in threads and in lockstep.
 
+use crate::realtime::WORDS;
 use crate::runs::without_heads;
 use grbl_app::{Status, run_grbl};
 use outside::{MemSink, MemSource, OpenGate};
@@ -77,18 +78,17 @@ fn wrong_numbers_are_usage(rt: HostRuntime) {
 }
 
 #[test]
-fn every_seed_gives_the_same_texts(rt: HostRuntime) {
+fn threads_and_every_seed_give_the_same_texts(rt: HostRuntime) {
     let alloc = rt.alloc();
     let job = b"G21G90\nM3S1000\nG1X0.1F500\nY0.1\nM5\nG0X0Y0\n";
-    for seed in ["0", "1", "7", "18446744073709551615"] {
+    for words in WORDS {
         let mut source = MemSource::new(job, 5, &[]);
         let mut console = MemSink::new(alloc, 100, &[]).expect(&rt, "memory");
         let mut steps = MemSink::new(alloc, 10_000, &[]).expect(&rt, "memory");
-        let words = ["stream", "--lockstep", seed];
         let status = run_grbl(
             &rt,
             alloc,
-            &words,
+            words,
             &mut source,
             &mut console,
             &mut steps,

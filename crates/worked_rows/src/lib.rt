@@ -8,7 +8,11 @@ mod dialect;
 #[cfg(test)]
 mod faults;
 #[cfg(test)]
+mod gates;
+#[cfg(test)]
 mod heads;
+#[cfg(test)]
+mod hostile;
 #[cfg(test)]
 mod offsets;
 #[cfg(test)]

@@ -59,19 +59,24 @@ fn offsets_by_themselves_move_nothing(rt: HostRuntime) {
 
 #[test]
 fn changed_steps_per_mm_move_with_the_next_line_of_motion(rt: HostRuntime) {
+    // The dwell makes sure that the machine stands where it is set.
     let rows: [(&[u8], &[u8], &[u8]); 3] = [
-        (b"G0X0.004\n$100=500", b"ok\r\nok\r\n", b"X+\nE\n"),
+        (
+            b"G0X0.004\nG4P0\n$100=500",
+            b"ok\r\nok\r\nok\r\n",
+            b"X+\nD 0\nE\n",
+        ),
         // 0.004 mm are two steps now, and one is made.
         (
-            b"G0X0.004\n$100=500\nG4P0\nX0.004",
+            b"G0X0.004\nG4P0\n$100=500\nX0.004",
             b"ok\r\nok\r\nok\r\nok\r\n",
             b"X+\nD 0\nX+\nE\n",
         ),
         // An axis that the line doesn't name keeps its point, which is at two steps now.
         (
-            b"G0X0.004\n$100=500\nY0.004",
-            b"ok\r\nok\r\nok\r\n",
-            b"X+\nX+Y+\nE\n",
+            b"G0X0.004\nG4P0\n$100=500\nY0.004",
+            b"ok\r\nok\r\nok\r\nok\r\n",
+            b"X+\nD 0\nX+Y+\nE\n",
         ),
     ];
     expect_done(&rt, rt.alloc(), &rows);

@@ -7,30 +7,30 @@ use Rattle.grbl_app.specs.Ends.{HasRun}
 use Rattle.grbl_app.proofs.Demos.{demo_causes, has_begun}
 use Rattle.grbl_app.proofs.run_grbl.Goals as goal
 
-pub returns-in-Stream-clause-complete : goal.returns-in-Stream-clause-complete
-returns-in-Stream-clause-complete g c = λ seed asks words job source console steps. inl (c.stream.ensures.causes.complete job source console steps)
+pub returns-in-Ok-stream-clause-complete : goal.returns-in-Ok-stream-clause-complete
+returns-in-Ok-stream-clause-complete g c = λ seed asks words job source console steps. inl (c.in-Ok-stream.ensures.causes.complete job source console steps)
 
-pub returns-clause-usage : goal.returns-clause-usage
-returns-clause-usage g c = λ e. absurd (subst HasRun e (demo_causes _ _ _ _ _ _ c.run_demo.ensures).has_run)
+pub returns-in-Ok-run_demo-clause-usage : goal.returns-in-Ok-run_demo-clause-usage
+returns-in-Ok-run_demo-clause-usage g c = λ e. absurd (subst HasRun e (demo_causes _ _ _ _ _ _ c.in-Ok-run_demo.ensures.run).has_run)
 
-pub returns-clause-untouched : goal.returns-clause-untouched
-returns-clause-untouched g c = λ none. has_begun c.run_demo.result (demo_causes _ _ _ _ _ _ c.run_demo.ensures).has_run none
+pub returns-in-Ok-run_demo-clause-untouched : goal.returns-in-Ok-run_demo-clause-untouched
+returns-in-Ok-run_demo-clause-untouched g c = λ none. has_begun c.in-Ok-run_demo.status (demo_causes _ _ _ _ _ _ c.in-Ok-run_demo.ensures.run).has_run none
 
-pub returns-clause-console_fault : goal.returns-clause-console_fault
-returns-clause-console_fault g c = (demo_causes _ _ _ _ _ _ c.run_demo.ensures).console
+pub returns-in-Ok-run_demo-clause-console_fault : goal.returns-in-Ok-run_demo-clause-console_fault
+returns-in-Ok-run_demo-clause-console_fault g c = (demo_causes _ _ _ _ _ _ c.in-Ok-run_demo.ensures.run).console
 
-pub returns-clause-steps_fault : goal.returns-clause-steps_fault
-returns-clause-steps_fault g c = (demo_causes _ _ _ _ _ _ c.run_demo.ensures).steps
+pub returns-in-Ok-run_demo-clause-steps_fault : goal.returns-in-Ok-run_demo-clause-steps_fault
+returns-in-Ok-run_demo-clause-steps_fault g c = (demo_causes _ _ _ _ _ _ c.in-Ok-run_demo.ensures.run).steps
 
-pub returns-clause-faultless : goal.returns-clause-faultless
-returns-clause-faultless g c = λ whole. let all = (demo_causes _ _ _ _ _ _ c.run_demo.ensures).faultless whole in record { source = refl; console = all.0; steps = all.1 }
+pub returns-in-Ok-run_demo-clause-faultless : goal.returns-in-Ok-run_demo-clause-faultless
+returns-in-Ok-run_demo-clause-faultless g c = λ whole. let all = (demo_causes _ _ _ _ _ _ c.in-Ok-run_demo.ensures.run).faultless whole in record { source = refl; console = all.0; steps = all.1 }
 
-pub returns-clause-demo : goal.returns-clause-demo
-returns-clause-demo g c = λ n asks run.
+pub returns-in-Ok-run_demo-clause-demo : goal.returns-in-Ok-run_demo-clause-demo
+returns-in-Ok-run_demo-clause-demo g c = λ n asks run.
     let words = map (λ w. w.now) c.args.words.now in
     let its : Asks (tasks.Demo c.in-Demo.moves) words = subst (λ task. Asks task words) c.in-Demo.is c.in-Ok.ensures.asked in
     let same : c.in-Demo.moves ≡ n = same_moves words c.in-Demo.moves n its asks in (
       subst (λ moves. IsDemo moves (g.Co.Sink.state c.args.console.now) (g.Co.Sink.state c.run_demo.new.console) (g.St.Sink.state c.args.steps.now)
-          (g.St.Sink.state c.run_demo.new.steps) c.run_demo.result) same c.run_demo.ensures,
+          (g.St.Sink.state c.run_demo.new.steps) c.in-Ok-run_demo.status) same c.in-Ok-run_demo.ensures.run,
       refl,
     )

@@ -1,7 +1,7 @@
 //! Whole jobs, by a schedule and in lockstep, and a host alone.
 
 use super::*;
-use crate::{run_lockstep, run_patiently, run_schedule};
+use crate::{run_lockstep, run_schedule};
 use outside::{MemSink, MemSource, On};
 use std::test::Fail;
 use stream_host::Stop;
@@ -110,8 +110,25 @@ fn jobs_are_done_in_lockstep(rt: HostRuntime) -> Result<(), Fail> {
     Ok(())
 }
 
-/// Nobody resumes the machine but the host by itself. The order in which the host reads is one in which a machine that
-/// waits for a resume has the job read on.
+/// A line of two `?` has one report, or two where the board takes the first before the host raises the second.
+#[test]
+fn line_of_two_queries_has_one_report_or_two(rt: HostRuntime) -> Result<(), Fail> {
+    let (mut least, mut most) = (9, 0);
+    for seed in 0..8 {
+        let mut job = MemSource::new(b"\n??\n\n", 7, &[]);
+        let mut console = MemSink::new(rt.alloc(), 400, &[])?;
+        let mut steps = MemSink::new(rt.alloc(), 400, &[])?;
+        let mut world = World::new(rt.alloc())?;
+        run_lockstep(&rt, &mut world, seed, &mut job, &mut console, &mut steps);
+        let reports = console.held().iter().filter(|b| **b == b'<').count();
+        least = least.min(reports);
+        most = most.max(reports);
+    }
+    assert_eq!(rt; (least, most), (1, 2));
+    Ok(())
+}
+
+/// Nobody resumes the machine but the host by itself.
 #[test]
 fn held_machines_are_resumed(rt: HostRuntime) -> Result<(), Fail> {
     let rows = [
@@ -119,26 +136,21 @@ fn held_machines_are_resumed(rt: HostRuntime) -> Result<(), Fail> {
         ("!G0X0.004\n\n", "s 1 1 0 320000\nX+\nE\n"),
         ("M0\n~G0X0.004\n", "s 2 1 0 320000\nX+\nE\n"),
     ];
-    for patient in [false, true] {
-        for (i, (text, records)) in rows.iter().enumerate() {
-            let mut job = MemSource::new(text.as_bytes(), 3, &[]);
-            let mut console = MemSink::new(rt.alloc(), 400, &[])?;
-            let mut steps = MemSink::new(rt.alloc(), 400, &[])?;
-            let mut world = World::new(rt.alloc())?;
-            if patient {
-                run_patiently(&rt, &mut world, &mut job, &mut console, &mut steps);
-            } else {
-                run_lockstep(&rt, &mut world, 0, &mut job, &mut console, &mut steps);
-            }
-            assert!(rt; steps.held() == records.as_bytes(), "row {i}");
-            assert_eq!(rt; world.end().answered, 2, "row {i}");
-            assert_eq!(rt; world.end().errors, 0, "row {i}");
-        }
+    for (i, (text, records)) in rows.iter().enumerate() {
+        let mut job = MemSource::new(text.as_bytes(), 3, &[]);
+        let mut console = MemSink::new(rt.alloc(), 400, &[])?;
+        let mut steps = MemSink::new(rt.alloc(), 400, &[])?;
+        let mut world = World::new(rt.alloc())?;
+        run_lockstep(&rt, &mut world, 0, &mut job, &mut console, &mut steps);
+        assert!(rt; steps.held() == records.as_bytes(), "row {i}");
+        assert_eq!(rt; world.end().answered, 2, "row {i}");
+        assert_eq!(rt; world.end().errors, 0, "row {i}");
     }
     Ok(())
 }
 
-/// Ten lines of twelve bytes stand on the link, and no eleventh.
+/// A host that nobody tells anything reads on after 2,048 polls. Then ten lines of twelve bytes stand on the link, and no
+/// eleventh.
 #[test]
 fn host_alone_sends_ten_of_forty_lines(rt: HostRuntime) -> Result<(), Fail> {
     let mut text = Vec::new(rt.alloc());
@@ -149,7 +161,7 @@ fn host_alone_sends_ten_of_forty_lines(rt: HostRuntime) -> Result<(), Fail> {
     let mut console = MemSink::new(rt.alloc(), 400, &[])?;
     let mut steps = MemSink::new(rt.alloc(), 400, &[])?;
     let mut world = World::new(rt.alloc())?;
-    let hosts = [Actor::Host; 400];
+    let hosts = [Actor::Host; 2_400];
     run_schedule(&mut world, &hosts, &mut job, &mut console, &mut steps);
     assert_eq!(rt; world.lists.bytes.len(), 120);
     let last = world.turn(Actor::Host, &mut job, &mut console, &mut steps);

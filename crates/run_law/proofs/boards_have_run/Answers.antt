@@ -1,36 +1,24 @@
-use Rattle.run_law.proofs.Boarding.{Kept, board_ran, board_runs}
+use Rattle.run_rules.specs.States.{IsOpening}
+use Rattle.board_rules.specs.Ports.{has_held_in, has_changed_in, has_reset_in, reports_in}
+use Rattle.board_rules.specs.Breaking.{Doings, HasEnded, IsConducted, log_of, taken_of, has_closed, answered_of, published_of}
+use Rattle.board_rules.proofs.Breaking.{planned_none}
+use Rattle.run_law.specs.Ran.{BoardRan}
+use Rattle.run_law.specs.SoFar.{BoardRuns}
+use Rattle.run_law.proofs.Boarding.{keeps, board_ran, board_runs, broken_ran, broken_runs, by_doings}
 use Rattle.run_law.proofs.boards_have_run.Goals as goal
 
 pub returns-clause-whole : goal.returns-clause-whole
-returns-clause-whole c = λ first h opening conducted finished.
-    let kept : Kept first h = record {
-      bytes = c.boards_keep_to_their_lines.ensures.bytes first h conducted;
-      follow = c.boards_keep_to_their_lines.ensures.follow first h conducted;
-      told = c.boards_keep_to_their_lines.ensures.told first h conducted;
-      bye = c.boards_keep_to_their_lines.ensures.bye first h conducted;
-      asked = c.boards_keep_to_their_lines.ensures.asked first h conducted;
-      run = c.boards_run_their_plan.ensures.run first h conducted;
-      disturbed = c.boards_run_their_plan.ensures.disturbed first h conducted;
-      hand = c.boards_run_their_plan.ensures.hand first h conducted;
-      end = c.boards_run_their_plan.ensures.end first h conducted;
-      fits = c.boards_report_where_they_are.ensures.fits first h conducted;
-      few = c.boards_report_where_they_are.ensures.few first h conducted;
-    } in
-    board_ran first h opening kept finished (c.boards_end_well.ensures first h conducted finished)
+returns-clause-whole c = λ first.
+    by_doings (λ (d : Doings). IsOpening first → IsConducted first d → HasEnded d
+    → BoardRan (taken_of d) (has_closed d) (has_held_in (log_of d)) (has_changed_in (log_of d)) (has_reset_in (log_of d)) (reports_in (log_of d)) (answered_of d) (published_of d))
+    (λ h opening conducted ended. board_ran first h opening (keeps first h conducted) ended (c.boards_end_well.ensures first h conducted ended))
+    (λ since before opening conducted ended. broken_ran first since before
+    (record { opening = opening; kept = keeps first before conducted.0; none = planned_none first before conducted.0; broke_off = conducted.1; ends = conducted.2 }) ended)
 
 pub returns-clause-so_far : goal.returns-clause-so_far
-returns-clause-so_far c = λ first h opening conducted.
-    board_runs first h opening
-    (record {
-      bytes = c.boards_keep_to_their_lines.ensures.bytes first h conducted;
-      follow = c.boards_keep_to_their_lines.ensures.follow first h conducted;
-      told = c.boards_keep_to_their_lines.ensures.told first h conducted;
-      bye = c.boards_keep_to_their_lines.ensures.bye first h conducted;
-      asked = c.boards_keep_to_their_lines.ensures.asked first h conducted;
-      run = c.boards_run_their_plan.ensures.run first h conducted;
-      disturbed = c.boards_run_their_plan.ensures.disturbed first h conducted;
-      hand = c.boards_run_their_plan.ensures.hand first h conducted;
-      end = c.boards_run_their_plan.ensures.end first h conducted;
-      fits = c.boards_report_where_they_are.ensures.fits first h conducted;
-      few = c.boards_report_where_they_are.ensures.few first h conducted;
-    })
+returns-clause-so_far c = λ first.
+    by_doings (λ (d : Doings). IsOpening first → IsConducted first d
+    → BoardRuns (taken_of d) (has_held_in (log_of d)) (has_changed_in (log_of d)) (has_reset_in (log_of d)) (reports_in (log_of d)) (answered_of d) (published_of d))
+    (λ h opening conducted. board_runs first h opening (keeps first h conducted))
+    (λ since before opening conducted. broken_runs first since before
+    (record { opening = opening; kept = keeps first before conducted.0; none = planned_none first before conducted.0; broke_off = conducted.1; ends = conducted.2 }))

@@ -1,4 +1,4 @@
-use Rattle.run_law.proofs.Taking.{taken_were_raised}
+use Rattle.run_law.proofs.Resetting.{taken_were_raised}
 use Rattle.run_law.proofs.flags_that_are_taken_were_raised.Goals as goal
 
 pub returns : goal.returns

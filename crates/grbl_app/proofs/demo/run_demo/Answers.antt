@@ -4,7 +4,6 @@ use Rattle.std.specs.Result.{is_ok, is_err}
 use Rattle.std.proofs.Common.{List, ℕ}
 use Rattle.outside.specs.Writing.{Took}
 use Rattle.run_law.specs.Runs.{IsRun}
-use Rattle.run_core.specs.Worlds.{devices, no_history}
 use Rattle.grbl_app.specs.Demos.{generated, keeps_nothing}
 use Rattle.grbl_app.proofs.Accepted.{runs_whole}
 use Rattle.grbl_app.proofs.Demos.{well_ended, told_whole}
@@ -14,16 +13,14 @@ errs : {A B : Type 0} (r : Result A B) → is_err r ≡ not (is_ok r)
 errs (Ok x) = refl
 errs (Err e) = refl
 
-pub returns : goal.returns
-returns g c =
-    let was = devices (generated c.new-job.result) keeps_nothing (g.St.Sink.state c.args.steps.now) in
-    let done = c.run_lockstep.ensures.goes_on.runs.on was no_history (c.requires.fresh was) in
-    let ran = c.end-end.ensures.whole was _ done.0 done.1 c.run_lockstep.ensures.done in
-    let end = c.end-end.result in
-    let left = c.run_lockstep.new.job in
+pub returns-clause-run : goal.returns-clause-run
+returns-clause-run g c =
+    let ran = c.in_ok-end.ensures.run in
+    let end = c.in_ok-end.end in
+    let left = c.run_in_lockstep.new.job in
     let run = subst (λ (text : List ℕ). IsRun (generated text) (generated left)
     (record { console = keeps_nothing; steps = g.St.Sink.state c.args.steps.now })
-    (record { console = keeps_nothing; steps = g.St.Sink.state c.run_lockstep.new.steps }) end) c.new-job.ensures ran in
+    (record { console = keeps_nothing; steps = g.St.Sink.state c.run_in_lockstep.new.steps }) end) c.new-job.ensures ran in
     let whole = runs_whole c.args.moves left _ _ end c.requires.moves.0 c.requires.moves.1 run in
     let ok : c.saturating_sub.result ≡ c.args.moves + 3 = omega (arith, c.saturating_sub.ensures, whole.answered, whole.errors) in
     let told = told_whole c.args.moves c.saturating_sub.result end.errors ok whole.errors in

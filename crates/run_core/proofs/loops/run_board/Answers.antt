@@ -2,10 +2,11 @@ use Rattle.std.proofs.Common.{[], refl}
 use Rattle.serial_ring.specs.Ends.{link_of_board}
 use Rattle.realtime_flags.specs.Ends.{taken_in}
 use Rattle.motion_ring.specs.Ends.{ring_of_out}
+use Rattle.board_rules.specs.Breaking.Doings.{goes}
 use Rattle.run_core.proofs.loops.run_board.Goals as goal
 
 pub loop-init : goal.loop-init
-loop-init g c = record { journal = []; link = refl; flags = refl; pieces = refl; did = c.requires.did; fits = c.requires.fits; between = refl }
+loop-init g c = record { journal = goes []; link = refl; flags = refl; pieces = refl; did = c.requires.did; fits = c.requires.fits; between = refl }
 
 pub turn-requires : goal.turn-requires
 turn-requires g c =

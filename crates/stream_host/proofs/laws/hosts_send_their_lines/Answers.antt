@@ -1,4 +1,5 @@
 use Rattle.stream_host.proofs.Keeping.{stored_is}
+use Rattle.stream_host.proofs.Keeping.{shut_is}
 use Rattle.stream_host.proofs.Sending.{sent_so_far, sent_all, all_stored}
 use Rattle.stream_host.proofs.laws.hosts_send_their_lines.Goals as goal
 
@@ -9,4 +10,4 @@ pub returns-clause-so_far : goal.returns-clause-so_far
 returns-clause-so_far c = sent_so_far
 
 pub returns-clause-whole : goal.returns-clause-whole
-returns-clause-whole c = λ h conducted closed. (sent_all h conducted closed, all_stored h conducted closed)
+returns-clause-whole c = λ h conducted closed. (let all = shut_is h conducted closed in (sent_all h conducted all, all_stored h conducted all))

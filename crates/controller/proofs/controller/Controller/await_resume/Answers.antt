@@ -1,9 +1,8 @@
-use Rattle.std.proofs.Common.{◌≡◌, ◌∷◌, true, false, Bool, refl, sym, ap, ◌∙◌, subst}
+use Rattle.std.proofs.Common.{sym, ap, ◌∙◌, subst}
 use Rattle.board_rules.specs.Steps.{Journal, port_log}
-use Rattle.board_rules.specs.Turns.{owes_report}
 use Rattle.controller.specs.declared.controller.Controller.{Controller}
 use Rattle.controller.specs.Boards.{Keeps}
-use Rattle.controller.specs.Turning.{asked, obeyed, flags_behind}
+use Rattle.controller.specs.Turning.{obeyed, flags_behind}
 use Rattle.controller.proofs.Ends.{free_of}
 use Rattle.controller.proofs.Halting.{taken, did_ask, did_resume, waits_for_resume}
 use Rattle.controller.proofs.Words.{asked_owed, asked_free, asked_owes}

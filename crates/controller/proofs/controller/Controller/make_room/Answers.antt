@@ -1,6 +1,6 @@
-use Rattle.std.proofs.Common.{◌∷◌, inl, inr, refl, arith}
+use Rattle.std.proofs.Common.{◌∷◌, inr, refl}
 use Rattle.board_rules.specs.Ports.PortStep.{loaded}
-use Rattle.board_rules.specs.Steps.{port_log, published_of}
+use Rattle.board_rules.specs.Steps.{port_log}
 use Rattle.board_rules.specs.Steps.Step.{at_port}
 use Rattle.controller.proofs.Steps.{looked, other_flight}
 use Rattle.controller.proofs.Flying.{learned}

@@ -1,6 +1,5 @@
-use Rattle.std.proofs.Common.{◌≡◌, [], ◌∷◌, Some, refl, sym, ap, ◌∙◌, subst}
-use Rattle.step_line.specs.declared.Piece.{Piece}
-use Rattle.board_rules.specs.Steps.{Journal, port_log, published_of, hand_of, plan_of, motion_of, given_of}
+use Rattle.std.proofs.Common.{◌∷◌, refl, ap, ◌∙◌, subst}
+use Rattle.board_rules.specs.Steps.{port_log, published_of, plan_of, motion_of, given_of}
 use Rattle.board_rules.specs.Ports.PortStep.{published, no_piece_room}
 use Rattle.board_rules.specs.Steps.Step.{at_port}
 use Rattle.controller.specs.Machines.{Runs}

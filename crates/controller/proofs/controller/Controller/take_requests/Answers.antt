@@ -1,13 +1,11 @@
-use Rattle.std.proofs.Common.{◌≡◌, ◌∷◌, ◌||◌, [], Some, sym, ap, ◌∙◌, subst}
-use Rattle.code_table.specs.declared.flags.Exec.{Exec}
-use Rattle.board_rules.specs.Ports.{asks_report}
+use Rattle.std.proofs.Common.{◌≡◌, ◌||◌, Some, sym, ap, ◌∙◌, subst}
+use Rattle.board_rules.specs.Ports.{asks_report, asks_reset}
 use Rattle.board_rules.specs.Steps.{Journal, port_log, hand_of, given_of, plan_of, motion_of}
 use Rattle.board_rules.specs.Turns.{owes_report}
 use Rattle.board_rules.specs.Conduct.{MayTakeRequests}
-use Rattle.controller.specs.declared.controller.Controller.{Controller}
 use Rattle.controller.specs.declared.controller.Flags.TheVariants as words
 use Rattle.controller.specs.Boards.{Keeps}
-use Rattle.controller.specs.Turning.{asked, obeyed, flags_behind}
+use Rattle.controller.specs.Turning.{flags_behind}
 use Rattle.controller.proofs.Steps.{takes_word, obeys, other_flags}
 use Rattle.controller.proofs.Halting.{taken}
 use Rattle.controller.proofs.Words.{asked_owed, asked_free, obeys_at_once}
@@ -20,14 +18,15 @@ returns-then-self-clause-goes_on g c = λ rest h stands k none.
     let word = c.take_exec-word.result in
     let may : MayTakeRequests word j = record { obeyed = n.3.passes.words ∙ none; few = λ e. c.take_exec-word.ensures.few e rest (port_log j) n.1 } in
     let owes_is = ap (λ b. b || c.settle.new.self.owes) c.asks_report.ensures ∙ ap (λ b. asks_report word || b) n.2.owes_is in
+    let reset_is = ap (λ b. b || c.settle.new.self.reset) c.asks_reset.ensures ∙ ap (λ b. asks_reset word || b) n.2.reset_is in
     let owed : owes_report (taken word j) ≡ _ = sym owes_is ∙ c.if-self.true in
     let is = asked_owed word j owed in
-    let board = record c.settle.new.self { owes = c.asks_report.result || c.settle.new.self.owes } in (
+    let board = record c.settle.new.self { reset = c.asks_reset.result || c.settle.new.self.reset; owes = c.asks_report.result || c.settle.new.self.owes } in (
       word,
       j,
       n.3,
       subst (λ (x : Journal). g.P.BoardPort.stands c.take_exec-word.new.self rest (port_log x)) (sym is) (c.take_exec-word.ensures.taken rest (port_log j) n.1),
-      subst (λ (x : Journal). Keeps (record board { flags = words.Report (Some word) }) x) (sym is) (other_flags board (words.Report (Some word)) (taken word j) (takes_word c.settle.new.self (c.asks_report.result || c.settle.new.self.owes) word j n.2 may owes_is)),
+      subst (λ (x : Journal). Keeps (record board { flags = words.Report (Some word) }) x) (sym is) (other_flags board (words.Report (Some word)) (taken word j) (takes_word c.settle.new.self (c.asks_report.result || c.settle.new.self.owes) (c.asks_reset.result || c.settle.new.self.reset) word j n.2 may owes_is reset_is)),
       sym (ap (λ b. flags_behind b word) owed),
     )
 
@@ -39,10 +38,11 @@ returns-clause-goes_on g c = λ rest h stands k none.
     let left = n.3.passes.words ∙ none in
     let may : MayTakeRequests word j = record { obeyed = left; few = λ e. c.take_exec-word.ensures.few e rest (port_log j) n.1 } in
     let owes_is = ap (λ b. b || c.settle.new.self.owes) c.asks_report.ensures ∙ ap (λ b. asks_report word || b) n.2.owes_is in
+    let reset_is = ap (λ b. b || c.settle.new.self.reset) c.asks_reset.ensures ∙ ap (λ b. asks_reset word || b) n.2.reset_is in
     let unowed : owes_report (taken word j) ≡ _ = sym owes_is ∙ c.if-self.false in
     let is = asked_free word j unowed in
-    let board = record c.settle.new.self { owes = c.asks_report.result || c.settle.new.self.owes; flags = words.None } in
-    let kept = other_flags (record c.settle.new.self { owes = c.asks_report.result || c.settle.new.self.owes }) words.None (taken word j) (takes_word c.settle.new.self (c.asks_report.result || c.settle.new.self.owes) word j n.2 may owes_is) in
+    let board = record c.settle.new.self { reset = c.asks_reset.result || c.settle.new.self.reset; owes = c.asks_report.result || c.settle.new.self.owes; flags = words.None } in
+    let kept = other_flags (record c.settle.new.self { reset = c.asks_reset.result || c.settle.new.self.reset; owes = c.asks_report.result || c.settle.new.self.owes }) words.None (taken word j) (takes_word c.settle.new.self (c.asks_report.result || c.settle.new.self.owes) (c.asks_reset.result || c.settle.new.self.reset) word j n.2 may owes_is reset_is) in
     let runs = c.obey.ensures (plan_of j) (motion_of j) (hand_of j) (given_of j) n.2.machine in (
       word,
       j,

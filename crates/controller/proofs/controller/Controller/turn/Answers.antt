@@ -1,31 +1,25 @@
-use Rattle.std.proofs.Common.{◌∷◌, refl, ap}
-use Rattle.outside.specs.declared.Turn.{Turn}
-use Rattle.board_rules.specs.Steps.Step.{turned}
-use Rattle.controller.specs.declared.controller.Flags.TheVariants as words
-use Rattle.controller.proofs.Ends.{flags_behind, turned_by, no_wait_keeps}
-use Rattle.controller.proofs.Numbers.{number_few}
+use Rattle.std.proofs.Common.{◌∙◌, sym}
+use Rattle.controller.proofs.Breaking.{over_goes_on, ended_goes_on, turned_goes_on, broken_goes_on, unbroken_goes_on}
 use Rattle.controller.proofs.controller.Controller.turn.Goals as goal
 
-pub returns-in-Wait-clause-goes_on : goal.returns-in-Wait-clause-goes_on
-returns-in-Wait-clause-goes_on g c = λ rest h stands f between.
-    let n = c.work-turn.ensures.goes_on rest h stands f between in
-    let t = c.work-turn.result in
-    let board = c.work-turn.new.self in
-    let r = turned_by t c.args.self.now board words.Both h n.0 (ap (λ (x : Turn). flags_behind x board.flags) c.in-Wait.is) n.2 in
-    (turned t ∷ n.0, n.1, r.0, refl, r.1)
+pub returns-then-is_over-clause-goes_on : goal.returns-then-is_over-clause-goes_on
+returns-then-is_over-clause-goes_on g c = λ rest d stands f between.
+    over_goes_on (g.P.BoardPort.stands c.args.port.now rest) c.args.self.now d stands f between (c.is_over.ensures.0 c.if-is_over.true)
 
-pub returns-in_default : goal.returns-in_default
-returns-in_default g c = record {
-  goes_on = λ rest h stands f between.
-      (let n = c.work-turn.ensures.goes_on rest h stands f between in
-      let t = c.work-turn.result in
-      let board = c.work-turn.new.self in
-      let r = turned_by t c.args.self.now board board.flags h n.0 (no_wait_keeps t board.flags c.in_default.not-Wait) n.2 in
-      (turned t ∷ n.0, n.1, r.0, refl, r.1));
-  done = c.work-turn.ensures.done;
-  still = c.work-turn.ensures.still;
-  few = number_few c.args.self.now;
-}
+pub returns-then-self-clause-goes_on : goal.returns-then-self-clause-goes_on
+returns-then-self-clause-goes_on g c = λ rest d stands f between.
+    ended_goes_on (g.P.BoardPort.stands c.args.port.now rest) (g.P.BoardPort.stands c.end_run.new.port rest) c.end_run.result c.args.self.now c.end_run.new.self d c.if-self.true
+    (λ rests. absurd (let e = sym c.if-is_over.false ∙ c.is_over.ensures.1 rests in cc)) stands f between
+    (λ since before at fits still. c.end_run.ensures.goes_on rest since before at fits still)
 
-pub returns-in-Wait-clause-few : goal.returns-in-Wait-clause-few
-returns-in-Wait-clause-few g c = number_few c.args.self.now
+pub returns-then-breaks_off-clause-goes_on : goal.returns-then-breaks_off-clause-goes_on
+returns-then-breaks_off-clause-goes_on g c = λ rest d stands f between.
+    unbroken_goes_on (g.P.BoardPort.stands c.args.port.now rest) (g.P.BoardPort.stands c.carry_on-turn.new.port rest) c.carry_on-turn.result c.args.self.now c.break_off.new.self d c.if-self.false stands f between
+    (λ h at fits still. (let n = c.carry_on-turn.ensures.goes_on rest h at fits still in
+    broken_goes_on (g.P.BoardPort.stands c.carry_on-turn.new.port rest) c.carry_on-turn.result c.args.self.now c.carry_on-turn.new.self c.break_off.new.self h n.0 n.1 n.4 (c.break_off.ensures.broken n.0 n.2 n.3) c.break_off.ensures.flags))
+
+pub returns-else-breaks_off-clause-goes_on : goal.returns-else-breaks_off-clause-goes_on
+returns-else-breaks_off-clause-goes_on g c = λ rest d stands f between.
+    unbroken_goes_on (g.P.BoardPort.stands c.args.port.now rest) (g.P.BoardPort.stands c.carry_on-turn.new.port rest) c.carry_on-turn.result c.args.self.now c.carry_on-turn.new.self d c.if-self.false stands f between
+    (λ h at fits still. (let n = c.carry_on-turn.ensures.goes_on rest h at fits still in
+    turned_goes_on (g.P.BoardPort.stands c.carry_on-turn.new.port rest) c.carry_on-turn.result c.args.self.now c.carry_on-turn.new.self h n.0 n.1 n.2 n.3 n.4 (c.breaks_off.ensures.no c.if-breaks_off.false)))

@@ -1,4 +1,4 @@
-use Rattle.std.proofs.Common.{◌≡◌, ℕ, ◌*◌, ◌/◌, rules, ap}
+use Rattle.std.proofs.Common.{rules}
 use Rattle.units.proofs.Places.{one_root}
 use Rattle.controller.proofs.machine.Machine.feed.Goals as goal
 

@@ -1,5 +1,4 @@
-use Rattle.std.proofs.Common.{◌≡◌, false, None, rules, sym, ◌∙◌}
-use Rattle.controller.proofs.Known.{none_by_test}
+use Rattle.std.proofs.Common.{rules}
 use Rattle.controller.proofs.Machining.{stopped, over}
 use Rattle.controller.proofs.machine.Machine.observe.Goals as goal
 

@@ -1,10 +1,10 @@
 use Rattle.std.proofs.Common.{sym}
-use Rattle.board_rules.specs.Steps.{port_log}
+use Rattle.board_rules.specs.Breaking.{log_of}
 use Rattle.run_core.proofs.Arms.{holds_on, turns_on, host_moves}
 use Rattle.run_core.proofs.world.World.turn_host.Goals as goal
 
 pub turn-requires : goal.turn-requires
-turn-requires g c = let i = c.self.invariant in record { stands = ((port_log i.0.board, i.0.pulse), i.0.host, i.1.joined, i.1.host, i.1.host_between) }
+turn-requires g c = let i = c.self.invariant in record { stands = ((log_of i.0.board, i.0.pulse), i.0.host, i.1.joined, i.1.host, i.1.host_between) }
 
 pub invariant_of-self : goal.invariant_of-self
 invariant_of-self g c = holds_on _ _ _ _ _ _ (host_moves _ _ _ _ _ _ _ _ (g.C.Sink.state c.args.console.now) c.turn.ensures.goes_on) c.self.invariant

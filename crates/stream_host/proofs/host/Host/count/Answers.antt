@@ -28,5 +28,12 @@ returns-in_default c = record {
   counts = λ h f lines.
       let n = is_no_answer c.args.reply.now c.in_default.not-Ok c.in_default.not-Error in
       counted_other c.args.self.now.counts c.args.reply.now (cut_of h) (got_of h) f.counts_are n.0 n.1;
+  pause = refl;
   same = refl;
 }
+
+pub returns-in-Ok-clause-pause : goal.returns-in-Ok-clause-pause
+returns-in-Ok-clause-pause c = ap (λ d. d.pause_at) c.add_answer.ensures.same
+
+pub returns-in-Error-clause-pause : goal.returns-in-Error-clause-pause
+returns-in-Error-clause-pause c = ap (λ d. d.pause_at) c.add_error.ensures.same

@@ -1,10 +1,11 @@
 use Rattle.std.proofs.Common.{◌≡◌, ◌≤◌, false, ◌∷◌, refl, sym, ◌∙◌}
 use Rattle.code_table.specs.Tables.{query}
 use Rattle.stream_host.specs.Steps.{awaits_report}
-use Rattle.stream_host.specs.Conduct.{AreAnswered}
+use Rattle.stream_host.specs.Conduct.{AreAnswered, IsSettled}
 use Rattle.stream_host.specs.Steps.PortStep.{stored, raised, shut}
 use Rattle.stream_host.specs.Steps.Step.{at_port}
 use Rattle.stream_host.proofs.Turns.{did_alone, did_at_port, few_stored_now, few_raised_now, few_shut_now, tells_stored, tells_raised, tells_shut, tells_same, waits_early, waits_held_back, waits_shut}
+use Rattle.stream_host.proofs.Settling.{waits_unsettled}
 use Rattle.stream_host.proofs.host.Host.send.Goals as goal
 
 pub returns-in-Some-clause-goes_on : goal.returns-in-Some-clause-goes_on
@@ -42,6 +43,11 @@ returns-then-self-2-clause-goes_on g c = λ rest h stands f polled.
 pub returns-then-may_scan-clause-goes_on : goal.returns-then-may_scan-clause-goes_on
 returns-then-may_scan-clause-goes_on g c = λ rest h stands f polled.
     let n = c.scan.ensures h f in (n.0, rw n.1.port stands, did_alone c.args.self.now _ h n.0 polled.quiet n.1, λ console. n.2 _ console)
+
+pub returns-then-not-is_settled-clause-goes_on : goal.returns-then-not-is_settled-clause-goes_on
+returns-then-not-is_settled-clause-goes_on g c = λ rest h stands f polled.
+    let busy : IsSettled h → ⊥ = (λ settled. absurd (let e = sym c.if-not-is_settled.true ∙ (c.is_settled.ensures h f).1 settled in cc)) in
+    (h, stands, waits_unsettled c.args.self.now h f polled c.requires.shown (c.may_read.ensures.may c.if-may_read.true) busy, λ console. tells_same c.args.self.now h _ console)
 
 pub returns-then-may_read-clause-goes_on : goal.returns-then-may_read-clause-goes_on
 returns-then-may_read-clause-goes_on g c = λ rest h stands f polled.

@@ -1,0 +1,126 @@
+-- A board whose run is ended by a reset: what it does from then on, and what it has done in all.
+use Rattle.std.specs.Prelude.{◌≡◌, ℕ, ◌≤◌, Bool, true, false, cond, List, [], ◌∷◌, ◌++◌}
+use Rattle.std.specs.List.{count_by, list_any}
+use Rattle.outside.specs.declared.On.{On}
+use Rattle.outside.specs.declared.On.TheVariants as on
+use Rattle.outside.specs.declared.Turn.{Turn}
+use Rattle.outside.specs.declared.Turn.TheVariants.{Did, Wait, Done}
+use Rattle.run_rules.specs.declared.State.{State}
+use Rattle.status_report.specs.declared.Reply.{Reply}
+use Rattle.status_report.specs.declared.Reply.TheVariants.{Bye}
+use Rattle.status_report.specs.Answering.{is_bye}
+use Rattle.step_line.specs.declared.Piece.{Piece}
+use Rattle.step_line.specs.declared.Piece.TheVariants as pieces
+use Rattle.board_rules.specs.Ports.{PortStep, PortLog, has_reset_in, LacksPieceRoom, taken_in, has_closed_in, answered_in, published_in, known_in}
+use Rattle.board_rules.specs.Ports.PortStep.{answered, no_reply_room, published, no_piece_room}
+use Rattle.board_rules.specs.Steps.{Step, Journal, port_log, published_of as published_then, answered_of as answered_then}
+use Rattle.board_rules.specs.Steps.Step.{at_port, turned}
+use Rattle.board_rules.specs.Turns.{this_turn, publishing, lacks_reply_room, lacks_piece_room}
+use Rattle.board_rules.specs.Conduct.{Conducted, IsFinished}
+
+-- What a board has done: it goes on; or a reset has ended its run behind a journal, and since then it has done what another one
+-- tells. What was planned, in hand, asked for or to be told then is dropped.
+pub data Doings : Type 0 where
+  goes : Journal → Doings
+  broke : (since before : Journal) → Doings
+
+-- ---- behind a reset
+
+-- how far the end of the run is: the end is to be published, Bye is to be told, or all is done
+pub data Ending : Type 0 where
+  publishes_end : Ending
+  tells_bye : Ending
+  over : Ending
+
+abbrev pub is_end : Piece → Bool
+is_end pieces.End = true
+is_end p = false
+
+-- the end may be published already
+abbrev pub first_ending : Journal → Ending
+first_ending before = cond (list_any is_end (published_then before)) tells_bye publishes_end
+
+abbrev pub ending_at : PortStep → Ending → Ending
+ending_at (published p) e = tells_bye
+ending_at (answered r) e = over
+ending_at s e = e
+
+abbrev pub ending_by : Step → Ending → Ending
+ending_by (at_port s) e = ending_at s e
+ending_by s e = e
+
+abbrev pub ending_of : Journal → Journal → Ending
+ending_of [] before = first_ending before
+ending_of (s ∷ since) before = ending_by s (ending_of since before)
+
+-- The end is published, and then Bye is told; either may be handed back.
+abbrev pub MayEndAtPort : PortStep → Ending → PortLog → Type 0
+MayEndAtPort (published p) e l = (e ≡ publishes_end) × (p ≡ pieces.End)
+MayEndAtPort (no_piece_room done) e l = (e ≡ publishes_end) × LacksPieceRoom done l
+MayEndAtPort (answered r) e l = (e ≡ tells_bye) × (r ≡ Bye)
+MayEndAtPort no_reply_room e l = e ≡ tells_bye
+MayEndAtPort s e l = ⊥
+
+-- A turn publishes one thing, or waits for room where it found none; it is done where all is.
+abbrev pub MayEndTurn : Turn → Journal → Ending → Type 0
+MayEndTurn Did since e = count_by publishing (this_turn since) ≡ 1
+MayEndTurn (Wait on.SegmentRoom) since e = list_any lacks_piece_room (this_turn since) ≡ true
+MayEndTurn (Wait on.ReplyRoom) since e = list_any lacks_reply_room (this_turn since) ≡ true
+MayEndTurn (Wait o) since e = ⊥
+MayEndTurn Done since e = (e ≡ over) × (this_turn since ≡ [])
+
+abbrev pub MayEndStep : Step → Journal → Journal → Type 0
+MayEndStep (at_port s) since before = MayEndAtPort s (ending_of since before) (port_log since ++ port_log before)
+MayEndStep (turned t) since before = MayEndTurn t since (ending_of since before)
+MayEndStep s since before = ⊥
+
+abbrev pub EndsRun : Journal → Journal → Type 0
+EndsRun [] before = Unit {0}
+EndsRun (s ∷ since) before = MayEndStep s since before × EndsRun since before
+
+-- The run is ended between two turns, once a word that asks for a reset was taken, unless Bye is told already.
+pub record MayBreakOff (h : Journal) : Type 0 where
+  pub reset : has_reset_in (port_log h) ≡ true
+  pub between : this_turn h ≡ []
+  pub unsaid : list_any is_bye (answered_then h) ≡ false
+
+-- ---- all that was done
+
+-- a board keeps to its rules
+abbrev pub IsConducted : State → Doings → Type 0
+IsConducted first (goes h) = Conducted first h
+IsConducted first (broke since before) = Conducted first before × MayBreakOff before × EndsRun since before
+
+-- nothing is left to do, and the run is closed or was ended
+abbrev pub HasEnded : Doings → Type 0
+HasEnded (goes h) = IsFinished h
+HasEnded (broke since before) = ending_of since before ≡ over
+
+abbrev pub is_broken : Doings → Bool
+is_broken (goes h) = false
+is_broken (broke since before) = true
+
+-- what it did at its port
+abbrev pub log_of : Doings → PortLog
+log_of (goes h) = port_log h
+log_of (broke since before) = port_log since ++ port_log before
+
+abbrev pub taken_of : Doings → List ℕ
+taken_of d = taken_in (log_of d)
+
+abbrev pub has_closed : Doings → Bool
+has_closed d = has_closed_in (log_of d)
+
+abbrev pub answered_of : Doings → List Reply
+answered_of d = answered_in (log_of d)
+
+abbrev pub published_of : Doings → List Piece
+published_of d = published_in (log_of d)
+
+abbrev pub known_of : Doings → ℕ
+known_of d = known_in (log_of d)
+
+-- the steps behind the last turn's end
+abbrev pub turn_of : Doings → Journal
+turn_of (goes h) = this_turn h
+turn_of (broke since before) = this_turn since

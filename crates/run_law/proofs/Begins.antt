@@ -1,0 +1,82 @@
+-- Fronts of what was sent, asked and recorded.
+use Rattle.std.proofs.Common.{◌≡◌, ℕ, Bool, true, false, cond, List, [], ◌∷◌, ◌++◌, nat_eq, append-nil, append_assoc, refl, sym, ap, ◌∙◌}
+use Rattle.std.specs.List.{flat_map}
+use Rattle.std.proofs.lemmas.Grind.{flat_map-append}
+use Rattle.std.proofs.lemmas.List.Elements.{filter-append}
+use Rattle.step_line.specs.declared.Piece.{Piece}
+use Rattle.step_line.specs.declared.Piece.TheVariants as pieces
+use Rattle.step_line.specs.declared.Record.{Record}
+use Rattle.step_line.specs.declared.Record.TheVariants as kinds
+use Rattle.step_line.specs.Asking.{Asked, ticks_among, ticks_of_all, ticks_of_one}
+use Rattle.step_line.specs.Pieces.{records_of, ticks_of}
+use Rattle.step_line.specs.Records.{is_tick}
+use Rattle.plan_passes.specs.Plans.{Planned}
+use Rattle.planner_runs.specs.declared.Action.{Action}
+use Rattle.planner_runs.specs.Runs.{IsPlannerRun, DisturbedOnlyBy, fresh_plan, most_blocks, all_asked, all_records, ticks_left}
+use Rattle.planner_runs.proofs.Runs.{disturbed_keeps, fresh_starts}
+use Rattle.planner_runs.proofs.Ticks.{ticks_from_start}
+use Rattle.planner_runs.proofs.Driven.{ticks_of_pieces}
+use Rattle.run_rules.specs.Lines.{whole_lines, onto_line}
+use Rattle.run_law.specs.Fronts.{BeginsWith}
+
+-- ---- fronts
+
+pub begins_on : {A : Type 0} (whole mid front : List A) → BeginsWith whole mid → BeginsWith mid front → BeginsWith whole front
+begins_on whole mid front b c = record { rest = c.rest ++ b.rest; is = b.is ∙ ap (λ xs. xs ++ b.rest) c.is ∙ append_assoc front c.rest b.rest }
+
+pub begins_each : {A B : Type 0} (f : A → List B) (whole front : List A) → BeginsWith whole front → BeginsWith (flat_map f whole) (flat_map f front)
+begins_each f whole front b = record { rest = flat_map f b.rest; is = ap (flat_map f) b.is ∙ flat_map-append f front b.rest }
+
+pub begins_by : {A : Type 0} (whole same front : List A) → same ≡ whole → BeginsWith whole front → BeginsWith same front
+begins_by whole same front e b = record { rest = b.rest; is = e ∙ b.is }
+
+-- ---- lines
+
+-- the lines of a text begin the lines of one that goes on
+onto_more : (c : ℕ) (lines more : List (List ℕ)) → BeginsWith (onto_line c (lines ++ more)) (onto_line c lines)
+onto_more c [] more = record { rest = onto_line c more; is = refl }
+onto_more c (l ∷ ls) more = record { rest = more; is = refl }
+
+onto_begins : (c : ℕ) (whole front : List (List ℕ)) → BeginsWith whole front → BeginsWith (onto_line c whole) (onto_line c front)
+onto_begins c whole front b = begins_by (onto_line c (front ++ b.rest)) (onto_line c whole) (onto_line c front) (ap (onto_line c) b.is) (onto_more c front b.rest)
+
+one_more : (t : Bool) (c : ℕ) (whole front : List (List ℕ)) → BeginsWith whole front
+    → BeginsWith (cond t ([] ∷ whole) (onto_line c whole)) (cond t ([] ∷ front) (onto_line c front))
+one_more true c whole front b = record { rest = b.rest; is = ap (λ (ls : List (List ℕ)). [] ∷ ls) b.is }
+one_more false c whole front b = onto_begins c whole front b
+
+lines_more : (text more : List ℕ) → BeginsWith (whole_lines (text ++ more)) (whole_lines text)
+lines_more [] more = record { rest = whole_lines more; is = refl }
+lines_more (c ∷ cs) more = one_more (nat_eq c 10) c (whole_lines (cs ++ more)) (whole_lines cs) (lines_more cs more)
+
+pub lines_begin : (whole front : List ℕ) → BeginsWith whole front → BeginsWith (whole_lines whole) (whole_lines front)
+lines_begin whole front b = begins_by (whole_lines (front ++ b.rest)) (whole_lines whole) (whole_lines front) (ap whole_lines b.is) (lines_more front b.rest)
+
+-- ---- records and ticks
+
+-- what is recorded of pieces and the end behind them
+pub ended_records : (given : List Piece) → flat_map records_of (given ++ pieces.End ∷ []) ≡ all_records given ++ kinds.End ∷ []
+ended_records given = flat_map-append records_of given (pieces.End ∷ [])
+
+-- it has their ticks
+pub ended_ticks : (given : List Piece) → ticks_among (all_records given ++ kinds.End ∷ []) ≡ flat_map ticks_of given
+ended_ticks given = filter-append is_tick (all_records given) (kinds.End ∷ []) ∙ append-nil (ticks_among (all_records given)) ∙ ticks_of_pieces given
+
+-- the ticks of the first pieces of a planner run begin those that are asked for
+pub made_ticks : (held changed : Bool) (asked : List Asked) (actions : List Action) (given made : List Piece) (plan : Planned) → IsPlannerRun actions given plan → DisturbedOnlyBy held changed actions
+    → BeginsWith asked (all_asked actions) → BeginsWith given made → BeginsWith (ticks_of_all asked) (flat_map ticks_of made)
+made_ticks held changed asked actions given made plan run disturbed more kept =
+    let done : BeginsWith (ticks_of_all (all_asked actions)) (flat_map ticks_of given) = record {
+      rest = ticks_left plan;
+      is = ticks_from_start most_blocks fresh_plan plan actions given fresh_starts (disturbed_keeps held changed actions disturbed) run;
+    } in
+    begins_on (ticks_of_all asked) (ticks_of_all (all_asked actions)) (flat_map ticks_of made) (begins_each ticks_of_one asked (all_asked actions) more)
+    (begins_on (ticks_of_all (all_asked actions)) (flat_map ticks_of given) (flat_map ticks_of made) done (begins_each ticks_of given made kept))
+
+-- and so do those of a front of what is recorded
+pub ticks_begin : (held changed : Bool) (asked : List Asked) (actions : List Action) (given made : List Piece) (plan : Planned) (records : List Record) → IsPlannerRun actions given plan → DisturbedOnlyBy held changed actions
+    → BeginsWith asked (all_asked actions) → BeginsWith given made → BeginsWith (all_records made ++ kinds.End ∷ []) records → BeginsWith (ticks_of_all asked) (ticks_among records)
+ticks_begin held changed asked actions given made plan records run disturbed more kept rest =
+    let recorded : BeginsWith (flat_map ticks_of made) (ticks_among records) =
+    record { rest = ticks_among rest.rest; is = sym (ended_ticks made) ∙ ap ticks_among rest.is ∙ filter-append is_tick records rest.rest } in
+    begins_on (ticks_of_all asked) (flat_map ticks_of made) (ticks_among records) (made_ticks held changed asked actions given made plan run disturbed more kept) recorded
