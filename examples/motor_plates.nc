@@ -1,7 +1,7 @@
 (Two motor plates, size 23: the drawing is in inches, the fixture in millimetres)
 (Blanks of 2.6 x 2.6 in, 6 mm aluminium: G54 the left one, G55 the right one, Z0 their face)
 (G56 is the right blank again, for the engraver, which stands 3 mm shorter than the drill)
-G17 G21 G40 G49 G90 G94
+G17 G21 G40 G49 G90 G94 G54
 G28.1                   ; the tool parks where it is now
 G10 L2 P1 X40 Y30 Z-25  ; left blank, lower left corner, from the machine's zero
 G10 L2 P3 X140 Y30 Z-28

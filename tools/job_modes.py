@@ -14,6 +14,12 @@ def kept_text(line):
     return DROPPED.sub(b"", COMMENT.sub(b"", line)).decode("ascii").upper()
 
 
+def words_of(kept):
+    """The words of a line, as letters and values, and its codes."""
+    words = [(letter, float(value)) for letter, value in WORD.findall(kept)]
+    return words, {f"{letter}{value:g}" for letter, value in words if letter in "GM"}
+
+
 def refused_lines(console):
     """The numbers of the lines that a console text refuses: each line of the job has one answer, in order. Status reports
     and what else is told are no answers."""
@@ -30,9 +36,10 @@ class Job:
         self.settings = []  # (line, number, value), in order
         self.rapid, self.inch, self.feed = True, False, 0.0
         for number, line in enumerate(text.split(b"\n"), 1):
-            codes = set() if number in refused else self.take_line(number, kept_text(line))
-            self.rapids.append(self.rapid or bool(codes & {"G28", "G30"}))
-            self.feeds.append(self.feed)
+            kept = "" if number in refused else kept_text(line)
+            codes, is_jog = self.take_line(number, kept), kept.startswith("$J=")
+            self.rapids.append(not is_jog and (self.rapid or bool(codes & {"G28", "G30"})))
+            self.feeds.append(self.jog_feed(kept[3:]) if is_jog else self.feed)
             self.rapid = self.rapid and not codes & {"M2", "M30"}
 
     def take_line(self, number, kept):
@@ -42,8 +49,7 @@ class Job:
             self.settings.append((number, int(setting[1]), float(setting[2])))
         if kept.startswith("$"):
             return set()
-        words = [(letter, float(value)) for letter, value in WORD.findall(kept)]
-        codes = {f"{letter}{value:g}" for letter, value in words if letter in "GM"}
+        words, codes = words_of(kept)
         if codes & {"G20", "G21"}:
             self.inch = "G20" in codes
         if codes & {"G0", "G1", "G80"}:
@@ -52,6 +58,12 @@ class Job:
             if letter == "F":
                 self.feed = value * (MM_PER_INCH if self.inch else 1.0)
         return codes
+
+    def jog_feed(self, kept):
+        """The feed of a jog, by its words: its own, in its own units. It changes no mode."""
+        words, codes = words_of(kept)
+        in_inches = "G20" in codes or (self.inch and "G21" not in codes)
+        return sum(value for letter, value in words if letter == "F") * (MM_PER_INCH if in_inches else 1.0)
 
     def is_rapid(self, line):
         return self.rapids[line] if line < len(self.rapids) else False

@@ -7,8 +7,9 @@ FEWER = {b"\n": 500_000, b"?": 1_000_000}  # since each is a line, or may have a
 REALTIME = b"?!~\x85\x90\x91\x92\x93\x94\x95\x96\x97\x98\x99\x9a\x9b\x9c\x9d\x9e"
 PIECES = (b"?", b"!", b"~", b"\x18", b"\x85", b"\0", b"\r", b" ", b"\t", b"(", b";", b")", b"$", b"/", b"\n", b"0", b"X",
           b"\r\n", b"G0X0.01\n", b"\n\r", b"\xc3\xa9", b"\xe2\x88\x92", b"\xef\xbb\xbf", b"\xf0\x9f\x94\xa9", b"\xff", b"\x7f",
-          b"(\n", b";\n", b"$$\n", b"M2\n", b"?\n", b"$10=2\n")
-ALPHABETS = (bytes(range(256)), bytes(range(32, 127)) + b"\n", b"GXYZMFS0123456789.-+\n\n ", b"GM0123\nXYZ.", b"$=0123\n#GX",
+          b"(\n", b";\n", b"$$\n", b"M2\n", b"?\n", b"$10=2\n",
+          b"$J=G91X.01F99\n", b"$J=G91X1F500\n\x85\n", b"$J=G91Y-.5F99\n!\n", b"$20=1\n", b"G53G0X.1\n", b"G4P0\n$20=1\nG53G0X-.5\nX.1\n")
+ALPHABETS = (bytes(range(256)), bytes(range(32, 127)) + b"\n", b"GXYZMFS0123456789.-+\n\n ", b"GM0123\nXYZ.", b"$=0123\n#GXJF",
              b"()?!~;\n\r\0 X1")
 ROOM = (78, 79, 80, 81, 126, 127, 128, 129, 255, 256, 4_095, 4_096, 4_097, 20_000)
 

@@ -17,7 +17,23 @@ PLACES = """
     G10L20P0X0 G10L20P3X0.01Y0.02 G54 G55 G56 G90 G91 G20 G21 G20X0.001 G91Y-0.03 G80 G0
 """.split()
 FLOW = ("M0", "M0", "M1", "M2", "M30", "M2S100", "M30X0.01", "M0Y0.02", "M3S500M2", "M8M30", "G4P0.01M2")
-SYSTEM_LINES = ("$$", "$#", "$G", "$X", "$", "$H", "$J=X1", "$RST=*", "$Z", "$1.5=1", "$-1=5", "$+10=3", "$5=1", "$20=0.9")
+SYSTEM_LINES = ("$$", "$#", "$G", "$X", "$", "$H", "$RST=*", "$Z", "$1.5=1", "$-1=5", "$+10=3", "$5=1", "$20=0.9")
+# What leaves the travel, or has an error of its own, or is no move of G-code; and what turns soft limits on and off.
+BEYOND = """
+    G53G0X0.004 G53G0Y0.0001 G53G0Z1M30 G53G1X-5Y1F100 G91G0Y-1000 G91X1000M3S100 G4P0.1G53X2 M0G53G0Z0.5 G53G0X1F-1 G53G0X1I2
+    G28G91X1000 G30Y3000 G28 G30 G0G91Z900G92.1 G53G0X10001 G53X0.0000001 G53X0Y0Z0 G92X-5000 G10L20P1X3000 G10L2P1X400 G28.1
+    $J=G53X0.004F99 $J=G91X1000F99 $J=G53Y0.0001F9 $J=G53X-10000F9 $J=G91Z900F500 $J=G53X1 $J=G53X0Y0Z0F500
+""".split()
+SWITCHES = ("$20=1", "$20=1", "$20=255", "$20=1.9", "$20=0", "$20=0", "$20=256", "$20=-1", "$20=0.5")
+# Jogs, most of them refused, and what stands among jogs.
+ODD_JOGS = """
+    $J $JX1F9 $J= $J=1 $J=X $J=X1 $J=X1F0 $J=X1F-1 $J=F10 $J=G1X1F10 $J=M3X1F10 $J=G54X1F10 $J=G92X1F10 $J=G10L2P1X1F10
+    $J=X1F10S1 $J=X1F10K2 $J=X10001F10 $J=N10000001X1F9 $J=X1X2F9 $J=G90G91X1F9 $J=G2X1F9 $J=G1.5X1F9 $J=A1 $J=G28X1F1
+    $J=T256X1 $J=X0F0.0000001 $J=G53G90G21X0Y0Z0F500N10 $J=G20X0.004F3 $J=G91G20Y-0.0005F0.000001 $J=G91X0F1 $J=X0Y0F99.5
+""".split()
+AMONG_JOGS = ("$$", "$#", "$G", "$X", "$10=1", "$110=700", "$120=20", "$100=200", "", "G4P0", "M0", "G92X0", "G55", "M2", "?")
+CANCELS = ("\x85", "\x85", "\x85", "!", "!", "\x85?", "!?", "?\x85", "\x85\x85", "!\x85", "\x85~", "!~", "(\x85)", "\x85$J=G91X1F500",
+           "\x85G0X0", "!G91X0.1", "\x85G92X0", "\x85$#")
 REALTIME = ("?", "!", "~", "\x85", "\x90", "\xa0", "\xff", "?!~", "\x84\x9d")
 HANDS = ("!", "!", "!~", "~", "~!", "\x90", "\x91", "\x91\x91\x91", "\x92", "\x92\x92\x92", "\x93", "\x94", "\x95",
          "\x96", "\x97", "\x99\x9a", "\x9a", "\x9b", "\x9c\x9d", "!\x92~", "!?", "!?", "!?? ?", "?!?~?", "\x9a?")
@@ -35,15 +51,18 @@ class JobMaker:
     """Makes the lines of one job. Whatever it says of the place is only a guess: where a line is refused, or counts from
     elsewhere, the machine goes elsewhere."""
 
-    KINDS = ("move", "words", "setting", "mark", "place", "flow", "feed", "system", "empty")
-    # How often each kind comes: in jobs for the motion, for the dialect, and for both.
-    MIXES = ((85, 0, 5, 4, 0, 1, 5, 0, 0), (2, 78, 9, 0, 0, 1, 1, 6, 3), (50, 12, 4, 6, 10, 5, 6, 3, 4))
+    KINDS = ("move", "words", "setting", "mark", "place", "flow", "feed", "system", "empty", "jogs")
+    # How often each kind comes: in jobs for the motion, for the dialect, for both, and for an operator.
+    MIXES = ((85, 0, 5, 4, 0, 1, 5, 0, 0, 1), (2, 78, 9, 0, 0, 1, 1, 6, 3, 2), (50, 12, 4, 6, 10, 5, 6, 3, 4, 2),
+             (30, 0, 2, 4, 4, 2, 2, 2, 2, 15))
 
     def __init__(self, chance):
         self.chance, self.lines = chance, []
         self.place, self.rapid, self.flood = [0, 0, 0], True, False
         self.relative = self.in_inches = False
         self.scale = chance.choice((20, 200, 2000))  # the longest way of a move along an axis, in µm
+        self.cancels = chance.random() < 0.5
+        self.travel, self.zero = 0, 0  # of each axis in µm, where soft limits are on; and where the zero of the work is
         self.heading = None  # where the job goes nearly straight on, in short moves: the way of each, in µm
 
     def make(self):
@@ -57,6 +76,8 @@ class JobMaker:
             self.lines += [f"$10{axis}={chance.choice((2, 4, 5.5))}" for axis in range(3)]
         if chance.random() < 0.9:
             self.say_feed()
+        if chance.random() < (0.03 if mix is self.MIXES[1] else 0.25):
+            self.limit()
         for kind in chance.choices(self.KINDS, mix, k=chance.randint(1, 80)):
             if mix is not self.MIXES[1] and chance.random() < 0.05:
                 self.heading = chance.choice((None, [chance.randint(-40, 40) or 4 for _ in range(3)]))
@@ -66,6 +87,8 @@ class JobMaker:
                 self.spoil()
             if has_query:
                 self.ask()
+            if self.travel and chance.random() < 0.03:
+                self.leave()
             if has_hand and chance.random() < 0.1:
                 self.put(chance.choice(HANDS))
             if has_reset and chance.random() < 0.04:
@@ -79,6 +102,8 @@ class JobMaker:
         return text.encode("latin-1")
 
     def guess_modes(self, line):
+        if line.startswith("$"):
+            return
         self.relative = "G91" in line.replace("G91.1", "") or (self.relative and "G90" not in line and "M2" not in line)
         self.in_inches = "G20" in line or (self.in_inches and "G21" not in line)
 
@@ -100,6 +125,34 @@ class JobMaker:
             self.guess_modes(self.lines[-1])
         if self.chance.random() < 0.25:
             self.put(self.chance.choice(QUERIES))
+
+    def limit(self):
+        """Turns soft limits on, and goes to the middle of the travel, or makes that the zero of the work."""
+        self.travel = max(1_000, self.scale * self.chance.choice((2, 5, 20)))
+        travels = [f"$13{axis}={self.travel / 1000}" for axis in range(3)]
+        self.lines += self.chance.sample([*travels, "$20=1"], 4)
+        middle = "".join(f"{axis}{-self.travel / 2000}" for axis in AXES)
+        if self.chance.random() < 0.5:
+            self.place = [-self.travel // 2] * 3
+            self.lines.append(f"G53G0{middle}")
+        else:
+            self.zero = -self.travel // 2
+            self.lines += [f"G10L2P1{middle}", "G0X0Y0Z0"]
+        if self.chance.random() < 0.3:
+            self.lines.append("G4P0")
+
+    def leave(self):
+        """A line that may leave the travel: one by itself, a hole that is drilled, or too far up after it; or a switch."""
+        kind = self.chance.random()
+        if kind < 0.6:
+            self.lines.append(self.chance.choice(BEYOND))
+        elif kind < 0.85:
+            down, up = (self.chance.randint(1, self.scale) for _ in range(2))
+            for _ in range(self.chance.choice((1, 3, 8))):
+                self.lines += [f"G91G0X{-up / 1000}", f"G1Z{-down / 1000}F300", f"G0Z{(down + up) / 1000}"]
+        else:
+            self.lines.append(self.chance.choice(SWITCHES))
+        self.guess_modes(self.lines[-1] if kind < 0.6 else "G91" if kind < 0.85 else "")
 
     def reset(self):
         """Puts a reset into the last line, or into a line behind it."""
@@ -128,7 +181,9 @@ class JobMaker:
         self.lines.append(words)
 
     def way_along(self, axis):
-        return self.heading[axis] if self.heading else self.chance.randint(-self.scale, self.scale)
+        way = self.heading[axis] if self.heading else self.chance.randint(-self.scale, self.scale)
+        is_inside = -self.travel <= self.zero + self.place[axis] + way <= 0
+        return way if not self.travel or is_inside or self.chance.random() < 0.02 else -way
 
     def say_mark(self):
         self.chance.choice((self.say_spindle, self.say_coolant, self.say_dwell))()
@@ -165,6 +220,32 @@ class JobMaker:
         elif number >= 100:
             number += self.chance.randrange(3)
         self.lines.append(f"${number}={value}")
+
+    def say_jogs(self):
+        """Some jogs, one behind the other, and now and then what an operator or a job sends among them; and what cancels them."""
+        for _ in range(self.chance.choice((1, 1, 1, 1, 2, 3, 4, 12, 25))):
+            self.lines.append(self.chance.choice(ODD_JOGS) if self.chance.random() < 0.25 else self.some_jog())
+            if self.chance.random() < 0.25:
+                self.lines.append(self.chance.choice(AMONG_JOGS))
+        if self.cancels and self.chance.random() < 0.7:
+            self.lines.append(self.chance.choice(CANCELS))
+            if self.chance.random() < 0.3:
+                self.put(self.chance.choice(CANCELS[:10]))
+
+    def some_jog(self):
+        """A jog. It says how its values count, or leaves it to the modes."""
+        chance = self.chance
+        relative, in_inches = chance.random() < 0.7, chance.random() < 0.1
+        words = [f"G9{int(relative)}"] if relative != self.relative or chance.random() < 0.8 else []
+        words += [f"G2{int(not in_inches)}"] if in_inches != self.in_inches or chance.random() < 0.3 else []
+        words.append(f"F{chance.choice((0.5, 10, 100, 500, 499.9995, 6000)) / (25.4 if in_inches else 1):.4f}")
+        for axis in chance.sample(range(3), chance.choice((1, 1, 2, 3))):
+            way = chance.choice((0, 4, chance.randint(-self.scale, self.scale), chance.randint(-self.scale, self.scale)))
+            self.place[axis] += way
+            micrometres = way if relative else self.place[axis]
+            words.append(f"{AXES[axis]}{micrometres / (25_400 if in_inches else 1_000):.5f}")
+        chance.shuffle(words)
+        return "$J=" + "".join(words)
 
     def say_system(self):
         self.lines.append(self.chance.choice(SYSTEM_LINES))

@@ -34,11 +34,13 @@ SYSTEMS = ("G54", "G55", "G56", "G57", "G58", "G59")
 # In a text of bytes, each a character: comments, blanks, the slash, and the realtime bytes.
 DROPPED = re.compile(r"\([^)]*\)?|;.*|[\x00-\x20/?!~\x80-\xff]+", re.DOTALL)
 COMMENT = re.compile(r"\([^)]*\)?|;.*", re.DOTALL)
-# The realtime bytes that change how fast the machine goes, a hold and the changes of overrides, and with those that ask for
-# a report; and all that is neither.
+# The realtime bytes that change how fast the machine goes, a hold and the changes of overrides; with those that ask for a
+# report, and that cancel a jog; and all that is neither.
 HAND = re.compile(r"[!\x90-\x97\x99-\x9d]")
-REALTIME = re.compile(r"[?!\x90-\x97\x99-\x9d]")
-OTHERS = re.compile(r"[^?!\x90-\x97\x99-\x9d]+")
+REALTIME = re.compile(r"[?!\x85\x90-\x97\x99-\x9d]")
+OTHERS = re.compile(r"[^?!\x85\x90-\x97\x99-\x9d]+")
+CANCEL = "\x85"
+WAITS = re.compile(r"[?\x85]")  # realtime bytes that wait for the answers to the lines before their own
 NUMBER = re.compile(r"[+-]?([0-9]*\.[0-9]*|[0-9]+)")
 
 
@@ -57,13 +59,28 @@ def kept_of(line):
 
 
 def realtime_of(line):
-    """The realtime bytes of a line that ask for a report, hold, or change overrides."""
+    """The realtime bytes of a line that ask for a report, hold, cancel, or change overrides."""
     return OTHERS.sub("", COMMENT.sub("", line)) if REALTIME.search(line) else ""
 
 
 def has_hand(line):
     """Whether a realtime byte of a line changes how fast the machine goes."""
     return bool(HAND.search(COMMENT.sub("", line)))
+
+
+def has_cancel(line):
+    """Whether a realtime byte of a line cancels a jog, and does nothing else."""
+    return CANCEL in COMMENT.sub("", line)
+
+
+def at_once(line):
+    """What is scanned of a line while one before it has no answer: all before a byte that waits for that."""
+    if WAITS.search(line):
+        for gap in DROPPED.finditer(line):
+            wait = None if gap[0][0] in "(;" else WAITS.search(gap[0])
+            if wait:
+                return line[: gap.start() + wait.start()]
+    return line
 
 
 def scan(line):

@@ -1,13 +1,15 @@
 """What the lines of a job do: answers and what is told, modes, offsets and settings, marks and moves."""
 from dataclasses import dataclass
 
-from model.lines import (AXES, LONGEST, LONGEST_SENT, RESET, SYSTEMS, TOO_LONG, WHOLE, Line, Refused, cut, has_hand, kept_of,
-                         read_number, scan)
-from model.motion import Limits, Script, nearest, to_steps
+from model.cuts import cuts_of
+from model.lines import (AXES, LONGEST, LONGEST_SENT, RESET, SYSTEMS, TOO_LONG, WHOLE, Line, Refused, cut, has_cancel, has_hand,
+                         kept_of, read_number, scan)
+from model.motion import Limits, Script, nearest, to_nm, to_steps
 from model.reports import NOTHING, Course, Left, Work
 
 FARTHEST = 10_000 * 10**6  # in nm
 LARGEST_JOB = 16_777_216  # bytes
+LARGEST_READ = 4_096  # bytes
 OFFSETS = (*SYSTEMS, "G28", "G30", "G92")
 
 # Default, least and greatest value of each setting, in thousandths; 10 and 20 are whole numbers.
@@ -21,6 +23,19 @@ SETTINGS = {
     **{n: (200_000, 1_000, 10_000_000) for n in (130, 131, 132)},
 }
 WHOLE_SETTINGS = (10, 20)
+SWITCH = 20  # a whole setting that is off or on
+ALARM = ("ALARM:2", "[MSG:Reset to continue]")
+
+
+class Limited(Exception):
+    """A line is stopped by a soft limit."""
+
+
+def refuse_by(tests):
+    """Refuses a line with the first error that holds."""
+    for error, holds in tests:
+        if holds:
+            raise Refused(error)
 
 
 def thousandths(value):
@@ -39,39 +54,42 @@ class Run:
     reports: list
 
 
-def run_of(job, most_events, told):
+def ends_of(job, number, ending):
+    """What ends the sending of a job, in order: what stands in the line of a number, and how large it is; each with its status."""
+    ends = [(6, f"fault: line {number} is longer than {LONGEST_SENT} bytes\n")] if ending == TOO_LONG else []
+    ends += [(7, "stopped: reset\n")] if ending == RESET else []
+    return ends + ([(9, f"fault: the job is larger than {LARGEST_JOB} bytes\n")] if len(job) > LARGEST_JOB else [])
+
+
+def run_of(job, most_events, told, steps="", status=None):
     """The run of a job, and its machine. Where a line may be refused since the machine still moves, it is so if the console
-    that was told says so. A job that moves more events than these is left: `TooLong`. The steps are the machine's script,
-    and what reports may tell follows from its course. Behind a reset a run may be broken off: its console is a front of this
-    one then, and its steps are one of the script."""
-    machine = Machine(most_events, told.split("\r\n"))
+    that was told says so; jogs are cut where the steps that were told say so; and what stands behind a line that a soft limit
+    stops ends the sending, where it may be scanned, if the status that was told says so. A job that moves more events than
+    these is left: `TooLong`. The steps are the machine's script, and what reports may tell follows from its course. Behind a
+    reset a run may be broken off: its console is a front of this one then, and its steps are one of the script."""
+    machine = Machine(most_events, told.split("\r\n"), cuts_of(steps))
     lines = job[:LARGEST_JOB].decode("latin-1").split("\n")
     rest = lines.pop() if len(job) > LARGEST_JOB or not lines[-1] else None
     over = next((at for at, line in enumerate(lines) if scan(line)[1]), len(lines))
-    for line in lines[:over]:
-        machine.answer(line)
+    machine.answer_all(lines[:over])
     unsent, ending = scan([*lines, rest or ""][over])
-    machine.course.add_unsent(unsent)
-    machine.script.has_hand = any(map(has_hand, [*lines[:over], unsent]))
-    machine.script.is_reset = ending == RESET
-    machine.script.end()
-    status, errors = 0, ""
-    if ending == TOO_LONG:
-        status, errors = 6, f"fault: line {over + 1} is longer than {LONGEST_SENT} bytes\n"
-    elif ending == RESET:
-        status, errors = 7, "stopped: reset\n"
-    elif len(job) > LARGEST_JOB:
-        status, errors = 9, f"fault: the job is larger than {LARGEST_JOB} bytes\n"
-    elif machine.refused:
-        status, errors = 1, f"{machine.refused} lines refused\n"
-    machine.console.append("")
+    ends, scanned = ends_of(job, over + 1, ending), [*lines[:over], unsent]
+    if machine.script.is_halted:
+        scanned = [*lines[: machine.number], *machine.course.scan_on(scanned[machine.number :])]
+        is_whole = len(scanned) == over + 1 and scanned[-1] == unsent
+        is_near = sum(map(len, scanned)) + len(scanned) > LARGEST_JOB - LARGEST_READ
+        ends = [end for end in ends if end[0] == status and (is_near if status == 9 else is_whole)]
+    else:
+        machine.course.add_unsent(unsent)
+    machine.end(scanned, bool(ends) and ends[0][0] == 7)
+    status, errors = [*ends, machine.own_end()][0]
     return Run(status, "\r\n".join(machine.console), "", errors, []), machine
 
 
 class Machine:
     """Lines are answered in order; `console` has the lines of what is told, and the script what is asked of the motion."""
 
-    def __init__(self, most_events, told):
+    def __init__(self, most_events, told, cuts=()):
         self.modes = {"motion": "G0", "plane": "G17", "units": "G21", "distance": "G90", "system": "G54"}
         self.spindle, self.coolant, self.tool, self.feed, self.speed = "M5", "M9", 0, 0, 0
         self.offsets = {name: [0] * 3 for name in OFFSETS}
@@ -79,20 +97,49 @@ class Machine:
         self.settings = {n: default for n, (default, _, _) in SETTINGS.items()}
         self.script, self.number, self.refused = Script(most_events), 0, 0
         self.console, self.told = ["", "Grbl 1.1h ['$' for help]"], told
-        self.moved = False  # a line has moved since the last accepted one whose last item is no move
+        self.cuts, self.has_jogged = list(cuts), False  # the cuts that are to come
+        self.was_cut = False  # the next line is begun behind a cut, or where jogs are done
+        self.under_way = ""  # the machine may be found in this state: "Run" or "Jog", or in none, since all is done
         self.left, self.work = self.leave(), NOTHING
         self.course = Course(self.left)
+
+    def answer_all(self, lines):
+        """Answers lines, up to one that a soft limit stops."""
+        for line in lines:
+            self.answer(line)
+            if self.script.is_halted:
+                break
+
+    def end(self, scanned, is_reset):
+        """Nothing more is scanned than these lines."""
+        self.script.has_hand = any(map(has_hand, scanned)) or (self.has_jogged and any(map(has_cancel, scanned)))
+        self.script.is_reset = is_reset
+        self.script.end()
+        self.console.append("")
+
+    def own_end(self):
+        """The status of a run whose sending nothing else ends, and its text."""
+        if self.script.is_halted:
+            return 8, f"stopped: soft limit at line {self.number}\n"
+        return (1, f"{self.refused} lines refused\n") if self.refused else (0, "")
 
     def answer(self, line):
         self.number += 1
         kept = kept_of(line) if line else line
         self.work = NOTHING
+        if has_cancel(line):
+            self.was_cut |= self.leave_state("Jog")  # a 0x85 is obeyed before its line is begun
+            self.left = self.leave()
         if kept:
             self.judge(kept)
             self.left = self.leave()
         else:
             self.console.append("ok")
+        self.work = self.work._replace(stood=self.work.stood or self.was_cut)
         self.course.add(line, len(kept) + 1, self.left, self.script.ticks, self.work)
+        self.was_cut = bool(self.cuts) and self.cuts[0].number == self.number and self.under_way == "Jog"
+        if self.was_cut:
+            self.cut_jogs(self.cuts.pop(0))
 
     def judge(self, kept):
         try:
@@ -101,29 +148,47 @@ class Machine:
             if kept.startswith("$"):
                 self.do_system(kept)
             else:
-                self.do_words(Line.read(kept))
+                self.do_words(kept)
             self.console.append("ok")
         except Refused as refused:
             self.console.append(f"error:{refused}")
             self.refused += 1
+        except Limited:
+            self.console += ALARM
+            self.script.is_halted = True
 
     def leave(self):
         """What the last line leaves for reports to tell."""
         offset = zip(self.offsets[self.modes["system"]], self.offsets["G92"])
         return Left(self.settings[10] // 1000, tuple(self.settings[100 + axis] for axis in range(3)),
-                    tuple(nearest(sum(both), 1000) for both in offset), 0 if self.spindle == "M5" else self.speed)
+                    tuple(nearest(sum(both), 1000) for both in offset), 0 if self.spindle == "M5" else self.speed,
+                    self.under_way)
+
+    # ---- a machine that is found in motion
+
+    def refuse_in(self, states, error):
+        """A line is refused where the machine is found in some states. Where it may be, the console tells whether it was."""
+        at = len(self.console)
+        if self.under_way in states and self.told[at : at + 1] == [f"error:{error}"]:
+            raise Refused(error)
+
+    def leave_state(self, state):
+        """A line is accepted that is not where the machine is found in this state: so all that may be under way in it is
+        done. Answers whether any was."""
+        if self.under_way != state:
+            return False
+        self.script.rest()
+        self.under_way = ""
+        return True
 
     # ---- lines that begin with `$`
 
-    def needs_rest(self):
-        """A line is served at rest alone: it may be refused while the machine moves, and the console tells whether."""
-        at = len(self.console)
-        if self.moved and self.told[at : at + 1] == ["error:8"]:
-            raise Refused(8)
-
     def do_system(self, kept):
-        if kept in ("$$", "$#") or kept[1:2] not in ("", *"$#CGHIJNRSX"):
-            self.needs_rest()
+        is_setting = kept[1:2] not in ("", *"$#CGHIJNRSX")
+        if kept == "$#" or is_setting:
+            self.refuse_in(("Run", "Jog"), 8)
+        elif kept == "$$" or kept.startswith("$J"):
+            self.refuse_in(("Run",), 8)
         if kept == "$$":
             self.console += [self.told_setting(n) for n in self.settings]
         elif kept == "$G":
@@ -131,10 +196,12 @@ class Machine:
         elif kept == "$#":
             self.console += [f"[{name}:{self.told_place(place)}]" for name, place in self.offsets.items()]
             self.console += ["[TLO:0.000]", "[PRB:0.000,0.000,0.000:0]"]
-        elif kept != "$X":
-            if kept[1:2] in ("", *"$#CGHIJNRSX"):
-                raise Refused(3)
+        elif kept.startswith("$J="):
+            self.jog(Line.read(kept[3:]))
+        elif is_setting:
             self.set(kept)
+        elif kept != "$X":
+            raise Refused(3)
 
     def set(self, kept):
         number, at = read_number(kept, 1)
@@ -144,8 +211,6 @@ class Machine:
         if end < len(kept) or number % WHOLE or not 0 <= number <= 255 * WHOLE:
             raise Refused(3)
         number //= WHOLE
-        if number == 20 and abs(value) >= WHOLE:
-            raise Refused(3)
         if value < 0:
             raise Refused(4)
         if number not in SETTINGS:
@@ -154,7 +219,7 @@ class Machine:
         _, least, most = SETTINGS[number]
         if not least <= value <= most:
             raise Refused(3)
-        self.settings[number] = value
+        self.settings[number] = min(value, 1000) if number == SWITCH else value
 
     def told_setting(self, n):
         value = self.settings[n]
@@ -168,14 +233,62 @@ class Machine:
     def told_place(self, place):
         return ",".join(thousandths(nearest(length, 1000)) for length in place)
 
+    # ---- jogs
+
+    def jog(self, line):
+        """One move at a feed of its own, which changes no mode."""
+        modes, lengths, named = self.read(line)
+        self.test_jog(line, named)
+        target = self.target_of(line, modes, named)
+        self.test_places([target])
+        if self.leaves_travel([target]):
+            raise Refused(15)
+        stood = self.leave_state("Run")
+        moves = int(self.go(target, lengths["F"]))
+        self.has_jogged |= bool(moves)
+        self.under_way = "Jog" if moves else self.under_way
+        self.work = Work(moves, "Jog", stood=stood)
+
+    def test_jog(self, line, named):
+        tests = (
+            (27, line.values.get("N", 0) // WHOLE > 10_000_000),
+            (22, line.values.get("F", 0) == 0),
+            (26, not named),
+            (36, set("IJKLPRST") & set(line.values)),
+            (16, set(line.codes) - {"G20", "G21", "G53", "G90", "G91"}),
+        )
+        refuse_by(tests)
+
+    def cut_jogs(self, cut):
+        """What is left of the jogs is dropped, and the position is where the machine has stopped. The next line is begun when
+        that is over."""
+        self.script.cut(cut)
+        self.course.cut(cut)
+        self.position_steps = list(cut.place)
+        self.position = [to_nm(steps, self.settings[100 + axis]) for axis, steps in enumerate(cut.place)]
+        self.under_way = ""
+        self.left = self.leave()
+
+    def fault_in_cuts(self):
+        """What is wrong with the cuts, in words, or None."""
+        if self.cuts:
+            return f"the record {self.cuts[0].text!r} is in the steps, and no jog is under way behind that line"
+        return self.course.fault_in_cuts()
+
     # ---- lines of G-code
 
-    def do_words(self, line):
+    def read(self, line):
+        """The modes of a line, its values as lengths, and those of the axes."""
         modes = {group: line.of(group, mode) for group, mode in self.modes.items()}
         lengths = dict(line.values)
         if modes["units"] == "G20":
             lengths = {letter: cut(value * 254, 10) for letter, value in lengths.items()}
-        named = {AXES.index(letter): length for letter, length in lengths.items() if letter in AXES}
+        return modes, lengths, {AXES.index(letter): length for letter, length in lengths.items() if letter in AXES}
+
+    def do_words(self, kept):
+        self.refuse_in(("Jog",), 9)
+        line = Line.read(kept)
+        modes, lengths, named = self.read(line)
         feed = lengths.get("F", self.feed)
         self.test(line, modes, named, feed)
         target = self.target_of(line, modes, named)
@@ -183,6 +296,10 @@ class Machine:
         ways = self.ways_of(line, modes, named, target, feed)
         self.test_places([place for place, _ in ways])
         self.test_places([place for name, place in offsets.items() if name not in ("G28", "G30")])
+        stood = self.leave_state("Jog")
+        if self.leaves_travel([place for place, _ in ways]):
+            self.work = Work(stood=stood, halts=True)
+            raise Limited
         self.feed = feed
         self.tool = line.values.get("T", self.tool * WHOLE) // WHOLE
         marks = self.turn(line)
@@ -194,8 +311,8 @@ class Machine:
         if line.has("M2", "M30"):
             self.end_program()
         settles = line.has("M0", "M2", "M30") or (marks and not ways)
-        self.moved = not settles and (self.moved or any(moves))
-        self.work = Work(sum(moves), settles, line.has("M0"), line.has("M2", "M30"))
+        self.under_way = "" if settles else "Run" if any(moves) else self.under_way
+        self.work = Work(sum(moves), "Run", stood, settles, line.has("M0"), line.has("M2", "M30"))
 
     def test(self, line, modes, named, feed):
         values, taker, off = line.values, line.taker, modes["motion"] == "G80"
@@ -217,13 +334,16 @@ class Machine:
             (36, "L" in values and not g10),
             (36, set("IJKR") & set(values)),
         )
-        for error, holds in tests:
-            if holds:
-                raise Refused(error)
+        refuse_by(tests)
 
     def test_places(self, places):
         if any(abs(length) > FARTHEST for place in places for length in place):
             raise Refused(33)
+
+    def leaves_travel(self, places):
+        """Whether soft limits are on, and one of these places is above 0, or below minus the travel, on some axis."""
+        return self.settings[SWITCH] > 0 and any(
+            not -self.settings[130 + axis] * 1000 <= length <= 0 for place in places for axis, length in enumerate(place))
 
     def target_of(self, line, modes, named):
         target = list(self.position)

@@ -2,6 +2,7 @@
 from dataclasses import dataclass
 from math import isqrt
 
+from model.cuts import is_cut
 from model.lines import AXES
 
 MOST_BLOCKS = 15  # moves in the plan
@@ -21,6 +22,11 @@ def nearest(value, by):
 def to_steps(length, per_mm):
     """A length in nm in steps, of which so many thousandths are a mm."""
     return nearest(length * per_mm, 10**9)
+
+
+def to_nm(steps, per_mm):
+    """Steps as a length in nm."""
+    return nearest(steps * 10**9, per_mm)
 
 
 def event_lines(ways, first, count):
@@ -93,13 +99,14 @@ def soft_cap(before, behind):
 
 class Script:
     """What the lines ask of the machine, in order: stretches of moves, each ended by a mark, which has a text, or by a rest,
-    which has none."""
+    which has none. Of a stretch that a cut ends, not all may be done."""
 
     def __init__(self, most_events):
         self.stretches, self.moves, self.room = [], [], most_events
         self.ticks = 0  # events and marks
         self.has_hand = False  # a realtime byte of the job changes how fast the machine goes
         self.is_reset = False  # a reset may break it off behind any piece
+        self.is_halted = False  # a soft limit stops it in its last stretch
 
     def rest(self):
         """The machine comes to rest."""
@@ -111,6 +118,12 @@ class Script:
         """A mark comes where the machine stands."""
         self.ticks += 1
         self.stretches.append((self.moves, text))
+        self.moves = []
+
+    def cut(self, cut):
+        """The moves since the machine stood are cut."""
+        self.ticks = cut.ticks + 1
+        self.stretches.append((self.moves, cut.text))
         self.moves = []
 
     def end(self):
@@ -158,10 +171,14 @@ class Reading:
             raise Wrong(f"line {self.at} of the steps is no head")
         return [int(word) for word in words[1:]]
 
+    def is_at(self, right, lines=0):
+        """Whether a line stands so many lines ahead."""
+        at = self.at + lines
+        return at < len(self.lines) and self.lines[at] == right
+
     def is_at_end(self, lines=0):
         """Whether the end stands so many lines ahead."""
-        at = self.at + lines
-        return at < len(self.lines) and self.lines[at] == END
+        return self.is_at(END, lines)
 
     def speed_ahead(self, lines):
         """The squared speed of the head that stands so many lines ahead, or -1 where none does."""
@@ -174,8 +191,9 @@ class Stretch:
     """Moves that are run from rest to rest. How many of them were known at a segment is not told by the steps: at most
     fifteen from the one that is run on, and none that was known is forgotten."""
 
-    def __init__(self, moves, is_reset=False):
-        self.moves, self.is_reset = moves, is_reset
+    def __init__(self, moves, is_reset=False, mark=None, is_halted=False):
+        self.moves, self.is_reset, self.is_halted = moves, is_reset, is_halted
+        self.cut = mark if is_cut(mark) else None
         self.caps = [soft_cap(a, b) for a, b in zip(moves, moves[1:])]
         self.tail, self.known, self.speed = 0, 0, 0
         self.broken = None  # where it is broken off: how many moves may have been known, and the speed that follows
@@ -259,6 +277,10 @@ class Stretch:
             raise Wrong(f"the head at line {at} of the steps has {cycles} cycles for each event, whatever moves were known")
         return self.broken[0][1]
 
+    def is_cut_off(self, text):
+        """Whether a reset, a soft limit or a cut ends it here."""
+        return ((self.is_reset or self.is_halted) and text.is_at_end()) or text.is_at(self.cut)
+
     def speeds_behind(self):
         """Where it is broken off: the squared speeds at which its last segment may end, and one that was given behind it and
         dropped, each as the least and the greatest."""
@@ -266,6 +288,41 @@ class Stretch:
             self.known, self.speed = max(known, self.tail), end
             yield end, end
             yield from ((behind, behind) for _, behind in self.ends(self.count()))
+
+
+class HaltedStretch(Stretch):
+    """Moves that a soft limit stops. From which segment on the machine slows down is not told by the steps: each up to some one is
+    as planned, and each behind it slows down as much as it can, until the machine stands. It may stand between two moves too."""
+
+    def __init__(self, *words):
+        super().__init__(*words)
+        self.goes, self.slows = True, False  # the segments so far may all be as planned; the last ones may slow down
+
+    def segment(self, text):
+        move, w, at = self.moves[self.tail], self.speed, text.at + 1
+        line, count, told, cycles = text.head()
+        go = self.count()
+        slow = min(go, -(-w // move.change))
+        if (line, told) != (move.line, w) or count not in (go, slow) or not count:
+            raise Wrong(f"line {at} of the steps is the head of line {line} with {count} events at {told}, and by the model of "
+                        f"line {move.line} with {go} or {slow} at {w}")
+        behind = 0 if self.is_last(count) or text.is_at_end(count) else text.speed_ahead(count)
+        self.test_end(at, count, behind, count == slow and behind == max(0, w - move.change * count))
+        if cycles != self.cycles(count, behind):
+            raise Wrong(f"the head at line {at} of the steps has {cycles} cycles for each event")
+        for event in event_lines(move.ways, move.prepared, count):
+            text.expect(event)
+        self.advance(count, behind)
+
+    def test_end(self, at, count, behind, is_slow):
+        """Tries the squared speed at which a segment ends, which is that of one that slows down, or not."""
+        known = [known for known, end in self.ends(count) if end == behind] if count == self.count() else []
+        self.slows = is_slow and (self.slows or self.goes)
+        self.goes = self.goes and bool(known)
+        if not self.goes and not self.slows:
+            raise Wrong(f"the segment at line {at} of the steps goes from {self.speed} to {behind}, neither as planned nor to a "
+                        "stop")
+        self.known = known[0] if self.goes else self.known
 
 
 class HandStretch(Stretch):
@@ -284,7 +341,8 @@ class HandStretch(Stretch):
             behind = w + move.change * count
             self.broken = [(max(0, w - move.change * count), behind)]
         else:
-            behind = 0 if self.is_last(count) else text.speed_ahead(count)
+            is_end = self.is_last(count) or text.is_at(self.cut, count) or (self.is_halted and text.is_at_end(count))
+            behind = 0 if is_end else text.speed_ahead(count)
             self.test_end(at, count, behind)
         if cycles < -(-16_000 * move.length // (move.events * max(1, isqrt((w + behind + move.change * count) // 2)))):
             raise Wrong(f"the head at line {at} of the steps has {cycles} cycles for each event")
@@ -310,15 +368,24 @@ class HandStretch(Stretch):
         yield max(0, least - change), most + change
 
 
+def stretch_of(script, moves, mark):
+    """A stretch of a script. Where a soft limit stops it and a reset may break it off, less is known of its speeds."""
+    is_halted = script.is_halted and mark == END
+    has_hand = script.has_hand or (is_halted and script.is_reset)
+    kind = HandStretch if has_hand else HaltedStretch if is_halted else Stretch
+    return kind(moves, script.is_reset, mark, is_halted)
+
+
 def heads_of(script, steps):
     """Reads a step text by a script, and answers how many heads it has: each segment as the planner gives it for the moves
-    that may have been known, each event and mark in its order, and nothing more. Else it is `Wrong`. Where the script may be
-    broken off, the end may stand behind any piece. At which speeds it may stand there is answered too, where it is in a stretch
-    of moves."""
+    that may have been known, each event and mark in its order, and nothing more. Else it is `Wrong`. A cut may stand behind any
+    segment of its stretch over which the machine can stop, and the next stretch begins where that was. So may the end, in the
+    last stretch, where a soft limit stops it. Where the script may be broken off, the end may stand behind any piece. At which
+    speeds it may stand there is answered too, where it is in a stretch of moves."""
     text, heads, stretch = Reading(steps), 0, None
     for moves, mark in script.stretches:
-        stretch = (HandStretch if script.has_hand else Stretch)(moves, script.is_reset)
-        while stretch.tail < len(moves) and not (script.is_reset and text.is_at_end()):
+        stretch = stretch_of(script, moves, mark)
+        while stretch.tail < len(moves) and not stretch.is_cut_off(text):
             stretch.segment(text)
             heads += 1
         if script.is_reset and text.is_at_end():

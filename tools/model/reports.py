@@ -6,11 +6,11 @@ from array import array
 from bisect import bisect_left, bisect_right
 from collections import Counter
 from functools import lru_cache
-from itertools import product
 from math import isqrt
 from typing import NamedTuple, Optional
 
-from model.lines import AXES, realtime_of
+from model.cuts import EVENTS
+from model.lines import AXES, CANCEL, at_once, kept_of, realtime_of
 from model.motion import MOST_BLOCKS
 
 RECEIVE_ROOM = 128  # bytes of lines on the link
@@ -21,7 +21,7 @@ TO_HALF, TO_QUARTER, OF_SPINDLE = 6, 7, 8
 LENGTH = r"((?!-0\.000)-?(?:0|[1-9][0-9]*)\.[0-9]{3})"
 COUNT = r"(0|[1-9][0-9]*)"
 PLACE = ",".join([LENGTH] * 3)
-REPORT = re.compile(rf"<(Idle|Run|Hold:[01])\|([MW])Pos:{PLACE}(?:\|Bf:{COUNT},{COUNT})?\|FS:{COUNT},{COUNT}\|WCO:{PLACE}"
+REPORT = re.compile(rf"<(Idle|Run|Jog|Hold:[01]|Alarm)\|([MW])Pos:{PLACE}(?:\|Bf:{COUNT},{COUNT})?\|FS:{COUNT},{COUNT}\|WCO:{PLACE}"
                     rf"\|Ov:{COUNT},{COUNT},{COUNT}>")
 
 
@@ -55,8 +55,8 @@ class Report(NamedTuple):
 
     @property
     def moves(self):
-        """Whether the machine runs, or slows down."""
-        return self.state in ("Run", "Hold:1")
+        """Whether the machine runs, or slows down, or jogs."""
+        return self.state in ("Run", "Hold:1", "Jog")
 
     @classmethod
     @lru_cache
@@ -77,22 +77,28 @@ class Report(NamedTuple):
 
 class Left(NamedTuple):
     """What a line leaves: the mask of `$10`, thousandths of a step per mm, the offset of the work in thousandths of a mm,
-    and the speed of the spindle, 0 where it is off."""
+    and the speed of the spindle, 0 where it is off; and the state in which the machine may be found then, `Run` or `Jog`, or
+    nothing where it stands."""
 
     mask: int
     per_mm: tuple
     wco: tuple
     speed: int
+    under_way: str
 
 
 class Work(NamedTuple):
-    """What a line does: it has so many moves of some steps; it has something to do, and no move last; it pauses; it ends a
-    program."""
+    """What a line does: it has so many moves of some steps, and the state in which they are carried out; all that may have
+    been under way before it is done; it has something to do, and no move last; it pauses; it ends a program; a soft limit stops
+    it."""
 
     moves: int = 0
+    state: str = ""
+    stood: bool = False
     settles: bool = False
     pauses: bool = False
     ends: bool = False
+    halts: bool = False
 
 
 NOTHING = Work()
@@ -100,19 +106,23 @@ NOTHING = Work()
 
 class Row(NamedTuple):
     """Some of the first lines of a job: what they leave; how many ticks and moves they ask for; how many of them pause; how
-    many there are up to the last that settles, and up to the last that ends a program; and how many bytes they have when they
-    are sent, how many `!`, and how many of each change. The `?` are those of the last line alone."""
+    many there are up to the last that settles, or before the last that found what was before it done, and up to the last that
+    ends a program; and how many bytes they have when they are sent, how many `!` and 0x85, and how many of each change. The state
+    of moves, the `?`, and whether a soft limit stops it, are those of the last line alone."""
 
     left: Left
     ticks: int = 0
     moves: int = 0
+    state: str = ""
     pauses: int = 0
     settled: int = 0
     ended: int = 0
     sent: int = 0
     holds: int = 0
+    cancels: int = 0
     changes: tuple = (0,) * len(CHANGES)
     queries: int = 0
+    halts: bool = False
 
 
 class Course:
@@ -120,7 +130,7 @@ class Course:
     one that is scanned alone, if only of no bytes."""
 
     def __init__(self, left):
-        self.rows = [Row(left)]
+        self.rows, self.cuts = [Row(left)], []
 
     def add(self, line, sent, left, ticks, work):
         """Adds a line that is sent as so many bytes. So many ticks are asked for then."""
@@ -128,24 +138,55 @@ class Course:
         changes = before.changes
         if asked:
             changes = tuple(count + asked.count(change) for count, change in zip(changes, CHANGES))
-        self.rows.append(Row(left, ticks, before.moves + work.moves, before.pauses + work.pauses,
-                             number if work.settles else before.settled, number if work.ends else before.ended,
-                             before.sent + sent, before.holds + asked.count("!"), changes, asked.count("?")))
+        settled = number if work.settles else number - 1 if work.stood else before.settled
+        self.rows.append(Row(left, ticks, before.moves + work.moves, work.state if work.moves else "",
+                             before.pauses + work.pauses, settled, number if work.ends else before.ended,
+                             before.sent + sent, before.holds + asked.count("!"), before.cancels + asked.count(CANCEL), changes,
+                             asked.count("?"), work.halts))
+
+    def cut(self, cut):
+        """The jogs of the last lines are cut. The cut is a tick of the last line, and of each that is not done before."""
+        at, self.cuts = len(self.rows) - 1, [*self.cuts, cut]
+        while at == len(self.rows) - 1 or self.rows[at].ticks > cut.ticks:
+            self.rows[at] = self.rows[at]._replace(ticks=cut.ticks + 1)
+            at -= 1
+
+    def reach(self, answers):
+        """How many lines may be scanned: the host goes on to the first line that has no room behind it."""
+        room = self.rows[answers].sent + RECEIVE_ROOM
+        return min(bisect_right(self.rows, room, answers + 1, key=lambda row: row.sent), len(self.rows) - 1)
+
+    def fault_in_cuts(self):
+        """What is wrong with the causes of cuts, in words, or None. A 0x85 is raised only once each line before is answered,
+        and a `!` as it is scanned; and no line that has it, or one behind it, is begun before it is obeyed."""
+        for many, cut in enumerate(self.cuts, 1):
+            here, last = self.rows[cut.number], self.rows[self.reach(cut.number)]
+            behind = self.rows[min(cut.number + 1, len(self.rows) - 1)]
+            if last.holds == here.holds and behind.cancels == here.cancels:
+                return f"the record {cut.text!r} is in the steps, and nothing cancels behind that line"
+            if many > last.holds + behind.cancels:
+                return f"the record {cut.text!r} is in the steps, the {many}. cut, and fewer bytes cancel"
+        return None
 
     def add_unsent(self, line):
         """Adds what is scanned and not sent."""
         self.add(line, 0, self.rows[-1].left, self.rows[-1].ticks, NOTHING)
 
+    def scan_on(self, lines):
+        """Adds what is scanned behind a line that a soft limit stops, which has no answer: the lines that have room on the link
+        beside it, and one more, up to a byte that waits for an answer. None of them is begun. Answers what of each is scanned."""
+        parts, free = [], RECEIVE_ROOM - self.rows[-1].sent + self.rows[-2].sent
+        for line in lines:
+            parts.append(at_once(line))
+            free -= len(kept_of(line)) + 1
+            if len(parts) == len(lines) or parts[-1] != line or free < 0:
+                break
+            self.add(line, len(kept_of(line)) + 1, self.rows[-1].left, self.rows[-1].ticks, NOTHING)
+        self.add_unsent(parts[-1])
+        return parts
+
 
 # ---- where the machine is
-
-
-def way_of(event):
-    """The steps of an event on each axis."""
-    return tuple((axis + "+" in event) - (axis + "-" in event) for axis in AXES)
-
-
-EVENTS = {event: way_of(event) for event in map("".join, product(*[("", axis + "+", axis + "-") for axis in AXES])) if event}
 
 
 def feed_of(w):
@@ -213,8 +254,8 @@ def steps_shown_as(length, per_mm):
 class Auditor:
     """Audits the reports of a run in their order."""
 
-    def __init__(self, rows, way):
-        self.rows, self.way = rows, way
+    def __init__(self, course, way):
+        self.course, self.rows, self.way = course, course.rows, way
         self.done = 0  # so many ticks at least were done at the last report
 
     def audit(self, text, answers, is_first):
@@ -226,12 +267,8 @@ class Auditor:
         self.test_room(report, answers, is_first)
 
     def reach(self, answers, is_first):
-        """How many lines may be scanned. Before the first report no byte of the line is sent that asks for it; then the host
-        goes on to the first line that has no room behind it."""
-        if is_first:
-            return answers + 1
-        room = self.rows[answers].sent + RECEIVE_ROOM
-        return min(bisect_right(self.rows, room, answers + 1, key=lambda row: row.sent), len(self.rows) - 1)
+        """How many lines may be scanned. Before the first report no byte of the line is sent that asks for it."""
+        return answers + 1 if is_first else self.course.reach(answers)
 
     def test_overrides(self, report, answers, is_first):
         scanned = self.rows[self.reach(answers, is_first)].changes
@@ -244,18 +281,18 @@ class Auditor:
         if rapid not in (100, 50 if changes[TO_HALF] else 100, 25 if changes[TO_QUARTER] else 100):
             raise Bad(f"has {rapid} percent for rapids, which were not changed to that")
 
-    def may_move(self, answers):
-        """Whether a line moves behind the last that settles of those answered, up to the next line."""
-        return self.rows[answers + 1].moves > self.rows[self.rows[answers].settled].moves
-
     def test_state(self, report, answers, is_first):
-        if report.moves and not self.may_move(answers):
-            raise Bad(f"has the state {report.state}, and nothing moves")
+        may_be = (self.rows[answers].left.under_way, self.rows[answers + 1].state)
+        if report.moves and ("Jog" if report.state == "Jog" else "Run") not in may_be:
+            raise Bad(f"has the state {report.state}, and nothing moves so")
         if report.feed and not report.moves:
             raise Bad(f"has the state {report.state} and the feed {report.feed}")
+        halts = self.rows[answers + 1].halts and not is_first  # its own line is begun once it has a report
         held = self.rows[self.reach(answers, is_first)].holds or self.rows[answers + 1].pauses
-        if report.state.startswith("Hold") and not held:
+        if report.state.startswith("Hold") and not held and not (halts and report.moves):
             raise Bad(f"has the state {report.state}, and nothing holds")
+        if report.state == "Alarm" and not halts:
+            raise Bad("has the state Alarm, and no soft limit stops")
 
     def test_room(self, report, answers, is_first):
         """No move that is in the plan is done, and before the first report of a line nothing is on the link."""
@@ -281,7 +318,9 @@ class Auditor:
         where the next segment begins at rest. The feed is that behind the last segment that was given, at which the next one
         begins."""
         here, ahead = self.rows[answers], self.rows[answers + 1]
-        low, high = max(self.done, self.rows[here.settled].ticks), min(ahead.ticks - report.moves, self.way.ticks)
+        slows = report.state == "Hold:1" and not self.way.feeds_behind  # more is to come then, in a run that is not broken off
+        low, high = max(self.done, self.rows[here.settled].ticks), min(ahead.ticks - report.moves, self.way.ticks - slows)
+        low = max(low, high) if report.state == "Alarm" else low
         found, last = None, high
         for per_mm in dict.fromkeys(left.per_mm for left in lefts):
             at = self.way.find(report.place, per_mm, low, last, not report.moves)
@@ -331,7 +370,7 @@ def fault_in(reports, course, way):
     fault = fault_in_counts(course.rows, reports)
     if fault or not reports:
         return fault
-    auditor, last = Auditor(course.rows, way), (None, None)
+    auditor, last = Auditor(course, way), (None, None)
     for report in reports:
         if report == last:
             continue  # what might be told once might be told again

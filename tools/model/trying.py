@@ -14,6 +14,7 @@ from concurrent.futures import ProcessPoolExecutor
 from dataclasses import dataclass
 from pathlib import Path
 
+from model.alike import alike_of, events_of
 from model.machine import LARGEST_JOB, Run, run_of
 from model.motion import TooLong, Wrong, heads_of
 from model.reports import Way, fault_in, fault_in_front, part
@@ -24,7 +25,11 @@ THREAD_SECONDS = 120  # the same of four threads, which take it while they wait 
 STACK_KILOBYTES = 1024  # of each of the four threads
 KILOBYTES = 14 * 1024  # less than the largest job has, for the code, the stacks and all else
 PIECES = (1, 1, 2, 7, 60, 500, 4_096)  # so many bytes of a job are written to a pipe at once
+SEEDS_EVERY, SEEDS_AT = 10, 3  # each job of such a number by this is tried by more seeds; none of these is a flood
+SEEDS = 4  # so many
+MANY_JOBS = 400  # in the runs of so many jobs, one jog at least is cut
 MANY_RESETS = 40  # of so many runs that a reset ends, one at least is broken off before all is carried out
+MANY_ALARMS = 40  # of so many runs that a soft limit ends, in one at least the machine stops before its moves are over
 
 
 # ---- the program
@@ -91,12 +96,12 @@ def run_program(start_it, words, job, folder):
 # ---- comparing
 
 
-def first_difference(kind, told, right, end="\n"):
-    """Where the program's text is not the model's, or None."""
+def first_difference(kind, told, right, end="\n", of="the model"):
+    """Where the program's text is not the model's, or another's, or None."""
     if told == right:
         return None
     pairs = enumerate(zip(told.split(end) + ["(no line)"], right.split(end) + ["(no line)"]), 1)
-    return next(f"line {at} of the {kind} is {shown(a)}, and by the model {shown(b)}" for at, (a, b) in pairs if a != b)
+    return next(f"line {at} of the {kind} is {shown(a)}, and by {of} {shown(b)}" for at, (a, b) in pairs if a != b)
 
 
 def shown(line):
@@ -106,14 +111,17 @@ def shown(line):
 def what_is_wrong(told, right, machine):
     """What a run tells that the model does not allow, or None, and what was tried. Reports are audited where the rest is right,
     since they are judged by it."""
-    tally = Tally(lines=machine.number, reports=len(told.reports), resets=int(machine.script.is_reset))
+    tally = Tally(lines=machine.number, reports=len(told.reports), resets=int(machine.script.is_reset),
+                  cuts=len(machine.course.cuts), alarms=int(right.status == 8))
     wrong = first_difference("standard error", told.errors, right.errors)
     if not tally.resets:
         wrong = first_difference("console", told.console, right.console, "\r\n") or wrong
+    wrong = wrong or machine.fault_in_cuts()
     try:
         tally.heads, speeds_behind = heads_of(machine.script, told.steps)
         way = Way(told.steps, speeds_behind)
-        tally.broken_off = int(told.console != right.console or way.ticks != machine.script.ticks)
+        is_front = told.console != right.console or way.ticks != machine.script.ticks
+        tally.broken_off, tally.stopped = int(is_front and tally.resets), int(is_front and tally.alarms)
         wrong = wrong or (fault_in_front(told.console, right.console, machine.course, way) if tally.resets else None)
         wrong = wrong or fault_in(told.reports, machine.course, way)
     except Wrong as fault:
@@ -122,20 +130,35 @@ def what_is_wrong(told, right, machine):
     return (wrong + status if wrong else status.removeprefix("; ") or None), tally
 
 
+def what_is_unlike(told, first):
+    """What a run by one seed leaves behind otherwise than a run by another, but for heads and reports, or None."""
+    seed = "another seed"
+    wrong = (first_difference("console", told.console, first.console, "\r\n", seed)
+             or first_difference("events", events_of(told.steps), events_of(first.steps), "\n", seed)
+             or first_difference("standard error", told.errors, first.errors, "\n", seed))
+    status = f"it ended with {told.status}, and by {seed} with {first.status}"
+    return wrong or (status if told.status != first.status else None)
+
+
 # ---- jobs
 
 
 @dataclass
 class Tally:
-    """What was tried: jobs, and the lines, heads and reports of their runs; how many runs a reset ended, and how many of these
-    were broken off before all was carried out; and the jobs that are left out, since the model would take too long."""
+    """What was tried: jobs, and the lines, heads, reports and cuts of their runs; how many runs a reset ended, and how many of these
+    were broken off before all was carried out; how many a soft limit ended, and in how many of these moves were dropped; how
+    many jobs were tried by more seeds; and the jobs that are left out, since the model would take too long."""
 
     jobs: int = 0
     lines: int = 0
     heads: int = 0
     reports: int = 0
+    cuts: int = 0
     resets: int = 0
     broken_off: int = 0
+    alarms: int = 0
+    stopped: int = 0
+    alike: int = 0
     left_out: int = 0
 
     def add(self, other):
@@ -144,8 +167,9 @@ class Tally:
 
     def __str__(self):
         rest = f"; {self.left_out} are left out, since they have too many steps" if self.left_out else ""
-        return (f"{self.jobs} jobs, each as a stream and in lockstep, in all {self.lines} lines with {self.heads} heads and "
-                f"{self.reports} reports, and {self.resets} runs that a reset ended, {self.broken_off} of them early{rest}")
+        return (f"{self.jobs} jobs, each as a stream and in lockstep, {self.alike} of them by {SEEDS} more seeds, in all "
+                f"{self.lines} lines with {self.heads} heads and {self.reports} reports, {self.cuts} cuts of jogs, {self.resets} "
+                f"runs that a reset ended, {self.broken_off} of them early, and {self.alarms} that a soft limit ended, {self.stopped} of them before all was done{rest}")
 
 
 @dataclass
@@ -180,7 +204,7 @@ class Trial:
             if isinstance(told, str):
                 return Failure(number, job, f"{' '.join(words)}: {told}")
             try:
-                right, machine = run_of(job, self.most_events, told.console)
+                right, machine = run_of(job, self.most_events, told.console, told.steps, told.status)
             except TooLong:
                 tally.left_out += 1
                 return None
@@ -188,6 +212,22 @@ class Trial:
             tally.add(tried)
             if wrong:
                 return Failure(number, job, f"{' '.join(words)}: {wrong}")
+        return self.try_seeds(number, job, chance, folder, tally) if number % SEEDS_EVERY == SEEDS_AT else None
+
+    def try_seeds(self, number, job, chance, folder, tally):
+        """Tries what of a job leaves the same behind by any seed by some, and answers a failure or None."""
+        job, first = alike_of(job), None
+        try:
+            run_of(job, self.most_events, "")
+        except TooLong:
+            return None
+        tally.alike += 1
+        for seed in [chance.getrandbits(64) for _ in range(SEEDS)]:
+            told = run_program(start_on_file, ["stream", "--lockstep", str(seed)], job, folder)
+            wrong = told if isinstance(told, str) else first and what_is_unlike(told, first)
+            if wrong:
+                return Failure(number, job, f"stream --lockstep {seed}: {wrong}")
+            first = first or told
         return None
 
     def work(self, first, every):
@@ -216,8 +256,14 @@ class Trial:
         if failures:
             tell(name, self.seed, min(failures, key=lambda failure: failure.number))
             return 1
+        if total.jobs >= MANY_JOBS and not total.cuts:
+            print(f"{name}: in the runs of {total.jobs} jobs no jog was cut")
+            return 1
         if total.resets >= MANY_RESETS and not total.broken_off:
             print(f"{name}: of {total.resets} runs with a reset none was broken off")
+            return 1
+        if total.alarms >= MANY_ALARMS and not total.stopped:
+            print(f"{name}: of {total.alarms} runs with a soft limit none was stopped in motion")
             return 1
         print(f"{name}: ok, {total}")
         return 0

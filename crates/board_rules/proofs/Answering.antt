@@ -1,5 +1,5 @@
--- Each line has one answer, so that a line is answered only where it was taken to its LF.
-use Rattle.std.proofs.Common.{◌≡◌, ℕ, ◌+◌, ◌<◌, List, [], ◌∷◌, ◌++◌, true, false, Bool, cond, length, drop, refl, ap, arith}
+-- Each line has one answer, or raises an alarm, so that a line is answered only where it was taken to its LF.
+use Rattle.std.proofs.Common.{◌≡◌, ℕ, ◌+◌, ◌<◌, List, [], ◌∷◌, ◌++◌, true, false, Bool, cond, length, drop, refl, sym, ap, ◌∙◌, arith}
 use Rattle.std.specs.List.{AllByRecursion}
 use Rattle.status_report.specs.declared.Reply.{Reply}
 use Rattle.status_report.specs.declared.Reply.TheVariants as replies
@@ -10,15 +10,20 @@ use Rattle.run_rules.specs.Lines.{HasNoLf, ended}
 use Rattle.run_rules.specs.Work.{Task, tells}
 use Rattle.run_rules.specs.Work.Task.{tell}
 use Rattle.run_rules.specs.Outcomes.{start}
-use Rattle.run_rules.specs.Told.{replies_in}
+use Rattle.run_rules.specs.Told.{replies_in, alarms_in}
+use Rattle.run_rules.proofs.Alarms.{alarms_from_start}
 use Rattle.run_rules.proofs.Answering.{lines_answered}
-use Rattle.board_rules.specs.Steps.{Journal, taken_of, answered_of, whole_of, open_of, lines_of, outcomes_of, before_of, left_of, closed_tells}
-use Rattle.board_rules.specs.Steps.Step.{at_port, began, did, made_end, evened, paused, became, closing, turned}
+use Rattle.units.specs.Truths.{one_if}
+use Rattle.run_rules.specs.Work.{Outcome}
+use Rattle.board_rules.specs.Cuts.{passed_of}
+use Rattle.board_rules.specs.Steps.{Journal, taken_of, has_alarmed, answered_of, whole_of, open_of, lines_of, outcomes_of, before_of, left_of, closed_tells}
+use Rattle.board_rules.specs.Steps.Step.{at_port, began, did, made_end, evened, paused, became, cut, halted, closing, turned}
 use Rattle.board_rules.specs.Conduct.{Conducted, IsNextTask}
 use Rattle.board_rules.specs.Whole.{AreLines}
+use Rattle.board_rules.proofs.Alarms.{alarmed_is}
 use Rattle.board_rules.proofs.Plain.{answers_without}
 use Rattle.board_rules.proofs.Keeping.{told_is}
-use Rattle.board_rules.proofs.Lines.{bytes_are, lines_follow}
+use Rattle.board_rules.proofs.Lines.{bytes_are, lines_follow, became_is}
 
 -- closing a run tells no answer
 closing_none : (h : Journal) → answers_in (closed_tells h) ≡ 0
@@ -30,6 +35,8 @@ closing_none (made_end ∷ h) = closing_none h
 closing_none (evened ∷ h) = closing_none h
 closing_none (paused ∷ h) = closing_none h
 closing_none (became call m ∷ h) = closing_none h
+closing_none (cut k ∷ h) = closing_none h
+closing_none (halted ∷ h) = closing_none h
 closing_none (closing ∷ h) = let a = answers_on (closed_tells h) (replies.Bye ∷ []) in let m = closing_none h in omega arith
 closing_none (turned t ∷ h) = closing_none h
 
@@ -53,11 +60,22 @@ lfs_of_lines taken lines raw false is =
     let e = ap lfs_in is.bytes in let a = lfs_on (ended lines) (raw ++ []) in let b = lfs_on raw [] in
     let n = no_lfs raw is.partial in let m = lfs_ended lines is.each in omega arith
 
--- what was answered, what is still to be answered, and the line that is taken and not begun, are the lines taken
+-- as many alarms as the journal tells
+pub alarms_are : (first : State) (h : Journal) → Conducted first h → alarms_in (outcomes_of h) ≡ one_if (has_alarmed h)
+alarms_are first h c =
+    ap alarms_in (sym (became_is h))
+    ∙ alarms_from_start true (start first) (before_of first h) (lines_of h) (passed_of h) refl (lines_follow first h c)
+    ∙ ap one_if (alarmed_is first h)
+
+-- what was answered, what is still to be answered, the line that raised an alarm, and the line that is taken and not begun, are the
+-- lines taken
 pub answers_are : (first : State) (h : Journal) → Conducted first h
-    → answers_in (answered_of h) + answers_in (tells (left_of h)) + cond (whole_of h) 1 0 ≡ lfs_in (taken_of h)
+    → answers_in (answered_of h) + answers_in (tells (left_of h)) + one_if (has_alarmed h) + cond (whole_of h) 1 0 ≡ lfs_in (taken_of h)
 answers_are first h c =
-    let each = lines_answered true (start first) (lines_of h) (outcomes_of h) (before_of first h) (lines_follow first h c) in
+    let each = lines_answered true (start first) (lines_of h) (passed_of h) (before_of first h) (lines_follow first h c) in
+    let same_lines = ap (λ (os : List Outcome). answers_in (replies_in os)) (became_is h) in
+    let same_alarms = ap alarms_in (became_is h) in
+    let alarms = alarms_are first h c in
     let lfs = lfs_of_lines (taken_of h) (lines_of h) (open_of h) (whole_of h) (bytes_are first h c) in
     let t = ap answers_in (told_is first h c) in
     let left = answers_on (replies_in (outcomes_of h)) (closed_tells h) in

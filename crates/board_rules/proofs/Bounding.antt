@@ -30,8 +30,10 @@ use Rattle.gcode_check.specs.declared.Item.{Item}
 use Rattle.gcode_check.specs.declared.Item.TheVariants as items
 use Rattle.gcode_check.specs.declared.Verdict.{Verdict}
 use Rattle.gcode_check.specs.declared.Verdict.TheVariants.{Accept, Refuse, Limit}
-use Rattle.system_lines.specs.Commands.{command_of}
-use Rattle.system_lines.specs.Setting.{apply_refusal}
+use Rattle.jog.specs.declared.JogMove.{JogMove}
+use Rattle.jog.specs.Jogs.{jog_of}
+use Rattle.system_lines.specs.Commands.{command_of, kind_of, jog_words, is_jog as begins_jog}
+use Rattle.settings.specs.Numbers.{set_refusal}
 use Rattle.system_lines.specs.declared.Command.{Command}
 use Rattle.system_lines.specs.declared.Command.TheVariants.{ListSettings, ListModes, ListOffsets, Unlock, Set}
 use Rattle.status_report.specs.declared.Reply.{Reply}
@@ -41,11 +43,11 @@ use Rattle.step_line.specs.Asking.{Asked}
 use Rattle.step_line.specs.Asking.Asked.{a_move, a_mark, a_rest}
 use Rattle.step_line.specs.Counting.{events_of}
 use Rattle.run_rules.specs.declared.State.{State}
-use Rattle.run_rules.specs.Work.{Task, Outcome, asks, tells, asking, telling, told_by}
+use Rattle.run_rules.specs.Work.{Task, Outcome, asks, tells, telling, told_by}
 use Rattle.run_rules.specs.Work as work
-use Rattle.run_rules.specs.Work.Task.{ask, tell, finish}
+use Rattle.run_rules.specs.Work.Task.{tell}
 use Rattle.run_rules.specs.Asks.{spindle_after, flood_after, item_work, work_of, planned, move_asked}
-use Rattle.run_rules.specs.Outcomes.{Before, Becomes, ByKept, ByDollar, ByCommand, BySetting, ByWords, ByVerdict, either, most_kept, refused, told, executed, fault_number}
+use Rattle.run_rules.specs.Outcomes.{Before, Becomes, ByKept, ByDollar, ByCode, ByServed, ByJog, ByJogMove, ByCommand, BySetting, ByWords, ByVerdict, either, most_kept, refused, told, executed, jogging, fault_number}
 use Rattle.run_rules.proofs.Answering.{asking_tells, telling_tells}
 
 -- so many ticks has a move at most
@@ -259,7 +261,7 @@ executed_modest b a o few is =
 verdict_modest : (b : Before) (v : Verdict) (o : Outcome) → FewIn v → ByVerdict b v o → IsModest o
 verdict_modest b (Accept a) o few is = executed_modest b a o few is
 verdict_modest b (Refuse code) o few is = refused_modest b code.0 o is
-verdict_modest b Limit o few is = absurd is
+verdict_modest b Limit o few is = subst IsModest (sym is) (record { ticks = omega arith; told = omega arith })
 
 words_modest : (b : Before) (ws : Result (List Word) WordFault) (o : Outcome) → ByWords b ws o → IsModest o
 words_modest b (Err fault) o is = refused_modest b (fault_number fault) o is
@@ -283,19 +285,43 @@ command_modest b (Ok ListSettings) o is = told_modest b.state (setting_replies b
 command_modest b (Ok ListModes) o is = told_modest b.state (modes_replies b.state.parser) o (omega arith) is
 command_modest b (Ok ListOffsets) o is = told_modest b.state (offset_replies b.state.parser.offsets) o (few_offsets b.state.parser.offsets) is
 command_modest b (Ok Unlock) o is = told_modest b.state [] o (omega arith) is
-command_modest b (Ok (Set n value)) o is = setting_modest b n value (apply_refusal n value) o is
+command_modest b (Ok (Set n value)) o is = setting_modest b n value (set_refusal n value) o is
 
-dollar_modest : (runs : Bool) (b : Before) (kept : List ℕ) (o : Outcome) → ByDollar runs b kept o → IsModest o
-dollar_modest runs b kept o (inl busy) = refused_modest b 8 o busy.outcome
-dollar_modest runs b kept o (inr is) = command_modest b (command_of kept) o is
+jogging_modest : (b : Before) (jog : JogMove) (o : Outcome) → o ≡ jogging b jog → IsModest o
+jogging_modest b jog o is =
+    let way = items.Move jog.mv jog.rate in
+    let all = item_work b.number b.state.settings Off false way in
+    let t = item_ticks b.number b.state.settings Off false way in
+    let r = item_replies b.number b.state.settings Off false way in
+    let e = asked_on all (tell replies.Ok ∷ []) in let d = tells_on all (tell replies.Ok ∷ []) in
+    subst IsModest (sym is) (record { ticks = omega arith; told = omega arith })
+
+jog_move_modest : (b : Before) (r : Result JogMove Code) (o : Outcome) → ByJogMove b r o → IsModest o
+jog_move_modest b (Err code) o is = refused_modest b code.0 o is
+jog_move_modest b (Ok jog) o is = jogging_modest b jog o is
+
+jog_modest : (b : Before) (ws : Result (List Word) WordFault) (o : Outcome) → ByJog b ws o → IsModest o
+jog_modest b (Err fault) o is = refused_modest b (fault_number fault) o is
+jog_modest b (Ok ws) o is = jog_move_modest b (jog_of b.state.parser b.state.settings ws) o is
 
 by_either : (t : Bool) (A B C : Type 0) → (A → C) → (B → C) → either t A B → C
 by_either true A B C f g x = f x
 by_either false A B C f g x = g x
 
+served_modest : (b : Before) (kept : List ℕ) (o : Outcome) → ByServed b kept o → IsModest o
+served_modest b kept o is = by_either (begins_jog (kind_of kept)) _ _ _ (jog_modest b (words_of (jog_words kept)) o) (command_modest b (command_of kept) o) is
+
+dollar_modest : (runs : Bool) (b : Before) (kept : List ℕ) (o : Outcome) → ByDollar runs b kept o → IsModest o
+dollar_modest runs b kept o (inl busy) = refused_modest b 8 o busy.outcome
+dollar_modest runs b kept o (inr is) = served_modest b kept o is
+
+code_modest : (runs : Bool) (b : Before) (kept : List ℕ) (o : Outcome) → ByCode runs b kept o → IsModest o
+code_modest runs b kept o (inl locked) = refused_modest b 9 o locked.outcome
+code_modest runs b kept o (inr is) = words_modest b (words_of kept) o is
+
 kept_modest : (runs : Bool) (b : Before) (kept : List ℕ) (o : Outcome) → ByKept runs b kept o → IsModest o
 kept_modest runs b [] o is = told_modest b.state [] o (omega arith) is
-kept_modest runs b (c ∷ cs) o is = by_either (nat_eq c 36) _ _ _ (dollar_modest runs b (c ∷ cs) o) (words_modest b (words_of (c ∷ cs)) o) is
+kept_modest runs b (c ∷ cs) o is = by_either (nat_eq c 36) _ _ _ (dollar_modest runs b (c ∷ cs) o) (code_modest runs b (c ∷ cs) o) is
 
 pub modest : (runs : Bool) (b : Before) (kept : List ℕ) (o : Outcome) → Becomes runs b kept o → IsModest o
 modest runs b kept o is = by_either (nat_lt most_kept (length kept)) _ _ _ (refused_modest b 11 o) (kept_modest runs b kept o) is

@@ -1,32 +1,30 @@
 -- What a board has done whose run a reset has ended.
-use Rattle.std.proofs.Common.{◌≡◌, ℕ, ◌+◌, ◌^◌, ◌≤◌, ◌<◌, ◌⊎◌, inl, inr, ◌||◌, Bool, true, false, cond, List, [], ◌∷◌, ◌++◌, drop, length, reverse, refl, sym, ap, ◌∙◌, subst, arith, append-nil, length-append}
-use Rattle.std.specs.List.{AllByRecursion, list_any}
-use Rattle.outside.specs.declared.On.TheVariants as on
-use Rattle.outside.specs.declared.Turn.{Turn}
-use Rattle.outside.specs.declared.Turn.TheVariants.{Did, Wait, Done}
+use Rattle.std.proofs.Common.{◌≡◌, ℕ, ◌+◌, ◌^◌, ◌<◌, ◌||◌, Bool, true, false, cond, List, [], ◌∷◌, ◌++◌, length, reverse, refl, sym, ap, ◌∙◌, subst, arith, append-nil, length-append}
+use Rattle.std.specs.List.{list_any}
 use Rattle.status_report.specs.declared.Reply.{Reply}
 use Rattle.status_report.specs.declared.Reply.TheVariants as replies
 use Rattle.status_report.specs.Answering.{is_bye, without_reports}
 use Rattle.step_line.specs.declared.Piece.{Piece}
 use Rattle.step_line.specs.declared.Piece.TheVariants as pieces
 use Rattle.step_line.specs.Finishing.{ticks_together, tick_count}
-use Rattle.step_line.specs.Ordering.{ComesNext, has_ended}
+use Rattle.step_line.specs.Ordering.{ComesNext}
 use Rattle.step_line.proofs.Finished.{together_both}
 use Rattle.planner_runs.specs.Runs.{fresh_plan, most_blocks}
 use Rattle.run_rules.specs.declared.State.{State}
 use Rattle.run_rules.specs.Told.{replies_in}
-use Rattle.run_rules.specs.Work.{tells}
+use Rattle.run_rules.specs.Work.{Outcome, tells}
 use Rattle.run_rules.specs.Outcomes.{start}
 use Rattle.run_rules.proofs.Answering.{NoByes, none_is_bye}
 use Rattle.board_rules.specs.Ports.{PortStep, PortLog, answered_in, published_in, MayAnswer, MayPublish}
 use Rattle.board_rules.specs.Ports.PortStep.{took, found_empty, found_closed, found_free, answered, reported, no_reply_room, took_exec, took_ovr, published, no_piece_room, loaded}
-use Rattle.board_rules.specs.Steps.{Step, Journal, port_log, published_of, answered_of, given_of, planned_of, hand_of, plan_of, actions_of, left_of, closed_tells, outcomes_of, lines_of, before_of}
-use Rattle.board_rules.specs.Steps.Step.{at_port, began, did, made_end, evened, paused, became, closing, turned}
-use Rattle.board_rules.specs.Conduct.{Conducted, IsFinished, ticks_given}
-use Rattle.board_rules.specs.Breaking.{Ending, is_end, first_ending, ending_of, EndsRun}
+use Rattle.board_rules.specs.Cuts.{passed_of}
+use Rattle.board_rules.specs.Steps.{Journal, port_log, published_of, answered_of, given_of, planned_of, hand_of, plan_of, actions_of, left_of, closed_tells, outcomes_of, lines_of, before_of}
+use Rattle.board_rules.specs.Steps.Step.{at_port, began, did, made_end, evened, paused, became, cut, halted, closing, turned}
+use Rattle.board_rules.specs.Conduct.{Conducted, IsFinished}
+use Rattle.board_rules.specs.Breaking.{is_end, first_ending, ending_of, EndsRun}
 use Rattle.board_rules.specs.Breaking.Ending.{publishes_end, tells_bye, over}
 use Rattle.board_rules.proofs.Keeping.{run_is, hand_is, told_is}
-use Rattle.board_rules.proofs.Lines.{lines_follow}
+use Rattle.board_rules.proofs.Lines.{lines_follow, became_is}
 use Rattle.board_rules.proofs.Closing.{At, going, to_finish, to_tell, phase_is}
 use Rattle.board_rules.proofs.Closing as phases
 use Rattle.board_rules.proofs.Ending.{NoEnds, no_ends_back, planned_no_end, not_ended}
@@ -57,6 +55,8 @@ unended (made_end ∷ since) before c e = absurd c.0
 unended (evened ∷ since) before c e = absurd c.0
 unended (paused ∷ since) before c e = absurd c.0
 unended (became call m ∷ since) before c e = absurd c.0
+unended (cut k ∷ since) before c e = absurd c.0
+unended (halted ∷ since) before c e = absurd c.0
 unended (closing ∷ since) before c e = absurd c.0
 
 -- while Bye is to be told, nothing was answered since
@@ -81,6 +81,8 @@ unanswered (made_end ∷ since) before c e = absurd c.0
 unanswered (evened ∷ since) before c e = absurd c.0
 unanswered (paused ∷ since) before c e = absurd c.0
 unanswered (became call m ∷ since) before c e = absurd c.0
+unanswered (cut k ∷ since) before c e = absurd c.0
+unanswered (halted ∷ since) before c e = absurd c.0
 unanswered (closing ∷ since) before c e = absurd c.0
 
 -- ---- the end among the pieces
@@ -181,7 +183,7 @@ pub unsaid : (first : State) (h : Journal) → Conducted first h → (IsFinished
 unsaid first h c unfinished = sym (bye_plain (answered_of h)) ∙ bye_among (without_reports (answered_of h)) (by_phase (phase_is first h c))
   where
     none : NoByes (replies_in (outcomes_of h))
-    none = none_is_bye true (start first) (lines_of h) (outcomes_of h) (before_of first h) (lines_follow first h c)
+    none = subst (λ (os : List Outcome). NoByes (replies_in os)) (became_is h) (none_is_bye true (start first) (lines_of h) (passed_of h) (before_of first h) (lines_follow first h c))
 
     last : tells (left_of h) ≡ replies.Bye ∷ [] → closed_tells h ≡ replies.Bye ∷ [] → NoByes (without_reports (answered_of h))
     last left closed =
@@ -194,8 +196,8 @@ unsaid first h c unfinished = sym (bye_plain (answered_of h)) ∙ bye_among (wit
         front_no_bye (without_reports (answered_of h)) (tells (left_of h))
         (subst NoByes (sym (append-nil (replies_in (outcomes_of h))) ∙ ap (λ (rs : List Reply). replies_in (outcomes_of h) ++ rs) (sym e) ∙ told_is first h c) none)
     by_phase (to_finish e l w is) = last (ap tells l) e
-    by_phase (to_tell e l w p is k) = last (ap tells l) e
-    by_phase (phases.over e l w p d is k) = absurd (unfinished (record { left = l; closed = e }))
+    by_phase (to_tell e l w p still is k) = last (ap tells l) e
+    by_phase (phases.over e l w p still d is k) = absurd (unfinished (record { left = l; closed = e }))
 
 -- ---- what a board has done whose run a reset has ended
 
@@ -223,6 +225,8 @@ same_since at p step out told kept full (made_end ∷ since) before c = absurd c
 same_since at p step out told kept full (evened ∷ since) before c = absurd c.0
 same_since at p step out told kept full (paused ∷ since) before c = absurd c.0
 same_since at p step out told kept full (became call m ∷ since) before c = absurd c.0
+same_since at p step out told kept full (cut k ∷ since) before c = absurd c.0
+same_since at p step out told kept full (halted ∷ since) before c = absurd c.0
 same_since at p step out told kept full (closing ∷ since) before c = absurd c.0
 
 -- what is answered: Bye behind what was answered before, once it is told
@@ -256,6 +260,8 @@ ended_answers (made_end ∷ since) before c e = absurd c.0
 ended_answers (evened ∷ since) before c e = absurd c.0
 ended_answers (paused ∷ since) before c e = absurd c.0
 ended_answers (became call m ∷ since) before c e = absurd c.0
+ended_answers (cut k ∷ since) before c e = absurd c.0
+ended_answers (halted ∷ since) before c e = absurd c.0
 ended_answers (closing ∷ since) before c e = absurd c.0
 
 -- what is published: the end behind what was published before, unless that had it already
@@ -288,4 +294,6 @@ ended_pieces (made_end ∷ since) before c other = absurd c.0
 ended_pieces (evened ∷ since) before c other = absurd c.0
 ended_pieces (paused ∷ since) before c other = absurd c.0
 ended_pieces (became call m ∷ since) before c other = absurd c.0
+ended_pieces (cut k ∷ since) before c other = absurd c.0
+ended_pieces (halted ∷ since) before c other = absurd c.0
 ended_pieces (closing ∷ since) before c other = absurd c.0

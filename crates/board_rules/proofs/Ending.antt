@@ -66,8 +66,8 @@ end_turns ps none follow =
 by_phase : (h : Journal) → NoEnds (planned_of h) → AllFollow [] (planned_of h) → At h → InTurn (reverse (given_of h))
 by_phase h none follow (going e is) = subst (λ (ps : List Piece). InTurn (reverse ps)) (sym is) (planned_turns (planned_of h) none follow)
 by_phase h none follow (to_finish e l w is) = subst (λ (ps : List Piece). InTurn (reverse ps)) (sym is) (planned_turns (planned_of h) none follow)
-by_phase h none follow (to_tell e l w p is k) = subst (λ (ps : List Piece). InTurn (reverse ps)) (sym is) (end_turns (planned_of h) none follow)
-by_phase h none follow (over e l w p d is k) = subst (λ (ps : List Piece). InTurn (reverse ps)) (sym is) (end_turns (planned_of h) none follow)
+by_phase h none follow (to_tell e l w p still is k) = subst (λ (ps : List Piece). InTurn (reverse ps)) (sym is) (end_turns (planned_of h) none follow)
+by_phase h none follow (over e l w p still d is k) = subst (λ (ps : List Piece). InTurn (reverse ps)) (sym is) (end_turns (planned_of h) none follow)
 
 pub turns_are : (first : State) (h : Journal) → Conducted first h → InTurn (reverse (given_of h))
 turns_are first h c =

@@ -26,8 +26,11 @@ use Rattle.modal_state.specs.Modes.{opening_parser}
 use Rattle.settings.specs.declared.Settings.{Settings}
 use Rattle.run_rules.specs.declared.State.{State}
 use Rattle.run_rules.specs.Asks.{at_rest}
-use Rattle.run_rules.specs.Outcomes.{Becomes, start}
+use Rattle.run_rules.specs.declared.machine.Machine.TheVariants.{Stands}
+use Rattle.run_rules.specs.Finding.{Found}
+use Rattle.run_rules.specs.Outcomes.{start}
 use Rattle.run_rules.specs.Work.{Outcome}
+use Rattle.run_rules.specs.Work.Kind.{of_code}
 use Rattle.run_rules.specs.Work.Task.{tell}
 use Rattle.status_report.specs.declared.Reply.TheVariants.{Banner, Ok, Bye}
 use Rattle.step_line.specs.Asking.Asked.{a_mark}
@@ -41,7 +44,7 @@ use Rattle.board_rules.proofs.Taking.{requested, unchanged, may_request, may_tak
 
 -- what becomes of the line, where the coolant does not flow yet: its mark, at rest, and `ok`
 abbrev flood : State → Outcome
-flood next = record { work = at_rest (a_mark (marks.Coolant true) ∷ []) ++ tell Ok ∷ []; answer = Ok; settles = true; next = next }
+flood next = record { work = at_rest (a_mark (marks.Coolant true) ∷ []) ++ tell Ok ∷ []; answer = Ok; settles = true; kind = of_code; next = next }
 
 -- the state before the first line, with soft limits off
 abbrev first_state : Settings → State
@@ -54,7 +57,7 @@ abbrev next_state : Settings → State
 next_state s = record { parser = parser_after opening_parser words [] []; settings = record s { soft = false } }
 
 -- the line is accepted there, and becomes that
-is_flood : (s : Settings) → Becomes false (start (first_state s)) (77 ∷ 56 ∷ []) (flood (next_state s))
+is_flood : (s : Settings) → Found Stands (start (first_state s)) (77 ∷ 56 ∷ []) (flood (next_state s))
 unfolding words_within first_word decimal_from front_number digits_say words_refusal word_refusal refusal_at group_of code_in is_filled value_in targets line_refusal verdict items_of
 is_flood s = refl
 
@@ -87,43 +90,43 @@ abbrev j2 : Settings → Journal
 j2 s = turned Did ∷ j1 s
 
 c2 : (s : Settings) → Conducted (first_state s) (j2 s)
-c2 s = (record { once = omega arith; adds = λ m e. absurd cc; starts = λ w. absurd (let b = w.blocks in cc); tries = omega arith; obeyed = λ e. refl; changed = refl }, c1 s)
+c2 s = (record { once = omega arith; adds = λ m e. absurd cc; starts = λ w. absurd (let b = w.blocks in cc); tries = omega arith; obeyed = λ e. refl; changed = refl; halts = λ e. absurd cc }, c1 s)
 
 abbrev j3 : Settings → Journal
 j3 s = at_port (took 77) ∷ j2 s
 
 c3 : (s : Settings) → Conducted (first_state s) (j3 s)
-c3 s = (record { polls = record { all_done = refl; partial = refl; unclosed = refl }; few = omega arith }, c2 s)
+c3 s = (record { polls = record { calm = refl; all_done = refl; partial = refl; unclosed = refl }; few = omega arith }, c2 s)
 
 abbrev j4 : Settings → Journal
 j4 s = turned Did ∷ j3 s
 
 c4 : (s : Settings) → Conducted (first_state s) (j4 s)
-c4 s = (record { once = omega arith; adds = λ m e. absurd cc; starts = λ w. absurd (let b = w.blocks in cc); tries = omega arith; obeyed = λ e. refl; changed = refl }, c3 s)
+c4 s = (record { once = omega arith; adds = λ m e. absurd cc; starts = λ w. absurd (let b = w.blocks in cc); tries = omega arith; obeyed = λ e. refl; changed = refl; halts = λ e. absurd cc }, c3 s)
 
 abbrev j5 : Settings → Journal
 j5 s = at_port (took 56) ∷ j4 s
 
 c5 : (s : Settings) → Conducted (first_state s) (j5 s)
-c5 s = (record { polls = record { all_done = refl; partial = refl; unclosed = refl }; few = omega arith }, c4 s)
+c5 s = (record { polls = record { calm = refl; all_done = refl; partial = refl; unclosed = refl }; few = omega arith }, c4 s)
 
 abbrev j6 : Settings → Journal
 j6 s = turned Did ∷ j5 s
 
 c6 : (s : Settings) → Conducted (first_state s) (j6 s)
-c6 s = (record { once = omega arith; adds = λ m e. absurd cc; starts = λ w. absurd (let b = w.blocks in cc); tries = omega arith; obeyed = λ e. refl; changed = refl }, c5 s)
+c6 s = (record { once = omega arith; adds = λ m e. absurd cc; starts = λ w. absurd (let b = w.blocks in cc); tries = omega arith; obeyed = λ e. refl; changed = refl; halts = λ e. absurd cc }, c5 s)
 
 abbrev j7 : Settings → Journal
 j7 s = at_port (took 10) ∷ j6 s
 
 c7 : (s : Settings) → Conducted (first_state s) (j7 s)
-c7 s = (record { polls = record { all_done = refl; partial = refl; unclosed = refl }; few = omega arith }, c6 s)
+c7 s = (record { polls = record { calm = refl; all_done = refl; partial = refl; unclosed = refl }; few = omega arith }, c6 s)
 
 abbrev j8 : Settings → Journal
 j8 s = turned Did ∷ j7 s
 
 c8 : (s : Settings) → Conducted (first_state s) (j8 s)
-c8 s = (record { once = omega arith; adds = λ m e. absurd cc; starts = λ w. absurd (let b = w.blocks in cc); tries = omega arith; obeyed = λ e. refl; changed = refl }, c7 s)
+c8 s = (record { once = omega arith; adds = λ m e. absurd cc; starts = λ w. absurd (let b = w.blocks in cc); tries = omega arith; obeyed = λ e. refl; changed = refl; halts = λ e. absurd cc }, c7 s)
 
 abbrev j9 : Settings → Journal
 j9 s = unchanged no_changes (j8 s)
@@ -135,7 +138,7 @@ abbrev j10 : Settings → Journal
 j10 s = requested hold motions.Held (j9 s)
 
 c10 : (s : Settings) → Conducted (first_state s) (j10 s)
-c10 s = may_request (first_state s) hold motions.Held (j9 s) (c9 s) refl refl refl (λ slows. absurd cc) refl (λ e. absurd cc)
+c10 s = may_request (first_state s) hold motions.Held (j9 s) (c9 s) refl refl refl refl refl (λ e. absurd cc)
 
 abbrev j11 : Settings → Journal
 j11 s = at_port (took_exec nothing) ∷ j10 s
@@ -147,13 +150,13 @@ abbrev j12 : Settings → Journal
 j12 s = became (on_exec nothing false) motions.Held ∷ j11 s
 
 c12 : (s : Settings) → Conducted (first_state s) (j12 s)
-c12 s = ((refl, record { next = refl; reported = λ owed. absurd cc; blocks = refl; looked = λ s. absurd (let e = s.slows in cc); stopped = λ s. absurd (let e = s.slowed.slows in cc) }), c11 s)
+c12 s = ((refl, record { next = refl; reported = λ owed. absurd cc; blocks = refl; looked = λ s. absurd (let e = s.slows in cc); jog = refl; stopped = λ s. absurd (let e = s.slowed.slows in cc); halts = λ e. absurd cc }), c11 s)
 
 abbrev j13 : Settings → Journal
 j13 s = turned (Wait on.Resume) ∷ j12 s
 
 c13 : (s : Settings) → Conducted (first_state s) (j13 s)
-c13 s = (record { ends = record { once = omega arith; adds = λ m e. absurd cc; starts = λ w. absurd (let b = w.blocks in cc); tries = omega arith; obeyed = λ e. refl; changed = refl }; cause = record { held = refl; unasked = refl; held_up = refl }; still = refl; flags = refl; obeyed = refl; unowed = λ owed. absurd cc; round = λ due. absurd cc }, c12 s)
+c13 s = (record { ends = record { once = omega arith; adds = λ m e. absurd cc; starts = λ w. absurd (let b = w.blocks in cc); tries = omega arith; obeyed = λ e. refl; changed = refl; halts = λ e. absurd cc }; cause = record { held = refl; unasked = refl; held_up = refl }; still = refl; flags = refl; obeyed = refl; unowed = λ owed. absurd cc; round = λ due. absurd cc }, c12 s)
 
 abbrev j14 : Settings → Journal
 j14 s = unchanged no_changes (j13 s)
@@ -165,7 +168,7 @@ abbrev j15 : Settings → Journal
 j15 s = requested resume motions.Idle (j14 s)
 
 c15 : (s : Settings) → Conducted (first_state s) (j15 s)
-c15 s = may_request (first_state s) resume motions.Idle (j14 s) (c14 s) refl refl refl (λ slows. absurd cc) refl (λ e. inr refl)
+c15 s = may_request (first_state s) resume motions.Idle (j14 s) (c14 s) refl refl refl refl refl (λ e. inr refl)
 
 abbrev j16 : Settings → Journal
 j16 s = at_port (loaded 0) ∷ j15 s
@@ -177,7 +180,7 @@ abbrev j17 : Settings → Journal
 j17 s = began (flood (next_state s)) ∷ j16 s
 
 c17 : (s : Settings) → Conducted (first_state s) (j17 s)
-c17 s = (record { free = refl; going = refl; whole = refl; becomes = is_flood s; refuses = λ runs. absurd cc; begins = refl; flags = refl; obeyed = refl; unowed = refl; load = refl; idle = λ drained. refl; starts = λ w. absurd (let b = w.blocks in cc); tried = refl }, c16 s)
+c17 s = (record { calm = refl; free = refl; going = refl; whole = refl; becomes = is_flood s; begins = refl; flags = refl; obeyed = refl; unowed = refl; load = refl; idle = λ drained. refl; starts = λ w. absurd (let b = w.blocks in cc); tried = refl }, c16 s)
 
 abbrev j18 : Settings → Journal
 j18 s = did Rest [] ∷ j17 s
@@ -195,13 +198,13 @@ abbrev j20 : Settings → Journal
 j20 s = at_port (published (pieces.Mark (marks.Coolant true))) ∷ j19 s
 
 c20 : (s : Settings) → Conducted (first_state s) (j20 s)
-c20 s = (refl, c19 s)
+c20 s = ((refl, tt), c19 s)
 
 abbrev j21 : Settings → Journal
 j21 s = turned Did ∷ j20 s
 
 c21 : (s : Settings) → Conducted (first_state s) (j21 s)
-c21 s = (record { once = omega arith; adds = λ m e. absurd cc; starts = λ w. absurd (let b = w.blocks in cc); tries = omega arith; obeyed = λ e. refl; changed = refl }, c20 s)
+c21 s = (record { once = omega arith; adds = λ m e. absurd cc; starts = λ w. absurd (let b = w.blocks in cc); tries = omega arith; obeyed = λ e. refl; changed = refl; halts = λ e. absurd cc }, c20 s)
 
 abbrev j22 : Settings → Journal
 j22 s = at_port (loaded 0) ∷ j21 s
@@ -213,7 +216,7 @@ abbrev j23 : Settings → Journal
 j23 s = turned (Wait on.Motion) ∷ j22 s
 
 c23 : (s : Settings) → Conducted (first_state s) (j23 s)
-c23 s = (record { ends = record { once = omega arith; adds = λ m e. absurd cc; starts = λ w. absurd (let b = w.blocks in cc); tries = omega arith; obeyed = λ e. refl; changed = refl }; cause = record { load = refl; undone = omega arith; awaits = refl }; still = refl; flags = refl; obeyed = refl; unowed = λ owed. absurd cc; round = λ due. absurd cc }, c22 s)
+c23 s = (record { ends = record { once = omega arith; adds = λ m e. absurd cc; starts = λ w. absurd (let b = w.blocks in cc); tries = omega arith; obeyed = λ e. refl; changed = refl; halts = λ e. absurd cc }; cause = record { load = refl; undone = omega arith; awaits = refl }; still = refl; flags = refl; obeyed = refl; unowed = λ owed. absurd cc; round = λ due. absurd cc }, c22 s)
 
 abbrev j24 : Settings → Journal
 j24 s = unchanged no_changes (j23 s)
@@ -225,7 +228,7 @@ abbrev j25 : Settings → Journal
 j25 s = requested nothing motions.Idle (j24 s)
 
 c25 : (s : Settings) → Conducted (first_state s) (j25 s)
-c25 s = may_request (first_state s) nothing motions.Idle (j24 s) (c24 s) refl refl refl (λ slows. absurd cc) refl (λ e. inl refl)
+c25 s = may_request (first_state s) nothing motions.Idle (j24 s) (c24 s) refl refl refl refl refl (λ e. inl refl)
 
 abbrev j26 : Settings → Journal
 j26 s = at_port (loaded 1) ∷ j25 s
@@ -249,19 +252,19 @@ abbrev j29 : Settings → Journal
 j29 s = turned Did ∷ j28 s
 
 c29 : (s : Settings) → Conducted (first_state s) (j29 s)
-c29 s = (record { once = omega arith; adds = λ m e. absurd cc; starts = λ w. absurd (let b = w.blocks in cc); tries = omega arith; obeyed = λ e. refl; changed = refl }, c28 s)
+c29 s = (record { once = omega arith; adds = λ m e. absurd cc; starts = λ w. absurd (let b = w.blocks in cc); tries = omega arith; obeyed = λ e. refl; changed = refl; halts = λ e. absurd cc }, c28 s)
 
 abbrev j30 : Settings → Journal
 j30 s = at_port found_empty ∷ j29 s
 
 c30 : (s : Settings) → Conducted (first_state s) (j30 s)
-c30 s = (record { all_done = refl; partial = refl; unclosed = refl }, c29 s)
+c30 s = (record { calm = refl; all_done = refl; partial = refl; unclosed = refl }, c29 s)
 
 abbrev j31 : Settings → Journal
 j31 s = turned (Wait on.Byte) ∷ j30 s
 
 c31 : (s : Settings) → Conducted (first_state s) (j31 s)
-c31 s = (record { ends = record { once = omega arith; adds = λ m e. absurd cc; starts = λ w. absurd (let b = w.blocks in cc); tries = omega arith; obeyed = λ e. refl; changed = refl }; cause = record { poll = refl; free = refl; partial = refl }; still = refl; flags = refl; obeyed = refl; unowed = λ owed. absurd cc; round = λ due. absurd cc }, c30 s)
+c31 s = (record { ends = record { once = omega arith; adds = λ m e. absurd cc; starts = λ w. absurd (let b = w.blocks in cc); tries = omega arith; obeyed = λ e. refl; changed = refl; halts = λ e. absurd cc }; cause = record { poll = refl; free = refl; partial = refl; unowed = refl }; still = refl; flags = refl; obeyed = refl; unowed = λ owed. absurd cc; round = λ due. absurd cc }, c30 s)
 
 abbrev j32 : Settings → Journal
 j32 s = unchanged no_changes (j31 s)
@@ -273,37 +276,37 @@ abbrev j33 : Settings → Journal
 j33 s = requested nothing motions.Idle (j32 s)
 
 c33 : (s : Settings) → Conducted (first_state s) (j33 s)
-c33 s = may_request (first_state s) nothing motions.Idle (j32 s) (c32 s) refl refl refl (λ slows. absurd cc) refl (λ e. inl refl)
+c33 s = may_request (first_state s) nothing motions.Idle (j32 s) (c32 s) refl refl refl refl refl (λ e. inl refl)
 
 abbrev j34 : Settings → Journal
 j34 s = at_port found_closed ∷ j33 s
 
 c34 : (s : Settings) → Conducted (first_state s) (j34 s)
-c34 s = (record { all_done = refl; partial = refl; unclosed = refl }, c33 s)
+c34 s = (record { calm = refl; all_done = refl; partial = refl; unclosed = refl }, c33 s)
 
 abbrev j35 : Settings → Journal
 j35 s = closing ∷ j34 s
 
 c35 : (s : Settings) → Conducted (first_state s) (j35 s)
-c35 s = (record { free = refl; going = refl; begun = refl; closed = refl }, c34 s)
+c35 s = (record { free = refl; going = refl; begun = refl; closed = inl refl }, c34 s)
 
 abbrev j36 : Settings → Journal
 j36 s = made_end ∷ j35 s
 
 c36 : (s : Settings) → Conducted (first_state s) (j36 s)
-c36 s = (record { rests = record { next = refl; drained = record { plan = record { blocks = refl; speed = refl }; hand = refl; done = refl }; stands = refl }; closes = λ e. absurd cc }, c35 s)
+c36 s = (record { next = refl; drained = record { plan = record { blocks = refl; speed = refl }; hand = refl; done = refl }; stands = refl; closes = λ e. absurd cc }, c35 s)
 
 abbrev j37 : Settings → Journal
 j37 s = at_port (published pieces.End) ∷ j36 s
 
 c37 : (s : Settings) → Conducted (first_state s) (j37 s)
-c37 s = (refl, c36 s)
+c37 s = ((refl, tt), c36 s)
 
 abbrev j38 : Settings → Journal
 j38 s = turned Did ∷ j37 s
 
 c38 : (s : Settings) → Conducted (first_state s) (j38 s)
-c38 s = (record { once = omega arith; adds = λ m e. absurd cc; starts = λ w. absurd (let b = w.blocks in cc); tries = omega arith; obeyed = λ e. refl; changed = refl }, c37 s)
+c38 s = (record { once = omega arith; adds = λ m e. absurd cc; starts = λ w. absurd (let b = w.blocks in cc); tries = omega arith; obeyed = λ e. refl; changed = refl; halts = λ e. absurd cc }, c37 s)
 
 abbrev j39 : Settings → Journal
 j39 s = at_port (answered Bye) ∷ j38 s
@@ -315,7 +318,7 @@ abbrev j40 : Settings → Journal
 j40 s = turned Did ∷ j39 s
 
 c40 : (s : Settings) → Conducted (first_state s) (j40 s)
-c40 s = (record { once = omega arith; adds = λ m e. absurd cc; starts = λ w. absurd (let b = w.blocks in cc); tries = omega arith; obeyed = λ e. refl; changed = refl }, c39 s)
+c40 s = (record { once = omega arith; adds = λ m e. absurd cc; starts = λ w. absurd (let b = w.blocks in cc); tries = omega arith; obeyed = λ e. refl; changed = refl; halts = λ e. absurd cc }, c39 s)
 
 abbrev j41 : Settings → Journal
 j41 s = turned Done ∷ j40 s

@@ -6,7 +6,7 @@ use Rattle.run_rules.specs.declared.State.{State}
 use Rattle.board_rules.specs.Ports.{MayBeDone}
 use Rattle.board_rules.specs.Ports.PortStep.{took, found_empty, found_closed, found_free, answered, reported, no_reply_room, took_exec, took_ovr, published, no_piece_room, loaded}
 use Rattle.board_rules.specs.Steps.{Journal, port_log, hand_of, known_of, published_of}
-use Rattle.board_rules.specs.Steps.Step.{at_port, began, did, made_end, evened, paused, became, closing, turned}
+use Rattle.board_rules.specs.Steps.Step.{at_port, began, did, made_end, evened, paused, became, cut, halted, closing, turned}
 use Rattle.board_rules.specs.Conduct.{Conducted, ticks_given, ticks_published}
 use Rattle.board_rules.proofs.Keeping.{hand_is}
 
@@ -33,6 +33,8 @@ known_within first (made_end ∷ h) c = known_within first h c.1
 known_within first (evened ∷ h) c = known_within first h c.1
 known_within first (paused ∷ h) c = known_within first h c.1
 known_within first (became call m ∷ h) c = known_within first h c.1
+known_within first (cut k ∷ h) c = known_within first h c.1
+known_within first (halted ∷ h) c = known_within first h c.1
 known_within first (closing ∷ h) c = known_within first h c.1
 known_within first (turned t ∷ h) c = known_within first h c.1
 

@@ -1,10 +1,10 @@
--- What a board that keeps to its rules has told, asked, planned and published.
-use Rattle.std.proofs.Common.{◌≡◌, Bool, true, false, ◌||◌, inl, inr, List, [], ◌∷◌, ◌++◌, drop, sym, refl, ap, ◌∙◌, subst, append_assoc, append-nil}
+-- What a board that keeps to its rules has told, planned and published.
+use Rattle.std.proofs.Common.{◌≡◌, ℕ, ◌⊎◌, Bool, true, false, ◌||◌, inl, inr, List, [], ◌∷◌, ◌++◌, drop, sym, refl, ap, ◌∙◌, subst, append_assoc, append-nil}
 use Rattle.std.specs.List.{list_any}
 use Rattle.std.proofs.lemmas.List.Folds.{list_any-append}
 use Rattle.std.proofs.lemmas.Grind.{flat_map-append}
 use Rattle.feed_hold.specs.declared.Motion.{Motion}
-use Rattle.feed_hold.specs.declared.Motion.TheVariants.{Holding}
+use Rattle.feed_hold.specs.declared.Motion.TheVariants.{Holding, Cancelling}
 use Rattle.feed_hold.specs.Motions as motions
 use Rattle.feed_hold.specs.Motions.{Call}
 use Rattle.feed_hold.specs.Motions.Call.{on_exec, on_start, on_limit, on_pause, on_stopped, on_drained}
@@ -14,26 +14,31 @@ use Rattle.code_table.specs.declared.flags.Exec.{Exec}
 use Rattle.status_report.specs.Answering.{without_reports}
 use Rattle.status_report.specs.declared.Reply.{Reply}
 use Rattle.status_report.specs.declared.Reply.TheVariants.{Banner, Bye}
+use Rattle.step_line.specs.Records.{IsMark}
+use Rattle.step_line.specs.declared.Mark.TheVariants as marks
 use Rattle.step_line.specs.declared.Piece.{Piece}
 use Rattle.step_line.specs.declared.Piece.TheVariants as pieces
-use Rattle.step_line.specs.Asking.{Asked}
 use Rattle.step_line.specs.Asking.Asked.{a_move, a_mark, a_rest}
 use Rattle.planner_runs.specs.declared.Action.{Action}
 use Rattle.planner_runs.specs.declared.Action.TheVariants.{Add, Take, Override, Mark, Rest, Clear, Reset}
-use Rattle.planner_runs.specs.Runs.{IsPlannerRun, NeedsNoOther, DisturbedOnlyBy, NeverClears, normal_overrides, fresh_plan, most_blocks, asked_by, all_asked}
-use Rattle.planner_runs.proofs.Runs.{goes_on, grows_by_override, disturbed_on, disturbed_more, disturbed_keeps, keeps_on}
+use Rattle.plan_passes.specs.Plans.{Planned}
+use Rattle.planner_runs.specs.Runs.{IsPlannerRun, Plans, NeedsNoOther, DisturbedOnlyBy, NeverClears, IsNoReset, NeverResets, normal_overrides, fresh_plan, cleared, most_blocks}
+use Rattle.planner_runs.proofs.Runs.{goes_on, grows_by_override, grows_by_clear, disturbed_on, disturbed_more, disturbed_keeps, resets_on}
 use Rattle.segment_prep.specs.declared.Mode.TheVariants.{Go, Hold}
 use Rattle.run_rules.specs.declared.State.{State}
-use Rattle.run_rules.specs.Work.{Task, Outcome, has_normal, tells, told_by, asks}
-use Rattle.run_rules.specs.Work as work
-use Rattle.run_rules.specs.Work.Task.{ask, tell, pause, normal, finish}
-use Rattle.run_rules.specs.Told.{replies_in, asked_in}
-use Rattle.board_rules.specs.Ports.{PortStep, has_changes, holds_at, has_held_in, changes_at, has_changed_in}
+use Rattle.run_rules.specs.Work.{Task, Outcome, has_normal, tells, told_by}
+use Rattle.run_rules.specs.Work.Task.{ask, tell, pause, normal, finish, halt}
+use Rattle.run_rules.specs.Told.{replies_in}
+use Rattle.board_rules.specs.Ports.{PortStep, has_changes, PortLog, holds_at, has_held_in, cancels_at, has_cancelled_in, has_slowed_in, changes_at, has_changed_in}
 use Rattle.board_rules.specs.Ports.PortStep.{took, found_empty, found_closed, found_free, answered, reported, no_reply_room, took_exec, took_ovr, published, no_piece_room, loaded}
-use Rattle.board_rules.specs.Steps.{Journal, port_log, outcomes_of, answered_of, actions_of, planned_of, given_of, published_of, hand_of, plan_of, motion_of, left_of, left_by, behind, closed_tells}
-use Rattle.board_rules.specs.Steps.Step.{at_port, began, did, made_end, evened, paused, became, closing, turned}
+use Rattle.board_rules.specs.Steps.{Journal, port_log, has_alarmed, outcomes_of, answered_of, actions_of, planned_of, given_of, published_of, hand_of, plan_of, motion_of, left_of, left_by, behind, closed_tells}
+use Rattle.board_rules.specs.Steps.Step.{at_port, began, did, made_end, evened, paused, became, cut, halted, closing, turned}
+use Rattle.board_rules.specs.Parts.{Part, AreDisturbedOnlyBy}
+use Rattle.board_rules.specs.Cuts.{part_actions, parts_of}
 use Rattle.board_rules.specs.Turns.{unobeyed_of}
 use Rattle.board_rules.specs.Conduct.{Conducted, MayDo, MayHappen, AreChanged}
+use Rattle.board_rules.proofs.Dropping.{normal_kept, tells_kept}
+use Rattle.board_rules.proofs.Motions.{SlowsFor, slows_for}
 use Rattle.board_rules.proofs.Plain.{plain_push, report_push}
 
 -- ---- what disturbs the plan
@@ -60,6 +65,20 @@ held_before (published p) held is = is
 held_before (no_piece_room done) held is = is
 held_before (loaded done) held is = is
 
+cancelled_before : (e : PortStep) (cancelled : Bool) → cancelled ≡ true → cancels_at e cancelled ≡ true
+cancelled_before (took b) cancelled is = is
+cancelled_before found_empty cancelled is = is
+cancelled_before found_closed cancelled is = is
+cancelled_before (found_free n) cancelled is = is
+cancelled_before (answered r) cancelled is = is
+cancelled_before (reported r) cancelled is = is
+cancelled_before no_reply_room cancelled is = is
+cancelled_before (took_exec word) cancelled is = or_right (motions.asks word motions.cancel_byte) cancelled is
+cancelled_before (took_ovr word) cancelled is = is
+cancelled_before (published p) cancelled is = is
+cancelled_before (no_piece_room done) cancelled is = is
+cancelled_before (loaded done) cancelled is = is
+
 changed_before : (e : PortStep) (changed : Bool) → changed ≡ true → changes_at e changed ≡ true
 changed_before (took b) changed is = is
 changed_before found_empty changed is = is
@@ -76,6 +95,9 @@ changed_before (loaded done) changed is = is
 
 abbrev asks_hold : Exec → Bool
 asks_hold word = motions.asks word motions.hold_byte
+
+abbrev asks_cancel : Exec → Bool
+asks_cancel word = motions.asks word motions.cancel_byte
 
 drop_any : (p : Exec → Bool) (words : List Exec) → list_any p (drop 1 words) ≡ true → list_any p words ≡ true
 drop_any p [] is = is
@@ -115,8 +137,43 @@ unobeyed_taken (became on_limit m ∷ h) is = unobeyed_taken h is
 unobeyed_taken (became on_pause m ∷ h) is = unobeyed_taken h is
 unobeyed_taken (became on_stopped m ∷ h) is = unobeyed_taken h is
 unobeyed_taken (became on_drained m ∷ h) is = unobeyed_taken h is
+unobeyed_taken (cut k ∷ h) is = unobeyed_taken h is
+unobeyed_taken (halted ∷ h) is = unobeyed_taken h is
 unobeyed_taken (closing ∷ h) is = unobeyed_taken h is
 unobeyed_taken (turned t ∷ h) is = unobeyed_taken h is
+
+-- so was one that asks for a cancel
+uncancelled_taken : (h : Journal) → list_any asks_cancel (unobeyed_of h) ≡ true → has_cancelled_in (port_log h) ≡ true
+uncancelled_taken [] is = absurd cc
+uncancelled_taken (at_port (took_exec word) ∷ h) is =
+    one_more (list_any asks_cancel (unobeyed_of h)) (has_cancelled_in (port_log h)) (asks_cancel word) (uncancelled_taken h)
+    (sym (list_any-append asks_cancel (unobeyed_of h) (word ∷ [])) ∙ is)
+uncancelled_taken (at_port (took b) ∷ h) is = uncancelled_taken h is
+uncancelled_taken (at_port found_empty ∷ h) is = uncancelled_taken h is
+uncancelled_taken (at_port found_closed ∷ h) is = uncancelled_taken h is
+uncancelled_taken (at_port (found_free n) ∷ h) is = uncancelled_taken h is
+uncancelled_taken (at_port (answered r) ∷ h) is = uncancelled_taken h is
+uncancelled_taken (at_port (reported r) ∷ h) is = uncancelled_taken h is
+uncancelled_taken (at_port no_reply_room ∷ h) is = uncancelled_taken h is
+uncancelled_taken (at_port (took_ovr word) ∷ h) is = uncancelled_taken h is
+uncancelled_taken (at_port (published p) ∷ h) is = uncancelled_taken h is
+uncancelled_taken (at_port (no_piece_room done) ∷ h) is = uncancelled_taken h is
+uncancelled_taken (at_port (loaded done) ∷ h) is = uncancelled_taken h is
+uncancelled_taken (began o ∷ h) is = uncancelled_taken h is
+uncancelled_taken (did a ps ∷ h) is = uncancelled_taken h is
+uncancelled_taken (made_end ∷ h) is = uncancelled_taken h is
+uncancelled_taken (evened ∷ h) is = uncancelled_taken h is
+uncancelled_taken (paused ∷ h) is = uncancelled_taken h is
+uncancelled_taken (became (on_exec word queued) m ∷ h) is = uncancelled_taken h (drop_any asks_cancel (unobeyed_of h) is)
+uncancelled_taken (became (on_start b) m ∷ h) is = uncancelled_taken h is
+uncancelled_taken (became on_limit m ∷ h) is = uncancelled_taken h is
+uncancelled_taken (became on_pause m ∷ h) is = uncancelled_taken h is
+uncancelled_taken (became on_stopped m ∷ h) is = uncancelled_taken h is
+uncancelled_taken (became on_drained m ∷ h) is = uncancelled_taken h is
+uncancelled_taken (cut k ∷ h) is = uncancelled_taken h is
+uncancelled_taken (halted ∷ h) is = uncancelled_taken h is
+uncancelled_taken (closing ∷ h) is = uncancelled_taken h is
+uncancelled_taken (turned t ∷ h) is = uncancelled_taken h is
 
 -- a machine slows down to be held only by a word that asks for it
 pub by_call : (h : Journal) (call : Call) → MayHappen call h → motions.IsBy motions.hold_byte call → has_held_in (port_log h) ≡ true
@@ -139,6 +196,8 @@ held_by_word first (evened ∷ h) c is = held_by_word first h c.1 is
 held_by_word first (paused ∷ h) c is = absurd cc
 held_by_word first (became call m ∷ h) c is =
     by_motion h call m c.0.1 (reached call (motion_of h) m c.0.0) is (λ (was : motion_of h ≡ Holding). held_by_word first h c.1 was)
+held_by_word first (cut k ∷ h) c is = held_by_word first h c.1 is
+held_by_word first (halted ∷ h) c is = held_by_word first h c.1 is
 held_by_word first (closing ∷ h) c is = held_by_word first h c.1 is
 held_by_word first (turned t ∷ h) c is = held_by_word first h c.1 is
 
@@ -156,6 +215,7 @@ normal_before (tell r ∷ tasks) is = is
 normal_before (pause ∷ tasks) is = is
 normal_before (normal ∷ tasks) is = refl
 normal_before (finish ∷ tasks) is = is
+normal_before (halt ∷ tasks) is = is
 
 normal_behind : (a : Action) (tasks : List Task) → has_normal (left_by a tasks) ≡ true → has_normal tasks ≡ true
 normal_behind (Add m) tasks is = normal_before tasks is
@@ -188,6 +248,8 @@ ends_by_line first (made_end ∷ h) c is = ends_by_line first h c.1 (normal_befo
 ends_by_line first (evened ∷ h) c is = ends_by_line first h c.1 (normal_before (left_of h) is)
 ends_by_line first (paused ∷ h) c is = ends_by_line first h c.1 (normal_before (left_of h) is)
 ends_by_line first (became call m ∷ h) c is = ends_by_line first h c.1 is
+ends_by_line first (cut k ∷ h) c is = ends_by_line first h c.1 (sym (normal_kept (left_of h)) ∙ is)
+ends_by_line first (halted ∷ h) c is = ends_by_line first h c.1 (normal_before (left_of h) is)
 ends_by_line first (closing ∷ h) c is = absurd cc
 ends_by_line first (turned t ∷ h) c is = ends_by_line first h c.1 is
 
@@ -199,48 +261,151 @@ either_more : (a b c d : Bool) → (a ≡ true → c ≡ true) → (b ≡ true �
 either_more true b c d ac bd e = or_left c d (ac refl)
 either_more false b c d ac bd e = or_right c d (bd e)
 
-one_disturbs : (first : State) (h : Journal) (a : Action) → Conducted first h → MayDo a h → NeedsNoOther (has_held_in (port_log h)) (changes h) a
+-- a jog is cancelled only by a word that asks for a hold or a cancel
+cancelled_call : (h : Journal) (call : Call) → MayHappen call h → motions.IsBy motions.hold_byte call ⊎ motions.IsBy motions.cancel_byte call → has_slowed_in (port_log h) ≡ true
+cancelled_call h call may (inl by) = or_left (has_held_in (port_log h)) (has_cancelled_in (port_log h)) (by_call h call may by)
+cancelled_call h call may (inr (word, queued, is, asked)) =
+    let obeys : MayHappen (on_exec word queued) h = subst (λ (x : Call). MayHappen x h) is may in
+    or_right (has_held_in (port_log h)) (has_cancelled_in (port_log h))
+    (uncancelled_taken h (ap (list_any asks_cancel) obeys.next ∙ or_left (motions.asks word motions.cancel_byte) false asked))
+
+cancelled_motion : (h : Journal) (call : Call) (m : Motion) → MayHappen call h → StaysOrReaches m call (motion_of h) → m ≡ Cancelling
+    → (motion_of h ≡ Cancelling → has_slowed_in (port_log h) ≡ true) → has_slowed_in (port_log h) ≡ true
+cancelled_motion h call m may (inl same) is before = before (sym same ∙ is)
+cancelled_motion h call m may (inr reached) is before = cancelled_call h call may (subst (λ (now : Motion). motions.Reached now call (motion_of h)) is reached).1
+
+slowed_before : (e : PortStep) (log : PortLog) → has_slowed_in log ≡ true → has_slowed_in (e ∷ log) ≡ true
+slowed_before e log is = either_more (has_held_in log) (has_cancelled_in log) (holds_at e (has_held_in log)) (cancels_at e (has_cancelled_in log)) (held_before e (has_held_in log)) (cancelled_before e (has_cancelled_in log)) is
+
+pub cancelled_by_word : (first : State) (h : Journal) → Conducted first h → motion_of h ≡ Cancelling → has_slowed_in (port_log h) ≡ true
+cancelled_by_word first [] c is = absurd cc
+cancelled_by_word first (at_port e ∷ h) c is = slowed_before e (port_log h) (cancelled_by_word first h c.1 is)
+cancelled_by_word first (began o ∷ h) c is = cancelled_by_word first h c.1 is
+cancelled_by_word first (did a ps ∷ h) c is = cancelled_by_word first h c.1 is
+cancelled_by_word first (made_end ∷ h) c is = cancelled_by_word first h c.1 is
+cancelled_by_word first (evened ∷ h) c is = cancelled_by_word first h c.1 is
+cancelled_by_word first (paused ∷ h) c is = absurd cc
+cancelled_by_word first (became call m ∷ h) c is = cancelled_motion h call m c.0.1 (reached call (motion_of h) m c.0.0) is (λ (was : motion_of h ≡ Cancelling). cancelled_by_word first h c.1 was)
+cancelled_by_word first (cut k ∷ h) c is = cancelled_by_word first h c.1 is
+cancelled_by_word first (halted ∷ h) c is = cancelled_by_word first h c.1 is
+cancelled_by_word first (closing ∷ h) c is = cancelled_by_word first h c.1 is
+cancelled_by_word first (turned t ∷ h) c is = cancelled_by_word first h c.1 is
+
+-- the machine may slow down: a word asked for that, or a line has raised an alarm
+abbrev pub slows : Journal → Bool
+slows h = has_slowed_in (port_log h) || has_alarmed h
+
+slowed_by : (first : State) (h : Journal) → Conducted first h → SlowsFor h → slows h ≡ true
+slowed_by first h c (inl held) = or_left (has_slowed_in (port_log h)) (has_alarmed h) (or_left (has_held_in (port_log h)) (has_cancelled_in (port_log h)) (held_by_word first h c held))
+slowed_by first h c (inr (inl cancelled)) = or_left (has_slowed_in (port_log h)) (has_alarmed h) (cancelled_by_word first h c cancelled)
+slowed_by first h c (inr (inr (stops, one))) = or_right (has_slowed_in (port_log h)) (has_alarmed h) one
+
+-- before an alarm by a word alone
+by_word_alone : (slowed alarmed : Bool) → alarmed ≡ false → (slowed || alarmed) ≡ true → slowed ≡ true
+by_word_alone true alarmed none is = refl
+by_word_alone false true none is = absurd cc
+by_word_alone false false none is = is
+
+one_disturbs : (first : State) (h : Journal) (a : Action) → Conducted first h → MayDo a h → NeedsNoOther (slows h) (changes h) a
 one_disturbs first h (Add m) c may = tt
 one_disturbs first h (Mark m) c may = tt
 one_disturbs first h Rest c may = tt
 one_disturbs first h (Take Go) c may = tt
-one_disturbs first h (Take Hold) c may = held_by_word first h c may.state
+one_disturbs first h (Take Hold) c may = slowed_by first h c (slows_for first h c may.slows)
 one_disturbs first h (Override o) c may = or_left (has_changed_in (port_log h)) (ends_a_program h) (changed_by_word h o may)
 one_disturbs first h Clear c may = absurd may
 one_disturbs first h Reset c may = absurd may
 
--- it is slowed down only by a word that asks for a hold, and planned for other overrides only by one that changes them, or at
--- the end of a program
-pub disturbed_is : (first : State) (h : Journal) → Conducted first h → DisturbedOnlyBy (has_held_in (port_log h)) (changes h) (actions_of h)
-disturbed_is first [] c = tt
+-- What was done since the last cut is disturbed by no more than these, and what was done in the parts before it by words alone,
+-- since no jog is cut behind an alarm.
+abbrev pub Disturbed : (slowed alarmed changed : Bool) → Journal → Type 0
+Disturbed slowed alarmed changed h = DisturbedOnlyBy (slowed || alarmed) changed (part_actions h) × AreDisturbedOnlyBy slowed changed (parts_of h)
+
+parts_more : (slowed changed slowed_too changed_too : Bool) (ps : List Part) → (slowed ≡ true → slowed_too ≡ true) → (changed ≡ true → changed_too ≡ true)
+    → AreDisturbedOnlyBy slowed changed ps → AreDisturbedOnlyBy slowed_too changed_too ps
+parts_more slowed changed slowed_too changed_too [] f g is = tt
+parts_more slowed changed slowed_too changed_too (p ∷ ps) f g is =
+    (disturbed_more slowed changed slowed_too changed_too p.actions f g is.0, parts_more slowed changed slowed_too changed_too ps f g is.1)
+
+both_more : (slowed alarmed changed slowed_too alarmed_too changed_too : Bool) (h : Journal) → (slowed ≡ true → slowed_too ≡ true) → (alarmed ≡ true → alarmed_too ≡ true) → (changed ≡ true → changed_too ≡ true)
+    → Disturbed slowed alarmed changed h → Disturbed slowed_too alarmed_too changed_too h
+both_more slowed alarmed changed slowed_too alarmed_too changed_too h f a g is = (
+  disturbed_more (slowed || alarmed) changed (slowed_too || alarmed_too) changed_too (part_actions h) (either_more slowed alarmed slowed_too alarmed_too f a) g is.0,
+  parts_more slowed changed slowed_too changed_too (parts_of h) f g is.1,
+)
+
+opposite : {A : Type 0} (b : Bool) → b ≡ false → b ≡ true → A
+opposite b none is = absurd (let e = sym is ∙ none in cc)
+
+-- it is slowed down only by a word that asks for a hold or a cancel, or where a line has raised an alarm, and planned for other
+-- overrides only by a word that changes them, or at the end of a program
+pub disturbed_is : (first : State) (h : Journal) → Conducted first h → Disturbed (has_slowed_in (port_log h)) (has_alarmed h) (changes h) h
+disturbed_is first [] c = (tt, tt)
 disturbed_is first (at_port e ∷ h) c =
-    disturbed_more (has_held_in (port_log h)) (changes h) (has_held_in (port_log (at_port e ∷ h))) (changes (at_port e ∷ h)) (actions_of h)
-    (held_before e (has_held_in (port_log h)))
+    both_more (has_slowed_in (port_log h)) (has_alarmed h) (changes h) (has_slowed_in (port_log (at_port e ∷ h))) (has_alarmed h) (changes (at_port e ∷ h)) h
+    (slowed_before e (port_log h)) (λ (is : has_alarmed h ≡ true). is)
     (either_more (has_changed_in (port_log h)) (ends_a_program h) (changes_at e (has_changed_in (port_log h))) (ends_a_program h)
     (changed_before e (has_changed_in (port_log h))) (λ (is : ends_a_program h ≡ true). is))
     (disturbed_is first h c.1)
 disturbed_is first (began o ∷ h) c =
-    disturbed_more (has_held_in (port_log h)) (changes h) (has_held_in (port_log h)) (changes (began o ∷ h)) (actions_of h) (λ (is : has_held_in (port_log h) ≡ true). is)
+    both_more (has_slowed_in (port_log h)) (has_alarmed h) (changes h) (has_slowed_in (port_log h)) (has_alarmed (began o ∷ h)) (changes (began o ∷ h)) h
+    (λ (is : has_slowed_in (port_log h) ≡ true). is) (λ (is : has_alarmed h ≡ true). opposite (has_alarmed h) c.0.calm is)
     (either_more (has_changed_in (port_log h)) (ends_a_program h) (has_changed_in (port_log h)) (ends_a_program (began o ∷ h))
     (λ (is : has_changed_in (port_log h) ≡ true). is)
     (λ (is : ends_a_program h ≡ true). list_any-append (λ (x : Outcome). has_normal x.work) (outcomes_of h) (o ∷ []) ∙ or_left (ends_a_program h) (has_normal o.work || false) is))
     (disturbed_is first h c.1)
 disturbed_is first (did a ps ∷ h) c =
-    disturbed_on (has_held_in (port_log h)) (changes h) (actions_of h) (a ∷ []) (disturbed_is first h c.1) (one_disturbs first h a c.1 c.0.0, tt)
+    let d = disturbed_is first h c.1 in
+    (disturbed_on (slows h) (changes h) (part_actions h) (a ∷ []) d.0 (one_disturbs first h a c.1 c.0.0, tt), d.1)
 disturbed_is first (made_end ∷ h) c = disturbed_is first h c.1
 disturbed_is first (evened ∷ h) c =
-    disturbed_on (has_held_in (port_log h)) (changes h) (actions_of h) (Override normal_overrides ∷ []) (disturbed_is first h c.1)
-    (or_right (has_changed_in (port_log h)) (ends_a_program h) (ends_by_line first h c.1 (ap has_normal c.0.rests.next)), tt)
+    let d = disturbed_is first h c.1 in (
+      disturbed_on (slows h) (changes h) (part_actions h) (Override normal_overrides ∷ []) d.0
+          (or_right (has_changed_in (port_log h)) (ends_a_program h) (ends_by_line first h c.1 (ap has_normal c.0.rests.next)), tt),
+      d.1,
+    )
 disturbed_is first (paused ∷ h) c = disturbed_is first h c.1
 disturbed_is first (became call m ∷ h) c = disturbed_is first h c.1
+disturbed_is first (cut k ∷ h) c =
+    let d = disturbed_is first h c.1 in
+    let alone = disturbed_more (slows h) (changes h) (has_slowed_in (port_log h)) (changes h) (part_actions h) (by_word_alone (has_slowed_in (port_log h)) (has_alarmed h) c.0.calm) (λ (is : changes h ≡ true). is) d.0 in
+    (tt, (alone, d.1))
+disturbed_is first (halted ∷ h) c = disturbed_is first h c.1
 disturbed_is first (closing ∷ h) c = disturbed_is first h c.1
 disturbed_is first (turned t ∷ h) c = disturbed_is first h c.1
 
--- nothing is taken away
-pub never_clears : (first : State) (h : Journal) → Conducted first h → NeverClears (actions_of h)
-never_clears first h c = disturbed_keeps (has_held_in (port_log h)) (changes h) (actions_of h) (disturbed_is first h c)
+-- nothing is taken away but by cuts, and where the machine is halted
+pub never_clears : (first : State) (h : Journal) → Conducted first h → NeverClears (part_actions h)
+never_clears first h c = disturbed_keeps (slows h) (changes h) (part_actions h) (disturbed_is first h c).0
 
 -- ---- the plan
+
+no_reset : (h : Journal) (a : Action) → MayDo a h → IsNoReset a
+no_reset h (Add m) may = tt
+no_reset h (Mark m) may = tt
+no_reset h Rest may = tt
+no_reset h (Take mode) may = tt
+no_reset h (Override o) may = tt
+no_reset h Clear may = tt
+no_reset h Reset may = absurd may
+
+pub never_resets : (first : State) (h : Journal) → Conducted first h → NeverResets (actions_of h)
+never_resets first [] c = tt
+never_resets first (at_port e ∷ h) c = never_resets first h c.1
+never_resets first (began o ∷ h) c = never_resets first h c.1
+never_resets first (did a ps ∷ h) c = resets_on (actions_of h) (a ∷ []) (never_resets first h c.1) (no_reset h a c.0.0, tt)
+never_resets first (made_end ∷ h) c = never_resets first h c.1
+never_resets first (evened ∷ h) c = resets_on (actions_of h) (Override normal_overrides ∷ []) (never_resets first h c.1) (tt, tt)
+never_resets first (paused ∷ h) c = never_resets first h c.1
+never_resets first (became call m ∷ h) c = never_resets first h c.1
+never_resets first (cut k ∷ h) c = resets_on (actions_of h) (Clear ∷ Mark (marks.Cut k) ∷ []) (never_resets first h c.1) (tt, (tt, tt))
+never_resets first (halted ∷ h) c = resets_on (actions_of h) (Clear ∷ []) (never_resets first h c.1) (tt, tt)
+never_resets first (closing ∷ h) c = never_resets first h c.1
+never_resets first (turned t ∷ h) c = never_resets first h c.1
+
+-- a plan that stands still is cleared, and the cut is marked
+cut_gives : (p : Planned) (k : ℕ) → p.speed ≡ 0 → IsMark (marks.Cut k) → Plans most_blocks p (Clear ∷ Mark (marks.Cut k) ∷ []) (pieces.Mark (marks.Cut k) ∷ []) (cleared p)
+cut_gives p k still mark = (still, (refl, mark, record { blocks = refl; speed = refl }, refl))
 
 -- a run goes on
 pub run_is : (first : State) (h : Journal) → Conducted first h → IsPlannerRun (actions_of h) (planned_of h) (plan_of h)
@@ -249,13 +414,18 @@ run_is first (at_port e ∷ h) c = run_is first h c.1
 run_is first (began o ∷ h) c = run_is first h c.1
 run_is first (did a ps ∷ h) c =
     goes_on most_blocks fresh_plan (plan_of h) (behind a ps (plan_of h)) (actions_of h) (a ∷ []) (planned_of h) ps
-    (keeps_on (actions_of h) (never_clears first h c.1)) (run_is first h c.1) c.0.1
+    (never_resets first h c.1) (run_is first h c.1) c.0.1
 run_is first (made_end ∷ h) c = run_is first h c.1
 run_is first (evened ∷ h) c =
     grows_by_override most_blocks fresh_plan (plan_of h) (actions_of h) (planned_of h) normal_overrides
-    (keeps_on (actions_of h) (never_clears first h c.1)) (run_is first h c.1) c.0.replans.0
+    (never_resets first h c.1) (run_is first h c.1) c.0.replans.0
 run_is first (paused ∷ h) c = run_is first h c.1
+run_is first (halted ∷ h) c =
+    grows_by_clear most_blocks fresh_plan (plan_of h) (actions_of h) (planned_of h) (never_resets first h c.1) (run_is first h c.1) c.0.still
 run_is first (became call m ∷ h) c = run_is first h c.1
+run_is first (cut k ∷ h) c =
+    goes_on most_blocks fresh_plan (plan_of h) (cleared (plan_of h)) (actions_of h) (Clear ∷ Mark (marks.Cut k) ∷ []) (planned_of h) (pieces.Mark (marks.Cut k) ∷ [])
+    (never_resets first h c.1) (run_is first h c.1) (cut_gives (plan_of h) k c.0.stopped.slowed.speed c.0.mark)
 run_is first (closing ∷ h) c = run_is first h c.1
 run_is first (turned t ∷ h) c = run_is first h c.1
 
@@ -287,6 +457,8 @@ overrides_are first (made_end ∷ h) c none = overrides_are first h c.1 none
 overrides_are first (evened ∷ h) c none = refl
 overrides_are first (paused ∷ h) c none = overrides_are first h c.1 none
 overrides_are first (became call m ∷ h) c none = overrides_are first h c.1 none
+overrides_are first (cut k ∷ h) c none = overrides_are first h c.1 none
+overrides_are first (halted ∷ h) c none = overrides_are first h c.1 none
 overrides_are first (closing ∷ h) c none = overrides_are first h c.1 none
 overrides_are first (turned t ∷ h) c none = overrides_are first h c.1 none
 
@@ -303,7 +475,7 @@ hand_is first (at_port no_reply_room ∷ h) c = hand_is first h c.1
 hand_is first (at_port (took_exec word) ∷ h) c = hand_is first h c.1
 hand_is first (at_port (took_ovr word) ∷ h) c = hand_is first h c.1
 hand_is first (at_port (published p) ∷ h) c =
-    hand_is first h c.1 ∙ ap (λ (ps : List Piece). published_of h ++ ps) c.0 ∙ sym (append_assoc (published_of h) (p ∷ []) (drop 1 (hand_of h)))
+    hand_is first h c.1 ∙ ap (λ (ps : List Piece). published_of h ++ ps) c.0.0 ∙ sym (append_assoc (published_of h) (p ∷ []) (drop 1 (hand_of h)))
 hand_is first (at_port (no_piece_room done) ∷ h) c = hand_is first h c.1
 hand_is first (at_port (loaded done) ∷ h) c = hand_is first h c.1
 hand_is first (began o ∷ h) c = hand_is first h c.1
@@ -312,69 +484,12 @@ hand_is first (made_end ∷ h) c =
     ap (λ (qs : List Piece). qs ++ pieces.End ∷ []) (hand_is first h c.1) ∙ append_assoc (published_of h) (hand_of h) (pieces.End ∷ [])
 hand_is first (evened ∷ h) c = hand_is first h c.1
 hand_is first (paused ∷ h) c = hand_is first h c.1
+hand_is first (halted ∷ h) c = hand_is first h c.1
 hand_is first (became call m ∷ h) c = hand_is first h c.1
+hand_is first (cut k ∷ h) c =
+    ap (λ (qs : List Piece). qs ++ pieces.Mark (marks.Cut k) ∷ []) (hand_is first h c.1) ∙ append_assoc (published_of h) (hand_of h) (pieces.Mark (marks.Cut k) ∷ [])
 hand_is first (closing ∷ h) c = hand_is first h c.1
 hand_is first (turned t ∷ h) c = hand_is first h c.1
-
--- ---- what the lines ask for
-
--- what was done, and what is left to ask
-abbrev asked : Journal → List Task → List Asked
-asked h tasks = all_asked (actions_of h) ++ asks tasks
-
--- a task less, which asks for what is done
-asked_by_next : (h : Journal) (a : Action) (t : Task) → left_of h ≡ t ∷ drop 1 (left_of h) → work.asked_by_task t ≡ asked_by a
-    → asked h (left_of h) ≡ all_asked (actions_of h ++ a ∷ []) ++ asks (drop 1 (left_of h))
-asked_by_next h a t next same =
-    ap (asked h) next
-    ∙ ap (λ (xs : List Asked). all_asked (actions_of h) ++ (xs ++ asks (drop 1 (left_of h)))) same
-    ∙ sym (append_assoc (all_asked (actions_of h)) (asked_by a) (asks (drop 1 (left_of h))))
-    ∙ ap (λ (xs : List Asked). xs ++ asks (drop 1 (left_of h)))
-    (ap (λ (xs : List Asked). all_asked (actions_of h) ++ xs) (sym (append-nil (asked_by a))) ∙ sym (flat_map-append asked_by (actions_of h) (a ∷ [])))
-
--- nothing is asked for by what is done
-asked_by_none : (h : Journal) (a : Action) → [] ≡ asked_by a → asked h (left_of h) ≡ all_asked (actions_of h ++ a ∷ []) ++ asks (left_of h)
-asked_by_none h a same =
-    ap (λ (xs : List Asked). xs ++ asks (left_of h))
-    (sym (append-nil (all_asked (actions_of h))) ∙ ap (λ (xs : List Asked). all_asked (actions_of h) ++ xs) (same ∙ sym (append-nil (asked_by a)))
-    ∙ sym (flat_map-append asked_by (actions_of h) (a ∷ [])))
-
-asked_behind : (h : Journal) (a : Action) → MayDo a h → asked h (left_of h) ≡ all_asked (actions_of h ++ a ∷ []) ++ asks (left_by a (left_of h))
-asked_behind h (Add m) may = asked_by_next h (Add m) (ask (a_move m)) may refl
-asked_behind h (Mark m) may = asked_by_next h (Mark m) (ask (a_mark m)) may.next refl
-asked_behind h Rest may = asked_by_next h Rest (ask a_rest) may.next refl
-asked_behind h (Take Go) may = asked_by_none h (Take Go) refl
-asked_behind h (Take Hold) may = asked_by_none h (Take Hold) refl
-asked_behind h (Override o) may = asked_by_none h (Override o) refl
-asked_behind h Clear may = absurd may
-asked_behind h Reset may = absurd may
-
--- what the lines ask for is what was done, and what is left to ask
-pub asked_is : (first : State) (h : Journal) → Conducted first h → asked_in (outcomes_of h) ≡ asked h (left_of h)
-asked_is first [] c = refl
-asked_is first (at_port (took b) ∷ h) c = asked_is first h c.1
-asked_is first (at_port found_empty ∷ h) c = asked_is first h c.1
-asked_is first (at_port found_closed ∷ h) c = asked_is first h c.1
-asked_is first (at_port (found_free n) ∷ h) c = asked_is first h c.1
-asked_is first (at_port (answered r) ∷ h) c = asked_is first h c.1 ∙ ap (asked h) c.0.next
-asked_is first (at_port (reported r) ∷ h) c = asked_is first h c.1
-asked_is first (at_port no_reply_room ∷ h) c = asked_is first h c.1
-asked_is first (at_port (took_exec word) ∷ h) c = asked_is first h c.1
-asked_is first (at_port (took_ovr word) ∷ h) c = asked_is first h c.1
-asked_is first (at_port (published p) ∷ h) c = asked_is first h c.1
-asked_is first (at_port (no_piece_room done) ∷ h) c = asked_is first h c.1
-asked_is first (at_port (loaded done) ∷ h) c = asked_is first h c.1
-asked_is first (began o ∷ h) c =
-    flat_map-append (λ (o : Outcome). asks o.work) (outcomes_of h) (o ∷ [])
-    ∙ ap (λ (a : List Asked). asked_in (outcomes_of h) ++ a) (append-nil (asks o.work))
-    ∙ ap (λ (a : List Asked). a ++ asks o.work) (asked_is first h c.1 ∙ ap (asked h) c.0.free ∙ append-nil (all_asked (actions_of h)))
-asked_is first (did a ps ∷ h) c = asked_is first h c.1 ∙ asked_behind h a c.0.0
-asked_is first (made_end ∷ h) c = asked_is first h c.1 ∙ ap (asked h) c.0.rests.next
-asked_is first (evened ∷ h) c = asked_is first h c.1 ∙ asked_by_next h (Override normal_overrides) normal c.0.rests.next refl
-asked_is first (paused ∷ h) c = asked_is first h c.1 ∙ ap (asked h) c.0.rests.next
-asked_is first (became call m ∷ h) c = asked_is first h c.1
-asked_is first (closing ∷ h) c = asked_is first h c.1 ∙ ap (asked h) c.0.free
-asked_is first (turned t ∷ h) c = asked_is first h c.1
 
 -- ---- what they tell
 
@@ -425,10 +540,12 @@ told_is first (began o ∷ h) c =
     (sym (append-nil (replies_in (outcomes_of h))) ∙ ap (λ (rs : List Reply). replies_in (outcomes_of h) ++ rs) (sym c.0.going)
     ∙ told_is first h c.1 ∙ ap (sides h) c.0.free ∙ append-nil (without_reports (answered_of h)))
 told_is first (did a ps ∷ h) c = told_is first h c.1 ∙ told_behind h a c.0.0
-told_is first (made_end ∷ h) c = told_is first h c.1 ∙ told_by_next h finish c.0.rests.next refl
+told_is first (made_end ∷ h) c = told_is first h c.1 ∙ told_by_next h finish c.0.next refl
 told_is first (evened ∷ h) c = told_is first h c.1 ∙ told_by_next h normal c.0.rests.next refl
 told_is first (paused ∷ h) c = told_is first h c.1 ∙ told_by_next h pause c.0.rests.next refl
 told_is first (became call m ∷ h) c = told_is first h c.1
+told_is first (cut k ∷ h) c = told_is first h c.1 ∙ ap (λ (rs : List Reply). without_reports (answered_of h) ++ rs) (sym (tells_kept (left_of h)))
+told_is first (halted ∷ h) c = told_is first h c.1 ∙ told_by_next h halt c.0.next refl
 told_is first (closing ∷ h) c =
     sym (append_assoc (replies_in (outcomes_of h)) (closed_tells h) (Bye ∷ []))
     ∙ ap (λ (rs : List Reply). rs ++ Bye ∷ []) (told_is first h c.1 ∙ ap (sides h) c.0.free ∙ append-nil (without_reports (answered_of h)))

@@ -1,6 +1,8 @@
 -- A board gives fewer than 2 ^ 62 ticks, and answers fewer than 2 ^ 62 replies.
-use Rattle.std.proofs.Common.{◌≡◌, ℕ, ◌+◌, ◌*◌, ◌^◌, ◌≤◌, ◌<◌, List, [], ◌∷◌, true, length, map, drop, nat_eq, ℤ, pos, negsuc, nat_abs, ◌-ℤ◌, sym, ap, ◌∙◌, subst, arith}
+use Rattle.std.proofs.Common.{◌≡◌, ℕ, ◌+◌, ◌*◌, ◌^◌, ◌≤◌, ◌<◌, List, [], ◌∷◌, ◌++◌, true, length, drop, nat_eq, ℤ, pos, negsuc, nat_abs, ◌-ℤ◌, sym, ap, ◌∙◌, subst, arith}
 use Rattle.std.specs.List.{flat_map, AllByRecursion}
+use Rattle.std.proofs.lemmas.Grind.{flat_map-append}
+use Rattle.step_line.specs.declared.Mark.TheVariants as marks
 use Rattle.std.proofs.lemmas.Int.{ints}
 use Rattle.std.proofs.lemmas.List.{length-append, length-map}
 use Rattle.std.proofs.lemmas.List.Sums.{count_by-le-length}
@@ -23,26 +25,30 @@ use Rattle.plan_passes.specs.Plans.{Planned}
 use Rattle.plan_passes.specs.Segments.{advanced}
 use Rattle.planner_runs.specs.declared.Action.{Action}
 use Rattle.planner_runs.specs.declared.Action.TheVariants.{Add, Take, Override, Mark, Rest, Clear, Reset}
-use Rattle.planner_runs.specs.Runs.{Plans, fresh_plan, with_move, cleared, most_blocks, all_asked, ticks_left}
-use Rattle.planner_runs.proofs.Runs.{fresh_starts}
+use Rattle.planner_runs.specs.Runs.{Plans, with_move, cleared, most_blocks, all_asked, ticks_left}
 use Rattle.planner_runs.proofs.Ticks.{ticks_from_start}
 use Rattle.run_rules.specs.declared.State.{State}
 use Rattle.run_rules.specs.Work.{Outcome, asks, tells}
-use Rattle.run_rules.specs.Outcomes.{Before, Follows, start, after}
-use Rattle.run_rules.specs.Outcomes.Passed.{a_line}
+use Rattle.run_rules.specs.Outcomes.{Before, Passed, Follows, start, after, at_place, became_of}
+use Rattle.run_rules.specs.Outcomes.Passed.{a_line, a_cut}
 use Rattle.run_rules.specs.Told.{asked_in, replies_in}
 use Rattle.board_rules.specs.Ports.PortStep.{took, found_empty, found_closed, found_free, answered, reported, no_reply_room, took_exec, took_ovr, published, no_piece_room, loaded}
-use Rattle.board_rules.specs.Steps.{Journal, taken_of, answered_of, published_of, lines_of, outcomes_of, before_of, left_of, closed_tells, actions_of, planned_of, hand_of, plan_of, open_of, whole_of}
-use Rattle.board_rules.specs.Steps.Step.{at_port, began, did, made_end, evened, paused, became, closing, turned}
+use Rattle.board_rules.specs.Steps.{Journal, taken_of, answered_of, published_of, lines_of, outcomes_of, before_of, left_of, closed_tells, hand_of, open_of, whole_of}
+use Rattle.board_rules.specs.Steps.Step.{at_port, began, did, made_end, evened, paused, became, cut, halted, closing, turned}
 use Rattle.board_rules.specs.Conduct.{Conducted, IsInHand, ticks_given, ticks_published}
 use Rattle.board_rules.proofs.Plain.{length_apart}
 use Rattle.board_rules.proofs.Owing.{few_reports}
-use Rattle.board_rules.proofs.Keeping.{run_is, never_clears, asked_is, told_is, hand_is}
-use Rattle.board_rules.proofs.Lines.{bytes_are, lines_follow}
+use Rattle.board_rules.specs.Parts.{Part, IsCutPart, lines_in, pieces_in, last_number, AreNumbered}
+use Rattle.board_rules.specs.Cuts.{part_outcomes, part_actions, part_given, part_start, part_plan, parts_of, passed_of}
+use Rattle.board_rules.proofs.Keeping.{never_clears, told_is, hand_is}
+use Rattle.board_rules.proofs.Parting.{open_part, asked_is}
+use Rattle.board_rules.proofs.Numbers.{lines_are, count_is, numbers_are, parts_are}
+use Rattle.board_rules.proofs.Counting.{given_sum}
+use Rattle.board_rules.proofs.Lines.{bytes_are, lines_follow, became_is}
 use Rattle.step_line.proofs.Finished.{together_both}
 use Rattle.run_rules.proofs.Going.{as_many}
 use Rattle.board_rules.proofs.Answering.{lfs_of_lines}
-use Rattle.board_rules.proofs.Closing.{At, going, to_finish, to_tell, over, phase_is, no_more_ticks}
+use Rattle.board_rules.proofs.Closing.{At, going, to_finish, to_tell, over, phase_is}
 use Rattle.board_rules.proofs.Bounding.{most_events, weight, weight_on, line_ticks, line_replies, modest}
 
 -- ---- lines
@@ -70,32 +76,43 @@ few_taken first (made_end ∷ h) c = few_taken first h c.1
 few_taken first (evened ∷ h) c = few_taken first h c.1
 few_taken first (paused ∷ h) c = few_taken first h c.1
 few_taken first (became call m ∷ h) c = few_taken first h c.1
+few_taken first (cut k ∷ h) c = few_taken first h c.1
+few_taken first (halted ∷ h) c = few_taken first h c.1
 few_taken first (closing ∷ h) c = few_taken first h c.1
 few_taken first (turned t ∷ h) c = few_taken first h c.1
 
 pub few_lines : (first : State) (h : Journal) → Conducted first h → length (outcomes_of h) ≤ 2 ^ 31
 few_lines first h c =
-    let many = as_many true (start first) (before_of first h) (lines_of h) (map a_line (outcomes_of h)) (lines_follow first h c) in
-    let same = length-map (outcomes_of h) a_line in
+    let many = as_many true (start first) (before_of first h) (lines_of h) (passed_of h) (lines_follow first h c) in
+    let same = ap (λ (os : List Outcome). length os) (became_is h) in
     let lfs = lfs_of_lines (taken_of h) (lines_of h) (open_of h) (whole_of h) (bytes_are first h c) in
     let few = few_taken first h c in
     let below = count_by-le-length (λ (b : ℕ). nat_eq b 10) (taken_of h) in
     omega arith
 
 -- what all lines ask for, and tell
-all_modest : (b last : Before) (ls : List (List ℕ)) (os : List Outcome) → Follows true b ls (map a_line os) last
-    → (weight (asked_in os) ≤ line_ticks * length os) × (length (flat_map (λ (o : Outcome). tells o.work) os) ≤ line_replies * length os)
+all_modest : (b last : Before) (ls : List (List ℕ)) (ps : List Passed) → Follows true b ls ps last
+    → (weight (asked_in (became_of ps)) ≤ line_ticks * length (became_of ps)) × (length (flat_map (λ (o : Outcome). tells o.work) (became_of ps)) ≤ line_replies * length (became_of ps))
 all_modest b last [] [] f = (omega arith, omega arith)
-all_modest b last (l ∷ ls) (o ∷ os) f =
-    let rest = all_modest (after b o) last ls os f.1 in
-    let one = modest true b l o f.0 in
+all_modest b last ls (a_cut k at ∷ ps) f = all_modest (at_place at b) last ls ps f.1
+all_modest b last (l ∷ ls) (a_line o ∷ ps) f =
+    let os = became_of ps in
+    let rest = all_modest (after b o) last ls ps f.1 in
+    let one = modest true b l o f.0.becomes in
     let t = one.ticks in let r = one.told in
     let u = rest.0 in let v = rest.1 in
     let e = weight_on (asks o.work) (asked_in os) in
     let d = length-append (tells o.work) (flat_map (λ (x : Outcome). tells x.work) os) in
     (omega arith, omega arith)
-all_modest b last [] (o ∷ os) f = absurd f
+all_modest b last [] (a_line o ∷ ps) f = absurd f
 all_modest b last (l ∷ ls) [] f = absurd f
+
+-- of the lines that were begun
+begun_modest : (first : State) (h : Journal) → Conducted first h
+    → (weight (asked_in (outcomes_of h)) ≤ line_ticks * length (outcomes_of h)) × (length (flat_map (λ (o : Outcome). tells o.work) (outcomes_of h)) ≤ line_replies * length (outcomes_of h))
+begun_modest first h c =
+    subst (λ (os : List Outcome). (weight (asked_in os) ≤ line_ticks * length os) × (length (flat_map (λ (o : Outcome). tells o.work) os) ≤ line_replies * length os)) (became_is h)
+    (all_modest (start first) (before_of first h) (lines_of h) (passed_of h) (lines_follow first h c))
 
 -- ---- ticks
 
@@ -146,24 +163,47 @@ moves_planned most p last (Mark m ∷ more) [] run = absurd run
 moves_planned most p last (Mark m ∷ more) (pieces.Segment s ∷ ps) run = absurd run
 moves_planned most p last (Mark m ∷ more) (pieces.End ∷ ps) run = absurd run
 
--- the end has none
-pub same_ticks : (h : Journal) → At h → ticks_given h ≡ ticks_together (planned_of h)
-same_ticks h (going e is) = ap ticks_together is
-same_ticks h (to_finish e l w is) = ap ticks_together is
-same_ticks h (to_tell e l w p is k) = ap ticks_together is ∙ no_more_ticks (planned_of h)
-same_ticks h (over e l w p d is k) = ap ticks_together is ∙ no_more_ticks (planned_of h)
+weight_in : (xs ys : List Outcome) → weight (asked_in (xs ++ ys)) ≡ weight (asked_in xs) + weight (asked_in ys)
+weight_in xs ys = ap weight (flat_map-append (λ (o : Outcome). asks o.work) xs ys) ∙ weight_on (asked_in xs) (asked_in ys)
+
+-- what a part gives is of what was done in it, which is of what its lines ask for
+part_given_few : (p : Part) → IsCutPart p → ticks_together p.given ≤ weight (asked_in p.outcomes)
+part_given_few p is =
+    let few = few_ticks (all_asked p.actions) (moves_planned most_blocks p.start p.plan p.actions p.given is.run) in
+    let ticks = ap (λ (rs : List Record). length rs) is.ticks ∙ length-append (flat_map ticks_of p.given) (ticks_left p.plan ++ ticks_of_all p.dropped) in
+    let more = length-append (ticks_left p.plan) (ticks_of_all p.dropped) in
+    let split = ap (λ (a : List Asked). length (ticks_of_all a)) is.asks ∙ ap (λ (rs : List Record). length rs) (flat_map-append ticks_of_one (all_asked p.actions) p.dropped) ∙ length-append (ticks_of_all (all_asked p.actions)) (ticks_of_all p.dropped) in
+    let asked = ap weight is.asks ∙ weight_on (all_asked p.actions) p.dropped in
+    omega (arith, few, ticks, more, split, asked)
+
+parts_given_few : (ps : List Part) → AllByRecursion IsCutPart ps → ticks_together (pieces_in ps) ≤ weight (asked_in (lines_in ps)) + length ps
+parts_given_few [] all = omega arith
+parts_given_few (p ∷ ps) all =
+    let rest = parts_given_few ps all.1 in
+    let one = part_given_few p all.0 in
+    let lines = weight_in (lines_in ps) p.outcomes in
+    let a = together_both (pieces_in ps) (p.given ++ pieces.Mark (marks.Cut p.number) ∷ []) in
+    let b = together_both p.given (pieces.Mark (marks.Cut p.number) ∷ []) in
+    omega (arith, rest, one, lines, a, b)
+
+parts_few : (ps : List Part) → AreNumbered ps → length ps ≤ last_number ps
+parts_few [] n = omega arith
+parts_few (p ∷ ps) n = let e = parts_few ps n.2 in let f = n.1 in omega (arith, e, f)
 
 pub few_given : (first : State) (h : Journal) → Conducted first h → ticks_given h < 2 ^ 62
 few_given first h c =
-    let run = run_is first h c in
-    let never = never_clears first h c in
-    let given = same_ticks h (phase_is first h c) in
-    let ticks = ap (λ (rs : List Record). length rs) (ticks_from_start most_blocks fresh_plan (plan_of h) (actions_of h) (planned_of h) fresh_starts never run) in
-    let split = length-append (flat_map ticks_of (planned_of h)) (ticks_left (plan_of h)) in
-    let few = few_ticks (all_asked (actions_of h)) (moves_planned most_blocks fresh_plan (plan_of h) (actions_of h) (planned_of h) run) in
+    let part = open_part first h c in
+    let few = few_ticks (all_asked (part_actions h)) (moves_planned most_blocks (part_start h) (part_plan h) (part_actions h) (part_given h) part.run) in
+    let ticks = ap (λ (rs : List Record). length rs) (ticks_from_start most_blocks (part_start h) (part_plan h) (part_actions h) (part_given h) part.starts (never_clears first h c) part.run) in
+    let split = length-append (flat_map ticks_of (part_given h)) (ticks_left (part_plan h)) in
     let asked = ap weight (asked_is first h c) in
-    let parts = weight_on (all_asked (actions_of h)) (asks (left_of h)) in
-    let all = (all_modest (start first) (before_of first h) (lines_of h) (outcomes_of h) (lines_follow first h c)).0 in
+    let parts = weight_on (all_asked (part_actions h)) (asks (left_of h)) in
+    let closed = parts_given_few (parts_of h) (parts_are first h c) in
+    let cuts = parts_few (parts_of h) (numbers_are first h c) in
+    let count = count_is first h c in
+    let given = given_sum first h c in
+    let all = (begun_modest first h c).0 in
+    let both = ap (λ (os : List Outcome). weight (asked_in os)) (lines_are first h c) ∙ weight_in (lines_in (parts_of h)) (part_outcomes h) in
     let lines = few_lines first h c in
     omega arith
 
@@ -182,12 +222,12 @@ few_next first h p c next =
 closing_few : (h : Journal) → At h → length (closed_tells h) ≤ 1
 closing_few h (going e is) = let n = ap (λ (rs : List Reply). length rs) e in omega arith
 closing_few h (to_finish e l w is) = let n = ap (λ (rs : List Reply). length rs) e in omega arith
-closing_few h (to_tell e l w p is k) = let n = ap (λ (rs : List Reply). length rs) e in omega arith
-closing_few h (over e l w p d is k) = let n = ap (λ (rs : List Reply). length rs) e in omega arith
+closing_few h (to_tell e l w p still is k) = let n = ap (λ (rs : List Reply). length rs) e in omega arith
+closing_few h (over e l w p still d is k) = let n = ap (λ (rs : List Reply). length rs) e in omega arith
 
 pub few_answered : (first : State) (h : Journal) → Conducted first h → length (answered_of h) < 2 ^ 62
 few_answered first h c =
-    let all = (all_modest (start first) (before_of first h) (lines_of h) (outcomes_of h) (lines_follow first h c)).1 in
+    let all = (begun_modest first h c).1 in
     let lines = few_lines first h c in
     let closed = closing_few h (phase_is first h c) in
     let same = ap (λ (rs : List Reply). length rs) (told_is first h c) in

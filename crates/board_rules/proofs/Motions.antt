@@ -1,100 +1,43 @@
--- The motion is idle, runs, slows down for a hold, or is held.
-use Rattle.std.proofs.Common.{◌≡◌, ◌⊎◌, inl, inr, Bool, false, true, ◌&&◌, not, [], ◌∷◌, Some, refl, subst}
+-- The motion is idle, runs, slows down for a hold, is held, jogs, or a jog is cancelled, until a line raises an alarm.
+use Rattle.std.proofs.Common.{◌≡◌, ◌⊎◌, inl, inr, false, true, refl}
 use Rattle.feed_hold.specs.declared.Motion.{Motion}
-use Rattle.feed_hold.specs.declared.Motion.TheVariants.{Idle, Run, Holding, Held}
-use Rattle.feed_hold.specs.Motions.{Call, after, after_word, after_hold, after_cancel, after_start, asks, hold_byte, cancel_byte, start_byte}
-use Rattle.feed_hold.specs.Motions.Call.{on_exec, on_start, on_limit, on_pause, on_stopped, on_drained}
+use Rattle.feed_hold.specs.declared.Motion.TheVariants.{Idle, Run, Holding, Held, Jog, Cancelling, Stopping, Alarm}
+use Rattle.feed_hold.specs.Motions.{is_stopping}
 use Rattle.run_rules.specs.declared.State.{State}
-use Rattle.board_rules.specs.Steps.{Journal, motion_of}
-use Rattle.board_rules.specs.Steps.Step.{at_port, began, did, made_end, evened, paused, became, closing, turned}
-use Rattle.board_rules.specs.Conduct.{Conducted, MayHappen}
+use Rattle.board_rules.specs.Steps.{Journal, has_alarmed, motion_of}
+use Rattle.board_rules.specs.Turns.{is_limited}
+use Rattle.board_rules.specs.Conduct.{Conducted}
+use Rattle.board_rules.proofs.Alarms.{limited_alarmed, unlimited_calm}
 
-abbrev IsPlain : Motion → Type 0
-IsPlain m = (m ≡ Idle) ⊎ ((m ≡ Run) ⊎ ((m ≡ Holding) ⊎ (m ≡ Held)))
+abbrev pub IsPlain : Motion → Type 0
+IsPlain m = (m ≡ Idle) ⊎ ((m ≡ Run) ⊎ ((m ≡ Holding) ⊎ ((m ≡ Held) ⊎ ((m ≡ Jog) ⊎ (m ≡ Cancelling)))))
 
-abbrev plain : Motion → Bool
-plain Idle = true
-plain Run = true
-plain Holding = true
-plain Held = true
-plain _ = false
-
-is_plain : (m : Motion) → plain m ≡ true → IsPlain m
+is_plain : (m : Motion) → is_limited m ≡ false → IsPlain m
 is_plain Idle is = inl refl
 is_plain Run is = inr (inl refl)
 is_plain Holding is = inr (inr (inl refl))
-is_plain Held is = inr (inr (inr refl))
-is_plain m is = absurd cc
+is_plain Held is = inr (inr (inr (inl refl)))
+is_plain Jog is = inr (inr (inr (inr (inl refl))))
+is_plain Cancelling is = inr (inr (inr (inr (inr refl))))
+is_plain Stopping is = absurd cc
+is_plain Alarm is = absurd cc
 
--- each request by itself leaves it so
-holds : (asked : Bool) (m : Motion) → plain m ≡ true → plain (after_hold asked m) ≡ true
-holds false m is = is
-holds true Idle is = refl
-holds true Run is = refl
-holds true Holding is = refl
-holds true Held is = refl
-holds true m is = absurd cc
+pub motion_is : (first : State) (h : Journal) → Conducted first h → has_alarmed h ≡ false → IsPlain (motion_of h)
+motion_is first h c none = is_plain (motion_of h) (unlimited_calm first h c none)
 
-cancels : (asked : Bool) (m : Motion) → plain m ≡ true → plain (after_cancel asked m) ≡ true
-cancels false m is = is
-cancels true Idle is = refl
-cancels true Run is = refl
-cancels true Holding is = refl
-cancels true Held is = refl
-cancels true m is = absurd cc
+-- what a machine slows down for: a hold, a cancel, or an alarm
+abbrev pub SlowsFor : Journal → Type 0
+SlowsFor h = (motion_of h ≡ Holding) ⊎ ((motion_of h ≡ Cancelling) ⊎ ((motion_of h ≡ Stopping) × (has_alarmed h ≡ true)))
 
-starts : (asked queued : Bool) (m : Motion) → plain m ≡ true → plain (after_start asked queued m) ≡ true
-starts false queued m is = is
-starts true true Idle is = refl
-starts true false Idle is = refl
-starts true true Run is = refl
-starts true false Run is = refl
-starts true true Holding is = refl
-starts true false Holding is = refl
-starts true true Held is = refl
-starts true false Held is = refl
-starts true queued m is = absurd cc
+slowing_of : (h : Journal) (m : Motion) → motion_of h ≡ m → (is_limited m ≡ true → has_alarmed h ≡ true) → is_stopping m ≡ true → SlowsFor h
+slowing_of h Holding is limits slows = inl is
+slowing_of h Cancelling is limits slows = inr (inl is)
+slowing_of h Stopping is limits slows = inr (inr (is, limits refl))
+slowing_of h Idle is limits slows = absurd cc
+slowing_of h Run is limits slows = absurd cc
+slowing_of h Held is limits slows = absurd cc
+slowing_of h Jog is limits slows = absurd cc
+slowing_of h Alarm is limits slows = absurd cc
 
-started : (was m : Motion) → plain was ≡ true → after (on_start false) was ≡ Some m → plain m ≡ true
-started Idle Run is then = refl
-started Run Run is then = refl
-started was m is then = absurd cc
-
-drained : (was m : Motion) → plain was ≡ true → after on_drained was ≡ Some m → plain m ≡ true
-drained Idle Idle is then = refl
-drained Run Idle is then = refl
-drained was m is then = absurd cc
-
-stopped : (was m : Motion) → plain was ≡ true → after on_stopped was ≡ Some m → plain m ≡ true
-stopped Holding Held is then = refl
-stopped was m is then = absurd cc
-
-same : (was m : Motion) → Some was ≡ Some m → plain was ≡ true → plain m ≡ true
-same was m e is = subst (λ (n : Motion). plain n ≡ true) (let i : was ≡ m = cc in i) is
-
-happened : (h : Journal) (call : Call) (m : Motion) → MayHappen call h → after call (motion_of h) ≡ Some m → plain (motion_of h) ≡ true → plain m ≡ true
-happened h (on_start false) m may then is = started (motion_of h) m is then
-happened h (on_start true) m may then is = absurd may
-happened h on_drained m may then is = drained (motion_of h) m is then
-happened h (on_exec word queued) m may then is =
-    same (after_word word queued (motion_of h)) m then
-    (starts (asks word start_byte && not (asks word hold_byte)) queued (after_cancel (asks word cancel_byte) (after_hold (asks word hold_byte) (motion_of h)))
-    (cancels (asks word cancel_byte) (after_hold (asks word hold_byte) (motion_of h)) (holds (asks word hold_byte) (motion_of h) is)))
-happened h on_limit m may then is = absurd may
-happened h on_pause m may then is = absurd may
-happened h on_stopped m may then is = stopped (motion_of h) m is then
-
-stays_plain : (first : State) (h : Journal) → Conducted first h → plain (motion_of h) ≡ true
-stays_plain first [] c = refl
-stays_plain first (at_port e ∷ h) c = stays_plain first h c.1
-stays_plain first (began o ∷ h) c = stays_plain first h c.1
-stays_plain first (did a ps ∷ h) c = stays_plain first h c.1
-stays_plain first (made_end ∷ h) c = stays_plain first h c.1
-stays_plain first (evened ∷ h) c = stays_plain first h c.1
-stays_plain first (paused ∷ h) c = refl
-stays_plain first (became call m ∷ h) c = happened h call m c.0.1 c.0.0 (stays_plain first h c.1)
-stays_plain first (closing ∷ h) c = stays_plain first h c.1
-stays_plain first (turned t ∷ h) c = stays_plain first h c.1
-
-pub motion_is : (first : State) (h : Journal) → Conducted first h → IsPlain (motion_of h)
-motion_is first h c = is_plain (motion_of h) (stays_plain first h c)
+pub slows_for : (first : State) (h : Journal) → Conducted first h → is_stopping (motion_of h) ≡ true → SlowsFor h
+slows_for first h c slows = slowing_of h (motion_of h) refl (limited_alarmed first h c) slows

@@ -8,7 +8,7 @@ use Rattle.run_rules.specs.declared.State.{State}
 use Rattle.board_rules.specs.Ports.{asks_report, reports_in}
 use Rattle.board_rules.specs.Ports.PortStep.{took, found_empty, found_closed, found_free, answered, reported, no_reply_room, took_exec, took_ovr, published, no_piece_room, loaded}
 use Rattle.board_rules.specs.Steps.{Journal, port_log, answered_of}
-use Rattle.board_rules.specs.Steps.Step.{at_port, began, did, made_end, evened, paused, became, closing, turned}
+use Rattle.board_rules.specs.Steps.Step.{at_port, began, did, made_end, evened, paused, became, cut, halted, closing, turned}
 use Rattle.board_rules.specs.Turns.{owes_report}
 use Rattle.board_rules.specs.Conduct.{Conducted}
 use Rattle.board_rules.proofs.Plain.{reports_on}
@@ -55,6 +55,8 @@ owes_few first (made_end ∷ h) c = owes_few first h c.1
 owes_few first (evened ∷ h) c = owes_few first h c.1
 owes_few first (paused ∷ h) c = owes_few first h c.1
 owes_few first (became call m ∷ h) c = owes_few first h c.1
+owes_few first (cut k ∷ h) c = owes_few first h c.1
+owes_few first (halted ∷ h) c = owes_few first h c.1
 owes_few first (closing ∷ h) c = owes_few first h c.1
 owes_few first (turned t ∷ h) c = owes_few first h c.1
 
@@ -83,6 +85,8 @@ few_asked first (made_end ∷ h) c = few_asked first h c.1
 few_asked first (evened ∷ h) c = few_asked first h c.1
 few_asked first (paused ∷ h) c = few_asked first h c.1
 few_asked first (became call m ∷ h) c = few_asked first h c.1
+few_asked first (cut k ∷ h) c = few_asked first h c.1
+few_asked first (halted ∷ h) c = few_asked first h c.1
 few_asked first (closing ∷ h) c = few_asked first h c.1
 few_asked first (turned t ∷ h) c = few_asked first h c.1
 

@@ -6,6 +6,7 @@ use Rattle.std.proofs.lemmas.Bool.Decides.{nat_tests}
 use Rattle.units.specs.declared.Steps3.{Steps3}
 use Rattle.modal_state.specs.declared.Parser.{Parser}
 use Rattle.step_line.specs.declared.Segment.{Segment}
+use Rattle.step_line.specs.declared.Mark.TheVariants as marks
 use Rattle.step_line.specs.declared.Piece.{Piece}
 use Rattle.step_line.specs.declared.Piece.TheVariants as pieces
 use Rattle.step_line.specs.declared.planned_move.PlannedMove.{PlannedMove}
@@ -32,13 +33,15 @@ use Rattle.flight.proofs.Flying.{joined_on}
 use Rattle.run_rules.specs.declared.State.{State}
 use Rattle.run_rules.specs.States.{IsOpening}
 use Rattle.run_rules.specs.Work.{Task, asks_move}
-use Rattle.run_rules.specs.Work.Task.{ask, tell, pause, normal, finish}
+use Rattle.run_rules.specs.Work.Task.{ask, tell, pause, normal, finish, halt}
 use Rattle.board_rules.specs.Ports.{PortStep}
 use Rattle.board_rules.specs.Ports.PortStep.{answered}
-use Rattle.board_rules.specs.Steps.{Step, Journal, actions_of, given_of, planned_of, published_of, hand_of, plan_of, left_of as tasks_left, before_of, open_of, motion_of}
-use Rattle.board_rules.specs.Steps.Step.{at_port, began, did, made_end, evened, paused, became, closing, turned}
+use Rattle.board_rules.specs.Steps.{Step, Journal, actions_of, given_of, planned_of, published_of, hand_of, plan_of, left_of as tasks_left, without_asks, before_of, open_of}
+use Rattle.board_rules.specs.Steps.Step.{at_port, began, did, made_end, evened, paused, became, cut, halted, closing, turned}
+use Rattle.board_rules.specs.Cuts.{has_halted}
 use Rattle.board_rules.specs.Conduct.{Conducted, MayDo, MayAtPort, Gives, IsInHand}
-use Rattle.board_rules.specs.Turns.{is_run}
+use Rattle.board_rules.proofs.Alarms.{stage_is, only_override}
+use Rattle.board_rules.proofs.Beginning.{caused, becomes_caused}
 use Rattle.board_rules.proofs.Keeping.{run_is, hand_is}
 use Rattle.board_rules.proofs.Leading.{TasksLead, tasks_start, line_leads}
 
@@ -82,7 +85,7 @@ reached first h c = reached_from most_blocks fresh_plan (plan_of h) (actions_of 
 
 -- ---- a board that keeps to its rules
 
--- where the moves lead that were added
+-- where the moves lead that were added; behind a cut, where the pieces do that were given
 abbrev pub goal_by : Action → Steps3 → Steps3
 goal_by (Add m) at = m.mv.to
 goal_by a at = at
@@ -90,6 +93,7 @@ goal_by a at = at
 abbrev pub goal_of : Journal → Steps3
 goal_of [] = origin
 goal_of (did a ps ∷ h) = goal_by a (goal_of h)
+goal_of (cut k ∷ h) = end_of (given_of h)
 goal_of (s ∷ h) = goal_of h
 
 -- the position behind the lines that were begun
@@ -112,6 +116,7 @@ pop_leads from to ts (tell r) next none lead = subst (λ (ts : List Task). Tasks
 pop_leads from to ts pause next none lead = subst (λ (ts : List Task). TasksLead from ts to) next lead
 pop_leads from to ts normal next none lead = subst (λ (ts : List Task). TasksLead from ts to) next lead
 pop_leads from to ts finish next none lead = subst (λ (ts : List Task). TasksLead from ts to) next lead
+pop_leads from to ts halt next none lead = subst (λ (ts : List Task). TasksLead from ts to) next lead
 
 popped : (first : State) (h : Journal) (t : Task) → tasks_left h ≡ t ∷ drop 1 (tasks_left h) → asks_move t ≡ false → JournalLeads first h
     → TasksLead (goal_of h) (drop 1 (tasks_left h)) (position_of first h)
@@ -197,21 +202,59 @@ on_end first h next j =
     (blocks_start (end_of (given_of h ++ pieces.End ∷ [])) (end_of (given_of h)) (plan_of h).blocks (goal_of h) (end_on (given_of h) pieces.End) j.blocks)
     (popped first h finish next refl j) j
 
+dropped_lead : (at : Steps3) (ts : List Task) → TasksLead at (without_asks ts) at
+dropped_lead at [] = refl
+dropped_lead at (ask a ∷ ts) = dropped_lead at ts
+dropped_lead at (tell r ∷ ts) = dropped_lead at ts
+dropped_lead at (pause ∷ ts) = dropped_lead at ts
+dropped_lead at (normal ∷ ts) = dropped_lead at ts
+dropped_lead at (finish ∷ ts) = dropped_lead at ts
+dropped_lead at (halt ∷ ts) = dropped_lead at ts
+
+-- behind a cut the next line begins where the pieces lead that were given
+on_cut : (first : State) (h : Journal) (k : ℕ) → JournalLeads first h → JournalLeads first (cut k ∷ h)
+on_cut first h k j =
+    gives first h (cut k) (pieces.Mark (marks.Cut k)) [] refl tt refl (end_on (given_of h) (pieces.Mark (marks.Cut k))) (dropped_lead (end_of (given_of h)) (tasks_left h)) j
+
 module _ (first : State) (opens : first.parser.pos_steps ≡ origin) where
-  pub journal_leads : (h : Journal) → Conducted first h → JournalLeads first h
-  journal_leads [] c = record { given = tt; blocks = refl; tasks = sym opens }
-  journal_leads (at_port e ∷ h) c = on_port first h e c.0 (journal_leads h c.1)
-  journal_leads (began o ∷ h) c =
-      let j = journal_leads h c.1 in
+  -- until the machine is halted
+  pub journal_leads : (h : Journal) → Conducted first h → has_halted h ≡ false → JournalLeads first h
+  journal_leads [] c none = record { given = tt; blocks = refl; tasks = sym opens }
+  journal_leads (at_port e ∷ h) c none = on_port first h e c.0 (journal_leads h c.1 none)
+  journal_leads (began o ∷ h) c none =
+      let j = journal_leads h c.1 none in
       keeps first h (began o) refl refl refl
-      (tasks_start (goal_of h) (position_of first h) o.work o.next.parser.pos_steps (all_done first h c.0.free j) (line_leads (is_run (motion_of h)) (before_of first h) (open_of h) o c.0.becomes)) j
-  journal_leads (did a ps ∷ h) c = on_did first h a ps c.1 c.0.0 c.0.1 (journal_leads h c.1)
-  journal_leads (made_end ∷ h) c = on_end first h c.0.rests.next (journal_leads h c.1)
-  journal_leads (evened ∷ h) c = let j = journal_leads h c.1 in keeps first h evened refl refl refl (popped first h normal c.0.rests.next refl j) j
-  journal_leads (paused ∷ h) c = let j = journal_leads h c.1 in keeps first h paused refl refl refl (popped first h pause c.0.rests.next refl j) j
-  journal_leads (became call m ∷ h) c = let j = journal_leads h c.1 in keeps first h (became call m) refl refl refl j.tasks j
-  journal_leads (closing ∷ h) c = let j = journal_leads h c.1 in keeps first h closing refl refl refl (all_done first h c.0.free j) j
-  journal_leads (turned t ∷ h) c = let j = journal_leads h c.1 in keeps first h (turned t) refl refl refl j.tasks j
+      (tasks_start (goal_of h) (position_of first h) o.work o.next.parser.pos_steps (all_done first h c.0.free j) (line_leads true (caused first h) (open_of h) o (becomes_caused first h o c.0))) j
+  journal_leads (did a ps ∷ h) c none = on_did first h a ps c.1 c.0.0 c.0.1 (journal_leads h c.1 none)
+  journal_leads (made_end ∷ h) c none = on_end first h c.0.next (journal_leads h c.1 none)
+  journal_leads (evened ∷ h) c none = let j = journal_leads h c.1 none in keeps first h evened refl refl refl (popped first h normal c.0.rests.next refl j) j
+  journal_leads (paused ∷ h) c none = let j = journal_leads h c.1 none in keeps first h paused refl refl refl (popped first h pause c.0.rests.next refl j) j
+  journal_leads (became call m ∷ h) c none = let j = journal_leads h c.1 none in keeps first h (became call m) refl refl refl j.tasks j
+  journal_leads (cut k ∷ h) c none = on_cut first h k (journal_leads h c.1 none)
+  journal_leads (halted ∷ h) c none = absurd cc
+  journal_leads (closing ∷ h) c none = let j = journal_leads h c.1 none in keeps first h closing refl refl refl (all_done first h c.0.free j) j
+  journal_leads (turned t ∷ h) c none = let j = journal_leads h c.1 none in keeps first h (turned t) refl refl refl j.tasks j
+
+  did_joins : (h : Journal) (a : Action) (ps : List Piece) → Conducted first (did a ps ∷ h) → (was : Bool) → has_halted h ≡ was → Join origin (given_of h) → Join origin (given_of (did a ps ∷ h))
+  did_joins h a ps c true was joined =
+      let none = (only_override h a ps c.0.0 c.0.1 (stage_is first h c.1) was).2 in
+      subst (Join origin) (sym (append-nil (given_of h)) ∙ ap (λ (qs : List Piece). given_of h ++ qs) (sym none)) joined
+  did_joins h a ps c false none joined = (journal_leads (did a ps ∷ h) c none).given
+
+  -- behind a halt only the end is given
+  pub given_joins : (h : Journal) → Conducted first h → Join origin (given_of h)
+  given_joins [] c = tt
+  given_joins (at_port e ∷ h) c = given_joins h c.1
+  given_joins (began o ∷ h) c = given_joins h c.1
+  given_joins (did a ps ∷ h) c = did_joins h a ps c (has_halted h) refl (given_joins h c.1)
+  given_joins (made_end ∷ h) c = joined_on origin (given_of h) pieces.End (given_joins h c.1) tt
+  given_joins (evened ∷ h) c = given_joins h c.1
+  given_joins (paused ∷ h) c = given_joins h c.1
+  given_joins (became call m ∷ h) c = given_joins h c.1
+  given_joins (cut k ∷ h) c = joined_on origin (given_of h) (pieces.Mark (marks.Cut k)) (given_joins h c.1) tt
+  given_joins (halted ∷ h) c = given_joins h c.1
+  given_joins (closing ∷ h) c = given_joins h c.1
+  given_joins (turned t ∷ h) c = given_joins h c.1
 
 -- ---- the pieces that are published
 
@@ -227,7 +270,7 @@ front from (q ∷ early) late joined = (joined.0, front (moved_by from (ticks_of
 
 module _ (first : State) (h : Journal) (opens : IsOpening first) (c : Conducted first h) where
   all_join : Join origin (published_of h ++ hand_of h)
-  all_join = subst (Join origin) (hand_is first h c) (journal_leads first (ap (λ (p : Parser). p.pos_steps) opens.parser) h c).given
+  all_join = subst (Join origin) (hand_is first h c) (given_joins first (ap (λ (p : Parser). p.pos_steps) opens.parser) h c)
 
   pub next_begins : (p : Piece) → IsInHand p h → BeginsAt (end_of (published_of h)) p
   next_begins p next = begins_there origin (published_of h) (drop 1 (hand_of h)) p (subst (λ (ps : List Piece). Join origin (published_of h ++ ps)) next all_join)

@@ -1,5 +1,5 @@
 -- Where no line has moved since the last one that settles, the machine stands, or is waited for.
-use Rattle.std.proofs.Common.{◌≡◌, ℕ, ◌⊎◌, inl, inr, List, [], ◌∷◌, ◌++◌, length, drop, true, false, Bool, cond, not, ◌&&◌, ◌||◌, nat_eq, nat_lt, sym, refl, ap, ◌∙◌, append-nil, subst}
+use Rattle.std.proofs.Common.{◌≡◌, ℕ, ◌⊎◌, inl, inr, List, [], ◌∷◌, ◌++◌, drop, true, false, Bool, cond, ◌||◌, sym, refl, ap, ◌∙◌, append-nil, subst}
 use Rattle.status_report.specs.declared.Reply.{Reply}
 use Rattle.step_line.specs.declared.Piece.{Piece}
 use Rattle.step_line.specs.Finishing.{ticks_together}
@@ -11,18 +11,17 @@ use Rattle.overrides.specs.declared.Overrides.{Overrides}
 use Rattle.planner_runs.specs.Runs.{IsAtRest, most_blocks}
 use Rattle.run_rules.specs.declared.State.{State}
 use Rattle.run_rules.specs.Work.{Task, Outcome, has_moves}
-use Rattle.run_rules.specs.Work.Task.{ask, tell, pause, normal, finish}
-use Rattle.run_rules.specs.Outcomes.{Before, Becomes, either, most_kept, refused}
-use Rattle.system_lines.specs.Commands.{kind_of, needs_rest}
-use Rattle.board_rules.specs.Turns.{is_run, is_served_at_rest}
+use Rattle.run_rules.specs.Work.Task.{ask, tell, pause, normal, finish, halt}
 use Rattle.board_rules.specs.Ports.{MayBeDone}
 use Rattle.board_rules.specs.Ports.PortStep.{took, found_empty, found_closed, found_free, answered, reported, no_reply_room, took_exec, took_ovr, published, no_piece_room, loaded}
-use Rattle.board_rules.specs.Steps.{Step, Journal, port_log, given_of, hand_of, known_of, plan_of, left_of, left_by, behind, before_of, closed_tells, open_of, motion_of}
-use Rattle.board_rules.specs.Steps.Step.{at_port, began, did, made_end, evened, paused, became, closing, turned}
-use Rattle.board_rules.specs.Conduct.{Conducted, Gives, MayDo, MayRest, MayPause, MayEven, IsDrained, ticks_given}
-use Rattle.board_rules.specs.Whole.{has_work, comes_to_rest, WorkRests, IsQuiet, ComesToRest}
+use Rattle.board_rules.specs.Steps.{Step, Journal, port_log, given_of, hand_of, known_of, plan_of, left_of, left_by, behind, before_of, closed_tells, open_of}
+use Rattle.board_rules.specs.Steps.Step.{at_port, began, did, made_end, evened, paused, became, cut, halted, closing, turned}
+use Rattle.board_rules.specs.Conduct.{Conducted, Gives, MayDo, MayRest, MayPause, MayEven, MayHalt, IsDrained, ticks_given}
+use Rattle.board_rules.specs.Whole.{has_work, comes_to_rest, WorkRests, IsQuiet, ComesToRest, has_any_moved}
 use Rattle.board_rules.proofs.Given.{all_known}
+use Rattle.board_rules.proofs.Beginning.{caused, becomes_caused, all_counted}
 use Rattle.board_rules.proofs.Works.{works}
+use Rattle.board_rules.proofs.Standing.{rested_is, not_cut}
 use Rattle.board_rules.proofs.Tasks.{none_next, none_taken, none_given, none_closed}
 
 -- the same, of tasks that may be left
@@ -38,6 +37,7 @@ tail_works ts (tell r) next none = sym (ap has_work next) ∙ none
 tail_works ts pause next none = sym (ap has_work next) ∙ none
 tail_works ts normal next none = sym (ap has_work next) ∙ none
 tail_works ts finish next none = sym (ap has_work next) ∙ none
+tail_works ts halt next none = sym (ap has_work next) ∙ none
 
 -- a rest that is still to come stays so behind any other task
 tail_rests : (ts : List Task) (t : Task) → ts ≡ t ∷ drop 1 ts → (t ≡ ask a_rest → ⊥) → comes_to_rest ts ≡ true → comes_to_rest (drop 1 ts) ≡ true
@@ -48,6 +48,7 @@ tail_rests ts (tell r) next other will = sym (ap comes_to_rest next) ∙ will
 tail_rests ts pause next other will = sym (ap comes_to_rest next) ∙ will
 tail_rests ts normal next other will = sym (ap comes_to_rest next) ∙ will
 tail_rests ts finish next other will = sym (ap comes_to_rest next) ∙ will
+tail_rests ts halt next other will = sym (ap comes_to_rest next) ∙ will
 
 -- the machine stands still while nothing is done to it
 still_drained : (h : Journal) (s : Step) → plan_of (s ∷ h) ≡ plan_of h → hand_of (s ∷ h) ≡ hand_of h → known_of (s ∷ h) ≡ known_of h
@@ -87,6 +88,13 @@ on_pause h may (inl will) = inl (tail_rests (left_of h) pause may.rests.next (λ
 on_pause h may (inr q) = inr (record {
   drained = still_drained h paused refl refl refl refl q.drained;
   work = tail_works (left_of h) pause may.rests.next q.work;
+})
+
+on_halt : (h : Journal) → MayHalt h → Stands (left_of h) h → Stands (drop 1 (left_of h)) (halted ∷ h)
+on_halt h may (inl will) = inl (tail_rests (left_of h) halt may.next (λ e. absurd cc) will)
+on_halt h may (inr q) = inr (record {
+  drained = record { plan = record { blocks = refl; speed = refl }; hand = q.drained.hand; done = q.drained.done };
+  work = tail_works (left_of h) halt may.next q.work;
 })
 
 -- nothing is done to the machine, and what is left stays
@@ -147,7 +155,7 @@ on_begun h o moved free works true m settles moves still st = inl (works.settles
 on_begun h o moved free works false true settles moves still st = absurd cc
 on_begun h o moved free works false false settles moves still st = by_still h o (drained_here h free (st still)) (works.still moves)
 
-pub quiet : (first : State) (h : Journal) → Conducted first h → closed_tells h ≡ [] → (before_of first h).moved ≡ false → ComesToRest h
+pub quiet : (first : State) (h : Journal) → Conducted first h → closed_tells h ≡ [] → has_any_moved (before_of first h) ≡ false → ComesToRest h
 quiet first [] c going still = inr (record { drained = record { plan = record { blocks = refl; speed = refl }; hand = refl; done = refl }; work = refl })
 quiet first (at_port (took b) ∷ h) c going still = on_other h (at_port (took b)) refl refl refl refl refl (quiet first h c.1 going still)
 quiet first (at_port found_empty ∷ h) c going still = on_other h (at_port found_empty) refl refl refl refl refl (quiet first h c.1 going still)
@@ -158,68 +166,32 @@ quiet first (at_port (reported r) ∷ h) c going still = on_other h (at_port (re
 quiet first (at_port no_reply_room ∷ h) c going still = on_other h (at_port no_reply_room) refl refl refl refl refl (quiet first h c.1 going still)
 quiet first (at_port (took_exec word) ∷ h) c going still = on_other h (at_port (took_exec word)) refl refl refl refl refl (quiet first h c.1 going still)
 quiet first (at_port (took_ovr word) ∷ h) c going still = on_other h (at_port (took_ovr word)) refl refl refl refl refl (quiet first h c.1 going still)
-quiet first (at_port (published p) ∷ h) c going still = on_publish h p c.0 (quiet first h c.1 going still)
+quiet first (at_port (published p) ∷ h) c going still = on_publish h p c.0.0 (quiet first h c.1 going still)
 quiet first (at_port (no_piece_room done) ∷ h) c going still = on_other h (at_port (no_piece_room done)) refl refl refl refl refl (quiet first h c.1 going still)
 quiet first (at_port (loaded done) ∷ h) c going still = on_load first h done c.1 c.0 (quiet first h c.1 going still)
 quiet first (began o ∷ h) c going still =
-    on_begun h o (before_of first h).moved c.0.free (works (is_run (motion_of h)) (before_of first h) (open_of h) o c.0.becomes) o.settles (has_moves o.work) refl refl still
-    (λ m. quiet first h c.1 going m)
+    on_begun h o (has_any_moved (before_of first h)) c.0.free (works true (caused first h) (open_of h) o (becomes_caused first h o c.0)) o.settles (has_moves o.work) refl refl
+    (all_counted first h o c.0 still) (λ m. quiet first h c.1 going m)
 quiet first (did a ps ∷ h) c going still = on_did h a ps c.0.0 c.0.1 (quiet first h c.1 going still)
 quiet first (made_end ∷ h) c going still = absurd (c.0.closes going)
 quiet first (evened ∷ h) c going still = on_even h c.0 (quiet first h c.1 going still)
 quiet first (paused ∷ h) c going still = on_pause h c.0 (quiet first h c.1 going still)
 quiet first (became call m ∷ h) c going still = on_other h (became call m) refl refl refl refl refl (quiet first h c.1 going still)
+quiet first (cut k ∷ h) c going still = not_cut first h k c (rested_is first h c.1 going still)
+quiet first (halted ∷ h) c going still = on_halt h c.0 (quiet first h c.1 going still)
 quiet first (closing ∷ h) c going still = absurd (none_closed (closed_tells h) going)
 quiet first (turned t ∷ h) c going still = on_other h (turned t) refl refl refl refl refl (quiet first h c.1 going still)
 
 -- so a machine that is not drained where a line may be begun has moved since
 pub has_moved : (first : State) (h : Journal) → Conducted first h → closed_tells h ≡ [] → left_of h ≡ []
-    → (IsDrained h → ⊥) → (before_of first h).moved ≡ true
-has_moved first h c going free undrained = by_moved (before_of first h).moved refl
+    → (IsDrained h → ⊥) → has_any_moved (before_of first h) ≡ true
+has_moved first h c going free undrained = by_moved (has_any_moved (before_of first h)) refl
   where
-    by_moved : (m : Bool) → (before_of first h).moved ≡ m → m ≡ true
+    by_moved : (m : Bool) → has_any_moved (before_of first h) ≡ m → m ≡ true
     by_moved true is = refl
     by_moved false is = absurd (undrained (drained_here h free (quiet first h c going is)))
 
 -- and one where nothing moved, and nothing is left to do, has done each tick that was given
 pub has_done : (first : State) (h : Journal) → Conducted first h → closed_tells h ≡ [] → left_of h ≡ []
-    → (before_of first h).moved ≡ false → known_of h ≡ ticks_given h
+    → has_any_moved (before_of first h) ≡ false → known_of h ≡ ticks_given h
 has_done first h c going free still = (drained_here h free (quiet first h c going still)).done
-
--- ---- a line that is served only at rest, where the machine runs
-
-and_left : (a b : Bool) → (a && b) ≡ true → a ≡ true
-and_left true b is = refl
-and_left false b is = absurd cc
-
-and_right : (a b : Bool) → (a && b) ≡ true → b ≡ true
-and_right true b is = is
-and_right false b is = absurd cc
-
-not_true : (a : Bool) → not a ≡ true → a ≡ false
-not_true true is = absurd cc
-not_true false is = refl
-
-by_first : (t : Bool) (A B : Type 0) → t ≡ true → A → either t A B
-by_first true A B is a = a
-by_first false A B is a = absurd cc
-
-by_second : (t : Bool) (A B : Type 0) → t ≡ false → B → either t A B
-by_second true A B is b = absurd cc
-by_second false A B is b = b
-
--- it may be refused
-busy_line : (runs : Bool) (b : Before) (line : List ℕ) → runs ≡ true → b.moved ≡ true → is_served_at_rest line ≡ true → Becomes runs b line (refused b 8)
-busy_line runs b [] found moved is = absurd cc
-busy_line runs b (c ∷ cs) found moved is =
-    let line = c ∷ cs in
-    let kind = and_right (nat_eq c 36) (needs_rest (kind_of line) && not (nat_lt most_kept (length line))) is in
-    by_second (nat_lt most_kept (length line)) _ _ (not_true (nat_lt most_kept (length line)) (and_right (needs_rest (kind_of line)) (not (nat_lt most_kept (length line))) kind))
-    (by_first (nat_eq c 36) _ _ (and_left (nat_eq c 36) (needs_rest (kind_of line) && not (nat_lt most_kept (length line))) is)
-    (inl (record { moved = moved; line = and_left (needs_rest (kind_of line)) (not (nat_lt most_kept (length line))) kind; found = found; outcome = refl })))
-
-pub busy : (first : State) (h : Journal) → Conducted first h → closed_tells h ≡ [] → left_of h ≡ []
-    → is_run (motion_of h) ≡ true → (IsDrained h → ⊥) → is_served_at_rest (open_of h) ≡ true
-    → Becomes (is_run (motion_of h)) (before_of first h) (open_of h) (refused (before_of first h) 8)
-busy first h c going free runs undrained line =
-    busy_line (is_run (motion_of h)) (before_of first h) (open_of h) runs (has_moved first h c going free undrained) line

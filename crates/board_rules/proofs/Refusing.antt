@@ -1,4 +1,4 @@
--- A line that is refused because the machine runs is begun where it does.
+-- A line that is refused because the machine runs or jogs is begun where it does.
 use Rattle.std.proofs.Common.{◌≡◌, ◌≢◌, ℕ, ◌≤◌, ◌<◌, ◌⊎◌, inl, inr, List, [], ◌∷◌, ◌++◌, Bool, true, false, nat_lt, refl, sym, ap, ◌∙◌, append-nil, arith}
 use Rattle.std.proofs.lemmas.Bool.Decides.{nat_tests}
 use Rattle.feed_hold.specs.declared.Motion.{Motion}
@@ -10,33 +10,31 @@ use Rattle.step_line.specs.declared.Piece.{Piece}
 use Rattle.step_line.specs.Finishing.{ticks_together}
 use Rattle.run_rules.specs.declared.State.{State}
 use Rattle.run_rules.specs.Work.{Outcome}
-use Rattle.run_rules.specs.Outcomes.{Before, Becomes, refused}
+use Rattle.run_rules.specs.Outcomes.{Before, Becomes}
+use Rattle.run_rules.specs.Finding.{Found}
+use Rattle.run_rules.proofs.Finding.{becomes_still}
 use Rattle.board_rules.specs.Steps.{Journal, before_of, open_of, known_of, given_of, published_of, planned_of, actions_of, hand_of, plan_of, motion_of}
 use Rattle.board_rules.specs.Steps.Step.{began}
-use Rattle.board_rules.specs.Turns.{has_blocks, is_run, is_going}
+use Rattle.board_rules.specs.Turns.{has_blocks, machine_in, is_going}
 use Rattle.board_rules.specs.Conduct.{Conducted, IsDrained, ticks_published}
 use Rattle.board_rules.specs.Whole.{IsFoundMoving}
 use Rattle.board_rules.proofs.Given.{known_within}
 use Rattle.board_rules.proofs.Keeping.{run_is, hand_is}
 
-run_goes : (m : Motion) → is_run m ≡ true → is_going m ≡ true
-run_goes Idle is = absurd cc
-run_goes Run is = refl
-run_goes Holding is = absurd cc
-run_goes Held is = absurd cc
-run_goes Jog is = absurd cc
-run_goes Cancelling is = absurd cc
-run_goes Stopping is = absurd cc
-run_goes Alarm is = absurd cc
+-- a line becomes what it would not if the machine stood
+it_goes : (m : Motion) (b : Before) (kept : List ℕ) (o : Outcome) → Found (machine_in m) b kept o → (Becomes false b kept o → ⊥) → is_going m ≡ true
+it_goes Run b kept o found other = refl
+it_goes Jog b kept o found other = refl
+it_goes Idle b kept o found other = absurd (other (becomes_still b kept o found))
+it_goes Holding b kept o found other = absurd (other (becomes_still b kept o found))
+it_goes Held b kept o found other = absurd (other (becomes_still b kept o found))
+it_goes Cancelling b kept o found other = absurd (other (becomes_still b kept o found))
+it_goes Stopping b kept o found other = absurd (other (becomes_still b kept o found))
+it_goes Alarm b kept o found other = absurd (other (becomes_still b kept o found))
 
 no_blocks : (blocks : List Block) → has_blocks blocks ≡ false → blocks ≡ []
 no_blocks [] none = refl
 no_blocks (b ∷ blocks) none = absurd cc
-
--- it runs where the line is refused, and would not be if it stood
-it_runs : (b : Before) (kept : List ℕ) (o : Outcome) (runs : Bool) → Becomes runs b kept o → (Becomes false b kept o → ⊥) → runs ≡ true
-it_runs b kept o true becomes other = refl
-it_runs b kept o false becomes other = absurd (other becomes)
 
 drained : (first : State) (h : Journal) → Conducted first h → (plan_of h).blocks ≡ [] → hand_of h ≡ [] → ticks_published h ≤ known_of h → IsDrained h
 drained first h c none empty done =
@@ -61,12 +59,11 @@ what_is_left first h c undrained = by_parts (nat_lt (known_of h) (ticks_publishe
     by_parts false false (p ∷ ps) e f g = inr (inr (λ none. absurd (let same = sym g ∙ none in cc)))
     by_parts false false [] e f g = absurd (undrained (drained first h c (no_blocks (plan_of h).blocks f) g (grind (arith, nat_tests))))
 
-pub found_moving : (first : State) (h : Journal) (o : Outcome) → Conducted first (began o ∷ h) → o ≡ refused (before_of first h) 8
-    → (Becomes false (before_of first h) (open_of h) o → ⊥) → IsFoundMoving h
-found_moving first h o c is other =
-    let runs = it_runs (before_of first h) (open_of h) o (is_run (motion_of h)) c.0.becomes other in
+pub found_moving : (first : State) (h : Journal) (o : Outcome) → Conducted first (began o ∷ h) → (Becomes false (before_of first h) (open_of h) o → ⊥) → IsFoundMoving h
+found_moving first h o c other =
+    let goes = it_goes (motion_of h) (before_of first h) (open_of h) o c.0.becomes other in
     record {
-      runs = runs;
+      goes = goes;
       loaded = c.0.load;
-      left = what_is_left first h c.1 (λ drained. absurd (let goes = sym (run_goes (motion_of h) runs) ∙ c.0.idle drained in cc));
+      left = what_is_left first h c.1 (λ drained. absurd (let e = sym goes ∙ c.0.idle drained in cc));
     }

@@ -15,7 +15,7 @@ use Rattle.status_report.specs.declared.Message.TheVariants as messages
 use Rattle.status_report.specs.declared.Reply.TheVariants as replies
 use Rattle.run_rules.specs.Asks.{spindle_mark, spindle_after, flood_after, spindle_off, coolant_off, item_work, work_of}
 use Rattle.run_rules.specs.Work.{Task, asking, has_moves, asks_move}
-use Rattle.run_rules.specs.Work.Task.{ask, tell, pause, normal, finish}
+use Rattle.run_rules.specs.Work.Task.{ask, tell, pause, normal, finish, halt}
 use Rattle.board_rules.specs.Whole.{has_work, comes_to_rest}
 
 abbrev answer : List Task
@@ -35,6 +35,7 @@ before_rest (tell r ∷ xs) ys is = before_rest xs ys is
 before_rest (pause ∷ xs) ys is = before_rest xs ys is
 before_rest (normal ∷ xs) ys is = before_rest xs ys is
 before_rest (finish ∷ xs) ys is = before_rest xs ys is
+before_rest (halt ∷ xs) ys is = before_rest xs ys is
 
 abbrev Rests : List Task → Type 0
 Rests ts = (comes_to_rest ts ≡ true) ⊎ (has_work ts ≡ false)

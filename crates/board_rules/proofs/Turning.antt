@@ -11,7 +11,7 @@ use Rattle.outside.specs.declared.Turn.TheVariants.{Did, Wait, Done}
 use Rattle.run_rules.specs.declared.State.{State}
 use Rattle.board_rules.specs.Ports.PortStep.{took, found_empty, found_closed, found_free, answered, reported, no_reply_room, took_exec, took_ovr, published, no_piece_room, loaded}
 use Rattle.board_rules.specs.Steps.{Step, Journal}
-use Rattle.board_rules.specs.Steps.Step.{at_port, began, did, made_end, evened, paused, became, closing, turned}
+use Rattle.board_rules.specs.Steps.Step.{at_port, began, did, made_end, evened, paused, became, cut, halted, closing, turned}
 use Rattle.board_rules.specs.Turns.{this_turn, publishing, ends_turn, takes_requests, obeys, unobeyed_of, owes_report, takes_changes, replans, tries_of, most_tries}
 use Rattle.board_rules.specs.Conduct.{Conducted, MayTurn}
 
@@ -50,6 +50,8 @@ fits_is first (made_end ∷ h) c = within made_end h refl (fits_is first h c.1)
 fits_is first (evened ∷ h) c = within evened h refl (fits_is first h c.1)
 fits_is first (paused ∷ h) c = within paused h refl (fits_is first h c.1)
 fits_is first (became call m ∷ h) c = within (became call m) h refl (fits_is first h c.1)
+fits_is first (cut k ∷ h) c = within (cut k) h refl (fits_is first h c.1)
+fits_is first (halted ∷ h) c = within halted h refl (fits_is first h c.1)
 fits_is first (closing ∷ h) c = within closing h refl (fits_is first h c.1)
 fits_is first (turned t ∷ h) c = let m = on_turned t h c.0 (fits_is first h c.1) in omega arith
 
@@ -68,6 +70,8 @@ few_tries first (made_end ∷ h) c between = absurd cc
 few_tries first (evened ∷ h) c between = absurd cc
 few_tries first (paused ∷ h) c between = absurd cc
 few_tries first (became call m ∷ h) c between = absurd cc
+few_tries first (cut k ∷ h) c between = absurd cc
+few_tries first (halted ∷ h) c between = absurd cc
 few_tries first (closing ∷ h) c between = absurd cc
 few_tries first (turned Did ∷ h) c between = c.0.tries
 few_tries first (turned (Wait o) ∷ h) c between = c.0.ends.tries
@@ -111,6 +115,8 @@ balances_is f g b first (made_end ∷ h) c = balance_within f g made_end h (bala
 balances_is f g b first (evened ∷ h) c = balance_within f g evened h (balances_is f g b first h c.1)
 balances_is f g b first (paused ∷ h) c = balance_within f g paused h (balances_is f g b first h c.1)
 balances_is f g b first (became call m ∷ h) c = balance_within f g (became call m) h (balances_is f g b first h c.1)
+balances_is f g b first (cut k ∷ h) c = balance_within f g (cut k) h (balances_is f g b first h c.1)
+balances_is f g b first (halted ∷ h) c = balance_within f g halted h (balances_is f g b first h c.1)
 balances_is f g b first (closing ∷ h) c = balance_within f g closing h (balances_is f g b first h c.1)
 balances_is f g b first (turned t ∷ h) c = let e = balance_turned f g t h b c.0 (balances_is f g b first h c.1) in omega arith
 
@@ -175,6 +181,8 @@ obeyed_each first (became on_limit m ∷ h) c = on_neither (became on_limit m) h
 obeyed_each first (became on_pause m ∷ h) c = on_neither (became on_pause m) h (unobeyed_of h) refl refl (obeyed_each first h c.1)
 obeyed_each first (became on_stopped m ∷ h) c = on_neither (became on_stopped m) h (unobeyed_of h) refl refl (obeyed_each first h c.1)
 obeyed_each first (became on_drained m ∷ h) c = on_neither (became on_drained m) h (unobeyed_of h) refl refl (obeyed_each first h c.1)
+obeyed_each first (cut k ∷ h) c = on_neither (cut k) h (unobeyed_of h) refl refl (obeyed_each first h c.1)
+obeyed_each first (halted ∷ h) c = on_neither halted h (unobeyed_of h) refl refl (obeyed_each first h c.1)
 obeyed_each first (closing ∷ h) c = on_neither closing h (unobeyed_of h) refl refl (obeyed_each first h c.1)
 obeyed_each first (turned t ∷ h) c = on_neither (turned t) h (unobeyed_of h) refl refl (obeyed_each first h c.1)
 
@@ -204,6 +212,8 @@ one_unobeyed first (became on_limit m ∷ h) c = one_unobeyed first h c.1
 one_unobeyed first (became on_pause m ∷ h) c = one_unobeyed first h c.1
 one_unobeyed first (became on_stopped m ∷ h) c = one_unobeyed first h c.1
 one_unobeyed first (became on_drained m ∷ h) c = one_unobeyed first h c.1
+one_unobeyed first (cut k ∷ h) c = one_unobeyed first h c.1
+one_unobeyed first (halted ∷ h) c = one_unobeyed first h c.1
 one_unobeyed first (closing ∷ h) c = one_unobeyed first h c.1
 one_unobeyed first (turned t ∷ h) c = one_unobeyed first h c.1
 
@@ -217,6 +227,8 @@ obeyed_between first (made_end ∷ h) c between unowed = absurd cc
 obeyed_between first (evened ∷ h) c between unowed = absurd cc
 obeyed_between first (paused ∷ h) c between unowed = absurd cc
 obeyed_between first (became call m ∷ h) c between unowed = absurd cc
+obeyed_between first (cut k ∷ h) c between unowed = absurd cc
+obeyed_between first (halted ∷ h) c between unowed = absurd cc
 obeyed_between first (closing ∷ h) c between unowed = absurd cc
 obeyed_between first (turned Did ∷ h) c between unowed = c.0.obeyed unowed
 obeyed_between first (turned (Wait o) ∷ h) c between unowed = c.0.obeyed

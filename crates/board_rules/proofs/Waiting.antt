@@ -10,16 +10,17 @@ use Rattle.planner_ring.specs.declared.Block.{Block}
 use Rattle.planner_runs.specs.declared.Action.TheVariants.{Add, Take, Override, Mark, Rest, Clear, Reset}
 use Rattle.run_rules.specs.declared.State.{State}
 use Rattle.run_rules.specs.Work.{Task}
-use Rattle.run_rules.specs.Work.Task.{ask, pause, normal, finish}
+use Rattle.run_rules.specs.Work.Task.{ask, pause, normal, finish, halt}
 use Rattle.step_line.specs.Asking.Asked.{a_move, a_mark, a_rest}
 use Rattle.step_line.specs.Finishing.{unfinished, most_unfinished}
 use Rattle.step_line.specs.declared.planned_move.PlannedMove.{PlannedMove}
 use Rattle.board_rules.specs.Ports.{PortStep, asks_report}
 use Rattle.board_rules.specs.Ports.PortStep.{took, found_empty, found_closed, found_free, answered, reported, no_reply_room, took_exec, took_ovr, published, no_piece_room, loaded}
-use Rattle.board_rules.specs.Steps.{Journal, published_of, left_of, plan_of}
-use Rattle.board_rules.specs.Steps.Step.{at_port, began, did, made_end, evened, paused, became, closing, turned}
-use Rattle.board_rules.specs.Turns.{this_turn, passing, found_none, lacks_piece_room, lacks_reply_room, owes_report, tells_next, has_blocks, is_full, has_segment, is_due, starts_cycle, missed_of, begun_while_due, waits_at, waits_by, waits_of, waits_while_due}
+use Rattle.board_rules.specs.Steps.{Journal, published_of, left_of, plan_of, motion_of}
+use Rattle.board_rules.specs.Steps.Step.{at_port, began, did, made_end, evened, paused, became, cut, halted, closing, turned}
+use Rattle.board_rules.specs.Turns.{this_turn, passing, found_none, lacks_piece_room, lacks_reply_room, owes_report, tells_next, halts_next, is_limited, has_blocks, is_full, has_segment, is_due, starts_cycle, missed_of, begun_while_due, waits_at, waits_by, waits_of, waits_while_due}
 use Rattle.board_rules.specs.Conduct.{Conducted, MayTurn, Needs, IsNextTask, AreWaiting}
+use Rattle.board_rules.proofs.Dropping.{tell_kept}
 use Rattle.board_rules.proofs.Closing.{spent}
 
 -- ---- why it waits
@@ -54,6 +55,8 @@ pieces_lack_room first (made_end ∷ h) c lacks still = pieces_lack_room first h
 pieces_lack_room first (evened ∷ h) c lacks still = pieces_lack_room first h c.1 lacks still
 pieces_lack_room first (paused ∷ h) c lacks still = pieces_lack_room first h c.1 lacks still
 pieces_lack_room first (became call m ∷ h) c lacks still = pieces_lack_room first h c.1 lacks still
+pieces_lack_room first (cut k ∷ h) c lacks still = pieces_lack_room first h c.1 lacks still
+pieces_lack_room first (halted ∷ h) c lacks still = pieces_lack_room first h c.1 lacks still
 pieces_lack_room first (closing ∷ h) c lacks still = pieces_lack_room first h c.1 lacks still
 pieces_lack_room first (turned t ∷ h) c lacks still = absurd cc
 
@@ -104,10 +107,12 @@ reply_is_next first (did Rest ps ∷ h) c lacks still = kept (tells_next (left_o
 reply_is_next first (did (Override o) ps ∷ h) c lacks still = reply_is_next first h c.1 lacks still
 reply_is_next first (did Clear ps ∷ h) c lacks still = absurd c.0.0
 reply_is_next first (did Reset ps ∷ h) c lacks still = absurd c.0.0
-reply_is_next first (made_end ∷ h) c lacks still = kept (tells_next (left_of h)) (owes_report h) (tells_next (left_of (made_end ∷ h))) (no_tell (left_of h) finish _ refl c.0.rests.next) (reply_is_next first h c.1 lacks still)
+reply_is_next first (made_end ∷ h) c lacks still = kept (tells_next (left_of h)) (owes_report h) (tells_next (left_of (made_end ∷ h))) (no_tell (left_of h) finish _ refl c.0.next) (reply_is_next first h c.1 lacks still)
 reply_is_next first (evened ∷ h) c lacks still = kept (tells_next (left_of h)) (owes_report h) (tells_next (left_of (evened ∷ h))) (no_tell (left_of h) normal _ refl c.0.rests.next) (reply_is_next first h c.1 lacks still)
 reply_is_next first (paused ∷ h) c lacks still = kept (tells_next (left_of h)) (owes_report h) (tells_next (left_of (paused ∷ h))) (no_tell (left_of h) pause _ refl c.0.rests.next) (reply_is_next first h c.1 lacks still)
 reply_is_next first (became call m ∷ h) c lacks still = reply_is_next first h c.1 lacks still
+reply_is_next first (cut k ∷ h) c lacks still = kept (tells_next (left_of h)) (owes_report h) (tells_next (left_of (cut k ∷ h))) (tell_kept (left_of h)) (reply_is_next first h c.1 lacks still)
+reply_is_next first (halted ∷ h) c lacks still = kept (tells_next (left_of h)) (owes_report h) (tells_next (left_of (halted ∷ h))) (no_tell (left_of h) halt _ refl c.0.next) (reply_is_next first h c.1 lacks still)
 reply_is_next first (closing ∷ h) c lacks still = kept (tells_next (left_of h)) (owes_report h) (tells_next (left_of (closing ∷ h))) (none_told (left_of h) c.0.free) (reply_is_next first h c.1 lacks still)
 reply_is_next first (turned t ∷ h) c lacks still = absurd cc
 
@@ -123,6 +128,8 @@ adds first (made_end ∷ h) m c between next = absurd cc
 adds first (evened ∷ h) m c between next = absurd cc
 adds first (paused ∷ h) m c between next = absurd cc
 adds first (became call n ∷ h) m c between next = absurd cc
+adds first (cut k ∷ h) m c between next = absurd cc
+adds first (halted ∷ h) m c between next = absurd cc
 adds first (closing ∷ h) m c between next = absurd cc
 adds first (turned Did ∷ h) m c between next = c.0.adds m next
 adds first (turned (Wait o) ∷ h) m c between next = c.0.ends.adds m next
@@ -145,10 +152,29 @@ starts first (made_end ∷ h) c between w = absurd cc
 starts first (evened ∷ h) c between w = absurd cc
 starts first (paused ∷ h) c between w = absurd cc
 starts first (became call n ∷ h) c between w = absurd cc
+starts first (cut k ∷ h) c between w = absurd cc
+starts first (halted ∷ h) c between w = absurd cc
 starts first (closing ∷ h) c between w = absurd cc
 starts first (turned Did ∷ h) c between w = or_right (list_any found_none (this_turn h)) _ (c.0.starts (record { stands = w.stands; blocks = w.blocks }))
 starts first (turned (Wait o) ∷ h) c between w = or_right (list_any found_none (this_turn h)) _ (c.0.ends.starts (record { stands = w.stands; blocks = w.blocks }))
 starts first (turned Done ∷ h) c between w = no_blocks (plan_of h).blocks (spent first h c.1 c.0.finished).plan.blocks w.blocks
+
+-- a machine that is to be halted slows down for that, or stands in alarm
+pub halts_between : (first : State) (h : Journal) → Conducted first h → this_turn h ≡ [] → halts_next (left_of h) ≡ true → is_limited (motion_of h) ≡ true
+halts_between first [] c between next = absurd cc
+halts_between first (at_port e ∷ h) c between next = absurd cc
+halts_between first (began o ∷ h) c between next = absurd cc
+halts_between first (did a ps ∷ h) c between next = absurd cc
+halts_between first (made_end ∷ h) c between next = absurd cc
+halts_between first (evened ∷ h) c between next = absurd cc
+halts_between first (paused ∷ h) c between next = absurd cc
+halts_between first (became call n ∷ h) c between next = absurd cc
+halts_between first (cut k ∷ h) c between next = absurd cc
+halts_between first (halted ∷ h) c between next = absurd cc
+halts_between first (closing ∷ h) c between next = absurd cc
+halts_between first (turned Did ∷ h) c between next = c.0.halts next
+halts_between first (turned (Wait o) ∷ h) c between next = c.0.ends.halts next
+halts_between first (turned Done ∷ h) c between next = absurd (let e = sym (ap halts_next c.0.finished.left) ∙ next in cc)
 
 -- ---- from try to try
 
@@ -189,6 +215,8 @@ missed_is first (made_end ∷ h) c = missed_is first h c.1
 missed_is first (evened ∷ h) c = missed_is first h c.1
 missed_is first (paused ∷ h) c = missed_is first h c.1
 missed_is first (became call m ∷ h) c = missed_is first h c.1
+missed_is first (cut k ∷ h) c = missed_is first h c.1
+missed_is first (halted ∷ h) c = missed_is first h c.1
 missed_is first (closing ∷ h) c = missed_is first h c.1
 missed_is first (turned t ∷ h) c = missed_by (is_due h) (begun_while_due h) (missed_of h) (missed_is first h c.1)
 
@@ -315,6 +343,8 @@ none_while_due o (made_end ∷ h) none = none_while_due o h none
 none_while_due o (evened ∷ h) none = none_while_due o h none
 none_while_due o (paused ∷ h) none = none_while_due o h none
 none_while_due o (became call m ∷ h) none = none_while_due o h none
+none_while_due o (cut k ∷ h) none = none_while_due o h none
+none_while_due o (halted ∷ h) none = none_while_due o h none
 none_while_due o (closing ∷ h) none = none_while_due o h none
 none_while_due o (turned t ∷ h) none = none_by o (is_due h) t (waits_of h) (waits_while_due h) (none_while_due o h) none
 
@@ -356,6 +386,8 @@ waits_apart first (made_end ∷ h) c = waits_apart first h c.1
 waits_apart first (evened ∷ h) c = waits_apart first h c.1
 waits_apart first (paused ∷ h) c = waits_apart first h c.1
 waits_apart first (became call m ∷ h) c = waits_apart first h c.1
+waits_apart first (cut k ∷ h) c = waits_apart first h c.1
+waits_apart first (halted ∷ h) c = waits_apart first h c.1
 waits_apart first (closing ∷ h) c = waits_apart first h c.1
 waits_apart first (turned t ∷ h) c = apart_by (is_due h) t h refl c.0 (waits_apart first h c.1)
 

@@ -1,5 +1,5 @@
 -- The rules of a board: what it may do next.
-use Rattle.std.specs.Prelude.{◌≡◌, ℕ, ◌+◌, ◌*◌, ◌/◌, ◌≤◌, ◌<◌, Bool, true, false, ◌&&◌, ◌||◌, cond, nat_lt, List, [], ◌∷◌, length, drop, Some, None}
+use Rattle.std.specs.Prelude.{◌≡◌, ℕ, ◌+◌, ◌*◌, ◌/◌, ◌≤◌, ◌<◌, ◌⊎◌, Bool, true, false, ◌&&◌, ◌||◌, cond, nat_lt, List, [], ◌∷◌, length, drop, Some, None}
 use Rattle.std.specs.declared.option.Option.{Option}
 use Rattle.std.specs.List.{Contains, list_any, count_by}
 use Rattle.code_table.specs.declared.flags.Exec.{Exec}
@@ -21,8 +21,8 @@ use Rattle.planner_runs.specs.declared.Action.TheVariants.{Add, Take, Override, 
 use Rattle.planner_runs.specs.Runs.{Plans, IsAtRest, most_blocks, normal_overrides}
 use Rattle.run_rules.specs.declared.State.{State}
 use Rattle.run_rules.specs.Work.{Task, Outcome}
-use Rattle.run_rules.specs.Work.Task.{ask, tell, pause, normal, finish}
-use Rattle.run_rules.specs.Outcomes.{Becomes, refused}
+use Rattle.run_rules.specs.Work.Task.{ask, tell, pause, normal, finish, halt}
+use Rattle.run_rules.specs.Finding.{Found}
 use Rattle.run_rules.specs.Reports.{Shows}
 use Rattle.segment_prep.specs.declared.Mode.TheVariants.{Go, Hold}
 use Rattle.status_report.specs.declared.Reply.{Reply}
@@ -33,13 +33,17 @@ use Rattle.status_report.specs.declared.reports.State.TheVariants as shown
 use Rattle.status_report.specs.Answering.{is_report}
 use Rattle.units.specs.Roots.{root_of}
 use Rattle.step_line.specs.Asking.Asked.{a_move, a_mark, a_rest}
+use Rattle.step_line.specs.Records.{IsMark}
+use Rattle.step_line.specs.declared.Mark.TheVariants as marks
 use Rattle.step_line.specs.declared.Piece.{Piece}
+use Rattle.step_line.specs.declared.Piece.TheVariants as pieces
 use Rattle.step_line.specs.declared.planned_move.PlannedMove.{PlannedMove}
 use Rattle.step_line.specs.Finishing.{ticks_together}
 use Rattle.board_rules.specs.Ports.{PortStep, PortLog, asks_report, has_changes, MayBeDone, HasTakenFew, HasFewReports, LacksPieceRoom}
 use Rattle.board_rules.specs.Ports.PortStep.{took, found_empty, found_closed, found_free, answered, reported, no_reply_room, took_exec, took_ovr, published, no_piece_room, loaded}
-use Rattle.board_rules.specs.Steps.{Step, Journal, port_log, has_closed, published_of, known_of, open_of, whole_of, before_of, left_of, closed_tells, given_of, hand_of, plan_of, motion_of, behind}
-use Rattle.board_rules.specs.Steps.Step.{at_port, began, did, made_end, evened, paused, became, closing, turned}
+use Rattle.board_rules.specs.Cuts.{has_cut}
+use Rattle.board_rules.specs.Steps.{Step, Journal, port_log, has_closed, has_alarmed, published_of, outcomes_of, known_of, open_of, whole_of, before_of, left_of, closed_tells, given_of, hand_of, plan_of, motion_of, behind}
+use Rattle.board_rules.specs.Steps.Step.{at_port, began, did, made_end, evened, paused, became, cut, halted, closing, turned}
 use Rattle.board_rules.specs.Turns.{
   this_turn,
   publishing,
@@ -57,15 +61,19 @@ use Rattle.board_rules.specs.Turns.{
   loads,
   tells_next,
   awaits_motion,
+  halts_next,
+  is_limited,
+  stands_still,
   is_held_up,
   has_blocks,
   is_full,
   starts_cycle,
   starts_before_line,
-  is_run,
+  has_jogged,
+  has_jog_to_start,
+  machine_in,
   is_going,
   begins_in,
-  is_served_at_rest,
   is_due,
   tries_of,
   most_tries,
@@ -99,8 +107,10 @@ pub record IsDrained (h : Journal) : Type 0 where
 
 -- ---- what is said at the port
 
--- The next byte is polled for: nothing is left to do, no line waits to be begun, and the run is not being closed.
+-- The next byte is polled for: nothing is left to do, no line waits to be begun, the run is not being closed, and no line has
+-- raised an alarm.
 pub record MayPoll (h : Journal) : Type 0 where
+  pub calm : has_alarmed h ≡ false
   pub all_done : left_of h ≡ []
   pub partial : whole_of h ≡ false
   pub unclosed : closed_tells h ≡ []
@@ -131,9 +141,14 @@ pub record MayKeep (done : ℕ) (h : Journal) : Type 0 where
 
 -- ---- the plan
 
--- a segment is taken in this state of the motion, once the one before is published
-pub record MayTakeSegment (m : Motion) (h : Journal) : Type 0 where
-  pub state : motion_of h ≡ m
+-- a segment is taken as planned while moves or jogs are carried out, once the one before is published
+pub record MayGoOn (h : Journal) : Type 0 where
+  pub goes : is_going (motion_of h) ≡ true
+  pub empty : hand_of h ≡ []
+
+-- and such that the machine slows down, while it is to be held, or its jogs are cancelled
+pub record MaySlowDown (h : Journal) : Type 0 where
+  pub slows : is_stopping (motion_of h) ≡ true
   pub empty : hand_of h ≡ []
 
 -- A word that changes overrides was just taken: it is planned for what these come to.
@@ -154,13 +169,13 @@ pub record MayRest (t : Task) (h : Journal) : Type 0 where
   pub drained : IsDrained h
   pub stands : motion_of h ≡ motions.Idle
 
--- why it is done. Nothing is taken away yet.
+-- why it is done; what a cut takes away is a step of its own
 abbrev pub MayDo : Action → Journal → Type 0
 MayDo (Add m) h = IsNextTask (ask (a_move m)) h
 MayDo (Mark m) h = MayMark (ask (a_mark m)) h
 MayDo Rest h = MayRest (ask a_rest) h
-MayDo (Take Go) h = MayTakeSegment motions.Run h
-MayDo (Take Hold) h = MayTakeSegment motions.Holding h
+MayDo (Take Go) h = MayGoOn h
+MayDo (Take Hold) h = MaySlowDown h
 MayDo (Override o) h = AreChanged o h
 MayDo Clear h = ⊥
 MayDo Reset h = ⊥
@@ -169,16 +184,19 @@ MayDo Reset h = ⊥
 abbrev pub Gives : Action → List Piece → Planned → Type 0
 Gives a ps p = Plans most_blocks p (a ∷ []) ps (behind a ps p)
 
--- the end is made where a rest would be over, and only by closing the run
+-- the end is made where nothing is left to run, each tick is done, and the machine stands, also in alarm; and only by closing the
+-- run
 pub record MayEnd (h : Journal) : Type 0 where
-  pub rests : MayRest finish h
+  pub next : IsNextTask finish h
+  pub drained : IsDrained h
+  pub stands : stands_still (motion_of h) ≡ true
   pub closes : closed_tells h ≡ [] → ⊥
 
 -- ---- the motion
 
 -- it slowed down to a stop, with nothing in hand
 pub record HasSlowedDown (h : Journal) : Type 0 where
-  pub slows : motion_of h ≡ motions.Holding
+  pub slows : is_stopping (motion_of h) ≡ true
   pub speed : (plan_of h).speed ≡ 0
   pub empty : hand_of h ≡ []
 
@@ -187,30 +205,72 @@ pub record IsStopped (h : Journal) : Type 0 where
   pub slowed : HasSlowedDown h
   pub done : known_of h ≡ ticks_given h
 
+-- Jogs that were cancelled are cut, once for each cancel: the machine has stopped, as a load in this turn told. The cut has the
+-- number of the lines that were begun. No line has raised an alarm.
+pub record MayCut (k : ℕ) (h : Journal) : Type 0 where
+  pub calm : has_alarmed h ≡ false
+  pub cancelled : motion_of h ≡ motions.Cancelling
+  pub uncut : has_cut h ≡ false
+  pub stopped : IsStopped h
+  pub load : list_any loads (this_turn h) ≡ true
+  pub number : k ≡ length (outcomes_of h)
+  pub mark : IsMark (marks.Cut k)
+
+-- A machine that a soft limit has stopped is halted: it stands in alarm, and each tick that was given is done.
+pub record MayHalt (h : Journal) : Type 0 where
+  pub next : IsNextTask halt h
+  pub alarm : motion_of h ≡ motions.Alarm
+  pub still : (plan_of h).speed ≡ 0
+  pub empty : hand_of h ≡ []
+  pub done : known_of h ≡ ticks_given h
+
+-- a cut is published in a turn in which a load gave all ticks that are published as done
+abbrev pub IsTimely : Piece → Journal → Type 0
+IsTimely (pieces.Mark (marks.Cut k)) h = (list_any loads (this_turn h) ≡ true) × (known_of h ≡ ticks_published h)
+IsTimely p h = Unit {0}
+
+-- The machine has stopped. Jogs that were cancelled were cut, and a load in this turn gave the cut as done.
+pub record MayStop (h : Journal) : Type 0 where
+  pub stopped : IsStopped h
+  pub cut_is : motion_of h ≡ motions.Cancelling → has_cut h ≡ true
+  pub load : motion_of h ≡ motions.Cancelling → list_any loads (this_turn h) ≡ true
+
 -- A word of requests was taken, while blocks are queued or none is. A report is told before, if it asks for one, or
 -- finds no room. A machine that slowed down was looked after in this turn, and is held already where each tick is done,
--- so that the word may resume it.
+-- so that the word may resume it; or its jogs are cut, and it stands. A jog that is to start does so before, and a machine that is
+-- to be halted slows down by then, so that no hold comes before its alarm.
 pub record MayObey (word : Exec) (queued : Bool) (h : Journal) : Type 0 where
   pub next : unobeyed_of h ≡ word ∷ []
   pub reported : owes_report h ≡ true → list_any lacks_reply_room (this_turn h) ≡ true
   pub blocks : queued ≡ has_blocks (plan_of h).blocks
   pub looked : HasSlowedDown h → list_any loads (this_turn h) ≡ true
   pub stopped : IsStopped h → ⊥
+  pub jog : has_jog_to_start h ≡ false
+  pub halts : halts_next (left_of h) ≡ true → is_limited (motion_of h) ≡ true
 
--- queued blocks start the cycle where that is called for
-pub record MayStart (h : Journal) : Type 0 where
+-- queued blocks start the cycle, or a jog, where that is called for; where the machine is to be halted they are dropped, and do not
+-- start
+pub record MayStart (jog : Bool) (h : Journal) : Type 0 where
+  pub goes : halts_next (left_of h) ≡ false
   pub blocks : has_blocks (plan_of h).blocks ≡ true
   pub called : starts_before_line h ≡ true
+  pub jogs : has_jogged h ≡ jog
 
--- why it happens to the motion. No jog starts yet, and nothing stops at a limit; a pause is a step of its own.
+-- A line that was begun has raised an alarm: the machine is to be halted, and does not slow down for that yet. Where it runs it
+-- slows down from here on, and where it stands it is in alarm at once.
+pub record MayLimit (h : Journal) : Type 0 where
+  pub alarmed : has_alarmed h ≡ true
+  pub next : IsNextTask halt h
+  pub unlimited : is_limited (motion_of h) ≡ false
+
+-- why it happens to the motion; a pause is a step of its own
 abbrev pub MayHappen : Call → Journal → Type 0
-MayHappen (on_start false) h = MayStart h
-MayHappen (on_start true) h = ⊥
+MayHappen (on_start jog) h = MayStart jog h
 MayHappen on_drained h = IsDrained h
 MayHappen (on_exec word queued) h = MayObey word queued h
-MayHappen on_limit h = ⊥
+MayHappen on_limit h = MayLimit h
 MayHappen on_pause h = ⊥
-MayHappen on_stopped h = IsStopped h
+MayHappen on_stopped h = MayStop h
 
 -- the machine is held for a pause where it stands
 pub record MayPause (h : Journal) : Type 0 where
@@ -251,7 +311,7 @@ IsRoom (Some (blocks, bytes)) h = (blocks + length (plan_of h).blocks ≡ most_b
 
 -- A report is answered that a word asked for which was taken. In its turn the done ticks were loaded: the place is that
 -- after these, on all axes; the cycle is over where nothing is left to run and each is done, and a machine that has
--- stopped is held. The feed is 0 where each tick that was given is done.
+-- stopped is held, or its jogs are cut. The feed is 0 where each tick that was given is done.
 pub record IsReportAt (first : State) (r : Report) (h : Journal) : Type 0 where
   pub owed : owes_report h ≡ true
   pub load : list_any loads (this_turn h) ≡ true
@@ -276,22 +336,22 @@ MayAtPort first (reported r) h = IsReportAt first r h
 MayAtPort first no_reply_room h = (tells_next (left_of h) || owes_report h) ≡ true
 MayAtPort first (took_exec word) h = MayTakeRequests word h
 MayAtPort first (took_ovr word) h = Unit {0}
-MayAtPort first (published p) h = IsInHand p h
+MayAtPort first (published p) h = IsInHand p h × IsTimely p h
 MayAtPort first (no_piece_room done) h = MayKeep done h
 MayAtPort first (loaded done) h = MayBeDone done (port_log h)
 
 -- ---- the lines
 
 -- A line that was taken whole is begun, once both words of flags were taken behind it, obeyed, and reported. In its
--- turn the done ticks were loaded, and the cycle is over where nothing is left to run and each is done. A line that is
--- served only at rest is refused while the machine runs; and where a segment was due since the line before, one was
--- tried to be published.
+-- turn the done ticks were loaded, and the cycle is over where nothing is left to run and each is done. It becomes what it
+-- does where the machine is found as it is. No line has raised an alarm; and where a segment was due since the line before, one
+-- was tried to be published.
 pub record MayBegin (first : State) (o : Outcome) (h : Journal) : Type 0 where
+  pub calm : has_alarmed h ≡ false
   pub free : left_of h ≡ []
   pub going : closed_tells h ≡ []
   pub whole : whole_of h ≡ true
-  pub becomes : Becomes (is_run (motion_of h)) (before_of first h) (open_of h) o
-  pub refuses : is_run (motion_of h) ≡ true → is_served_at_rest (open_of h) ≡ true → o ≡ refused (before_of first h) 8
+  pub becomes : Found (machine_in (motion_of h)) (before_of first h) (open_of h) o
   pub begins : begins_in (motion_of h) ≡ true
   pub flags : flags_taken h ≡ true
   pub obeyed : unobeyed_of h ≡ []
@@ -301,18 +361,20 @@ pub record MayBegin (first : State) (o : Outcome) (h : Journal) : Type 0 where
   pub starts : AreWaiting h → starts_before_line h ≡ false
   pub tried : (missed_of h && is_due h) ≡ false
 
--- the run is closed where the link was found closed, and each line that was taken whole is begun and answered
+-- The run is closed where the link was found closed, and each line that was taken whole is begun and answered; or where one has
+-- raised an alarm, and that is told.
 pub record MayClose (h : Journal) : Type 0 where
   pub free : left_of h ≡ []
   pub going : closed_tells h ≡ []
   pub begun : whole_of h ≡ false
-  pub closed : has_closed h ≡ true
+  pub closed : (has_closed h ≡ true) ⊎ (has_alarmed h ≡ true)
 
 -- ---- the turns
 
 -- What holds at the end of a turn: at most one thing was published; a move that is next is added unless the plan is full; no
 -- queued block waits for a start that is called for; no more than five tries to publish stand behind the last poll; the word
--- of requests that was taken is obeyed, unless a report is told first; and the plan is made anew for each change, once.
+-- of requests that was taken is obeyed, unless a report is told first; the plan is made anew for each change, once; and a machine
+-- that is to be halted slows down for that, or stands in alarm.
 pub record EndsTurn (h : Journal) : Type 0 where
   pub once : count_by publishing (this_turn h) ≤ 1
   pub adds : (m : PlannedMove) → IsNextTask (ask (a_move m)) h → is_full (plan_of h) ≡ true
@@ -320,12 +382,14 @@ pub record EndsTurn (h : Journal) : Type 0 where
   pub tries : tries_of h ≤ most_tries
   pub obeyed : owes_report h ≡ false → unobeyed_of h ≡ []
   pub changed : count_by replans (this_turn h) ≡ count_by takes_changes (this_turn h)
+  pub halts : halts_next (left_of h) ≡ true → is_limited (motion_of h) ≡ true
 
--- no byte was found, and nothing is left to do
+-- no byte was found, nothing is left to do, and no report is owed
 pub record NeedsByte (h : Journal) : Type 0 where
   pub poll : list_any found_nothing (this_turn h) ≡ true
   pub free : left_of h ≡ []
   pub partial : whole_of h ≡ false
+  pub unowed : OwesNone h
 
 -- What is next waits for ticks that were found not to be done, since it waits for the motion, or since that slows down to a
 -- stop.
@@ -387,6 +451,8 @@ MayStep first made_end h = MayEnd h
 MayStep first evened h = MayEven h
 MayStep first paused h = MayPause h
 MayStep first (became call m) h = (after call (motion_of h) ≡ Some m) × MayHappen call h
+MayStep first (cut k) h = MayCut k h
+MayStep first halted h = MayHalt h
 MayStep first closing h = MayClose h
 MayStep first (turned t) h = MayTurn t h
 

@@ -1,5 +1,7 @@
 pub mod Ports
 pub mod Steps
+pub mod Parts
+pub mod Cuts
 pub mod Turns
 pub mod Conduct
 pub mod Whole

@@ -3,7 +3,7 @@ use Rattle.std.specs.Prelude.{◌≡◌, ℕ, ◌+◌, ◌^◌, ◌≤◌, ◌<�
 use Rattle.code_table.specs.declared.flags.Exec.{Exec}
 use Rattle.code_table.specs.declared.flags.Ovr.{Ovr}
 use Rattle.code_table.specs.Tables.{query}
-use Rattle.feed_hold.specs.Motions.{asks, hold_byte}
+use Rattle.feed_hold.specs.Motions.{asks, hold_byte, cancel_byte}
 use Rattle.code_table.specs.Flags.{ovr_bits}
 use Rattle.status_report.specs.declared.Reply.{Reply}
 use Rattle.status_report.specs.declared.Reply.TheVariants as replies
@@ -110,6 +110,19 @@ holds_at e held = held
 abbrev pub has_held_in : PortLog → Bool
 has_held_in [] = false
 has_held_in (e ∷ l) = holds_at e (has_held_in l)
+
+abbrev pub cancels_at : PortStep → Bool → Bool
+cancels_at (took_exec word) cancelled = asks word cancel_byte || cancelled
+cancels_at e cancelled = cancelled
+
+-- a word that asks for a jog's cancel was taken
+abbrev pub has_cancelled_in : PortLog → Bool
+has_cancelled_in [] = false
+has_cancelled_in (e ∷ l) = cancels_at e (has_cancelled_in l)
+
+-- a word that asks for a hold or for a cancel was taken: each may slow the machine down
+abbrev pub has_slowed_in : PortLog → Bool
+has_slowed_in l = has_held_in l || has_cancelled_in l
 
 -- a word of requests asks for a reset
 abbrev pub asks_reset : Exec → Bool

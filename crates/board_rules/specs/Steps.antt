@@ -10,11 +10,13 @@ use Rattle.planner_runs.specs.declared.Action.{Action}
 use Rattle.planner_runs.specs.declared.Action.TheVariants.{Add, Take, Override, Mark, Rest, Clear, Reset}
 use Rattle.planner_runs.specs.Runs.{normal_overrides, fresh_plan, with_move, cleared}
 use Rattle.run_rules.specs.declared.State.{State}
-use Rattle.run_rules.specs.Work.{Task, Outcome, closing_work}
-use Rattle.run_rules.specs.Work.Task.{tell}
-use Rattle.run_rules.specs.Outcomes.{Before, start, after}
+use Rattle.flight.specs.Places.{end_of}
+use Rattle.run_rules.specs.Work.{Task, Outcome, is_alarm, closing_work}
+use Rattle.run_rules.specs.Work.Task.{ask, tell, pause, normal, finish, halt}
+use Rattle.run_rules.specs.Outcomes.{Before, start, after, at_place}
 use Rattle.status_report.specs.declared.Reply.{Reply}
 use Rattle.status_report.specs.declared.Reply.TheVariants.{Banner, Bye}
+use Rattle.step_line.specs.declared.Mark.TheVariants as marks
 use Rattle.step_line.specs.declared.Piece.{Piece}
 use Rattle.step_line.specs.declared.Piece.TheVariants as pieces
 use Rattle.step_line.specs.Logs.{NewestFirst}
@@ -35,6 +37,10 @@ pub data Step : Type 0 where
   paused : Step
   -- something happens to the motion, whose state is this behind it
   became : Call → Motion → Step
+  -- what is left of jogs that were cancelled is dropped, and this many lines were begun
+  cut : ℕ → Step
+  -- a machine that a soft limit has stopped is halted: what is left of the plan is dropped
+  halted : Step
   -- the run is being closed
   closing : Step
   -- a turn ends with this answer
@@ -52,6 +58,8 @@ port_log (made_end ∷ h) = port_log h
 port_log (evened ∷ h) = port_log h
 port_log (paused ∷ h) = port_log h
 port_log (became call m ∷ h) = port_log h
+port_log (cut k ∷ h) = port_log h
+port_log (halted ∷ h) = port_log h
 port_log (closing ∷ h) = port_log h
 port_log (turned t ∷ h) = port_log h
 
@@ -86,6 +94,8 @@ open_of (made_end ∷ h) = open_of h
 open_of (evened ∷ h) = open_of h
 open_of (paused ∷ h) = open_of h
 open_of (became call m ∷ h) = open_of h
+open_of (cut k ∷ h) = open_of h
+open_of (halted ∷ h) = open_of h
 open_of (closing ∷ h) = open_of h
 open_of (turned t ∷ h) = open_of h
 
@@ -103,6 +113,8 @@ whole_of (made_end ∷ h) = whole_of h
 whole_of (evened ∷ h) = whole_of h
 whole_of (paused ∷ h) = whole_of h
 whole_of (became call m ∷ h) = whole_of h
+whole_of (cut k ∷ h) = whole_of h
+whole_of (halted ∷ h) = whole_of h
 whole_of (closing ∷ h) = whole_of h
 whole_of (turned t ∷ h) = whole_of h
 
@@ -116,6 +128,8 @@ lines_of (made_end ∷ h) = lines_of h
 lines_of (evened ∷ h) = lines_of h
 lines_of (paused ∷ h) = lines_of h
 lines_of (became call m ∷ h) = lines_of h
+lines_of (cut k ∷ h) = lines_of h
+lines_of (halted ∷ h) = lines_of h
 lines_of (closing ∷ h) = lines_of h
 lines_of (turned t ∷ h) = lines_of h
 
@@ -129,21 +143,25 @@ outcomes_of (made_end ∷ h) = outcomes_of h
 outcomes_of (evened ∷ h) = outcomes_of h
 outcomes_of (paused ∷ h) = outcomes_of h
 outcomes_of (became call m ∷ h) = outcomes_of h
+outcomes_of (cut k ∷ h) = outcomes_of h
+outcomes_of (halted ∷ h) = outcomes_of h
 outcomes_of (closing ∷ h) = outcomes_of h
 outcomes_of (turned t ∷ h) = outcomes_of h
 
--- what they leave for the next
-abbrev pub before_of : State → Journal → Before
-before_of first [] = start first
-before_of first (at_port e ∷ h) = before_of first h
-before_of first (began o ∷ h) = after (before_of first h) o
-before_of first (did a ps ∷ h) = before_of first h
-before_of first (made_end ∷ h) = before_of first h
-before_of first (evened ∷ h) = before_of first h
-before_of first (paused ∷ h) = before_of first h
-before_of first (became call m ∷ h) = before_of first h
-before_of first (closing ∷ h) = before_of first h
-before_of first (turned t ∷ h) = before_of first h
+-- one of them has raised an alarm
+abbrev pub has_alarmed : Journal → Bool
+has_alarmed [] = false
+has_alarmed (at_port e ∷ h) = has_alarmed h
+has_alarmed (began o ∷ h) = is_alarm o.answer
+has_alarmed (did a ps ∷ h) = has_alarmed h
+has_alarmed (made_end ∷ h) = has_alarmed h
+has_alarmed (evened ∷ h) = has_alarmed h
+has_alarmed (paused ∷ h) = has_alarmed h
+has_alarmed (became call m ∷ h) = has_alarmed h
+has_alarmed (cut k ∷ h) = has_alarmed h
+has_alarmed (halted ∷ h) = has_alarmed h
+has_alarmed (closing ∷ h) = has_alarmed h
+has_alarmed (turned t ∷ h) = has_alarmed h
 
 -- ---- what there is to do
 
@@ -157,7 +175,17 @@ left_by (Mark m) tasks = drop 1 tasks
 left_by Rest tasks = drop 1 tasks
 left_by a tasks = tasks
 
--- what is left to do; at first the banner is told
+-- tasks, less those that ask something of the machine
+abbrev pub without_asks : List Task → List Task
+without_asks [] = []
+without_asks (ask a ∷ ts) = without_asks ts
+without_asks (tell r ∷ ts) = tell r ∷ without_asks ts
+without_asks (pause ∷ ts) = pause ∷ without_asks ts
+without_asks (normal ∷ ts) = normal ∷ without_asks ts
+without_asks (finish ∷ ts) = finish ∷ without_asks ts
+without_asks (halt ∷ ts) = halt ∷ without_asks ts
+
+-- What is left to do; at first the banner is told. A cut drops the move of a jog that waits for room.
 abbrev pub left_of : Journal → List Task
 left_of [] = tell Banner ∷ []
 left_of (at_port e ∷ h) = left_at e (left_of h)
@@ -167,6 +195,8 @@ left_of (made_end ∷ h) = drop 1 (left_of h)
 left_of (evened ∷ h) = drop 1 (left_of h)
 left_of (paused ∷ h) = drop 1 (left_of h)
 left_of (became call m ∷ h) = left_of h
+left_of (cut k ∷ h) = without_asks (left_of h)
+left_of (halted ∷ h) = drop 1 (left_of h)
 left_of (closing ∷ h) = closing_work
 left_of (turned t ∷ h) = left_of h
 
@@ -180,6 +210,8 @@ closed_tells (made_end ∷ h) = closed_tells h
 closed_tells (evened ∷ h) = closed_tells h
 closed_tells (paused ∷ h) = closed_tells h
 closed_tells (became call m ∷ h) = closed_tells h
+closed_tells (cut k ∷ h) = closed_tells h
+closed_tells (halted ∷ h) = closed_tells h
 closed_tells (closing ∷ h) = closed_tells h ++ Bye ∷ []
 closed_tells (turned t ∷ h) = closed_tells h
 
@@ -195,6 +227,8 @@ actions_of (made_end ∷ h) = actions_of h
 actions_of (evened ∷ h) = actions_of h ++ Override normal_overrides ∷ []
 actions_of (paused ∷ h) = actions_of h
 actions_of (became call m ∷ h) = actions_of h
+actions_of (cut k ∷ h) = actions_of h ++ Clear ∷ Mark (marks.Cut k) ∷ []
+actions_of (halted ∷ h) = actions_of h ++ Clear ∷ []
 actions_of (closing ∷ h) = actions_of h
 actions_of (turned t ∷ h) = actions_of h
 
@@ -208,6 +242,8 @@ planned_of (made_end ∷ h) = planned_of h
 planned_of (evened ∷ h) = planned_of h
 planned_of (paused ∷ h) = planned_of h
 planned_of (became call m ∷ h) = planned_of h
+planned_of (cut k ∷ h) = planned_of h ++ pieces.Mark (marks.Cut k) ∷ []
+planned_of (halted ∷ h) = planned_of h
 planned_of (closing ∷ h) = planned_of h
 planned_of (turned t ∷ h) = planned_of h
 
@@ -221,8 +257,25 @@ given_of (made_end ∷ h) = given_of h ++ pieces.End ∷ []
 given_of (evened ∷ h) = given_of h
 given_of (paused ∷ h) = given_of h
 given_of (became call m ∷ h) = given_of h
+given_of (cut k ∷ h) = given_of h ++ pieces.Mark (marks.Cut k) ∷ []
+given_of (halted ∷ h) = given_of h
 given_of (closing ∷ h) = given_of h
 given_of (turned t ∷ h) = given_of h
+
+-- What the lines that were begun leave for the next. Behind a cut the position is where all pieces lead that were given.
+abbrev pub before_of : State → Journal → Before
+before_of first [] = start first
+before_of first (at_port e ∷ h) = before_of first h
+before_of first (began o ∷ h) = after (before_of first h) o
+before_of first (did a ps ∷ h) = before_of first h
+before_of first (made_end ∷ h) = before_of first h
+before_of first (evened ∷ h) = before_of first h
+before_of first (paused ∷ h) = before_of first h
+before_of first (became call m ∷ h) = before_of first h
+before_of first (cut k ∷ h) = at_place (end_of (given_of h)) (before_of first h)
+before_of first (halted ∷ h) = before_of first h
+before_of first (closing ∷ h) = before_of first h
+before_of first (turned t ∷ h) = before_of first h
 
 abbrev pub hand_at : PortStep → List Piece → List Piece
 hand_at (published p) ps = drop 1 ps
@@ -238,6 +291,8 @@ hand_of (made_end ∷ h) = hand_of h ++ pieces.End ∷ []
 hand_of (evened ∷ h) = hand_of h
 hand_of (paused ∷ h) = hand_of h
 hand_of (became call m ∷ h) = hand_of h
+hand_of (cut k ∷ h) = hand_of h ++ pieces.Mark (marks.Cut k) ∷ []
+hand_of (halted ∷ h) = hand_of h
 hand_of (closing ∷ h) = hand_of h
 hand_of (turned t ∷ h) = hand_of h
 
@@ -259,6 +314,8 @@ plan_of (made_end ∷ h) = plan_of h
 plan_of (evened ∷ h) = behind (Override normal_overrides) [] (plan_of h)
 plan_of (paused ∷ h) = plan_of h
 plan_of (became call m ∷ h) = plan_of h
+plan_of (cut k ∷ h) = cleared (plan_of h)
+plan_of (halted ∷ h) = cleared (plan_of h)
 plan_of (closing ∷ h) = plan_of h
 plan_of (turned t ∷ h) = plan_of h
 
@@ -272,5 +329,7 @@ motion_of (made_end ∷ h) = motion_of h
 motion_of (evened ∷ h) = motion_of h
 motion_of (paused ∷ h) = motions.Held
 motion_of (became call m ∷ h) = m
+motion_of (cut k ∷ h) = motion_of h
+motion_of (halted ∷ h) = motion_of h
 motion_of (closing ∷ h) = motion_of h
 motion_of (turned t ∷ h) = motion_of h

@@ -1,8 +1,8 @@
 -- The turns of a board: what it has done in this one, and what it owes its port from turn to turn.
-use Rattle.std.specs.Prelude.{ℕ, ◌+◌, Bool, true, false, ◌&&◌, ◌||◌, not, cond, nat_eq, nat_le, nat_lt, List, [], ◌∷◌, ◌++◌, length, drop}
+use Rattle.std.specs.Prelude.{ℕ, ◌+◌, Bool, true, false, ◌&&◌, ◌||◌, not, cond, nat_eq, nat_le, List, [], ◌∷◌, ◌++◌, length, drop}
 use Rattle.std.specs.List.{list_any}
 use Rattle.feed_hold.specs.declared.Motion.{Motion}
-use Rattle.feed_hold.specs.declared.Motion.TheVariants.{Idle, Run, Holding, Held, Jog, Alarm}
+use Rattle.feed_hold.specs.declared.Motion.TheVariants.{Idle, Run, Holding, Held, Jog, Cancelling, Stopping, Alarm}
 use Rattle.feed_hold.specs.Motions.{asks, hold_byte, start_byte, is_stopping}
 use Rattle.feed_hold.specs.Motions.{Call}
 use Rattle.feed_hold.specs.Motions.Call.{on_exec}
@@ -14,15 +14,16 @@ use Rattle.planner_ring.specs.declared.Block.{Block}
 use Rattle.plan_passes.specs.Plans.{Planned}
 use Rattle.planner_runs.specs.declared.Action.TheVariants.{Add, Override}
 use Rattle.planner_runs.specs.Runs.{most_blocks}
-use Rattle.run_rules.specs.Work.{Task}
-use Rattle.run_rules.specs.Work.Task.{ask, tell, pause, normal, finish}
-use Rattle.run_rules.specs.Outcomes.{most_kept}
+use Rattle.run_rules.specs.declared.machine.Machine.{Machine}
+use Rattle.run_rules.specs.declared.machine.Machine.TheVariants.{Stands, Runs, Jogs}
+use Rattle.run_rules.specs.Work.{Task, has_moves}
+use Rattle.run_rules.specs.Work.Task.{ask, tell, pause, normal, finish, halt}
+use Rattle.run_rules.specs.Outcomes.{jogged_behind, begins_with_dollar}
 use Rattle.step_line.specs.Asking.Asked.{a_move, a_rest}
-use Rattle.system_lines.specs.Commands.{kind_of, needs_rest}
 use Rattle.board_rules.specs.Ports.{PortStep, has_changes, owes_in}
 use Rattle.board_rules.specs.Ports.PortStep.{took, found_empty, found_closed, found_free, answered, reported, no_reply_room, took_exec, took_ovr, published, no_piece_room, loaded}
 use Rattle.board_rules.specs.Steps.{Step, Journal, port_log, open_of, whole_of, left_of, plan_of, motion_of}
-use Rattle.board_rules.specs.Steps.Step.{at_port, began, did, made_end, evened, paused, became, closing, turned}
+use Rattle.board_rules.specs.Steps.Step.{at_port, began, did, made_end, evened, paused, became, cut, halted, closing, turned}
 
 -- the steps behind the last turn's end
 abbrev pub this_turn : Journal → Journal
@@ -34,6 +35,8 @@ this_turn (made_end ∷ h) = made_end ∷ this_turn h
 this_turn (evened ∷ h) = evened ∷ this_turn h
 this_turn (paused ∷ h) = paused ∷ this_turn h
 this_turn (became call m ∷ h) = became call m ∷ this_turn h
+this_turn (cut k ∷ h) = cut k ∷ this_turn h
+this_turn (halted ∷ h) = halted ∷ this_turn h
 this_turn (closing ∷ h) = closing ∷ this_turn h
 this_turn (turned t ∷ h) = []
 
@@ -114,6 +117,8 @@ unobeyed_of (made_end ∷ h) = unobeyed_of h
 unobeyed_of (evened ∷ h) = unobeyed_of h
 unobeyed_of (paused ∷ h) = unobeyed_of h
 unobeyed_of (became call m ∷ h) = unobeyed_by call (unobeyed_of h)
+unobeyed_of (cut k ∷ h) = unobeyed_of h
+unobeyed_of (halted ∷ h) = unobeyed_of h
 unobeyed_of (closing ∷ h) = unobeyed_of h
 unobeyed_of (turned t ∷ h) = unobeyed_of h
 
@@ -165,6 +170,8 @@ requests_taken (made_end ∷ h) = requests_taken h
 requests_taken (evened ∷ h) = requests_taken h
 requests_taken (paused ∷ h) = requests_taken h
 requests_taken (became call m ∷ h) = requests_taken h
+requests_taken (cut k ∷ h) = requests_taken h
+requests_taken (halted ∷ h) = requests_taken h
 requests_taken (closing ∷ h) = requests_taken h
 requests_taken (turned t ∷ h) = by_wait t (requests_taken h)
 
@@ -178,6 +185,8 @@ changes_taken (made_end ∷ h) = changes_taken h
 changes_taken (evened ∷ h) = changes_taken h
 changes_taken (paused ∷ h) = changes_taken h
 changes_taken (became call m ∷ h) = changes_taken h
+changes_taken (cut k ∷ h) = changes_taken h
+changes_taken (halted ∷ h) = changes_taken h
 changes_taken (closing ∷ h) = changes_taken h
 changes_taken (turned t ∷ h) = by_wait t (changes_taken h)
 
@@ -192,13 +201,19 @@ abbrev pub tells_next : List Task → Bool
 tells_next (tell r ∷ tasks) = true
 tells_next _ = false
 
--- the motion is waited for: by a rest, a pause, the overrides that are set at the end of a program, or the end
+-- the motion is waited for: by a rest, a pause, the overrides that are set at the end of a program, the end, or a halt
 abbrev pub awaits_motion : List Task → Bool
 awaits_motion (ask a_rest ∷ tasks) = true
 awaits_motion (pause ∷ tasks) = true
 awaits_motion (normal ∷ tasks) = true
 awaits_motion (finish ∷ tasks) = true
+awaits_motion (halt ∷ tasks) = true
 awaits_motion _ = false
+
+-- the machine is to be halted
+abbrev pub halts_next : List Task → Bool
+halts_next (halt ∷ tasks) = true
+halts_next _ = false
 
 -- What is next does not go on while the machine is held, or slows down for that: a line that was taken whole is not begun, a
 -- move has no room in a full plan, and the motion is waited for.
@@ -206,14 +221,6 @@ abbrev pub needs_motion : List Task → (whole full : Bool) → Bool
 needs_motion [] whole full = whole
 needs_motion (ask (a_move m) ∷ tasks) whole full = full
 needs_motion tasks whole full = awaits_motion tasks
-
-abbrev pub begins_with_dollar : List ℕ → Bool
-begins_with_dollar [] = false
-begins_with_dollar (b ∷ bytes) = nat_eq b 36
-
--- a line that is served only at rest: it begins with `$`, is of a kind that is, and does not have too many bytes
-abbrev pub is_served_at_rest : List ℕ → Bool
-is_served_at_rest line = begins_with_dollar line && (needs_rest (kind_of line) && not (nat_lt most_kept (length line)))
 
 abbrev pub has_blocks : List Block → Bool
 has_blocks [] = false
@@ -223,10 +230,25 @@ has_blocks (b ∷ blocks) = true
 abbrev pub is_full : Planned → Bool
 is_full p = nat_le most_blocks (length p.blocks)
 
--- Queued blocks start the cycle in this turn: a poll found no byte, or the link closed; the plan is full; or what is next
--- waits for the motion.
+-- the last that was accepted of G-code and jogs is a jog
+abbrev pub has_jogged : Journal → Bool
+has_jogged [] = false
+has_jogged (at_port e ∷ h) = has_jogged h
+has_jogged (began o ∷ h) = jogged_behind o.kind (has_jogged h)
+has_jogged (did a ps ∷ h) = has_jogged h
+has_jogged (made_end ∷ h) = has_jogged h
+has_jogged (evened ∷ h) = has_jogged h
+has_jogged (paused ∷ h) = has_jogged h
+has_jogged (became call m ∷ h) = has_jogged h
+has_jogged (cut k ∷ h) = has_jogged h
+has_jogged (halted ∷ h) = has_jogged h
+has_jogged (closing ∷ h) = has_jogged h
+has_jogged (turned t ∷ h) = has_jogged h
+
+-- Queued blocks start the cycle in this turn: a poll found no byte, or the link closed; the plan is full; what is next waits
+-- for the motion; or they are of a jog, which starts at once.
 abbrev pub starts_cycle : Journal → Bool
-starts_cycle h = list_any found_none (this_turn h) || (is_full (plan_of h) || awaits_motion (left_of h))
+starts_cycle h = list_any found_none (this_turn h) || (is_full (plan_of h) || (awaits_motion (left_of h) || has_jogged h))
 
 -- they do also where a line is next that begins with `$`, before it is begun
 abbrev pub starts_before_line : Journal → Bool
@@ -237,6 +259,24 @@ starts_before_line h = starts_cycle h || (whole_of h && begins_with_dollar (open
 abbrev pub is_run : Motion → Bool
 is_run Run = true
 is_run _ = false
+
+-- how a line that is begun finds the machine
+abbrev pub machine_in : Motion → Machine
+machine_in Run = Runs
+machine_in Jog = Jogs
+machine_in _ = Stands
+
+-- a soft limit stops the machine, or has stopped it
+abbrev pub is_limited : Motion → Bool
+is_limited Stopping = true
+is_limited Alarm = true
+is_limited _ = false
+
+-- the machine stands, and does not go on by itself
+abbrev pub stands_still : Motion → Bool
+stands_still Idle = true
+stands_still Alarm = true
+stands_still _ = false
 
 -- moves or jogs are carried out
 abbrev pub is_going : Motion → Bool
@@ -249,22 +289,30 @@ abbrev pub begins_in : Motion → Bool
 begins_in Idle = true
 begins_in Run = true
 begins_in Jog = true
-begins_in Alarm = true
 begins_in _ = false
 
 -- it moves, and slows down to a stop
 abbrev pub is_slowing : Motion → ℕ → Bool
 is_slowing m speed = is_stopping m && not (nat_eq speed 0)
 
--- the machine is held, or slows down for that
+-- the machine is held, or slows down for that, or its jogs were cancelled
 abbrev pub is_halting : Motion → Bool
 is_halting Holding = true
 is_halting Held = true
+is_halting Cancelling = true
 is_halting _ = false
 
 -- a segment is due: the plan has an event left, and the machine runs, or slows down to a stop
 abbrev pub has_segment : Motion → Planned → Bool
 has_segment m p = (is_going m || is_slowing m p.speed) && has_blocks p.blocks
+
+-- A jog waits for its start: the machine stands, and blocks of jogs are queued, or a jog's move is to be added.
+abbrev pub waits_to_jog : Motion → Bool → Bool → Bool
+waits_to_jog Idle jogged some = jogged && some
+waits_to_jog m jogged some = false
+
+abbrev pub has_jog_to_start : Journal → Bool
+has_jog_to_start h = waits_to_jog (motion_of h) (has_jogged h) (has_blocks (plan_of h).blocks || has_moves (left_of h))
 
 abbrev pub is_due : Journal → Bool
 is_due h = has_segment (motion_of h) (plan_of h)
@@ -303,6 +351,8 @@ tries_of (made_end ∷ h) = tries_of h
 tries_of (evened ∷ h) = tries_of h
 tries_of (paused ∷ h) = tries_of h
 tries_of (became call m ∷ h) = tries_of h
+tries_of (cut k ∷ h) = tries_of h
+tries_of (halted ∷ h) = tries_of h
 tries_of (closing ∷ h) = tries_of h
 tries_of (turned t ∷ h) = tries_of h
 
@@ -325,6 +375,8 @@ missed_of (made_end ∷ h) = missed_of h
 missed_of (evened ∷ h) = missed_of h
 missed_of (paused ∷ h) = missed_of h
 missed_of (became call m ∷ h) = missed_of h
+missed_of (cut k ∷ h) = missed_of h
+missed_of (halted ∷ h) = missed_of h
 missed_of (closing ∷ h) = missed_of h
 missed_of (turned t ∷ h) = missed_of h && is_due h
 
@@ -347,6 +399,8 @@ waits_of (made_end ∷ h) = waits_of h
 waits_of (evened ∷ h) = waits_of h
 waits_of (paused ∷ h) = waits_of h
 waits_of (became call m ∷ h) = waits_of h
+waits_of (cut k ∷ h) = waits_of h
+waits_of (halted ∷ h) = waits_of h
 waits_of (closing ∷ h) = waits_of h
 waits_of (turned t ∷ h) = waits_by t (waits_of h)
 
@@ -365,6 +419,8 @@ begun_while_due (made_end ∷ h) = begun_while_due h
 begun_while_due (evened ∷ h) = begun_while_due h
 begun_while_due (paused ∷ h) = begun_while_due h
 begun_while_due (became call m ∷ h) = begun_while_due h
+begun_while_due (cut k ∷ h) = begun_while_due h
+begun_while_due (halted ∷ h) = begun_while_due h
 begun_while_due (closing ∷ h) = begun_while_due h
 begun_while_due (turned t ∷ h) = cond (is_due h) (begun_while_due h) 0
 
@@ -378,5 +434,7 @@ waits_while_due (made_end ∷ h) = waits_while_due h
 waits_while_due (evened ∷ h) = waits_while_due h
 waits_while_due (paused ∷ h) = waits_while_due h
 waits_while_due (became call m ∷ h) = waits_while_due h
+waits_while_due (cut k ∷ h) = waits_while_due h
+waits_while_due (halted ∷ h) = waits_while_due h
 waits_while_due (closing ∷ h) = waits_while_due h
 waits_while_due (turned t ∷ h) = cond (is_due h) (waits_by t (waits_while_due h)) []

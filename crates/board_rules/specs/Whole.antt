@@ -1,18 +1,21 @@
 -- What a board that keeps to its rules has taken, when it stands, and what one that is finished leaves.
-use Rattle.std.specs.Prelude.{◌≡◌, ◌≢◌, ℕ, ◌<◌, ◌⊎◌, Bool, true, false, cond, List, [], ◌∷◌, ◌++◌}
+use Rattle.std.specs.Prelude.{◌≡◌, ◌≢◌, ℕ, ◌<◌, ◌⊎◌, Bool, true, false, ◌||◌, cond, List, [], ◌∷◌, ◌++◌}
 use Rattle.std.specs.List.{AllByRecursion, flat_map, list_any}
+use Rattle.flight.specs.Places.{end_of}
 use Rattle.planner_runs.specs.Runs.{IsAtRest}
 use Rattle.run_rules.specs.declared.State.{State}
 use Rattle.run_rules.specs.Lines.{HasNoLf, ended}
+use Rattle.run_rules.specs.Outcomes.{Before}
 use Rattle.run_rules.specs.Reports.{Course}
 use Rattle.run_rules.specs.Work.{Task, Outcome, has_moves}
-use Rattle.run_rules.specs.Work.Task.{ask, tell, pause, normal, finish}
+use Rattle.run_rules.specs.Work.Task.{ask, tell, pause, normal, finish, halt}
 use Rattle.step_line.specs.Asking.Asked.{a_move, a_mark, a_rest}
 use Rattle.step_line.specs.declared.Piece.TheVariants as pieces
 use Rattle.step_line.specs.Pieces.{ticks_of}
 use Rattle.board_rules.specs.Ports.{has_held_in, has_changed_in}
-use Rattle.board_rules.specs.Steps.{Journal, port_log, published_of, outcomes_of, known_of, given_of, planned_of, hand_of, plan_of, whole_of, has_closed, left_of, motion_of}
-use Rattle.board_rules.specs.Turns.{this_turn, loads, has_blocks, is_run}
+use Rattle.board_rules.specs.Steps.{Journal, port_log, has_alarmed, published_of, outcomes_of, known_of, given_of, planned_of, hand_of, plan_of, whole_of, has_closed, left_of, motion_of}
+use Rattle.board_rules.specs.Cuts.{counts_of}
+use Rattle.board_rules.specs.Turns.{this_turn, loads, has_blocks, is_going}
 use Rattle.board_rules.specs.Conduct.{IsDrained, ticks_given, ticks_published}
 
 -- bytes that are taken: lines, each ended by LF, and the line that is not begun, with its LF where it was taken whole
@@ -22,14 +25,15 @@ pub record AreLines (taken : List ℕ) (lines : List (List ℕ)) (raw : List ℕ
   pub partial : HasNoLf raw
 
 -- Where all is done, nothing is left in the plan or in hand, each line that was taken whole was begun, and the link was
--- found closed. The end was given once, behind all that the plan gave, and each tick that was given is done.
+-- found closed, or a line has raised an alarm. The end was given once, behind all that the plan gave, and each tick that was given
+-- is done.
 pub record IsSpent (h : Journal) : Type 0 where
   pub plan : IsAtRest (plan_of h)
   pub hand : hand_of h ≡ []
   pub given : given_of h ≡ planned_of h ++ pieces.End ∷ []
   pub done : known_of h ≡ ticks_given h
   pub whole : whole_of h ≡ false
-  pub closed : has_closed h ≡ true
+  pub closed : (has_closed h ≡ true) ⊎ (has_alarmed h ≡ true)
 
 -- ---- where nothing has moved since the machine stood
 
@@ -43,6 +47,7 @@ has_work (tell r ∷ ts) = has_work ts
 has_work (pause ∷ ts) = has_work ts
 has_work (normal ∷ ts) = has_work ts
 has_work (finish ∷ ts) = has_work ts
+has_work (halt ∷ ts) = has_work ts
 
 -- the machine is waited for, and no move or mark is asked for behind that
 abbrev pub comes_to_rest : List Task → Bool
@@ -54,6 +59,7 @@ comes_to_rest (tell r ∷ ts) = comes_to_rest ts
 comes_to_rest (pause ∷ ts) = comes_to_rest ts
 comes_to_rest (normal ∷ ts) = comes_to_rest ts
 comes_to_rest (finish ∷ ts) = comes_to_rest ts
+comes_to_rest (halt ∷ ts) = comes_to_rest ts
 
 -- What there is to do of a line brings the machine to rest where the line settles; and where it moves nothing, it does so or
 -- gives the machine nothing to do.
@@ -70,10 +76,10 @@ pub record IsQuiet (h : Journal) : Type 0 where
 abbrev pub ComesToRest : Journal → Type 0
 ComesToRest h = (comes_to_rest (left_of h) ≡ true) ⊎ IsQuiet h
 
--- A line is begun where the machine was found moving: it runs; the done ticks were loaded in this turn, and they were fewer
--- than those of the published pieces, or an event is left to run: a block is queued, or a piece is in hand.
+-- A line is begun where the machine was found moving: it runs or jogs; the done ticks were loaded in this turn, and they
+-- were fewer than those of the published pieces, or an event is left to run: a block is queued, or a piece is in hand.
 pub record IsFoundMoving (h : Journal) : Type 0 where
-  pub runs : is_run (motion_of h) ≡ true
+  pub goes : is_going (motion_of h) ≡ true
   pub loaded : list_any loads (this_turn h) ≡ true
   pub left : (known_of h < ticks_published h) ⊎ ((has_blocks (plan_of h).blocks ≡ true) ⊎ (hand_of h ≢ []))
 
@@ -81,13 +87,24 @@ pub record IsFoundMoving (h : Journal) : Type 0 where
 abbrev pub OneByOne : List Task → List ℕ → Bool → Type 0
 OneByOne left raw whole = (left ≡ []) ⊎ ((raw ≡ []) × (whole ≡ false))
 
+-- lines of G-code or jogs have moved since the last line that settles
+abbrev pub has_any_moved : Before → Bool
+has_any_moved b = b.moved || b.jog_moved
+
 -- what reports are judged by
 abbrev pub course_of : State → Journal → Course
 course_of first h = record {
   first = first;
   outcomes = outcomes_of h;
+  counts = counts_of h;
   ticks = flat_map ticks_of (published_of h);
   given = ticks_given h;
   held = has_held_in (port_log h);
   changed = has_changed_in (port_log h);
 }
+
+-- a load in this turn gave all ticks that are published as done, and all pieces that were given lead no further
+pub record IsKnown (h : Journal) : Type 0 where
+  pub load : list_any loads (this_turn h) ≡ true
+  pub known : known_of h ≡ ticks_published h
+  pub place : end_of (given_of h) ≡ end_of (published_of h)

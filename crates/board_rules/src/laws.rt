@@ -1,29 +1,33 @@
 //! Laws of boards.
 
 ghost use Rattle.std.specs.Prelude.{◌≡◌, ◌↔◌, ℕ, ◌+◌, ◌^◌, ◌≤◌, ◌<◌, ◌⊎◌, Bool, true, false, ◌&&◌, ◌||◌, cond, List, [], ◌∷◌, ◌++◌, length, map, reverse, Some};
-ghost use Rattle.std.specs.List.{count_by, list_any};
+ghost use Rattle.std.specs.List.{AllByRecursion, count_by, flat_map, list_any, sum};
 ghost use Rattle.code_table.specs.declared.flags.Exec.{Exec as AnyExec};
 ghost use Rattle.feed_hold.specs.declared.Motion.{Motion as AnyMotion};
-ghost use Rattle.feed_hold.specs.declared.Motion.TheVariants.{Idle, Run, Holding, Held};
+ghost use Rattle.feed_hold.specs.declared.Motion.TheVariants.{Idle, Run, Holding, Held, Jog, Cancelling, Stopping, Alarm};
 ghost use Rattle.feed_hold.specs.Motions.{after, is_stopping};
-ghost use Rattle.feed_hold.specs.Motions.Call.{on_exec, on_stopped};
+ghost use Rattle.feed_hold.specs.Motions.{Call};
+ghost use Rattle.feed_hold.specs.Motions.Call.{on_exec, on_start, on_stopped};
 ghost use Rattle.flight.specs.Flights.{BeginsAt};
 ghost use Rattle.flight.specs.Places.{machine_at, end_of};
 ghost use Rattle.outside.specs.declared.On.{On as AnyOn};
 ghost use Rattle.outside.specs.declared.On.TheVariants as causes;
 ghost use Rattle.outside.specs.declared.Turn.TheVariants.{Wait};
 ghost use Rattle.planner_runs.specs.declared.Action.TheVariants.{Take};
-ghost use Rattle.planner_runs.specs.Runs.{IsPlannerRun, DisturbedOnlyBy, normal_overrides, all_asked};
+ghost use Rattle.planner_runs.specs.Runs.{IsPlannerRun, IsAtRest, Plans, IsStart, DisturbedOnlyBy, most_blocks, normal_overrides, all_asked, ticks_left};
 ghost use Rattle.run_rules.specs.declared.State.{State};
 ghost use Rattle.run_rules.specs.States.{IsOpening};
-ghost use Rattle.run_rules.specs.Work.{Outcome, tells, asks, has_normal};
+ghost use Rattle.run_rules.specs.Work.{Outcome, is_alarm, tells, asks, has_normal};
 ghost use Rattle.run_rules.specs.Work.Task.{ask, tell};
-ghost use Rattle.run_rules.specs.Told.{replies_in, asked_in};
-ghost use Rattle.run_rules.specs.Outcomes.{Before, Becomes, Follows, start, refused};
+ghost use Rattle.run_rules.specs.Told.{replies_in, asked_in, alarms_in};
+ghost use Rattle.run_rules.specs.Outcomes.{Before, Becomes, Passed, Follows, start, became_of};
 ghost use Rattle.run_rules.specs.Outcomes.Passed.{a_line};
 ghost use Rattle.status_report.specs.declared.Reply.{Reply as AnyReply};
 ghost use Rattle.segment_prep.specs.declared.Mode.TheVariants.{Go, Hold};
+ghost use Rattle.step_line.specs.Asking.{ticks_of_all};
 ghost use Rattle.step_line.specs.Asking.Asked.{a_move};
+ghost use Rattle.step_line.specs.declared.Mark.TheVariants.{Cut};
+ghost use Rattle.step_line.specs.Pieces.{ticks_of};
 ghost use Rattle.step_line.specs.Finishing.{tick_count, ticks_together, unfinished, most_unfinished};
 ghost use Rattle.step_line.specs.declared.planned_move.PlannedMove.{PlannedMove as AnyMove};
 ghost use Rattle.step_line.specs.Ordering.{InTurn, ComesNext};
@@ -31,13 +35,32 @@ ghost use Rattle.status_report.specs.Answering.{lfs_in, is_answer, answers_in, w
 ghost use Rattle.step_line.specs.declared.Piece.{Piece as AnyPiece};
 ghost use Rattle.step_line.specs.declared.Segment.{Segment as AnySegment};
 ghost use Rattle.step_line.specs.Places.{place_after};
-ghost use Rattle.board_rules.specs.Steps.Step.{at_port, began, did, became, turned};
-ghost use Rattle.board_rules.specs.Ports.{has_held_in, has_changed_in, reports_in};
+ghost use Rattle.board_rules.specs.Steps.Step.{at_port, began, did, became, cut, halted, turned};
+ghost use Rattle.units.specs.Truths.{one_if};
+ghost use Rattle.board_rules.specs.Parts.{IsCutPart, IsHaltedPart, AreDisturbedOnlyBy, lines_in, actions_in, pieces_in, passed_in, plan_behind, AreJoined, AreNumbered};
+ghost use Rattle.board_rules.specs.Cuts.{
+  part_outcomes,
+  part_actions,
+  part_given,
+  part_start,
+  part_plan,
+  has_halted,
+  parts_of,
+  passed_of,
+  counts_of,
+  has_cut,
+  is_cancelling,
+  cancels_of,
+  pending,
+  cancel_words_in,
+};
+ghost use Rattle.board_rules.specs.Ports.{has_held_in, has_slowed_in, has_changed_in, reports_in};
 ghost use Rattle.board_rules.specs.Whole.{course_of};
 ghost use Rattle.run_rules.specs.Reports.{Reported};
-ghost use Rattle.board_rules.specs.Ports.PortStep.{took_exec, reported};
+ghost use Rattle.board_rules.specs.Ports.PortStep.{answered, took_exec, reported, published};
 ghost use Rattle.status_report.specs.declared.reports.Report.{Report as AnyReport};
 ghost use Rattle.board_rules.specs.Steps.{
+  Step,
   Journal,
   port_log,
   taken_of,
@@ -48,6 +71,7 @@ ghost use Rattle.board_rules.specs.Steps.{
   whole_of,
   lines_of,
   outcomes_of,
+  has_alarmed,
   before_of,
   left_of,
   closed_tells,
@@ -58,7 +82,7 @@ ghost use Rattle.board_rules.specs.Steps.{
   plan_of,
   motion_of,
 };
-ghost use Rattle.board_rules.specs.Conduct.{Conducted, AreWaiting, IsDrained, HasSlowedDown, IsStopped, IsInHand, IsNextTask, IsFinished, IsRoom, ticks_given, ticks_published};
+ghost use Rattle.board_rules.specs.Conduct.{Conducted, AreWaiting, IsDrained, HasSlowedDown, IsStopped, MayStop, MayHalt, IsInHand, IsNextTask, IsFinished, IsRoom, ticks_given, ticks_published};
 ghost use Rattle.board_rules.specs.Turns.{
   this_turn,
   publishing,
@@ -78,35 +102,38 @@ ghost use Rattle.board_rules.specs.Turns.{
   changes_taken,
   loads,
   is_full,
+  halts_next,
+  is_limited,
   starts_cycle,
-  is_run,
+  has_jog_to_start,
   is_going,
-  is_served_at_rest,
   tries_of,
   most_tries,
   begun_while_due,
   waits_while_due,
 };
-ghost use Rattle.board_rules.specs.Whole.{AreLines, IsSpent, OneByOne, WorkRests, ComesToRest, IsFoundMoving};
+ghost use Rattle.board_rules.specs.Whole.{AreLines, IsSpent, OneByOne, WorkRests, ComesToRest, IsFoundMoving, IsKnown, has_any_moved};
 
 /// The bytes that a board has taken are its lines, and each line that it has begun is followed by what becomes of it.
 /// What it has answered, reports left out, and is still to tell, is what the lines tell, and Bye, once, where it is
 /// being closed; what was asked of the plan, and is still to be asked, is what they ask. No byte of a line is taken
-/// while a task of the line before is left.
+/// while a task of the line before is left. Where jogs are cut, what is asked is that since the last cut.
 pub fn boards_keep_to_their_lines()
     ensures bytes { (first : State) (h : Journal) → Conducted first h → AreLines (taken_of h) (lines_of h) (open_of h) (whole_of h) }
-    ensures follow { (first : State) (h : Journal) → Conducted first h → Follows true (start first) (lines_of h) (map a_line (outcomes_of h)) (before_of first h) }
+    ensures follow { (first : State) (h : Journal) → Conducted first h → Follows true (start first) (lines_of h) (passed_of h) (before_of first h) }
+    ensures lines { (h : Journal) → became_of (passed_of h) ≡ outcomes_of h }
     ensures told { (first : State) (h : Journal) → Conducted first h → replies_in (outcomes_of h) ++ closed_tells h ≡ without_reports (answered_of h) ++ tells (left_of h) }
     ensures bye { (first : State) (h : Journal) → Conducted first h → (closed_tells h ≡ []) ⊎ (closed_tells h ≡ AnyReply.Bye ∷ []) }
-    ensures asked { (first : State) (h : Journal) → Conducted first h → asked_in (outcomes_of h) ≡ all_asked (actions_of h) ++ asks (left_of h) }
+    ensures asked { (first : State) (h : Journal) → Conducted first h → asked_in (part_outcomes h) ≡ all_asked (part_actions h) ++ asks (left_of h) }
     ensures one_by_one { (first : State) (h : Journal) → Conducted first h → closed_tells h ≡ [] → OneByOne (left_of h) (open_of h) (whole_of h) }
 {}
 
-/// Each line has one answer: what was answered, what is still to be answered, and the line that is taken whole and not
-/// begun, are the lines taken to their LF. So an answer that is next may be given.
+/// Each line has one answer, but for one that raises an alarm: what was answered, what is still to be answered, the line that has
+/// raised an alarm, and the line that is taken whole and not begun, are the lines taken to their LF. So an answer that is next may
+/// be given.
 pub fn boards_answer_each_line_once()
     ensures answers { (first : State) (h : Journal) → Conducted first h →
-        answers_in (answered_of h) + answers_in (tells (left_of h)) + cond (whole_of h) 1 0 ≡ lfs_in (taken_of h) }
+        answers_in (answered_of h) + answers_in (tells (left_of h)) + one_if (has_alarmed h) + cond (whole_of h) 1 0 ≡ lfs_in (taken_of h) }
     ensures due { (first : State) (h : Journal) (r : AnyReply) → Conducted first h → IsNextTask (tell r) h → is_answer r ≡ true →
         answers_in (answered_of h) < lfs_in (taken_of h) }
 {}
@@ -120,19 +147,25 @@ pub fn boards_do_a_bounded_amount()
     ensures replies { (first : State) (h : Journal) → Conducted first h → length (answered_of h) < 2 ^ 62 }
 {}
 
-/// What a board does to its plan is a planner run. Only a word that asks for a hold slows it down, and only a word that
-/// changes overrides, or the end of a program, plans it for others; before that they are at 100 percent. Segments go on
-/// while the machine runs, and slow it down while it is being held. What was given is what the plan gave, and the end
-/// behind it where it was made; it is published, or in hand, and comes in turn, so that the piece in hand may be
-/// published.
+/// What a board does to its plan is a planner run; and so is what it has done since the last cut, from where nothing was left to
+/// run, to the plan as it is, or to what a halt has dropped. Only a word that asks for a hold or a cancel slows it down, or an
+/// alarm; and only a word that changes overrides, or the end of a program, plans it for others; before that they are at 100
+/// percent. Only cuts and halts take blocks away. Segments go on while the machine runs or jogs, and slow it down while it is being
+/// held, a jog is cancelled, or an alarm stops it. What was given is what the plan gave, and the end behind it where it was made; it
+/// is published, or in hand, and comes in turn, so that the piece in hand may be published.
 pub fn boards_run_their_plan()
     ensures run { (first : State) (h : Journal) → Conducted first h → IsPlannerRun (actions_of h) (planned_of h) (plan_of h) }
+    ensures part { (first : State) (h : Journal) → Conducted first h → IsStart (part_start h) × Plans most_blocks (part_start h) (part_actions h) (part_given h) (part_plan h) }
     ensures disturbed { (first : State) (h : Journal) → Conducted first h →
-        DisturbedOnlyBy (has_held_in (port_log h)) (has_changed_in (port_log h) || list_any (λ o. has_normal o.work) (outcomes_of h)) (actions_of h) }
+        DisturbedOnlyBy (has_slowed_in (port_log h) || has_alarmed h) (has_changed_in (port_log h) || list_any (λ o. has_normal o.work) (outcomes_of h)) (part_actions h) }
+    ensures parts { (first : State) (h : Journal) → Conducted first h →
+        AreDisturbedOnlyBy (has_slowed_in (port_log h)) (has_changed_in (port_log h) || list_any (λ o. has_normal o.work) (outcomes_of h)) (parts_of h) }
     ensures overrides { (first : State) (h : Journal) → Conducted first h → has_changed_in (port_log h) ≡ false → (plan_of h).overrides ≡ normal_overrides }
     ensures held { (first : State) (h : Journal) → Conducted first h → motion_of h ≡ Holding → has_held_in (port_log h) ≡ true }
-    ensures going { (first : State) (h : Journal) (ps : List AnyPiece) → Conducted first (did (Take Go) ps ∷ h) → motion_of h ≡ Run }
-    ensures slowing { (first : State) (h : Journal) (ps : List AnyPiece) → Conducted first (did (Take Hold) ps ∷ h) → motion_of h ≡ Holding }
+    ensures cancelled { (first : State) (h : Journal) → Conducted first h → motion_of h ≡ Cancelling → has_slowed_in (port_log h) ≡ true }
+    ensures going { (first : State) (h : Journal) (ps : List AnyPiece) → Conducted first (did (Take Go) ps ∷ h) → is_going (motion_of h) ≡ true }
+    ensures slowing { (first : State) (h : Journal) (ps : List AnyPiece) → Conducted first (did (Take Hold) ps ∷ h) →
+        (motion_of h ≡ Holding) ⊎ ((motion_of h ≡ Cancelling) ⊎ ((motion_of h ≡ Stopping) × (has_alarmed h ≡ true))) }
     ensures hand { (first : State) (h : Journal) → Conducted first h → given_of h ≡ published_of h ++ hand_of h }
     ensures end { (first : State) (h : Journal) → Conducted first h → (given_of h ≡ planned_of h) ⊎ (given_of h ≡ planned_of h ++ AnyPiece.End ∷ []) }
     ensures turns { (first : State) (h : Journal) → Conducted first h → InTurn (reverse (given_of h)) }
@@ -140,7 +173,7 @@ pub fn boards_run_their_plan()
 {}
 
 /// Each piece that is to be published begins where the ticks of the pieces before it lead, from the origin on: the moves of
-/// the lines join, and so do the blocks of the plan and the segments that it gives. So once some ticks of a segment that was
+/// the lines join, and so do the blocks of the plan and the segments that it gives; behind a cut the next line begins there. So once some ticks of a segment that was
 /// published are done, and all before it, the machine is where so many events of the segment's move lead.
 pub fn boards_lead_the_machine()
     ensures next { (first : State) (h : Journal) (p : AnyPiece) → IsOpening first → Conducted first h → IsInHand p h → BeginsAt (end_of (published_of h)) p }
@@ -148,29 +181,36 @@ pub fn boards_lead_the_machine()
         published_of h ≡ early ++ AnyPiece.Segment s ∷ late → j ≤ s.n → machine_at (published_of h) (ticks_together early + j) ≡ place_after s.mv (s.first + j) }
 {}
 
-/// Where no line has moved since the last that settles, the machine stands or will be waited for; so where nothing is left
-/// to do, each tick that was given is done, and a machine that does not stand there has moved. So a line that is served
-/// only at rest may be refused while the machine runs, as the rules ask. What there is to do of a line brings the machine to
-/// rest where the line settles, and where it moves nothing it does so or gives the machine nothing to do.
+/// Where no line, and no jog, has moved since the last line that settles, the machine stands or will be waited for; so where
+/// nothing is left to do, each tick that was given is done, and a machine that does not stand there has moved. What there
+/// is to do of a line brings the machine to rest where the line settles, and where it moves nothing it does so or gives the
+/// machine nothing to do.
 pub fn boards_stand_where_nothing_moved()
     ensures quiet { (first : State) (h : Journal) → Conducted first h → closed_tells h ≡ [] →
-        (before_of first h).moved ≡ false → ComesToRest h }
+        has_any_moved (before_of first h) ≡ false → ComesToRest h }
     ensures moved { (first : State) (h : Journal) → Conducted first h → closed_tells h ≡ [] →
-        left_of h ≡ [] → (IsDrained h → ⊥) → (before_of first h).moved ≡ true }
+        left_of h ≡ [] → (IsDrained h → ⊥) → has_any_moved (before_of first h) ≡ true }
     ensures done { (first : State) (h : Journal) → Conducted first h → closed_tells h ≡ [] →
-        left_of h ≡ [] → (before_of first h).moved ≡ false → known_of h ≡ ticks_given h }
-    ensures busy { (first : State) (h : Journal) → Conducted first h → closed_tells h ≡ [] →
-        left_of h ≡ [] → is_run (motion_of h) ≡ true → (IsDrained h → ⊥) → is_served_at_rest (open_of h) ≡ true →
-        Becomes (is_run (motion_of h)) (before_of first h) (open_of h) (refused (before_of first h) 8) }
+        left_of h ≡ [] → has_any_moved (before_of first h) ≡ false → known_of h ≡ ticks_given h }
     ensures works { (runs : Bool) (before : Before) (kept : List ℕ) (outcome : Outcome) → Becomes runs before kept outcome → WorkRests outcome }
-    ensures motion { (first : State) (h : Journal) → Conducted first h → (motion_of h ≡ Idle) ⊎ ((motion_of h ≡ Run) ⊎ ((motion_of h ≡ Holding) ⊎ (motion_of h ≡ Held))) }
+    ensures motion { (first : State) (h : Journal) → Conducted first h → has_alarmed h ≡ false → (motion_of h ≡ Idle) ⊎ ((motion_of h ≡ Run) ⊎ ((motion_of h ≡ Holding) ⊎ ((motion_of h ≡ Held) ⊎ ((motion_of h ≡ Jog) ⊎ (motion_of h ≡ Cancelling))))) }
 {}
 
-/// A line is refused with error 8 only where the machine was found moving, unless it is refused so wherever the machine
-/// stands: in its turn a load of the done ticks found fewer than are published where it is begun, or an event was left
-/// to run, in the plan or in hand.
+/// While the machine runs, the last that was accepted of G-code and jogs is no jog, and a line of G-code has moved since the
+/// last line that settles, where a line is begun; in a jog it is one, and something has moved. So what becomes of a line
+/// where the machine is found so has its cause in the lines before.
+pub fn boards_move_by_their_lines()
+    ensures running { (first : State) (h : Journal) → Conducted first h → motion_of h ≡ Run → (before_of first h).jogged ≡ false }
+    ensures jogging { (first : State) (h : Journal) → Conducted first h → motion_of h ≡ Jog → (before_of first h).jogged ≡ true }
+    ensures moved { (first : State) (h : Journal) (o : Outcome) → Conducted first (began o ∷ h) → motion_of h ≡ Run → (before_of first h).moved ≡ true }
+    ensures becomes { (first : State) (h : Journal) (o : Outcome) → Conducted first (began o ∷ h) → Becomes true (before_of first h) (open_of h) o }
+{}
+
+/// A line is refused for the machine's motion, with error 8 or 9, only where that was found moving: unless the line becomes
+/// the same wherever the machine stands, a load of the done ticks in its turn found fewer than are published where it is
+/// begun, or an event was left to run, in the plan or in hand.
 pub fn boards_refuse_only_while_they_move()
-    ensures moving { (first : State) (h : Journal) (o : Outcome) → Conducted first (began o ∷ h) → o ≡ refused (before_of first h) 8 →
+    ensures moving { (first : State) (h : Journal) (o : Outcome) → Conducted first (began o ∷ h) →
         (Becomes false (before_of first h) (open_of h) o → ⊥) → IsFoundMoving h }
 {}
 
@@ -189,15 +229,15 @@ pub fn boards_take_turns()
 
 /// A line is begun once both words of flags were taken behind its LF, what they ask for is done, and no report is owed.
 /// Where anything is waited for, both were taken since the last wait, and obeyed. A word of requests lets a machine
-/// that is held stay so where it asks for no start, or for a hold. A machine that slows down is held once it has
-/// stopped and each tick is done; that is looked after before it obeys a word, so that a machine that has stopped is
-/// held by then. A word is obeyed while a report is owed only where there was no room for it in that turn.
+/// that is held stay so where it asks for no start, or for a hold. A machine that slows down is held, or in alarm, once it has
+/// stopped and each tick is done; and one whose jogs were cancelled stands then, once its jogs were cut. It is looked
+/// after before it obeys a word, so that a machine that has stopped is held by then, or its jogs are cut. A word is obeyed while a report is owed only where there was no room for it in that turn.
 pub fn boards_take_their_flags()
     ensures begun { (first : State) (h : Journal) (o : Outcome) → Conducted first (began o ∷ h) → (requests_taken h ≡ true) × (changes_taken h ≡ true) }
     ensures worked { (first : State) (h : Journal) (o : Outcome) → Conducted first (began o ∷ h) → (unobeyed_of h ≡ []) × (owes_report h ≡ false) }
     ensures waited { (first : State) (h : Journal) (o : AnyOn) → Conducted first (turned (Wait o) ∷ h) → (requests_taken h ≡ true) × ((changes_taken h ≡ true) × (unobeyed_of h ≡ [])) }
     ensures stays { (word : AnyExec) (queued : Bool) → (asks_no_start (at_port (took_exec word)) ≡ true) ↔ (after (on_exec word queued) Held ≡ Some Held) }
-    ensures held { (first : State) (h : Journal) (m : AnyMotion) → Conducted first (became on_stopped m ∷ h) → IsStopped h }
+    ensures held { (first : State) (h : Journal) (m : AnyMotion) → Conducted first (became on_stopped m ∷ h) → MayStop h }
     ensures reported { (first : State) (h : Journal) (word : AnyExec) (queued : Bool) (m : AnyMotion) → Conducted first (became (on_exec word queued) m ∷ h) →
         owes_report h ≡ true → list_any lacks_reply_room (this_turn h) ≡ true }
     ensures looked { (first : State) (h : Journal) (word : AnyExec) (queued : Bool) (m : AnyMotion) → Conducted first (became (on_exec word queued) m ∷ h) →
@@ -218,14 +258,14 @@ pub fn boards_report_where_they_are()
     ensures few { (first : State) (h : Journal) → Conducted first h → reports_among (answered_of h) + cond (owes_report h) 1 0 ≤ reports_in (port_log h) }
 {}
 
-/// A turn that ends in a wait has a cause. For a byte: none was found, and nothing is left to do. For room for a reply:
-/// a reply is next, or a report is owed; and where one is owed, there was no room for it in that turn. For room for a
-/// segment: five of the published pieces are unfinished, while so many ticks are done. For motion: some of the
+/// A turn that ends in a wait has a cause. For a byte: none was found, nothing is left to do, and no report is owed. For
+/// room for a reply: a reply is next, or a report is owed; and where one is owed, there was no room for it in that turn. For
+/// room for a segment: five of the published pieces are unfinished, while so many ticks are done. For motion: some of the
 /// published ticks were found not to be done, and what is next waits for them, or for the machine that is being held.
 /// For a resume: the machine is held, the word of requests that was taken lets it stay so, and what is next does not go
 /// on before. It waits for nothing else.
 pub fn boards_wait_for_a_cause()
-    ensures byte { (first : State) (h : Journal) → Conducted first (turned (Wait causes.Byte) ∷ h) → (left_of h ≡ []) × (whole_of h ≡ false) }
+    ensures byte { (first : State) (h : Journal) → Conducted first (turned (Wait causes.Byte) ∷ h) → (left_of h ≡ []) × (whole_of h ≡ false) × (owes_report h ≡ false) }
     ensures reply_room { (first : State) (h : Journal) → Conducted first (turned (Wait causes.ReplyRoom) ∷ h) → (tells_next (left_of h) || owes_report h) ≡ true }
     ensures report { (first : State) (h : Journal) (o : AnyOn) → Conducted first (turned (Wait o) ∷ h) → owes_report h ≡ true → list_any lacks_reply_room (this_turn h) ≡ true }
     ensures segment_room { (first : State) (h : Journal) → Conducted first (turned (Wait causes.SegmentRoom) ∷ h) →
@@ -239,17 +279,93 @@ pub fn boards_wait_for_a_cause()
 {}
 
 /// Between two turns a move that is next is added, unless the plan is full, and no queued block waits for a start that is
-/// called for. While segments are due, one line at most is begun, and four turns at most end in a wait, between two tries
-/// to publish a piece: so the pulse is not left without segments by lines and replies.
+/// called for: so a jog that a machine at rest was to carry out has started. While segments are due, one line at most is
+/// begun, and four turns at most end in a wait, between two tries to publish a piece: so the pulse is not left without
+/// segments by lines and replies.
 pub fn boards_keep_the_pulse_busy()
     ensures adds { (first : State) (h : Journal) (m : AnyMove) → Conducted first h → this_turn h ≡ [] → IsNextTask (ask (a_move m)) h → is_full (plan_of h) ≡ true }
     ensures starts { (first : State) (h : Journal) → Conducted first h → this_turn h ≡ [] → AreWaiting h → starts_cycle h ≡ false }
+    ensures jogs { (first : State) (h : Journal) → Conducted first h → this_turn h ≡ [] → has_jog_to_start h ≡ false }
     ensures lines { (first : State) (h : Journal) → Conducted first h → begun_while_due h ≤ 1 }
     ensures waits { (first : State) (h : Journal) → Conducted first h → length (waits_while_due h) ≤ 4 }
 {}
 
+/// Each part that a cut has ended holds the first ticks of its lines, and leaves out those of jogs alone; it is a planner run that has
+/// come to a stop, with legal heads, so that a cut may break a move off. Each begins with the plan that the cut before it has cleared. The parts hold all lines, all that was done to
+/// the plan, and all pieces that it gave. The number of each cut is that of the lines that were begun before it, and they
+/// rise. Each cancel has one cut, or has it to come, and each cut a word of its own that asks for a hold or a cancel. Where nothing
+/// is left to do or to run, all ticks are given of the lines behind the last cut, unless a halt has dropped some. Of each line
+/// those ticks count that it asks for, less those that a cut or a halt dropped, and the cut with the last line: all together, those
+/// that were given, that are left in the plan, and to ask.
+pub fn cuts_lose_jogs_alone()
+    ensures parts { (first : State) (h : Journal) → Conducted first h → AllByRecursion IsCutPart (parts_of h) }
+    ensures starts { (h : Journal) → part_start h ≡ plan_behind (parts_of h) }
+    ensures joined { (h : Journal) → AreJoined (parts_of h) }
+    ensures lines { (first : State) (h : Journal) → Conducted first h → outcomes_of h ≡ lines_in (parts_of h) ++ part_outcomes h }
+    ensures actions { (h : Journal) → has_halted h ≡ false → actions_of h ≡ actions_in (parts_of h) ++ part_actions h }
+    ensures pieces { (first : State) (h : Journal) → Conducted first h → planned_of h ≡ pieces_in (parts_of h) ++ part_given h }
+    ensures numbers { (first : State) (h : Journal) → Conducted first h → AreNumbered (parts_of h) }
+    ensures cancels { (first : State) (h : Journal) → Conducted first h → cancels_of h ≡ length (parts_of h) + pending (is_cancelling (motion_of h)) (has_cut h) }
+    ensures words { (first : State) (h : Journal) → Conducted first h → length (parts_of h) ≤ cancel_words_in (port_log h) }
+    ensures last { (first : State) (h : Journal) → Conducted first h → asks (left_of h) ≡ [] → (part_plan h).blocks ≡ [] →
+        ticks_of_all (asked_in (part_outcomes h)) ≡ flat_map ticks_of (part_given h) }
+    ensures counts { (first : State) (h : Journal) → Conducted first h → sum (counts_of h) ≡ ticks_given h + length (ticks_left (plan_of h)) + length (ticks_of_all (asks (left_of h))) }
+{}
+
+/// The lines that were begun, and the cuts, are passed part by part: each cut at the place to which all pieces before it lead.
+pub fn lines_follow_cuts()
+    ensures { (first : State) (h : Journal) → Conducted first h → passed_of h ≡ passed_in (parts_of h) ++ map a_line (part_outcomes h) }
+{}
+
+/// A cut is made, and is published, and a cancel is over, each where a load in that turn gave all that is published as done; so the
+/// position behind a cut is where the machine is.
+pub fn cuts_are_at_known_places()
+    ensures made { (first : State) (h : Journal) (k : ℕ) → Conducted first (cut k ∷ h) → IsKnown h }
+    ensures published { (first : State) (h : Journal) (k : ℕ) → Conducted first (at_port (published (AnyPiece.Mark (Cut k))) ∷ h) →
+        (list_any loads (this_turn h) ≡ true) × (known_of h ≡ ticks_published h) }
+    ensures over { (first : State) (h : Journal) (call : Call) (m : AnyMotion) → Conducted first (became call m ∷ h) → motion_of h ≡ Cancelling → is_cancelling m ≡ false →
+        (has_cut h ≡ true) × IsKnown h }
+{}
+
+/// A line that raises an alarm is the last that was passed: no line is begun behind it, no jog is cut, no queued block starts, and
+/// nothing more is asked of the machine. By the end of the turn, and before a word is obeyed, it slows down for a limit, or stands in
+/// alarm, as for nothing else; and it is halted once it stands in alarm, with an empty hand, and each tick that was given is done.
+/// Nothing is told before but reports. It is halted once, and never where no line has raised an alarm.
+pub fn boards_halt_at_alarms()
+    ensures alarms { (first : State) (h : Journal) → Conducted first h → alarms_in (outcomes_of h) ≡ one_if (has_alarmed h) }
+    ensures state { (first : State) (h : Journal) → (before_of first h).alarmed ≡ has_alarmed h }
+    ensures last { (first : State) (h : Journal) → Conducted first h → has_alarmed h ≡ true →
+        (early : List Passed) × (o : Outcome) × (passed_of h ≡ early ++ a_line o ∷ []) × (is_alarm o.answer ≡ true) }
+    ensures begun { (first : State) (h : Journal) (o : Outcome) → Conducted first (began o ∷ h) → has_alarmed h ≡ false }
+    ensures cut { (first : State) (h : Journal) (k : ℕ) → Conducted first (cut k ∷ h) → has_alarmed h ≡ false }
+    ensures asked { (first : State) (h : Journal) → Conducted first h → has_alarmed h ≡ true → asks (left_of h) ≡ [] }
+    ensures limited { (first : State) (h : Journal) → Conducted first h → is_limited (motion_of h) ≡ true → has_alarmed h ≡ true }
+    ensures slows { (first : State) (h : Journal) → Conducted first h → this_turn h ≡ [] → halts_next (left_of h) ≡ true → is_limited (motion_of h) ≡ true }
+    ensures starts { (first : State) (h : Journal) (jog : Bool) (m : AnyMotion) → Conducted first (became (on_start jog) m ∷ h) → has_alarmed h ≡ false }
+    ensures obeys { (first : State) (h : Journal) (word : AnyExec) (queued : Bool) (m : AnyMotion) → Conducted first (became (on_exec word queued) m ∷ h) →
+        has_alarmed h ≡ true → is_limited (motion_of h) ≡ true }
+    ensures halts { (first : State) (h : Journal) → Conducted first (halted ∷ h) → MayHalt h × (has_alarmed h ≡ true) × (has_halted h ≡ false) }
+    ensures told { (first : State) (h : Journal) (r : AnyReply) → Conducted first (at_port (answered r) ∷ h) → has_alarmed h ≡ true → has_halted h ≡ true }
+    ensures calm { (first : State) (h : Journal) → Conducted first h → has_alarmed h ≡ false → (has_halted h ≡ false) × (part_plan h ≡ plan_of h) }
+{}
+
+/// Where the machine was halted, the part behind the last cut is a planner run that has come to a stop, with legal heads; it holds
+/// the first ticks of its lines, and all of those up to the last that settles (`IsHaltedPart`). Nothing is left to run, the machine
+/// stands in alarm, and each tick that was given is done. No line is begun behind it, and the plan gives nothing more, so that only the
+/// end is given. A board that is finished, and of which a line has raised an alarm, was halted.
+pub fn halts_drop_what_is_left()
+    ensures part { (first : State) (h : Journal) → Conducted first h → has_halted h ≡ true →
+        IsHaltedPart (part_outcomes h) (part_start h) (part_actions h) (part_given h) (part_plan h) }
+    ensures stands { (first : State) (h : Journal) → Conducted first h → has_halted h ≡ true →
+        IsAtRest (plan_of h) × (motion_of h ≡ Alarm) × (known_of h ≡ ticks_given h) }
+    ensures alarmed { (first : State) (h : Journal) → Conducted first h → has_halted h ≡ true → has_alarmed h ≡ true }
+    ensures behind { (first : State) (s : Step) (h : Journal) → Conducted first (s ∷ h) → has_halted h ≡ true →
+        (outcomes_of (s ∷ h) ≡ outcomes_of h) × (planned_of (s ∷ h) ≡ planned_of h) }
+    ensures over { (first : State) (h : Journal) → Conducted first h → IsFinished h → has_alarmed h ≡ true → has_halted h ≡ true }
+{}
+
 /// Where a board is finished, nothing is left in its plan or in hand, all lines that were taken whole are begun, and the
-/// link was found closed.
+/// link was found closed, or a line has raised an alarm.
 pub fn boards_end_well()
     ensures { (first : State) (h : Journal) → Conducted first h → IsFinished h → IsSpent h }
 {}

@@ -1,5 +1,5 @@
 -- Moves are added to the plan, one by one, and queued blocks are started.
-use Rattle.std.proofs.Common.{◌≡◌, ◌⊎◌, inl, inr, Bool, List, [], ◌∷◌, ◌||◌, ◌&&◌, true, false, refl, sym, ap, ◌∙◌, subst, arith, append-nil}
+use Rattle.std.proofs.Common.{◌≡◌, ◌⊎◌, inl, inr, Bool, List, [], ◌∷◌, ◌||◌, ◌&&◌, true, false, refl, sym, ap, ◌∙◌, subst, append-nil}
 use Rattle.std.specs.List.{list_any}
 use Rattle.feed_hold.specs.declared.Motion.TheVariants as motions
 use Rattle.feed_hold.specs.Motions.Call.{on_start}
@@ -9,8 +9,9 @@ use Rattle.step_line.specs.Asking.Asked.{a_move}
 use Rattle.step_line.specs.declared.planned_move.PlannedMove.{PlannedMove}
 use Rattle.planner_runs.specs.declared.Action.TheVariants.{Add}
 use Rattle.board_rules.specs.Steps.{Journal, open_of, whole_of, left_of, hand_of, plan_of, motion_of}
-use Rattle.board_rules.specs.Steps.Step.{did, became}
-use Rattle.board_rules.specs.Turns.{this_turn, moving, found_none, is_full, has_blocks, awaits_motion, begins_with_dollar}
+use Rattle.board_rules.specs.Steps.Step.{did}
+use Rattle.run_rules.specs.Outcomes.{begins_with_dollar}
+use Rattle.board_rules.specs.Turns.{this_turn, moving, found_none, is_full, is_limited, has_blocks, has_jogged, awaits_motion}
 use Rattle.board_rules.specs.Conduct.{IsNextTask, AreWaiting, MayStart}
 use Rattle.plan_passes.specs.Plans.{Planned}
 use Rattle.line_interpreter.specs.Lefts.{IsNextOf, IsTodo}
@@ -18,8 +19,12 @@ use Rattle.line_interpreter.specs.declared.tasks.Todo.{Todo}
 use Rattle.line_interpreter.specs.declared.tasks.Todo.TheVariants as todo
 use Rattle.controller.specs.declared.controller.Controller.{Controller}
 use Rattle.controller.specs.Boards.{Keeps, NoneWaits}
-use Rattle.controller.specs.Turning.{IsNextMove, NoneFits, DidAlone, HasAdded, HasFilled}
+use Rattle.controller.specs.Machines.{start_motion}
+use Rattle.controller.specs.Turning.{IsNextMove, NoneFits, DidAlone, HasAdded, HasFilled, starting}
 use Rattle.controller.proofs.Tries.{alone_did, alone_on, alone_motion}
+use Rattle.controller.proofs.Starting.{none_left_to_change, starts_off}
+use Rattle.controller.proofs.Ends.{same_calls}
+use Rattle.controller.proofs.Steps.{none_halts}
 
 -- some of the moves that are next were added, or none
 pub record Adds (h next : Journal) : Type 0 where
@@ -72,6 +77,7 @@ no_move todo.Tell tasks is other m next = let e = is.1 in absurd cc
 no_move todo.Pause tasks is other m next = absurd cc
 no_move todo.Normal tasks is other m next = absurd cc
 no_move todo.Finish tasks is other m next = absurd cc
+no_move todo.Halt tasks is other m next = absurd cc
 
 -- no move is next
 pub none_fits_other : (c : Controller) (h : Journal) (t : Todo) → Keeps c h → IsTodo t c.lines.left → (t ≡ todo.Move → ⊥) → NoneFits h
@@ -82,21 +88,24 @@ has_room_now c h k room = subst (λ (p : Planned). is_full p ≡ false) k.machin
 
 -- ---- queued blocks
 
+-- what calls for a start, by the fields
+calls_now : (c : Controller) (h : Journal) → Keeps c h → (is_full c.machine.plan || (awaits_motion c.lines.left || c.jogged)) ≡ (is_full (plan_of h) || (awaits_motion (left_of h) || has_jogged h))
+calls_now c h k =
+    same_calls (is_full c.machine.plan) (is_full (plan_of h)) c.lines.left (left_of h) c.jogged (has_jogged h) (ap is_full k.machine.plan_is) k.lines.left_is k.jogged_is
+
 -- none waits where nothing calls for a start
 pub none_waits_now : (c : Controller) (h : Journal) → Keeps c h
-    → (c.machine.hold.motion ≡ motions.Idle → has_blocks c.machine.plan.blocks ≡ true → (is_full c.machine.plan || awaits_motion c.lines.left) ≡ false) → NoneWaits h
+    → (c.machine.hold.motion ≡ motions.Idle → has_blocks c.machine.plan.blocks ≡ true → (is_full c.machine.plan || (awaits_motion c.lines.left || c.jogged)) ≡ false) → NoneWaits h
 none_waits_now c h k none w =
-    subst (λ (ts : List Task). (is_full (plan_of h) || awaits_motion ts) ≡ false) k.lines.left_is
-    (subst (λ (p : Planned). (is_full p || awaits_motion c.lines.left) ≡ false) k.machine.plan_is
-    (none (k.machine.motion_is ∙ w.stands) (ap (λ (p : Planned). has_blocks p.blocks) k.machine.plan_is ∙ w.blocks)))
+    sym (calls_now c h k) ∙ none (k.machine.motion_is ∙ w.stands) (ap (λ (p : Planned). has_blocks p.blocks) k.machine.plan_is ∙ w.blocks)
 
 -- a start that the plan, or what is next, calls for
-pub may_start : (c : Controller) (h : Journal) → Keeps c h → has_blocks c.machine.plan.blocks ≡ true → (is_full c.machine.plan || awaits_motion c.lines.left) ≡ true → MayStart h
-may_start c h k blocks called = record {
+pub may_start : (c : Controller) (h : Journal) → Keeps c h → motion_of h ≡ motions.Idle → has_blocks c.machine.plan.blocks ≡ true → (is_full c.machine.plan || (awaits_motion c.lines.left || c.jogged)) ≡ true → MayStart c.jogged h
+may_start c h k stands blocks called = record {
+  goes = none_halts c h k (ap is_limited stands);
   blocks = subst (λ (p : Planned). has_blocks p.blocks ≡ true) k.machine.plan_is blocks;
-  called =
-      let is = subst (λ (ts : List Task). (is_full (plan_of h) || awaits_motion ts) ≡ true) k.lines.left_is (subst (λ (p : Planned). (is_full p || awaits_motion c.lines.left) ≡ true) k.machine.plan_is called) in
-      calls (list_any found_none (this_turn h)) (is_full (plan_of h) || awaits_motion (left_of h)) (whole_of h && begins_with_dollar (open_of h)) is;
+  called = calls (list_any found_none (this_turn h)) (is_full (plan_of h) || (awaits_motion (left_of h) || has_jogged h)) (whole_of h && begins_with_dollar (open_of h)) (sym (calls_now c h k) ∙ called);
+  jogs = sym k.jogged_is;
 }
   where
     calls : (a b d : Bool) → b ≡ true → ((a || b) || d) ≡ true
@@ -116,12 +125,12 @@ filled_added h next a none = record {
 }
 
 -- the cycle starts behind the moves
-pub filled_started : (h mid : Journal) → HasAdded h mid → HasFilled h (became (on_start false) motions.Run ∷ mid)
-filled_started h mid a = record {
-  alone = alone_on h mid (became (on_start false) motions.Run ∷ mid) a.alone (alone_motion (on_start false) motions.Run mid refl (omega arith));
+pub filled_started : (jog : Bool) (h mid : Journal) → HasAdded h mid → HasFilled h (starting jog mid)
+filled_started jog h mid a = record {
+  alone = alone_on h mid (starting jog mid) a.alone (alone_motion (on_start jog) (start_motion jog) mid refl (none_left_to_change jog mid));
   hand = a.hand;
   adds = a.adds;
-  none_waits = λ w. absurd (let x = w.stands in cc);
+  none_waits = λ w. starts_off jog w.stands;
   moved = λ move room. a.moved move room;
-  waiting = λ no w. absurd (let x = w.stands in cc);
+  waiting = λ no w. starts_off jog w.stands;
 }

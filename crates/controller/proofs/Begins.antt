@@ -1,92 +1,42 @@
 -- A line that was taken whole is begun.
-use Rattle.std.proofs.Common.{◌≡◌, ℕ, ◌+◌, ◌≤◌, inl, Bool, true, false, ◌&&◌, ◌||◌, not, List, [], ◌∷◌, ◌++◌, length, nat_eq, nat_lt, sym, refl, ap, ◌∙◌, subst, arith, append_assoc}
+use Rattle.std.proofs.Common.{◌≡◌, ℕ, ◌+◌, ◌≤◌, ◌⊎◌, inl, inr, Bool, true, false, ◌&&◌, ◌||◌, Some, List, ◌∷◌, ◌++◌, sym, refl, ap, ◌∙◌, subst, arith, append_assoc}
 use Rattle.std.specs.List.{list_any, count_by}
 use Rattle.feed_hold.specs.declared.Motion.{Motion as AnyMotion}
 use Rattle.feed_hold.specs.declared.Motion.TheVariants as motions
-use Rattle.feed_hold.specs.Motions.Call.{on_start}
+use Rattle.feed_hold.specs.Motions.{after as after_call}
+use Rattle.feed_hold.specs.Motions.Call.{on_start, on_limit}
 use Rattle.outside.specs.declared.Turn.TheVariants.{Did}
-use Rattle.gcode_words.specs.Words.{words_of}
-use Rattle.system_lines.specs.Commands.{kind_of, needs_rest}
 use Rattle.run_rules.specs.declared.State.{State}
-use Rattle.run_rules.specs.Work.{Outcome}
-use Rattle.run_rules.specs.Outcomes.{Before, Becomes, ByWords, either, most_kept, refused}
-use Rattle.line_interpreter.specs.Finding.{Found, ByDollarFound, ByKeptFound}
+use Rattle.run_rules.specs.Work.{Task, Outcome, is_alarm}
+use Rattle.run_rules.specs.Outcomes.{after, jogged_behind, begins_with_dollar}
+use Rattle.run_rules.specs.Finding.{Found}
 use Rattle.line_interpreter.specs.Interpreting.{Interpreting}
-use Rattle.line_interpreter.proofs.Judging.{becomes_still, becomes_on}
-use Rattle.board_rules.specs.Steps.{Journal, open_of, whole_of, before_of, left_of, plan_of, motion_of}
+use Rattle.line_interpreter.specs.Lefts.{IsTodo}
+use Rattle.line_interpreter.specs.declared.tasks.Todo.{Todo}
+use Rattle.line_interpreter.specs.declared.tasks.Todo.TheVariants as todo
+use Rattle.board_rules.specs.Steps.{Journal, port_log, has_alarmed, open_of, whole_of, before_of, left_of, given_of, hand_of, plan_of, motion_of}
 use Rattle.board_rules.specs.Steps.Step.{began, became}
-use Rattle.board_rules.specs.Turns.{this_turn, publishing, found_none, has_blocks, tries_of, missed_of, is_due, is_run, is_going, begins_with_dollar, is_served_at_rest, is_full, awaits_motion, starts_cycle}
-use Rattle.board_rules.specs.Conduct.{Conducted, MayBegin, MayStart, IsDrained}
-use Rattle.board_rules.proofs.Quieting.{has_moved}
+use Rattle.board_rules.specs.Cuts.{has_cut, is_cancelling}
+use Rattle.board_rules.proofs.Beginning.{caused, becomes_caused}
+use Rattle.board_rules.specs.Turns.{this_turn, publishing, found_none, has_blocks, has_jogged, machine_in, tries_of, missed_of, is_due, is_full, awaits_motion, halts_next, is_limited, starts_cycle}
+use Rattle.board_rules.specs.Conduct.{MayBegin, MayStart}
 use Rattle.controller.specs.declared.controller.Controller.{Controller}
-use Rattle.controller.specs.declared.input.Input.{Input}
+use Rattle.controller.specs.declared.machine.Machine.{Machine}
 use Rattle.units.specs.Truths.{one_if}
 use Rattle.controller.specs.declared.controller.Flags.{Flags}
 use Rattle.controller.specs.declared.controller.Flags.TheVariants as words
 use Rattle.controller.specs.declared.controller.Beat.TheVariants.{Motion}
-use Rattle.controller.specs.Boards.{Keeps, Reads, IsFree}
-use Rattle.controller.specs.Turning.{IsReady, IsWholeLine, IsLooked, MayJudge, PassesNothing, DidAlone, HasLooked, HasFilled, BoardWorked}
+use Rattle.controller.specs.Boards.{Keeps, Works, IsFree, changes_left}
+use Rattle.controller.specs.Machines.{Runs, limit_motion, start_motion}
+use Rattle.controller.specs.Turning.{IsReady, IsWholeLine, IsLooked, MayJudge, IsJudged, PassesNothing, DidAlone, HasLooked, HasBegun, HasFilled, BoardWorked, starting}
+use Rattle.controller.proofs.Starting.{starts_off, starts_to_begin}
 use Rattle.controller.proofs.Standing.{blocks_undrained}
-use Rattle.controller.proofs.Tries.{worked_behind}
+use Rattle.controller.proofs.Tries.{worked_behind, alone_on, alone_motion}
+use Rattle.controller.proofs.Cuts.{uncut_else}
+use Rattle.controller.proofs.Halts.{HaltsOrNot, line_halts, none_halts_next}
+use Rattle.controller.proofs.Alarms.{alarm_stands}
+use Rattle.controller.proofs.Steps.{begins_unlimited, calm_now}
 use Rattle.controller.proofs.Ends.{takes_none, did_filled, free_of, free_passed}
-
--- ---- what becomes of it
-
--- a machine that runs where a line may be begun is not drained, so that a line has moved
-has_moved_since : (first : State) (h : Journal) → Conducted first h → MayJudge h → is_run (motion_of h) ≡ true → (before_of first h).moved ≡ true
-has_moved_since first h c may runs = has_moved first h c may.looked.going may.looked.free undrained
-  where
-    going_too : (m : AnyMotion) → is_run m ≡ true → is_going m ≡ true
-    going_too motions.Idle is = absurd cc
-    going_too motions.Run is = refl
-    going_too motions.Holding is = absurd cc
-    going_too motions.Held is = absurd cc
-    going_too motions.Jog is = absurd cc
-    going_too motions.Cancelling is = absurd cc
-    going_too motions.Stopping is = absurd cc
-    going_too motions.Alarm is = absurd cc
-
-    undrained : IsDrained h → ⊥
-    undrained d = absurd (let e = sym (may.looked.idle d) ∙ going_too (motion_of h) runs in cc)
-
-becomes : (first : State) (h : Journal) (o : Outcome) → Conducted first h → MayJudge h → (runs : Bool) → is_run (motion_of h) ≡ runs
-    → Found runs (before_of first h) (open_of h) o → Becomes runs (before_of first h) (open_of h) o
-becomes first h o c may true runs found = becomes_on (before_of first h) (open_of h) o (has_moved_since first h c may runs) found
-becomes first h o c may false runs found = becomes_still (before_of first h) (open_of h) o found
-
--- ---- a line that is served only at rest
-
-and_left : (a b : Bool) → (a && b) ≡ true → a ≡ true
-and_left true b is = refl
-and_left false b is = absurd cc
-
-and_right : (a b : Bool) → (a && b) ≡ true → b ≡ true
-and_right true b is = is
-and_right false b is = absurd cc
-
-not_true : (a : Bool) → not a ≡ true → a ≡ false
-not_true true is = absurd cc
-not_true false is = refl
-
-first_of : (t : Bool) (A B : Type 0) → t ≡ true → either t A B → A
-first_of true A B is x = x
-first_of false A B is x = absurd cc
-
-second_of : (t : Bool) (A B : Type 0) → t ≡ false → either t A B → B
-second_of true A B is x = absurd cc
-second_of false A B is x = x
-
--- it is refused while the machine runs
-refuses : (b : Before) (line : List ℕ) (o : Outcome) → is_served_at_rest line ≡ true → Found true b line o → o ≡ refused b 8
-refuses b [] o is found = absurd cc
-refuses b (x ∷ xs) o is found =
-    let line = x ∷ xs in
-    let kind = and_right (nat_eq x 36) (needs_rest (kind_of line) && not (nat_lt most_kept (length line))) is in
-    let few = not_true (nat_lt most_kept (length line)) (and_right (needs_rest (kind_of line)) (not (nat_lt most_kept (length line))) kind) in
-    let kept : ByKeptFound true b line o = second_of (nat_lt most_kept (length line)) (o ≡ refused b 11) (ByKeptFound true b line o) few found in
-    let dollar : ByDollarFound true b line o =
-    first_of (nat_eq x 36) (ByDollarFound true b line o) (ByWords b (words_of line) o) (and_left (nat_eq x 36) (needs_rest (kind_of line) && not (nat_lt most_kept (length line))) is) kept in
-    first_of (needs_rest (kind_of line)) _ _ (and_left (needs_rest (kind_of line)) (not (nat_lt most_kept (length line))) kind) dollar
 
 -- ---- the rules
 
@@ -98,46 +48,149 @@ and_none : (a b : Bool) → a ≡ false → (a && b) ≡ false
 and_none a b e = cc
 
 -- what was found of a line may become of it
-pub may_begin : (first : State) (h : Journal) (o : Outcome) → Conducted first h → MayJudge h → Found (is_run (motion_of h)) (before_of first h) (open_of h) o → MayBegin first o h
-may_begin first h o c may found = record {
+pub may_begin : (first : State) (h : Journal) (o : Outcome) → MayJudge h → has_alarmed h ≡ false → Found (machine_in (motion_of h)) (before_of first h) (open_of h) o → MayBegin first o h
+may_begin first h o may calm found = record {
+  calm = calm;
   free = may.looked.free;
   going = may.looked.going;
   whole = may.looked.whole;
-  becomes = becomes first h o c may (is_run (motion_of h)) refl found;
-  refuses = λ runs is. refuses (before_of first h) (open_of h) o is (subst (λ (r : Bool). Found r (before_of first h) (open_of h) o) runs found);
+  becomes = found;
   begins = may.looked.begins;
   flags = may.looked.flags;
   obeyed = may.looked.worked.obeyed may.looked.unowed;
   unowed = may.looked.unowed;
   load = may.looked.load;
   idle = may.looked.idle;
-  starts = λ waiting. or_none (list_any found_none (this_turn h)) (is_full (plan_of h) || awaits_motion (left_of h)) (whole_of h) (begins_with_dollar (open_of h)) may.looked.unpolled (may.looked.none_waits waiting) (may.starts waiting);
+  starts = λ waiting. or_none (list_any found_none (this_turn h)) (is_full (plan_of h) || (awaits_motion (left_of h) || has_jogged h)) (whole_of h) (begins_with_dollar (open_of h)) may.looked.unpolled (may.looked.none_waits waiting) (may.starts waiting);
   tried = and_none (missed_of h) (is_due h) may.looked.unmissed;
 }
 
 -- a line is begun
-pub begun : (board : Controller) (lines : Interpreting) (input : Input) (h : Journal) (o : Outcome) → (k : Keeps board h) → MayJudge h
-    → Found (is_run (motion_of h)) (before_of k.first h) (open_of h) o → lines ≡ record { state = o.next; number = board.lines.number + 1; left = o.work } → Reads input [] false
-    → Keeps (record board { lines = lines; input = input }) (began o ∷ h)
-begun board lines input h o k may found is reads = record {
-  first = k.first;
-  opening = k.opening;
-  conducted = (may_begin k.first h o k.conducted may found, k.conducted);
-  machine = k.machine;
-  lines = record {
-    left_is = ap (λ (i : Interpreting). i.left) is;
-    state_is = ap (λ (i : Interpreting). i.state) is;
-    number_is = ap (λ (i : Interpreting). i.number) is ∙ ap (λ n. n + 1) k.lines.number_is;
-  };
-  input = reads;
-  flight = record { known = k.flight.known; found = k.flight.found; flies = k.flight.flies };
-  owes_is = k.owes_is;
-  reset_is = k.reset_is;
-  going = k.going;
-  closed = k.closed;
+begins : (was now : Controller) (h : Journal) (o : Outcome) → (j : IsJudged was now h o) → MayBegin j.keeps.first o h
+begins was now h o j = may_begin j.keeps.first h o j.may (calm_now was h j.keeps (begins_unlimited (motion_of h) j.may.looked.begins)) j.found
+
+works : (was now : Controller) (h : Journal) (o : Outcome) → (j : IsJudged was now h o) → Works now.lines o.work (after (before_of j.keeps.first h) o)
+works was now h o j = record {
+  left_is = ap (λ (i : Interpreting). i.left) j.is;
+  state_is = ap (λ (i : Interpreting). i.state) j.is;
+  number_is = ap (λ (i : Interpreting). i.number) j.is ∙ ap (λ n. n + 1) j.keeps.lines.number_is;
 }
 
+-- all that is left of it is next
+next_judged : (was now : Controller) (h : Journal) (o : Outcome) (t : Todo) → IsJudged was now h o → IsTodo t now.lines.left → IsTodo t o.work
+next_judged was now h o t j is = subst (IsTodo t) (ap (λ (i : Interpreting). i.left) j.is) is
+
+not_halting : (t : Todo) (ts : List Task) → IsTodo t ts → (t ≡ todo.Halt → ⊥) → halts_next ts ≡ false
+not_halting todo.Nothing ts is other = ap halts_next is
+not_halting todo.Rest ts is other = ap halts_next is
+not_halting (todo.Mark m) ts is other = ap halts_next is.0
+not_halting todo.Move ts is other = ap halts_next is.1
+not_halting todo.Tell ts is other = ap halts_next is.1
+not_halting todo.Pause ts is other = ap halts_next is
+not_halting todo.Normal ts is other = ap halts_next is
+not_halting todo.Finish ts is other = ap halts_next is
+not_halting todo.Halt ts is other = absurd (other refl)
+
+-- a line is begun that does not halt the machine
+pub begun : (was now : Controller) (t : Todo) (h : Journal) (o : Outcome) → IsJudged was now h o → IsTodo t now.lines.left → (t ≡ todo.Halt → ⊥) → Keeps now (began o ∷ h)
+begun was now t h o j is other =
+    let k = j.keeps in
+    subst (λ (c : Controller). Keeps c (began o ∷ h)) (sym j.same) (record {
+      first = k.first;
+      opening = k.opening;
+      conducted = (begins was now h o j, k.conducted);
+      machine = k.machine;
+      lines = works was now h o j;
+      input = j.reads;
+      flight = record { known = k.flight.known; found = k.flight.found; flies = k.flight.flies };
+      owes_is = k.owes_is;
+      reset_is = k.reset_is;
+      jogged_is = j.jogs ∙ ap (jogged_behind o.kind) k.jogged_is;
+      cut_is = k.cut_is;
+      going = k.going;
+      closed = k.closed;
+      limited = not_halting t o.work (next_judged was now h o t j is) other;
+      tries = λ one. j.may.looked.tries;
+    })
+
+-- ---- a line that a soft limit stops
+
+limit_to : (m : AnyMotion) → (m ≡ motions.Idle) ⊎ (m ≡ motions.Run) → after_call on_limit m ≡ Some (limit_motion m)
+limit_to m (inl idle) = ap (after_call on_limit) idle ∙ ap (λ x. Some (limit_motion x)) (sym idle)
+limit_to m (inr run) = ap (after_call on_limit) run ∙ ap (λ x. Some (limit_motion x)) (sym run)
+
+-- it raises an alarm
+alarms : (was now : Controller) (h : Journal) (o : Outcome) → IsJudged was now h o → halts_next o.work ≡ true → is_alarm o.answer ≡ true
+alarms was now h o j halts = by_line (line_halts true (caused j.keeps.first h) (open_of h) o (becomes_caused j.keeps.first h o (begins was now h o j)))
+  where
+    by_line : HaltsOrNot o → is_alarm o.answer ≡ true
+    by_line (inl (one, work)) = one
+    by_line (inr (none, work)) = absurd (let e = sym halts ∙ none_halts_next o.work work in cc)
+
+-- so the machine stands, or runs
+stands_or_runs : (was now : Controller) (h : Journal) (o : Outcome) → IsJudged was now h o → halts_next o.work ≡ true → (motion_of h ≡ motions.Idle) ⊎ (motion_of h ≡ motions.Run)
+stands_or_runs was now h o j halts = alarm_stands j.keeps.first h o j.may.looked.begins j.found (alarms was now h o j halts)
+
+-- the machine is as it was
+pub machine_judged : (was now : Controller) (h : Journal) (o : Outcome) → IsJudged was now h o → Runs now.machine (plan_of h) (motion_of h) (hand_of h) (given_of h)
+machine_judged was now h o j = subst (λ (c : Controller). Runs c.machine (plan_of h) (motion_of h) (hand_of h) (given_of h)) (sym j.same) j.keeps.machine
+
+pub may_limit : (was now : Controller) (h : Journal) (o : Outcome) → IsJudged was now h o → IsTodo todo.Halt now.lines.left → (now.machine.hold.motion ≡ motions.Idle) ⊎ (now.machine.hold.motion ≡ motions.Run)
+may_limit was now h o j is = by_motion (stands_or_runs was now h o j (ap halts_next (next_judged was now h o todo.Halt j is)))
+  where
+    same : now.machine.hold.motion ≡ motion_of h
+    same = (machine_judged was now h o j).motion_is
+
+    by_motion : (motion_of h ≡ motions.Idle) ⊎ (motion_of h ≡ motions.Run) → (now.machine.hold.motion ≡ motions.Idle) ⊎ (now.machine.hold.motion ≡ motions.Run)
+    by_motion (inl idle) = inl (same ∙ idle)
+    by_motion (inr run) = inr (same ∙ run)
+
+not_limited : (m : AnyMotion) → (m ≡ motions.Idle) ⊎ (m ≡ motions.Run) → is_limited m ≡ false
+not_limited m (inl idle) = ap is_limited idle
+not_limited m (inr run) = ap is_limited run
+
+never_cut : {A : Type 0} (m : AnyMotion) → (m ≡ motions.Idle) ⊎ (m ≡ motions.Run) → m ≡ motions.Cancelling → A
+never_cut m (inl idle) is = absurd (let e = sym idle ∙ is in cc)
+never_cut m (inr run) is = absurd (let e = sym run ∙ is in cc)
+
+limits_off : (m : AnyMotion) (was : Bool) → was ≡ false → was ≡ (is_cancelling (limit_motion m) && was)
+limits_off motions.Run was none = none
+limits_off m was none = none
+
+-- and is stopped for that at once
+pub begun_limited : (was now : Controller) (m : Machine) (h : Journal) (o : Outcome) → IsJudged was now h o → IsTodo todo.Halt now.lines.left → Runs m (plan_of h) (limit_motion (motion_of h)) (hand_of h) (given_of h)
+    → Keeps (record now { machine = m }) (became on_limit (limit_motion (motion_of h)) ∷ began o ∷ h)
+begun_limited was now m h o j is runs =
+    let k = j.keeps in
+    let next = next_judged was now h o todo.Halt j is in
+    let halts : halts_next o.work ≡ true = ap halts_next next in
+    let stands = stands_or_runs was now h o j halts in
+    subst (λ (c : Controller). Keeps (record c { machine = m }) (became on_limit (limit_motion (motion_of h)) ∷ began o ∷ h)) (sym j.same) (record {
+      first = k.first;
+      opening = k.opening;
+      conducted = (
+        (limit_to (motion_of h) stands, record { alarmed = alarms was now h o j halts; next = next; unlimited = not_limited (motion_of h) stands }),
+        (begins was now h o j, k.conducted),
+      );
+      machine = runs;
+      lines = works was now h o j;
+      input = j.reads;
+      flight = record { known = k.flight.known; found = k.flight.found; flies = k.flight.flies };
+      owes_is = k.owes_is;
+      reset_is = k.reset_is;
+      jogged_is = j.jogs ∙ ap (jogged_behind o.kind) k.jogged_is;
+      cut_is = k.cut_is ∙ limits_off (motion_of h) (has_cut h) (uncut_else k.first h k.conducted (λ is. never_cut (motion_of h) stands is));
+      going = k.going;
+      closed = k.closed;
+      limited = refl;
+      tries = λ e. j.may.looked.tries;
+    })
+
 -- ---- before it
+
+few_where_whole : (tries : ℕ) (whole : Bool) → whole ≡ true → tries + one_if whole ≤ 2 → tries ≤ 1
+few_where_whole tries true is few = omega (arith, few)
+few_where_whole tries false is few = absurd cc
 
 -- what is known behind the look
 pub looked_whole : (h next : Journal) → IsReady h → IsWholeLine h → HasLooked h next → IsLooked next
@@ -156,43 +209,54 @@ looked_whole h next ready line l =
       none_waits = l.none_waits ready.none_waits;
       unpolled = p.polled ∙ ready.unpolled;
       unmissed = p.missed ∙ ready.unmissed;
+      tries = (let few = few_where_whole (tries_of h) (whole_of h) line.whole ready.tries in let t = p.tries in omega (arith, few, t));
     }
 
 -- queued blocks start before a line that begins with `$`
-pub may_start : (h : Journal) → IsLooked h → has_blocks (plan_of h).blocks ≡ true → begins_with_dollar (open_of h) ≡ true → MayStart h
-may_start h l blocks dollar = record { blocks = blocks; called = called (starts_cycle h) (whole_of h) (begins_with_dollar (open_of h)) l.whole dollar }
+pub may_start : (board : Controller) (h : Journal) → Keeps board h → IsLooked h → has_blocks (plan_of h).blocks ≡ true → begins_with_dollar (open_of h) ≡ true → MayStart board.jogged h
+may_start board h k l blocks dollar = record {
+  goes = ap halts_next l.free;
+  blocks = blocks;
+  called = called (starts_cycle h) (whole_of h) (begins_with_dollar (open_of h)) l.whole dollar;
+  jogs = sym k.jogged_is;
+}
   where
     called : (a b c : Bool) → b ≡ true → c ≡ true → (a || (b && c)) ≡ true
     called true b c eb ec = refl
     called false b c eb ec = cc
 
-pub judges_started : (h : Journal) → IsLooked h → has_blocks (plan_of h).blocks ≡ true → MayJudge (became (on_start false) motions.Run ∷ h)
-judges_started h l blocks = record {
+pub judges_started : (jog : Bool) (h : Journal) → IsLooked h → has_blocks (plan_of h).blocks ≡ true → MayJudge (starting jog h)
+judges_started jog h l blocks = record {
   looked = record {
     free = l.free;
     going = l.going;
     whole = l.whole;
-    begins = refl;
-    worked = worked_behind (became (on_start false) motions.Run) h (became (on_start false) motions.Run ∷ h) refl (record { no_changes = refl; none_planned = refl }) refl refl l.worked;
+    begins = starts_to_begin jog;
+    worked = worked_behind (became (on_start jog) (start_motion jog)) h (starting jog h) refl (record { no_changes = refl; none_planned = refl }) refl refl l.worked;
     flags = l.flags;
     unowed = l.unowed;
     load = l.load;
-    idle = λ d. absurd (blocks_undrained (became (on_start false) motions.Run ∷ h) blocks d);
-    none_waits = λ w. absurd (let e = w.stands in cc);
+    idle = λ d. absurd (blocks_undrained (starting jog h) blocks d);
+    none_waits = λ w. starts_off jog w.stands;
     unpolled = l.unpolled;
     unmissed = l.unmissed;
+    tries = l.tries;
   };
-  starts = λ w. absurd (let e = w.stands in cc);
+  starts = λ w. starts_off jog w.stands;
 }
 
 -- ---- the turn
 
-few_where_whole : (tries : ℕ) (whole : Bool) → whole ≡ true → tries + one_if whole ≤ 2 → tries ≤ 1
-few_where_whole tries true is few = omega (arith, few)
-few_where_whole tries false is few = absurd cc
+limits_change : (m : AnyMotion) (was : Bool) (now : AnyMotion) → changes_left (limit_motion m) (is_cancelling (limit_motion m) && was) ≤ changes_left now was
+limits_change motions.Run was now = omega arith
+limits_change m was now = omega arith
+
+limit_off : {A : Type 0} (m : AnyMotion) → limit_motion m ≡ motions.Idle → A
+limit_off motions.Run is = absurd cc
+limit_off m is = absurd cc
 
 -- a line is begun, and moves are added behind it
-pub did_begin : (was : Flags) (board : Controller) (h seen mid next : Journal) (o : Outcome) → IsReady h → IsWholeLine h → PassesNothing h seen → DidAlone seen mid → Keeps board next → board.beat ≡ Motion
+did_begin : (was : Flags) (board : Controller) (h seen mid next : Journal) (o : Outcome) → IsReady h → IsWholeLine h → PassesNothing h seen → DidAlone seen mid → Keeps board next → board.beat ≡ Motion
     → board.flags ≡ words.None → HasFilled (began o ∷ mid) next → BoardWorked Did was board h next
 did_begin was board h seen mid next o ready line look alone keeps beat no_word filled =
     let a = alone.passes in
@@ -206,3 +270,30 @@ did_begin was board h seen mid next o ready line look alone keeps beat no_word f
     did_filled was board h (began o ∷ mid) next (began o ∷ (a.steps ++ look.steps))
     (ap (λ (j : Journal). began o ∷ j) (a.are ∙ ap (λ (j : Journal). a.steps ++ j) look.are ∙ sym (append_assoc a.steps look.steps h)))
     keeps beat taken filled worked (omega (arith, quiet)) (a.polled ∙ look.polled ∙ ready.unpolled) (omega (arith, few, tries)) (inl (filled.alone.passes.moves refl))
+
+-- the motion is stopped for it before moves are added
+filled_limited : (m : AnyMotion) (mid next : Journal) (o : Outcome) → HasFilled (became on_limit (limit_motion m) ∷ began o ∷ mid) next → HasFilled (began o ∷ mid) next
+filled_limited m mid next o f =
+    let line : Journal = began o ∷ mid in
+    let now = became on_limit (limit_motion m) ∷ line in
+    record {
+      alone = alone_on line now next (alone_motion on_limit (limit_motion m) line refl (limits_change m (has_cut line) (motion_of line))) f.alone;
+      hand = f.hand;
+      adds = f.adds;
+      none_waits = f.none_waits;
+      moved = λ move room. f.moved move room;
+      waiting = λ none w. absurd (limit_off m (f.waiting none w).stands);
+    }
+
+-- the line is begun, and the motion stopped for it where a soft limit stops it
+pub did_begin_line : (was : Flags) (board : Controller) (h seen mid line next : Journal) (o : Outcome) → IsReady h → IsWholeLine h → PassesNothing h seen → DidAlone seen mid → HasBegun o mid line → Keeps board next
+    → board.beat ≡ Motion → board.flags ≡ words.None → HasFilled line next → BoardWorked Did was board h next
+did_begin_line was board h seen mid line next o ready whole look alone (inl is) keeps beat no_word filled =
+    did_begin was board h seen mid next o ready whole look alone keeps beat no_word (subst (λ (j : Journal). HasFilled j next) is filled)
+did_begin_line was board h seen mid line next o ready whole look alone (inr is) keeps beat no_word filled =
+    did_begin was board h seen mid next o ready whole look alone keeps beat no_word (filled_limited (motion_of mid) mid next o (subst (λ (j : Journal). HasFilled j next) is filled))
+
+-- the port knows nothing of that
+pub port_begun : (o : Outcome) (mid line : Journal) → HasBegun o mid line → port_log line ≡ port_log mid
+port_begun o mid line (inl is) = ap port_log is
+port_begun o mid line (inr is) = ap port_log is

@@ -68,8 +68,8 @@ end_is_out c h r k unrested closing none next = by_phase (phase_is k.first h k.c
     by_phase : At h → list_any is_end (published_of h) ≡ true
     by_phase (going e is) = not_going (closed_tells h) (k.closed closing) e
     by_phase (to_finish e l w is) = absurd (let f = head_is (left_of h) (tell r) finish _ (sym k.lines.left_is ∙ next ∙ ap (λ (ts : List Task). tell r ∷ drop 1 ts) k.lines.left_is) l in cc)
-    by_phase (to_tell e l w p is d) = all_out k.first h k.conducted is (sym k.machine.hand_is ∙ ap option_to_list none)
-    by_phase (phases.over e l w p d is n) = absurd (unrested (record { closing = closing; none = k.lines.left_is ∙ l }))
+    by_phase (to_tell e l w p still is d) = all_out k.first h k.conducted is (sym k.machine.hand_is ∙ ap option_to_list none)
+    by_phase (phases.over e l w p still d is n) = absurd (unrested (record { closing = closing; none = k.lines.left_is ∙ l }))
 
 pub end_is_in : (c : Controller) (h : Journal) → Keeps c h → (BoardRests c → ⊥)
     → (c.closing ≡ true → c.machine.hand ≡ None → IsNextOf (tell Bye) c.lines.left → ⊥) → list_any is_end (published_of h) ≡ false
@@ -83,8 +83,8 @@ end_is_in c h k unrested other = by_phase (phase_is k.first h k.conducted)
     by_phase : At h → list_any is_end (published_of h) ≡ false
     by_phase (going e is) = none_out k.first h k.conducted is
     by_phase (to_finish e l w is) = none_out k.first h k.conducted is
-    by_phase (to_tell e l w p is d) = held e l c.machine.hand refl refl (λ q hand. end_held k.first h q k.conducted is (sym k.machine.hand_is ∙ hand))
-    by_phase (phases.over e l w p d is n) = absurd (unrested (record { closing = is_closing c h k e c.closing refl; none = k.lines.left_is ∙ l }))
+    by_phase (to_tell e l w p still is d) = held e l c.machine.hand refl refl (λ q hand. end_held k.first h q k.conducted is (sym k.machine.hand_is ∙ hand))
+    by_phase (phases.over e l w p still d is n) = absurd (unrested (record { closing = is_closing c h k e c.closing refl; none = k.lines.left_is ∙ l }))
 
 -- ---- the run is broken off
 
@@ -207,6 +207,7 @@ tell_is_next todos.Move left is next = absurd (let e = sym is.1 ∙ next in cc)
 tell_is_next todos.Pause left is next = absurd (let e = sym is ∙ next in cc)
 tell_is_next todos.Normal left is next = absurd (let e = sym is ∙ next in cc)
 tell_is_next todos.Finish left is next = absurd (let e = sym is ∙ next in cc)
+tell_is_next todos.Halt left is next = absurd (let e = sym is ∙ next in cc)
 
 -- where anything but a reply is next, Bye is not
 pub no_bye_next : (t : Todo) (left : List Task) → IsTodo t left → (t ≡ todos.Tell → ⊥) → IsNextOf (tell Bye) left → ⊥
@@ -221,6 +222,7 @@ a_reply_next todos.Move left is e = absurd cc
 a_reply_next todos.Pause left is e = absurd cc
 a_reply_next todos.Normal left is e = absurd cc
 a_reply_next todos.Finish left is e = absurd cc
+a_reply_next todos.Halt left is e = absurd cc
 
 -- what a turn leaves of a port and a board
 abbrev pub GoesOn : (PortLog → Type 0) → Turn → Controller → Controller → Doings → Type 0

@@ -2,18 +2,19 @@
 use Rattle.std.proofs.Common.{◌≡◌, ℕ, ◌+◌, ◌≤◌, ◌<◌, ◌⊎◌, inl, inr, Bool, true, false, ◌||◌, ◌&&◌, List, [], ◌∷◌, ◌++◌, length, nat_eq, drop, sym, refl, ap, ◌∙◌, subst, arith, append_assoc}
 use Rattle.std.specs.List.{list_any, count_by, Contains}
 use Rattle.feed_hold.specs.declared.Motion.{Motion as AnyMotion}
-use Rattle.feed_hold.specs.declared.Motion.TheVariants.{Holding, Held}
+use Rattle.feed_hold.specs.declared.Motion.TheVariants.{Holding, Held, Cancelling}
 use Rattle.outside.specs.declared.On.{On}
 use Rattle.outside.specs.declared.On.TheVariants.{SegmentRoom}
 use Rattle.outside.specs.declared.Turn.{Turn}
 use Rattle.outside.specs.declared.Turn.TheVariants.{Did, Wait, Done}
 use Rattle.run_rules.specs.declared.State.{State}
 use Rattle.run_rules.specs.Work.{Task, pauses}
-use Rattle.run_rules.specs.Work.Task.{ask, tell, pause, normal, finish}
+use Rattle.run_rules.specs.Work.Task.{ask, tell, pause, normal, finish, halt}
 use Rattle.status_report.specs.declared.Reply.{Reply}
 use Rattle.step_line.specs.Asking.Asked.{a_move, a_mark, a_rest}
 use Rattle.board_rules.specs.Ports.{PortLog}
 use Rattle.board_rules.specs.Steps.{Step, Journal, left_of, plan_of, motion_of, whole_of, closed_tells}
+use Rattle.board_rules.specs.Cuts.{has_cut}
 use Rattle.board_rules.specs.Steps.Step.{turned}
 use Rattle.board_rules.specs.Turns.{
   this_turn,
@@ -27,8 +28,12 @@ use Rattle.board_rules.specs.Turns.{
   replans,
   flags_taken,
   awaits_motion,
+  has_jogged,
   is_full,
+  begins_in,
+  halts_next,
   is_halting,
+  is_limited,
   is_counted,
   has_blocks,
   has_segment,
@@ -49,12 +54,12 @@ use Rattle.controller.specs.Boards.{Keeps, Rounds, NoneWaits, GoingBetween, IsFr
 use Rattle.controller.specs.Turning.{IsNextMove, AreWorked, IsQuiet, IsReady, MayRun, MayAwait, HasStopped, NeedsNoWait, GoesOn, PassesNothing, HasFilled, HasTried, BoardWorked, WorksOn}
 pub use Rattle.controller.proofs.Freeing.{free_of, takes_none, no_word_left, free_passed, free_tried, flags_tried, flags_passed, taken_by, obeyed_by}
 use Rattle.controller.proofs.Facts.{not_whole, uncounted, uncounted_line, uncounted_owing}
-use Rattle.controller.proofs.Steps.{other_beat, other_flags, ends}
+use Rattle.controller.proofs.Steps.{other_beat, other_flags, ends, halts_by, none_halts}
 
 -- ---- what follows
 
 -- the board's number is no greater behind steps that pass nothing
-pub no_greater : (was : Flags) (h next : Journal) → pauses (left_of next) ≤ pauses (left_of h) → changes_left (motion_of next) ≤ changes_left (motion_of h) → closed_tells next ≡ closed_tells h
+pub no_greater : (was : Flags) (h next : Journal) → pauses (left_of next) ≤ pauses (left_of h) → changes_left (motion_of next) (has_cut next) ≤ changes_left (motion_of h) (has_cut h) → closed_tells next ≡ closed_tells h
     → number_of was next ≤ number_of was h
 no_greater was h next fewer slower same = let s = ap (λ (rs : List Reply). one_if (nat_eq (length rs) 0)) same in omega (arith, fewer, slower, s)
 
@@ -67,7 +72,7 @@ no_more n = omega arith
 pub number_tried : (was : Flags) (p : Bool) (h next : Journal) → HasTried p h next → number_of was next ≤ number_of was h
 number_tried was p h next t =
     no_greater was h next (subst (λ (ts : List Task). pauses ts ≤ pauses (left_of h)) (sym t.left) (no_more (pauses (left_of h))))
-    (subst (λ m. changes_left m ≤ changes_left (motion_of h)) (sym t.motion) (no_more (changes_left (motion_of h)))) t.closed
+    (let m = ap (λ m. changes_left m (has_cut next)) t.motion in let c = ap (changes_left (motion_of h)) t.cuts in omega (arith, m, c)) t.closed
 
 -- what a board has worked up to an answer behind further steps
 pub worked_on : (t : Turn) (was : Flags) (board : Controller) (h mid next : Journal) (steps : List Step) → mid ≡ steps ++ h → number_of was mid ≤ number_of was h → BoardWorked t was board mid next
@@ -116,7 +121,11 @@ one_at_most false = omega arith
 
 -- no queued block waits for a start that is called for
 pub none_called : (h : Journal) → list_any found_none (this_turn h) ≡ false → NoneWaits h → AreWaiting h → starts_cycle h ≡ false
-none_called h unpolled none waiting = or_none (list_any found_none (this_turn h)) (is_full (plan_of h) || awaits_motion (left_of h)) unpolled (none waiting)
+none_called h unpolled none waiting = or_none (list_any found_none (this_turn h)) (is_full (plan_of h) || (awaits_motion (left_of h) || has_jogged h)) unpolled (none waiting)
+
+-- what calls for a start is the same with the same plan, the same tasks and the same last line
+pub same_calls : (f g : Bool) (ts us : List Task) (j i : Bool) → f ≡ g → ts ≡ us → j ≡ i → (f || (awaits_motion ts || j)) ≡ (g || (awaits_motion us || i))
+same_calls f g ts us j i full left jogged = ap (λ b. b || (awaits_motion ts || j)) full ∙ ap (λ (xs : List Task). g || (awaits_motion xs || j)) left ∙ ap (λ b. g || (awaits_motion us || b)) jogged
 
 -- nothing is due where nothing was waited for
 pub none_waited : (h : Journal) (o : On) → waits_of h ≡ [] → Contains (waits_of h) o → ⊥
@@ -162,24 +171,25 @@ few_tries h mid next p may tried filled =
     let m = may.tries in
     omega (arith, t, w, f, m)
 
--- a machine that is not held, nor slows down for that, still is not
-slows_too : (was m : AnyMotion) → changes_left m ≤ changes_left was → is_halting m ≡ true → is_halting was ≡ true
-slows_too was Holding fewer halts = by_more was fewer
-  where
-    by_more : (was : AnyMotion) → 2 ≤ changes_left was → is_halting was ≡ true
-    by_more Holding less = refl
-    by_more Held less = refl
-    by_more m less = absurd (omega (arith, less))
-slows_too was Held fewer halts = by_more was fewer
-  where
-    by_more : (was : AnyMotion) → 1 ≤ changes_left was → is_halting was ≡ true
-    by_more Holding less = refl
-    by_more Held less = refl
-    by_more m less = absurd (omega (arith, less))
-slows_too was m fewer halts = absurd cc
+-- some changes are left of a machine that is held, or slows down to a stop, and of no other
+changes_some : (m : AnyMotion) (cut : Bool) → is_halting m ≡ true → 1 ≤ changes_left m cut
+changes_some Holding cut halts = omega arith
+changes_some Held cut halts = omega arith
+changes_some Cancelling true halts = omega arith
+changes_some Cancelling false halts = omega arith
+changes_some m cut halts = absurd cc
 
+some_changes : (m : AnyMotion) (cut : Bool) → 1 ≤ changes_left m cut → is_halting m ≡ true
+some_changes Holding cut some = refl
+some_changes Held cut some = refl
+some_changes Cancelling cut some = refl
+some_changes m cut some = absurd (omega (arith, some))
+
+-- a machine that is not held, nor slows down to a stop, still is not
 pub halts_before : (h next : Journal) → PassesNothing h next → is_halting (motion_of next) ≡ true → is_halting (motion_of h) ≡ true
-halts_before h next p halts = slows_too (motion_of h) (motion_of next) p.changes halts
+halts_before h next p halts =
+    let some = changes_some (motion_of next) (has_cut next) halts in
+    let fewer = p.changes in some_changes (motion_of h) (has_cut h) (omega (arith, some, fewer))
 
 -- no try is counted for a line that waits for the machine
 none_for_line : (h mid next : Journal) (p : Bool) → MayTry h → HasTried p h mid → HasFilled mid next → is_halting (motion_of next) ≡ true → whole_of next ≡ true → tries_of next ≡ 0
@@ -229,6 +239,7 @@ sent_by was board h mid next may tried filled keeps no_word takes =
         tries = omega arith;
         obeyed = worked.obeyed;
         changed = worked.changed;
+        halts = halts_by board next keeps;
       };
       moves = λ e. inl (a.moves (tried.moves refl));
     }
@@ -280,6 +291,7 @@ handed_back was board h mid next may tried filled keeps beat no_word =
           tries = omega arith;
           obeyed = worked.obeyed;
           changed = worked.changed;
+          halts = halts_by board next keeps;
         };
         cause = a.room ∙ tried.room refl;
         still = a.still ∙ tried.still refl ∙ may.quiet.still;
@@ -327,8 +339,8 @@ may_try_first f h r between none takes = record {
 
 still_none_waits : (h next : Journal) (p : Bool) → HasTried p h next → NoneWaits h → NoneWaits next
 still_none_waits h next p tried none waiting =
-    subst (λ (ts : List Task). (is_full (plan_of next) || awaits_motion ts) ≡ false) (sym tried.left)
-    (less_or (is_full (plan_of next)) (is_full (plan_of h)) (awaits_motion (left_of h)) tried.full (none (tried.waiting waiting)))
+    same_calls (is_full (plan_of next)) (is_full (plan_of next)) (left_of next) (left_of h) (has_jogged next) (has_jogged h) refl tried.left tried.jogged
+    ∙ less_or (is_full (plan_of next)) (is_full (plan_of h)) (awaits_motion (left_of h) || has_jogged h) tried.full (none (tried.waiting waiting))
 
 -- what was tried first was handed back
 pub ready_tried : (h next : Journal) → Rounds Motion h → GoingBetween h → IsFree h → HasTried false h next → IsReady next
@@ -394,7 +406,7 @@ may_run first h c ready some = record {
 pub some_awaited : (h : Journal) → awaits_motion (left_of h) ≡ true → left_of h ≡ [] → ⊥
 some_awaited h awaits none = absurd (let e = ap awaits_motion none in cc)
 
-pub may_await : (first : State) (h : Journal) → Conducted first h → IsReady h → is_halting (motion_of h) ≡ false → awaits_motion (left_of h) ≡ true → MayAwait h
+pub may_await : (first : State) (h : Journal) → Conducted first h → IsReady h → begins_in (motion_of h) ≡ true → awaits_motion (left_of h) ≡ true → MayAwait h
 may_await first h c ready going awaits = record { run = may_run first h c ready (some_awaited h awaits); going = going; awaits = awaits; none_waits = ready.none_waits }
 
 -- a machine that stands with nothing left to run waits for no start, and has no segment due
@@ -429,21 +441,25 @@ ready_stopped h next ready passes stopped =
 
 -- what is next goes on where the machine stands
 pub goes_on_stopped : (h : Journal) → HasStopped h → GoesOn h
-goes_on_stopped h stopped halts = absurd (let e = sym halts ∙ ap is_halting stopped.stands in cc)
+goes_on_stopped h stopped = record {
+  held = λ halts. absurd (let e = sym halts ∙ ap is_halting stopped.stands in cc);
+  unlimited = ap is_limited stopped.stands;
+}
 
-awaited : (ts : List Task) → awaits_motion ts ≡ true → (ts ≡ ask a_rest ∷ drop 1 ts) ⊎ ((ts ≡ pause ∷ drop 1 ts) ⊎ ((ts ≡ normal ∷ drop 1 ts) ⊎ (ts ≡ finish ∷ drop 1 ts)))
-awaited [] e = absurd cc
-awaited (ask a_rest ∷ ts) e = inl refl
-awaited (ask (a_move m) ∷ ts) e = absurd cc
-awaited (ask (a_mark m) ∷ ts) e = absurd cc
-awaited (tell r ∷ ts) e = absurd cc
-awaited (pause ∷ ts) e = inr (inl refl)
-awaited (normal ∷ ts) e = inr (inr (inl refl))
-awaited (finish ∷ ts) e = inr (inr (inr refl))
+awaited : (ts : List Task) → awaits_motion ts ≡ true → halts_next ts ≡ false → (ts ≡ ask a_rest ∷ drop 1 ts) ⊎ ((ts ≡ pause ∷ drop 1 ts) ⊎ ((ts ≡ normal ∷ drop 1 ts) ⊎ (ts ≡ finish ∷ drop 1 ts)))
+awaited [] e none = absurd cc
+awaited (ask a_rest ∷ ts) e none = inl refl
+awaited (ask (a_move m) ∷ ts) e none = absurd cc
+awaited (ask (a_mark m) ∷ ts) e none = absurd cc
+awaited (tell r ∷ ts) e none = absurd cc
+awaited (pause ∷ ts) e none = inr (inl refl)
+awaited (normal ∷ ts) e none = inr (inr (inl refl))
+awaited (finish ∷ ts) e none = inr (inr (inr refl))
+awaited (halt ∷ ts) e none = absurd cc
 
 -- where no rest is next, nor overrides that are set, a pause or the end is what waits for the motion
-pub needs_no_wait : (h : Journal) → HasStopped h → (IsNextTask (ask a_rest) h → ⊥) → (IsNextTask normal h → ⊥) → NeedsNoWait h
-needs_no_wait h stopped no_rest no_normal awaits = by_task (awaited (left_of h) awaits)
+pub needs_no_wait : (b : Controller) (h : Journal) → Keeps b h → HasStopped h → (IsNextTask (ask a_rest) h → ⊥) → (IsNextTask normal h → ⊥) → NeedsNoWait h
+needs_no_wait b h k stopped no_rest no_normal awaits = by_task (awaited (left_of h) awaits (none_halts b h k (ap is_limited stopped.stands)))
   where
     by_task : IsNextTask (ask a_rest) h ⊎ (IsNextTask pause h ⊎ (IsNextTask normal h ⊎ IsNextTask finish h)) → HasStopped h × (IsNextTask pause h ⊎ IsNextTask finish h)
     by_task (inl e) = absurd (no_rest e)
@@ -477,6 +493,7 @@ did_filled was board h mid next steps is keeps beat taken filled worked once unp
         tries = omega arith;
         obeyed = now.obeyed;
         changed = now.changed;
+        halts = halts_by board next keeps;
       };
       moves = λ e. moves;
     }

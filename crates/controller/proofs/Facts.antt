@@ -7,10 +7,10 @@ use Rattle.planner_runs.specs.declared.Action.{Action}
 use Rattle.planner_runs.specs.declared.Action.TheVariants.{Add, Take, Override, Mark, Rest, Clear, Reset}
 use Rattle.run_rules.specs.declared.State.{State}
 use Rattle.run_rules.specs.Work.{Task}
-use Rattle.run_rules.specs.Work.Task.{ask, tell, pause, normal, finish}
+use Rattle.run_rules.specs.Work.Task.{ask, tell, pause, normal, finish, halt}
 use Rattle.board_rules.specs.Ports.PortStep.{took, found_empty, found_closed, found_free, answered, reported, no_reply_room, took_exec, took_ovr, published, no_piece_room, loaded}
-use Rattle.board_rules.specs.Steps.{Journal, outcomes_of, before_of, left_of, left_by, whole_of, closed_tells, motion_of}
-use Rattle.board_rules.specs.Steps.Step.{at_port, began, did, made_end, evened, paused, became, closing, turned}
+use Rattle.board_rules.specs.Steps.{Journal, outcomes_of, before_of, left_of, left_by, without_asks, whole_of, closed_tells, motion_of}
+use Rattle.board_rules.specs.Steps.Step.{at_port, began, did, made_end, evened, paused, became, cut, halted, closing, turned}
 use Rattle.board_rules.specs.Turns.{this_turn, missed_of, is_due, is_halting, is_counted, counts_tries, owes_report}
 use Rattle.board_rules.specs.Conduct.{Conducted, IsNextTask, MayDo}
 use Rattle.board_rules.proofs.Closing.{At, going, to_finish, to_tell, over, phase_is}
@@ -35,6 +35,10 @@ free_behind h (Override o) may free = free
 free_behind h Clear may free = absurd may
 free_behind h Reset may free = absurd may
 
+free_cut : (left : List Task) (whole : Bool) → Free left whole → Free (without_asks left) whole
+free_cut left whole (inl none) = inl (ap without_asks none)
+free_cut left whole (inr partial) = inr partial
+
 free_is : (first : State) (h : Journal) → Conducted first h → Free (left_of h) (whole_of h)
 free_is first [] c = inr refl
 free_is first (at_port (took b) ∷ h) c = inl c.0.polls.all_done
@@ -51,10 +55,12 @@ free_is first (at_port (no_piece_room done) ∷ h) c = free_is first h c.1
 free_is first (at_port (loaded done) ∷ h) c = free_is first h c.1
 free_is first (began o ∷ h) c = inr refl
 free_is first (did a ps ∷ h) c = free_behind h a c.0.0 (free_is first h c.1)
-free_is first (made_end ∷ h) c = one_less (left_of h) (whole_of h) finish c.0.rests.next (free_is first h c.1)
+free_is first (made_end ∷ h) c = one_less (left_of h) (whole_of h) finish c.0.next (free_is first h c.1)
 free_is first (evened ∷ h) c = one_less (left_of h) (whole_of h) normal c.0.rests.next (free_is first h c.1)
 free_is first (paused ∷ h) c = one_less (left_of h) (whole_of h) pause c.0.rests.next (free_is first h c.1)
 free_is first (became call m ∷ h) c = free_is first h c.1
+free_is first (cut k ∷ h) c = free_cut (left_of h) (whole_of h) (free_is first h c.1)
+free_is first (halted ∷ h) c = one_less (left_of h) (whole_of h) halt c.0.next (free_is first h c.1)
 free_is first (closing ∷ h) c = inr c.0.begun
 free_is first (turned t ∷ h) c = free_is first h c.1
 
@@ -104,8 +110,8 @@ only_end first h t c closes no_end no_bye next = by_phase (phase_is first h c)
     by_phase : At h → ⊥
     by_phase (going none is) = closes none
     by_phase (to_finish e left w is) = no_end (head_is (left_of h) t finish _ next left)
-    by_phase (to_tell e left w p is k) = no_bye (head_is (left_of h) t (tell Bye) _ next left)
-    by_phase (over e left w p d is k) = none_next (left_of h) t left next
+    by_phase (to_tell e left w p still is k) = no_bye (head_is (left_of h) t (tell Bye) _ next left)
+    by_phase (over e left w p still d is k) = none_next (left_of h) t left next
 
 -- nothing is waited for by a rest then, and no override is set
 pub no_rest_closing : (first : State) (h : Journal) → Conducted first h → (closed_tells h ≡ [] → ⊥) → IsNextTask (ask a_rest) h → ⊥
@@ -130,6 +136,8 @@ unmissed (made_end ∷ h) none due = absurd cc
 unmissed (evened ∷ h) none due = absurd cc
 unmissed (paused ∷ h) none due = absurd cc
 unmissed (became call m ∷ h) none due = absurd cc
+unmissed (cut k ∷ h) none due = absurd cc
+unmissed (halted ∷ h) none due = absurd cc
 unmissed (closing ∷ h) none due = absurd cc
 unmissed (turned t ∷ h) none due = and_false (missed_of h) (is_due h) due
 
@@ -147,5 +155,7 @@ number_is first (made_end ∷ h) c = number_is first h c.1
 number_is first (evened ∷ h) c = number_is first h c.1
 number_is first (paused ∷ h) c = number_is first h c.1
 number_is first (became call m ∷ h) c = number_is first h c.1
+number_is first (cut k ∷ h) c = number_is first h c.1
+number_is first (halted ∷ h) c = number_is first h c.1
 number_is first (closing ∷ h) c = number_is first h c.1
 number_is first (turned t ∷ h) c = number_is first h c.1

@@ -1,5 +1,5 @@
 -- The flight of a board, which knows the pieces that were published.
-use Rattle.std.proofs.Common.{◌≡◌, ℕ, ◌≤◌, List, [], ◌∷◌, reverse, max, min, refl, arith}
+use Rattle.std.proofs.Common.{◌≡◌, ℕ, ◌≤◌, List, [], ◌∷◌, reverse, max, min, refl, subst, arith}
 use Rattle.step_line.specs.declared.Piece.{Piece}
 use Rattle.step_line.specs.declared.Piece.TheVariants as pieces
 use Rattle.step_line.specs.Finishing.{ticks_together}
@@ -36,3 +36,14 @@ learned b f h done k may learns = record {
   found = no_more k.flight.known done (ticks_together (published_of h)) (known_of h) k.flight.found may.later;
   flies = learns (published_of h) k.flight.known k.flight.flies;
 }
+
+-- it knows each tick that is found done
+pub learned_all : (b : Controller) (f : Flying) (done : ℕ) (h : Journal) → Keeps b h → MayBeDone done (port_log h)
+    → ((published : List Piece) (known : ℕ) → Flies b.flight published known → Flies f published (max known (min done (ticks_together published)))) → Flies f (published_of h) done
+learned_all b f done h k may learns =
+    let known = k.flight.known in
+    let a = k.flight.found in
+    let c = may.later in
+    let d = may.below in
+    let same : max known (min done (ticks_together (published_of h))) ≡ done = omega (arith, a, c, d) in
+    subst (λ n. Flies f (published_of h) n) same (learns (published_of h) known k.flight.flies)

@@ -1,5 +1,5 @@
 -- Where what is next is held up, the stop is waited for, and then the resume.
-use Rattle.std.proofs.Common.{◌≡◌, ℕ, ◌+◌, ◌≤◌, ◌<◌, inl, inr, Bool, true, false, ◌&&◌, ◌||◌, not, List, [], ◌∷◌, ◌++◌, length, drop, nat_eq, Some, refl, sym, ap, ◌∙◌, subst, arith}
+use Rattle.std.proofs.Common.{◌≡◌, ℕ, ◌+◌, ◌≤◌, ◌<◌, ◌⊎◌, inl, inr, Bool, true, false, ◌&&◌, ◌||◌, not, List, [], ◌∷◌, ◌++◌, length, drop, nat_eq, Some, refl, sym, ap, ◌∙◌, subst, arith}
 use Rattle.std.specs.List.{list_any, count_by}
 use Rattle.std.proofs.lemmas.Bool.Decides.{nat_tests}
 use Rattle.std.proofs.Math.Numerals.{lt_of_le_of_ne}
@@ -16,12 +16,13 @@ use Rattle.plan_passes.specs.Plans.{Planned}
 use Rattle.step_line.specs.Asking.Asked.{a_move}
 use Rattle.step_line.specs.declared.Piece.{Piece}
 use Rattle.step_line.specs.declared.planned_move.PlannedMove.{PlannedMove}
-use Rattle.run_rules.specs.Work.{Task, pauses}
+use Rattle.run_rules.specs.Work.{Task, has_moves}
 use Rattle.run_rules.specs.Work.Task.{ask}
 use Rattle.board_rules.specs.Ports.PortStep.{took_exec}
 use Rattle.board_rules.specs.Steps.{Step, Journal, left_of, whole_of, hand_of, plan_of, motion_of}
 use Rattle.board_rules.specs.Steps.Step.{at_port, became}
-use Rattle.board_rules.specs.Turns.{this_turn, publishing, unobeyed_of, owes_report, takes_changes, replans, asks_no_start, flags_taken, has_blocks, has_segment, is_full, is_due, is_halting, is_counted, is_held_up, needs_motion, awaits_motion, starts_cycle, tries_of, most_tries}
+use Rattle.board_rules.specs.Cuts.{has_cut}
+use Rattle.board_rules.specs.Turns.{this_turn, is_going, publishing, unobeyed_of, owes_report, takes_changes, replans, asks_no_start, flags_taken, has_blocks, has_jogged, has_jog_to_start, waits_to_jog, has_segment, is_full, is_due, is_halting, is_limited, halts_next, is_counted, is_held_up, needs_motion, awaits_motion, starts_cycle, tries_of, most_tries}
 use Rattle.board_rules.specs.Conduct.{EndsTurn, IsNextTask, AreWaiting, HasSlowedDown}
 use Rattle.board_rules.proofs.Staying.{both_taken, stays_held}
 use Rattle.board_rules.proofs.Given.{known_within}
@@ -31,11 +32,12 @@ use Rattle.controller.specs.declared.controller.Beat.TheVariants.{Motion}
 use Rattle.controller.specs.declared.controller.Flags.{Flags}
 use Rattle.controller.specs.declared.controller.Flags.TheVariants as words
 use Rattle.controller.specs.Boards.{Keeps, Rounds, IsFree, IsAsked, TakesFlags, takes_no_word, words_left, changes_left, number_of}
-use Rattle.controller.specs.Turning.{HasPiece, IsHalted, MayRun, HasSettled, AreWorked, BoardWorked, obeyed}
+use Rattle.controller.specs.Turning.{HasPiece, IsHalted, MayRun, PassesNothing, StaysSo, IsCutNow, HasSettled, AreWorked, BoardWorked, obeyed}
 use Rattle.controller.proofs.Facts.{uncounted, uncounted_line}
 use Rattle.controller.proofs.Tries.{counts_none, counts_one}
-use Rattle.controller.proofs.Steps.{at_rest}
+use Rattle.controller.proofs.Steps.{at_rest, halts_by}
 use Rattle.controller.proofs.Standing.{all_published}
+use Rattle.controller.proofs.Settling.{none_fits_so}
 use Rattle.controller.proofs.Ends.{rounds_still, takes_none, no_word_left, free_of, free_passed}
 
 -- ---- what is held up
@@ -46,7 +48,7 @@ some_left h held_up partial none =
     absurd (let e = sym partial ∙ sym same ∙ held_up in cc)
 
 -- few tries stand behind the last poll
-few_halted : (h : Journal) → IsHalted h → tries_of h + one_if (whole_of h) ≤ 1
+pub few_halted : (h : Journal) → IsHalted h → tries_of h + one_if (whole_of h) ≤ 1
 few_halted h halted = by_whole (whole_of h) refl
   where
     by_whole : (w : Bool) → whole_of h ≡ w → tries_of h + one_if (whole_of h) ≤ 1
@@ -71,7 +73,7 @@ may_run_halted h halted = record {
 }
 
 -- a move that is held up has no room
-full_held_up : (h : Journal) (m : PlannedMove) → is_held_up h ≡ true → IsNextTask (ask (a_move m)) h → is_full (plan_of h) ≡ true
+pub full_held_up : (h : Journal) (m : PlannedMove) → is_held_up h ≡ true → IsNextTask (ask (a_move m)) h → is_full (plan_of h) ≡ true
 full_held_up h m held_up next = sym (ap (λ (ts : List Task). needs_motion ts (whole_of h) (is_full (plan_of h))) next) ∙ held_up
 
 none_wait : (h : Journal) → is_halting (motion_of h) ≡ true → AreWaiting h → ⊥
@@ -79,45 +81,50 @@ none_wait h halts w = absurd (let e = sym halts ∙ ap is_halting w.stands in cc
 
 -- ---- behind a stop that was looked for
 
-still_held_up : (h next : Journal) → HasSettled h next → is_held_up h ≡ true → is_held_up next ≡ true
-still_held_up h next s held_up =
-    ap (λ (ts : List Task). needs_motion ts (whole_of next) (is_full (plan_of next))) s.left ∙ ap (λ w. needs_motion (left_of h) w (is_full (plan_of next))) s.passes.whole
+pub still_held_up : (h next : Journal) → PassesNothing h next → StaysSo h next → is_held_up h ≡ true → is_held_up next ≡ true
+still_held_up h next p s held_up =
+    ap (λ (ts : List Task). needs_motion ts (whole_of next) (is_full (plan_of next))) s.left ∙ ap (λ w. needs_motion (left_of h) w (is_full (plan_of next))) p.whole
     ∙ ap (λ (p : Planned). needs_motion (left_of h) (whole_of h) (is_full p)) s.plan ∙ held_up
 
 few_settled : (h next : Journal) → HasSettled h next → tries_of h + one_if (whole_of h) ≤ 1 → tries_of next + one_if (whole_of next) ≤ 1
 few_settled h next s few = let t = s.passes.tries in let w = ap one_if s.passes.whole in omega (arith, few, t, w)
 
-ends_settled : (h next : Journal) → IsHalted h → HasSettled h next → EndsTurn next
-ends_settled h next halted s =
+-- where the machine is to be halted, it slows down for that, or stands in alarm
+abbrev pub HaltsInTime : Journal → Type 0
+HaltsInTime h = halts_next (left_of h) ≡ true → is_limited (motion_of h) ≡ true
+
+pub ends_settled : (h next : Journal) → IsHalted h → HasSettled h next → HaltsInTime next → EndsTurn next
+ends_settled h next halted s halts =
     let quiet = s.passes.quiet in
     let none = halted.ready.quiet.quiet in
     let few = few_settled h next s (few_halted h halted) in
     let worked = s.passes.worked halted.ready.quiet.worked in
     record {
       once = omega (arith, quiet, none);
-      adds = λ m move. full_held_up next m (still_held_up h next s halted.held_up) move;
-      starts = λ w. absurd (none_wait next (s.halts ∙ halted.halts) w);
+      adds = none_fits_so h next s.stays (λ m move. full_held_up h m halted.held_up move);
+      starts = λ w. absurd (none_wait h halted.halts (s.waiting w));
       tries = omega (arith, few);
       obeyed = worked.obeyed;
       changed = worked.changed;
+      halts = halts;
     }
 
-rounds_settled : (board : Controller) (h next : Journal) → IsHalted h → HasSettled h next → board.beat ≡ Motion → Rounds board.beat next
+pub rounds_settled : (board : Controller) (h next : Journal) → IsHalted h → HasSettled h next → board.beat ≡ Motion → Rounds board.beat next
 rounds_settled board h next halted s beat =
-    subst (λ b. Rounds b next) (sym beat) (rounds_still next (λ w. absurd (none_wait next (s.halts ∙ halted.halts) w)) (few_settled h next s (few_halted h halted)))
+    subst (λ b. Rounds b next) (sym beat) (rounds_still next (λ w. absurd (none_wait h halted.halts (s.waiting w))) (few_settled h next s (few_halted h halted)))
 
 -- no word is to be taken, none waits, and no report is owed
-free_settled : (h next : Journal) → IsHalted h → HasSettled h next → IsFree next
+pub free_settled : (h next : Journal) → IsHalted h → HasSettled h next → IsFree next
 free_settled h next halted s = free_passed h next s.passes (free_of h halted.ready.quiet)
 
 -- a board's number, where no word of flags is to be taken
-fewer_words : (f was : Flags) (h next : Journal) → f ≡ words.None → was ≡ words.None → number_of words.None next < number_of words.None h → number_of f next < number_of was h
+pub fewer_words : (f was : Flags) (h next : Journal) → f ≡ words.None → was ≡ words.None → number_of words.None next < number_of words.None h → number_of f next < number_of was h
 fewer_words f was h next e g falls = let a = ap words_left e in let b = ap words_left g in omega (arith, falls, a, b)
 
--- the machine is held
-pub did_stop : (board : Controller) (was : Flags) (h next : Journal) → Keeps board next → IsHalted h → HasSettled h next → motion_of h ≡ motions.Holding → motion_of next ≡ motions.Held
+-- something came of a machine that has stopped
+pub did_settle : (board : Controller) (was : Flags) (h next : Journal) → Keeps board next → IsHalted h → HasSettled h next → HasSlowedDown h → (HasSlowedDown next → ⊥)
     → board.beat ≡ Motion → board.flags ≡ words.None → was ≡ words.None → BoardWorked Did was board h next
-did_stop board was h next k halted s slows held beat no_word none = record {
+did_settle board was h next k halted s slowed other beat no_word none = record {
   keeps = k;
   rounds = rounds_settled board h next halted s beat;
   flags = takes_none board next no_word (free_settled h next halted s);
@@ -125,67 +132,87 @@ did_stop board was h next k halted s slows held beat no_word none = record {
   beat = λ o e. beat;
   steps = s.passes.steps;
   are = s.passes.are;
-  may = ends_settled h next halted s;
+  may = ends_settled h next halted s (halts_by board next k);
   moves = λ e. inr (fewer_words board.flags was h next no_word none falls);
 }
   where
     falls : number_of words.None next < number_of words.None h
     falls =
-        let two = ap changes_left slows in
-        let one = ap changes_left held in
-        let p = ap (λ (ts : List Task). pauses ts) s.left in
+        let less = s.falls halted.halts slowed other in
+        let p = s.passes.pauses in
         let e = ap (λ (rs : List Reply). one_if (nat_eq (length rs) 0)) s.passes.closed in
-        omega (arith, two, one, p, e)
+        omega (arith, less, p, e)
 
 -- ---- a stop that is waited for
 
-holding_by : (m : AnyMotion) → is_halting m ≡ true → (m ≡ motions.Held → ⊥) → m ≡ motions.Holding
-holding_by motions.Idle is other = absurd cc
-holding_by motions.Run is other = absurd cc
-holding_by motions.Holding is other = refl
-holding_by motions.Held is other = absurd (other refl)
-holding_by motions.Jog is other = absurd cc
-holding_by motions.Cancelling is other = absurd cc
-holding_by motions.Stopping is other = absurd cc
-holding_by motions.Alarm is other = absurd cc
+-- a machine that is to stop, or is held
+stopping_by : (m : AnyMotion) → is_halting m ≡ true → (m ≡ motions.Held → ⊥) → is_stopping m ≡ true
+stopping_by motions.Holding is other = refl
+stopping_by motions.Held is other = absurd (other refl)
+stopping_by motions.Cancelling is other = refl
+stopping_by m is other = absurd cc
 
-not_due : (h : Journal) → (HasPiece h → ⊥) → is_due h ≡ false
+pub not_due : (h : Journal) → (HasPiece h → ⊥) → is_due h ≡ false
 not_due h none = by_due (is_due h) refl
   where
     by_due : (d : Bool) → is_due h ≡ d → is_due h ≡ false
     by_due true e = absurd (none (inr e))
     by_due false e = e
 
-none_in_hand : (h : Journal) → (HasPiece h → ⊥) → hand_of h ≡ []
+pub none_in_hand : (h : Journal) → (HasPiece h → ⊥) → hand_of h ≡ []
 none_in_hand h none = by_hand (hand_of h) (λ some. none (inl some))
   where
     by_hand : (ps : List Piece) → ((ps ≡ [] → ⊥) → ⊥) → ps ≡ []
     by_hand [] f = refl
     by_hand (p ∷ ps) f = absurd (f (λ e. absurd cc))
 
-by_speed : (v : ℕ) (some : Bool) → some ≡ true → (not (nat_eq v 0) && some) ≡ false → nat_eq v 0 ≡ true
-by_speed v some is none = by_test (nat_eq v 0) some is none
+by_speed : (v : ℕ) (goes slows some : Bool) → slows ≡ true → some ≡ true → ((goes || (slows && not (nat_eq v 0))) && some) ≡ false → nat_eq v 0 ≡ true
+by_speed v goes slows some stops is none = by_test (nat_eq v 0) goes slows some stops is none
   where
-    by_test : (t some : Bool) → some ≡ true → (not t && some) ≡ false → t ≡ true
-    by_test true some is none = refl
-    by_test false true is none = absurd cc
-    by_test false false is none = absurd cc
+    by_test : (t goes slows some : Bool) → slows ≡ true → some ≡ true → ((goes || (slows && not t)) && some) ≡ false → t ≡ true
+    by_test true goes slows some stops is none = refl
+    by_test false true slows true stops is none = absurd cc
+    by_test false false true true stops is none = absurd cc
+    by_test false goes false some stops is none = absurd cc
+    by_test false goes slows false stops is none = absurd cc
 
 -- a machine that slows down, with no segment due, stands still
-slow_stands : (board : Controller) (h : Journal) → Keeps board h → motion_of h ≡ motions.Holding → is_due h ≡ false → (plan_of h).speed ≡ 0
+pub slow_stands : (board : Controller) (h : Journal) → Keeps board h → is_stopping (motion_of h) ≡ true → is_due h ≡ false → (plan_of h).speed ≡ 0
 slow_stands board h k slows due = by_blocks (plan_of h).blocks refl
   where
     by_blocks : (bs : List Block) → (plan_of h).blocks ≡ bs → (plan_of h).speed ≡ 0
     by_blocks [] e = (at_rest board h k e).speed
     by_blocks (b ∷ bs) e =
-        let none = sym (ap (λ m. has_segment m (plan_of h)) slows) ∙ due in
-        let zero = by_speed (plan_of h).speed (has_blocks (plan_of h).blocks) (ap has_blocks e) none in
+        let zero = by_speed (plan_of h).speed (is_going (motion_of h)) (is_stopping (motion_of h)) (has_blocks (plan_of h).blocks) slows (ap has_blocks e) due in
         grind (arith, nat_tests, zero)
 
+-- where nothing is in hand or due, a machine that halts and is not held has slowed down
+pub slowed_halted : (board : Controller) (h : Journal) → Keeps board h → IsHalted h → (HasPiece h → ⊥) → (motion_of h ≡ motions.Held → ⊥) → HasSlowedDown h
+slowed_halted board h k halted none other =
+    let slows = stopping_by (motion_of h) halted.halts other in
+    record { slows = slows; speed = slow_stands board h k slows (not_due h none); empty = none_in_hand h none }
+
+-- and has no segment due
+no_more_due : (goes slows some : Bool) (v : ℕ) → (slows ≡ true → goes ≡ false) → slows ≡ true → v ≡ 0 → ((goes || (slows && not (nat_eq v 0))) && some) ≡ false
+no_more_due goes slows some v one is zero =
+    ap (λ g. (g || (slows && not (nat_eq v 0))) && some) (one is) ∙ ap (λ n. (slows && not (nat_eq n 0)) && some) zero ∙ ap (λ b. b && some) (and_false slows)
+  where
+    and_false : (a : Bool) → (a && false) ≡ false
+    and_false true = refl
+    and_false false = refl
+
+not_both : (m : AnyMotion) → is_stopping m ≡ true → is_going m ≡ false
+not_both motions.Run is = absurd cc
+not_both motions.Jog is = absurd cc
+not_both m is = refl
+
+slowed_undue : (h : Journal) → HasSlowedDown h → is_due h ≡ false
+slowed_undue h s = no_more_due (is_going (motion_of h)) (is_stopping (motion_of h)) (has_blocks (plan_of h).blocks) (plan_of h).speed (not_both (motion_of h)) s.slows s.speed
+
 -- the stop is waited for: ticks are found not to be done
-pub waits_for_stop : (board : Controller) (was : Flags) (h next : Journal) → Keeps board next → IsHalted h → (HasPiece h → ⊥) → HasSettled h next → motion_of h ≡ motions.Holding
-    → (motion_of next ≡ motions.Held → ⊥) → board.beat ≡ Motion → board.flags ≡ words.None → BoardWorked (Wait on.Motion) was board h next
-waits_for_stop board was h next k halted none s slows moves beat no_word = record {
+pub waits_for_stop : (board : Controller) (was : Flags) (h next : Journal) → Keeps board next → IsHalted h → HasSettled h next → HasSlowedDown next
+    → board.beat ≡ Motion → board.flags ≡ words.None → BoardWorked (Wait on.Motion) was board h next
+waits_for_stop board was h next k halted s slowed beat no_word = record {
   keeps = k;
   rounds = rounds_settled board h next halted s beat;
   flags = takes_none board next no_word free;
@@ -194,17 +221,17 @@ waits_for_stop board was h next k halted none s slows moves beat no_word = recor
   steps = s.passes.steps;
   are = s.passes.are;
   may = record {
-    ends = ends_settled h next halted s;
+    ends = ends_settled h next halted s (halts_by board next k);
     cause = record {
       load = s.looked slowed;
-      undone = lt_of_le_of_ne (known_within k.first next k.conducted) (λ e. s.stopped (record { slowed = slowed; done = e ∙ all_published board next k empty }));
-      awaits = or_true (awaits_motion (left_of next)) (is_stopping (motion_of next) && is_held_up next) (stops (is_stopping (motion_of next)) (is_held_up next) (ap is_stopping still) (still_held_up h next s halted.held_up));
+      undone = lt_of_le_of_ne (known_within k.first next k.conducted) (λ e. s.stopped (record { slowed = slowed; done = e ∙ all_published board next k slowed.empty }));
+      awaits = or_true (awaits_motion (left_of next)) (is_stopping (motion_of next) && is_held_up next) (both (is_stopping (motion_of next)) (is_held_up next) slowed.slows (held_up s.stays));
     };
     still = s.passes.still ∙ halted.ready.quiet.still;
     flags = free.flags;
     obeyed = free.obeyed;
     unowed = λ e. absurd (let f = sym e ∙ free.unowed in cc);
-    round = λ due has. absurd (let e = sym due_next ∙ due in cc);
+    round = λ due has. absurd (let e = sym (slowed_undue next slowed) ∙ due in cc);
   };
   moves = λ e. absurd cc;
 }
@@ -212,25 +239,17 @@ waits_for_stop board was h next k halted none s slows moves beat no_word = recor
     free : IsFree next
     free = free_settled h next halted s
 
-    still : motion_of next ≡ motions.Holding
-    still = holding_by (motion_of next) (s.halts ∙ halted.halts) moves
-
-    due_next : is_due next ≡ false
-    due_next = ap (λ m. has_segment m (plan_of next)) (still ∙ sym slows) ∙ ap (λ (p : Planned). has_segment (motion_of h) p) s.plan ∙ not_due h none
-
-    empty : hand_of next ≡ []
-    empty = s.hand ∙ none_in_hand h none
-
-    slowed : HasSlowedDown next
-    slowed = record { slows = still; speed = slow_stands board next k still due_next; empty = empty }
+    held_up : StaysSo h next ⊎ IsCutNow h next → is_held_up next ≡ true
+    held_up (inl stays) = still_held_up h next s.passes stays halted.held_up
+    held_up (inr cuts) = absurd (cuts.some slowed.empty)
 
     or_true : (a b : Bool) → b ≡ true → (a || b) ≡ true
     or_true true b e = refl
     or_true false b e = e
 
-    stops : (a b : Bool) → a ≡ true → b ≡ true → (a && b) ≡ true
-    stops true b e f = f
-    stops false b e f = absurd cc
+    both : (a b : Bool) → a ≡ true → b ≡ true → (a && b) ≡ true
+    both true b e f = f
+    both false b e f = absurd cc
 
 -- ---- a word of requests is taken, and obeyed
 
@@ -295,8 +314,8 @@ worked_obeyed word h none w =
     }
 
 pub ends_obeyed : (word : Exec) (h : Journal) → count_by publishing (this_turn h) ≡ 0 → unobeyed_of h ≡ [] → AreWorked h → ((m : PlannedMove) → IsNextTask (ask (a_move m)) h → is_full (plan_of h) ≡ true)
-    → (AreWaiting h → starts_cycle h ≡ false) → tries_of h ≤ most_tries → EndsTurn (obeyed word h)
-ends_obeyed word h quiet none w adds starts few =
+    → (AreWaiting h → starts_cycle h ≡ false) → tries_of h ≤ most_tries → HaltsInTime (obeyed word h) → EndsTurn (obeyed word h)
+ends_obeyed word h quiet none w adds starts few halts =
     let call = became (on_exec word (has_blocks (plan_of h).blocks)) (after_word word (has_blocks (plan_of h).blocks) (motion_of h)) in
     let took = at_port (took_exec word) in
     let a = counts_none publishing call (took ∷ this_turn h) refl in
@@ -309,6 +328,7 @@ ends_obeyed word h quiet none w adds starts few =
       tries = few;
       obeyed = worked.obeyed;
       changed = worked.changed;
+      halts = halts;
     }
 
 -- a word was taken behind which a report is told first
@@ -316,8 +336,8 @@ abbrev pub taken : Exec → Journal → Journal
 taken word h = at_port (took_exec word) ∷ h
 
 pub ends_taken : (word : Exec) (h : Journal) → owes_report (taken word h) ≡ true → count_by publishing (this_turn h) ≡ 0 → AreWorked h → ((m : PlannedMove) → IsNextTask (ask (a_move m)) h → is_full (plan_of h) ≡ true)
-    → (AreWaiting h → starts_cycle h ≡ false) → tries_of h ≤ most_tries → EndsTurn (taken word h)
-ends_taken word h owed quiet w adds starts few =
+    → (AreWaiting h → starts_cycle h ≡ false) → tries_of h ≤ most_tries → HaltsInTime (taken word h) → EndsTurn (taken word h)
+ends_taken word h owed quiet w adds starts few halts =
     let took = at_port (took_exec word) in
     let a = counts_one publishing took (this_turn h) refl in
     record {
@@ -327,6 +347,7 @@ ends_taken word h owed quiet w adds starts few =
       tries = few;
       obeyed = λ e. absurd (let f = sym e ∙ owed in cc);
       changed = counts_none replans took (this_turn h) refl ∙ w.changed ∙ sym (counts_none takes_changes took (this_turn h) refl);
+      halts = halts;
     }
 
 -- both words were taken, and this one waits for the report
@@ -338,44 +359,32 @@ free_now word h flags none unowed = record { flags = flags; obeyed = ap (λ (ws 
 
 -- ---- the resume
 
-held_by : (m : AnyMotion) → is_halting m ≡ true → changes_left m ≤ 1 → m ≡ motions.Held
-held_by motions.Idle is few = absurd cc
-held_by motions.Run is few = absurd cc
-held_by motions.Holding is few = absurd (omega (arith, few))
-held_by motions.Held is few = refl
-held_by motions.Jog is few = absurd cc
-held_by motions.Cancelling is few = absurd cc
-held_by motions.Stopping is few = absurd cc
-held_by motions.Alarm is few = absurd cc
+-- no jog waits for its start there
+pub no_jog_held : (h : Journal) → motion_of h ≡ motions.Held → has_jog_to_start h ≡ false
+no_jog_held h held = ap (λ m. waits_to_jog m (has_jogged h) (has_blocks (plan_of h).blocks || has_moves (left_of h))) held
 
--- a machine that is held stays so until the word is taken
-still_held : (h mid : Journal) → HasSettled h mid → motion_of h ≡ motions.Held → motion_of mid ≡ motions.Held
-still_held h mid s held =
-    let one = ap changes_left held in
-    let few = s.passes.changes in
-    held_by (motion_of mid) (s.halts ∙ ap is_halting held) (omega (arith, one, few))
+resumed_by : (hold cancel start queued cut : Bool) → (after_requests hold cancel start queued motions.Held ≡ motions.Held → ⊥) → changes_left (after_requests hold cancel start queued motions.Held) cut ≡ 0
+resumed_by true true true queued cut f = absurd (f refl)
+resumed_by true true false queued cut f = absurd (f refl)
+resumed_by true false true queued cut f = absurd (f refl)
+resumed_by true false false queued cut f = absurd (f refl)
+resumed_by false true true true cut f = refl
+resumed_by false true true false cut f = refl
+resumed_by false true false queued cut f = absurd (f refl)
+resumed_by false false true true cut f = refl
+resumed_by false false true false cut f = refl
+resumed_by false false false queued cut f = absurd (f refl)
 
-resumed_by : (hold cancel start queued : Bool) → (after_requests hold cancel start queued motions.Held ≡ motions.Held → ⊥) → changes_left (after_requests hold cancel start queued motions.Held) ≡ 0
-resumed_by true true true queued f = absurd (f refl)
-resumed_by true true false queued f = absurd (f refl)
-resumed_by true false true queued f = absurd (f refl)
-resumed_by true false false queued f = absurd (f refl)
-resumed_by false true true true f = refl
-resumed_by false true true false f = refl
-resumed_by false true false queued f = absurd (f refl)
-resumed_by false false true true f = refl
-resumed_by false false true false f = refl
-resumed_by false false false queued f = absurd (f refl)
-
-ends_awaited : (word : Exec) (h mid : Journal) → IsHalted h → HasSettled h mid → EndsTurn (obeyed word mid)
-ends_awaited word h mid halted s =
-    let ends = ends_settled h mid halted s in
+ends_awaited : (board : Controller) (word : Exec) (h mid : Journal) → Keeps board (obeyed word mid) → IsHalted h → HasSettled h mid → EndsTurn (obeyed word mid)
+ends_awaited board word h mid k halted s =
+    let ends = ends_settled h mid halted s k.conducted.0.1.halts in
     ends_obeyed word mid (s.passes.quiet ∙ halted.ready.quiet.quiet) (free_settled h mid halted s).obeyed (s.passes.worked halted.ready.quiet.worked) ends.adds ends.starts ends.tries
+    (halts_by board (obeyed word mid) k)
 
 rounds_awaited : (word : Exec) (board : Controller) (h mid : Journal) → IsHalted h → HasSettled h mid → board.beat ≡ Motion → Rounds board.beat (obeyed word mid)
 rounds_awaited word board h mid halted s beat =
     subst (λ b. Rounds b (obeyed word mid)) (sym beat)
-    (rounds_still (obeyed word mid) (λ w. absurd (none_wait mid (s.halts ∙ halted.halts) (waited_before word mid w))) (few_settled h mid s (few_halted h halted)))
+    (rounds_still (obeyed word mid) (λ w. absurd (none_wait h halted.halts (s.waiting (waited_before word mid w)))) (few_settled h mid s (few_halted h halted)))
 
 -- the steps of a word that is obeyed
 abbrev pub obeying : Exec → Journal → List Step → List Step
@@ -397,24 +406,24 @@ did_resume board was word h mid k halted s held resumes unowed beat no_word none
   beat = λ o e. beat;
   steps = obeying word mid s.passes.steps;
   are = obeying_are word h mid s.passes.steps s.passes.are;
-  may = ends_awaited word h mid halted s;
+  may = ends_awaited board word h mid k halted s;
   moves = λ e. inr (fewer_words board.flags was h (obeyed word mid) no_word none falls);
 }
   where
     is_held : motion_of mid ≡ motions.Held
-    is_held = still_held h mid s held
+    is_held = s.held held
 
-    gone : changes_left (motion_of (obeyed word mid)) ≡ 0
+    gone : changes_left (motion_of (obeyed word mid)) (has_cut (obeyed word mid)) ≡ 0
     gone =
-        ap (λ m. changes_left (after_word word (has_blocks (plan_of mid).blocks) m)) is_held
-        ∙ resumed_by (asks word hold_byte) (asks word cancel_byte) (asks word start_byte) (has_blocks (plan_of mid).blocks)
+        ap (λ m. changes_left (after_word word (has_blocks (plan_of mid).blocks) m) (has_cut (obeyed word mid))) is_held
+        ∙ resumed_by (asks word hold_byte) (asks word cancel_byte) (asks word start_byte) (has_blocks (plan_of mid).blocks) (has_cut (obeyed word mid))
         (λ e. resumes (ap (λ m. after_word word (has_blocks (plan_of mid).blocks) m) is_held ∙ e))
 
     falls : number_of words.None (obeyed word mid) < number_of words.None h
     falls =
         let zero = gone in
-        let one = ap changes_left held in
-        let p = ap (λ (ts : List Task). pauses ts) s.left in
+        let one = ap (λ m. changes_left m (has_cut h)) held in
+        let p = s.passes.pauses in
         let e = ap (λ (rs : List Reply). one_if (nat_eq (length rs) 0)) s.passes.closed in
         omega (arith, zero, one, p, e)
 
@@ -430,8 +439,8 @@ waits_for_resume board was word h mid k halted s held stays unowed beat no_word 
   steps = obeying word mid s.passes.steps;
   are = obeying_are word h mid s.passes.steps s.passes.are;
   may = record {
-    ends = ends_awaited word h mid halted s;
-    cause = record { held = stays; unasked = or_first (asks_no_start (at_port (took_exec word))) (list_any asks_no_start (this_turn mid)) unasked; held_up = still_held_up h mid s halted.held_up };
+    ends = ends_awaited board word h mid k halted s;
+    cause = record { held = stays; unasked = or_first (asks_no_start (at_port (took_exec word))) (list_any asks_no_start (this_turn mid)) unasked; held_up = held_up s.stays };
     still = s.passes.still ∙ halted.ready.quiet.still;
     flags = free.flags;
     obeyed = free.obeyed;
@@ -447,7 +456,11 @@ waits_for_resume board was word h mid k halted s held stays unowed beat no_word 
     unasked : asks_no_start (at_port (took_exec word)) ≡ true
     unasked =
         (stays_held word (has_blocks (plan_of mid).blocks)).1
-        (ap (λ m. Some m) (sym (ap (λ m. after_word word (has_blocks (plan_of mid).blocks) m) (still_held h mid s held)) ∙ stays))
+        (ap (λ m. Some m) (sym (ap (λ m. after_word word (has_blocks (plan_of mid).blocks) m) (s.held held)) ∙ stays))
+
+    held_up : StaysSo h mid ⊎ IsCutNow h mid → is_held_up mid ≡ true
+    held_up (inl stays) = still_held_up h mid s.passes stays halted.held_up
+    held_up (inr cuts) = absurd (let e = sym held ∙ cuts.uncut.cancelled in cc)
 
     or_first : (a b : Bool) → a ≡ true → (a || b) ≡ true
     or_first true b e = refl
@@ -459,14 +472,14 @@ pub did_ask : (board : Controller) (was : Flags) (word : Exec) (h mid : Journal)
 did_ask board was word h mid k halted s owed beat asks none = record {
   keeps = k;
   rounds = subst (λ b. Rounds b (taken word mid)) (sym beat)
-      (rounds_still (taken word mid) (λ w. absurd (none_wait mid (s.halts ∙ halted.halts) (record { stands = w.stands; blocks = w.blocks }))) (few_settled h mid s (few_halted h halted)));
+      (rounds_still (taken word mid) (λ w. absurd (none_wait h halted.halts (s.waiting (record { stands = w.stands; blocks = w.blocks })))) (few_settled h mid s (few_halted h halted)));
   flags = subst (λ f. TakesFlags f (taken word mid)) (sym asks) (asked_now word mid (both_taken mid (s.passes.flags ∙ halted.ready.quiet.flags)).1 (free_settled h mid halted s).obeyed owed);
   still = λ e. ap takes_no_word asks;
   beat = λ o e. beat;
   steps = at_port (took_exec word) ∷ s.passes.steps;
   are = ap (λ (j : Journal). at_port (took_exec word) ∷ j) s.passes.are;
-  may = (let ends = ends_settled h mid halted s in
-      ends_taken word mid owed (s.passes.quiet ∙ halted.ready.quiet.quiet) (s.passes.worked halted.ready.quiet.worked) ends.adds ends.starts ends.tries);
+  may = (let ends = ends_settled h mid halted s (halts_by board (taken word mid) k) in
+      ends_taken word mid owed (s.passes.quiet ∙ halted.ready.quiet.quiet) (s.passes.worked halted.ready.quiet.worked) ends.adds ends.starts ends.tries (halts_by board (taken word mid) k));
   moves = λ e. inr falls;
 }
   where
@@ -475,6 +488,6 @@ did_ask board was word h mid k halted s owed beat asks none = record {
         let zero = ap words_left asks in
         let one = ap words_left none in
         let m = s.passes.changes in
-        let p = ap (λ (ts : List Task). pauses ts) s.left in
+        let p = s.passes.pauses in
         let e = ap (λ (rs : List Reply). one_if (nat_eq (length rs) 0)) s.passes.closed in
         omega (arith, zero, one, m, p, e)

@@ -1,8 +1,10 @@
 -- What is known of a board that keeps its journal.
-use Rattle.std.proofs.Common.{◌≡◌, ◌<◌, ◌^◌, ◌⊎◌, inl, inr, List, [], ◌∷◌, drop, true, false, Some, None, sym, refl, ap, ◌∙◌, subst}
+use Rattle.std.proofs.Common.{◌≡◌, ◌+◌, ◌≤◌, ◌<◌, ◌^◌, ◌⊎◌, inl, inr, List, [], ◌∷◌, drop, Bool, true, false, cond, Some, None, sym, refl, ap, ◌∙◌, subst, arith}
 use Rattle.std.specs.Option.{option_to_list, is_some}
 use Rattle.std.specs.declared.option.Option.{Option}
+use Rattle.feed_hold.specs.declared.Motion.{Motion}
 use Rattle.feed_hold.specs.declared.Motion.TheVariants as motions
+use Rattle.feed_hold.specs.Motions.{is_stopping}
 use Rattle.run_rules.specs.Work.{Task}
 use Rattle.run_rules.specs.Work.Task.{tell}
 use Rattle.status_report.specs.declared.Reply.{Reply}
@@ -19,17 +21,18 @@ use Rattle.planner_runs.proofs.Runs.{fresh_starts, rests_behind, reached_from}
 use Rattle.line_interpreter.specs.Lefts.{IsNextOf}
 use Rattle.board_rules.specs.Ports.{MayAnswer, MayPublish}
 use Rattle.board_rules.specs.Ports.PortStep.{answered}
-use Rattle.board_rules.specs.Steps.{Journal, port_log, hand_of, plan_of, motion_of, planned_of, actions_of}
-use Rattle.board_rules.specs.Turns.{is_due, has_segment}
+use Rattle.board_rules.specs.Steps.{Journal, port_log, has_alarmed, left_of, hand_of, plan_of, motion_of, planned_of, actions_of}
+use Rattle.board_rules.specs.Turns.{is_due, has_segment, is_going, begins_in, halts_next, is_counted, is_halting, is_limited, tries_of}
 use Rattle.board_rules.specs.Conduct.{IsNextTask, IsInHand}
 use Rattle.board_rules.proofs.Keeping.{run_is}
 use Rattle.board_rules.proofs.Ending.{next_turns}
-use Rattle.board_rules.proofs.Motions.{motion_is}
 use Rattle.board_rules.proofs.Limits.{few_given, few_next, few_answered}
 use Rattle.board_rules.proofs.Answering.{answer_is_due}
 use Rattle.controller.specs.declared.controller.Controller.{Controller}
 use Rattle.controller.specs.Boards.{Keeps}
 use Rattle.controller.specs.Turning.{HasPiece}
+use Rattle.controller.proofs.Alarms.{halts_limited, left_alarmed, unalarmed}
+use Rattle.controller.proofs.Facts.{uncounted}
 
 -- what is next of what is left, is next of the journal's tasks
 pub is_next : (c : Controller) (h : Journal) (t : Task) → Keeps c h → IsNextOf t c.lines.left → IsNextTask t h
@@ -66,21 +69,61 @@ one_in_hand c h k = subst (λ (ps : List Piece). drop 1 ps ≡ []) k.machine.han
 pub hand_of_one : (c : Controller) (h : Journal) (p : Piece) → Keeps c h → hand_of h ≡ p ∷ [] → c.machine.hand ≡ None → ⊥
 hand_of_one c h p k is none = let x = sym (hand_empty c h k none) ∙ is in absurd cc
 
+due_by : (m : Motion) (p : Planned) → has_segment m p ≡ true → (is_going m ≡ true) ⊎ (is_stopping m ≡ true)
+due_by motions.Idle p due = absurd cc
+due_by motions.Run p due = inl refl
+due_by motions.Holding p due = inr refl
+due_by motions.Held p due = absurd cc
+due_by motions.Jog p due = inl refl
+due_by motions.Cancelling p due = inr refl
+due_by motions.Stopping p due = inr refl
+due_by motions.Alarm p due = absurd cc
+
 -- the machine runs, or slows down to a stop, where a segment is due
-pub due_moves : (c : Controller) (h : Journal) → Keeps c h → is_due h ≡ true → (motion_of h ≡ motions.Run) ⊎ (motion_of h ≡ motions.Holding)
-due_moves c h k due = by_motion (motion_is k.first h k.conducted)
-  where
-    by_motion : (motion_of h ≡ motions.Idle) ⊎ ((motion_of h ≡ motions.Run) ⊎ ((motion_of h ≡ motions.Holding) ⊎ (motion_of h ≡ motions.Held)))
-        → (motion_of h ≡ motions.Run) ⊎ (motion_of h ≡ motions.Holding)
-    by_motion (inl idle) = absurd (let x : false ≡ true = ap (λ now. has_segment now (plan_of h)) (sym idle) ∙ due in cc)
-    by_motion (inr (inl run)) = inl run
-    by_motion (inr (inr (inl holding))) = inr holding
-    by_motion (inr (inr (inr held))) = absurd (let x : false ≡ true = ap (λ now. has_segment now (plan_of h)) (sym held) ∙ due in cc)
+pub due_moves : (c : Controller) (h : Journal) → Keeps c h → is_due h ≡ true → (is_going (motion_of h) ≡ true) ⊎ (is_stopping (motion_of h) ≡ true)
+due_moves c h k due = due_by (motion_of h) (plan_of h) due
 
 -- where no piece is in hand, a segment is due
 pub due_now : (c : Controller) (h : Journal) → Keeps c h → HasPiece h → c.machine.hand ≡ None → is_due h ≡ true
 due_now c h k (inl some) none = absurd (some (hand_empty c h k none))
 due_now c h k (inr due) none = due
+
+-- ---- a soft limit
+
+-- where a line may be begun no soft limit stops the machine, and it is not held, nor slows down for that
+pub begins_unlimited : (m : Motion) → begins_in m ≡ true → is_limited m ≡ false
+begins_unlimited motions.Idle is = refl
+begins_unlimited motions.Run is = refl
+begins_unlimited motions.Jog is = refl
+begins_unlimited m is = absurd cc
+
+pub begins_by : (m : Motion) → is_halting m ≡ false → is_limited m ≡ false → begins_in m ≡ true
+begins_by motions.Idle off none = refl
+begins_by motions.Run off none = refl
+begins_by motions.Jog off none = refl
+begins_by m off none = absurd cc
+
+-- a machine that is to be halted slows down for that, or stands in alarm
+pub halts_by : (c : Controller) (h : Journal) → Keeps c h → halts_next (left_of h) ≡ true → is_limited (motion_of h) ≡ true
+halts_by c h k next = halts_limited k.first h k.conducted k.limited next
+
+-- so none is to be where no soft limit stops it, and no line has raised an alarm
+pub none_halts : (c : Controller) (h : Journal) → Keeps c h → is_limited (motion_of h) ≡ false → halts_next (left_of h) ≡ false
+none_halts c h k none = by_next (halts_next (left_of h)) refl
+  where
+    by_next : (b : Bool) → halts_next (left_of h) ≡ b → halts_next (left_of h) ≡ false
+    by_next true e = absurd (let f = sym none ∙ halts_by c h k e in cc)
+    by_next false e = e
+
+pub calm_now : (c : Controller) (h : Journal) → Keeps c h → is_limited (motion_of h) ≡ false → has_alarmed h ≡ false
+calm_now c h k none = unalarmed k.first h k.conducted k.limited none
+
+-- behind an alarm no try to publish is counted
+pub few_tried : (c : Controller) (h : Journal) → Keeps c h → (hand_of h ≡ [] → ⊥) → has_alarmed h ≡ true → cond (is_counted h) (tries_of h + 1) (tries_of h) ≤ 1
+few_tried c h k some one =
+    let e = ap (λ b. cond b (tries_of h + 1) (tries_of h)) (uncounted h (left_alarmed k.first h k.conducted one some)) in
+    let t = k.tries one in
+    omega (arith, e, t)
 
 -- where no block stands nothing is left to run
 pub at_rest : (c : Controller) (h : Journal) → Keeps c h → (plan_of h).blocks ≡ [] → IsAtRest (plan_of h)

@@ -1,5 +1,5 @@
 -- What is done to the plan of a machine.
-use Rattle.std.proofs.Common.{◌≡◌, ℕ, ◌+◌, ◌==◌, Bool, true, false, cond, nat_eq, List, [], ◌∷◌, ◌++◌, Some, None, refl, sym, ap, ◌∙◌, subst, arith}
+use Rattle.std.proofs.Common.{◌≡◌, ℕ, ◌+◌, ◌==◌, Bool, true, false, List, [], ◌∷◌, ◌++◌, Some, None, refl, sym, ap, ◌∙◌, subst, arith}
 use Rattle.std.proofs.lemmas.Bool.Decides.{nat_tests}
 use Rattle.std.specs.Option.{option_to_list}
 use Rattle.std.proofs.lemmas.List.{length-map}
@@ -14,11 +14,11 @@ use Rattle.plan_passes.specs.Plans.{Planned, added}
 use Rattle.plan_passes.specs.Segments.{advanced}
 use Rattle.segment_prep.specs.Taking.{IsNext}
 use Rattle.segment_prep.specs.declared.Mode.{Mode}
-use Rattle.planner_runs.specs.Runs.{with_move, most_blocks}
+use Rattle.planner_runs.specs.Runs.{cleared, with_move, most_blocks}
 use Rattle.planner_runs.proofs.Runs.{block_added}
 use Rattle.step_line.specs.Asking.{IsPlannedMove}
 use Rattle.step_line.proofs.Order.{length_after}
-use Rattle.board_rules.specs.Turns.{is_full, is_run, has_blocks}
+use Rattle.board_rules.specs.Turns.{is_full, is_going, has_blocks}
 use Rattle.controller.proofs.Steps.{has_room}
 use Rattle.step_line.specs.declared.Piece.{Piece}
 use Rattle.step_line.specs.declared.Piece.TheVariants as pieces
@@ -73,15 +73,15 @@ observed_is now p [] true e f = refl
 observed_is now p [] false e f = absurd cc
 observed_is now p (piece ∷ pieces) all e f = absurd cc
 
-run_by : (now : Motion) → is_run now ≡ true → now ≡ motions.Run
-run_by motions.Idle e = absurd cc
-run_by motions.Run e = refl
-run_by motions.Holding e = absurd cc
-run_by motions.Held e = absurd cc
-run_by motions.Jog e = absurd cc
-run_by motions.Cancelling e = absurd cc
-run_by motions.Stopping e = absurd cc
-run_by motions.Alarm e = absurd cc
+settled_over : (now : Motion) (p : Planned) → is_going now ≡ true → has_blocks p.blocks ≡ false → settled now p ≡ motions.Idle
+settled_over motions.Idle p goes none = refl
+settled_over motions.Run p goes none = rw none refl
+settled_over motions.Holding p goes none = absurd cc
+settled_over motions.Held p goes none = absurd cc
+settled_over motions.Jog p goes none = rw none refl
+settled_over motions.Cancelling p goes none = absurd cc
+settled_over motions.Stopping p goes none = absurd cc
+settled_over motions.Alarm p goes none = absurd cc
 
 -- each tick that was given is done, and nothing is in hand
 all_done : (m : Machine) (p : Planned) (now : Motion) (in_hand given : List Piece) (done : ℕ) → Runs m p now in_hand given → m.hand ≡ None → done ≡ m.given
@@ -90,20 +90,21 @@ all_done m p now in_hand given done r empty all =
     let same : done ≡ ticks_together given = all ∙ r.given_is in
     observed_is now p in_hand (done == ticks_together given) (sym r.hand_is ∙ ap (λ o. option_to_list o) empty) (grind (arith, nat_tests, same))
 
--- it has slowed down, and is held
-pub stopped : (m n : Machine) (p : Planned) (now : Motion) (in_hand given : List Piece) (done : ℕ) → Runs m p now in_hand given → m.hand ≡ None → done ≡ m.given
-    → (m.hold.motion ≡ motions.Holding) × (m.plan.speed ≡ 0) × (m.hand ≡ None) → Runs n p motions.Held in_hand given → Runs n p (observed now p in_hand (done == ticks_together given)) in_hand given
-stopped m n p now in_hand given done r empty all slowed runs =
-    let holding : now ≡ motions.Holding = sym r.motion_is ∙ slowed.0 in
-    let still : p.speed ≡ 0 = sym (ap (λ (q : Planned). q.speed) r.plan_is) ∙ slowed.1 in
-    let is : settled now p ≡ motions.Held = ap (λ x. settled x p) holding ∙ ap (λ v. cond {A = Motion} (nat_eq v 0) motions.Held motions.Holding) still in
-    subst (λ x. Runs n p x in_hand given) (sym (all_done m p now in_hand given done r empty all ∙ is)) runs
-
--- nothing is left to run, and the cycle is over
+-- nothing is left to run, and the cycle is over, or the jogs are
 pub over : (m n : Machine) (p : Planned) (now : Motion) (in_hand given : List Piece) (done : ℕ) → Runs m p now in_hand given → m.hand ≡ None → done ≡ m.given
-    → is_run m.hold.motion ≡ true → has_blocks m.plan.blocks ≡ false → Runs n p motions.Idle in_hand given → Runs n p (observed now p in_hand (done == ticks_together given)) in_hand given
-over m n p now in_hand given done r empty all run none runs =
-    let runs_now : now ≡ motions.Run = run_by now (sym (ap is_run r.motion_is) ∙ run) in
+    → is_going m.hold.motion ≡ true → has_blocks m.plan.blocks ≡ false → Runs n p motions.Idle in_hand given → Runs n p (observed now p in_hand (done == ticks_together given)) in_hand given
+over m n p now in_hand given done r empty all goes none runs =
+    let goes_now : is_going now ≡ true = sym (ap is_going r.motion_is) ∙ goes in
     let no_block : has_blocks p.blocks ≡ false = sym (ap (λ (q : Planned). has_blocks q.blocks) r.plan_is) ∙ none in
-    let is : settled now p ≡ motions.Idle = ap (λ x. settled x p) runs_now ∙ ap (λ b. cond {A = Motion} b motions.Run motions.Idle) no_block in
-    subst (λ x. Runs n p x in_hand given) (sym (all_done m p now in_hand given done r empty all ∙ is)) runs
+    subst (λ x. Runs n p x in_hand given) (sym (all_done m p now in_hand given done r empty all ∙ settled_over now p goes_now no_block)) runs
+
+-- ---- jogs are cut
+
+pub cleared_runs : (m n : Machine) (p : Planned) (now : Motion) (in_hand given : List Piece) → n ≡ record m { plan = cleared m.plan } → Runs m p now in_hand given → Runs n (cleared p) now in_hand given
+cleared_runs m n p now in_hand given is r = subst (λ (x : Machine). Runs x (cleared p) now in_hand given) (sym is) (record {
+  plan_is = ap (λ (q : Planned). cleared q) r.plan_is;
+  same = r.same;
+  motion_is = r.motion_is;
+  hand_is = r.hand_is;
+  given_is = r.given_is;
+})

@@ -1,12 +1,11 @@
 -- What is next is done: what the rules ask of it, and how the turn ends by it.
-use Rattle.std.proofs.Common.{◌≡◌, ℕ, ◌+◌, ◌≤◌, ◌<◌, ◌⊎◌, inl, inr, Bool, true, false, ◌||◌, List, [], ◌∷◌, ◌++◌, length, drop, nat_eq, nat_le, sym, refl, ap, ◌∙◌, subst, arith}
+use Rattle.std.proofs.Common.{◌≡◌, ℕ, ◌+◌, ◌≤◌, ◌<◌, inl, inr, Bool, true, false, ◌||◌, List, [], ◌∷◌, ◌++◌, length, drop, nat_eq, sym, refl, ap, ◌∙◌, subst, arith}
 use Rattle.std.specs.List.{list_any}
 use Rattle.outside.specs.declared.On.TheVariants.{Byte, ReplyRoom}
 use Rattle.outside.specs.declared.Turn.TheVariants.{Did, Wait}
-use Rattle.feed_hold.specs.declared.Motion.TheVariants.{Idle, Run, Holding, Held}
+use Rattle.feed_hold.specs.declared.Motion.TheVariants.{Idle}
 use Rattle.feed_hold.specs.Motions.Call.{on_start}
-use Rattle.planner_ring.specs.declared.Block.{Block}
-use Rattle.planner_runs.specs.Runs.{most_blocks}
+use Rattle.controller.specs.Machines.{StandsOrGoes, start_motion}
 use Rattle.planner_runs.specs.declared.Action.TheVariants.{Mark}
 use Rattle.step_line.specs.declared.Mark.{Mark as AnyMark}
 use Rattle.step_line.specs.declared.Piece.{Piece}
@@ -15,16 +14,15 @@ use Rattle.status_report.specs.declared.Reply.{Reply}
 use Rattle.status_report.specs.declared.Reply.TheVariants.{Bye}
 use Rattle.run_rules.specs.declared.State.{State}
 use Rattle.run_rules.specs.Work.{Task, pauses}
-use Rattle.run_rules.specs.Work.Task.{ask, tell, pause, normal, finish}
+use Rattle.run_rules.specs.Work.Task.{ask, tell, pause, normal, finish, halt}
 use Rattle.step_line.specs.Asking.Asked.{a_move, a_mark, a_rest}
 use Rattle.line_interpreter.specs.Lefts.{IsTodo}
 use Rattle.line_interpreter.specs.declared.tasks.Todo.TheVariants as todo
 use Rattle.board_rules.specs.Ports.PortStep.{took, found_empty, found_closed, no_reply_room}
 use Rattle.board_rules.specs.Steps.{Journal, left_of, plan_of, motion_of, whole_of, has_closed}
-use Rattle.board_rules.specs.Steps.Step.{at_port, did, made_end, became, closing}
-use Rattle.board_rules.specs.Turns.{this_turn, found_none, found_nothing, tells_next, awaits_motion, needs_motion, is_held_up, is_halting, is_full, has_blocks, has_segment, is_due, tries_of}
+use Rattle.board_rules.specs.Steps.Step.{at_port, did, made_end, closing}
+use Rattle.board_rules.specs.Turns.{this_turn, found_none, found_nothing, tells_next, awaits_motion, begins_in, halts_next, needs_motion, is_held_up, is_halting, is_limited, stands_still, is_full, has_blocks, has_segment, has_jogged, is_due, tries_of}
 use Rattle.board_rules.specs.Conduct.{Conducted, AreWaiting, IsNextTask, MayPoll, MayStart, MayClose}
-use Rattle.board_rules.proofs.Motions.{motion_is}
 use Rattle.board_rules.proofs.Tasks.{none_next, head_is}
 use Rattle.units.specs.Truths.{one_if}
 use Rattle.controller.specs.declared.controller.Controller.{Controller}
@@ -33,12 +31,14 @@ use Rattle.controller.specs.declared.controller.Flags.TheVariants as words
 use Rattle.controller.specs.declared.controller.Beat.{Beat}
 use Rattle.controller.specs.declared.controller.Beat.TheVariants.{Motion, Main}
 use Rattle.controller.specs.Boards.{Keeps, Rounds, NoneWaits, GoingBetween, IsFree, TakesFlags, has_published, number_of}
-use Rattle.controller.specs.Turning.{IsNextMove, IsQuiet, IsReady, HasPiece, HasPolled, MayRun, MayAwait, HasStopped, IsWholeLine, NeedsNoWait, GoesOn, PassesNothing, BoardWorked}
-use Rattle.controller.proofs.Steps.{is_next, not_told}
+use Rattle.controller.specs.Turning.{IsNextMove, IsQuiet, IsReady, HasPiece, HasPolled, MayRun, MayAwait, MayFinish, IsWholeLine, NeedsNoWait, GoesOn, PassesNothing, BoardWorked, starting}
+use Rattle.controller.proofs.Steps.{is_next, not_told, begins_by, calm_now, halts_by}
 use Rattle.controller.proofs.Facts.{not_whole, uncounted, unmissed}
 use Rattle.controller.proofs.Tries.{publishes_none, publishes_one, worked_behind, passes_did, passes_end, passes_motion}
+use Rattle.controller.proofs.Standing.{full_is_queued, goes_or_stands}
+use Rattle.controller.proofs.Starting.{none_left_to_change, starts_off, starts_going}
 use Rattle.controller.proofs.Lasts.{behind_asked, IsClosing}
-use Rattle.controller.proofs.Ends.{none_called, none_waited, rounds_still, one_at_most, takes_none, ready_sent, ready_idle, may_await, not_waiting, free_of, no_word_left}
+use Rattle.controller.proofs.Ends.{none_called, none_waited, rounds_still, one_at_most, takes_none, ready_sent, ready_idle, may_await, free_of, no_word_left}
 
 -- ---- how a turn begins
 
@@ -67,10 +67,6 @@ few_working first h c ready some =
 
 -- ---- moves
 
-full_has_blocks : (blocks : List Block) → nat_le most_blocks (length blocks) ≡ true → has_blocks blocks ≡ true
-full_has_blocks [] e = absurd cc
-full_has_blocks (b ∷ blocks) e = refl
-
 -- what is next of a machine that is held, or slows down for that, is not held up: so no move has no room
 held_up_full : (ts : List Task) (m : PlannedMove) (whole full : Bool) → ts ≡ ask (a_move m) ∷ drop 1 ts → full ≡ true → needs_motion ts whole full ≡ true
 held_up_full [] m whole full next is = absurd cc
@@ -81,33 +77,30 @@ held_up_full (tell r ∷ ts) n whole full next is = absurd (let e = head_is (tel
 held_up_full (pause ∷ ts) n whole full next is = refl
 held_up_full (normal ∷ ts) n whole full next is = refl
 held_up_full (finish ∷ ts) n whole full next is = refl
+held_up_full (halt ∷ ts) n whole full next is = refl
 
-not_halting : (h : Journal) → GoesOn h → is_held_up h ≡ true → is_halting (motion_of h) ≡ false
+not_halting : (h : Journal) → GoesOn h → is_held_up h ≡ true → begins_in (motion_of h) ≡ true
 not_halting h goes up = by_halt (is_halting (motion_of h)) refl
   where
-    by_halt : (b : Bool) → is_halting (motion_of h) ≡ b → is_halting (motion_of h) ≡ false
-    by_halt true e = absurd (let f = sym (goes e) ∙ up in cc)
-    by_halt false e = e
+    by_halt : (b : Bool) → is_halting (motion_of h) ≡ b → begins_in (motion_of h) ≡ true
+    by_halt true e = absurd (let f = sym (goes.held e) ∙ up in cc)
+    by_halt false e = begins_by (motion_of h) e goes.unlimited
 
 -- a full plan is run
 pub full_piece : (first : State) (h : Journal) → Conducted first h → NoneWaits h → GoesOn h → IsNextMove h → is_full (plan_of h) ≡ true → HasPiece h
-full_piece first h c none goes move full = inr (by_motion (motion_is first h c))
+full_piece first h c none goes move full = inr (by_motion (goes_or_stands (motion_of h) (not_halting h goes (held_up_full (left_of h) move.0 (whole_of h) (is_full (plan_of h)) move.1 full))))
   where
     blocks : has_blocks (plan_of h).blocks ≡ true
-    blocks = full_has_blocks (plan_of h).blocks full
+    blocks = full_is_queued (plan_of h).blocks full
 
     full_too : (a b : Bool) → a ≡ true → (a || b) ≡ false → is_due h ≡ true
     full_too true b ea e = absurd cc
     full_too false b ea e = absurd cc
 
-    going : is_halting (motion_of h) ≡ false
-    going = not_halting h goes (held_up_full (left_of h) move.0 (whole_of h) (is_full (plan_of h)) move.1 full)
-
-    by_motion : (motion_of h ≡ Idle) ⊎ ((motion_of h ≡ Run) ⊎ ((motion_of h ≡ Holding) ⊎ (motion_of h ≡ Held))) → is_due h ≡ true
-    by_motion (inl idle) = full_too (is_full (plan_of h)) (awaits_motion (left_of h)) full (none (record { stands = idle; blocks = blocks }))
+    by_motion : StandsOrGoes (motion_of h) → is_due h ≡ true
+    by_motion (inl idle) = full_too (is_full (plan_of h)) (awaits_motion (left_of h) || has_jogged h) full (none (record { stands = idle; blocks = blocks }))
     by_motion (inr (inl run)) = ap (λ m. has_segment m (plan_of h)) run ∙ blocks
-    by_motion (inr (inr (inl holding))) = absurd (let e = sym going ∙ ap is_halting holding in cc)
-    by_motion (inr (inr (inr held))) = absurd (let e = sym going ∙ ap is_halting held in cc)
+    by_motion (inr (inr jog)) = ap (λ m. has_segment m (plan_of h)) jog ∙ blocks
 
 -- ---- lines
 
@@ -125,6 +118,27 @@ whole_line b h k goes none open_yet whole =
     let is = sym k.input.whole_is ∙ whole in
     record { free = free; going = k.going open_yet; whole = is; goes = not_halting h goes (held_up_line (left_of h) (whole_of h) (is_full (plan_of h)) free is) }
 
+-- a byte may be polled for where no line waits to be begun
+pub may_poll : (b : Controller) (h : Journal) → Keeps b h → GoesOn h → b.lines.left ≡ [] → b.closing ≡ false → b.input.whole ≡ false → MayPoll h
+may_poll b h k goes none open_yet partial = record {
+  calm = calm_now b h k goes.unlimited;
+  all_done = none_left b h k none;
+  partial = sym k.input.whole_is ∙ partial;
+  unclosed = k.going open_yet;
+}
+
+-- what is next goes on, by the fields
+pub goes_on : (b : Controller) (h : Journal) → Keeps b h → (is_halting b.machine.hold.motion ≡ true → needs_motion b.lines.left b.input.whole (is_full b.machine.plan) ≡ false) → is_limited b.machine.hold.motion ≡ false → GoesOn h
+goes_on b h k held other = record {
+  held = λ halts. up ∙ held (ap is_halting k.machine.motion_is ∙ halts);
+  unlimited = ap is_limited (sym k.machine.motion_is) ∙ other;
+}
+  where
+    up : is_held_up h ≡ needs_motion b.lines.left b.input.whole (is_full b.machine.plan)
+    up =
+        ap (λ (ts : List Task). needs_motion ts (whole_of h) (is_full (plan_of h))) (sym k.lines.left_is) ∙ ap (λ w. needs_motion b.lines.left w (is_full (plan_of h))) (sym k.input.whole_is)
+        ∙ ap (λ p. needs_motion b.lines.left b.input.whole (is_full p)) (sym k.machine.plan_is)
+
 -- ---- a machine that is held, or slows down for that
 
 -- what waits for the motion is held up
@@ -137,6 +151,7 @@ held_up_awaited (tell r ∷ ts) whole full is = absurd cc
 held_up_awaited (pause ∷ ts) whole full is = refl
 held_up_awaited (normal ∷ ts) whole full is = refl
 held_up_awaited (finish ∷ ts) whole full is = refl
+held_up_awaited (halt ∷ ts) whole full is = refl
 
 -- so the motion may be waited for where what is next goes on
 pub may_await_now : (b : Controller) (h : Journal) → Keeps b h → IsReady h → GoesOn h → awaits_motion (left_of h) ≡ true → MayAwait h
@@ -147,10 +162,11 @@ may_await_now b h k ready goes awaits = may_await k.first h k.conducted ready (n
 pub next_move : (b : Controller) (h : Journal) → Keeps b h → IsTodo todo.Move b.lines.left → IsNextMove h
 next_move b h k is = (is.0, is_next b h (ask (a_move is.0)) k is.1)
 
-pub finish_next : (b : Controller) (h : Journal) → Keeps b h → NeedsNoWait h → IsTodo todo.Finish b.lines.left → HasStopped h × IsNextTask finish h
+pub finish_next : (b : Controller) (h : Journal) → Keeps b h → NeedsNoWait h → IsTodo todo.Finish b.lines.left → MayFinish h × IsNextTask finish h
 finish_next b h k needs is =
     let next = is_next b h finish k is in
-    ((needs (ap awaits_motion next)).0, next)
+    let stopped = (needs (ap awaits_motion next)).0 in
+    (record { drained = stopped.drained; stands = ap stands_still stopped.stands }, next)
 
 -- ---- marks and the end
 
@@ -179,14 +195,14 @@ may_run_marked first h m ps c ready next =
       held = ready.held;
     }
 
-pub may_run_ended : (h : Journal) → MayRun h → HasStopped h → IsNextTask finish h → IsClosing h → MayRun (made_end ∷ h)
+pub may_run_ended : (h : Journal) → MayRun h → MayFinish h → IsNextTask finish h → IsClosing h → MayRun (made_end ∷ h)
 may_run_ended h may stopped next is =
     let passes = passes_end h in
     let some : left_of (made_end ∷ h) ≡ [] → ⊥ = (λ none. let f = sym is.later ∙ none in absurd cc) in
     record {
       quiet = quiet_on h (made_end ∷ h) may.quiet passes;
       polled = λ e. (
-        λ waiting. not_waiting h stopped (record { stands = waiting.stands; blocks = waiting.blocks }),
+        λ waiting. absurd (let f = sym waiting.blocks ∙ ap has_blocks stopped.drained.plan.blocks in cc),
         λ m. absurd (let f = head_is (drop 1 (left_of h)) (ask (a_move m.0)) (tell Bye) [] m.1 is.later in cc),
       );
       first = λ e. absurd (let n = sym e ∙ uncounted (made_end ∷ h) some in cc);
@@ -220,6 +236,7 @@ told_later was board h r k ready next beat no_word =
           tries = omega arith;
           obeyed = worked.obeyed;
           changed = worked.changed;
+          halts = halts_by board h k;
         };
         cause = refl;
         still = ready.quiet.still;
@@ -254,6 +271,7 @@ took_worked was board b h keeps takes ready may beat =
         tries = omega arith;
         obeyed = worked.obeyed;
         changed = worked.changed;
+        halts = halts_by board (at_port (took b) ∷ h) keeps;
       };
       moves = λ e. inl refl;
     }
@@ -319,8 +337,9 @@ waits_for_byte was board h k polled found none beat no_word =
           tries = omega arith;
           obeyed = polled.quiet.worked.obeyed;
           changed = polled.quiet.worked.changed;
+          halts = halts_by board h k;
         };
-        cause = record { poll = found; free = polled.free; partial = polled.partial };
+        cause = record { poll = found; free = polled.free; partial = polled.partial; unowed = polled.quiet.unowed };
         still = polled.quiet.still;
         flags = polled.quiet.flags;
         obeyed = polled.quiet.worked.obeyed polled.quiet.unowed;
@@ -331,37 +350,44 @@ waits_for_byte was board h k polled found none beat no_word =
     }
 
 -- a machine that stands starts
-pub started_passes : (h : Journal) → motion_of h ≡ Idle → PassesNothing h (became (on_start false) Run ∷ h)
-started_passes h idle = passes_motion (on_start false) Run h refl (omega arith)
+pub started_passes : (jog : Bool) (h : Journal) → PassesNothing h (starting jog h)
+started_passes jog h = passes_motion (on_start jog) (start_motion jog) h refl (none_left_to_change jog h)
 
 called : (a b d : Bool) → a ≡ true → ((a || b) || d) ≡ true
 called true b d e = refl
 called false b d e = absurd cc
 
 -- queued blocks start where a poll found no byte
-pub may_start_polled : (board : Controller) (h : Journal) → Keeps board h → HasPolled h → has_blocks board.machine.plan.blocks ≡ true → MayStart h
+pub may_start_polled : (board : Controller) (h : Journal) → Keeps board h → HasPolled h → has_blocks board.machine.plan.blocks ≡ true → MayStart board.jogged h
 may_start_polled board h k polled blocks = record {
+  goes = ap halts_next polled.free;
   blocks = sym (ap (λ p. has_blocks p.blocks) k.machine.plan_is) ∙ blocks;
   called = called (list_any found_none (this_turn h)) _ _ polled.found;
+  jogs = sym k.jogged_is;
 }
 
-pub may_run_started : (h : Journal) → motion_of h ≡ Idle → HasPolled h → MayRun (became (on_start false) Run ∷ h)
-may_run_started h idle polled =
-    let passes = started_passes h idle in
+pub may_run_started : (jog : Bool) (h : Journal) → HasPolled h → MayRun (starting jog h)
+may_run_started jog h polled =
+    let passes = started_passes jog h in
     let t = polled.tries in
     let w = ap one_if polled.partial in
     record {
-      quiet = quiet_on h (became (on_start false) Run ∷ h) polled.quiet passes;
-      polled = λ e. (λ waiting. absurd (let f = waiting.stands in cc), λ m. none_next (left_of h) (ask (a_move m.0)) polled.free m.1);
+      quiet = quiet_on h (starting jog h) polled.quiet passes;
+      polled = λ e. (λ waiting. starts_off jog waiting.stands, λ m. none_next (left_of h) (ask (a_move m.0)) polled.free m.1);
       first = λ e. omega (arith, t, w);
       few = λ e. omega (arith, t, w);
-      held = λ halts. absurd cc;
+      held = λ halts. absurd (let e = sym halts ∙ starts_going jog in cc);
     }
+
+-- a segment is due behind a start
+pub started_due : (jog : Bool) (h : Journal) → has_blocks (plan_of h).blocks ≡ true → is_due (starting jog h) ≡ true
+started_due false h some = some
+started_due true h some = some
 
 -- ---- the run is closed
 
 pub may_close : (h : Journal) → HasPolled h → has_closed h ≡ true → MayClose h
-may_close h polled closed = record { free = polled.free; going = polled.going; begun = polled.partial; closed = closed }
+may_close h polled closed = record { free = polled.free; going = polled.going; begun = polled.partial; closed = inl closed }
 
 -- the board's number falls by that
 closing_falls : (f : Flags) (h : Journal) → HasPolled h → number_of f (closing ∷ h) < number_of f h
@@ -394,6 +420,7 @@ closes_worked board is h keeps polled none beat no_word_was no_word =
         tries = omega arith;
         obeyed = worked.obeyed;
         changed = worked.changed;
+        halts = λ e. absurd cc;
       };
       moves = λ e. inr (subst (λ f. number_of f (closing ∷ h) < number_of board.flags h) (no_word_was ∙ sym no_word) (closing_falls board.flags h polled));
     }

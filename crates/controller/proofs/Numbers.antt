@@ -6,9 +6,11 @@ use Rattle.run_rules.specs.declared.State.{State}
 use Rattle.run_rules.specs.Work.{pauses}
 use Rattle.run_rules.proofs.Pausing.{pauses_once}
 use Rattle.board_rules.specs.Ports.PortStep.{took, found_empty, found_closed, found_free, answered, reported, no_reply_room, took_exec, took_ovr, published, no_piece_room, loaded}
-use Rattle.board_rules.specs.Steps.{Journal, before_of, open_of, left_of, closed_tells, motion_of}
-use Rattle.board_rules.specs.Steps.Step.{at_port, began, did, made_end, evened, paused, became, closing, turned}
-use Rattle.board_rules.specs.Turns.{is_run}
+use Rattle.board_rules.specs.Steps.{Journal, open_of, left_of, closed_tells, motion_of}
+use Rattle.board_rules.specs.Steps.Step.{at_port, began, did, made_end, evened, paused, became, cut, halted, closing, turned}
+use Rattle.board_rules.specs.Cuts.{has_cut}
+use Rattle.board_rules.proofs.Beginning.{caused, becomes_caused}
+use Rattle.board_rules.proofs.Dropping.{pauses_kept}
 use Rattle.board_rules.specs.Conduct.{Conducted}
 use Rattle.units.specs.Truths.{one_if}
 use Rattle.controller.specs.declared.controller.Controller.{Controller}
@@ -35,12 +37,14 @@ pause_once first (at_port (took_ovr word) ∷ h) c = pause_once first h c.1
 pause_once first (at_port (published p) ∷ h) c = pause_once first h c.1
 pause_once first (at_port (no_piece_room done) ∷ h) c = pause_once first h c.1
 pause_once first (at_port (loaded done) ∷ h) c = pause_once first h c.1
-pause_once first (began o ∷ h) c = pauses_once (is_run (motion_of h)) (before_of first h) (open_of h) o c.0.becomes
+pause_once first (began o ∷ h) c = pauses_once true (caused first h) (open_of h) o (becomes_caused first h o c.0)
 pause_once first (did a ps ∷ h) c = less_too _ _ (pauses_by a (left_of h)) (pause_once first h c.1)
 pause_once first (made_end ∷ h) c = less_too _ _ (fewer_pauses (left_of h)) (pause_once first h c.1)
 pause_once first (evened ∷ h) c = less_too _ _ (fewer_pauses (left_of h)) (pause_once first h c.1)
 pause_once first (paused ∷ h) c = less_too _ _ (fewer_pauses (left_of h)) (pause_once first h c.1)
 pause_once first (became call m ∷ h) c = pause_once first h c.1
+pause_once first (cut k ∷ h) c = less_too _ _ (let e = pauses_kept (left_of h) in omega (arith, e)) (pause_once first h c.1)
+pause_once first (halted ∷ h) c = less_too _ _ (fewer_pauses (left_of h)) (pause_once first h c.1)
 pause_once first (closing ∷ h) c = omega arith
 pause_once first (turned t ∷ h) c = pause_once first h c.1
 
@@ -50,10 +54,12 @@ few_words words.Requests = omega arith
 few_words (words.Report word) = omega arith
 few_words words.None = omega arith
 
-few_changes : (m : Motion) → changes_left m ≤ 2
-few_changes motions.Holding = omega arith
-few_changes motions.Held = omega arith
-few_changes m = omega arith
+pub few_changes : (m : Motion) (was : Bool) → changes_left m was ≤ 2
+few_changes motions.Holding was = omega arith
+few_changes motions.Held was = omega arith
+few_changes motions.Cancelling true = omega arith
+few_changes motions.Cancelling false = omega arith
+few_changes m was = omega arith
 
 one_at_most : (b : Bool) → one_if b ≤ 1
 one_at_most true = omega arith
@@ -63,6 +69,6 @@ pub number_few : (board : Controller) (h : Journal) → GoingFits board h → nu
 number_few board h fits =
     let p = pause_once fits.keeps.first h fits.keeps.conducted in
     let w = few_words board.flags in
-    let m = few_changes (motion_of h) in
+    let m = few_changes (motion_of h) (has_cut h) in
     let o = one_at_most (nat_eq (length (closed_tells h)) 0) in
     omega (arith, p, w, m, o)

@@ -14,40 +14,16 @@ use Rattle.outside.specs.declared.Turn.{Turn}
 use Rattle.outside.specs.declared.Turn.TheVariants.{Did, Wait}
 use Rattle.outside.specs.declared.On.TheVariants.{ReplyRoom}
 use Rattle.run_rules.specs.declared.State.{State}
-use Rattle.run_rules.specs.Work.{Task}
-use Rattle.run_rules.specs.Work.Task.{ask}
 use Rattle.run_rules.specs.Reports.{Shows}
 use Rattle.flight.specs.Places.{machine_at}
-use Rattle.step_line.specs.Asking.Asked.{a_move}
 use Rattle.status_report.specs.declared.Reply.{Reply}
 use Rattle.status_report.specs.declared.Reply.TheVariants as replies
 use Rattle.status_report.specs.declared.reports.Report.{Report}
-use Rattle.plan_passes.specs.Plans.{Planned}
 use Rattle.board_rules.specs.Ports.{PortLog, MayAnswer, LacksReplyRoom, said}
 use Rattle.board_rules.specs.Ports.PortStep.{found_free, reported, no_reply_room}
-use Rattle.board_rules.specs.Steps.{Step, Journal, port_log, published_of, known_of, whole_of, left_of, plan_of, motion_of}
+use Rattle.board_rules.specs.Steps.{Step, Journal, port_log, published_of, known_of, whole_of, plan_of, motion_of}
 use Rattle.board_rules.specs.Steps.Step.{at_port, became}
-use Rattle.board_rules.specs.Turns.{
-  this_turn,
-  publishing,
-  passing,
-  moving,
-  found_none,
-  lacks_reply_room,
-  loads,
-  has_blocks,
-  is_going,
-  is_due,
-  is_full,
-  awaits_motion,
-  flags_taken,
-  unobeyed_of,
-  owes_report,
-  takes_changes,
-  replans,
-  tries_of,
-  waits_of,
-}
+use Rattle.board_rules.specs.Turns.{this_turn, publishing, passing, moving, found_none, lacks_reply_room, loads, has_blocks, is_going, is_due, flags_taken, unobeyed_of, owes_report, takes_changes, replans, tries_of, waits_of}
 use Rattle.board_rules.specs.Conduct.{IsDrained, IsStopped, IsReportAt}
 use Rattle.board_rules.proofs.Limits.{few_answered}
 use Rattle.units.specs.Truths.{one_if}
@@ -58,10 +34,11 @@ use Rattle.controller.specs.declared.controller.Flags.TheVariants as words
 use Rattle.controller.specs.Boards.{Keeps, Rounds, NoneWaits, TakesFlags, has_published}
 use Rattle.controller.specs.Turning.{NoneFits, HasPiece, HasTried, HasFilled, BoardWorked}
 use Rattle.controller.specs.Reporting.{HasObserved, HasAskedRoom, IsBehind, IsReported, IsTold, IsToReport, LacksRoom, obeying}
-use Rattle.controller.proofs.Steps.{report_told, report_kept, other_flags}
+use Rattle.controller.proofs.Steps.{report_told, report_kept, other_flags, halts_by}
 use Rattle.controller.proofs.Tries.{counts_none, publishes_none, publishes_one}
 use Rattle.controller.proofs.Facts.{uncounted_owing}
 use Rattle.controller.proofs.Halting.{waited_before}
+use Rattle.controller.proofs.Settling.{none_waits_so, none_fits_so}
 use Rattle.controller.proofs.Ends.{MayTry, sent_by, rounds_still, none_called, none_waited}
 
 -- ---- before the report
@@ -98,8 +75,8 @@ found word h next t o =
       stopped = o.stopped;
       unpolled = p.polled ∙ t.unpolled;
       tried = λ due. p.waits ∙ t.tried (o.due due);
-      none_waits = λ w. ap (λ (q : Planned). is_full q || awaits_motion (left_of next)) o.plan ∙ ap (λ (ts : List Task). is_full (plan_of h) || awaits_motion ts) o.left ∙ t.none_waits (o.waiting w);
-      adds = λ m is. ap is_full o.plan ∙ t.adds m (subst (λ (ts : List Task). ts ≡ ask (a_move m) ∷ drop 1 ts) o.left is);
+      none_waits = λ w. none_waits_so h next p.jogged o.stays t.none_waits (o.waiting w) w;
+      adds = none_fits_so h next o.stays t.adds;
       tries = (let a = p.tries in let b = ap one_if p.whole in let d = t.tries in omega (arith, a, b, d));
     }
 
@@ -260,6 +237,7 @@ waits_for_room board was h next steps are keeps l tried beat both = record {
       tries = (let t = l.tries in omega (arith, t));
       obeyed = λ e. l.words;
       changed = l.changed;
+      halts = halts_by board next keeps;
     };
     cause = l.lacks;
     still = l.still;
@@ -421,6 +399,7 @@ did_report board was waiting h next k r b beat =
         tries = (let t = o.tries in omega (arith, t));
         obeyed = λ e. o.words;
         changed = o.changed;
+        halts = halts_by board (obeying waiting next) k;
       };
       moves = λ e. inl (o.moves refl);
     }

@@ -1,7 +1,6 @@
 -- The machine is held for a pause where it has stopped.
 use Rattle.std.proofs.Common.{◌≡◌, inr, ◌≤◌, ◌<◌, List, [], ◌∷◌, ◌++◌, length, nat_eq, refl, sym, ap, ◌∙◌, subst, arith, append_assoc}
 use Rattle.outside.specs.declared.Turn.TheVariants.{Did}
-use Rattle.run_rules.specs.Work.{Task}
 use Rattle.run_rules.specs.Work as work
 use Rattle.run_rules.specs.Work.Task.{pause}
 use Rattle.status_report.specs.declared.Reply.{Reply}
@@ -17,6 +16,7 @@ use Rattle.controller.specs.declared.controller.Flags.TheVariants as flags
 use Rattle.controller.specs.Boards.{Keeps, Rounds, number_of}
 use Rattle.controller.specs.Turning.{IsReady, PassesNothing, HasFilled, BoardWorked}
 use Rattle.controller.proofs.Facts.{not_whole}
+use Rattle.controller.proofs.Steps.{halts_by}
 use Rattle.controller.proofs.Tries.{publishes_none, worked_behind}
 use Rattle.controller.proofs.Ends.{none_called, rounds_still, free_of, free_passed, takes_none, no_word_left}
 
@@ -56,6 +56,7 @@ paused_filled board was h next k ready task filled keeps beat no_word =
         tries = omega (arith, few, t);
         obeyed = worked.obeyed;
         changed = worked.changed;
+        halts = halts_by board next keeps;
       };
       moves = λ e. inr (subst (λ f. number_of f next < number_of flags.None h) (sym no_word) (falls h next task a));
     }

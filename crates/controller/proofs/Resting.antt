@@ -7,7 +7,7 @@ use Rattle.plan_passes.specs.Plans.{Planned}
 use Rattle.planner_runs.specs.Runs.{normal_overrides}
 use Rattle.planner_runs.specs.declared.Action.TheVariants.{Rest}
 use Rattle.run_rules.specs.Work.{Task}
-use Rattle.run_rules.specs.Work.Task.{ask, tell, pause, normal, finish}
+use Rattle.run_rules.specs.Work.Task.{ask, tell, pause, normal, finish, halt}
 use Rattle.line_interpreter.specs.Interpreting.{Interpreting}
 use Rattle.line_interpreter.specs.Lefts.{IsNextOf, IsTodo}
 use Rattle.line_interpreter.specs.declared.tasks.Todo.{Todo}
@@ -75,6 +75,7 @@ no_rest todo.Tell left is other next = absurd (let e = head_is left (ask a_rest)
 no_rest todo.Pause left is other next = absurd (let e = head_is left (ask a_rest) pause _ next is in cc)
 no_rest todo.Normal left is other next = absurd (let e = head_is left (ask a_rest) normal _ next is in cc)
 no_rest todo.Finish left is other next = absurd (let e = head_is left (ask a_rest) finish _ next is in cc)
+no_rest todo.Halt left is other next = absurd (let e = head_is left (ask a_rest) halt _ next is in cc)
 
 -- nor sets overrides
 pub no_normal : (t : Todo) (left : List Task) → IsTodo t left → (t ≡ todo.Normal → ⊥) → IsNextOf normal left → ⊥
@@ -86,6 +87,7 @@ no_normal todo.Tell left is other next = absurd (let e = head_is left normal (te
 no_normal todo.Pause left is other next = absurd (let e = head_is left normal pause _ next is in cc)
 no_normal todo.Normal left is other next = other refl
 no_normal todo.Finish left is other next = absurd (let e = head_is left normal finish _ next is in cc)
+no_normal todo.Halt left is other next = absurd (let e = head_is left normal halt _ next is in cc)
 
 -- which of them is next
 pub rest_next : (t : Todo) (left : List Task) → IsTodo t left → (t ≡ todo.Normal → ⊥) → IsPassed left → IsNextOf (ask a_rest) left

@@ -1,26 +1,43 @@
--- A machine that slowed down is held once it has stopped; the words of flags are taken.
-use Rattle.std.proofs.Common.{◌≡◌, ℕ, true, false, [], ◌∷◌, Some, None, sym, refl, ap, ◌∙◌, arith}
+-- What comes of a machine that slowed down, once it has stopped; the words of flags are taken.
+use Rattle.std.proofs.Common.{◌≡◌, ℕ, ◌⊎◌, inl, inr, Bool, true, false, ◌&&◌, ◌||◌, List, [], ◌∷◌, ◌++◌, drop, max, min, Some, None, sym, refl, ap, ◌∙◌, subst, arith}
 use Rattle.std.specs.declared.option.Option.{Option}
+use Rattle.std.specs.List.{list_any}
 use Rattle.std.specs.Option.{option_to_list}
 use Rattle.code_table.specs.declared.flags.Ovr.{Ovr}
 use Rattle.feed_hold.specs.declared.Motion.TheVariants as motions
+use Rattle.feed_hold.specs.Motions.{is_stopping}
 use Rattle.feed_hold.specs.Motions.Call.{on_stopped}
+use Rattle.flight.specs.Flights.{Flying, Flies}
 use Rattle.overrides.specs.Percents.{taken}
+use Rattle.planner_ring.specs.declared.Block.{Block}
 use Rattle.plan_passes.specs.Plans.{Planned}
 use Rattle.planner_runs.specs.declared.Action.TheVariants.{Override}
+use Rattle.run_rules.specs.declared.State.{State}
+use Rattle.run_rules.specs.Work.{Task, has_moves}
+use Rattle.run_rules.specs.Work.Task.{ask}
+use Rattle.step_line.specs.Asking.Asked.{a_move}
+use Rattle.step_line.specs.Finishing.{ticks_together}
+use Rattle.step_line.specs.declared.Mark.TheVariants as marks
 use Rattle.step_line.specs.declared.Piece.{Piece}
+use Rattle.step_line.specs.declared.Piece.TheVariants as pieces
 use Rattle.board_rules.specs.Ports.{MayBeDone, has_changes}
 use Rattle.board_rules.specs.Ports.PortStep.{took_ovr, loaded}
-use Rattle.board_rules.specs.Steps.{Journal, port_log, given_of, hand_of, plan_of, motion_of}
-use Rattle.board_rules.specs.Steps.Step.{at_port, did, became}
-use Rattle.board_rules.specs.Conduct.{HasSlowedDown}
+use Rattle.board_rules.specs.Steps.{Journal, port_log, published_of, known_of, left_of, without_asks, hand_of, plan_of, motion_of}
+use Rattle.board_rules.specs.Steps.Step.{at_port, did, became, cut}
+use Rattle.board_rules.specs.Cuts.{has_cut}
+use Rattle.board_rules.specs.Turns.{this_turn, loads, has_blocks, has_jogged, waits_to_jog, is_full, is_going, is_halting, is_slowing, is_due, awaits_motion}
+use Rattle.board_rules.specs.Conduct.{Conducted, HasSlowedDown, AreWaiting}
+use Rattle.board_rules.proofs.Dropping.{asks_dropped, none_moves}
 use Rattle.controller.specs.declared.controller.Controller.{Controller}
 use Rattle.controller.specs.declared.machine.Machine.{Machine}
-use Rattle.controller.specs.Machines.{Runs, is_halting}
-use Rattle.controller.specs.Boards.{Keeps}
-use Rattle.controller.specs.Turning.{PassesNothing, HasSettled, replanned}
-use Rattle.controller.proofs.Steps.{hand_empty, looked, stops}
-use Rattle.controller.proofs.Tries.{passes_none, passes_load, passes_motion, passes_on}
+use Rattle.controller.specs.Boards.{Keeps, NoneWaits, changes_left}
+use Rattle.controller.specs.Turning.{NoneFits, StaysSo, IsCutNow, IsUncut, IsFoundStopped, ComesOf, HasSettled, replanned}
+use Rattle.controller.specs.Turning.ComesOf.{is_held, is_cut, is_locked, is_over}
+use Rattle.controller.proofs.Cuts.{none_asked, cut_off}
+use Rattle.controller.proofs.Steps.{hand_empty, looked, other_flight}
+use Rattle.controller.proofs.Flying.{learned, learned_all}
+use Rattle.controller.proofs.Tries.{passes_none, passes_load, passes_motion, passes_cut, passes_on}
+use Rattle.controller.proofs.Ends.{same_calls}
 
 -- ---- a machine that slowed down
 
@@ -30,78 +47,210 @@ none_in (Some p) is = absurd cc
 
 -- what the fields of a machine say of it
 abbrev pub SlowedDown : Machine → Type 0
-SlowedDown m = (m.hold.motion ≡ motions.Holding) × (m.plan.speed ≡ 0) × (m.hand ≡ None)
+SlowedDown m = (is_stopping m.hold.motion ≡ true) × (m.plan.speed ≡ 0) × (m.hand ≡ None)
 
 pub slowed_now : (b : Controller) (h : Journal) → Keeps b h → HasSlowedDown h → SlowedDown b.machine
 slowed_now b h k s = (
-  k.machine.motion_is ∙ s.slows,
+  ap is_stopping k.machine.motion_is ∙ s.slows,
   ap (λ (p : Planned). p.speed) k.machine.plan_is ∙ s.speed,
   none_in b.machine.hand (k.machine.hand_is ∙ s.empty),
 )
 
 pub slowed_is : (b : Controller) (h : Journal) → Keeps b h → SlowedDown b.machine → HasSlowedDown h
 slowed_is b h k s = record {
-  slows = sym k.machine.motion_is ∙ s.0;
+  slows = sym (ap is_stopping k.machine.motion_is) ∙ s.0;
   speed = sym (ap (λ (p : Planned). p.speed) k.machine.plan_is) ∙ s.1;
   empty = hand_empty b h k s.2;
 }
+
+-- a load finds it as it is
+slowed_looked : (done : ℕ) (h : Journal) → HasSlowedDown h → HasSlowedDown (at_port (loaded done) ∷ h)
+slowed_looked done h s = record { slows = s.slows; speed = s.speed; empty = s.empty }
+
+-- each tick is found done
+pub found_stopped : (b : Controller) (f : Flying) (done : ℕ) (h : Journal) → Keeps b h → HasSlowedDown h → MayBeDone done (port_log h) → done ≡ b.machine.given
+    → ((published : List Piece) (known : ℕ) → Flies b.flight published known → Flies f published (max known (min done (ticks_together published)))) → IsFoundStopped f (at_port (loaded done) ∷ h)
+found_stopped b f done h k slowed may all learns = record {
+  stopped = record { slowed = slowed_looked done h slowed; done = all ∙ k.machine.given_is };
+  load = refl;
+  flies = learned_all b f done h k may learns;
+}
+
+-- a board whose flight has learned that
+pub looked_learned : (b : Controller) (f : Flying) (done : ℕ) (h : Journal) → Keeps b h → MayBeDone done (port_log h)
+    → ((published : List Piece) (known : ℕ) → Flies b.flight published known → Flies f published (max known (min done (ticks_together published)))) → Keeps (record b { flight = f }) (at_port (loaded done) ∷ h)
+looked_learned b f done h k may learns = other_flight b f (at_port (loaded done) ∷ h) (looked b done h k may) (learned b f h done k may learns)
+
+-- ---- what is as it was
+
+-- no move that is next has room, where that was so
+pub none_fits_so : (h next : Journal) → StaysSo h next ⊎ IsCutNow h next → NoneFits h → NoneFits next
+none_fits_so h next (inl stays) fits m is = ap is_full stays.plan ∙ fits m (subst (λ (ts : List Task). ts ≡ ask (a_move m) ∷ drop 1 ts) stays.left is)
+none_fits_so h next (inr cuts) fits m is = absurd (none_asked (left_of next) (a_move m) cuts.none is)
+
+-- nor does a queued block wait for a start
+pub none_waits_so : (h next : Journal) → has_jogged next ≡ has_jogged h → StaysSo h next ⊎ IsCutNow h next → NoneWaits h → AreWaiting h → AreWaiting next
+    → (is_full (plan_of next) || (awaits_motion (left_of next) || has_jogged next)) ≡ false
+none_waits_so h next jogged (inl stays) none before waiting =
+    same_calls (is_full (plan_of next)) (is_full (plan_of h)) (left_of next) (left_of h) (has_jogged next) (has_jogged h) (ap is_full stays.plan) stays.left jogged ∙ none before
+none_waits_so h next jogged (inr cuts) none before waiting = absurd (let e = sym waiting.stands ∙ cuts.cancelled in cc)
+
+-- ---- it was settled
 
 -- it did not slow down
 pub settled_none : (h : Journal) → (HasSlowedDown h → ⊥) → HasSettled h h
 settled_none h moves = record {
   passes = passes_none h;
-  left = refl;
+  stays = inl (record { left = refl; hand = refl; plan = refl });
   changes = refl;
-  hand = refl;
-  plan = refl;
   looked = λ s. absurd (moves s);
   stopped = λ s. moves s.slowed;
   waiting = λ w. w;
-  halts = refl;
+  jogs = λ e. e;
+  held = λ e. e;
+  falls = λ halts s other. absurd (moves s);
 }
 
 -- ticks are found not to be done
 pub settled_later : (b : Controller) (h : Journal) (done : ℕ) → Keeps b h → (done ≡ b.machine.given → ⊥) → HasSettled h (at_port (loaded done) ∷ h)
 settled_later b h done k fewer = record {
   passes = passes_load done h;
-  left = refl;
+  stays = inl (record { left = refl; hand = refl; plan = refl });
   changes = refl;
-  hand = refl;
-  plan = refl;
   looked = λ s. refl;
   stopped = λ s. fewer (s.done ∙ sym k.machine.given_is);
   waiting = λ w. record { stands = w.stands; blocks = w.blocks };
-  halts = refl;
+  jogs = λ e. e;
+  held = λ e. e;
+  falls = λ halts s other. absurd (other (slowed_looked done h s));
 }
+
+-- what came of it in a turn that looked, and is to be known for a report too
+pub record CameOf (h next : Journal) : Type 0 where
+  pub settled : HasSettled h next
+  pub load : list_any loads (this_turn next) ≡ true
+  pub idle : is_going (motion_of next) ≡ false
+  pub undue : is_due next ≡ false
+
+and_false : (a : Bool) → (a && false) ≡ false
+and_false true = refl
+and_false false = refl
 
 -- it is held
-abbrev pub held : ℕ → Journal → Journal
-held done h = became on_stopped motions.Held ∷ (at_port (loaded done) ∷ h)
+came_held : (h : Journal) (done : ℕ) → motion_of h ≡ motions.Holding → CameOf h (became on_stopped motions.Held ∷ (at_port (loaded done) ∷ h))
+came_held h done slows =
+    let mid : Journal = at_port (loaded done) ∷ h in
+    let two = ap (λ m. changes_left m (has_cut h)) slows in
+    record {
+      settled = record {
+        passes = passes_on h mid (became on_stopped motions.Held ∷ mid) (passes_load done h) (passes_motion on_stopped motions.Held mid refl (omega (arith, two)));
+        stays = inl (record { left = refl; hand = refl; plan = refl });
+        changes = refl;
+        looked = λ s. refl;
+        stopped = λ s. absurd (let e = s.slowed.slows in cc);
+        waiting = λ w. absurd (let e = w.stands in cc);
+        jogs = λ e. refl;
+        held = λ e. refl;
+        falls = λ halts s other. omega (arith, two);
+      };
+      load = refl;
+      idle = refl;
+      undue = refl;
+    }
 
-held_passes : (h : Journal) (done : ℕ) → motion_of h ≡ motions.Holding → PassesNothing h (held done h)
-held_passes h done slows =
-    let mid = at_port (loaded done) ∷ h in
-    passes_on h mid (held done h) (passes_load done h) (passes_motion on_stopped motions.Held mid refl (rw slows (omega arith)))
+-- it is in alarm at a soft limit
+came_locked : (h : Journal) (done : ℕ) → motion_of h ≡ motions.Stopping → CameOf h (became on_stopped motions.Alarm ∷ (at_port (loaded done) ∷ h))
+came_locked h done slows =
+    let mid : Journal = at_port (loaded done) ∷ h in
+    record {
+      settled = record {
+        passes = passes_on h mid (became on_stopped motions.Alarm ∷ mid) (passes_load done h) (passes_motion on_stopped motions.Alarm mid refl (omega arith));
+        stays = inl (record { left = refl; hand = refl; plan = refl });
+        changes = refl;
+        looked = λ s. refl;
+        stopped = λ s. absurd (let e = s.slowed.slows in cc);
+        waiting = λ w. absurd (let e = w.stands in cc);
+        jogs = λ e. refl;
+        held = λ e. absurd (let f = sym slows ∙ e in cc);
+        falls = λ halts s other. absurd (let e = sym halts ∙ ap is_halting slows in cc);
+      };
+      load = refl;
+      idle = refl;
+      undue = refl;
+    }
 
-pub settled_held : (h : Journal) (done : ℕ) → motion_of h ≡ motions.Holding → HasSettled h (held done h)
-settled_held h done slows = record {
-  passes = held_passes h done slows;
-  left = refl;
-  changes = refl;
-  hand = refl;
-  plan = refl;
-  looked = λ s. refl;
-  stopped = λ s. absurd (let e = s.slowed.slows in cc);
-  waiting = λ w. absurd (let e = w.stands in cc);
-  halts = sym (ap is_halting slows);
-}
+-- its jogs are cut
+came_cut : (h : Journal) (done k : ℕ) → IsUncut h → hand_of h ≡ [] → CameOf h (cut k ∷ (at_port (loaded done) ∷ h))
+came_cut h done k uncut empty =
+    let mid : Journal = at_port (loaded done) ∷ h in
+    let one = ap (λ m. changes_left m true) uncut.cancelled in
+    let two = ap (λ m. changes_left m (has_cut h)) uncut.cancelled ∙ ap (changes_left motions.Cancelling) uncut.uncut in
+    let some : hand_of (cut k ∷ mid) ≡ [] → ⊥ = (λ e. let f = sym (ap (λ (ps : List Piece). ps ++ pieces.Mark (marks.Cut k) ∷ []) empty) ∙ e in absurd cc) in
+    record {
+      settled = record {
+        passes = passes_on h mid (cut k ∷ mid) (passes_load done h) (passes_cut k mid);
+        stays = inr (record { uncut = uncut; cancelled = uncut.cancelled; none = asks_dropped (left_of h); some = some });
+        changes = refl;
+        looked = λ s. refl;
+        stopped = λ s. some s.slowed.empty;
+        waiting = λ w. absurd (let e = sym uncut.cancelled ∙ w.stands in cc);
+        jogs = λ e. ap (λ m. waits_to_jog m (has_jogged h) (has_moves (without_asks (left_of h)))) uncut.cancelled;
+        held = λ e. absurd (let f = sym uncut.cancelled ∙ e in cc);
+        falls = λ halts s other. omega (arith, one, two);
+      };
+      load = refl;
+      idle = ap is_going uncut.cancelled;
+      undue = and_false (is_going (motion_of h) || is_slowing (motion_of h) 0);
+    }
 
-pub held_keeps : (b : Controller) (m : Machine) (h : Journal) (done : ℕ) → Keeps b h → HasSlowedDown h → MayBeDone done (port_log h) → done ≡ b.machine.given
-    → Runs m (plan_of h) motions.Held (hand_of h) (given_of h) → Keeps (record b { machine = m }) (held done h)
-held_keeps b m h done k slowed may all runs =
-    let next = at_port (loaded done) ∷ h in
-    stops b m next (looked b done h k may)
-    (record { slowed = record { slows = slowed.slows; speed = slowed.speed; empty = slowed.empty }; done = all ∙ k.machine.given_is }) runs
+-- they were cut, and it stands
+came_over : (first : State) (h : Journal) (done : ℕ) → Conducted first h → motion_of h ≡ motions.Cancelling → has_cut h ≡ true → CameOf h (became on_stopped motions.Idle ∷ (at_port (loaded done) ∷ h))
+came_over first h done c cancelled was =
+    let mid : Journal = at_port (loaded done) ∷ h in
+    let off = cut_off first h c was in
+    let one = ap (λ m. changes_left m (has_cut h)) cancelled ∙ ap (changes_left motions.Cancelling) was in
+    record {
+      settled = record {
+        passes = passes_on h mid (became on_stopped motions.Idle ∷ mid) (passes_load done h) (passes_motion on_stopped motions.Idle mid refl (omega arith));
+        stays = inl (record { left = refl; hand = refl; plan = refl });
+        changes = refl;
+        looked = λ s. refl;
+        stopped = λ s. absurd (let e = s.slowed.slows in cc);
+        waiting = λ w. absurd (let e = sym (ap has_blocks off.blocks) ∙ w.blocks in cc);
+        jogs = λ e. ap (λ (bs : List Block). has_jogged h && (has_blocks bs || has_moves (left_of h))) off.blocks ∙ ap (λ b. has_jogged h && b) (none_moves (left_of h) off.none) ∙ and_false (has_jogged h);
+        held = λ e. absurd (let f = sym cancelled ∙ e in cc);
+        falls = λ halts s other. omega (arith, one);
+      };
+      load = refl;
+      idle = refl;
+      undue = refl;
+    }
+
+pub came_of : (first : State) (h next : Journal) (done : ℕ) → Conducted first h → HasSlowedDown h → ComesOf (at_port (loaded done) ∷ h) next → CameOf h next
+came_of first h next done c slowed (is_held slows is) = subst (CameOf h) (sym is) (came_held h done slows)
+came_of first h next done c slowed (is_locked slows is) = subst (CameOf h) (sym is) (came_locked h done slows)
+came_of first h next done c slowed (is_cut uncut k is) = subst (CameOf h) (sym is) (came_cut h done k (record { cancelled = uncut.cancelled; uncut = uncut.uncut }) slowed.empty)
+came_of first h next done c slowed (is_over cancelled was is) = subst (CameOf h) (sym is) (came_over first h done c cancelled was)
+
+-- the port has seen the look alone
+pub port_came : (h next : Journal) → ComesOf h next → port_log next ≡ port_log h
+port_came h next (is_held slows is) = ap port_log is
+port_came h next (is_locked slows is) = ap port_log is
+port_came h next (is_cut uncut k is) = ap port_log is
+port_came h next (is_over cancelled was is) = ap port_log is
+
+-- and nothing was published, nor found done since
+pub published_came : (h next : Journal) → ComesOf h next → published_of next ≡ published_of h
+published_came h next (is_held slows is) = ap published_of is
+published_came h next (is_locked slows is) = ap published_of is
+published_came h next (is_cut uncut k is) = ap published_of is
+published_came h next (is_over cancelled was is) = ap published_of is
+
+pub known_came : (h next : Journal) → ComesOf h next → known_of next ≡ known_of h
+known_came h next (is_held slows is) = ap known_of is
+known_came h next (is_locked slows is) = ap known_of is
+known_came h next (is_cut uncut k is) = ap known_of is
+known_came h next (is_over cancelled was is) = ap known_of is
 
 -- ---- a word of changes of overrides
 

@@ -1,13 +1,15 @@
 -- It is looked how many ticks are done; and where nothing is left to run, and each is done, the machine stands.
-use Rattle.std.proofs.Common.{◌≡◌, ℕ, ◌≤◌, ◌<◌, ◌⊎◌, inl, inr, Bool, true, false, ◌&&◌, ◌||◌, List, [], ◌∷◌, ◌++◌, drop, Some, None, sym, refl, ap, ◌∙◌, subst, arith, append-nil}
+use Rattle.std.proofs.Common.{◌≡◌, ℕ, ◌≤◌, ◌<◌, ◌⊎◌, inl, inr, Bool, true, false, ◌&&◌, ◌||◌, List, [], ◌∷◌, ◌++◌, drop, Some, None, sym, refl, ap, ◌∙◌, subst, arith, append-nil, length, nat_le}
 use Rattle.std.specs.declared.option.Option.{Option}
 use Rattle.std.specs.Option.{is_some, option_to_list}
+use Rattle.feed_hold.specs.declared.Motion.{Motion}
 use Rattle.feed_hold.specs.declared.Motion.TheVariants as motions
 use Rattle.feed_hold.specs.Motions.{is_stopping}
 use Rattle.feed_hold.specs.Motions.Call.{on_drained}
 use Rattle.outside.specs.declared.On.TheVariants as on
 use Rattle.outside.specs.declared.Turn.TheVariants.{Wait}
 use Rattle.planner_ring.specs.declared.Block.{Block}
+use Rattle.planner_runs.specs.Runs.{most_blocks}
 use Rattle.step_line.specs.declared.Piece.{Piece}
 use Rattle.step_line.specs.declared.planned_move.PlannedMove.{PlannedMove}
 use Rattle.step_line.specs.Asking.Asked.{a_move}
@@ -18,20 +20,19 @@ use Rattle.board_rules.specs.Ports.{MayBeDone}
 use Rattle.board_rules.specs.Ports.PortStep.{loaded}
 use Rattle.board_rules.specs.Steps.{Journal, port_log, left_of, given_of, published_of, hand_of, plan_of, motion_of}
 use Rattle.board_rules.specs.Steps.Step.{at_port, became}
-use Rattle.board_rules.specs.Turns.{has_blocks, has_segment, is_full, is_due, is_going, is_slowing, is_held_up, begins_in, awaits_motion}
+use Rattle.board_rules.specs.Turns.{has_blocks, has_segment, is_full, is_due, is_going, is_slowing, is_held_up, begins_in, has_jogged, awaits_motion}
 use Rattle.board_rules.specs.Conduct.{IsDrained, AreWaiting, ticks_given, ticks_published}
 use Rattle.board_rules.proofs.Given.{published_within}
 use Rattle.board_rules.proofs.Keeping.{hand_is}
-use Rattle.board_rules.proofs.Motions.{motion_is}
 use Rattle.controller.specs.declared.controller.Controller.{Controller}
 use Rattle.controller.specs.declared.controller.Beat.TheVariants.{Motion as MotionBeat}
 use Rattle.controller.specs.declared.controller.Flags.TheVariants as flags
 use Rattle.controller.specs.declared.machine.Machine.{Machine}
-use Rattle.controller.specs.Machines.{Runs, is_halting}
+use Rattle.controller.specs.Machines.{Runs, StandsOrGoes}
 use Rattle.controller.specs.Boards.{Keeps, Rounds}
 use Rattle.controller.specs.Turning.{HasPiece, HasLooked, MayAwait, PassesNothing, BoardWorked}
 use Rattle.controller.proofs.Facts.{uncounted, and_false}
-use Rattle.controller.proofs.Steps.{at_rest, hand_empty, none_by_test, looked, drained}
+use Rattle.controller.proofs.Steps.{at_rest, hand_empty, none_by_test, looked, drained, halts_by}
 use Rattle.controller.proofs.Tries.{passes_load, passes_motion, passes_on}
 use Rattle.controller.proofs.Ends.{rounds_still, some_awaited, free_of, free_passed, takes_none, no_word_left}
 
@@ -45,6 +46,11 @@ no_blocks : (blocks : List Block) → has_blocks blocks ≡ false → blocks ≡
 no_blocks [] is = refl
 no_blocks (b ∷ blocks) is = absurd cc
 
+-- a full plan has blocks
+pub full_is_queued : (blocks : List Block) → nat_le most_blocks (length blocks) ≡ true → has_blocks blocks ≡ true
+full_is_queued [] e = absurd cc
+full_is_queued (b ∷ blocks) e = refl
+
 -- what the fields say of the hand and of the plan
 pub hand_none : (b : Controller) (h : Journal) → Keeps b h → is_some b.machine.hand ≡ false → hand_of h ≡ []
 hand_none b h k is = hand_empty b h k (none_by_test b.machine.hand is)
@@ -55,19 +61,21 @@ hand_some b h k is none = one_in_hand b.machine.hand is (k.machine.hand_is ∙ n
 pub blocks_are : (b : Controller) (h : Journal) (some : Bool) → Keeps b h → some ≡ has_blocks b.machine.plan.blocks → has_blocks (plan_of h).blocks ≡ some
 blocks_are b h some k is = ap (λ p. has_blocks p.blocks) (sym k.machine.plan_is) ∙ sym is
 
--- a machine that is not held, nor slows down for that, stands or runs
-pub goes_or_stands : (b : Controller) (h : Journal) → Keeps b h → is_halting (motion_of h) ≡ false → (motion_of h ≡ motions.Idle) ⊎ (motion_of h ≡ motions.Run)
-goes_or_stands b h k going = by_motion (motion_is k.first h k.conducted)
-  where
-    by_motion : (motion_of h ≡ motions.Idle) ⊎ ((motion_of h ≡ motions.Run) ⊎ ((motion_of h ≡ motions.Holding) ⊎ (motion_of h ≡ motions.Held)))
-        → (motion_of h ≡ motions.Idle) ⊎ (motion_of h ≡ motions.Run)
-    by_motion (inl idle) = inl idle
-    by_motion (inr (inl run)) = inr run
-    by_motion (inr (inr (inl holding))) = absurd (let e = sym going ∙ ap is_halting holding in cc)
-    by_motion (inr (inr (inr held))) = absurd (let e = sym going ∙ ap is_halting held in cc)
+-- a machine that lets a line be begun stands, runs or jogs
+pub goes_or_stands : (m : Motion) → begins_in m ≡ true → StandsOrGoes m
+goes_or_stands motions.Idle going = inl refl
+goes_or_stands motions.Run going = inr (inl refl)
+goes_or_stands motions.Jog going = inr (inr refl)
+goes_or_stands m going = absurd cc
 
-pub idle_or_run : (b : Controller) (h : Journal) → Keeps b h → is_halting (motion_of h) ≡ false → (b.machine.hold.motion ≡ motions.Idle) ⊎ (b.machine.hold.motion ≡ motions.Run)
-idle_or_run b h k going = subst (λ m. (m ≡ motions.Idle) ⊎ (m ≡ motions.Run)) (sym k.machine.motion_is) (goes_or_stands b h k going)
+-- so its cycle may be over
+pub may_drain : (b : Controller) (h : Journal) → Keeps b h → begins_in (motion_of h) ≡ true → (b.machine.hold.motion ≡ motions.Idle) ⊎ (is_going b.machine.hold.motion ≡ true)
+may_drain b h k going = by_motion (goes_or_stands (motion_of h) going)
+  where
+    by_motion : StandsOrGoes (motion_of h) → (b.machine.hold.motion ≡ motions.Idle) ⊎ (is_going b.machine.hold.motion ≡ true)
+    by_motion (inl idle) = inl (k.machine.motion_is ∙ idle)
+    by_motion (inr (inl run)) = inr (ap is_going (k.machine.motion_is ∙ run))
+    by_motion (inr (inr jog)) = inr (ap is_going (k.machine.motion_is ∙ jog))
 
 -- ---- where nothing is left to run
 
@@ -81,12 +89,12 @@ all_done b h done k hand none all = record {
 }
 
 -- the cycle is over
-pub over : (b : Controller) (m : Machine) (h : Journal) (done : ℕ) → Keeps b h → is_halting (motion_of h) ≡ false → MayBeDone done (port_log h) → hand_of h ≡ [] → has_blocks (plan_of h).blocks ≡ false → done ≡ b.machine.given
+pub over : (b : Controller) (m : Machine) (h : Journal) (done : ℕ) → Keeps b h → begins_in (motion_of h) ≡ true → MayBeDone done (port_log h) → hand_of h ≡ [] → has_blocks (plan_of h).blocks ≡ false → done ≡ b.machine.given
     → Runs m (plan_of h) motions.Idle (hand_of h) (given_of h)
     → Keeps (record b { machine = m }) (became on_drained motions.Idle ∷ at_port (loaded done) ∷ h)
 over b m h done k going may hand none all runs =
     let l = looked b done h k may in
-    drained b m (at_port (loaded done) ∷ h) l (goes_or_stands b h k going) (all_done b h done k hand none all) runs
+    drained b m (at_port (loaded done) ∷ h) l (goes_or_stands (motion_of h) going) (all_done b h done k hand none all) runs
 
 -- a look, and the end of the cycle, pass nothing
 pub over_passes : (h : Journal) (done : ℕ) → PassesNothing h (became on_drained motions.Idle ∷ at_port (loaded done) ∷ h)
@@ -105,19 +113,15 @@ looked_over h done none = record {
 }
 
 -- a look where the machine does not stand
-pub looked_only : (b : Controller) (h : Journal) (done : ℕ) → Keeps b h → is_halting (motion_of h) ≡ false → (IsDrained (at_port (loaded done) ∷ h) → ⊥) → HasLooked h (at_port (loaded done) ∷ h)
-looked_only b h done k going undrained = record {
+pub looked_only : (h : Journal) (done : ℕ) → begins_in (motion_of h) ≡ true → (IsDrained (at_port (loaded done) ∷ h) → ⊥) → HasLooked h (at_port (loaded done) ∷ h)
+looked_only h done going undrained = record {
   passes = passes_load done h;
   load = refl;
   idle = λ d. absurd (undrained d);
-  begins = by_motion (goes_or_stands b h k going);
+  begins = going;
   left = refl;
   none_waits = λ w a. w (record { stands = a.stands; blocks = a.blocks });
 }
-  where
-    by_motion : (motion_of h ≡ motions.Idle) ⊎ (motion_of h ≡ motions.Run) → begins_in (motion_of h) ≡ true
-    by_motion (inl e) = ap begins_in e
-    by_motion (inr e) = ap begins_in e
 
 -- a plan that has blocks is not drained
 pub blocks_undrained : (h : Journal) → has_blocks (plan_of h).blocks ≡ true → IsDrained h → ⊥
@@ -136,18 +140,19 @@ or_true false false is none = absurd cc
 
 -- no queued block waits where the motion is waited for
 pub none_waits : (h : Journal) → MayAwait h → AreWaiting h → ⊥
-none_waits h may waiting = or_true (is_full (plan_of h)) (awaits_motion (left_of h)) may.awaits (may.none_waits waiting)
+none_waits h may waiting = or_true (is_full (plan_of h)) (awaits_motion (left_of h) || has_jogged h) (ap (λ b. b || has_jogged h) may.awaits) (may.none_waits waiting)
 
 -- so a block there is due
-pub due_where_awaited : (h : Journal) → (motion_of h ≡ motions.Idle) ⊎ (motion_of h ≡ motions.Run) → MayAwait h → has_blocks (plan_of h).blocks ≡ true → is_due h ≡ true
+pub due_where_awaited : (h : Journal) → StandsOrGoes (motion_of h) → MayAwait h → has_blocks (plan_of h).blocks ≡ true → is_due h ≡ true
 due_where_awaited h (inl idle) may some = absurd (none_waits h may (record { stands = idle; blocks = some }))
-due_where_awaited h (inr run) may some = ap (λ m. has_segment m (plan_of h)) run ∙ some
+due_where_awaited h (inr (inl run)) may some = ap (λ m. has_segment m (plan_of h)) run ∙ some
+due_where_awaited h (inr (inr jog)) may some = ap (λ m. has_segment m (plan_of h)) jog ∙ some
 
 pub has_piece_by_hand : (b : Controller) (h : Journal) → Keeps b h → is_some b.machine.hand ≡ true → HasPiece h
 has_piece_by_hand b h k is = inl (hand_some b h k is)
 
 pub has_piece_by_blocks : (b : Controller) (h : Journal) → Keeps b h → MayAwait h → has_blocks (plan_of h).blocks ≡ true → HasPiece h
-has_piece_by_blocks b h k may some = inr (due_where_awaited h (goes_or_stands b h k may.going) may some)
+has_piece_by_blocks b h k may some = inr (due_where_awaited h (goes_or_stands (motion_of h) may.going) may some)
 
 -- the ticks that are found done are all, where they aren't fewer than were given
 pub done_all : (b : Controller) (h : Journal) (done : ℕ) → Keeps b h → MayBeDone done (port_log h) → b.machine.given ≤ done → done ≡ b.machine.given
@@ -191,6 +196,7 @@ waits_for_motion b h done k may beat no_word found hand none fewer =
           tries = omega (arith, few);
           obeyed = worked.obeyed;
           changed = worked.changed;
+          halts = halts_by b h k;
         };
         cause = record { load = refl; undone = omega (arith, fewer, same, given); awaits = ap (λ b. b || (is_stopping (motion_of h) && is_held_up h)) may.awaits };
         still = quiet.still;

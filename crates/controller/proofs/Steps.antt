@@ -5,9 +5,8 @@ use Rattle.code_table.specs.declared.flags.Exec.{Exec}
 use Rattle.code_table.specs.declared.flags.Ovr.{Ovr}
 use Rattle.feed_hold.specs.declared.Motion.{Motion}
 use Rattle.feed_hold.specs.declared.Motion.TheVariants as motions
-use Rattle.feed_hold.specs.Motions.{after, after_word}
-use Rattle.feed_hold.specs.Motions.Call.{on_exec, on_start, on_pause, on_stopped, on_drained}
-use Rattle.outside.specs.declared.Turn.{Turn}
+use Rattle.feed_hold.specs.Motions.{after, after_word, is_stopping}
+use Rattle.feed_hold.specs.Motions.Call.{on_exec, on_start, on_pause, on_drained}
 use Rattle.run_rules.specs.declared.State.{State}
 use Rattle.run_rules.specs.Work.{Task}
 use Rattle.run_rules.specs.Work.Task.{ask, tell, pause, normal, finish}
@@ -29,43 +28,49 @@ use Rattle.plan_passes.specs.Plans.{Planned}
 use Rattle.plan_passes.specs.Segments.{advanced}
 use Rattle.segment_prep.specs.Taking.{IsNext}
 use Rattle.segment_prep.specs.declared.Mode.{Mode}
+use Rattle.segment_prep.specs.declared.Mode.TheVariants.{Go, Hold}
 use Rattle.planner_runs.specs.declared.Action.TheVariants.{Add, Take, Override, Mark, Rest}
 use Rattle.planner_runs.specs.Runs.{IsAtRest, with_move, normal_overrides, most_blocks}
 use Rattle.planner_runs.proofs.Runs.{fresh_starts}
 use Rattle.line_interpreter.specs.Interpreting.{Interpreting}
 use Rattle.board_rules.specs.Ports.{MayBeDone, LacksPieceRoom, has_changes, has_reset_in}
-use Rattle.board_rules.specs.Ports.PortStep.{found_empty, found_closed, found_free, answered, reported, no_reply_room, took_exec, took_ovr, published, no_piece_room, loaded}
+use Rattle.board_rules.specs.Ports.PortStep.{found_empty, found_closed, answered, reported, no_reply_room, took_exec, took_ovr, published, no_piece_room, loaded}
 use Rattle.board_rules.specs.Steps.{Journal, port_log, published_of, before_of, left_of, closed_tells, given_of, hand_of, plan_of, motion_of}
-use Rattle.board_rules.specs.Steps.Step.{at_port, did, made_end, evened, paused, became, closing, turned}
-use Rattle.board_rules.specs.Turns.{owes_report, tells_next, is_full, is_due, has_blocks}
-use Rattle.board_rules.specs.Conduct.{MayTurn, MayDo, IsNextTask, IsDrained, IsStopped, MayPoll, MayStart, MayClose, MayTakeRequests, MayObey, IsReportAt}
+use Rattle.board_rules.specs.Steps.Step.{at_port, did, made_end, evened, paused, became}
+use Rattle.board_rules.specs.Cuts.{has_cut}
+use Rattle.board_rules.specs.Turns.{owes_report, tells_next, is_full, is_due, is_going, has_blocks, stands_still}
+use Rattle.board_rules.specs.Conduct.{MayDo, IsNextTask, IsDrained, IsTimely, MayPoll, MayStart, MayTakeRequests, MayObey, IsReportAt}
 use Rattle.controller.specs.declared.controller.Controller.{Controller}
-use Rattle.controller.specs.declared.controller.Beat.{Beat}
-use Rattle.controller.specs.declared.controller.Flags.{Flags}
 use Rattle.controller.specs.declared.machine.Machine.{Machine}
-use Rattle.controller.specs.Machines.{Runs, mode_in}
-use Rattle.controller.specs.Boards.{Keeps, Works, IsFlown}
-use Rattle.controller.specs.Turning.{HasPiece}
-pub use Rattle.controller.proofs.Known.{is_next, hand_empty, none_by_test, in_hand, some_in_hand, hand_left, one_in_hand, hand_of_one, due_moves, due_now, at_rest, few_ticks, in_range, same_overrides, may_publish, may_answer}
+use Rattle.controller.specs.Machines.{Runs, StandsOrGoes, mode_in, start_motion}
+use Rattle.controller.specs.Boards.{Keeps, Works}
+use Rattle.controller.specs.Turning.{HasPiece, starting}
+use Rattle.controller.proofs.Cuts.{uncut_else, uncut_idle, uncut_started, cut_obeyed}
+pub use Rattle.controller.proofs.Turns.{closes, ends, other_beat, other_flags, other_flight, room_found}
+pub use Rattle.controller.proofs.Known.{is_next, hand_empty, none_by_test, in_hand, some_in_hand, hand_left, one_in_hand, hand_of_one, due_moves, due_now, at_rest, few_ticks, in_range, same_overrides, may_publish, may_answer, few_tried, begins_unlimited, begins_by, halts_by, none_halts, calm_now}
 
 -- ---- at the port
 
 -- a piece is published
-pub sent : (c : Controller) (m : Machine) (f : Flying) (p : Piece) (h : Journal) → Keeps c h → hand_of h ≡ p ∷ [] → Runs m (plan_of h) (motion_of h) [] (given_of h)
+pub sent : (c : Controller) (m : Machine) (f : Flying) (p : Piece) (h : Journal) → Keeps c h → hand_of h ≡ p ∷ [] → IsTimely p h → Runs m (plan_of h) (motion_of h) [] (given_of h)
     → ((known : ℕ) → Flies c.flight (published_of h) known → Flies f (published_of h ++ p ∷ []) known)
     → Keeps (record c { machine = m; flight = f }) (at_port (published p) ∷ h)
-sent c m f p h k is runs flies = record {
+sent c m f p h k is timely runs flies = record {
   first = k.first;
   opening = k.opening;
-  conducted = (is ∙ ap (λ (ps : List Piece). p ∷ drop 1 ps) (sym is), k.conducted);
+  conducted = ((is ∙ ap (λ (ps : List Piece). p ∷ drop 1 ps) (sym is), timely), k.conducted);
   machine = subst (λ (ps : List Piece). Runs m (plan_of h) (motion_of h) (drop 1 ps) (given_of h)) (sym is) runs;
   lines = k.lines;
   input = k.input;
   flight = record { known = k.flight.known; found = k.flight.found; flies = flies k.flight.known k.flight.flies };
   owes_is = k.owes_is;
   reset_is = k.reset_is;
+  jogged_is = k.jogged_is;
+  cut_is = k.cut_is;
   going = k.going;
   closed = k.closed;
+  limited = k.limited;
+  tries = few_tried c h k (λ none. absurd (let e = sym is ∙ none in cc));
 }
 
 -- it is handed back
@@ -80,8 +85,12 @@ not_sent c done h k some full = record {
   flight = record { known = k.flight.known; found = k.flight.found; flies = k.flight.flies };
   owes_is = k.owes_is;
   reset_is = k.reset_is;
+  jogged_is = k.jogged_is;
+  cut_is = k.cut_is;
   going = k.going;
   closed = k.closed;
+  limited = k.limited;
+  tries = few_tried c h k some;
 }
 
 -- so many ticks are found done
@@ -96,12 +105,16 @@ looked c done h k may = record {
   flight = record { known = k.flight.known; found = let a = k.flight.found in let b = may.later in omega (arith, a, b); flies = k.flight.flies };
   owes_is = k.owes_is;
   reset_is = k.reset_is;
+  jogged_is = k.jogged_is;
+  cut_is = k.cut_is;
   going = k.going;
   closed = k.closed;
+  limited = k.limited;
+  tries = k.tries;
 }
 
 -- a task less is left
-one_less : (c : Controller) (i : Interpreting) (first : State) (h : Journal) → Works c.lines (left_of h) (before_of first h) → i ≡ record c.lines { left = drop 1 c.lines.left }
+pub one_less : (c : Controller) (i : Interpreting) (first : State) (h : Journal) → Works c.lines (left_of h) (before_of first h) → i ≡ record c.lines { left = drop 1 c.lines.left }
     → Works i (drop 1 (left_of h)) (before_of first h)
 one_less c i first h w is = record {
   left_is = ap (λ (j : Interpreting). j.left) is ∙ ap (λ (ts : List Task). drop 1 ts) w.left_is;
@@ -122,8 +135,12 @@ told c i r h k next plain unowed empty is = record {
   flight = record { known = k.flight.known; found = k.flight.found; flies = k.flight.flies };
   owes_is = k.owes_is;
   reset_is = k.reset_is;
+  jogged_is = k.jogged_is;
+  cut_is = k.cut_is;
   going = k.going;
   closed = k.closed;
+  limited = k.limited;
+  tries = k.tries;
 }
 
 -- it is handed back
@@ -138,8 +155,12 @@ not_told c h k next = record {
   flight = record { known = k.flight.known; found = k.flight.found; flies = k.flight.flies };
   owes_is = k.owes_is;
   reset_is = k.reset_is;
+  jogged_is = k.jogged_is;
+  cut_is = k.cut_is;
   going = k.going;
   closed = k.closed;
+  limited = k.limited;
+  tries = k.tries;
 }
 
 -- a report is told
@@ -154,8 +175,12 @@ report_told c r h k may = record {
   flight = record { known = k.flight.known; found = k.flight.found; flies = k.flight.flies };
   owes_is = refl;
   reset_is = k.reset_is;
+  jogged_is = k.jogged_is;
+  cut_is = k.cut_is;
   going = k.going;
   closed = k.closed;
+  limited = k.limited;
+  tries = k.tries;
 }
 
 or_true : (a b : Bool) → b ≡ true → (a || b) ≡ true
@@ -174,24 +199,12 @@ report_kept c h k owed = record {
   flight = record { known = k.flight.known; found = k.flight.found; flies = k.flight.flies };
   owes_is = sym owed;
   reset_is = k.reset_is;
+  jogged_is = k.jogged_is;
+  cut_is = k.cut_is;
   going = k.going;
   closed = k.closed;
-}
-
--- the room on the link is asked for
-pub room_found : (c : Controller) (bytes : ℕ) (h : Journal) → Keeps c h → Keeps c (at_port (found_free bytes) ∷ h)
-room_found c bytes h k = record {
-  first = k.first;
-  opening = k.opening;
-  conducted = (tt, k.conducted);
-  machine = k.machine;
-  lines = k.lines;
-  input = k.input;
-  flight = record { known = k.flight.known; found = k.flight.found; flies = k.flight.flies };
-  owes_is = k.owes_is;
-  reset_is = k.reset_is;
-  going = k.going;
-  closed = k.closed;
+  limited = k.limited;
+  tries = k.tries;
 }
 
 -- no byte is found
@@ -206,8 +219,12 @@ polled_empty c h k may = record {
   flight = record { known = k.flight.known; found = k.flight.found; flies = k.flight.flies };
   owes_is = k.owes_is;
   reset_is = k.reset_is;
+  jogged_is = k.jogged_is;
+  cut_is = k.cut_is;
   going = k.going;
   closed = k.closed;
+  limited = k.limited;
+  tries = λ one. omega arith;
 }
 
 -- none is found, and the link is closed
@@ -222,8 +239,12 @@ polled_closed c h k may = record {
   flight = record { known = k.flight.known; found = k.flight.found; flies = k.flight.flies };
   owes_is = k.owes_is;
   reset_is = k.reset_is;
+  jogged_is = k.jogged_is;
+  cut_is = k.cut_is;
   going = k.going;
   closed = k.closed;
+  limited = k.limited;
+  tries = λ one. omega arith;
 }
 
 -- ---- the plan
@@ -246,16 +267,33 @@ added_move c m i mv h k next planned room runs is = record {
   flight = record { known = k.flight.known; found = k.flight.found; flies = k.flight.flies };
   owes_is = k.owes_is;
   reset_is = k.reset_is;
+  jogged_is = k.jogged_is;
+  cut_is = k.cut_is;
   going = k.going;
   closed = k.closed;
+  limited = k.limited;
+  tries = k.tries;
 }
 
-may_take : (h : Journal) → (motion_of h ≡ motions.Run) ⊎ (motion_of h ≡ motions.Holding) → hand_of h ≡ [] → MayDo (Take (mode_in (motion_of h))) h
-may_take h (inl run) empty = subst (λ (mode : Mode). MayDo (Take mode) h) (sym (ap mode_in run)) (record { state = run; empty = empty })
-may_take h (inr holding) empty = subst (λ (mode : Mode). MayDo (Take mode) h) (sym (ap mode_in holding)) (record { state = holding; empty = empty })
+-- a machine that goes does not slow down
+going_mode : (m : Motion) → is_going m ≡ true → mode_in m ≡ Go
+going_mode motions.Run goes = refl
+going_mode motions.Jog goes = refl
+going_mode m goes = absurd cc
 
--- a segment is taken: to slow down where the machine is to be held
-pub took_segment : (c : Controller) (m : Machine) (s : Segment) (h : Journal) → Keeps c h → (motion_of h ≡ motions.Run) ⊎ (motion_of h ≡ motions.Holding) → hand_of h ≡ []
+-- and one that is to stop does
+stopping_mode : (m : Motion) → is_stopping m ≡ true → mode_in m ≡ Hold
+stopping_mode motions.Holding slows = refl
+stopping_mode motions.Cancelling slows = refl
+stopping_mode motions.Stopping slows = refl
+stopping_mode m slows = absurd cc
+
+may_take : (h : Journal) → (is_going (motion_of h) ≡ true) ⊎ (is_stopping (motion_of h) ≡ true) → hand_of h ≡ [] → MayDo (Take (mode_in (motion_of h))) h
+may_take h (inl goes) empty = subst (λ (mode : Mode). MayDo (Take mode) h) (sym (going_mode (motion_of h) goes)) (record { goes = goes; empty = empty })
+may_take h (inr slows) empty = subst (λ (mode : Mode). MayDo (Take mode) h) (sym (stopping_mode (motion_of h) slows)) (record { slows = slows; empty = empty })
+
+-- a segment is taken: to slow down where the machine is to stop
+pub took_segment : (c : Controller) (m : Machine) (s : Segment) (h : Journal) → Keeps c h → (is_going (motion_of h) ≡ true) ⊎ (is_stopping (motion_of h) ≡ true) → hand_of h ≡ []
     → IsNext (plan_of h) (mode_in (motion_of h)) s → Runs m (advanced (plan_of h) s.n s.w_out) (motion_of h) (pieces.Segment s ∷ []) (given_of h ++ pieces.Segment s ∷ [])
     → Keeps (record c { machine = m }) (did (Take (mode_in (motion_of h))) (pieces.Segment s ∷ []) ∷ h)
 took_segment c m s h k moves empty next runs = record {
@@ -268,8 +306,12 @@ took_segment c m s h k moves empty next runs = record {
   flight = record { known = k.flight.known; found = k.flight.found; flies = k.flight.flies };
   owes_is = k.owes_is;
   reset_is = k.reset_is;
+  jogged_is = k.jogged_is;
+  cut_is = k.cut_is;
   going = k.going;
   closed = k.closed;
+  limited = k.limited;
+  tries = k.tries;
 }
 
 -- the segment that is due comes into the empty hand
@@ -297,8 +339,12 @@ marked c m i mark h k next good empty rest runs is = record {
   flight = record { known = k.flight.known; found = k.flight.found; flies = k.flight.flies };
   owes_is = k.owes_is;
   reset_is = k.reset_is;
+  jogged_is = k.jogged_is;
+  cut_is = k.cut_is;
   going = k.going;
   closed = k.closed;
+  limited = k.limited;
+  tries = k.tries;
 }
 
 -- a rest is over
@@ -314,8 +360,12 @@ rested c i h k next drained stands is = record {
   flight = record { known = k.flight.known; found = k.flight.found; flies = k.flight.flies };
   owes_is = k.owes_is;
   reset_is = k.reset_is;
+  jogged_is = k.jogged_is;
+  cut_is = k.cut_is;
   going = k.going;
   closed = k.closed;
+  limited = k.limited;
+  tries = k.tries;
 }
 
 -- each override is set to 100 percent
@@ -332,8 +382,12 @@ evens c m i h k next drained stands runs is = record {
   flight = record { known = k.flight.known; found = k.flight.found; flies = k.flight.flies };
   owes_is = k.owes_is;
   reset_is = k.reset_is;
+  jogged_is = k.jogged_is;
+  cut_is = k.cut_is;
   going = k.going;
   closed = k.closed;
+  limited = k.limited;
+  tries = k.tries;
 }
 
 -- the machine is held for a pause
@@ -349,53 +403,76 @@ held_for_pause c m i h k next drained stands runs is = record {
   flight = record { known = k.flight.known; found = k.flight.found; flies = k.flight.flies };
   owes_is = k.owes_is;
   reset_is = k.reset_is;
+  jogged_is = k.jogged_is;
+  cut_is = k.cut_is ∙ uncut_idle k.first h k.conducted stands;
   going = k.going;
   closed = k.closed;
+  limited = k.limited;
+  tries = k.tries;
 }
 
 -- the end is made
-pub ended : (c : Controller) (m : Machine) (i : Interpreting) (h : Journal) → Keeps c h → IsNextTask finish h → IsDrained h → motion_of h ≡ motions.Idle → (closed_tells h ≡ [] → ⊥)
+pub ended : (c : Controller) (m : Machine) (i : Interpreting) (h : Journal) → Keeps c h → IsNextTask finish h → IsDrained h → stands_still (motion_of h) ≡ true → (closed_tells h ≡ [] → ⊥)
     → Runs m (plan_of h) (motion_of h) (pieces.End ∷ []) (given_of h ++ pieces.End ∷ []) → i ≡ record c.lines { left = drop 1 c.lines.left }
     → Keeps (record c { machine = m; lines = i }) (made_end ∷ h)
 ended c m i h k next drained stands closes runs is = record {
   first = k.first;
   opening = k.opening;
-  conducted = (record { rests = record { next = next; drained = drained; stands = stands }; closes = closes }, k.conducted);
+  conducted = (record { next = next; drained = drained; stands = stands; closes = closes }, k.conducted);
   machine = rw drained.hand runs;
   lines = one_less c i k.first h k.lines is;
   input = k.input;
   flight = record { known = k.flight.known; found = k.flight.found; flies = k.flight.flies };
   owes_is = k.owes_is;
   reset_is = k.reset_is;
+  jogged_is = k.jogged_is;
+  cut_is = k.cut_is;
   going = k.going;
   closed = k.closed;
+  limited = k.limited;
+  tries = k.tries;
 }
 
 -- ---- the motion
 
--- queued blocks start the cycle
-pub started : (c : Controller) (m : Machine) (h : Journal) → Keeps c h → motion_of h ≡ motions.Idle → MayStart h → Runs m (plan_of h) motions.Run (hand_of h) (given_of h)
-    → Keeps (record c { machine = m }) (became (on_start false) motions.Run ∷ h)
-started c m h k stands may runs = record {
+-- the motion of a start
+starts_to : (jog : Bool) (now : Motion) → now ≡ motions.Idle → after (on_start jog) now ≡ Some (start_motion jog)
+starts_to false now stands = ap (λ m. after (on_start false) m) stands
+starts_to true now stands = ap (λ m. after (on_start true) m) stands
+
+-- queued blocks start the cycle, or a jog
+pub started : (c : Controller) (m : Machine) (jog : Bool) (h : Journal) → Keeps c h → motion_of h ≡ motions.Idle → MayStart jog h → Runs m (plan_of h) (start_motion jog) (hand_of h) (given_of h)
+    → Keeps (record c { machine = m }) (starting jog h)
+started c m jog h k stands may runs = record {
   first = k.first;
   opening = k.opening;
-  conducted = ((ap (λ now. after (on_start false) now) stands, may), k.conducted);
+  conducted = ((starts_to jog (motion_of h) stands, may), k.conducted);
   machine = runs;
   lines = k.lines;
   input = k.input;
   flight = record { known = k.flight.known; found = k.flight.found; flies = k.flight.flies };
   owes_is = k.owes_is;
   reset_is = k.reset_is;
+  jogged_is = k.jogged_is;
+  cut_is = k.cut_is ∙ uncut_started jog (has_cut h) (uncut_idle k.first h k.conducted stands);
   going = k.going;
   closed = k.closed;
+  limited = k.limited;
+  tries = k.tries;
 }
 
-after_drained : (now : Motion) → (now ≡ motions.Idle) ⊎ (now ≡ motions.Run) → after on_drained now ≡ Some motions.Idle
+after_drained : (now : Motion) → StandsOrGoes now → after on_drained now ≡ Some motions.Idle
 after_drained now (inl e) = ap (λ m. after on_drained m) e
-after_drained now (inr e) = ap (λ m. after on_drained m) e
+after_drained now (inr (inl e)) = ap (λ m. after on_drained m) e
+after_drained now (inr (inr e)) = ap (λ m. after on_drained m) e
+
+not_cancelled : (now : Motion) → StandsOrGoes now → now ≡ motions.Cancelling → ⊥
+not_cancelled now (inl e) is = absurd (let f = sym e ∙ is in cc)
+not_cancelled now (inr (inl e)) is = absurd (let f = sym e ∙ is in cc)
+not_cancelled now (inr (inr e)) is = absurd (let f = sym e ∙ is in cc)
 
 -- the cycle is over
-pub drained : (c : Controller) (m : Machine) (h : Journal) → Keeps c h → (motion_of h ≡ motions.Idle) ⊎ (motion_of h ≡ motions.Run) → IsDrained h → Runs m (plan_of h) motions.Idle (hand_of h) (given_of h)
+pub drained : (c : Controller) (m : Machine) (h : Journal) → Keeps c h → StandsOrGoes (motion_of h) → IsDrained h → Runs m (plan_of h) motions.Idle (hand_of h) (given_of h)
     → Keeps (record c { machine = m }) (became on_drained motions.Idle ∷ h)
 drained c m h k was may runs = record {
   first = k.first;
@@ -407,25 +484,12 @@ drained c m h k was may runs = record {
   flight = record { known = k.flight.known; found = k.flight.found; flies = k.flight.flies };
   owes_is = k.owes_is;
   reset_is = k.reset_is;
+  jogged_is = k.jogged_is;
+  cut_is = k.cut_is ∙ uncut_else k.first h k.conducted (not_cancelled (motion_of h) was);
   going = k.going;
   closed = k.closed;
-}
-
--- a machine that slowed down is held where each tick is done
-pub stops : (c : Controller) (m : Machine) (h : Journal) → Keeps c h → IsStopped h → Runs m (plan_of h) motions.Held (hand_of h) (given_of h)
-    → Keeps (record c { machine = m }) (became on_stopped motions.Held ∷ h)
-stops c m h k stopped runs = record {
-  first = k.first;
-  opening = k.opening;
-  conducted = ((ap (λ now. after on_stopped now) stopped.slowed.slows, stopped), k.conducted);
-  machine = runs;
-  lines = k.lines;
-  input = k.input;
-  flight = record { known = k.flight.known; found = k.flight.found; flies = k.flight.flies };
-  owes_is = k.owes_is;
-  reset_is = k.reset_is;
-  going = k.going;
-  closed = k.closed;
+  limited = k.limited;
+  tries = k.tries;
 }
 
 -- ---- the words of flags
@@ -443,8 +507,12 @@ takes_word c owes reset word h k may is resets = record {
   flight = record { known = k.flight.known; found = k.flight.found; flies = k.flight.flies };
   owes_is = is;
   reset_is = resets;
+  jogged_is = k.jogged_is;
+  cut_is = k.cut_is;
   going = k.going;
   closed = k.closed;
+  limited = k.limited;
+  tries = k.tries;
 }
 
 -- a word that was taken is obeyed
@@ -461,8 +529,32 @@ obeys c m word h k may runs = record {
   flight = record { known = k.flight.known; found = k.flight.found; flies = k.flight.flies };
   owes_is = k.owes_is;
   reset_is = k.reset_is;
+  jogged_is = k.jogged_is;
+  cut_is = k.cut_is ∙ cut_obeyed k.first word (has_blocks (plan_of h).blocks) h k.conducted;
   going = k.going;
   closed = k.closed;
+  limited = k.limited;
+  tries = k.tries;
+}
+
+-- a word of changes of overrides is taken
+pub takes_changes : (c : Controller) (word : Ovr) (h : Journal) → Keeps c h → Keeps c (at_port (took_ovr word) ∷ h)
+takes_changes c word h k = record {
+  first = k.first;
+  opening = k.opening;
+  conducted = (tt, k.conducted);
+  machine = k.machine;
+  lines = k.lines;
+  input = k.input;
+  flight = record { known = k.flight.known; found = k.flight.found; flies = k.flight.flies };
+  owes_is = k.owes_is;
+  reset_is = k.reset_is;
+  jogged_is = k.jogged_is;
+  cut_is = k.cut_is;
+  going = k.going;
+  closed = k.closed;
+  limited = k.limited;
+  tries = k.tries;
 }
 
 -- it is planned for what a word makes of the overrides
@@ -482,92 +574,10 @@ changes c m word h k some range runs = record {
   flight = record { known = k.flight.known; found = k.flight.found; flies = k.flight.flies };
   owes_is = k.owes_is;
   reset_is = k.reset_is;
+  jogged_is = k.jogged_is;
+  cut_is = k.cut_is;
   going = k.going;
   closed = k.closed;
-}
-
--- ---- the run and the turns
-
--- the run is being closed
-pub closes : (c : Controller) (i : Interpreting) (h : Journal) → Keeps c h → MayClose h → i ≡ record c.lines { left = finish ∷ tell Bye ∷ [] }
-    → Keeps (record c { lines = i; closing = true }) (closing ∷ h)
-closes c i h k may is = record {
-  first = k.first;
-  opening = k.opening;
-  conducted = (may, k.conducted);
-  machine = k.machine;
-  lines = record {
-    left_is = ap (λ (j : Interpreting). j.left) is;
-    state_is = ap (λ (j : Interpreting). j.state) is ∙ k.lines.state_is;
-    number_is = ap (λ (j : Interpreting). j.number) is ∙ k.lines.number_is;
-  };
-  input = k.input;
-  flight = record { known = k.flight.known; found = k.flight.found; flies = k.flight.flies };
-  owes_is = k.owes_is;
-  reset_is = k.reset_is;
-  going = λ e. absurd (cc);
-  closed = λ e. ap (λ (rs : List Reply). rs ++ Bye ∷ []) may.going;
-}
-
--- a turn ends
-pub ends : (c : Controller) (t : Turn) (h : Journal) → Keeps c h → MayTurn t h → Keeps c (turned t ∷ h)
-ends c t h k may = record {
-  first = k.first;
-  opening = k.opening;
-  conducted = (may, k.conducted);
-  machine = k.machine;
-  lines = k.lines;
-  input = k.input;
-  flight = record { known = k.flight.known; found = k.flight.found; flies = k.flight.flies };
-  owes_is = k.owes_is;
-  reset_is = k.reset_is;
-  going = k.going;
-  closed = k.closed;
-}
-
--- what the next turn begins with is no part of it, nor which words of flags it takes
-pub other_beat : (c : Controller) (b : Beat) (h : Journal) → Keeps c h → Keeps (record c { beat = b }) h
-other_beat c b h k = record {
-  first = k.first;
-  opening = k.opening;
-  conducted = k.conducted;
-  machine = k.machine;
-  lines = k.lines;
-  input = k.input;
-  flight = record { known = k.flight.known; found = k.flight.found; flies = k.flight.flies };
-  owes_is = k.owes_is;
-  reset_is = k.reset_is;
-  going = k.going;
-  closed = k.closed;
-}
-
-pub other_flags : (c : Controller) (f : Flags) (h : Journal) → Keeps c h → Keeps (record c { flags = f }) h
-other_flags c f h k = record {
-  first = k.first;
-  opening = k.opening;
-  conducted = k.conducted;
-  machine = k.machine;
-  lines = k.lines;
-  input = k.input;
-  flight = record { known = k.flight.known; found = k.flight.found; flies = k.flight.flies };
-  owes_is = k.owes_is;
-  reset_is = k.reset_is;
-  going = k.going;
-  closed = k.closed;
-}
-
--- the flight may know of more ticks
-pub other_flight : (c : Controller) (f : Flying) (h : Journal) → Keeps c h → IsFlown f h → Keeps (record c { flight = f }) h
-other_flight c f h k flown = record {
-  first = k.first;
-  opening = k.opening;
-  conducted = k.conducted;
-  machine = k.machine;
-  lines = k.lines;
-  input = k.input;
-  flight = flown;
-  owes_is = k.owes_is;
-  reset_is = k.reset_is;
-  going = k.going;
-  closed = k.closed;
+  limited = k.limited;
+  tries = k.tries;
 }

@@ -1,5 +1,5 @@
 -- It is looked how many ticks are done before a report is told, and the room is asked for.
-use Rattle.std.proofs.Common.{◌≡◌, ℕ, ◌+◌, ◌≤◌, ◌⊎◌, inl, inr, Bool, true, false, ◌||◌, cond, not, nat_eq, List, [], ◌∷◌, length, max, min, Some, sym, refl, ap, ◌∙◌, subst, arith, length-append}
+use Rattle.std.proofs.Common.{◌≡◌, ℕ, ◌+◌, ◌≤◌, inl, inr, Bool, true, false, ◌||◌, cond, not, nat_eq, List, [], ◌∷◌, length, Some, sym, refl, ap, ◌∙◌, subst, arith, length-append}
 use Rattle.std.specs.declared.option.Option.{Option}
 use Rattle.std.proofs.lemmas.Bool.Decides.{nat_tests}
 use Rattle.std.specs.List.{list_any}
@@ -7,7 +7,7 @@ use Rattle.code_table.specs.declared.flags.Exec.{Exec}
 use Rattle.feed_hold.specs.declared.Motion.{Motion as AnyMotion}
 use Rattle.feed_hold.specs.declared.Motion.TheVariants as motions
 use Rattle.feed_hold.specs.Motions.{after_word}
-use Rattle.feed_hold.specs.Motions.Call.{on_stopped, on_drained}
+use Rattle.feed_hold.specs.Motions.Call.{on_drained}
 use Rattle.flight.specs.Flights.{Flying, Flies}
 use Rattle.plan_passes.specs.Plans.{Planned, entered}
 use Rattle.plan_passes.specs.Blocks as blocks
@@ -18,22 +18,24 @@ use Rattle.planner_runs.specs.declared.Action.TheVariants.{Add, Take, Override, 
 use Rattle.planner_runs.specs.Runs.{Plans, block_of, fresh_plan, most_blocks, with_move, cleared}
 use Rattle.step_line.specs.declared.Piece.{Piece}
 use Rattle.step_line.specs.declared.Piece.TheVariants as pieces
-use Rattle.step_line.specs.Finishing.{ticks_together}
 use Rattle.board_rules.specs.Ports.{MayBeDone}
 use Rattle.board_rules.specs.Ports.PortStep.{found_free, loaded}
 use Rattle.board_rules.specs.Steps.{Journal, port_log, published_of, known_of, given_of, hand_of, plan_of, motion_of, actions_of, planned_of}
 use Rattle.board_rules.specs.Steps.Step.{at_port, became}
-use Rattle.board_rules.specs.Turns.{this_turn, has_blocks, is_going, is_halting, finds_free}
+use Rattle.board_rules.specs.Turns.{this_turn, has_blocks, is_going, finds_free}
 use Rattle.board_rules.specs.Conduct.{IsDrained, HasSlowedDown, IsStopped, ticks_given, MayObey}
 use Rattle.board_rules.proofs.Keeping.{run_is}
-use Rattle.board_rules.proofs.Motions.{motion_is}
+use Rattle.board_rules.proofs.Taking.{no_jog_to_start}
 use Rattle.controller.specs.declared.controller.Controller.{Controller}
 use Rattle.controller.specs.declared.machine.Machine.{Machine}
-use Rattle.controller.specs.Machines.{Runs, observed, settled}
+use Rattle.controller.specs.Machines.{Runs, StandsOrGoes, observed, settled}
 use Rattle.controller.specs.Boards.{Keeps}
 use Rattle.controller.specs.Reporting.{HasObserved, HasAskedRoom, IsReported, obeying}
-use Rattle.controller.proofs.Steps.{looked, stops, drained, obeys, other_flight, at_rest}
+use Rattle.controller.specs.Turning.{ComesOf}
+use Rattle.controller.proofs.Steps.{looked, drained, obeys, other_flight, at_rest, halts_by}
+use Rattle.controller.proofs.Settling.{CameOf, came_of, port_came, published_came, known_came}
 use Rattle.controller.proofs.Tries.{passes_load, passes_motion, passes_on}
+use Rattle.controller.proofs.Ends.{none_called}
 
 -- ---- what is observed
 
@@ -63,8 +65,12 @@ other_machine c m h k runs = record {
   flight = record { known = k.flight.known; found = k.flight.found; flies = k.flight.flies };
   owes_is = k.owes_is;
   reset_is = k.reset_is;
+  jogged_is = k.jogged_is;
+  cut_is = k.cut_is;
   going = k.going;
   closed = k.closed;
+  limited = k.limited;
+  tries = k.tries;
 }
 
 -- ---- the steps behind a look
@@ -75,52 +81,38 @@ observed_stays : (h : Journal) (done : ℕ) → (IsDrained (at_port (loaded done
 observed_stays h done idle stopped = record {
   passes = passes_load done h;
   load = refl;
-  left = refl;
-  hand = refl;
-  plan = refl;
-  given = refl;
+  stays = inl (record { left = refl; hand = refl; plan = refl });
   idle = idle;
   stopped = stopped;
   waiting = λ w. record { stands = w.stands; blocks = w.blocks };
   due = λ e. e;
-  halts = λ e. e;
 }
 
--- it is held
-observed_held : (h : Journal) (done : ℕ) → motion_of h ≡ motions.Holding → HasObserved h (became on_stopped motions.Held ∷ at_port (loaded done) ∷ h)
-observed_held h done slows =
-    let mid : Journal = at_port (loaded done) ∷ h in
-    record {
-      passes = passes_on h mid (became on_stopped motions.Held ∷ mid) (passes_load done h) (passes_motion on_stopped motions.Held mid refl (rw slows (omega arith)));
-      load = refl;
-      left = refl;
-      hand = refl;
-      plan = refl;
-      given = refl;
-      idle = λ d. refl;
-      stopped = λ s. absurd (let e = s.slowed.slows in cc);
-      waiting = λ w. absurd (let e = w.stands in cc);
-      due = λ e. absurd cc;
-      halts = λ e. ap is_halting slows;
-    }
-
--- the cycle is over
+-- the cycle is over, or the jogs are
 observed_over : (h : Journal) (done : ℕ) → has_blocks (plan_of h).blocks ≡ false → HasObserved h (became on_drained motions.Idle ∷ at_port (loaded done) ∷ h)
 observed_over h done none =
     let mid : Journal = at_port (loaded done) ∷ h in
     record {
       passes = passes_on h mid (became on_drained motions.Idle ∷ mid) (passes_load done h) (passes_motion on_drained motions.Idle mid refl (omega arith));
       load = refl;
-      left = refl;
-      hand = refl;
-      plan = refl;
-      given = refl;
+      stays = inl (record { left = refl; hand = refl; plan = refl });
       idle = λ d. refl;
       stopped = λ s. absurd (let e = s.slowed.slows in cc);
       waiting = λ w. absurd (let e = sym none ∙ w.blocks in cc);
       due = λ e. absurd cc;
-      halts = λ e. absurd cc;
     }
+
+-- something came of a machine that has stopped
+observed_came : (h next : Journal) → CameOf h next → HasObserved h next
+observed_came h next came = record {
+  passes = came.settled.passes;
+  load = came.load;
+  stays = came.settled.stays;
+  idle = λ d. came.idle;
+  stopped = came.settled.stopped;
+  waiting = came.settled.waiting;
+  due = λ e. absurd (let f = sym came.undue ∙ e in cc);
+}
 
 -- ---- a look
 
@@ -128,17 +120,6 @@ observed_over h done none =
 abbrev pub Observes : Controller → Machine → Flying → ℕ → Journal → Type 0
 Observes c m f done h =
     (next : Journal) × (port_log next ≡ loaded done ∷ port_log h) × Keeps (record c { machine = m; flight = f }) next × HasObserved h next × Flies f (published_of next) (known_of next)
-
--- the flight knows each tick that was found done
-pub learned : (c : Controller) (f : Flying) (done : ℕ) (h : Journal) → Keeps c h → MayBeDone done (port_log h)
-    → ((published : List Piece) (known : ℕ) → Flies c.flight published known → Flies f published (max known (min done (ticks_together published)))) → Flies f (published_of h) done
-learned c f done h k may learns =
-    let known = k.flight.known in
-    let a = k.flight.found in
-    let b = may.later in
-    let d = may.below in
-    let same : max known (min done (ticks_together (published_of h))) ≡ done = omega (arith, a, b, d) in
-    subst (λ n. Flies f (published_of h) n) same (learns (published_of h) known k.flight.flies)
 
 no_blocks : (bs : List Block) → has_blocks bs ≡ false → bs ≡ []
 no_blocks [] is = refl
@@ -150,83 +131,80 @@ true_is a b e = grind (arith, nat_tests, e)
 equal_tests : (a b : ℕ) → a ≡ b → nat_eq a b ≡ true
 equal_tests a b e = grind (arith, nat_tests, e)
 
-pub looks : (c : Controller) (m : Machine) (f : Flying) (done : ℕ) (h : Journal) → Keeps c h → MayBeDone done (port_log h) → Flies f (published_of h) done
+-- a machine that has not stopped
+pub looks : (c : Controller) (m : Machine) (f : Flying) (done : ℕ) (h : Journal) → Keeps c h → MayBeDone done (port_log h) → Flies f (published_of h) done → (IsStopped (at_port (loaded done) ∷ h) → ⊥)
     → Runs m (plan_of h) (observed (motion_of h) (plan_of h) (hand_of h) (nat_eq done (ticks_given h))) (hand_of h) (given_of h) → Observes c m f done h
-looks c m f done h k may flies runs = by_hand (hand_of h) refl
+looks c m f done h k may flies moves runs = by_hand (hand_of h) refl
   where
-    mid : Journal
-    mid = at_port (loaded done) ∷ h
-
     found : Keeps c (at_port (loaded done) ∷ h)
     found = looked c done h k may
 
     runs_as : (now : AnyMotion) → observed (motion_of h) (plan_of h) (hand_of h) (nat_eq done (ticks_given h)) ≡ now → Runs m (plan_of h) now (hand_of h) (given_of h)
     runs_as now is = subst (λ x. Runs m (plan_of h) x (hand_of h) (given_of h)) is runs
 
-    stays : observed (motion_of h) (plan_of h) (hand_of h) (nat_eq done (ticks_given h)) ≡ motion_of h → (IsDrained (at_port (loaded done) ∷ h) → is_going (motion_of h) ≡ false)
-        → (IsStopped (at_port (loaded done) ∷ h) → ⊥) → Observes c m f done h
-    stays is idle stopped = (
+    stays : observed (motion_of h) (plan_of h) (hand_of h) (nat_eq done (ticks_given h)) ≡ motion_of h → (IsDrained (at_port (loaded done) ∷ h) → is_going (motion_of h) ≡ false) → Observes c m f done h
+    stays is idle = (
       at_port (loaded done) ∷ h,
       refl,
       other_flight (record c { machine = m }) f (at_port (loaded done) ∷ h) (other_machine c m (at_port (loaded done) ∷ h) found (runs_as (motion_of h) is))
           (record { known = done; found = omega arith; flies = flies }),
-      observed_stays h done idle stopped,
+      observed_stays h done idle moves,
       flies,
     )
 
-    holds : hand_of h ≡ [] → nat_eq done (ticks_given h) ≡ true → motion_of h ≡ motions.Holding → (speed : Bool) → nat_eq (plan_of h).speed 0 ≡ speed → Observes c m f done h
-    holds none all slows true e =
-        let runs_held = runs_as motions.Held (observed_now (motion_of h) motions.Holding (plan_of h) (hand_of h) (nat_eq done (ticks_given h)) none all slows ∙ ap (λ t. cond t motions.Held motions.Holding) e) in
-        let slowed : HasSlowedDown (at_port (loaded done) ∷ h) = record { slows = slows; speed = true_is (plan_of h).speed 0 e; empty = none } in (
-          became on_stopped motions.Held ∷ at_port (loaded done) ∷ h,
-          refl,
-          other_flight (record c { machine = m }) f (became on_stopped motions.Held ∷ at_port (loaded done) ∷ h)
-              (stops c m (at_port (loaded done) ∷ h) found (record { slowed = slowed; done = true_is done (ticks_given h) all }) runs_held)
-              (record { known = done; found = omega arith; flies = flies }),
-          observed_held h done slows,
-          flies,
-        )
-    holds none all slows false e =
-        stays (observed_now (motion_of h) motions.Holding (plan_of h) (hand_of h) (nat_eq done (ticks_given h)) none all slows ∙ ap (λ t. cond t motions.Held motions.Holding) e ∙ sym slows)
-        (λ d. ap is_going slows) (λ s. absurd (let t = sym e ∙ equal_tests (plan_of h).speed 0 s.slowed.speed in cc))
+    -- the machine does not go
+    stands : (now : AnyMotion) → hand_of h ≡ [] → nat_eq done (ticks_given h) ≡ true → settled now (plan_of h) ≡ now → is_going now ≡ false → motion_of h ≡ now → Observes c m f done h
+    stands now none all rests idle e =
+        stays (observed_now (motion_of h) now (plan_of h) (hand_of h) (nat_eq done (ticks_given h)) none all e ∙ rests ∙ sym e) (λ d. ap is_going e ∙ idle)
 
-    running : hand_of h ≡ [] → nat_eq done (ticks_given h) ≡ true → motion_of h ≡ motions.Run → (some : Bool) → has_blocks (plan_of h).blocks ≡ some → Observes c m f done h
-    running none all runs_on false e =
-        let runs_idle = runs_as motions.Idle (observed_now (motion_of h) motions.Run (plan_of h) (hand_of h) (nat_eq done (ticks_given h)) none all runs_on ∙ ap (λ t. cond t motions.Run motions.Idle) e) in
+    -- it goes: where no block is left, that is over
+    going : (now : AnyMotion) → StandsOrGoes (motion_of h) → settled now (plan_of h) ≡ cond (has_blocks (plan_of h).blocks) now motions.Idle
+        → hand_of h ≡ [] → nat_eq done (ticks_given h) ≡ true → motion_of h ≡ now → (some : Bool) → has_blocks (plan_of h).blocks ≡ some → Observes c m f done h
+    going now goes rests none all is false e =
+        let runs_idle = runs_as motions.Idle (observed_now (motion_of h) now (plan_of h) (hand_of h) (nat_eq done (ticks_given h)) none all is ∙ rests ∙ ap (λ t. cond t now motions.Idle) e) in
         let over : IsDrained (at_port (loaded done) ∷ h) = record { plan = at_rest c h k (no_blocks (plan_of h).blocks e); hand = none; done = true_is done (ticks_given h) all } in (
           became on_drained motions.Idle ∷ at_port (loaded done) ∷ h,
           refl,
-          other_flight (record c { machine = m }) f (became on_drained motions.Idle ∷ at_port (loaded done) ∷ h) (drained c m (at_port (loaded done) ∷ h) found (inr runs_on) over runs_idle)
+          other_flight (record c { machine = m }) f (became on_drained motions.Idle ∷ at_port (loaded done) ∷ h) (drained c m (at_port (loaded done) ∷ h) found goes over runs_idle)
               (record { known = done; found = omega arith; flies = flies }),
           observed_over h done e,
           flies,
         )
-    running none all runs_on true e =
-        stays (observed_now (motion_of h) motions.Run (plan_of h) (hand_of h) (nat_eq done (ticks_given h)) none all runs_on ∙ ap (λ t. cond t motions.Run motions.Idle) e ∙ sym runs_on)
-        (λ d. absurd (let t = sym e ∙ ap has_blocks d.plan.blocks in cc)) (λ s. absurd (let t = sym runs_on ∙ s.slowed.slows in cc))
+    going now goes rests none all is true e =
+        stays (observed_now (motion_of h) now (plan_of h) (hand_of h) (nat_eq done (ticks_given h)) none all is ∙ rests ∙ ap (λ t. cond t now motions.Idle) e ∙ sym is)
+        (λ d. absurd (let t = sym e ∙ ap has_blocks d.plan.blocks in cc))
 
-    by_motion : hand_of h ≡ [] → nat_eq done (ticks_given h) ≡ true
-        → (motion_of h ≡ motions.Idle) ⊎ ((motion_of h ≡ motions.Run) ⊎ ((motion_of h ≡ motions.Holding) ⊎ (motion_of h ≡ motions.Held))) → Observes c m f done h
-    by_motion none all (inl e) =
-        stays (observed_now (motion_of h) motions.Idle (plan_of h) (hand_of h) (nat_eq done (ticks_given h)) none all e ∙ sym e) (λ d. ap is_going e)
-        (λ s. absurd (let t = sym e ∙ s.slowed.slows in cc))
-    by_motion none all (inr (inl e)) = running none all e (has_blocks (plan_of h).blocks) refl
-    by_motion none all (inr (inr (inl e))) = holds none all e (nat_eq (plan_of h).speed 0) refl
-    by_motion none all (inr (inr (inr e))) =
-        stays (observed_now (motion_of h) motions.Held (plan_of h) (hand_of h) (nat_eq done (ticks_given h)) none all e ∙ sym e) (λ d. ap is_going e)
-        (λ s. absurd (let t = sym e ∙ s.slowed.slows in cc))
+    by_motion : hand_of h ≡ [] → nat_eq done (ticks_given h) ≡ true → (now : AnyMotion) → motion_of h ≡ now → Observes c m f done h
+    by_motion none all motions.Idle e = stands motions.Idle none all refl refl e
+    by_motion none all motions.Run e = going motions.Run (inr (inl e)) refl none all e (has_blocks (plan_of h).blocks) refl
+    by_motion none all motions.Holding e = stands motions.Holding none all refl refl e
+    by_motion none all motions.Held e = stands motions.Held none all refl refl e
+    by_motion none all motions.Jog e = going motions.Jog (inr (inr e)) refl none all e (has_blocks (plan_of h).blocks) refl
+    by_motion none all motions.Cancelling e = stands motions.Cancelling none all refl refl e
+    by_motion none all motions.Stopping e = stands motions.Stopping none all refl refl e
+    by_motion none all motions.Alarm e = stands motions.Alarm none all refl refl e
 
     by_done : hand_of h ≡ [] → (all : Bool) → nat_eq done (ticks_given h) ≡ all → Observes c m f done h
-    by_done none true e = by_motion none e (motion_is k.first h k.conducted)
+    by_done none true e = by_motion none e (motion_of h) refl
     by_done none false e =
         stays (observed_later (motion_of h) (plan_of h) (hand_of h) (nat_eq done (ticks_given h)) e)
-        (λ d. absurd (let t = sym e ∙ equal_tests done (ticks_given h) d.done in cc)) (λ s. absurd (let t = sym e ∙ equal_tests done (ticks_given h) s.done in cc))
+        (λ d. absurd (let t = sym e ∙ equal_tests done (ticks_given h) d.done in cc))
 
     by_hand : (ps : List Piece) → hand_of h ≡ ps → Observes c m f done h
     by_hand [] e = by_done e (nat_eq done (ticks_given h)) refl
     by_hand (p ∷ ps) e =
         let some : hand_of h ≡ [] → ⊥ = (λ none. let t = sym e ∙ none in absurd cc) in
-        stays (observed_kept (motion_of h) (plan_of h) (hand_of h) (nat_eq done (ticks_given h)) some) (λ d. absurd (some d.hand)) (λ s. absurd (some s.slowed.empty))
+        stays (observed_kept (motion_of h) (plan_of h) (hand_of h) (nat_eq done (ticks_given h)) some) (λ d. absurd (some d.hand))
+
+-- a machine that has stopped
+pub looks_stopped : (b : Controller) (f : Flying) (d : Controller) (done : ℕ) (h next : Journal) → Keeps b h → HasSlowedDown h → d.flight ≡ f → Flies f (published_of h) done → ComesOf (at_port (loaded done) ∷ h) next → Keeps d next
+    → (port_log next ≡ loaded done ∷ port_log h) × HasObserved h next × Flies d.flight (published_of next) (known_of next)
+looks_stopped b f d done h next k slowed same flies comes keeps =
+    let mid : Journal = at_port (loaded done) ∷ h in (
+      port_came mid next comes,
+      observed_came h next (came_of k.first h next done k.conducted slowed comes),
+      rw (same, published_came mid next comes, known_came mid next comes) flies,
+    )
 
 -- ---- the room
 
@@ -279,17 +257,19 @@ told_or_lacks : (told : Bool) (A : Type 0) → (told ≡ false → A) → not to
 told_or_lacks true A f e = absurd cc
 told_or_lacks false A f e = f refl
 
-pub may_obey : (told : Bool) (word : Exec) (h : Journal) → IsReported told (Some word) h → MayObey word (has_blocks (plan_of h).blocks) h
-may_obey told word h r = record {
+pub may_obey : (c : Controller) (told : Bool) (word : Exec) (h : Journal) → Keeps c h → IsReported told (Some word) h → MayObey word (has_blocks (plan_of h).blocks) h
+may_obey c told word h k r = record {
   next = r.words;
   reported = λ owed. told_or_lacks told _ r.lacks (sym r.owed ∙ owed);
   blocks = refl;
   looked = λ s. r.load;
   stopped = r.stopped;
+  jog = no_jog_to_start k.first h k.conducted (none_called h r.unpolled r.none_waits) r.adds;
+  halts = halts_by c h k;
 }
 
 pub obeys_waiting : (c : Controller) (m : Machine) (waiting : Option Exec) (word : Exec) (told : Bool) (h : Journal) → waiting ≡ Some word → Keeps c h → IsReported told waiting h
     → Runs m (plan_of h) (after_word word (has_blocks (plan_of h).blocks) (motion_of h)) (hand_of h) (given_of h) → Keeps (record c { machine = m }) (obeying waiting h)
 obeys_waiting c m waiting word told h is k reported runs =
     let r = subst (λ (w : Option Exec). IsReported told w h) is reported in
-    subst (λ (w : Option Exec). Keeps (record c { machine = m }) (obeying w h)) (sym is) (obeys c m word h k (may_obey told word h r) runs)
+    subst (λ (w : Option Exec). Keeps (record c { machine = m }) (obeying w h)) (sym is) (obeys c m word h k (may_obey c told word h k r) runs)

@@ -1,5 +1,5 @@
 -- What a step adds to a turn: what nothing passes with, and what was tried to be published.
-use Rattle.std.proofs.Common.{◌≡◌, ℕ, ◌+◌, ◌≤◌, inl, inr, Bool, List, [], ◌∷◌, ◌++◌, ◌||◌, cond, length, drop, true, false, refl, sym, ap, ◌∙◌, subst, arith, append_assoc, nat_eq}
+use Rattle.std.proofs.Common.{◌≡◌, ℕ, ◌+◌, ◌≤◌, inl, inr, Bool, List, [], ◌∷◌, ◌++◌, ◌||◌, ◌&&◌, cond, length, drop, true, false, refl, sym, ap, ◌∙◌, subst, arith, append_assoc, nat_eq}
 use Rattle.std.specs.List.{list_any, count_by}
 use Rattle.std.proofs.lemmas.List.Sums.{sum_by-cons}
 use Rattle.std.proofs.lemmas.Bool.Decides.{nat_tests}
@@ -9,7 +9,7 @@ use Rattle.feed_hold.specs.Motions.{Call}
 use Rattle.feed_hold.specs.Motions.Call.{on_exec, on_start, on_limit, on_pause, on_stopped, on_drained}
 use Rattle.code_table.specs.declared.flags.Exec.{Exec}
 use Rattle.run_rules.specs.Work.{Task, pauses}
-use Rattle.run_rules.specs.Work.Task.{ask, tell, pause, normal, finish}
+use Rattle.run_rules.specs.Work.Task.{ask, tell, pause, normal, finish, halt}
 use Rattle.step_line.specs.declared.Piece.{Piece}
 use Rattle.step_line.specs.declared.Piece.TheVariants as pieces
 use Rattle.step_line.specs.declared.Segment.{Segment}
@@ -21,8 +21,10 @@ use Rattle.segment_prep.specs.declared.Mode.{Mode}
 use Rattle.planner_runs.specs.declared.Action.{Action}
 use Rattle.planner_runs.specs.declared.Action.TheVariants.{Add, Take, Override, Mark, Rest, Clear, Reset}
 use Rattle.board_rules.specs.Ports.PortStep.{published, no_piece_room, loaded}
-use Rattle.board_rules.specs.Steps.{Step, Journal, left_of, left_by, hand_of, plan_of, motion_of}
-use Rattle.board_rules.specs.Steps.Step.{at_port, did, made_end, evened, became}
+use Rattle.board_rules.specs.Steps.{Step, Journal, left_of, left_by, without_asks, hand_of, plan_of, motion_of}
+use Rattle.board_rules.specs.Steps.Step.{at_port, did, made_end, evened, became, cut}
+use Rattle.board_rules.specs.Cuts.{has_cut, is_cancelling}
+use Rattle.board_rules.proofs.Dropping.{pauses_kept}
 use Rattle.board_rules.specs.Turns.{this_turn, publishing, moving, obeys, unobeyed_by, unobeyed_of, owes_report, takes_changes, replans, is_full, has_segment, is_due, is_counted, tries_of}
 use Rattle.units.specs.Truths.{one_if}
 use Rattle.controller.specs.Boards.{changes_left}
@@ -77,6 +79,7 @@ fewer_pauses (tell r ∷ ts) = no_more (pauses ts)
 fewer_pauses (pause ∷ ts) = omega arith
 fewer_pauses (normal ∷ ts) = no_more (pauses ts)
 fewer_pauses (finish ∷ ts) = no_more (pauses ts)
+fewer_pauses (halt ∷ ts) = no_more (pauses ts)
 
 pub pauses_by : (a : Action) (ts : List Task) → pauses (left_by a ts) ≤ pauses ts
 pauses_by (Add m) ts = fewer_pauses ts
@@ -105,6 +108,7 @@ passes_did a ps h same = record {
   waits = refl;
   tries = refl;
   missed = refl;
+  jogged = refl;
   raw = refl;
   whole = refl;
   closed = refl;
@@ -114,7 +118,7 @@ passes_did a ps h same = record {
   words = refl;
   worked = worked_behind (did a ps) h (did a ps ∷ h) refl (record { no_changes = refl; none_planned = same }) refl refl;
   pauses = pauses_by a (left_of h);
-  changes = no_more (changes_left (motion_of h));
+  changes = no_more (changes_left (motion_of h) (has_cut h));
   less = λ some none. some (ap (left_by a) none ∙ none_left a);
 }
 
@@ -132,6 +136,7 @@ passes_end h = record {
   waits = refl;
   tries = refl;
   missed = refl;
+  jogged = refl;
   raw = refl;
   whole = refl;
   closed = refl;
@@ -141,7 +146,7 @@ passes_end h = record {
   words = refl;
   worked = worked_behind made_end h (made_end ∷ h) refl (record { no_changes = refl; none_planned = refl }) refl refl;
   pauses = fewer_pauses (left_of h);
-  changes = no_more (changes_left (motion_of h));
+  changes = no_more (changes_left (motion_of h) (has_cut h));
   less = λ some none. some (ap (λ (ts : List Task). drop 1 ts) none);
 }
 
@@ -159,6 +164,7 @@ passes_even h = record {
   waits = refl;
   tries = refl;
   missed = refl;
+  jogged = refl;
   raw = refl;
   whole = refl;
   closed = refl;
@@ -168,7 +174,7 @@ passes_even h = record {
   words = refl;
   worked = worked_behind evened h (evened ∷ h) refl (record { no_changes = refl; none_planned = refl }) refl refl;
   pauses = fewer_pauses (left_of h);
-  changes = no_more (changes_left (motion_of h));
+  changes = no_more (changes_left (motion_of h) (has_cut h));
   less = λ some none. some (ap (λ (ts : List Task). drop 1 ts) none);
 }
 
@@ -182,7 +188,7 @@ words_stay on_stopped now words by_itself = refl
 words_stay on_drained now words by_itself = refl
 
 -- the motion starts, or is over
-pub passes_motion : (call : Call) (now : Motion) (h : Journal) → obeys (became call now) ≡ false → changes_left now ≤ changes_left (motion_of h) → PassesNothing h (became call now ∷ h)
+pub passes_motion : (call : Call) (now : Motion) (h : Journal) → obeys (became call now) ≡ false → changes_left now (is_cancelling now && has_cut h) ≤ changes_left (motion_of h) (has_cut h) → PassesNothing h (became call now ∷ h)
 passes_motion call now h by_itself fewer = record {
   steps = became call now ∷ [];
   are = refl;
@@ -195,6 +201,7 @@ passes_motion call now h by_itself fewer = record {
   waits = refl;
   tries = refl;
   missed = refl;
+  jogged = refl;
   raw = refl;
   whole = refl;
   closed = refl;
@@ -206,6 +213,46 @@ passes_motion call now h by_itself fewer = record {
   pauses = no_more (pauses (left_of h));
   changes = fewer;
   less = λ some. some;
+}
+
+-- a cut is a change less
+cut_lowers : (m : Motion) (was : Bool) → changes_left m true ≤ changes_left m was
+cut_lowers motions.Cancelling true = omega arith
+cut_lowers motions.Cancelling false = omega arith
+cut_lowers motions.Idle was = omega arith
+cut_lowers motions.Run was = omega arith
+cut_lowers motions.Holding was = omega arith
+cut_lowers motions.Held was = omega arith
+cut_lowers motions.Jog was = omega arith
+cut_lowers motions.Stopping was = omega arith
+cut_lowers motions.Alarm was = omega arith
+
+-- jogs are cut
+pub passes_cut : (k : ℕ) (h : Journal) → PassesNothing h (cut k ∷ h)
+passes_cut k h = record {
+  steps = cut k ∷ [];
+  are = refl;
+  still = refl;
+  quiet = publishes_none (cut k) (this_turn h) refl;
+  polled = refl;
+  room = refl;
+  moves = λ e. e;
+  loaded = λ e. e;
+  waits = refl;
+  tries = refl;
+  missed = refl;
+  jogged = refl;
+  raw = refl;
+  whole = refl;
+  closed = refl;
+  flags = refl;
+  replies = refl;
+  owed = refl;
+  words = refl;
+  worked = worked_behind (cut k) h (cut k ∷ h) refl (record { no_changes = refl; none_planned = refl }) refl refl;
+  pauses = (let e = pauses_kept (left_of h) in omega (arith, e));
+  changes = cut_lowers (motion_of h) (has_cut h);
+  less = λ some none. some (ap without_asks none);
 }
 
 -- it is looked how many ticks are done
@@ -222,6 +269,7 @@ passes_load done h = record {
   waits = refl;
   tries = refl;
   missed = refl;
+  jogged = refl;
   raw = refl;
   whole = refl;
   closed = refl;
@@ -231,7 +279,7 @@ passes_load done h = record {
   words = refl;
   worked = worked_behind (at_port (loaded done)) h (at_port (loaded done) ∷ h) refl (record { no_changes = refl; none_planned = refl }) refl refl;
   pauses = no_more (pauses (left_of h));
-  changes = no_more (changes_left (motion_of h));
+  changes = no_more (changes_left (motion_of h) (has_cut h));
   less = λ some. some;
 }
 
@@ -250,6 +298,7 @@ passes_none h = record {
   waits = refl;
   tries = refl;
   missed = refl;
+  jogged = refl;
   raw = refl;
   whole = refl;
   closed = refl;
@@ -259,7 +308,7 @@ passes_none h = record {
   words = refl;
   worked = λ w. w;
   pauses = no_more (pauses (left_of h));
-  changes = no_more (changes_left (motion_of h));
+  changes = no_more (changes_left (motion_of h) (has_cut h));
   less = λ some. some;
 }
 
@@ -282,6 +331,7 @@ passes_on h mid next a b = record {
   waits = b.waits ∙ a.waits;
   tries = b.tries ∙ a.tries;
   missed = b.missed ∙ a.missed;
+  jogged = b.jogged ∙ a.jogged;
   raw = b.raw ∙ a.raw;
   whole = b.whole ∙ a.whole;
   closed = b.closed ∙ a.closed;
@@ -304,7 +354,7 @@ alone_did a ps h same = record { passes = passes_did a ps h same; port = refl }
 pub alone_even : (h : Journal) → DidAlone h (evened ∷ h)
 alone_even h = record { passes = passes_even h; port = refl }
 
-pub alone_motion : (call : Call) (now : Motion) (h : Journal) → obeys (became call now) ≡ false → changes_left now ≤ changes_left (motion_of h) → DidAlone h (became call now ∷ h)
+pub alone_motion : (call : Call) (now : Motion) (h : Journal) → obeys (became call now) ≡ false → changes_left now (is_cancelling now && has_cut h) ≤ changes_left (motion_of h) (has_cut h) → DidAlone h (became call now ∷ h)
 alone_motion call now h by_itself fewer = record { passes = passes_motion call now h by_itself fewer; port = refl }
 
 -- ---- a piece is tried to be published
@@ -331,11 +381,13 @@ tried_sent p h one = record {
   sent = λ e. one;
   waits = refl;
   missed = refl;
+  jogged = refl;
   first = counts_more (is_counted h) (tries_of h);
   later = λ none. counts_same (is_counted h) (tries_of h) none;
   left = refl;
   whole = refl;
   motion = refl;
+  cuts = refl;
   closed = refl;
   flags = refl;
   replies = refl;
@@ -359,11 +411,13 @@ tried_kept done h = record {
   sent = λ e. absurd cc;
   waits = refl;
   missed = refl;
+  jogged = refl;
   first = counts_more (is_counted h) (tries_of h);
   later = λ none. counts_same (is_counted h) (tries_of h) none;
   left = refl;
   whole = refl;
   motion = refl;
+  cuts = refl;
   closed = refl;
   flags = refl;
   replies = refl;
@@ -389,11 +443,13 @@ looked_before sent done h next t =
       sent = t.sent;
       waits = t.waits;
       missed = t.missed;
+      jogged = t.jogged;
       first = t.first;
       later = t.later;
       left = t.left;
       whole = t.whole;
       motion = t.motion;
+      cuts = t.cuts;
       closed = t.closed;
       flags = t.flags;
       replies = t.replies;
@@ -447,11 +503,13 @@ tried_behind mode s sent h next due t = record {
   sent = t.sent;
   waits = t.waits;
   missed = t.missed;
+  jogged = t.jogged;
   first = t.first;
   later = t.later;
   left = t.left;
   whole = t.whole;
   motion = t.motion;
+  cuts = t.cuts;
   closed = t.closed;
   flags = t.flags;
   replies = t.replies;

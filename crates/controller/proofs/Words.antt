@@ -1,13 +1,10 @@
 -- A turn takes a word of flags, and does what that asks for.
-use Rattle.std.proofs.Common.{◌≡◌, ◌+◌, ◌≤◌, ◌<◌, Bool, true, false, ◌||◌, List, [], ◌∷◌, ◌++◌, cond, length, nat_eq, drop, Some, refl, sym, ap, ◌∙◌, subst, arith, inr}
+use Rattle.std.proofs.Common.{◌≡◌, ◌+◌, ◌≤◌, ◌<◌, Bool, true, false, List, [], ◌∷◌, ◌++◌, cond, length, nat_eq, drop, Some, refl, sym, ap, ◌∙◌, subst, arith, inr}
 use Rattle.std.specs.List.{list_any, count_by}
 use Rattle.code_table.specs.declared.flags.Exec.{Exec}
 use Rattle.code_table.specs.declared.flags.Ovr.{Ovr}
-use Rattle.feed_hold.specs.declared.Motion.{Motion as AnyMotion}
-use Rattle.feed_hold.specs.declared.Motion.TheVariants as motions
 use Rattle.overrides.specs.Percents.{taken}
 use Rattle.outside.specs.declared.Turn.TheVariants.{Did}
-use Rattle.plan_passes.specs.Plans.{Planned}
 use Rattle.planner_runs.specs.declared.Action.TheVariants.{Override}
 use Rattle.status_report.specs.declared.Reply.{Reply}
 use Rattle.step_line.specs.Asking.Asked.{a_move}
@@ -18,7 +15,8 @@ use Rattle.board_rules.specs.Ports.{has_changes}
 use Rattle.board_rules.specs.Ports.PortStep.{took_exec, took_ovr}
 use Rattle.board_rules.specs.Steps.{Step, Journal, left_of, whole_of, closed_tells, plan_of, motion_of}
 use Rattle.board_rules.specs.Steps.Step.{at_port, did}
-use Rattle.board_rules.specs.Turns.{this_turn, publishing, found_none, unobeyed_of, owes_report, takes_changes, replans, changes_taken, starts_cycle, has_blocks, is_full, awaits_motion, tries_of}
+use Rattle.board_rules.specs.Cuts.{has_cut}
+use Rattle.board_rules.specs.Turns.{this_turn, publishing, found_none, unobeyed_of, owes_report, takes_changes, replans, changes_taken, starts_cycle, has_blocks, has_jogged, has_jog_to_start, is_full, tries_of}
 use Rattle.board_rules.specs.Conduct.{IsNextTask, AreWaiting, MayObey}
 use Rattle.board_rules.proofs.Waiting.{adds}
 use Rattle.units.specs.Truths.{one_if}
@@ -29,9 +27,11 @@ use Rattle.controller.specs.declared.controller.Flags.TheVariants as words
 use Rattle.controller.specs.Boards.{Keeps, Rounds, NoneWaits, HasChanges, TakesFlags, GoingBetween, GoingFits, takes_no_word, has_published, words_left, changes_left, number_of}
 use Rattle.controller.specs.Turning.{HasSettled, AreWorked, BoardWorked, asked, flags_behind, obeyed, replanned}
 use Rattle.controller.proofs.Tries.{counts_none, counts_one}
-use Rattle.controller.proofs.Ends.{none_called, rounds_still, takes_none, no_word_left}
-use Rattle.controller.proofs.Settling.{replanned_some, replanned_none}
-use Rattle.controller.proofs.Halting.{waited_before, ends_obeyed, ends_taken, obeying, obeying_are, taken as taken_word, free_now, asked_now}
+use Rattle.controller.proofs.Numbers.{few_changes}
+use Rattle.controller.proofs.Steps.{halts_by}
+use Rattle.controller.proofs.Ends.{none_called, same_calls, rounds_still, takes_none, no_word_left}
+use Rattle.controller.proofs.Settling.{replanned_some, replanned_none, none_waits_so, none_fits_so}
+use Rattle.controller.proofs.Halting.{HaltsInTime, waited_before, ends_obeyed, ends_taken, obeying, obeying_are, taken as taken_word, free_now, asked_now}
 
 -- ---- between two turns
 
@@ -69,10 +69,12 @@ record TakesChanges (h next : Journal) : Type 0 where
   left : left_of next ≡ left_of h
   closed : closed_tells next ≡ closed_tells h
   motion : motion_of next ≡ motion_of h
+  cuts : has_cut next ≡ has_cut h
   waiting : AreWaiting next → AreWaiting h
   full : is_full (plan_of next) ≡ is_full (plan_of h)
   taken : changes_taken next ≡ true
   words : unobeyed_of next ≡ unobeyed_of h
+  jogged : has_jogged next ≡ has_jogged h
 
 none_changed : (word : Ovr) (h : Journal) → has_changes word ≡ false → TakesChanges h (at_port (took_ovr word) ∷ h)
 none_changed word h none = record {
@@ -89,10 +91,12 @@ none_changed word h none = record {
   left = refl;
   closed = refl;
   motion = refl;
+  cuts = refl;
   waiting = λ w. record { stands = w.stands; blocks = w.blocks };
   full = refl;
   taken = refl;
   words = refl;
+  jogged = refl;
 }
 
 some_changed : (word : Ovr) (h : Journal) → has_changes word ≡ true → TakesChanges h (did (Override (taken (plan_of h).overrides word)) [] ∷ (at_port (took_ovr word) ∷ h))
@@ -115,10 +119,12 @@ some_changed word h some =
       left = refl;
       closed = refl;
       motion = refl;
+      cuts = refl;
       waiting = λ w. record { stands = w.stands; blocks = w.blocks };
       full = refl;
       taken = refl;
       words = refl;
+      jogged = refl;
     }
 
 takes_changes_of : (word : Ovr) (h : Journal) → TakesChanges h (replanned word h)
@@ -130,7 +136,7 @@ takes_changes_of word h = by_word (has_changes word) refl
 
 none_waits_changed : (h next : Journal) → TakesChanges h next → NoneWaits h → NoneWaits next
 none_waits_changed h next t none w =
-    ap (λ full. full || awaits_motion (left_of next)) t.full ∙ ap (λ (ts : List Task). is_full (plan_of h) || awaits_motion ts) t.left ∙ none (t.waiting w)
+    same_calls (is_full (plan_of next)) (is_full (plan_of h)) (left_of next) (left_of h) (has_jogged next) (has_jogged h) t.full t.left t.jogged ∙ none (t.waiting w)
 
 changes_worked : (was board : Controller) (h next : Journal) → GoingFits was h → GoingBetween h → was.flags ≡ words.Both → TakesChanges h next → Keeps board next
     → board.beat ≡ was.beat → board.flags ≡ words.Requests → BoardWorked Did was.flags board h next
@@ -149,6 +155,7 @@ changes_worked was board h next f between both t keeps same_beat flag = record {
     tries = omega (arith, few);
     obeyed = (t.worked (worked_between h between none_left)).obeyed;
     changed = (t.worked (worked_between h between none_left)).changed;
+    halts = halts_by board next keeps;
   };
   moves = λ e. inr falls;
 }
@@ -170,9 +177,10 @@ changes_worked was board h next f between both t keeps same_beat flag = record {
         let two = ap words_left both in
         let one = ap words_left flag in
         let p = ap (λ (ts : List Task). pauses ts) t.left in
-        let m = ap changes_left t.motion in
+        let m = ap (λ x. changes_left x (has_cut next)) t.motion in
+        let c = ap (changes_left (motion_of h)) t.cuts in
         let e = ap (λ (rs : List Reply). one_if (nat_eq (length rs) 0)) t.closed in
-        omega (arith, two, one, p, m, e)
+        omega (arith, two, one, p, m, c, e)
 
 -- the word of changes was taken
 pub took_changes : (was board : Controller) (word : Ovr) (h : Journal) → GoingFits was h → GoingBetween h → was.flags ≡ words.Both → Keeps board (replanned word h)
@@ -183,17 +191,7 @@ took_changes was board word h f between both keeps same_beat flag = changes_work
 
 none_waits_settled : (h next : Journal) → HasSettled h next → NoneWaits h → NoneWaits next
 none_waits_settled h next s none w =
-    ap (λ (p : Planned). is_full p || awaits_motion (left_of next)) s.plan ∙ ap (λ (ts : List Task). is_full (plan_of h) || awaits_motion ts) s.left ∙ none (s.waiting w)
-
-two_at_most : (m : AnyMotion) → changes_left m ≤ 2
-two_at_most motions.Idle = omega arith
-two_at_most motions.Run = omega arith
-two_at_most motions.Holding = omega arith
-two_at_most motions.Held = omega arith
-two_at_most motions.Jog = omega arith
-two_at_most motions.Cancelling = omega arith
-two_at_most motions.Stopping = omega arith
-two_at_most motions.Alarm = omega arith
+    none_waits_so h next s.passes.jogged s.stays none (s.waiting w) w
 
 -- what the word of requests is taken behind
 record TakesRequests (was board : Controller) (h mid : Journal) : Type 0 where
@@ -219,8 +217,7 @@ none_left_there was board h mid t = t.settled.passes.words ∙ (has_changes_at w
 
 may_add_there : (was board : Controller) (h mid : Journal) → TakesRequests was board h mid → (m : PlannedMove) → IsNextTask (ask (a_move m)) mid → is_full (plan_of mid) ≡ true
 may_add_there was board h mid t m move =
-    ap (λ (p : Planned). is_full p) t.settled.plan
-    ∙ adds t.fits.keeps.first h m t.fits.keeps.conducted t.between (subst (λ (ts : List Task). ts ≡ ask (a_move m) ∷ drop 1 ts) t.settled.left move)
+    none_fits_so h mid t.settled.stays (λ n next. adds t.fits.keeps.first h n t.fits.keeps.conducted t.between next) m move
 
 none_there : (was board : Controller) (h mid : Journal) → TakesRequests was board h mid → NoneWaits mid
 none_there was board h mid t = none_waits_settled h mid t.settled t.fits.rounds.none_waits
@@ -241,7 +238,7 @@ took_obeyed was board word h mid t keeps unowed no_word = record {
   steps = obeying word mid s.passes.steps;
   are = obeying_are word h mid s.passes.steps s.passes.are;
   may = ends_obeyed word mid (s.passes.quiet ∙ count_between h publishing t.between) none_left (s.passes.worked (worked_between h t.between (has_changes_at was h t.fits t.flag).obeyed))
-      (may_add_there was board h mid t) (none_called_there was board h mid t) (omega (arith, few));
+      (may_add_there was board h mid t) (none_called_there was board h mid t) (omega (arith, few)) (halts_by board (obeyed word mid) keeps);
   moves = λ e. inr falls;
 }
   where
@@ -261,8 +258,8 @@ took_obeyed was board word h mid t keeps unowed no_word = record {
     falls =
         let one = ap words_left t.flag in
         let zero = ap words_left no_word in
-        let p = ap (λ (ts : List Task). pauses ts) s.left in
-        let two = two_at_most (motion_of (obeyed word mid)) in
+        let p = s.passes.pauses in
+        let two = few_changes (motion_of (obeyed word mid)) (has_cut (obeyed word mid)) in
         let e = ap (λ (rs : List Reply). one_if (nat_eq (length rs) 0)) s.passes.closed in
         omega (arith, one, zero, p, two, e)
 
@@ -279,7 +276,7 @@ took_asked was board word h mid t keeps owed asks = record {
   steps = at_port (took_exec word) ∷ s.passes.steps;
   are = ap (λ (j : Journal). at_port (took_exec word) ∷ j) s.passes.are;
   may = ends_taken word mid owed (s.passes.quiet ∙ count_between h publishing t.between) (s.passes.worked (worked_between h t.between (has_changes_at was h t.fits t.flag).obeyed))
-      (may_add_there was board h mid t) (none_called_there was board h mid t) (omega (arith, few));
+      (may_add_there was board h mid t) (none_called_there was board h mid t) (omega (arith, few)) (halts_by board (taken_word word mid) keeps);
   moves = λ e. inr falls;
 }
   where
@@ -296,7 +293,7 @@ took_asked was board word h mid t keeps owed asks = record {
     falls =
         let one = ap words_left t.flag in
         let zero = ap words_left asks in
-        let p = ap (λ (ts : List Task). pauses ts) s.left in
+        let p = s.passes.pauses in
         let m = s.passes.changes in
         let e = ap (λ (rs : List Reply). one_if (nat_eq (length rs) 0)) s.passes.closed in
         omega (arith, one, zero, p, m, e)
@@ -336,11 +333,14 @@ asked_owes word h = by_owed (owes_report (taken_word word h)) refl
     by_owed false e = ap owes_report (asked_free word h e)
 
 -- the word that was taken may be obeyed at once
-pub obeys_at_once : (word : Exec) (h mid : Journal) → HasSettled h mid → unobeyed_of mid ≡ [] → owes_report (taken_word word mid) ≡ false → MayObey word (has_blocks (plan_of mid).blocks) (taken_word word mid)
-obeys_at_once word h mid s none unowed = record {
+pub obeys_at_once : (word : Exec) (h mid : Journal) → HaltsInTime mid → HasSettled h mid → has_jog_to_start h ≡ false → unobeyed_of mid ≡ [] → owes_report (taken_word word mid) ≡ false
+    → MayObey word (has_blocks (plan_of mid).blocks) (taken_word word mid)
+obeys_at_once word h mid halts s no_jog none unowed = record {
   next = ap (λ (ws : List Exec). ws ++ word ∷ []) none;
   reported = λ e. absurd (let f = sym e ∙ unowed in cc);
   blocks = refl;
   looked = λ x. s.looked (record { slows = x.slows; speed = x.speed; empty = x.empty });
   stopped = λ x. s.stopped (record { slowed = record { slows = x.slowed.slows; speed = x.slowed.speed; empty = x.slowed.empty }; done = x.done });
+  jog = s.jogs no_jog;
+  halts = halts;
 }

@@ -1,5 +1,5 @@
 -- What the fields of a board say of what it has done.
-use Rattle.std.specs.Prelude.{◌≡◌, ◌⊎◌, ℕ, ◌+◌, ◌*◌, ◌≤◌, ◌<◌, Bool, true, false, ◌||◌, nat_eq, List, [], ◌∷◌, ◌++◌, length}
+use Rattle.std.specs.Prelude.{◌≡◌, ◌⊎◌, ℕ, ◌+◌, ◌*◌, ◌≤◌, ◌<◌, Bool, true, false, ◌||◌, cond, nat_eq, List, [], ◌∷◌, ◌++◌, length}
 use Rattle.std.specs.List.{list_any}
 use Rattle.outside.specs.declared.Turn.{Turn}
 use Rattle.outside.specs.declared.Turn.TheVariants.{Did}
@@ -7,7 +7,7 @@ use Rattle.run_rules.specs.declared.State.{State}
 use Rattle.run_rules.specs.States.{IsOpening}
 use Rattle.run_rules.specs.Work.{Task, pauses, closing_work}
 use Rattle.run_rules.specs.Work.Task.{tell}
-use Rattle.run_rules.specs.Outcomes.{Before}
+use Rattle.run_rules.specs.Outcomes.{Before, begins_with_dollar}
 use Rattle.status_report.specs.declared.Reply.TheVariants.{Bye}
 use Rattle.line_interpreter.specs.Keeping.{IsKept}
 use Rattle.line_interpreter.specs.Interpreting.{Interpreting}
@@ -16,10 +16,11 @@ use Rattle.code_table.specs.declared.flags.Exec.{Exec}
 use Rattle.std.specs.Option.{option_to_list}
 use Rattle.std.specs.declared.option.Option.{Option}
 use Rattle.board_rules.specs.Ports.{has_reset_in}
-use Rattle.board_rules.specs.Steps.{Step, Journal, port_log, published_of, known_of, open_of, whole_of, before_of, left_of, closed_tells, given_of, hand_of, plan_of, motion_of}
+use Rattle.board_rules.specs.Steps.{Step, Journal, port_log, has_alarmed, published_of, known_of, open_of, whole_of, before_of, left_of, closed_tells, given_of, hand_of, plan_of, motion_of}
 use Rattle.board_rules.specs.Steps.Step.{turned}
-use Rattle.board_rules.specs.Turns.{this_turn, unobeyed_of, owes_report, moving, begins_with_dollar, is_full, is_halting, awaits_motion, changes_taken, flags_taken, tries_of, missed_of, waits_of}
+use Rattle.board_rules.specs.Turns.{this_turn, unobeyed_of, owes_report, moving, is_full, is_halting, awaits_motion, has_jogged, changes_taken, flags_taken, tries_of, missed_of, waits_of}
 use Rattle.board_rules.specs.Conduct.{Conducted, AreWaiting}
+use Rattle.board_rules.specs.Cuts.{has_cut}
 use Rattle.board_rules.specs.Breaking.{Doings, Ending, IsConducted, ending_of, turn_of}
 use Rattle.board_rules.specs.Breaking.Doings.{goes, broke}
 use Rattle.board_rules.specs.Breaking.Ending.{publishes_end, tells_bye, over}
@@ -33,6 +34,7 @@ use Rattle.controller.specs.declared.controller.Beat.{Beat}
 use Rattle.controller.specs.declared.controller.Beat.TheVariants.{Motion, Main}
 use Rattle.controller.specs.declared.input.Input.{Input}
 use Rattle.controller.specs.Machines.{Runs}
+use Rattle.controller.specs.Limiting.{limit_pending}
 
 -- the lines, by what is left to do, and what stands before the next line
 pub record Works (i : Interpreting) (left : List Task) (b : Before) : Type 0 where
@@ -54,7 +56,8 @@ pub record IsFlown (f : Flying) (h : Journal) : Type 0 where
   pub found : known ≤ known_of h
   pub flies : Flies f (published_of h) known
 
--- What the fields of a board keep of all that it did, which its rules allow, from its opening state on.
+-- What the fields of a board keep of all that it did, which its rules allow, from its opening state on. The motion is stopped
+-- for a line that a soft limit stops, and few tries to publish stand behind the last poll there.
 pub record Keeps (board : Controller) (h : Journal) : Type 0 where
   pub first : State
   pub opening : IsOpening first
@@ -65,17 +68,21 @@ pub record Keeps (board : Controller) (h : Journal) : Type 0 where
   pub flight : IsFlown board.flight h
   pub owes_is : board.owes ≡ owes_report h
   pub reset_is : board.reset ≡ has_reset_in (port_log h)
+  pub jogged_is : board.jogged ≡ has_jogged h
+  pub cut_is : board.cut ≡ has_cut h
   pub going : board.closing ≡ false → closed_tells h ≡ []
   pub closed : board.closing ≡ true → closed_tells h ≡ Bye ∷ []
+  pub limited : limit_pending h ≡ false
+  pub tries : has_alarmed h ≡ true → tries_of h ≤ 1
 
 -- it was the last turn that published a piece
 abbrev pub has_published : Beat → Bool
 has_published Motion = false
 has_published Main = true
 
--- no queued block waits where it would be started by what is next, or since no other block has room
+-- no queued block waits where it would be started by what is next, or since no other block has room, or as a jog
 abbrev pub NoneWaits : Journal → Type 0
-NoneWaits h = AreWaiting h → (is_full (plan_of h) || awaits_motion (left_of h)) ≡ false
+NoneWaits h = AreWaiting h → (is_full (plan_of h) || (awaits_motion (left_of h) || has_jogged h)) ≡ false
 
 -- What holds between two turns, of which the last published a piece, or not.
 pub record Rounds (beat : Beat) (h : Journal) : Type 0 where
@@ -139,16 +146,18 @@ words_left words.Requests = 2
 words_left words.None = 1
 words_left (words.Report word) = 0
 
--- a machine that slows down is to be held, and one that is held to be resumed
-abbrev pub changes_left : AnyMotion → ℕ
-changes_left motions.Holding = 2
-changes_left motions.Held = 1
-changes_left _ = 0
+-- a machine that slows down is to be held, one that is held to be resumed; and jogs that were cancelled are to be cut, and then
+-- the machine stands
+abbrev pub changes_left : AnyMotion → (has_cut : Bool) → ℕ
+changes_left motions.Holding has_cut = 2
+changes_left motions.Cancelling has_cut = cond has_cut 1 2
+changes_left motions.Held has_cut = 1
+changes_left _ has_cut = 0
 
 -- What a board can do with which nothing moves: words of flags are taken, pauses begin, a hold comes to its end, the
--- machine is resumed, and the run is closed. It falls in each turn that answers Did and moves nothing.
+-- machine is resumed, jogs are cut, a cancel comes to its end, and the run is closed. It falls in each turn that answers Did and moves nothing.
 abbrev pub number_of : Flags → Journal → ℕ
-number_of f h = 3 * (words_left f + pauses (left_of h)) + changes_left (motion_of h) + one_if (nat_eq (length (closed_tells h)) 0)
+number_of f h = 3 * (words_left f + pauses (left_of h)) + changes_left (motion_of h) (has_cut h) + one_if (nat_eq (length (closed_tells h)) 0)
 
 -- A turn adds what was done in it, and its answer; where that is Did, something moves, or the board's number falls.
 pub record GoingTurned (t : Turn) (was is : Controller) (h next : Journal) : Type 0 where

@@ -1,4 +1,5 @@
 pub mod Machines
+pub mod Limiting
 pub mod Boards
 pub mod Breaking
 pub mod Turning

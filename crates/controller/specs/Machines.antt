@@ -1,12 +1,14 @@
 -- What the fields of a machine say of its plan, its motion, and the pieces that were given.
-use Rattle.std.specs.Prelude.{◌≡◌, Bool, cond, nat_eq, List, [], ◌∷◌}
+use Rattle.std.specs.Prelude.{◌≡◌, ◌⊎◌, Bool, true, false, cond, List, [], ◌∷◌}
 use Rattle.std.specs.Option.{option_to_list}
 use Rattle.feed_hold.specs.declared.Motion.{Motion}
 use Rattle.feed_hold.specs.declared.Motion.TheVariants as motions
 use Rattle.segment_prep.specs.declared.Mode.{Mode}
 use Rattle.segment_prep.specs.declared.Mode.TheVariants.{Go, Hold}
 use Rattle.plan_passes.specs.Plans.{Planned}
+use Rattle.step_line.specs.declared.Mark.TheVariants as marks
 use Rattle.step_line.specs.declared.Piece.{Piece}
+use Rattle.step_line.specs.declared.Piece.TheVariants as pieces
 use Rattle.step_line.specs.Finishing.{ticks_together}
 pub use Rattle.board_rules.specs.Turns.{is_halting, has_blocks}
 use Rattle.controller.specs.declared.machine.Machine.{Machine}
@@ -19,6 +21,19 @@ pub record Runs (m : Machine) (p : Planned) (now : Motion) (in_hand given : List
   pub hand_is : option_to_list m.hand ≡ in_hand
   pub given_is : m.given ≡ ticks_together given
 
+-- it stands, or carries out moves or jogs that were not cancelled
+abbrev pub StandsOrGoes : Motion → Type 0
+StandsOrGoes m = (m ≡ motions.Idle) ⊎ ((m ≡ motions.Run) ⊎ (m ≡ motions.Jog))
+
+-- what queued blocks start, as a jog or not
+abbrev pub start_motion : Bool → Motion
+start_motion jog = cond jog motions.Jog motions.Run
+
+-- a soft limit stops a machine that runs, or stands
+abbrev pub limit_motion : Motion → Motion
+limit_motion motions.Run = motions.Stopping
+limit_motion _ = motions.Alarm
+
 -- segments are taken to slow down where the machine is to stop
 abbrev pub mode_in : Motion → Mode
 mode_in motions.Holding = Hold
@@ -26,11 +41,16 @@ mode_in motions.Cancelling = Hold
 mode_in motions.Stopping = Hold
 mode_in _ = Go
 
--- The state of the motion behind a look at the done ticks, where nothing is in hand and each that was given is done: a
--- machine that has slowed down to a stop is held, and the cycle is over where no block is left.
+-- a piece marks a cut
+abbrev pub marks_cut : Piece → Bool
+marks_cut (pieces.Mark (marks.Cut k)) = true
+marks_cut p = false
+
+-- The state of the motion behind a look at the done ticks, where nothing is in hand, each that was given is done, and the
+-- machine does not slow down to a stop: the cycle is over, or the jogs are, where no block is left.
 abbrev pub settled : Motion → Planned → Motion
-settled motions.Holding p = cond (nat_eq p.speed 0) motions.Held motions.Holding
 settled motions.Run p = cond (has_blocks p.blocks) motions.Run motions.Idle
+settled motions.Jog p = cond (has_blocks p.blocks) motions.Jog motions.Idle
 settled m p = m
 
 abbrev pub observed : Motion → Planned → List Piece → Bool → Motion

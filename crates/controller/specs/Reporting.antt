@@ -12,7 +12,7 @@ use Rattle.status_report.specs.declared.reports.Report.{Report}
 use Rattle.status_report.specs.Reports.{IsReport}
 use Rattle.units.specs.Truths.{one_if}
 use Rattle.board_rules.specs.Ports.PortStep.{found_free}
-use Rattle.board_rules.specs.Steps.{Step, Journal, published_of, known_of, whole_of, left_of, hand_of, plan_of, motion_of}
+use Rattle.board_rules.specs.Steps.{Step, Journal, published_of, known_of, whole_of, plan_of, motion_of}
 use Rattle.board_rules.specs.Steps.Step.{at_port, became}
 use Rattle.board_rules.specs.Turns.{
   this_turn,
@@ -25,7 +25,6 @@ use Rattle.board_rules.specs.Turns.{
   has_blocks,
   is_going,
   is_due,
-  is_halting,
   flags_taken,
   unobeyed_of,
   owes_report,
@@ -37,7 +36,7 @@ use Rattle.board_rules.specs.Turns.{
 use Rattle.board_rules.specs.Conduct.{IsDrained, IsStopped, AreWaiting, IsRoom, feed_of, shown_as, ticks_given}
 use Rattle.controller.specs.declared.controller.Controller.{Controller}
 use Rattle.controller.specs.Boards.{NoneWaits, IsAsked}
-use Rattle.controller.specs.Turning.{AreWorked, PassesNothing, NoneFits}
+use Rattle.controller.specs.Turning.{AreWorked, PassesNothing, NoneFits, StaysSo, IsCutNow}
 
 -- ---- what is known
 
@@ -63,20 +62,16 @@ obeying None h = h
 obeying (Some word) h =
     became (on_exec word (has_blocks (plan_of h).blocks)) (after_word word (has_blocks (plan_of h).blocks) (motion_of h)) ∷ h
 
--- It was looked how many ticks are done: a machine that has stopped is held where each is, and where nothing is left to
--- run and each is, the cycle is over.
+-- It was looked how many ticks are done: what comes of a machine that has stopped came where each is, and where nothing is
+-- left to run and each is, the cycle is over.
 pub record HasObserved (h next : Journal) : Type 0 where
   pub passes : PassesNothing h next
   pub load : list_any loads (this_turn next) ≡ true
-  pub left : left_of next ≡ left_of h
-  pub hand : hand_of next ≡ hand_of h
-  pub plan : plan_of next ≡ plan_of h
-  pub given : ticks_given next ≡ ticks_given h
+  pub stays : StaysSo h next ⊎ IsCutNow h next
   pub idle : IsDrained next → is_going (motion_of next) ≡ false
   pub stopped : IsStopped next → ⊥
   pub waiting : AreWaiting next → AreWaiting h
   pub due : is_due next ≡ true → is_due h ≡ true
-  pub halts : is_halting (motion_of next) ≡ true → is_halting (motion_of h) ≡ true
 
 -- The room that a report tells was asked for, where the settings ask for that.
 pub record HasAskedRoom (buffer : Option (ℕ × ℕ)) (h next : Journal) : Type 0 where

@@ -1,18 +1,19 @@
 -- What is known within a turn of a board, and what its parts add.
-use Rattle.std.specs.Prelude.{◌≡◌, ◌⊎◌, ℕ, ◌+◌, ◌≤◌, ◌<◌, Bool, true, false, cond, List, [], ◌∷◌, ◌++◌, Some}
+use Rattle.std.specs.Prelude.{◌≡◌, ◌⊎◌, ℕ, ◌+◌, ◌≤◌, ◌<◌, Bool, true, false, cond, List, [], ◌∷◌, ◌++◌, drop, Some}
 use Rattle.std.specs.List.{list_any, count_by}
 use Rattle.code_table.specs.declared.flags.Exec.{Exec}
 use Rattle.code_table.specs.declared.flags.Ovr.{Ovr}
 use Rattle.overrides.specs.Percents.{taken}
 use Rattle.planner_runs.specs.declared.Action.TheVariants.{Override}
-use Rattle.feed_hold.specs.declared.Motion.TheVariants.{Idle}
+use Rattle.feed_hold.specs.declared.Motion.TheVariants.{Idle, Holding, Held, Cancelling, Stopping, Alarm}
 use Rattle.feed_hold.specs.Motions.{after_word}
-use Rattle.feed_hold.specs.Motions.Call.{on_exec}
+use Rattle.feed_hold.specs.Motions.Call.{on_exec, on_start, on_limit, on_stopped}
+use Rattle.flight.specs.Flights.{Flying, Flies}
 use Rattle.outside.specs.declared.Turn.{Turn}
 use Rattle.outside.specs.declared.Turn.TheVariants.{Did, Wait}
 use Rattle.outside.specs.declared.On.{On}
-use Rattle.run_rules.specs.Work.{Task, pauses}
-use Rattle.run_rules.specs.Work.Task.{ask, pause, normal, finish}
+use Rattle.run_rules.specs.Work.{Task, Outcome, asks, pauses}
+use Rattle.run_rules.specs.Work.Task.{ask, pause, normal, finish, halt}
 use Rattle.line_interpreter.specs.Lefts.{IsNextOf}
 use Rattle.step_line.specs.Asking.Asked.{a_move, a_rest}
 use Rattle.step_line.specs.declared.Piece.{Piece}
@@ -20,8 +21,11 @@ use Rattle.step_line.specs.declared.planned_move.PlannedMove.{PlannedMove}
 use Rattle.board_rules.specs.Ports.{PortLog}
 use Rattle.board_rules.specs.Ports.{has_changes}
 use Rattle.board_rules.specs.Ports.PortStep.{took_exec, took_ovr, published, no_piece_room, loaded}
-use Rattle.board_rules.specs.Steps.{Step, Journal, port_log, open_of, whole_of, left_of, closed_tells, hand_of, plan_of, motion_of}
-use Rattle.board_rules.specs.Steps.Step.{at_port, did, became}
+use Rattle.board_rules.specs.Steps.{Step, Journal, port_log, open_of, before_of, whole_of, left_of, closed_tells, published_of, known_of, hand_of, plan_of, motion_of}
+use Rattle.board_rules.specs.Steps.Step.{at_port, began, did, became, cut}
+use Rattle.board_rules.specs.Cuts.{has_cut}
+use Rattle.run_rules.specs.Outcomes.{jogged_behind, begins_with_dollar}
+use Rattle.run_rules.specs.Finding.{Found}
 use Rattle.board_rules.specs.Turns.{
   this_turn,
   publishing,
@@ -31,15 +35,19 @@ use Rattle.board_rules.specs.Turns.{
   loads,
   lacks_reply_room,
   lacks_piece_room,
-  begins_with_dollar,
   has_blocks,
   awaits_motion,
+  has_jogged,
+  has_jog_to_start,
   is_full,
   is_going,
   begins_in,
   is_due,
   is_held_up,
   is_halting,
+  machine_in,
+  is_limited,
+  stands_still,
   is_counted,
   changes_taken,
   flags_taken,
@@ -51,13 +59,14 @@ use Rattle.board_rules.specs.Turns.{
   missed_of,
   waits_of,
 }
-use Rattle.board_rules.specs.Conduct.{MayTurn, IsNextTask, IsDrained, HasSlowedDown, IsStopped, AreWaiting}
+use Rattle.board_rules.specs.Conduct.{MayTurn, IsNextTask, IsDrained, HasSlowedDown, IsStopped, AreWaiting, ticks_given}
 use Rattle.units.specs.Truths.{one_if}
 use Rattle.controller.specs.declared.controller.Controller.{Controller}
+use Rattle.controller.specs.Machines.{start_motion, limit_motion}
 use Rattle.controller.specs.declared.controller.Beat.TheVariants.{Motion}
 use Rattle.controller.specs.declared.controller.Flags.{Flags}
 use Rattle.controller.specs.declared.controller.Flags.TheVariants as words
-use Rattle.controller.specs.Boards.{Keeps, Rounds, NoneWaits, TakesFlags, takes_no_word, has_published, changes_left, number_of}
+use Rattle.controller.specs.Boards.{Keeps, Reads, Rounds, NoneWaits, TakesFlags, takes_no_word, has_published, changes_left, number_of}
 
 -- ---- what is known
 
@@ -104,11 +113,10 @@ pub record MayRun (h : Journal) : Type 0 where
   pub few : is_counted h ≡ false → tries_of h + one_if (whole_of h) ≤ 1
   pub held : is_halting (motion_of h) ≡ true → whole_of h ≡ true → tries_of h ≡ 0
 
--- The motion may be waited for: what is next waits for it, no queued block waits, and the machine is not held, nor slows down
--- for that.
+-- The motion may be waited for: what is next waits for it, no queued block waits, and the machine stands, runs or jogs.
 pub record MayAwait (h : Journal) : Type 0 where
   pub run : MayRun h
-  pub going : is_halting (motion_of h) ≡ false
+  pub going : begins_in (motion_of h) ≡ true
   pub awaits : awaits_motion (left_of h) ≡ true
   pub none_waits : NoneWaits h
 
@@ -125,9 +133,15 @@ IsPassed left = IsNextOf (ask a_rest) left ⊎ IsNextOf normal left
 abbrev pub NeedsNoWait : Journal → Type 0
 NeedsNoWait h = awaits_motion (left_of h) ≡ true → HasStopped h × (IsNextTask pause h ⊎ IsNextTask finish h)
 
--- what is next is not held up by a machine that is held, or slows down for that
-abbrev pub GoesOn : Journal → Type 0
-GoesOn h = is_halting (motion_of h) ≡ true → is_held_up h ≡ false
+-- What is next is not held up by a machine that is held, or slows down for that, and no soft limit stops the machine.
+pub record GoesOn (h : Journal) : Type 0 where
+  pub held : is_halting (motion_of h) ≡ true → is_held_up h ≡ false
+  pub unlimited : is_limited (motion_of h) ≡ false
+
+-- nothing is left to run, each tick is done, and the machine stands, also in alarm
+pub record MayFinish (h : Journal) : Type 0 where
+  pub drained : IsDrained h
+  pub stands : stands_still (motion_of h) ≡ true
 
 -- What is next is held up, and it was not tried yet to publish a piece for it.
 pub record IsHalted (h : Journal) : Type 0 where
@@ -135,12 +149,12 @@ pub record IsHalted (h : Journal) : Type 0 where
   pub halts : is_halting (motion_of h) ≡ true
   pub held_up : is_held_up h ≡ true
 
--- Nothing is left of the line before, and a line was taken whole. The machine is not held, nor slows down for that.
+-- Nothing is left of the line before, and a line was taken whole. The machine stands, runs or jogs.
 pub record IsWholeLine (h : Journal) : Type 0 where
   pub free : left_of h ≡ []
   pub going : closed_tells h ≡ []
   pub whole : whole_of h ≡ true
-  pub goes : is_halting (motion_of h) ≡ false
+  pub goes : begins_in (motion_of h) ≡ true
 
 -- A byte was polled for in this turn, and none was found.
 pub record HasPolled (h : Journal) : Type 0 where
@@ -168,11 +182,34 @@ pub record IsLooked (h : Journal) : Type 0 where
   pub none_waits : NoneWaits h
   pub unpolled : list_any found_none (this_turn h) ≡ false
   pub unmissed : missed_of h ≡ false
+  pub tries : tries_of h ≤ 1
 
 -- It may be begun: no queued block waits where it begins with `$`.
 pub record MayJudge (h : Journal) : Type 0 where
   pub looked : IsLooked h
   pub starts : AreWaiting h → begins_with_dollar (open_of h) ≡ false
+
+-- A line was judged, of which this becomes; it is not begun yet.
+pub record IsJudged (was now : Controller) (h : Journal) (o : Outcome) : Type 0 where
+  pub keeps : Keeps was h
+  pub may : MayJudge h
+  pub found : Found (machine_in (motion_of h)) (before_of keeps.first h) (open_of h) o
+  pub is : now.lines ≡ record { state = o.next; number = was.lines.number + 1; left = o.work }
+  pub jogs : now.jogged ≡ jogged_behind o.kind was.jogged
+  pub reads : Reads now.input [] false
+  pub same : now ≡ record was { lines = now.lines; input = now.input; jogged = now.jogged }
+
+-- The line was begun; and where a soft limit stops it, so is the motion.
+abbrev pub HasBegun : Outcome → Journal → Journal → Type 0
+HasBegun o h next = (next ≡ began o ∷ h) ⊎ (next ≡ became on_limit (limit_motion (motion_of h)) ∷ began o ∷ h)
+
+-- What is next is to halt the machine, which a soft limit has stopped: each tick that was given is done.
+pub record IsAtLimit (h : Journal) : Type 0 where
+  pub next : IsNextTask halt h
+  pub limited : is_limited (motion_of h) ≡ true
+  pub speed : (plan_of h).speed ≡ 0
+  pub empty : hand_of h ≡ []
+  pub done : known_of h ≡ ticks_given h
 
 -- ---- what is added
 
@@ -189,6 +226,7 @@ pub record PassesNothing (h next : Journal) : Type 0 where
   pub waits : waits_of next ≡ waits_of h
   pub tries : tries_of next ≡ tries_of h
   pub missed : missed_of next ≡ missed_of h
+  pub jogged : has_jogged next ≡ has_jogged h
   pub raw : open_of next ≡ open_of h
   pub whole : whole_of next ≡ whole_of h
   pub closed : closed_tells next ≡ closed_tells h
@@ -198,7 +236,7 @@ pub record PassesNothing (h next : Journal) : Type 0 where
   pub words : unobeyed_of next ≡ unobeyed_of h
   pub worked : AreWorked h → AreWorked next
   pub pauses : pauses (left_of next) ≤ pauses (left_of h)
-  pub changes : changes_left (motion_of next) ≤ changes_left (motion_of h)
+  pub changes : changes_left (motion_of next) (has_cut next) ≤ changes_left (motion_of h) (has_cut h)
   pub less : (left_of next ≡ [] → ⊥) → left_of h ≡ [] → ⊥
 
 -- what a board did by itself: its port knows nothing of it
@@ -258,11 +296,13 @@ pub record HasTried (published : Bool) (h next : Journal) : Type 0 where
   pub sent : published ≡ true → hand_of next ≡ []
   pub waits : waits_of next ≡ []
   pub missed : missed_of next ≡ false
+  pub jogged : has_jogged next ≡ has_jogged h
   pub first : tries_of next ≤ tries_of h + 1
   pub later : is_counted h ≡ false → tries_of next ≡ tries_of h
   pub left : left_of next ≡ left_of h
   pub whole : whole_of next ≡ whole_of h
   pub motion : motion_of next ≡ motion_of h
+  pub cuts : has_cut next ≡ has_cut h
   pub closed : closed_tells next ≡ closed_tells h
   pub flags : flags_taken next ≡ flags_taken h
   pub replies : list_any lacks_reply_room (this_turn next) ≡ list_any lacks_reply_room (this_turn h)
@@ -271,6 +311,24 @@ pub record HasTried (published : Bool) (h next : Journal) : Type 0 where
   pub worked : AreWorked h → AreWorked next
   pub waiting : AreWaiting next → AreWaiting h
   pub full : is_full (plan_of next) ≡ true → is_full (plan_of h) ≡ true
+
+-- queued blocks start, as a jog or not
+abbrev pub starting : Bool → Journal → Journal
+starting jog h = became (on_start jog) (start_motion jog) ∷ h
+
+-- it is in alarm then, if it was not before
+pub record IsLocked (h next : Journal) : Type 0 where
+  pub at : IsAtLimit next
+  pub alarm : motion_of next ≡ Alarm
+  pub alone : DidAlone h next
+  pub left : left_of next ≡ left_of h
+
+-- The machine was halted: it is in alarm, and what was planned is dropped.
+pub record HasHalted (h next : Journal) : Type 0 where
+  pub alone : DidAlone h next
+  pub left : left_of next ≡ drop 1 (left_of h)
+  pub alarm : motion_of next ≡ Alarm
+  pub undue : is_due next ≡ false
 
 -- a word of requests was taken, and what it asks of the motion is done
 abbrev pub obeyed : Exec → Journal → Journal
@@ -289,17 +347,50 @@ flags_behind owes word = cond owes (words.Report (Some word)) words.None
 abbrev pub replanned : Ovr → Journal → Journal
 replanned word h = cond (has_changes word) (did (Override (taken (plan_of h).overrides word)) [] ∷ (at_port (took_ovr word) ∷ h)) (at_port (took_ovr word) ∷ h)
 
--- Where the machine slowed down to a stop, it was looked how many ticks are done, and it is held where each is.
-pub record HasSettled (h next : Journal) : Type 0 where
-  pub passes : PassesNothing h next
+-- ---- a machine that has stopped
+
+-- the machine has stopped, as a load in this turn told, and a flight knows where
+pub record IsFoundStopped (f : Flying) (h : Journal) : Type 0 where
+  pub stopped : IsStopped h
+  pub load : list_any loads (this_turn h) ≡ true
+  pub flies : Flies f (published_of h) (known_of h)
+
+-- jogs that were cancelled were not cut since
+pub record IsUncut (h : Journal) : Type 0 where
+  pub cancelled : motion_of h ≡ Cancelling
+  pub uncut : has_cut h ≡ false
+
+-- What comes of that: the machine is held; or its jogs are cut; or they were, and it stands; or it is in alarm at a soft limit.
+pub data ComesOf (h next : Journal) : Type 0 where
+  is_held : motion_of h ≡ Holding → next ≡ became on_stopped Held ∷ h → ComesOf h next
+  is_cut : IsUncut h → (k : ℕ) → next ≡ cut k ∷ h → ComesOf h next
+  is_locked : motion_of h ≡ Stopping → next ≡ became on_stopped Alarm ∷ h → ComesOf h next
+  is_over : motion_of h ≡ Cancelling → has_cut h ≡ true → next ≡ became on_stopped Idle ∷ h → ComesOf h next
+
+-- the tasks that are left, the hand and the plan are as they were
+pub record StaysSo (h next : Journal) : Type 0 where
   pub left : left_of next ≡ left_of h
-  pub changes : changes_taken next ≡ changes_taken h
   pub hand : hand_of next ≡ hand_of h
   pub plan : plan_of next ≡ plan_of h
+
+-- jogs were cut: nothing is asked for any more, and the cut is in hand
+pub record IsCutNow (h next : Journal) : Type 0 where
+  pub uncut : IsUncut h
+  pub cancelled : motion_of next ≡ Cancelling
+  pub none : asks (left_of next) ≡ []
+  pub some : hand_of next ≡ [] → ⊥
+
+-- Where the machine slowed down to a stop, it was looked how many ticks are done, and what comes of that came where each is.
+pub record HasSettled (h next : Journal) : Type 0 where
+  pub passes : PassesNothing h next
+  pub stays : StaysSo h next ⊎ IsCutNow h next
+  pub changes : changes_taken next ≡ changes_taken h
   pub looked : HasSlowedDown next → list_any loads (this_turn next) ≡ true
   pub stopped : IsStopped next → ⊥
   pub waiting : AreWaiting next → AreWaiting h
-  pub halts : is_halting (motion_of next) ≡ is_halting (motion_of h)
+  pub jogs : has_jog_to_start h ≡ false → has_jog_to_start next ≡ false
+  pub held : motion_of h ≡ Held → motion_of next ≡ Held
+  pub falls : is_halting (motion_of h) ≡ true → HasSlowedDown h → (HasSlowedDown next → ⊥) → changes_left (motion_of next) (has_cut next) < changes_left (motion_of h) (has_cut h)
 
 -- What was done up to the end of a turn, before its answer: the board keeps it, the rules allow the answer, and where it is
 -- Did something moved in the turn, or the board's number fell. It answers a wait only where it did not publish.

@@ -5,23 +5,25 @@ ghost use Rattle.std.specs.List.{list_any};
 ghost use Rattle.feed_hold.specs.declared.Motion.TheVariants.{Idle};
 ghost use Rattle.outside.specs.declared.Turn.TheVariants.{Done};
 ghost use Rattle.run_rules.specs.Work.{Outcome};
+ghost use Rattle.run_rules.specs.Outcomes.{jogged_behind};
+ghost use Rattle.line_interpreter.specs.Desks.{kind_told};
 ghost use Rattle.run_rules.specs.Work.Task.{ask, tell, pause, normal, finish};
 ghost use Rattle.step_line.specs.Asking.Asked.{a_rest};
 ghost use Rattle.board_rules.specs.Ports.PortStep.{took};
 ghost use Rattle.board_rules.specs.Steps.{Journal, port_log, left_of, motion_of, has_closed};
-ghost use Rattle.board_rules.specs.Steps.Step.{at_port, began};
+ghost use Rattle.board_rules.specs.Steps.Step.{at_port};
 ghost use Rattle.board_rules.specs.Breaking.Doings.{goes};
-ghost use Rattle.board_rules.specs.Turns.{this_turn, awaits_motion, needs_motion, flags_taken, found_nothing, has_blocks, is_full, is_halting};
+ghost use Rattle.board_rules.specs.Turns.{this_turn, awaits_motion, begins_in, needs_motion, flags_taken, found_nothing, has_blocks, is_full};
 ghost use Rattle.board_rules.specs.Conduct.{IsNextTask, MayTake, MayPoll};
 ghost use Rattle.controller.specs.Boards.{Keeps, BoardFits, GoingFits, GoingTurned, BoardRests, GoingBetween, IsFree, TakesFlags, takes_no_word, number_of};
-ghost use Rattle.controller.specs.Turning.{IsNextMove, HasPiece, IsReady, MayRun, MayAwait, MayJudge, IsLooked, NeedsNoWait, IsWholeLine, HasPolled, HasStopped, PassesNothing, DidAlone, HasLooked, HasAdded, HasFilled, Tried, HasTried, BoardWorked, IsHalted, GoesOn, HasSettled, IsPassed, WorksOn};
+ghost use Rattle.controller.specs.Turning.{IsNextMove, HasPiece, IsReady, MayRun, MayAwait, MayJudge, IsLooked, NeedsNoWait, IsWholeLine, HasPolled, HasStopped, PassesNothing, DidAlone, HasLooked, HasAdded, HasFilled, HasBegun, Tried, HasTried, BoardWorked, IsHalted, IsJudged, GoesOn, HasSettled, IsPassed, WorksOn};
 
 use crate::input::Input;
 use crate::machine::Machine;
 use crate::ports::BoardPort;
 use code_table::Exec;
 use flight::Flight;
-use line_interpreter::{Interpreter, Todo};
+use line_interpreter::{Accepted, Interpreter, Todo};
 use outside::{On, Turn};
 use serial_ring::ByteIn;
 use step_line::Mark;
@@ -60,6 +62,21 @@ pub struct Controller {
     pub(crate) reset: bool,
     pub(crate) beat: Beat,
     pub(crate) closing: bool,
+    /// The last that was accepted of G-code and jogs is a jog.
+    pub(crate) jogged: bool,
+    /// Jogs are cancelled, and were cut since.
+    pub(crate) cut: bool,
+}
+
+/// Whether the last that was accepted of G-code and jogs is a jog, behind a line of which this is accepted.
+fn jogs_behind(accepted: Accepted, was: bool) -> bool
+    ensures { result ≡ jogged_behind (kind_told accepted) was }
+{
+    match accepted {
+        Accepted::Code => false,
+        Accepted::Jog => true,
+        Accepted::Neither => was,
+    }
 }
 
 impl Controller {
@@ -77,6 +94,8 @@ impl Controller {
             reset: false,
             beat: Beat::Motion,
             closing: false,
+            jogged: false,
+            cut: false,
         }
     }
 
@@ -95,7 +114,7 @@ impl Controller {
     {
         matches!(
             self.lines.todo(),
-            Todo::Rest | Todo::Pause | Todo::Normal | Todo::Finish
+            Todo::Rest | Todo::Pause | Todo::Normal | Todo::Finish | Todo::Halt
         )
     }
 
@@ -108,7 +127,7 @@ impl Controller {
             Todo::Nothing => self.input.whole,
             Todo::Move => self.machine.is_full(),
             Todo::Mark(_) | Todo::Tell => false,
-            Todo::Rest | Todo::Pause | Todo::Normal | Todo::Finish => true,
+            Todo::Rest | Todo::Pause | Todo::Normal | Todo::Finish | Todo::Halt => true,
         }
     }
 
@@ -203,7 +222,7 @@ impl Controller {
             → WorksOn (P.stands port.new rest) result self.old.flags self.new h }
         ensures going { result ≢ Done }
     {
-        self.machine.start();
+        self.machine.start(self.jogged);
         self.run(port)
     }
 
@@ -260,8 +279,8 @@ impl Controller {
 
     /// Looks how many ticks are done. Where nothing is left to run, and each is done, the cycle is over.
     fn look<P: BoardPort>(&mut self, port: &mut P)
-        requires stands { (rest : P.Rest) × (h : Journal) × P.stands port.old rest (port_log h) × Keeps self.old h × (is_halting (motion_of h) ≡ false) }
-        ensures goes_on { (rest : P.Rest) (h : Journal) → P.stands port.old rest (port_log h) → Keeps self.old h → is_halting (motion_of h) ≡ false
+        requires stands { (rest : P.Rest) × (h : Journal) × P.stands port.old rest (port_log h) × Keeps self.old h × (begins_in (motion_of h) ≡ true) }
+        ensures goes_on { (rest : P.Rest) (h : Journal) → P.stands port.old rest (port_log h) → Keeps self.old h → begins_in (motion_of h) ≡ true
             → (next : Journal) × P.stands port.new rest (port_log next) × Keeps self.new next × HasLooked h next }
         ensures same { self.new ≡ record self.old { machine = self.new.machine } }
     {
@@ -277,19 +296,31 @@ impl Controller {
         ensures same { self.new ≡ record self.old { machine = self.new.machine } }
     {
         if self.input.dollar && self.machine.is_waiting() {
-            self.machine.start();
+            self.machine.start(self.jogged);
         }
     }
 
-    /// Begins the line that was taken whole.
+    /// Judges the line that was taken whole.
+    fn judge_line(&mut self)
+        requires { (h : Journal) × Keeps self.old h × MayJudge h }
+        ensures judged { (h : Journal) → Keeps self.old h → MayJudge h → (o : Outcome) × IsJudged self.old self.new h o }
+        ensures same { self.new ≡ record self.old { lines = self.new.lines; input = self.new.input; jogged = self.new.jogged } }
+    {
+        let accepted = self.lines.judge(&self.input.kept, self.machine.found());
+        self.jogged = jogs_behind(accepted, self.jogged);
+        self.input.clear();
+    }
+
+    /// Begins the line that was taken whole. Where a soft limit stops it, so is the motion, at once.
     fn judge(&mut self)
         requires { (h : Journal) × Keeps self.old h × MayJudge h }
-        ensures begun { (h : Journal) → Keeps self.old h → MayJudge h → (o : Outcome) × Keeps self.new (began o ∷ h) }
-        ensures same { self.new ≡ record self.old { lines = self.new.lines; input = self.new.input } }
+        ensures begun { (h : Journal) → Keeps self.old h → MayJudge h → (o : Outcome) × (next : Journal) × Keeps self.new next × HasBegun o h next }
+        ensures same { self.new ≡ record self.old { machine = self.new.machine; lines = self.new.lines; input = self.new.input; jogged = self.new.jogged } }
     {
-        self.lines
-            .judge(&self.input.kept, self.machine.is_running());
-        self.input.clear();
+        self.judge_line();
+        if self.lines.todo() == Todo::Halt {
+            self.machine.limit();
+        }
     }
 
     /// Begins the line that was taken whole. Where it begins with `$`, queued blocks start before.
@@ -342,7 +373,7 @@ impl Controller {
             Todo::Mark(mark) => self.mark(port, mark),
             Todo::Pause => self.pause(),
             Todo::Finish => self.finish(port),
-            Todo::Rest | Todo::Normal => unreachable!(),
+            Todo::Rest | Todo::Normal | Todo::Halt => unreachable!(),
         }
     }
 
@@ -366,7 +397,8 @@ impl Controller {
         self.do_next(port)
     }
 
-    /// Does what is next. Where that is held up, it is waited until it goes on.
+    /// Does what is next. Where that is held up, it is waited until it goes on; and where a soft limit stops the machine, or has
+    /// stopped it, the run is ended.
     fn main<P: BoardPort>(&mut self, port: &mut P) -> Turn
         requires stands { (rest : P.Rest) × (h : Journal) × P.stands port.old rest (port_log h) × Keeps self.old h × IsReady h }
         requires open { self.old.lines.left ≡ [] → self.old.closing ≡ false }
@@ -378,6 +410,9 @@ impl Controller {
     {
         if self.machine.is_halting() && self.is_held_up() {
             return self.halt(port);
+        }
+        if self.machine.is_limited() {
+            return self.end_limited(port);
         }
         self.proceed(port)
     }

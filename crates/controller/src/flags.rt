@@ -1,15 +1,15 @@
 //! How a board takes its words of flags, and waits for a machine that is to be held, or is held.
 
-ghost use Rattle.std.specs.Prelude.{◌≡◌, ◌≢◌, ◌∷◌, []};
+ghost use Rattle.std.specs.Prelude.{◌≡◌, ◌≢◌, ◌∷◌, [], false};
 ghost use Rattle.code_table.specs.declared.flags.Exec.{Exec as AnyExec};
 ghost use Rattle.code_table.specs.declared.flags.Ovr.{Ovr as AnyOvr};
-ghost use Rattle.feed_hold.specs.declared.Motion.TheVariants.{Holding, Held};
+ghost use Rattle.feed_hold.specs.declared.Motion.TheVariants.{Held};
 ghost use Rattle.outside.specs.declared.Turn.TheVariants.{Done};
 ghost use Rattle.board_rules.specs.Steps.{Journal, port_log};
 ghost use Rattle.controller.specs.Boards.{Keeps};
 ghost use Rattle.board_rules.specs.Ports.PortStep.{took_exec};
 ghost use Rattle.board_rules.specs.Steps.Step.{at_port};
-ghost use Rattle.board_rules.specs.Turns.{unobeyed_of, owes_report};
+ghost use Rattle.board_rules.specs.Turns.{unobeyed_of, owes_report, has_jog_to_start};
 ghost use Rattle.controller.specs.Turning.{HasPiece, IsHalted, HasSettled, asked, flags_behind, replanned, WorksOn};
 
 use crate::controller::{Beat, Controller, Flags};
@@ -19,26 +19,32 @@ use bitflags::Flags as _;
 use outside::{On, Turn};
 
 impl Controller {
-    /// Where the machine has slowed down to a stop, looks how many ticks are done, and holds it where each is.
+    /// Where the machine has slowed down to a stop, looks how many ticks are done, and does what comes of that where each is.
     pub(crate) fn settle<P: BoardPort>(&mut self, port: &mut P)
         requires stands { (rest : P.Rest) × (h : Journal) × P.stands port.old rest (port_log h) × Keeps self.old h }
         ensures goes_on { (rest : P.Rest) (h : Journal) → P.stands port.old rest (port_log h) → Keeps self.old h
             → (next : Journal) × P.stands port.new rest (port_log next) × Keeps self.new next × HasSettled h next }
-        ensures same { self.new ≡ record self.old { machine = self.new.machine } }
+        ensures same { self.new ≡ record self.old { machine = self.new.machine; flight = self.new.flight; lines = self.new.lines; cut = self.new.cut } }
     {
-        if self.machine.has_slowed_down() && port.done() == self.machine.given {
-            self.machine.stop();
+        if !self.machine.has_slowed_down() {
+            return;
         }
+        let done = port.done();
+        self.flight.learn(done);
+        if done != self.machine.given {
+            return;
+        }
+        self.come_to_rest();
     }
 
     /// Takes the word of requests, and does what it asks of the motion; where a report is owed then, that comes first.
-    /// A machine that has stopped is held before.
+    /// What comes of a machine that has stopped comes before.
     pub(crate) fn take_requests<P: BoardPort>(&mut self, port: &mut P)
-        requires stands { (rest : P.Rest) × (h : Journal) × P.stands port.old rest (port_log h) × Keeps self.old h × (unobeyed_of h ≡ []) }
-        ensures goes_on { (rest : P.Rest) (h : Journal) → P.stands port.old rest (port_log h) → Keeps self.old h → unobeyed_of h ≡ []
+        requires stands { (rest : P.Rest) × (h : Journal) × P.stands port.old rest (port_log h) × Keeps self.old h × (unobeyed_of h ≡ []) × (has_jog_to_start h ≡ false) }
+        ensures goes_on { (rest : P.Rest) (h : Journal) → P.stands port.old rest (port_log h) → Keeps self.old h → unobeyed_of h ≡ [] → has_jog_to_start h ≡ false
             → (word : AnyExec) × (mid : Journal) × HasSettled h mid × P.stands port.new rest (port_log (asked word mid)) × Keeps self.new (asked word mid)
             × (self.new.flags ≡ flags_behind (owes_report (at_port (took_exec word) ∷ mid)) word) }
-        ensures same { self.new ≡ record self.old { machine = self.new.machine; flags = self.new.flags; owes = self.new.owes; reset = self.new.reset } }
+        ensures same { self.new ≡ record self.old { machine = self.new.machine; flight = self.new.flight; lines = self.new.lines; cut = self.new.cut; flags = self.new.flags; owes = self.new.owes; reset = self.new.reset } }
     {
         self.settle(port);
         let word = port.take_exec();
@@ -65,10 +71,10 @@ impl Controller {
         }
     }
 
-    /// Waits for a machine that slows down, and holds it once it has stopped.
+    /// Waits for a machine that slows down, and does what comes of it once it has stopped.
     pub(crate) fn await_stop<P: BoardPort>(&mut self, port: &mut P) -> Turn
         requires stands { (rest : P.Rest) × (h : Journal) × P.stands port.old rest (port_log h) × Keeps self.old h × IsHalted h × (HasPiece h → ⊥) }
-        requires slows { self.old.machine.hold.motion ≡ Holding }
+        requires slows { self.old.machine.hold.motion ≢ Held }
         requires beat { self.old.beat ≡ Beat.Motion }
         requires flags { self.old.flags ≡ Flags.None }
         ensures goes_on { (rest : P.Rest) (h : Journal) → P.stands port.old rest (port_log h) → Keeps self.old h → IsHalted h → (HasPiece h → ⊥)
@@ -76,10 +82,10 @@ impl Controller {
         ensures going { result ≢ Done }
     {
         self.settle(port);
-        if self.machine.is_held() {
-            return Turn::Did;
+        if self.machine.has_slowed_down() {
+            return Turn::Wait(On::Motion);
         }
-        Turn::Wait(On::Motion)
+        Turn::Did
     }
 
     /// Waits for the resume of a machine that is held, unless a report is asked for.
@@ -102,8 +108,8 @@ impl Controller {
         Turn::Did
     }
 
-    /// What is done where what is next is held up: what is in hand or due is published, and then the stop is waited
-    /// for, and the resume.
+    /// What is done where what is next is held up: what is in hand or due is published, and then the stop is waited for,
+    /// and the resume.
     pub(crate) fn halt<P: BoardPort>(&mut self, port: &mut P) -> Turn
         requires stands { (rest : P.Rest) × (h : Journal) × P.stands port.old rest (port_log h) × Keeps self.old h × IsHalted h }
         requires beat { self.old.beat ≡ Beat.Motion }

@@ -5,10 +5,12 @@ mod controller;
 mod ending;
 mod flags;
 mod input;
+mod limits;
 mod machine;
 mod pieces;
 mod ports;
 mod reports;
+mod stops;
 
 pub use controller::Controller;
 pub use ports::BoardPort;

@@ -7,15 +7,15 @@ ghost use Rattle.step_line.specs.Asking.{IsPlannedMove};
 ghost use Rattle.step_line.specs.declared.Piece.{Piece as AnyPiece};
 ghost use Rattle.step_line.specs.declared.Segment.{Segment};
 ghost use Rattle.overrides.specs.Percents.{IsOverrides, taken};
-ghost use Rattle.feed_hold.specs.Motions.{after_word};
+ghost use Rattle.feed_hold.specs.Motions.{after_word, is_stopping};
 ghost use Rattle.plan_passes.specs.Plans.{Planned};
 ghost use Rattle.plan_passes.specs.Segments.{advanced};
 ghost use Rattle.segment_prep.specs.Taking.{IsNext};
-ghost use Rattle.planner_runs.specs.Runs.{fresh_plan, most_blocks, normal_overrides, with_move};
+ghost use Rattle.planner_runs.specs.Runs.{cleared, fresh_plan, most_blocks, normal_overrides, with_move};
 ghost use Rattle.step_line.specs.Finishing.{ticks_together};
 ghost use Rattle.board_rules.specs.Conduct.{feed_of, shown_as};
-ghost use Rattle.board_rules.specs.Turns.{has_blocks, has_segment, is_full, is_going, is_run, is_slowing};
-ghost use Rattle.controller.specs.Machines.{Runs, is_halting, mode_in, observed};
+ghost use Rattle.board_rules.specs.Turns.{has_blocks, has_segment, is_full, is_going, is_limited, is_slowing, machine_in};
+ghost use Rattle.controller.specs.Machines.{Runs, is_halting, limit_motion, mode_in, observed, start_motion};
 
 use code_table::{Exec, Ovr};
 use feed_hold::{Hold, Motion};
@@ -24,6 +24,7 @@ use line_geom::measure::geom;
 use overrides::Overrides;
 use plan_passes::Plan;
 use planner_ring::Block;
+use run_rules::Machine as Found;
 use segment_prep::{Mode, next_segment};
 use status_report::State;
 use step_line::{Mark, Piece, PlannedMove};
@@ -72,12 +73,35 @@ impl Machine {
         self.plan.len() >= MOST_BLOCKS
     }
 
-    /// Whether moves are carried out.
+    /// Whether moves or jogs are carried out.
     #[inline]
-    pub(crate) fn is_running(&self) -> bool
-        ensures { result ≡ is_run self.now.hold.motion }
+    pub(crate) fn is_going(&self) -> bool
+        ensures { result ≡ is_going self.now.hold.motion }
     {
-        self.hold.motion == Motion::Run
+        matches!(self.hold.motion, Motion::Run | Motion::Jog)
+    }
+
+    /// Whether it slows down to a stop, or has done so.
+    #[inline]
+    fn is_stopping(&self) -> bool
+        ensures { result ≡ is_stopping self.now.hold.motion }
+    {
+        matches!(
+            self.hold.motion,
+            Motion::Holding | Motion::Cancelling | Motion::Stopping
+        )
+    }
+
+    /// How a line that is begun finds the machine.
+    #[inline]
+    pub(crate) fn found(&self) -> Found
+        ensures { result ≡ machine_in self.now.hold.motion }
+    {
+        match self.hold.motion {
+            Motion::Run => Found::Runs,
+            Motion::Jog => Found::Jogs,
+            _ => Found::Stands,
+        }
     }
 
     /// Whether the machine moves, or slows down to a stop.
@@ -100,12 +124,39 @@ impl Machine {
         self.has_blocks() && self.is_moving()
     }
 
-    /// Whether the machine is held, or slows down for that.
+    /// Whether the machine is held, or slows down for that, or its jogs were cancelled.
     #[inline]
     pub(crate) fn is_halting(&self) -> bool
         ensures { result ≡ is_halting self.now.hold.motion }
     {
-        matches!(self.hold.motion, Motion::Holding | Motion::Held)
+        matches!(
+            self.hold.motion,
+            Motion::Holding | Motion::Held | Motion::Cancelling
+        )
+    }
+
+    /// Whether its jogs were cancelled.
+    #[inline]
+    pub(crate) fn is_cancelled(&self) -> bool
+        ensures { (result ≡ true) ↔ (self.now.hold.motion ≡ motions.Cancelling) }
+    {
+        self.hold.motion == Motion::Cancelling
+    }
+
+    /// Whether a soft limit stops it, or has stopped it.
+    #[inline]
+    pub(crate) fn is_limited(&self) -> bool
+        ensures { result ≡ is_limited self.now.hold.motion }
+    {
+        matches!(self.hold.motion, Motion::Stopping | Motion::Alarm)
+    }
+
+    /// Whether it stands in alarm.
+    #[inline]
+    pub(crate) fn is_locked(&self) -> bool
+        ensures { (result ≡ true) ↔ (self.now.hold.motion ≡ motions.Alarm) }
+    {
+        self.hold.motion == Motion::Alarm
     }
 
     /// Whether the machine is held.
@@ -128,9 +179,18 @@ impl Machine {
     /// Whether it has slowed down to a stop, with nothing in hand.
     #[inline]
     pub(crate) fn has_slowed_down(&self) -> bool
-        ensures { (result ≡ true) ↔ ((self.now.hold.motion ≡ motions.Holding) × (self.now.plan.speed ≡ 0) × (self.now.hand ≡ None)) }
+        ensures { (result ≡ true) ↔ ((is_stopping self.now.hold.motion ≡ true) × (self.now.plan.speed ≡ 0) × (self.now.hand ≡ None)) }
     {
-        self.hold.motion == Motion::Holding && self.plan.speed() == 0 && self.hand.is_none()
+        self.is_stopping() && self.plan.speed() == 0 && self.hand.is_none()
+    }
+
+    /// Whether it has stopped, where so many ticks were found done: it has slowed down to a stop, with nothing in hand, and
+    /// each tick that was given is done.
+    #[inline]
+    pub(crate) fn has_stopped(&self, done: u64) -> bool
+        ensures { (result ≡ true) ↔ ((is_stopping self.now.hold.motion ≡ true) × (self.now.plan.speed ≡ 0) × (self.now.hand ≡ None) × (done ≡ self.now.given)) }
+    {
+        self.has_slowed_down() && done == self.given
     }
 
     /// Puts a move behind the others.
@@ -157,14 +217,14 @@ impl Machine {
         };
     }
 
-    /// How segments are taken: to slow down where the machine is to be held.
+    /// How segments are taken: to slow down where the machine is to stop.
     #[inline]
     fn mode(&self) -> Mode
         ensures { result ≡ mode_in self.now.hold.motion }
     {
         match self.hold.motion {
             Motion::Holding | Motion::Cancelling | Motion::Stopping => Mode::Hold,
-            Motion::Idle | Motion::Run | Motion::Held | Motion::Jog | Motion::Alarm => Mode::Go,
+            _ => Mode::Go,
         }
     }
 
@@ -194,6 +254,23 @@ impl Machine {
         self.hand = Some(Piece::Mark(mark));
     }
 
+    /// What is planned is dropped.
+    pub(crate) fn clear(&mut self)
+        ensures { (p : Planned) (now : AnyMotion) (hand given : List AnyPiece) → Runs self.old p now hand given → Runs self.new (cleared p) now hand given }
+    {
+        self.plan.clear();
+    }
+
+    /// What is planned is dropped, and the mark of that cut comes into the hand.
+    pub(crate) fn cut(&mut self, mark: Mark)
+        requires few { self.old.given < 2 ^ 62 }
+        ensures { (p : Planned) (now : AnyMotion) (given : List AnyPiece) → Runs self.old p now [] given
+            → Runs self.new (cleared p) now (AnyPiece.Mark mark ∷ []) (given ++ AnyPiece.Mark mark ∷ []) }
+    {
+        self.plan.clear();
+        self.put_mark(mark);
+    }
+
     /// Takes the end into the hand.
     pub(crate) fn put_end(&mut self)
         ensures { (p : Planned) (now : AnyMotion) (given : List AnyPiece) → Runs self.old p now [] given
@@ -210,18 +287,18 @@ impl Machine {
         self.hand = None;
     }
 
-    /// Queued blocks start the cycle.
-    pub(crate) fn start(&mut self)
+    /// Queued blocks start the cycle, or a jog.
+    pub(crate) fn start(&mut self, jog: bool)
         requires { self.old.hold.motion ≡ motions.Idle }
-        ensures runs { (p : Planned) (now : AnyMotion) (hand given : List AnyPiece) → Runs self.old p now hand given → Runs self.new p motions.Run hand given }
-        ensures run { self.new.hold.motion ≡ motions.Run }
+        ensures runs { (p : Planned) (now : AnyMotion) (hand given : List AnyPiece) → Runs self.old p now hand given → Runs self.new p (start_motion jog) hand given }
+        ensures starts { self.new.hold.motion ≡ start_motion jog }
     {
-        self.hold.on_start(false);
+        self.hold.on_start(jog);
     }
 
-    /// The cycle is over.
+    /// The cycle is over, or the jogs are.
     pub(crate) fn drain(&mut self)
-        requires { (self.old.hold.motion ≡ motions.Idle) ⊎ (self.old.hold.motion ≡ motions.Run) }
+        requires { (self.old.hold.motion ≡ motions.Idle) ⊎ (is_going self.old.hold.motion ≡ true) }
         ensures runs { (p : Planned) (now : AnyMotion) (hand given : List AnyPiece) → Runs self.old p now hand given → Runs self.new p motions.Idle hand given }
         ensures idle { self.new.hold.motion ≡ motions.Idle }
     {
@@ -266,8 +343,32 @@ impl Machine {
         self.hold.on_stopped();
     }
 
-    /// So many ticks were found done. Where each that was given is, a machine that has slowed down to a stop is held,
-    /// and the cycle is over where nothing is left to run.
+    /// A soft limit stops the machine: where it runs it slows down from here on, and where it stands it is in alarm at once.
+    pub(crate) fn limit(&mut self)
+        requires { (self.old.hold.motion ≡ motions.Idle) ⊎ (self.old.hold.motion ≡ motions.Run) }
+        ensures { (p : Planned) (now : AnyMotion) (hand given : List AnyPiece) → Runs self.old p now hand given → Runs self.new p (limit_motion now) hand given }
+    {
+        self.hold.on_limit();
+    }
+
+    /// The machine has slowed down to a stop at a soft limit, and is in alarm.
+    pub(crate) fn lock(&mut self)
+        requires { self.old.hold.motion ≡ motions.Stopping }
+        ensures { (p : Planned) (now : AnyMotion) (hand given : List AnyPiece) → Runs self.old p now hand given → Runs self.new p motions.Alarm hand given }
+    {
+        self.hold.on_stopped();
+    }
+
+    /// Jogs that were cancelled are cut, and the machine stands.
+    pub(crate) fn end_cancel(&mut self)
+        requires { self.old.hold.motion ≡ motions.Cancelling }
+        ensures { (p : Planned) (now : AnyMotion) (hand given : List AnyPiece) → Runs self.old p now hand given → Runs self.new p motions.Idle hand given }
+    {
+        self.hold.on_stopped();
+    }
+
+    /// So many ticks were found done. Where each that was given is, the cycle is over, or the jogs are, where nothing is
+    /// left to run.
     pub(crate) fn observe(&mut self, done: u64)
         ensures { (p : Planned) (now : AnyMotion) (hand given : List AnyPiece) → Runs self.old p now hand given
             → Runs self.new p (observed now p hand (done == ticks_together given)) hand given }
@@ -275,9 +376,7 @@ impl Machine {
         if self.hand.is_some() || done != self.given {
             return;
         }
-        if self.has_slowed_down() {
-            self.stop();
-        } else if self.is_running() && !self.has_blocks() {
+        if self.is_going() && !self.has_blocks() {
             self.drain();
         }
     }

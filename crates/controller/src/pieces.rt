@@ -1,6 +1,6 @@
 //! How a board tells replies, adds moves, and publishes what is in hand or due.
 
-ghost use Rattle.std.specs.Prelude.{◌≡◌, ◌≢◌, ◌↔◌, ◌<◌, ◌||◌, length, true, false, None};
+ghost use Rattle.std.specs.Prelude.{◌≡◌, ◌≢◌, ◌↔◌, ◌<◌, ◌||◌, length, true, false, None, Some};
 ghost use Rattle.feed_hold.specs.declared.Motion.TheVariants.{Idle};
 ghost use Rattle.outside.specs.declared.Turn.TheVariants.{Done};
 ghost use Rattle.run_rules.specs.Work.Task.{ask, tell, finish};
@@ -10,17 +10,25 @@ ghost use Rattle.step_line.specs.Records.{IsMark};
 ghost use Rattle.line_interpreter.specs.Lefts.{IsNextOf};
 ghost use Rattle.board_rules.specs.Steps.{Journal, port_log};
 ghost use Rattle.board_rules.specs.Turns.{awaits_motion, has_blocks, is_full};
-ghost use Rattle.board_rules.specs.Conduct.{IsNextTask};
+ghost use Rattle.board_rules.specs.Conduct.{IsNextTask, IsTimely};
 ghost use Rattle.controller.specs.Boards.{Keeps};
+ghost use Rattle.controller.specs.Machines.{marks_cut};
 ghost use Rattle.flight.specs.Flights.{flight_room};
-ghost use Rattle.controller.specs.Turning.{IsNextMove, HasPiece, IsReady, MayRun, MayHaveLooked, HasStopped, HasAdded, HasFilled, Tried, HasTried, GoesOn, WorksOn};
+ghost use Rattle.controller.specs.Turning.{IsNextMove, HasPiece, IsReady, MayRun, MayHaveLooked, MayFinish, HasAdded, HasFilled, Tried, HasTried, GoesOn, WorksOn};
 
 use crate::controller::{Beat, Controller, Flags};
 use crate::ports::BoardPort;
 use line_interpreter::Todo;
 use outside::{On, Turn};
 use status_report::Reply;
-use step_line::Mark;
+use step_line::{Mark, Piece};
+
+/// Whether a piece marks a cut.
+fn is_cut(piece: Piece) -> bool
+    ensures { result ≡ marks_cut piece }
+{
+    matches!(piece, Piece::Mark(Mark::Cut(_)))
+}
 
 impl Controller {
     /// Whether a piece is in hand, or a segment is due.
@@ -46,18 +54,19 @@ impl Controller {
         }
     }
 
-    /// Whether queued blocks wait, where no other has room, or what is next waits for the motion.
+    /// Whether queued blocks wait, where no other has room, what is next waits for the motion, or they are of a jog.
     pub(crate) fn needs_start(&self) -> bool
         ensures yes { result ≡ true → (self.now.machine.hold.motion ≡ Idle) × (has_blocks self.now.machine.plan.blocks ≡ true)
-            × ((is_full self.now.machine.plan || awaits_motion self.now.lines.left) ≡ true) }
+            × ((is_full self.now.machine.plan || (awaits_motion self.now.lines.left || self.now.jogged)) ≡ true) }
         ensures no { result ≡ false → self.now.machine.hold.motion ≡ Idle → has_blocks self.now.machine.plan.blocks ≡ true
-            → (is_full self.now.machine.plan || awaits_motion self.now.lines.left) ≡ false }
+            → (is_full self.now.machine.plan || (awaits_motion self.now.lines.left || self.now.jogged)) ≡ false }
     {
-        self.machine.is_waiting() && (self.machine.is_full() || self.awaits_motion())
+        self.machine.is_waiting()
+            && (self.machine.is_full() || (self.awaits_motion() || self.jogged))
     }
 
-    /// Adds the moves that are next, as far as they have room, and starts queued blocks where no other has room, or what is
-    /// next waits for the motion.
+    /// Adds the moves that are next, as far as they have room, and starts queued blocks where no other has room, what is
+    /// next waits for the motion, or they are of a jog.
     pub(crate) fn fill(&mut self)
         requires { (h : Journal) × Keeps self.old h }
         ensures filled { (h : Journal) → Keeps self.old h → (next : Journal) × Keeps self.new next × HasFilled h next }
@@ -65,19 +74,28 @@ impl Controller {
     {
         self.add_moves();
         if self.needs_start() {
-            self.machine.start();
+            self.machine.start(self.jogged);
         }
     }
 
-    /// Where the flight has no room for another piece, looks how many ticks are done: then it has.
-    fn make_room<P: BoardPort>(&mut self, port: &mut P)
+    /// Whether it is looked how many ticks are done before a piece is published: it marks a cut, or the flight has no room
+    /// for it.
+    fn needs_look(&self, piece: Piece) -> bool
+        ensures { result ≡ false → (length self.now.flight.kept < flight_room) × (marks_cut piece ≡ false) }
+    {
+        self.flight.is_full() || is_cut(piece)
+    }
+
+    /// Looks how many ticks are done where the flight has no room for a piece more, and before a cut is published.
+    fn look_before<P: BoardPort>(&mut self, port: &mut P, piece: Piece)
         requires stands { (rest : P.Rest) × (h : Journal) × P.stands port.old rest (port_log h) × Keeps self.old h }
+        requires hand { self.old.machine.hand ≡ Some piece }
         ensures goes_on { (rest : P.Rest) (h : Journal) → P.stands port.old rest (port_log h) → Keeps self.old h
-            → (next : Journal) × P.stands port.new rest (port_log next) × Keeps self.new next × MayHaveLooked h next }
+            → (next : Journal) × P.stands port.new rest (port_log next) × Keeps self.new next × MayHaveLooked h next × IsTimely piece next }
         ensures room { length self.new.flight.kept < flight_room }
         ensures same { self.new ≡ record self.old { flight = self.new.flight } }
     {
-        if self.flight.is_full() {
+        if self.needs_look(piece) {
             let done = port.done();
             self.flight.learn(done);
         }
@@ -94,7 +112,7 @@ impl Controller {
         let Some(piece) = self.machine.hand else {
             return false;
         };
-        self.make_room(port);
+        self.look_before(port, piece);
         let Ok(()) = port.publish(piece) else {
             return false;
         };
@@ -204,10 +222,10 @@ impl Controller {
 
     /// Makes the end, and tries to publish it.
     pub(crate) fn finish<P: BoardPort>(&mut self, port: &mut P) -> Turn
-        requires stands { (rest : P.Rest) × (h : Journal) × P.stands port.old rest (port_log h) × Keeps self.old h × MayRun h × HasStopped h × IsNextTask finish h }
+        requires stands { (rest : P.Rest) × (h : Journal) × P.stands port.old rest (port_log h) × Keeps self.old h × MayRun h × MayFinish h × IsNextTask finish h }
         requires beat { self.old.beat ≡ Beat.Motion }
         requires flags { self.old.flags ≡ Flags.None }
-        ensures goes_on { (rest : P.Rest) (h : Journal) → P.stands port.old rest (port_log h) → Keeps self.old h → MayRun h → HasStopped h → IsNextTask finish h
+        ensures goes_on { (rest : P.Rest) (h : Journal) → P.stands port.old rest (port_log h) → Keeps self.old h → MayRun h → MayFinish h → IsNextTask finish h
             → WorksOn (P.stands port.new rest) result self.old.flags self.new h }
         ensures going { result ≢ Done }
     {

@@ -36,16 +36,20 @@ pub(crate) fn asks_reset(word: Exec) -> bool
 }
 
 impl Controller {
-    /// Looks how many ticks are done. A machine that has stopped is held where each is, and where nothing is left to
-    /// run and each is, the cycle is over.
+    /// Looks how many ticks are done. Where each is, what comes of a machine that has stopped comes, and where nothing is
+    /// left to run the cycle is over, or the jogs are.
     fn observe<P: BoardPort>(&mut self, port: &mut P)
         requires stands { (rest : P.Rest) × (h : Journal) × P.stands port.old rest (port_log h) × Keeps self.old h }
         ensures goes_on { (rest : P.Rest) (h : Journal) → P.stands port.old rest (port_log h) → Keeps self.old h
             → (next : Journal) × P.stands port.new rest (port_log next) × Keeps self.new next × HasObserved h next × Flies self.new.flight (published_of next) (known_of next) }
-        ensures same { self.new ≡ record self.old { machine = self.new.machine; flight = self.new.flight } }
+        ensures same { self.new ≡ record self.old { machine = self.new.machine; flight = self.new.flight; lines = self.new.lines; cut = self.new.cut } }
     {
         let done = port.done();
         self.flight.learn(done);
+        if self.machine.has_stopped(done) {
+            self.come_to_rest();
+            return;
+        }
         self.machine.observe(done);
     }
 
@@ -93,7 +97,7 @@ impl Controller {
         requires stands { (rest : P.Rest) × (h : Journal) × P.stands port.old rest (port_log h) × Keeps self.old h × IsToReport word h }
         ensures goes_on { (rest : P.Rest) (h : Journal) → P.stands port.old rest (port_log h) → Keeps self.old h → IsToReport word h
             → (next : Journal) × P.stands port.new rest (port_log next) × Keeps self.new next × IsReported result word next × IsBehind h next }
-        ensures same { self.new ≡ record self.old { machine = self.new.machine; flight = self.new.flight; owes = self.new.owes } }
+        ensures same { self.new ≡ record self.old { machine = self.new.machine; flight = self.new.flight; lines = self.new.lines; cut = self.new.cut; owes = self.new.owes } }
     {
         self.observe(port);
         let buffer = self.room(port);

@@ -73,7 +73,7 @@ calm n = each_line IsCalm n refl refl (λ i. let m = moved i in m.calm) refl
 of_opening : (n : ℕ) → 1 ≤ n → n ≤ 100000 → IsAccepted (job_text n) (job_lines n) (demo_asks opening.settings n) opening
 of_opening n some most =
     let all = all_accepted n some in
-    record { few = few n most; cut = cut_so n; outcomes = all.outcomes; last = all.last; follows = all.follows; accepted = all.none; asks = all.asks; anywhere = no_system n; calm = calm n }
+    record { few = few n most; cut = cut_so n; outcomes = all.outcomes; last = all.last; follows = all.follows; accepted = all.none; within = all.within; asks = all.asks; kinds = all.kinds; anywhere = no_system n; calm = calm n }
 
 pub accepted : (n : ℕ) (first : State) → 1 ≤ n → n ≤ 100000 → IsOpening first → IsAccepted (job_text n) (job_lines n) (demo_asks first.settings n) first
 accepted n first some most is =

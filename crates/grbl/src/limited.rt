@@ -2,7 +2,7 @@
 //! nothing in the toolchain ignores or holds back; so such a write fails here, and is not made.
 
 use std::fs::{self, File, Metadata};
-use std::io::{self, ErrorKind, Read, Stdout, Write};
+use std::io::{self, ErrorKind, Read, Stderr, Stdout, Write};
 use std::str;
 
 /// A writer, and how many more bytes it may take.
@@ -27,6 +27,17 @@ impl Limited<Stdout> {
         let room = room_of(rt, fs::metadata(rt, "/dev/stdout"));
         Limited {
             inner: rt.stdout(),
+            room,
+        }
+    }
+}
+
+impl Limited<Stderr> {
+    /// Standard error, which goes on where its file ends.
+    pub(crate) fn stderr(rt: &HostRuntime) -> Limited<Stderr> {
+        let room = room_of(rt, fs::metadata(rt, "/dev/stderr"));
+        Limited {
+            inner: rt.stderr(),
             room,
         }
     }

@@ -109,6 +109,6 @@ fn main(rt: HostRuntime) -> ExitCode {
     };
     let mut text = Text::new();
     put_fault(&status, &mut text);
-    let _ = rt.stderr().write_all(text.as_slice());
+    let _ = Limited::stderr(&rt).write_all(text.as_slice());
     ExitCode::from(exit_number(&status))
 }

@@ -1,10 +1,8 @@
 -- How a run ends, by what it told at its end.
-use Rattle.std.proofs.Common.{◌≡◌, ◌≢◌, ℕ, zero, suc, ◌+◌, ◌≤◌, Bool, true, false, cond, ◌||◌, List, [], ◌∷◌, ◌++◌, length, map, refl, sym, ap, ◌∙◌, subst, append-nil}
-use Rattle.std.specs.List.{AllByRecursion, list_any, take_while}
-use Rattle.std.specs.Io.KnownBytes.{Appends}
+use Rattle.std.proofs.Common.{◌≡◌, ◌≢◌, ℕ, zero, suc, ◌≤◌, Bool, true, false, cond, ◌||◌, List, [], ◌∷◌, ◌++◌, length, map, refl, sym, ap, ◌∙◌, subst, append-nil}
+use Rattle.std.specs.List.{AllByRecursion, list_any}
 use Rattle.std.proofs.lemmas.List.{take_all}
-use Rattle.outside.specs.Causes.{SourceState, SinkState}
-use Rattle.outside.specs.Writing.{Took}
+use Rattle.outside.specs.Causes.{SourceState}
 use Rattle.gcode_words.specs.Stripping.{plain}
 use Rattle.status_report.specs.declared.Reply.{Reply}
 use Rattle.status_report.specs.declared.Reply.TheVariants.{Bye}
@@ -12,91 +10,24 @@ use Rattle.step_line.specs.declared.Record.{Record}
 use Rattle.step_line.specs.Asking.{ticks_among}
 use Rattle.run_rules.specs.Lines.{lines_of}
 use Rattle.run_rules.specs.Readings.{largest_job, job_of}
-use Rattle.run_rules.specs.Work.{Outcome}
-use Rattle.run_rules.specs.Outcomes.{Before, Follows, start}
-use Rattle.run_rules.specs.Outcomes.Passed.{a_line}
-use Rattle.run_rules.specs.Told.{replies_text, asked_in, errors_in}
+use Rattle.run_rules.specs.Outcomes.{Follows, start}
+use Rattle.run_rules.specs.Told.{replies_text}
 use Rattle.stream_host.specs.declared.Reading.{Reading}
 use Rattle.stream_host.specs.declared.Reading.TheVariants.{Ended, Failed, Large, Stopped}
 use Rattle.stream_host.specs.declared.Stop.{Stop}
 use Rattle.stream_host.specs.declared.Stop.TheVariants as stops
-use Rattle.stream_host.specs.Jobs.{MayHaveRead, MayLeave, ends_sending, ends_in, is_long, holds_reset, is_sent, long_line, lines_to_send, stop_by}
+use Rattle.stream_host.specs.Jobs.{MayHaveRead, MayLeave, ends_sending, is_long, holds_reset, lines_to_send}
 use Rattle.stream_host.specs.Ran.{is_failed}
 use Rattle.stream_host.proofs.Pieces.{neither, all_are_sent}
 use Rattle.run_law.specs.declared.RunEnd.{RunEnd}
-use Rattle.planner_runs.specs.Driven.{IsDriven}
-use Rattle.run_law.specs.Runs.{Sinks, AreReports, asks_hold, asks_change, asks_reset, ends_program, IsRun}
-use Rattle.run_law.proofs.Completing.{complete, none_served}
+use Rattle.run_law.specs.Drives.{all_outcomes, all_passed, IsDrive, IsWholeDrive}
+use Rattle.run_law.specs.Runs.{Sinks, AreReports, asks_slow, slows_in, asks_change, asks_reset, ends_program, IsRun}
+use Rattle.run_law.proofs.Completing.{complete}
 use Rattle.grbl_app.specs.declared.status.Status.{Status}
-use Rattle.grbl_app.specs.declared.status.Status.TheVariants.{SourceFault, ConsoleFault, StepsFault, LongLine, Reset, TooLarge}
-use Rattle.grbl_app.specs.Ends.{by_errors, by_stop, status_of, EndsWith, IsWholeRun, HasLongLine, HasRun, HasCauses}
-
--- ---- why no more of a job was sent
-
-no_cause : (long reset : Bool) (lines : List (List ℕ)) → stops.End ≡ cond long (long_line lines) (cond reset stops.Reset stops.End) → (long ≡ false) × (reset ≡ false)
-no_cause true reset lines e = absurd cc
-no_cause false true lines e = absurd cc
-no_cause false false lines e = (refl, refl)
-
--- to the end of the job: it is not too large, no line is too long, and none has a reset
-record MeansEnd (r : Reading) (lines : List (List ℕ)) : Type 0 where
-  short : (list_any is_long lines ≡ false) × (list_any holds_reset lines ≡ false)
-  small : r ≡ Large → ⊥
-
-end_means : (r : Reading) (text : List ℕ) → stops.End ≡ stop_by r text → MeansEnd r (lines_of text)
-end_means Ended text e = record { short = no_cause (list_any is_long (lines_of text)) (list_any holds_reset (lines_of text)) (lines_of text) e; small = λ x. cc }
-end_means Failed text e = record { short = no_cause (list_any is_long (lines_of text)) (list_any holds_reset (lines_of text)) (lines_of text) e; small = λ x. cc }
-end_means Large text e = absurd cc
-end_means Stopped text e = record { short = no_cause (list_any is_long (lines_of text)) (list_any holds_reset (lines_of text)) (lines_of text) e; small = λ x. cc }
-
-not_large : {A : Type 0} (t r : Bool) (lines : List (List ℕ)) → stops.TooLarge ≡ cond t (long_line lines) (cond r stops.Reset stops.End) → A
-not_large true r lines e = absurd cc
-not_large false true lines e = absurd cc
-not_large false false lines e = absurd cc
-
-large_means : (r : Reading) (text : List ℕ) → stops.TooLarge ≡ stop_by r text → r ≡ Large
-large_means Ended text e = not_large (list_any is_long (lines_of text)) (list_any holds_reset (lines_of text)) (lines_of text) e
-large_means Failed text e = not_large (list_any is_long (lines_of text)) (list_any holds_reset (lines_of text)) (lines_of text) e
-large_means Large text e = refl
-large_means Stopped text e = not_large (list_any is_long (lines_of text)) (list_any holds_reset (lines_of text)) (lines_of text) e
-
-one_long : (k : ℕ) (t r : Bool) (lines : List (List ℕ)) → stops.LongLine k ≡ cond t (long_line lines) (cond r stops.Reset stops.End) → (t ≡ true) × (k ≡ length (take_while is_sent lines) + 1)
-one_long k true r lines e = (refl, cc)
-one_long k false true lines e = absurd cc
-one_long k false false lines e = absurd cc
-
-long_means : (k : ℕ) (r : Reading) (text : List ℕ) → stops.LongLine k ≡ stop_by r text
-    → (list_any is_long (lines_of text) ≡ true) × (k ≡ length (take_while is_sent (lines_of text)) + 1)
-long_means k Ended text e = one_long k (list_any is_long (lines_of text)) (list_any holds_reset (lines_of text)) (lines_of text) e
-long_means k Failed text e = one_long k (list_any is_long (lines_of text)) (list_any holds_reset (lines_of text)) (lines_of text) e
-long_means k Large text e = absurd cc
-long_means k Stopped text e = one_long k (list_any is_long (lines_of text)) (list_any holds_reset (lines_of text)) (lines_of text) e
-
-one_reset : (long reset : Bool) (lines : List (List ℕ)) → stops.Reset ≡ cond long (long_line lines) (cond reset stops.Reset stops.End) → (reset ≡ true) × (long ≡ false)
-one_reset true reset lines e = absurd cc
-one_reset false true lines e = (refl, refl)
-one_reset false false lines e = absurd cc
-
-reset_means : (r : Reading) (text : List ℕ) → stops.Reset ≡ stop_by r text → (list_any holds_reset (lines_of text) ≡ true) × (list_any is_long (lines_of text) ≡ false)
-reset_means Ended text e = one_reset (list_any is_long (lines_of text)) (list_any holds_reset (lines_of text)) (lines_of text) e
-reset_means Failed text e = one_reset (list_any is_long (lines_of text)) (list_any holds_reset (lines_of text)) (lines_of text) e
-reset_means Large text e = absurd cc
-reset_means Stopped text e = one_reset (list_any is_long (lines_of text)) (list_any holds_reset (lines_of text)) (lines_of text) e
-
-no_alarm : {A : Type 0} (k : ℕ) (t r : Bool) (lines : List (List ℕ)) → stops.Alarm k ≡ cond t (long_line lines) (cond r stops.Reset stops.End) → A
-no_alarm k true r lines e = absurd cc
-no_alarm k false true lines e = absurd cc
-no_alarm k false false lines e = absurd cc
-
-never_alarm : {A : Type 0} (k : ℕ) (r : Reading) (text : List ℕ) → stops.Alarm k ≡ stop_by r text → A
-never_alarm k Ended text e = no_alarm k (list_any is_long (lines_of text)) (list_any holds_reset (lines_of text)) (lines_of text) e
-never_alarm k Failed text e = no_alarm k (list_any is_long (lines_of text)) (list_any holds_reset (lines_of text)) (lines_of text) e
-never_alarm k Large text e = absurd cc
-never_alarm k Stopped text e = no_alarm k (list_any is_long (lines_of text)) (list_any holds_reset (lines_of text)) (lines_of text) e
-
--- no reset was scanned then
-not_reset : (r : Reading) (text : List ℕ) → stops.End ≡ stop_by r text → asks_reset text ≡ false
-not_reset r text e = none_served (lines_of text) (end_means r text e).short.1
+use Rattle.grbl_app.specs.declared.status.Status.TheVariants.{SourceFault, ConsoleFault, StepsFault, LongLine, Reset, Alarm, TooLarge}
+use Rattle.grbl_app.specs.Ends.{by_errors, by_stop, EndsWith, IsHaltedRun, HasRun, HasCauses}
+use Rattle.grbl_app.proofs.Stops.{end_means, large_means, long_means, reset_means, not_reset, by_end, by_job, scanned_to_long, scanned_to_reset}
+use Rattle.grbl_app.proofs.Halting.{whole_text, halted_run}
 
 -- ---- a job that was sent to its end
 
@@ -116,17 +47,18 @@ read_to_end Large text left well small leaves = absurd (small refl)
 read_to_end Stopped text left well small leaves = absurd leaves
 
 -- all of it was read, and each of its lines sent
-record SentAll (job_was job_is : SourceState) (was is : Sinks) (end : RunEnd) (run : IsRun job_was job_is was is end) : Type 0 where
-  over : run.reading ≡ Ended
-  few : length run.read ≤ largest_job
-  lines : run.lines ≡ lines_of run.read
-  all : run.read ≡ run.scanned
+pub record SentAll (job_was job_is : SourceState) (was is : Sinks) (end : RunEnd) (run : IsRun job_was job_is was is end) : Type 0 where
+  pub over : run.reading ≡ Ended
+  pub few : length run.read ≤ largest_job
+  pub lines : run.lines ≡ lines_of run.read
+  pub all : run.read ≡ run.scanned
 
-sent_all : (job_was job_is : SourceState) (was is : Sinks) (end : RunEnd) (run : IsRun job_was job_is was is end) → end.source_failed ≡ false → end.stop ≡ stops.End
+pub sent_all : (job_was job_is : SourceState) (was is : Sinks) (end : RunEnd) (run : IsRun job_was job_is was is end) → end.source_failed ≡ false → end.stop ≡ stops.End
     → SentAll job_was job_is was is end run
 sent_all job_was job_is was is end run well stop =
-    let sent = run.sent in
-    let why = end_means run.reading run.scanned (sym stop ∙ sent.cause) in
+    let by = by_end job_was job_is was is end run stop in
+    let sent = run.sent by.none in
+    let why = end_means run.reading run.scanned by.end in
     let none_over = none_ends (lines_of run.scanned) why.short.0 why.short.1 in
     let leaves = sent.scans.whole none_over.0 in
     let over : run.reading ≡ Ended = read_to_end run.reading run.scanned sent.scans.scans.left (sym run.failed ∙ well) why.small leaves in
@@ -143,16 +75,11 @@ sent_all job_was job_is was is end run well stop =
       lines = sent.sent ∙ ap (λ r. lines_to_send r (job_of run.read)) over ∙ ap (lines_to_send Ended) whole ∙ all_are_sent Ended run.read short;
     }
 
--- ---- what was written
-
-whole_text : (a b : SinkState) (failed : Bool) (text : List ℕ) → failed ≡ false → Took a b failed text → Appends a.held b.held text
-whole_text a b failed text well was = rw (was.whole, was.all well, append-nil was.front) was.held
-
 -- ---- the causes
 
-pub by_errors_not : (n : ℕ) → (by_errors n ≢ SourceFault) × (by_errors n ≢ ConsoleFault) × (by_errors n ≢ StepsFault) × (by_errors n ≢ TooLarge) × ((k : ℕ) → by_errors n ≢ LongLine k) × (by_errors n ≢ Reset)
-by_errors_not zero = ((λ e. cc), (λ e. cc), (λ e. cc), (λ e. cc), (λ k e. cc), (λ e. cc))
-by_errors_not (suc n) = ((λ e. cc), (λ e. cc), (λ e. cc), (λ e. cc), (λ k e. cc), (λ e. cc))
+pub by_errors_not : (n : ℕ) → (by_errors n ≢ SourceFault) × (by_errors n ≢ ConsoleFault) × (by_errors n ≢ StepsFault) × (by_errors n ≢ TooLarge) × ((k : ℕ) → by_errors n ≢ LongLine k) × (by_errors n ≢ Reset) × ((k : ℕ) → by_errors n ≢ Alarm k)
+by_errors_not zero = ((λ e. cc), (λ e. cc), (λ e. cc), (λ e. cc), (λ k e. cc), (λ e. cc), (λ k e. cc))
+by_errors_not (suc n) = ((λ e. cc), (λ e. cc), (λ e. cc), (λ e. cc), (λ k e. cc), (λ e. cc), (λ k e. cc))
 
 pub errors_have_run : (n : ℕ) → HasRun (by_errors n)
 errors_have_run zero = tt
@@ -170,6 +97,7 @@ by_cases job_was job_is was is end run true cf nf stop es ec en et = record {
   large = λ e. absurd cc;
   long = λ k e. absurd cc;
   reset = λ e. absurd cc;
+  alarm = λ k e. absurd cc;
   whole = λ w. absurd w;
   faultless = λ w. absurd w;
   complete = λ job source console steps. absurd (steps (run.steps.cause es));
@@ -182,6 +110,7 @@ by_cases job_was job_is was is end run false true nf stop es ec en et = record {
   large = λ e. absurd cc;
   long = λ k e. absurd cc;
   reset = λ e. absurd cc;
+  alarm = λ k e. absurd cc;
   whole = λ w. absurd w;
   faultless = λ w. absurd w;
   complete = λ job source console steps. absurd (console (run.console.cause ec));
@@ -194,6 +123,7 @@ by_cases job_was job_is was is end run false false true stop es ec en et = recor
   large = λ e. absurd cc;
   long = λ k e. absurd cc;
   reset = λ e. absurd cc;
+  alarm = λ k e. absurd cc;
   whole = λ w. absurd w;
   faultless = λ w. absurd w;
   complete = λ job source console steps. absurd (source (run.source en));
@@ -206,10 +136,11 @@ by_cases job_was job_is was is end run false false false stops.TooLarge es ec en
   large = λ e. record {
     read = run.read;
     taken = run.taken;
-    more = subst (λ r. MayHaveRead r (length run.read)) (large_means run.reading run.scanned (sym et ∙ run.sent.cause)) run.sent.fits;
+    more = subst (λ r. MayHaveRead r (length run.read)) (large_means run.reading run.scanned (by_job job_was job_is was is end run stops.TooLarge (λ e. cc) (λ j e. cc) et)) run.so_far.fits;
   };
   long = λ k e. absurd cc;
   reset = λ e. absurd cc;
+  alarm = λ k e. absurd cc;
   whole = λ w. absurd w;
   faultless = λ w. absurd w;
   complete = λ job source console steps. absurd (let e = sym (complete job_was job_is was is end run job en).stop ∙ et in cc);
@@ -221,16 +152,17 @@ by_cases job_was job_is was is end run false false false (stops.LongLine k) es e
   steps = λ e. absurd cc;
   large = λ e. absurd cc;
   long = λ j e.
-      let why = long_means k run.reading run.scanned (sym et ∙ run.sent.cause) in let same : j ≡ k = cc in record {
+      let by = scanned_to_long job_was job_is was is end run k et in let why = long_means k run.reading run.scanned (sym et ∙ by.cause) in let same : j ≡ k = cc in record {
         read = run.read;
         reading = run.reading;
         scanned = run.scanned;
         taken = run.taken;
-        scans = run.sent.scans;
+        scans = by.scans;
         some = why.0;
         first = same ∙ why.1;
       };
   reset = λ e. absurd cc;
+  alarm = λ k e. absurd cc;
   whole = λ w. absurd w;
   faultless = λ w. absurd w;
   complete = λ job source console steps. absurd (let e = sym (complete job_was job_is was is end run job en).stop ∙ et in cc);
@@ -243,22 +175,37 @@ by_cases job_was job_is was is end run false false false stops.Reset es ec en et
   large = λ e. absurd cc;
   long = λ k e. absurd cc;
   reset = λ e.
-      let why = reset_means run.reading run.scanned (sym et ∙ run.sent.cause) in record {
+      let by = scanned_to_reset job_was job_is was is end run et in let why = reset_means run.reading run.scanned (sym et ∙ by.cause) in record {
         read = run.read;
         reading = run.reading;
         scanned = run.scanned;
         taken = run.taken;
-        scans = run.sent.scans;
+        scans = by.scans;
         some = why.0;
         none = why.1;
       };
+  alarm = λ k e. absurd cc;
   whole = λ w. absurd w;
   faultless = λ w. absurd w;
   complete = λ job source console steps. absurd (let e = sym (complete job_was job_is was is end run job en).stop ∙ et in cc);
 }
-by_cases job_was job_is was is end run false false false (stops.Alarm k) es ec en et = never_alarm k run.reading run.scanned (sym et ∙ run.sent.cause)
+by_cases job_was job_is was is end run false false false (stops.Alarm k) es ec en et = record {
+  has_run = tt;
+  source = λ e. absurd cc;
+  console = λ e. absurd cc;
+  steps = λ e. absurd cc;
+  large = λ e. absurd cc;
+  long = λ j e. absurd cc;
+  reset = λ e. absurd cc;
+  alarm = λ j e. let same : k ≡ j = cc in subst (IsHaltedRun job_was job_is was is) same (halted_run job_was job_is was is end run k es ec et);
+  whole = λ w. absurd w;
+  faultless = λ w. absurd w;
+  complete = λ job source console steps. absurd (let e = sym (complete job_was job_is was is end run job en).stop ∙ et in cc);
+}
 by_cases job_was job_is was is end run false false false stops.End es ec en et =
-    let none = by_errors_not end.errors in let all = sent_all job_was job_is was is end run en et in let carried = run.whole (not_reset run.reading run.scanned (sym et ∙ run.sent.cause)) in record {
+    let none = by_errors_not end.errors in let all = sent_all job_was job_is was is end run en et in let by = by_end job_was job_is was is end run et in
+    let going : asks_reset run.scanned ≡ false = not_reset run.reading run.scanned by.end in let calm : run.last.alarmed ≡ false = sym (run.alarm going) ∙ by.none in
+    let carried = run.whole going calm in record {
       has_run = errors_have_run end.errors;
       source = λ e. absurd (none.0 e);
       console = λ e. absurd (none.1 e);
@@ -266,24 +213,28 @@ by_cases job_was job_is was is end run false false false stops.End es ec en et =
       large = λ e. absurd (none.3 e);
       long = λ k e. absurd (none.4 k e);
       reset = λ e. absurd (none.5 e);
+      alarm = λ k e. absurd (none.6 k e);
       whole = λ w. record {
         job = run.read;
         first = run.first;
-        outcomes = run.outcomes;
+        drive = run.drive;
         last = run.last;
         taken = run.taken;
         whole = run.at_end all.over;
         few = all.few;
         opening = run.opening;
-        answered = subst (λ (ls : List (List ℕ)). Follows true (start run.first) ls (map a_line run.outcomes) run.last) (carried.begun_are ∙ ap (map plain) all.lines) run.follows;
+        answered = subst (λ (ls : List (List ℕ)). Follows true (start run.first) ls (all_passed run.drive) run.last) (carried.begun_are ∙ ap (map plain) all.lines) run.follows;
+        calm = calm;
         replies = run.replies;
         told = run.told ∙ ap (λ (rs : List Reply). rs ++ Bye ∷ []) carried.said_are;
         console = whole_text was.console is.console end.console_failed (replies_text run.replies) ec run.console;
-        reports = subst (λ (text : List ℕ). AreReports run.first run.outcomes (ticks_among run.records) (lines_of run.read) text run.replies) (sym all.all)
-            (subst (λ (ls : List (List ℕ)). AreReports run.first run.outcomes (ticks_among run.records) ls run.scanned run.replies) all.lines
-            (subst (λ (ticks : List Record). AreReports run.first run.outcomes ticks run.lines run.scanned run.replies) carried.ticks_are run.reports));
+        reports = subst (λ (text : List ℕ). AreReports run.first run.drive (ticks_among run.records) (lines_of run.read) text run.replies) (sym all.all)
+            (subst (λ (ls : List (List ℕ)). AreReports run.first run.drive (ticks_among run.records) ls run.scanned run.replies) all.lines
+            (subst (λ (ticks : List Record). AreReports run.first run.drive ticks run.lines run.scanned run.replies) carried.ticks_are run.reports));
         records = run.records;
-        driven = subst (λ (text : List ℕ). IsDriven (asks_hold text) (asks_change text || ends_program run.outcomes) (asked_in run.outcomes) run.records) (sym all.all) carried.driven;
+        drives = subst (λ (text : List ℕ). IsDrive (asks_slow text) false (asks_change text || ends_program (all_outcomes run.drive)) (slows_in text) run.drive) (sym all.all)
+            (subst (λ (alarm : Bool). IsDrive (asks_slow run.scanned) alarm (asks_change run.scanned || ends_program (all_outcomes run.drive)) (slows_in run.scanned) run.drive) calm run.drives);
+        driven = subst (λ (text : List ℕ). IsWholeDrive (asks_slow text) (asks_change text || ends_program (all_outcomes run.drive)) run.drive run.records) (sym all.all) carried.driven;
         steps = whole_text was.steps is.steps end.steps_failed _ es run.steps;
         status_is = ap by_errors carried.errors;
       };

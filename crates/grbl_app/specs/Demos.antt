@@ -1,9 +1,10 @@
 -- A run of the generated job.
-use Rattle.std.specs.Prelude.{◌≡◌, ℕ, Bool, cond, List, Some, None}
+use Rattle.std.specs.Prelude.{◌≡◌, ℕ, Bool, cond, List, [], Some, None}
 use Rattle.outside.specs.Causes.{SourceState, SinkState}
 use Rattle.outside.specs.Writing.{Took}
 use Rattle.run_rules.specs.Told.{asked_in}
 use Rattle.run_law.specs.declared.RunEnd.{RunEnd}
+use Rattle.run_law.specs.Drives.{all_outcomes}
 use Rattle.run_law.specs.Runs.{IsRun}
 use Rattle.demo_job.specs.Jobs.{job_lines, job_text, summary}
 use Rattle.demo_law.specs.Asked.{demo_asks}
@@ -19,7 +20,7 @@ abbrev pub generated : List ℕ → SourceState
 generated left = record { left = Some left; faults = 0 }
 
 -- A run of the generated job of n moves, whose console keeps nothing. All its lines are sent and answered `ok`, and ask for
--- its moves: the steps are those of these moves. Then the console takes the line on the run: its lines, all of them `ok`, the
+-- its moves, of which none is cut: the steps are those of these moves. Then the console takes the line on the run: its lines, all of them `ok`, the
 -- events of its moves, and where the last of them goes; a front of that line where the console fails. The demo is done,
 -- unless a write of the steps failed, or of the console.
 pub record IsDemo (n : ℕ) (console_was console_is steps_was steps_is : SinkState) (status : Status) : Type 0 where
@@ -29,7 +30,8 @@ pub record IsDemo (n : ℕ) (console_was console_is steps_was steps_is : SinkSta
       (record { console = keeps_nothing; steps = steps_was }) (record { console = keeps_nothing; steps = steps_is }) end
   pub sent : run.lines ≡ job_lines n
   pub accepted : end.errors ≡ 0
-  pub asks : asked_in run.outcomes ≡ demo_asks run.first.settings n
+  pub uncut : run.drive.parts ≡ []
+  pub asks : asked_in (all_outcomes run.drive) ≡ demo_asks run.first.settings n
   pub console_failed : Bool
   pub console : Took console_was console_is console_failed (summary n)
   pub status_is : status ≡ cond end.steps_failed StepsFault (cond console_failed ConsoleFault Done)

@@ -1,13 +1,14 @@
 //! The program: a job is streamed, its lines are answered, and its step events are written.
 #![tactic(auto)]
 
-ghost use Rattle.std.specs.Prelude.{◌≡◌, ◌⊎◌, ℕ, IfOk, OnErr, map};
+ghost use Rattle.std.specs.Prelude.{◌≡◌, ◌⊎◌, ℕ, List, Some, IfOk, OnErr, map};
 ghost use Rattle.outside.specs.Causes.{Rose};
 ghost use Rattle.run_law.specs.Complete.{IsAcceptedJob};
 ghost use Rattle.command_line.specs.Command.{Asks, Refuses};
 ghost use Rattle.command_line.specs.declared.Task.TheVariants as tasks;
 ghost use Rattle.grbl_app.specs.Demos.{IsDemo};
-ghost use Rattle.grbl_app.specs.Ends.{EndsWith, IsWhole, IsWholeRun, IsFaultless, TookMore, HasLongLine, HasReset, HasNotBegun, HasRun, HasCauses};
+ghost use Rattle.grbl_app.specs.Statuses.{HasItsCause, CanFail, AreOne, TellsFaults};
+ghost use Rattle.grbl_app.specs.Ends.{EndsWith, IsWhole, IsWholeRun, IsHaltedRun, IsFaultless, TookMore, HasLongLine, HasReset, HasNotBegun, HasRun, HasCauses};
 
 mod demo;
 mod runs;
@@ -48,6 +49,9 @@ fn stream<
     ensures causes { IfOk result (λ status. HasCauses (So.state job.old) (So.state job.new)
         (record { console = Co.state console.old; steps = St.state steps.old })
         (record { console = Co.state console.new; steps = St.state steps.new }) status) }
+    ensures its_cause { IfOk result (λ status. HasItsCause (So.state job.old) (So.state job.new)
+        (record { console = Co.state console.old; steps = St.state steps.old })
+        (record { console = Co.state console.new; steps = St.state steps.new }) status) }
     ensures untouched { OnErr result ((job.new ≡ job.old) × (console.new ≡ console.old) × (steps.new ≡ steps.old)) }
 {
     let end = run_job(rt, alloc, seed, job, console, steps, gate)?;
@@ -57,11 +61,12 @@ fn stream<
 /// Runs the command that the words name; they do not hold the program's own name.
 ///
 /// `stream`: the job is read to its end, or up to its first 16,777,216 bytes. The banner, and what each line tells and
-/// is answered, go to the console; the step events and the marks of the lines answered `ok`, and `E`, to the steps. A
-/// sink that fails is given nothing more, and the run goes on to its end. Each of the four actors has a thread of its own, and
-/// passes the gate before each turn. Where a thread can't be started, its actor goes before or behind another one, and such a
-/// run may wait for ever. With `--lockstep SEED` the four take turns on this thread, in an order that the seed gives, and
-/// pass no gate.
+/// is answered, go to the console; the step events and the marks of the lines answered `ok`, and `E`, to the steps: all of them
+/// where no reset, alarm or record fault occurs, and no jog is cancelled. A line beyond a soft limit raises an alarm: nothing
+/// of it is done, the machine comes to a stop, and the run ends. A sink that fails is given nothing more, and the run goes on
+/// to its end. Each of the four actors has a thread of its own, and passes the gate before each turn. Where a thread can't be
+/// started, its actor goes before or behind another one, and such a run may wait for ever. With `--lockstep SEED` the four
+/// take turns on this thread, in an order that the seed gives, and pass no gate.
 ///
 /// `demo N`: the generated job of N moves is run in lockstep, with N as the seed. The console takes one line on the run, and the
 /// job is left as it is.
@@ -97,7 +102,30 @@ pub fn run_grbl<
     ensures reset { (seed : _) → Asks (tasks.Stream seed) (map (λ w. w.now) words.now) → result ≡ Status.Reset → HasReset (So.state job.old) (So.state job.new) }
     ensures long_line { (seed : _) (k : ℕ) → Asks (tasks.Stream seed) (map (λ w. w.now) words.now) → result ≡ Status.LongLine k → HasLongLine (So.state job.old) (So.state job.new) k }
 
-    // What is written, and the status, for every job and every fault.
+    // An alarm comes only of a line beyond a soft limit. What the lines before it tell, and the alarm, is on the console, and the
+    // first of their events are recorded, in order and each once.
+    ensures alarm { (seed : _) (k : ℕ) → Asks (tasks.Stream seed) (map (λ w. w.now) words.now) → result ≡ Status.Alarm k → IsHaltedRun (So.state job.old) (So.state job.new)
+        (record { console = Co.state console.old; steps = St.state steps.old })
+        (record { console = Co.state console.new; steps = St.state steps.new }) k }
+
+    // A run ends with the first status of the table whose cause there is, and with no other. Words that are refused end with
+    // Usage, or, as any words may, with OutOfMemory.
+    ensures its_cause { (seed : _) → Asks (tasks.Stream seed) (map (λ w. w.now) words.now) → HasRun result → HasItsCause (So.state job.old) (So.state job.new)
+        (record { console = Co.state console.old; steps = St.state steps.old })
+        (record { console = Co.state console.new; steps = St.state steps.new }) result }
+    ensures no_other { (seed : _) (bytes : List ℕ) (status : Status) → Asks (tasks.Stream seed) (map (λ w. w.now) words.now) → HasRun result → (So.state job.old).left ≡ Some bytes →
+        CanFail (So.state job.old) (record { console = Co.state console.old; steps = St.state steps.old }) →
+        HasItsCause (So.state job.old) (So.state job.new)
+        (record { console = Co.state console.old; steps = St.state steps.old })
+        (record { console = Co.state console.new; steps = St.state steps.new }) status → AreOne result status }
+    ensures first_fault { HasRun result → CanFail (So.state job.old) (record { console = Co.state console.old; steps = St.state steps.old }) →
+        TellsFaults (So.state job.old) (So.state job.new)
+        (record { console = Co.state console.old; steps = St.state steps.old })
+        (record { console = Co.state console.new; steps = St.state steps.new }) result }
+
+    // For every job and every interleaving of the threads' atomic steps, the recorded step events are, in order and each once,
+    // a prefix of the Bresenham events of the lines answered `ok`, and all of them where no reset, alarm or record fault occurs;
+    // a jog cancel keeps a prefix of the jogs and later moves start there; holds, resumes and overrides change no event.
     ensures run { (seed : _) → Asks (tasks.Stream seed) (map (λ w. w.now) words.now) → HasRun result → EndsWith (So.state job.old) (So.state job.new)
         (record { console = Co.state console.old; steps = St.state steps.old })
         (record { console = Co.state console.new; steps = St.state steps.new }) result }

@@ -20,12 +20,12 @@ use Rattle.step_line.specs.declared.planned_move.PlannedMove.{PlannedMove}
 use Rattle.step_line.specs.Counting.{events_of}
 use Rattle.step_line.specs.Asking.Asked.{a_move, a_mark, a_rest}
 use Rattle.run_rules.specs.declared.State.{State}
-use Rattle.run_rules.specs.Work.{Task, telling, asking}
-use Rattle.run_rules.specs.Work.Task.{ask, tell, pause, normal, finish}
+use Rattle.run_rules.specs.Work.{Task, soft_limit, halting_work, telling, asking}
+use Rattle.run_rules.specs.Work.Task.{ask, tell, pause, normal, finish, halt}
 use Rattle.run_rules.specs.Asks.{item_work, planned, move_asked}
 use Rattle.line_interpreter.specs.declared.tasks.Line.{Line}
 use Rattle.line_interpreter.specs.declared.tasks.Body.{Body}
-use Rattle.line_interpreter.specs.declared.tasks.Body.TheVariants.{Opening, Closing, Accepted, Refused, Settings as TheSettings, Modes, Offsets as TheOffsets, Items}
+use Rattle.line_interpreter.specs.declared.tasks.Body.TheVariants.{Opening, Closing, Accepted, Refused, Settings as TheSettings, Modes, Offsets as TheOffsets, Limited, Items}
 use Rattle.line_interpreter.specs.declared.tasks.Todo.{Todo}
 use Rattle.line_interpreter.specs.declared.tasks.Todo.TheVariants as todo
 use Rattle.line_interpreter.specs.Lefts.{IsTodo, IsNextOf, IsSettled, part, part_of, part_left, later, work_left}
@@ -75,6 +75,7 @@ TellsOnly x (ask a ∷ ts) = TellsOnly x ts
 TellsOnly x (pause ∷ ts) = TellsOnly x ts
 TellsOnly x (normal ∷ ts) = TellsOnly x ts
 TellsOnly x (finish ∷ ts) = TellsOnly x ts
+TellsOnly x (halt ∷ ts) = TellsOnly x ts
 
 first_told : (x r : Reply) (t : Task) (ts : List Task) → TellsOnly x (t ∷ ts) → IsNextOf (tell r) (t ∷ ts) → x ≡ r
 first_told x r (tell y) ts only e = let f : y ≡ r = cc in only.0 ∙ f
@@ -82,6 +83,7 @@ first_told x r (ask a) ts only e = absurd cc
 first_told x r pause ts only e = absurd cc
 first_told x r normal ts only e = absurd cc
 first_told x r finish ts only e = absurd cc
+first_told x r halt ts only e = absurd cc
 
 none_first : (t : Task) → IsNextOf t [] → ⊥
 none_first t e = cc
@@ -95,11 +97,27 @@ only_told x r (ask a ∷ ts) (suc k) only e = only_told x r ts k only e
 only_told x r (pause ∷ ts) (suc k) only e = only_told x r ts k only e
 only_told x r (normal ∷ ts) (suc k) only e = only_told x r ts k only e
 only_told x r (finish ∷ ts) (suc k) only e = only_told x r ts k only e
+only_told x r (halt ∷ ts) (suc k) only e = only_told x r ts k only e
 
 pub ok_told : (rs : List Reply) (k : ℕ) (r : Reply) → length rs ≤ k → IsNextOf (tell r) (drop k (telling (rs ++ replies.Ok ∷ []))) → replies.Ok ≡ r
 ok_told [] k r few e = only_told replies.Ok r (tell replies.Ok ∷ []) k (refl, tt) e
 ok_told (x ∷ rs) zero r few e = absurd (omega (arith, few))
 ok_told (x ∷ rs) (suc k) r few e = ok_told rs k r (omega (arith, few)) e
+
+-- a halt is told by the alarm, and then by its message
+pub alarm_told : (k : ℕ) (r : Reply) → k ≡ 1 → IsNextOf (tell r) (drop k halting_work) → replies.Alarm soft_limit ≡ r
+alarm_told k r is e =
+    let f : IsNextOf (tell r) (drop 1 halting_work) = subst (λ (n : ℕ). IsNextOf (tell r) (drop n halting_work)) is e in
+    same_reply (drop 1 halting_work) (replies.Alarm soft_limit) r refl f
+
+behind_alarm : (k : ℕ) (r : Reply) → (k ≡ 0 → ⊥) → IsNextOf (tell r) (drop k (tell (replies.Alarm soft_limit) ∷ tell (replies.Message messages.ResetToContinue) ∷ []))
+    → replies.Message messages.ResetToContinue ≡ r
+behind_alarm zero r other e = absurd (other refl)
+behind_alarm (suc k) r other e = only_told (replies.Message messages.ResetToContinue) r (tell (replies.Message messages.ResetToContinue) ∷ []) k (refl, tt) e
+
+pub message_told : (k : ℕ) (r : Reply) → (k ≡ 1 → ⊥) → IsNextOf (tell r) (drop k halting_work) → replies.Message messages.ResetToContinue ≡ r
+message_told zero r other e = absurd cc
+message_told (suc k) r other e = behind_alarm k r (λ first. other (omega (arith, first))) e
 
 -- of the items none but a program's end tells something
 item_only : (line : ℕ) (s : Settings) (spindle : SpindleMode) (flood : Bool) (item : Item) → TellsOnly (replies.Message messages.ProgramEnd) (item_work line s spindle flood item)
@@ -144,6 +162,7 @@ NoMoves (tell r ∷ ts) = NoMoves ts
 NoMoves (pause ∷ ts) = NoMoves ts
 NoMoves (normal ∷ ts) = NoMoves ts
 NoMoves (finish ∷ ts) = NoMoves ts
+NoMoves (halt ∷ ts) = NoMoves ts
 
 no_move : (m : PlannedMove) (w : List Task) (k : ℕ) → NoMoves w → IsNextOf (ask (a_move m)) (drop k w) → ⊥
 no_move m [] zero none e = none_first (ask (a_move m)) e
@@ -155,12 +174,14 @@ no_move m (tell r ∷ ts) zero none e = cc
 no_move m (pause ∷ ts) zero none e = cc
 no_move m (normal ∷ ts) zero none e = cc
 no_move m (finish ∷ ts) zero none e = cc
+no_move m (halt ∷ ts) zero none e = cc
 no_move m (ask (a_mark x) ∷ ts) (suc k) none e = no_move m ts k none e
 no_move m (ask a_rest ∷ ts) (suc k) none e = no_move m ts k none e
 no_move m (tell r ∷ ts) (suc k) none e = no_move m ts k none e
 no_move m (pause ∷ ts) (suc k) none e = no_move m ts k none e
 no_move m (normal ∷ ts) (suc k) none e = no_move m ts k none e
 no_move m (finish ∷ ts) (suc k) none e = no_move m ts k none e
+no_move m (halt ∷ ts) (suc k) none e = no_move m ts k none e
 
 told_no_moves : (rs : List Reply) → NoMoves (telling rs)
 told_no_moves [] = tt
@@ -221,6 +242,7 @@ part_moves (Refused n) line s spindle flood all place k m e = absurd (no_move m 
 part_moves TheSettings line s spindle flood all place k m e = absurd (no_move m _ k (told_no_moves (setting_replies s.settings ++ replies.Ok ∷ [])) e)
 part_moves Modes line s spindle flood all place k m e = absurd (no_move m _ k tt e)
 part_moves TheOffsets line s spindle flood all place k m e = absurd (no_move m _ k (told_no_moves (offset_replies s.parser.offsets ++ replies.Ok ∷ [])) e)
+part_moves Limited line s spindle flood all place k m e = absurd (no_move m _ k tt e)
 part_moves Items line s spindle flood all place k m e = items_move line s spindle flood all place k m e
 
 pub next_move : (l : Line) (s : State) (m : PlannedMove) → IsNextOf (ask (a_move m)) (part_left l s) → IsMoveAt l.number s.settings l.items.items l.place m
@@ -278,6 +300,7 @@ todo_by todo.Tell w later settled e = (e.0, next_on (tell e.0) w later e.1)
 todo_by todo.Pause w later settled e = next_on pause w later e
 todo_by todo.Normal w later settled e = next_on normal w later e
 todo_by todo.Finish w later settled e = next_on finish w later e
+todo_by todo.Halt w later settled e = next_on halt w later e
 
 -- ---- a part is done
 
@@ -379,6 +402,7 @@ part_few (Refused n) line s spindle flood all = omega arith
 part_few TheSettings line s spindle flood all = let few = settings_few s.settings in omega (arith, few)
 part_few Modes line s spindle flood all = omega arith
 part_few TheOffsets line s spindle flood all = let few = offsets_few s.parser.offsets in omega (arith, few)
+part_few Limited line s spindle flood all = omega arith
 part_few Items line s spindle flood [] = omega arith
 part_few Items line s spindle flood (item ∷ all) = item_few line s.settings spindle flood item
 

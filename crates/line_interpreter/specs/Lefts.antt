@@ -10,12 +10,12 @@ use Rattle.gcode_check.specs.declared.Item.{Item}
 use Rattle.gcode_check.specs.Items.{IsItem}
 use Rattle.modal_state.specs.declared.SpindleMode.{SpindleMode}
 use Rattle.run_rules.specs.declared.State.{State}
-use Rattle.run_rules.specs.Work.{Task, telling, closing_work}
-use Rattle.run_rules.specs.Work.Task.{ask, tell, pause, normal, finish}
+use Rattle.run_rules.specs.Work.{Task, telling, closing_work, halting_work}
+use Rattle.run_rules.specs.Work.Task.{ask, tell, pause, normal, finish, halt}
 use Rattle.run_rules.specs.Asks.{spindle_after, flood_after, item_work, work_of}
 use Rattle.line_interpreter.specs.declared.tasks.Line.{Line}
 use Rattle.line_interpreter.specs.declared.tasks.Body.{Body}
-use Rattle.line_interpreter.specs.declared.tasks.Body.TheVariants.{Opening, Closing, Accepted, Refused, Settings as TheSettings, Modes, Offsets, Items}
+use Rattle.line_interpreter.specs.declared.tasks.Body.TheVariants.{Opening, Closing, Accepted, Refused, Settings as TheSettings, Modes, Offsets, Limited, Items}
 use Rattle.line_interpreter.specs.declared.tasks.Todo.{Todo}
 use Rattle.line_interpreter.specs.declared.tasks.Todo.TheVariants as todo
 
@@ -28,6 +28,7 @@ part (Refused n) line s spindle flood items = tell (replies.Error n) ∷ []
 part TheSettings line s spindle flood items = telling (setting_replies s.settings ++ replies.Ok ∷ [])
 part Modes line s spindle flood items = telling (modes_replies s.parser ++ replies.Ok ∷ [])
 part Offsets line s spindle flood items = telling (offset_replies s.parser.offsets ++ replies.Ok ∷ [])
+part Limited line s spindle flood items = halting_work
 part Items line s spindle flood [] = tell replies.Ok ∷ []
 part Items line s spindle flood (item ∷ items) = item_work line s.settings spindle flood item
 
@@ -40,6 +41,7 @@ behind_part (Refused n) line s spindle flood items = []
 behind_part TheSettings line s spindle flood items = []
 behind_part Modes line s spindle flood items = []
 behind_part Offsets line s spindle flood items = []
+behind_part Limited line s spindle flood items = []
 behind_part Items line s spindle flood [] = []
 behind_part Items line s spindle flood (item ∷ items) =
     work_of line s.settings (spindle_after spindle item) (flood_after flood item) items ++ tell replies.Ok ∷ []
@@ -76,6 +78,7 @@ IsTodo todo.Tell tasks = (r : Reply) × IsNextOf (tell r) tasks
 IsTodo todo.Pause tasks = IsNextOf pause tasks
 IsTodo todo.Normal tasks = IsNextOf normal tasks
 IsTodo todo.Finish tasks = IsNextOf finish tasks
+IsTodo todo.Halt tasks = IsNextOf halt tasks
 
 -- the fields of a line are in range
 pub record IsSound (l : Line) : Type 0 where

@@ -3,12 +3,16 @@
 ghost use Rattle.std.specs.Prelude.{◌≡◌, ◌≢◌, ◌∷◌, ◌+◌, ◌≤◌, ◌<◌, ◌^◌, ℕ, Bool, List, [], All, length, Ok, Some, slice_get, true, false, not, drop, ◌&&◌};
 ghost use Rattle.gcode_words.specs.Words.{IsSmallWord, words_of};
 ghost use Rattle.gcode_check.specs.Verdicts.{verdict};
-ghost use Rattle.system_lines.specs.Commands.{command_of, kind_of, needs_rest};
-ghost use Rattle.system_lines.specs.Setting.{apply_refusal};
+ghost use Rattle.modal_state.specs.Modes.{rebased};
+ghost use Rattle.units.specs.Lengths.{IsPlace};
+ghost use Rattle.jog.specs.Jogs.{IsJog, jog_of, jogged};
+ghost use Rattle.system_lines.specs.Commands.{command_of, jog_words};
+ghost use Rattle.settings.specs.Numbers.{set_refusal};
 ghost use Rattle.run_rules.specs.States.{IsState, IsOpening};
 ghost use Rattle.run_rules.specs.Work.{Outcome, telling, closing_work};
-ghost use Rattle.run_rules.specs.Outcomes.{refused, fault_number, BySetting, ByCommand, ByVerdict, ByWords};
-ghost use Rattle.line_interpreter.specs.Finding.{ByDollarFound, ByKeptFound, Found};
+ghost use Rattle.run_rules.specs.Outcomes.{refused, limited, fault_number, BySetting, ByCommand, ByVerdict, ByWords, ByJog, ByJogMove, jogging};
+ghost use Rattle.run_rules.specs.Finding.{ByDollarFound, ByCodeFound, ByKeptFound, Found};
+ghost use Rattle.line_interpreter.specs.Since.{Since};
 ghost use Rattle.line_interpreter.specs.Keeping.{IsKept};
 ghost use Rattle.line_interpreter.specs.Lefts.{IsSound, IsSettled, IsTodo, IsNextOf, work_left};
 ghost use Rattle.run_rules.specs.Work.Task.{ask, tell};
@@ -21,14 +25,15 @@ ghost use Rattle.step_line.specs.declared.planned_move.PlannedMove.{PlannedMove 
 ghost use Rattle.line_interpreter.specs.Desks.{IsReady, standing, Begun};
 
 use crate::kept::KeptLine;
-use crate::tasks::{Body, Line, Running, Todo};
-use gcode_check::{Refusal, take_line};
+use crate::tasks::{Body, Line, Todo};
+use gcode_check::{Item, Refusal, take_line};
 use gcode_words::{WordFault, Words, read_words};
-use run_rules::State;
+use jog::{JogMove, check_jog};
+use run_rules::{Machine, State};
 use status_report::Reply;
 use step_line::PlannedMove;
-use system_lines::{Command, Kind, apply_setting, read_command};
-use units::Decimal;
+use system_lines::{Command, Kind, apply_setting, jog_words, read_command};
+use units::{Decimal, Steps3};
 
 /// The state that the lines begun so far leave, the number of the next line, the line in execution, and a list into
 /// which the words of each line are read.
@@ -40,6 +45,17 @@ pub(crate) struct Desk {
     pub(crate) words: Words,
 }
 
+/// What is accepted where a line is begun.
+#[derive(Clone, Copy, Debug, PartialEq, Eq)]
+pub enum Accepted {
+    /// A line of G-code.
+    Code,
+    /// A jog.
+    Jog,
+    /// Neither: the line is refused, a soft limit stops it, it is empty, or it begins with `$` and is no jog.
+    Neither,
+}
+
 /// The error of words that can't be read.
 fn fault_number(fault: WordFault) -> u8
     ensures { result ≡ fault_number fault }
@@ -48,14 +64,6 @@ fn fault_number(fault: WordFault) -> u8
         WordFault::Letter => 1,
         WordFault::Number => 2,
     }
-}
-
-/// Whether a line that begins with `$` is refused because the machine runs.
-fn is_busy(kept: &[u8], running: bool) -> bool
-    requires dollar { slice_get kept.now 0 ≡ Some 36 }
-    ensures { result ≡ (running && needs_rest (kind_of kept.now)) }
-{
-    running && Kind::of(kept).needs_rest()
 }
 
 impl Desk {
@@ -86,36 +94,47 @@ impl Desk {
     }
 
     /// The line is refused.
-    fn refuse(&mut self, number: u8) -> bool
+    fn refuse(&mut self, number: u8) -> Accepted
         requires ready { IsReady self.old }
-        ensures begun { (moved : Bool) → Begun self.new (refused (standing self.old moved) number) result }
+        ensures begun { (since : Since) → Begun self.new (refused (standing self.old since) number) result }
         ensures number { self.new.number ≡ self.old.number }
         ensures ready { IsReady self.new }
     {
         self.begin(Body::Refused(number));
-        false
+        Accepted::Neither
+    }
+
+    /// A soft limit stops the line.
+    fn limit(&mut self) -> Accepted
+        requires ready { IsReady self.old }
+        ensures begun { (since : Since) → Begun self.new (limited (standing self.old since)) result }
+        ensures number { self.new.number ≡ self.old.number }
+        ensures ready { IsReady self.new }
+    {
+        self.begin(Body::Limited);
+        Accepted::Neither
     }
 
     /// Sets a setting.
-    fn set(&mut self, n: u8, value: Decimal) -> bool
+    fn set(&mut self, n: u8, value: Decimal) -> Accepted
         requires ready { IsReady self.old }
-        ensures begun { (moved : Bool) → (o : Outcome) × BySetting (standing self.old moved) n value (apply_refusal n value) o × Begun self.new o result }
+        ensures begun { (since : Since) → (o : Outcome) × BySetting (standing self.old since) n value (set_refusal n value) o × Begun self.new o result }
         ensures number { self.new.number ≡ self.old.number }
         ensures ready { IsReady self.new }
     {
         match apply_setting(&mut self.state.settings, n, value) {
             Ok(()) => {
                 self.begin(Body::Accepted);
-                true
+                Accepted::Neither
             }
             Err(code) => self.refuse(code.0),
         }
     }
 
     /// Does what a `$` line asks for.
-    fn obey(&mut self, command: Command) -> bool
+    fn obey(&mut self, command: Command) -> Accepted
         requires ready { IsReady self.old }
-        ensures begun { (moved : Bool) → (o : Outcome) × ByCommand (standing self.old moved) (Ok command) o × Begun self.new o result }
+        ensures begun { (since : Since) → (o : Outcome) × ByCommand (standing self.old since) (Ok command) o × Begun self.new o result }
         ensures number { self.new.number ≡ self.old.number }
         ensures ready { IsReady self.new }
     {
@@ -126,14 +145,14 @@ impl Desk {
             Command::ListModes => self.begin(Body::Modes),
             Command::ListOffsets => self.begin(Body::Offsets),
         }
-        true
+        Accepted::Neither
     }
 
     /// Judges a line that begins with `$`.
-    fn judge_command(&mut self, kept: &[u8]) -> bool
+    fn judge_command(&mut self, kept: &[u8]) -> Accepted
         requires dollar { slice_get kept.now 0 ≡ Some 36 }
         requires ready { IsReady self.old }
-        ensures begun { (moved : Bool) → (o : Outcome) × ByCommand (standing self.old moved) (command_of kept.now) o × Begun self.new o result }
+        ensures begun { (since : Since) → (o : Outcome) × ByCommand (standing self.old since) (command_of kept.now) o × Begun self.new o result }
         ensures number { self.new.number ≡ self.old.number }
         ensures ready { IsReady self.new }
     {
@@ -144,10 +163,10 @@ impl Desk {
     }
 
     /// Judges the words of a line of G-code.
-    fn judge_words(&mut self) -> bool
+    fn judge_words(&mut self) -> Accepted
         requires words { All IsSmallWord self.old.words.items }
         requires ready { IsReady self.old }
-        ensures begun { (moved : Bool) → (o : Outcome) × ByVerdict (standing self.old moved) (verdict self.old.state.parser self.old.state.settings self.old.words.items) o × Begun self.new o result }
+        ensures begun { (since : Since) → (o : Outcome) × ByVerdict (standing self.old since) (verdict self.old.state.parser self.old.state.settings self.old.words.items) o × Begun self.new o result }
         ensures number { self.new.number ≡ self.old.number }
         ensures ready { IsReady self.new }
     {
@@ -159,27 +178,19 @@ impl Desk {
             &mut self.line.items,
         ) {
             Ok(()) => {
-                self.line.body = Body::Items;
-                self.line.number = self.number;
-                self.line.running = Running {
-                    spindle: modal.spindle,
-                    flood: modal.flood,
-                };
-                self.line.place = 0;
-                self.line.stage = 0;
-                true
+                self.line.begin_items(self.number, &modal);
+                Accepted::Code
             }
             Err(Refusal::Error(code)) => self.refuse(code.0),
-            // No soft limit is on.
-            Err(Refusal::SoftLimit) => unreachable!(),
+            Err(Refusal::SoftLimit) => self.limit(),
         }
     }
 
     /// Judges a line of G-code.
-    fn judge_code(&mut self, kept: &[u8]) -> bool
+    fn judge_code(&mut self, kept: &[u8]) -> Accepted
         requires short { length kept.now ≤ 79 }
         requires ready { IsReady self.old }
-        ensures begun { (moved : Bool) → (o : Outcome) × ByWords (standing self.old moved) (words_of kept.now) o × Begun self.new o result }
+        ensures begun { (since : Since) → (o : Outcome) × ByWords (standing self.old since) (words_of kept.now) o × Begun self.new o result }
         ensures number { self.new.number ≡ self.old.number }
         ensures ready { IsReady self.new }
     {
@@ -189,62 +200,127 @@ impl Desk {
         }
     }
 
-    /// Judges a line that begins with `$`, while the machine runs or not.
-    fn judge_dollar(&mut self, kept: &[u8], running: bool) -> bool
-        requires dollar { slice_get kept.now 0 ≡ Some 36 }
+    /// Judges a line of G-code where the machine is found so: in a jog it is refused.
+    fn judge_code_found(&mut self, kept: &[u8], machine: Machine) -> Accepted
+        requires short { length kept.now ≤ 79 }
         requires ready { IsReady self.old }
-        ensures begun { (moved : Bool) → (o : Outcome) × ByDollarFound running (standing self.old moved) kept.now o × Begun self.new o result }
+        ensures begun { (since : Since) → (o : Outcome) × ByCodeFound machine (standing self.old since) kept.now o × Begun self.new o result }
         ensures number { self.new.number ≡ self.old.number }
         ensures ready { IsReady self.new }
     {
-        if is_busy(kept, running) {
+        if machine.locks() {
+            return self.refuse(9);
+        }
+        self.judge_code(kept)
+    }
+
+    /// The line asks for the move of a jog, whose target becomes the position.
+    fn begin_jog(&mut self, jog: &JogMove)
+        requires jog { IsJog jog.now }
+        requires ready { IsReady self.old }
+        ensures begun { (since : Since) → Begun self.new (jogging (standing self.old since) jog.now) Accepted.Jog }
+        ensures number { self.new.number ≡ self.old.number }
+        ensures ready { IsReady self.new }
+    {
+        let modal = self.state.parser.modal;
+        jog.finish(&mut self.state.parser);
+        self.line.items.clear();
+        self.line.items.push(Item::Move(jog.mv, jog.rate));
+        self.line.begin_items(self.number, &modal);
+    }
+
+    /// Judges the words of a jog.
+    fn judge_jog_words(&mut self) -> Accepted
+        requires words { All IsSmallWord self.old.words.items }
+        requires ready { IsReady self.old }
+        ensures begun { (since : Since) → (o : Outcome) × ByJogMove (standing self.old since) (jog_of self.old.state.parser self.old.state.settings self.old.words.items) o × Begun self.new o result }
+        ensures number { self.new.number ≡ self.old.number }
+        ensures ready { IsReady self.new }
+    {
+        match check_jog(&self.state.parser, &self.state.settings, &self.words) {
+            Ok(jog) => {
+                self.begin_jog(&jog);
+                Accepted::Jog
+            }
+            Err(code) => self.refuse(code.0),
+        }
+    }
+
+    /// Judges a jog, a line that begins with `$J=`.
+    fn judge_jog(&mut self, kept: &[u8]) -> Accepted
+        requires short { length kept.now ≤ 79 }
+        requires ready { IsReady self.old }
+        ensures begun { (since : Since) → (o : Outcome) × ByJog (standing self.old since) (words_of (jog_words kept.now)) o × Begun self.new o result }
+        ensures number { self.new.number ≡ self.old.number }
+        ensures ready { IsReady self.new }
+    {
+        match read_words(jog_words(kept), &mut self.words) {
+            Ok(()) => self.judge_jog_words(),
+            Err(fault) => self.refuse(fault_number(fault)),
+        }
+    }
+
+    /// Judges a line that begins with `$`, where the machine is found so.
+    fn judge_dollar(&mut self, kept: &[u8], machine: Machine) -> Accepted
+        requires dollar { slice_get kept.now 0 ≡ Some 36 }
+        requires short { length kept.now ≤ 79 }
+        requires ready { IsReady self.old }
+        ensures begun { (since : Since) → (o : Outcome) × ByDollarFound machine (standing self.old since) kept.now o × Begun self.new o result }
+        ensures number { self.new.number ≡ self.old.number }
+        ensures ready { IsReady self.new }
+    {
+        let kind = Kind::of(kept);
+        if machine.refuses(kind) {
             return self.refuse(8);
+        }
+        if kind.is_jog() {
+            return self.judge_jog(kept);
         }
         self.judge_command(kept)
     }
 
-    /// Judges a line of which these bytes are kept, while the machine runs or not.
-    fn judge_kept(&mut self, kept: &[u8], running: bool) -> bool
+    /// Judges a line of which these bytes are kept, where the machine is found so.
+    fn judge_kept(&mut self, kept: &[u8], machine: Machine) -> Accepted
         requires short { length kept.now ≤ 79 }
         requires ready { IsReady self.old }
-        ensures begun { (moved : Bool) → (o : Outcome) × ByKeptFound running (standing self.old moved) kept.now o × Begun self.new o result }
+        ensures begun { (since : Since) → (o : Outcome) × ByKeptFound machine (standing self.old since) kept.now o × Begun self.new o result }
         ensures number { self.new.number ≡ self.old.number }
         ensures ready { IsReady self.new }
     {
         match kept.first() {
             None => {
                 self.begin(Body::Accepted);
-                true
+                Accepted::Neither
             }
-            Some(b'$') => self.judge_dollar(kept, running),
-            Some(_) => self.judge_code(kept),
+            Some(b'$') => self.judge_dollar(kept, machine),
+            Some(_) => self.judge_code_found(kept, machine),
         }
     }
 
-    /// Judges a line, while the machine runs or not.
-    fn judge_line(&mut self, line: &KeptLine, running: bool) -> bool
+    /// Judges a line, where the machine is found so.
+    fn judge_line(&mut self, line: &KeptLine, machine: Machine) -> Accepted
         requires ready { IsReady self.old }
-        ensures begun { (moved : Bool) (kept : List ℕ) → IsKept line.now kept → (o : Outcome) × Found running (standing self.old moved) kept o × Begun self.new o result }
+        ensures begun { (since : Since) (kept : List ℕ) → IsKept line.now kept → (o : Outcome) × Found machine (standing self.old since) kept o × Begun self.new o result }
         ensures number { self.new.number ≡ self.old.number }
         ensures ready { IsReady self.new }
     {
         match line.bytes() {
-            Some(kept) => self.judge_kept(kept, running),
+            Some(kept) => self.judge_kept(kept, machine),
             None => self.refuse(11),
         }
     }
 
-    /// Judges the next line, and goes on to its first task. Answers whether it is accepted.
-    pub(crate) fn judge(&mut self, line: &KeptLine, running: bool) -> bool
+    /// Judges the next line, and goes on to its first task. Answers what is accepted.
+    pub(crate) fn judge(&mut self, line: &KeptLine, machine: Machine) -> Accepted
         requires ready { IsReady self.old }
         requires few { self.old.number + 1 < 2 ^ 32 }
-        ensures begun { (moved : Bool) (kept : List ℕ) → IsKept line.now kept →
-            (o : Outcome) × Found running (standing self.old moved) kept o × Begun self.new o result }
+        ensures begun { (since : Since) (kept : List ℕ) → IsKept line.now kept →
+            (o : Outcome) × Found machine (standing self.old since) kept o × Begun self.new o result }
         ensures number { self.new.number ≡ self.old.number + 1 }
         ensures ready { IsReady self.new }
         ensures settled { IsSettled self.new.line self.new.state }
     {
-        let accepted = self.judge_line(line, running);
+        let accepted = self.judge_line(line, machine);
         self.line.settle();
         self.number += 1;
         accepted
@@ -292,6 +368,20 @@ impl Desk {
         ensures planned { IsPlannedMove result }
     {
         self.line.part_move(&self.state)
+    }
+
+    /// The place becomes the position from which the next line is judged.
+    pub(crate) fn rebase(&mut self, at: Steps3)
+        requires place { IsPlace at }
+        requires ready { IsReady self.old }
+        ensures same { self.new ≡ record self.old { state = record self.old.state { parser = rebased self.old.state.parser at self.old.state.settings.limits.per_mm } } }
+        ensures ready { IsReady self.new }
+        ensures left { work_left self.new.line self.new.state ≡ work_left self.old.line self.old.state }
+        ensures settled { IsSettled self.old.line self.old.state → IsSettled self.new.line self.new.state }
+    {
+        self.state
+            .parser
+            .rebase(at, &self.state.settings.limits.per_mm);
     }
 
     /// What there was to do next is done.

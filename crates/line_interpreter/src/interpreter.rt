@@ -1,32 +1,36 @@
 //! The interpreter.
 
-ghost use Rattle.std.specs.Prelude.{◌≡◌, ◌≢◌, ◌+◌, ◌<◌, ◌^◌, ℕ, Bool, List, [], ◌∷◌, drop, not, true, false};
+ghost use Rattle.std.specs.Prelude.{◌≡◌, ◌≢◌, ◌+◌, ◌<◌, ◌^◌, ℕ, Bool, List, [], ◌∷◌, drop, not, ◌||◌, true, false};
 ghost use Rattle.status_report.specs.declared.Reply.TheVariants as replies;
 ghost use Rattle.run_rules.specs.States.{IsState, IsOpening};
 ghost use Rattle.run_rules.specs.Work.{Outcome, telling, closing_work};
-ghost use Rattle.run_rules.specs.Told.{is_error};
 ghost use Rattle.run_rules.specs.Outcomes.{Before, Becomes};
 ghost use Rattle.line_interpreter.specs.Keeping.{IsKept};
-ghost use Rattle.line_interpreter.specs.Finding.{Found};
+ghost use Rattle.run_rules.specs.Finding.{Found};
+ghost use Rattle.line_interpreter.specs.Since.{Since};
 ghost use Rattle.line_interpreter.specs.Lefts.{IsTodo, IsNextOf};
 ghost use Rattle.run_rules.specs.Work.Task.{ask, tell};
 ghost use Rattle.status_report.specs.Replies.{IsReply};
 ghost use Rattle.status_report.specs.Answering.{is_report};
 ghost use Rattle.run_rules.specs.Reports.{Shows, has_room, shows_room};
 ghost use Rattle.units.specs.Lengths.{IsPlace};
+ghost use Rattle.modal_state.specs.Modes.{rebased};
 ghost use Rattle.status_report.specs.declared.Reply.{Reply as AnyReply};
 ghost use Rattle.step_line.specs.Asking.{IsPlannedMove};
 ghost use Rattle.step_line.specs.Asking.Asked.{a_move};
 ghost use Rattle.step_line.specs.declared.planned_move.PlannedMove.{PlannedMove as AnyMove};
 ghost use Rattle.line_interpreter.specs.Interpreting.{stands_before};
+ghost use Rattle.line_interpreter.specs.Desks.{kind_told};
 
-use crate::desk::Desk;
+use crate::desk::{Accepted, Desk};
 use crate::kept::KeptLine;
 use crate::reporting::{Seen, report, shows_room};
 use crate::tasks::Todo;
+use run_rules::Machine;
 use status_report::{Reply, Report};
 use std::marker::Model;
 use step_line::PlannedMove;
+use units::Steps3;
 
 /// Judges lines one at a time, and says task by task what there is to do of the line that was begun last. At first the
 /// banner is to be told.
@@ -40,7 +44,7 @@ pub struct Interpreter {
 impl Model for Interpreter {
     ghost use Rattle.line_interpreter.specs.Interpreting.{Interpreting, interpreting};
     ghost use Rattle.line_interpreter.specs.Desks.{IsReady};
-    ghost use Rattle.line_interpreter.specs.Finding.{Found};
+    ghost use Rattle.run_rules.specs.Finding.{Found};
     ghost use Rattle.line_interpreter.specs.Lefts.{IsSettled};
 
     ghost Value = { Interpreting };
@@ -60,17 +64,18 @@ impl Interpreter {
         Interpreter { desk: Desk::new() }
     }
 
-    /// Begins the next line, of which this is kept. While the machine runs, a line that is served only at rest is refused
-    /// with 8, whether or not it can be read. Answers whether the line is accepted. What was left of the line before is
-    /// not done, so call it where nothing is.
-    pub fn judge(&mut self, line: &KeptLine, running: bool) -> bool
+    /// Begins the next line, of which this is kept, where the machine is found so. While it runs, or jogs, lines that
+    /// begin with `$` and are not served then are refused with 8, whether or not they can be read; and in a jog lines of
+    /// G-code are refused with 9. Answers what is accepted. What was left of the line before is not done, so
+    /// call it where nothing is.
+    pub fn judge(&mut self, line: &KeptLine, machine: Machine) -> Accepted
         requires few { self.old.number + 1 < 2 ^ 32 }
-        ensures becomes { (moved : Bool) (kept : List ℕ) → IsKept line.now kept → (o : Outcome) × Found running (stands_before self.old moved) kept o
-            × (self.new ≡ record { state = o.next; number = self.old.number + 1; left = o.work }) × (result ≡ not (is_error o.answer)) }
+        ensures becomes { (since : Since) (kept : List ℕ) → IsKept line.now kept → (o : Outcome) × Found machine (stands_before self.old since) kept o
+            × (self.new ≡ record { state = o.next; number = self.old.number + 1; left = o.work }) × (kind_told result ≡ o.kind) }
         ensures valid { IsState self.new.state }
         ensures number { self.new.number ≡ self.old.number + 1 }
     {
-        self.desk.judge(line, running)
+        self.desk.judge(line, machine)
     }
 
     /// Behind the last line the machine gets the end, which waits for it to rest, and Bye is told.
@@ -130,6 +135,23 @@ impl Interpreter {
         report(&self.desk.state, seen)
     }
 
+    /// The number of the next line.
+    #[inline]
+    pub fn number(&self) -> u32
+        ensures { result ≡ self.now.number }
+    {
+        self.desk.number
+    }
+
+    /// The machine was found at this place, in steps from its zero: that becomes the position from which the next line is
+    /// judged. All else stays.
+    pub fn rebase(&mut self, at: Steps3)
+        requires place { IsPlace at }
+        ensures { self.new ≡ record self.old { state = record self.old.state { parser = rebased self.old.state.parser at self.old.state.settings.limits.per_mm } } }
+    {
+        self.desk.rebase(at);
+    }
+
     /// What there was to do next is done.
     #[inline]
     pub fn done(&mut self)
@@ -139,10 +161,3 @@ impl Interpreter {
         self.desk.done();
     }
 }
-
-/// What is found of a line is what becomes of it: while the machine stands, what becomes of it where none is found running;
-/// while it runs, what becomes of it where one may be, if a line has moved since the last one that settles.
-pub fn found_lines_become()
-    ensures standing { (b : Before) (kept : List ℕ) (o : Outcome) → Found false b kept o → Becomes false b kept o }
-    ensures running { (b : Before) (kept : List ℕ) (o : Outcome) → b.moved ≡ true → Found true b kept o → Becomes true b kept o }
-{}

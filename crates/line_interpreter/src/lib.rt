@@ -12,7 +12,8 @@ mod tasks;
 #[cfg(test)]
 mod tests;
 
-pub use interpreter::{Interpreter, found_lines_become};
+pub use desk::Accepted;
+pub use interpreter::Interpreter;
 pub use kept::KeptLine;
 pub use reporting::Seen;
 pub use tasks::Todo;

@@ -6,8 +6,8 @@ ghost use Rattle.step_line.specs.Asking.{IsPlannedMove};
 ghost use Rattle.step_line.specs.Asking.Asked.{a_move, a_mark, a_rest};
 ghost use Rattle.gcode_check.specs.Items.{IsItem};
 ghost use Rattle.run_rules.specs.Asks.{planned, move_asked, spindle_off, coolant_off, spindle_after, flood_after, at_rest, item_work};
-ghost use Rattle.run_rules.specs.Work.{telling, asking, closing_work};
-ghost use Rattle.run_rules.specs.Work.Task.{ask, tell, pause, normal, finish};
+ghost use Rattle.run_rules.specs.Work.{telling, asking, closing_work, halting_work};
+ghost use Rattle.run_rules.specs.Work.Task.{ask, tell, pause, normal, finish, halt};
 ghost use Rattle.status_report.specs.Replies.{IsReply};
 ghost use Rattle.status_report.specs.Answering.{is_report};
 ghost use Rattle.status_report.specs.Lists.{setting_replies, modes_replies, offset_replies};
@@ -26,7 +26,7 @@ ghost use Rattle.units.specs.declared.Rate.{Rate as AnyRate};
 ghost use Rattle.line_interpreter.specs.Lefts.{IsTodo, IsNextOf, IsSound, part_left, work_left, IsSettled};
 
 use gcode_check::{Item, Items};
-use modal_state::{Offsets, Parser, SpindleMode};
+use modal_state::{Modal, Offsets, Parser, SpindleMode};
 use run_rules::{State, spindle_mark};
 use settings::Settings;
 use status_report::{
@@ -34,6 +34,9 @@ use status_report::{
 };
 use step_line::{Mark, PlannedMove, events};
 use units::{Move, Rate};
+
+/// The number of the alarm that a soft limit raises.
+const SOFT_LIMIT: u8 = 2;
 
 /// What there is to do next.
 #[derive(Clone, Copy, Debug, PartialEq, Eq)]
@@ -54,6 +57,8 @@ pub enum Todo {
     Normal,
     /// The machine comes to rest, and the end is given to it.
     Finish,
+    /// The machine slows down to rest, and all that it has not begun by then is dropped.
+    Halt,
 }
 
 /// What a line asks for, as a whole.
@@ -73,6 +78,8 @@ pub(crate) enum Body {
     Modes,
     /// The offsets, and `ok`.
     Offsets,
+    /// A halt, the alarm of a soft limit, and its message.
+    Limited,
     /// The items of the line, from a place on, and `ok`.
     Items,
 }
@@ -273,6 +280,32 @@ fn closing_todo(stage: u8) -> Todo
     }
 }
 
+/// What is next of a line that a soft limit stops.
+#[inline]
+fn halting_todo(stage: u8) -> Todo
+    ensures next { IsTodo result (drop stage halting_work) }
+{
+    match stage {
+        0 => Todo::Halt,
+        1 => Todo::Tell,
+        2 => Todo::Tell,
+        _ => Todo::Nothing,
+    }
+}
+
+/// The reply that is next of a line that a soft limit stops: the alarm, and then its message.
+fn halting_told(stage: u8) -> Reply
+    ensures next { (reply : AnyReply) → IsNextOf (tell reply) (drop stage halting_work) → result ≡ reply }
+    ensures valid { IsReply result }
+    ensures plain { is_report result ≡ false }
+{
+    if stage == 1 {
+        Reply::Alarm(SOFT_LIMIT)
+    } else {
+        Reply::Message(Message::ResetToContinue)
+    }
+}
+
 /// The reply that is next of the settings.
 fn setting_told(settings: &Settings, stage: u8) -> Reply
     ensures next { (reply : AnyReply) → IsNextOf (tell reply) (drop stage (telling (setting_replies settings.now ++ Reply.Ok ∷ []))) → result ≡ reply }
@@ -335,6 +368,21 @@ impl Line {
         }
     }
 
+    /// The line has the items that stand in it, of which nothing is done, from these modes on.
+    #[inline]
+    pub(crate) fn begin_items(&mut self, number: u32, modal: &Modal)
+        ensures same { self.new ≡ record { body = Body.Items; number = number; running = record { spindle = modal.now.spindle; flood = modal.now.flood }; items = self.old.items; place = 0; stage = 0 } }
+    {
+        self.body = Body::Items;
+        self.number = number;
+        self.running = Running {
+            spindle: modal.spindle,
+            flood: modal.flood,
+        };
+        self.place = 0;
+        self.stage = 0;
+    }
+
     /// What is next of the present item, or `ok` behind the last one.
     #[inline]
     fn items_todo(&self) -> Todo
@@ -362,6 +410,7 @@ impl Line {
             Body::Settings => told_todo(SETTING_REPLIES + 1, self.stage),
             Body::Modes => told_todo(2, self.stage),
             Body::Offsets => told_todo(OFFSET_REPLIES + 1, self.stage),
+            Body::Limited => halting_todo(self.stage),
             Body::Items => self.items_todo(),
         }
     }
@@ -394,6 +443,7 @@ impl Line {
             Body::Settings => setting_told(&state.settings, self.stage),
             Body::Modes => modes_told(&state.parser, self.stage),
             Body::Offsets => offset_told(&state.parser.offsets, self.stage),
+            Body::Limited => halting_told(self.stage),
             Body::Accepted => Reply::Ok,
             Body::Items => self.items_reply(),
         }

@@ -2,7 +2,9 @@ ghost use Rattle.std.specs.Prelude.{◌≡◌, ◌+◌, ◌<◌, ◌^◌};
 
 use crate::{Interpreter, KeptLine, Todo};
 use arrayvec::ArrayVec;
+use run_rules::Machine;
 use status_report::Reply;
+use units::{Move, Rate, Steps3};
 
 /// A letter for what there is to do.
 fn letter(interpreter: &Interpreter) -> u8 {
@@ -19,6 +21,7 @@ fn letter(interpreter: &Interpreter) -> u8 {
         Todo::Pause => b'p',
         Todo::Normal => b'n',
         Todo::Finish => b'f',
+        Todo::Halt => b'h',
     }
 }
 
@@ -37,8 +40,8 @@ fn work(interpreter: &mut Interpreter) -> ArrayVec<u8, 32>
     letters
 }
 
-/// What there is to do of a line.
-fn judged(interpreter: &mut Interpreter, text: &[u8]) -> ArrayVec<u8, 32>
+/// What there is to do of a line, where the machine is found so.
+fn judged(interpreter: &mut Interpreter, text: &[u8], machine: Machine) -> ArrayVec<u8, 32>
     requires { interpreter.old.number + 1 < 2 ^ 32 }
     ensures { interpreter.new.number ≡ interpreter.old.number + 1 }
 {
@@ -46,13 +49,13 @@ fn judged(interpreter: &mut Interpreter, text: &[u8]) -> ArrayVec<u8, 32>
     for byte in text {
         line.push(*byte);
     }
-    interpreter.judge(&line, false);
+    interpreter.judge(&line, machine);
     work(interpreter)
 }
 
 #[test]
 fn each_line_is_done_task_by_task(rt: HostRuntime) {
-    let rows: [(&[u8], &[u8]); 16] = [
+    let rows: [(&[u8], &[u8]); 24] = [
         (b"", b"k"),
         (b"G0X0", b"k"),
         (b"G0X1", b"vk"),
@@ -69,16 +72,139 @@ fn each_line_is_done_task_by_task(rt: HostRuntime) {
         (b"$100=0", b"e"),
         (b"M30", b"rmmrntk"),
         (b"M2", b"rrntk"),
+        (b"$J=G91X1F100", b"vk"),
+        (b"$J=G91X0F100", b"k"),
+        (b"$J=X1", b"e"),
+        (b"$J", b"e"),
+        (b"$20=1", b"k"),
+        (b"G0X1", b"htt"),
+        (b"G1X1", b"e"),
+        (b"$J=X1F100", b"e"),
     ];
     let mut interpreter = Interpreter::new();
     assert_eq!(rt; work(&mut interpreter).as_slice(), b"t".as_slice());
     for (text, letters) in rows {
-        assert_eq!(rt; judged(&mut interpreter, text).as_slice(), letters);
+        assert_eq!(rt;
+            judged(&mut interpreter, text, Machine::Stands).as_slice(),
+            letters
+        );
     }
     assert_eq!(rt;
-        judged(&mut interpreter, &[b'N'; 80]).as_slice(),
+        judged(&mut interpreter, &[b'N'; 80], Machine::Stands).as_slice(),
         b"e".as_slice()
     );
     interpreter.close();
     assert_eq!(rt; work(&mut interpreter).as_slice(), b"ft".as_slice());
+}
+
+#[test]
+fn lines_are_refused_in_motion(rt: HostRuntime) {
+    let rows: [(&[u8], &[u8], &[u8], &[u8]); 6] = [
+        (b"$J=G91X1F100", b"vk", b"e", b"vk"),
+        (b"$$", b"tttttttttttttttk", b"e", b"tttttttttttttttk"),
+        (b"$#", b"tttttttttttk", b"e", b"e"),
+        (b"$100=80", b"k", b"e", b"e"),
+        (b"G91", b"k", b"k", b"e"),
+        (b"", b"k", b"k", b"k"),
+    ];
+    let mut interpreter = Interpreter::new();
+    interpreter.done();
+    for (text, stands, runs, jogs) in rows {
+        assert_eq!(rt;
+            judged(&mut interpreter, text, Machine::Stands).as_slice(),
+            stands
+        );
+        assert_eq!(rt;
+            judged(&mut interpreter, text, Machine::Runs).as_slice(),
+            runs
+        );
+        assert_eq!(rt;
+            judged(&mut interpreter, text, Machine::Jogs).as_slice(),
+            jogs
+        );
+    }
+}
+
+/// The number that a line is refused with, where the machine is found so; 0 where it is not.
+fn refusal(interpreter: &mut Interpreter, text: &[u8], machine: Machine) -> u8
+    requires { interpreter.old.number + 1 < 2 ^ 32 }
+    ensures { interpreter.new.number ≡ interpreter.old.number + 1 }
+{
+    let mut line = KeptLine::new();
+    for byte in text {
+        line.push(*byte);
+    }
+    interpreter.judge(&line, machine);
+    if interpreter.todo() != Todo::Tell {
+        return 0;
+    }
+    match interpreter.reply() {
+        Reply::Error(number) => number,
+        _ => 0,
+    }
+}
+
+#[test]
+fn jogs_and_lines_in_a_jog_are_refused_by_number(rt: HostRuntime) {
+    let rows: [(&[u8], Machine, u8); 10] = [
+        (b"$J=X1", Machine::Stands, 22),
+        (b"$J=G1X1F10", Machine::Stands, 16),
+        (b"$J=F10", Machine::Stands, 26),
+        (b"$J", Machine::Jogs, 3),
+        (b"$J", Machine::Runs, 8),
+        (b"$J=X1F10", Machine::Runs, 8),
+        (b"$J=X1F10", Machine::Jogs, 0),
+        (b"G1", Machine::Jogs, 9),
+        (b"%", Machine::Jogs, 9),
+        (b"$#", Machine::Jogs, 8),
+    ];
+    let mut interpreter = Interpreter::new();
+    for (text, machine, number) in rows {
+        assert_eq!(rt; refusal(&mut interpreter, text, machine), number);
+    }
+}
+
+/// The move of a line that asks for one first.
+fn first_move(interpreter: &mut Interpreter, text: &[u8]) -> Option<(Move, Rate)>
+    requires { interpreter.old.number + 1 < 2 ^ 32 }
+    ensures { interpreter.new.number ≡ interpreter.old.number + 1 }
+{
+    let mut line = KeptLine::new();
+    for byte in text {
+        line.push(*byte);
+    }
+    interpreter.judge(&line, Machine::Stands);
+    if interpreter.todo() != Todo::Move {
+        return None;
+    }
+    let planned = interpreter.planned_move();
+    Some((planned.mv, planned.rate))
+}
+
+#[test]
+fn moves_begin_where_a_jog_ends(rt: HostRuntime) {
+    let zero = Steps3 { x: 0, y: 0, z: 0 };
+    let end = Steps3 { x: 250, y: 0, z: 0 };
+    let mut interpreter = Interpreter::new();
+    assert_eq!(rt;
+        first_move(&mut interpreter, b"$J=G91X1F100"),
+        Some((
+            Move {
+                from: zero,
+                to: end,
+            },
+            Rate::Jog(100_000_000)
+        ))
+    );
+    // The jog's distance mode was its own.
+    assert_eq!(rt;
+        first_move(&mut interpreter, b"G0X0"),
+        Some((
+            Move {
+                from: end,
+                to: zero,
+            },
+            Rate::Rapid
+        ))
+    );
 }

@@ -1,9 +1,8 @@
 -- What is recorded of a run that ends at rest.
 use Rattle.std.proofs.Common.{◌≡◌, ◌≢◌, ℕ, Bool, zero, suc, ◌+◌, List, [], ◌∷◌, ◌++◌, map, append-nil, refl, sym, ap, ◌∙◌, subst}
-use Rattle.std.specs.List.{flat_map, filter, All}
+use Rattle.std.specs.List.{flat_map}
 use Rattle.std.proofs.lemmas.List.Elements.{filter-append, All-append, All-cons, All-nil}
 use Rattle.units.specs.declared.Move.{Move}
-use Rattle.step_line.specs.declared.Mark.TheVariants.{Cut}
 use Rattle.step_line.specs.declared.Piece.{Piece}
 use Rattle.step_line.specs.declared.Piece.TheVariants as pieces
 use Rattle.step_line.specs.declared.Record.{Record}
@@ -12,16 +11,15 @@ use Rattle.step_line.specs.Records.{is_tick}
 use Rattle.step_line.specs.Events.{event_of, events_after}
 use Rattle.step_line.specs.Pieces.{ticks_of, records_of}
 use Rattle.step_line.specs.Ending.{HasNoEnd}
-use Rattle.step_line.specs.Asking.{Asked, moves_of, ticks_of_all, ticks_among}
+use Rattle.step_line.specs.Asking.{ticks_among}
 use Rattle.plan_passes.specs.Plans.{Planned}
 use Rattle.plan_passes.specs.Segments.{advanced}
-use Rattle.legal_heads.specs.Speeds.{HasLegalHeads}
 use Rattle.planner_runs.specs.declared.Action.{Action}
 use Rattle.planner_runs.specs.declared.Action.TheVariants.{Add, Take, Override, Mark, Rest, Clear, Reset}
-use Rattle.planner_runs.specs.Runs.{Plans, IsPlannerRun, fresh_plan, with_move, cleared, most_blocks, all_asked, all_records, ticks_asked, IsAtRest, IsStart, NeverClears, DisturbedOnlyBy}
+use Rattle.planner_runs.specs.Runs.{Plans, IsPlannerRun, fresh_plan, with_move, cleared, most_blocks, all_asked, all_records, ticks_asked, ticks_left, IsAtRest, IsStart, NeverClears, DisturbedOnlyBy}
 use Rattle.planner_runs.specs.Driven.{IsDriven, IsParted}
 use Rattle.planner_runs.proofs.Runs.{in_parts, fresh_starts, clears_behind, disturbed_keeps}
-use Rattle.planner_runs.proofs.Ticks.{all_ticks}
+use Rattle.planner_runs.proofs.Ticks.{all_ticks, ticks_from_start}
 use Rattle.planner_runs.proofs.Legal.{closed_heads_are_legal, cut_heads_are_legal}
 
 -- ---- ticks among what is recorded
@@ -89,6 +87,15 @@ driven held changed actions given last run disturbed rest =
           ∙ sym (all_ticks most_blocks fresh_plan last actions given fresh_starts never run rest.blocks);
       heads = closed_heads_are_legal most_blocks fresh_plan last actions given fresh_starts never run rest.blocks;
     }
+
+-- ---- a run that is stopped
+
+-- what is recorded are the first ticks of those asked for
+pub halted_ticks : (most : ℕ) (p last : Planned) (actions : List Action) (given : List Piece) → IsStart p → NeverClears actions
+    → Plans most p actions given last → ticks_asked actions ≡ ticks_among (all_records given ++ kinds.End ∷ []) ++ ticks_left last
+halted_ticks most p last actions given is never run =
+    ticks_from_start most p last actions given is never run
+    ∙ ap (λ ts. ts ++ ticks_left last) (sym (filter-append is_tick (all_records given) (kinds.End ∷ []) ∙ append-nil (ticks_among (all_records given)) ∙ ticks_of_pieces given))
 
 -- ---- a run that is cleared
 

@@ -10,7 +10,7 @@ use Rattle.step_line.specs.declared.Piece.{Piece}
 use Rattle.step_line.specs.declared.Piece.TheVariants as pieces
 use Rattle.step_line.specs.declared.Record.TheVariants as kinds
 use Rattle.step_line.specs.Events.{events_after}
-use Rattle.step_line.specs.Pieces.{head_of, records_of}
+use Rattle.step_line.specs.Pieces.{head_of}
 use Rattle.line_geom.specs.declared.Geom.{Geom}
 use Rattle.line_geom.specs.declared.Cap.{Cap}
 use Rattle.junction_speed.specs.Junctions.{junction_of}
@@ -24,8 +24,6 @@ use Rattle.plan_passes.specs.Segments.{advanced, IsLegal, IsLegalEnd}
 use Rattle.plan_passes.proofs.Reached.{plan_of, reached_replanned, reached_cleared}
 use Rattle.step_line.specs.declared.Mark.{Mark as AnyMark}
 use Rattle.step_line.specs.declared.Mark.TheVariants.{Dwell, Spindle, Coolant, Cut}
-use Rattle.step_line.specs.declared.Record.{Record}
-use Rattle.step_line.specs.Counting.{events_of}
 use Rattle.segment_prep.specs.Taking.{IsNext}
 use Rattle.segment_prep.specs.declared.Mode.{Mode}
 use Rattle.step_line.specs.declared.planned_move.PlannedMove.{PlannedMove}
@@ -36,6 +34,7 @@ use Rattle.planner_runs.specs.declared.Action.{Action}
 use Rattle.planner_runs.specs.declared.Action.TheVariants.{Add, Take, Override, Mark, Rest, Clear, Reset}
 use Rattle.legal_heads.specs.Moves.{geometry_of, fastest, fastest_joint}
 use Rattle.legal_heads.specs.Speeds.{change_of, EndsMove, MayCome, MayStop, IsDone, MayMark, ComesNext, AreLegalBehind, IsToldRight, told_records, begun_by, HasLegalHeads}
+use Rattle.planner_runs.specs.Halted.{HasHaltedHeads, latest_of}
 use Rattle.planner_runs.specs.Runs.{Plans, with_move, block_of, cleared, moves_added, all_records, IsAtRest, IsStart, NeverClears}
 use Rattle.planner_runs.proofs.Runs.{reached_with_move, reached_by_segment, at_rest, rest_is}
 use Rattle.planner_runs.proofs.Standing.{IsBlockOf, ComesBehind, StandBehind, Stand, stand_added, stand_left, stand_gone}
@@ -78,6 +77,7 @@ pub record Tells (before : Option ToldHead) (moves : List PlannedMove) (given : 
   pub left : List PlannedMove
   pub in_order : moves ≡ flat_map begun_by list ++ waiting last.blocks left
   pub legal : (more : List Told) → AreLegalBehind behind more → AreLegalBehind before (list ++ more)
+  pub latest : latest_of before list ≡ behind
   pub after : IsAfter behind last left
 
 waiting_added : (bs : List Block) (ms : List PlannedMove) (m : PlannedMove) (b : Block) (rest : List PlannedMove) → Stand bs ms → b.prepared ≡ 0
@@ -270,6 +270,7 @@ tells_segment before p last ms s ps moves t rest =
           ∙ ap (λ ws. begun ++ ws) rest.in_order
           ∙ sym (append_assoc begun others later);
       legal = λ more then. ((t.comes, t.rapid), rest.legal more then);
+      latest = rest.latest;
       after = rest.after;
     }
 
@@ -283,6 +284,7 @@ tells_run most before p last ms [] [] is never run = record {
   left = ms;
   in_order = append-nil (waiting p.blocks ms) ∙ ap (λ (q : Planned). waiting q.blocks ms) (sym run);
   legal = λ more then. then;
+  latest = refl;
   after = subst (λ (q : Planned). IsAfter before q ms) (sym run) is;
 }
 tells_run most before p last ms (Add m ∷ rest) ps is never run =
@@ -318,6 +320,7 @@ tells_run most before p last ms (Mark m ∷ rest) (pieces.Mark g ∷ ps) is neve
       left = after.left;
       in_order = after.in_order;
       legal = λ more then. (may_mark before g stop done, after.legal more then);
+      latest = after.latest;
       after = after.after;
     }
 tells_run most before p last ms rest ps is never run = absurd run
@@ -388,3 +391,18 @@ pub cut_heads_are_legal : (most : ℕ) (p last : Planned) (actions : List Action
 cut_heads_are_legal most p last actions given line is never run stands =
     let t = tells_from most p last actions given is never run in
     told_behind (moves_added actions) given last t (told.Mark (Cut line)) refl tt (may_stop t.behind last.speed last.blocks t.left t.after.goes_on stands)
+
+-- so may the end, where an alarm has stopped the machine
+pub halted_heads_are_legal : (most : ℕ) (p last : Planned) (actions : List Action) (given : List Piece) → IsStart p → NeverClears actions
+    → Plans most p actions given last → last.speed ≡ 0 → HasHaltedHeads (moves_added actions) (all_records given ++ kinds.End ∷ [])
+halted_heads_are_legal most p last actions given is never run stands =
+    let t = tells_from most p last actions given is never run in
+    record {
+      told = t.list;
+      recorded = ap (λ rs. rs ++ kinds.End ∷ []) t.recorded;
+      each = t.each;
+      rest = waiting last.blocks t.left;
+      in_order = t.in_order;
+      legal = subst (AreLegalBehind None) (append-nil t.list) (t.legal [] tt);
+      stops = subst MayStop (sym t.latest) (may_stop t.behind last.speed last.blocks t.left t.after.goes_on stands);
+    }

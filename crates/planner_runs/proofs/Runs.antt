@@ -1,5 +1,5 @@
 -- Planner runs, one behind another.
-use Rattle.std.proofs.Common.{◌≡◌, ◌<◌, ℕ, Bool, true, nat_eq, false, Some, inl, inr, ◌-◌, List, [], ◌∷◌, ◌++◌, length, get_or, refl, sym, ap, ◌∙◌, subst, arith, append-nil}
+use Rattle.std.proofs.Common.{◌≡◌, ℕ, Bool, true, nat_eq, false, inl, inr, ◌-◌, List, [], ◌∷◌, ◌++◌, length, get_or, refl, sym, ap, ◌∙◌, subst, arith, append-nil}
 use Rattle.std.proofs.lemmas.List.{get_or_default}
 use Rattle.std.proofs.lemmas.Grind.{flat_map-append}
 use Rattle.step_line.specs.declared.Piece.{Piece}
@@ -8,8 +8,7 @@ use Rattle.std.proofs.lemmas.Bool.Decides.{nat_tests}
 use Rattle.step_line.specs.declared.Segment.{Segment}
 use Rattle.step_line.specs.declared.Mark.{Mark as AnyMark}
 use Rattle.step_line.specs.Records.{IsMark}
-use Rattle.step_line.specs.declared.Record.{Record}
-use Rattle.step_line.specs.Asking.{Asked, move_of, moves_of, ticks_of_one, ticks_of_all}
+use Rattle.step_line.specs.Asking.{move_of, moves_of, ticks_of_one, ticks_of_all}
 use Rattle.line_geom.specs.declared.Geom.{Geom}
 use Rattle.line_geom.specs.Geometry.{IsGeom, IsGeomOf}
 use Rattle.line_geom.proofs.Geometries.{geometry_is, geometry_has}

@@ -9,6 +9,7 @@ ghost use Rattle.step_line.specs.declared.Piece.TheVariants as pieces;
 ghost use Rattle.step_line.specs.declared.Record.TheVariants as kinds;
 ghost use Rattle.step_line.specs.declared.Segment.{Segment as AnySegment};
 ghost use Rattle.step_line.specs.declared.planned_move.PlannedMove.{PlannedMove as AnyMove};
+ghost use Rattle.step_line.specs.Asking.{ticks_among};
 ghost use Rattle.step_line.specs.Records.{IsMark};
 ghost use Rattle.step_line.specs.Pieces.{ticks_of, ComesBehind};
 ghost use Rattle.line_geom.specs.Geometry.{IsGeom};
@@ -42,6 +43,7 @@ ghost use Rattle.planner_runs.specs.Runs.{
   AllFollow,
 };
 ghost use Rattle.planner_runs.specs.Driven.{IsDriven, IsParted};
+ghost use Rattle.planner_runs.specs.Halted.{HasHaltedHeads};
 
 /// A run goes on by what is done to the plan that it leaves, unless it was reset, and can be taken apart again. So do what
 /// is asked for, its moves and its ticks.
@@ -130,6 +132,16 @@ pub fn planner_runs_are_legal()
         Plans most from actions given last → last.blocks ≡ [] → HasLegalHeads (moves_added actions) (all_records given ++ kinds.End ∷ []) }
     ensures cut { (most : ℕ) (from last : Planned) (actions : List AnyAction) (given : List AnyPiece) (line : ℕ) → IsStart from → NeverClears actions →
         Plans most from actions given last → last.speed ≡ 0 → HasLegalHeads (moves_added actions) (all_records given ++ kinds.Mark (Cut line) ∷ []) }
+{}
+
+/// A run that was stopped may end wherever the machine stands, as an alarm ends it: its heads are legal up to the end, which
+/// may break a move off, and the ticks that are recorded are the first of those that its actions ask for. The others are the
+/// events that its plan has left.
+pub fn halted_runs_are_legal()
+    ensures heads { (most : ℕ) (from last : Planned) (actions : List AnyAction) (given : List AnyPiece) → IsStart from → NeverClears actions →
+        Plans most from actions given last → last.speed ≡ 0 → HasHaltedHeads (moves_added actions) (all_records given ++ kinds.End ∷ []) }
+    ensures ticks { (most : ℕ) (from last : Planned) (actions : List AnyAction) (given : List AnyPiece) → IsStart from → NeverClears actions →
+        Plans most from actions given last → ticks_asked actions ≡ ticks_among (all_records given ++ kinds.End ∷ []) ++ ticks_left last }
 {}
 
 /// Where a run is cleared, its part before is legal, and another part begins. So each run is parts that never clear.

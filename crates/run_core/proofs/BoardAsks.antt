@@ -12,14 +12,15 @@ use Rattle.planner_runs.specs.declared.Action.{Action}
 use Rattle.planner_runs.specs.declared.Action.TheVariants.{Add, Take, Override, Mark, Rest, Clear, Reset}
 use Rattle.run_rules.specs.declared.State.{State}
 use Rattle.run_rules.specs.Work.{Task, tells}
-use Rattle.run_rules.specs.Work.Task.{ask, tell, pause, normal, finish}
+use Rattle.run_rules.specs.Work.Task.{ask, tell, pause, normal, finish, halt}
 use Rattle.run_rules.specs.Reports.{reports_behind}
 use Rattle.board_rules.specs.Ports.{asks_report}
 use Rattle.board_rules.specs.Ports.PortStep.{took, found_empty, found_closed, found_free, answered, reported, no_reply_room, took_exec, took_ovr, published, no_piece_room, loaded}
 use Rattle.board_rules.specs.Steps.{Journal, port_log, answered_of, left_of, left_by}
-use Rattle.board_rules.specs.Steps.Step.{at_port, began, did, made_end, evened, paused, became, closing, turned}
+use Rattle.board_rules.specs.Steps.Step.{at_port, began, did, made_end, evened, paused, became, cut, halted, closing, turned}
 use Rattle.board_rules.specs.Turns.{owes_report, requests_taken, changes_taken, by_wait}
 use Rattle.board_rules.specs.Conduct.{Conducted, IsNextTask}
+use Rattle.board_rules.proofs.Dropping.{tells_kept}
 use Rattle.board_rules.specs.Breaking.{Doings, EndsRun, IsConducted, log_of, answered_of as all_answered}
 use Rattle.board_rules.specs.Breaking.Doings.{goes, broke}
 use Rattle.run_core.specs.Asked.{LooksFirst, has_looked, words_behind}
@@ -64,6 +65,8 @@ taken_looked (made_end ∷ h) e = taken_looked h e
 taken_looked (evened ∷ h) e = taken_looked h e
 taken_looked (paused ∷ h) e = taken_looked h e
 taken_looked (became call m ∷ h) e = taken_looked h e
+taken_looked (cut k ∷ h) e = taken_looked h e
+taken_looked (halted ∷ h) e = taken_looked h e
 taken_looked (closing ∷ h) e = taken_looked h e
 taken_looked (turned t ∷ h) e = taken_looked h (no_wait t (requests_taken h) e)
 
@@ -80,6 +83,7 @@ fewer (tell r ∷ tasks) none = let e = answers_first r (tells tasks) in omega a
 fewer (pause ∷ tasks) none = none
 fewer (normal ∷ tasks) none = none
 fewer (finish ∷ tasks) none = none
+fewer (halt ∷ tasks) none = none
 
 fewer_by : (a : Action) (tasks : List Task) → AreAnswered tasks → AreAnswered (left_by a tasks)
 fewer_by (Add m) tasks none = fewer tasks none
@@ -110,6 +114,8 @@ looks_is first (made_end ∷ h) c e = fewer (left_of h) (looks_is first h c.1 e)
 looks_is first (evened ∷ h) c e = fewer (left_of h) (looks_is first h c.1 e)
 looks_is first (paused ∷ h) c e = fewer (left_of h) (looks_is first h c.1 e)
 looks_is first (became call m ∷ h) c e = looks_is first h c.1 e
+looks_is first (cut k ∷ h) c e = ap answers_in (tells_kept (left_of h)) ∙ looks_is first h c.1 e
+looks_is first (halted ∷ h) c e = fewer (left_of h) (looks_is first h c.1 e)
 looks_is first (closing ∷ h) c e = refl
 looks_is first (turned t ∷ h) c e = looks_is first h c.1 e
 
@@ -145,6 +151,8 @@ looks_first first (made_end ∷ h) c = looks_first first h c.1
 looks_first first (evened ∷ h) c = looks_first first h c.1
 looks_first first (paused ∷ h) c = looks_first first h c.1
 looks_first first (became call m ∷ h) c = looks_first first h c.1
+looks_first first (cut n ∷ h) c = looks_first first h c.1
+looks_first first (halted ∷ h) c = looks_first first h c.1
 looks_first first (closing ∷ h) c = looks_first first h c.1
 looks_first first (turned t ∷ h) c = looks_first first h c.1
 
@@ -205,6 +213,8 @@ tells_few k first (made_end ∷ h) c = tells_few k first h c.1
 tells_few k first (evened ∷ h) c = tells_few k first h c.1
 tells_few k first (paused ∷ h) c = tells_few k first h c.1
 tells_few k first (became call m ∷ h) c = tells_few k first h c.1
+tells_few k first (cut n ∷ h) c = tells_few k first h c.1
+tells_few k first (halted ∷ h) c = tells_few k first h c.1
 tells_few k first (closing ∷ h) c = tells_few k first h c.1
 tells_few k first (turned t ∷ h) c = tells_few k first h c.1
 
@@ -242,6 +252,8 @@ ends_so first before k (made_end ∷ since) c ends = absurd ends.0
 ends_so first before k (evened ∷ since) c ends = absurd ends.0
 ends_so first before k (paused ∷ since) c ends = absurd ends.0
 ends_so first before k (became call m ∷ since) c ends = absurd ends.0
+ends_so first before k (cut n ∷ since) c ends = absurd ends.0
+ends_so first before k (halted ∷ since) c ends = absurd ends.0
 ends_so first before k (closing ∷ since) c ends = absurd ends.0
 
 pub boards_look_first : (first : State) (d : Doings) → IsConducted first d → LooksFirst (log_of d)

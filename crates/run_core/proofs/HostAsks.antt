@@ -1,21 +1,20 @@
 -- What a host that keeps to its rules asks for: reports, each in the line that holds its `?`.
 use Rattle.std.proofs.Common.{◌≡◌, ℕ, suc, zero, ◌+◌, ◌≤◌, ◌<◌, inl, inr, Bool, true, false, cond, ◌&&◌, List, [], ◌∷◌, ◌++◌, length, drop, get_or, nat_eq, nat_lt, refl, sym, ap, ◌∙◌, arith, append-nil, length-append}
-use Rattle.std.specs.List.{count_by, filter}
+use Rattle.std.specs.List.{count_by}
 use Rattle.std.proofs.lemmas.Bool.Decides.{nat_tests}
 use Rattle.std.proofs.lemmas.List.{get_or_append_left, get_or_push, get_or_past}
 use Rattle.std.proofs.lemmas.List.Sums.{sum_by-append, sum_by-cons}
 use Rattle.code_table.specs.Tables.{query}
-use Rattle.gcode_words.specs.Stripping.{realtime}
 use Rattle.status_report.specs.Answering.{lfs_in}
 use Rattle.status_report.proofs.Answered.{lfs_on}
 use Rattle.run_rules.specs.Lines.{lines_of}
 use Rattle.run_rules.specs.Reports.{is_query}
 use Rattle.run_rules.proofs.Cutting.{lines_are, some_bytes}
-use Rattle.stream_host.specs.Jobs.{resume, is_served, served}
+use Rattle.stream_host.specs.Jobs.{resume, served}
 use Rattle.stream_host.specs.Steps.{Journal, port_log, stored_of, answered_of, scanned_of, raw_of, cut_of, to_store, due_of, more_served, polls_of, empty_polls}
 use Rattle.stream_host.specs.Steps.PortStep.{stored, dropped, raised, got, no_reply, shut}
 use Rattle.stream_host.specs.Steps.Step.{at_port, read_some, read_end, read_failed, scanned, line_over, wrote, gave_up, turned}
-use Rattle.stream_host.specs.Conduct.{Conducted, MayRaise, MayScanNext}
+use Rattle.stream_host.specs.Conduct.{Conducted, MayRaise, MayScanNext, waits_for_lines}
 use Rattle.stream_host.proofs.Keeping.{IsCut, cut_is, stored_is}
 use Rattle.stream_host.proofs.Raising.{served_on, none_at_lf, few_polls, is_enough, is_fewer}
 use Rattle.stream_host.proofs.Sending.{answers_are_few, lfs_linked}
@@ -32,7 +31,7 @@ asks_between [] c = tt
 asks_between (at_port (stored b) ∷ h) c = asks_between h c.1
 asks_between (at_port (dropped b) ∷ h) c = absurd c.0
 asks_between (at_port (raised b down) ∷ h) c = (
-  (λ q. let a = c.0.after q in let l = lfs_cut h c.1 in let f = answers_are_few h c.1 in omega arith),
+  (λ q. let a = c.0.after (ap waits_for_lines q) in let l = lfs_cut h c.1 in let f = answers_are_few h c.1 in omega arith),
   asks_between h c.1,
 )
 asks_between (at_port (got r) ∷ h) c = asks_between h c.1
@@ -85,7 +84,7 @@ raised_in : (k b : ℕ) (down : Bool) (h : Journal) → Conducted h → MayRaise
 raised_in k b down h c may was =
     one_raised down (nat_eq b query) (nat_eq (answered_of h) k) (nat_eq k (length (cut_of h))) (raised_behind k (port_log h)) (count_by is_query (due_of h)) _ _
     (due_by b (nat_eq (polls_of h) empty_polls) (due_of h) (λ e. may.resumes (is_enough (polls_of h) e)) (λ e. may.next (is_fewer (polls_of h) (few_polls h c) e)))
-    (λ t u. let a = may.after (is_same b query t) in let n = is_same (answered_of h) k u in same_is k (length (cut_of h)) (sym n ∙ a)) was
+    (λ t u. let a = may.after (ap waits_for_lines (is_same b query t)) in let n = is_same (answered_of h) k u in same_is k (length (cut_of h)) (sym n ∙ a)) was
 
 no_due : (v : Bool) (due : List ℕ) → due ≡ [] → cond v (count_by is_query due) 0 ≡ 0
 no_due true due none = ap (count_by is_query) none
@@ -180,21 +179,9 @@ line_is k h (inr over) =
     ap (λ (raw : List ℕ). get_or (cut_of h ++ raw ∷ []) k []) over.none ∙ line_more (cut_of h) k
     ∙ ap (λ (ls : List (List ℕ)). get_or ls k []) (sym over.whole)
 
-served_first : (b : ℕ) (bytes : List ℕ) (t : Bool) → is_served b ≡ t → count_by is_query (filter is_served bytes) ≤ count_by is_query bytes
-    → count_by is_query (cond t (b ∷ filter is_served bytes) (filter is_served bytes)) ≤ count_by is_query (b ∷ bytes)
-served_first b bytes true e few =
-    let l = sum_by-cons (λ x. cond (is_query x) 1 0) b (filter is_served bytes) in
-    let r = sum_by-cons (λ x. cond (is_query x) 1 0) b bytes in omega arith
-served_first b bytes false e few = let r = sum_by-cons (λ x. cond (is_query x) 1 0) b bytes in omega arith
-
-served_few : (bytes : List ℕ) → count_by is_query (filter is_served bytes) ≤ count_by is_query bytes
-served_few [] = omega arith
-served_few (b ∷ bytes) = served_first b bytes (is_served b) refl (served_few bytes)
-
 -- behind k answers `?` was raised no more often than it stands in line k
 pub raised_in_lines : (h : Journal) → Conducted h → (k : ℕ) → raised_behind k (port_log h) ≤ queries_of (get_or (lines_of (scanned_of h)) k [])
 unfolding asked
 raised_in_lines h c k =
     let i = in_lines k h c in
-    let s = served_few (realtime (get_or (lines_of (scanned_of h)) k [])) in
     let e = ap asked (line_is k h (cut_is h c)) in omega arith

@@ -22,7 +22,8 @@ use Rattle.run_core.specs.Passing.{record_room}
 use Rattle.run_core.specs.Worlds.{Seen, History, Holds, LinkIsKept, FlagsAreKept, MotionIsKept}
 use Rattle.run_law.proofs.Resetting.{taken_were_raised}
 use Rattle.run_law.specs.Flags.{AreTaken}
-use Rattle.board_rules.specs.Ports.{has_held_in, has_changed_in, has_reset_in, reports_in}
+use Rattle.board_rules.specs.Cuts.{cancel_words_in}
+use Rattle.board_rules.specs.Ports.{has_held_in, has_slowed_in, has_changed_in, has_reset_in, reports_in}
 
 -- ---- what one side got is a front of what the other gave
 
@@ -47,7 +48,7 @@ link w hist h = record {
 }
 
 -- what the board took of flags was raised
-pub flags_taken : (w : Seen) (hist : History) → Holds w hist → AreTaken (raises_of hist.host) (has_held_in (board_log hist.board)) (has_changed_in (board_log hist.board)) (has_reset_in (board_log hist.board)) (reports_in (board_log hist.board))
+pub flags_taken : (w : Seen) (hist : History) → Holds w hist → AreTaken (raises_of hist.host) (has_held_in (board_log hist.board)) (has_slowed_in (board_log hist.board)) (has_changed_in (board_log hist.board)) (has_reset_in (board_log hist.board)) (reports_in (board_log hist.board)) (cancel_words_in (board_log hist.board))
 flags_taken w hist h = taken_were_raised (w.lists.exec ∷ w.lists.override ∷ []) (host_log hist.host) (board_log hist.board) h.joined.flags.balance
 
 -- what a board has done is what its rules allow, from an opening state on

@@ -1,20 +1,15 @@
 -- Fronts of what was sent, asked and recorded.
-use Rattle.std.proofs.Common.{◌≡◌, ℕ, Bool, true, false, cond, List, [], ◌∷◌, ◌++◌, nat_eq, append-nil, append_assoc, refl, sym, ap, ◌∙◌}
+use Rattle.std.proofs.Common.{◌≡◌, ℕ, Bool, true, false, cond, List, [], ◌∷◌, ◌++◌, nat_eq, append-nil, append_assoc, refl, ap, ◌∙◌}
 use Rattle.std.specs.List.{flat_map}
 use Rattle.std.proofs.lemmas.Grind.{flat_map-append}
 use Rattle.std.proofs.lemmas.List.Elements.{filter-append}
 use Rattle.step_line.specs.declared.Piece.{Piece}
 use Rattle.step_line.specs.declared.Piece.TheVariants as pieces
-use Rattle.step_line.specs.declared.Record.{Record}
 use Rattle.step_line.specs.declared.Record.TheVariants as kinds
-use Rattle.step_line.specs.Asking.{Asked, ticks_among, ticks_of_all, ticks_of_one}
+use Rattle.step_line.specs.Asking.{ticks_among}
 use Rattle.step_line.specs.Pieces.{records_of, ticks_of}
 use Rattle.step_line.specs.Records.{is_tick}
-use Rattle.plan_passes.specs.Plans.{Planned}
-use Rattle.planner_runs.specs.declared.Action.{Action}
-use Rattle.planner_runs.specs.Runs.{IsPlannerRun, DisturbedOnlyBy, fresh_plan, most_blocks, all_asked, all_records, ticks_left}
-use Rattle.planner_runs.proofs.Runs.{disturbed_keeps, fresh_starts}
-use Rattle.planner_runs.proofs.Ticks.{ticks_from_start}
+use Rattle.planner_runs.specs.Runs.{all_records}
 use Rattle.planner_runs.proofs.Driven.{ticks_of_pieces}
 use Rattle.run_rules.specs.Lines.{whole_lines, onto_line}
 use Rattle.run_law.specs.Fronts.{BeginsWith}
@@ -61,22 +56,3 @@ ended_records given = flat_map-append records_of given (pieces.End ∷ [])
 -- it has their ticks
 pub ended_ticks : (given : List Piece) → ticks_among (all_records given ++ kinds.End ∷ []) ≡ flat_map ticks_of given
 ended_ticks given = filter-append is_tick (all_records given) (kinds.End ∷ []) ∙ append-nil (ticks_among (all_records given)) ∙ ticks_of_pieces given
-
--- the ticks of the first pieces of a planner run begin those that are asked for
-pub made_ticks : (held changed : Bool) (asked : List Asked) (actions : List Action) (given made : List Piece) (plan : Planned) → IsPlannerRun actions given plan → DisturbedOnlyBy held changed actions
-    → BeginsWith asked (all_asked actions) → BeginsWith given made → BeginsWith (ticks_of_all asked) (flat_map ticks_of made)
-made_ticks held changed asked actions given made plan run disturbed more kept =
-    let done : BeginsWith (ticks_of_all (all_asked actions)) (flat_map ticks_of given) = record {
-      rest = ticks_left plan;
-      is = ticks_from_start most_blocks fresh_plan plan actions given fresh_starts (disturbed_keeps held changed actions disturbed) run;
-    } in
-    begins_on (ticks_of_all asked) (ticks_of_all (all_asked actions)) (flat_map ticks_of made) (begins_each ticks_of_one asked (all_asked actions) more)
-    (begins_on (ticks_of_all (all_asked actions)) (flat_map ticks_of given) (flat_map ticks_of made) done (begins_each ticks_of given made kept))
-
--- and so do those of a front of what is recorded
-pub ticks_begin : (held changed : Bool) (asked : List Asked) (actions : List Action) (given made : List Piece) (plan : Planned) (records : List Record) → IsPlannerRun actions given plan → DisturbedOnlyBy held changed actions
-    → BeginsWith asked (all_asked actions) → BeginsWith given made → BeginsWith (all_records made ++ kinds.End ∷ []) records → BeginsWith (ticks_of_all asked) (ticks_among records)
-ticks_begin held changed asked actions given made plan records run disturbed more kept rest =
-    let recorded : BeginsWith (flat_map ticks_of made) (ticks_among records) =
-    record { rest = ticks_among rest.rest; is = sym (ended_ticks made) ∙ ap ticks_among rest.is ∙ filter-append is_tick records rest.rest } in
-    begins_on (ticks_of_all asked) (flat_map ticks_of made) (ticks_among records) (made_ticks held changed asked actions given made plan run disturbed more kept) recorded

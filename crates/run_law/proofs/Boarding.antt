@@ -1,6 +1,7 @@
 -- A board that has kept to its rules has run.
-use Rattle.std.proofs.Common.{◌≡◌, ℕ, ◌+◌, ◌≤◌, ◌⊎◌, inl, inr, Bool, true, false, cond, ◌||◌, List, [], ◌∷◌, ◌++◌, map, length, reverse, append-nil, append_assoc, length-append, refl, sym, ap, ◌∙◌, subst, arith}
-use Rattle.std.specs.List.{flat_map, list_any}
+use Rattle.std.proofs.Common.{◌≡◌, ℕ, ◌+◌, ◌≤◌, ◌⊎◌, inl, inr, Bool, true, false, cond, ◌||◌, List, [], ◌∷◌, ◌++◌, length, take, reverse, append-nil, append_assoc, length-append, refl, sym, ap, ◌∙◌, subst, arith}
+use Rattle.std.specs.List.{flat_map, list_any, sum}
+use Rattle.std.proofs.lemmas.List.{take-append-le, take_all}
 use Rattle.status_report.specs.declared.Reply.{Reply}
 use Rattle.status_report.specs.declared.Reply.TheVariants.{Bye}
 use Rattle.step_line.specs.declared.Piece.{Piece}
@@ -9,39 +10,49 @@ use Rattle.step_line.specs.Pieces.{ticks_of}
 use Rattle.step_line.specs.Finishing.{ticks_together}
 use Rattle.status_report.specs.Answering.{answers_in, without_reports, reports_among}
 use Rattle.status_report.proofs.Answered.{answers_on}
-use Rattle.planner_runs.specs.Runs.{IsPlannerRun, DisturbedOnlyBy, all_asked}
+use Rattle.plan_passes.specs.Plans.{Planned}
+use Rattle.planner_runs.specs.Runs.{IsAtRest, all_asked}
 use Rattle.run_rules.specs.declared.State.{State}
 use Rattle.run_rules.specs.Lines.{whole_lines}
 use Rattle.run_rules.specs.States.{IsOpening}
-use Rattle.run_rules.specs.Work.{Task, tells, asks}
-use Rattle.run_rules.specs.Outcomes.{Follows, start}
-use Rattle.run_rules.specs.Outcomes.Passed.{a_line}
+use Rattle.run_rules.specs.Work.{Task, Outcome, tells, asks}
+use Rattle.run_rules.specs.Outcomes.{Passed, Follows, start}
 use Rattle.run_rules.specs.Told.{replies_in, asked_in}
 use Rattle.stream_host.proofs.Pieces.{wholes_on, no_whole}
-use Rattle.run_rules.specs.Reports.{Course, Reported}
+use Rattle.run_rules.specs.Reports.{Course, Reported, settled_to, fewest}
+use Rattle.board_rules.specs.Cuts.{part_outcomes, part_actions, part_given, part_plan, has_halted, parts_of, counts_of, cancel_words_at, cancel_words_in}
+use Rattle.board_rules.specs.Parts.{IsHaltedPart, plan_behind}
 use Rattle.board_rules.specs.Turns.{owes_report}
-use Rattle.board_rules.specs.Steps.{Journal, port_log, taken_of, has_closed, answered_of, published_of, known_of, open_of, whole_of, lines_of, outcomes_of, before_of, left_of, closed_tells, actions_of, planned_of, given_of, hand_of, plan_of}
-use Rattle.board_rules.specs.Ports.{has_held_in, has_changed_in, reports_in}
-use Rattle.board_rules.specs.Ports.{PortStep, PortLog, answered_in, changes_at, closed_at, has_closed_in, has_reset_in, holds_at, published_in, reports_at, resets_at, taken_at, taken_in}
+use Rattle.board_rules.specs.Steps.{Journal, port_log, taken_of, has_closed, has_alarmed, plan_of, answered_of, published_of, known_of, open_of, whole_of, lines_of, outcomes_of, before_of, left_of, closed_tells, planned_of, given_of, hand_of}
+use Rattle.board_rules.specs.Ports.{has_held_in, has_slowed_in, has_changed_in, reports_in}
+use Rattle.board_rules.specs.Ports.{PortStep, PortLog, answered_in, changes_at, closed_at, has_cancelled_in, has_closed_in, has_reset_in, cancels_at, holds_at, published_in, reports_at, resets_at, taken_at, taken_in}
 use Rattle.board_rules.specs.Ports.PortStep.{answered, no_reply_room, no_piece_room, published}
 use Rattle.board_rules.specs.Breaking.{Doings, Ending, EndsRun, MayBreakOff, ending_of, is_end}
 use Rattle.board_rules.specs.Breaking.Doings.{goes, broke}
 use Rattle.board_rules.specs.Breaking.Ending.{publishes_end, tells_bye, over}
-use Rattle.board_rules.proofs.Breaking.{ended_answers, ended_pieces, none_end, opening_ends, same_since, unanswered, unended}
+use Rattle.board_rules.proofs.Calming.{settled_ticks, settled_is_known, standing}
+use Rattle.board_rules.proofs.Alarms.{alarmed_is, calm_plan, free_halted}
+use Rattle.board_rules.proofs.Halts.{halted_part}
+use Rattle.board_rules.proofs.Breaking.{planned_none, ended_answers, ended_pieces, none_end, opening_ends, same_since, unanswered as none_answered, unended}
 use Rattle.board_rules.proofs.Phases.{Phase, count_is, done_of, phase_is}
-use Rattle.board_rules.proofs.Phases.Phase.{between, in_line}
+use Rattle.board_rules.proofs.Phases.Phase.{between, in_line, unanswered}
 use Rattle.board_rules.proofs.Plain.{answers_without, reports_on}
-use Rattle.board_rules.specs.Conduct.{Conducted, IsFinished}
+use Rattle.board_rules.specs.Conduct.{Conducted, IsFinished, ticks_given, ticks_published}
+use Rattle.board_rules.proofs.Given.{known_within, published_within}
+use Rattle.board_rules.proofs.Numbers.{lines_are, pieces_are, passed_are, starts_are}
+use Rattle.board_rules.proofs.Parting.{asked_is}
 use Rattle.board_rules.specs.Whole.{course_of, AreLines, IsSpent}
 use Rattle.board_rules.proofs.Growing.{reported_still}
 use Rattle.board_rules.proofs.Closing.{no_more_ticks, one_bye, one_end}
-use Rattle.board_rules.proofs.Keeping.{asked_is, disturbed_is, hand_is, run_is, told_is}
+use Rattle.board_rules.proofs.Keeping.{hand_is, told_is}
 use Rattle.board_rules.proofs.Lines.{bytes_are, lines_follow}
 use Rattle.board_rules.proofs.Owing.{owes_few}
 use Rattle.board_rules.proofs.Reporting.{reported_is}
 use Rattle.run_law.specs.Runs.{course, ends_program}
 use Rattle.run_law.specs.Ran.{HasReported, BoardRan}
 use Rattle.run_law.specs.Fronts.{BeginsWith}
+use Rattle.run_law.specs.Drives.{all_outcomes, all_passed, all_given, all_counts, IsDrive}
+use Rattle.run_law.proofs.Driving.{drive_of, drives}
 use Rattle.run_law.specs.SoFar.{BoardRuns}
 use Rattle.run_law.proofs.Breaking.{Others, bye_behind, bye_reported, end_is_last, front_before, front_of, no_bye}
 use Rattle.run_law.proofs.Reporting.{planned_ticks}
@@ -65,20 +76,36 @@ pub by_doings : (P : Doings → Type 0) → ((h : Journal) → P (goes h)) → (
 by_doings P going ended (goes h) = going h
 by_doings P going ended (broke since before) = ended since before
 
+-- it has halted, and its open part is one that an alarm has ended
+abbrev Halted : Journal → Type 0
+Halted h = (has_halted h ≡ true) × IsHaltedPart (part_outcomes h) (plan_behind (parts_of h)) (part_actions h) (part_given h) (part_plan h)
+
 -- what the laws of boards say of one that keeps to its rules
 pub record Kept (first : State) (h : Journal) : Type 0 where
   pub bytes : AreLines (taken_of h) (lines_of h) (open_of h) (whole_of h)
-  pub follow : Follows true (start first) (lines_of h) (map a_line (outcomes_of h)) (before_of first h)
-  pub told : replies_in (outcomes_of h) ++ closed_tells h ≡ without_reports (answered_of h) ++ tells (left_of h)
+  pub lines : outcomes_of h ≡ all_outcomes (drive_of h)
+  pub pieces_are : planned_of h ≡ all_given (drive_of h)
+  pub follow : Follows true (start first) (lines_of h) (all_passed (drive_of h)) (before_of first h)
+  pub told : replies_in (all_outcomes (drive_of h)) ++ closed_tells h ≡ without_reports (answered_of h) ++ tells (left_of h)
   pub bye : (closed_tells h ≡ []) ⊎ (closed_tells h ≡ Bye ∷ [])
-  pub asked : asked_in (outcomes_of h) ≡ all_asked (actions_of h) ++ asks (left_of h)
-  pub run : IsPlannerRun (actions_of h) (planned_of h) (plan_of h)
-  pub disturbed : DisturbedOnlyBy (has_held_in (port_log h)) (has_changed_in (port_log h) || ends_program (outcomes_of h)) (actions_of h)
+  pub asked : asked_in (part_outcomes h) ≡ all_asked (part_actions h) ++ asks (left_of h)
+  pub drives : IsDrive (has_slowed_in (port_log h)) (before_of first h).alarmed (has_changed_in (port_log h) || ends_program (all_outcomes (drive_of h))) (cancel_words_in (port_log h)) (drive_of h)
+  pub alarmed : (before_of first h).alarmed ≡ has_alarmed h
+  pub open_plan : has_alarmed h ≡ false → part_plan h ≡ plan_of h
+  pub halt : has_alarmed h ≡ true → left_of h ≡ [] → Halted h
   pub hand : given_of h ≡ published_of h ++ hand_of h
-  pub end : (given_of h ≡ planned_of h) ⊎ (given_of h ≡ planned_of h ++ pieces.End ∷ [])
+  pub end : (given_of h ≡ all_given (drive_of h)) ⊎ (given_of h ≡ all_given (drive_of h) ++ pieces.End ∷ [])
   pub fits : Reported (course_of first h) (reverse (answered_of h)) (known_of h)
-  pub one : length (outcomes_of h) ≤ answers_in (answered_of h) + 1
+  pub within : ticks_published h ≤ ticks_given h
+  pub least : fewest (answers_in (answered_of h)) (all_outcomes (drive_of h)) (all_counts (drive_of h)) ≤ ticks_published h
+  pub one : length (all_outcomes (drive_of h)) ≤ answers_in (answered_of h) + 1
   pub few : reports_among (answered_of h) + cond (owes_report h) 1 0 ≤ reports_in (port_log h)
+
+-- behind an alarm nothing is left to do only where the machine was halted
+halted_so : (first : State) (h : Journal) → Conducted first h → has_alarmed h ≡ true → left_of h ≡ [] → Halted h
+halted_so first h conducted one free =
+    let was = free_halted first h conducted one free in
+    (was, subst (λ (start : Planned). IsHaltedPart (part_outcomes h) start (part_actions h) (part_given h) (part_plan h)) (starts_are h) (halted_part first h conducted was))
 
 -- all lines but the last one that was begun are answered
 one_begun : (first : State) (h : Journal) → Conducted first h → length (outcomes_of h) ≤ answers_in (answered_of h) + 1
@@ -87,49 +114,83 @@ one_begun first h conducted = by_phase (phase_is first h conducted) (count_is fi
     by_phase : Phase first h → length (done_of h) ≡ answers_in (answered_of h) → length (outcomes_of h) ≤ answers_in (answered_of h) + 1
     by_phase (in_line p) count = let e = ap length p.begun in let l = length-append (done_of h) (p.o ∷ []) in omega (arith, e, l, count)
     by_phase (between p) count = let e = ap length p.all in omega (arith, e, count)
+    by_phase (unanswered p) count = let e = ap length p.begun in let l = length-append (done_of h) (p.o ∷ []) in omega (arith, e, l, count)
+
+-- the ticks of the lines up to the last answered one that settles are published, since they were found done
+least_published : (first : State) (h : Journal) → Conducted first h → fewest (answers_in (answered_of h)) (outcomes_of h) (counts_of h) ≤ ticks_published h
+least_published first h conducted =
+    let x = standing first h (phase_is first h conducted) in
+    let k = length (done_of h) in
+    let front : take k (outcomes_of h) ≡ done_of h =
+    ap (take k) x.begun ∙ take-append-le k (done_of h) x.more (omega arith) ∙ take_all k (done_of h) (omega arith) in
+    let settled : fewest k (outcomes_of h) (counts_of h) ≡ settled_ticks h = ap (λ (os : List Outcome). sum (take (settled_to os) (counts_of h))) front in
+    let answered = ap (λ (n : ℕ). fewest n (outcomes_of h) (counts_of h)) (count_is first h conducted) in
+    let known = settled_is_known first h conducted in
+    let within = known_within first h conducted in
+    omega (arith, settled, answered, known, within)
 
 -- they hold of it
 pub keeps : (first : State) (h : Journal) → Conducted first h → Kept first h
-keeps first h conducted = record {
-  bytes = bytes_are first h conducted;
-  follow = lines_follow first h conducted;
-  told = told_is first h conducted;
-  bye = one_bye first h conducted;
-  asked = asked_is first h conducted;
-  run = run_is first h conducted;
-  disturbed = disturbed_is first h conducted;
-  hand = hand_is first h conducted;
-  end = one_end first h conducted;
-  fits = reported_is first h conducted;
-  one = one_begun first h conducted;
-  few = owes_few first h conducted;
-}
+keeps first h conducted =
+    let lines = lines_are first h conducted in
+    let pieces_same = pieces_are first h conducted in
+    record {
+      bytes = bytes_are first h conducted;
+      lines = lines;
+      pieces_are = pieces_same;
+      follow = subst (λ (ps : List Passed). Follows true (start first) (lines_of h) ps (before_of first h)) (passed_are first h conducted) (lines_follow first h conducted);
+      told = ap (λ (os : List Outcome). replies_in os ++ closed_tells h) (sym lines) ∙ told_is first h conducted;
+      bye = one_bye first h conducted;
+      asked = asked_is first h conducted;
+      drives = subst (λ (t : Bool). IsDrive (has_slowed_in (port_log h)) t (has_changed_in (port_log h) || ends_program (all_outcomes (drive_of h))) (cancel_words_in (port_log h)) (drive_of h))
+          (sym (alarmed_is first h)) (drives first h conducted);
+      alarmed = alarmed_is first h;
+      open_plan = calm_plan first h conducted;
+      halt = halted_so first h conducted;
+      hand = hand_is first h conducted;
+      end = subst (λ (ps : List Piece). (given_of h ≡ ps) ⊎ (given_of h ≡ ps ++ pieces.End ∷ [])) pieces_same (one_end first h conducted);
+      fits = reported_is first h conducted;
+      within = published_within first h conducted;
+      least = subst (λ (os : List Outcome). fewest (answers_in (answered_of h)) os (counts_of h) ≤ ticks_published h) lines (least_published first h conducted);
+      one = subst (λ (os : List Outcome). length os ≤ answers_in (answered_of h) + 1) lines (one_begun first h conducted);
+      few = owes_few first h conducted;
+    }
 
 -- what its reports are judged by, where all that the plan gave is counted
 abbrev course_so : State → Journal → Course
-course_so first h = course first (outcomes_of h) (flat_map ticks_of (planned_of h)) (has_held_in (port_log h)) (has_changed_in (port_log h))
+course_so first h = course first (drive_of h) (flat_map ticks_of (all_given (drive_of h))) (has_held_in (port_log h)) (has_changed_in (port_log h))
+
+-- the end has no ticks
+given_few : (given planned : List Piece) → (given ≡ planned) ⊎ (given ≡ planned ++ pieces.End ∷ []) → ticks_together given ≤ length (flat_map ticks_of planned)
+given_few given planned (inl same) = let e = ap ticks_together same in omega (arith, e)
+given_few given planned (inr whole) = let e = ap ticks_together whole in let n = no_more_ticks planned in omega (arith, e, n)
+
+-- what the plan gave has the ticks of the lines up to the last answered one that settles
+least_given : (first : State) (h : Journal) → Kept first h → fewest (answers_in (answered_of h)) (all_outcomes (drive_of h)) (all_counts (drive_of h)) ≤ length (flat_map ticks_of (all_given (drive_of h)))
+least_given first h c = let least = c.least in let within = c.within in let few = given_few (given_of h) (all_given (drive_of h)) c.end in omega (arith, least, within, few)
 
 -- the reports fit what was given of the lines
-kept_reported : (first : State) (h : Journal) → Kept first h → HasReported first (outcomes_of h) (planned_of h) (has_held_in (port_log h)) (has_changed_in (port_log h)) (answered_of h)
+kept_reported : (first : State) (h : Journal) → Kept first h → HasReported first (drive_of h) (has_held_in (port_log h)) (has_changed_in (port_log h)) (answered_of h)
 kept_reported first h c =
-    let ticks = planned_ticks (given_of h) (planned_of h) (published_of h) (hand_of h) c.end c.hand in (
+    let ticks = planned_ticks (given_of h) (all_given (drive_of h)) (published_of h) (hand_of h) c.end c.hand in (
       known_of h,
-      reported_still (course_of first h) (course_so first h) (reverse (answered_of h)) (known_of h)
+      reported_still (course_of first h) (course_so first h) (reverse (answered_of h)) (known_of h) c.within
           (record {
             first = refl;
             more = [];
-            outcomes = sym (append-nil (outcomes_of h));
+            outcomes = sym c.lines ∙ sym (append-nil (outcomes_of h));
+            low = λ k short. same_low k (outcomes_of h) (all_outcomes (drive_of h)) (counts_of h) c.lines;
+            high = λ k n given asked. asked;
             later = flat_map ticks_of (hand_of h);
             ticks = ticks;
-            given = given_few (given_of h) (planned_of h) c.end;
+            given = given_few (given_of h) (all_given (drive_of h)) c.end;
             held = λ is. is;
             changed = λ none. none;
           }) c.fits,
     )
   where
-    given_few : (given planned : List Piece) → (given ≡ planned) ⊎ (given ≡ planned ++ pieces.End ∷ []) → ticks_together given ≤ length (flat_map ticks_of planned)
-    given_few given planned (inl same) = let e = ap ticks_together same in omega (arith, e)
-    given_few given planned (inr whole) = let e = ap ticks_together whole in let n = no_more_ticks planned in omega (arith, e, n)
+    same_low : (k : ℕ) (os xs : List Outcome) (ns : List ℕ) → os ≡ xs → fewest k xs ns ≤ fewest k os ns
+    same_low k os xs ns same = let e = ap (λ (ys : List Outcome). fewest k ys ns) same in omega (arith, e)
 
 kept_few : (h : Journal) (first : State) → Kept first h → reports_among (answered_of h) ≤ reports_in (port_log h)
 kept_few h first c = let f = c.few in omega (arith, f)
@@ -142,40 +203,42 @@ nothing_more xs = record { rest = []; is = sym (append-nil xs) }
 begun_so : (first : State) (h : Journal) → Kept first h → BeginsWith (whole_lines (taken_of h)) (lines_of h)
 begun_so first h c = record { rest = whole_lines (open_of h ++ cond (whole_of h) (10 ∷ []) []); is = lines_begun (taken_of h) (lines_of h) (open_of h) (whole_of h) c.bytes }
 
+-- where no line raised an alarm, the link was found closed
+closed_calmly : (h : Journal) → (has_closed h ≡ true) ⊎ (has_alarmed h ≡ true) → has_alarmed h ≡ false → has_closed h ≡ true
+closed_calmly h (inl closed) calm = closed
+closed_calmly h (inr one) calm = absurd (let e = sym one ∙ calm in cc)
+
 pub board_ran : (first : State) (h : Journal) → IsOpening first → Kept first h → IsFinished h → IsSpent h
-    → BoardRan (taken_of h) (has_closed h) (has_held_in (port_log h)) (has_changed_in (port_log h)) (has_reset_in (port_log h)) (reports_in (port_log h)) (answered_of h) (published_of h)
+    → BoardRan (taken_of h) (has_closed h) (has_held_in (port_log h)) (has_slowed_in (port_log h)) (has_changed_in (port_log h)) (has_reset_in (port_log h)) (reports_in (port_log h)) (cancel_words_in (port_log h)) (answered_of h) (published_of h)
 board_ran first h opening c f s = record {
   first = first;
   lines = lines_of h;
-  outcomes = outcomes_of h;
+  drive = drive_of h;
   last = before_of first h;
   opening = opening;
   begun = begun_so first h c;
   follows = c.follow;
-  said = replies_in (outcomes_of h);
-  front = nothing_more (replies_in (outcomes_of h));
+  said = replies_in (all_outcomes (drive_of h));
+  front = nothing_more (replies_in (all_outcomes (drive_of h)));
   told = sym (append-nil (without_reports (answered_of h))) ∙ ap (λ (ts : List Task). without_reports (answered_of h) ++ tells ts) (sym f.left)
-      ∙ sym c.told ∙ ap (λ (rs : List Reply). replies_in (outcomes_of h) ++ rs) f.closed;
+      ∙ sym c.told ∙ ap (λ (rs : List Reply). replies_in (all_outcomes (drive_of h)) ++ rs) f.closed;
   one = c.one;
-  actions = actions_of h;
-  given = planned_of h;
-  plan = plan_of h;
-  run = c.run;
-  disturbed = c.disturbed;
-  asks = record { rest = asks (left_of h); is = c.asked };
-  made = planned_of h;
-  kept = nothing_more (planned_of h);
-  gave = sym (append-nil (published_of h)) ∙ ap (λ (ps : List Piece). published_of h ++ ps) (sym s.hand) ∙ sym c.hand ∙ s.given;
+  drives = c.drives;
+  made = (all_given (drive_of h));
+  kept = nothing_more (all_given (drive_of h));
+  gave = sym (append-nil (published_of h)) ∙ ap (λ (ps : List Piece). published_of h ++ ps) (sym s.hand) ∙ sym c.hand ∙ s.given ∙ ap (λ (ps : List Piece). ps ++ pieces.End ∷ []) c.pieces_are;
+  least = least_given first h c;
   reported = kept_reported first h c;
   reports = kept_few h first c;
-  whole = λ none. record {
-    found = s.closed;
+  whole = λ none calm. record {
+    found = closed_calmly h s.closed (sym c.alarmed ∙ calm);
     begun = sym (all_begun (taken_of h) (lines_of h) (open_of h) (whole_of h) s.whole c.bytes);
     told = refl;
-    rests = s.plan;
-    asks = sym (append-nil (all_asked (actions_of h))) ∙ ap (λ (ts : List Task). all_asked (actions_of h) ++ asks ts) (sym f.left) ∙ sym c.asked;
+    rests = subst (λ (p : Planned). IsAtRest p) (sym (c.open_plan (sym c.alarmed ∙ calm))) s.plan;
+    asks = sym (append-nil (all_asked (part_actions h))) ∙ ap (λ (ts : List Task). all_asked (part_actions h) ++ asks ts) (sym f.left) ∙ sym c.asked;
     whole = refl;
   };
+  halted = λ none one. (let halt = c.halt (sym c.alarmed ∙ one) f.left in record { told = refl; halted = halt.0; part = halt.1; whole = refl });
 }
 
 bye_last : (told closed out left : List Reply) → (closed ≡ []) ⊎ (closed ≡ Bye ∷ []) → told ++ closed ≡ out ++ left → BeginsWith (told ++ Bye ∷ []) out
@@ -194,27 +257,22 @@ end_last given planned out hand (inl same) e = record {
 end_last given planned out hand (inr whole) e = record { rest = hand; is = sym whole ∙ e }
 
 pub board_runs : (first : State) (h : Journal) → IsOpening first → Kept first h
-    → BoardRuns (taken_of h) (has_held_in (port_log h)) (has_changed_in (port_log h)) (has_reset_in (port_log h)) (reports_in (port_log h)) (answered_of h) (published_of h)
+    → BoardRuns (taken_of h) (has_held_in (port_log h)) (has_slowed_in (port_log h)) (has_changed_in (port_log h)) (has_reset_in (port_log h)) (reports_in (port_log h)) (cancel_words_in (port_log h)) (answered_of h) (published_of h)
 board_runs first h opening c = record {
   first = first;
   lines = lines_of h;
-  outcomes = outcomes_of h;
+  drive = drive_of h;
   last = before_of first h;
   opening = opening;
   begun = begun_so first h c;
   follows = c.follow;
-  said = replies_in (outcomes_of h);
-  front = nothing_more (replies_in (outcomes_of h));
-  told = bye_last (replies_in (outcomes_of h)) (closed_tells h) (without_reports (answered_of h)) (tells (left_of h)) c.bye c.told;
-  actions = actions_of h;
-  given = planned_of h;
-  plan = plan_of h;
-  run = c.run;
-  disturbed = c.disturbed;
-  asks = record { rest = asks (left_of h); is = c.asked };
-  made = planned_of h;
-  kept = nothing_more (planned_of h);
-  gave = end_last (given_of h) (planned_of h) (published_of h) (hand_of h) c.end c.hand;
+  said = replies_in (all_outcomes (drive_of h));
+  front = nothing_more (replies_in (all_outcomes (drive_of h)));
+  told = bye_last (replies_in (all_outcomes (drive_of h))) (closed_tells h) (without_reports (answered_of h)) (tells (left_of h)) c.bye c.told;
+  drives = c.drives;
+  made = (all_given (drive_of h));
+  kept = nothing_more (all_given (drive_of h));
+  gave = end_last (given_of h) (all_given (drive_of h)) (published_of h) (hand_of h) c.end c.hand;
   reported = kept_reported first h c;
   reports = kept_few h first c;
   whole = λ none. (refl, refl);
@@ -224,7 +282,7 @@ board_runs first h opening c = record {
 
 -- the pieces of its run: all that the plan gave, where the end is published, and else those that are published
 abbrev made_of : Journal → List Piece
-made_of h = cond (list_any is_end (published_of h)) (planned_of h) (published_of h)
+made_of h = cond (list_any is_end (published_of h)) (all_given (drive_of h)) (published_of h)
 
 made_by : (given planned out hand : List Piece) (t : Bool) → list_any is_end out ≡ t → Others pieces.End planned → (given ≡ planned) ⊎ (given ≡ planned ++ pieces.End ∷ []) → given ≡ out ++ hand
     → BeginsWith planned (cond t planned out) × (out ++ cond t [] (pieces.End ∷ []) ≡ cond t planned out ++ pieces.End ∷ [])
@@ -237,11 +295,15 @@ made_by given planned out hand false none_out none end is =
     by_end (inl same) = record { rest = hand; is = sym same ∙ is }
     by_end (inr whole) = front_before pieces.End planned out hand (none_end out none_out) (sym whole ∙ is)
 
+-- no end is among what the plan gave
+pub none_given : (first : State) (h : Journal) → Conducted first h → Others pieces.End (all_given (drive_of h))
+none_given first h conducted = subst (λ (ps : List Piece). Others pieces.End ps) (pieces_are first h conducted) (planned_none first h conducted)
+
 -- a board that kept to its rules until a reset ended its run
 pub record IsBroken (first : State) (since before : Journal) : Type 0 where
   pub opening : IsOpening first
   pub kept : Kept first before
-  pub none : Others pieces.End (planned_of before)
+  pub none : Others pieces.End (all_given (drive_of before))
   pub broke_off : MayBreakOff before
   pub ends : EndsRun since before
 
@@ -267,30 +329,47 @@ closed_same since before ends = same_log closed_at has_closed_in since before en
 held_same : (since before : Journal) → EndsRun since before → has_held_in (log_behind since before) ≡ has_held_in (port_log before)
 held_same since before ends = same_log holds_at has_held_in since before ends (λ e l. refl) (λ q x. refl) (λ r x. refl) (λ n x. refl) (λ x. refl)
 
+cancelled_same : (since before : Journal) → EndsRun since before → has_cancelled_in (log_behind since before) ≡ has_cancelled_in (port_log before)
+cancelled_same since before ends = same_log cancels_at has_cancelled_in since before ends (λ e l. refl) (λ q x. refl) (λ r x. refl) (λ n x. refl) (λ x. refl)
+
+slowed_same : (since before : Journal) → EndsRun since before → has_slowed_in (log_behind since before) ≡ has_slowed_in (port_log before)
+slowed_same since before ends = ap (λ (b : Bool). b || has_cancelled_in (log_behind since before)) (held_same since before ends) ∙ ap (λ (b : Bool). has_held_in (port_log before) || b) (cancelled_same since before ends)
+
 changed_same : (since before : Journal) → EndsRun since before → has_changed_in (log_behind since before) ≡ has_changed_in (port_log before)
 changed_same since before ends = same_log changes_at has_changed_in since before ends (λ e l. refl) (λ q x. refl) (λ r x. refl) (λ n x. refl) (λ x. refl)
 
 asked_same : (since before : Journal) → EndsRun since before → reports_in (log_behind since before) ≡ reports_in (port_log before)
 asked_same since before ends = same_log reports_at reports_in since before ends (λ e l. refl) (λ q x. refl) (λ r x. refl) (λ n x. refl) (λ x. refl)
 
+words_same : (since before : Journal) → EndsRun since before → cancel_words_in (log_behind since before) ≡ cancel_words_in (port_log before)
+words_same since before ends = same_log cancel_words_at cancel_words_in since before ends (λ e l. refl) (λ q x. refl) (λ r x. refl) (λ n x. refl) (λ x. refl)
+
 -- what it had told, but for reports
 abbrev said_so : Journal → List Reply
 said_so before = without_reports (answered_of before)
 
-front_said : (first : State) (since before : Journal) → IsBroken first since before → BeginsWith (replies_in (outcomes_of before)) (said_so before)
+front_said : (first : State) (since before : Journal) → IsBroken first since before → BeginsWith (replies_in (all_outcomes (drive_of before))) (said_so before)
 front_said first since before k =
-    front_of Bye (replies_in (outcomes_of before)) (closed_tells before) (said_so before) (tells (left_of before)) (no_bye (answered_of before) k.broke_off.unsaid) k.kept.bye k.kept.told
+    front_of Bye (replies_in (all_outcomes (drive_of before))) (closed_tells before) (said_so before) (tells (left_of before)) (no_bye (answered_of before) k.broke_off.unsaid) k.kept.bye k.kept.told
 
 abbrev IsMade : Journal → Type 0
-IsMade before = BeginsWith (planned_of before) (made_of before) × (published_of before ++ cond (list_any is_end (published_of before)) [] (pieces.End ∷ []) ≡ made_of before ++ pieces.End ∷ [])
+IsMade before = BeginsWith (all_given (drive_of before)) (made_of before) × (published_of before ++ cond (list_any is_end (published_of before)) [] (pieces.End ∷ []) ≡ made_of before ++ pieces.End ∷ [])
 
 made_is : (first : State) (since before : Journal) → IsBroken first since before → IsMade before
 made_is first since before k =
-    made_by (given_of before) (planned_of before) (published_of before) (hand_of before) (list_any is_end (published_of before)) refl k.none k.kept.end k.kept.hand
+    made_by (given_of before) (all_given (drive_of before)) (published_of before) (hand_of before) (list_any is_end (published_of before)) refl k.none k.kept.end k.kept.hand
+
+-- they have the ticks of the lines up to the last answered one that settles
+least_made : (first : State) (before : Journal) → Kept first before → fewest (answers_in (answered_of before)) (all_outcomes (drive_of before)) (all_counts (drive_of before)) ≤ length (flat_map ticks_of (made_of before))
+least_made first before kept = by_end (list_any is_end (published_of before))
+  where
+    by_end : (t : Bool) → fewest (answers_in (answered_of before)) (all_outcomes (drive_of before)) (all_counts (drive_of before)) ≤ length (flat_map ticks_of (cond t (all_given (drive_of before)) (published_of before)))
+    by_end true = least_given first before kept
+    by_end false = kept.least
 
 -- its reports fit what it had done
 abbrev FitsSo : State → Journal → List Reply → Type 0
-FitsSo first before replies = HasReported first (outcomes_of before) (planned_of before) (has_held_in (port_log before)) (has_changed_in (port_log before)) replies
+FitsSo first before replies = HasReported first (drive_of before) (has_held_in (port_log before)) (has_changed_in (port_log before)) replies
 
 -- how far its end is, by what it has answered and published
 record Stage (first : State) (before : Journal) (replies : List Reply) (pieces_out : List Piece) : Type 0 where
@@ -330,13 +409,13 @@ stage : (first : State) (since before : Journal) (e : Ending) → IsBroken first
 stage first since before publishes_end k e =
     let un = unended since before k.ends e in
     let none_out = opening_ends before un.1 in
-    unanswered_stage first before (answered_in (log_behind since before)) (published_in (log_behind since before)) k.kept (unanswered since before k.ends (λ o. absurd (let s = sym e ∙ o in cc)))
+    unanswered_stage first before (answered_in (log_behind since before)) (published_in (log_behind since before)) k.kept (none_answered since before k.ends (λ o. absurd (let s = sym e ∙ o in cc)))
     (record {
       rest = pieces.End ∷ [];
-      is = ap (λ t. cond t (planned_of before) (published_of before) ++ pieces.End ∷ []) none_out ∙ ap (λ (ps : List Piece). ps ++ pieces.End ∷ []) (sym un.0);
+      is = ap (λ t. cond t (all_given (drive_of before)) (published_of before) ++ pieces.End ∷ []) none_out ∙ ap (λ (ps : List Piece). ps ++ pieces.End ∷ []) (sym un.0);
     })
 stage first since before tells_bye k e =
-    unanswered_stage first before (answered_in (log_behind since before)) (published_in (log_behind since before)) k.kept (unanswered since before k.ends (λ o. absurd (let s = sym e ∙ o in cc)))
+    unanswered_stage first before (answered_in (log_behind since before)) (published_in (log_behind since before)) k.kept (none_answered since before k.ends (λ o. absurd (let s = sym e ∙ o in cc)))
     (all_pieces (made_of before ++ pieces.End ∷ []) (published_in (log_behind since before)) (whole_pieces first since before k (λ p. absurd (let s = sym e ∙ p in cc))))
 stage first since before over k e =
     let is = ended_answers since before k.ends e in
@@ -348,11 +427,11 @@ stage first since before over k e =
     }
 
 runs_then : (first : State) (since before : Journal) (replies : List Reply) (pieces_out : List Piece) → IsBroken first since before → Stage first before replies pieces_out
-    → BoardRuns (taken_of before) (has_held_in (port_log before)) (has_changed_in (port_log before)) true (reports_in (port_log before)) replies pieces_out
+    → BoardRuns (taken_of before) (has_held_in (port_log before)) (has_slowed_in (port_log before)) (has_changed_in (port_log before)) true (reports_in (port_log before)) (cancel_words_in (port_log before)) replies pieces_out
 runs_then first since before replies pieces_out k s = record {
   first = first;
   lines = lines_of before;
-  outcomes = outcomes_of before;
+  drive = drive_of before;
   last = before_of first before;
   opening = k.opening;
   begun = begun_so first before k.kept;
@@ -360,12 +439,7 @@ runs_then first since before replies pieces_out k s = record {
   said = said_so before;
   front = front_said first since before k;
   told = s.told;
-  actions = actions_of before;
-  given = planned_of before;
-  plan = plan_of before;
-  run = k.kept.run;
-  disturbed = k.kept.disturbed;
-  asks = record { rest = asks (left_of before); is = k.kept.asked };
+  drives = k.kept.drives;
   made = made_of before;
   kept = (made_is first since before k).0;
   gave = s.gave;
@@ -375,10 +449,10 @@ runs_then first since before replies pieces_out k s = record {
 }
 
 pub broken_runs : (first : State) (since before : Journal) → IsBroken first since before
-    → BoardRuns (taken_in (log_behind since before)) (has_held_in (log_behind since before)) (has_changed_in (log_behind since before)) (has_reset_in (log_behind since before)) (reports_in (log_behind since before))
+    → BoardRuns (taken_in (log_behind since before)) (has_held_in (log_behind since before)) (has_slowed_in (log_behind since before)) (has_changed_in (log_behind since before)) (has_reset_in (log_behind since before)) (reports_in (log_behind since before)) (cancel_words_in (log_behind since before))
     (answered_in (log_behind since before)) (published_in (log_behind since before))
 broken_runs first since before k =
-    rw (taken_same since before k.ends, held_same since before k.ends, changed_same since before k.ends, resets_now first since before k, asked_same since before k.ends)
+    rw (taken_same since before k.ends, slowed_same since before k.ends, held_same since before k.ends, changed_same since before k.ends, resets_now first since before k, asked_same since before k.ends, words_same since before k.ends)
     (runs_then first since before (answered_in (log_behind since before)) (published_in (log_behind since before)) k (stage first since before (ending_of since before) k refl))
 
 -- a Bye behind them is no answer
@@ -389,11 +463,11 @@ answers_still before replies told =
 
 ran_then : (first : State) (since before : Journal) (replies : List Reply) (pieces_out : List Piece) → IsBroken first since before → without_reports replies ≡ said_so before ++ Bye ∷ []
     → pieces_out ≡ made_of before ++ pieces.End ∷ [] → Stage first before replies pieces_out
-    → BoardRan (taken_of before) (has_closed before) (has_held_in (port_log before)) (has_changed_in (port_log before)) true (reports_in (port_log before)) replies pieces_out
+    → BoardRan (taken_of before) (has_closed before) (has_held_in (port_log before)) (has_slowed_in (port_log before)) (has_changed_in (port_log before)) true (reports_in (port_log before)) (cancel_words_in (port_log before)) replies pieces_out
 ran_then first since before replies pieces_out k told gave s = record {
   first = first;
   lines = lines_of before;
-  outcomes = outcomes_of before;
+  drive = drive_of before;
   last = before_of first before;
   opening = k.opening;
   begun = begun_so first before k.kept;
@@ -402,24 +476,21 @@ ran_then first since before replies pieces_out k told gave s = record {
   front = front_said first since before k;
   told = told;
   one = (let e = answers_still before replies told in let o = k.kept.one in omega (arith, e, o));
-  actions = actions_of before;
-  given = planned_of before;
-  plan = plan_of before;
-  run = k.kept.run;
-  disturbed = k.kept.disturbed;
-  asks = record { rest = asks (left_of before); is = k.kept.asked };
+  drives = k.kept.drives;
   made = made_of before;
   kept = (made_is first since before k).0;
   gave = gave;
+  least = subst (λ (n : ℕ). fewest n (all_outcomes (drive_of before)) (all_counts (drive_of before)) ≤ length (flat_map ticks_of (made_of before))) (sym (answers_still before replies told)) (least_made first before k.kept);
   reported = s.fits;
   reports = s.few;
   whole = λ e. absurd cc;
+  halted = λ e. absurd cc;
 }
 
 pub broken_ran : (first : State) (since before : Journal) → IsBroken first since before → ending_of since before ≡ over
-    → BoardRan (taken_in (log_behind since before)) (has_closed_in (log_behind since before)) (has_held_in (log_behind since before)) (has_changed_in (log_behind since before)) (has_reset_in (log_behind since before))
-    (reports_in (log_behind since before)) (answered_in (log_behind since before)) (published_in (log_behind since before))
+    → BoardRan (taken_in (log_behind since before)) (has_closed_in (log_behind since before)) (has_held_in (log_behind since before)) (has_slowed_in (log_behind since before)) (has_changed_in (log_behind since before)) (has_reset_in (log_behind since before))
+    (reports_in (log_behind since before)) (cancel_words_in (log_behind since before)) (answered_in (log_behind since before)) (published_in (log_behind since before))
 broken_ran first since before k e =
-    rw (taken_same since before k.ends, closed_same since before k.ends, held_same since before k.ends, changed_same since before k.ends, resets_now first since before k, asked_same since before k.ends)
+    rw (taken_same since before k.ends, closed_same since before k.ends, slowed_same since before k.ends, held_same since before k.ends, changed_same since before k.ends, resets_now first since before k, asked_same since before k.ends, words_same since before k.ends)
     (ran_then first since before (answered_in (log_behind since before)) (published_in (log_behind since before)) k (with_bye before (answered_in (log_behind since before)) (ended_answers since before k.ends e))
     (whole_pieces first since before k (λ p. absurd (let s = sym e ∙ p in cc))) (stage first since before (ending_of since before) k refl))

@@ -9,6 +9,8 @@ use Rattle.status_report.specs.Replies.{reply_text}
 use Rattle.step_line.specs.declared.Piece.TheVariants as pieces
 use Rattle.step_line.specs.declared.Record.TheVariants as kinds
 use Rattle.planner_runs.specs.Runs.{fresh_plan}
+use Rattle.planner_runs.proofs.Runs.{fresh_starts}
+use Rattle.run_law.specs.Drives.{Drive}
 use Rattle.run_rules.specs.declared.State.{State}
 use Rattle.run_rules.specs.States.{IsOpening}
 use Rattle.run_rules.specs.Outcomes.{start, after, told}
@@ -52,13 +54,14 @@ got_keeps = (record { poll = record { going = refl; rested = omega arith }; few 
 sent_keeps : Conducted sent
 unfolding cut_within reply_text
 sent_keeps = (
-  record { next = refl; reported = refl; room = omega arith },
+  record { calm = refl; next = refl; reported = refl; room = omega arith },
   (
-    record { going = refl; next = refl; few = omega arith; sends = refl; free = refl; none_due = refl },
+    record { going = refl; calm = refl; next = refl; few = omega arith; sends = refl; free = refl; none_due = refl },
     (
       (
         record {
           going = refl;
+          calm = refl;
           on = refl;
           sends = refl;
           used = refl;
@@ -80,10 +83,11 @@ unfolding cut_within reply_text
 host_keeps = (
   record { poll = record { going = refl; rested = omega arith }; few = omega arith },
   (
-    record { going = refl; sent = record { free = refl; all = inr (refl, refl) }; all_raised = refl },
+    record { going = refl; sent = inr (record { free = refl; all = inr (refl, refl) }); all_raised = inr refl },
     (
       record {
         going = refl;
+        calm = refl;
         on = refl;
         sends = refl;
         used = refl;
@@ -117,31 +121,43 @@ host_ran = has_run all_done one_line nothing silent silent host_keeps (record { 
 
 -- ---- the board, the pulse and the recorder
 
-board_ran : (first : State) → IsOpening first → BoardRan (10 ∷ []) true false false false 0 (replies.Banner ∷ replies.Ok ∷ replies.Bye ∷ []) (pieces.End ∷ [])
+abbrev drive : State → Drive
+drive first = record { parts = []; since = told first [] ∷ []; actions = []; given = []; plan = fresh_plan; halted = false }
+
+board_ran : (first : State) → IsOpening first → BoardRan (10 ∷ []) true false false false false 0 0 (replies.Banner ∷ replies.Ok ∷ replies.Bye ∷ []) (pieces.End ∷ [])
 board_ran first opening = record {
   first = first;
   lines = [] ∷ [];
-  outcomes = told first [] ∷ [];
+  drive = drive first;
   last = after (start first) (told first []);
   opening = opening;
   begun = record { rest = []; is = refl };
-  follows = (refl, refl);
+  follows = (record { free = refl; becomes = refl }, refl);
   said = replies.Banner ∷ replies.Ok ∷ [];
   front = record { rest = []; is = refl };
   told = refl;
   one = omega arith;
-  actions = [];
-  given = [];
-  plan = fresh_plan;
-  run = refl;
-  disturbed = tt;
-  asks = record { rest = []; is = refl };
+  drives = record {
+    closed = tt;
+    joined = tt;
+    numbered = tt;
+    few = omega arith;
+    starts = fresh_starts;
+    part = refl;
+    run = refl;
+    before = tt;
+    disturbed = tt;
+    halts = λ e. absurd cc;
+    asks = record { rest = []; is = refl };
+  };
   made = [];
   kept = record { rest = []; is = refl };
   gave = refl;
+  least = omega arith;
   reported = (0, tt);
   reports = omega arith;
-  whole = λ none. record { found = refl; begun = refl; told = refl; rests = record { blocks = refl; speed = refl }; asks = refl; whole = refl };
+  whole = λ none calm. record { found = refl; begun = refl; told = refl; rests = record { blocks = refl; speed = refl }; asks = refl; whole = refl };
+  halted = λ none e. absurd cc;
 }
 
 pulse_ran : PulseRan (pieces.End ∷ []) 0 (kinds.End ∷ [])
@@ -157,6 +173,6 @@ recorder_ran = record {
 
 pub a_run : (first : State) → IsOpening first → IsRun one_line nothing sinks sinks (ended ended_so false)
 a_run first opening =
-    runs one_line nothing sinks sinks ended_so false (10 ∷ []) [] (10 ∷ []) true true false false false 0
+    runs one_line nothing sinks sinks ended_so false (10 ∷ []) [] (10 ∷ []) true true false false false false 0 0
     (replies.Banner ∷ replies.Ok ∷ replies.Bye ∷ []) (replies.Banner ∷ replies.Ok ∷ replies.Bye ∷ []) (pieces.End ∷ []) (pieces.End ∷ []) 0 (kinds.End ∷ []) (kinds.End ∷ [])
-    host_ran (board_ran first opening) pulse_ran recorder_ran (record { rest = []; front = refl; closes = λ e. refl; all = λ e. refl }) (record { held_by = λ e. absurd cc; changed_by = λ e. absurd cc; reset_by = λ e. absurd cc; asked_by = omega arith }) refl refl refl
+    host_ran (board_ran first opening) pulse_ran recorder_ran (record { rest = []; front = refl; closes = λ e. refl; all = λ e. refl }) (record { held_by = λ e. absurd cc; slowed_by = λ e. absurd cc; changed_by = λ e. absurd cc; cancels_by = omega arith; reset_by = λ e. absurd cc; asked_by = omega arith }) refl refl refl

@@ -2,14 +2,13 @@
 use Rattle.std.proofs.Common.{◌≡◌, ℕ, ◌+◌, ◌<◌, ◌||◌, Bool, true, false, cond, List, [], ◌∷◌, refl, sym, ap, ◌∙◌, arith}
 use Rattle.std.specs.List.{count_by, list_any}
 use Rattle.std.proofs.lemmas.List.Sums.{sum_by-cons}
-use Rattle.run_rules.specs.Work.{Outcome}
 use Rattle.stream_host.specs.Jobs.{resume, is_reset, served_in}
 use Rattle.stream_host.specs.Ran.{AreRaised}
-use Rattle.planner_runs.specs.declared.Action.{Action}
-use Rattle.planner_runs.specs.Runs.{DisturbedOnlyBy}
 use Rattle.planner_runs.proofs.Runs.{disturbed_more}
-use Rattle.run_law.specs.Flags.{is_hold, is_change, AreTaken}
-use Rattle.run_law.specs.Runs.{asks_hold, asks_change, asks_reset, ends_program}
+use Rattle.run_law.specs.Flags.{is_slow, is_change, AreTaken}
+use Rattle.board_rules.specs.Parts.{Part, AreDisturbedOnlyBy}
+use Rattle.run_law.specs.Drives.{Drive, all_outcomes, IsDrive}
+use Rattle.run_law.specs.Runs.{asks_slow, slows_in, asks_change, asks_reset, ends_program}
 
 -- ---- a test that some element passes
 
@@ -40,23 +39,43 @@ scanned_where_raised p scanned raised due resumes none are any =
     let some = some_pass p raised any in let all = are p in let nothing = ap (λ t. cond t resumes 0) none in
     passes_some p (served_in scanned) (omega arith)
 
--- what disturbs a plan is scanned
-pub disturbed_by : (scanned raised due : List ℕ) (resumes : ℕ) (held changed reset : Bool) (asked : ℕ) (outcomes : List Outcome) (actions : List Action) → AreRaised scanned raised due resumes → AreTaken raised held changed reset asked
-    → DisturbedOnlyBy held (changed || ends_program outcomes) actions → DisturbedOnlyBy (asks_hold scanned) (asks_change scanned || ends_program outcomes) actions
-disturbed_by scanned raised due resumes held changed reset asked outcomes actions are taken was =
-    disturbed_more held (changed || ends_program outcomes) (asks_hold scanned) (asks_change scanned || ends_program outcomes) actions
-    (λ is. scanned_where_raised is_hold scanned raised due resumes refl are (taken.held_by is))
-    (λ is. by_change changed (ends_program outcomes) (asks_change scanned) (λ now. scanned_where_raised is_change scanned raised due resumes refl are (taken.changed_by now)) is)
-    was
-  where
-    by_change : (a b c : Bool) → (a ≡ true → c ≡ true) → (a || b) ≡ true → (c || b) ≡ true
-    by_change true b c on is = ap (λ t. t || b) (on refl)
-    by_change false b true on is = refl
-    by_change false b false on is = is
+-- one of two causes is scanned, or there is the other
+by_change : (a b c : Bool) → (a ≡ true → c ≡ true) → (a || b) ≡ true → (c || b) ≡ true
+by_change true b c on is = ap (λ t. t || b) (on refl)
+by_change false b true on is = refl
+by_change false b false on is = is
+
+parts_more : (slowed changed slowed_too changed_too : Bool) (ps : List Part) → (slowed ≡ true → slowed_too ≡ true) → (changed ≡ true → changed_too ≡ true)
+    → AreDisturbedOnlyBy slowed changed ps → AreDisturbedOnlyBy slowed_too changed_too ps
+parts_more slowed changed slowed_too changed_too [] f g is = tt
+parts_more slowed changed slowed_too changed_too (p ∷ ps) f g is =
+    (disturbed_more slowed changed slowed_too changed_too p.actions f g is.0, parts_more slowed changed slowed_too changed_too ps f g is.1)
+
+-- so what disturbs a drive is scanned, and jogs are cut no more often than it
+pub driven_by : (scanned raised due : List ℕ) (resumes : ℕ) (held slowed alarmed changed reset : Bool) (asked cancels : ℕ) (d : Drive) → AreRaised scanned raised due resumes → AreTaken raised held slowed changed reset asked cancels
+    → IsDrive slowed alarmed (changed || ends_program (all_outcomes d)) cancels d → IsDrive (asks_slow scanned) alarmed (asks_change scanned || ends_program (all_outcomes d)) (slows_in scanned) d
+driven_by scanned raised due resumes held slowed alarmed changed reset asked cancels d are taken was =
+    let ends = ends_program (all_outcomes d) in
+    let slows : slowed ≡ true → asks_slow scanned ≡ true = λ is. scanned_where_raised is_slow scanned raised due resumes refl are (taken.slowed_by is) in
+    let changes : (changed || ends) ≡ true → (asks_change scanned || ends) ≡ true =
+    λ is. by_change changed ends (asks_change scanned) (λ now. scanned_where_raised is_change scanned raised due resumes refl are (taken.changed_by now)) is in
+    record {
+      closed = was.closed;
+      joined = was.joined;
+      numbered = was.numbered;
+      few = (let a = was.few in let b = taken.cancels_by in let c = are is_slow in omega (arith, a, b, c));
+      starts = was.starts;
+      part = was.part;
+      run = was.run;
+      before = parts_more slowed (changed || ends) (asks_slow scanned) (asks_change scanned || ends) d.parts slows changes was.before;
+      disturbed = disturbed_more (slowed || alarmed) (changed || ends) (asks_slow scanned || alarmed) (asks_change scanned || ends) d.actions (by_change slowed alarmed (asks_slow scanned) slows) changes was.disturbed;
+      halts = was.halts;
+      asks = was.asks;
+    }
 
 -- where no reset was scanned, none was taken
-pub no_reset : (scanned raised due : List ℕ) (resumes : ℕ) (held changed reset : Bool) (asked : ℕ) → AreRaised scanned raised due resumes → AreTaken raised held changed reset asked → asks_reset scanned ≡ false → reset ≡ false
-no_reset scanned raised due resumes held changed reset asked are taken none = by_reset reset taken.reset_by
+pub no_reset : (scanned raised due : List ℕ) (resumes : ℕ) (held slowed changed reset : Bool) (asked cancels : ℕ) → AreRaised scanned raised due resumes → AreTaken raised held slowed changed reset asked cancels → asks_reset scanned ≡ false → reset ≡ false
+no_reset scanned raised due resumes held slowed changed reset asked cancels are taken none = by_reset reset taken.reset_by
   where
     by_reset : (t : Bool) → (t ≡ true → list_any is_reset raised ≡ true) → t ≡ false
     by_reset false by = refl

@@ -30,6 +30,9 @@ use Rattle.run_law.specs.Fronts.{BeginsWith}
 use Rattle.run_rules.proofs.Answering.{NoByes, none_is_bye}
 use Rattle.run_law.proofs.Reporting.{plain_front, bye_without}
 use Rattle.run_law.proofs.Begins.{ended_records}
+use Rattle.run_law.proofs.Driving.{became_all}
+use Rattle.run_law.specs.Drives.{all_outcomes, all_passed, all_actions, all_given}
+use Rattle.run_rules.specs.Work.{Outcome}
 use Rattle.run_law.proofs.Law.{runs_by}
 
 abbrev Others : {X : Type 0} → X → List X → Type 0
@@ -129,20 +132,21 @@ front_none x whole front b none = first_none x front b.rest (subst (Others x) b.
 -- ---- the run
 
 pub ends : (job_was job_is : SourceState) (was is : Sinks) (end : HostEnd) (steps_failed : Bool)
-    (stored raised taken : List ℕ) (shut closed held changed reset : Bool) (asked : ℕ) (got answered : List Reply) (got_pieces published : List Piece) (ticks : ℕ) (got_records put : List Record)
-    → HostRan job_was job_is was.console is.console stored shut raised got end → BoardRan taken closed held changed reset asked answered published → PulseRan got_pieces ticks put
+    (stored raised taken : List ℕ) (shut closed held slowed changed reset : Bool) (asked cancels : ℕ) (got answered : List Reply) (got_pieces published : List Piece) (ticks : ℕ) (got_records put : List Record)
+    → HostRan job_was job_is was.console is.console stored shut raised got end → BoardRan taken closed held slowed changed reset asked cancels answered published → PulseRan got_pieces ticks put
     → RecorderRan was.steps is.steps got_records steps_failed
-    → IsLinked stored shut taken closed → AreTaken raised held changed reset asked → BeginsWith answered got → BeginsWith published got_pieces → BeginsWith put got_records
+    → IsLinked stored shut taken closed → AreTaken raised held slowed changed reset asked cancels → BeginsWith answered got → BeginsWith published got_pieces → BeginsWith put got_records
     → IsRun job_was job_is was is (ended end steps_failed)
-ends job_was job_is was is end steps_failed stored raised taken shut closed held changed reset asked got answered got_pieces published ticks got_records put host board pulse recorder link flags some_replies some_pieces some_records =
-    let none = front_none replies.Bye (replies_in board.outcomes) board.said board.front (none_is_bye true (start board.first) board.lines board.outcomes board.last board.follows) in
+ends job_was job_is was is end steps_failed stored raised taken shut closed held slowed changed reset asked cancels got answered got_pieces published ticks got_records put host board pulse recorder link flags some_replies some_pieces some_records =
+    let none = front_none replies.Bye (replies_in (all_outcomes board.drive)) board.said board.front
+    (subst (λ (os : List Outcome). NoByes (replies_in os)) (became_all board.drive) (none_is_bye true (start board.first) board.lines (all_passed board.drive) board.last board.follows)) in
     let same_replies = replies_whole (without_reports answered) (without_reports got) board.said board.told none (bye_without got host.bye) (plain_front answered got some_replies) in
-    let no_end = front_none pieces.End board.given board.made board.kept (no_ends most_blocks fresh_plan board.plan board.actions board.given board.run) in
+    let no_end = front_none pieces.End (all_given board.drive) board.made board.kept (no_ends most_blocks fresh_plan board.drive.plan (all_actions board.drive) (all_given board.drive) board.drives.run) in
     let same_pieces : got_pieces ≡ published = whole_front pieces.End published got_pieces board.made pulse.before no_end board.gave pulse.ends some_pieces in
     let ended : IsEnded put = record {
       front = all_records board.made;
       last = pulse.records ∙ ap (flat_map records_of) (same_pieces ∙ board.gave) ∙ ended_records board.made;
-      once = records_end board.given board.made board.kept (run_has_no_end most_blocks fresh_plan board.plan board.actions board.given board.run);
+      once = records_end (all_given board.drive) board.made board.kept (run_has_no_end most_blocks fresh_plan board.drive.plan (all_actions board.drive) (all_given board.drive) board.drives.run);
     } in
-    runs_by job_was job_is was is end steps_failed stored raised taken shut closed held changed reset asked got answered got_pieces published ticks got_records put host board pulse recorder link flags
+    runs_by job_was job_is was is end steps_failed stored raised taken shut closed held slowed changed reset asked cancels got answered got_pieces published ticks got_records put host board pulse recorder link flags
     same_replies some_replies same_pieces (records_whole put got_records ended recorder.ended some_records)

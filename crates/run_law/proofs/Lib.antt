@@ -3,6 +3,8 @@ pub mod Querying
 pub mod Taking
 pub mod Resetting
 pub mod Begins
+pub mod Driving
+pub mod Alarming
 pub mod Law
 pub mod Fronts
 pub mod SoFar
@@ -12,3 +14,5 @@ pub mod Breaking
 pub mod Boarding
 pub mod Completing
 pub mod Example
+pub mod Cancelling
+pub mod Slowing

@@ -13,7 +13,6 @@ use Rattle.step_line.specs.declared.Piece.TheVariants as pieces
 use Rattle.step_line.specs.declared.Record.{Record}
 use Rattle.step_line.specs.Pieces.{ticks_of}
 use Rattle.run_rules.specs.declared.State.{State}
-use Rattle.run_rules.specs.Work.{Outcome}
 use Rattle.run_rules.specs.Told.{errors_among, is_error}
 use Rattle.run_rules.specs.Reports.{Course, Reported, is_query}
 use Rattle.stream_host.specs.Jobs.{served_in}
@@ -23,6 +22,7 @@ use Rattle.board_rules.proofs.Plain.{reports_on}
 use Rattle.run_law.specs.Flags.{is_hold, is_change, AreTaken}
 use Rattle.run_law.specs.Runs.{course, asks_hold, asks_change}
 use Rattle.run_law.specs.Fronts.{BeginsWith}
+use Rattle.run_law.specs.Drives.{Drive, all_outcomes}
 use Rattle.run_law.proofs.Flagging.{scanned_where_raised}
 
 -- ---- the ticks
@@ -38,12 +38,14 @@ planned_ticks given planned published hand (inr whole) e =
 -- ---- what was asked for was scanned
 
 -- what is said of reports by what was taken of flags is said by what was scanned
-pub scanned_grows : (first : State) (outcomes : List Outcome) (ticks : List Record) (scanned raised due : List ℕ) (resumes : ℕ) (held changed reset : Bool) (asked : ℕ)
-    → AreRaised scanned raised due resumes → AreTaken raised held changed reset asked → Grows (course first outcomes ticks held changed) (course first outcomes ticks (asks_hold scanned) (asks_change scanned))
-scanned_grows first outcomes ticks scanned raised due resumes held changed reset asked are taken = record {
+pub scanned_grows : (first : State) (drive : Drive) (ticks : List Record) (scanned raised due : List ℕ) (resumes : ℕ) (held slowed changed reset : Bool) (asked cancels : ℕ)
+    → AreRaised scanned raised due resumes → AreTaken raised held slowed changed reset asked cancels → Grows (course first drive ticks held changed) (course first drive ticks (asks_hold scanned) (asks_change scanned))
+scanned_grows first drive ticks scanned raised due resumes held slowed changed reset asked cancels are taken = record {
   first = refl;
   more = [];
-  outcomes = sym (append-nil outcomes);
+  outcomes = sym (append-nil (all_outcomes drive));
+  low = λ k short. omega arith;
+  high = λ k n given asked. asked;
   later = [];
   ticks = sym (append-nil ticks);
   given = omega arith;
@@ -55,9 +57,9 @@ scanned_grows first outcomes ticks scanned raised due resumes held changed reset
     by_test true is none = let e = sym (scanned_where_raised is_change scanned raised due resumes refl are (taken.changed_by is)) ∙ none in e
     by_test false is none = refl
 
-pub scanned_few : (scanned raised due : List ℕ) (resumes : ℕ) (held changed reset : Bool) (asked : ℕ) → AreRaised scanned raised due resumes → AreTaken raised held changed reset asked
+pub scanned_few : (scanned raised due : List ℕ) (resumes : ℕ) (held slowed changed reset : Bool) (asked cancels : ℕ) → AreRaised scanned raised due resumes → AreTaken raised held slowed changed reset asked cancels
     → asked ≤ count_by is_query (served_in scanned)
-scanned_few scanned raised due resumes held changed reset asked are taken = let a = are is_query in let b = taken.asked_by in omega (arith, a, b)
+scanned_few scanned raised due resumes held slowed changed reset asked cancels are taken = let a = are is_query in let b = taken.asked_by in omega (arith, a, b)
 
 -- ---- fronts of replies
 

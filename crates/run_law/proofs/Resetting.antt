@@ -12,11 +12,14 @@ use Rattle.realtime_flags.specs.Bytes.{flag_of_row, flag_of_byte}
 use Rattle.stream_host.specs.Jobs.{is_reset}
 use Rattle.stream_host.specs.Steps.{PortLog as HostLog}
 use Rattle.stream_host.specs.Steps as hosts
-use Rattle.board_rules.specs.Ports.{PortLog as BoardLog, asks_reset, has_held_in, has_changed_in, has_reset_in, reports_in}
+use Rattle.board_rules.specs.Ports.{PortLog as BoardLog, asks_reset, has_held_in, has_slowed_in, has_changed_in, has_reset_in, reports_in}
 use Rattle.board_rules.specs.Ports.PortStep.{took, found_empty, found_closed, found_free, answered, reported, no_reply_room, took_exec, took_ovr, published, no_piece_room, loaded}
 use Rattle.run_law.specs.Flags.{is_hold, is_change, AreTaken}
 use Rattle.run_law.specs.Taking.{raises_in, takes_in}
 use Rattle.run_law.proofs.Querying.{asked_few}
+use Rattle.board_rules.specs.Cuts.{cancel_words_in}
+use Rattle.run_law.proofs.Cancelling.{slow_raised}
+use Rattle.run_law.proofs.Slowing.{cancels_few}
 use Rattle.run_law.proofs.Taking.{IsByteOf, change_bytes, change_taken, flag_was_raised, held_by_word, hold_bytes, hold_flag, hold_taken, taken_was_down}
 
 abbrev reset_flag : Flag
@@ -74,10 +77,11 @@ reset_bytes b is = only_reset b (ap is_reset_flag is)
 
 -- ---- what was taken was raised
 
-pub taken_were_raised : (words : List ℕ) (host : HostLog) (board : BoardLog) → IsBalanced words (raises_in host) (takes_in board) → AreTaken (hosts.raises_in host) (has_held_in board) (has_changed_in board) (has_reset_in board) (reports_in board)
+pub taken_were_raised : (words : List ℕ) (host : HostLog) (board : BoardLog) → IsBalanced words (raises_in host) (takes_in board) → AreTaken (hosts.raises_in host) (has_held_in board) (has_slowed_in board) (has_changed_in board) (has_reset_in board) (reports_in board) (cancel_words_in board)
 taken_were_raised words host board balance = record {
   held_by = λ held. flag_was_raised hold_flag is_hold hold_bytes host
       (taken_was_down (is_up hold_flag words) (raised_down hold_flag (raises_in host)) (takes_with hold_flag (takes_in board)) (balance hold_flag) (hold_taken board held));
+  slowed_by = λ slowed. slow_raised words host board balance slowed;
   changed_by = λ changed.
       let c = change_taken board changed in
       flag_was_raised (flags.Override c.0) is_change (change_bytes c.0) host
@@ -85,4 +89,5 @@ taken_were_raised words host board balance = record {
   reset_by = λ reset. flag_was_raised reset_flag is_reset reset_bytes host
       (taken_was_down (is_up reset_flag words) (raised_down reset_flag (raises_in host)) (takes_with reset_flag (takes_in board)) (balance reset_flag) (reset_taken board reset));
   asked_by = asked_few words host board balance;
+  cancels_by = cancels_few words host board balance;
 }

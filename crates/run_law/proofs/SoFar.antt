@@ -15,26 +15,27 @@ use Rattle.step_line.specs.Pieces.{records_of}
 use Rattle.planner_runs.specs.Runs.{all_records}
 use Rattle.planner_runs.proofs.Driven.{ticks_of_pieces}
 use Rattle.run_rules.specs.Lines.{whole_lines}
-use Rattle.run_rules.specs.Told.{asked_in}
 use Rattle.stream_host.specs.Links.{on_link}
 use Rattle.stream_host.specs.Ran.{HostRuns}
 use Rattle.stream_host.proofs.Pieces.{lines_back}
 use Rattle.run_law.specs.Flags.{AreTaken}
 use Rattle.run_law.specs.Runs.{Sinks, ends_program}
-use Rattle.run_law.proofs.Flagging.{disturbed_by, no_reset}
+use Rattle.run_law.proofs.Flagging.{driven_by, no_reset}
 use Rattle.run_law.specs.Fronts.{BeginsWith}
 use Rattle.run_law.specs.SoFar.{BoardRuns, PulseRuns, RecorderRuns, IsSoFar}
 use Rattle.run_law.proofs.Reporting.{plain_front}
-use Rattle.run_law.proofs.Begins.{begins_on, begins_each, begins_by, lines_begin, ended_records, ticks_begin}
+use Rattle.run_law.proofs.Begins.{begins_on, begins_each, begins_by, lines_begin, ended_records}
+use Rattle.run_law.specs.Drives.{all_outcomes, all_given}
+use Rattle.run_law.proofs.Driving.{ticks_begin}
 use Rattle.run_law.proofs.Law.{reports_are}
 
 -- ---- the run
 
-pub runs_so_far : (job_was job_is : SourceState) (was is : Sinks) (stored raised taken : List ℕ) (held changed reset : Bool) (asked : ℕ) (got answered : List Reply) (got_pieces published : List Piece) (got_records put : List Record)
-    → HostRuns job_was job_is was.console is.console stored raised got → BoardRuns taken held changed reset asked answered published → PulseRuns got_pieces put → RecorderRuns was.steps is.steps got_records
-    → BeginsWith stored taken → AreTaken raised held changed reset asked → BeginsWith answered got → BeginsWith published got_pieces → BeginsWith put got_records
+pub runs_so_far : (job_was job_is : SourceState) (was is : Sinks) (stored raised taken : List ℕ) (held slowed changed reset : Bool) (asked cancels : ℕ) (got answered : List Reply) (got_pieces published : List Piece) (got_records put : List Record)
+    → HostRuns job_was job_is was.console is.console stored raised got → BoardRuns taken held slowed changed reset asked cancels answered published → PulseRuns got_pieces put → RecorderRuns was.steps is.steps got_records
+    → BeginsWith stored taken → AreTaken raised held slowed changed reset asked cancels → BeginsWith answered got → BeginsWith published got_pieces → BeginsWith put got_records
     → IsSoFar job_was job_is was is
-runs_so_far job_was job_is was is stored raised taken held changed reset asked got answered got_pieces published got_records put host board pulse recorder bytes flags some_replies some_pieces some_records =
+runs_so_far job_was job_is was is stored raised taken held slowed changed reset asked cancels got answered got_pieces published got_records put host board pulse recorder bytes flags some_replies some_pieces some_records =
     let on_the_link : BeginsWith (on_link host.lines) taken = begins_on (on_link host.lines) stored taken (record { rest = host.left; is = sym host.link }) bytes in
     let lines : BeginsWith (map plain host.lines) (whole_lines taken) =
     begins_by (whole_lines (on_link host.lines)) (map plain host.lines) (whole_lines taken) (sym (lines_back host.lines)) (lines_begin (on_link host.lines) taken on_the_link) in
@@ -56,7 +57,7 @@ runs_so_far job_was job_is was is stored raised taken held changed reset asked g
       sent = host.sent;
       first = board.first;
       lines_begun = board.lines;
-      outcomes = board.outcomes;
+      drive = board.drive;
       last = board.last;
       opening = board.opening;
       begun = begins_on (map plain host.lines) (whole_lines taken) board.lines lines board.begun;
@@ -68,20 +69,15 @@ runs_so_far job_was job_is was is stored raised taken held changed reset asked g
       console_failed = host.failed;
       text_left = host.waiting;
       console = host.console;
-      actions = board.actions;
-      given = board.given;
-      plan = board.plan;
-      run = board.run;
-      disturbed = disturbed_by host.scanned raised host.due host.resumes held changed reset asked board.outcomes board.actions host.raises flags board.disturbed;
-      asks = board.asks;
+      drives = driven_by host.scanned raised host.due host.resumes held slowed board.last.alarmed changed reset asked cancels board.drive host.raises flags board.drives;
       made = board.made;
       kept = board.kept;
-      whole = λ none. board.whole (no_reset host.scanned raised host.due host.resumes held changed reset asked host.raises flags none);
+      whole = λ none. board.whole (no_reset host.scanned raised host.due host.resumes held slowed changed reset asked cancels host.raises flags none);
       records = got_records;
       recorded = records_are;
-      ticks = ticks_begin held (changed || ends_program board.outcomes) (asked_in board.outcomes) board.actions board.given board.made board.plan got_records board.run board.disturbed board.asks board.kept records_are;
-      reports = reports_are board.first board.outcomes board.given host.scanned raised host.due host.resumes held changed reset asked host.lines (ticks_among (all_records board.given)) answered got host.raises flags board.reported board.reports some_replies
-          (ticks_of_pieces board.given) host.reported;
+      ticks = ticks_begin slowed board.last.alarmed (changed || ends_program (all_outcomes board.drive)) cancels board.drive board.made got_records board.drives board.kept records_are;
+      reports = reports_are board.first board.drive host.scanned raised host.due host.resumes held slowed changed reset asked cancels host.lines (ticks_among (all_records (all_given board.drive))) answered got host.raises flags board.reported board.reports some_replies
+          (ticks_of_pieces (all_given board.drive)) host.reported;
       steps_failed = recorder.failed;
       lines_left = recorder.waiting;
       steps = recorder.steps;

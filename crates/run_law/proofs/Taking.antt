@@ -44,7 +44,7 @@ hold_bit n e =
     let both : bit_at (bit_and n 2) 1 ≡ 1 = ap (λ k. bit_at k 1) one in let lt = bit_at-lt n 1 in
     let is : bit_at n 1 ≡ 1 = omega arith in rw is refl
 
-asks_hold_bit : (word : Exec) → holds.asks word hold_byte ≡ true → nat_eq (bit_at word.0 1) 1 ≡ true
+pub asks_hold_bit : (word : Exec) → holds.asks word hold_byte ≡ true → nat_eq (bit_at word.0 1) 1 ≡ true
 asks_hold_bit word e = hold_bit word.0 e
 
 pub held_by_word : (asked held bit : Bool) (n : ℕ) → (asked ≡ true → bit ≡ true) → (held ≡ true → 0 < n) → (asked || held) ≡ true → 0 < counted bit n

@@ -1,5 +1,6 @@
 pub mod Flags
 pub mod Fronts
+pub mod Drives
 pub mod Taking
 pub mod Runs
 pub mod Ran

@@ -1,6 +1,6 @@
 -- What the board, the pulse and the recorder have done in a whole run, on plain lists, and how the bytes of the link go
 -- together.
-use Rattle.std.specs.Prelude.{◌≡◌, ℕ, ◌+◌, ◌≤◌, Bool, true, false, List, [], ◌∷◌, ◌++◌, ◌||◌, length, map, reverse}
+use Rattle.std.specs.Prelude.{◌≡◌, ℕ, ◌+◌, ◌≤◌, Bool, true, false, List, [], ◌∷◌, ◌++◌, ◌||◌, length, reverse}
 use Rattle.std.specs.List.{flat_map}
 use Rattle.outside.specs.Causes.{SinkState}
 use Rattle.outside.specs.Writing.{Took}
@@ -12,67 +12,71 @@ use Rattle.step_line.specs.declared.Record.{Record}
 use Rattle.step_line.specs.Ending.{IsEnded}
 use Rattle.step_line.specs.Ordering.{InTurn}
 use Rattle.step_line.specs.Pieces.{records_of, ticks_of}
-use Rattle.plan_passes.specs.Plans.{Planned}
-use Rattle.planner_runs.specs.declared.Action.{Action}
-use Rattle.planner_runs.specs.Runs.{IsPlannerRun, DisturbedOnlyBy, IsAtRest, all_asked}
+use Rattle.planner_runs.specs.Runs.{IsAtRest, all_asked}
 use Rattle.pulse_engine.specs.Logs.{ticks_in}
 use Rattle.run_rules.specs.declared.State.{State}
 use Rattle.run_rules.specs.Lines.{whole_lines}
 use Rattle.run_rules.specs.States.{IsOpening}
-use Rattle.run_rules.specs.Work.{Outcome}
 use Rattle.run_rules.specs.Outcomes.{Before, Follows, start}
-use Rattle.run_rules.specs.Outcomes.Passed.{a_line}
-use Rattle.run_rules.specs.Reports.{Reported}
+use Rattle.run_rules.specs.Reports.{Reported, fewest}
 use Rattle.run_rules.specs.Told.{replies_in, asked_in, records_text}
 use Rattle.status_report.specs.Answering.{answers_in, without_reports, reports_among}
+use Rattle.board_rules.specs.Parts.{IsHaltedPart, plan_behind}
 use Rattle.run_law.specs.Fronts.{BeginsWith}
+use Rattle.run_law.specs.Drives.{Drive, all_outcomes, all_passed, all_given, all_counts, IsDrive}
 use Rattle.run_law.specs.Runs.{course, ends_program}
 
--- Each report among these replies fits lines of which this became, for which these pieces were given, while a hold was
--- taken, or a change of overrides, or not.
-abbrev pub HasReported : State → List Outcome → List Piece → Bool → Bool → List Reply → Type 0
-HasReported first outcomes given held changed answered =
-    (known : ℕ) × Reported (course first outcomes (flat_map ticks_of given) held changed) (reverse answered) known
+-- Each report among these replies fits what was driven, while a hold was taken, or a change of overrides, or not.
+abbrev pub HasReported : State → Drive → Bool → Bool → List Reply → Type 0
+HasReported first drive held changed answered =
+    (known : ℕ) × Reported (course first drive (flat_map ticks_of (all_given drive)) held changed) (reverse answered) known
 
 -- A board has carried out all lines that it took: it found the link closed behind them, told all that is to be told of them,
 -- and did all that they ask for, up to the last of it.
-pub record IsCarriedOut (taken : List ℕ) (closed : Bool) (lines : List (List ℕ)) (outcomes : List Outcome) (said : List Reply) (actions : List Action) (given made : List Piece) (plan : Planned) : Type 0 where
+pub record IsCarriedOut (taken : List ℕ) (closed : Bool) (lines : List (List ℕ)) (said : List Reply) (drive : Drive) (made : List Piece) : Type 0 where
   pub found : closed ≡ true
   pub begun : lines ≡ whole_lines taken
-  pub told : said ≡ replies_in outcomes
-  pub rests : IsAtRest plan
-  pub asks : all_asked actions ≡ asked_in outcomes
-  pub whole : made ≡ given
+  pub told : said ≡ replies_in (all_outcomes drive)
+  pub rests : IsAtRest drive.plan
+  pub asks : all_asked drive.actions ≡ asked_in drive.since
+  pub whole : made ≡ all_given drive
+
+-- A board has halted at an alarm: it told all that is to be told of the lines that it has begun. What it did of those behind the
+-- last cut came to a stop, and what was left of the plan was dropped. It published all pieces that the plan gave.
+pub record IsHalted (said : List Reply) (drive : Drive) (made : List Piece) : Type 0 where
+  pub told : said ≡ replies_in (all_outcomes drive)
+  pub halted : drive.halted ≡ true
+  pub part : IsHaltedPart drive.since (plan_behind drive.parts) drive.actions drive.given drive.plan
+  pub whole : made ≡ all_given drive
 
 -- A board has run: it has begun a front of the lines that it took, and was told Bye behind a front of what is told of them, once
--- and in order. Each report tells what was so where it was answered; there are as many at most as words that asked for one. A
--- front of what the lines ask for was asked of the plan, which nothing else disturbed than a hold, where one was taken, and a
--- change of overrides, where one was taken or a program ended. A front of its pieces was published, and the end behind them. All
--- of it was carried out, unless a reset was taken. Of the lines begun all but the last one are answered.
-pub record BoardRan (taken : List ℕ) (closed held changed reset : Bool) (asked : ℕ) (answered : List Reply) (published : List Piece) : Type 0 where
+-- and in order. Each report tells what was so where it was answered; there are as many at most as words that asked for one. What
+-- it has driven of the lines, part by part, was disturbed by no more than was taken, and jogs were cut as often at most as words
+-- that ask for a hold or a cancel were taken. A front of its pieces was published, and the end behind them; however the run
+-- ended, this front has the ticks of the lines up to the last answered one that settles. All of it was carried out, unless a
+-- reset was taken or a line raised an alarm; where one did, and no reset was taken, it has halted there. Of the lines begun all
+-- but the last one are answered.
+pub record BoardRan (taken : List ℕ) (closed held slowed changed reset : Bool) (asked cancels : ℕ) (answered : List Reply) (published : List Piece) : Type 0 where
   pub first : State
   pub lines : List (List ℕ)
-  pub outcomes : List Outcome
+  pub drive : Drive
   pub last : Before
   pub opening : IsOpening first
   pub begun : BeginsWith (whole_lines taken) lines
-  pub follows : Follows true (start first) lines (map a_line outcomes) last
+  pub follows : Follows true (start first) lines (all_passed drive) last
   pub said : List Reply
-  pub front : BeginsWith (replies_in outcomes) said
+  pub front : BeginsWith (replies_in (all_outcomes drive)) said
   pub told : without_reports answered ≡ said ++ Bye ∷ []
-  pub one : length outcomes ≤ answers_in answered + 1
-  pub actions : List Action
-  pub given : List Piece
-  pub plan : Planned
-  pub run : IsPlannerRun actions given plan
-  pub disturbed : DisturbedOnlyBy held (changed || ends_program outcomes) actions
-  pub asks : BeginsWith (asked_in outcomes) (all_asked actions)
+  pub one : length (all_outcomes drive) ≤ answers_in answered + 1
+  pub drives : IsDrive slowed last.alarmed (changed || ends_program (all_outcomes drive)) cancels drive
   pub made : List Piece
-  pub kept : BeginsWith given made
+  pub kept : BeginsWith (all_given drive) made
   pub gave : published ≡ made ++ pieces.End ∷ []
-  pub reported : HasReported first outcomes given held changed answered
+  pub least : fewest (answers_in answered) (all_outcomes drive) (all_counts drive) ≤ length (flat_map ticks_of made)
+  pub reported : HasReported first drive held changed answered
   pub reports : reports_among answered ≤ asked
-  pub whole : reset ≡ false → IsCarriedOut taken closed lines outcomes said actions given made plan
+  pub whole : reset ≡ false → last.alarmed ≡ false → IsCarriedOut taken closed lines said drive made
+  pub halted : reset ≡ false → last.alarmed ≡ true → IsHalted said drive made
 
 -- A pulse has run: the pieces that it got came in turn, the end at last. It put what is recorded of each, and counted each
 -- tick of it.

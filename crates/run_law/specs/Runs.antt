@@ -10,27 +10,26 @@ use Rattle.status_report.specs.declared.Reply.TheVariants.{Bye}
 use Rattle.step_line.specs.declared.Record.{Record}
 use Rattle.run_rules.specs.declared.State.{State}
 use Rattle.run_rules.specs.States.{IsOpening}
-use Rattle.run_rules.specs.Work.{Outcome, has_normal}
+use Rattle.run_rules.specs.Work.{Outcome, has_normal, is_alarm}
 use Rattle.run_rules.specs.Outcomes.{Before, Follows, start}
-use Rattle.run_rules.specs.Outcomes.Passed.{a_line}
-use Rattle.run_rules.specs.Reports.{Course, Reported, AreReported, is_query}
+use Rattle.run_rules.specs.Reports.{Course, Reported, AreReported, fewest, is_query}
 use Rattle.status_report.specs.Answering.{receive_room, answers_in, without_reports, reports_among}
-use Rattle.step_line.specs.Asking.{ticks_among, ticks_of_all}
-use Rattle.run_rules.specs.Told.{replies_in, replies_text, asked_in, records_text, errors_in, errors_among}
-use Rattle.planner_runs.specs.declared.Action.{Action}
-use Rattle.planner_runs.specs.Runs.{IsPlannerRun, DisturbedOnlyBy, all_asked, all_records}
-use Rattle.planner_runs.specs.Driven.{IsDriven}
-use Rattle.plan_passes.specs.Plans.{Planned}
+use Rattle.step_line.specs.Asking.{ticks_among}
+use Rattle.run_rules.specs.Told.{replies_in, replies_text, records_text, errors_in, errors_among}
+use Rattle.planner_runs.specs.Runs.{all_records}
 use Rattle.step_line.specs.declared.Piece.{Piece}
 use Rattle.step_line.specs.declared.Record.TheVariants as kinds
 use Rattle.stream_host.specs.declared.Reading.{Reading}
 use Rattle.stream_host.specs.declared.Reading.TheVariants.{Ended}
-use Rattle.stream_host.specs.Jobs.{is_reset, served_in, IsSent}
+use Rattle.stream_host.specs.Jobs.{is_reset, served_in, stop_by, IsSent, IsSentSoFar}
 use Rattle.stream_host.specs.Links.{on_link}
 use Rattle.stream_host.specs.Ran.{HostEnd, is_failed}
+use Rattle.stream_host.specs.Steps.{or_alarm}
+use Rattle.board_rules.specs.Parts.{IsHaltedPart, plan_behind}
 use Rattle.run_law.specs.declared.RunEnd.{RunEnd}
-use Rattle.run_law.specs.Flags.{is_hold, is_change}
+use Rattle.run_law.specs.Flags.{is_hold, is_slow, is_change}
 use Rattle.run_law.specs.Fronts.{BeginsWith}
+use Rattle.run_law.specs.Drives.{Drive, all_outcomes, all_passed, all_given, all_counts, ticks_due, IsDrive, IsWholeDrive}
 
 -- what the console and the steps hold
 pub record Sinks : Type 0 where
@@ -52,6 +51,14 @@ ended host failed = record {
 abbrev pub asks_hold : List ℕ → Bool
 asks_hold scanned = list_any is_hold (served_in scanned)
 
+-- a hold does, or a jog's cancel: each may slow the machine down
+abbrev pub asks_slow : List ℕ → Bool
+asks_slow scanned = list_any is_slow (served_in scanned)
+
+-- how many of these bytes there are: jogs are cut as often at most
+abbrev pub slows_in : List ℕ → ℕ
+slows_in scanned = count_by is_slow (served_in scanned)
+
 abbrev pub asks_change : List ℕ → Bool
 asks_change scanned = list_any is_change (served_in scanned)
 
@@ -64,10 +71,11 @@ abbrev pub ends_program : List Outcome → Bool
 ends_program outcomes = list_any (λ o. has_normal o.work) outcomes
 
 -- what reports are judged by, where these ticks were made in all
-abbrev pub course : State → List Outcome → List Record → Bool → Bool → Course
-course first outcomes ticks held changed = record {
+abbrev pub course : State → Drive → List Record → Bool → Bool → Course
+course first drive ticks held changed = record {
   first = first;
-  outcomes = outcomes;
+  outcomes = all_outcomes drive;
+  counts = all_counts drive;
   ticks = ticks;
   given = length ticks;
   held = held;
@@ -77,32 +85,52 @@ course first outcomes ticks held changed = record {
 -- The reports among these replies: each fits the lines and the ticks of a run in which these bytes were scanned. There
 -- are as many at most as `?` were scanned outside comments, and each line with one that is answered has one, behind the
 -- answers to the lines before it.
-pub record AreReports (first : State) (outcomes : List Outcome) (ticks : List Record) (lines : List (List ℕ)) (scanned : List ℕ) (replies : List Reply) : Type 0 where
+pub record AreReports (first : State) (drive : Drive) (ticks : List Record) (lines : List (List ℕ)) (scanned : List ℕ) (replies : List Reply) : Type 0 where
   pub known : ℕ
-  pub fit : Reported (course first outcomes ticks (asks_hold scanned) (asks_change scanned)) (reverse replies) known
+  pub fit : Reported (course first drive ticks (asks_hold scanned) (asks_change scanned)) (reverse replies) known
   pub few : reports_among replies ≤ count_by is_query (served_in scanned)
   pub each : AreReported lines replies
 
 -- All that was sent was carried out: each line was begun, all that is told of the lines was told, and the records are those of
--- a drive that was asked for all that they ask for.
-pub record IsCarriedOutWhole (scanned : List ℕ) (lines begun : List (List ℕ)) (outcomes : List Outcome) (said : List Reply) (given : List Piece) (records : List Record) (end : RunEnd) : Type 0 where
+-- all that was driven: of all that the lines ask for, but for what cuts have dropped of jogs.
+pub record IsCarriedOutWhole (scanned : List ℕ) (lines begun : List (List ℕ)) (drive : Drive) (said : List Reply) (records : List Record) (end : RunEnd) : Type 0 where
   pub begun_are : begun ≡ map plain lines
-  pub said_are : said ≡ replies_in outcomes
-  pub driven : IsDriven (asks_hold scanned) (asks_change scanned || ends_program outcomes) (asked_in outcomes) records
-  pub ticks_are : ticks_among (all_records given) ≡ ticks_among records
+  pub said_are : said ≡ replies_in (all_outcomes drive)
+  pub driven : IsWholeDrive (asks_slow scanned) (asks_change scanned || ends_program (all_outcomes drive)) drive records
+  pub ticks_are : ticks_among (all_records (all_given drive)) ≡ ticks_among records
   -- each line has one answer
   pub answered : end.answered ≡ length lines
-  pub errors : end.errors ≡ errors_in outcomes
+  pub errors : end.errors ≡ errors_in (all_outcomes drive)
 
--- A run of a job, whatever failed. Some of the job was read, and some lines of it were sent. A front of them was begun, all but
--- the last of which have their answers, and what is kept of each is answered, once and in order, where the machine may be found running. The console takes the banner, a front
--- of what is told of these lines, and Bye, which has no text, and status reports among that. The plan was asked for a front of
--- the moves, marks and rests of the lines, and the steps take the records of a front of the pieces that it gave, and the end:
--- so their ticks are the first of those that the lines ask for. Holds, resumes and overrides change no event. A segment slows
--- down for a hold only where a `!` was scanned, and it is planned for other overrides only where a byte that changes them was
--- scanned, or a program ended. Unless a reset was scanned, all of it was carried out. The lines that have no answer take at most
--- 128 bytes on the link, each with its LF. Each text is whole where its sink did not fail. Of each of the three devices, the
--- count of faults rose where a call failed, and is as before where none did.
+-- A line raised an alarm, and the run ended there: all that is told of the lines that were begun was told, the alarm and its
+-- message at last, and all of them but that line have their answers. The motion came to a stop, and what was left of the plan
+-- was dropped. So the records are those of the first ticks of what the lines ask for, part by part: behind the last cut they
+-- hold all ticks of the lines up to the last that settles.
+pub record IsHaltedWhole (begun : List (List ℕ)) (drive : Drive) (said : List Reply) (records : List Record) (end : RunEnd) : Type 0 where
+  pub said_are : said ≡ replies_in (all_outcomes drive)
+  pub halted : drive.halted ≡ true
+  pub part : IsHaltedPart drive.since (plan_behind drive.parts) drive.actions drive.given drive.plan
+  pub recorded : records ≡ all_records (all_given drive) ++ kinds.End ∷ []
+  pub ticks_are : ticks_among (all_records (all_given drive)) ≡ ticks_among records
+  -- each line before the one that raised the alarm has one answer
+  pub answered : end.answered + 1 ≡ length begun
+  pub errors : end.errors ≡ errors_in (all_outcomes drive)
+
+-- A run of a job, whatever failed. Some of the job was read, and some lines of it were sent: all that is to be sent, where no
+-- alarm was told. Why no more was sent is what the job says, or else an alarm, at the first line that has no answer. A front of
+-- the lines was begun, all but the last of which have their answers, and what is kept of each is answered, once and in order,
+-- where the machine may be found running, or in a jog. The console takes the banner, a front of what is told of these lines,
+-- and Bye, which has no text, and status reports among that. What is driven of the lines goes part by part: a cut ends a part,
+-- and drops what is left of jogs alone; there are as many cuts at most as `!` and 0x85 were scanned. Behind the last cut the
+-- plan was asked for a front of the moves, marks and rests of the lines. The steps take the records of a front of the pieces
+-- that it gave, and the end: so their ticks are the first of those that are due. However the run ended, the ticks of the lines up
+-- to the last answered one that settles are there: of each line those that count, all that it asks for but for what a cut or a
+-- halt dropped. Holds, resumes and overrides change no event. A segment slows down only where a `!` or a 0x85 was scanned, or a
+-- line raised an alarm, and it is planned for other overrides only where a byte that changes them was scanned, or a program
+-- ended. Unless a reset was scanned, all of it was carried out, or a line raised an alarm: then nothing is begun behind that
+-- line, the motion came to a stop, and what was left of the plan was dropped; and an alarm is told exactly then. The lines that
+-- have no answer take at most 128 bytes on the link, each with its LF, where no alarm was told. Each text is whole where its sink
+-- did not fail. Of each of the three devices, the count of faults rose where a call failed, and is as before where none did.
 pub record IsRun (job_was job_is : SourceState) (was is : Sinks) (end : RunEnd) : Type 0 where
   pub read : List ℕ
   pub reading : Reading
@@ -110,35 +138,35 @@ pub record IsRun (job_was job_is : SourceState) (was is : Sinks) (end : RunEnd) 
   pub lines : List (List ℕ)
   pub taken : Consumes job_was.left job_is.left read
   pub at_end : reading ≡ Ended → IsAtEnd job_is.left
-  pub sent : IsSent read reading scanned lines end.stop
+  pub so_far : IsSentSoFar read reading scanned lines (stop_by reading scanned)
   pub first : State
   pub begun : List (List ℕ)
-  pub outcomes : List Outcome
+  pub drive : Drive
   pub last : Before
   pub opening : IsOpening first
   pub begins : BeginsWith (map plain lines) begun
-  pub follows : Follows true (start first) begun (map a_line outcomes) last
+  pub follows : Follows true (start first) begun (all_passed drive) last
   pub replies : List Reply
   pub said : List Reply
-  pub front : BeginsWith (replies_in outcomes) said
+  pub front : BeginsWith (replies_in (all_outcomes drive)) said
   pub told : without_reports replies ≡ said ++ Bye ∷ []
-  pub one : length outcomes ≤ end.answered + 1
+  pub stop : end.stop ≡ or_alarm (list_any is_alarm replies) end.answered (stop_by reading scanned)
+  pub sent : list_any is_alarm replies ≡ false → IsSent read reading scanned lines end.stop
+  pub alarm : asks_reset scanned ≡ false → list_any is_alarm replies ≡ last.alarmed
+  pub one : length (all_outcomes drive) ≤ end.answered + 1
   pub console : Took was.console is.console end.console_failed (replies_text replies)
-  pub actions : List Action
-  pub given : List Piece
-  pub plan : Planned
-  pub run : IsPlannerRun actions given plan
-  pub disturbed : DisturbedOnlyBy (asks_hold scanned) (asks_change scanned || ends_program outcomes) actions
-  pub asks : BeginsWith (asked_in outcomes) (all_asked actions)
+  pub drives : IsDrive (asks_slow scanned) last.alarmed (asks_change scanned || ends_program (all_outcomes drive)) (slows_in scanned) drive
   pub made : List Piece
-  pub kept : BeginsWith given made
+  pub kept : BeginsWith (all_given drive) made
   pub records : List Record
   pub recorded : records ≡ all_records made ++ kinds.End ∷ []
-  pub ticks : BeginsWith (ticks_of_all (asked_in outcomes)) (ticks_among records)
+  pub ticks : BeginsWith (ticks_due drive) (ticks_among records)
+  pub least : fewest end.answered (all_outcomes drive) (all_counts drive) ≤ length (ticks_among records)
   pub steps : Took was.steps is.steps end.steps_failed (records_text records)
-  pub reports : AreReports first outcomes (ticks_among (all_records given)) lines scanned replies
-  pub whole : asks_reset scanned ≡ false → IsCarriedOutWhole scanned lines begun outcomes said given records end
-  pub few : length (on_link (drop end.answered lines)) ≤ receive_room
+  pub reports : AreReports first drive (ticks_among (all_records (all_given drive))) lines scanned replies
+  pub whole : asks_reset scanned ≡ false → last.alarmed ≡ false → IsCarriedOutWhole scanned lines begun drive said records end
+  pub halted : asks_reset scanned ≡ false → last.alarmed ≡ true → IsHaltedWhole begun drive said records end
+  pub few : list_any is_alarm replies ≡ false → length (on_link (drop end.answered lines)) ≤ receive_room
   pub answered : end.answered ≡ answers_in replies
   pub errors : end.errors ≡ errors_among replies
   pub failed : end.source_failed ≡ is_failed reading

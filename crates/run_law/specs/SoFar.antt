@@ -11,52 +11,46 @@ use Rattle.step_line.specs.declared.Piece.{Piece}
 use Rattle.step_line.specs.declared.Piece.TheVariants as pieces
 use Rattle.step_line.specs.declared.Record.{Record}
 use Rattle.step_line.specs.declared.Record.TheVariants as kinds
-use Rattle.step_line.specs.Asking.{ticks_among, ticks_of_all}
+use Rattle.step_line.specs.Asking.{ticks_among}
 use Rattle.step_line.specs.Ordering.{InTurn}
 use Rattle.step_line.specs.Pieces.{records_of}
-use Rattle.plan_passes.specs.Plans.{Planned}
-use Rattle.planner_runs.specs.declared.Action.{Action}
-use Rattle.planner_runs.specs.Runs.{IsPlannerRun, DisturbedOnlyBy, all_asked, all_records}
+use Rattle.planner_runs.specs.Runs.{all_records}
 use Rattle.run_rules.specs.declared.State.{State}
 use Rattle.run_rules.specs.Lines.{whole_lines}
 use Rattle.run_rules.specs.States.{IsOpening}
-use Rattle.run_rules.specs.Work.{Outcome}
 use Rattle.run_rules.specs.Outcomes.{Before, Follows, start}
-use Rattle.run_rules.specs.Outcomes.Passed.{a_line}
-use Rattle.run_rules.specs.Told.{replies_in, replies_text, asked_in, records_text}
+use Rattle.run_rules.specs.Told.{replies_in, replies_text, records_text}
 use Rattle.stream_host.specs.declared.Reading.{Reading}
 use Rattle.stream_host.specs.declared.Stop.{Stop}
 use Rattle.stream_host.specs.Jobs.{IsSentSoFar}
 use Rattle.status_report.specs.Answering.{without_reports, reports_among}
-use Rattle.run_law.specs.Runs.{Sinks, AreReports, asks_hold, asks_change, asks_reset, ends_program}
+use Rattle.run_law.specs.Runs.{Sinks, AreReports, asks_slow, slows_in, asks_change, asks_reset, ends_program}
 use Rattle.run_law.specs.Fronts.{BeginsWith}
+use Rattle.run_law.specs.Drives.{Drive, all_outcomes, all_passed, all_given, ticks_due, IsDrive}
 use Rattle.run_law.specs.Ran.{HasReported}
 
 -- A board runs: it has begun a front of the lines that it took, and what was told, asked and published is a front of
--- what these tell and ask for, with its end behind that: behind all of it, unless a reset was taken. Nothing else disturbed the
--- plan than a hold, where one was taken, and a change of overrides, where one was taken or a program ended.
-pub record BoardRuns (taken : List ℕ) (held changed reset : Bool) (asked : ℕ) (answered : List Reply) (published : List Piece) : Type 0 where
+-- what these tell and ask for, part by part, with its end behind that: behind all of it, unless a reset was taken. Nothing else
+-- disturbed the plan than a hold or a cancel, where one was taken, a change of overrides, where one was taken or a program
+-- ended, and an alarm, where a line raised one; and jogs were cut as often at most as words that ask for a hold or a cancel
+-- were taken.
+pub record BoardRuns (taken : List ℕ) (held slowed changed reset : Bool) (asked cancels : ℕ) (answered : List Reply) (published : List Piece) : Type 0 where
   pub first : State
   pub lines : List (List ℕ)
-  pub outcomes : List Outcome
+  pub drive : Drive
   pub last : Before
   pub opening : IsOpening first
   pub begun : BeginsWith (whole_lines taken) lines
-  pub follows : Follows true (start first) lines (map a_line outcomes) last
+  pub follows : Follows true (start first) lines (all_passed drive) last
   pub said : List Reply
-  pub front : BeginsWith (replies_in outcomes) said
+  pub front : BeginsWith (replies_in (all_outcomes drive)) said
   pub told : BeginsWith (said ++ Bye ∷ []) (without_reports answered)
-  pub actions : List Action
-  pub given : List Piece
-  pub plan : Planned
-  pub run : IsPlannerRun actions given plan
-  pub disturbed : DisturbedOnlyBy held (changed || ends_program outcomes) actions
-  pub asks : BeginsWith (asked_in outcomes) (all_asked actions)
+  pub drives : IsDrive slowed last.alarmed (changed || ends_program (all_outcomes drive)) cancels drive
   pub made : List Piece
-  pub kept : BeginsWith given made
+  pub kept : BeginsWith (all_given drive) made
   pub gave : BeginsWith (made ++ pieces.End ∷ []) published
-  pub whole : reset ≡ false → (said ≡ replies_in outcomes) × (made ≡ given)
-  pub reported : HasReported first outcomes given held changed answered
+  pub whole : reset ≡ false → (said ≡ replies_in (all_outcomes drive)) × (made ≡ all_given drive)
+  pub reported : HasReported first drive held changed answered
   pub reports : reports_among answered ≤ asked
 
 -- a pulse runs: the pieces that it got came in turn, and it put a front of what is recorded of them
@@ -72,8 +66,8 @@ pub record RecorderRuns (was is : SinkState) (taken : List Record) : Type 0 wher
 
 -- A run so far. A front of the lines that are sent was begun, and each is followed by what becomes of it. A front of
 -- what they tell was got, and status reports among that, and a front of its text is on the console. A front of what
--- they ask for was done, as a planner run, and a front of what is recorded of its pieces was taken: its ticks begin the
--- ticks that the lines ask for. It is disturbed by no more than a hold and a change of overrides, as in a whole run.
+-- they ask for was driven, part by part, and a front of what is recorded of its pieces was taken: its ticks begin the
+-- ticks that are due. It is disturbed by no more than a hold, a cancel, a change of overrides and an alarm, as in a whole run.
 pub record IsSoFar (job_was job_is : SourceState) (was is : Sinks) : Type 0 where
   pub read : List ℕ
   pub reading : Reading
@@ -84,31 +78,26 @@ pub record IsSoFar (job_was job_is : SourceState) (was is : Sinks) : Type 0 wher
   pub sent : IsSentSoFar read reading scanned lines stop
   pub first : State
   pub lines_begun : List (List ℕ)
-  pub outcomes : List Outcome
+  pub drive : Drive
   pub last : Before
   pub opening : IsOpening first
   pub begun : BeginsWith (map plain lines) lines_begun
-  pub follows : Follows true (start first) lines_begun (map a_line outcomes) last
+  pub follows : Follows true (start first) lines_begun (all_passed drive) last
   pub got : List Reply
   pub said : List Reply
-  pub front : BeginsWith (replies_in outcomes) said
+  pub front : BeginsWith (replies_in (all_outcomes drive)) said
   pub told : BeginsWith (said ++ Bye ∷ []) (without_reports got)
   pub console_failed : Bool
   pub text_left : List ℕ
   pub console : Wrote was.console is.console console_failed text_left (replies_text got)
-  pub actions : List Action
-  pub given : List Piece
-  pub plan : Planned
-  pub run : IsPlannerRun actions given plan
-  pub disturbed : DisturbedOnlyBy (asks_hold scanned) (asks_change scanned || ends_program outcomes) actions
-  pub asks : BeginsWith (asked_in outcomes) (all_asked actions)
+  pub drives : IsDrive (asks_slow scanned) last.alarmed (asks_change scanned || ends_program (all_outcomes drive)) (slows_in scanned) drive
   pub records : List Record
   pub made : List Piece
-  pub kept : BeginsWith given made
+  pub kept : BeginsWith (all_given drive) made
   pub recorded : BeginsWith (all_records made ++ kinds.End ∷ []) records
-  pub whole : asks_reset scanned ≡ false → (said ≡ replies_in outcomes) × (made ≡ given)
-  pub ticks : BeginsWith (ticks_of_all (asked_in outcomes)) (ticks_among records)
-  pub reports : AreReports first outcomes (ticks_among (all_records given)) lines scanned got
+  pub whole : asks_reset scanned ≡ false → (said ≡ replies_in (all_outcomes drive)) × (made ≡ all_given drive)
+  pub ticks : BeginsWith (ticks_due drive) (ticks_among records)
+  pub reports : AreReports first drive (ticks_among (all_records (all_given drive))) lines scanned got
   pub steps_failed : Bool
   pub lines_left : List ℕ
   pub steps : Wrote was.steps is.steps steps_failed lines_left (records_text records)

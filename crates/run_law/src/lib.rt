@@ -16,13 +16,15 @@ ghost use Rattle.step_record.specs.Recording.{RecorderFits, Rests};
 ghost use Rattle.run_rules.specs.declared.State.{State};
 ghost use Rattle.run_rules.specs.States.{IsOpening};
 ghost use Rattle.board_rules.specs.Breaking.{Doings, HasEnded, IsConducted, log_of, taken_of, has_closed, answered_of, published_of};
-ghost use Rattle.board_rules.specs.Ports.{has_held_in, has_changed_in, has_reset_in, reports_in};
+ghost use Rattle.board_rules.specs.Ports.{has_held_in, has_slowed_in, has_changed_in, has_reset_in, reports_in};
 ghost use Rattle.stream_host.specs.Ran.{HostEnd, HostRan, HostRuns};
 ghost use Rattle.realtime_flags.specs.Bits.{IsBalanced};
 ghost use Rattle.stream_host.specs.Steps.{PortLog as HostLog, raises_in as bytes_raised_in};
 ghost use Rattle.board_rules.specs.Ports.{PortLog as BoardLog};
 ghost use Rattle.run_law.specs.Flags.{AreTaken};
 ghost use Rattle.run_law.specs.Taking.{raises_in, takes_in};
+ghost use Rattle.board_rules.specs.Cuts.{cancel_words_in};
+ghost use Rattle.run_law.specs.Drives.{all_outcomes};
 ghost use Rattle.run_law.specs.Runs.{Sinks, ended, IsRun};
 ghost use Rattle.run_law.specs.Complete.{IsAcceptedJob, IsComplete};
 ghost use Rattle.run_law.specs.Ran.{BoardRan, PulseRan, RecorderRan, IsLinked};
@@ -50,10 +52,10 @@ pub struct RunEnd {
 /// asked for what they ask for.
 pub fn actors_make_a_run()
     ensures { (job_was job_is : SourceState) (was is : Sinks) (end : HostEnd) (steps_failed : Bool)
-        (stored raised taken : List ℕ) (shut closed held changed reset : Bool) (asked : ℕ) (got answered : List Reply) (got_pieces published : List Piece) (ticks : ℕ) (got_records put : List Record) →
-        HostRan job_was job_is was.console is.console stored shut raised got end → BoardRan taken closed held changed reset asked answered published → PulseRan got_pieces ticks put →
+        (stored raised taken : List ℕ) (shut closed held slowed changed reset : Bool) (asked cancels : ℕ) (got answered : List Reply) (got_pieces published : List Piece) (ticks : ℕ) (got_records put : List Record) →
+        HostRan job_was job_is was.console is.console stored shut raised got end → BoardRan taken closed held slowed changed reset asked cancels answered published → PulseRan got_pieces ticks put →
         RecorderRan was.steps is.steps got_records steps_failed →
-        IsLinked stored shut taken closed → AreTaken raised held changed reset asked → got ≡ answered → got_pieces ≡ published → got_records ≡ put →
+        IsLinked stored shut taken closed → AreTaken raised held slowed changed reset asked cancels → got ≡ answered → got_pieces ≡ published → got_records ≡ put →
         IsRun job_was job_is was is (ended end steps_failed) }
 {}
 
@@ -61,18 +63,18 @@ pub fn actors_make_a_run()
 /// behind Bye, nor behind the end.
 pub fn actors_that_end_make_a_run()
     ensures { (job_was job_is : SourceState) (was is : Sinks) (end : HostEnd) (steps_failed : Bool)
-        (stored raised taken : List ℕ) (shut closed held changed reset : Bool) (asked : ℕ) (got answered : List Reply) (got_pieces published : List Piece) (ticks : ℕ) (got_records put : List Record) →
-        HostRan job_was job_is was.console is.console stored shut raised got end → BoardRan taken closed held changed reset asked answered published → PulseRan got_pieces ticks put →
+        (stored raised taken : List ℕ) (shut closed held slowed changed reset : Bool) (asked cancels : ℕ) (got answered : List Reply) (got_pieces published : List Piece) (ticks : ℕ) (got_records put : List Record) →
+        HostRan job_was job_is was.console is.console stored shut raised got end → BoardRan taken closed held slowed changed reset asked cancels answered published → PulseRan got_pieces ticks put →
         RecorderRan was.steps is.steps got_records steps_failed →
-        IsLinked stored shut taken closed → AreTaken raised held changed reset asked → BeginsWith answered got → BeginsWith published got_pieces → BeginsWith put got_records →
+        IsLinked stored shut taken closed → AreTaken raised held slowed changed reset asked cancels → BeginsWith answered got → BeginsWith published got_pieces → BeginsWith put got_records →
         IsRun job_was job_is was is (ended end steps_failed) }
 {}
 
 /// Four actors that run, where each has got a front of what the other gave, have done a run so far.
 pub fn actors_make_a_run_so_far()
-    ensures { (job_was job_is : SourceState) (was is : Sinks) (stored raised taken : List ℕ) (held changed reset : Bool) (asked : ℕ) (got answered : List Reply) (got_pieces published : List Piece) (got_records put : List Record) →
-        HostRuns job_was job_is was.console is.console stored raised got → BoardRuns taken held changed reset asked answered published → PulseRuns got_pieces put → RecorderRuns was.steps is.steps got_records →
-        BeginsWith stored taken → AreTaken raised held changed reset asked → BeginsWith answered got → BeginsWith published got_pieces → BeginsWith put got_records →
+    ensures { (job_was job_is : SourceState) (was is : Sinks) (stored raised taken : List ℕ) (held slowed changed reset : Bool) (asked cancels : ℕ) (got answered : List Reply) (got_pieces published : List Piece) (got_records put : List Record) →
+        HostRuns job_was job_is was.console is.console stored raised got → BoardRuns taken held slowed changed reset asked cancels answered published → PulseRuns got_pieces put → RecorderRuns was.steps is.steps got_records →
+        BeginsWith stored taken → AreTaken raised held slowed changed reset asked cancels → BeginsWith answered got → BeginsWith published got_pieces → BeginsWith put got_records →
         IsSoFar job_was job_is was is }
 {}
 
@@ -80,16 +82,16 @@ pub fn actors_make_a_run_so_far()
 /// and its lines become what they become where the machine is never found running.
 pub fn accepted_jobs_are_complete()
     ensures { (job_was job_is : SourceState) (was is : Sinks) (end : RunEnd) (run : IsRun job_was job_is was is end) (job : IsAcceptedJob job_was) →
-        end.source_failed ≡ false → IsComplete job.bytes run.read run.lines job.outcomes run.outcomes end }
+        end.source_failed ≡ false → IsComplete job.bytes run.read run.lines job.outcomes (all_outcomes run.drive) end }
 {}
 
 /// A board that keeps to its rules, and has closed its run or ended it at a reset, and has nothing left to do, has run; before,
 /// it runs.
 pub fn boards_have_run()
     ensures whole { (first : State) (d : Doings) → IsOpening first → IsConducted first d → HasEnded d →
-        BoardRan (taken_of d) (has_closed d) (has_held_in (log_of d)) (has_changed_in (log_of d)) (has_reset_in (log_of d)) (reports_in (log_of d)) (answered_of d) (published_of d) }
+        BoardRan (taken_of d) (has_closed d) (has_held_in (log_of d)) (has_slowed_in (log_of d)) (has_changed_in (log_of d)) (has_reset_in (log_of d)) (reports_in (log_of d)) (cancel_words_in (log_of d)) (answered_of d) (published_of d) }
     ensures so_far { (first : State) (d : Doings) → IsOpening first → IsConducted first d →
-        BoardRuns (taken_of d) (has_held_in (log_of d)) (has_changed_in (log_of d)) (has_reset_in (log_of d)) (reports_in (log_of d)) (answered_of d) (published_of d) }
+        BoardRuns (taken_of d) (has_held_in (log_of d)) (has_slowed_in (log_of d)) (has_changed_in (log_of d)) (has_reset_in (log_of d)) (reports_in (log_of d)) (cancel_words_in (log_of d)) (answered_of d) (published_of d) }
 {
     boards_end_well();
 }
@@ -98,7 +100,7 @@ pub fn boards_have_run()
 /// it, and by one more where it is up.
 pub fn flags_that_are_taken_were_raised()
     ensures { (words : List ℕ) (host : HostLog) (board : BoardLog) → IsBalanced words (raises_in host) (takes_in board) →
-        AreTaken (bytes_raised_in host) (has_held_in board) (has_changed_in board) (has_reset_in board) (reports_in board) }
+        AreTaken (bytes_raised_in host) (has_held_in board) (has_slowed_in board) (has_changed_in board) (has_reset_in board) (reports_in board) (cancel_words_in board) }
 {}
 
 /// A pulse that has put the end has run, and every pulse runs.

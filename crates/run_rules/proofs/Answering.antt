@@ -1,5 +1,5 @@
 -- Each line is answered once: what is told of it ends with its answer, and holds no other.
-use Rattle.std.proofs.Common.{◌≡◌, ℕ, ◌+◌, inl, inr, List, [], ◌∷◌, ◌++◌, length, map, nat_eq, nat_lt, true, false, Bool, cond, sym, refl, ap, ◌∙◌, subst, arith, Ok, Err, Some, None}
+use Rattle.std.proofs.Common.{◌≡◌, ℕ, ◌+◌, ◌⊎◌, inl, inr, List, [], ◌∷◌, ◌++◌, length, map, nat_eq, nat_lt, true, false, Bool, cond, sym, refl, ap, ◌∙◌, subst, arith, Ok, Err, Some, None}
 use Rattle.std.specs.List.{AllByRecursion, flat_map, enumerate_from, count_by}
 use Rattle.std.proofs.lemmas.Grind.{flat_map-append}
 use Rattle.std.proofs.lemmas.List.Sums.{sum_by-append, sum_by-cons}
@@ -20,9 +20,10 @@ use Rattle.gcode_check.specs.declared.Verdict.TheVariants.{Accept, Refuse, Limit
 use Rattle.modal_state.specs.declared.SpindleMode.{SpindleMode}
 use Rattle.modal_state.specs.declared.Offsets.{Offsets}
 use Rattle.settings.specs.declared.Settings.{Settings}
-use Rattle.settings.specs.Numbers.{values}
-use Rattle.system_lines.specs.Commands.{command_of}
-use Rattle.system_lines.specs.Setting.{apply_refusal}
+use Rattle.settings.specs.Numbers.{values, set_refusal}
+use Rattle.jog.specs.declared.JogMove.{JogMove}
+use Rattle.jog.specs.Jogs.{jog_of}
+use Rattle.system_lines.specs.Commands.{command_of, kind_of, jog_words, is_jog as begins_jog}
 use Rattle.system_lines.specs.declared.Command.{Command}
 use Rattle.system_lines.specs.declared.Command.TheVariants.{ListSettings, ListModes, ListOffsets, Unlock, Set}
 use Rattle.status_report.specs.Answering.{is_answer, is_bye, answers_in}
@@ -34,11 +35,12 @@ use Rattle.status_report.specs.declared.Message.TheVariants as messages
 use Rattle.step_line.specs.Asking.{Asked}
 use Rattle.step_line.specs.Asking.Asked.{a_rest}
 use Rattle.run_rules.specs.declared.State.{State}
-use Rattle.run_rules.specs.Outcomes.{Before, Becomes, ByKept, ByDollar, ByCommand, BySetting, ByWords, ByVerdict, Follows, after, executed, told, refused, either, fault_number, most_kept}
-use Rattle.run_rules.specs.Outcomes.Passed.{a_line}
+use Rattle.run_rules.specs.Outcomes.{Before, Becomes, ByKept, ByDollar, ByCode, ByServed, ByJog, ByJogMove, ByCommand, BySetting, ByWords, ByVerdict, Passed, Follows, after, at_place, became_of, executed, jogging, told, limited, refused, either, fault_number, most_kept}
+use Rattle.run_rules.specs.Outcomes.Passed.{a_line, a_cut}
 use Rattle.run_rules.specs.Asks.{at_rest, item_work, work_of, move_asked, planned, spindle_after, flood_after, spindle_off, coolant_off}
-use Rattle.run_rules.specs.Told.{is_error, replies_in, errors_in, errors_among}
-use Rattle.run_rules.specs.Work.{Task, Outcome, tells, told_by, telling, asking}
+use Rattle.run_rules.specs.Told.{is_error, replies_in, errors_in, errors_among, alarms_in}
+use Rattle.run_rules.specs.Work.{Task, Outcome, is_alarm, soft_limit, tells, told_by, telling, asking}
+use Rattle.run_rules.specs.Work.Kind.{of_none}
 use Rattle.run_rules.specs.Work.Task.{ask, tell, normal}
 
 -- told before the answer of a line
@@ -116,7 +118,7 @@ pub record AnswersOnce (o : Outcome) : Type 0 where
   pub none : NoAnswers body
   pub one : is_answer o.answer ≡ true
 
-telling_once : (body : List Reply) (r : Reply) (next : State) → NoAnswers body → is_answer r ≡ true → AnswersOnce (record { work = telling (body ++ r ∷ []); answer = r; settles = false; next = next })
+telling_once : (body : List Reply) (r : Reply) (next : State) → NoAnswers body → is_answer r ≡ true → AnswersOnce (record { work = telling (body ++ r ∷ []); answer = r; settles = false; kind = of_none; next = next })
 telling_once body r next none one = record { body = body; told = telling_tells (body ++ r ∷ []); none = none; one = one }
 
 refused_once : (b : Before) (n : ℕ) (o : Outcome) → o ≡ refused b n → AnswersOnce o
@@ -136,13 +138,17 @@ executed_once b a =
       one = refl;
     }
 
-by_verdict : (b : Before) (v : Verdict) (o : Outcome) → ByVerdict b v o → AnswersOnce o
-by_verdict b (Accept a) o is = subst AnswersOnce (sym is) (executed_once b a)
-by_verdict b (Refuse code) o is = refused_once b code.0 o is
-by_verdict b Limit o is = absurd is
+-- or the line raises an alarm
+abbrev pub AnswersOrHalts : Before → Outcome → Type 0
+AnswersOrHalts b o = AnswersOnce o ⊎ (o ≡ limited b)
 
-by_words : (b : Before) (ws : Result (List Word) WordFault) (o : Outcome) → ByWords b ws o → AnswersOnce o
-by_words b (Err fault) o is = refused_once b (fault_number fault) o is
+by_verdict : (b : Before) (v : Verdict) (o : Outcome) → ByVerdict b v o → AnswersOrHalts b o
+by_verdict b (Accept a) o is = inl (subst AnswersOnce (sym is) (executed_once b a))
+by_verdict b (Refuse code) o is = inl (refused_once b code.0 o is)
+by_verdict b Limit o is = inr is
+
+by_words : (b : Before) (ws : Result (List Word) WordFault) (o : Outcome) → ByWords b ws o → AnswersOrHalts b o
+by_words b (Err fault) o is = inl (refused_once b (fault_number fault) o is)
 by_words b (Ok ws) o is = by_verdict b (verdict b.state.parser b.state.settings ws) o is
 
 by_setting : (b : Before) (n : ℕ) (value : Decimal) (code : Option Code) (o : Outcome) → BySetting b n value code o → AnswersOnce o
@@ -155,24 +161,78 @@ by_command b (Ok ListSettings) o is = told_once b.state (setting_replies b.state
 by_command b (Ok ListModes) o is = told_once b.state (modes_replies b.state.parser) o ((refl, refl), tt) is
 by_command b (Ok ListOffsets) o is = told_once b.state (offset_replies b.state.parser.offsets) o (offsets_silent b.state.parser.offsets) is
 by_command b (Ok Unlock) o is = told_once b.state [] o tt is
-by_command b (Ok (Set n value)) o is = by_setting b n value (apply_refusal n value) o is
+by_command b (Ok (Set n value)) o is = by_setting b n value (set_refusal n value) o is
 
-by_dollar : (runs : Bool) (b : Before) (kept : List ℕ) (o : Outcome) → ByDollar runs b kept o → AnswersOnce o
+jogging_once : (b : Before) (jog : JogMove) → AnswersOnce (jogging b jog)
+jogging_once b jog =
+    let asked = move_asked (planned b.number b.state.settings jog.mv jog.rate) in
+    record { body = tells (asking asked); told = tells_on (asking asked) (tell replies.Ok ∷ []); none = silent_asking asked; one = refl }
+
+by_jog_move : (b : Before) (r : Result JogMove Code) (o : Outcome) → ByJogMove b r o → AnswersOnce o
+by_jog_move b (Err code) o is = refused_once b code.0 o is
+by_jog_move b (Ok jog) o is = subst AnswersOnce (sym is) (jogging_once b jog)
+
+by_jog : (b : Before) (ws : Result (List Word) WordFault) (o : Outcome) → ByJog b ws o → AnswersOnce o
+by_jog b (Err fault) o is = refused_once b (fault_number fault) o is
+by_jog b (Ok ws) o is = by_jog_move b (jog_of b.state.parser b.state.settings ws) o is
+
+by_either : (c : Bool) (A B C : Type 0) → (A → C) → (B → C) → either c A B → C
+by_either true A B C first second is = first is
+by_either false A B C first second is = second is
+
+by_served : (b : Before) (kept : List ℕ) (o : Outcome) → ByServed b kept o → AnswersOnce o
+by_served b kept o is =
+    by_either (begins_jog (kind_of kept)) (ByJog b (words_of (jog_words kept)) o) (ByCommand b (command_of kept) o) (AnswersOnce o)
+    (by_jog b (words_of (jog_words kept)) o) (by_command b (command_of kept) o) is
+
+pub by_dollar : (runs : Bool) (b : Before) (kept : List ℕ) (o : Outcome) → ByDollar runs b kept o → AnswersOnce o
 by_dollar runs b kept o (inl busy) = refused_once b 8 o busy.outcome
-by_dollar runs b kept o (inr is) = by_command b (command_of kept) o is
+by_dollar runs b kept o (inr is) = by_served b kept o is
 
-by_either : (c : Bool) (A B : Type 0) (o : Outcome) → (A → AnswersOnce o) → (B → AnswersOnce o) → either c A B → AnswersOnce o
-by_either true A B o is_one none is = is_one is
-by_either false A B o is_one none is = none is
+by_code : (runs : Bool) (b : Before) (kept : List ℕ) (o : Outcome) → ByCode runs b kept o → AnswersOrHalts b o
+by_code runs b kept o (inl locked) = inl (refused_once b 9 o locked.outcome)
+by_code runs b kept o (inr is) = by_words b (words_of kept) o is
 
-by_kept : (runs : Bool) (b : Before) (kept : List ℕ) (o : Outcome) → ByKept runs b kept o → AnswersOnce o
-by_kept runs b [] o is = told_once b.state [] o tt is
+by_kept : (runs : Bool) (b : Before) (kept : List ℕ) (o : Outcome) → ByKept runs b kept o → AnswersOrHalts b o
+by_kept runs b [] o is = inl (told_once b.state [] o tt is)
 by_kept runs b (c ∷ cs) o is =
-    by_either (nat_eq c 36) (ByDollar runs b (c ∷ cs) o) (ByWords b (words_of (c ∷ cs)) o) o (by_dollar runs b (c ∷ cs) o) (by_words b (words_of (c ∷ cs)) o) is
+    by_either (nat_eq c 36) (ByDollar runs b (c ∷ cs) o) (ByCode runs b (c ∷ cs) o) (AnswersOrHalts b o) (λ x. inl (by_dollar runs b (c ∷ cs) o x)) (by_code runs b (c ∷ cs) o) is
 
-pub answers_once : (runs : Bool) (b : Before) (kept : List ℕ) (o : Outcome) → Becomes runs b kept o → AnswersOnce o
-answers_once runs b kept o is =
-    by_either (nat_lt most_kept (length kept)) (o ≡ refused b 11) (ByKept runs b kept o) o (refused_once b 11 o) (by_kept runs b kept o) is
+pub answers_or_halts : (runs : Bool) (b : Before) (kept : List ℕ) (o : Outcome) → Becomes runs b kept o → AnswersOrHalts b o
+answers_or_halts runs b kept o is =
+    by_either (nat_lt most_kept (length kept)) (o ≡ refused b 11) (ByKept runs b kept o) (AnswersOrHalts b o) (λ x. inl (refused_once b 11 o x)) (by_kept runs b kept o) is
+
+-- an alarm is no answer
+pub no_alarm : (r : Reply) → is_answer r ≡ true → is_alarm r ≡ false
+no_alarm replies.Ok e = refl
+no_alarm (replies.Error n) e = refl
+no_alarm (replies.Alarm n) e = absurd cc
+no_alarm replies.Banner e = refl
+no_alarm (replies.Message m) e = refl
+no_alarm (replies.Report t) e = refl
+no_alarm (replies.Setting n v) e = refl
+no_alarm (replies.Modes m) e = refl
+no_alarm (replies.Offset r a) e = refl
+no_alarm replies.Bye e = refl
+
+halted_alarm : (b : Before) (o : Outcome) → o ≡ limited b → is_alarm o.answer ≡ true
+halted_alarm b o is = ap (λ (x : Outcome). is_alarm x.answer) is
+
+if_no_alarm : (b : Before) (o : Outcome) → AnswersOrHalts b o → is_alarm o.answer ≡ false → AnswersOnce o
+if_no_alarm b o (inl once) none = once
+if_no_alarm b o (inr is) none = absurd (let e = sym (halted_alarm b o is) ∙ none in cc)
+
+if_alarm : (b : Before) (o : Outcome) → AnswersOrHalts b o → is_alarm o.answer ≡ true → o ≡ limited b
+if_alarm b o (inl once) one = absurd (let e = sym (no_alarm o.answer once.one) ∙ one in cc)
+if_alarm b o (inr is) one = is
+
+-- a line that raises no alarm has one answer
+pub answers_once : (runs : Bool) (b : Before) (kept : List ℕ) (o : Outcome) → Becomes runs b kept o → is_alarm o.answer ≡ false → AnswersOnce o
+answers_once runs b kept o is none = if_no_alarm b o (answers_or_halts runs b kept o is) none
+
+-- and one that raises an alarm is stopped by a soft limit
+pub halts : (runs : Bool) (b : Before) (kept : List ℕ) (o : Outcome) → Becomes runs b kept o → is_alarm o.answer ≡ true → o ≡ limited b
+halts runs b kept o is one = if_alarm b o (answers_or_halts runs b kept o is) one
 
 -- ---- counts
 
@@ -189,45 +249,69 @@ none_counted p only [] none = refl
 none_counted p only (r ∷ rs) none =
     let a = sum_by-cons (λ x. cond (p x) 1 0) r rs in let m = none_counted p only rs none.1 in let z = one_none (p r) (only r none.0.0) in omega arith
 
-pub one_answer : (runs : Bool) (b : Before) (kept : List ℕ) (o : Outcome) → Becomes runs b kept o
+pub one_answer : (runs : Bool) (b : Before) (kept : List ℕ) (o : Outcome) → Becomes runs b kept o → is_alarm o.answer ≡ false
     → (body : List Reply) × (tells o.work ≡ body ++ o.answer ∷ []) × (answers_in body ≡ 0) × (is_answer o.answer ≡ true)
-one_answer runs b kept o is = let once = answers_once runs b kept o is in (once.body, once.told, none_counted is_answer (λ r e. e) once.body once.none, once.one)
+one_answer runs b kept o is none = let once = answers_once runs b kept o is none in (once.body, once.told, none_counted is_answer (λ r e. e) once.body once.none, once.one)
 
-one_counted : (p : Reply → Bool) → CountsAnswers p → (o : Outcome) → AnswersOnce o → count_by p (tells o.work) ≡ cond (p o.answer) 1 0
-one_counted p only o once =
+once_counted : (p : Reply → Bool) → CountsAnswers p → (o : Outcome) → AnswersOnce o → count_by p (tells o.work) ≡ cond (p o.answer) 1 0
+once_counted p only o once =
     ap (count_by p) once.told ∙ (let a = sum_by-append (λ x. cond (p x) 1 0) once.body (o.answer ∷ []) in let m = none_counted p only once.body once.none in omega arith)
 
-pub all_counted : (p : Reply → Bool) → CountsAnswers p → (runs : Bool) (b : Before) (lines : List (List ℕ)) (os : List Outcome) (last : Before) → Follows runs b lines (map a_line os) last
-    → count_by p (flat_map (λ (o : Outcome). tells o.work) os) ≡ count_by (λ (o : Outcome). p o.answer) os
+halted_counted : (p : Reply → Bool) → CountsAnswers p → (b : Before) → count_by p (tells (limited b).work) ≡ cond (p (limited b).answer) 1 0
+halted_counted p only b =
+    none_counted p only (replies.Alarm soft_limit ∷ replies.Message messages.ResetToContinue ∷ []) ((refl, refl), ((refl, refl), tt))
+    ∙ sym (one_none (p (replies.Alarm soft_limit)) (only (replies.Alarm soft_limit) refl))
+
+one_counted : (p : Reply → Bool) → CountsAnswers p → (b : Before) (o : Outcome) → AnswersOrHalts b o → count_by p (tells o.work) ≡ cond (p o.answer) 1 0
+one_counted p only b o (inl once) = once_counted p only o once
+one_counted p only b o (inr is) = subst (λ (x : Outcome). count_by p (tells x.work) ≡ cond (p x.answer) 1 0) (sym is) (halted_counted p only b)
+
+pub all_counted : (p : Reply → Bool) → CountsAnswers p → (runs : Bool) (b : Before) (lines : List (List ℕ)) (ps : List Passed) (last : Before) → Follows runs b lines ps last
+    → count_by p (flat_map (λ (o : Outcome). tells o.work) (became_of ps)) ≡ count_by (λ (o : Outcome). p o.answer) (became_of ps)
 all_counted p only runs b [] [] last f = refl
 all_counted p only runs b (l ∷ ls) [] last f = refl
-all_counted p only runs b [] (o ∷ os) last f = absurd f
-all_counted p only runs b (l ∷ ls) (o ∷ os) last f =
+all_counted p only runs b [] (a_line o ∷ ps) last f = absurd f
+all_counted p only runs b ls (a_cut k at ∷ ps) last f = all_counted p only runs (at_place at b) ls ps last f.1
+all_counted p only runs b (l ∷ ls) (a_line o ∷ ps) last f =
+    let os = became_of ps in
     let a = sum_by-append (λ x. cond (p x) 1 0) (tells o.work) (flat_map (λ (o : Outcome). tells o.work) os) in
     let c = sum_by-cons (λ (o : Outcome). cond (p o.answer) 1 0) o os in
-    let m = all_counted p only runs (after b o) ls os last f.1 in
-    let n = one_counted p only o (answers_once runs b l o f.0) in
+    let m = all_counted p only runs (after b o) ls ps last f.1 in
+    let n = one_counted p only b o (answers_or_halts runs b l o f.0.becomes) in
     omega arith
 
-each_answered : (runs : Bool) (b : Before) (lines : List (List ℕ)) (os : List Outcome) (last : Before) → Follows runs b lines (map a_line os) last → count_by (λ (o : Outcome). is_answer o.answer) os ≡ length lines
+one_of_two : (x y : Bool) → x ≡ true → y ≡ false → cond x 1 0 + cond y 1 0 ≡ 1
+one_of_two true false e f = refl
+one_of_two true true e f = absurd cc
+one_of_two false y e f = absurd cc
+
+-- a line is answered, or raises an alarm
+one_each : (b : Before) (o : Outcome) → AnswersOrHalts b o → cond (is_answer o.answer) 1 0 + cond (is_alarm o.answer) 1 0 ≡ 1
+one_each b o (inl once) = one_of_two (is_answer o.answer) (is_alarm o.answer) once.one (no_alarm o.answer once.one)
+one_each b o (inr is) = subst (λ (x : Outcome). cond (is_answer x.answer) 1 0 + cond (is_alarm x.answer) 1 0 ≡ 1) (sym is) refl
+
+each_answered : (runs : Bool) (b : Before) (lines : List (List ℕ)) (ps : List Passed) (last : Before) → Follows runs b lines ps last
+    → count_by (λ (o : Outcome). is_answer o.answer) (became_of ps) + alarms_in (became_of ps) ≡ length lines
 each_answered runs b [] [] last f = refl
 each_answered runs b (l ∷ ls) [] last f = absurd f
-each_answered runs b [] (o ∷ os) last f = absurd f
-each_answered runs b (l ∷ ls) (o ∷ os) last f =
+each_answered runs b [] (a_line o ∷ ps) last f = absurd f
+each_answered runs b ls (a_cut k at ∷ ps) last f = each_answered runs (at_place at b) ls ps last f.1
+each_answered runs b (l ∷ ls) (a_line o ∷ ps) last f =
+    let os = became_of ps in
     let c = sum_by-cons (λ (o : Outcome). cond (is_answer o.answer) 1 0) o os in
-    let m = each_answered runs (after b o) ls os last f.1 in
-    let r = one (is_answer o.answer) (count_by (λ (o : Outcome). is_answer o.answer) os) (length ls) (answers_once runs b l o f.0).one c m in omega arith
-  where
-    one : (t : Bool) (n k : ℕ) {m : ℕ} → t ≡ true → m ≡ cond t 1 0 + n → n ≡ k → m ≡ k + 1
-    one true n k e c m = omega arith
-    one false n k e c m = absurd cc
+    let a = sum_by-cons (λ (o : Outcome). cond (is_alarm o.answer) 1 0) o os in
+    let m = each_answered runs (after b o) ls ps last f.1 in
+    let r = one_each b o (answers_or_halts runs b l o f.0.becomes) in
+    omega (arith, c, a, m, r)
 
--- each line has one answer, and the banner is none
-pub lines_answered : (runs : Bool) (b : Before) (lines : List (List ℕ)) (os : List Outcome) (last : Before) → Follows runs b lines (map a_line os) last
-    → answers_in (replies_in os) ≡ length lines
-lines_answered runs b lines os last f =
-    answers_first replies.Banner (flat_map (λ (o : Outcome). tells o.work) os)
-    ∙ (let e = all_counted is_answer (λ r e. e) runs b lines os last f ∙ each_answered runs b lines os last f in omega arith)
+-- each line has one answer but for one that raises an alarm, and the banner is none
+pub lines_answered : (runs : Bool) (b : Before) (lines : List (List ℕ)) (ps : List Passed) (last : Before) → Follows runs b lines ps last
+    → answers_in (replies_in (became_of ps)) + alarms_in (became_of ps) ≡ length lines
+lines_answered runs b lines ps last f =
+    let first = answers_first replies.Banner (flat_map (λ (o : Outcome). tells o.work) (became_of ps)) in
+    let counted = all_counted is_answer (λ r e. e) runs b lines ps last f in
+    let each = each_answered runs b lines ps last f in
+    omega (arith, first, counted, each)
 
 -- what is told in a whole run: the banner and Bye are no answers
 whole_counted : (p : Reply → Bool) → CountsAnswers p → (os : List Outcome) → count_by p (replies_in os ++ replies.Bye ∷ []) ≡ count_by p (flat_map (λ (o : Outcome). tells o.work) os)
@@ -251,13 +335,15 @@ errors_are_answers (replies.Offset r a) e = refl
 errors_are_answers replies.Bye e = refl
 
 -- and Bye is none
-pub answers_are : (runs : Bool) (b : Before) (lines : List (List ℕ)) (os : List Outcome) (last : Before) → Follows runs b lines (map a_line os) last → answers_in (replies_in os ++ replies.Bye ∷ []) ≡ length lines
-answers_are runs b lines os last f =
-    answers_on (replies_in os) (replies.Bye ∷ []) ∙ (let e = lines_answered runs b lines os last f in omega arith)
+pub answers_are : (runs : Bool) (b : Before) (lines : List (List ℕ)) (ps : List Passed) (last : Before) → Follows runs b lines ps last → answers_in (replies_in (became_of ps) ++ replies.Bye ∷ []) + alarms_in (became_of ps) ≡ length lines
+answers_are runs b lines ps last f =
+    let on = answers_on (replies_in (became_of ps)) (replies.Bye ∷ []) in
+    let e = lines_answered runs b lines ps last f in
+    omega (arith, on, e)
 
 -- and the errors are those of the lines
-pub errors_are : (runs : Bool) (b : Before) (lines : List (List ℕ)) (os : List Outcome) (last : Before) → Follows runs b lines (map a_line os) last → errors_among (replies_in os ++ replies.Bye ∷ []) ≡ errors_in os
-errors_are runs b lines os last f = whole_counted is_error errors_are_answers os ∙ all_counted is_error errors_are_answers runs b lines os last f
+pub errors_are : (runs : Bool) (b : Before) (lines : List (List ℕ)) (ps : List Passed) (last : Before) → Follows runs b lines ps last → errors_among (replies_in (became_of ps) ++ replies.Bye ∷ []) ≡ errors_in (became_of ps)
+errors_are runs b lines ps last f = whole_counted is_error errors_are_answers (became_of ps) ∙ all_counted is_error errors_are_answers runs b lines ps last f
 
 -- ---- Bye
 
@@ -281,12 +367,17 @@ body_no_bye (r ∷ rs) none = (not_bye r none.0.1, body_no_bye rs none.1)
 line_no_bye : (o : Outcome) → AnswersOnce o → NoByes (tells o.work)
 line_no_bye o once = subst NoByes (sym once.told) (no_byes_on once.body (o.answer ∷ []) (body_no_bye once.body once.none) (no_answer o.answer once.one, tt))
 
-lines_no_bye : (runs : Bool) (b : Before) (lines : List (List ℕ)) (os : List Outcome) (last : Before) → Follows runs b lines (map a_line os) last → NoByes (flat_map (λ (o : Outcome). tells o.work) os)
+begun_no_bye : (b : Before) (o : Outcome) → AnswersOrHalts b o → NoByes (tells o.work)
+begun_no_bye b o (inl once) = line_no_bye o once
+begun_no_bye b o (inr is) = subst (λ (x : Outcome). NoByes (tells x.work)) (sym is) ((λ e. absurd cc), ((λ e. absurd cc), tt))
+
+lines_no_bye : (runs : Bool) (b : Before) (lines : List (List ℕ)) (ps : List Passed) (last : Before) → Follows runs b lines ps last → NoByes (flat_map (λ (o : Outcome). tells o.work) (became_of ps))
 lines_no_bye runs b [] [] last f = tt
 lines_no_bye runs b (l ∷ ls) [] last f = tt
-lines_no_bye runs b [] (o ∷ os) last f = absurd f
-lines_no_bye runs b (l ∷ ls) (o ∷ os) last f =
-    no_byes_on (tells o.work) (flat_map (λ (o : Outcome). tells o.work) os) (line_no_bye o (answers_once runs b l o f.0)) (lines_no_bye runs (after b o) ls os last f.1)
+lines_no_bye runs b [] (a_line o ∷ ps) last f = absurd f
+lines_no_bye runs b ls (a_cut k at ∷ ps) last f = lines_no_bye runs (at_place at b) ls ps last f.1
+lines_no_bye runs b (l ∷ ls) (a_line o ∷ ps) last f =
+    no_byes_on (tells o.work) (flat_map (λ (o : Outcome). tells o.work) (became_of ps)) (begun_no_bye b o (answers_or_halts runs b l o f.0.becomes)) (lines_no_bye runs (after b o) ls ps last f.1)
 
-pub none_is_bye : (runs : Bool) (b : Before) (lines : List (List ℕ)) (os : List Outcome) (last : Before) → Follows runs b lines (map a_line os) last → NoByes (replies_in os)
-none_is_bye runs b lines os last f = ((λ e. absurd cc), lines_no_bye runs b lines os last f)
+pub none_is_bye : (runs : Bool) (b : Before) (lines : List (List ℕ)) (ps : List Passed) (last : Before) → Follows runs b lines ps last → NoByes (replies_in (became_of ps))
+none_is_bye runs b lines ps last f = ((λ e. absurd cc), lines_no_bye runs b lines ps last f)

@@ -1,5 +1,5 @@
 -- What becomes of a line is determined by the state before it.
-use Rattle.std.proofs.Common.{◌≡◌, ℕ, ◌⊎◌, inl, inr, Bool, true, false, List, [], ◌∷◌, length, nat_eq, nat_lt, get_or, refl, sym, ap, ◌∙◌, Ok, Err, Some, None, subst}
+use Rattle.std.proofs.Common.{◌≡◌, ℕ, ◌⊎◌, inl, inr, Bool, true, false, cond, List, [], ◌∷◌, length, nat_eq, nat_lt, get_or, refl, sym, ap, ◌∙◌, Ok, Err, Some, None, subst}
 use Rattle.std.specs.declared.option.Option.{Option}
 use Rattle.std.specs.declared.result.Result.{Result}
 use Rattle.units.specs.Truths.{one_if}
@@ -14,16 +14,17 @@ use Rattle.gcode_check.specs.declared.Verdict.{Verdict}
 use Rattle.gcode_check.specs.declared.Verdict.TheVariants.{Accept, Refuse, Limit}
 use Rattle.settings.specs.declared.Settings.{Settings}
 use Rattle.code_table.specs.Tables.{Row}
-use Rattle.settings.specs.Numbers.{values}
-use Rattle.system_lines.specs.Commands.{command_of}
-use Rattle.system_lines.specs.Setting.{apply_refusal}
+use Rattle.settings.specs.Numbers.{values, set_refusal}
+use Rattle.jog.specs.declared.JogMove.{JogMove}
+use Rattle.jog.specs.Jogs.{jog_of}
+use Rattle.system_lines.specs.Commands.{command_of, kind_of, jog_words, is_jog as begins_jog}
 use Rattle.system_lines.specs.declared.Command.{Command}
 use Rattle.system_lines.specs.declared.Command.TheVariants.{ListSettings, ListModes, ListOffsets, Unlock, Set}
 use Rattle.run_rules.specs.declared.State.{State}
 use Rattle.run_rules.specs.States.{IsOpening}
 use Rattle.run_rules.specs.Work.{Outcome}
-use Rattle.run_rules.specs.Outcomes.{Before, HasSet, told, refused, either, ByVerdict, ByWords, BySetting, ByCommand, ByDollar, ByKept, Becomes, Passed, Follows, after, most_kept}
-use Rattle.run_rules.specs.Outcomes.Passed.{a_line}
+use Rattle.run_rules.specs.Outcomes.{Before, HasSet, told, refused, either, ByVerdict, ByWords, BySetting, ByCommand, ByJogMove, ByJog, ByServed, ByDollar, ByCode, ByKept, Becomes, Passed, Follows, after, most_kept, motion_error}
+use Rattle.run_rules.specs.Outcomes.Passed.{a_line, a_cut}
 
 same_switch : (a b : Bool) → one_if a ≡ one_if b → a ≡ b
 same_switch true true e = refl
@@ -63,7 +64,7 @@ both e f = e ∙ sym f
 by_verdict : (s : Before) (v : Verdict) (a b : Outcome) → ByVerdict s v a → ByVerdict s v b → a ≡ b
 by_verdict s (Accept x) a b e f = both e f
 by_verdict s (Refuse code) a b e f = both e f
-by_verdict s Limit a b e f = absurd e
+by_verdict s Limit a b e f = both e f
 
 by_words : (s : Before) (r : Result (List Word) WordFault) (a b : Outcome) → ByWords s r a → ByWords s r b → a ≡ b
 by_words s (Err fault) a b e f = both e f
@@ -84,31 +85,59 @@ by_command s (Ok ListSettings) a b e f = both e f
 by_command s (Ok ListModes) a b e f = both e f
 by_command s (Ok ListOffsets) a b e f = both e f
 by_command s (Ok Unlock) a b e f = both e f
-by_command s (Ok (Set n value)) a b e f = by_setting s n value (apply_refusal n value) a b e f
+by_command s (Ok (Set n value)) a b e f = by_setting s n value (set_refusal n value) a b e f
 
--- two outcomes are one, or one of them is that of a machine that is found running
-abbrev pub Agree : Before → Outcome → Outcome → Type 0
-Agree s a b = (a ≡ b) ⊎ ((a ≡ refused s 8) ⊎ (b ≡ refused s 8))
+by_jog_move : (s : Before) (r : Result JogMove Code) (a b : Outcome) → ByJogMove s r a → ByJogMove s r b → a ≡ b
+by_jog_move s (Err code) a b e f = both e f
+by_jog_move s (Ok jog) a b e f = both e f
 
-by_dollar : (runs : Bool) (s : Before) (kept : List ℕ) (a b : Outcome) → ByDollar runs s kept a → ByDollar runs s kept b → Agree s a b
+by_jog : (s : Before) (r : Result (List Word) WordFault) (a b : Outcome) → ByJog s r a → ByJog s r b → a ≡ b
+by_jog s (Err fault) a b e f = both e f
+by_jog s (Ok ws) a b e f = by_jog_move s (jog_of s.state.parser s.state.settings ws) a b e f
+
+one_of : (t : Bool) (A B : Outcome → Type 0) → ((a b : Outcome) → A a → A b → a ≡ b) → ((a b : Outcome) → B a → B b → a ≡ b)
+    → (a b : Outcome) → either t (A a) (B a) → either t (A b) (B b) → a ≡ b
+one_of true A B first second a b e f = first a b e f
+one_of false A B first second a b e f = second a b e f
+
+by_served : (s : Before) (kept : List ℕ) (a b : Outcome) → ByServed s kept a → ByServed s kept b → a ≡ b
+by_served s kept a b e f =
+    one_of (begins_jog (kind_of kept)) (λ o. ByJog s (words_of (jog_words kept)) o) (λ o. ByCommand s (command_of kept) o)
+    (by_jog s (words_of (jog_words kept))) (by_command s (command_of kept)) a b e f
+
+-- two outcomes are one, or one of them is refused with this, for a machine that is found in motion
+abbrev pub Agree : Before → ℕ → Outcome → Outcome → Type 0
+Agree s n a b = (a ≡ b) ⊎ ((a ≡ refused s n) ⊎ (b ≡ refused s n))
+
+by_dollar : (runs : Bool) (s : Before) (kept : List ℕ) (a b : Outcome) → ByDollar runs s kept a → ByDollar runs s kept b → Agree s 8 a b
 by_dollar runs s kept a b (inl e) f = inr (inl e.outcome)
 by_dollar runs s kept a b (inr e) (inl f) = inr (inr f.outcome)
-by_dollar runs s kept a b (inr e) (inr f) = inl (by_command s (command_of kept) a b e f)
+by_dollar runs s kept a b (inr e) (inr f) = inl (by_served s kept a b e f)
 
-by_choice : (t : Bool) (s : Before) (A B : Outcome → Type 0) → ((a b : Outcome) → A a → A b → Agree s a b) → ((a b : Outcome) → B a → B b → Agree s a b)
-    → (a b : Outcome) → either t (A a) (B a) → either t (A b) (B b) → Agree s a b
+by_code : (runs : Bool) (s : Before) (kept : List ℕ) (a b : Outcome) → ByCode runs s kept a → ByCode runs s kept b → Agree s 9 a b
+by_code runs s kept a b (inl e) f = inr (inl e.outcome)
+by_code runs s kept a b (inr e) (inl f) = inr (inr f.outcome)
+by_code runs s kept a b (inr e) (inr f) = inl (by_words s (words_of kept) a b e f)
+
+by_choice : (t : Bool) (s : Before) (A B : Outcome → Type 0) → ((a b : Outcome) → A a → A b → Agree s 8 a b) → ((a b : Outcome) → B a → B b → Agree s 9 a b)
+    → (a b : Outcome) → either t (A a) (B a) → either t (A b) (B b) → Agree s (cond t 8 9) a b
 by_choice true s A B first second a b e f = first a b e f
 by_choice false s A B first second a b e f = second a b e f
 
-by_kept : (runs : Bool) (s : Before) (kept : List ℕ) (a b : Outcome) → ByKept runs s kept a → ByKept runs s kept b → Agree s a b
+by_kept : (runs : Bool) (s : Before) (kept : List ℕ) (a b : Outcome) → ByKept runs s kept a → ByKept runs s kept b → Agree s (motion_error kept) a b
 by_kept runs s [] a b e f = inl (both e f)
 by_kept runs s (c ∷ cs) a b e f =
-    by_choice (nat_eq c 36) s (λ o. ByDollar runs s (c ∷ cs) o) (λ o. ByWords s (words_of (c ∷ cs)) o)
-    (by_dollar runs s (c ∷ cs)) (λ a b e f. inl (by_words s (words_of (c ∷ cs)) a b e f)) a b e f
+    by_choice (nat_eq c 36) s (λ o. ByDollar runs s (c ∷ cs) o) (λ o. ByCode runs s (c ∷ cs) o)
+    (by_dollar runs s (c ∷ cs)) (by_code runs s (c ∷ cs)) a b e f
 
-pub outcomes_agree : (runs : Bool) (s : Before) (kept : List ℕ) (a b : Outcome) → Becomes runs s kept a → Becomes runs s kept b → Agree s a b
+by_length : (t : Bool) (s : Before) (n : ℕ) (A B : Outcome → Type 0) → ((a b : Outcome) → A a → A b → Agree s n a b) → ((a b : Outcome) → B a → B b → Agree s n a b)
+    → (a b : Outcome) → either t (A a) (B a) → either t (A b) (B b) → Agree s n a b
+by_length true s n A B first second a b e f = first a b e f
+by_length false s n A B first second a b e f = second a b e f
+
+pub outcomes_agree : (runs : Bool) (s : Before) (kept : List ℕ) (a b : Outcome) → Becomes runs s kept a → Becomes runs s kept b → Agree s (motion_error kept) a b
 outcomes_agree runs s kept a b e f =
-    by_choice (nat_lt most_kept (length kept)) s (λ o. o ≡ _) (λ o. ByKept runs s kept o)
+    by_length (nat_lt most_kept (length kept)) s (motion_error kept) (λ o. o ≡ _) (λ o. ByKept runs s kept o)
     (λ a b e f. inl (both e f)) (by_kept runs s kept) a b e f
 
 -- ---- where no machine is found running
@@ -119,34 +148,39 @@ false_found e = absurd cc
 still_dollar : (s : Before) (kept : List ℕ) (a b : Outcome) → ByDollar false s kept a → ByDollar false s kept b → a ≡ b
 still_dollar s kept a b (inl e) f = false_found e.found
 still_dollar s kept a b (inr e) (inl f) = false_found f.found
-still_dollar s kept a b (inr e) (inr f) = by_command s (command_of kept) a b e f
+still_dollar s kept a b (inr e) (inr f) = by_served s kept a b e f
 
-still_choice : (t : Bool) (A B : Outcome → Type 0) → ((a b : Outcome) → A a → A b → a ≡ b) → ((a b : Outcome) → B a → B b → a ≡ b)
-    → (a b : Outcome) → either t (A a) (B a) → either t (A b) (B b) → a ≡ b
-still_choice true A B first second a b e f = first a b e f
-still_choice false A B first second a b e f = second a b e f
+still_code : (s : Before) (kept : List ℕ) (a b : Outcome) → ByCode false s kept a → ByCode false s kept b → a ≡ b
+still_code s kept a b (inl e) f = false_found e.found
+still_code s kept a b (inr e) (inl f) = false_found f.found
+still_code s kept a b (inr e) (inr f) = by_words s (words_of kept) a b e f
 
 still_kept : (s : Before) (kept : List ℕ) (a b : Outcome) → ByKept false s kept a → ByKept false s kept b → a ≡ b
 still_kept s [] a b e f = both e f
 still_kept s (c ∷ cs) a b e f =
-    still_choice (nat_eq c 36) (λ o. ByDollar false s (c ∷ cs) o) (λ o. ByWords s (words_of (c ∷ cs)) o)
-    (still_dollar s (c ∷ cs)) (by_words s (words_of (c ∷ cs))) a b e f
+    one_of (nat_eq c 36) (λ o. ByDollar false s (c ∷ cs) o) (λ o. ByCode false s (c ∷ cs) o)
+    (still_dollar s (c ∷ cs)) (still_code s (c ∷ cs)) a b e f
 
 pub one_outcome : (s : Before) (kept : List ℕ) (a b : Outcome) → Becomes false s kept a → Becomes false s kept b → a ≡ b
 one_outcome s kept a b e f =
-    still_choice (nat_lt most_kept (length kept)) (λ o. o ≡ _) (λ o. ByKept false s kept o)
+    one_of (nat_lt most_kept (length kept)) (λ o. o ≡ _) (λ o. ByKept false s kept o)
     (λ a b e f. both e f) (still_kept s kept) a b e f
 
 pub one_run : (s t u : Before) (ls : List (List ℕ)) (os ps : List Passed) → Follows false s ls os t → Follows false s ls ps u → (os ≡ ps) × (t ≡ u)
 one_run s t u [] [] [] e f = (refl, both e f)
+one_run s t u ls (a_cut k at ∷ os) ps e f = false_found e.0.found
+one_run s t u ls [] (a_cut k at ∷ ps) e f = false_found f.0.found
+one_run s t u ls (a_line a ∷ os) (a_cut k at ∷ ps) e f = false_found f.0.found
 one_run s t u (l ∷ ls) (a_line a ∷ os) (a_line b ∷ ps) e f =
-    let first : a ≡ b = one_outcome s l a b e.0 f.0 in
+    let first : a ≡ b = one_outcome s l a b e.0.becomes f.0.becomes in
     let P : Outcome → Type 0 = λ o. Follows false (after s o) ls ps u in
     let rest = one_run (after s a) t u ls os ps e.1 (subst P (sym first) f.1) in
     (ap (λ o. a_line o ∷ os) first ∙ ap (λ xs. a_line b ∷ xs) rest.0, rest.1)
-one_run s t u [] (a_line a ∷ os) ps e f = absurd e
+one_run s t u [] (a_line a ∷ os) (a_line b ∷ ps) e f = absurd e
+one_run s t u [] (a_line a ∷ os) [] e f = absurd e
 one_run s t u [] [] (a_line b ∷ ps) e f = absurd f
-one_run s t u (l ∷ ls) [] ps e f = absurd e
+one_run s t u (l ∷ ls) [] [] e f = absurd e
+one_run s t u (l ∷ ls) [] (a_line b ∷ ps) e f = absurd e
 one_run s t u (l ∷ ls) (a_line a ∷ os) [] e f = absurd f
 
 -- there is one state before the first line

@@ -4,3 +4,8 @@ pub mod Determined
 pub mod Settling
 pub mod Pausing
 pub mod Answering
+pub mod Jogging
+pub mod Finding
+pub mod Fates
+pub mod Codes
+pub mod Alarms

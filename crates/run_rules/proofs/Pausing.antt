@@ -21,8 +21,10 @@ use Rattle.modal_state.specs.declared.Parser.{Parser}
 use Rattle.modal_state.specs.declared.SpindleMode.{SpindleMode}
 use Rattle.modal_state.specs.declared.SpindleMode.TheVariants.{Off}
 use Rattle.settings.specs.declared.Settings.{Settings}
-use Rattle.system_lines.specs.Commands.{command_of}
-use Rattle.system_lines.specs.Setting.{apply_refusal}
+use Rattle.jog.specs.declared.JogMove.{JogMove}
+use Rattle.jog.specs.Jogs.{jog_of}
+use Rattle.system_lines.specs.Commands.{command_of, kind_of, jog_words, is_jog as begins_jog}
+use Rattle.settings.specs.Numbers.{set_refusal}
 use Rattle.system_lines.specs.declared.Command.{Command}
 use Rattle.system_lines.specs.declared.Command.TheVariants.{ListSettings, ListModes, ListOffsets, Unlock, Set}
 use Rattle.status_report.specs.declared.Reply.{Reply}
@@ -32,10 +34,10 @@ use Rattle.status_report.specs.Lists.{setting_replies, modes_replies, offset_rep
 use Rattle.step_line.specs.Asking.{Asked}
 use Rattle.step_line.specs.Asking.Asked.{a_rest}
 use Rattle.run_rules.specs.declared.State.{State}
-use Rattle.run_rules.specs.Outcomes.{Before, Becomes, ByKept, ByDollar, ByCommand, BySetting, ByWords, ByVerdict, executed, told, refused, either, fault_number, most_kept}
+use Rattle.run_rules.specs.Outcomes.{Before, Becomes, ByKept, ByDollar, ByCode, ByServed, ByJog, ByJogMove, ByCommand, BySetting, ByWords, ByVerdict, executed, jogging, told, limited, refused, either, fault_number, most_kept}
 use Rattle.run_rules.specs.Asks.{at_rest, item_work, work_of, move_asked, planned, spindle_off, coolant_off}
 use Rattle.run_rules.specs.Work.{Task, Outcome, pauses, telling, asking}
-use Rattle.run_rules.specs.Work.Task.{ask, tell, pause, normal, finish}
+use Rattle.run_rules.specs.Work.Task.{ask, tell, pause, normal, finish, halt}
 
 pauses_on : (xs ys : List Task) → pauses (xs ++ ys) ≡ pauses xs + pauses ys
 pauses_on [] ys = omega arith
@@ -44,6 +46,7 @@ pauses_on (tell r ∷ xs) ys = pauses_on xs ys
 pauses_on (pause ∷ xs) ys = let e = pauses_on xs ys in omega (arith, e)
 pauses_on (normal ∷ xs) ys = pauses_on xs ys
 pauses_on (finish ∷ xs) ys = pauses_on xs ys
+pauses_on (halt ∷ xs) ys = pauses_on xs ys
 
 asking_pauses : (asked : List Asked) → pauses (asking asked) ≡ 0
 asking_pauses [] = refl
@@ -151,6 +154,9 @@ refused_once b n o is = telling_once (replies.Error n ∷ []) o (ap (λ (o : Out
 told_once : (next : State) (body : List Reply) (o : Outcome) → o ≡ told next body → PausesOnce o
 told_once next body o is = telling_once (body ++ replies.Ok ∷ []) o (ap (λ (o : Outcome). o.work) is)
 
+limited_once : (b : Before) → PausesOnce (limited b)
+limited_once b = omega arith
+
 executed_once : (b : Before) (a : Accepted) → pauses_among a.items.items ≤ 1 → PausesOnce (executed b a)
 executed_once b a few =
     let spindle = b.state.parser.modal.spindle in
@@ -161,7 +167,7 @@ executed_once b a few =
     omega (arith, on, all, few)
 
 by_accept : (out : Bool) (b : Before) (a : Accepted) (o : Outcome) → pauses_among a.items.items ≤ 1 → ByVerdict b (if out then Limit else Accept a) o → PausesOnce o
-by_accept true b a o few is = absurd is
+by_accept true b a o few is = subst PausesOnce (sym is) (limited_once b)
 by_accept false b a o few is = subst PausesOnce (sym is) (executed_once b a few)
 
 by_refusal : (r : Option Code) (b : Before) (ws : List Word) (o : Outcome) → ByVerdict b (verdict_by r b.state.parser b.state.settings ws) o → PausesOnce o
@@ -186,20 +192,44 @@ by_command b (Ok ListSettings) o is = told_once b.state (setting_replies b.state
 by_command b (Ok ListModes) o is = told_once b.state (modes_replies b.state.parser) o is
 by_command b (Ok ListOffsets) o is = told_once b.state (offset_replies b.state.parser.offsets) o is
 by_command b (Ok Unlock) o is = told_once b.state [] o is
-by_command b (Ok (Set n value)) o is = by_setting b n value (apply_refusal n value) o is
+by_command b (Ok (Set n value)) o is = by_setting b n value (set_refusal n value) o is
 
-by_dollar : (runs : Bool) (b : Before) (kept : List ℕ) (o : Outcome) → ByDollar runs b kept o → PausesOnce o
-by_dollar runs b kept o (inl busy) = refused_once b 8 o busy.outcome
-by_dollar runs b kept o (inr is) = by_command b (command_of kept) o is
+jogging_once : (b : Before) (jog : JogMove) → PausesOnce (jogging b jog)
+jogging_once b jog =
+    let asked = move_asked (planned b.number b.state.settings jog.mv jog.rate) in
+    let on = pauses_on (asking asked) (tell replies.Ok ∷ []) in
+    let none = asking_pauses asked in
+    omega (arith, on, none)
+
+by_jog_move : (b : Before) (r : Result JogMove Code) (o : Outcome) → ByJogMove b r o → PausesOnce o
+by_jog_move b (Err code) o is = refused_once b code.0 o is
+by_jog_move b (Ok jog) o is = subst PausesOnce (sym is) (jogging_once b jog)
+
+by_jog : (b : Before) (ws : Result (List Word) WordFault) (o : Outcome) → ByJog b ws o → PausesOnce o
+by_jog b (Err fault) o is = refused_once b (fault_number fault) o is
+by_jog b (Ok ws) o is = by_jog_move b (jog_of b.state.parser b.state.settings ws) o is
 
 by_either : (c : Bool) (A B : Type 0) (o : Outcome) → (A → PausesOnce o) → (B → PausesOnce o) → either c A B → PausesOnce o
 by_either true A B o first second is = first is
 by_either false A B o first second is = second is
 
+by_served : (b : Before) (kept : List ℕ) (o : Outcome) → ByServed b kept o → PausesOnce o
+by_served b kept o is =
+    by_either (begins_jog (kind_of kept)) (ByJog b (words_of (jog_words kept)) o) (ByCommand b (command_of kept) o) o
+    (by_jog b (words_of (jog_words kept)) o) (by_command b (command_of kept) o) is
+
+by_dollar : (runs : Bool) (b : Before) (kept : List ℕ) (o : Outcome) → ByDollar runs b kept o → PausesOnce o
+by_dollar runs b kept o (inl busy) = refused_once b 8 o busy.outcome
+by_dollar runs b kept o (inr is) = by_served b kept o is
+
+by_code : (runs : Bool) (b : Before) (kept : List ℕ) (o : Outcome) → ByCode runs b kept o → PausesOnce o
+by_code runs b kept o (inl locked) = refused_once b 9 o locked.outcome
+by_code runs b kept o (inr is) = by_words b (words_of kept) o is
+
 by_kept : (runs : Bool) (b : Before) (kept : List ℕ) (o : Outcome) → ByKept runs b kept o → PausesOnce o
 by_kept runs b [] o is = told_once b.state [] o is
 by_kept runs b (c ∷ cs) o is =
-    by_either (nat_eq c 36) (ByDollar runs b (c ∷ cs) o) (ByWords b (words_of (c ∷ cs)) o) o (by_dollar runs b (c ∷ cs) o) (by_words b (words_of (c ∷ cs)) o) is
+    by_either (nat_eq c 36) (ByDollar runs b (c ∷ cs) o) (ByCode runs b (c ∷ cs) o) o (by_dollar runs b (c ∷ cs) o) (by_code runs b (c ∷ cs) o) is
 
 pub pauses_once : (runs : Bool) (b : Before) (kept : List ℕ) (o : Outcome) → Becomes runs b kept o → pauses o.work ≤ 1
 pauses_once runs b kept o is =

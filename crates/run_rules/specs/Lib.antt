@@ -4,6 +4,9 @@ pub mod States
 pub mod Work
 pub mod Asks
 pub mod Outcomes
+pub mod Limits
+pub mod Finding
+pub mod Cuts
 pub mod Told
 pub mod Reports
 pub use Rattle.gcode_words.specs.Stripping
@@ -16,6 +19,5 @@ pub use Rattle.step_line.specs.Events
 pub use Rattle.step_line.specs.Asking
 pub use Rattle.step_record.specs.Texts
 pub use Rattle.system_lines.specs.Commands
-pub use Rattle.system_lines.specs.Setting
 pub use Rattle.status_report.specs.Lists
 pub use Rattle.status_report.specs.Replies

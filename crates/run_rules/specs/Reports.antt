@@ -1,6 +1,6 @@
 -- The reports of a run: what each of them may tell.
 use Rattle.std.specs.Prelude.{◌≡◌, ℕ, ◌+◌, ◌*◌, ◌/◌, ◌%◌, ◌≤◌, ◌<◌, ◌==◌, ◌⊎◌, Bool, true, false, ◌&&◌, cond, nat_eq, nat_lt, List, [], ◌∷◌, length, take, drop, reverse, get_or, Some, None}
-use Rattle.std.specs.List.{list_any}
+use Rattle.std.specs.List.{list_any, sum}
 use Rattle.std.specs.declared.option.Option.{Option}
 use Rattle.code_table.specs.Tables.{query}
 use Rattle.flight.specs.Places.{moved_by, origin}
@@ -17,14 +17,12 @@ use Rattle.status_report.specs.declared.reports.Report.{Report}
 use Rattle.status_report.specs.declared.reports.State.{State as Told}
 use Rattle.status_report.specs.declared.reports.State.TheVariants as told
 use Rattle.step_line.specs.declared.Record.{Record}
-use Rattle.step_line.specs.Asking.{ticks_of_all}
 use Rattle.units.specs.declared.Nm3.{Nm3}
 use Rattle.units.specs.declared.Per3.{Per3}
 use Rattle.units.specs.declared.Steps3.{Steps3}
 use Rattle.units.specs.Lengths.{thousandths_of}
 use Rattle.run_rules.specs.declared.State.{State}
-use Rattle.run_rules.specs.Work.{Outcome, has_moves, pauses}
-use Rattle.run_rules.specs.Told.{asked_in}
+use Rattle.run_rules.specs.Work.{Outcome, is_alarm, has_moves, pauses}
 
 -- ---- of lines that were begun, in order
 
@@ -36,30 +34,29 @@ abbrev pub settled_to : List Outcome → ℕ
 settled_to [] = 0
 settled_to (o ∷ os) = cond (list_any settles (o ∷ os)) (settled_to os + 1) 0
 
--- how many ticks they ask for
-abbrev pub ticks_in : List Outcome → ℕ
-ticks_in os = length (ticks_of_all (asked_in os))
-
 abbrev pub moves : Outcome → Bool
 moves o = has_moves o.work
 
 abbrev pub has_pause : Outcome → Bool
 has_pause o = nat_lt 0 (pauses o.work)
 
--- what they leave
+abbrev pub raises_alarm : Outcome → Bool
+raises_alarm o = is_alarm o.answer
+
+-- What they leave; a cut behind them changes no more of it than the position, which reports do not tell.
 abbrev pub state_behind : State → List Outcome → State
 state_behind s [] = s
 state_behind s (o ∷ os) = state_behind o.next os
 
 -- ---- where k lines were answered
 
--- So many ticks at least are done: those of the lines up to the last among these k that settles; and so many at most: those
--- of the lines up to line k + 1.
-abbrev pub fewest : ℕ → List Outcome → ℕ
-fewest k os = ticks_in (take (settled_to (take k os)) os)
+-- Where so many ticks count of each line, so many at least are done: those of the lines up to the last among these k that
+-- settles; and so many at most: those of the lines up to line k + 1.
+abbrev pub fewest : ℕ → List Outcome → List ℕ → ℕ
+fewest k os counts = sum (take (settled_to (take k os)) counts)
 
-abbrev pub most : ℕ → List Outcome → ℕ
-most k os = ticks_in (take (k + 1) os)
+abbrev pub most : ℕ → List ℕ → ℕ
+most k counts = sum (take (k + 1) counts)
 
 -- whether a line moves of those behind the last that settles among the first k, up to line k + 1
 abbrev pub may_move : ℕ → List Outcome → Bool
@@ -112,11 +109,14 @@ hundreds = record { feed = 100; rapid = 100; spindle = 100 }
 
 -- ---- one report
 
--- What a run has done, which only grows: the state before it, what became of the lines that were begun, the ticks that were
--- published, and how many were given; and whether a hold was asked for, and a change of overrides.
+-- What a run has done: the state before it, what became of the lines that were begun, and how many ticks count of each; the ticks
+-- that were published, and how many were given; and whether a hold was asked for, and a change of overrides. Of a line those
+-- ticks count that it asks for, less those that a cut or a halt dropped; a cut is a tick, and counts with the last line
+-- before it.
 pub record Course : Type 0 where
   pub first : State
   pub outcomes : List Outcome
+  pub counts : List ℕ
   pub ticks : List Record
   pub given : ℕ
   pub held : Bool
@@ -126,25 +126,31 @@ pub record Course : Type 0 where
 pub record IsAhead (c : Course) (k d : ℕ) : Type 0 where
   pub given : ℕ
   pub below : d < given
-  pub asked : given ≤ most k c.outcomes
+  pub asked : given ≤ most k c.counts
   pub whole : given ≤ c.given
 
+-- one of the lines up to line k + 1 raises an alarm
+abbrev pub MayAlarm : Course → ℕ → Type 0
+MayAlarm c k = list_any raises_alarm (take (k + 1) c.outcomes) ≡ true
+
 -- A report behind k answers, which shows the place after d ticks. It tells what line k left, or line k + 1. The feed is 0
--- where all ticks up to line k + 1 are done. Where no line moves behind the last that settles, the machine stands. It is held
--- only by a hold or a pause, and its overrides are 100 percent where none was changed.
+-- where all ticks up to line k + 1 are done. Where no line moves behind the last that settles, the machine stands. It is held,
+-- or slows down, only by a hold, a pause or an alarm, stands in alarm only by one, and its overrides are 100 percent where
+-- none was changed.
 pub record FitsReport (c : Course) (k d : ℕ) (r : Report) : Type 0 where
   pub lines : ℕ
   pub of_lines : (lines ≡ k) ⊎ (lines ≡ k + 1)
   pub begun : lines ≤ length c.outcomes
   pub answered : k ≤ length c.outcomes
   pub made : d ≤ length c.ticks
-  pub low : fewest k c.outcomes ≤ d
-  pub high : d ≤ most k c.outcomes
+  pub low : fewest k c.outcomes c.counts ≤ d
+  pub high : d ≤ most k c.counts
   pub shows : Shows (place_at c.ticks d) (state_behind c.first (take lines c.outcomes)) r
-  pub speed : d ≡ most k c.outcomes → r.f ≡ 0
+  pub speed : d ≡ most k c.counts → r.f ≡ 0
   pub ahead : (r.f ≡ 0) ⊎ IsAhead c k d
-  pub state : may_move k c.outcomes ≡ false → (r.state ≡ told.Idle) ⊎ (r.state ≡ told.Hold0)
-  pub holds : is_held r.state ≡ true → (c.held ≡ true) ⊎ (list_any has_pause (take (k + 1) c.outcomes) ≡ true)
+  pub state : may_move k c.outcomes ≡ false → (r.state ≡ told.Idle) ⊎ ((r.state ≡ told.Hold0) ⊎ (r.state ≡ told.Alarm))
+  pub holds : is_held r.state ≡ true → (c.held ≡ true) ⊎ ((list_any has_pause (take (k + 1) c.outcomes) ≡ true) ⊎ MayAlarm c k)
+  pub alarm : r.state ≡ told.Alarm → MayAlarm c k
   pub overrides : c.changed ≡ false → r.ov ≡ hundreds
 
 -- ---- all of them

@@ -7,7 +7,7 @@ use Rattle.step_record.specs.Texts.{record_text}
 use Rattle.status_report.specs.Replies.{reply_text}
 use Rattle.status_report.specs.declared.Reply.{Reply}
 use Rattle.status_report.specs.declared.Reply.TheVariants.{Banner, Error}
-use Rattle.run_rules.specs.Work.{Outcome, tells, asks}
+use Rattle.run_rules.specs.Work.{Outcome, is_alarm, tells, asks}
 
 -- all that is told: the banner, and then line by line
 abbrev pub replies_in : List Outcome → List Reply
@@ -34,3 +34,7 @@ errors_among replies = count_by is_error replies
 -- how many lines are refused
 abbrev pub errors_in : List Outcome → ℕ
 errors_in outcomes = count_by (λ o. is_error o.answer) outcomes
+
+-- how many lines raise an alarm
+abbrev pub alarms_in : List Outcome → ℕ
+alarms_in outcomes = count_by (λ o. is_alarm o.answer) outcomes

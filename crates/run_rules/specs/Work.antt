@@ -4,7 +4,8 @@ use Rattle.std.specs.List.{flat_map}
 use Rattle.step_line.specs.Asking.{Asked}
 use Rattle.step_line.specs.Asking.Asked.{a_move, a_mark, a_rest}
 use Rattle.status_report.specs.declared.Reply.{Reply}
-use Rattle.status_report.specs.declared.Reply.TheVariants.{Bye}
+use Rattle.status_report.specs.declared.Message.TheVariants.{ResetToContinue}
+use Rattle.status_report.specs.declared.Reply.TheVariants.{Alarm, Message, Bye}
 use Rattle.run_rules.specs.declared.State.{State}
 
 pub data Task : Type 0 where
@@ -18,14 +19,47 @@ pub data Task : Type 0 where
   normal : Task
   -- the machine comes to rest, and is given the end
   finish : Task
+  -- the machine slows down to rest, and all that it has not begun by then is dropped
+  halt : Task
 
--- what becomes of a line: what there is to do, its answer last; the answer; whether it settles, that is, has items of
--- which the last is no move; and the state behind it
+-- what was accepted: a line of G-code, a jog, or none of these, as where a line is empty, a command, or refused
+pub data Kind : Type 0 where
+  of_code : Kind
+  of_jog : Kind
+  of_none : Kind
+
+-- the number of the alarm that a soft limit raises
+abbrev pub soft_limit : ℕ
+soft_limit = 2
+
+-- a reply is an alarm, behind which no line is begun
+abbrev pub is_alarm : Reply → Bool
+is_alarm (Alarm n) = true
+is_alarm _ = false
+
+abbrev pub is_code : Kind → Bool
+is_code of_code = true
+is_code of_jog = false
+is_code of_none = false
+
+abbrev pub is_jog : Kind → Bool
+is_jog of_code = false
+is_jog of_jog = true
+is_jog of_none = false
+
+-- What becomes of a line: what there is to do; its answer, which is told last; whether it settles, that is, has items of which
+-- the last is no move; what was accepted; and the state behind it. A line that ends the run has no answer of its own: in the
+-- place of one is the alarm, and what is told of it ends with a message.
 pub record Outcome : Type 0 where
   pub work : List Task
   pub answer : Reply
   pub settles : Bool
+  pub kind : Kind
   pub next : State
+
+-- a line that ends the run with an alarm: the machine is halted, and then it is told
+abbrev pub halting_work : List Task
+halting_work = halt ∷ tell (Alarm soft_limit) ∷ tell (Message ResetToContinue) ∷ []
 
 -- behind the last line the end is given to the machine, and Bye is told
 abbrev pub closing_work : List Task
@@ -38,6 +72,7 @@ told_by (tell r) = r ∷ []
 told_by pause = []
 told_by normal = []
 told_by finish = []
+told_by halt = []
 
 abbrev pub tells : List Task → List Reply
 tells work = flat_map told_by work
@@ -49,6 +84,7 @@ asked_by_task (tell r) = []
 asked_by_task pause = []
 asked_by_task normal = []
 asked_by_task finish = []
+asked_by_task halt = []
 
 abbrev pub asks : List Task → List Asked
 asks work = flat_map asked_by_task work
@@ -68,6 +104,7 @@ pauses (tell r ∷ ts) = pauses ts
 pauses (pause ∷ ts) = pauses ts + 1
 pauses (normal ∷ ts) = pauses ts
 pauses (finish ∷ ts) = pauses ts
+pauses (halt ∷ ts) = pauses ts
 
 -- whether each override is set to 100 percent
 abbrev pub has_normal : List Task → Bool
@@ -77,6 +114,7 @@ has_normal (tell r ∷ ts) = has_normal ts
 has_normal (pause ∷ ts) = has_normal ts
 has_normal (normal ∷ ts) = true
 has_normal (finish ∷ ts) = has_normal ts
+has_normal (halt ∷ ts) = has_normal ts
 
 -- whether a move is asked for
 abbrev pub asks_move : Task → Bool
@@ -87,6 +125,7 @@ asks_move (tell r) = false
 asks_move pause = false
 asks_move normal = false
 asks_move finish = false
+asks_move halt = false
 
 abbrev pub has_moves : List Task → Bool
 has_moves [] = false

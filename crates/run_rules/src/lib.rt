@@ -8,11 +8,15 @@ ghost use Rattle.run_rules.specs.States.{IsOpening, IsState};
 ghost use Rattle.run_rules.specs.Asks.{spindle_mark};
 
 mod laws;
+mod machine;
 
 pub use laws::{
-    lines_are_pieces, lines_have_one_answer, lines_pause_once, lines_settle, run_goes_on,
-    runs_are_determined,
+    alarms_end_the_run, errors_for_the_motion_have_causes, found_lines_become,
+    jogs_change_the_place_alone, lines_are_of_a_kind, lines_are_pieces,
+    lines_find_a_machine_that_stands, lines_have_one_answer, lines_pause_once, lines_settle,
+    run_goes_on, runs_are_determined,
 };
+pub use machine::Machine;
 use modal_state::{Parser, SpindleMode};
 use settings::Settings;
 use step_line::{Mark, SpindleCode};

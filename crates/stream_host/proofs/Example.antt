@@ -48,7 +48,7 @@ j5 = read_some (10 ∷ 88 ∷ []) ∷ j4
 
 c5 : Conducted j5
 unfolding cut_within reply_text
-c5 = ((record { going = refl; on = refl; sends = refl; used = refl; free = refl; none_due = refl; settled = record { greeted = inl refl; reported = refl; answered = inl refl }; shown = inr (omega arith) }, (omega arith), (omega arith)), c4)
+c5 = ((record { going = refl; calm = refl; on = refl; sends = refl; used = refl; free = refl; none_due = refl; settled = record { greeted = inl refl; reported = refl; answered = inl refl }; shown = inr (omega arith) }, (omega arith), (omega arith)), c4)
 
 abbrev j6 : Journal
 j6 = turned Did ∷ j5
@@ -62,14 +62,14 @@ j7 = scanned 10 ∷ j6
 
 c7 : Conducted j7
 unfolding cut_within reply_text
-c7 = (record { going = refl; next = refl; few = omega arith; sends = refl; free = refl; none_due = refl }, c6)
+c7 = (record { going = refl; calm = refl; next = refl; few = omega arith; sends = refl; free = refl; none_due = refl }, c6)
 
 abbrev j8 : Journal
 j8 = at_port (stored 10) ∷ j7
 
 c8 : Conducted j8
 unfolding cut_within reply_text
-c8 = (record { next = refl; reported = refl; room = omega arith }, c7)
+c8 = (record { calm = refl; next = refl; reported = refl; room = omega arith }, c7)
 
 abbrev j9 : Journal
 j9 = turned Did ∷ j8
@@ -83,7 +83,7 @@ j10 = scanned 88 ∷ j9
 
 c10 : Conducted j10
 unfolding cut_within reply_text
-c10 = (record { going = refl; next = refl; few = omega arith; sends = refl; free = refl; none_due = refl }, c9)
+c10 = (record { going = refl; calm = refl; next = refl; few = omega arith; sends = refl; free = refl; none_due = refl }, c9)
 
 abbrev j11 : Journal
 j11 = turned Did ∷ j10
@@ -125,21 +125,21 @@ j16 = read_end ∷ j15
 
 c16 : Conducted j16
 unfolding cut_within reply_text
-c16 = (record { going = refl; on = refl; sends = refl; used = refl; free = refl; none_due = refl; settled = record { greeted = inl refl; reported = refl; answered = inl refl }; shown = inr (omega arith) }, c15)
+c16 = (record { going = refl; calm = refl; on = refl; sends = refl; used = refl; free = refl; none_due = refl; settled = record { greeted = inl refl; reported = refl; answered = inl refl }; shown = inr (omega arith) }, c15)
 
 abbrev j17 : Journal
 j17 = line_over ∷ j16
 
 c17 : Conducted j17
 unfolding cut_within reply_text
-c17 = (record { going = refl; at_end = refl; used = refl; some = omega arith; sends = refl; free = refl; none_due = refl }, c16)
+c17 = (record { going = refl; calm = refl; at_end = refl; used = refl; some = omega arith; sends = refl; free = refl; none_due = refl }, c16)
 
 abbrev j18 : Journal
 j18 = at_port (stored 88) ∷ j17
 
 c18 : Conducted j18
 unfolding cut_within reply_text
-c18 = (record { next = refl; reported = refl; room = omega arith }, c17)
+c18 = (record { calm = refl; next = refl; reported = refl; room = omega arith }, c17)
 
 abbrev j19 : Journal
 j19 = turned Did ∷ j18
@@ -160,7 +160,7 @@ j21 = at_port (stored 10) ∷ j20
 
 c21 : Conducted j21
 unfolding cut_within reply_text
-c21 = (record { next = refl; reported = refl; room = omega arith }, c20)
+c21 = (record { calm = refl; next = refl; reported = refl; room = omega arith }, c20)
 
 abbrev j22 : Journal
 j22 = turned Did ∷ j21
@@ -174,7 +174,7 @@ j23 = at_port shut ∷ j22
 
 c23 : Conducted j23
 unfolding cut_within reply_text
-c23 = (record { going = refl; sent = record { free = refl; all = inr (refl, refl) }; all_raised = refl }, c22)
+c23 = (record { going = refl; sent = inr (record { free = refl; all = inr (refl, refl) }); all_raised = inr refl }, c22)
 
 abbrev j24 : Journal
 j24 = turned Did ∷ j23

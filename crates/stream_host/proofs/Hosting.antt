@@ -14,13 +14,13 @@ use Rattle.stream_host.specs.declared.host.Host.{Host}
 use Rattle.stream_host.specs.Links.{on_link}
 use Rattle.stream_host.specs.Jobs.{resume, is_long, holds_reset, ends_sending, MayHaveRead}
 use Rattle.stream_host.specs.Holding.{held_after, has_pause, pauses}
-use Rattle.stream_host.specs.Steps.{Step, Journal, port_log, got_of, answered_of, read_of, reading_of, scanned_of, unscanned_of, raw_of, cut_of, to_store, begun_of, due_of, asking_of, pause_of, asked_more, is_waiting, more_served, PortLog, polls_of, empty_polls, text_of, this_turn}
+use Rattle.stream_host.specs.Steps.{Step, Journal, port_log, got_of, has_alarm, answered_of, read_of, reading_of, scanned_of, unscanned_of, raw_of, cut_of, to_store, begun_of, due_of, asking_of, pause_of, asked_more, is_waiting, more_served, PortLog, polls_of, empty_polls, text_of, this_turn}
 use Rattle.stream_host.specs.Steps.PortStep.{stored, raised, no_reply, shut}
 use Rattle.stream_host.specs.Steps.Step.{at_port, scanned, wrote, gave_up}
 use Rattle.code_table.specs.Tables.{query}
 use Rattle.stream_host.specs.declared.line.Asking.{Asking}
 use Rattle.stream_host.specs.declared.line.Asking.TheVariants.{Nothing, Awaits, HasOne}
-use Rattle.stream_host.specs.Conduct.{Conducted, AreAnswered, MayScanNext, MayRaise, MayStore, HasSentAll, HasNoMore, publishing}
+use Rattle.stream_host.specs.Conduct.{Conducted, AreAnswered, waits_for_lines, MayScanNext, MayRaise, MayStore, MayShut, HasSentAll, HasNoMore, publishing}
 use Rattle.stream_host.specs.Hosts.{HostFits, HasLine, IsStoring, KeepsLine, KeepsDue, KeepsPolls, KeepsJob, KeepsCounts, IsQuiet, is_over, line_length, lengths, IsSummed, unread}
 use Rattle.stream_host.specs.declared.counts.Counts.{Counts}
 use Rattle.status_report.specs.declared.Reply.{Reply}
@@ -41,6 +41,14 @@ use Rattle.text_writer.specs.Writers.{Writing, Writes, TookSome, WriteFailed, Wr
 use Rattle.text_writer.proofs.Arriving.{well, once_more}
 use Rattle.stream_host.specs.Steps.{written_of}
 use Rattle.stream_host.specs.Hosts.{DidAlone, HostTellsOn, TellsJob}
+
+-- ---- an alarm
+
+pub calm_now : (s : Host) (h : Journal) → HostFits s h → s.alarm ≡ false → has_alarm h ≡ false
+calm_now s h f calm = sym f.alarm_is ∙ calm
+
+pub alarm_now : (s : Host) (h : Journal) → HostFits s h → s.alarm ≡ true → has_alarm h ≡ true
+alarm_now s h f alarm = sym f.alarm_is ∙ alarm
 
 -- ---- the line in hand
 
@@ -142,10 +150,10 @@ has_room s h f free =
 -- ---- a byte is raised
 
 pub none_due_by : (s : Host) (h : Journal) → HostFits s h → s.line.due ≡ None → due_of h ≡ []
-none_due_by s h f none = sym f.due_is.due_is ∙ ap option_to_list none
+none_due_by s h f none = sym f.due_is ∙ ap option_to_list none
 
 pub none_due_now : (s : Host) (h : Journal) → HostFits s h → due_of h ≡ [] → s.line.due ≡ None
-none_due_now s h f none = by_due s.line.due (f.due_is.due_is ∙ none)
+none_due_now s h f none = by_due s.line.due (f.due_is ∙ none)
   where
     by_due : (d : Option ℕ) → option_to_list d ≡ [] → d ≡ None
     by_due None e = refl
@@ -161,7 +169,7 @@ pub never_raised : (s : Host) (b : ℕ) (h : Journal) → HostFits s h → due_o
 never_raised s b h f none may = absurd (let e = sym none ∙ may.next f.polls_are.few in cc)
 
 pub due_next : (s : Host) (b : ℕ) (h : Journal) → HostFits s h → s.line.due ≡ Some b → due_of h ≡ b ∷ []
-due_next s b h f is = sym f.due_is.due_is ∙ ap option_to_list is
+due_next s b h f is = sym f.due_is ∙ ap option_to_list is
 
 -- no more reports are asked for than bytes were scanned
 pub takes_raise : (b : ℕ) (h : Journal) → Conducted h → TakesRaise b (port_log h)
@@ -170,8 +178,8 @@ takes_raise b h c query_now = let q = few_queries h c in let n = few_scanned h c
 pub takes_resume : (l : PortLog) → TakesRaise resume l
 takes_resume l query_now = absurd cc
 
--- a `?` waits while fewer lines are answered than were scanned whole
-pub early_by : (s : Host) (b : ℕ) (h : Journal) (t : Bool) → HostFits s h → b ≡ query → t ≡ nat_lt s.counts.answered s.counts.lines → (t ≡ false) ↔ (b ≡ query → AreAnswered h)
+-- a byte that waits for lines does so while fewer are answered than were scanned whole
+pub early_by : (s : Host) (b : ℕ) (h : Journal) (t : Bool) → HostFits s h → waits_for_lines b ≡ true → t ≡ nat_lt s.counts.answered s.counts.lines → (t ≡ false) ↔ (waits_for_lines b ≡ true → AreAnswered h)
 early_by s b h t f is test = (
   λ none q. (let few = (sending.counts_are h f.conducted).1 in let a = f.counts_are.answered_is in let l = f.counts_are.lines_are in grind (arith, nat_tests)),
   λ after. (let all = after is in let a = f.counts_are.answered_is in let l = f.counts_are.lines_are in grind (arith, nat_tests)),
@@ -183,21 +191,22 @@ same_line l raw left d k = record {
   storing = λ e. let n = k.storing e in record { none = n.none; sends = n.sends; within = n.within; left_is = n.left_is };
 }
 
-pub raised_byte : (s : Host) (b : ℕ) (down : Bool) (a : Asking) (held : Bool) (n : ℕ) (h : Journal) → HostFits s h → s.line.due ≡ Some b → (b ≡ query → AreAnswered h) → a ≡ cond (nat_eq b query) (asked_more s.asking) s.asking → held ≡ held_after b s.held → n ≡ cond (nat_eq b resume) 0 s.counts.pause_at
+pub raised_byte : (s : Host) (b : ℕ) (down : Bool) (a : Asking) (held : Bool) (n : ℕ) (h : Journal) → HostFits s h → s.alarm ≡ false → s.line.due ≡ Some b → (waits_for_lines b ≡ true → AreAnswered h) → a ≡ cond (nat_eq b query) (asked_more s.asking) s.asking → held ≡ held_after b s.held → n ≡ cond (nat_eq b resume) 0 s.counts.pause_at
     → HostFits (record s { line = record s.line { due = None }; asking = a; held = held; counts = record s.counts { pause_at = n } }) (at_port (raised b down) ∷ h)
-raised_byte s b down a held n h f is after asks hold pause =
+raised_byte s b down a held n h f calm is after asks hold pause =
     let next = due_next s b h f is in
     let going = not_tired (polls_of h) f.polls_are.few in
     record {
-      conducted = (record { resumes = λ e. absurd (let n = f.polls_are.few in omega arith); next = λ e. next ∙ ap (λ (t : List ℕ). b ∷ drop 1 t) (sym next); after = after }, f.conducted);
+      conducted = (record { resumes = λ e. absurd (let n = f.polls_are.few in omega arith); calm = λ fewer. calm_now s h f calm; next = λ e. next ∙ ap (λ (t : List ℕ). b ∷ drop 1 t) (sym next); after = after }, f.conducted);
       job_is = f.job_is;
       line_is = same_line s.line (raw_of h) (to_store h) None f.line_is;
-      due_is = record { due_is = sym (ap (λ t. cond t (due_of h) (drop 1 (due_of h))) going ∙ ap (drop 1) next); served = λ c e. absurd cc };
+      due_is = sym (ap (λ t. cond t (due_of h) (drop 1 (due_of h))) going ∙ ap (drop 1) next);
       asking_is = asks ∙ ap (λ (x : Asking). cond (nat_eq b query) (asked_more x) x) f.asking_is;
       counts_are = same_counts s.counts n (cut_of h) (got_of h) f.counts_are;
       polls_are = subst (λ t. KeepsPolls s.polls (cond t 0 (polls_of h))) (sym going) f.polls_are;
       held_is = hold ∙ ap (held_after b) f.held_is;
       greeted_is = f.greeted_is;
+      alarm_is = f.alarm_is;
       pause_is = pause ∙ ap (λ m. cond (nat_eq b resume) 0 m) f.pause_is;
       text_is = f.text_is;
       shut_is = f.shut_is;
@@ -217,6 +226,7 @@ polled s n h f going is few = record {
   polls_are = record { polls_are = is ∙ ap (λ m. m + 1) f.polls_are.polls_are; few = (let e = f.polls_are.polls_are in omega arith) };
   held_is = f.held_is;
   greeted_is = f.greeted_is;
+  alarm_is = f.alarm_is;
   pause_is = f.pause_is;
   text_is = f.text_is;
   shut_is = f.shut_is;
@@ -232,7 +242,7 @@ resumed s down h f going full =
     let tired = tired_now (polls_of h + 1) all in
     record {
       conducted = (
-        record { resumes = λ e. refl; next = λ fewer. absurd (omega arith); after = λ e. absurd cc },
+        record { resumes = λ e. refl; calm = λ fewer. absurd (omega arith); next = λ fewer. absurd (omega arith); after = λ e. absurd cc },
         (record { going = sym f.bye_is ∙ going; rested = few }, f.conducted),
       );
       job_is = f.job_is;
@@ -243,6 +253,7 @@ resumed s down h f going full =
       polls_are = subst (λ t. KeepsPolls 0 (cond t 0 (polls_of h + 1))) (sym tired) (record { polls_are = refl; few = omega arith });
       held_is = refl;
       greeted_is = f.greeted_is;
+      alarm_is = f.alarm_is;
       pause_is = refl;
       text_is = f.text_is;
       shut_is = f.shut_is;
@@ -252,8 +263,9 @@ resumed s down h f going full =
 
 -- ---- a byte is scanned
 
-pub may_scan_next : (s : Host) (r : Reader) (b : ℕ) (h : Journal) → HostFits s h → MayScanOn s → s.shut ≡ false → unread s.job ≡ b ∷ unread r → MayScanNext b h
-may_scan_next s r b h f may going next = record {
+pub may_scan_next : (s : Host) (r : Reader) (b : ℕ) (h : Journal) → HostFits s h → MayScanOn s → s.shut ≡ false → s.alarm ≡ false → unread s.job ≡ b ∷ unread r → MayScanNext b h
+may_scan_next s r b h f may going calm next = record {
+  calm = calm_now s h f calm;
   none_due = none_due_by s h f may.none_due;
   going = sym f.shut_is ∙ going;
   next = sym f.job_is.left_is ∙ next ∙ ap (λ (t : List ℕ). b ∷ drop 1 t) (sym next ∙ f.job_is.left_is);
@@ -272,7 +284,7 @@ job_scanned s r b h f next piece count reading = record {
 }
 
 pub nothing_due : (d : Option ℕ) (due : List ℕ) → d ≡ None → due ≡ [] → KeepsDue d due
-nothing_due d due none is = record { due_is = ap option_to_list none ∙ sym is; served = λ b e. absurd (let g = sym none ∙ e in cc) }
+nothing_due d due none is = ap option_to_list none ∙ sym is
 
 -- a job at its end has no byte left
 not_over : (s : Host) (r : Reader) (b : ℕ) (h : Journal) {A : Type 0} → HostFits s h → unread s.job ≡ b ∷ unread r → reading_of h ≡ Ended → A
@@ -290,10 +302,10 @@ asking_scanned s a h f whole is =
     by_tests n true true e g = absurd (grind (arith, nat_tests))
     by_tests n false false e g = absurd (grind (arith, nat_tests))
 
-pub scanned_byte : (s : Host) (r : Reader) (l : SentLine) (a : Asking) (b : ℕ) (h : Journal) → HostFits s h → MayScanOn s → s.shut ≡ false → unread s.job ≡ b ∷ unread r → IsPiece r → r.scanned ≡ s.job.scanned + 1 → r.reading ≡ s.job.reading
+pub scanned_byte : (s : Host) (r : Reader) (l : SentLine) (a : Asking) (b : ℕ) (h : Journal) → HostFits s h → MayScanOn s → s.shut ≡ false → s.alarm ≡ false → unread s.job ≡ b ∷ unread r → IsPiece r → r.scanned ≡ s.job.scanned + 1 → r.reading ≡ s.job.reading
     → nat_eq b 10 ≡ false → ((raw : List ℕ) → HasLine s.line raw → HasLine l (raw ++ b ∷ [])) → ((raw : List ℕ) → HasLine s.line raw → KeepsDue l.due (more_served raw b)) → l.whole ≡ s.line.whole → a ≡ cond s.line.begun s.asking Nothing → HostFits (record s { job = r; line = l; asking = a }) (scanned b ∷ h)
-scanned_byte s r l a b h f may going next piece count reading other fed due whole asks = record {
-  conducted = (may_scan_next s r b h f may going next, f.conducted);
+scanned_byte s r l a b h f may going calm next piece count reading other fed due whole asks = record {
+  conducted = (may_scan_next s r b h f may going calm next, f.conducted);
   job_is = job_scanned s r b h f next piece count reading;
   line_is = subst (λ t. KeepsLine l (cond t [] (raw_of h ++ b ∷ [])) (cond t (plain (raw_of h) ++ 10 ∷ []) (to_store h))) (sym other) (record {
     scanning = λ e. let now = f.line_is.scanning may.scanning in (fed (raw_of h) now.0, now.1);
@@ -305,6 +317,7 @@ scanned_byte s r l a b h f may going next piece count reading other fed due whol
   polls_are = f.polls_are;
   held_is = f.held_is;
   greeted_is = f.greeted_is;
+  alarm_is = f.alarm_is;
   pause_is = f.pause_is ∙ ap (λ t. cond t (cond (pauses (raw_of h)) (length (cut_of h) + 1) (pause_of h)) (pause_of h)) (sym other);
   text_is = f.text_is;
   shut_is = f.shut_is;
@@ -312,10 +325,10 @@ scanned_byte s r l a b h f may going next piece count reading other fed due whol
   over = λ e. not_over s r b h f next e;
 }
 
-pub scanned_lf : (s : Host) (r : Reader) (l : SentLine) (c : Counts) (a : Asking) (b : ℕ) (h : Journal) → HostFits s h → MayScanOn s → s.shut ≡ false → unread s.job ≡ b ∷ unread r → IsPiece r → r.scanned ≡ s.job.scanned + 1 → r.reading ≡ s.job.reading
+pub scanned_lf : (s : Host) (r : Reader) (l : SentLine) (c : Counts) (a : Asking) (b : ℕ) (h : Journal) → HostFits s h → MayScanOn s → s.shut ≡ false → s.alarm ≡ false → unread s.job ≡ b ∷ unread r → IsPiece r → r.scanned ≡ s.job.scanned + 1 → r.reading ≡ s.job.reading
     → nat_eq b 10 ≡ true → KeepsLine l [] (plain (raw_of h) ++ 10 ∷ []) → l.due ≡ s.line.due → KeepsCounts c (cut_of h ++ raw_of h ∷ []) (got_of h) → c.pause_at ≡ cond (pauses (raw_of h)) (s.counts.lines + 1) s.counts.pause_at → a ≡ cond s.line.begun s.asking Nothing → HostFits (record s { job = r; line = l; counts = c; asking = a }) (scanned b ∷ h)
-scanned_lf s r l c a b h f may going next piece count reading lf line due counts pause asks = record {
-  conducted = (may_scan_next s r b h f may going next, f.conducted);
+scanned_lf s r l c a b h f may going calm next piece count reading lf line due counts pause asks = record {
+  conducted = (may_scan_next s r b h f may going calm next, f.conducted);
   job_is = job_scanned s r b h f next piece count reading;
   line_is = subst (λ t. KeepsLine l (cond t [] (raw_of h ++ b ∷ [])) (cond t (plain (raw_of h) ++ 10 ∷ []) (to_store h))) (sym lf) line;
   due_is = nothing_due l.due _ (due ∙ may.none_due) (ap (λ (d : List ℕ). d ++ more_served (raw_of h) b) (none_due_by s h f may.none_due) ∙ none_at_lf (raw_of h) b lf);
@@ -324,6 +337,7 @@ scanned_lf s r l c a b h f may going next piece count reading lf line due counts
   polls_are = f.polls_are;
   held_is = f.held_is;
   greeted_is = f.greeted_is;
+  alarm_is = f.alarm_is;
   pause_is =
       pause_behind_line s.counts c (raw_of h) (cut_of h) (got_of h) (pause_of h) f.counts_are f.pause_is pause
       ∙ ap (λ t. cond t (cond (pauses (raw_of h)) (length (cut_of h) + 1) (pause_of h)) (pause_of h)) (sym lf);
@@ -336,76 +350,8 @@ scanned_lf s r l c a b h f may going next piece count reading lf line due counts
 pub few_answers : (s : Host) (h : Journal) → HostFits s h → answers_in (got_of h) ≤ length (cut_of h)
 few_answers s h f = (sending.counts_are h f.conducted).1
 
--- ---- a byte is stored
-
-pub not_waiting : (a b : Asking) → a ≡ b → (a ≡ Awaits → ⊥) → is_waiting b ≡ false
-not_waiting a Nothing is none = refl
-not_waiting a Awaits is none = absurd (none is)
-not_waiting a HasOne is none = refl
-
-pub awaits_by : (a b : Asking) → a ≡ b → a ≡ Awaits → is_waiting b ≡ true
-awaits_by a b is e = ap is_waiting (sym is ∙ e)
-
-pub may_store : (s : Host) (b : ℕ) (h : Journal) → HostFits s h → s.line.whole ≡ true → (s.asking ≡ Awaits → ⊥) → s.counts.unanswered.total ≤ 128 → drop s.line.place (s.line.kept.items ++ 10 ∷ []) ≡ b ∷ drop (s.line.place + 1) (s.line.kept.items ++ 10 ∷ []) → MayStore b h
-may_store s b h f whole reported room next =
-    let left = (f.line_is.storing whole).left_is in
-    record {
-      next = left ∙ next ∙ ap (λ (t : List ℕ). b ∷ drop 1 t) (sym next ∙ sym left);
-      reported = not_waiting s.asking (asking_of h) f.asking_is reported;
-      room = (let t = total_is s h f in omega arith);
-    }
-
-pub takes_byte : (s : Host) (b : ℕ) (h : Journal) → HostFits s h → MayStore b h → TakesByte (port_log h)
-takes_byte s b h f may = record { going = open_is b h f.conducted may.next; few = (let n = sending.few_stored h f.conducted in omega arith) }
-
-pub not_dropped : (s : Host) (b : ℕ) (h : Journal) → HostFits s h → MayStore b h → SeemsFull (port_log h) → ⊥
-not_dropped s b h f may full = let l = sending.room_is b h f.conducted may in absurd (omega arith)
-
--- the line after the byte
-pub record Advances (l m : SentLine) : Type 0 where
-  pub more : l.place < length l.kept.items → m ≡ record l { place = l.place + 1 }
-  pub last : l.place ≡ length l.kept.items → HasLine m [] × (m.whole ≡ false)
-  pub due : m.due ≡ l.due
-
-line_stored : (l m : SentLine) (b : ℕ) (raw left : List ℕ) → l.whole ≡ true → Advances l m → IsStoring l raw left → drop l.place (l.kept.items ++ 10 ∷ []) ≡ b ∷ drop (l.place + 1) (l.kept.items ++ 10 ∷ []) → KeepsLine m raw (drop 1 left)
-line_stored l m b raw left whole stores is next = by_place (nat_lt l.place (length l.kept.items)) refl
-  where
-    rest : drop 1 left ≡ drop (l.place + 1) (l.kept.items ++ 10 ∷ [])
-    rest = ap (drop 1) (is.left_is ∙ next)
-
-    by_place : (t : Bool) → nat_lt l.place (length l.kept.items) ≡ t → KeepsLine m raw (drop 1 left)
-    by_place true e = let below : l.place < length l.kept.items = grind (arith, nat_tests) in rw (stores.more below) (record {
-      scanning = λ w. absurd (let g = sym whole ∙ w in cc);
-      storing = λ w. record { none = is.none; sends = is.sends; within = omega arith; left_is = rest };
-    })
-    by_place false e =
-        let at : l.place ≡ length l.kept.items = (let w = is.within in grind (arith, nat_tests)) in
-        let end = stores.last at in
-        let len = length-append l.kept.items (10 ∷ []) in
-        let none : drop 1 left ≡ [] = rest ∙ drop_all (l.place + 1) (l.kept.items ++ 10 ∷ []) (omega arith) in
-        record {
-          scanning = λ w. (subst (HasLine m) (sym is.none) end.0, none);
-          storing = λ w. absurd (let g = sym end.1 ∙ w in cc);
-        }
-
-pub stored_byte : (s : Host) (m : SentLine) (b : ℕ) (h : Journal) → HostFits s h → s.line.whole ≡ true → MayStore b h → Advances s.line m → drop s.line.place (s.line.kept.items ++ 10 ∷ []) ≡ b ∷ drop (s.line.place + 1) (s.line.kept.items ++ 10 ∷ [])
-    → HostFits (record s { line = m }) (at_port (stored b) ∷ h)
-stored_byte s m b h f whole may stores next = record {
-  conducted = (may, f.conducted);
-  job_is = f.job_is;
-  line_is = line_stored s.line m b (raw_of h) (to_store h) whole stores (f.line_is.storing whole) next;
-  due_is = subst (λ d. KeepsDue d (due_of h)) (sym stores.due) f.due_is;
-  asking_is = f.asking_is;
-  counts_are = f.counts_are;
-  polls_are = f.polls_are;
-  held_is = f.held_is;
-  greeted_is = f.greeted_is;
-  pause_is = f.pause_is;
-  text_is = f.text_is;
-  shut_is = f.shut_is;
-  bye_is = f.bye_is;
-  over = f.over;
-}
+pub few_answered : (s : Host) (h : Journal) → HostFits s h → (s.counts.answered ≡ answered_of h) × (answered_of h ≤ largest_job)
+few_answered s h f = let n = sending.counts_are h f.conducted in (f.counts_are.answered_is, omega arith)
 
 -- ---- the link is closed
 
@@ -455,9 +401,17 @@ has_sent s h f whole none no_scan no_read = record { free = (f.line_is.scanning 
     by_over true e = inl (ends_is s h f whole ∙ e)
     by_over false e = inr (no_more_by s h f no_scan no_read whole e none (reading_of h) refl (unscanned_of h) refl)
 
-pub closed : (s : Host) (h : Journal) → HostFits s h → s.line.whole ≡ false → s.shut ≡ false → s.line.due ≡ None → (MayScanOn s → ⊥) → (MayReadOn s → ⊥) → HostFits (record s { shut = true }) (at_port shut ∷ h)
-closed s h f whole going none no_scan no_read = record {
-  conducted = (record { going = sym f.shut_is ∙ going; sent = has_sent s h f whole none no_scan no_read; all_raised = none_due_by s h f none }, f.conducted);
+pub may_shut : (s : Host) (h : Journal) → HostFits s h → s.line.whole ≡ false → s.shut ≡ false → s.line.due ≡ None → (MayScanOn s → ⊥) → (MayReadOn s → ⊥) → MayShut h
+may_shut s h f whole going none no_scan no_read =
+    record { going = sym f.shut_is ∙ going; sent = inr (has_sent s h f whole none no_scan no_read); all_raised = inr (none_due_by s h f none) }
+
+-- behind an alarm it may be in any case
+pub may_shut_at_alarm : (s : Host) (h : Journal) → HostFits s h → s.shut ≡ false → s.alarm ≡ true → MayShut h
+may_shut_at_alarm s h f going alarm = let e = alarm_now s h f alarm in record { going = sym f.shut_is ∙ going; sent = inl e; all_raised = inl e }
+
+pub closed : (s : Host) (h : Journal) → HostFits s h → MayShut h → HostFits (record s { shut = true }) (at_port shut ∷ h)
+closed s h f may = record {
+  conducted = (may, f.conducted);
   job_is = f.job_is;
   line_is = f.line_is;
   due_is = f.due_is;
@@ -466,6 +420,7 @@ closed s h f whole going none no_scan no_read = record {
   polls_are = f.polls_are;
   held_is = f.held_is;
   greeted_is = f.greeted_is;
+  alarm_is = f.alarm_is;
   pause_is = f.pause_is;
   text_is = f.text_is;
   shut_is = refl;
@@ -518,6 +473,7 @@ wrote_some s w h now later f due took =
           polls_are = f.polls_are;
           held_is = f.held_is;
           greeted_is = f.greeted_is;
+          alarm_is = f.alarm_is;
           pause_is = f.pause_is;
           text_is = record {
             failed_is = ap (λ v. v.failed) left ∙ f.text_is.failed_is;
@@ -560,6 +516,7 @@ wrote_none s w h now later f due fault =
           polls_are = f.polls_are;
           held_is = f.held_is;
           greeted_is = f.greeted_is;
+          alarm_is = f.alarm_is;
           pause_is = f.pause_is;
           text_is = record {
             failed_is = gone;

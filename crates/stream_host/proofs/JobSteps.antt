@@ -20,7 +20,7 @@ use Rattle.stream_host.specs.Steps.Step.{read_some, read_end, read_failed, scann
 use Rattle.stream_host.specs.Conduct.{IsSettled, MayRead, HasWritten, moving}
 use Rattle.stream_host.specs.Hosts.{HostFits, KeepsLine, KeepsCounts, IsQuiet, MayReadOn, GaveBytes, GaveEnd, GaveNone, DidAlone, HostTellsOn, TellsJob, unread}
 use Rattle.stream_host.proofs.Keeping.{read_is}
-use Rattle.stream_host.proofs.Hosting.{none_due_by, none_due_now, nothing_due, ends_is, pause_behind_line, used_by, quiet_on, same_job}
+use Rattle.stream_host.proofs.Hosting.{calm_now, none_due_by, none_due_now, nothing_due, ends_is, pause_behind_line, used_by, quiet_on, same_job}
 
 -- ---- some bytes are scanned
 
@@ -68,8 +68,9 @@ did_scan s t h same (bytes, some, fits) = (
 pub used_up : (s : Host) (h : Journal) → HostFits s h → s.job.end ≤ s.job.place → unscanned_of h ≡ []
 used_up s h f used = sym f.job_is.left_is ∙ drop_all s.job.place (take s.job.end s.job.bytes) (let l = length-take s.job.end s.job.bytes in omega arith)
 
-pub may_read : (s : Host) (h : Journal) → HostFits s h → MayReadOn s → s.shut ≡ false → IsSettled h → HasWritten h → MayRead h
-may_read s h f may going settled written = record {
+pub may_read : (s : Host) (h : Journal) → HostFits s h → MayReadOn s → s.shut ≡ false → s.alarm ≡ false → IsSettled h → HasWritten h → MayRead h
+may_read s h f may going calm settled written = record {
+  calm = calm_now s h f calm;
   going = sym f.shut_is ∙ going;
   on = sym f.job_is.reading_is ∙ may.on;
   sends = ends_is s h f may.scanning ∙ may.sends;
@@ -113,10 +114,10 @@ never_failed false e = absurd cc
 still_reads : (h : Journal) → reading_of h ≡ Stopped → reading_of h ≢ Failed
 still_reads h on bad = absurd (let e = sym on ∙ bad in cc)
 
-pub did_read : (s : Host) (r : Reader) (h : Journal) (now later : SourceState) → HostFits s h → MayReadOn s → s.shut ≡ false → IsSettled h → HasWritten h → GaveBytes s.job r now later
+pub did_read : (s : Host) (r : Reader) (h : Journal) (now later : SourceState) → HostFits s h → MayReadOn s → s.shut ≡ false → s.alarm ≡ false → IsSettled h → HasWritten h → GaveBytes s.job r now later
     → (next : Journal) × DidAlone s (record s { job = r }) h next × ((console : SinkState) → HostTellsOn s (record s { job = r }) h next now later console console)
-did_read s r h now later f on going settled written gave =
-    let may = may_read s h f on going settled written in (
+did_read s r h now later f on going calm settled written gave =
+    let may = may_read s h f on going calm settled written in (
       read_some (unread r) ∷ h,
       record {
         fits = record {
@@ -136,6 +137,7 @@ did_read s r h now later f on going settled written gave =
           polls_are = f.polls_are;
           held_is = f.held_is;
           greeted_is = f.greeted_is;
+          alarm_is = f.alarm_is;
           pause_is = f.pause_is;
           text_is = f.text_is;
           shut_is = f.shut_is;
@@ -160,10 +162,10 @@ did_read s r h now later f on going settled written gave =
       },
     )
 
-pub did_fail : (s : Host) (r : Reader) (h : Journal) (now later : SourceState) → HostFits s h → MayReadOn s → s.shut ≡ false → IsSettled h → HasWritten h → GaveNone s.job r now later
+pub did_fail : (s : Host) (r : Reader) (h : Journal) (now later : SourceState) → HostFits s h → MayReadOn s → s.shut ≡ false → s.alarm ≡ false → IsSettled h → HasWritten h → GaveNone s.job r now later
     → (next : Journal) × DidAlone s (record s { job = r }) h next × ((console : SinkState) → HostTellsOn s (record s { job = r }) h next now later console console)
-did_fail s r h now later f on going settled written gave =
-    let may = may_read s h f on going settled written in (
+did_fail s r h now later f on going calm settled written gave =
+    let may = may_read s h f on going calm settled written in (
       read_failed ∷ h,
       record {
         fits = record {
@@ -176,6 +178,7 @@ did_fail s r h now later f on going settled written gave =
           polls_are = f.polls_are;
           held_is = f.held_is;
           greeted_is = f.greeted_is;
+          alarm_is = f.alarm_is;
           pause_is = f.pause_is;
           text_is = f.text_is;
           shut_is = f.shut_is;
@@ -216,10 +219,10 @@ none_begun (x ∷ xs) e = absurd (grind (arith, nat_tests))
 some_begun : (xs : List ℕ) → nat_lt 0 (length xs) ≡ true → 0 < length xs
 some_begun xs e = grind (arith, nat_tests)
 
-pub did_end : (s : Host) (r : Reader) (h : Journal) (now later : SourceState) → HostFits s h → MayReadOn s → s.shut ≡ false → IsSettled h → HasWritten h → s.line.begun ≡ false → GaveEnd s.job r now later
+pub did_end : (s : Host) (r : Reader) (h : Journal) (now later : SourceState) → HostFits s h → MayReadOn s → s.shut ≡ false → s.alarm ≡ false → IsSettled h → HasWritten h → s.line.begun ≡ false → GaveEnd s.job r now later
     → (next : Journal) × DidAlone s (record s { job = r }) h next × ((console : SinkState) → HostTellsOn s (record s { job = r }) h next now later console console)
-did_end s r h now later f on going settled written none gave =
-    let may = may_read s h f on going settled written in
+did_end s r h now later f on going calm settled written none gave =
+    let may = may_read s h f on going calm settled written in
     let raw : raw_of h ≡ [] = none_begun (raw_of h) (sym (f.line_is.scanning on.scanning).0.begun ∙ none) in (
       read_end ∷ h,
       record {
@@ -233,6 +236,7 @@ did_end s r h now later f on going settled written none gave =
           polls_are = f.polls_are;
           held_is = f.held_is;
           greeted_is = f.greeted_is;
+          alarm_is = f.alarm_is;
           pause_is = f.pause_is;
           text_is = f.text_is;
           shut_is = f.shut_is;
@@ -252,17 +256,18 @@ did_end s r h now later f on going settled written none gave =
     )
 
 -- the last line has no LF
-pub did_end_line : (s : Host) (r : Reader) (l : SentLine) (c : Counts) (h : Journal) (now later : SourceState) → HostFits s h → MayReadOn s → s.shut ≡ false → IsSettled h → HasWritten h → s.line.begun ≡ true → GaveEnd s.job r now later
+pub did_end_line : (s : Host) (r : Reader) (l : SentLine) (c : Counts) (h : Journal) (now later : SourceState) → HostFits s h → MayReadOn s → s.shut ≡ false → s.alarm ≡ false → IsSettled h → HasWritten h → s.line.begun ≡ true → GaveEnd s.job r now later
     → KeepsLine l [] (plain (raw_of h) ++ 10 ∷ []) → l.due ≡ s.line.due → KeepsCounts c (cut_of h ++ raw_of h ∷ []) (got_of h) → c.pause_at ≡ cond (pauses (raw_of h)) (s.counts.lines + 1) s.counts.pause_at
     → (next : Journal) × DidAlone s (record s { job = r; line = l; counts = c }) h next × ((console : SinkState) → HostTellsOn s (record s { job = r; line = l; counts = c }) h next now later console console)
-did_end_line s r l c h now later f on going settled written begun gave line due counts pause =
-    let may = may_read s h f on going settled written in (
+did_end_line s r l c h now later f on going calm settled written begun gave line due counts pause =
+    let may = may_read s h f on going calm settled written in (
       line_over ∷ read_end ∷ h,
       record {
         fits = record {
           conducted = (
             record {
               going = may.going;
+              calm = may.calm;
               at_end = refl;
               used = may.used;
               some = some_begun (raw_of h) (sym (f.line_is.scanning on.scanning).0.begun ∙ begun);
@@ -280,6 +285,7 @@ did_end_line s r l c h now later f on going settled written begun gave line due 
           polls_are = f.polls_are;
           held_is = f.held_is;
           greeted_is = f.greeted_is;
+          alarm_is = f.alarm_is;
           pause_is = pause_behind_line s.counts c (raw_of h) (cut_of h) (got_of h) (pause_of h) f.counts_are f.pause_is pause;
           text_is = f.text_is;
           shut_is = f.shut_is;

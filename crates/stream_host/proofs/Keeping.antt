@@ -1,5 +1,5 @@
 -- What a host that keeps to its rules has read, scanned and stored.
-use Rattle.std.proofs.Common.{◌≡◌, ℕ, ◌+◌, ◌-◌, ◌≤◌, ◌<◌, ◌⊎◌, inl, inr, Bool, true, false, cond, List, [], ◌∷◌, ◌++◌, length, map, take, drop, nat_eq, nat_lt, refl, sym, ap, ◌∙◌, arith, subst, append-nil, append_assoc, length-append}
+use Rattle.std.proofs.Common.{◌≡◌, ℕ, ◌+◌, ◌-◌, ◌≤◌, ◌<◌, ◌⊎◌, ◌||◌, inl, inr, Bool, true, false, cond, List, [], ◌∷◌, ◌++◌, length, map, take, drop, nat_eq, nat_lt, refl, sym, ap, ◌∙◌, arith, subst, append-nil, append_assoc, length-append}
 use Rattle.std.specs.List.{AllByRecursion, list_any}
 use Rattle.std.proofs.lemmas.Bool.Decides.{nat_tests}
 use Rattle.std.proofs.lemmas.Grind.{flat_map-append}
@@ -13,7 +13,10 @@ use Rattle.stream_host.specs.declared.Reading.{Reading}
 use Rattle.stream_host.specs.declared.Reading.TheVariants.{Ended, Large, Stopped}
 use Rattle.stream_host.specs.Links.{on_link}
 use Rattle.stream_host.specs.Jobs.{ends_sending, ends_in, but_last, MayHaveRead}
-use Rattle.stream_host.specs.Steps.{Step, Journal, stored_of, is_shut, read_of, reading_of, scanned_of, unscanned_of, raw_of, cut_of, to_store}
+use Rattle.std.proofs.lemmas.List.Folds.{list_any-append}
+use Rattle.status_report.specs.declared.Reply.{Reply}
+use Rattle.run_rules.specs.Work.{is_alarm}
+use Rattle.stream_host.specs.Steps.{Step, Journal, stored_of, got_of, has_alarm, is_shut, read_of, reading_of, scanned_of, unscanned_of, raw_of, cut_of, to_store}
 use Rattle.stream_host.specs.Steps.PortStep.{stored, dropped, raised, got, no_reply, shut}
 use Rattle.stream_host.specs.Steps.Step.{at_port, read_some, read_end, read_failed, scanned, line_over, wrote, gave_up, turned}
 use Rattle.stream_host.specs.Conduct.{Conducted, MayScanNext, HasSentAll}
@@ -233,33 +236,46 @@ reading_fits (wrote n ∷ h) c = reading_fits h c.1
 reading_fits (gave_up ∷ h) c = reading_fits h c.1
 reading_fits (turned t ∷ h) c = reading_fits h c.1
 
--- ---- a link that is closed has all that is sent
+-- ---- a link that is closed has all that is sent, where no alarm was got
+
+-- what holds but behind an alarm
+pub calm_one : (h : Journal) {A : Type 0} → has_alarm h ≡ false → (has_alarm h ≡ true) ⊎ A → A
+calm_one h calm (inl alarm) = absurd (let e = sym calm ∙ alarm in cc)
+calm_one h calm (inr a) = a
+
+-- no alarm was got before
+pub calm_before : (rs : List Reply) (r : Reply) → list_any is_alarm (rs ++ r ∷ []) ≡ false → list_any is_alarm rs ≡ false
+calm_before rs r e = by_any (list_any is_alarm rs) (list_any is_alarm (r ∷ [])) (sym (list_any-append is_alarm rs (r ∷ [])) ∙ e)
+  where
+    by_any : (a b : Bool) → (a || b) ≡ false → a ≡ false
+    by_any false b e = refl
+    by_any true b e = e
 
 -- a step that is only done while the link is open
 pub open_link : (h : Journal) {A : Type 0} → is_shut h ≡ false → is_shut h ≡ true → A
 open_link h going closed = absurd (let e = sym going ∙ closed in cc)
 
-pub shut_is : (h : Journal) → Conducted h → is_shut h ≡ true → HasSentAll h
-shut_is [] c e = absurd cc
-shut_is (at_port (stored b) ∷ h) c e = absurd (none_next (to_store h) b (shut_is h c.1 e).free c.0.next)
-shut_is (at_port (dropped b) ∷ h) c e = absurd c.0
-shut_is (at_port (raised b down) ∷ h) c e = let s = shut_is h c.1 e in record { free = s.free; all = s.all }
-shut_is (at_port (got r) ∷ h) c e = let s = shut_is h c.1 e in record { free = s.free; all = s.all }
-shut_is (at_port no_reply ∷ h) c e = let s = shut_is h c.1 e in record { free = s.free; all = s.all }
-shut_is (at_port shut ∷ h) c e = record { free = c.0.sent.free; all = c.0.sent.all }
-shut_is (read_some bytes ∷ h) c e = open_link h c.0.0.going e
-shut_is (read_end ∷ h) c e = open_link h c.0.going e
-shut_is (read_failed ∷ h) c e = open_link h c.0.going e
-shut_is (scanned b ∷ h) c e = open_link h c.0.going e
-shut_is (line_over ∷ h) c e = open_link h c.0.going e
-shut_is (wrote n ∷ h) c e = let s = shut_is h c.1 e in record { free = s.free; all = s.all }
-shut_is (gave_up ∷ h) c e = let s = shut_is h c.1 e in record { free = s.free; all = s.all }
-shut_is (turned t ∷ h) c e = let s = shut_is h c.1 e in record { free = s.free; all = s.all }
+pub shut_is : (h : Journal) → Conducted h → is_shut h ≡ true → has_alarm h ≡ false → HasSentAll h
+shut_is [] c e calm = absurd cc
+shut_is (at_port (stored b) ∷ h) c e calm = absurd (none_next (to_store h) b (shut_is h c.1 e calm).free c.0.next)
+shut_is (at_port (dropped b) ∷ h) c e calm = absurd c.0
+shut_is (at_port (raised b down) ∷ h) c e calm = let s = shut_is h c.1 e calm in record { free = s.free; all = s.all }
+shut_is (at_port (got r) ∷ h) c e calm = let s = shut_is h c.1 e (calm_before (got_of h) r calm) in record { free = s.free; all = s.all }
+shut_is (at_port no_reply ∷ h) c e calm = let s = shut_is h c.1 e calm in record { free = s.free; all = s.all }
+shut_is (at_port shut ∷ h) c e calm = let s = calm_one h calm c.0.sent in record { free = s.free; all = s.all }
+shut_is (read_some bytes ∷ h) c e calm = open_link h c.0.0.going e
+shut_is (read_end ∷ h) c e calm = open_link h c.0.going e
+shut_is (read_failed ∷ h) c e calm = open_link h c.0.going e
+shut_is (scanned b ∷ h) c e calm = open_link h c.0.going e
+shut_is (line_over ∷ h) c e calm = open_link h c.0.going e
+shut_is (wrote n ∷ h) c e calm = let s = shut_is h c.1 e calm in record { free = s.free; all = s.all }
+shut_is (gave_up ∷ h) c e calm = let s = shut_is h c.1 e calm in record { free = s.free; all = s.all }
+shut_is (turned t ∷ h) c e calm = let s = shut_is h c.1 e calm in record { free = s.free; all = s.all }
 
 -- nothing is stored behind the closing
-pub open_is : (b : ℕ) (h : Journal) → Conducted h → to_store h ≡ b ∷ drop 1 (to_store h) → is_shut h ≡ false
-open_is b h c next = by_shut (is_shut h) refl
+pub open_is : (b : ℕ) (h : Journal) → Conducted h → has_alarm h ≡ false → to_store h ≡ b ∷ drop 1 (to_store h) → is_shut h ≡ false
+open_is b h c calm next = by_shut (is_shut h) refl
   where
     by_shut : (t : Bool) → is_shut h ≡ t → t ≡ false
     by_shut false e = refl
-    by_shut true e = absurd (none_next (to_store h) b (shut_is h c e).free next)
+    by_shut true e = absurd (none_next (to_store h) b (shut_is h c e calm).free next)

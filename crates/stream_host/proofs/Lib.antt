@@ -1,5 +1,6 @@
 pub mod Counting
 pub mod Hosting
+pub mod Storing
 pub mod Replying
 pub mod JobSteps
 pub mod Turns
@@ -10,8 +11,10 @@ pub mod Pieces
 pub mod Keeping
 pub mod Sending
 pub mod Raising
+pub mod Alarming
 pub mod Resetting
 pub mod Waiting
 pub mod Reporting
 pub mod Example
+pub mod AlarmExample
 pub mod Running

@@ -1,9 +1,8 @@
 -- What is raised is scanned, but for the resumes of the host's own.
-use Rattle.std.proofs.Common.{◌≡◌, ℕ, ◌+◌, ◌*◌, ◌≤◌, ◌<◌, ◌⊎◌, ◌||◌, inl, inr, Bool, true, false, cond, List, [], ◌∷◌, ◌++◌, length, drop, nat_eq, nat_lt, refl, sym, ap, ◌∙◌, arith, subst, append-nil, append_assoc, length-append}
+use Rattle.std.proofs.Common.{◌≡◌, ℕ, ◌+◌, ◌*◌, ◌≤◌, ◌<◌, ◌⊎◌, ◌||◌, inl, inr, Bool, true, false, cond, List, [], ◌∷◌, ◌++◌, length, drop, nat_eq, nat_lt, refl, sym, ap, ◌∙◌, arith, append-nil, append_assoc, length-append}
 use Rattle.std.specs.List.{count_by, filter, flat_map, list_any}
 use Rattle.std.proofs.lemmas.Bool.Decides.{nat_tests}
 use Rattle.std.proofs.lemmas.Grind.{flat_map-append}
-use Rattle.std.proofs.lemmas.List.Elements.{filter-append}
 use Rattle.std.proofs.lemmas.List.Folds.{list_any-append}
 use Rattle.std.proofs.lemmas.List.Sums.{sum_by-append, length-filter, count_by-le-length}
 use Rattle.std.proofs.Math.Seq.{drop-append_seam}
@@ -18,28 +17,27 @@ use Rattle.stream_host.specs.Hosts.{KeepsDue}
 use Rattle.gcode_words.proofs.Scanning.{shown}
 use Rattle.gcode_words.proofs.Fed.{realtime-append}
 use Rattle.run_rules.proofs.Cutting.{lines_are, some_bytes}
-use Rattle.stream_host.specs.Jobs.{resume, is_served, is_reset, holds_reset, served, served_in}
-use Rattle.stream_host.specs.Steps.{Journal, port_log, is_shut, scanned_of, raw_of, cut_of, to_store, due_of, more_served, empty_polls, polls_of, raises_of, line_raises_of, resumes_of, resumes_next, all_empty_in}
+use Rattle.stream_host.specs.Jobs.{resume, is_reset, holds_reset, served, served_in}
+use Rattle.stream_host.specs.Steps.{Journal, port_log, got_of, has_alarm, is_shut, scanned_of, raw_of, cut_of, to_store, due_of, more_served, empty_polls, polls_of, raises_of, line_raises_of, resumes_of, resumes_next, all_empty_in}
 use Rattle.stream_host.specs.Steps.PortStep.{stored, dropped, raised, got, no_reply, shut}
 use Rattle.stream_host.specs.Steps.Step.{at_port, read_some, read_end, read_failed, scanned, line_over, wrote, gave_up, turned}
-use Rattle.stream_host.specs.Conduct.{Conducted, AreAnswered, MayStore, Waits}
+use Rattle.stream_host.specs.Conduct.{Conducted, AreAnswered, MayStore, Waits, waits_for_lines}
 use Rattle.stream_host.specs.Ports.{queries_in}
 use Rattle.stream_host.specs.Ran.{AreRaised}
 use Rattle.stream_host.proofs.Links.{realtime_nil}
-use Rattle.stream_host.proofs.Keeping.{IsCut, cut_is, open_link}
+use Rattle.stream_host.proofs.Keeping.{IsCut, cut_is, open_link, calm_before, calm_one}
 
 -- ---- the realtime bytes of a line
 
 pub served_nil : served [] ≡ []
-served_nil = ap (filter is_served) realtime_nil
+served_nil = realtime_nil
 
 more_of : List ℕ → ℕ → List ℕ
-more_of raw b = filter is_served (filter is_realtime (shown (comment_after raw) (b ∷ [])))
+more_of raw b = filter is_realtime (shown (comment_after raw) (b ∷ []))
 
 served_more : (raw : List ℕ) (b : ℕ) → served (raw ++ b ∷ []) ≡ served raw ++ more_of raw b
 unfolding more_of
-served_more raw b =
-    ap (filter is_served) (realtime-append raw (b ∷ [])) ∙ filter-append is_served (realtime raw) (filter is_realtime (shown (comment_after raw) (b ∷ [])))
+served_more raw b = realtime-append raw (b ∷ [])
 
 more_is : (raw : List ℕ) (b : ℕ) → more_served raw b ≡ more_of raw b
 more_is raw b = ap (drop (length (served raw))) (served_more raw b) ∙ drop-append_seam (served raw) (more_of raw b)
@@ -53,8 +51,8 @@ pub more_by : (raw : List ℕ) (b : ℕ) (more : List ℕ) → served (raw ++ b 
 more_by raw b more is = ap (drop (length (served raw))) is ∙ drop-append_seam (served raw) more
 
 -- so it is by what a stripper has taken of the byte
-pub due_more : (raw : List ℕ) (b : ℕ) (a : Stripped) (d : Option ℕ) → realtime (raw ++ b ∷ []) ≡ realtime raw ++ taken_by a → KeepsDue d (filter is_served (taken_by a)) → KeepsDue d (more_served raw b)
-due_more raw b a d taken due = subst (KeepsDue d) (sym (more_by raw b (filter is_served (taken_by a)) (ap (filter is_served) taken ∙ filter-append is_served (realtime raw) (taken_by a)))) due
+pub due_more : (raw : List ℕ) (b : ℕ) (a : Stripped) (d : Option ℕ) → realtime (raw ++ b ∷ []) ≡ realtime raw ++ taken_by a → KeepsDue d (taken_by a) → KeepsDue d (more_served raw b)
+due_more raw b a d taken due = due ∙ sym (more_by raw b (taken_by a) taken)
 
 -- a line has a reset where it had one, or the byte is one
 pub reset_more : (raw : List ℕ) (b : ℕ) (a : Stripped) (old is : Bool) → realtime (raw ++ b ∷ []) ≡ realtime raw ++ taken_by a → old ≡ holds_reset raw → is ≡ list_any is_reset (taken_by a)
@@ -65,12 +63,12 @@ reset_more raw b a old is taken was now =
 -- a line feed is none
 pub none_at_lf : (raw : List ℕ) (b : ℕ) → nat_eq b 10 ≡ true → more_served raw b ≡ []
 unfolding more_of
-none_at_lf raw b e = more_is raw b ∙ ap (λ c. filter is_served (filter is_realtime (shown (comment_after raw) (c ∷ [])))) (lf b e) ∙ by_comment (comment_after raw)
+none_at_lf raw b e = more_is raw b ∙ ap (λ c. filter is_realtime (shown (comment_after raw) (c ∷ []))) (lf b e) ∙ by_comment (comment_after raw)
   where
     lf : (b : ℕ) → nat_eq b 10 ≡ true → b ≡ 10
     lf b e = grind (arith, nat_tests)
 
-    by_comment : (s : Comment) → filter is_served (filter is_realtime (shown s (10 ∷ []))) ≡ []
+    by_comment : (s : Comment) → filter is_realtime (shown s (10 ∷ [])) ≡ []
     by_comment Outside = refl
     by_comment Paren = refl
     by_comment Semicolon = refl
@@ -268,41 +266,39 @@ none_due_first b h c may = elim (calm_is h c) [
   | inr none ↦ none
 ]
 
-pub none_due_shut : (h : Journal) → Conducted h → is_shut h ≡ true → due_of h ≡ []
-none_due_shut [] c e = absurd cc
-none_due_shut (at_port (stored b) ∷ h) c e = none_due_shut h c.1 e
-none_due_shut (at_port (dropped b) ∷ h) c e = absurd c.0
-none_due_shut (at_port (raised b down) ∷ h) c e = still_none (resumes_next (port_log h)) (due_of h) (none_due_shut h c.1 e)
-none_due_shut (at_port (got r) ∷ h) c e = none_due_shut h c.1 e
-none_due_shut (at_port no_reply ∷ h) c e = none_due_shut h c.1 e
-none_due_shut (at_port shut ∷ h) c e = c.0.all_raised
-none_due_shut (read_some bytes ∷ h) c e = open_link h c.0.0.going e
-none_due_shut (read_end ∷ h) c e = open_link h c.0.going e
-none_due_shut (read_failed ∷ h) c e = open_link h c.0.going e
-none_due_shut (scanned b ∷ h) c e = open_link h c.0.going e
-none_due_shut (line_over ∷ h) c e = open_link h c.0.going e
-none_due_shut (wrote n ∷ h) c e = none_due_shut h c.1 e
-none_due_shut (gave_up ∷ h) c e = none_due_shut h c.1 e
-none_due_shut (turned t ∷ h) c e = none_due_shut h c.1 e
+pub none_due_shut : (h : Journal) → Conducted h → is_shut h ≡ true → has_alarm h ≡ false → due_of h ≡ []
+none_due_shut [] c e calm = absurd cc
+none_due_shut (at_port (stored b) ∷ h) c e calm = none_due_shut h c.1 e calm
+none_due_shut (at_port (dropped b) ∷ h) c e calm = absurd c.0
+none_due_shut (at_port (raised b down) ∷ h) c e calm = still_none (resumes_next (port_log h)) (due_of h) (none_due_shut h c.1 e calm)
+none_due_shut (at_port (got r) ∷ h) c e calm = none_due_shut h c.1 e (calm_before (got_of h) r calm)
+none_due_shut (at_port no_reply ∷ h) c e calm = none_due_shut h c.1 e calm
+none_due_shut (at_port shut ∷ h) c e calm = calm_one h calm c.0.all_raised
+none_due_shut (read_some bytes ∷ h) c e calm = open_link h c.0.0.going e
+none_due_shut (read_end ∷ h) c e calm = open_link h c.0.going e
+none_due_shut (read_failed ∷ h) c e calm = open_link h c.0.going e
+none_due_shut (scanned b ∷ h) c e calm = open_link h c.0.going e
+none_due_shut (line_over ∷ h) c e calm = open_link h c.0.going e
+none_due_shut (wrote n ∷ h) c e calm = none_due_shut h c.1 e calm
+none_due_shut (gave_up ∷ h) c e calm = none_due_shut h c.1 e calm
+none_due_shut (turned t ∷ h) c e calm = none_due_shut h c.1 e calm
 
-resumes_only : resume ≡ query → ⊥
+resumes_only : waits_for_lines resume ≡ true → ⊥
 resumes_only e = cc
 
--- a host that waits may raise no byte that is due: it is a `?`, and a line before its own has no answer
-pub early_waiting : (b : ℕ) (h : Journal) → Conducted h → Waits h → due_of h ≡ b ∷ drop 1 (due_of h) → (b ≡ query → AreAnswered h) → ⊥
-early_waiting b h c w next after = by_polls (nat_eq (polls_of h) empty_polls) refl
+-- a host that waits may raise no byte that is due: it is a `?` or a cancel, and a line before its own has no answer
+pub early_waiting : (b : ℕ) (h : Journal) → Conducted h → has_alarm h ≡ false → Waits h → due_of h ≡ b ∷ drop 1 (due_of h) → (waits_for_lines b ≡ true → AreAnswered h) → ⊥
+early_waiting b h c calm w next after = by_polls (nat_eq (polls_of h) empty_polls) refl
   where
     by_polls : (t : Bool) → nat_eq (polls_of h) empty_polls ≡ t → ⊥
-    by_polls true e = w.no_raise resume (record { resumes = λ n. refl; next = λ fewer. absurd (let n = is_enough (polls_of h) e in omega arith); after = λ q. absurd (resumes_only q) })
-    by_polls false e = w.no_raise b (record { resumes = λ n. absurd (let m = is_fewer (polls_of h) (few_polls h c) e in omega arith); next = λ fewer. next; after = after })
+    by_polls true e = w.no_raise resume (record { resumes = λ n. refl; calm = λ fewer. calm; next = λ fewer. absurd (let n = is_enough (polls_of h) e in omega arith); after = λ q. absurd (resumes_only q) })
+    by_polls false e = w.no_raise b (record { resumes = λ n. absurd (let m = is_fewer (polls_of h) (few_polls h c) e in omega arith); calm = λ fewer. calm; next = λ fewer. next; after = after })
 
 -- ---- the reports that are asked for
 
 pub one_more : (raw : List ℕ) (b : ℕ) → length (more_served raw b) ≤ 1
 unfolding more_of
 one_more raw b =
-    let outer = length-filter is_served (filter is_realtime (shown (comment_after raw) (b ∷ []))) in
-    let few = count_by-le-length is_served (filter is_realtime (shown (comment_after raw) (b ∷ []))) in
     let inner = length-filter is_realtime (shown (comment_after raw) (b ∷ [])) in
     let fewer = count_by-le-length is_realtime (shown (comment_after raw) (b ∷ [])) in
     let same = ap length (more_is raw b) in

@@ -27,6 +27,7 @@ use Rattle.outside.proofs.Written.{more_waits}
 use Rattle.status_report.specs.declared.Reply.TheVariants as replies
 use Rattle.status_report.specs.Replies.{reply_text}
 use Rattle.run_rules.specs.Told.{replies_text, is_error, errors_among}
+use Rattle.run_rules.specs.Work.{is_alarm}
 use Rattle.text_writer.specs.Writers.{with_text, with_all_asked}
 use Rattle.stream_host.specs.Steps.{has_given_up}
 use Rattle.stream_host.specs.Hosts.{shown}
@@ -91,8 +92,8 @@ few_counted s h f =
 text_push : (rs : List Reply) (r : Reply) → replies_text (rs ++ r ∷ []) ≡ replies_text rs ++ reply_text r
 text_push rs r = flat_map-append reply_text rs (r ∷ []) ∙ ap (λ t. replies_text rs ++ t) (append-nil (reply_text r))
 
-bye_push : (rs : List Reply) (r : Reply) → list_any is_bye (rs ++ r ∷ []) ≡ (list_any is_bye rs || is_bye r)
-bye_push rs r = list_any-append is_bye rs (r ∷ []) ∙ ap (λ b. list_any is_bye rs || b) (or_none (is_bye r))
+any_push : (p : Reply → Bool) (rs : List Reply) (r : Reply) → list_any p (rs ++ r ∷ []) ≡ (list_any p rs || p r)
+any_push p rs r = list_any-append p rs (r ∷ []) ∙ ap (λ b. list_any p rs || b) (or_none (p r))
   where
     or_none : (b : Bool) → (b || false) ≡ b
     or_none true = refl
@@ -128,16 +129,16 @@ got_text s w r h f going is = record {
       ∙ ap (λ t. t ++ reply_text r) (f.text_is.waits well) ∙ sym (drop-append-le (written_of h) (text_of h) (reply_text r) f.text_is.within)
       ∙ ap (drop (written_of h)) (sym (text_push (got_of h) r));
   within = (let l = ap length (text_push (got_of h) r) in let m = length-append (text_of h) (reply_text r) in let n = f.text_is.within in omega arith);
-  all_asked = λ e. ap (λ v. v.asked) is ∙ shown_asked s.text r (has_bye h) (sym f.bye_is ∙ going) (sym (bye_push (got_of h) r) ∙ e);
+  all_asked = λ e. ap (λ v. v.asked) is ∙ shown_asked s.text r (has_bye h) (sym f.bye_is ∙ going) (sym (any_push is_bye (got_of h) r) ∙ e);
 }
 
 -- some reply is got
 some_got : (rs : List Reply) (r : Reply) → true ≡ nat_lt 0 (length (rs ++ r ∷ []))
 some_got rs r = let l = length-append rs (r ∷ []) in grind (arith, nat_tests, l)
 
-pub got_reply : (s : Host) (w : Writing) (c : Counts) (a : Asking) (bye : Bool) (r : Reply) (h : Journal) → HostFits s h → s.bye ≡ false → AnswersLines (got r ∷ port_log h) → w ≡ shown s.text r → bye ≡ (s.bye || is_bye r)
-    → KeepsCounts c (cut_of h) (got_of h ++ r ∷ []) → c.pause_at ≡ s.counts.pause_at → a ≡ cond (is_report r) (got_one s.asking) s.asking → HostFits (record s { text = w; counts = c; asking = a; polls = 0; bye = bye; greeted = true }) (at_port (got r) ∷ h)
-got_reply s w c a bye r h f going lines text is counts pause asks = record {
+pub got_reply : (s : Host) (w : Writing) (c : Counts) (a : Asking) (bye alarm : Bool) (r : Reply) (h : Journal) → HostFits s h → s.bye ≡ false → AnswersLines (got r ∷ port_log h) → w ≡ shown s.text r → bye ≡ (s.bye || is_bye r) → alarm ≡ (s.alarm || is_alarm r)
+    → KeepsCounts c (cut_of h) (got_of h ++ r ∷ []) → c.pause_at ≡ s.counts.pause_at → a ≡ cond (is_report r) (got_one s.asking) s.asking → HostFits (record s { text = w; counts = c; asking = a; polls = 0; bye = bye; greeted = true; alarm = alarm }) (at_port (got r) ∷ h)
+got_reply s w c a bye alarm r h f going lines text is alarms counts pause asks = record {
   conducted = (record { poll = record { going = sym f.bye_is ∙ going; rested = f.polls_are.few }; few = lines }, f.conducted);
   job_is = f.job_is;
   line_is = f.line_is;
@@ -147,10 +148,11 @@ got_reply s w c a bye r h f going lines text is counts pause asks = record {
   polls_are = record { polls_are = refl; few = omega arith };
   held_is = f.held_is;
   greeted_is = some_got (got_of h) r;
+  alarm_is = alarms ∙ ap (λ b. b || is_alarm r) f.alarm_is ∙ sym (any_push is_alarm (got_of h) r);
   pause_is = pause ∙ f.pause_is;
   text_is = got_text s w r h f going text;
   shut_is = f.shut_is;
-  bye_is = is ∙ ap (λ b. b || is_bye r) f.bye_is ∙ sym (bye_push (got_of h) r);
+  bye_is = is ∙ ap (λ b. b || is_bye r) f.bye_is ∙ sym (any_push is_bye (got_of h) r);
   over = f.over;
 }
 

@@ -5,19 +5,17 @@ use Rattle.std.proofs.lemmas.Bool.Decides.{nat_tests}
 use Rattle.std.proofs.lemmas.List.{get_or_append_left, get_or_push, same_from_push, reverse-append}
 use Rattle.std.proofs.lemmas.List.Folds.{list_any-append}
 use Rattle.std.proofs.lemmas.List.Sorted.{sum_by-IsPermutation, IsPermutation-reverse}
-use Rattle.std.proofs.lemmas.Map.Views.{any-filter_same}
 use Rattle.code_table.specs.Tables.{query}
-use Rattle.gcode_words.specs.Stripping.{realtime}
 use Rattle.status_report.specs.declared.Reply.{Reply}
 use Rattle.status_report.specs.Answering.{answers_in, is_answer, is_report}
 use Rattle.run_rules.specs.Reports.{is_query, asks_report, reports_behind, AreReported}
 use Rattle.stream_host.specs.declared.line.Asking.{Asking}
 use Rattle.stream_host.specs.declared.line.Asking.TheVariants.{Nothing, Awaits, HasOne}
-use Rattle.stream_host.specs.Jobs.{resume, is_served, served}
+use Rattle.stream_host.specs.Jobs.{resume, served}
 use Rattle.stream_host.specs.Steps.{asked_more, got_one, is_waiting, awaits_report, more_served, Journal, got_of, answered_of, raw_of, cut_of, to_store, begun_of, due_of, asking_of, polls_of, empty_polls}
 use Rattle.stream_host.specs.Steps.PortStep.{stored, dropped, raised, got, no_reply, shut}
 use Rattle.stream_host.specs.Steps.Step.{at_port, read_some, read_end, read_failed, scanned, line_over, wrote, gave_up, turned}
-use Rattle.stream_host.specs.Conduct.{Conducted, MayRaise, MayScanNext, MayEndLine}
+use Rattle.stream_host.specs.Conduct.{Conducted, MayRaise, MayScanNext, MayEndLine, waits_for_lines}
 use Rattle.stream_host.proofs.Sending.{counts_are, answers_push}
 use Rattle.stream_host.proofs.Raising.{served_nil, served_on, none_at_lf, few_polls, is_enough, is_fewer}
 use Rattle.stream_host.proofs.Waiting.{IsFresh, IsBegun, begun_is, all_begun, few_fresh}
@@ -89,7 +87,7 @@ no_query b false due tired next none = by_or (nat_eq b query) (has_query (drop 1
 raised_asked : (b : ℕ) (down : Bool) (h : Journal) → Conducted h → MayRaise b h → AreAsked h → AreAsked (at_port (raised b down) ∷ h)
 raised_asked b down h c may was = (
   (λ some. on_raise b (nat_eq (polls_of h) empty_polls) (nat_eq b query) (asking_of h) (due_of h) (raw_of h) (length (cut_of h)) (reports_in (length (cut_of h)) (got_of h)) (answered_of h) refl tired next
-      (λ e. let f = may.after (is_same b e) in omega arith) (was.0 some)),
+      (λ e. let f = may.after (ap waits_for_lines (is_same b e)) in omega arith) (was.0 some)),
   (λ f. let w = was.1 f in let n = no_query b (nat_eq (polls_of h) empty_polls) (due_of h) tired next w.1 in (
     on_raise b (nat_eq (polls_of h) empty_polls) (nat_eq b query) (asking_of h) (due_of h) f.line (length (begun_of h)) (reports_in (length (begun_of h)) (got_of h)) (answered_of h) refl tired next
         (λ e. absurd (let g = sym n.0 ∙ e in cc)) w.0,
@@ -317,10 +315,7 @@ begun_have (turned t ∷ h) c = begun_have h c.1
 -- a `?` outside comments is raised
 asks_is : (line : List ℕ) → asks line ≡ asks_report line
 unfolding asks
-asks_is line = any-filter_same is_query is_served true (λ b e. ap is_served (is_same b e)) (realtime line)
-  where
-    is_same : (b : ℕ) → is_query b ≡ true → b ≡ query
-    is_same b e = grind (arith, nat_tests)
+asks_is line = refl
 
 -- each line that asks for a report and has its answer has a report behind the answers to the lines before it
 pub reported_is : (h : Journal) → Conducted h → AreReported (cut_of h) (got_of h)

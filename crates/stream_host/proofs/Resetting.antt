@@ -1,15 +1,15 @@
--- A host that has raised a reset has sent all that it sends.
-use Rattle.std.proofs.Common.{◌≡◌, ℕ, ◌≤◌, ◌⊎◌, ◌||◌, inl, inr, Bool, true, false, cond, List, [], ◌∷◌, ◌++◌, length, drop, nat_eq, refl, sym, ap, ◌∙◌, subst, arith}
-use Rattle.std.specs.List.{filter, list_any}
+-- A host that has raised a reset has sent all that it sends, and so has one that has closed the link and has got no alarm.
+use Rattle.std.proofs.Common.{◌≡◌, ℕ, ◌≤◌, ◌⊎◌, ◌||◌, ◌&&◌, inl, inr, Bool, true, false, not, cond, List, [], ◌∷◌, ◌++◌, length, drop, nat_eq, refl, sym, ap, ◌∙◌, subst, arith}
+use Rattle.std.specs.List.{list_any}
 use Rattle.std.proofs.lemmas.Bool.Decides.{nat_tests}
 use Rattle.std.proofs.lemmas.List.Folds.{list_any-append}
-use Rattle.gcode_words.specs.Stripping.{realtime}
-use Rattle.stream_host.specs.Jobs.{is_served, is_reset, is_long, holds_reset, ends_sending, served}
-use Rattle.stream_host.specs.Steps.{Journal, port_log, is_shut, raw_of, to_store, due_of, more_served, empty_polls, polls_of, raises_of, resumes_next}
+use Rattle.stream_host.specs.Jobs.{is_reset, is_long, holds_reset, ends_sending, served}
+use Rattle.stream_host.specs.Steps.{Journal, port_log, got_of, answered_of, has_alarm, job_stop_of, or_alarm, stop_of, is_shut, reading_of, raw_of, cut_of, to_store, due_of, more_served, empty_polls, polls_of, raises_of, resumes_next}
 use Rattle.stream_host.specs.Steps.PortStep.{stored, dropped, raised, got, no_reply, shut}
 use Rattle.stream_host.specs.Steps.Step.{at_port, read_some, read_end, read_failed, scanned, line_over, wrote, gave_up, turned}
 use Rattle.stream_host.specs.Conduct.{Conducted, HasSentAll, MayRaise}
 use Rattle.stream_host.specs.Ran.{is_sent_out}
+use Rattle.stream_host.proofs.Alarming.{other_cause}
 use Rattle.stream_host.proofs.Keeping.{shut_is}
 use Rattle.stream_host.proofs.Raising.{calm_is, few_polls, is_enough, is_fewer, none_at_lf, none_due_shut, one_more, served_on, still_none}
 
@@ -64,22 +64,6 @@ due_is (turned t ∷ h) c = due_is h c.1
 
 -- ---- a reset
 
-or_more : (u a b : Bool) → (a ≡ true → b ≡ true) → (u || a) ≡ true → (u || b) ≡ true
-or_more true a b on e = refl
-or_more false a b on e = on e
-
-or_rest : (u b : Bool) → b ≡ true → (u || b) ≡ true
-or_rest true b e = refl
-or_rest false b e = e
-
-kept_step : (p : ℕ → Bool) (x : ℕ) (xs ys : List ℕ) (t : Bool) → (list_any p ys ≡ true → list_any p xs ≡ true) → list_any p (cond t (x ∷ ys) ys) ≡ true → (p x || list_any p xs) ≡ true
-kept_step p x xs ys true on e = or_more (p x) (list_any p ys) (list_any p xs) on e
-kept_step p x xs ys false on e = or_rest (p x) (list_any p xs) (on e)
-
-some_kept : (p q : ℕ → Bool) (xs : List ℕ) → list_any p (filter q xs) ≡ true → list_any p xs ≡ true
-some_kept p q [] some = some
-some_kept p q (x ∷ xs) some = kept_step p x xs (filter q xs) (q x) (some_kept p q xs) some
-
 or_last : (a b : Bool) → b ≡ true → (a || b) ≡ true
 or_last true b e = refl
 or_last false b e = e
@@ -104,7 +88,7 @@ by_reset b down h c may reset false e = by_due (due_is h c)
     by_due (inl none) = absurd (let f = sym none ∙ next in cc)
     by_due (inr some) =
         let same : some.0 ≡ b = (let f = sym some.1 ∙ next in cc) in
-        let holds : holds_reset (raw_of h) ≡ true = some_kept is_reset is_served (realtime (raw_of h)) (subst (λ x. list_any (is_same x) (served (raw_of h)) ≡ true) (same ∙ byte) some.2) in (
+        let holds : holds_reset (raw_of h) ≡ true = subst (λ x. list_any (is_same x) (served (raw_of h)) ≡ true) (same ∙ byte) some.2 in (
           by_calm (calm_is h c),
           (or_last (is_long (raw_of h)) (holds_reset (raw_of h)) holds, ap (drop 1) some.1),
         )
@@ -148,14 +132,21 @@ reset_is (turned t ∷ h) c e = let s = reset_is h c.1 e in record { free = s.fr
 pub reset_sent : (h : Journal) → Conducted h → list_any is_reset (raises_of h) ≡ true → HasSentAll h
 reset_sent h c e = let s = reset_is h c e in record { free = s.free; all = inl s.ends }
 
--- all is sent, and nothing is due, where the link is closed too
+-- all is sent, nothing is due, and an alarm is no cause
 pub record IsSentOut (h : Journal) : Type 0 where
   pub all : HasSentAll h
   pub none_due : due_of h ≡ []
+  pub stop : stop_of h ≡ job_stop_of h
 
-pub sent_out : (h : Journal) → Conducted h → is_sent_out (is_shut h) (raises_of h) ≡ true → IsSentOut h
-sent_out h c out = by_shut (is_shut h) refl out
+pub sent_out : (h : Journal) → Conducted h → is_sent_out (is_shut h) (raises_of h) (got_of h) ≡ true → IsSentOut h
+sent_out h c out = by_shut (is_shut h) (has_alarm h) refl refl out
   where
-    by_shut : (t : Bool) → is_shut h ≡ t → (t || list_any is_reset (raises_of h)) ≡ true → IsSentOut h
-    by_shut true e out = record { all = shut_is h c e; none_due = none_due_shut h c e }
-    by_shut false e out = record { all = reset_sent h c out; none_due = (reset_is h c out).none_due }
+    by_reset : list_any is_reset (raises_of h) ≡ true → IsSentOut h
+    by_reset e =
+        let s = reset_is h c e in
+        record { all = reset_sent h c e; none_due = s.none_due; stop = other_cause (has_alarm h) (answered_of h) (reading_of h) (raw_of h) (length (cut_of h)) s.ends }
+
+    by_shut : (t u : Bool) → is_shut h ≡ t → has_alarm h ≡ u → ((t && not u) || list_any is_reset (raises_of h)) ≡ true → IsSentOut h
+    by_shut true false e calm out = record { all = shut_is h c e calm; none_due = none_due_shut h c e calm; stop = ap (λ b. or_alarm b (answered_of h) (job_stop_of h)) calm }
+    by_shut true true e calm out = by_reset out
+    by_shut false u e calm out = by_reset out

@@ -9,12 +9,12 @@ use Rattle.outside.specs.Writing.{Wrote, Took}
 use Rattle.stream_host.specs.declared.Reading.{Reading}
 use Rattle.stream_host.specs.declared.Reading.TheVariants.{Ended, Failed, Large, Stopped}
 use Rattle.stream_host.specs.declared.host.Host.{Host}
-use Rattle.stream_host.specs.Steps.{Journal, stored_of, got_of, is_shut, read_of, reading_of, scanned_of, cut_of, to_store, due_of, raises_of, resumes_of, stop_of, text_of, written_of, has_given_up, has_bye}
+use Rattle.stream_host.specs.Steps.{Journal, stored_of, got_of, is_shut, read_of, reading_of, scanned_of, cut_of, to_store, due_of, raises_of, resumes_of, job_stop_of, text_of, written_of, has_given_up, has_bye}
 use Rattle.stream_host.specs.Conduct.{Conducted, HasWritten}
 use Rattle.stream_host.specs.Hosts.{HostFits, HostRests, TellsJob, TellsText}
 use Rattle.stream_host.specs.Ran.{AreRaised, HostRan, HostRuns, HasFinished, TellsConsole, end_of, is_failed}
 use Rattle.stream_host.proofs.Keeping.{stored_is}
-use Rattle.stream_host.proofs.Sending.{sent_so_far, sent_all, all_stored}
+use Rattle.stream_host.proofs.Sending.{sent_so_far, sent_all, all_stored, stop_behind}
 use Rattle.stream_host.proofs.Raising.{raised_is}
 use Rattle.stream_host.proofs.Resetting.{sent_out}
 use Rattle.stream_host.proofs.Reporting.{reported_is}
@@ -59,7 +59,13 @@ has_run h job_was job_is console_was console_is c finished job console = record 
   lines = cut_of h;
   taken = job.taken;
   at_end = job.at_end;
-  sent = λ out. sent_all h c (sent_out h c out).all;
+  so_far = let s = sent_so_far h c in record { fits = s.fits; scans = s.scans; later = s.later; sent = s.sent; cause = refl };
+  stop = stop_behind h c;
+  left = to_store h;
+  front = stored_is h c;
+  due = due_of h;
+  raises_so_far = raised_is h c;
+  sent = λ out. let s = sent_out h c out in sent_all h c s.all s.stop;
   link = λ out. all_stored h c (sent_out h c out).all;
   few = λ out. few_unanswered h c (sent_out h c out).all.free;
   resumes = resumes_of h;
@@ -81,7 +87,7 @@ runs_so_far h job_was job_is console_was console_is c job console = record {
   reading = reading_of h;
   scanned = scanned_of h;
   lines = cut_of h;
-  stop = stop_of h;
+  stop = job_stop_of h;
   taken = job.taken;
   sent = sent_so_far h c;
   left = to_store h;

@@ -17,7 +17,7 @@ use Rattle.stream_host.specs.declared.Stop.TheVariants.{End, LongLine, Reset}
 use Rattle.stream_host.specs.Links.{behind, on_link}
 use Rattle.status_report.specs.Answering.{receive_room, lfs_in, is_answer, answers_in}
 use Rattle.stream_host.specs.Jobs.{is_long, holds_reset, ends_sending, lines_to_send, ScansFront, MayLeave, MayScan, long_line, stop_by, IsSentSoFar, IsSent}
-use Rattle.stream_host.specs.Steps.{Journal, stored_of, got_of, answered_of, errors_of, read_of, reading_of, scanned_of, unscanned_of, raw_of, cut_of, to_store, begun_of, stop_at, stop_of}
+use Rattle.stream_host.specs.Steps.{Journal, stored_of, got_of, answered_of, errors_of, read_of, reading_of, scanned_of, unscanned_of, raw_of, cut_of, to_store, begun_of, has_alarm, stop_at, job_stop_of, or_alarm, stop_of}
 use Rattle.stream_host.specs.Steps.PortStep.{stored, dropped, raised, got, no_reply, shut}
 use Rattle.stream_host.specs.Steps.Step.{at_port, read_some, read_end, read_failed, scanned, line_over, wrote, gave_up, turned}
 use Rattle.stream_host.specs.Conduct.{Conducted, HasSentAll, HasNoMore, MayStore}
@@ -143,7 +143,7 @@ stop_cond text lines true reset long_in reset_in e f first =
 stop_cond text lines false reset long_in reset_in e f first =
     ap (λ b. cond b Reset End) (sym f) ∙ ap (λ b. cond b (long_line (lines_of text)) (cond reset_in Reset End)) (sym e)
 
-pub stop_is : (h : Journal) → Conducted h → stop_of h ≡ stop_by (reading_of h) (scanned_of h)
+pub stop_is : (h : Journal) → Conducted h → job_stop_of h ≡ stop_by (reading_of h) (scanned_of h)
 stop_is h c = by_reading (reading_of h)
   where
     first : is_long (raw_of h) ≡ true → sent_front (lines_of (scanned_of h)) ≡ cut_of h
@@ -159,6 +159,10 @@ stop_is h c = by_reading (reading_of h)
     by_reading Failed = else_by
     by_reading Stopped = else_by
 
+-- an alarm is a cause where the job gives none
+pub stop_behind : (h : Journal) → Conducted h → stop_of h ≡ or_alarm (has_alarm h) (answered_of h) (stop_by (reading_of h) (scanned_of h))
+stop_behind h c = ap (or_alarm (has_alarm h) (answered_of h)) (stop_is h c)
+
 -- ---- how much
 
 pub few_lines_cut : (h : Journal) → Conducted h → (length (cut_of h) ≤ largest_job) × (length (on_link (cut_of h)) ≤ largest_job + 1)
@@ -173,7 +177,7 @@ few_stored h c = let l = length-append (stored_of h) (to_store h) in let e = ap 
 
 -- ---- a whole run, and a run so far
 
-pub sent_so_far : (h : Journal) → Conducted h → IsSentSoFar (read_of h) (reading_of h) (scanned_of h) (cut_of h) (stop_of h)
+pub sent_so_far : (h : Journal) → Conducted h → IsSentSoFar (read_of h) (reading_of h) (scanned_of h) (cut_of h) (job_stop_of h)
 sent_so_far h c = record {
   fits = reading_fits h c;
   scans = scans_are h c;
@@ -182,8 +186,8 @@ sent_so_far h c = record {
   cause = stop_is h c;
 }
 
-pub sent_all : (h : Journal) → Conducted h → HasSentAll h → IsSent (read_of h) (reading_of h) (scanned_of h) (cut_of h) (stop_of h)
-sent_all h c e = record { fits = reading_fits h c; scans = scan_is h c e; sent = all_sent h c e; cause = stop_is h c }
+pub sent_all : (h : Journal) → Conducted h → HasSentAll h → stop_of h ≡ job_stop_of h → IsSent (read_of h) (reading_of h) (scanned_of h) (cut_of h) (stop_of h)
+sent_all h c e stop = record { fits = reading_fits h c; scans = scan_is h c e; sent = all_sent h c e; cause = stop ∙ stop_is h c }
 
 -- ---- the count
 

@@ -9,7 +9,8 @@ use Rattle.stream_host.specs.Jobs.{ends_sending}
 use Rattle.stream_host.specs.Steps.{Journal, reading_of, scanned_of, unscanned_of, raw_of, answered_of, holds_of}
 use Rattle.stream_host.specs.Conduct.{may_be_held, IsSettled, HasNoMore}
 use Rattle.stream_host.specs.Hosts.{HostFits, HostWorked, HasPolled, HasShown, MayReadOn}
-use Rattle.stream_host.proofs.Hosting.{none_due_by, never_raised, ends_is}
+use Rattle.stream_host.proofs.Keeping.{calm_one}
+use Rattle.stream_host.proofs.Hosting.{calm_now, none_due_by, never_raised, ends_is}
 use Rattle.stream_host.proofs.JobSteps.{used_up}
 use Rattle.stream_host.proofs.Turns.{has_written}
 
@@ -27,8 +28,8 @@ still_sends : (h : Journal) → reading_of h ≡ Stopped → ends_sending (raw_o
 still_sends h on sends (inl ends) = absurd (let e = sym sends ∙ ends in cc)
 still_sends h on sends (inr more) = subst (λ (r : Reading). HasNoMore r (unscanned_of h) (raw_of h) (length (scanned_of h))) on more
 
-pub waits_unsettled : (s : Host) (h : Journal) → HostFits s h → HasPolled h → HasShown s.text → MayReadOn s → (IsSettled h → ⊥) → HostWorked (Wait Answer) s s h h
-waits_unsettled s h f polled shown may busy =
+pub waits_unsettled : (s : Host) (h : Journal) → HostFits s h → s.alarm ≡ false → HasPolled h → HasShown s.text → MayReadOn s → (IsSettled h → ⊥) → HostWorked (Wait Answer) s s h h
+waits_unsettled s h f calm polled shown may busy =
     let free = (f.line_is.scanning may.scanning).1 in
     let used : unscanned_of h ≡ [] = used_up s h f may.used in
     let on : reading_of h ≡ Stopped = sym f.job_is.reading_is ∙ may.on in
@@ -44,7 +45,7 @@ waits_unsettled s h f polled shown may busy =
         no_line = λ m. absurd (let e = sym on ∙ m.at_end in cc);
         no_raise = λ b m. never_raised s b h f (none_due_by s h f may.none_due) m;
         no_store = λ b m. absurd (let e = sym free ∙ m.next in cc);
-        no_close = λ m. still_sends h on sends m.sent.all;
+        no_close = λ m. still_sends h on sends (calm_one h (calm_now s h f calm) m.sent).all;
         written = has_written s h f shown;
       };
       moves = λ e. absurd cc;

@@ -12,14 +12,14 @@ use Rattle.outside.specs.declared.Turn.TheVariants.{Did, Wait, Done}
 use Rattle.status_report.specs.declared.Reply.{Reply}
 use Rattle.text_writer.specs.Writers.{Writing, is_due, with_all_asked}
 use Rattle.stream_host.specs.declared.host.Host.{Host}
-use Rattle.stream_host.specs.Steps.{Step, Journal, is_shut, has_bye, to_store, due_of, awaits_report, text_of, written_of, this_turn}
+use Rattle.stream_host.specs.Steps.{Step, Journal, has_alarm, is_shut, has_bye, to_store, due_of, awaits_report, text_of, written_of, this_turn}
 use Rattle.stream_host.specs.Steps.PortStep.{stored, raised, got, no_reply, shut}
 use Rattle.stream_host.specs.Steps.Step.{at_port, turned}
-use Rattle.stream_host.specs.Conduct.{AreAnswered, HasWritten, publishing, moving}
+use Rattle.stream_host.specs.Conduct.{AreAnswered, waits_for_lines, HasWritten, publishing, moving}
 use Rattle.stream_host.specs.Hosts.{HostFits, HostWorked, HostTurned, HostTellsOn, HasPolled, IsQuiet, IsBetween, DidAlone, HasShown, HostRests, rank}
-use Rattle.code_table.specs.Tables.{query}
+use Rattle.stream_host.proofs.Keeping.{calm_one}
 use Rattle.stream_host.proofs.Raising.{none_due_first}
-use Rattle.stream_host.proofs.Hosting.{none_due_by, never_raised, due_next, quiet_on, same_job, total_is}
+use Rattle.stream_host.proofs.Hosting.{calm_now, none_due_by, never_raised, due_next, quiet_on, same_job, total_is}
 
 -- ---- what waits for the console
 
@@ -114,9 +114,9 @@ some_left : (xs : List ℕ) (n : ℕ) (ys : List ℕ) → xs ≡ drop n (ys ++ 1
 some_left xs n ys is within none =
     let a = ap length (sym is ∙ none) in let b = length-drop n (ys ++ 10 ∷ []) in let d = length-append ys (10 ∷ []) in absurd (omega arith)
 
--- a `?` waits for answers
-pub waits_early : (s : Host) (b : ℕ) (h : Journal) → HostFits s h → HasPolled h → HasShown s.text → s.line.due ≡ Some b → ((b ≡ query → AreAnswered h) → ⊥) → HostWorked (Wait Answer) s s h h
-waits_early s b h f polled shown is early =
+-- a byte that is due waits for the answers to the lines before its own
+pub waits_early : (s : Host) (b : ℕ) (h : Journal) → HostFits s h → s.alarm ≡ false → HasPolled h → HasShown s.text → s.line.due ≡ Some b → ((waits_for_lines b ≡ true → AreAnswered h) → ⊥) → HostWorked (Wait Answer) s s h h
+waits_early s b h f calm polled shown is early =
     let due = due_next s b h f is in
     let busy : due_of h ≡ [] → ⊥ = (λ e. absurd (let g = sym due ∙ e in cc)) in
     record {
@@ -128,9 +128,9 @@ waits_early s b h f polled shown is early =
         no_read = λ m. busy m.none_due;
         no_scan = λ d m. busy m.none_due;
         no_line = λ m. busy m.none_due;
-        no_raise = λ d m. early (subst (λ x. x ≡ query → AreAnswered h) (same_first d b (drop 1 (due_of h)) (sym (m.next f.polls_are.few) ∙ due)) m.after);
+        no_raise = λ d m. early (subst (λ x. waits_for_lines x ≡ true → AreAnswered h) (same_first d b (drop 1 (due_of h)) (sym (m.next f.polls_are.few) ∙ due)) m.after);
         no_store = λ d m. busy (none_due_first d h f.conducted m);
-        no_close = λ m. busy m.all_raised;
+        no_close = λ m. busy (calm_one h (calm_now s h f calm) m.all_raised);
         written = has_written s h f shown;
       };
       moves = λ e. absurd cc;
@@ -140,8 +140,8 @@ waits_early s b h f polled shown is early =
     same_first x y xs e = cc
 
 -- a line waits for a report, or for room
-pub waits_held_back : (s : Host) (h : Journal) → HostFits s h → HasPolled h → HasShown s.text → s.line.due ≡ None → s.line.whole ≡ true → ((awaits_report h ≡ false) × (s.counts.unanswered.total ≤ 128) → ⊥) → HostWorked (Wait Answer) s s h h
-waits_held_back s h f polled shown none whole held =
+pub waits_held_back : (s : Host) (h : Journal) → HostFits s h → s.alarm ≡ false → HasPolled h → HasShown s.text → s.line.due ≡ None → s.line.whole ≡ true → ((awaits_report h ≡ false) × (s.counts.unanswered.total ≤ 128) → ⊥) → HostWorked (Wait Answer) s s h h
+waits_held_back s h f calm polled shown none whole held =
     let is = f.line_is.storing whole in
     let busy : to_store h ≡ [] → ⊥ = some_left (to_store h) s.line.place s.line.kept.items is.left_is is.within in
     record {
@@ -155,7 +155,7 @@ waits_held_back s h f polled shown none whole held =
         no_line = λ m. busy m.free;
         no_raise = λ b m. never_raised s b h f (none_due_by s h f none) m;
         no_store = λ b m. held (m.reported, (let t = total_is s h f in let r = m.room in omega arith));
-        no_close = λ m. busy m.sent.free;
+        no_close = λ m. busy (calm_one h (calm_now s h f calm) m.sent).free;
         written = has_written s h f shown;
       };
       moves = λ e. absurd cc;
@@ -182,6 +182,28 @@ waits_shut s h f polled shown none whole closed =
       moves = λ e. absurd cc;
     }
 
+-- behind an alarm a link that is closed lets nothing be done
+pub waits_at_alarm : (s : Host) (h : Journal) → HostFits s h → HasPolled h → HasShown s.text → s.alarm ≡ true → s.shut ≡ true → HostWorked (Wait Answer) s s h h
+waits_at_alarm s h f polled shown alarm closed =
+    let over : is_shut h ≡ false → ⊥ = (λ e. absurd (let g = sym closed ∙ f.shut_is ∙ e in cc)) in
+    let loud : has_alarm h ≡ false → ⊥ = (λ e. absurd (let g = sym alarm ∙ f.alarm_is ∙ e in cc)) in
+    record {
+      fits = f;
+      steps = [];
+      are = refl;
+      may = record {
+        poll = polled.poll;
+        no_read = λ m. loud m.calm;
+        no_scan = λ b m. loud m.calm;
+        no_line = λ m. loud m.calm;
+        no_raise = λ b m. loud (m.calm f.polls_are.few);
+        no_store = λ b m. loud m.calm;
+        no_close = λ m. over m.going;
+        written = has_written s h f shown;
+      };
+      moves = λ e. absurd cc;
+    }
+
 -- ---- the whole turn
 
 pub all_asked : (s : Host) (h : Journal) → HostFits s h → HostFits (record s { text = with_all_asked s.text }) h
@@ -195,6 +217,7 @@ all_asked s h f = record {
   polls_are = f.polls_are;
   held_is = f.held_is;
   greeted_is = f.greeted_is;
+  alarm_is = f.alarm_is;
   pause_is = f.pause_is;
   text_is = record { failed_is = f.text_is.failed_is; waits = f.text_is.waits; within = f.text_is.within; all_asked = λ e. refl };
   shut_is = f.shut_is;
@@ -250,6 +273,7 @@ ends t s u h next w = (
     polls_are = w.fits.polls_are;
     held_is = w.fits.held_is;
     greeted_is = w.fits.greeted_is;
+    alarm_is = w.fits.alarm_is;
     pause_is = w.fits.pause_is;
     text_is = w.fits.text_is;
     shut_is = w.fits.shut_is;

@@ -9,7 +9,7 @@ use Rattle.stream_host.specs.declared.Reading.TheVariants.{Ended, Failed, Large,
 use Rattle.stream_host.specs.Links.{on_link}
 use Rattle.status_report.specs.Answering.{receive_room, lfs_in}
 use Rattle.stream_host.specs.Jobs.{ends_sending, MayHaveRead}
-use Rattle.stream_host.specs.Steps.{Journal, stored_of, is_shut, is_greeted, answered_of, read_of, reading_of, scanned_of, unscanned_of, raw_of, cut_of, to_store, begun_of, due_of, awaits_report}
+use Rattle.stream_host.specs.Steps.{Journal, stored_of, has_alarm, is_shut, is_greeted, answered_of, read_of, reading_of, scanned_of, unscanned_of, raw_of, cut_of, to_store, begun_of, due_of, awaits_report}
 use Rattle.stream_host.specs.Steps.PortStep.{stored, dropped, raised, got, no_reply, shut}
 use Rattle.stream_host.specs.Steps.Step.{at_port, read_some, read_end, read_failed, scanned, line_over, wrote, gave_up, turned}
 use Rattle.stream_host.specs.Conduct.{AwaitsSome, Conducted, HasNoMore, IsSettled, Waits}
@@ -96,21 +96,21 @@ too_many h c many (inr f) =
 -- ---- nothing is to be stored: the job goes on
 
 shuts : (h : Journal) → is_shut h ≡ false → to_store h ≡ [] → due_of h ≡ [] → Waits h → (ends_sending (raw_of h) ≡ true) ⊎ HasNoMore (reading_of h) (unscanned_of h) (raw_of h) (length (scanned_of h)) → ⊥
-shuts h going free none w all = w.no_close (record { going = going; sent = record { free = free; all = all }; all_raised = none })
+shuts h going free none w all = w.no_close (record { going = going; sent = inr (record { free = free; all = all }); all_raised = inr none })
 
 -- all that was read is scanned
-all_scanned : (h : Journal) → Conducted h → is_shut h ≡ false → to_store h ≡ [] → due_of h ≡ [] → IsSettled h → ends_sending (raw_of h) ≡ false → unscanned_of h ≡ [] → Waits h → (r : Reading) → reading_of h ≡ r → (raw : List ℕ) → raw_of h ≡ raw → ⊥
-all_scanned h c going free none settled short used w Stopped at raw is = w.no_read (record { going = going; on = at; sends = short; used = used; free = free; none_due = none; settled = settled; shown = w.written })
-all_scanned h c going free none settled short used w Failed at raw is =
+all_scanned : (h : Journal) → Conducted h → is_shut h ≡ false → has_alarm h ≡ false → to_store h ≡ [] → due_of h ≡ [] → IsSettled h → ends_sending (raw_of h) ≡ false → unscanned_of h ≡ [] → Waits h → (r : Reading) → reading_of h ≡ r → (raw : List ℕ) → raw_of h ≡ raw → ⊥
+all_scanned h c going calm free none settled short used w Stopped at raw is = w.no_read (record { going = going; calm = calm; on = at; sends = short; used = used; free = free; none_due = none; settled = settled; shown = w.written })
+all_scanned h c going calm free none settled short used w Failed at raw is =
     shuts h going free none w (inr (subst (λ (r : Reading). HasNoMore r (unscanned_of h) (raw_of h) (length (scanned_of h))) (sym at) used))
-all_scanned h c going free none settled short used w Large at raw is =
+all_scanned h c going calm free none settled short used w Large at raw is =
     let more : largest_job < length (read_of h) = (subst (λ (r : Reading). MayHaveRead r (length (read_of h))) at (reading_fits h c)).0 in
     let l = ap length (read_is h c) in let m = length-append (scanned_of h) (unscanned_of h) in let n = ap length used in let s = few_scanned h c in
     absurd (omega arith)
-all_scanned h c going free none settled short used w Ended at [] is =
+all_scanned h c going calm free none settled short used w Ended at [] is =
     shuts h going free none w (inr (subst (λ (r : Reading). HasNoMore r (unscanned_of h) (raw_of h) (length (scanned_of h))) (sym at) (used, is)))
-all_scanned h c going free none settled short used w Ended at (b ∷ raw) is =
-    w.no_line (record { going = going; at_end = at; used = used; some = (let l = ap length is in omega arith); sends = short; free = free; none_due = none })
+all_scanned h c going calm free none settled short used w Ended at (b ∷ raw) is =
+    w.no_line (record { going = going; calm = calm; at_end = at; used = used; some = (let l = ap length is in omega arith); sends = short; free = free; none_due = none })
 
 pub over_full : (h : Journal) → Conducted h → (b : ℕ) (bytes : List ℕ) → unscanned_of h ≡ b ∷ bytes → largest_job ≤ length (scanned_of h) → (r : Reading) → reading_of h ≡ r → HasNoMore r (unscanned_of h) (raw_of h) (length (scanned_of h))
 over_full h c b bytes next full Large at = (let s = few_scanned h c in omega arith)
@@ -133,10 +133,10 @@ over_full h c b bytes next full Stopped at = absurd (too_long Stopped at (λ f. 
         let f = few (subst (λ (q : Reading). MayHaveRead q (length (read_of h))) at (reading_fits h c)) in
         let l = ap length (read_is h c) in let m = length-append (scanned_of h) (unscanned_of h) in let n = ap length next in absurd (omega arith)
 
-goes_on : (h : Journal) → Conducted h → is_shut h ≡ false → to_store h ≡ [] → due_of h ≡ [] → IsSettled h → Waits h → (t : Bool) → ends_sending (raw_of h) ≡ t → (left : List ℕ) → unscanned_of h ≡ left → ⊥
-goes_on h c going free none settled w true long left is = shuts h going free none w (inl long)
-goes_on h c going free none settled w false short [] is = all_scanned h c going free none settled short is w (reading_of h) refl (raw_of h) refl
-goes_on h c going free none settled w false short (b ∷ bytes) is = by_room (nat_lt (length (scanned_of h)) largest_job) refl
+goes_on : (h : Journal) → Conducted h → is_shut h ≡ false → has_alarm h ≡ false → to_store h ≡ [] → due_of h ≡ [] → IsSettled h → Waits h → (t : Bool) → ends_sending (raw_of h) ≡ t → (left : List ℕ) → unscanned_of h ≡ left → ⊥
+goes_on h c going calm free none settled w true long left is = shuts h going free none w (inl long)
+goes_on h c going calm free none settled w false short [] is = all_scanned h c going calm free none settled short is w (reading_of h) refl (raw_of h) refl
+goes_on h c going calm free none settled w false short (b ∷ bytes) is = by_room (nat_lt (length (scanned_of h)) largest_job) refl
   where
     next : unscanned_of h ≡ b ∷ drop 1 (unscanned_of h)
     next = is ∙ ap (λ (t : List ℕ). b ∷ drop 1 t) (sym is)
@@ -148,17 +148,17 @@ goes_on h c going free none settled w false short (b ∷ bytes) is = by_room (na
     above n e = grind (arith, nat_tests)
 
     by_room : (t : Bool) → nat_lt (length (scanned_of h)) largest_job ≡ t → ⊥
-    by_room true e = w.no_scan b (record { going = going; next = next; few = below (length (scanned_of h)) e; sends = short; free = free; none_due = none })
+    by_room true e = w.no_scan b (record { going = going; calm = calm; next = next; few = below (length (scanned_of h)) e; sends = short; free = free; none_due = none })
     by_room false e = shuts h going free none w (inr (over_full h c b bytes is (above (length (scanned_of h)) e) (reading_of h) refl))
 
 -- ---- a byte that may not be raised yet
 
-early : (h : Journal) → Conducted h → to_store h ≡ [] → (b : ℕ) → due_of h ≡ b ∷ drop 1 (due_of h) → Waits h → 0 < length (drop (answered_of h) (begun_of h))
-early h c free b next w =
+early : (h : Journal) → Conducted h → has_alarm h ≡ false → to_store h ≡ [] → (b : ℕ) → due_of h ≡ b ∷ drop 1 (due_of h) → Waits h → 0 < length (drop (answered_of h) (begun_of h))
+early h c calm free b next w =
     let begun = ap (λ (ls : List (List ℕ)). length (drop (answered_of h) ls)) (all_begun h free (begun_is h c)) in
     let l = length-drop (answered_of h) (cut_of h) in
     let few = (counts_are h c).1 in
-    let more : answered_of h ≢ length (cut_of h) = (λ e. early_waiting b h c w next (λ q. e)) in
+    let more : answered_of h ≢ length (cut_of h) = (λ e. early_waiting b h c calm w next (λ q. e)) in
     by_less (answered_of h) (length (cut_of h)) (length (drop (answered_of h) (begun_of h))) more few (begun ∙ l)
   where
     by_less : (m n k : ℕ) → m ≢ n → m ≤ n → k ≡ n - m → 0 < k
@@ -172,8 +172,8 @@ unanswered h c free e =
     let more : answered_of h < length (cut_of h) = grind (arith, nat_tests) in
     omega arith
 
-pub waits_are_for_answers : (h : Journal) → Conducted h → Waits h → is_shut h ≡ false → AwaitsSome h
-waits_are_for_answers h c w going = by_left (to_store h) refl
+calm_waits : (h : Journal) → Conducted h → Waits h → is_shut h ≡ false → has_alarm h ≡ false → AwaitsSome h
+calm_waits h c w going calm = by_left (to_store h) refl
   where
     no_room : (n : ℕ) → (n ≤ receive_room → ⊥) → receive_room < n
     no_room n full = by_test (nat_lt receive_room n) refl
@@ -186,7 +186,7 @@ waits_are_for_answers h c w going = by_left (to_store h) refl
     by_answers free none greeted no_report true e = unanswered h c free e
     by_answers free none greeted no_report false e =
         let few = (counts_are h c).1 in
-        absurd (goes_on h c going free none (record { greeted = inl greeted; reported = no_report; answered = inl (grind (arith, nat_tests)) }) w (ends_sending (raw_of h)) refl (unscanned_of h) refl)
+        absurd (goes_on h c going calm free none (record { greeted = inl greeted; reported = no_report; answered = inl (grind (arith, nat_tests)) }) w (ends_sending (raw_of h)) refl (unscanned_of h) refl)
 
     by_awaited : to_store h ≡ [] → due_of h ≡ [] → is_greeted h ≡ true → (t : Bool) → awaits_report h ≡ t → AwaitsSome h
     by_awaited free none greeted true e = inr (inr e)
@@ -198,16 +198,24 @@ waits_are_for_answers h c w going = by_left (to_store h) refl
 
     by_due : to_store h ≡ [] → (due : List ℕ) → due_of h ≡ due → AwaitsSome h
     by_due free [] none = by_greeted free none (is_greeted h) refl
-    by_due free (b ∷ due) is = inr (inl (early h c free b (is ∙ ap (λ (t : List ℕ). b ∷ drop 1 t) (sym is)) w))
+    by_due free (b ∷ due) is = inr (inl (early h c calm free b (is ∙ ap (λ (t : List ℕ). b ∷ drop 1 t) (sym is)) w))
 
     by_report : (b : ℕ) → to_store h ≡ b ∷ drop 1 (to_store h) → (t : Bool) → awaits_report h ≡ t → AwaitsSome h
     by_report b next true e = inr (inr e)
     by_report b next false e =
-        inr (inl (too_many h c (no_room (length (on_link (drop (answered_of h) (cut_of h)))) (λ room. w.no_store b (record { next = next; reported = e; room = room }))) (begun_is h c)))
+        inr (inl (too_many h c (no_room (length (on_link (drop (answered_of h) (cut_of h)))) (λ room. w.no_store b (record { calm = calm; next = next; reported = e; room = room }))) (begun_is h c)))
 
     by_left : (left : List ℕ) → to_store h ≡ left → AwaitsSome h
     by_left [] free = by_due free (due_of h) refl
     by_left (b ∷ left) is = by_report b (is ∙ ap (λ (t : List ℕ). b ∷ drop 1 t) (sym is)) (awaits_report h) refl
+
+-- behind an alarm the link is closed
+pub waits_are_for_answers : (h : Journal) → Conducted h → Waits h → is_shut h ≡ false → AwaitsSome h
+waits_are_for_answers h c w going = by_alarm (has_alarm h) refl
+  where
+    by_alarm : (t : Bool) → has_alarm h ≡ t → AwaitsSome h
+    by_alarm true e = absurd (w.no_close (record { going = going; sent = inl e; all_raised = inl e }))
+    by_alarm false e = calm_waits h c w going e
 
 -- where nothing is to be stored, the lines that have no answer take at most 128 bytes
 pub few_unanswered : (h : Journal) → Conducted h → to_store h ≡ [] → length (on_link (drop (answered_of h) (cut_of h))) ≤ receive_room

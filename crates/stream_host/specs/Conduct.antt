@@ -1,5 +1,5 @@
 -- The rules of a host: what it may do next.
-use Rattle.std.specs.Prelude.{◌≡◌, ℕ, ◌+◌, ◌≤◌, ◌<◌, ◌⊎◌, Bool, true, false, ◌||◌, List, [], ◌∷◌, ◌++◌, length, drop, nat_lt}
+use Rattle.std.specs.Prelude.{◌≡◌, ℕ, ◌+◌, ◌≤◌, ◌<◌, ◌⊎◌, Bool, true, false, ◌||◌, List, [], ◌∷◌, ◌++◌, length, drop, nat_eq, nat_lt}
 use Rattle.std.specs.List.{list_any, count_by}
 use Rattle.code_table.specs.Tables.{query}
 use Rattle.run_rules.specs.Readings.{largest_job, largest_piece}
@@ -11,8 +11,8 @@ use Rattle.stream_host.specs.declared.Reading.{Reading}
 use Rattle.stream_host.specs.declared.Reading.TheVariants.{Ended, Failed, Large, Stopped}
 use Rattle.stream_host.specs.Links.{on_link}
 use Rattle.status_report.specs.Answering.{receive_room, lfs_in, answers_in}
-use Rattle.stream_host.specs.Jobs.{resume, ends_sending}
-use Rattle.stream_host.specs.Steps.{PortStep, Step, Journal, stored_of, got_of, is_shut, has_bye, is_greeted, answered_of, reading_of, scanned_of, unscanned_of, raw_of, cut_of, begun_of, to_store, due_of, awaits_report, polls_of, empty_polls, held_polls, holds_of, pause_of, text_of, written_of, has_given_up, this_turn}
+use Rattle.stream_host.specs.Jobs.{resume, cancel, ends_sending}
+use Rattle.stream_host.specs.Steps.{PortStep, Step, Journal, stored_of, got_of, has_alarm, is_shut, has_bye, is_greeted, answered_of, reading_of, scanned_of, unscanned_of, raw_of, cut_of, begun_of, to_store, due_of, awaits_report, polls_of, empty_polls, held_polls, holds_of, pause_of, text_of, written_of, has_given_up, this_turn}
 use Rattle.stream_host.specs.Steps.PortStep.{stored, dropped, raised, got, no_reply, shut}
 use Rattle.stream_host.specs.Steps.Step.{at_port, read_some, read_end, read_failed, scanned, line_over, wrote, gave_up, turned}
 
@@ -23,6 +23,11 @@ HasWritten h = (has_given_up h ≡ true) ⊎ (written_of h ≡ length (text_of h
 -- the lines before the one in hand are answered
 abbrev pub AreAnswered : Journal → Type 0
 AreAnswered h = answered_of h ≡ length (cut_of h)
+
+-- A realtime byte that is raised only once the lines before its own are answered: a `?`, which asks for a report behind them,
+-- and the cancel of a jog, so that their jogs have begun when the board takes it.
+abbrev pub waits_for_lines : ℕ → Bool
+waits_for_lines b = nat_eq b query || nat_eq b cancel
 
 -- something is awaited: the banner, the answer to a line that was sent, or a report
 abbrev pub AwaitsSome : Journal → Type 0
@@ -50,9 +55,11 @@ pub record IsSettled (h : Journal) : Type 0 where
   pub answered : AreAnswered h ⊎ SeemsHeld h
 
 -- The job is read on: all that was read is scanned, raised and stored, nothing is awaited but of a machine that seems held,
--- all that was got is shown, no end of the reading was met, and the sending has not ended in the line that is being scanned.
+-- all that was got is shown, no end of the reading was met, the sending has not ended in the line that is being scanned, and no
+-- alarm was got.
 pub record MayRead (h : Journal) : Type 0 where
   pub going : is_shut h ≡ false
+  pub calm : has_alarm h ≡ false
   pub on : reading_of h ≡ Stopped
   pub sends : ends_sending (raw_of h) ≡ false
   pub used : unscanned_of h ≡ []
@@ -62,18 +69,20 @@ pub record MayRead (h : Journal) : Type 0 where
   pub shown : HasWritten h
 
 -- The next byte that was read is scanned: no byte is to be raised, the line before its own is wholly stored, the job may
--- have so many bytes, and the sending has not ended in its line.
+-- have so many bytes, the sending has not ended in its line, and no alarm was got.
 pub record MayScanNext (b : ℕ) (h : Journal) : Type 0 where
   pub going : is_shut h ≡ false
+  pub calm : has_alarm h ≡ false
   pub next : unscanned_of h ≡ b ∷ drop 1 (unscanned_of h)
   pub few : length (scanned_of h) < largest_job
   pub sends : ends_sending (raw_of h) ≡ false
   pub free : to_store h ≡ []
   pub none_due : due_of h ≡ []
 
--- The last line is over: the source's end was read, bytes stand behind the last LF, and none is to be raised.
+-- The last line is over: the source's end was read, bytes stand behind the last LF, none is to be raised, and no alarm was got.
 pub record MayEndLine (h : Journal) : Type 0 where
   pub going : is_shut h ≡ false
+  pub calm : has_alarm h ≡ false
   pub at_end : reading_of h ≡ Ended
   pub used : unscanned_of h ≡ []
   pub some : 0 < length (raw_of h)
@@ -81,16 +90,18 @@ pub record MayEndLine (h : Journal) : Type 0 where
   pub free : to_store h ≡ []
   pub none_due : due_of h ≡ []
 
--- A realtime byte is raised: a resume where so many polls have found no reply, else the next that is due; that is a `?` only
--- once each line before its own is answered.
+-- A realtime byte is raised: a resume where so many polls have found no reply, else the next that is due; that is a `?` or the
+-- cancel of a jog only once each line before its own is answered. Behind an alarm no byte of the job is raised.
 pub record MayRaise (b : ℕ) (h : Journal) : Type 0 where
   pub resumes : polls_of h ≡ empty_polls → b ≡ resume
+  pub calm : polls_of h < empty_polls → has_alarm h ≡ false
   pub next : polls_of h < empty_polls → due_of h ≡ b ∷ drop 1 (due_of h)
-  pub after : b ≡ query → AreAnswered h
+  pub after : waits_for_lines b ≡ true → AreAnswered h
 
 -- The next byte of the line in hand is stored: the lines that have no answer, this one among them, take at most 128
--- bytes, and where the line asked for a report, one was got since.
+-- bytes, and where the line asked for a report, one was got since. No alarm was got.
 pub record MayStore (b : ℕ) (h : Journal) : Type 0 where
+  pub calm : has_alarm h ≡ false
   pub next : to_store h ≡ b ∷ drop 1 (to_store h)
   pub reported : awaits_report h ≡ false
   pub room : length (on_link (drop (answered_of h) (cut_of h))) ≤ receive_room
@@ -107,10 +118,11 @@ pub record HasSentAll (h : Journal) : Type 0 where
   pub free : to_store h ≡ []
   pub all : (ends_sending (raw_of h) ≡ true) ⊎ HasNoMore (reading_of h) (unscanned_of h) (raw_of h) (length (scanned_of h))
 
+-- the link is closed: all that is sent of the job is stored and raised, or an alarm was got
 pub record MayShut (h : Journal) : Type 0 where
   pub going : is_shut h ≡ false
-  pub sent : HasSentAll h
-  pub all_raised : due_of h ≡ []
+  pub sent : (has_alarm h ≡ true) ⊎ HasSentAll h
+  pub all_raised : (has_alarm h ≡ true) ⊎ (due_of h ≡ [])
 
 -- a reply is looked for: Bye was not got, and no resume is to be raised
 pub record MayPoll (h : Journal) : Type 0 where

@@ -1,5 +1,5 @@
 -- What the fields of a host say of what it has done.
-use Rattle.std.specs.Prelude.{◌≡◌, ◌≢◌, ℕ, ◌+◌, ◌^◌, ◌≤◌, ◌<◌, ◌⊎◌, Bool, true, false, ◌||◌, cond, nat_lt, List, [], ◌∷◌, ◌++◌, length, take, drop, map, reverse, sum, option_to_list, Some, None}
+use Rattle.std.specs.Prelude.{◌≡◌, ◌≢◌, ℕ, ◌+◌, ◌^◌, ◌≤◌, ◌<◌, ◌⊎◌, Bool, true, false, ◌||◌, cond, nat_lt, List, [], ◌∷◌, ◌++◌, length, take, drop, map, reverse, sum, option_to_list, None}
 use Rattle.std.specs.Io.KnownBytes.{Consumes, IsAtEnd, Keeps}
 use Rattle.std.specs.List.{list_any, count_by}
 use Rattle.outside.specs.Causes.{Rose, SourceState, SinkState}
@@ -22,8 +22,8 @@ use Rattle.stream_host.specs.declared.host.Host.{Host}
 use Rattle.run_rules.specs.Told.{errors_among}
 use Rattle.status_report.specs.Answering.{answers_in, is_bye}
 use Rattle.std.specs.declared.option.Option.{Option}
-use Rattle.stream_host.specs.Jobs.{is_served, holds_reset}
-use Rattle.stream_host.specs.Steps.{Step, Journal, port_log, got_of, is_shut, has_bye, read_of, reading_of, scanned_of, unscanned_of, raw_of, cut_of, to_store, due_of, asking_of, polls_of, empty_polls, holds_of, pause_of, is_greeted, text_of, written_of, has_given_up, this_turn}
+use Rattle.stream_host.specs.Jobs.{holds_reset}
+use Rattle.stream_host.specs.Steps.{Step, Journal, port_log, got_of, has_alarm, is_shut, has_bye, read_of, reading_of, scanned_of, unscanned_of, raw_of, cut_of, to_store, due_of, asking_of, polls_of, empty_polls, holds_of, pause_of, is_greeted, text_of, written_of, has_given_up, this_turn}
 use Rattle.stream_host.specs.Steps.Step.{turned}
 use Rattle.stream_host.specs.Conduct.{Conducted, MayTurn, publishing, moving, found_none}
 
@@ -119,9 +119,8 @@ pub record KeepsLine (l : SentLine) (raw left : List ℕ) : Type 0 where
   pub storing : l.whole ≡ true → IsStoring l raw left
 
 -- the byte that is to be raised
-pub record KeepsDue (l : Option ℕ) (due : List ℕ) : Type 0 where
-  pub due_is : option_to_list l ≡ due
-  pub served : (b : ℕ) → l ≡ Some b → is_served b ≡ true
+abbrev pub KeepsDue : Option ℕ → List ℕ → Type 0
+KeepsDue l due = option_to_list l ≡ due
 
 -- the polls in a row that found no reply: one more may be made
 pub record KeepsPolls (count polls : ℕ) : Type 0 where
@@ -159,6 +158,7 @@ pub record HostFits (host : Host) (h : Journal) : Type 0 where
   pub held_is : host.held ≡ holds_of h
   pub pause_is : host.counts.pause_at ≡ pause_of h
   pub greeted_is : host.greeted ≡ is_greeted h
+  pub alarm_is : host.alarm ≡ has_alarm h
   pub text_is : KeepsText host.text (text_of h) (written_of h) (has_given_up h) (has_bye h)
   pub shut_is : host.shut ≡ is_shut h
   pub bye_is : host.bye ≡ has_bye h

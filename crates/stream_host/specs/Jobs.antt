@@ -1,6 +1,6 @@
 -- Which bytes of a job are scanned, and which of its lines are sent.
 use Rattle.std.specs.Prelude.{◌≡◌, ℕ, ◌+◌, ◌-◌, ◌≤◌, ◌<◌, Bool, false, not, cond, ◌||◌, List, [], ◌++◌, length, take, nat_eq, nat_lt}
-use Rattle.std.specs.List.{filter, flat_map, list_any, take_while}
+use Rattle.std.specs.List.{flat_map, list_any, take_while}
 use Rattle.gcode_words.specs.Stripping.{plain, realtime}
 use Rattle.run_rules.specs.Lines.{HasNoLf, lines_of}
 use Rattle.run_rules.specs.Readings.{largest_job, largest_piece, job_of, sent_lines}
@@ -14,13 +14,13 @@ use Rattle.stream_host.specs.declared.Stop.TheVariants.{End, LongLine, TooLarge,
 abbrev pub resume : ℕ
 resume = 0x7e
 
--- A realtime byte that is raised. As yet the cancel of a jog is not.
-abbrev pub is_served : ℕ → Bool
-is_served b = not (nat_eq b 0x85)
+-- 0x85 cancels a jog
+abbrev pub cancel : ℕ
+cancel = 0x85
 
--- the realtime bytes of a line that are raised
+-- the realtime bytes of a line: each of them is raised
 abbrev pub served : List ℕ → List ℕ
-served line = filter is_served (realtime line)
+served line = realtime line
 
 -- those of a text
 abbrev pub served_in : List ℕ → List ℕ

@@ -1,19 +1,20 @@
 -- What a host has done in a whole run, and so far, on plain lists.
-use Rattle.std.specs.Prelude.{◌≡◌, ℕ, ◌+◌, ◌≤◌, Bool, true, false, ◌||◌, cond, List, [], ◌++◌, length, drop}
+use Rattle.std.specs.Prelude.{◌≡◌, ℕ, ◌+◌, ◌≤◌, Bool, true, false, not, ◌&&◌, ◌||◌, cond, List, [], ◌++◌, length, drop}
 use Rattle.std.specs.List.{count_by, list_any}
 use Rattle.std.specs.Io.KnownBytes.{Consumes, IsAtEnd}
 use Rattle.outside.specs.Causes.{Rose, SourceState, SinkState}
 use Rattle.outside.specs.Writing.{Wrote, Took}
 use Rattle.run_rules.specs.Reports.{AreReported}
 use Rattle.run_rules.specs.Told.{replies_text, errors_among}
+use Rattle.run_rules.specs.Work.{is_alarm}
 use Rattle.status_report.specs.declared.Reply.{Reply}
 use Rattle.stream_host.specs.declared.Reading.{Reading}
 use Rattle.stream_host.specs.declared.Reading.TheVariants.{Ended, Failed, Large, Stopped}
 use Rattle.stream_host.specs.declared.Stop.{Stop}
 use Rattle.stream_host.specs.Links.{on_link}
 use Rattle.status_report.specs.Answering.{receive_room, answers_in, is_bye}
-use Rattle.stream_host.specs.Jobs.{resume, is_reset, served_in, IsSent, IsSentSoFar}
-use Rattle.stream_host.specs.Steps.{Journal, has_bye, answered_of, errors_of, reading_of, stop_of, text_of, written_of, has_given_up}
+use Rattle.stream_host.specs.Jobs.{resume, is_reset, served_in, stop_by, IsSent, IsSentSoFar}
+use Rattle.stream_host.specs.Steps.{Journal, stored_of, line_raises_of, has_bye, answered_of, errors_of, read_of, reading_of, scanned_of, cut_of, or_alarm, stop_of, text_of, written_of, has_given_up}
 use Rattle.stream_host.specs.Conduct.{HasWritten}
 
 -- what a host tells at its end: why it sent no more; how many lines were answered, and how many of these with an error;
@@ -37,15 +38,16 @@ abbrev pub AreRaised : List ℕ → List ℕ → List ℕ → ℕ → Type 0
 AreRaised scanned raised due resumes =
     (p : ℕ → Bool) → count_by p raised + count_by p due ≡ count_by p (served_in scanned) + cond (p resume) resumes 0
 
--- all that is sent of the job is raised and stored: the link is closed, or a reset was raised
-abbrev pub is_sent_out : Bool → List ℕ → Bool
-is_sent_out shut raised = shut || list_any is_reset raised
+-- all that is sent of the job is raised and stored: the link is closed and no alarm was got, or a reset was raised
+abbrev pub is_sent_out : Bool → List ℕ → List Reply → Bool
+is_sent_out shut raised got = (shut && not (list_any is_alarm got)) || list_any is_reset raised
 
--- A host has run: it read a job, raised its realtime bytes, stored its lines, closed the link or not, and got replies up to
--- Bye. Where the link is closed, or a reset was raised, all that is sent of the job is raised and stored, and the lines that
--- have no answer take at most 128 bytes, each with its LF. Each line that asks for a report and is answered has one, behind the
--- answers to the lines before it. The console has the text of the replies, all of it where no
--- write failed. The source's count of faults rose where a read failed, and is as before where none did.
+-- A host has run: it read a job so far, raised its realtime bytes but for those that are due, stored a front of its lines,
+-- closed the link or not, and got replies up to Bye. Why it sent no more is what the job says, or else an alarm, at the first
+-- line that has no answer. Where the link is closed and no alarm was got, or a reset was raised, all that is sent of the job is
+-- raised and stored, and the lines that have no answer take at most 128 bytes, each with its LF. Each line that asks for a
+-- report and is answered has one, behind the answers to the lines before it. The console has the text of the replies, all of it
+-- where no write failed. The source's count of faults rose where a read failed, and is as before where none did.
 pub record HostRan (job_was job_is : SourceState) (console_was console_is : SinkState) (stored : List ℕ) (shut : Bool) (raised : List ℕ) (got : List Reply) (end : HostEnd) : Type 0 where
   pub read : List ℕ
   pub reading : Reading
@@ -53,11 +55,17 @@ pub record HostRan (job_was job_is : SourceState) (console_was console_is : Sink
   pub lines : List (List ℕ)
   pub taken : Consumes job_was.left job_is.left read
   pub at_end : reading ≡ Ended → IsAtEnd job_is.left
-  pub sent : is_sent_out shut raised ≡ true → IsSent read reading scanned lines end.stop
-  pub link : is_sent_out shut raised ≡ true → stored ≡ on_link lines
-  pub few : is_sent_out shut raised ≡ true → length (on_link (drop end.answered lines)) ≤ receive_room
+  pub so_far : IsSentSoFar read reading scanned lines (stop_by reading scanned)
+  pub stop : end.stop ≡ or_alarm (list_any is_alarm got) end.answered (stop_by reading scanned)
+  pub left : List ℕ
+  pub front : stored ++ left ≡ on_link lines
+  pub due : List ℕ
   pub resumes : ℕ
-  pub raises : is_sent_out shut raised ≡ true → AreRaised scanned raised [] resumes
+  pub raises_so_far : AreRaised scanned raised due resumes
+  pub sent : is_sent_out shut raised got ≡ true → IsSent read reading scanned lines end.stop
+  pub link : is_sent_out shut raised got ≡ true → stored ≡ on_link lines
+  pub few : is_sent_out shut raised got ≡ true → length (on_link (drop end.answered lines)) ≤ receive_room
+  pub raises : is_sent_out shut raised got ≡ true → AreRaised scanned raised [] resumes
   pub reported : AreReported lines got
   pub bye : list_any is_bye got ≡ true
   pub console : Took console_was console_is end.console_failed (replies_text got)
@@ -88,6 +96,15 @@ pub record HostRuns (job_was job_is : SourceState) (console_was console_is : Sin
   pub console : Wrote console_was console_is failed waiting (replies_text got)
 
 -- ---- by a journal
+
+-- nothing more of the job was read, scanned, stored or raised
+pub record SentNoMore (was is : Journal) : Type 0 where
+  pub read : read_of is ≡ read_of was
+  pub reading : reading_of is ≡ reading_of was
+  pub scanned : scanned_of is ≡ scanned_of was
+  pub lines : cut_of is ≡ cut_of was
+  pub stored : stored_of is ≡ stored_of was
+  pub raised : line_raises_of is ≡ line_raises_of was
 
 -- Bye was got, and all that was got is written, or a write failed
 pub record HasFinished (h : Journal) : Type 0 where

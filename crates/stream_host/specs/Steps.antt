@@ -4,6 +4,7 @@ use Rattle.std.specs.List.{list_any}
 use Rattle.gcode_words.specs.Stripping.{plain}
 use Rattle.run_rules.specs.Readings.{largest_job}
 use Rattle.run_rules.specs.Told.{replies_text, errors_among}
+use Rattle.run_rules.specs.Work.{is_alarm}
 use Rattle.status_report.specs.declared.Reply.{Reply}
 use Rattle.outside.specs.declared.Turn.{Turn}
 use Rattle.stream_host.specs.declared.Reading.{Reading}
@@ -11,7 +12,7 @@ use Rattle.stream_host.specs.declared.Reading.TheVariants.{Ended, Failed, Large,
 use Rattle.stream_host.specs.declared.Stop.{Stop}
 use Rattle.stream_host.specs.declared.line.Asking.{Asking}
 use Rattle.stream_host.specs.declared.line.Asking.TheVariants.{Nothing, Awaits, HasOne}
-use Rattle.stream_host.specs.declared.Stop.TheVariants.{End, LongLine, TooLarge, Reset}
+use Rattle.stream_host.specs.declared.Stop.TheVariants.{End, LongLine, TooLarge, Reset, Alarm}
 use Rattle.code_table.specs.Tables.{query}
 use Rattle.status_report.specs.Answering.{answers_in, is_bye, is_report}
 use Rattle.stream_host.specs.Jobs.{resume, is_long, holds_reset, served}
@@ -397,13 +398,25 @@ awaits_report h = is_waiting (asking_of h)
 
 -- ---- the end
 
--- why it sends no more: by how the reading goes, the line that is being scanned, and the number of those before it
+-- an alarm was got
+abbrev pub has_alarm : Journal → Bool
+has_alarm h = list_any is_alarm (got_of h)
+
+-- why it sends no more of the job: by how the reading goes, the line that is being scanned, and the number of those before it
 abbrev pub stop_at : Reading → List ℕ → ℕ → Stop
 stop_at Large raw lines = TooLarge
 stop_at _ raw lines = cond (is_long raw) (LongLine (lines + 1)) (cond (holds_reset raw) Reset End)
 
+abbrev pub job_stop_of : Journal → Stop
+job_stop_of h = stop_at (reading_of h) (raw_of h) (length (cut_of h))
+
+-- where nothing of the job ends the sending, an alarm does: at the first line that has no answer
+abbrev pub or_alarm : (alarm : Bool) → (answered : ℕ) → Stop → Stop
+or_alarm true answered End = Alarm (answered + 1)
+or_alarm alarm answered stop = stop
+
 abbrev pub stop_of : Journal → Stop
-stop_of h = stop_at (reading_of h) (raw_of h) (length (cut_of h))
+stop_of h = or_alarm (has_alarm h) (answered_of h) (job_stop_of h)
 
 -- ---- the console
 

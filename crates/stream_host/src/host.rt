@@ -1,18 +1,18 @@
 //! The host.
 
-ghost use Rattle.std.specs.Prelude.{◌+◌, ◌≡◌, ◌≢◌, ◌↔◌, ◌≤◌, ◌<◌, ◌∷◌, [], ◌++◌, ℕ, List, true, false, length, ◌||◌, Bool, Some, None, cond, nat_eq};
+ghost use Rattle.std.specs.Prelude.{◌+◌, ◌≡◌, ◌≢◌, ◌↔◌, ◌≤◌, ◌<◌, ◌∷◌, [], ◌++◌, ℕ, List, true, false, length, ◌||◌, Bool, Some, None, cond};
 ghost use Rattle.status_report.specs.Replies.{IsReply};
 ghost use Rattle.outside.specs.declared.Turn.TheVariants.{Did};
 ghost use Rattle.text_writer.specs.Writers.{is_due};
 ghost use Rattle.stream_host.specs.Ports.{AnswersLines};
-ghost use Rattle.stream_host.specs.Steps.{Journal, port_log, got_of, stop_of, stop_at, raw_of, cut_of, reading_of, has_given_up, answered_of, errors_of, awaits_report};
-ghost use Rattle.stream_host.specs.Holding.{held_after, pauses};
+ghost use Rattle.run_rules.specs.Work.{is_alarm};
+ghost use Rattle.stream_host.specs.Steps.{Journal, port_log, got_of, has_alarm, job_stop_of, or_alarm, stop_of, stop_at, raw_of, cut_of, reading_of, has_given_up, answered_of, errors_of, awaits_report};
+ghost use Rattle.stream_host.specs.Holding.{pauses};
 ghost use Rattle.stream_host.specs.Steps.PortStep.{stored, raised, got, no_reply, shut};
 ghost use Rattle.stream_host.specs.Steps.Step.{at_port, scanned, turned};
 ghost use Rattle.status_report.specs.Answering.{answers_in, is_bye};
 ghost use Rattle.stream_host.specs.Jobs.{resume};
-ghost use Rattle.code_table.specs.Tables.{query};
-ghost use Rattle.stream_host.specs.Conduct.{AreAnswered, may_be_held, IsGreeted, IsSettled};
+ghost use Rattle.stream_host.specs.Conduct.{AreAnswered, waits_for_lines, may_be_held, IsGreeted, IsSettled, MayShut};
 ghost use Rattle.stream_host.specs.Hosts.{HostFits, HostWorked, HostTurned, HostTellsOn, HasPolled, IsBetween, DidAlone, MayScanOn, MayReadOn, HasRoom, HasShown, HostRests, HasLine, KeepsLine, KeepsCounts, is_over, unread, shown};
 ghost use Rattle.outside.specs.Causes.{SourceState, SinkState};
 ghost use Rattle.gcode_words.specs.Stripping.{plain};
@@ -22,6 +22,7 @@ use crate::line::{Asking, SentLine};
 use crate::pause::has_pause;
 use crate::ports::HostPort;
 use crate::reader::{Gave, LARGEST_JOB, Reader};
+use crate::realtime::{RESUME, is_held_after, pause_after, waits_for_lines};
 use crate::{Reading, Stop};
 use outside::{On, Sink, Source, Turn};
 use serial_ring::Stored;
@@ -38,15 +39,6 @@ const EMPTY_POLLS: u16 = 4096;
 /// Half as many are enough to read on where the machine may be held, or the board has said nothing yet.
 const HELD_POLLS: u16 = 2048;
 
-/// The realtime byte that holds the machine.
-const HOLD: u8 = b'!';
-
-/// The realtime byte that resumes the machine.
-const RESUME: u8 = b'~';
-
-/// The realtime byte that asks for a report.
-const QUERY: u8 = b'?';
-
 /// Reads a job, raises its realtime bytes, sends its lines by counting characters, and shows the replies.
 #[derive(Drop)]
 pub struct Host {
@@ -59,6 +51,8 @@ pub struct Host {
     /// A `!` was raised, and no `~` since.
     held: bool,
     greeted: bool,
+    /// An alarm was got.
+    alarm: bool,
     shut: bool,
     bye: bool,
 }
@@ -77,6 +71,7 @@ impl Host {
             polls: 0,
             held: false,
             greeted: false,
+            alarm: false,
             shut: false,
             bye: false,
         }
@@ -95,9 +90,9 @@ impl Host {
         }
     }
 
-    /// Why the sending ended: End until another cause comes.
-    pub fn stop(&self) -> Stop
-        ensures { (h : Journal) → HostFits self.now h → result ≡ stop_of h }
+    /// What the job says of it.
+    fn stop_in_job(&self) -> Stop
+        ensures { (h : Journal) → HostFits self.now h → result ≡ job_stop_of h }
     {
         match self.job.reading {
             Reading::Large => Stop::TooLarge,
@@ -105,6 +100,28 @@ impl Host {
             Reading::Failed => self.stop_in_line(),
             Reading::Stopped => self.stop_in_line(),
         }
+    }
+
+    /// Why the sending ended: End until another cause comes. An alarm is told where the job gives no cause, by the number of
+    /// the first line that has no answer.
+    pub fn stop(&self) -> Stop
+        ensures { (h : Journal) → HostFits self.now h → result ≡ stop_of h }
+    {
+        let stop = self.stop_in_job();
+        match stop {
+            Stop::End => self.stop_at_alarm(),
+            _ => stop,
+        }
+    }
+
+    /// The same where the job gives no cause.
+    fn stop_at_alarm(&self) -> Stop
+        ensures { (h : Journal) → HostFits self.now h → result ≡ or_alarm (has_alarm h) (answered_of h) Stop.End }
+    {
+        if !self.alarm {
+            return Stop::End;
+        }
+        Stop::Alarm(self.counts.answered.saturating_add(1))
     }
 
     /// How many `ok` and `error` replies were got.
@@ -189,6 +206,7 @@ impl Host {
         self.asking = self.asking.told(reply);
         self.polls = 0;
         self.greeted = true;
+        self.alarm = is_alarmed_after(reply, self.alarm);
     }
 
     /// Whether the next byte may be scanned.
@@ -207,10 +225,12 @@ impl Host {
     fn scan_byte(&mut self)
         requires may { MayScanOn self.old }
         requires going { self.old.shut ≡ false }
+        requires calm { self.old.alarm ≡ false }
         requires fits { (h : Journal) × HostFits self.old h }
         ensures fits { (h : Journal) → HostFits self.old h → (b : ℕ) × HostFits self.new (scanned b ∷ h) }
         ensures text { self.new.text ≡ self.old.text }
         ensures shut { self.new.shut ≡ self.old.shut }
+        ensures alarm { self.new.alarm ≡ self.old.alarm }
         ensures fewer { length (unread self.new.job) < length (unread self.old.job) }
     {
         let byte = self.job.next_byte();
@@ -226,6 +246,7 @@ impl Host {
     fn scan(&mut self)
         requires may { MayScanOn self.old }
         requires going { self.old.shut ≡ false }
+        requires calm { self.old.alarm ≡ false }
         requires fits { (h : Journal) × HostFits self.old h }
         ensures { (h : Journal) → HostFits self.old h → (next : Journal) × DidAlone self.old self.new h next
             × ((job : SourceState) (console : SinkState) → HostTellsOn self.old self.new h next job job console console) }
@@ -241,6 +262,7 @@ impl Host {
         requires may { MayReadOn self.old }
         requires shown { HasShown self.old.text }
         requires going { self.old.shut ≡ false }
+        requires calm { self.old.alarm ≡ false }
         requires settled { (h : Journal) → HostFits self.old h → IsSettled h }
         requires fits { (h : Journal) × HostFits self.old h }
         ensures { (h : Journal) → HostFits self.old h → (next : Journal) × DidAlone self.old self.new h next
@@ -256,11 +278,11 @@ impl Host {
         }
     }
 
-    /// Whether a byte that is due is not raised yet: a `?` waits until each line before its own is answered.
+    /// Whether a byte that is due is not raised yet: a `?` or a cancel waits until each line before its own is answered.
     fn is_early(&self, byte: u8) -> bool
-        ensures { (h : Journal) → HostFits self.now h → (result ≡ false) ↔ (byte ≡ query → AreAnswered h) }
+        ensures { (h : Journal) → HostFits self.now h → (result ≡ false) ↔ (waits_for_lines byte ≡ true → AreAnswered h) }
     {
-        byte == QUERY && self.counts.answered < self.counts.lines
+        waits_for_lines(byte) && self.counts.answered < self.counts.lines
     }
 
     /// Whether the line in hand is not stored yet: it waits for a report that it asked for, or the lines that have no answer
@@ -274,7 +296,8 @@ impl Host {
     /// Raises the byte that is due.
     fn raise<P: HostPort>(&mut self, port: &mut P, byte: u8)
         requires due { self.old.line.due ≡ Some byte }
-        requires after { (h : Journal) → HostFits self.old h → byte ≡ query → AreAnswered h }
+        requires calm { self.old.alarm ≡ false }
+        requires after { (h : Journal) → HostFits self.old h → waits_for_lines byte ≡ true → AreAnswered h }
         requires stands { (rest : P.Rest) × (h : Journal) × P.stands port.old rest (port_log h) × HostFits self.old h }
         ensures raised { (rest : P.Rest) (h : Journal) → P.stands port.old rest (port_log h) → HostFits self.old h → (down : Bool) × P.stands port.new rest (raised byte down ∷ port_log h)
             × HostFits self.new (at_port (raised byte down) ∷ h) }
@@ -310,6 +333,7 @@ impl Host {
     /// Stores the next byte of the line in hand.
     fn store<P: HostPort>(&mut self, port: &mut P)
         requires storing { self.old.line.whole ≡ true }
+        requires calm { self.old.alarm ≡ false }
         requires room { self.old.counts.unanswered.total ≤ 128 }
         requires reported { self.old.asking ≢ Asking.Awaits }
         requires stands { (rest : P.Rest) × (h : Journal) × P.stands port.old rest (port_log h) × HostFits self.old h }
@@ -326,11 +350,8 @@ impl Host {
 
     /// Closes the link.
     fn close<P: HostPort>(&mut self, port: &mut P)
-        requires scanning { self.old.line.whole ≡ false }
         requires going { self.old.shut ≡ false }
-        requires none_due { self.old.line.due ≡ None }
-        requires no_scan { MayScanOn self.old → ⊥ }
-        requires no_read { MayReadOn self.old → ⊥ }
+        requires may { (h : Journal) → HostFits self.old h → MayShut h }
         requires stands { (rest : P.Rest) × (h : Journal) × P.stands port.old rest (port_log h) × HostFits self.old h }
         ensures closed { (rest : P.Rest) (h : Journal) → P.stands port.old rest (port_log h) → HostFits self.old h → P.stands port.new rest (shut ∷ port_log h)
             × HostFits self.new (at_port shut ∷ h) }
@@ -383,9 +404,42 @@ impl Host {
             && matches!(self.job.reading, Reading::Stopped)
     }
 
+    /// Nothing more is sent: the link is closed, and then replies are waited for.
+    fn send_no_more<P: HostPort>(&mut self, port: &mut P) -> Turn
+        requires alarm { self.old.alarm ≡ true }
+        requires shown { HasShown self.old.text }
+        requires stands { (rest : P.Rest) × (h : Journal) × P.stands port.old rest (port_log h) × HostFits self.old h × HasPolled h }
+        ensures goes_on { (rest : P.Rest) (h : Journal) → P.stands port.old rest (port_log h) → HostFits self.old h → HasPolled h
+            → (next : Journal) × P.stands port.new rest (port_log next) × HostWorked result self.old self.new h next
+            × ((job : SourceState) (console : SinkState) → HostTellsOn self.old self.new h next job job console console) }
+        ensures going { result ≢ Turn.Done }
+    {
+        if self.shut {
+            return Turn::Wait(On::Answer);
+        }
+        self.close(port);
+        Turn::Did
+    }
+
+    /// Takes one step of sending, or none behind an alarm.
+    fn send<P: HostPort, So: Source>(&mut self, port: &mut P, job: &mut So) -> Turn
+        requires shown { HasShown self.old.text }
+        requires stands { (rest : P.Rest) × (h : Journal) × P.stands port.old rest (port_log h) × HostFits self.old h × HasPolled h }
+        ensures goes_on { (rest : P.Rest) (h : Journal) → P.stands port.old rest (port_log h) → HostFits self.old h → HasPolled h
+            → (next : Journal) × P.stands port.new rest (port_log next) × HostWorked result self.old self.new h next
+            × ((console : SinkState) → HostTellsOn self.old self.new h next (So.state job.old) (So.state job.new) console console) }
+        ensures going { result ≢ Turn.Done }
+    {
+        if self.alarm {
+            return self.send_no_more(port);
+        }
+        self.send_on(port, job)
+    }
+
     /// Takes one step of sending: raises a byte, stores one, scans, reads once nothing is awaited, or closes the link. Where
     /// it may do none, a reply is waited for.
-    fn send<P: HostPort, So: Source>(&mut self, port: &mut P, job: &mut So) -> Turn
+    fn send_on<P: HostPort, So: Source>(&mut self, port: &mut P, job: &mut So) -> Turn
+        requires calm { self.old.alarm ≡ false }
         requires shown { HasShown self.old.text }
         requires stands { (rest : P.Rest) × (h : Journal) × P.stands port.old rest (port_log h) × HostFits self.old h × HasPolled h }
         ensures goes_on { (rest : P.Rest) (h : Journal) → P.stands port.old rest (port_log h) → HostFits self.old h → HasPolled h
@@ -511,25 +565,11 @@ impl Host {
     }
 }
 
-/// Whether the machine may be held behind a realtime byte: a `!` holds it, a `~` resumes it.
-fn is_held_after(byte: u8, held: bool) -> bool
-    ensures { result ≡ held_after byte held }
+/// Whether an alarm was got, with a reply more.
+fn is_alarmed_after(reply: &Reply, alarm: bool) -> bool
+    ensures { result ≡ (alarm || is_alarm reply.now) }
 {
-    match byte {
-        HOLD => true,
-        RESUME => false,
-        _ => held,
-    }
-}
-
-/// The number of the last line that asks for a pause, behind a realtime byte: a `~` ends all pauses before it.
-fn pause_after(byte: u8, pause: u32) -> u32
-    ensures { result ≡ cond (nat_eq byte resume) 0 pause }
-{
-    match byte {
-        RESUME => 0,
-        _ => pause,
-    }
+    alarm || matches!(reply, Reply::Alarm(_))
 }
 
 /// The line in hand is over, and is to be stored.

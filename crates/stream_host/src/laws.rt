@@ -6,27 +6,27 @@ ghost use Rattle.run_rules.specs.Lines.{whole_lines};
 ghost use Rattle.run_rules.specs.Readings.{largest_job, largest_piece};
 ghost use Rattle.stream_host.specs.Links.{behind, on_link};
 ghost use Rattle.status_report.specs.Answering.{receive_room, lfs_in};
-ghost use Rattle.stream_host.specs.Jobs.{served_in, ends_sending, lines_read, lines_to_send, IsSent, IsSentSoFar};
+ghost use Rattle.stream_host.specs.Jobs.{served_in, ends_sending, lines_read, lines_to_send, stop_by, IsSent, IsSentSoFar};
 ghost use Rattle.stream_host.specs.declared.Reading.{Reading};
 ghost use Rattle.std.specs.List.{AllByRecursion};
-ghost use Rattle.stream_host.specs.Steps.{Journal, stored_of, got_of, is_shut, answered_of, errors_of, read_of, reading_of, scanned_of, cut_of, to_store, begun_of, due_of, stop_of, port_log, raises_of, line_raises_of, resumes_of, polls_of, awaits_report, all_empty_in, empty_polls};
+ghost use Rattle.stream_host.specs.Steps.{Journal, stored_of, got_of, is_shut, answered_of, errors_of, read_of, reading_of, scanned_of, cut_of, to_store, begun_of, due_of, has_alarm, job_stop_of, or_alarm, stop_of, port_log, raises_of, line_raises_of, resumes_of, polls_of, awaits_report, all_empty_in, empty_polls};
 ghost use Rattle.stream_host.specs.Steps.Step.{at_port};
 ghost use Rattle.stream_host.specs.Steps.PortStep.{raised};
-ghost use Rattle.code_table.specs.Tables.{query};
 ghost use Rattle.run_rules.specs.Reports.{AreReported};
-ghost use Rattle.stream_host.specs.Conduct.{AwaitsSome, Conducted, MayStore, Waits};
+ghost use Rattle.stream_host.specs.Conduct.{AwaitsSome, Conducted, MayStore, Waits, waits_for_lines};
 ghost use Rattle.outside.specs.Causes.{SourceState, SinkState};
 ghost use Rattle.stream_host.specs.declared.host.Host.{Host};
 ghost use Rattle.stream_host.specs.Hosts.{HostFits, HostRests, TellsJob, TellsText};
-ghost use Rattle.stream_host.specs.Ran.{AreRaised, HostRan, HostRuns, HasFinished, TellsConsole, end_of};
+ghost use Rattle.stream_host.specs.Ran.{AreRaised, HostRan, HostRuns, SentNoMore, HasFinished, TellsConsole, end_of};
 
 /// What a host that keeps to its rules stores is what is kept of the lines that it cuts, each with LF. These are the lines
 /// that are sent of the job, and what it scans, and why it stops, is what the job allows: so far, and all once it has
-/// closed the link.
+/// closed the link and got no alarm. Where the job gives no cause, an alarm is one, at the first line that has no answer.
 pub fn hosts_send_their_lines()
     ensures stored { (h : Journal) → Conducted h → stored_of h ++ to_store h ≡ on_link (cut_of h) }
-    ensures so_far { (h : Journal) → Conducted h → IsSentSoFar (read_of h) (reading_of h) (scanned_of h) (cut_of h) (stop_of h) }
-    ensures whole { (h : Journal) → Conducted h → is_shut h ≡ true →
+    ensures so_far { (h : Journal) → Conducted h → IsSentSoFar (read_of h) (reading_of h) (scanned_of h) (cut_of h) (job_stop_of h) }
+    ensures stop { (h : Journal) → Conducted h → stop_of h ≡ or_alarm (has_alarm h) (answered_of h) (stop_by (reading_of h) (scanned_of h)) }
+    ensures whole { (h : Journal) → Conducted h → is_shut h ≡ true → has_alarm h ≡ false →
         IsSent (read_of h) (reading_of h) (scanned_of h) (cut_of h) (stop_of h) × (stored_of h ≡ on_link (cut_of h)) }
 {}
 
@@ -40,19 +40,25 @@ pub fn hosts_keep_to_their_count()
     ensures bytes { (h : Journal) → Conducted h → length (stored_of h) ≤ largest_job + 1 }
 {}
 
-/// Of the realtime bytes that a host scans, each that is served is raised once, in order, or is due: none is while a byte of
-/// the line that it stands in may be stored. What else is raised are its own resumes. Before each of them 4,096 polls in a
-/// row found no reply, and no more. A `?` is raised once each line before its own is answered, and each line that asks for a
-/// report and has its answer has a report, behind the answers to the lines before it.
+/// The realtime bytes that a host scans are raised once, in order, or are due: none is while a byte of the line that it
+/// stands in may be stored. What else is raised are its own resumes. Before each of them 4,096 polls in a row found no
+/// reply, and no more. A `?` and the cancel of a jog are raised once each line before their own is answered, and each line
+/// that asks for a report and has its answer has a report, behind the answers to the lines before it.
 pub fn hosts_raise_what_they_scan()
     ensures raised { (h : Journal) → Conducted h → AreRaised (scanned_of h) (raises_of h) (due_of h) (resumes_of h) }
     ensures in_order { (h : Journal) → Conducted h → line_raises_of h ++ due_of h ≡ served_in (scanned_of h) }
     ensures first { (b : ℕ) (h : Journal) → Conducted h → MayStore b h → due_of h ≡ [] }
-    ensures closed { (h : Journal) → Conducted h → is_shut h ≡ true → due_of h ≡ [] }
-    ensures query { (h : Journal) (down : Bool) → Conducted (at_port (raised query down) ∷ h) → answered_of h ≡ length (cut_of h) }
+    ensures closed { (h : Journal) → Conducted h → is_shut h ≡ true → has_alarm h ≡ false → due_of h ≡ [] }
+    ensures after { (b : ℕ) (h : Journal) (down : Bool) → waits_for_lines b ≡ true → Conducted (at_port (raised b down) ∷ h) → answered_of h ≡ length (cut_of h) }
     ensures reported { (h : Journal) → Conducted h → AreReported (cut_of h) (got_of h) }
     ensures tired { (h : Journal) → Conducted h → polls_of h ≤ empty_polls }
     ensures rested { (h : Journal) → Conducted h → empty_polls * resumes_of h + polls_of h ≤ all_empty_in (port_log h) }
+{}
+
+/// Behind an alarm nothing more of the job is read, scanned, stored or raised, whatever is done later.
+pub fn hosts_stop_at_an_alarm()
+    ensures stays { (later h : Journal) → has_alarm h ≡ true → has_alarm (later ++ h) ≡ true }
+    ensures no_more { (later h : Journal) → Conducted (later ++ h) → has_alarm h ≡ true → SentNoMore h (later ++ h) }
 {}
 
 /// A host whose link is open waits only where it awaits something: the banner, the answer to a line that it has sent, or a

@@ -8,6 +8,7 @@ mod line;
 mod pause;
 mod ports;
 mod reader;
+mod realtime;
 #[cfg(test)]
 mod tests;
 mod unanswered;
@@ -15,7 +16,7 @@ mod unanswered;
 pub use host::Host;
 pub use laws::{
     hosts_have_run, hosts_keep_to_their_count, hosts_raise_what_they_scan, hosts_send_their_lines,
-    hosts_wait_for_answers, links_carry_lines,
+    hosts_stop_at_an_alarm, hosts_wait_for_answers, links_carry_lines,
 };
 pub use ports::HostPort;
 

@@ -1,11 +1,11 @@
 //! The line in hand: first it is scanned, then it is stored.
 
 ghost use Rattle.std.specs.Prelude.{◌≡◌, ◌≢◌, ℕ, ◌+◌, ◌≤◌, ◌<◌, ◌++◌, ◌∷◌, [], List, take, drop, length, cond, nat_eq, nat_lt, true, false, option_to_list, None};
-ghost use Rattle.std.specs.List.{filter, list_any};
+ghost use Rattle.std.specs.List.{list_any};
 ghost use Rattle.code_table.specs.Tables.{query};
 ghost use Rattle.gcode_words.specs.Stripping.{taken_by};
 ghost use Rattle.status_report.specs.Answering.{is_report};
-ghost use Rattle.stream_host.specs.Jobs.{is_served, is_reset};
+ghost use Rattle.stream_host.specs.Jobs.{is_reset};
 ghost use Rattle.stream_host.specs.Steps.{more_served, asked_more, got_one};
 ghost use Rattle.stream_host.specs.declared.line.Asking.TheVariants.{Nothing};
 ghost use Rattle.stream_host.specs.Hosts.{HasLine, KeepsDue, is_over};
@@ -72,19 +72,12 @@ impl Asking {
     }
 }
 
-/// Whether a realtime byte is raised.
-fn is_served(byte: u8) -> bool
-    ensures { result ≡ is_served byte }
-{
-    byte != 0x85
-}
-
 /// The realtime byte that is to be raised, where a byte of a line is one.
 fn due_in(stripped: Stripped) -> Option<u8>
-    ensures { KeepsDue result (filter is_served (taken_by stripped)) }
+    ensures { KeepsDue result (taken_by stripped) }
 {
     match stripped {
-        Stripped::Realtime(byte) if is_served(byte) => Some(byte),
+        Stripped::Realtime(byte) => Some(byte),
         _ => None,
     }
 }

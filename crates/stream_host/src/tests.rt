@@ -9,18 +9,19 @@ use outside::{MemSink, MemSource, On, Sink, Turn};
 use overrides::Overrides;
 use realtime_flags::Raised;
 use serial_ring::Stored;
-use status_report::{Reply, Report, State};
+use status_report::{Message, Reply, Report, State};
 use std::marker::Model;
 use std::test::Fail;
 use units::Nm3;
 
 /// A board that takes each byte at once, also those that are raised. It tells the banner, reports where it was asked
-/// to, answers the lines one by one, and says Bye once the link is closed and each line has its answer. So many polls
-/// find no reply before each.
+/// to, answers the lines one by one, and says Bye once the link is closed and each line has its answer. A line may raise an
+/// alarm: no line from there on has an answer. So many polls find no reply before each reply.
 #[derive(Drop)]
 struct Board<'a> {
     taken: MemSink<'a>,
-    /// Among what is taken stand a `<` for each report and a `=` for each answer, at the place where they are told.
+    /// Among what is taken stand a `<` for each report, a `=` for each answer and a `#` for an alarm, at the place where they
+    /// are told.
     marked: bool,
     /// A `?` was raised, and nothing is reported since.
     asked: bool,
@@ -29,6 +30,10 @@ struct Board<'a> {
     told: u32,
     /// Every second line is refused.
     strict: bool,
+    /// The number of the line that raises an alarm, or 0.
+    limit: u32,
+    /// An alarm is told, and its message is not.
+    locks: bool,
     pause: u32,
     polls: u32,
     shut: bool,
@@ -130,6 +135,16 @@ impl HostPort for Board<'_> {
             self.mark(b'<');
             return Some(self.report());
         }
+        if self.locks {
+            self.locks = false;
+            return Some(Reply::Message(Message::ResetToContinue));
+        }
+        if self.owed > 0 && self.told == self.limit {
+            self.owed = 0;
+            self.locks = true;
+            self.mark(b'#');
+            return Some(Reply::Alarm(2));
+        }
         if self.owed > 0 {
             self.owed -= 1;
             self.mark(b'=');
@@ -184,6 +199,8 @@ impl<'a> Line<'a> {
                 owed: 0,
                 told: 0,
                 strict,
+                limit: 0,
+                locks: false,
                 pause,
                 polls: pause,
                 shut: false,
@@ -341,7 +358,7 @@ fn realtime_bytes_are_raised(rt: HostRuntime) -> Result<(), Fail> {
         (b"!G0X1~\n", b"!~G0X1\n"),
         (b"G0!X1\n~M2\n!", b"!G0X1\n~M2\n!\n"),
         (b"G0(!)X1;~\n(~", b"G0X1\n\n"),
-        (b"?G0X1\x85\n", b"?G0X1\n"),
+        (b"?G0X1\x85\n", b"?\x85G0X1\n"),
         (b"X1\n~G0\x18X2\n!", b"X1\n~\x18"),
         (b"\xA0G0\x91\n", b"\xA0\x91G0\n"),
         (b"!!!!\n", b"!!!!\n"),
@@ -367,12 +384,13 @@ fn realtime_bytes_are_raised(rt: HostRuntime) -> Result<(), Fail> {
 }
 
 /// A `?` is raised once each line before its own is answered, and its line is stored once something is reported. One in a
-/// comment is not raised, and one in a rest that is never sent holds nothing up.
+/// comment is not raised, and one in a rest that is never sent holds nothing up. A cancel is raised once the lines before
+/// its own are answered too, and its line waits for nothing more; a `!` waits for no answer.
 #[test]
-fn reports_are_asked_for(rt: HostRuntime) -> Result<(), Fail> {
+fn queries_and_cancels_wait_for_lines(rt: HostRuntime) -> Result<(), Fail> {
     let waits = Turn::Wait(On::Answer);
     let none: &[u64] = &[];
-    let rows: [(&[u8], u32, &[u64], &[u8], Turn); 9] = [
+    let rows: [(&[u8], u32, &[u64], &[u8], Turn); 13] = [
         (b"?\n", 0, none, b"?<\n=", Turn::Done),
         (b"G0\n?G1?\n", 0, none, b"G0\n=?<?<G1\n=", Turn::Done),
         (b"G0\n?G1?\n", 6, none, b"G0\n=??<G1\n=", Turn::Done),
@@ -382,6 +400,22 @@ fn reports_are_asked_for(rt: HostRuntime) -> Result<(), Fail> {
         (b"?G0\nM2\n", u32::MAX, none, b"?", waits),
         (b"G0\nM2?", 6, &[2], b"G0\n=?<", Turn::Done),
         (b"G0\nM2?", 0, &[2], b"G0\n=?<", Turn::Done),
+        (b"\x85\n", 20, none, b"\x85\n=", Turn::Done),
+        (
+            b"G0\n\x85G1\x85\n",
+            20,
+            none,
+            b"G0\n=\x85\x85G1\n=",
+            Turn::Done,
+        ),
+        (
+            b"G0\n!\x85?G1\n",
+            20,
+            none,
+            b"G0\n!=\x85?<G1\n=",
+            Turn::Done,
+        ),
+        (b"G0\n!M2\x85\n", u32::MAX, none, b"G0\n!", waits),
     ];
     for (i, (bytes, pause, bad_reads, taken, last)) in rows.iter().enumerate() {
         let mut job = MemSource::new(bytes, 4096, bad_reads);
@@ -440,6 +474,54 @@ fn jobs_are_read_on_once_all_is_answered(rt: HostRuntime) -> Result<(), Fail> {
         let mut line = Line::new(MemSink::new(rt.alloc(), 400, &[])?, false, *pause);
         line.run(Turn::Done, *turns, &mut job, &mut console);
         assert!(rt; line.board.taken.held() == *taken, "row {i}");
+    }
+    Ok(())
+}
+
+/// Behind an alarm nothing more is read, stored or raised, not even the rest of a line: the link is closed, and what is told
+/// is shown. The stop is the first line that has no answer, unless the job gives a cause before.
+#[test]
+fn alarms_end_the_sending(rt: HostRuntime) -> Result<(), Fail> {
+    let alarm = "ALARM:2\r\n[MSG:Reset to continue]\r\n";
+    let mut too_long = Vec::new(rt.alloc());
+    too_long.extend_from_slice(b"G0\n")?;
+    for _ in 0..128 {
+        too_long.push(b'X')?;
+    }
+    // the job, the size of its pieces, the polls before each reply, the line that raises the alarm, what the board has, and
+    // how many lines are answered
+    let rows: [(&[u8], usize, u32, u32, &[u8], u32, Stop); 8] = [
+        (b"G1\nG2\nG3\n", 3, 0, 1, b"G1\n#", 0, Stop::Alarm(1)),
+        (b"G1\nG2\nG3\n", 3, 0, 2, b"G1\n=G2\n#", 1, Stop::Alarm(2)),
+        (
+            b"G1\nG2\nG3\n",
+            9,
+            5,
+            2,
+            b"G1\nG2\n=G3\n#",
+            1,
+            Stop::Alarm(2),
+        ),
+        (b"G1\nG2\n!G3\n", 99, 8, 1, b"G1\nG#", 0, Stop::Alarm(1)),
+        (b"G1\n!~G2X1\n", 99, 2, 1, b"G1\n!#", 0, Stop::Alarm(1)),
+        (b"G1\n?\x85G2\n", 99, 4, 1, b"G1\n#", 0, Stop::Alarm(1)),
+        (b"G1\nG2", 99, 20, 2, b"G1\n=G2\n#", 1, Stop::Alarm(2)),
+        (&too_long, 999, 20, 1, b"G0\n#", 0, Stop::LongLine(2)),
+    ];
+    for (i, (bytes, piece, pause, limit, taken, answered, stop)) in rows.iter().enumerate() {
+        let mut job = MemSource::new(bytes, (*piece).max(1), &[]);
+        let mut console = MemSink::new(rt.alloc(), 400, &[])?;
+        let sink = MemSink::new(rt.alloc(), 400, &[])?;
+        let mut line = Line::marked(sink, false, *pause, true);
+        line.board.limit = *limit;
+        let last = line.run(Turn::Done, 400, &mut job, &mut console);
+        assert_eq!(rt; last, Turn::Done, "row {i}");
+        assert!(rt; line.board.taken.held() == *taken, "row {i}");
+        assert!(rt; line.board.shut, "row {i}");
+        assert!(rt; console.held().ends_with(alarm.as_bytes()), "row {i}");
+        assert_eq!(rt; line.host.answered(), *answered, "row {i}");
+        assert_eq!(rt; line.host.errors(), 0, "row {i}");
+        assert_eq!(rt; line.host.stop(), *stop, "row {i}");
     }
     Ok(())
 }

@@ -52,15 +52,35 @@ kind_of line =
     unwrap_or (lookup (bytes_eq line) spelled_lines) kinds.Other
 
 -- the kinds that are refused with error 8 while the machine runs, whether or not their lines can be read
-abbrev pub needs_rest : Kind → Bool
-needs_rest kinds.ListSettings = true
-needs_rest kinds.ListModes = false
-needs_rest kinds.Unlock = false
-needs_rest kinds.ListOffsets = true
-needs_rest kinds.Setting = true
-needs_rest kinds.Jog = false
-needs_rest kinds.BareJog = false
-needs_rest kinds.Other = false
+abbrev pub refused_in_run : Kind → Bool
+refused_in_run kinds.ListSettings = true
+refused_in_run kinds.ListModes = false
+refused_in_run kinds.Unlock = false
+refused_in_run kinds.ListOffsets = true
+refused_in_run kinds.Setting = true
+refused_in_run kinds.Jog = true
+refused_in_run kinds.BareJog = true
+refused_in_run kinds.Other = false
+
+-- and those that are refused with it in a jog
+abbrev pub refused_in_jog : Kind → Bool
+refused_in_jog kinds.ListSettings = false
+refused_in_jog kinds.ListModes = false
+refused_in_jog kinds.Unlock = false
+refused_in_jog kinds.ListOffsets = true
+refused_in_jog kinds.Setting = true
+refused_in_jog kinds.Jog = false
+refused_in_jog kinds.BareJog = false
+refused_in_jog kinds.Other = false
+
+-- a jog is none of the commands: it goes by its words
+abbrev pub is_jog : Kind → Bool
+is_jog kinds.Jog = true
+is_jog kind = false
+
+-- the words of a jog stand behind `$J=`
+abbrev pub jog_words : List ℕ → List ℕ
+jog_words line = drop 3 line
 
 -- ---- setting lines, `$n=v`
 

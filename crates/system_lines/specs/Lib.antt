@@ -1,5 +1,4 @@
 pub mod Commands
-pub mod Setting
 pub use Rattle.units.specs.Decimals
 pub use Rattle.units.specs.Reading
 pub use Rattle.code_table.specs.Refusals

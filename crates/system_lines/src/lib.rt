@@ -1,11 +1,9 @@
 //! Lines that begin with `$`: their kinds, what they ask for, and the settings that they set.
 #![tactic(auto)]
 
-ghost use Rattle.std.specs.Prelude.{◌≡◌, ◌<◌, ◌≤◌, ◌*◌, ◌/◌, ◌%◌, false, IfOk, IfErr, IfSome, IfNone, OnOk, OnErr, Some, None, Ok, Err, IsErr, is_some, IsTrue, length, slice_get, nat_abs};
-ghost use Rattle.code_table.specs.Tables.{value_of};
-ghost use Rattle.settings.specs.Numbers.{values, value_set, with_value, IsSettings};
-ghost use Rattle.system_lines.specs.Commands.{number_at, is_setting_number, setting_refusal, asked, unless, kind_of, needs_rest, command_by_kind, command_of};
-ghost use Rattle.system_lines.specs.Setting.{turns_soft_limits_on, apply_refusal};
+ghost use Rattle.std.specs.Prelude.{◌≡◌, ◌<◌, ◌≤◌, ◌/◌, IfOk, IfErr, IfSome, OnOk, OnErr, Some, None, Ok, IsErr, is_some, length, slice_get, nat_abs};
+ghost use Rattle.settings.specs.Numbers.{values, value_set, with_value, set_refusal, IsSettings};
+ghost use Rattle.system_lines.specs.Commands.{number_at, is_setting_number, setting_refusal, asked, unless, kind_of, refused_in_run, refused_in_jog, is_jog, jog_words, command_by_kind, command_of};
 
 #[cfg(test)]
 mod tests;
@@ -63,11 +61,39 @@ impl Kind {
         }
     }
 
-    /// Whether lines of this kind are refused with error 8 while the machine runs: `$$`, `$#`, and setting lines.
-    pub fn needs_rest(self) -> bool
-        ensures { result ≡ needs_rest self }
+    /// Whether lines of this kind are refused with error 8 while the machine runs: `$$`, `$#`, setting lines, and those
+    /// that begin with `$J`.
+    pub fn is_refused_in_run(self) -> bool
+        ensures { result ≡ refused_in_run self }
     {
-        matches!(self, Kind::ListSettings | Kind::ListOffsets | Kind::Setting)
+        matches!(
+            self,
+            Kind::ListSettings | Kind::ListOffsets | Kind::Setting | Kind::Jog | Kind::BareJog
+        )
+    }
+
+    /// Whether lines of this kind are refused with error 8 in a jog: `$#`, and setting lines.
+    pub fn is_refused_in_jog(self) -> bool
+        ensures { result ≡ refused_in_jog self }
+    {
+        matches!(self, Kind::ListOffsets | Kind::Setting)
+    }
+
+    /// Whether the words of a jog stand in the line.
+    pub fn is_jog(self) -> bool
+        ensures { result ≡ is_jog self }
+    {
+        matches!(self, Kind::Jog)
+    }
+}
+
+/// The words of a jog, given the bytes that are kept of its line: what stands behind `$J=`.
+pub fn jog_words(line: &[u8]) -> &[u8]
+    ensures { result.now ≡ jog_words line.now }
+{
+    match line {
+        [_, _, _, words @ ..] => words,
+        _ => &[],
     }
 }
 
@@ -153,23 +179,18 @@ pub fn read_command(line: &[u8]) -> Result<Command, Code>
     }
 }
 
-/// Sets what a setting line asks for; soft limits stay off.
+/// Sets what a setting line asks for.
 ///
 /// # Errors
 ///
-/// 3 where the line asks for soft limits, by setting 20 and a value whose whole part isn't 0; else what
-/// `Settings::set` refuses with. Then nothing changes.
+/// What `Settings::set` refuses with. Then nothing changes.
 pub fn apply_setting(settings: &mut Settings, n: u8, value: Decimal) -> Result<(), Code>
     requires { IsSettings settings.old }
-    ensures refused { IfErr result (λ refusal. apply_refusal n value ≡ Some refusal) }
+    ensures refused { IfErr result (λ refusal. set_refusal n value ≡ Some refusal) }
     ensures unchanged { OnErr result (settings.new ≡ settings.old) }
-    ensures passed { OnOk result (apply_refusal n value ≡ None) }
+    ensures passed { OnOk result (set_refusal n value ≡ None) }
     ensures values { OnOk result (values settings.new ≡ with_value n (value_set n value) settings.old) }
-    ensures soft { settings.old.soft ≡ false → settings.new.soft ≡ false }
     ensures valid { IsSettings settings.new }
 {
-    if n == 20 && value.micro.unsigned_abs() >= 1_000_000 {
-        return Err(Code(3));
-    }
     settings.set(u16::from(n), value)
 }

@@ -127,10 +127,11 @@ fn a_long_comment_with_realtime_bytes_is_no_part_of_its_line(rt: HostRuntime) {
 #[test]
 fn a_line_number_may_have_seventy_eight_digits(rt: HostRuntime) {
     let alloc = rt.alloc();
-    let rows: [(usize, &[u8], Status); 3] = [
+    let rows: [(usize, &[u8], Status); 4] = [
         (78, b"ok\r\n", Status::Done),
         (79, b"error:11\r\n", Status::LineErrors(1)),
         (126, b"error:11\r\n", Status::LineErrors(1)),
+        (127, b"", Status::LongLine(1)),
     ];
     for (digits, answers, status) in rows {
         let job = text_of(&rt, alloc, &[(b"N", 1), (b"0", digits)]);

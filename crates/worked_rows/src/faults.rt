@@ -1,5 +1,6 @@
 //! Runs in which a device fails.
 
+use crate::realtime::WORDS;
 use crate::runs::{BANNER, Run, expect, plain_run, text_of};
 use grbl_app::Status;
 use std::alloc::Global;
@@ -13,19 +14,22 @@ fn oks<R: Abort>(rt: &R, alloc: Global, count: usize) -> Vec<u8> {
 #[test]
 fn a_console_that_fails_at_once_keeps_no_event_back(rt: HostRuntime) {
     let alloc = rt.alloc();
-    let run = Run {
-        console_fails: &[1],
-        ..plain_run(b"G0X10")
-    };
     let steps = text_of(&rt, alloc, &[(b"X+\n", 2500), (b"E\n", 1)]);
-    expect(
-        &rt,
-        alloc,
-        &run,
-        b"",
-        steps.as_slice(),
-        Status::ConsoleFault,
-    );
+    for words in WORDS {
+        let run = Run {
+            words,
+            console_fails: &[1],
+            ..plain_run(b"G0X10")
+        };
+        expect(
+            &rt,
+            alloc,
+            &run,
+            b"",
+            steps.as_slice(),
+            Status::ConsoleFault,
+        );
+    }
 }
 
 #[test]
@@ -50,21 +54,24 @@ fn steps_that_fail_at_once_keep_no_answer_back(rt: HostRuntime) {
 fn lines_before_a_failed_read_are_answered_and_made(rt: HostRuntime) {
     let alloc = rt.alloc();
     let job = text_of(&rt, alloc, &[(b"G0X1\n", 8)]);
-    let run = Run {
-        piece: 8,
-        source_fails: &[6],
-        ..plain_run(job.as_slice())
-    };
     let console = oks(&rt, alloc, 8);
     let steps = text_of(&rt, alloc, &[(b"X+\n", 250), (b"E\n", 1)]);
-    expect(
-        &rt,
-        alloc,
-        &run,
-        console.as_slice(),
-        steps.as_slice(),
-        Status::SourceFault,
-    );
+    for words in WORDS {
+        let run = Run {
+            words,
+            piece: 8,
+            source_fails: &[6],
+            ..plain_run(job.as_slice())
+        };
+        expect(
+            &rt,
+            alloc,
+            &run,
+            console.as_slice(),
+            steps.as_slice(),
+            Status::SourceFault,
+        );
+    }
 }
 
 #[test]

@@ -7,7 +7,7 @@ use outside::{MemSink, MemSource, OpenGate};
 #[test]
 fn segments_are_told_with_their_speeds_and_cycles(rt: HostRuntime) {
     let alloc = rt.alloc();
-    let rows: [(&[u8], &[u8]); 10] = [
+    let rows: [(&[u8], &[u8]); 15] = [
         (b"G0X0.004", b"s 1 1 0 320000\nX+\nE\n"),
         (
             b"G0X0.012Y0.008",
@@ -16,6 +16,27 @@ fn segments_are_told_with_their_speeds_and_cycles(rt: HostRuntime) {
         (
             b"G0X0.008Y0.004",
             b"s 1 1 0 226431\nX+\ns 1 1 99993 226431\nX+Y+\nE\n",
+        ),
+        (
+            b"$J=G91X0.012F500",
+            b"s 1 1 0 226951\nX+\ns 1 1 80000 184972\nX+\ns 1 1 80000 226951\nX+\nE\n",
+        ),
+        // A jog goes at its own feed, whatever that of the lines before, in its own units, and by no override.
+        (
+            b"F1\n$J=G91X0.012F500",
+            b"s 2 1 0 226951\nX+\ns 2 1 80000 184972\nX+\ns 2 1 80000 226951\nX+\nE\n",
+        ),
+        (
+            b"$J=X0.008F6",
+            b"s 1 1 0 640000\nX+\ns 1 1 10000 640000\nX+\nE\n",
+        ),
+        (
+            b"\x91\x91\x97$J=X0.008F6",
+            b"s 1 1 0 640000\nX+\ns 1 1 10000 640000\nX+\nE\n",
+        ),
+        (
+            b"F500\n$J=G20X0.0005F0.3",
+            b"s 2 1 0 503938\nX+\ns 2 1 16129 503938\nX+\ns 2 1 16129 503938\nX+\nE\n",
         ),
         (b"G0X0", b"E\n"),
         (b"G20\nG0X0.0001", b"s 2 1 0 320000\nX+\nE\n"),

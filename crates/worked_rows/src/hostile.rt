@@ -57,9 +57,16 @@ fn run_job<R: Threads + Wait + Sync + Abort>(
     }
 }
 
+/// A short move.
+const SHORT: &[u8] = b"G0X0.012Y0.008";
+
+/// What the short move records.
+const SHORT_STEPS: &[u8] =
+    b"s 1 1 0 226895\nX+Y+\ns 1 1 115549 184898\nX+\ns 1 1 115549 226895\nX+Y+\nE\n";
+
 /// The jobs of which each device's calls fail in turn: a short move, and a pocket.
 const JOBS: [&[u8]; 2] = [
-    b"G0X0.012Y0.008",
+    SHORT,
     b"(Pocket 1)\nG90 G94 G17 G21\nM3 S1000\nG0 X5 Y5\nG1 Z-1 F200\nX10\nY10\nX5\nY5\nG0 Z5\nM5\nM30\n",
 ];
 
@@ -156,6 +163,35 @@ fn a_call_that_fails_is_its_devices_fault(rt: HostRuntime) {
 }
 
 #[test]
+fn a_call_that_is_not_made_fails_nothing(rt: HostRuntime) {
+    let alloc = rt.alloc();
+    for words in WORDS {
+        for n in [1, 2, 3, 4, 5, 6] {
+            let fails: &[u64] = &[n];
+            let run = run_job(
+                &rt,
+                alloc,
+                words,
+                SHORT,
+                1_000,
+                Failing {
+                    steps: fails,
+                    ..Failing::default()
+                },
+            );
+            // The steps are one write.
+            let (status, steps): (Status, &[u8]) = if n == 1 {
+                (Status::StepsFault, b"")
+            } else {
+                (Status::Done, SHORT_STEPS)
+            };
+            assert_eq!(rt; run.status, status);
+            assert!(rt; run.steps.as_slice() == steps);
+        }
+    }
+}
+
+#[test]
 fn devices_that_take_a_byte_a_call_get_the_same_texts(rt: HostRuntime) {
     let alloc = rt.alloc();
     for job in JOBS {
@@ -168,6 +204,9 @@ fn devices_that_take_a_byte_a_call_get_the_same_texts(rt: HostRuntime) {
             assert!(rt;
                 without_heads(&rt, alloc, each.steps.as_slice()).as_slice() == ticks.as_slice()
             );
+            if job == SHORT {
+                assert!(rt; each.steps.as_slice() == SHORT_STEPS);
+            }
         }
     }
 }
@@ -219,32 +258,54 @@ fn a_damaged_job_is_answered_line_by_line(rt: HostRuntime) {
 }
 
 #[test]
-fn a_flood_of_questions_is_answered_with_reports(rt: HostRuntime) {
+fn bytes_beyond_ascii_change_no_head(rt: HostRuntime) {
     let alloc = rt.alloc();
-    let job = text_of(&rt, alloc, &[(b"?", 4096), (b"\n", 1)]);
-    let report: &[u8] =
-        b"<Idle|MPos:0.000,0.000,0.000|FS:0,0|WCO:0.000,0.000,0.000|Ov:100,100,100>\r\n";
     for words in WORDS {
-        let mut source = MemSource::new(job.as_slice(), 4096, &[]);
-        let mut console = MemSink::new(alloc, 400_000, &[]).expect(&rt, "memory");
-        let mut steps = MemSink::new(alloc, 100, &[]).expect(&rt, "memory");
-        let status = run_grbl(
+        let run = run_job(
             &rt,
             alloc,
             words,
-            &mut source,
-            &mut console,
-            &mut steps,
-            &OpenGate,
+            b"G0X0.004\xc3\xa9",
+            1_000,
+            Failing::default(),
         );
-        assert_eq!(rt; status, Status::Done);
-        assert!(rt; steps.held() == b"E\n".as_slice());
-        let rest = console.held().strip_prefix(BANNER).expect(&rt, "a banner");
-        let reports = rest.strip_suffix(b"ok\r\n").expect(&rt, "an answer");
-        assert!(rt; !reports.is_empty());
-        assert!(rt; reports.len() <= report.len().saturating_mul(4096));
-        for line in reports.split_inclusive(|byte| *byte == b'\n') {
-            assert!(rt; line == report);
-        }
+        assert!(rt; run.steps.as_slice() == b"s 1 1 0 320000\nX+\nE\n".as_slice());
+    }
+}
+
+#[test]
+fn a_flood_of_questions_is_answered_with_reports(rt: HostRuntime) {
+    let alloc = rt.alloc();
+    for words in WORDS {
+        expect_flood(&rt, alloc, words);
+    }
+    expect_flood(&rt, alloc, &["stream", "--lockstep", "5"]);
+}
+
+/// Runs a flood of `?`: at least one is answered, and each answer is the report of a machine that stands at zero.
+fn expect_flood<R: Threads + Wait + Sync + Abort>(rt: &R, alloc: Global, words: &[&str]) {
+    let job = text_of(rt, alloc, &[(b"?", 4096), (b"\n", 1)]);
+    let report: &[u8] =
+        b"<Idle|MPos:0.000,0.000,0.000|FS:0,0|WCO:0.000,0.000,0.000|Ov:100,100,100>\r\n";
+    let mut source = MemSource::new(job.as_slice(), 4096, &[]);
+    let mut console = MemSink::new(alloc, 400_000, &[]).expect(rt, "memory");
+    let mut steps = MemSink::new(alloc, 100, &[]).expect(rt, "memory");
+    let status = run_grbl(
+        rt,
+        alloc,
+        words,
+        &mut source,
+        &mut console,
+        &mut steps,
+        &OpenGate,
+    );
+    assert_eq!(rt; status, Status::Done);
+    assert!(rt; steps.held() == b"E\n".as_slice());
+    let rest = console.held().strip_prefix(BANNER).expect(rt, "a banner");
+    let reports = rest.strip_suffix(b"ok\r\n").expect(rt, "an answer");
+    assert!(rt; !reports.is_empty());
+    assert!(rt; reports.len() <= report.len().saturating_mul(4096));
+    for line in reports.split_inclusive(|byte| *byte == b'\n') {
+        assert!(rt; line == report);
     }
 }

@@ -2,6 +2,8 @@
 #![tactic(auto)]
 
 #[cfg(test)]
+mod cancels;
+#[cfg(test)]
 mod demos;
 #[cfg(test)]
 mod dialect;
@@ -13,6 +15,10 @@ mod gates;
 mod heads;
 #[cfg(test)]
 mod hostile;
+#[cfg(test)]
+mod jogs;
+#[cfg(test)]
+mod limits;
 #[cfg(test)]
 mod offsets;
 #[cfg(test)]

@@ -118,7 +118,7 @@ fn number_of(digits: &[u8]) -> u64 {
 }
 
 /// The events and the squared speed of a head; None of another line.
-fn head_of(line: &[u8]) -> Option<(u64, u64)> {
+pub(crate) fn head_of(line: &[u8]) -> Option<(u64, u64)> {
     let mut fields = line.split(|byte| *byte == b' ');
     if fields.next() != Some(b"s") {
         return None;
@@ -130,7 +130,7 @@ fn head_of(line: &[u8]) -> Option<(u64, u64)> {
 
 /// Whether the squared speed changes by no more than 80,000 for each event between two heads: as much as an axis with the
 /// generic settings may speed up or slow down.
-fn changes_gradually(steps: &[u8]) -> bool {
+pub(crate) fn changes_gradually(steps: &[u8]) -> bool {
     let mut last: Option<(u64, u64)> = None;
     for line in steps.split(|byte| *byte == b'\n') {
         let Some((events, speed)) = head_of(line) else {

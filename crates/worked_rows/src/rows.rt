@@ -1,6 +1,7 @@
 //! Whole runs over a source and sinks in memory.
 
-use crate::runs::{BANNER, Row, Run, expect, expect_row, without_heads};
+use crate::realtime::WORDS;
+use crate::runs::{BANNER, Row, Run, expect, expect_row, text_of, without_heads};
 use grbl_app::{Status, run_grbl};
 use outside::{MemSink, MemSource, OpenGate};
 
@@ -199,30 +200,33 @@ fn a_device_that_fails_is_told_and_the_others_go_on(rt: HostRuntime) {
 #[test]
 fn steps_that_fail_in_mid_stream_hold_a_front_of_their_text(rt: HostRuntime) {
     let alloc = rt.alloc();
-    let mut source = MemSource::new(b"G0X10", 7, &[]);
-    let mut console = MemSink::new(alloc, 100, &[]).expect(&rt, "memory");
-    let mut steps = MemSink::new(alloc, 10_000, &[2]).expect(&rt, "memory");
-    let words = ["stream"];
-    let status = run_grbl(
-        &rt,
-        alloc,
-        &words,
-        &mut source,
-        &mut console,
-        &mut steps,
-        &OpenGate,
-    );
-    assert_eq!(rt; status, Status::StepsFault);
-    assert!(rt; console.held().len() == 32);
-    let held = steps.held().len();
-    assert!(rt; held > 2000 && held < 7500);
-    let events = without_heads(&rt, alloc, steps.held());
-    assert!(rt;
-        events
-            .as_slice()
-            .chunks(3)
-            .all(|event| b"X+\n".starts_with(event))
-    );
+    let answered = text_of(&rt, alloc, &[(BANNER, 1), (b"ok\r\n", 1)]);
+    for words in WORDS {
+        let mut source = MemSource::new(b"G0X10", 7, &[]);
+        let mut console = MemSink::new(alloc, 100, &[]).expect(&rt, "memory");
+        let mut steps = MemSink::new(alloc, 10_000, &[2]).expect(&rt, "memory");
+        let status = run_grbl(
+            &rt,
+            alloc,
+            words,
+            &mut source,
+            &mut console,
+            &mut steps,
+            &OpenGate,
+        );
+        assert_eq!(rt; status, Status::StepsFault);
+        assert!(rt; console.held() == answered.as_slice());
+        // The first write comes once fewer than 192 of 4,096 bytes are free.
+        let held = steps.held().len();
+        assert!(rt; held > 3_904 && held <= 4_096);
+        let events = without_heads(&rt, alloc, steps.held());
+        assert!(rt;
+            events
+                .as_slice()
+                .chunks(3)
+                .all(|event| b"X+\n".starts_with(event))
+        );
+    }
 }
 
 #[test]

@@ -4,12 +4,12 @@ use crate::runs::{expect_answers, text_of};
 use grbl_app::Status;
 
 /// The settings behind the junction deviation, as they are at first.
-const LATER_SETTINGS: &[u8] =
+pub(crate) const LATER_SETTINGS: &[u8] =
     b"$20=0\r\n$100=250.000\r\n$101=250.000\r\n$102=250.000\r\n$110=500.000\r\n$111=500.000\r\n$112=500.000\r\n$120=10.000\r\n$121=10.000\r\n$122=10.000\r\n$130=200.000\r\n$131=200.000\r\n$132=200.000\r\nok\r\n";
 
 #[test]
 fn a_refused_system_line_is_answered_with_its_number(rt: HostRuntime) {
-    let rows: [(&[u8], &[u8]); 18] = [
+    let rows: [(&[u8], &[u8]); 17] = [
         (b"$Z", b"error:2\r\n"),
         (b"$=1", b"error:2\r\n"),
         (b"$11=", b"error:2\r\n"),
@@ -21,8 +21,7 @@ fn a_refused_system_line_is_answered_with_its_number(rt: HostRuntime) {
         (b"$11=1X", b"error:3\r\n"),
         (b"$256=1", b"error:3\r\n"),
         (b"$11.5=1", b"error:3\r\n"),
-        (b"$20=1", b"error:3\r\n"),
-        (b"$J=X1F100", b"error:3\r\n"),
+        (b"$20=256", b"error:3\r\n"),
         (b"$J", b"error:3\r\n"),
         (b"$", b"error:3\r\n"),
         (b"$I", b"error:3\r\n"),

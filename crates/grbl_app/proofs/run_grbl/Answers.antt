@@ -5,10 +5,20 @@ use Rattle.grbl_app.specs.Demos.{IsDemo}
 use Rattle.grbl_app.proofs.Tasks.{same_moves}
 use Rattle.grbl_app.specs.Ends.{HasRun}
 use Rattle.grbl_app.proofs.Demos.{demo_causes, has_begun}
+use Rattle.grbl_app.proofs.Statuses.{one_cause, tells_faults, demo_tells_faults}
 use Rattle.grbl_app.proofs.run_grbl.Goals as goal
 
 pub returns-in-Ok-stream-clause-complete : goal.returns-in-Ok-stream-clause-complete
 returns-in-Ok-stream-clause-complete g c = λ seed asks words job source console steps. inl (c.in-Ok-stream.ensures.causes.complete job source console steps)
+
+pub returns-in-Ok-stream-clause-no_other : goal.returns-in-Ok-stream-clause-no_other
+returns-in-Ok-stream-clause-no_other g c = λ seed bytes status asks run told can other. one_cause _ _ _ _ bytes _ status told can c.in-Ok-stream.ensures.its_cause other
+
+pub returns-in-Ok-stream-clause-first_fault : goal.returns-in-Ok-stream-clause-first_fault
+returns-in-Ok-stream-clause-first_fault g c = λ run can. tells_faults _ _ _ _ _ can c.in-Ok-stream.ensures.its_cause
+
+pub returns-in-Ok-run_demo-clause-first_fault : goal.returns-in-Ok-run_demo-clause-first_fault
+returns-in-Ok-run_demo-clause-first_fault g c = λ run can. demo_tells_faults _ _ _ _ _ can c.in-Ok-run_demo.ensures.run
 
 pub returns-in-Ok-run_demo-clause-usage : goal.returns-in-Ok-run_demo-clause-usage
 returns-in-Ok-run_demo-clause-usage g c = λ e. absurd (subst HasRun e (demo_causes _ _ _ _ _ _ c.in-Ok-run_demo.ensures.run).has_run)

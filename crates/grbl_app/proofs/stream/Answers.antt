@@ -1,4 +1,5 @@
 use Rattle.grbl_app.proofs.Endings.{has_causes}
+use Rattle.grbl_app.proofs.Statuses.{has_its_cause}
 use Rattle.grbl_app.proofs.stream.Goals as goal
 
 pub returns-clause-run : goal.returns-clause-run
@@ -6,3 +7,6 @@ returns-clause-run g c = record { end = c.in_ok-end.end; run = c.in_ok-end.ensur
 
 pub returns-clause-causes : goal.returns-clause-causes
 returns-clause-causes g c = has_causes _ _ _ _ _ (returns-clause-run g c)
+
+pub returns-clause-its_cause : goal.returns-clause-its_cause
+returns-clause-its_cause g c = has_its_cause _ _ _ _ _ (returns-clause-run g c)

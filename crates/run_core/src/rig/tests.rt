@@ -8,8 +8,8 @@ use std::test::Fail;
 use stream_host::Stop;
 
 /// Jobs with moves that begin and end at rest, and no `$` line behind one, so that all that they give is the same in any order of
-/// turns; one has a word that is refused.
-fn jobs() -> [&'static str; 6] {
+/// turns; one has a word that is refused, and one a line that a soft limit stops.
+fn jobs() -> [&'static str; 7] {
     [
         "",
         "G0X0.004",
@@ -17,6 +17,7 @@ fn jobs() -> [&'static str; 6] {
         "M3S1000\nG0X0.012Y0.008\nM5\n(a comment)\nG0X0Y0\nM2\n",
         "$$\n$#\nG20\nG10L2P1X0.005\nG54\nG0X0.0001\n",
         "G0X0.004\nG4P0\n$10=1\nX0X1\nM0\n~G0X0.02\nM30\n",
+        "$20=1\nG0X-0.004\nG4P0\nG0X-200.004\nG0X-0.008\n",
     ]
 }
 

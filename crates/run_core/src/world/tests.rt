@@ -14,10 +14,11 @@ struct Row<'a> {
     steps: &'a str,
     answered: u32,
     errors: u32,
+    stop: Stop,
 }
 
-/// Worked rows.
-fn rows() -> [Row<'static>; 5] {
+/// Worked rows. The last two end in a line that a soft limit stops.
+fn rows() -> [Row<'static>; 7] {
     [
         Row {
             job: "",
@@ -25,6 +26,7 @@ fn rows() -> [Row<'static>; 5] {
             steps: "E\n",
             answered: 0,
             errors: 0,
+            stop: Stop::End,
         },
         Row {
             job: "G0X0.004",
@@ -32,6 +34,7 @@ fn rows() -> [Row<'static>; 5] {
             steps: "s 1 1 0 320000\nX+\nE\n",
             answered: 1,
             errors: 0,
+            stop: Stop::End,
         },
         Row {
             job: "G1X1",
@@ -39,6 +42,7 @@ fn rows() -> [Row<'static>; 5] {
             steps: "E\n",
             answered: 1,
             errors: 1,
+            stop: Stop::End,
         },
         Row {
             job: "G0X0\n\nG4P0\n",
@@ -46,6 +50,7 @@ fn rows() -> [Row<'static>; 5] {
             steps: "D 0\nE\n",
             answered: 3,
             errors: 0,
+            stop: Stop::End,
         },
         Row {
             job: "G20\nG0X0.0001",
@@ -53,6 +58,23 @@ fn rows() -> [Row<'static>; 5] {
             steps: "s 2 1 0 320000\nX+\nE\n",
             answered: 2,
             errors: 0,
+            stop: Stop::End,
+        },
+        Row {
+            job: "$20=1\nG0X0.004\nG0X0\n",
+            console: "\r\nGrbl 1.1h ['$' for help]\r\nok\r\nALARM:2\r\n[MSG:Reset to continue]\r\n",
+            steps: "E\n",
+            answered: 1,
+            errors: 0,
+            stop: Stop::Alarm(2),
+        },
+        Row {
+            job: "$20=1\nG0X-0.004\nG4P0\nG0X-200.004\nG0X-0.008\n",
+            console: "\r\nGrbl 1.1h ['$' for help]\r\nok\r\nok\r\nok\r\nALARM:2\r\n[MSG:Reset to continue]\r\n",
+            steps: "s 2 1 0 320000\nX-\nD 0\nE\n",
+            answered: 3,
+            errors: 0,
+            stop: Stop::Alarm(4),
         },
     ]
 }
@@ -60,7 +82,7 @@ fn rows() -> [Row<'static>; 5] {
 /// What a run of a row ends with.
 fn end_of(row: &Row) -> RunEnd {
     RunEnd {
-        stop: Stop::End,
+        stop: row.stop,
         answered: row.answered,
         errors: row.errors,
         source_failed: false,

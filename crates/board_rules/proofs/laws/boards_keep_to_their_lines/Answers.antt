@@ -1,5 +1,6 @@
-use Rattle.board_rules.proofs.Lines.{bytes_are, lines_follow, one_by_one}
-use Rattle.board_rules.proofs.Keeping.{told_is, asked_is}
+use Rattle.board_rules.proofs.Lines.{bytes_are, lines_follow, became_is, one_by_one}
+use Rattle.board_rules.proofs.Keeping.{told_is}
+use Rattle.board_rules.proofs.Parting.{asked_is}
 use Rattle.board_rules.proofs.Closing.{one_bye}
 use Rattle.board_rules.proofs.laws.boards_keep_to_their_lines.Goals as goal
 
@@ -8,6 +9,9 @@ returns-clause-bytes c = bytes_are
 
 pub returns-clause-follow : goal.returns-clause-follow
 returns-clause-follow c = lines_follow
+
+pub returns-clause-lines : goal.returns-clause-lines
+returns-clause-lines c = became_is
 
 pub returns-clause-told : goal.returns-clause-told
 returns-clause-told c = told_is

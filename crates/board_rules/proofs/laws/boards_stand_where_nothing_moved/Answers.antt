@@ -1,4 +1,4 @@
-use Rattle.board_rules.proofs.Quieting.{quiet, has_moved, has_done, busy}
+use Rattle.board_rules.proofs.Quieting.{quiet, has_moved, has_done}
 use Rattle.board_rules.proofs.Works.{works}
 use Rattle.board_rules.proofs.Motions.{motion_is}
 use Rattle.board_rules.proofs.laws.boards_stand_where_nothing_moved.Goals as goal
@@ -17,6 +17,3 @@ returns-clause-motion c = motion_is
 
 pub returns-clause-done : goal.returns-clause-done
 returns-clause-done c = has_done
-
-pub returns-clause-busy : goal.returns-clause-busy
-returns-clause-busy c = busy

@@ -2,7 +2,7 @@ use Rattle.board_rules.proofs.Waiting.{one_cause, pieces_lack_room, reply_is_nex
 use Rattle.board_rules.proofs.laws.boards_wait_for_a_cause.Goals as goal
 
 pub returns-clause-byte : goal.returns-clause-byte
-returns-clause-byte c = λ first h conducted. (conducted.0.cause.free, conducted.0.cause.partial)
+returns-clause-byte c = λ first h conducted. (conducted.0.cause.free, conducted.0.cause.partial, conducted.0.cause.unowed)
 
 pub returns-clause-reply_room : goal.returns-clause-reply_room
 returns-clause-reply_room c = λ first h conducted. reply_is_next first h conducted.1 conducted.0.cause conducted.0.still

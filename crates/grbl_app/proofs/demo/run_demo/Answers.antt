@@ -30,6 +30,7 @@ returns-clause-run g c =
       run = run;
       sent = whole.sent;
       accepted = whole.errors;
+      uncut = whole.uncut;
       asks = whole.asks;
       console_failed = c.is_err-console_failed.result;
       console = rw (c.is_err-console_failed.ensures.value, errs c.tell_summary.result)

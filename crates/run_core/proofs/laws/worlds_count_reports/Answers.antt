@@ -1,4 +1,4 @@
-use Rattle.stream_host.specs.Steps.{read_of, reading_of, scanned_of, cut_of, stop_of, got_of}
+use Rattle.stream_host.specs.Steps.{read_of, reading_of, scanned_of, cut_of, job_stop_of, got_of}
 use Rattle.run_core.proofs.Counting.{reports_per_line}
 use Rattle.run_core.proofs.laws.worlds_count_reports.Goals as goal
 
@@ -11,7 +11,7 @@ returns-clause-told c was now w hist st = record {
   reading = reading_of hist.host;
   scanned = scanned_of hist.host;
   lines = cut_of hist.host;
-  stop = stop_of hist.host;
+  stop = job_stop_of hist.host;
   taken = st.job.taken;
   sent = c.hosts_send_their_lines.ensures.so_far hist.host st.holds.host.conducted;
   replies = got_of hist.host;

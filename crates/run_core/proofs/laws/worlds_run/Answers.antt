@@ -9,7 +9,7 @@ returns-clause-so_far c was now w hist st =
     let h = st.holds in
     let host = c.hosts_have_run.ensures in
     let kept = kept_by w.board hist.board h.board in
-    c.actors_make_a_run_so_far.ensures was.job now.job (sinks was) (sinks now) _ _ _ _ _ _ _ _ _ _ _ _ _
+    c.actors_make_a_run_so_far.ensures was.job now.job (sinks was) (sinks now) _ _ _ _ _ _ _ _ _ _ _ _ _ _ _
     (host.so_far hist.host was.job now.job was.console now.console h.host.conducted st.job (host.console w.host hist.host was.console now.console h.host st.console))
     (c.boards_have_run.ensures.so_far kept.first hist.board kept.opening kept.conducted)
     (c.pulses_have_run.ensures.so_far w.pulse hist.pulse hist.puts h.pulse)
@@ -21,7 +21,7 @@ returns-clause-whole c was now w hist st done =
     let h = st.holds in
     let host = c.hosts_have_run.ensures in
     let kept = kept_by w.board hist.board h.board in
-    c.actors_that_end_make_a_run.ensures was.job now.job (sinks was) (sinks now) (end_of hist.host) w.recorder.failed _ _ _ _ _ _ _ _ _ _ _ _ _ _ _ _
+    c.actors_that_end_make_a_run.ensures was.job now.job (sinks was) (sinks now) (end_of hist.host) w.recorder.failed _ _ _ _ _ _ _ _ _ _ _ _ _ _ _ _ _ _
     (host.whole hist.host was.job now.job was.console now.console h.host.conducted (host.finished w.host hist.host h.host done.host) st.job
     (host.console w.host hist.host was.console now.console h.host st.console))
     (c.boards_have_run.ensures.whole kept.first hist.board kept.opening kept.conducted (board_finished w.board hist.board h.board done.board))

@@ -6,7 +6,7 @@ pub returns-clause-count : goal.returns-clause-count
 returns-clause-count c = sum_is
 
 pub returns-clause-room : goal.returns-clause-room
-returns-clause-room c = λ b h conducted may. (open_is b h conducted may.next, room_is b h conducted may)
+returns-clause-room c = λ b h conducted may. (open_is b h conducted may.calm may.next, room_is b h conducted may)
 
 pub returns-clause-answers : goal.returns-clause-answers
 returns-clause-answers c = counts_are

@@ -1,4 +1,3 @@
-use Rattle.std.proofs.Common.{refl}
 use Rattle.stream_host.proofs.Raising.{raised_is, in_order, none_due_first, none_due_shut, few_polls, rested_is}
 use Rattle.stream_host.proofs.Reporting.{reported_is}
 use Rattle.stream_host.proofs.laws.hosts_raise_what_they_scan.Goals as goal
@@ -15,8 +14,8 @@ returns-clause-first c = none_due_first
 pub returns-clause-closed : goal.returns-clause-closed
 returns-clause-closed c = none_due_shut
 
-pub returns-clause-query : goal.returns-clause-query
-returns-clause-query c = λ h down conducted. conducted.0.after refl
+pub returns-clause-after : goal.returns-clause-after
+returns-clause-after c = λ b h down waits conducted. conducted.0.after waits
 
 pub returns-clause-reported : goal.returns-clause-reported
 returns-clause-reported c = reported_is

@@ -1,6 +1,7 @@
-use Rattle.stream_host.proofs.Keeping.{stored_is}
-use Rattle.stream_host.proofs.Keeping.{shut_is}
-use Rattle.stream_host.proofs.Sending.{sent_so_far, sent_all, all_stored}
+use Rattle.std.proofs.Common.{ap}
+use Rattle.stream_host.specs.Steps.{answered_of, job_stop_of, or_alarm}
+use Rattle.stream_host.proofs.Keeping.{stored_is, shut_is}
+use Rattle.stream_host.proofs.Sending.{sent_so_far, sent_all, all_stored, stop_behind}
 use Rattle.stream_host.proofs.laws.hosts_send_their_lines.Goals as goal
 
 pub returns-clause-stored : goal.returns-clause-stored
@@ -9,5 +10,9 @@ returns-clause-stored c = stored_is
 pub returns-clause-so_far : goal.returns-clause-so_far
 returns-clause-so_far c = sent_so_far
 
+pub returns-clause-stop : goal.returns-clause-stop
+returns-clause-stop c = stop_behind
+
 pub returns-clause-whole : goal.returns-clause-whole
-returns-clause-whole c = λ h conducted closed. (let all = shut_is h conducted closed in (sent_all h conducted all, all_stored h conducted all))
+returns-clause-whole c = λ h conducted closed calm.
+    (let all = shut_is h conducted closed calm in (sent_all h conducted all (ap (λ b. or_alarm b (answered_of h) (job_stop_of h)) calm), all_stored h conducted all))

@@ -4,7 +4,7 @@ use Rattle.feed_hold.specs.Motions.Call.{on_drained}
 use Rattle.board_rules.specs.Ports.PortStep.{loaded}
 use Rattle.board_rules.specs.Steps.{port_log, hand_of, given_of, plan_of, motion_of}
 use Rattle.board_rules.specs.Steps.Step.{at_port, became}
-use Rattle.controller.proofs.Standing.{idle_or_run, hand_none, blocks_are, has_piece_by_hand, has_piece_by_blocks, over, over_passes, all_done, done_all, waits_for_motion}
+use Rattle.controller.proofs.Standing.{may_drain, hand_none, blocks_are, has_piece_by_hand, has_piece_by_blocks, over, over_passes, all_done, done_all, waits_for_motion}
 use Rattle.controller.proofs.controller.Controller.await_motion.Goals.{then-is_some-via-then-is_some, then-is_some-via-else-is_some+then-has_blocks}
 use Rattle.controller.proofs.controller.Controller.await_motion.Goals as goal
 
@@ -47,7 +47,7 @@ returns-then-done-self-clause-waits g c = λ rest h stands k may.
 
 -- src/controller.rt:274:9
 pub drain-requires : goal.drain-requires
-drain-requires g c = let r = c.requires.stands in idle_or_run c.args.self.now r.1 r.3 r.4.going
+drain-requires g c = let r = c.requires.stands in may_drain c.args.self.now r.1 r.3 r.4.going
 
 -- src/controller.rt:258:5
 pub returns-clause-over : goal.returns-clause-over

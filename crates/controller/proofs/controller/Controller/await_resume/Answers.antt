@@ -4,16 +4,16 @@ use Rattle.controller.specs.declared.controller.Controller.{Controller}
 use Rattle.controller.specs.Boards.{Keeps}
 use Rattle.controller.specs.Turning.{obeyed, flags_behind}
 use Rattle.controller.proofs.Ends.{free_of}
-use Rattle.controller.proofs.Halting.{taken, did_ask, did_resume, waits_for_resume}
+use Rattle.controller.proofs.Halting.{taken, no_jog_held, did_ask, did_resume, waits_for_resume}
 use Rattle.controller.proofs.Words.{asked_owed, asked_free, asked_owes}
 use Rattle.controller.proofs.controller.Controller.await_resume.Goals as goal
 
 pub take_requests-requires : goal.take_requests-requires
-take_requests-requires g c = let r = c.requires.stands in record { stands = (r.0, r.1, r.2, r.3, (free_of r.1 r.4.ready.quiet).obeyed) }
+take_requests-requires g c = let r = c.requires.stands in record { stands = (r.0, r.1, r.2, r.3, (free_of r.1 r.4.ready.quiet).obeyed, no_jog_held r.1 (sym r.3.machine.motion_is ∙ c.requires.held)) }
 
 pub returns-then-self-clause-goes_on : goal.returns-then-self-clause-goes_on
 returns-then-self-clause-goes_on g c = λ rest h stands k halted none.
-    let n = c.take_requests.ensures.goes_on rest h stands k (free_of h halted.ready.quiet).obeyed in
+    let n = c.take_requests.ensures.goes_on rest h stands k (free_of h halted.ready.quiet).obeyed (no_jog_held h (sym k.machine.motion_is ∙ c.requires.held)) in
     let same = c.take_requests.ensures.same in
     let owed = sym (n.4.owes_is ∙ asked_owes n.0 n.1) ∙ c.if-self.true in
     let is = asked_owed n.0 n.1 owed in (
@@ -25,7 +25,7 @@ returns-then-self-clause-goes_on g c = λ rest h stands k halted none.
 
 pub returns-then-is_held-clause-goes_on : goal.returns-then-is_held-clause-goes_on
 returns-then-is_held-clause-goes_on g c = λ rest h stands k halted none.
-    let n = c.take_requests.ensures.goes_on rest h stands k (free_of h halted.ready.quiet).obeyed in
+    let n = c.take_requests.ensures.goes_on rest h stands k (free_of h halted.ready.quiet).obeyed (no_jog_held h (sym k.machine.motion_is ∙ c.requires.held)) in
     let same = c.take_requests.ensures.same in
     let unowed = sym (n.4.owes_is ∙ asked_owes n.0 n.1) ∙ c.if-self.false in
     let is = asked_free n.0 n.1 unowed in
@@ -38,7 +38,7 @@ returns-then-is_held-clause-goes_on g c = λ rest h stands k halted none.
 
 pub returns-clause-goes_on : goal.returns-clause-goes_on
 returns-clause-goes_on g c = λ rest h stands k halted none.
-    let n = c.take_requests.ensures.goes_on rest h stands k (free_of h halted.ready.quiet).obeyed in
+    let n = c.take_requests.ensures.goes_on rest h stands k (free_of h halted.ready.quiet).obeyed (no_jog_held h (sym k.machine.motion_is ∙ c.requires.held)) in
     let same = c.take_requests.ensures.same in
     let unowed = sym (n.4.owes_is ∙ asked_owes n.0 n.1) ∙ c.if-self.false in
     let is = asked_free n.0 n.1 unowed in

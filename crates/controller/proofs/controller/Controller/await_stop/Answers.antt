@@ -1,25 +1,27 @@
 use Rattle.std.proofs.Common.{sym, ap, ◌∙◌}
 use Rattle.controller.specs.declared.controller.Controller.{Controller}
-use Rattle.controller.proofs.Halting.{did_stop, waits_for_stop}
+use Rattle.controller.proofs.Settling.{slowed_now, slowed_is}
+use Rattle.controller.proofs.Halting.{slowed_halted, did_settle, waits_for_stop}
 use Rattle.controller.proofs.controller.Controller.await_stop.Goals as goal
 
-pub returns-then-is_held-clause-goes_on : goal.returns-then-is_held-clause-goes_on
-returns-then-is_held-clause-goes_on g c rest h stands k halted none =
+pub returns-then-has_slowed_down-clause-goes_on : goal.returns-then-has_slowed_down-clause-goes_on
+returns-then-has_slowed_down-clause-goes_on g c rest h stands k halted none =
     let n = c.settle.ensures.goes_on rest h stands k in
     let same = c.settle.ensures.same in (
       n.0,
       n.1,
-      did_stop c.settle.new.self c.args.self.now.flags h n.0 n.2 halted n.3 (sym k.machine.motion_is ∙ c.requires.slows) (sym n.2.machine.motion_is ∙ c.is_held.ensures.0 c.if-is_held.true)
-          (ap (λ (b : Controller). b.beat) same ∙ c.requires.beat) (ap (λ (b : Controller). b.flags) same ∙ c.requires.flags) c.requires.flags,
+      waits_for_stop c.settle.new.self c.args.self.now.flags h n.0 n.2 halted n.3 (slowed_is c.settle.new.self n.0 n.2 (c.has_slowed_down.ensures.0 c.if-has_slowed_down.true))
+          (ap (λ (b : Controller). b.beat) same ∙ c.requires.beat) (ap (λ (b : Controller). b.flags) same ∙ c.requires.flags),
     )
 
 pub returns-clause-goes_on : goal.returns-clause-goes_on
 returns-clause-goes_on g c rest h stands k halted none =
     let n = c.settle.ensures.goes_on rest h stands k in
-    let same = c.settle.ensures.same in (
+    let same = c.settle.ensures.same in
+    let slowed = slowed_halted c.args.self.now h k halted none (λ held. c.requires.slows (k.machine.motion_is ∙ held)) in (
       n.0,
       n.1,
-      waits_for_stop c.settle.new.self c.args.self.now.flags h n.0 n.2 halted none n.3 (sym k.machine.motion_is ∙ c.requires.slows)
-          (λ held. absurd (let e = sym c.if-is_held.false ∙ c.is_held.ensures.1 (n.2.machine.motion_is ∙ held) in cc))
-          (ap (λ (b : Controller). b.beat) same ∙ c.requires.beat) (ap (λ (b : Controller). b.flags) same ∙ c.requires.flags),
+      did_settle c.settle.new.self c.args.self.now.flags h n.0 n.2 halted n.3 slowed
+          (λ s. absurd (let e = sym c.if-has_slowed_down.false ∙ c.has_slowed_down.ensures.1 (slowed_now c.settle.new.self n.0 n.2 s) in cc))
+          (ap (λ (b : Controller). b.beat) same ∙ c.requires.beat) (ap (λ (b : Controller). b.flags) same ∙ c.requires.flags) c.requires.flags,
     )

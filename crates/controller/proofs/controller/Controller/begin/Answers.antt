@@ -1,7 +1,6 @@
-use Rattle.std.proofs.Common.{◌∷◌, ap, ◌∙◌}
-use Rattle.board_rules.specs.Steps.Step.{began}
+use Rattle.std.proofs.Common.{ap, ◌∙◌}
 use Rattle.controller.specs.declared.controller.Controller.{Controller}
-use Rattle.controller.proofs.Begins.{looked_whole, did_begin}
+use Rattle.controller.proofs.Begins.{looked_whole, did_begin_line, port_begun}
 use Rattle.controller.proofs.controller.Controller.begin.Goals as goal
 
 pub look-requires : goal.look-requires
@@ -20,17 +19,20 @@ fill-requires g c =
     let seen = c.look.ensures.goes_on r.0 r.1 r.2 r.3 r.5.goes in
     let mid = c.start_before_line.ensures.started seen.0 seen.2 (looked_whole r.1 seen.0 r.4 r.5 seen.3) in
     let line = c.judge.ensures.begun mid.0 mid.1 mid.2 in
-    (began line.0 ∷ mid.0, line.1)
+    (line.1, line.2)
 
 pub returns-clause-goes_on : goal.returns-clause-goes_on
 returns-clause-goes_on g c = λ rest h stands k ready whole.
     let seen = c.look.ensures.goes_on rest h stands k whole.goes in
     let mid = c.start_before_line.ensures.started seen.0 seen.2 (looked_whole h seen.0 ready whole seen.3) in
     let line = c.judge.ensures.begun mid.0 mid.1 mid.2 in
-    let next = c.fill.ensures.filled (began line.0 ∷ mid.0) line.1 in
-    let same = next.2.alone.port ∙ mid.3.port in
+    let next = c.fill.ensures.filled line.1 line.2 in
+    let same = next.2.alone.port ∙ port_begun line.0 mid.0 line.1 line.3 ∙ mid.3.port in
     let beat = ap (λ (b : Controller). b.beat) c.fill.ensures.same ∙ ap (λ (b : Controller). b.beat) c.judge.ensures.same
     ∙ ap (λ (b : Controller). b.beat) c.start_before_line.ensures.same ∙ ap (λ (b : Controller). b.beat) c.look.ensures.same ∙ c.requires.beat in
     let no_word = ap (λ (b : Controller). b.flags) c.fill.ensures.same ∙ ap (λ (b : Controller). b.flags) c.judge.ensures.same
-    ∙ ap (λ (b : Controller). b.flags) c.start_before_line.ensures.same ∙ ap (λ (b : Controller). b.flags) c.look.ensures.same ∙ c.requires.flags in
-    (next.0, rw same seen.1, did_begin c.args.self.now.flags c.fill.new.self h seen.0 mid.0 next.0 line.0 ready whole seen.3.passes mid.3 next.1 beat no_word next.2)
+    ∙ ap (λ (b : Controller). b.flags) c.start_before_line.ensures.same ∙ ap (λ (b : Controller). b.flags) c.look.ensures.same ∙ c.requires.flags in (
+      next.0,
+      rw same seen.1,
+      did_begin_line c.args.self.now.flags c.fill.new.self h seen.0 mid.0 line.1 next.0 line.0 ready whole seen.3.passes mid.3 line.3 next.1 beat no_word next.2,
+    )

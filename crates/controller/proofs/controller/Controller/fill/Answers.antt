@@ -1,8 +1,6 @@
-use Rattle.std.proofs.Common.{false, ◌∷◌, sym, ◌∙◌}
-use Rattle.feed_hold.specs.declared.Motion.TheVariants as motions
-use Rattle.feed_hold.specs.Motions.Call.{on_start}
+use Rattle.std.proofs.Common.{sym, ◌∙◌}
 use Rattle.board_rules.specs.Steps.{hand_of, given_of, motion_of, plan_of}
-use Rattle.board_rules.specs.Steps.Step.{became}
+use Rattle.controller.specs.Turning.{starting}
 use Rattle.controller.proofs.Steps.{started}
 use Rattle.controller.proofs.Adding.{none_waits_now, may_start, filled_added, filled_started}
 use Rattle.controller.proofs.controller.Controller.fill.Goals as goal
@@ -10,9 +8,9 @@ use Rattle.controller.proofs.controller.Controller.fill.Goals as goal
 pub returns-then-needs_start-clause-filled : goal.returns-then-needs_start-clause-filled
 returns-then-needs_start-clause-filled c h k =
     let n = c.add_moves.ensures.added h k in let s = c.add_moves.new.self in let need = c.needs_start.ensures.yes c.if-needs_start.true in (
-      became (on_start false) motions.Run ∷ n.0,
-      started s _ n.0 n.1 (sym n.1.machine.motion_is ∙ need.0) (may_start s n.0 n.1 need.1 need.2) (c.start.ensures.runs (plan_of n.0) (motion_of n.0) (hand_of n.0) (given_of n.0) n.1.machine),
-      filled_started h n.0 n.2,
+      starting s.jogged n.0,
+      started s _ s.jogged n.0 n.1 (sym n.1.machine.motion_is ∙ need.0) (may_start s n.0 n.1 (sym n.1.machine.motion_is ∙ need.0) need.1 need.2) (c.start.ensures.runs (plan_of n.0) (motion_of n.0) (hand_of n.0) (given_of n.0) n.1.machine),
+      filled_started s.jogged h n.0 n.2,
     )
 
 pub returns-else-needs_start-clause-filled : goal.returns-else-needs_start-clause-filled

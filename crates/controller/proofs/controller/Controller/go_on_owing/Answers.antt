@@ -16,6 +16,12 @@ returns-then-not-has_piece-clause-goes_on g c rest h was stands k l =
       λ e. absurd cc,
     )
 
+pub publish_next-published-requires : goal.publish_next-published-requires
+publish_next-published-requires g c =
+    let r = c.requires.stands in
+    let k = other_flags c.args.self.now Both r.1 r.3 in
+    record { stands = (r.0, r.1, r.2, k, (c.has_piece.ensures r.1 k).0 c.if-not-has_piece.false) }
+
 -- src/reports.rt:111:9
 pub fill-requires : goal.fill-requires
 fill-requires g c =

@@ -4,14 +4,14 @@ use Rattle.feed_hold.specs.Motions.Call.{on_drained}
 use Rattle.board_rules.specs.Ports.PortStep.{loaded}
 use Rattle.board_rules.specs.Steps.{port_log, hand_of, given_of, plan_of, motion_of}
 use Rattle.board_rules.specs.Steps.Step.{at_port, became}
-use Rattle.controller.proofs.Standing.{idle_or_run, hand_none, hand_some, blocks_are, over, looked_over, looked_only, blocks_undrained}
+use Rattle.controller.proofs.Standing.{may_drain, hand_none, hand_some, blocks_are, over, looked_over, looked_only, blocks_undrained}
 use Rattle.controller.proofs.Steps.{looked}
 use Rattle.controller.proofs.controller.Controller.look.Goals.{else-is_none-via-then-is_none+then-not-has_blocks+else-done-self, else-is_none-via-then-is_none+else-not-has_blocks, else-is_none-via-else-is_none}
 use Rattle.controller.proofs.controller.Controller.look.Goals as goal
 
 -- src/controller.rt:351:13
 pub drain-requires : goal.drain-requires
-drain-requires g c = let r = c.requires.stands in idle_or_run c.args.self.now r.1 r.3 r.4
+drain-requires g c = let r = c.requires.stands in may_drain c.args.self.now r.1 r.3 r.4
 
 -- src/controller.rt:343:5
 pub returns-then-done-self-clause-goes_on : goal.returns-then-done-self-clause-goes_on
@@ -34,7 +34,7 @@ returns-else-is_none-clause-goes_on g c = λ rest h stands k going.
       next,
       c.done-done.ensures.done rest (port_log h) stands,
       looked c.args.self.now done h k (c.done-done.ensures.known rest (port_log h) stands),
-      looked_only c.args.self.now h done k going (λ d. elim c.else-is_none.branch [
+      looked_only h done going (λ d. elim c.else-is_none.branch [
         | else-is_none-via-then-is_none+then-not-has_blocks+else-done-self w ↦ w.if-done-self.false (d.done ∙ sym k.machine.given_is)
         | else-is_none-via-then-is_none+else-not-has_blocks w ↦ blocks_undrained next (blocks_are c.args.self.now h w.has_blocks.result k w.has_blocks.ensures ∙ w.if-not-has_blocks.false) d
         | else-is_none-via-else-is_none w ↦ hand_some c.args.self.now h k (c.is_none.ensures ∙ ap not w.if-is_none.false) d.hand

@@ -19,7 +19,7 @@ do_next-requires-2-clause-stands g c =
     let awaits = subst (λ ts. awaits_motion ts ≡ true) r.3.lines.left_is (sym c.if-not-awaits_motion.ensures) in
     let n = c.in_default.ensures.over r.0 r.1 r.2 r.3 (may_await_now c.args.self.now r.1 r.3 r.4 r.5 awaits) in
     let m = c.pass.ensures.passed n.0 n.2 n.3 in
-    (r.0, m.0, rw m.3.port n.1, m.1, ready_stopped n.0 m.0 (ready_stopped r.1 n.0 r.4 n.4 n.3) m.3.passes m.2, goes_on_stopped m.0 m.2, needs_no_wait m.0 m.2 m.4 m.5)
+    (r.0, m.0, rw m.3.port n.1, m.1, ready_stopped n.0 m.0 (ready_stopped r.1 n.0 r.4 n.4 n.3) m.3.passes m.2, goes_on_stopped m.0 m.2, needs_no_wait c.pass.new.self m.0 m.1 m.2 m.4 m.5)
 
 pub do_next-requires-2-clause-open : goal.do_next-requires-2-clause-open
 do_next-requires-2-clause-open g c =
@@ -34,7 +34,7 @@ returns-clause-goes_on g c = λ rest h stands keeps ready goes.
     let awaits = subst (λ ts. awaits_motion ts ≡ true) keeps.lines.left_is (sym c.if-not-awaits_motion.ensures) in
     let n = c.in_default.ensures.over rest h stands keeps (may_await_now c.args.self.now h keeps ready goes awaits) in
     let m = c.pass.ensures.passed n.0 n.2 n.3 in
-    let d = c.do_next-2.ensures.goes_on rest m.0 (rw m.3.port n.1) m.1 (ready_stopped n.0 m.0 (ready_stopped h n.0 ready n.4 n.3) m.3.passes m.2) (goes_on_stopped m.0 m.2) (needs_no_wait m.0 m.2 m.4 m.5) in
+    let d = c.do_next-2.ensures.goes_on rest m.0 (rw m.3.port n.1) m.1 (ready_stopped n.0 m.0 (ready_stopped h n.0 ready n.4 n.3) m.3.passes m.2) (goes_on_stopped m.0 m.2) (needs_no_wait c.pass.new.self m.0 m.1 m.2 m.4 m.5) in
     let s = g.P.BoardPort.stands c.do_next-2.new.port rest in
     let same = ap (λ (b : Controller). b.flags) c.pass.ensures.same ∙ ap (λ (b : Controller). b.flags) c.in_default.ensures.same in
     subst (λ (f : Flags). WorksOn s c.do_next-2.result f c.do_next-2.new.self h) same

@@ -1,11 +1,12 @@
-use Rattle.std.proofs.Common.{false, ◌∷◌, refl, arith, sym, ap, ◌∙◌}
-use Rattle.feed_hold.specs.declared.Motion.TheVariants as motions
+use Rattle.std.proofs.Common.{refl, sym, ap, ◌∙◌}
 use Rattle.feed_hold.specs.Motions.Call.{on_start}
 use Rattle.board_rules.specs.Steps.{hand_of, given_of, plan_of, motion_of}
-use Rattle.board_rules.specs.Steps.Step.{became}
 use Rattle.board_rules.specs.Turns.{has_blocks}
 use Rattle.controller.proofs.Begins.{may_start, judges_started}
 use Rattle.controller.proofs.Steps.{started}
+use Rattle.controller.specs.Machines.{start_motion}
+use Rattle.controller.specs.Turning.{starting}
+use Rattle.controller.proofs.Starting.{none_left_to_change}
 use Rattle.controller.proofs.Tries.{alone_motion}
 use Rattle.controller.proofs.controller.Controller.start_before_line.Goals as goal
 
@@ -14,9 +15,9 @@ pub returns-then-is_waiting-clause-started : goal.returns-then-is_waiting-clause
 returns-then-is_waiting-clause-started c = λ h k looked.
     let waiting = c.is_waiting.ensures.yes c.if-is_waiting.true in
     let blocks = ap (λ p. has_blocks p.blocks) (sym k.machine.plan_is) ∙ waiting.1 in (
-      became (on_start false) motions.Run ∷ h,
-      started c.args.self.now c.start.new.self h k (sym k.machine.motion_is ∙ waiting.0) (may_start h looked blocks (sym k.input.dollar_is ∙ c.if-self.true))
+      starting c.args.self.now.jogged h,
+      started c.args.self.now c.start.new.self c.args.self.now.jogged h k (sym k.machine.motion_is ∙ waiting.0) (may_start c.args.self.now h k looked blocks (sym k.input.dollar_is ∙ c.if-self.true))
           (c.start.ensures.runs (plan_of h) (motion_of h) (hand_of h) (given_of h) k.machine),
-      judges_started h looked blocks,
-      alone_motion (on_start false) motions.Run h refl (omega arith),
+      judges_started c.args.self.now.jogged h looked blocks,
+      alone_motion (on_start c.args.self.now.jogged) (start_motion c.args.self.now.jogged) h refl (none_left_to_change c.args.self.now.jogged h),
     )

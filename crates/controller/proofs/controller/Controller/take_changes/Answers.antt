@@ -1,9 +1,9 @@
-use Rattle.std.proofs.Common.{rules, ◌≡◌, true, sym, subst}
+use Rattle.std.proofs.Common.{rules, ◌≡◌, true, false, sym, subst}
 use Rattle.board_rules.specs.Ports.{has_changes}
 use Rattle.board_rules.specs.Steps.{Journal, port_log, hand_of, given_of, plan_of, motion_of}
 use Rattle.controller.specs.Boards.{Keeps}
-use Rattle.controller.proofs.Steps.{in_range, changes}
-use Rattle.controller.proofs.Settling.{replanned_some}
+use Rattle.controller.proofs.Steps.{in_range, changes, takes_changes}
+use Rattle.controller.proofs.Settling.{replanned_some, replanned_none}
 use Rattle.controller.proofs.controller.Controller.take_changes.Goals as goal
 
 pub change-requires : goal.change-requires
@@ -18,4 +18,14 @@ returns-then-not-is_empty-clause-goes_on g c rest h stands k =
       word,
       subst (λ (j : Journal). g.P.BoardPort.stands c.take_override-word.new.self rest (port_log j)) e (c.take_override-word.ensures rest (port_log h) stands),
       subst (λ (j : Journal). Keeps (record c.args.self.now { machine = c.change.new.self }) j) e (changes c.args.self.now c.change.new.self word h k some c.change.ensures.range runs),
+    )
+
+pub returns-else-not-is_empty-clause-goes_on : goal.returns-else-not-is_empty-clause-goes_on
+returns-else-not-is_empty-clause-goes_on g c rest h stands k =
+    let word = c.take_override-word.result in
+    let none : has_changes word ≡ false = search rules in
+    let e = sym (replanned_none word h none) in (
+      word,
+      subst (λ (j : Journal). g.P.BoardPort.stands c.take_override-word.new.self rest (port_log j)) e (c.take_override-word.ensures rest (port_log h) stands),
+      subst (λ (j : Journal). Keeps c.args.self.now j) e (takes_changes c.args.self.now word h k),
     )

@@ -3,6 +3,7 @@ use Rattle.controller.specs.declared.controller.Controller.{Controller}
 use Rattle.controller.specs.declared.controller.Flags.TheVariants as words
 use Rattle.controller.specs.Boards.{TakesFlags}
 use Rattle.controller.specs.Turning.{asked, replanned}
+use Rattle.board_rules.proofs.Taking.{no_jog_waits}
 use Rattle.controller.proofs.Steps.{other_flags}
 use Rattle.controller.proofs.Words.{took_changes, took_requests}
 use Rattle.controller.proofs.controller.Controller.take_or_go_on.Goals as goal
@@ -20,11 +21,11 @@ returns-in-Both-clause-goes_on g c rest h stands f between =
 pub take_requests-requires : goal.take_requests-requires
 take_requests-requires g c =
     let r = c.requires.stands in
-    record { stands = (r.0, r.1, r.2, r.3.keeps, (subst (λ x. TakesFlags x r.1) c.in-Requests.is r.3.flags).obeyed) }
+    record { stands = (r.0, r.1, r.2, r.3.keeps, (subst (λ x. TakesFlags x r.1) c.in-Requests.is r.3.flags).obeyed, no_jog_waits r.3.keeps.first r.1 r.3.keeps.conducted r.4) }
 
 pub returns-in-Requests-clause-goes_on : goal.returns-in-Requests-clause-goes_on
 returns-in-Requests-clause-goes_on g c rest h stands f between =
-    let n = c.take_requests.ensures.goes_on rest h stands f.keeps (subst (λ x. TakesFlags x h) c.in-Requests.is f.flags).obeyed in (
+    let n = c.take_requests.ensures.goes_on rest h stands f.keeps (subst (λ x. TakesFlags x h) c.in-Requests.is f.flags).obeyed (no_jog_waits f.keeps.first h f.keeps.conducted between) in (
       asked n.0 n.1,
       n.3,
       took_requests c.args.self.now c.take_requests.new.self n.0 h n.1 f between c.in-Requests.is n.2 n.4 (ap (λ (b : Controller). b.beat) c.take_requests.ensures.same) n.5,

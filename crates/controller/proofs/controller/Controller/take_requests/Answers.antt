@@ -6,13 +6,13 @@ use Rattle.board_rules.specs.Conduct.{MayTakeRequests}
 use Rattle.controller.specs.declared.controller.Flags.TheVariants as words
 use Rattle.controller.specs.Boards.{Keeps}
 use Rattle.controller.specs.Turning.{flags_behind}
-use Rattle.controller.proofs.Steps.{takes_word, obeys, other_flags}
+use Rattle.controller.proofs.Steps.{takes_word, obeys, other_flags, halts_by}
 use Rattle.controller.proofs.Halting.{taken}
 use Rattle.controller.proofs.Words.{asked_owed, asked_free, obeys_at_once}
 use Rattle.controller.proofs.controller.Controller.take_requests.Goals as goal
 
 pub returns-then-self-clause-goes_on : goal.returns-then-self-clause-goes_on
-returns-then-self-clause-goes_on g c = λ rest h stands k none.
+returns-then-self-clause-goes_on g c = λ rest h stands k none no_jog.
     let n = c.settle.ensures.goes_on rest h stands k in
     let j = n.0 in
     let word = c.take_exec-word.result in
@@ -31,7 +31,7 @@ returns-then-self-clause-goes_on g c = λ rest h stands k none.
     )
 
 pub returns-clause-goes_on : goal.returns-clause-goes_on
-returns-clause-goes_on g c = λ rest h stands k none.
+returns-clause-goes_on g c = λ rest h stands k none no_jog.
     let n = c.settle.ensures.goes_on rest h stands k in
     let j = n.0 in
     let word = c.take_exec-word.result in
@@ -48,6 +48,6 @@ returns-clause-goes_on g c = λ rest h stands k none.
       j,
       n.3,
       subst (λ (x : Journal). g.P.BoardPort.stands c.take_exec-word.new.self rest (port_log x)) (sym is) (c.take_exec-word.ensures.taken rest (port_log j) n.1),
-      subst (λ (x : Journal). Keeps (record board { machine = c.obey.new.self }) x) (sym is) (obeys board c.obey.new.self word (taken word j) kept (obeys_at_once word h j n.3 left unowed) runs),
+      subst (λ (x : Journal). Keeps (record board { machine = c.obey.new.self }) x) (sym is) (obeys board c.obey.new.self word (taken word j) kept (obeys_at_once word h j (halts_by c.settle.new.self j n.2) n.3 no_jog left unowed) runs),
       sym (ap (λ b. flags_behind b word) unowed),
     )

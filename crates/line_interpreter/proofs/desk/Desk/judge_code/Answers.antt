@@ -5,18 +5,18 @@ use Rattle.line_interpreter.proofs.Judging.{by_words}
 use Rattle.line_interpreter.proofs.desk.Desk.judge_code.Goals as goal
 
 pub returns-in-Ok-clause-begun : goal.returns-in-Ok-clause-begun
-returns-in-Ok-clause-begun c = λ moved.
-    let b = standing c.args.self.now moved in
-    let is = c.judge_words.ensures.begun moved in (
+returns-in-Ok-clause-begun c = λ since.
+    let b = standing c.args.self.now since in
+    let is = c.judge_words.ensures.begun since in (
       is.0,
       by_words b _ (Ok c.read_words.new.words.items) is.0 (sym c.in-Ok.ensures.ok) is.1,
       record { state = is.2.state; left = is.2.left; answer = is.2.answer },
     )
 
 pub returns-in-Err-clause-begun : goal.returns-in-Err-clause-begun
-returns-in-Err-clause-begun c = λ moved.
-    let b = standing c.args.self.now moved in
-    let begun = rw c.fault_number.ensures at (c.refuse.ensures.begun moved) in (
+returns-in-Err-clause-begun c = λ since.
+    let b = standing c.args.self.now since in
+    let begun = rw c.fault_number.ensures at (c.refuse.ensures.begun since) in (
       refused b (fault_number c.in-Err.fault),
       by_words b _ (Err c.in-Err.fault) (refused b (fault_number c.in-Err.fault)) (sym c.in-Err.ensures.err) refl,
       record { state = begun.state; left = begun.left; answer = begun.answer },

@@ -5,11 +5,11 @@ use Rattle.line_interpreter.proofs.Judging.{by_command}
 use Rattle.line_interpreter.proofs.desk.Desk.judge_command.Goals as goal
 
 pub returns-in-Ok-clause-begun : goal.returns-in-Ok-clause-begun
-returns-in-Ok-clause-begun c = λ moved.
-    let is = c.obey.ensures.begun moved in
-    (is.0, by_command (standing c.args.self.now moved) _ (Ok c.in-Ok.command) is.0 c.in-Ok.ensures is.1, is.2)
+returns-in-Ok-clause-begun c = λ since.
+    let is = c.obey.ensures.begun since in
+    (is.0, by_command (standing c.args.self.now since) _ (Ok c.in-Ok.command) is.0 c.in-Ok.ensures is.1, is.2)
 
 pub returns-in-Err-clause-begun : goal.returns-in-Err-clause-begun
-returns-in-Err-clause-begun c = λ moved.
-    let b = standing c.args.self.now moved in
-    (refused b c.in-Err.code.0, by_command b _ (Err c.in-Err.code) _ c.in-Err.ensures refl, c.refuse.ensures.begun moved)
+returns-in-Err-clause-begun c = λ since.
+    let b = standing c.args.self.now since in
+    (refused b c.in-Err.code.0, by_command b _ (Err c.in-Err.code) _ c.in-Err.ensures refl, c.refuse.ensures.begun since)

@@ -1,16 +1,29 @@
-use Rattle.std.proofs.Common.{sym, ◌∙◌}
+use Rattle.std.proofs.Common.{◌≡◌, true, false, sym, ap, ◌∙◌}
+use Rattle.system_lines.specs.Commands.{kind_of, is_jog}
 use Rattle.run_rules.specs.Outcomes.{refused}
 use Rattle.line_interpreter.specs.Desks.{standing}
-use Rattle.line_interpreter.proofs.Judging.{dollar_refused, dollar_served}
+use Rattle.run_rules.specs.Finding.{refuses}
+use Rattle.line_interpreter.proofs.Judging.{dollar_refused, jog_served, command_served}
 use Rattle.line_interpreter.proofs.desk.Desk.judge_dollar.Goals as goal
 
-pub returns-then-is_busy-clause-begun : goal.returns-then-is_busy-clause-begun
-returns-then-is_busy-clause-begun c = λ moved.
-    let b = standing c.args.self.now moved in
-    (refused b 8, dollar_refused c.args.running b c.args.kept.now (sym c.is_busy.ensures ∙ c.if-is_busy.true), c.refuse.ensures.begun moved)
+pub returns-then-refuses-clause-begun : goal.returns-then-refuses-clause-begun
+returns-then-refuses-clause-begun c = λ since.
+    let b = standing c.args.self.now since in
+    let busy : refuses c.args.machine (kind_of c.args.kept.now) ≡ true = sym (ap (refuses c.args.machine) c.of-kind.ensures) ∙ sym c.refuses.ensures ∙ c.if-refuses.true in
+    (refused b 8, dollar_refused c.args.machine b c.args.kept.now busy, c.refuse.ensures.begun since)
+
+pub returns-then-is_jog-clause-begun : goal.returns-then-is_jog-clause-begun
+returns-then-is_jog-clause-begun c = λ since.
+    let b = standing c.args.self.now since in
+    let served : refuses c.args.machine (kind_of c.args.kept.now) ≡ false = sym (ap (refuses c.args.machine) c.of-kind.ensures) ∙ sym c.refuses.ensures ∙ c.if-refuses.false in
+    let jogs : is_jog (kind_of c.args.kept.now) ≡ true = sym (ap is_jog c.of-kind.ensures) ∙ sym c.is_jog.ensures ∙ c.if-is_jog.true in
+    let is = c.judge_jog.ensures.begun since in
+    (is.0, jog_served c.args.machine b c.args.kept.now is.0 served jogs is.1, is.2)
 
 pub returns-clause-begun : goal.returns-clause-begun
-returns-clause-begun c = λ moved.
-    let b = standing c.args.self.now moved in
-    let is = c.judge_command.ensures.begun moved in
-    (is.0, dollar_served c.args.running b c.args.kept.now is.0 (sym c.is_busy.ensures ∙ c.if-is_busy.false) is.1, is.2)
+returns-clause-begun c = λ since.
+    let b = standing c.args.self.now since in
+    let served : refuses c.args.machine (kind_of c.args.kept.now) ≡ false = sym (ap (refuses c.args.machine) c.of-kind.ensures) ∙ sym c.refuses.ensures ∙ c.if-refuses.false in
+    let other : is_jog (kind_of c.args.kept.now) ≡ false = sym (ap is_jog c.of-kind.ensures) ∙ sym c.is_jog.ensures ∙ c.if-is_jog.false in
+    let is = c.judge_command.ensures.begun since in
+    (is.0, command_served c.args.machine b c.args.kept.now is.0 served other is.1, is.2)

@@ -1,7 +1,6 @@
-use Rattle.std.proofs.Common.{refl, arith}
-use Rattle.std.proofs.lemmas.Bool.Decides.{nat_tests}
+use Rattle.std.proofs.Common.{refl, sym, ◌∙◌}
 use Rattle.stream_host.proofs.Hosting.{early_by}
 use Rattle.stream_host.proofs.host.Host.is_early.Goals as goal
 
-pub returns-then-byte-eq-QUERY : goal.returns-then-byte-eq-QUERY
-returns-then-byte-eq-QUERY c = λ h f. early_by c.args.self.now c.args.byte h _ f (grind (arith, nat_tests, c.if-byte-eq-QUERY.true)) refl
+pub returns-then-waits_for_lines : goal.returns-then-waits_for_lines
+returns-then-waits_for_lines c = λ h f. early_by c.args.self.now c.args.byte h _ f (sym c.waits_for_lines.ensures ∙ c.if-waits_for_lines.true) refl

@@ -6,6 +6,7 @@ use Rattle.stream_host.proofs.host.Host.scan.Goals as goal
 pub loop-self-init : goal.loop-self-init
 loop-self-init c = record {
   shut = c.scan_byte.ensures.shut ∙ c.requires.going;
+  calm = c.scan_byte.ensures.alarm ∙ c.requires.calm;
   text = c.scan_byte.ensures.text;
   scans = λ h f. let n = c.scan_byte.ensures.fits h f in (n.0 ∷ [], omega arith, n.1);
 }
@@ -16,6 +17,7 @@ loop-self-preserved c =
     let i = c.loop-self.invariant in
     record {
       shut = n.shut ∙ i.shut;
+      calm = n.alarm ∙ i.calm;
       text = n.text ∙ i.text;
       scans = λ h f. let was = i.scans h f in let next = n.fits (map scanned was.0 ++ h) was.2 in (next.0 ∷ was.0, omega arith, next.1);
     }

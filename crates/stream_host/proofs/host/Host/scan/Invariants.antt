@@ -7,6 +7,7 @@ use Rattle.stream_host.proofs.host.Host.scan.Given as goal
 abbrev pub invariant-loop-self : goal.invariant-loop-self
 invariant-loop-self l = record {
   shut : l.self.shut ≡ false;
+  calm : l.self.alarm ≡ false;
   text : l.self.text ≡ l.fn.self.text;
   scans : (h : Journal) → HostFits l.fn.self h → (bytes : List ℕ) × (0 < length bytes) × HostFits l.self (map scanned bytes ++ h);
 }

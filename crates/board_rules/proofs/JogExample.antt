@@ -1,0 +1,405 @@
+-- A whole run of a board to which one jog comes, `$J=X.004F9`, which starts at once and moves the machine by one segment: the
+-- rules allow it.
+use Rattle.std.proofs.Common.{pos, ◌≡◌, ℕ, ◌≤◌, Bool, cond, nat_lt, [], ◌∷◌, inl, true, false, refl, sym, ap, ◌∙◌, arith}
+use Rattle.feed_hold.specs.declared.Motion.TheVariants as motions
+use Rattle.feed_hold.specs.Motions.Call.{on_start, on_drained}
+use Rattle.outside.specs.declared.On.TheVariants as on
+use Rattle.outside.specs.declared.Turn.TheVariants.{Did, Wait, Done}
+use Rattle.plan_passes.specs.Segments.{advanced}
+use Rattle.planner_runs.specs.declared.Action.TheVariants.{Add, Take}
+use Rattle.planner_runs.specs.Runs.{MayAdd, IsAtRest, fresh_plan, with_move, most_blocks}
+use Rattle.segment_prep.specs.Taking.{IsNext}
+use Rattle.segment_prep.specs.declared.Mode.TheVariants.{Go}
+use Rattle.gcode_words.specs.Words.{words_within, first_word}
+use Rattle.jog.specs.Jogs.{jog_error, jog_of}
+use Rattle.line_words.specs.Codes.{group_of, code_in}
+use Rattle.line_words.specs.Targets.{target}
+use Rattle.line_words.specs.WordRefusals.{words_refusal, word_refusal, refusal_at}
+use Rattle.modal_state.specs.Modes.{opening_parser}
+use Rattle.settings.specs.declared.Settings.{Settings}
+use Rattle.step_line.specs.Counting.{events_of}
+use Rattle.system_lines.specs.Commands.{kind_of}
+use Rattle.units.specs.Decimals.{front_number, digits_say}
+use Rattle.units.specs.Reading.{decimal_from}
+use Rattle.units.specs.Rounding.{rounded_quotient}
+use Rattle.units.specs.declared.Move.{Move as Way}
+use Rattle.units.specs.declared.Nm3.{Nm3}
+use Rattle.units.specs.declared.Rate.TheVariants as rates
+use Rattle.units.specs.declared.Steps3.{Steps3}
+use Rattle.run_rules.specs.Asks.{planned}
+use Rattle.run_rules.specs.declared.State.{State}
+use Rattle.run_rules.specs.declared.machine.Machine.TheVariants.{Stands}
+use Rattle.run_rules.specs.Finding.{Found}
+use Rattle.run_rules.specs.Outcomes.{start}
+use Rattle.run_rules.specs.Work.{Outcome}
+use Rattle.run_rules.specs.Work.Kind.{of_jog}
+use Rattle.run_rules.specs.Work.Task.{ask, tell}
+use Rattle.status_report.specs.declared.Reply.TheVariants.{Banner, Ok, Bye}
+use Rattle.step_line.specs.Asking.Asked.{a_move}
+use Rattle.step_line.specs.declared.Piece.TheVariants as pieces
+use Rattle.step_line.specs.declared.Segment.{Segment}
+use Rattle.step_line.specs.declared.planned_move.PlannedMove.{PlannedMove}
+use Rattle.step_line.specs.Finishing.{tick_count, ticks_together}
+use Rattle.board_rules.specs.Ports.PortStep.{took, found_empty, found_closed, answered, published, loaded}
+use Rattle.board_rules.specs.Steps.{Journal}
+use Rattle.board_rules.specs.Steps.Step.{at_port, began, did, made_end, became, closing, turned}
+use Rattle.board_rules.specs.Turns.{has_blocks}
+use Rattle.board_rules.specs.Conduct.{Conducted}
+use Rattle.board_rules.proofs.Example.{nothing, no_changes}
+use Rattle.board_rules.proofs.Taking.{requested, unchanged, may_request, may_take_no_change}
+
+-- what becomes of the line: its move, and `ok`
+abbrev pub jog : PlannedMove → State → Outcome
+jog m last = record { work = ask (a_move m) ∷ tell Ok ∷ []; answer = Ok; settles = false; kind = of_jog; next = last }
+
+-- The line is accepted where the machine stands. Its move may be added to the fresh plan, which gives it in one segment, and
+-- is at rest behind that.
+pub record IsOneJog (first last : State) (m : PlannedMove) (s : Segment) : Type 0 where
+  pub becomes : Found Stands (start first) (36 ∷ 74 ∷ 61 ∷ 88 ∷ 46 ∷ 48 ∷ 48 ∷ 52 ∷ 70 ∷ 57 ∷ []) (jog m last)
+  pub add : MayAdd most_blocks fresh_plan m
+  pub taken : IsNext (with_move fresh_plan m) Go s
+  pub rests : IsAtRest (advanced (with_move fresh_plan m) s.n s.w_out)
+
+-- the settings of the generic machine, and the state before the first line
+abbrev pub machine : Settings
+machine = record {
+  report = 1;
+  deviation = 10;
+  soft = false;
+  limits = record { per_mm = record { x = 250000; y = 250000; z = 250000 }; rate = record { x = 500000; y = 500000; z = 500000 }; accel = record { x = 10000; y = 10000; z = 10000 } };
+  travel = record { x = 200000; y = 200000; z = 200000 };
+}
+
+abbrev pub opening : State
+opening = record { parser = opening_parser; settings = machine }
+
+-- the jog's target is one step away
+abbrev target_nm : Nm3
+target_nm = record { x = pos 4000; y = pos 0; z = pos 0 }
+
+abbrev pub target_steps : Steps3
+target_steps = record { x = pos 1; y = pos 0; z = pos 0 }
+
+abbrev pub way : Way
+way = record { from = record { x = pos 0; y = pos 0; z = pos 0 }; to = target_steps }
+
+abbrev pub behind_jog : State
+behind_jog = record { parser = record opening_parser { pos_nm = target_nm; pos_steps = target_steps }; settings = machine }
+
+-- so it is accepted from the first line on: it goes there at 9 mm a minute, and the position is there from then on
+pub jog_is : Found Stands (start opening) (36 ∷ 74 ∷ 61 ∷ 88 ∷ 46 ∷ 48 ∷ 48 ∷ 52 ∷ 70 ∷ 57 ∷ []) (jog (planned 1 machine way (rates.Jog (pos 9000000))) behind_jog)
+unfolding kind_of words_within first_word decimal_from front_number digits_say words_refusal word_refusal refusal_at group_of code_in target jog_error jog_of rounded_quotient events_of
+jog_is = refl
+
+no_blocks : (m : PlannedMove) (s : Segment) → IsAtRest (advanced (with_move fresh_plan m) s.n s.w_out) → has_blocks (advanced (with_move fresh_plan m) s.n s.w_out).blocks ≡ true → ⊥
+no_blocks m s rests some = absurd (let e = sym some ∙ ap has_blocks rests.blocks in cc)
+
+pub one_unfinished : (is : Bool) → cond {A = ℕ} is 1 0 ≤ 5
+one_unfinished true = omega arith
+one_unfinished false = omega arith
+
+abbrev j0 : State → PlannedMove → Segment → Journal
+j0 last m s = []
+
+c0 : (first last : State) (m : PlannedMove) (s : Segment) → IsOneJog first last m s → Conducted first (j0 last m s)
+c0 first last m s p = tt
+
+abbrev j1 : State → PlannedMove → Segment → Journal
+j1 last m s = at_port (answered Banner) ∷ j0 last m s
+
+c1 : (first last : State) (m : PlannedMove) (s : Segment) → IsOneJog first last m s → Conducted first (j1 last m s)
+c1 first last m s p = (record { next = refl; plain = refl; unowed = refl; empty = λ e. absurd cc }, c0 first last m s p)
+
+abbrev j2 : State → PlannedMove → Segment → Journal
+j2 last m s = turned Did ∷ j1 last m s
+
+c2 : (first last : State) (m : PlannedMove) (s : Segment) → IsOneJog first last m s → Conducted first (j2 last m s)
+c2 first last m s p = (record { once = omega arith; adds = λ m e. absurd cc; starts = λ w. absurd (let b = w.blocks in cc); tries = omega arith; obeyed = λ e. refl; changed = refl; halts = λ e. absurd cc }, c1 first last m s p)
+
+abbrev j3 : State → PlannedMove → Segment → Journal
+j3 last m s = at_port (took 36) ∷ j2 last m s
+
+c3 : (first last : State) (m : PlannedMove) (s : Segment) → IsOneJog first last m s → Conducted first (j3 last m s)
+c3 first last m s p = (record { polls = record { calm = refl; all_done = refl; partial = refl; unclosed = refl }; few = omega arith }, c2 first last m s p)
+
+abbrev j4 : State → PlannedMove → Segment → Journal
+j4 last m s = turned Did ∷ j3 last m s
+
+c4 : (first last : State) (m : PlannedMove) (s : Segment) → IsOneJog first last m s → Conducted first (j4 last m s)
+c4 first last m s p = (record { once = omega arith; adds = λ m e. absurd cc; starts = λ w. absurd (let b = w.blocks in cc); tries = omega arith; obeyed = λ e. refl; changed = refl; halts = λ e. absurd cc }, c3 first last m s p)
+
+abbrev j5 : State → PlannedMove → Segment → Journal
+j5 last m s = at_port (took 74) ∷ j4 last m s
+
+c5 : (first last : State) (m : PlannedMove) (s : Segment) → IsOneJog first last m s → Conducted first (j5 last m s)
+c5 first last m s p = (record { polls = record { calm = refl; all_done = refl; partial = refl; unclosed = refl }; few = omega arith }, c4 first last m s p)
+
+abbrev j6 : State → PlannedMove → Segment → Journal
+j6 last m s = turned Did ∷ j5 last m s
+
+c6 : (first last : State) (m : PlannedMove) (s : Segment) → IsOneJog first last m s → Conducted first (j6 last m s)
+c6 first last m s p = (record { once = omega arith; adds = λ m e. absurd cc; starts = λ w. absurd (let b = w.blocks in cc); tries = omega arith; obeyed = λ e. refl; changed = refl; halts = λ e. absurd cc }, c5 first last m s p)
+
+abbrev j7 : State → PlannedMove → Segment → Journal
+j7 last m s = at_port (took 61) ∷ j6 last m s
+
+c7 : (first last : State) (m : PlannedMove) (s : Segment) → IsOneJog first last m s → Conducted first (j7 last m s)
+c7 first last m s p = (record { polls = record { calm = refl; all_done = refl; partial = refl; unclosed = refl }; few = omega arith }, c6 first last m s p)
+
+abbrev j8 : State → PlannedMove → Segment → Journal
+j8 last m s = turned Did ∷ j7 last m s
+
+c8 : (first last : State) (m : PlannedMove) (s : Segment) → IsOneJog first last m s → Conducted first (j8 last m s)
+c8 first last m s p = (record { once = omega arith; adds = λ m e. absurd cc; starts = λ w. absurd (let b = w.blocks in cc); tries = omega arith; obeyed = λ e. refl; changed = refl; halts = λ e. absurd cc }, c7 first last m s p)
+
+abbrev j9 : State → PlannedMove → Segment → Journal
+j9 last m s = at_port (took 88) ∷ j8 last m s
+
+c9 : (first last : State) (m : PlannedMove) (s : Segment) → IsOneJog first last m s → Conducted first (j9 last m s)
+c9 first last m s p = (record { polls = record { calm = refl; all_done = refl; partial = refl; unclosed = refl }; few = omega arith }, c8 first last m s p)
+
+abbrev j10 : State → PlannedMove → Segment → Journal
+j10 last m s = turned Did ∷ j9 last m s
+
+c10 : (first last : State) (m : PlannedMove) (s : Segment) → IsOneJog first last m s → Conducted first (j10 last m s)
+c10 first last m s p = (record { once = omega arith; adds = λ m e. absurd cc; starts = λ w. absurd (let b = w.blocks in cc); tries = omega arith; obeyed = λ e. refl; changed = refl; halts = λ e. absurd cc }, c9 first last m s p)
+
+abbrev j11 : State → PlannedMove → Segment → Journal
+j11 last m s = at_port (took 46) ∷ j10 last m s
+
+c11 : (first last : State) (m : PlannedMove) (s : Segment) → IsOneJog first last m s → Conducted first (j11 last m s)
+c11 first last m s p = (record { polls = record { calm = refl; all_done = refl; partial = refl; unclosed = refl }; few = omega arith }, c10 first last m s p)
+
+abbrev j12 : State → PlannedMove → Segment → Journal
+j12 last m s = turned Did ∷ j11 last m s
+
+c12 : (first last : State) (m : PlannedMove) (s : Segment) → IsOneJog first last m s → Conducted first (j12 last m s)
+c12 first last m s p = (record { once = omega arith; adds = λ m e. absurd cc; starts = λ w. absurd (let b = w.blocks in cc); tries = omega arith; obeyed = λ e. refl; changed = refl; halts = λ e. absurd cc }, c11 first last m s p)
+
+abbrev j13 : State → PlannedMove → Segment → Journal
+j13 last m s = at_port (took 48) ∷ j12 last m s
+
+c13 : (first last : State) (m : PlannedMove) (s : Segment) → IsOneJog first last m s → Conducted first (j13 last m s)
+c13 first last m s p = (record { polls = record { calm = refl; all_done = refl; partial = refl; unclosed = refl }; few = omega arith }, c12 first last m s p)
+
+abbrev j14 : State → PlannedMove → Segment → Journal
+j14 last m s = turned Did ∷ j13 last m s
+
+c14 : (first last : State) (m : PlannedMove) (s : Segment) → IsOneJog first last m s → Conducted first (j14 last m s)
+c14 first last m s p = (record { once = omega arith; adds = λ m e. absurd cc; starts = λ w. absurd (let b = w.blocks in cc); tries = omega arith; obeyed = λ e. refl; changed = refl; halts = λ e. absurd cc }, c13 first last m s p)
+
+abbrev j15 : State → PlannedMove → Segment → Journal
+j15 last m s = at_port (took 48) ∷ j14 last m s
+
+c15 : (first last : State) (m : PlannedMove) (s : Segment) → IsOneJog first last m s → Conducted first (j15 last m s)
+c15 first last m s p = (record { polls = record { calm = refl; all_done = refl; partial = refl; unclosed = refl }; few = omega arith }, c14 first last m s p)
+
+abbrev j16 : State → PlannedMove → Segment → Journal
+j16 last m s = turned Did ∷ j15 last m s
+
+c16 : (first last : State) (m : PlannedMove) (s : Segment) → IsOneJog first last m s → Conducted first (j16 last m s)
+c16 first last m s p = (record { once = omega arith; adds = λ m e. absurd cc; starts = λ w. absurd (let b = w.blocks in cc); tries = omega arith; obeyed = λ e. refl; changed = refl; halts = λ e. absurd cc }, c15 first last m s p)
+
+abbrev j17 : State → PlannedMove → Segment → Journal
+j17 last m s = at_port (took 52) ∷ j16 last m s
+
+c17 : (first last : State) (m : PlannedMove) (s : Segment) → IsOneJog first last m s → Conducted first (j17 last m s)
+c17 first last m s p = (record { polls = record { calm = refl; all_done = refl; partial = refl; unclosed = refl }; few = omega arith }, c16 first last m s p)
+
+abbrev j18 : State → PlannedMove → Segment → Journal
+j18 last m s = turned Did ∷ j17 last m s
+
+c18 : (first last : State) (m : PlannedMove) (s : Segment) → IsOneJog first last m s → Conducted first (j18 last m s)
+c18 first last m s p = (record { once = omega arith; adds = λ m e. absurd cc; starts = λ w. absurd (let b = w.blocks in cc); tries = omega arith; obeyed = λ e. refl; changed = refl; halts = λ e. absurd cc }, c17 first last m s p)
+
+abbrev j19 : State → PlannedMove → Segment → Journal
+j19 last m s = at_port (took 70) ∷ j18 last m s
+
+c19 : (first last : State) (m : PlannedMove) (s : Segment) → IsOneJog first last m s → Conducted first (j19 last m s)
+c19 first last m s p = (record { polls = record { calm = refl; all_done = refl; partial = refl; unclosed = refl }; few = omega arith }, c18 first last m s p)
+
+abbrev j20 : State → PlannedMove → Segment → Journal
+j20 last m s = turned Did ∷ j19 last m s
+
+c20 : (first last : State) (m : PlannedMove) (s : Segment) → IsOneJog first last m s → Conducted first (j20 last m s)
+c20 first last m s p = (record { once = omega arith; adds = λ m e. absurd cc; starts = λ w. absurd (let b = w.blocks in cc); tries = omega arith; obeyed = λ e. refl; changed = refl; halts = λ e. absurd cc }, c19 first last m s p)
+
+abbrev j21 : State → PlannedMove → Segment → Journal
+j21 last m s = at_port (took 57) ∷ j20 last m s
+
+c21 : (first last : State) (m : PlannedMove) (s : Segment) → IsOneJog first last m s → Conducted first (j21 last m s)
+c21 first last m s p = (record { polls = record { calm = refl; all_done = refl; partial = refl; unclosed = refl }; few = omega arith }, c20 first last m s p)
+
+abbrev j22 : State → PlannedMove → Segment → Journal
+j22 last m s = turned Did ∷ j21 last m s
+
+c22 : (first last : State) (m : PlannedMove) (s : Segment) → IsOneJog first last m s → Conducted first (j22 last m s)
+c22 first last m s p = (record { once = omega arith; adds = λ m e. absurd cc; starts = λ w. absurd (let b = w.blocks in cc); tries = omega arith; obeyed = λ e. refl; changed = refl; halts = λ e. absurd cc }, c21 first last m s p)
+
+abbrev j23 : State → PlannedMove → Segment → Journal
+j23 last m s = at_port (took 10) ∷ j22 last m s
+
+c23 : (first last : State) (m : PlannedMove) (s : Segment) → IsOneJog first last m s → Conducted first (j23 last m s)
+c23 first last m s p = (record { polls = record { calm = refl; all_done = refl; partial = refl; unclosed = refl }; few = omega arith }, c22 first last m s p)
+
+abbrev j24 : State → PlannedMove → Segment → Journal
+j24 last m s = turned Did ∷ j23 last m s
+
+c24 : (first last : State) (m : PlannedMove) (s : Segment) → IsOneJog first last m s → Conducted first (j24 last m s)
+c24 first last m s p = (record { once = omega arith; adds = λ m e. absurd cc; starts = λ w. absurd (let b = w.blocks in cc); tries = omega arith; obeyed = λ e. refl; changed = refl; halts = λ e. absurd cc }, c23 first last m s p)
+
+abbrev j25 : State → PlannedMove → Segment → Journal
+j25 last m s = unchanged no_changes (j24 last m s)
+
+c25 : (first last : State) (m : PlannedMove) (s : Segment) → IsOneJog first last m s → Conducted first (j25 last m s)
+c25 first last m s p = may_take_no_change first no_changes (j24 last m s) refl (c24 first last m s p) refl
+
+abbrev j26 : State → PlannedMove → Segment → Journal
+j26 last m s = requested nothing motions.Idle (j25 last m s)
+
+c26 : (first last : State) (m : PlannedMove) (s : Segment) → IsOneJog first last m s → Conducted first (j26 last m s)
+c26 first last m s p = may_request first nothing motions.Idle (j25 last m s) (c25 first last m s p) refl refl refl refl refl (λ e. inl refl)
+
+abbrev j27 : State → PlannedMove → Segment → Journal
+j27 last m s = at_port (loaded 0) ∷ j26 last m s
+
+c27 : (first last : State) (m : PlannedMove) (s : Segment) → IsOneJog first last m s → Conducted first (j27 last m s)
+c27 first last m s p = (record { later = omega arith; below = omega arith; few = omega arith }, c26 first last m s p)
+
+abbrev j28 : State → PlannedMove → Segment → Journal
+j28 last m s = began (jog m last) ∷ j27 last m s
+
+c28 : (first last : State) (m : PlannedMove) (s : Segment) → IsOneJog first last m s → Conducted first (j28 last m s)
+c28 first last m s p = (record { calm = refl; free = refl; going = refl; whole = refl; becomes = p.becomes; begins = refl; flags = refl; obeyed = refl; unowed = refl; load = refl; idle = λ d. refl; starts = λ w. absurd (let b = w.blocks in cc); tried = refl }, c27 first last m s p)
+
+abbrev j29 : State → PlannedMove → Segment → Journal
+j29 last m s = did (Add m) [] ∷ j28 last m s
+
+c29 : (first last : State) (m : PlannedMove) (s : Segment) → IsOneJog first last m s → Conducted first (j29 last m s)
+c29 first last m s p = ((refl, (p.add, refl)), c28 first last m s p)
+
+abbrev j30 : State → PlannedMove → Segment → Journal
+j30 last m s = became (on_start true) motions.Jog ∷ j29 last m s
+
+c30 : (first last : State) (m : PlannedMove) (s : Segment) → IsOneJog first last m s → Conducted first (j30 last m s)
+c30 first last m s p = ((refl, record { goes = refl; blocks = refl; called = refl; jogs = refl }), c29 first last m s p)
+
+abbrev j31 : State → PlannedMove → Segment → Journal
+j31 last m s = turned Did ∷ j30 last m s
+
+c31 : (first last : State) (m : PlannedMove) (s : Segment) → IsOneJog first last m s → Conducted first (j31 last m s)
+c31 first last m s p = (record { once = omega arith; adds = λ m e. absurd cc; starts = λ w. absurd (let b = w.stands in cc); tries = omega arith; obeyed = λ e. refl; changed = refl; halts = λ e. absurd cc }, c30 first last m s p)
+
+abbrev j32 : State → PlannedMove → Segment → Journal
+j32 last m s = at_port (answered Ok) ∷ j31 last m s
+
+c32 : (first last : State) (m : PlannedMove) (s : Segment) → IsOneJog first last m s → Conducted first (j32 last m s)
+c32 first last m s p = (record { next = refl; plain = refl; unowed = refl; empty = λ e. absurd cc }, c31 first last m s p)
+
+abbrev pub j33 : State → PlannedMove → Segment → Journal
+j33 last m s = turned Did ∷ j32 last m s
+
+pub c33 : (first last : State) (m : PlannedMove) (s : Segment) → IsOneJog first last m s → Conducted first (j33 last m s)
+c33 first last m s p = (record { once = omega arith; adds = λ m e. absurd cc; starts = λ w. absurd (let b = w.stands in cc); tries = omega arith; obeyed = λ e. refl; changed = refl; halts = λ e. absurd cc }, c32 first last m s p)
+
+abbrev j34 : State → PlannedMove → Segment → Journal
+j34 last m s = did (Take Go) (pieces.Segment s ∷ []) ∷ j33 last m s
+
+c34 : (first last : State) (m : PlannedMove) (s : Segment) → IsOneJog first last m s → Conducted first (j34 last m s)
+c34 first last m s p = ((record { goes = refl; empty = refl }, (p.taken, refl)), c33 first last m s p)
+
+abbrev j35 : State → PlannedMove → Segment → Journal
+j35 last m s = at_port (published (pieces.Segment s)) ∷ j34 last m s
+
+c35 : (first last : State) (m : PlannedMove) (s : Segment) → IsOneJog first last m s → Conducted first (j35 last m s)
+c35 first last m s p = ((refl, tt), c34 first last m s p)
+
+abbrev j36 : State → PlannedMove → Segment → Journal
+j36 last m s = turned Did ∷ j35 last m s
+
+c36 : (first last : State) (m : PlannedMove) (s : Segment) → IsOneJog first last m s → Conducted first (j36 last m s)
+c36 first last m s p = (record { once = omega arith; adds = λ m e. absurd cc; starts = λ w. absurd (let b = w.stands in cc); tries = omega arith; obeyed = λ e. refl; changed = refl; halts = λ e. absurd cc }, c35 first last m s p)
+
+abbrev j37 : State → PlannedMove → Segment → Journal
+j37 last m s = at_port found_empty ∷ j36 last m s
+
+c37 : (first last : State) (m : PlannedMove) (s : Segment) → IsOneJog first last m s → Conducted first (j37 last m s)
+c37 first last m s p = (record { calm = refl; all_done = refl; partial = refl; unclosed = refl }, c36 first last m s p)
+
+abbrev j38 : State → PlannedMove → Segment → Journal
+j38 last m s = at_port (loaded (ticks_together (pieces.Segment s ∷ []))) ∷ j37 last m s
+
+c38 : (first last : State) (m : PlannedMove) (s : Segment) → IsOneJog first last m s → Conducted first (j38 last m s)
+c38 first last m s p = (record { later = omega arith; below = omega arith; few = one_unfinished (nat_lt (ticks_together (pieces.Segment s ∷ [])) (tick_count (pieces.Segment s))) }, c37 first last m s p)
+
+abbrev j39 : State → PlannedMove → Segment → Journal
+j39 last m s = became on_drained motions.Idle ∷ j38 last m s
+
+c39 : (first last : State) (m : PlannedMove) (s : Segment) → IsOneJog first last m s → Conducted first (j39 last m s)
+c39 first last m s p = ((refl, record { plan = p.rests; hand = refl; done = refl }), c38 first last m s p)
+
+abbrev j40 : State → PlannedMove → Segment → Journal
+j40 last m s = turned (Wait on.Byte) ∷ j39 last m s
+
+c40 : (first last : State) (m : PlannedMove) (s : Segment) → IsOneJog first last m s → Conducted first (j40 last m s)
+c40 first last m s p = (record { ends = record { once = omega arith; adds = λ m e. absurd cc; starts = λ w. absurd (no_blocks m s p.rests w.blocks); tries = omega arith; obeyed = λ e. refl; changed = refl; halts = λ e. absurd cc }; cause = record { poll = refl; free = refl; partial = refl; unowed = refl }; still = refl; flags = refl; obeyed = refl; unowed = λ owed. absurd cc; round = λ due. absurd cc }, c39 first last m s p)
+
+abbrev j41 : State → PlannedMove → Segment → Journal
+j41 last m s = unchanged no_changes (j40 last m s)
+
+c41 : (first last : State) (m : PlannedMove) (s : Segment) → IsOneJog first last m s → Conducted first (j41 last m s)
+c41 first last m s p = may_take_no_change first no_changes (j40 last m s) refl (c40 first last m s p) refl
+
+abbrev j42 : State → PlannedMove → Segment → Journal
+j42 last m s = requested nothing motions.Idle (j41 last m s)
+
+c42 : (first last : State) (m : PlannedMove) (s : Segment) → IsOneJog first last m s → Conducted first (j42 last m s)
+c42 first last m s p = may_request first nothing motions.Idle (j41 last m s) (c41 first last m s p) refl refl refl refl refl (λ e. inl refl)
+
+abbrev j43 : State → PlannedMove → Segment → Journal
+j43 last m s = at_port found_closed ∷ j42 last m s
+
+c43 : (first last : State) (m : PlannedMove) (s : Segment) → IsOneJog first last m s → Conducted first (j43 last m s)
+c43 first last m s p = (record { calm = refl; all_done = refl; partial = refl; unclosed = refl }, c42 first last m s p)
+
+abbrev j44 : State → PlannedMove → Segment → Journal
+j44 last m s = closing ∷ j43 last m s
+
+c44 : (first last : State) (m : PlannedMove) (s : Segment) → IsOneJog first last m s → Conducted first (j44 last m s)
+c44 first last m s p = (record { free = refl; going = refl; begun = refl; closed = inl refl }, c43 first last m s p)
+
+abbrev j45 : State → PlannedMove → Segment → Journal
+j45 last m s = made_end ∷ j44 last m s
+
+c45 : (first last : State) (m : PlannedMove) (s : Segment) → IsOneJog first last m s → Conducted first (j45 last m s)
+c45 first last m s p = (record { next = refl; drained = record { plan = p.rests; hand = refl; done = refl }; stands = refl; closes = λ e. absurd cc }, c44 first last m s p)
+
+abbrev j46 : State → PlannedMove → Segment → Journal
+j46 last m s = at_port (published pieces.End) ∷ j45 last m s
+
+c46 : (first last : State) (m : PlannedMove) (s : Segment) → IsOneJog first last m s → Conducted first (j46 last m s)
+c46 first last m s p = ((refl, tt), c45 first last m s p)
+
+abbrev j47 : State → PlannedMove → Segment → Journal
+j47 last m s = turned Did ∷ j46 last m s
+
+c47 : (first last : State) (m : PlannedMove) (s : Segment) → IsOneJog first last m s → Conducted first (j47 last m s)
+c47 first last m s p = (record { once = omega arith; adds = λ m e. absurd cc; starts = λ w. absurd (no_blocks m s p.rests w.blocks); tries = omega arith; obeyed = λ e. refl; changed = refl; halts = λ e. absurd cc }, c46 first last m s p)
+
+abbrev j48 : State → PlannedMove → Segment → Journal
+j48 last m s = at_port (answered Bye) ∷ j47 last m s
+
+c48 : (first last : State) (m : PlannedMove) (s : Segment) → IsOneJog first last m s → Conducted first (j48 last m s)
+c48 first last m s p = (record { next = refl; plain = refl; unowed = refl; empty = λ e. refl }, c47 first last m s p)
+
+abbrev j49 : State → PlannedMove → Segment → Journal
+j49 last m s = turned Did ∷ j48 last m s
+
+c49 : (first last : State) (m : PlannedMove) (s : Segment) → IsOneJog first last m s → Conducted first (j49 last m s)
+c49 first last m s p = (record { once = omega arith; adds = λ m e. absurd cc; starts = λ w. absurd (no_blocks m s p.rests w.blocks); tries = omega arith; obeyed = λ e. refl; changed = refl; halts = λ e. absurd cc }, c48 first last m s p)
+
+abbrev j50 : State → PlannedMove → Segment → Journal
+j50 last m s = turned Done ∷ j49 last m s
+
+pub c50 : (first last : State) (m : PlannedMove) (s : Segment) → IsOneJog first last m s → Conducted first (j50 last m s)
+c50 first last m s p = (record { finished = record { left = refl; closed = refl }; still = refl }, c49 first last m s p)

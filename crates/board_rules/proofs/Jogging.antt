@@ -1,0 +1,265 @@
+-- While a jog runs, or is cancelled, the last that was accepted of G-code and jogs is a jog; while lines of G-code run, it is none.
+use Rattle.std.proofs.Common.{◌≡◌, ℕ, ◌⊎◌, inl, inr, Bool, true, false, ◌&&◌, ◌||◌, List, [], ◌∷◌, drop, refl, sym, ap, ◌∙◌, subst}
+use Rattle.feed_hold.specs.declared.Motion.{Motion}
+use Rattle.feed_hold.specs.declared.Motion.TheVariants as motions
+use Rattle.feed_hold.specs.Motions.{Call, is_stopping}
+use Rattle.feed_hold.specs.Motions.Call.{on_exec, on_start}
+use Rattle.feed_hold.proofs.Reaching.{StaysOrReaches, reached}
+use Rattle.planner_ring.specs.declared.Block.{Block}
+use Rattle.planner_runs.specs.declared.Action.{Action}
+use Rattle.planner_runs.specs.declared.Action.TheVariants.{Add, Take, Override, Mark, Rest, Clear, Reset}
+use Rattle.segment_prep.specs.declared.Mode.TheVariants.{Go, Hold}
+use Rattle.step_line.specs.Asking.Asked.{a_move}
+use Rattle.step_line.specs.declared.Piece.{Piece}
+use Rattle.step_line.specs.declared.planned_move.PlannedMove.{PlannedMove}
+use Rattle.run_rules.specs.declared.State.{State}
+use Rattle.run_rules.specs.declared.machine.Machine.{Machine}
+use Rattle.run_rules.specs.Work.{Task, Outcome, Kind, asks, asks_move, has_moves}
+use Rattle.run_rules.specs.Work.Task.{ask, tell, pause, normal, finish, halt}
+use Rattle.run_rules.specs.Outcomes.{jogged_behind}
+use Rattle.run_rules.specs.Finding.{Fate, IsJogWork}
+use Rattle.run_rules.specs.Finding.{Fate as fates}
+use Rattle.board_rules.specs.Ports.PortStep.{answered}
+use Rattle.board_rules.specs.Steps.{Journal, plan_of, motion_of, left_of, open_of}
+use Rattle.board_rules.specs.Steps.Step.{at_port, began, did, made_end, evened, paused, became, cut, halted, closing, turned}
+use Rattle.board_rules.specs.Turns.{has_blocks, has_jogged, waits_to_jog, machine_in, begins_in, is_going}
+use Rattle.board_rules.specs.Conduct.{Conducted, MayDo, MayHappen}
+use Rattle.board_rules.specs.Whole.{comes_to_rest}
+use Rattle.board_rules.proofs.Beginning.{fate_now}
+use Rattle.board_rules.proofs.Dropping.{asks_dropped, moves_dropped, none_moves, none_rests}
+
+-- ---- what is left of a jog's work
+
+-- it asks for nothing, or for a move that is next, and nothing else
+abbrev pub OneMove : List Task → Type 0
+OneMove ts = (asks ts ≡ []) ⊎ ((m : PlannedMove) × (ts ≡ ask (a_move m) ∷ drop 1 ts) × (asks (drop 1 ts) ≡ []))
+
+no_more : (ts : List Task) → asks ts ≡ [] → asks (drop 1 ts) ≡ []
+no_more [] none = refl
+no_more (ask a ∷ ts) none = absurd cc
+no_more (tell r ∷ ts) none = none
+no_more (pause ∷ ts) none = none
+no_more (normal ∷ ts) none = none
+no_more (finish ∷ ts) none = none
+no_more (halt ∷ ts) none = none
+
+-- one task less: then it asks for none
+popped : (ts : List Task) → OneMove ts → OneMove (drop 1 ts)
+popped ts (inl none) = inl (no_more ts none)
+popped ts (inr (m, next, none)) = inl none
+
+jog_work : (ts : List Task) → IsJogWork ts → OneMove ts
+jog_work ts (inl none) = inl none
+jog_work ts (inr (m, is)) = inr (m, is ∙ ap (λ (us : List Task). ask (a_move m) ∷ drop 1 us) (sym is), ap (λ (us : List Task). asks (drop 1 us)) is)
+
+begun_work : (m : Machine) (kept : List ℕ) (o : Outcome) (was : Bool) → Fate m kept o → jogged_behind o.kind was ≡ true → OneMove o.work
+begun_work m kept o was (fates.coded kind other) is = absurd (let e = sym (ap (λ (k : Kind). jogged_behind k was) kind) ∙ is in cc)
+begun_work m kept o was (fates.a_jog kind other dollar still work) is = jog_work o.work work
+begun_work m kept o was (fates.halted kind other still work) is = inl (ap asks work)
+begun_work m kept o was (fates.neither kind still none) is = inl none
+
+on_did_work : (h : Journal) (a : Action) (ps : List Piece) → MayDo a h → OneMove (left_of h) → OneMove (left_of (did a ps ∷ h))
+on_did_work h (Add m) ps may one = popped (left_of h) one
+on_did_work h (Mark m) ps may one = popped (left_of h) one
+on_did_work h Rest ps may one = popped (left_of h) one
+on_did_work h (Take mode) ps may one = one
+on_did_work h (Override o) ps may one = one
+on_did_work h Clear ps may one = absurd may
+on_did_work h Reset ps may one = absurd may
+
+-- behind a jog only its move is left to ask for, if any
+pub one_move : (first : State) (h : Journal) → Conducted first h → has_jogged h ≡ true → OneMove (left_of h)
+one_move first [] c is = absurd cc
+one_move first (at_port (answered r) ∷ h) c is = popped (left_of h) (one_move first h c.1 is)
+one_move first (at_port e ∷ h) c is = one_move first h c.1 is
+one_move first (began o ∷ h) c is = begun_work (machine_in (motion_of h)) (open_of h) o (has_jogged h) (fate_now first h o c.0) is
+one_move first (did a ps ∷ h) c is = on_did_work h a ps c.0.0 (one_move first h c.1 is)
+one_move first (made_end ∷ h) c is = popped (left_of h) (one_move first h c.1 is)
+one_move first (evened ∷ h) c is = popped (left_of h) (one_move first h c.1 is)
+one_move first (paused ∷ h) c is = popped (left_of h) (one_move first h c.1 is)
+one_move first (became call m ∷ h) c is = one_move first h c.1 is
+one_move first (cut k ∷ h) c is = inl (asks_dropped (left_of h))
+one_move first (halted ∷ h) c is = popped (left_of h) (one_move first h c.1 is)
+one_move first (closing ∷ h) c is = inl refl
+one_move first (turned t ∷ h) c is = one_move first h c.1 is
+
+-- ---- the motion
+
+-- blocks are queued, or a move is left to ask for
+abbrev has_some : Journal → Bool
+has_some h = has_blocks (plan_of h).blocks || has_moves (left_of h)
+
+-- what the last that was accepted is, in a state of the motion
+abbrev JogRule : Motion → (jogged some : Bool) → Type 0
+JogRule motions.Idle jogged some = Unit {0}
+JogRule motions.Run jogged some = jogged ≡ false
+JogRule motions.Holding jogged some = jogged ≡ false
+JogRule motions.Held jogged some = (jogged && some) ≡ false
+JogRule motions.Jog jogged some = jogged ≡ true
+JogRule motions.Cancelling jogged some = jogged ≡ true
+JogRule motions.Stopping jogged some = jogged ≡ false
+JogRule motions.Alarm jogged some = Unit {0}
+
+abbrev KeepsRule : Journal → Type 0
+KeepsRule h = JogRule (motion_of h) (has_jogged h) (has_some h)
+
+-- less is queued and left
+fewer : (m : Motion) (jogged was some : Bool) → (some ≡ true → was ≡ true) → JogRule m jogged was → JogRule m jogged some
+fewer motions.Idle jogged was some less rule = tt
+fewer motions.Run jogged was some less rule = rule
+fewer motions.Holding jogged was some less rule = rule
+fewer motions.Held false was some less rule = refl
+fewer motions.Held true was false less rule = refl
+fewer motions.Held true was true less rule = sym (less refl) ∙ rule
+fewer motions.Jog jogged was some less rule = rule
+fewer motions.Cancelling jogged was some less rule = rule
+fewer motions.Stopping jogged was some less rule = rule
+fewer motions.Alarm jogged was some less rule = tt
+
+-- the rule for held machines alone speaks of what is queued
+other_motion : (m : Motion) (jogged was some : Bool) → (m ≡ motions.Held → (jogged && some) ≡ false) → JogRule m jogged was → JogRule m jogged some
+other_motion motions.Idle jogged was some held rule = tt
+other_motion motions.Run jogged was some held rule = rule
+other_motion motions.Holding jogged was some held rule = rule
+other_motion motions.Held jogged was some held rule = held refl
+other_motion motions.Jog jogged was some held rule = rule
+other_motion motions.Cancelling jogged was some held rule = rule
+other_motion motions.Stopping jogged was some held rule = rule
+other_motion motions.Alarm jogged was some held rule = tt
+
+some_true : (blocks moves : Bool) → moves ≡ true → (blocks || moves) ≡ true
+some_true true moves is = refl
+some_true false moves is = is
+
+tail_some : (blocks : Bool) (ts : List Task) → (blocks || has_moves (drop 1 ts)) ≡ true → (blocks || has_moves ts) ≡ true
+tail_some true ts is = refl
+tail_some false [] is = is
+tail_some false (t ∷ ts) is = some_true (asks_move t) (has_moves ts) is
+
+blocks_alone : (blocks moves : Bool) → (blocks || false) ≡ true → (blocks || moves) ≡ true
+blocks_alone true moves is = refl
+blocks_alone false moves is = absurd cc
+
+on_tail : (h : Journal) → KeepsRule h → JogRule (motion_of h) (has_jogged h) (has_blocks (plan_of h).blocks || has_moves (drop 1 (left_of h)))
+on_tail h rule = fewer (motion_of h) (has_jogged h) (has_some h) _ (tail_some (has_blocks (plan_of h).blocks) (left_of h)) rule
+
+-- ---- a line is begun
+
+begun_rule : (m : Motion) (kept : List ℕ) (o : Outcome) (was some now : Bool) → begins_in m ≡ true → Fate (machine_in m) kept o → JogRule m was some → JogRule m (jogged_behind o.kind was) now
+begun_rule motions.Idle kept o was some now begins fate rule = tt
+begun_rule motions.Run kept o was some now begins (fates.coded kind other) rule = ap (λ (k : Kind). jogged_behind k was) kind
+begun_rule motions.Run kept o was some now begins (fates.a_jog kind other dollar still work) rule = absurd (other refl)
+begun_rule motions.Run kept o was some now begins (fates.halted kind other still work) rule = ap (λ (k : Kind). jogged_behind k was) kind ∙ rule
+begun_rule motions.Run kept o was some now begins (fates.neither kind still none) rule = ap (λ (k : Kind). jogged_behind k was) kind ∙ rule
+begun_rule motions.Jog kept o was some now begins (fates.coded kind other) rule = absurd (other refl)
+begun_rule motions.Jog kept o was some now begins (fates.a_jog kind other dollar still work) rule = ap (λ (k : Kind). jogged_behind k was) kind
+begun_rule motions.Jog kept o was some now begins (fates.halted kind other still work) rule = absurd (other refl)
+begun_rule motions.Jog kept o was some now begins (fates.neither kind still none) rule = ap (λ (k : Kind). jogged_behind k was) kind ∙ rule
+begun_rule motions.Holding kept o was some now begins fate rule = absurd cc
+begun_rule motions.Held kept o was some now begins fate rule = absurd cc
+begun_rule motions.Cancelling kept o was some now begins fate rule = absurd cc
+begun_rule motions.Stopping kept o was some now begins fate rule = absurd cc
+begun_rule motions.Alarm kept o was some now begins fate rule = absurd cc
+
+-- ---- something is done to the plan
+
+-- no move is left to ask for in a held machine, behind a jog
+none_added : (jogged blocks : Bool) (ts : List Task) (m : PlannedMove) → ts ≡ ask (a_move m) ∷ drop 1 ts → (now : Bool) → (jogged && (blocks || has_moves ts)) ≡ false → (jogged && now) ≡ false
+none_added false blocks ts m next now rule = refl
+none_added true true ts m next now rule = absurd cc
+none_added true false ts m next now rule = absurd (let e = sym (ap has_moves next) ∙ rule in cc)
+
+not_going : (m : Motion) → is_going m ≡ true → m ≡ motions.Held → ⊥
+not_going m goes held = absurd (let e = sym (ap is_going held) ∙ goes in cc)
+
+held_rule : (m : Motion) (jogged some : Bool) → m ≡ motions.Held → JogRule m jogged some → (jogged && some) ≡ false
+held_rule m jogged some is rule = subst (λ (n : Motion). JogRule n jogged some) is rule
+
+did_rule : (h : Journal) (a : Action) (ps : List Piece) → MayDo a h → KeepsRule h → KeepsRule (did a ps ∷ h)
+did_rule h (Add m) ps may rule = other_motion (motion_of h) (has_jogged h) (has_some h) _
+    (λ held. none_added (has_jogged h) (has_blocks (plan_of h).blocks) (left_of h) m may _ (held_rule (motion_of h) (has_jogged h) (has_some h) held rule)) rule
+did_rule h (Mark m) ps may rule = on_tail h rule
+did_rule h Rest ps may rule = on_tail h rule
+did_rule h (Take Go) ps may rule = other_motion (motion_of h) (has_jogged h) (has_some h) _ (λ held. absurd (not_going (motion_of h) may.goes held)) rule
+did_rule h (Take Hold) ps may rule = other_motion (motion_of h) (has_jogged h) (has_some h) _ (λ held. absurd (let e = sym (ap is_stopping held) ∙ may.slows in cc)) rule
+did_rule h (Override o) ps may rule = rule
+did_rule h Clear ps may rule = absurd may
+did_rule h Reset ps may rule = absurd may
+
+-- ---- something happens to the motion
+
+same_rule : (was now : Motion) (jogged some : Bool) → now ≡ was → JogRule was jogged some → JogRule now jogged some
+same_rule was now jogged some is rule = subst (λ (n : Motion). JogRule n jogged some) (sym is) rule
+
+-- blocks are queued, and none is of a jog
+no_jog : (jogged blocks moves : Bool) → blocks ≡ true → (jogged && (blocks || moves)) ≡ false → jogged ≡ false
+no_jog false blocks moves some rule = refl
+no_jog true true moves some rule = absurd cc
+no_jog true false moves some rule = absurd cc
+
+idle_waits : (m : Motion) (jogged some : Bool) → m ≡ motions.Idle → waits_to_jog m jogged some ≡ false → (jogged && some) ≡ false
+idle_waits m jogged some is none = subst (λ (n : Motion). waits_to_jog n jogged some ≡ false) is none
+
+call_rule : (h : Journal) (call : Call) (m : Motion) → MayHappen call h → StaysOrReaches m call (motion_of h) → KeepsRule h → JogRule m (has_jogged h) (has_some h)
+call_rule h call m may (inl same) rule = same_rule (motion_of h) m (has_jogged h) (has_some h) same rule
+call_rule h call motions.Idle may (inr how) rule = tt
+call_rule h call motions.Run may (inr (inl (inl was, (word, is, asked, unheld)))) rule =
+    let obeys : MayHappen (on_exec word true) h = subst (λ (x : Call). MayHappen x h) is may in
+    no_jog (has_jogged h) (has_blocks (plan_of h).blocks) (has_moves (left_of h)) (sym obeys.blocks) (idle_waits (motion_of h) (has_jogged h) (has_some h) was obeys.jog)
+call_rule h call motions.Run may (inr (inl (inr was, (word, is, asked, unheld)))) rule =
+    let obeys : MayHappen (on_exec word true) h = subst (λ (x : Call). MayHappen x h) is may in
+    no_jog (has_jogged h) (has_blocks (plan_of h).blocks) (has_moves (left_of h)) (sym obeys.blocks) (held_rule (motion_of h) (has_jogged h) (has_some h) was rule)
+call_rule h call motions.Run may (inr (inr (was, is))) rule =
+    let begins : MayHappen (on_start false) h = subst (λ (x : Call). MayHappen x h) is may in begins.jogs
+call_rule h call motions.Holding may (inr (was, by)) rule = same_rule (motion_of h) motions.Run (has_jogged h) (has_some h) (sym was) rule
+call_rule h call motions.Held may (inr (inl (was, inl (word, queued, is, asked)))) rule =
+    let obeys : MayHappen (on_exec word queued) h = subst (λ (x : Call). MayHappen x h) is may in idle_waits (motion_of h) (has_jogged h) (has_some h) was obeys.jog
+call_rule h call motions.Held may (inr (inl (was, inr is))) rule = absurd (subst (λ (x : Call). MayHappen x h) is may)
+call_rule h call motions.Held may (inr (inr (was, is))) rule =
+    let none : has_jogged h ≡ false = same_rule (motion_of h) motions.Holding (has_jogged h) (has_some h) (sym was) rule in ap (λ (j : Bool). j && has_some h) none
+call_rule h call motions.Jog may (inr (was, is)) rule =
+    let begins : MayHappen (on_start true) h = subst (λ (x : Call). MayHappen x h) is may in begins.jogs
+call_rule h call motions.Cancelling may (inr (was, by)) rule = same_rule (motion_of h) motions.Jog (has_jogged h) (has_some h) (sym was) rule
+call_rule h call motions.Stopping may (inr (was, is)) rule = same_rule (motion_of h) motions.Run (has_jogged h) (has_some h) (sym was) rule
+call_rule h call motions.Alarm may (inr how) rule = tt
+
+-- a pause is no jog's
+paused_rule : (jogged : Bool) (ts : List Task) (bs : List Block) → (jogged ≡ true → OneMove ts) → ts ≡ pause ∷ drop 1 ts → bs ≡ [] → (jogged && (has_blocks bs || has_moves (drop 1 ts))) ≡ false
+paused_rule false ts bs one next none = refl
+paused_rule true ts bs one next none = by_work (one refl)
+  where
+    by_work : OneMove ts → (has_blocks bs || has_moves (drop 1 ts)) ≡ false
+    by_work (inl still) = ap (λ (b : Bool). b || has_moves (drop 1 ts)) (ap has_blocks none) ∙ none_moves (drop 1 ts) (no_more ts still)
+    by_work (inr (m, is, still)) = ap (λ (b : Bool). b || has_moves (drop 1 ts)) (ap has_blocks none) ∙ none_moves (drop 1 ts) still
+
+pub rule_is : (first : State) (h : Journal) → Conducted first h → KeepsRule h
+rule_is first [] c = tt
+rule_is first (at_port (answered r) ∷ h) c = on_tail h (rule_is first h c.1)
+rule_is first (at_port e ∷ h) c = rule_is first h c.1
+rule_is first (began o ∷ h) c = begun_rule (motion_of h) (open_of h) o (has_jogged h) (has_some h) _ c.0.begins (fate_now first h o c.0) (rule_is first h c.1)
+rule_is first (did a ps ∷ h) c = did_rule h a ps c.0.0 (rule_is first h c.1)
+rule_is first (made_end ∷ h) c = on_tail h (rule_is first h c.1)
+rule_is first (evened ∷ h) c = on_tail h (rule_is first h c.1)
+rule_is first (paused ∷ h) c = paused_rule (has_jogged h) (left_of h) (plan_of h).blocks (one_move first h c.1) c.0.rests.next c.0.rests.drained.plan.blocks
+rule_is first (became call m ∷ h) c = call_rule h call m c.0.1 (reached call (motion_of h) m c.0.0) (rule_is first h c.1)
+rule_is first (cut k ∷ h) c = fewer (motion_of h) (has_jogged h) (has_some h) _ (λ some. absurd (let e = sym some ∙ moves_dropped (left_of h) in cc)) (rule_is first h c.1)
+rule_is first (halted ∷ h) c = same_rule motions.Alarm (motion_of h) (has_jogged h) _ c.0.alarm tt
+rule_is first (closing ∷ h) c = fewer (motion_of h) (has_jogged h) (has_some h) _ (blocks_alone (has_blocks (plan_of h).blocks) (has_moves (left_of h))) (rule_is first h c.1)
+rule_is first (turned t ∷ h) c = rule_is first h c.1
+
+pub run_is_code : (first : State) (h : Journal) → Conducted first h → motion_of h ≡ motions.Run → has_jogged h ≡ false
+run_is_code first h c is = same_rule (motion_of h) motions.Run (has_jogged h) (has_some h) (sym is) (rule_is first h c)
+
+pub jog_is_last : (first : State) (h : Journal) → Conducted first h → motion_of h ≡ motions.Jog → has_jogged h ≡ true
+jog_is_last first h c is = same_rule (motion_of h) motions.Jog (has_jogged h) (has_some h) (sym is) (rule_is first h c)
+
+pub cancel_is_jog : (first : State) (h : Journal) → Conducted first h → motion_of h ≡ motions.Cancelling → has_jogged h ≡ true
+cancel_is_jog first h c is = same_rule (motion_of h) motions.Cancelling (has_jogged h) (has_some h) (sym is) (rule_is first h c)
+
+one_rests : (ts : List Task) → OneMove ts → comes_to_rest ts ≡ false
+one_rests ts (inl none) = none_rests ts none
+one_rests ts (inr (m, next, none)) = ap comes_to_rest next ∙ none_rests (drop 1 ts) none
+
+-- behind a jog the machine is not waited for
+pub jog_rests : (first : State) (h : Journal) → Conducted first h → has_jogged h ≡ true → comes_to_rest (left_of h) ≡ false
+jog_rests first h c is = one_rests (left_of h) (one_move first h c is)

@@ -1,0 +1,110 @@
+-- The parts of a run in which jogs were cut: each begins where the one before was cut.
+use Rattle.std.specs.Prelude.{◌≡◌, ℕ, ◌≤◌, ◌<◌, Bool, List, [], ◌∷◌, ◌++◌, length, map, take}
+use Rattle.std.specs.List.{flat_map, AllByRecursion}
+use Rattle.flight.specs.Places.{end_of}
+use Rattle.legal_heads.specs.Speeds.{HasLegalHeads}
+use Rattle.plan_passes.specs.Plans.{Planned}
+use Rattle.planner_runs.specs.declared.Action.{Action}
+use Rattle.planner_runs.specs.declared.Action.TheVariants.{Mark, Clear}
+use Rattle.planner_runs.specs.Halted.{HasHaltedHeads}
+use Rattle.planner_runs.specs.Runs.{Plans, IsStart, DisturbedOnlyBy, fresh_plan, cleared, most_blocks, all_asked, moves_added, ticks_left, all_records}
+use Rattle.run_rules.specs.Work.{Outcome}
+use Rattle.run_rules.specs.Cuts.{LosesJogsAlone, counts_asked, cut_to, with_cut}
+use Rattle.run_rules.specs.Outcomes.{Passed}
+use Rattle.run_rules.specs.Outcomes.Passed.{a_line, a_cut}
+use Rattle.run_rules.specs.Reports.{settled_to}
+use Rattle.run_rules.specs.Told.{asked_in}
+use Rattle.step_line.specs.Asking.{Asked, ticks_of_all}
+use Rattle.step_line.specs.Finishing.{ticks_together}
+use Rattle.step_line.specs.Logs.{NewestFirst}
+use Rattle.step_line.specs.Pieces.{ticks_of}
+use Rattle.step_line.specs.declared.Mark.TheVariants as marks
+use Rattle.step_line.specs.declared.Piece.{Piece}
+use Rattle.step_line.specs.declared.Piece.TheVariants as pieces
+use Rattle.step_line.specs.declared.Record.TheVariants as kinds
+
+-- A part that a cut has ended: the number of the cut; what became of its lines; the plan with which it began, what was done to
+-- that, the pieces that it gave, and the plan that was cleared; and what was left to ask.
+pub record Part : Type 0 where
+  pub number : ℕ
+  pub outcomes : List Outcome
+  pub start : Planned
+  pub actions : List Action
+  pub given : List Piece
+  pub plan : Planned
+  pub dropped : List Asked
+
+-- Such a part is a planner run from where the machine stood to where it has come to a stop, so that its heads are legal and a
+-- cut may break a move off. What its lines ask for was done, or was left to ask; so the ticks that were given are the first of
+-- those that the lines ask for, and the others are of jogs alone.
+pub record IsCutPart (p : Part) : Type 0 where
+  pub starts : IsStart p.start
+  pub run : Plans most_blocks p.start p.actions p.given p.plan
+  pub stops : p.plan.speed ≡ 0
+  pub heads : HasLegalHeads (moves_added p.actions) (all_records p.given ++ kinds.Mark (marks.Cut p.number) ∷ [])
+  pub asks : asked_in p.outcomes ≡ all_asked p.actions ++ p.dropped
+  pub ticks : ticks_of_all (asked_in p.outcomes) ≡ flat_map ticks_of p.given ++ (ticks_left p.plan ++ ticks_of_all p.dropped)
+  pub jogs : LosesJogsAlone (ticks_together p.given) p.outcomes
+
+-- The last part of a run that an alarm has ended: a planner run from where the machine stood to where it has come to a stop.
+-- What its lines ask for was done, so the ticks that were given are the first of those that the lines ask for, and the others
+-- are dropped; they hold all of the lines up to the last that settles. Its heads are legal up to the end, which may break a move
+-- off.
+pub record IsHaltedPart (outcomes : List Outcome) (start : Planned) (actions : List Action) (given : List Piece) (plan : Planned) : Type 0 where
+  pub starts : IsStart start
+  pub run : Plans most_blocks start actions given plan
+  pub stops : plan.speed ≡ 0
+  pub heads : HasHaltedHeads (moves_added actions) (all_records given ++ kinds.End ∷ [])
+  pub asks : asked_in outcomes ≡ all_asked actions
+  pub ticks : ticks_of_all (asked_in outcomes) ≡ flat_map ticks_of given ++ ticks_left plan
+  pub settled : length (ticks_of_all (asked_in (take (settled_to outcomes) outcomes))) ≤ ticks_together given
+
+-- the plan behind these parts: the last one, cleared
+abbrev pub plan_behind : NewestFirst Part → Planned
+plan_behind [] = fresh_plan
+plan_behind (p ∷ ps) = cleared p.plan
+
+-- each begins with the plan that the cut before it has cleared
+abbrev pub AreJoined : NewestFirst Part → Type 0
+AreJoined [] = Unit {0}
+AreJoined (p ∷ ps) = (p.start ≡ plan_behind ps) × AreJoined ps
+
+-- nothing else disturbs them than a hold or a cancel, where there was one, and a change of overrides, where there was one
+abbrev pub AreDisturbedOnlyBy : Bool → Bool → NewestFirst Part → Type 0
+AreDisturbedOnlyBy slowed changed parts = AllByRecursion (λ p. DisturbedOnlyBy slowed changed p.actions) parts
+
+-- ---- of all parts, the latest first
+
+-- what became of their lines
+abbrev pub lines_in : NewestFirst Part → List Outcome
+lines_in [] = []
+lines_in (p ∷ ps) = lines_in ps ++ p.outcomes
+
+-- what was done to the plan; a cut clears it, and is marked
+abbrev pub actions_in : NewestFirst Part → List Action
+actions_in [] = []
+actions_in (p ∷ ps) = actions_in ps ++ (p.actions ++ Clear ∷ Mark (marks.Cut p.number) ∷ [])
+
+-- the pieces that were given, each part's before its cut
+abbrev pub pieces_in : NewestFirst Part → List Piece
+pieces_in [] = []
+pieces_in (p ∷ ps) = pieces_in ps ++ (p.given ++ pieces.Mark (marks.Cut p.number) ∷ [])
+
+-- the lines and the cuts that were passed: each cut where the pieces before it lead
+abbrev pub passed_in : NewestFirst Part → List Passed
+passed_in [] = []
+passed_in (p ∷ ps) = passed_in ps ++ (map a_line p.outcomes ++ a_cut p.number (end_of (pieces_in ps ++ p.given)) ∷ [])
+
+-- How many ticks count of each line: of a part's lines those that were given, the first ones, and the cut with the last line.
+abbrev pub counts_in : NewestFirst Part → List ℕ
+counts_in [] = []
+counts_in (p ∷ ps) = counts_in ps ++ with_cut (cut_to (ticks_together p.given) (counts_asked p.outcomes))
+
+abbrev pub last_number : NewestFirst Part → ℕ
+last_number [] = 0
+last_number (p ∷ ps) = p.number
+
+-- the number of each cut is that of the lines before it, and is greater than those of the cuts before it
+abbrev pub AreNumbered : NewestFirst Part → Type 0
+AreNumbered [] = Unit {0}
+AreNumbered (p ∷ ps) = (p.number ≡ length (lines_in (p ∷ ps))) × (last_number ps < p.number) × AreNumbered ps

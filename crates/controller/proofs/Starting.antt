@@ -1,0 +1,27 @@
+-- What queued blocks start: the cycle, or a jog.
+use Rattle.std.proofs.Common.{◌≡◌, ◌≤◌, Bool, true, false, ◌&&◌, refl, arith}
+use Rattle.feed_hold.specs.declared.Motion.TheVariants as motions
+use Rattle.board_rules.specs.Steps.{Journal, motion_of}
+use Rattle.board_rules.specs.Cuts.{has_cut, is_cancelling}
+use Rattle.board_rules.specs.Turns.{is_halting, begins_in}
+use Rattle.controller.specs.Machines.{start_motion}
+use Rattle.controller.specs.Boards.{changes_left}
+
+-- the machine does not stand
+pub starts_off : {A : Type 0} (jog : Bool) → start_motion jog ≡ motions.Idle → A
+starts_off false is = absurd cc
+starts_off true is = absurd cc
+
+-- it is not held, nor slows down for that, nor is a jog cancelled
+pub starts_going : (jog : Bool) → is_halting (start_motion jog) ≡ false
+starts_going false = refl
+starts_going true = refl
+
+-- lines may be begun
+pub starts_to_begin : (jog : Bool) → begins_in (start_motion jog) ≡ true
+starts_to_begin false = refl
+starts_to_begin true = refl
+
+pub none_left_to_change : (jog : Bool) (h : Journal) → changes_left (start_motion jog) (is_cancelling (start_motion jog) && has_cut h) ≤ changes_left (motion_of h) (has_cut h)
+none_left_to_change false h = omega arith
+none_left_to_change true h = omega arith

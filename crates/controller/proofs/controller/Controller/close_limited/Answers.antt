@@ -1,0 +1,11 @@
+use Rattle.std.proofs.Common.{◌∷◌, refl}
+use Rattle.board_rules.specs.Steps.Step.{closing}
+use Rattle.controller.proofs.Limiting.{may_close, closes_limited}
+use Rattle.controller.proofs.Steps.{closes}
+use Rattle.controller.proofs.controller.Controller.close_limited.Goals as goal
+
+pub returns-clause-goes_on : goal.returns-clause-goes_on
+returns-clause-goes_on c = λ h k ready is none.
+    let s = c.args.self.now in
+    let now = closes s _ h k (may_close s h k is none c.requires.«open») c.close.ensures in
+    (closing ∷ h, refl, closes_limited s _ h k now ready is none c.requires.«open» c.requires.beat c.requires.flags c.requires.flags)

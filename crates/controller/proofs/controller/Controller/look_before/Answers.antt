@@ -1,0 +1,25 @@
+use Rattle.std.proofs.Common.{◌∷◌, inl, inr, refl}
+use Rattle.board_rules.specs.Ports.PortStep.{loaded}
+use Rattle.board_rules.specs.Steps.{port_log}
+use Rattle.board_rules.specs.Steps.Step.{at_port}
+use Rattle.controller.proofs.Known.{in_hand}
+use Rattle.controller.proofs.Settling.{looked_learned}
+use Rattle.controller.proofs.CutMarks.{other_timely, timely_looked}
+use Rattle.controller.proofs.controller.Controller.look_before.Goals as goal
+
+pub returns-then-needs_look-clause-goes_on : goal.returns-then-needs_look-clause-goes_on
+returns-then-needs_look-clause-goes_on g c = λ rest h stands k.
+    let s = c.args.self.now in
+    let p = c.args.piece in
+    let done = c.done-done.result in
+    let may = c.done-done.ensures.known rest (port_log h) stands in
+    let keeps = looked_learned s c.learn.new.self done h k may c.learn.ensures.flies in (
+      at_port (loaded done) ∷ h,
+      c.done-done.ensures.done rest (port_log h) stands,
+      keeps,
+      inr (done, refl),
+      timely_looked k.first p done h (may, k.conducted) (in_hand s h p k c.requires.hand),
+    )
+
+pub returns-else-needs_look-clause-goes_on : goal.returns-else-needs_look-clause-goes_on
+returns-else-needs_look-clause-goes_on g c = λ rest h stands k. (h, stands, k, inl refl, other_timely c.args.piece h (c.needs_look.ensures c.if-needs_look.false).1)

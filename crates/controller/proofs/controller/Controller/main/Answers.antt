@@ -1,0 +1,24 @@
+use Rattle.std.proofs.Common.{◌≡◌, true, false, sym, ◌∙◌}
+use Rattle.board_rules.specs.Turns.{is_full, is_halting, needs_motion}
+use Rattle.controller.proofs.Nexts.{goes_on}
+use Rattle.controller.proofs.controller.Controller.main.Goals.{else-is_halting-via-then-is_halting+else-is_held_up, else-is_halting-via-else-is_halting}
+use Rattle.controller.proofs.controller.Controller.main.Goals as goal
+
+pub proceed-requires-clause-stands : goal.proceed-requires-clause-stands
+proceed-requires-clause-stands g c =
+    let r = c.requires.stands in
+    let s = c.args.self.now in
+    let held : is_halting s.machine.hold.motion ≡ true → needs_motion s.lines.left s.input.whole (is_full s.machine.plan) ≡ false = λ e. elim c.else-is_halting.branch [
+      | else-is_halting-via-then-is_halting+else-is_held_up w ↦ sym w.is_held_up.ensures ∙ w.if-is_held_up.false
+      | else-is_halting-via-else-is_halting w ↦ absurd (let f = sym w.if-is_halting.false ∙ c.is_halting.ensures ∙ e in cc)
+    ] in
+    (r.0, r.1, r.2, r.3, r.4, goes_on s r.1 r.3 held (sym c.if-is_limited.ensures))
+
+pub returns-clause-goes_on : goal.returns-clause-goes_on
+returns-clause-goes_on g c = λ rest h stands k ready.
+    let s = c.args.self.now in
+    let held : is_halting s.machine.hold.motion ≡ true → needs_motion s.lines.left s.input.whole (is_full s.machine.plan) ≡ false = λ e. elim c.else-is_halting.branch [
+      | else-is_halting-via-then-is_halting+else-is_held_up w ↦ sym w.is_held_up.ensures ∙ w.if-is_held_up.false
+      | else-is_halting-via-else-is_halting w ↦ absurd (let f = sym w.if-is_halting.false ∙ c.is_halting.ensures ∙ e in cc)
+    ] in
+    c.proceed.ensures.goes_on rest h stands k ready (goes_on s h k held (sym c.if-is_limited.ensures))

@@ -1,0 +1,11 @@
+use Rattle.controller.proofs.Nexts.{may_poll}
+use Rattle.controller.proofs.controller.Controller.next_line.Goals as goal
+
+pub poll-requires-clause-stands : goal.poll-requires-clause-stands
+poll-requires-clause-stands g c =
+    let r = c.requires.stands in
+    (r.0, r.1, r.2, r.3, r.4, may_poll c.args.self.now r.1 r.3 r.5 c.requires.none c.requires.«open» c.if-self.false)
+
+pub returns-clause-goes_on : goal.returns-clause-goes_on
+returns-clause-goes_on g c = λ rest h stands k ready goes.
+    c.poll.ensures.goes_on rest h stands k ready (may_poll c.args.self.now h k goes c.requires.none c.requires.«open» c.if-self.false)

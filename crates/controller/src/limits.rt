@@ -1,0 +1,95 @@
+//! How a machine that a soft limit stops is halted, and the run ended.
+
+ghost use Rattle.std.specs.Prelude.{◌≡◌, ◌≢◌, ◌∷◌, [], true, false};
+ghost use Rattle.outside.specs.declared.Turn.TheVariants.{Done};
+ghost use Rattle.board_rules.specs.Steps.{Journal, motion_of, left_of, port_log};
+ghost use Rattle.board_rules.specs.Turns.{is_limited};
+ghost use Rattle.board_rules.specs.Conduct.{IsNextTask};
+ghost use Rattle.run_rules.specs.Work.Task.{halt};
+ghost use Rattle.controller.specs.declared.controller.Beat.{Beat};
+ghost use Rattle.controller.specs.declared.controller.Flags.{Flags};
+ghost use Rattle.controller.specs.Boards.{Keeps};
+ghost use Rattle.controller.specs.Turning.{BoardWorked, HasHalted, IsAtLimit, IsLocked, IsReady, WorksOn};
+
+use crate::controller::{Beat, Controller, Flags};
+use crate::ports::BoardPort;
+use line_interpreter::Todo;
+use outside::{On, Turn};
+
+impl Controller {
+    /// A machine that a soft limit has stopped is in alarm.
+    fn lock(&mut self)
+        requires { (h : Journal) × Keeps self.old h × IsAtLimit h }
+        ensures locked { (h : Journal) → Keeps self.old h → IsAtLimit h → (next : Journal) × Keeps self.new next × IsLocked h next }
+        ensures same { self.new ≡ record self.old { machine = self.new.machine } }
+    {
+        if !self.machine.is_locked() {
+            self.machine.lock();
+        }
+    }
+
+    /// What is planned is dropped where a soft limit has stopped the machine, which is in alarm from then on.
+    fn drop_plan(&mut self)
+        requires { (h : Journal) × Keeps self.old h × IsAtLimit h }
+        ensures halted { (h : Journal) → Keeps self.old h → IsAtLimit h → (next : Journal) × Keeps self.new next × HasHalted h next }
+        ensures same { self.new ≡ record self.old { machine = self.new.machine; lines = self.new.lines } }
+    {
+        self.lock();
+        self.machine.clear();
+        self.lines.done();
+    }
+
+    /// Publishes what is in hand or due until the machine has stopped, and waits until each tick is done. Then what is planned is
+    /// dropped, and the alarm is told.
+    fn halt_at_limit<P: BoardPort>(&mut self, port: &mut P) -> Turn
+        requires stands { (rest : P.Rest) × (h : Journal) × P.stands port.old rest (port_log h) × Keeps self.old h × IsReady h × (is_limited (motion_of h) ≡ true) × IsNextTask halt h }
+        requires beat { self.old.beat ≡ Beat.Motion }
+        requires flags { self.old.flags ≡ Flags.None }
+        ensures goes_on { (rest : P.Rest) (h : Journal) → P.stands port.old rest (port_log h) → Keeps self.old h → IsReady h → is_limited (motion_of h) ≡ true → IsNextTask halt h
+            → WorksOn (P.stands port.new rest) result self.old.flags self.new h }
+        ensures going { result ≢ Done }
+    {
+        if self.has_piece() {
+            return self.run(port);
+        }
+        if port.done() < self.machine.given {
+            return Turn::Wait(On::Motion);
+        }
+        self.drop_plan();
+        self.tell(port)
+    }
+
+    /// Closes the run, since the alarm is told, and nothing is left to do.
+    fn close_limited(&mut self) -> Turn
+        requires stands { (h : Journal) × Keeps self.old h × IsReady h × (is_limited (motion_of h) ≡ true) × (left_of h ≡ []) }
+        requires open { self.old.closing ≡ false }
+        requires beat { self.old.beat ≡ Beat.Motion }
+        requires flags { self.old.flags ≡ Flags.None }
+        ensures goes_on { (h : Journal) → Keeps self.old h → IsReady h → is_limited (motion_of h) ≡ true → left_of h ≡ []
+            → (next : Journal) × (port_log next ≡ port_log h) × BoardWorked result self.old.flags self.new h next }
+        ensures going { result ≢ Done }
+    {
+        self.lines.close();
+        self.closing = true;
+        Turn::Did
+    }
+
+    /// Does what is next where a soft limit stops the machine, or has stopped it: halts it, tells the alarm, and ends the run.
+    pub(crate) fn end_limited<P: BoardPort>(&mut self, port: &mut P) -> Turn
+        requires stands { (rest : P.Rest) × (h : Journal) × P.stands port.old rest (port_log h) × Keeps self.old h × IsReady h × (is_limited (motion_of h) ≡ true) }
+        requires open { self.old.lines.left ≡ [] → self.old.closing ≡ false }
+        requires beat { self.old.beat ≡ Beat.Motion }
+        requires flags { self.old.flags ≡ Flags.None }
+        ensures goes_on { (rest : P.Rest) (h : Journal) → P.stands port.old rest (port_log h) → Keeps self.old h → IsReady h → is_limited (motion_of h) ≡ true
+            → WorksOn (P.stands port.new rest) result self.old.flags self.new h }
+        ensures going { result ≢ Done }
+    {
+        match self.lines.todo() {
+            Todo::Halt => self.halt_at_limit(port),
+            Todo::Tell => self.tell(port),
+            Todo::Finish => self.finish(port),
+            Todo::Nothing => self.close_limited(),
+            _ => unreachable!(),
+        }
+    }
+}

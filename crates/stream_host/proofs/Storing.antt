@@ -1,0 +1,85 @@
+-- A byte of the line in hand is stored.
+use Rattle.std.proofs.Common.{◌≡◌, ℕ, ◌+◌, ◌≤◌, ◌<◌, Bool, true, false, List, [], ◌∷◌, ◌++◌, length, drop, nat_lt, refl, sym, ap, ◌∙◌, arith, subst, length-append}
+use Rattle.std.proofs.lemmas.Bool.Decides.{nat_tests}
+use Rattle.std.proofs.lemmas.List.{drop_all}
+use Rattle.stream_host.specs.declared.line.Asking.{Asking}
+use Rattle.stream_host.specs.declared.line.Asking.TheVariants.{Nothing, Awaits, HasOne}
+use Rattle.stream_host.specs.declared.line.SentLine.{SentLine}
+use Rattle.stream_host.specs.declared.host.Host.{Host}
+use Rattle.stream_host.specs.Steps.{Journal, port_log, raw_of, to_store, due_of, asking_of, is_waiting}
+use Rattle.stream_host.specs.Steps.PortStep.{stored}
+use Rattle.stream_host.specs.Steps.Step.{at_port}
+use Rattle.stream_host.specs.Conduct.{MayStore}
+use Rattle.stream_host.specs.Hosts.{HostFits, HasLine, IsStoring, KeepsLine, KeepsDue}
+use Rattle.stream_host.specs.Ports.{TakesByte, SeemsFull}
+use Rattle.stream_host.proofs.Keeping.{open_is}
+use Rattle.stream_host.proofs.Sending as sending
+use Rattle.stream_host.proofs.Hosting.{calm_now, total_is}
+
+pub not_waiting : (a b : Asking) → a ≡ b → (a ≡ Awaits → ⊥) → is_waiting b ≡ false
+not_waiting a Nothing is none = refl
+not_waiting a Awaits is none = absurd (none is)
+not_waiting a HasOne is none = refl
+
+pub may_store : (s : Host) (b : ℕ) (h : Journal) → HostFits s h → s.alarm ≡ false → s.line.whole ≡ true → (s.asking ≡ Awaits → ⊥) → s.counts.unanswered.total ≤ 128 → drop s.line.place (s.line.kept.items ++ 10 ∷ []) ≡ b ∷ drop (s.line.place + 1) (s.line.kept.items ++ 10 ∷ []) → MayStore b h
+may_store s b h f calm whole reported room next =
+    let left = (f.line_is.storing whole).left_is in
+    record {
+      calm = calm_now s h f calm;
+      next = left ∙ next ∙ ap (λ (t : List ℕ). b ∷ drop 1 t) (sym next ∙ sym left);
+      reported = not_waiting s.asking (asking_of h) f.asking_is reported;
+      room = (let t = total_is s h f in omega arith);
+    }
+
+pub takes_byte : (s : Host) (b : ℕ) (h : Journal) → HostFits s h → MayStore b h → TakesByte (port_log h)
+takes_byte s b h f may = record { going = open_is b h f.conducted may.calm may.next; few = (let n = sending.few_stored h f.conducted in omega arith) }
+
+pub not_dropped : (s : Host) (b : ℕ) (h : Journal) → HostFits s h → MayStore b h → SeemsFull (port_log h) → ⊥
+not_dropped s b h f may full = let l = sending.room_is b h f.conducted may in absurd (omega arith)
+
+-- the line after the byte
+pub record Advances (l m : SentLine) : Type 0 where
+  pub more : l.place < length l.kept.items → m ≡ record l { place = l.place + 1 }
+  pub last : l.place ≡ length l.kept.items → HasLine m [] × (m.whole ≡ false)
+  pub due : m.due ≡ l.due
+
+line_stored : (l m : SentLine) (b : ℕ) (raw left : List ℕ) → l.whole ≡ true → Advances l m → IsStoring l raw left → drop l.place (l.kept.items ++ 10 ∷ []) ≡ b ∷ drop (l.place + 1) (l.kept.items ++ 10 ∷ []) → KeepsLine m raw (drop 1 left)
+line_stored l m b raw left whole stores is next = by_place (nat_lt l.place (length l.kept.items)) refl
+  where
+    rest : drop 1 left ≡ drop (l.place + 1) (l.kept.items ++ 10 ∷ [])
+    rest = ap (drop 1) (is.left_is ∙ next)
+
+    by_place : (t : Bool) → nat_lt l.place (length l.kept.items) ≡ t → KeepsLine m raw (drop 1 left)
+    by_place true e = let below : l.place < length l.kept.items = grind (arith, nat_tests) in rw (stores.more below) (record {
+      scanning = λ w. absurd (let g = sym whole ∙ w in cc);
+      storing = λ w. record { none = is.none; sends = is.sends; within = omega arith; left_is = rest };
+    })
+    by_place false e =
+        let at : l.place ≡ length l.kept.items = (let w = is.within in grind (arith, nat_tests)) in
+        let end = stores.last at in
+        let len = length-append l.kept.items (10 ∷ []) in
+        let none : drop 1 left ≡ [] = rest ∙ drop_all (l.place + 1) (l.kept.items ++ 10 ∷ []) (omega arith) in
+        record {
+          scanning = λ w. (subst (HasLine m) (sym is.none) end.0, none);
+          storing = λ w. absurd (let g = sym end.1 ∙ w in cc);
+        }
+
+pub stored_byte : (s : Host) (m : SentLine) (b : ℕ) (h : Journal) → HostFits s h → s.line.whole ≡ true → MayStore b h → Advances s.line m → drop s.line.place (s.line.kept.items ++ 10 ∷ []) ≡ b ∷ drop (s.line.place + 1) (s.line.kept.items ++ 10 ∷ [])
+    → HostFits (record s { line = m }) (at_port (stored b) ∷ h)
+stored_byte s m b h f whole may stores next = record {
+  conducted = (may, f.conducted);
+  job_is = f.job_is;
+  line_is = line_stored s.line m b (raw_of h) (to_store h) whole stores (f.line_is.storing whole) next;
+  due_is = subst (λ d. KeepsDue d (due_of h)) (sym stores.due) f.due_is;
+  asking_is = f.asking_is;
+  counts_are = f.counts_are;
+  polls_are = f.polls_are;
+  held_is = f.held_is;
+  greeted_is = f.greeted_is;
+  alarm_is = f.alarm_is;
+  pause_is = f.pause_is;
+  text_is = f.text_is;
+  shut_is = f.shut_is;
+  bye_is = f.bye_is;
+  over = f.over;
+}

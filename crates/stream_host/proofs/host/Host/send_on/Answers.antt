@@ -1,0 +1,67 @@
+use Rattle.std.proofs.Common.{◌≡◌, ◌≤◌, true, false, ◌∷◌, refl, sym, ◌∙◌}
+use Rattle.stream_host.specs.Steps.{awaits_report}
+use Rattle.stream_host.specs.Conduct.{AreAnswered, IsSettled, waits_for_lines}
+use Rattle.stream_host.specs.Steps.PortStep.{stored, raised, shut}
+use Rattle.stream_host.specs.Steps.Step.{at_port}
+use Rattle.stream_host.proofs.Turns.{did_alone, did_at_port, few_stored_now, few_raised_now, few_shut_now, tells_stored, tells_raised, tells_shut, tells_same, waits_early, waits_held_back, waits_shut}
+use Rattle.stream_host.proofs.Settling.{waits_unsettled}
+use Rattle.stream_host.proofs.Hosting.{may_shut}
+use Rattle.stream_host.proofs.host.Host.send_on.Goals as goal
+
+pub returns-in-Some-clause-goes_on : goal.returns-in-Some-clause-goes_on
+returns-in-Some-clause-goes_on g c = λ rest h stands f polled.
+    let b = c.in-Some.byte in let t = c.raise.ensures.raised rest h stands f in (
+      at_port (raised b t.0) ∷ h,
+      t.1,
+      did_at_port c.args.self.now _ (at_port (raised b t.0)) h refl polled.quiet t.2 (few_raised_now b t.0 h polled.quiet),
+      λ console. tells_raised c.args.self.now _ b t.0 h _ console c.raise.ensures.text,
+    )
+
+pub returns-then-is_early-clause-goes_on : goal.returns-then-is_early-clause-goes_on
+returns-then-is_early-clause-goes_on g c = λ rest h stands f polled.
+    let early : (waits_for_lines c.in-Some.byte ≡ true → AreAnswered h) → ⊥ = (λ after. absurd (let e = sym c.if-is_early.true ∙ (c.is_early.ensures h f).1 after in cc)) in
+    (h, stands, waits_early c.args.self.now c.in-Some.byte h f c.requires.calm polled c.requires.shown c.in-Some.is early, λ console. tells_same c.args.self.now h _ console)
+
+pub returns-then-is_held_back-clause-goes_on : goal.returns-then-is_held_back-clause-goes_on
+returns-then-is_held_back-clause-goes_on g c = λ rest h stands f polled.
+    let held : (awaits_report h ≡ false) × (c.args.self.now.counts.unanswered.total ≤ 128) → ⊥ = (λ free. absurd (let e = sym c.if-is_held_back.true ∙ (c.is_held_back.ensures h f).1 free in cc)) in
+    (h, stands, waits_held_back c.args.self.now h f c.requires.calm polled c.requires.shown c.in_default.is c.if-self.true held, λ console. tells_same c.args.self.now h _ console)
+
+pub returns-then-self-clause-goes_on : goal.returns-then-self-clause-goes_on
+returns-then-self-clause-goes_on g c = λ rest h stands f polled.
+    let t = c.store.ensures.stored rest h stands f in (
+      at_port (stored t.0) ∷ h,
+      t.1,
+      did_at_port c.args.self.now _ (at_port (stored t.0)) h refl polled.quiet t.2 (few_stored_now t.0 h polled.quiet),
+      λ console. tells_stored c.args.self.now _ t.0 h _ console c.store.ensures.text,
+    )
+
+pub returns-then-self-2-clause-goes_on : goal.returns-then-self-2-clause-goes_on
+returns-then-self-2-clause-goes_on g c = λ rest h stands f polled.
+    (h, stands, waits_shut c.args.self.now h f polled c.requires.shown c.in_default.is c.if-self.false c.if-self-2.true, λ console. tells_same c.args.self.now h _ console)
+
+pub returns-then-may_scan-clause-goes_on : goal.returns-then-may_scan-clause-goes_on
+returns-then-may_scan-clause-goes_on g c = λ rest h stands f polled.
+    let n = c.scan.ensures h f in (n.0, rw n.1.port stands, did_alone c.args.self.now _ h n.0 polled.quiet n.1, λ console. n.2 _ console)
+
+pub returns-then-not-is_settled-clause-goes_on : goal.returns-then-not-is_settled-clause-goes_on
+returns-then-not-is_settled-clause-goes_on g c = λ rest h stands f polled.
+    let busy : IsSettled h → ⊥ = (λ settled. absurd (let e = sym c.if-not-is_settled.true ∙ (c.is_settled.ensures h f).1 settled in cc)) in
+    (h, stands, waits_unsettled c.args.self.now h f c.requires.calm polled c.requires.shown (c.may_read.ensures.may c.if-may_read.true) busy, λ console. tells_same c.args.self.now h _ console)
+
+pub returns-then-may_read-clause-goes_on : goal.returns-then-may_read-clause-goes_on
+returns-then-may_read-clause-goes_on g c = λ rest h stands f polled.
+    let n = c.read.ensures h f in (n.0, rw n.1.port stands, did_alone c.args.self.now _ h n.0 polled.quiet n.1, λ console. n.2 console)
+
+pub close-requires-clause-may : goal.close-requires-clause-may
+close-requires-clause-may g c = λ h f.
+    may_shut c.args.self.now h f c.if-self.false c.if-self-2.false c.in_default.is (c.may_scan.ensures.may_not c.if-may_scan.false) (c.may_read.ensures.may_not c.if-may_read.false)
+
+pub returns-clause-goes_on : goal.returns-clause-goes_on
+returns-clause-goes_on g c = λ rest h stands f polled.
+    let t = c.close.ensures.closed rest h stands f in (
+      at_port shut ∷ h,
+      t.0,
+      did_at_port c.args.self.now _ (at_port shut) h refl polled.quiet t.1 (few_shut_now h polled.quiet),
+      λ console. tells_shut c.args.self.now _ h _ console c.close.ensures.text,
+    )
