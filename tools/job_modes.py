@@ -1,5 +1,5 @@
-"""What the lines of a job ask of its moves, as tools/plot_steps shows it: rapid or feed, the feed, and the settings. The
-rules are those of docs/DIALECT.md for lines that were accepted; a refused line changes nothing."""
+"""What the lines of a job ask of its moves, as tools/plot_steps shows it: a rapid, a jog or a cut, the feed, and the
+settings. The rules are those of docs/DIALECT.md for lines that were accepted; a refused line changes nothing."""
 import re
 
 WORD = re.compile(r"([A-Z])([+-]?(?:[0-9]+\.?[0-9]*|\.[0-9]+))")
@@ -29,16 +29,18 @@ def refused_lines(console):
 
 
 class Job:
-    """Of each line, by its number: whether its moves are rapids, and the feed that stands then, in mm per minute."""
+    """Of each line, by its number: whether its moves are rapids, jogs or cuts, and their feed in mm per minute. A cut is
+    any other move at the feed, wherever the tool is."""
 
     def __init__(self, text, refused=frozenset()):
-        self.rapids, self.feeds = [True], [0.0]
+        self.kinds, self.feeds = ["rapid"], [0.0]
         self.settings = []  # (line, number, value), in order
         self.rapid, self.inch, self.feed = True, False, 0.0
         for number, line in enumerate(text.split(b"\n"), 1):
             kept = "" if number in refused else kept_text(line)
             codes, is_jog = self.take_line(number, kept), kept.startswith("$J=")
-            self.rapids.append(not is_jog and (self.rapid or bool(codes & {"G28", "G30"})))
+            is_rapid = self.rapid or bool(codes & {"G28", "G30"})
+            self.kinds.append("jog" if is_jog else "rapid" if is_rapid else "cut")
             self.feeds.append(self.jog_feed(kept[3:]) if is_jog else self.feed)
             self.rapid = self.rapid and not codes & {"M2", "M30"}
 
@@ -65,8 +67,8 @@ class Job:
         in_inches = "G20" in codes or (self.inch and "G21" not in codes)
         return sum(value for letter, value in words if letter == "F") * (MM_PER_INCH if in_inches else 1.0)
 
-    def is_rapid(self, line):
-        return self.rapids[line] if line < len(self.rapids) else False
+    def kind_of(self, line):
+        return self.kinds[line] if line < len(self.kinds) else "cut"
 
     def feed_of(self, line):
         return self.feeds[line] if line < len(self.feeds) else 0.0

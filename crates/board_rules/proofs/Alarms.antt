@@ -7,7 +7,7 @@ use Rattle.feed_hold.specs.Motions.{Call}
 use Rattle.feed_hold.specs.Motions.Call.{on_exec, on_start, on_limit}
 use Rattle.feed_hold.proofs.Reaching.{StaysOrReaches, reached}
 use Rattle.overrides.specs.declared.Overrides.{Overrides}
-use Rattle.plan_passes.specs.Plans.{Planned}
+use Rattle.plan_rules.specs.Plans.{Planned}
 use Rattle.planner_runs.specs.declared.Action.{Action}
 use Rattle.planner_runs.specs.declared.Action.TheVariants.{Add, Take, Override, Mark, Rest, Clear, Reset}
 use Rattle.planner_runs.specs.Runs.{IsAtRest, normal_overrides, cleared}

@@ -22,7 +22,8 @@ use Rattle.modal_state.specs.declared.SpindleMode.{SpindleMode}
 use Rattle.modal_state.specs.declared.SpindleMode.TheVariants.{Off, Cw, Ccw}
 use Rattle.settings.specs.declared.Settings.{Settings}
 use Rattle.gcode_check.specs.Conditions.{leaves_travel}
-use Rattle.gcode_check.specs.Effects.{stops, steps3, ends_program}
+use Rattle.travel_limits.specs.Reach.{steps3}
+use Rattle.gcode_check.specs.Effects.{stops, ends_program}
 use Rattle.gcode_check.specs.Items.{item_if, spindle_items, coolant_items, dwell_items, move_items, moves_through, flow_items, items_of}
 use Rattle.gcode_check.specs.Verdicts.{refusal_of, verdict_by, verdict}
 use Rattle.gcode_check.specs.declared.Accept.{Accept as Accepted}

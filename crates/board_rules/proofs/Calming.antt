@@ -8,7 +8,7 @@ use Rattle.line_words.proofs.Tests.{or_false}
 use Rattle.status_report.specs.Answering.{is_answer}
 use Rattle.status_report.specs.declared.Reply.{Reply}
 use Rattle.step_line.specs.Asking.{Asked, ticks_of_all}
-use Rattle.planner_ring.specs.declared.Block.{Block}
+use Rattle.line_geom.specs.declared.Block.{Block}
 use Rattle.planner_runs.specs.Runs.{ticks_left, ticks_left_in}
 use Rattle.run_rules.specs.declared.State.{State}
 use Rattle.run_rules.specs.Work.{Task, Outcome, asks, has_moves}

@@ -7,8 +7,8 @@ use Rattle.run_rules.specs.declared.State.{State}
 use Rattle.run_rules.specs.Cuts.{ticks_asked_for, counts_asked, cut_to, with_cut}
 use Rattle.run_rules.specs.Work.{Outcome, asks}
 use Rattle.run_rules.specs.Told.{asked_in}
-use Rattle.plan_passes.specs.Plans.{Planned}
-use Rattle.planner_ring.specs.declared.Block.{Block}
+use Rattle.plan_rules.specs.Plans.{Planned}
+use Rattle.line_geom.specs.declared.Block.{Block}
 use Rattle.planner_runs.specs.declared.Action.{Action}
 use Rattle.planner_runs.specs.Runs.{ticks_left, ticks_left_in}
 use Rattle.step_line.specs.Asking.{Asked, ticks_of_all}

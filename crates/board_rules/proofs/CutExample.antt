@@ -9,10 +9,10 @@ use Rattle.feed_hold.specs.Motions.{cancel_byte}
 use Rattle.feed_hold.specs.Motions.Call.{on_exec, on_stopped}
 use Rattle.flight.specs.Places.{end_of}
 use Rattle.outside.specs.declared.Turn.TheVariants.{Did}
-use Rattle.plan_passes.specs.Segments.{advanced}
+use Rattle.plan_rules.specs.Segments.{advanced}
 use Rattle.planner_runs.specs.declared.Action.TheVariants.{Take}
 use Rattle.planner_runs.specs.Runs.{fresh_plan, with_move}
-use Rattle.segment_prep.specs.declared.Mode.TheVariants.{Go}
+use Rattle.plan_rules.specs.declared.Mode.TheVariants.{Go}
 use Rattle.gcode_words.specs.Words.{words_within, first_word}
 use Rattle.jog.specs.Jogs.{jog_error, jog_of}
 use Rattle.line_words.specs.Codes.{group_of, code_in}

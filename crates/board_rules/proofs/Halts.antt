@@ -4,7 +4,7 @@ use Rattle.std.proofs.Common.{◌≡◌, ℕ, zero, suc, ◌+◌, ◌-◌, ◌�
 use Rattle.std.specs.List.{flat_map, list_any, sum}
 use Rattle.std.proofs.lemmas.List.{take_all}
 use Rattle.overrides.specs.declared.Overrides.{Overrides}
-use Rattle.plan_passes.specs.Plans.{Planned}
+use Rattle.plan_rules.specs.Plans.{Planned}
 use Rattle.planner_runs.specs.declared.Action.{Action}
 use Rattle.planner_runs.specs.declared.Action.TheVariants.{Override}
 use Rattle.planner_runs.specs.Runs.{most_blocks, all_asked, ticks_left}

@@ -5,11 +5,11 @@ use Rattle.feed_hold.specs.declared.Motion.TheVariants as motions
 use Rattle.feed_hold.specs.Motions.Call.{on_start, on_drained}
 use Rattle.outside.specs.declared.On.TheVariants as on
 use Rattle.outside.specs.declared.Turn.TheVariants.{Did, Wait, Done}
-use Rattle.plan_passes.specs.Segments.{advanced}
+use Rattle.plan_rules.specs.Segments.{advanced}
 use Rattle.planner_runs.specs.declared.Action.TheVariants.{Add, Take}
 use Rattle.planner_runs.specs.Runs.{MayAdd, IsAtRest, fresh_plan, with_move, most_blocks}
-use Rattle.segment_prep.specs.Taking.{IsNext}
-use Rattle.segment_prep.specs.declared.Mode.TheVariants.{Go}
+use Rattle.plan_rules.specs.Taking.{IsNext}
+use Rattle.plan_rules.specs.declared.Mode.TheVariants.{Go}
 use Rattle.gcode_words.specs.Words.{words_within, first_word}
 use Rattle.jog.specs.Jogs.{jog_error, jog_of}
 use Rattle.line_words.specs.Codes.{group_of, code_in}

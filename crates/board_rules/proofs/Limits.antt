@@ -21,8 +21,8 @@ use Rattle.step_line.specs.Finishing.{tick_count, ticks_together}
 use Rattle.step_line.specs.Asking.{Asked, IsPlannedMove, ticks_of_one, ticks_of_all}
 use Rattle.step_line.specs.Asking.Asked.{a_move, a_mark, a_rest}
 use Rattle.step_line.proofs.Order.{length_after}
-use Rattle.plan_passes.specs.Plans.{Planned}
-use Rattle.plan_passes.specs.Segments.{advanced}
+use Rattle.plan_rules.specs.Plans.{Planned}
+use Rattle.plan_rules.specs.Segments.{advanced}
 use Rattle.planner_runs.specs.declared.Action.{Action}
 use Rattle.planner_runs.specs.declared.Action.TheVariants.{Add, Take, Override, Mark, Rest, Clear, Reset}
 use Rattle.planner_runs.specs.Runs.{Plans, with_move, cleared, most_blocks, all_asked, ticks_left}

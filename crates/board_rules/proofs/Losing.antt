@@ -5,8 +5,8 @@ use Rattle.std.specs.List.{flat_map}
 use Rattle.std.proofs.lemmas.Grind.{flat_map-append}
 use Rattle.feed_hold.specs.declared.Motion.{Motion}
 use Rattle.feed_hold.specs.declared.Motion.TheVariants as motions
-use Rattle.plan_passes.specs.Plans.{Planned}
-use Rattle.planner_ring.specs.declared.Block.{Block}
+use Rattle.plan_rules.specs.Plans.{Planned}
+use Rattle.line_geom.specs.declared.Block.{Block}
 use Rattle.planner_runs.specs.Runs.{ticks_left_in, ticks_left}
 use Rattle.run_rules.specs.declared.State.{State}
 use Rattle.run_rules.specs.declared.machine.Machine.TheVariants.{Runs}

@@ -7,11 +7,11 @@ use Rattle.feed_hold.specs.Motions.Call.{on_start, on_drained}
 use Rattle.outside.specs.declared.On.{On}
 use Rattle.outside.specs.declared.On.TheVariants as on
 use Rattle.outside.specs.declared.Turn.TheVariants.{Did, Wait, Done}
-use Rattle.plan_passes.specs.Segments.{advanced}
+use Rattle.plan_rules.specs.Segments.{advanced}
 use Rattle.planner_runs.specs.declared.Action.TheVariants.{Add, Take}
 use Rattle.planner_runs.specs.Runs.{MayAdd, IsAtRest, fresh_plan, with_move, most_blocks}
-use Rattle.segment_prep.specs.Taking.{IsNext}
-use Rattle.segment_prep.specs.declared.Mode.TheVariants.{Go}
+use Rattle.plan_rules.specs.Taking.{IsNext}
+use Rattle.plan_rules.specs.declared.Mode.TheVariants.{Go}
 use Rattle.run_rules.specs.declared.State.{State}
 use Rattle.run_rules.specs.declared.machine.Machine.TheVariants.{Stands}
 use Rattle.run_rules.specs.Finding.{Found}

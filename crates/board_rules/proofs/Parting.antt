@@ -5,16 +5,16 @@ use Rattle.std.proofs.lemmas.Grind.{flat_map-append}
 use Rattle.planner_runs.specs.declared.Action.{Action}
 use Rattle.planner_runs.specs.declared.Action.TheVariants.{Add, Take, Override, Mark, Rest, Clear, Reset}
 use Rattle.overrides.specs.declared.Overrides.{Overrides}
-use Rattle.plan_passes.specs.Plans.{Planned}
+use Rattle.plan_rules.specs.Plans.{Planned}
 use Rattle.planner_runs.specs.Runs.{Plans, IsStart, NeverResets, normal_overrides, cleared, most_blocks, asked_by, all_asked, ticks_left, ticks_left_in}
-use Rattle.planner_ring.specs.declared.Block.{Block}
+use Rattle.line_geom.specs.declared.Block.{Block}
 use Rattle.planner_runs.proofs.Runs.{goes_on, grows_by_override, keeps_on, fresh_starts, clears_behind}
 use Rattle.planner_runs.proofs.Ticks.{ticks_from_start}
 use Rattle.run_rules.specs.declared.State.{State}
 use Rattle.run_rules.specs.Work.{Outcome, Task, asked_by_task, asks}
 use Rattle.run_rules.specs.Work.Task.{ask, normal}
 use Rattle.run_rules.specs.Told.{asked_in}
-use Rattle.segment_prep.specs.declared.Mode.TheVariants.{Go, Hold}
+use Rattle.plan_rules.specs.declared.Mode.TheVariants.{Go, Hold}
 use Rattle.step_line.specs.declared.Piece.{Piece}
 use Rattle.step_line.specs.declared.Record.{Record}
 use Rattle.step_line.specs.Asking.{Asked, ticks_of_one, ticks_of_all}

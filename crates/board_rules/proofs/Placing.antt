@@ -16,12 +16,12 @@ use Rattle.step_line.specs.Finishing.{ticks_together}
 use Rattle.step_line.specs.Pieces.{ticks_of}
 use Rattle.step_line.specs.Places.{place_after}
 use Rattle.step_line.proofs.Sums.{at_start, at_end}
-use Rattle.planner_ring.specs.declared.Block.{Block}
-use Rattle.plan_passes.specs.Blocks.{IsBlock, left_of}
-use Rattle.plan_passes.specs.Plans.{Planned, IsReached, entered}
-use Rattle.plan_passes.specs.Segments.{moved}
-use Rattle.segment_prep.specs.Taking.{IsTakenOf}
-use Rattle.segment_prep.specs.declared.Mode.{Mode}
+use Rattle.line_geom.specs.declared.Block.{Block}
+use Rattle.plan_rules.specs.Blocks.{IsBlock, left_of}
+use Rattle.plan_rules.specs.Plans.{Planned, IsReached, entered}
+use Rattle.plan_rules.specs.Segments.{moved}
+use Rattle.plan_rules.specs.Taking.{IsTakenOf}
+use Rattle.plan_rules.specs.declared.Mode.{Mode}
 use Rattle.planner_runs.specs.declared.Action.{Action}
 use Rattle.planner_runs.specs.declared.Action.TheVariants.{Add, Take, Override, Mark, Rest, Clear, Reset}
 use Rattle.planner_runs.specs.Runs.{most_blocks, fresh_plan, block_of}

@@ -3,7 +3,7 @@ use Rattle.std.proofs.Common.{◌≡◌, ◌≢◌, ℕ, ◌≤◌, ◌<◌, ◌
 use Rattle.std.proofs.lemmas.Bool.Decides.{nat_tests}
 use Rattle.feed_hold.specs.declared.Motion.{Motion}
 use Rattle.feed_hold.specs.declared.Motion.TheVariants.{Idle, Run, Holding, Held, Jog, Cancelling, Stopping, Alarm}
-use Rattle.planner_ring.specs.declared.Block.{Block}
+use Rattle.line_geom.specs.declared.Block.{Block}
 use Rattle.planner_runs.specs.Runs.{fresh_plan, most_blocks}
 use Rattle.planner_runs.proofs.Runs.{fresh_starts, rests_behind}
 use Rattle.step_line.specs.declared.Piece.{Piece}

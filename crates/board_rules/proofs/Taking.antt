@@ -11,7 +11,7 @@ use Rattle.outside.specs.declared.Turn.TheVariants.{Did}
 use Rattle.run_rules.specs.declared.State.{State}
 use Rattle.board_rules.specs.Ports.{asks_report, has_changes}
 use Rattle.board_rules.specs.Ports.PortStep.{took_exec, took_ovr}
-use Rattle.planner_ring.specs.declared.Block.{Block}
+use Rattle.line_geom.specs.declared.Block.{Block}
 use Rattle.planner_runs.specs.Runs.{most_blocks}
 use Rattle.run_rules.specs.Work.{has_moves}
 use Rattle.run_rules.specs.Work.Task.{ask}

@@ -4,10 +4,10 @@ use Rattle.status_report.specs.declared.Reply.{Reply}
 use Rattle.status_report.specs.declared.Reply.TheVariants.{Bye}
 use Rattle.step_line.specs.declared.Piece.{Piece}
 use Rattle.step_line.specs.declared.Piece.TheVariants as pieces
-use Rattle.planner_ring.specs.declared.Block.{Block}
-use Rattle.plan_passes.specs.Plans.{Planned}
-use Rattle.segment_prep.specs.Taking.{IsTakenOf}
-use Rattle.segment_prep.specs.declared.Mode.{Mode}
+use Rattle.line_geom.specs.declared.Block.{Block}
+use Rattle.plan_rules.specs.Plans.{Planned}
+use Rattle.plan_rules.specs.Taking.{IsTakenOf}
+use Rattle.plan_rules.specs.declared.Mode.{Mode}
 use Rattle.planner_runs.specs.declared.Action.TheVariants.{Take}
 use Rattle.planner_runs.specs.Runs.{Plans, most_blocks}
 

@@ -6,7 +6,7 @@ use Rattle.outside.specs.declared.On.{On}
 use Rattle.outside.specs.declared.On.TheVariants as on
 use Rattle.outside.specs.declared.Turn.{Turn}
 use Rattle.outside.specs.declared.Turn.TheVariants.{Did, Wait, Done}
-use Rattle.planner_ring.specs.declared.Block.{Block}
+use Rattle.line_geom.specs.declared.Block.{Block}
 use Rattle.planner_runs.specs.declared.Action.TheVariants.{Add, Take, Override, Mark, Rest, Clear, Reset}
 use Rattle.run_rules.specs.declared.State.{State}
 use Rattle.run_rules.specs.Work.{Task}

@@ -15,7 +15,7 @@ use Rattle.outside.specs.declared.Turn.{Turn}
 use Rattle.outside.specs.declared.Turn.TheVariants.{Did, Wait, Done}
 use Rattle.overrides.specs.declared.Overrides.{Overrides}
 use Rattle.overrides.specs.Percents.{taken}
-use Rattle.plan_passes.specs.Plans.{Planned}
+use Rattle.plan_rules.specs.Plans.{Planned}
 use Rattle.planner_runs.specs.declared.Action.{Action}
 use Rattle.planner_runs.specs.declared.Action.TheVariants.{Add, Take, Override, Mark, Rest, Clear, Reset}
 use Rattle.planner_runs.specs.Runs.{Plans, IsAtRest, most_blocks, normal_overrides}
@@ -24,7 +24,7 @@ use Rattle.run_rules.specs.Work.{Task, Outcome}
 use Rattle.run_rules.specs.Work.Task.{ask, tell, pause, normal, finish, halt}
 use Rattle.run_rules.specs.Finding.{Found}
 use Rattle.run_rules.specs.Reports.{Shows}
-use Rattle.segment_prep.specs.declared.Mode.TheVariants.{Go, Hold}
+use Rattle.plan_rules.specs.declared.Mode.TheVariants.{Go, Hold}
 use Rattle.status_report.specs.declared.Reply.{Reply}
 use Rattle.status_report.specs.declared.Reply.TheVariants.{Bye}
 use Rattle.status_report.specs.declared.reports.Report.{Report}

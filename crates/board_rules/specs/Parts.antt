@@ -3,7 +3,7 @@ use Rattle.std.specs.Prelude.{◌≡◌, ℕ, ◌≤◌, ◌<◌, Bool, List, []
 use Rattle.std.specs.List.{flat_map, AllByRecursion}
 use Rattle.flight.specs.Places.{end_of}
 use Rattle.legal_heads.specs.Speeds.{HasLegalHeads}
-use Rattle.plan_passes.specs.Plans.{Planned}
+use Rattle.plan_rules.specs.Plans.{Planned}
 use Rattle.planner_runs.specs.declared.Action.{Action}
 use Rattle.planner_runs.specs.declared.Action.TheVariants.{Mark, Clear}
 use Rattle.planner_runs.specs.Halted.{HasHaltedHeads}

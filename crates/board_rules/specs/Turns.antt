@@ -10,8 +10,8 @@ use Rattle.code_table.specs.declared.flags.Exec.{Exec}
 use Rattle.outside.specs.declared.On.{On}
 use Rattle.outside.specs.declared.Turn.{Turn}
 use Rattle.outside.specs.declared.Turn.TheVariants.{Wait}
-use Rattle.planner_ring.specs.declared.Block.{Block}
-use Rattle.plan_passes.specs.Plans.{Planned}
+use Rattle.line_geom.specs.declared.Block.{Block}
+use Rattle.plan_rules.specs.Plans.{Planned}
 use Rattle.planner_runs.specs.declared.Action.TheVariants.{Add, Override}
 use Rattle.planner_runs.specs.Runs.{most_blocks}
 use Rattle.run_rules.specs.declared.machine.Machine.{Machine}

@@ -23,7 +23,7 @@ ghost use Rattle.run_rules.specs.Told.{replies_in, asked_in, alarms_in};
 ghost use Rattle.run_rules.specs.Outcomes.{Before, Becomes, Passed, Follows, start, became_of};
 ghost use Rattle.run_rules.specs.Outcomes.Passed.{a_line};
 ghost use Rattle.status_report.specs.declared.Reply.{Reply as AnyReply};
-ghost use Rattle.segment_prep.specs.declared.Mode.TheVariants.{Go, Hold};
+ghost use Rattle.plan_rules.specs.declared.Mode.TheVariants.{Go, Hold};
 ghost use Rattle.step_line.specs.Asking.{ticks_of_all};
 ghost use Rattle.step_line.specs.Asking.Asked.{a_move};
 ghost use Rattle.step_line.specs.declared.Mark.TheVariants.{Cut};

@@ -1,7 +1,8 @@
-//! What a board may do next, and what a board that keeps to it has done.
+//! What a board may do next, what a board that keeps to it has done, and the trait of its port.
 #![tactic(auto)]
 
 mod laws;
+mod ports;
 
 pub use laws::{
     boards_answer_each_line_once, boards_do_a_bounded_amount, boards_end_well,
@@ -11,3 +12,4 @@ pub use laws::{
     boards_take_their_flags, boards_take_turns, boards_wait_for_a_cause, cuts_are_at_known_places,
     cuts_lose_jogs_alone, halts_drop_what_is_left, lines_follow_cuts,
 };
+pub use ports::BoardPort;

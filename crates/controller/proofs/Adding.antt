@@ -13,7 +13,7 @@ use Rattle.board_rules.specs.Steps.Step.{did}
 use Rattle.run_rules.specs.Outcomes.{begins_with_dollar}
 use Rattle.board_rules.specs.Turns.{this_turn, moving, found_none, is_full, is_limited, has_blocks, has_jogged, awaits_motion}
 use Rattle.board_rules.specs.Conduct.{IsNextTask, AreWaiting, MayStart}
-use Rattle.plan_passes.specs.Plans.{Planned}
+use Rattle.plan_rules.specs.Plans.{Planned}
 use Rattle.line_interpreter.specs.Lefts.{IsNextOf, IsTodo}
 use Rattle.line_interpreter.specs.declared.tasks.Todo.{Todo}
 use Rattle.line_interpreter.specs.declared.tasks.Todo.TheVariants as todo

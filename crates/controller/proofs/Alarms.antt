@@ -9,7 +9,7 @@ use Rattle.planner_runs.specs.declared.Action.{Action}
 use Rattle.planner_runs.specs.declared.Action.TheVariants.{Add, Take, Override, Mark, Rest, Clear, Reset}
 use Rattle.overrides.specs.declared.Overrides.{Overrides}
 use Rattle.planner_runs.specs.Runs.{most_blocks}
-use Rattle.segment_prep.specs.declared.Mode.TheVariants.{Go, Hold}
+use Rattle.plan_rules.specs.declared.Mode.TheVariants.{Go, Hold}
 use Rattle.status_report.specs.declared.Reply.{Reply}
 use Rattle.status_report.specs.declared.Reply.TheVariants.{Bye}
 use Rattle.step_line.specs.Asking.Asked.{a_move, a_mark, a_rest}

@@ -2,7 +2,7 @@
 use Rattle.std.proofs.Common.{◌≡◌, ◌+◌, ◌⊎◌, inl, inr, Bool, true, false, ◌&&◌, not, List, [], ◌∷◌, length, drop, refl, ap, arith, length-append}
 use Rattle.status_report.specs.declared.Reply.TheVariants.{Bye}
 use Rattle.step_line.specs.Asking.Asked.{a_move, a_mark, a_rest}
-use Rattle.segment_prep.specs.declared.Mode.TheVariants.{Go, Hold}
+use Rattle.plan_rules.specs.declared.Mode.TheVariants.{Go, Hold}
 use Rattle.planner_runs.specs.declared.Action.{Action}
 use Rattle.planner_runs.specs.declared.Action.TheVariants.{Add, Take, Override, Mark, Rest, Clear, Reset}
 use Rattle.run_rules.specs.declared.State.{State}

@@ -11,8 +11,8 @@ use Rattle.feed_hold.specs.Motions.Call.{on_exec}
 use Rattle.outside.specs.declared.On.TheVariants as on
 use Rattle.outside.specs.declared.Turn.TheVariants.{Did, Wait}
 use Rattle.status_report.specs.declared.Reply.{Reply}
-use Rattle.planner_ring.specs.declared.Block.{Block}
-use Rattle.plan_passes.specs.Plans.{Planned}
+use Rattle.line_geom.specs.declared.Block.{Block}
+use Rattle.plan_rules.specs.Plans.{Planned}
 use Rattle.step_line.specs.Asking.Asked.{a_move}
 use Rattle.step_line.specs.declared.Piece.{Piece}
 use Rattle.step_line.specs.declared.planned_move.PlannedMove.{PlannedMove}

@@ -15,7 +15,7 @@ use Rattle.board_rules.specs.Ports.PortStep.{answered}
 use Rattle.status_report.specs.Replies.{IsReply}
 use Rattle.step_line.specs.declared.Piece.{Piece}
 use Rattle.overrides.specs.Percents.{IsOverrides}
-use Rattle.plan_passes.specs.Plans.{Planned}
+use Rattle.plan_rules.specs.Plans.{Planned}
 use Rattle.planner_runs.specs.Runs.{IsAtRest, most_blocks, fresh_plan}
 use Rattle.planner_runs.proofs.Runs.{fresh_starts, rests_behind, reached_from}
 use Rattle.line_interpreter.specs.Lefts.{IsNextOf}

@@ -9,11 +9,11 @@ use Rattle.line_geom.specs.declared.Cap.TheVariants.{Free}
 use Rattle.line_geom.specs.declared.Geom.{Geom}
 use Rattle.line_geom.specs.Geometry.{IsGeom}
 use Rattle.overrides.specs.declared.Overrides.{Overrides}
-use Rattle.planner_ring.specs.declared.Block.{Block}
-use Rattle.plan_passes.specs.Plans.{Planned, added}
-use Rattle.plan_passes.specs.Segments.{advanced}
-use Rattle.segment_prep.specs.Taking.{IsNext}
-use Rattle.segment_prep.specs.declared.Mode.{Mode}
+use Rattle.line_geom.specs.declared.Block.{Block}
+use Rattle.plan_rules.specs.Plans.{Planned, added}
+use Rattle.plan_rules.specs.Segments.{advanced}
+use Rattle.plan_rules.specs.Taking.{IsNext}
+use Rattle.plan_rules.specs.declared.Mode.{Mode}
 use Rattle.planner_runs.specs.Runs.{cleared, with_move, most_blocks}
 use Rattle.planner_runs.proofs.Runs.{block_added}
 use Rattle.step_line.specs.Asking.{IsPlannedMove}

@@ -3,7 +3,7 @@ use Rattle.std.proofs.Common.{◌≡◌, inl, inr, ◌<◌, true, List, [], ◌�
 use Rattle.feed_hold.specs.declared.Motion.{Motion}
 use Rattle.step_line.specs.Asking.Asked.{a_move, a_mark, a_rest}
 use Rattle.step_line.specs.declared.Piece.{Piece}
-use Rattle.plan_passes.specs.Plans.{Planned}
+use Rattle.plan_rules.specs.Plans.{Planned}
 use Rattle.planner_runs.specs.Runs.{normal_overrides}
 use Rattle.planner_runs.specs.declared.Action.TheVariants.{Rest}
 use Rattle.run_rules.specs.Work.{Task}

@@ -9,8 +9,8 @@ use Rattle.feed_hold.specs.Motions.{is_stopping}
 use Rattle.feed_hold.specs.Motions.Call.{on_stopped}
 use Rattle.flight.specs.Flights.{Flying, Flies}
 use Rattle.overrides.specs.Percents.{taken}
-use Rattle.planner_ring.specs.declared.Block.{Block}
-use Rattle.plan_passes.specs.Plans.{Planned}
+use Rattle.line_geom.specs.declared.Block.{Block}
+use Rattle.plan_rules.specs.Plans.{Planned}
 use Rattle.planner_runs.specs.declared.Action.TheVariants.{Override}
 use Rattle.run_rules.specs.declared.State.{State}
 use Rattle.run_rules.specs.Work.{Task, has_moves}

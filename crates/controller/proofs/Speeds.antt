@@ -7,7 +7,7 @@ use Rattle.feed_hold.specs.Motions.{Call, after, after_hold, after_cancel, after
 use Rattle.feed_hold.specs.Motions.Call.{on_exec, on_start, on_limit, on_pause, on_stopped, on_drained}
 use Rattle.planner_runs.specs.declared.Action.{Action}
 use Rattle.planner_runs.specs.declared.Action.TheVariants.{Add, Take, Override, Mark, Rest, Clear, Reset}
-use Rattle.segment_prep.specs.declared.Mode.TheVariants.{Go, Hold}
+use Rattle.plan_rules.specs.declared.Mode.TheVariants.{Go, Hold}
 use Rattle.step_line.specs.declared.Piece.{Piece}
 use Rattle.run_rules.specs.declared.State.{State}
 use Rattle.board_rules.specs.Steps.{Journal, behind, plan_of, motion_of}

@@ -24,11 +24,11 @@ use Rattle.step_line.specs.Records.{IsMark}
 use Rattle.step_line.specs.Asking.{IsPlannedMove}
 use Rattle.step_line.specs.Asking.Asked.{a_move, a_mark, a_rest}
 use Rattle.overrides.specs.Percents.{IsOverrides, taken}
-use Rattle.plan_passes.specs.Plans.{Planned}
-use Rattle.plan_passes.specs.Segments.{advanced}
-use Rattle.segment_prep.specs.Taking.{IsNext}
-use Rattle.segment_prep.specs.declared.Mode.{Mode}
-use Rattle.segment_prep.specs.declared.Mode.TheVariants.{Go, Hold}
+use Rattle.plan_rules.specs.Plans.{Planned}
+use Rattle.plan_rules.specs.Segments.{advanced}
+use Rattle.plan_rules.specs.Taking.{IsNext}
+use Rattle.plan_rules.specs.declared.Mode.{Mode}
+use Rattle.plan_rules.specs.declared.Mode.TheVariants.{Go, Hold}
 use Rattle.planner_runs.specs.declared.Action.TheVariants.{Add, Take, Override, Mark, Rest}
 use Rattle.planner_runs.specs.Runs.{IsAtRest, with_move, normal_overrides, most_blocks}
 use Rattle.planner_runs.proofs.Runs.{fresh_starts}

@@ -9,10 +9,10 @@ use Rattle.feed_hold.specs.declared.Motion.TheVariants as motions
 use Rattle.feed_hold.specs.Motions.{after_word}
 use Rattle.feed_hold.specs.Motions.Call.{on_drained}
 use Rattle.flight.specs.Flights.{Flying, Flies}
-use Rattle.plan_passes.specs.Plans.{Planned, entered}
-use Rattle.plan_passes.specs.Blocks as blocks
-use Rattle.plan_passes.specs.Segments.{moved, advanced}
-use Rattle.planner_ring.specs.declared.Block.{Block}
+use Rattle.plan_rules.specs.Plans.{Planned, entered}
+use Rattle.plan_rules.specs.Blocks as blocks
+use Rattle.plan_rules.specs.Segments.{moved, advanced}
+use Rattle.line_geom.specs.declared.Block.{Block}
 use Rattle.planner_runs.specs.declared.Action.{Action}
 use Rattle.planner_runs.specs.declared.Action.TheVariants.{Add, Take, Override, Mark, Rest, Clear, Reset}
 use Rattle.planner_runs.specs.Runs.{Plans, block_of, fresh_plan, most_blocks, with_move, cleared}

@@ -13,11 +13,11 @@ use Rattle.run_rules.specs.Work.Task.{ask, tell, pause, normal, finish, halt}
 use Rattle.step_line.specs.declared.Piece.{Piece}
 use Rattle.step_line.specs.declared.Piece.TheVariants as pieces
 use Rattle.step_line.specs.declared.Segment.{Segment}
-use Rattle.planner_ring.specs.declared.Block.{Block}
-use Rattle.plan_passes.specs.Blocks as blocks
-use Rattle.plan_passes.specs.Plans.{Planned}
-use Rattle.plan_passes.specs.Segments.{moved, advanced}
-use Rattle.segment_prep.specs.declared.Mode.{Mode}
+use Rattle.line_geom.specs.declared.Block.{Block}
+use Rattle.plan_rules.specs.Blocks as blocks
+use Rattle.plan_rules.specs.Plans.{Planned}
+use Rattle.plan_rules.specs.Segments.{moved, advanced}
+use Rattle.plan_rules.specs.declared.Mode.{Mode}
 use Rattle.planner_runs.specs.declared.Action.{Action}
 use Rattle.planner_runs.specs.declared.Action.TheVariants.{Add, Take, Override, Mark, Rest, Clear, Reset}
 use Rattle.board_rules.specs.Ports.PortStep.{published, no_piece_room, loaded}

@@ -3,9 +3,9 @@ use Rattle.std.specs.Prelude.{◌≡◌, ◌⊎◌, Bool, true, false, cond, Lis
 use Rattle.std.specs.Option.{option_to_list}
 use Rattle.feed_hold.specs.declared.Motion.{Motion}
 use Rattle.feed_hold.specs.declared.Motion.TheVariants as motions
-use Rattle.segment_prep.specs.declared.Mode.{Mode}
-use Rattle.segment_prep.specs.declared.Mode.TheVariants.{Go, Hold}
-use Rattle.plan_passes.specs.Plans.{Planned}
+use Rattle.plan_rules.specs.declared.Mode.{Mode}
+use Rattle.plan_rules.specs.declared.Mode.TheVariants.{Go, Hold}
+use Rattle.plan_rules.specs.Plans.{Planned}
 use Rattle.step_line.specs.declared.Mark.TheVariants as marks
 use Rattle.step_line.specs.declared.Piece.{Piece}
 use Rattle.step_line.specs.declared.Piece.TheVariants as pieces

@@ -20,7 +20,7 @@ ghost use Rattle.controller.specs.Turning.{IsNextMove, HasPiece, IsReady, MayRun
 
 use crate::input::Input;
 use crate::machine::Machine;
-use crate::ports::BoardPort;
+use board_rules::BoardPort;
 use code_table::Exec;
 use flight::Flight;
 use line_interpreter::{Accepted, Interpreter, Todo};
@@ -104,7 +104,7 @@ impl Controller {
     pub(crate) fn is_over(&self) -> bool
         ensures { (result ≡ true) ↔ BoardRests self.now }
     {
-        self.closing && self.lines.todo() == Todo::Nothing
+        self.closing && self.lines.is_done()
     }
 
     /// Whether what is next waits for the motion.
@@ -133,6 +133,7 @@ impl Controller {
 
     /// Waits until nothing is left to run, and each tick is done; then the cycle is over. Answers what the turn answers where
     /// that is not so yet.
+    #[inline(never)]
     fn await_motion<P: BoardPort>(&mut self, port: &mut P) -> Option<Turn>
         requires stands { (rest : P.Rest) × (h : Journal) × P.stands port.old rest (port_log h) × Keeps self.old h × MayAwait h }
         requires beat { self.old.beat ≡ Beat.Motion }
@@ -227,6 +228,7 @@ impl Controller {
     }
 
     /// What is done where a poll found no byte: queued blocks start.
+    #[inline(never)]
     fn without_byte<P: BoardPort>(&mut self, port: &mut P) -> Turn
         requires stands { (rest : P.Rest) × (h : Journal) × P.stands port.old rest (port_log h) × Keeps self.old h × HasPolled h }
         requires beat { self.old.beat ≡ Beat.Motion }
@@ -242,6 +244,7 @@ impl Controller {
     }
 
     /// What is done where a poll found the link closed: queued blocks start, and where none waits the run is closed.
+    #[inline(never)]
     fn close<P: BoardPort>(&mut self, port: &mut P) -> Turn
         requires stands { (rest : P.Rest) × (h : Journal) × P.stands port.old rest (port_log h) × Keeps self.old h × HasPolled h × (has_closed h ≡ true) }
         requires beat { self.old.beat ≡ Beat.Motion }
@@ -259,6 +262,7 @@ impl Controller {
     }
 
     /// Polls for the next byte.
+    #[inline(always)]
     fn poll<P: BoardPort>(&mut self, port: &mut P) -> Turn
         requires stands { (rest : P.Rest) × (h : Journal) × P.stands port.old rest (port_log h) × Keeps self.old h × IsReady h × MayPoll h }
         requires beat { self.old.beat ≡ Beat.Motion }
@@ -324,6 +328,7 @@ impl Controller {
     }
 
     /// Begins the line that was taken whole. Where it begins with `$`, queued blocks start before.
+    #[inline(never)]
     fn begin<P: BoardPort>(&mut self, port: &mut P) -> Turn
         requires stands { (rest : P.Rest) × (h : Journal) × P.stands port.old rest (port_log h) × Keeps self.old h × IsReady h × IsWholeLine h }
         requires beat { self.old.beat ≡ Beat.Motion }
@@ -340,6 +345,7 @@ impl Controller {
     }
 
     /// What is done where nothing is left of the line before.
+    #[inline(always)]
     fn next_line<P: BoardPort>(&mut self, port: &mut P) -> Turn
         requires stands { (rest : P.Rest) × (h : Journal) × P.stands port.old rest (port_log h) × Keeps self.old h × IsReady h × GoesOn h }
         requires none { self.old.lines.left ≡ [] }
@@ -357,6 +363,7 @@ impl Controller {
     }
 
     /// Does what is next, where that is no rest, nor the end before the machine has stopped.
+    #[inline(never)]
     fn do_next<P: BoardPort>(&mut self, port: &mut P) -> Turn
         requires stands { (rest : P.Rest) × (h : Journal) × P.stands port.old rest (port_log h) × Keeps self.old h × IsReady h × GoesOn h × NeedsNoWait h }
         requires open { self.old.lines.left ≡ [] → self.old.closing ≡ false }
@@ -378,6 +385,7 @@ impl Controller {
     }
 
     /// Does what is next, once the motion has stopped where that is waited for. It is not held up.
+    #[inline(always)]
     fn proceed<P: BoardPort>(&mut self, port: &mut P) -> Turn
         requires stands { (rest : P.Rest) × (h : Journal) × P.stands port.old rest (port_log h) × Keeps self.old h × IsReady h × GoesOn h }
         requires open { self.old.lines.left ≡ [] → self.old.closing ≡ false }
@@ -387,6 +395,9 @@ impl Controller {
             → WorksOn (P.stands port.new rest) result self.old.flags self.new h }
         ensures going { result ≢ Done }
     {
+        if self.lines.is_done() {
+            return self.next_line(port);
+        }
         if !self.awaits_motion() {
             return self.do_next(port);
         }
@@ -399,6 +410,7 @@ impl Controller {
 
     /// Does what is next. Where that is held up, it is waited until it goes on; and where a soft limit stops the machine, or has
     /// stopped it, the run is ended.
+    #[inline(always)]
     fn main<P: BoardPort>(&mut self, port: &mut P) -> Turn
         requires stands { (rest : P.Rest) × (h : Journal) × P.stands port.old rest (port_log h) × Keeps self.old h × IsReady h }
         requires open { self.old.lines.left ≡ [] → self.old.closing ≡ false }
@@ -454,6 +466,7 @@ impl Controller {
     }
 
     /// Takes no word of flags: publishes a piece, tells a report that is owed, or does what is next.
+    #[inline(always)]
     fn go_on<P: BoardPort>(&mut self, port: &mut P) -> Turn
         requires stands { (rest : P.Rest) × (h : Journal) × P.stands port.old rest (port_log h) × GoingFits self.old h × GoingBetween h }
         requires open { self.old.lines.left ≡ [] → self.old.closing ≡ false }
@@ -473,6 +486,7 @@ impl Controller {
     }
 
     /// Takes a word of flags where one is to be taken, and else goes on.
+    #[inline(always)]
     fn take_or_go_on<P: BoardPort>(&mut self, port: &mut P) -> Turn
         requires stands { (rest : P.Rest) × (h : Journal) × P.stands port.old rest (port_log h) × GoingFits self.old h × GoingBetween h }
         requires open { self.old.lines.left ≡ [] → self.old.closing ≡ false }
@@ -495,6 +509,7 @@ impl Controller {
     }
 
     /// Does what a turn does.
+    #[inline(always)]
     fn work<P: BoardPort>(&mut self, port: &mut P) -> Turn
         requires stands { (rest : P.Rest) × (h : Journal) × P.stands port.old rest (port_log h) × GoingFits self.old h × GoingBetween h }
         ensures goes_on { (rest : P.Rest) (h : Journal) → P.stands port.old rest (port_log h) → GoingFits self.old h → GoingBetween h
@@ -509,6 +524,7 @@ impl Controller {
     }
 
     /// Takes a turn of a run that goes on.
+    #[inline(always)]
     pub(crate) fn carry_on<P: BoardPort>(&mut self, port: &mut P) -> Turn
         requires stands { (rest : P.Rest) × (h : Journal) × P.stands port.old rest (port_log h) × GoingFits self.old h × GoingBetween h }
         ensures goes_on { (rest : P.Rest) (h : Journal) → P.stands port.old rest (port_log h) → GoingFits self.old h → GoingBetween h

@@ -10,7 +10,7 @@ ghost use Rattle.controller.specs.Boards.{BoardFits, BoardRests, BoardTurned, Br
 ghost use Rattle.controller.specs.Breaking.{EndsOn};
 
 use crate::controller::Controller;
-use crate::ports::BoardPort;
+use board_rules::BoardPort;
 use line_interpreter::Todo;
 use outside::{On, Turn};
 use status_report::Reply;
@@ -43,6 +43,7 @@ impl Controller {
 
     /// Ends the run at once, since a reset was asked for: all that is planned, in hand, asked for or to be told is dropped. The
     /// end is to be published, unless it is already, and Bye is told.
+    #[inline(never)]
     fn break_off(&mut self)
         requires reset { self.old.reset ≡ true }
         requires going { BoardRests self.old → ⊥ }
@@ -90,6 +91,7 @@ impl Controller {
     }
 
     /// Takes a turn of a run that a reset has ended, and that is not over.
+    #[inline(never)]
     fn end_run<P: BoardPort>(&mut self, port: &mut P) -> Turn
         requires going { BoardRests self.old → ⊥ }
         requires stands { (rest : P.Rest) × (since before : Journal) × P.stands port.old rest (log_of (broke since before)) × BrokenFits self.old since before × IsBetween (broke since before) }

@@ -13,9 +13,9 @@ ghost use Rattle.board_rules.specs.Turns.{unobeyed_of, owes_report, has_jog_to_s
 ghost use Rattle.controller.specs.Turning.{HasPiece, IsHalted, HasSettled, asked, flags_behind, replanned, WorksOn};
 
 use crate::controller::{Beat, Controller, Flags};
-use crate::ports::BoardPort;
 use crate::reports::{asks_report, asks_reset};
 use bitflags::Flags as _;
+use board_rules::BoardPort;
 use outside::{On, Turn};
 
 impl Controller {
@@ -39,6 +39,7 @@ impl Controller {
 
     /// Takes the word of requests, and does what it asks of the motion; where a report is owed then, that comes first.
     /// What comes of a machine that has stopped comes before.
+    #[inline(never)]
     pub(crate) fn take_requests<P: BoardPort>(&mut self, port: &mut P)
         requires stands { (rest : P.Rest) × (h : Journal) × P.stands port.old rest (port_log h) × Keeps self.old h × (unobeyed_of h ≡ []) × (has_jog_to_start h ≡ false) }
         ensures goes_on { (rest : P.Rest) (h : Journal) → P.stands port.old rest (port_log h) → Keeps self.old h → unobeyed_of h ≡ [] → has_jog_to_start h ≡ false
@@ -110,6 +111,7 @@ impl Controller {
 
     /// What is done where what is next is held up: what is in hand or due is published, and then the stop is waited for,
     /// and the resume.
+    #[inline(never)]
     pub(crate) fn halt<P: BoardPort>(&mut self, port: &mut P) -> Turn
         requires stands { (rest : P.Rest) × (h : Journal) × P.stands port.old rest (port_log h) × Keeps self.old h × IsHalted h }
         requires beat { self.old.beat ≡ Beat.Motion }

@@ -8,9 +8,8 @@ mod input;
 mod limits;
 mod machine;
 mod pieces;
-mod ports;
 mod reports;
 mod stops;
 
+pub use board_rules::BoardPort;
 pub use controller::Controller;
-pub use ports::BoardPort;

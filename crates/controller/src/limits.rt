@@ -12,7 +12,7 @@ ghost use Rattle.controller.specs.Boards.{Keeps};
 ghost use Rattle.controller.specs.Turning.{BoardWorked, HasHalted, IsAtLimit, IsLocked, IsReady, WorksOn};
 
 use crate::controller::{Beat, Controller, Flags};
-use crate::ports::BoardPort;
+use board_rules::BoardPort;
 use line_interpreter::Todo;
 use outside::{On, Turn};
 
@@ -75,6 +75,7 @@ impl Controller {
     }
 
     /// Does what is next where a soft limit stops the machine, or has stopped it: halts it, tells the alarm, and ends the run.
+    #[inline(never)]
     pub(crate) fn end_limited<P: BoardPort>(&mut self, port: &mut P) -> Turn
         requires stands { (rest : P.Rest) × (h : Journal) × P.stands port.old rest (port_log h) × Keeps self.old h × IsReady h × (is_limited (motion_of h) ≡ true) }
         requires open { self.old.lines.left ≡ [] → self.old.closing ≡ false }

@@ -17,7 +17,7 @@ ghost use Rattle.flight.specs.Flights.{flight_room};
 ghost use Rattle.controller.specs.Turning.{IsNextMove, HasPiece, IsReady, MayRun, MayHaveLooked, MayFinish, HasAdded, HasFilled, Tried, HasTried, GoesOn, WorksOn};
 
 use crate::controller::{Beat, Controller, Flags};
-use crate::ports::BoardPort;
+use board_rules::BoardPort;
 use line_interpreter::Todo;
 use outside::{On, Turn};
 use status_report::Reply;

@@ -14,8 +14,8 @@ ghost use Rattle.controller.specs.Turning.{BoardWorked, WorksOn};
 ghost use Rattle.controller.specs.Reporting.{HasAskedRoom, HasObserved, IsBehind, IsReported, IsTold, IsToReport, LacksRoom, obeying};
 
 use crate::controller::{Beat, Controller, Flags};
-use crate::ports::BoardPort;
 use bitflags::Flags as _;
+use board_rules::BoardPort;
 use code_table::Exec;
 use line_interpreter::Seen;
 use outside::{On, Turn};
@@ -132,6 +132,7 @@ impl Controller {
 
     /// Tells the report that is owed, and then does what the word that waits for it asks of the motion. Where there is
     /// no room for the report, it is still owed.
+    #[inline(never)]
     pub(crate) fn report<P: BoardPort>(&mut self, port: &mut P, word: Option<Exec>) -> Turn
         requires stands { (rest : P.Rest) × (h : Journal) × P.stands port.old rest (port_log h) × Keeps self.old h × IsToReport word h }
         requires beat { self.old.beat ≡ Beat.Motion }

@@ -4,7 +4,8 @@ use Rattle.code_table.specs.declared.Code.{Code}
 use Rattle.code_table.specs.Refusals.{first_refusal, or_else}
 use Rattle.gcode_words.specs.declared.Word.{Word}
 use Rattle.modal_state.specs.declared.Parser.{Parser}
-use Rattle.gcode_check.specs.Conditions.{line_refusal, line_number_out_of_range, command_rows, value_rows}
+use Rattle.line_words.specs.Given.{line_number_out_of_range}
+use Rattle.gcode_check.specs.Conditions.{line_refusal, command_rows, value_rows}
 
 else_or : (b : Bool) (code : Code) (first rest all : Option Code) → all ≡ or_else first rest → cond b (Some code) all ≡ or_else (cond b (Some code) first) rest
 else_or true code first rest all e = refl

@@ -13,7 +13,8 @@ use Rattle.settings.specs.declared.Settings.{Settings}
 use Rattle.line_words.specs.Codes.{has_g, has_m}
 use Rattle.line_words.specs.LineModes.{spindle_of, flood_of}
 use Rattle.line_words.specs.Targets.{targets}
-use Rattle.gcode_check.specs.Effects.{steps3, stops, last_of, ends_program, parser_moved, parser_after}
+use Rattle.travel_limits.specs.Reach.{steps3}
+use Rattle.gcode_check.specs.Effects.{stops, last_of, ends_program, parser_moved, parser_after}
 use Rattle.gcode_check.specs.Items.{is_move, items_of, item_if, moves_through, rate_of, spindle_items, coolant_items, dwell_items, move_items, flow_items, spindle_changes, coolant_changes, speed_of, dwell_time}
 use Rattle.gcode_check.specs.Laws.{moves_axes}
 use Rattle.gcode_check.specs.declared.Item.{Item}

@@ -1,21 +1,16 @@
 -- Where a line goes that nothing refuses.
-use Rattle.std.proofs.Common.{◌≡◌, ℕ, zero, suc, ◌<◌, Bool, false, ◌||◌, nat_lt, List, [], ◌∷◌, length, get_or, refl, arith, Option, Some, None, IfNone, IfSome, nat_abs}
+use Rattle.std.proofs.Common.{◌≡◌, ℕ, zero, suc, ◌<◌, Bool, false, List, [], ◌∷◌, length, get_or, refl, arith, Option, Some, None, IfNone, IfSome}
 use Rattle.std.specs.List.{list_any, All}
-use Rattle.std.proofs.lemmas.Bool.Decides.{nat_tests}
 use Rattle.gcode_words.specs.declared.Word.{Word}
 use Rattle.units.specs.declared.Nm3.{Nm3}
 use Rattle.code_table.specs.declared.Code.{Code}
 use Rattle.modal_state.specs.declared.Parser.{Parser}
 use Rattle.line_words.specs.Targets.{targets}
 use Rattle.line_words.proofs.Tests.{or_false, row_passes}
+use Rattle.travel_limits.specs.Reach.{IsNear, is_far}
+use Rattle.travel_limits.proofs.Nearness.{near_is}
 use Rattle.gcode_check.specs.NewOffsets.{new_offset}
-use Rattle.gcode_check.specs.Conditions.{IsNear, line_refusal, line_rows, target_out_of_range, is_far, sets_far}
-
-pub near_is : (at : Nm3) → is_far at ≡ false → IsNear at
-near_is at e =
-    let outer = or_false (nat_lt 10000000000 (nat_abs at.x) || nat_lt 10000000000 (nat_abs at.y)) (nat_lt 10000000000 (nat_abs at.z)) e in
-    let inner = or_false (nat_lt 10000000000 (nat_abs at.x)) (nat_lt 10000000000 (nat_abs at.y)) outer.0 in
-    record { x = grind (arith, nat_tests, inner.0); y = grind (arith, nat_tests, inner.1); z = grind (arith, nat_tests, outer.1) }
+use Rattle.gcode_check.specs.Conditions.{line_refusal, line_rows, target_out_of_range, sets_far}
 
 none_at : {A : Type 0} (test : A → Bool) (xs : List A) (i : ℕ) (d : A) → list_any test xs ≡ false → i < length xs → test (get_or xs i d) ≡ false
 none_at test [] i d e h = absurd (omega arith)

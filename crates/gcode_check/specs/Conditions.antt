@@ -1,10 +1,8 @@
 -- What refuses a line whose words pass.
-use Rattle.std.specs.Prelude.{ℕ, ◌*◌, Bool, true, false, not, ◌&&◌, ◌||◌, ◌==◌, nat_lt, List, [], ◌∷◌, ◌++◌, ℤ, pos, neg_ℤ, int_lt, nat_abs, Some, None}
+use Rattle.std.specs.Prelude.{ℕ, Bool, true, false, not, ◌&&◌, ◌||◌, ◌==◌, List, [], ◌∷◌, ◌++◌, nat_abs, Some, None}
 use Rattle.std.specs.List.{list_any}
 use Rattle.std.specs.declared.option.Option.{Option}
 use Rattle.units.specs.declared.Nm3.{Nm3}
-use Rattle.units.specs.declared.Per3.{Per3}
-use Rattle.units.specs.Lengths.{IsInReach}
 use Rattle.gcode_words.specs.declared.Word.{Word}
 use Rattle.code_table.specs.Tables.{code}
 use Rattle.code_table.specs.Refusals.{first_refusal}
@@ -13,11 +11,12 @@ use Rattle.modal_state.specs.declared.MotionMode.{MotionMode}
 use Rattle.modal_state.specs.declared.MotionMode.TheVariants.{G0, G1, G80}
 use Rattle.modal_state.specs.declared.Parser.{Parser}
 use Rattle.settings.specs.declared.Settings.{Settings}
-use Rattle.line_words.specs.Letters.{I, J, K, L, N, P, R}
+use Rattle.line_words.specs.Letters.{I, J, K, L, P, R}
 use Rattle.line_words.specs.Codes.{has_g}
-use Rattle.line_words.specs.Given.{stands, whole_given, is_over, names_axis}
+use Rattle.line_words.specs.Given.{stands, whole_given, is_over, line_number_out_of_range, names_axis}
 use Rattle.line_words.specs.LineModes.{motion_of, feed_of}
 use Rattle.line_words.specs.Targets.{moves, targets}
+use Rattle.travel_limits.specs.Reach.{is_far, leave_travel}
 use Rattle.gcode_check.specs.NewOffsets.{has_l, new_offset}
 
 abbrev pub is_g80 : MotionMode → Bool
@@ -29,10 +28,6 @@ abbrev pub is_g1 : MotionMode → Bool
 is_g1 G0 = false
 is_g1 G1 = true
 is_g1 G80 = false
-
--- N over 10,000,000
-abbrev pub line_number_out_of_range : List Word → Bool
-line_number_out_of_range ws = is_over 10000000 (whole_given N ws)
 
 abbrev pub dwell_without_time : List Word → Bool
 dwell_without_time ws = has_g (code 4 0) ws && not (stands P ws)
@@ -75,16 +70,6 @@ unused_words ws =
     || (stands L ws && not (has_g (code 10 0) ws))
     || stands I ws || stands J ws || stands K ws || stands R ws
 
--- within 10,000 mm on each axis
-pub record IsNear (at : Nm3) : Type 0 where
-  pub x : IsInReach at.x
-  pub y : IsInReach at.y
-  pub z : IsInReach at.z
-
--- beyond 10,000 mm on some axis
-abbrev pub is_far : Nm3 → Bool
-is_far at = nat_lt 10000000000 (nat_abs at.x) || nat_lt 10000000000 (nat_abs at.y) || nat_lt 10000000000 (nat_abs at.z)
-
 abbrev pub sets_far : Option Nm3 → Bool
 sets_far None = false
 sets_far (Some offset) = is_far offset
@@ -120,17 +105,6 @@ line_rows p ws = (27, line_number_out_of_range ws) ∷ command_rows p ws ++ valu
 
 unfoldable pub line_refusal : Parser → List Word → Option Code
 line_refusal p ws = first_refusal (line_rows p ws)
-
--- above 0, or below minus the travel, which is in µm
-abbrev pub is_off_axis : ℕ → ℤ → Bool
-is_off_axis travel z = int_lt (pos 0) z || int_lt z (neg_ℤ (pos (travel * 1000)))
-
-abbrev pub is_outside : Per3 → Nm3 → Bool
-is_outside travel at = is_off_axis travel.x at.x || is_off_axis travel.y at.y || is_off_axis travel.z at.z
-
--- soft limits are on, and one of these points lies outside travel on some axis
-abbrev pub leave_travel : Settings → List Nm3 → Bool
-leave_travel s points = s.soft && list_any (is_outside s.travel) points
 
 abbrev pub leaves_travel : Parser → Settings → List Word → Bool
 leaves_travel p s ws = leave_travel s (targets p ws)

@@ -2,8 +2,6 @@
 use Rattle.std.specs.Prelude.{ℕ, ◌||◌, Bool, ◌==◌, if◌then◌else◌, List, [], ◌∷◌, map}
 use Rattle.units.specs.declared.Nm3.{Nm3}
 use Rattle.units.specs.declared.Steps3.{Steps3}
-use Rattle.units.specs.declared.Per3.{Per3}
-use Rattle.units.specs.Lengths.{steps_of}
 use Rattle.gcode_words.specs.declared.Word.{Word}
 use Rattle.code_table.specs.Tables.{code}
 use Rattle.modal_state.specs.declared.Modal.{Modal}
@@ -14,6 +12,7 @@ use Rattle.settings.specs.declared.Settings.{Settings}
 use Rattle.line_words.specs.Codes.{has_g, has_m}
 use Rattle.line_words.specs.LineModes.{motion_of, plane_of, inch_of, relative_of, system_of, spindle_of, flood_of, feed_of, rpm_of, tool_of}
 use Rattle.line_words.specs.Targets.{targets}
+use Rattle.travel_limits.specs.Reach.{steps3}
 use Rattle.gcode_check.specs.NewOffsets.{set_system, new_system_offset, new_g92}
 
 -- the modes after the line
@@ -47,10 +46,6 @@ offsets_after p ws =
     if has_g (code 28 1) ws then record p.offsets { home28 = p.pos_nm } else
     if has_g (code 30 1) ws then record p.offsets { home30 = p.pos_nm } else
     p.offsets
-
--- a point in steps
-abbrev pub steps3 : Per3 → Nm3 → Steps3
-steps3 per_mm at = record { x = steps_of at.x per_mm.x; y = steps_of at.y per_mm.y; z = steps_of at.z per_mm.z }
 
 -- the places in steps of the points that the line moves to
 abbrev pub stops : Parser → Settings → List Word → List Steps3

@@ -11,6 +11,7 @@ pub use Rattle.code_table.specs.Tables
 pub use Rattle.code_table.specs.Refusals
 pub use Rattle.modal_state.specs.Modes
 pub use Rattle.settings.specs.Numbers
+pub use Rattle.travel_limits.specs.Reach
 pub use Rattle.line_words.specs.Letters
 pub use Rattle.line_words.specs.Codes
 pub use Rattle.line_words.specs.Given

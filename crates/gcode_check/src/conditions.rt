@@ -4,29 +4,21 @@ ghost use Rattle.std.specs.Prelude.{◌≡◌, ℕ, ◌+◌, ◌*◌, ◌/◌, �
 ghost use Rattle.std.specs.List.{list_any};
 ghost use Rattle.code_table.specs.Refusals.{first_refusal};
 ghost use Rattle.modal_state.specs.Modes.{IsParser};
-ghost use Rattle.line_words.specs.Given.{is_over};
 ghost use Rattle.line_words.specs.LineModes.{motion_of};
 ghost use Rattle.line_words.specs.Targets.{targets};
+ghost use Rattle.travel_limits.specs.Reach.{IsNear, is_far};
 ghost use Rattle.gcode_check.specs.NewOffsets.{new_offset};
-ghost use Rattle.gcode_check.specs.Conditions.{is_g80, is_g1, line_number_out_of_range, dwell_without_time, system_offset_without_axis, system_offset_without_system, system_out_of_range, system_offset_unsupported, shift_without_axis, machine_coordinates_without_motion, axis_words_without_motion, motion_without_feed, unused_words, IsNear, is_far, sets_far, target_out_of_range, is_off_axis, is_outside, leave_travel, command_rows, value_rows, line_refusal};
+ghost use Rattle.gcode_check.specs.Conditions.{is_g80, is_g1, dwell_without_time, system_offset_without_axis, system_offset_without_system, system_out_of_range, system_offset_unsupported, shift_without_axis, machine_coordinates_without_motion, axis_words_without_motion, motion_without_feed, unused_words, sets_far, target_out_of_range, command_rows, value_rows, line_refusal};
 
 use crate::offsets::{has_l, new_offset};
 use code_table::Code;
 use line_words::commands::{G4, G10, G53, G92};
-use line_words::{Line, feed_of, motion_of, moves, names_axis, whole_given};
+use line_words::{
+    Line, feed_of, is_over, line_number_out_of_range, motion_of, moves, names_axis, whole_given,
+};
 use modal_state::{MotionMode, Parser};
-use settings::Settings;
-use units::{Nm3, Per3};
-
-/// Whether a number stands that is over a bound.
-fn is_over(bound: u32, number: Option<u32>) -> bool
-    ensures { result ≡ is_over bound number }
-{
-    match number {
-        Some(number) => number > bound,
-        None => false,
-    }
-}
+use travel_limits::is_far;
+use units::Nm3;
 
 /// Whether a mode is G80.
 fn is_g80(motion: MotionMode) -> bool
@@ -40,13 +32,6 @@ pub fn is_g1(motion: MotionMode) -> bool
     ensures { result ≡ is_g1 motion }
 {
     matches!(motion, MotionMode::G1)
-}
-
-/// Whether the line number, the whole part of N, is over 10,000,000, which is error 27.
-pub fn line_number_out_of_range(line: &Line<'_>) -> bool
-    ensures { result ≡ line_number_out_of_range line.now }
-{
-    is_over(10_000_000, whole_given(b'N', line))
 }
 
 fn dwell_without_time(line: &Line<'_>) -> bool
@@ -117,15 +102,6 @@ fn unused_words(line: &Line<'_>) -> bool
         || line.stands(b'J')
         || line.stands(b'K')
         || line.stands(b'R')
-}
-
-/// Whether a point is beyond 10,000 mm of the machine's zero on some axis, which is error 33 of a target.
-pub fn is_far(at: &Nm3) -> bool
-    ensures { result ≡ is_far at.now }
-{
-    at.x.unsigned_abs() > 10_000_000_000
-        || at.y.unsigned_abs() > 10_000_000_000
-        || at.z.unsigned_abs() > 10_000_000_000
 }
 
 fn any_far(points: &[Nm3]) -> bool
@@ -228,31 +204,4 @@ pub fn line_refusal(p: &Parser, line: &Line<'_>, points: &[Nm3]) -> Option<Code>
     ensures offset { IfNone result (IfSome (new_offset p.now line.now) (IsNear)) }
 {
     first_error(p, line, points)
-}
-
-/// Whether a coordinate is above 0 or below minus the travel, which is in µm.
-fn is_off_axis(travel: u32, z: i64) -> bool
-    ensures { result ≡ is_off_axis travel z }
-{
-    z > 0 || z < -(travel as i64 * 1000)
-}
-
-fn is_outside(travel: &Per3, at: &Nm3) -> bool
-    ensures { result ≡ is_outside travel.now at.now }
-{
-    is_off_axis(travel.x, at.x) || is_off_axis(travel.y, at.y) || is_off_axis(travel.z, at.z)
-}
-
-fn any_outside(travel: &Per3, points: &[Nm3]) -> bool
-    ensures { result ≡ list_any (is_outside travel.now) points.now }
-{
-    points.iter().any(|point| is_outside(travel, point))
-}
-
-/// Whether soft limits are on and one of these points lies outside travel, which is above 0 or below minus the travel, on
-/// some axis.
-pub fn leave_travel(s: &Settings, points: &[Nm3]) -> bool
-    ensures { result ≡ leave_travel s.now points.now }
-{
-    s.soft && any_outside(&s.travel, points)
 }

@@ -6,9 +6,9 @@ ghost use Rattle.units.specs.Limits.{OnEachAxis};
 ghost use Rattle.modal_state.specs.Modes.{IsParser, IsModal, IsOffsets, IsWithin, farthest};
 ghost use Rattle.settings.specs.Numbers.{IsSettings};
 ghost use Rattle.line_words.specs.Targets.{targets};
+ghost use Rattle.travel_limits.specs.Reach.{IsNear, steps3};
 ghost use Rattle.gcode_check.specs.NewOffsets.{new_offset};
-ghost use Rattle.gcode_check.specs.Conditions.{IsNear};
-ghost use Rattle.gcode_check.specs.Effects.{modal_after, with_offset, offsets_after, steps3, stops, last_of, ends_program, parser_moved, parser_after};
+ghost use Rattle.gcode_check.specs.Effects.{modal_after, with_offset, offsets_after, stops, last_of, ends_program, parser_moved, parser_after};
 
 use crate::offsets::{new_g92, new_system_offset, set_system};
 use arrayvec::ArrayVec;
@@ -18,7 +18,8 @@ use line_words::{
     system_of, tool_of,
 };
 use modal_state::{Modal, Offsets, Parser};
-use units::{Nm3, Per3, Steps3, to_steps};
+use travel_limits::steps3;
+use units::{Nm3, Per3, Steps3};
 
 /// The modes after a line.
 fn modal_after(p: &Parser, line: &Line<'_>) -> Modal
@@ -74,20 +75,6 @@ fn set_offsets(p: &mut Parser, line: &Line<'_>)
         p.offsets.home28 = p.pos_nm;
     } else if line.has(G30_1) {
         p.offsets.home30 = p.pos_nm;
-    }
-}
-
-/// A point in steps: on each axis the nearest step.
-pub fn steps3(at: &Nm3, per_mm: &Per3) -> Steps3
-    requires near { IsNear at.now }
-    requires scales { OnEachAxis IsScale per_mm.now }
-    ensures steps { result ≡ steps3 per_mm.now at.now }
-    ensures near { IsPlace result }
-{
-    Steps3 {
-        x: to_steps(at.x, per_mm.x),
-        y: to_steps(at.y, per_mm.y),
-        z: to_steps(at.z, per_mm.z),
     }
 }
 

@@ -12,7 +12,7 @@ ghost use Rattle.line_words.specs.Given.{names_axis};
 ghost use Rattle.line_words.specs.LineModes.{system_of};
 ghost use Rattle.line_words.specs.Targets.{named};
 ghost use Rattle.gcode_check.specs.Conditions.{leaves_travel};
-ghost use Rattle.gcode_check.specs.Effects.{steps3};
+ghost use Rattle.travel_limits.specs.Reach.{steps3};
 ghost use Rattle.gcode_check.specs.Verdicts.{verdict, refusal_of, accepted};
 ghost use Rattle.gcode_check.specs.NewOffsets.{has_l, set_system};
 ghost use Rattle.gcode_check.specs.Laws.{parser_behind, moves_axes, Join, reading, IsAsSaid};

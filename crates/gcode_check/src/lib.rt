@@ -11,7 +11,8 @@ ghost use Rattle.line_words.specs.Codes.{has_g};
 ghost use Rattle.line_words.specs.WordRefusals.{words_refusal, refusal_at, IsFirstRefused};
 ghost use Rattle.line_words.specs.Targets.{targets};
 ghost use Rattle.gcode_check.specs.NewOffsets.{new_offset};
-ghost use Rattle.gcode_check.specs.Conditions.{IsNear, line_refusal};
+ghost use Rattle.travel_limits.specs.Reach.{IsNear};
+ghost use Rattle.gcode_check.specs.Conditions.{line_refusal};
 ghost use Rattle.gcode_check.specs.Verdicts.{verdict, verdict_of, unless_refused, IsSoundVerdict};
 ghost use Rattle.gcode_check.specs.Items.{IsItem};
 
@@ -24,8 +25,6 @@ mod offsets;
 use arrayvec::ArrayVec;
 use code_table::Code;
 use conditions::line_refusal;
-pub use conditions::{is_far, leave_travel, line_number_out_of_range};
-pub use effects::steps3;
 use effects::{stops, take_effects};
 use gcode_words::Words;
 use items::push_items;
@@ -36,6 +35,7 @@ pub use laws::{
 use line_words::{Line, targets};
 use modal_state::{Parser, SpindleMode};
 use settings::Settings;
+use travel_limits::leave_travel;
 use units::{Move, Rate};
 
 /// What a line gives to do.

@@ -9,8 +9,8 @@ use Rattle.settings.specs.declared.Settings.{Settings}
 use Rattle.line_words.specs.Targets.{target}
 use Rattle.line_words.specs.WordRefusals.{words_refusal}
 use Rattle.line_words.proofs.Tests.{row_passes}
-use Rattle.gcode_check.specs.Conditions.{IsNear, is_far}
-use Rattle.gcode_check.proofs.Nearness.{near_is}
+use Rattle.travel_limits.specs.Reach.{IsNear, is_far}
+use Rattle.travel_limits.proofs.Nearness.{near_is}
 use Rattle.jog.specs.Jogs.{jog_rows, jog_error, jog_refusal, jog_move, jog_by, jog_of}
 use Rattle.jog.specs.declared.JogMove.{JogMove}
 

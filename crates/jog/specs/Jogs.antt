@@ -16,12 +16,11 @@ use Rattle.modal_state.specs.declared.Parser.{Parser}
 use Rattle.settings.specs.declared.Settings.{Settings}
 use Rattle.line_words.specs.Letters.{F, G, I, J, K, L, P, R, S, T}
 use Rattle.line_words.specs.Codes.{is_code}
-use Rattle.line_words.specs.Given.{stands, given, names_axis}
+use Rattle.line_words.specs.Given.{stands, given, line_number_out_of_range, names_axis}
 use Rattle.line_words.specs.LineModes.{inch_of, length_in}
 use Rattle.line_words.specs.Targets.{target}
 use Rattle.line_words.specs.WordRefusals.{is_command, words_refusal}
-use Rattle.gcode_check.specs.Conditions.{line_number_out_of_range, IsNear, is_far, leave_travel}
-use Rattle.gcode_check.specs.Effects.{steps3}
+use Rattle.travel_limits.specs.Reach.{IsNear, is_far, leave_travel, steps3}
 use Rattle.jog.specs.declared.JogMove.{JogMove}
 
 -- ---- what refuses a jog

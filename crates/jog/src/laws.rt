@@ -6,7 +6,7 @@ ghost use Rattle.code_table.specs.declared.Code.{Code};
 ghost use Rattle.modal_state.specs.declared.Parser.{Parser};
 ghost use Rattle.settings.specs.declared.Settings.{Settings};
 ghost use Rattle.line_words.specs.Targets.{targets};
-ghost use Rattle.gcode_check.specs.Effects.{steps3};
+ghost use Rattle.travel_limits.specs.Reach.{steps3};
 ghost use Rattle.jog.specs.Jogs.{jog_refusal, jog_move, jog_of, g1};
 ghost use Rattle.jog.specs.declared.JogMove.{JogMove};
 

@@ -7,7 +7,7 @@ ghost use Rattle.units.specs.Limits.{IsFeed};
 ghost use Rattle.gcode_words.specs.Words.{IsSmallWord};
 ghost use Rattle.modal_state.specs.Modes.{IsParser};
 ghost use Rattle.settings.specs.Numbers.{IsSettings};
-ghost use Rattle.gcode_check.specs.Conditions.{IsNear};
+ghost use Rattle.travel_limits.specs.Reach.{IsNear};
 ghost use Rattle.jog.specs.Jogs.{has_no_feed, unused_words, is_other_code, jog_error, feed_said, jog_of, jogged, IsJog};
 
 mod laws;
@@ -15,13 +15,13 @@ mod laws;
 mod tests;
 
 use code_table::Code;
-use gcode_check::{is_far, leave_travel, line_number_out_of_range, steps3};
 use gcode_words::{Word, Words};
 pub use laws::{jogs_begin_at_the_position, jogs_go_where_lines_go, jogs_have_one_cause};
 use line_words::commands::{G20, G21, G53, G90, G91};
-use line_words::{Line, feed_of, is_code, names_axis, target};
+use line_words::{Line, feed_of, is_code, line_number_out_of_range, names_axis, target};
 use modal_state::Parser;
 use settings::Settings;
+use travel_limits::{is_far, leave_travel, steps3};
 use units::{Move, Nm3, Rate};
 
 /// The move of a jog.

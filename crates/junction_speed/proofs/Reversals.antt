@@ -11,7 +11,7 @@ use Rattle.units.specs.Roots.{root_of}
 use Rattle.units.proofs.Places.{root_is}
 use Rattle.line_geom.specs.declared.Geom.{Geom}
 use Rattle.line_geom.specs.declared.Cap.TheVariants.{At}
-use Rattle.step_line.specs.Counting.{way}
+use Rattle.units.specs.Counting.{way}
 use Rattle.line_geom.specs.Geometry.{axis_length, IsGeomOf, line_length}
 use Rattle.line_geom.proofs.Squares.{root_below}
 use Rattle.line_geom.proofs.Geometries.{bounded, unit_size}

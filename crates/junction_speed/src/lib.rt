@@ -2,6 +2,7 @@
 #![tactic(auto)]
 
 ghost use Rattle.std.specs.Prelude.{◌≡◌, ◌+◌, ◌-◌, ◌*◌, ◌/◌, ◌≤◌, ◌<◌, min, nat_abs, ◌≤ℤ◌, pos, neg_ℤ, ◌-ℤ◌, ◌*ℤ◌, ◌+ℤ◌};
+ghost use Rattle.std.specs.Int.{int_div_euclid};
 ghost use Rattle.units.specs.Roots.{root_of};
 ghost use Rattle.junction_speed.specs.Junctions.{turn_of, corner_of, junction_of};
 
@@ -29,12 +30,24 @@ fn dot(prev: &Geom, next: &Geom) -> i128
     x + y + z
 }
 
+/// A millionth of a number, rounded down: divided in 64 bits where it is small enough.
+#[inline]
+fn millionth(number: i128) -> i128
+    ensures { result ≡ int_div_euclid number (pos 1000000) }
+{
+    if number.unsigned_abs() < 1 << 62 {
+        let small = number as i64;
+        return small.div_euclid(1_000_000) as i128;
+    }
+    number.div_euclid(1_000_000)
+}
+
 /// The cosine of the turn from one move to the next, in millionths: -1,000,000 where the next goes on straight.
 fn turn(prev: &Geom, next: &Geom) -> i128
     ensures { result ≡ turn_of prev.now next.now }
 {
     let dot = dot(prev, next);
-    (-dot).div_euclid(1_000_000)
+    millionth(-dot)
 }
 
 /// How far a turn is from going straight back, in millionths.
@@ -65,12 +78,26 @@ fn lesser_accel(prev: &Geom, next: &Geom) -> u64
     prev.accel.min(next.accel)
 }
 
+/// A quotient, divided in 64 bits where the number is small enough.
+#[inline]
+fn quotient(number: u128, divisor: u64) -> u128
+    requires { 0 < divisor }
+    ensures { result ≡ number / divisor }
+{
+    if number < 1 << 64 {
+        let small = number as u64;
+        return (small / divisor) as u128;
+    }
+    number / divisor as u128
+}
+
 /// The squared speed, in µm²/s², at which a corner is rounded at an acceleration, off it by at most the deviation.
 fn corner(accel: u64, deviation: u32, sine: u64) -> u64
     requires { sine < 1000000 }
     ensures { result ≡ min (corner_of accel deviation sine) 18446744073709551615 }
 {
-    let squared = accel as u128 * deviation as u128 * sine as u128 / (1_000_000 - sine) as u128;
+    let product = accel as u128 * deviation as u128 * sine as u128;
+    let squared = quotient(product, 1_000_000 - sine);
     squared.min(u64::MAX as u128) as u64
 }
 

@@ -10,7 +10,7 @@ use units::{Limits, Move, Per3, Rate, Steps3};
 
 /// A rapid of a few steps on X and on Y, at 250 steps per mm, 500 mm per minute and 10 mm per s² on each axis, and a
 /// deviation of 10 µm.
-#[tactic(auto, unfolding(step_line::specs::Counting::events_of))]
+#[tactic(auto, unfolding(units::specs::Counting::events_of))]
 fn rapid(x: i8, y: i8) -> PlannedMove
     requires { 0 < nat_abs x + nat_abs y }
     ensures { IsPlannedMove result }

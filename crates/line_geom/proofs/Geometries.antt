@@ -8,7 +8,7 @@ use Rattle.units.specs.Rounding.{with_sign_of}
 use Rattle.units.specs.Lengths.{IsMove}
 use Rattle.units.specs.Limits.{IsLimits}
 use Rattle.line_geom.specs.declared.Geom.{Geom}
-use Rattle.step_line.specs.Counting.{way, events_of}
+use Rattle.units.specs.Counting.{way, events_of}
 use Rattle.line_geom.specs.Geometry.{axis_length, length_of, unit_of, axis_caps, least, geom_of, geometry, IsGeom, IsDirection, IsBounded}
 use Rattle.line_geom.proofs.Lines.{axis_low, axis_high, line_x, line_y, line_z, line_le, unit_high, main_of, least_bounds, change_low, change_high}
 

@@ -8,7 +8,7 @@ use Rattle.units.specs.Rounding.{with_sign_of}
 use Rattle.units.specs.Roots.{root_of}
 use Rattle.units.specs.Lengths.{IsMove}
 use Rattle.units.specs.Limits.{IsLimits}
-use Rattle.step_line.specs.Counting.{way, events_of}
+use Rattle.units.specs.Counting.{way, events_of}
 use Rattle.line_geom.specs.declared.Geom.{Geom}
 
 -- how far a steps go at p thousandths of a step per mm, in nm

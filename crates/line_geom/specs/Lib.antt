@@ -2,4 +2,4 @@ pub mod Geometry
 pub mod Caps
 pub use Rattle.units.specs.Lengths
 pub use Rattle.units.specs.Limits
-pub use Rattle.step_line.specs.Counting
+pub use Rattle.units.specs.Counting

@@ -1,8 +1,11 @@
-//! The geometry of a straight move: its length, its direction, and what bounds it along its line.
+//! The geometry of a straight move: its length, its direction, and what bounds it along its line. A move that is planned is a
+//! block, which holds it.
 #![tactic(auto)]
 
 pub mod laws;
 pub mod measure;
+
+use units::{Move, Rate};
 
 /// The geometry of a straight move of at least one step.
 #[derive(Clone, Copy, Debug, PartialEq, Eq)]
@@ -30,4 +33,19 @@ pub struct Geom {
 pub enum Cap {
     At(u64),
     Free,
+}
+
+/// A move that is planned.
+#[derive(Clone, Copy, Debug, PartialEq, Eq)]
+pub struct Block {
+    /// The line that it comes from.
+    pub line: u32,
+    pub mv: Move,
+    /// How fast the line asks it to be.
+    pub rate: Rate,
+    pub geom: Geom,
+    /// How many of its step events are prepared for the steppers.
+    pub prepared: u32,
+    /// The cap on the squared speed at its beginning.
+    pub entry: Cap,
 }

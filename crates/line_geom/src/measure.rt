@@ -4,20 +4,11 @@ ghost use Rattle.std.specs.Prelude.{◌≡◌, ◌+◌, ◌-◌, ◌*◌, ◌/�
 ghost use Rattle.units.specs.Rounding.{with_sign_of};
 ghost use Rattle.units.specs.Lengths.{IsCoordinate, IsMove, IsScale};
 ghost use Rattle.units.specs.Limits.{IsLimits, OnEachAxis};
-ghost use Rattle.step_line.specs.Counting.{way, events_of};
+ghost use Rattle.units.specs.Counting.{way, events_of};
 ghost use Rattle.line_geom.specs.Geometry.{axis_length, line_length, length_of, unit_of, IsAxisCap, axis_cap, axis_caps, least, IsShare, geom_of, IsGeom, IsDirection, IsBounded};
 
 use crate::Geom;
-use step_line::events;
-use units::{Limits, Move, Per3, isqrt};
-
-/// How many steps a move makes on each axis.
-#[derive(Clone, Copy)]
-struct Counts {
-    x: u32,
-    y: u32,
-    z: u32,
-}
+use units::{Counts, Limits, Move, Per3, events, isqrt};
 
 /// A move as a line: its length in nm, and how far each axis goes in millionths of it.
 #[derive(Clone, Copy)]
@@ -26,33 +17,6 @@ struct Line {
     ux: i32,
     uy: i32,
     uz: i32,
-}
-
-/// How many steps an axis makes from one place to another.
-fn axis_count(from: i64, to: i64) -> u32
-    requires from { IsCoordinate from }
-    requires to { IsCoordinate to }
-    ensures count { result ≡ nat_abs (to -ℤ from) }
-    ensures few { result ≤ 200000000 }
-{
-    (to - from).unsigned_abs() as u32
-}
-
-impl Counts {
-    /// How many steps a move makes on each axis.
-    fn of(mv: &Move) -> Counts
-        requires { IsMove mv.now }
-        ensures x { result.x ≡ nat_abs (way mv.now).x }
-        ensures y { result.y ≡ nat_abs (way mv.now).y }
-        ensures z { result.z ≡ nat_abs (way mv.now).z }
-        ensures few { (result.x ≤ 200000000) × (result.y ≤ 200000000) × (result.z ≤ 200000000) }
-    {
-        Counts {
-            x: axis_count(mv.from.x, mv.to.x),
-            y: axis_count(mv.from.y, mv.to.y),
-            z: axis_count(mv.from.z, mv.to.z),
-        }
-    }
 }
 
 /// How far an axis goes in a number of steps, in nm.

@@ -347,6 +347,17 @@ impl Desk {
         self.line.part_todo()
     }
 
+    /// Whether nothing is left to do.
+    #[inline]
+    pub(crate) fn is_done(&self) -> bool
+        requires ready { IsReady self.now }
+        requires settled { IsSettled self.now.line self.now.state }
+        ensures done { result ≡ true → work_left self.now.line self.now.state ≡ [] }
+        ensures going { result ≡ false → work_left self.now.line self.now.state ≢ [] }
+    {
+        self.line.is_done()
+    }
+
     /// The reply that is next.
     pub(crate) fn reply(&self) -> Reply
         requires ready { IsReady self.now }

@@ -1,6 +1,6 @@
 //! The interpreter.
 
-ghost use Rattle.std.specs.Prelude.{◌≡◌, ◌≢◌, ◌+◌, ◌<◌, ◌^◌, ℕ, Bool, List, [], ◌∷◌, drop, not, ◌||◌, true, false};
+ghost use Rattle.std.specs.Prelude.{◌≡◌, ◌≢◌, ◌↔◌, ◌+◌, ◌<◌, ◌^◌, ℕ, Bool, List, [], ◌∷◌, drop, not, ◌||◌, true, false};
 ghost use Rattle.status_report.specs.declared.Reply.TheVariants as replies;
 ghost use Rattle.run_rules.specs.States.{IsState, IsOpening};
 ghost use Rattle.run_rules.specs.Work.{Outcome, telling, closing_work};
@@ -91,6 +91,14 @@ impl Interpreter {
         ensures { IsTodo result self.now.left }
     {
         self.desk.todo()
+    }
+
+    /// Whether nothing is left to do.
+    #[inline]
+    pub fn is_done(&self) -> bool
+        ensures { (result ≡ true) ↔ (self.now.left ≡ []) }
+    {
+        self.desk.is_done()
     }
 
     /// The reply that is told next. Call it where `todo` says `Tell`.

@@ -415,6 +415,19 @@ impl Line {
         }
     }
 
+    /// Whether nothing is left of it, nor of what comes behind the present part.
+    #[inline]
+    pub(crate) fn is_done(&self) -> bool
+        requires sound { IsSound self.now }
+        ensures done { result ≡ true → (s : AnyState) → IsSettled self.now s → work_left self.now s ≡ [] }
+        ensures going { result ≡ false → (s : AnyState) → work_left self.now s ≡ [] → ⊥ }
+    {
+        if self.body == Body::Items && self.items.len() <= self.place {
+            return self.stage > 0;
+        }
+        matches!(self.part_todo(), Todo::Nothing)
+    }
+
     /// The reply that is next of the items: that of a program's end, or `ok` behind the last one.
     fn items_reply(&self) -> Reply
         requires body { self.now.body ≡ Body.Items }

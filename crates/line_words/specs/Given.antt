@@ -27,6 +27,10 @@ abbrev pub is_over : ℕ → Option ℕ → Bool
 is_over bound None = false
 is_over bound (Some n) = nat_lt bound n
 
+-- N over 10,000,000
+abbrev pub line_number_out_of_range : List Word → Bool
+line_number_out_of_range ws = is_over 10000000 (whole_given N ws)
+
 abbrev pub names_axis : List Word → Bool
 names_axis ws = stands X ws || stands Y ws || stands Z ws
 

@@ -1,7 +1,7 @@
 //! The port of a board.
 
+use board_rules::BoardPort;
 use code_table::{Exec, Ovr};
-use controller::BoardPort;
 use motion_ring::SegOut;
 use realtime_flags::Taker;
 use serial_ring::{BoardEnd, ByteIn};

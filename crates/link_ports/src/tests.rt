@@ -7,8 +7,8 @@ ghost use Rattle.link_ports.specs.Standing.{IsOpenBehind, OwesAnswers, HasPublis
 
 use super::*;
 use bitflags::Flags;
+use board_rules::BoardPort;
 use code_table::Exec;
-use controller::BoardPort;
 use motion_ring::{SegIn, motion};
 use outside::OutOfMemory;
 use realtime_flags::flag_table;

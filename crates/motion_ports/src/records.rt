@@ -6,7 +6,7 @@ ghost use Rattle.step_line.specs.declared.Record.{Record};
 
 use outside::OutOfMemory;
 use pulse_engine::TickOut;
-use rtrb::{Consumer, Producer, Protocol, PushError, RingBuffer};
+use rtrb::{Consumer, Producer, Protocol, RingBuffer};
 use std::alloc::Global;
 use step_line::Record;
 use step_record::RecordIn;
@@ -45,12 +45,13 @@ impl TickOut for RecordOut {
 
     ghost stands = { λ port ring log. HasPut port.end ring.end log };
 
-    #[inline]
+    #[inline(always)]
     fn put(&mut self, r: Record) -> Result<(), Record> {
-        match self.end.push(r) {
-            Ok(()) => Ok(()),
-            Err(PushError::Full(r)) => Err(r),
+        if self.end.is_full() {
+            return Err(r);
         }
+        self.end.push_reserved(r);
+        Ok(())
     }
 }
 
@@ -65,10 +66,10 @@ impl RecordIn for RecordPort {
 
     #[inline]
     fn take(&mut self) -> Option<Record> {
-        match self.end.pop() {
-            Ok(r) => Some(r),
-            Err(_) => None,
+        if self.end.is_empty() {
+            return None;
         }
+        Some(self.end.pop_known())
     }
 }
 

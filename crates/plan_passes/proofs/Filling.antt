@@ -2,7 +2,7 @@
 use Rattle.std.proofs.Common.{◌≡◌, ℕ, zero, suc, ◌+◌, ◌-◌, ◌*◌, ◌^◌, ◌≤◌, ◌<◌, max, inl, inr, refl, arith, ap, sym, ◌∙◌, subst}
 use Rattle.std.proofs.Common.{List, [], ◌∷◌, ◌++◌, length, get_or, take, drop, set, add-one, get_or-set_same, get_or-set_other, length-drop}
 use Rattle.std.specs.List.{All}
-use Rattle.std.proofs.lemmas.List.{take_more, take_more_set, take_all, take-append-le, get_or-map, get_or_past, get_or_append_left, length-map}
+use Rattle.std.proofs.lemmas.List.{take_more, take_more_set, take_all, take-append-le, get_or-map, get_or_past, get_or_append_left}
 use Rattle.std.proofs.lemmas.List.{length_push, map_push}
 use Rattle.std.proofs.lemmas.List.Edits.{paste_all}
 use Rattle.std.proofs.Math.Seq.{paste}
@@ -14,11 +14,12 @@ use Rattle.profile.specs.Caps.{caps, planned}
 use Rattle.profile.specs.Settled.{IsPlannedTo}
 use Rattle.profile.proofs.Places.{profile_at, length-profile}
 use Rattle.profile.proofs.Caps.{caps_inner, caps_last}
-use Rattle.planner_ring.specs.declared.Block.{Block}
+use Rattle.line_geom.specs.declared.Block.{Block}
 use Rattle.overrides.specs.declared.Overrides.{Overrides}
-use Rattle.plan_passes.specs.Blocks.{IsBlock, left_of, gap_of, gaps_of, joints, soft_of, softs_of}
+use Rattle.plan_rules.specs.Blocks.{IsBlock, left_of, gap_of, gaps_of, joints, soft_of, softs_of}
 use Rattle.plan_passes.specs.Tables.{IsMovedUp}
-use Rattle.plan_passes.proofs.Bounds.{bounds_of}
+use Rattle.plan_rules.proofs.Bounds.{bounds_of}
+use Rattle.plan_rules.proofs.Junctions.{length-gaps, length-joints, joints_push}
 
 -- a block that stands
 pub standing : (bs : List Block) (i : ℕ) (b : Block) → i < length bs → ((d : Block) → b ≡ get_or bs i d)
@@ -34,14 +35,6 @@ filled_more to xs i x h h' e is =
 -- a table that is filled to its end
 pub filled_all : (to xs : List ℕ) (i : ℕ) → length to ≤ i → length xs ≤ i → take i to ≡ take i xs → to ≡ xs
 filled_all to xs i h h' is = sym (take_all i to h) ∙ is ∙ take_all i xs h'
-
-pub length-gaps : (bs : List Block) → length (gaps_of bs) ≡ length bs
-length-gaps bs = length-map bs gap_of
-
-pub length-joints : (f : Block → Block → ℕ) (bs : List Block) → length (joints f bs) ≡ length bs - 1
-length-joints f [] = refl
-length-joints f (b ∷ []) = refl
-length-joints f (a ∷ b ∷ bs) = let was = length-joints f (b ∷ bs) in omega (arith, was)
 
 gaps_at : (bs : List Block) (i : ℕ) (b : Block) → i < length bs → ((d : Block) → b ≡ get_or bs i d)
     → gap_of b ≡ get_or (gaps_of bs) i 0
@@ -127,12 +120,6 @@ pub soft_all : (o : Overrides) (bs : List Block) (softs : List ℕ) (i : ℕ) �
 soft_all o bs softs i on filled =
     let n = length-joints (soft_of o) bs in
     subst (λ n. take n softs ≡ take n (softs_of o bs)) on filled ∙ take_all (length bs - 1) (softs_of o bs) (omega (arith, n))
-
--- one more block makes one more junction
-pub joints_push : (f : Block → Block → ℕ) (a : Block) (bs : List Block) (b : Block)
-    → (h : ℕ) × (joints f (a ∷ bs ++ b ∷ []) ≡ joints f (a ∷ bs) ++ h ∷ [])
-joints_push f a [] b = (f a b, refl)
-joints_push f a (c ∷ cs) b = let more = joints_push f c cs b in (more.0, ap (λ hs. f a c ∷ hs) more.1)
 
 -- the gaps of the blocks in front of the last
 pub gaps_before : (bs bs' : List Block) (b : Block) (row : List ℕ) → bs' ≡ bs ++ b ∷ [] → take (length bs) row ≡ gaps_of bs

@@ -5,7 +5,7 @@ use Rattle.std.proofs.lemmas.Bool.{cases_eq}
 use Rattle.std.proofs.lemmas.List.{drop-take}
 use Rattle.std.proofs.lemmas.Bool.Decides.{nat_tests}
 use Rattle.std.proofs.lemmas.List.Elements.{All-head}
-use Rattle.planner_ring.specs.declared.Block.{Block}
+use Rattle.line_geom.specs.declared.Block.{Block}
 use Rattle.overrides.specs.declared.Overrides.{Overrides}
 use Rattle.profile.specs.Profiles.{distance}
 use Rattle.profile.specs.Caps.{caps, planned}
@@ -14,12 +14,12 @@ use Rattle.profile.proofs.Kept.{kept_within_reach, dropped_keeps}
 use Rattle.profile.proofs.Slowing.{planned_first}
 use Rattle.profile.proofs.Settled.{settled_none}
 use Rattle.profile.proofs.Settling.{settled_first, settled_within_reach, settled_dropped}
-use Rattle.plan_passes.specs.Blocks.{IsBlock, left_of, top_of, gap_of, gaps_of, soft_of, softs_of, hard_of, hards_of}
-use Rattle.plan_passes.specs.Tables.{IsTabled, IsMovedUp}
-use Rattle.plan_passes.specs.Plans.{planned_at, IsReached, IsSettledAt, IsPointer, IsLastPoint, IsKept}
-use Rattle.plan_passes.specs.Segments.{IsGoing, IsHolding, IsSegment, moved}
-use Rattle.plan_passes.proofs.Filling.{length-gaps, length-joints}
-use Rattle.plan_passes.proofs.Reached.{plan_of, softer, segment_steps, moved_reached, length-moved, gap_split, kept_gap, gone_gap, left_gap}
+use Rattle.plan_rules.specs.Blocks.{IsBlock, left_of, top_of, gap_of, gaps_of, soft_of, softs_of, hard_of, hards_of}
+use Rattle.plan_passes.specs.Tables.{IsTabled, IsMovedUp, IsKept}
+use Rattle.plan_rules.specs.Plans.{planned_at, IsReached, IsSettledAt, IsPointer, IsLastPoint}
+use Rattle.plan_rules.specs.Segments.{IsGoing, IsHolding, IsSegment, moved}
+use Rattle.plan_rules.proofs.Junctions.{length-gaps, length-joints}
+use Rattle.plan_rules.proofs.Reached.{plan_of, softer, segment_steps, moved_reached, length-moved, gap_split, kept_gap, gone_gap, left_gap}
 
 -- the soft caps know nothing of what is prepared
 softs_same : (o : Overrides) (b : Block) (n : ℕ) (bs : List Block)

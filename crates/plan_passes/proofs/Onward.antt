@@ -1,15 +1,15 @@
 -- From where a plan is made on: the settled point that it has, or the present place.
 use Rattle.std.proofs.Common.{◌≡◌, ℕ, ◌+◌, ◌-◌, ◌≤◌, ◌<◌, arith, ap, sym, ◌∙◌, subst, List, [], ◌∷◌, ◌++◌, length, get_or, take}
 use Rattle.std.proofs.lemmas.List.{length_push, map_push}
-use Rattle.planner_ring.specs.declared.Block.{Block}
+use Rattle.line_geom.specs.declared.Block.{Block}
 use Rattle.overrides.specs.declared.Overrides.{Overrides}
 use Rattle.profile.specs.Caps.{planned}
 use Rattle.profile.proofs.Settling.{added_keeps, added_settled}
-use Rattle.plan_passes.specs.Blocks.{gap_of, gaps_of, soft_of, softs_of}
-use Rattle.plan_passes.specs.Plans.{planned_at, IsReached, IsPointer}
+use Rattle.plan_rules.specs.Blocks.{gap_of, gaps_of, soft_of, softs_of}
+use Rattle.plan_rules.specs.Plans.{planned_at, IsReached, IsPointer}
 use Rattle.plan_passes.specs.Tables.{IsTabled, IsOnward}
-use Rattle.plan_passes.proofs.Filling.{length-gaps, length-joints, joints_push}
-use Rattle.plan_passes.proofs.Reached.{plan_of}
+use Rattle.plan_rules.proofs.Junctions.{length-gaps, length-joints, joints_push}
+use Rattle.plan_rules.proofs.Reached.{plan_of}
 use Rattle.plan_passes.proofs.Kept.{reached_settled, reached_first}
 
 -- from the present place

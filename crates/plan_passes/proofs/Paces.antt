@@ -5,14 +5,14 @@ use Rattle.std.proofs.lemmas.Bool.{cases_eq}
 use Rattle.std.proofs.lemmas.Bool.Decides.{nat_tests}
 use Rattle.units.specs.Roots.{root_of}
 use Rattle.profile.specs.Slowing.{speed_after}
-use Rattle.planner_ring.specs.declared.Block.{Block}
+use Rattle.line_geom.specs.declared.Block.{Block}
 use Rattle.overrides.specs.declared.Overrides.{Overrides}
 use Rattle.plan_passes.specs.declared.Pace.{Pace}
-use Rattle.plan_passes.specs.Blocks.{left_of, top_of}
-use Rattle.plan_passes.specs.Plans.{Planned, IsReached, IsTail, exit_of}
-use Rattle.plan_passes.specs.Segments.{IsSegment, count_of, moved}
+use Rattle.plan_rules.specs.Blocks.{left_of, top_of}
+use Rattle.plan_rules.specs.Plans.{Planned, IsReached, IsTail, exit_of}
+use Rattle.plan_rules.specs.Segments.{IsSegment, count_of, moved}
 use Rattle.plan_passes.specs.Paces.{IsPaceOf, IsPaceOfTail, IsSteady, IsSteadyOf}
-use Rattle.plan_passes.proofs.Reached.{plan_of, gone_gap}
+use Rattle.plan_rules.proofs.Reached.{plan_of, gone_gap}
 
 -- no pace is kept
 pub no_pace : (bs : List Block) (o : Overrides) (s : Pace) → s.n ≡ 0 → IsPaceOfTail o bs s

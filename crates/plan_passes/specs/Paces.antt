@@ -1,13 +1,13 @@
 -- What a block's segments have in common while it goes at its nominal speed.
 use Rattle.std.specs.Prelude.{◌≡◌, ℕ, ◌+◌, ◌*◌, ◌/◌, ◌<◌, max, List, [], ◌∷◌}
 use Rattle.units.specs.Roots.{root_of}
-use Rattle.planner_ring.specs.declared.Block.{Block}
+use Rattle.line_geom.specs.declared.Block.{Block}
 use Rattle.overrides.specs.declared.Overrides.{Overrides}
 use Rattle.overrides.specs.Percents.{nominal_of}
 use Rattle.plan_passes.specs.declared.Pace.{Pace}
-use Rattle.plan_passes.specs.Blocks.{top_of, left_of}
-use Rattle.plan_passes.specs.Plans.{Planned}
-use Rattle.plan_passes.specs.Segments.{IsGoing, pace_of, cycles_of}
+use Rattle.plan_rules.specs.Blocks.{top_of, left_of}
+use Rattle.plan_rules.specs.Plans.{Planned}
+use Rattle.plan_rules.specs.Segments.{IsGoing, pace_of, cycles_of}
 
 -- the cycles from one event to the next, where n events of a block keep the speed w
 abbrev pub cycles_at : Overrides → Block → ℕ → ℕ → ℕ

@@ -1,10 +1,11 @@
--- What stands beside the blocks of a plan, in rows that may be longer than they are.
+-- What stands beside the blocks of a plan, in rows that may be longer than they are, and what a plan's fields keep.
 use Rattle.std.specs.Prelude.{◌≡◌, ℕ, ◌-◌, ◌≤◌, ◌<◌, List, length, get_or, take, drop}
-use Rattle.planner_ring.specs.declared.Block.{Block}
+use Rattle.line_geom.specs.declared.Block.{Block}
 use Rattle.overrides.specs.declared.Overrides.{Overrides}
 use Rattle.profile.specs.Caps.{caps, planned}
 use Rattle.profile.specs.Settled.{IsSettled}
-use Rattle.plan_passes.specs.Blocks.{gaps_of, softs_of}
+use Rattle.plan_rules.specs.Blocks.{gaps_of, softs_of}
+use Rattle.plan_rules.specs.Plans.{Planned, planned_at, IsReached, IsPointer}
 
 -- the gap of each block, and the soft cap of each junction
 pub record IsTabled (bs : List Block) (o : Overrides) (gap_row soft_row : List ℕ) : Type 0 where
@@ -20,3 +21,14 @@ pub record IsOnward (w from : ℕ) (gaps softs speeds : List ℕ) : Type 0 where
   pub first : planned w gaps softs 0 ≡ w
   pub planned_to : (j : ℕ) → 0 < j → j ≤ from → get_or speeds j 0 ≡ planned w gaps softs j
   pub settled : IsSettled gaps (caps w gaps softs) from
+
+-- what the fields of a plan of N slots keep: what every plan keeps, the planned speed at each point, what stands beside the
+-- blocks, and a settled point
+pub record IsKept (N : ℕ) (p : Planned) (speeds gap_row soft_row : List ℕ) (settled : ℕ) : Type 0 where
+  pub some : 2 ≤ N
+  pub few : N ≤ 64
+  pub room : length p.blocks < N
+  pub reached : IsReached p
+  pub planned : (j : ℕ) → 0 < j → j ≤ length p.blocks → get_or speeds j 0 ≡ planned_at p j
+  pub tabled : IsTabled p.blocks p.overrides gap_row soft_row
+  pub pointer : IsPointer p settled

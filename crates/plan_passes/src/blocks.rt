@@ -2,7 +2,7 @@
 
 ghost use Rattle.std.specs.Prelude.{◌≡◌, ◌≤◌, ◌<◌, ◌^◌};
 ghost use Rattle.overrides.specs.Percents.{IsOverrides};
-ghost use Rattle.plan_passes.specs.Blocks.{IsBlock, squared, left_of, gap_of, top_of, hard_of, soft_of};
+ghost use Rattle.plan_rules.specs.Blocks.{IsBlock, squared, left_of, gap_of, top_of, hard_of, soft_of};
 
 use line_geom::Cap;
 use overrides::Overrides;
@@ -17,7 +17,7 @@ pub(crate) fn left(b: &Block) -> u32
 }
 
 /// How much the squared speed may change over what is left of a block.
-#[tactic(auto, using(crate::proofs::Bounds::bounds_of), unfolding(crate::specs::Blocks::gap_of))]
+#[tactic(auto, using(plan_rules::proofs::Bounds::bounds_of), unfolding(plan_rules::specs::Blocks::gap_of))]
 pub(crate) fn gap(b: &Block) -> u128
     requires { IsBlock b.now }
     ensures gap { result ≡ gap_of b.now }
@@ -27,7 +27,7 @@ pub(crate) fn gap(b: &Block) -> u128
 }
 
 /// The squared nominal speed of a block.
-#[tactic(auto, using(crate::proofs::Bounds::top_le, crate::proofs::Bounds::rapid_small, crate::proofs::Bounds::bounds_of), unfolding(crate::specs::Blocks::top_of))]
+#[tactic(auto, using(plan_rules::proofs::Bounds::top_le, plan_rules::proofs::Bounds::rapid_small, plan_rules::proofs::Bounds::bounds_of), unfolding(plan_rules::specs::Blocks::top_of))]
 pub(crate) fn top(o: &Overrides, b: &Block) -> u64
     requires overrides { IsOverrides o.now }
     requires block { IsBlock b.now }
@@ -39,7 +39,7 @@ pub(crate) fn top(o: &Overrides, b: &Block) -> u64
 }
 
 /// The hard cap of the junction of two blocks: what the junction and the axes allow.
-#[tactic(auto, using(crate::proofs::Bounds::rapid_small), unfolding(crate::specs::Blocks::hard_of))]
+#[tactic(auto, using(plan_rules::proofs::Bounds::rapid_small), unfolding(plan_rules::specs::Blocks::hard_of))]
 pub(crate) fn hard(a: &Block, b: &Block) -> u64
     requires first { IsBlock a.now }
     requires second { IsBlock b.now }
@@ -53,7 +53,7 @@ pub(crate) fn hard(a: &Block, b: &Block) -> u64
 }
 
 /// The soft cap of the junction of two blocks: what the overrides make of the hard one.
-#[tactic(auto, unfolding(crate::specs::Blocks::soft_of))]
+#[tactic(auto, unfolding(plan_rules::specs::Blocks::soft_of))]
 pub(crate) fn soft(o: &Overrides, a: &Block, b: &Block) -> u64
     requires overrides { IsOverrides o.now }
     requires first { IsBlock a.now }

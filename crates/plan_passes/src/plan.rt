@@ -2,10 +2,10 @@
 
 ghost use Rattle.std.specs.Prelude.{◌≡◌, ◌≢◌, ◌<◌, ◌≤◌, ◌-◌, ◌+◌, ◌*◌, List, ◌∷◌, length, IsTrue};
 ghost use Rattle.std.specs.List.{All};
-ghost use Rattle.planner_ring.specs.declared.Block.{Block};
-ghost use Rattle.plan_passes.specs.Blocks.{IsBlock, left_of};
-ghost use Rattle.plan_passes.specs.Plans.{entry_at};
-ghost use Rattle.plan_passes.specs.Segments.{moved};
+ghost use Rattle.line_geom.specs.declared.Block.{Block};
+ghost use Rattle.plan_rules.specs.Blocks.{IsBlock, left_of};
+ghost use Rattle.plan_rules.specs.Plans.{entry_at};
+ghost use Rattle.plan_rules.specs.Segments.{moved};
 
 use crate::Pace;
 use crate::passes::plan_from;
@@ -42,7 +42,8 @@ pub struct Plan<const N: usize> {
 }
 
 impl<const N: usize> Model for Plan<N> {
-    ghost use Rattle.plan_passes.specs.Plans.{Planned, IsKept};
+    ghost use Rattle.plan_rules.specs.Plans.{Planned};
+    ghost use Rattle.plan_passes.specs.Tables.{IsKept};
     ghost use Rattle.plan_passes.specs.Paces.{IsPaceOfTail};
 
     ghost Value = { Planned };
@@ -65,7 +66,7 @@ fn entry_cap<const N: usize>(ring: &Ring<N>, b: &Block, deviation: u32) -> Cap
 
 /// Marks n more events of the tail as prepared, and takes it away where none is left. How much the squared speed may
 /// change over what is left of it is answered: 0 exactly where it goes.
-#[tactic(auto, using(crate::proofs::Bounds::bounds_of))]
+#[tactic(auto, using(plan_rules::proofs::Bounds::bounds_of))]
 fn prepare<const N: usize>(ring: &mut Ring<N>, n: u32) -> u128
     requires some { 0 < length ring.old }
     requires blocks { All IsBlock ring.old }
@@ -97,12 +98,14 @@ fn point_behind(point: usize, gap: u128) -> usize
     }
 }
 
-/// The pace of the tail once a segment is taken that leaves such a gap of it: none where the tail goes.
-fn pace_behind(pace: Pace, gap: u128) -> Pace
-    ensures left { gap ≢ 0 → result ≡ pace }
-    ensures gone { gap ≡ 0 → result.n ≡ 0 }
+/// Gives up the pace of the tail where a segment is taken that leaves no gap of it: then the tail goes.
+fn pace_behind(kept: &mut Pace, gap: u128)
+    ensures left { gap ≢ 0 → kept.new ≡ kept.old }
+    ensures gone { gap ≡ 0 → kept.new.n ≡ 0 }
 {
-    if gap == 0 { NO_PACE } else { pace }
+    if gap == 0 {
+        kept.n = 0;
+    }
 }
 
 /// Whether a block of which more events are left than a pace has goes on at it, where the planned speed at its end is this.
@@ -124,8 +127,8 @@ impl<const N: usize> Plan<N> {
     ghost use Rattle.units.specs.Limits.{IsRate};
     ghost use Rattle.line_geom.specs.Geometry.{IsGeomOf};
     ghost use Rattle.overrides.specs.Percents.{IsOverrides};
-    ghost use Rattle.plan_passes.specs.Plans.{IsReached, IsTail, IsGreatest, IsLastPoint, exit_of, profile_of, added};
-    ghost use Rattle.plan_passes.specs.Segments.{IsSegment, advanced, IsLegalStep};
+    ghost use Rattle.plan_rules.specs.Plans.{IsReached, IsTail, IsGreatest, IsLastPoint, exit_of, profile_of, added};
+    ghost use Rattle.plan_rules.specs.Segments.{IsSegment, advanced, IsLegalStep};
     ghost use Rattle.plan_passes.specs.Paces.{IsPaceOfTail, IsSteadyOf};
 
     /// A plan of at most N - 1 blocks, at rest. N is from 2 to 64.
@@ -265,7 +268,7 @@ impl<const N: usize> Plan<N> {
         self.speed = w;
         put_first(gap, &mut self.planned, &mut self.gaps, &mut self.softs);
         self.settled = point_behind(self.settled, gap);
-        self.pace = pace_behind(self.pace, gap);
+        pace_behind(&mut self.pace, gap);
         if w.abs_diff(exit) as u128 <= gap {
             return;
         }

@@ -4,8 +4,8 @@
 ghost use Rattle.std.specs.Prelude.{◌≡◌, ◌≢◌, ℕ, ◌≤◌, ◌<◌, ◌-◌, length, get_or, take, set};
 ghost use Rattle.std.specs.List.{All};
 ghost use Rattle.overrides.specs.Percents.{IsOverrides};
-ghost use Rattle.planner_ring.specs.declared.Block.{Block};
-ghost use Rattle.plan_passes.specs.Blocks.{IsBlock, gaps_of, softs_of};
+ghost use Rattle.line_geom.specs.declared.Block.{Block};
+ghost use Rattle.plan_rules.specs.Blocks.{IsBlock, gaps_of, softs_of};
 ghost use Rattle.plan_passes.specs.Tables.{IsMovedUp};
 
 use crate::blocks::{gap, soft};

@@ -4,9 +4,9 @@ ghost use Rattle.std.specs.Prelude.{◌≡◌, ◌≤◌, IfSome};
 ghost use Rattle.units.specs.Lengths.{IsCoordinate};
 ghost use Rattle.units.specs.Limits.{IsRate, IsLimits};
 ghost use Rattle.line_geom.specs.Geometry.{IsGeomOf};
-ghost use Rattle.plan_passes.specs.Blocks.{IsBlock, squared};
-ghost use Rattle.plan_passes.specs.Plans.{IsTail};
-ghost use Rattle.plan_passes.specs.Segments.{count_of};
+ghost use Rattle.plan_rules.specs.Blocks.{IsBlock, squared};
+ghost use Rattle.plan_rules.specs.Plans.{IsTail};
+ghost use Rattle.plan_rules.specs.Segments.{count_of};
 
 use super::*;
 use crate::blocks::{left, top};
@@ -50,7 +50,7 @@ fn block(line: u32, x: i64, y: i64) -> Option<Block>
 }
 
 /// How many events of a block a segment has at a squared speed.
-#[tactic(auto, using(crate::proofs::Bounds::bounds_of, crate::proofs::Bounds::rapid_small, units::proofs::Places::one_root))]
+#[tactic(auto, using(plan_rules::proofs::Bounds::bounds_of, plan_rules::proofs::Bounds::rapid_small, units::proofs::Places::one_root))]
 fn count(b: &Block, w: u64) -> u32
     requires block { IsBlock b.now }
     requires speed { w ≤ squared b.now.geom.rapid }

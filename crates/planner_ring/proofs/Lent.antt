@@ -1,7 +1,8 @@
 -- What the loan of a tail says.
-use Rattle.std.proofs.Common.{◌≡◌, ◌≢◌, ℕ, ◌<◌, ◌⊎◌, ◌↔◌, inl, inr, List, [], ◌∷◌, length, get_or, set, drop, Some, None, IsSome, IsNone, IfSome, refl, sym, ap, ◌∙◌, arith, MutBor}
+use Rattle.std.proofs.Common.{◌≡◌, ◌≢◌, ℕ, ◌<◌, ◌⊎◌, ◌↔◌, inl, inr, List, [], ◌∷◌, length, get_or, set, drop, Some, None, IsSome, IsNone, IfSome, refl, sym, ap, ◌∙◌, arith, Bor, MutBor}
 use Rattle.std.specs.declared.option.Option.{Option}
 use Rattle.std.specs.Option.{ghost_name_of}
+use Rattle.std.specs.Slice.{IsItemAt}
 use borrow.Follows.Closed.{read_of}
 use Rattle.planner_ring.specs.Windows.{between, IsRing}
 use Rattle.planner_ring.proofs.Places.{some_of, empty_of, between_set, between_first}
@@ -48,3 +49,10 @@ module _ {X : Type 0} (N k f place : ℕ) (xs now : List X) (is : IsRing N k f x
       let at = within_of (variant.0 refl) in
       let first = between_first N k f xs is r.now at.1 in
       sym view ∙ first ∙ ap (λ x. x ∷ drop 1 (between N k f xs)) (ap (λ j. get_or xs j r.now) (sym at.0) ∙ sym value) ∙ ap (λ bs. r.now ∷ drop 1 bs) view
+
+  pub read_where : (o : Option (Bor X)) → IsItemAt xs place o → IfSome o (λ b. now ≡ b.now ∷ drop 1 now)
+  read_where None item = tt
+  read_where (Some r) item =
+      let at = within_of item.3.0 in
+      let first = between_first N k f xs is r.now at.1 in
+      sym view ∙ first ∙ ap (λ x. x ∷ drop 1 (between N k f xs)) (ap (λ j. get_or xs j r.now) (sym at.0) ∙ sym item.1) ∙ ap (λ bs. r.now ∷ drop 1 bs) view

@@ -1,8 +1,8 @@
 -- What a ring ends as, where its tail is lent.
 use Rattle.std.specs.Prelude.{List, ◌∷◌, drop, Option}
 use Rattle.std.specs.Borrow.{LendsIf, MutBor, Fml, RattleType}
-use Rattle.planner_ring.specs.declared.Block.{Block}
-use Rattle.planner_ring.specs.contracts.Block.{the_row as the_block}
+use Rattle.line_geom.specs.declared.Block.{Block}
+use Rattle.line_geom.specs.contracts.Block.{the_row as the_block}
 use Rattle.planner_ring.specs.contracts.ring.Ring.{the_row}
 
 -- the ring ends with the last block written through r in the tail's place, or as it was where there is no tail

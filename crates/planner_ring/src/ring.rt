@@ -1,5 +1,7 @@
 //! A ring of blocks.
 
+ghost use Rattle.std.specs.Prelude.{◌≡◌, ◌≢◌};
+
 use crate::Block;
 use arrayvec::ArrayVec;
 use line_geom::{Cap, Geom};
@@ -39,7 +41,7 @@ pub struct Ring<const N: usize> {
 
 impl<const N: usize> Model for Ring<N> {
     ghost use Rattle.std.specs.Prelude.{List};
-    ghost use Rattle.planner_ring.specs.declared.Block.{Block};
+    ghost use Rattle.line_geom.specs.declared.Block.{Block};
     ghost use Rattle.planner_ring.specs.Windows.{between, IsRing};
 
     ghost Value = { List Block };
@@ -47,6 +49,15 @@ impl<const N: usize> Model for Ring<N> {
     ghost view = { λ r. between N r.tail r.free r.slots.items };
 
     ghost invariant = { λ r. IsRing N r.tail r.free r.slots.items };
+}
+
+/// The place of the tail, or `none` where no block stands: where it is the place of the next block too.
+#[inline]
+fn first_place(tail: usize, free: usize, none: usize) -> usize
+    ensures none { tail ≡ free → result ≡ none }
+    ensures some { tail ≢ free → result ≡ tail }
+{
+    if tail == free { none } else { tail }
 }
 
 impl<const N: usize> Ring<N> {
@@ -106,7 +117,8 @@ impl<const N: usize> Ring<N> {
         ensures none { IsNone result ↔ (self.now ≡ []) }
         ensures some { IfSome result (λ b. self.now ≡ b.now ∷ drop 1 self.now) }
     {
-        self.get(0)
+        let first = first_place(self.tail, self.free, N);
+        self.slots.as_slice().get(first)
     }
 
     /// The block that is run first, for writing; none exactly where no block stands. What is left behind the reference
@@ -116,7 +128,7 @@ impl<const N: usize> Ring<N> {
         ensures none { IsNone result ↔ (self.old ≡ []) }
         ensures some { IfSome result (λ b. self.old ≡ b.now ∷ drop 1 self.old) }
     {
-        let place = if self.tail == self.free { N } else { self.tail };
+        let place = first_place(self.tail, self.free, N);
         self.slots.get_mut(place)
     }
 

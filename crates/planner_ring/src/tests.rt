@@ -1,7 +1,7 @@
 //! Blocks in and out of rings.
 
 ghost use Rattle.std.specs.Prelude.{◌≡◌, ◌∷◌, List};
-ghost use Rattle.planner_ring.specs.declared.Block.{Block};
+ghost use Rattle.line_geom.specs.declared.Block.{Block};
 
 use crate::{Block, Ring};
 use line_geom::{Cap, Geom};

@@ -12,8 +12,8 @@ use Rattle.step_line.specs.Events.{event_of, events_after}
 use Rattle.step_line.specs.Pieces.{ticks_of, records_of}
 use Rattle.step_line.specs.Ending.{HasNoEnd}
 use Rattle.step_line.specs.Asking.{ticks_among}
-use Rattle.plan_passes.specs.Plans.{Planned}
-use Rattle.plan_passes.specs.Segments.{advanced}
+use Rattle.plan_rules.specs.Plans.{Planned}
+use Rattle.plan_rules.specs.Segments.{advanced}
 use Rattle.planner_runs.specs.declared.Action.{Action}
 use Rattle.planner_runs.specs.declared.Action.TheVariants.{Add, Take, Override, Mark, Rest, Clear, Reset}
 use Rattle.planner_runs.specs.Runs.{Plans, IsPlannerRun, fresh_plan, with_move, cleared, most_blocks, all_asked, all_records, ticks_asked, ticks_left, IsAtRest, IsStart, NeverClears, DisturbedOnlyBy}

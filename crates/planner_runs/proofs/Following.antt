@@ -10,16 +10,16 @@ use Rattle.step_line.specs.declared.Piece.{Piece}
 use Rattle.step_line.specs.declared.Piece.TheVariants as pieces
 use Rattle.step_line.specs.Records.{IsMark}
 use Rattle.step_line.specs.Pieces.{IsTraceable, ComesBehind}
-use Rattle.planner_ring.specs.declared.Block.{Block}
+use Rattle.line_geom.specs.declared.Block.{Block}
 use Rattle.overrides.specs.declared.Overrides.{Overrides}
-use Rattle.plan_passes.specs.Blocks.{left_of}
-use Rattle.plan_passes.specs.Plans.{Planned, IsReached, entered}
-use Rattle.plan_passes.specs.Segments.{advanced, moved}
-use Rattle.plan_passes.proofs.Reached.{plan_of, reached_replanned, reached_cleared}
-use Rattle.segment_prep.specs.Taking.{IsNext}
-use Rattle.segment_prep.specs.Joining.{BlocksJoin}
-use Rattle.segment_prep.proofs.Joins.{join_added, joins_on, joins_behind}
-use Rattle.segment_prep.specs.declared.Mode.{Mode}
+use Rattle.plan_rules.specs.Blocks.{left_of}
+use Rattle.plan_rules.specs.Plans.{Planned, IsReached, entered}
+use Rattle.plan_rules.specs.Segments.{advanced, moved}
+use Rattle.plan_rules.proofs.Reached.{plan_of, reached_replanned, reached_cleared}
+use Rattle.plan_rules.specs.Taking.{IsNext}
+use Rattle.plan_rules.specs.Joining.{BlocksJoin}
+use Rattle.plan_rules.proofs.Joins.{join_added, joins_on, joins_behind}
+use Rattle.plan_rules.specs.declared.Mode.{Mode}
 use Rattle.step_line.specs.declared.planned_move.PlannedMove.{PlannedMove}
 use Rattle.planner_runs.specs.declared.Action.{Action}
 use Rattle.planner_runs.specs.declared.Action.TheVariants.{Add, Take, Override, Mark, Rest, Clear, Reset}

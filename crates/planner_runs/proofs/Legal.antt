@@ -14,18 +14,18 @@ use Rattle.step_line.specs.Pieces.{head_of}
 use Rattle.line_geom.specs.declared.Geom.{Geom}
 use Rattle.line_geom.specs.declared.Cap.{Cap}
 use Rattle.junction_speed.specs.Junctions.{junction_of}
-use Rattle.planner_ring.specs.declared.Block.{Block}
+use Rattle.line_geom.specs.declared.Block.{Block}
 use Rattle.overrides.specs.declared.Overrides.{Overrides}
 use Rattle.profile.specs.Profiles.{distance}
 use Rattle.line_geom.specs.Caps.{squared, under}
-use Rattle.plan_passes.specs.Blocks.{left_of, hard_of}
-use Rattle.plan_passes.specs.Plans.{Planned, IsReached, entered}
-use Rattle.plan_passes.specs.Segments.{advanced, IsLegal, IsLegalEnd}
-use Rattle.plan_passes.proofs.Reached.{plan_of, reached_replanned, reached_cleared}
+use Rattle.plan_rules.specs.Blocks.{left_of, hard_of}
+use Rattle.plan_rules.specs.Plans.{Planned, IsReached, entered}
+use Rattle.plan_rules.specs.Segments.{advanced, IsLegal, IsLegalEnd}
+use Rattle.plan_rules.proofs.Reached.{plan_of, reached_replanned, reached_cleared}
 use Rattle.step_line.specs.declared.Mark.{Mark as AnyMark}
 use Rattle.step_line.specs.declared.Mark.TheVariants.{Dwell, Spindle, Coolant, Cut}
-use Rattle.segment_prep.specs.Taking.{IsNext}
-use Rattle.segment_prep.specs.declared.Mode.{Mode}
+use Rattle.plan_rules.specs.Taking.{IsNext}
+use Rattle.plan_rules.specs.declared.Mode.{Mode}
 use Rattle.step_line.specs.declared.planned_move.PlannedMove.{PlannedMove}
 use Rattle.legal_heads.specs.declared.ToldHead.{ToldHead}
 use Rattle.legal_heads.specs.declared.Told.{Told}

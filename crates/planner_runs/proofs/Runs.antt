@@ -13,15 +13,15 @@ use Rattle.line_geom.specs.declared.Geom.{Geom}
 use Rattle.line_geom.specs.Geometry.{IsGeom, IsGeomOf}
 use Rattle.line_geom.proofs.Geometries.{geometry_is, geometry_has}
 use Rattle.junction_speed.specs.Junctions.{junction_of}
-use Rattle.planner_ring.specs.declared.Block.{Block}
+use Rattle.line_geom.specs.declared.Block.{Block}
 use Rattle.overrides.specs.declared.Overrides.{Overrides}
 use Rattle.overrides.specs.Percents.{IsOverrides}
-use Rattle.plan_passes.specs.Plans.{Planned, IsReached, entry_at, entered, added}
-use Rattle.plan_passes.specs.Segments.{IsSegment, IsSegmentOf, advanced}
-use Rattle.plan_passes.proofs.Reached.{plan_of, fresh_block, added_reached, reached_replanned, reached_cleared, reached_moved}
-use Rattle.segment_prep.specs.Taking.{IsNext, IsTakenOf}
-use Rattle.segment_prep.specs.declared.Mode.{Mode}
-use Rattle.segment_prep.specs.declared.Mode.TheVariants.{Go, Hold}
+use Rattle.plan_rules.specs.Plans.{Planned, IsReached, entry_at, entered, added}
+use Rattle.plan_rules.specs.Segments.{IsSegment, IsSegmentOf, advanced}
+use Rattle.plan_rules.proofs.Reached.{plan_of, fresh_block, added_reached, reached_replanned, reached_cleared, reached_moved}
+use Rattle.plan_rules.specs.Taking.{IsNext, IsTakenOf}
+use Rattle.plan_rules.specs.declared.Mode.{Mode}
+use Rattle.plan_rules.specs.declared.Mode.TheVariants.{Go, Hold}
 use Rattle.step_line.specs.declared.planned_move.PlannedMove.{PlannedMove}
 use Rattle.planner_runs.specs.declared.Action.{Action}
 use Rattle.planner_runs.specs.declared.Action.TheVariants.{Add, Take, Override, Mark, Rest, Clear, Reset}

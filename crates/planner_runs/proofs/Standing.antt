@@ -1,8 +1,8 @@
 -- The moves whose blocks stand in a plan.
 use Rattle.std.proofs.Common.{◌≡◌, ◌+◌, ◌-◌, ℕ, List, [], ◌∷◌, ◌++◌, length, get_or, refl, ap, ◌∙◌, arith}
 use Rattle.junction_speed.specs.Junctions.{junction_of}
-use Rattle.planner_ring.specs.declared.Block.{Block}
-use Rattle.plan_passes.specs.Plans.{entered}
+use Rattle.line_geom.specs.declared.Block.{Block}
+use Rattle.plan_rules.specs.Plans.{entered}
 use Rattle.step_line.specs.declared.planned_move.PlannedMove.{PlannedMove}
 use Rattle.legal_heads.specs.Moves.{geometry_of}
 use Rattle.step_line.specs.Asking.{IsPlannedMove}

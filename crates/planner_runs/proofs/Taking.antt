@@ -5,16 +5,16 @@ use Rattle.std.proofs.lemmas.Bool.Decides.{nat_tests}
 use Rattle.std.proofs.lemmas.List.Elements.{All-head}
 use Rattle.step_line.specs.declared.Segment.{Segment}
 use Rattle.step_line.specs.Counting.{events_of}
-use Rattle.planner_ring.specs.declared.Block.{Block}
+use Rattle.line_geom.specs.declared.Block.{Block}
 use Rattle.overrides.specs.declared.Overrides.{Overrides}
-use Rattle.plan_passes.specs.Blocks.{IsBlock, left_of, squared}
-use Rattle.plan_passes.specs.Plans.{Planned, IsReached}
-use Rattle.plan_passes.specs.Segments.{IsGoing, IsHolding, IsLegal, cycles_of, moved}
-use Rattle.plan_passes.proofs.Bounds.{bounds_of, rapid_small}
-use Rattle.plan_passes.proofs.Reached.{plan_of, segment_steps, legal_step}
-use Rattle.segment_prep.specs.Taking.{IsNext, IsTaken, ByMode}
-use Rattle.segment_prep.specs.declared.Mode.{Mode}
-use Rattle.segment_prep.specs.declared.Mode.TheVariants.{Go, Hold}
+use Rattle.plan_rules.specs.Blocks.{IsBlock, left_of, squared}
+use Rattle.plan_rules.specs.Plans.{Planned, IsReached}
+use Rattle.plan_rules.specs.Segments.{IsGoing, IsHolding, IsLegal, cycles_of, moved}
+use Rattle.plan_rules.proofs.Bounds.{bounds_of, rapid_small}
+use Rattle.plan_rules.proofs.Reached.{plan_of, segment_steps, legal_step}
+use Rattle.plan_rules.specs.Taking.{IsNext, IsTaken, ByMode}
+use Rattle.plan_rules.specs.declared.Mode.{Mode}
+use Rattle.plan_rules.specs.declared.Mode.TheVariants.{Go, Hold}
 use Rattle.step_line.specs.declared.planned_move.PlannedMove.{PlannedMove}
 use Rattle.legal_heads.specs.Moves.{fastest}
 use Rattle.line_geom.proofs.Geometries.{geometry_has}

@@ -14,13 +14,13 @@ use Rattle.step_line.specs.declared.Record.TheVariants as kinds
 use Rattle.step_line.specs.Events.{events_after, line_events}
 use Rattle.step_line.specs.Pieces.{ticks_of}
 use Rattle.step_line.proofs.Order.{in_parts}
-use Rattle.planner_ring.specs.declared.Block.{Block}
-use Rattle.plan_passes.specs.Blocks.{left_of}
-use Rattle.plan_passes.specs.Plans.{Planned, IsReached, entered}
-use Rattle.plan_passes.specs.Segments.{advanced, moved}
-use Rattle.plan_passes.proofs.Reached.{segment_within, reached_replanned}
-use Rattle.segment_prep.specs.Taking.{IsNext, IsTakenOf}
-use Rattle.segment_prep.specs.declared.Mode.{Mode}
+use Rattle.line_geom.specs.declared.Block.{Block}
+use Rattle.plan_rules.specs.Blocks.{left_of}
+use Rattle.plan_rules.specs.Plans.{Planned, IsReached, entered}
+use Rattle.plan_rules.specs.Segments.{advanced, moved}
+use Rattle.plan_rules.proofs.Reached.{segment_within, reached_replanned}
+use Rattle.plan_rules.specs.Taking.{IsNext, IsTakenOf}
+use Rattle.plan_rules.specs.declared.Mode.{Mode}
 use Rattle.step_line.specs.declared.planned_move.PlannedMove.{PlannedMove}
 use Rattle.planner_runs.specs.declared.Action.{Action}
 use Rattle.planner_runs.specs.declared.Action.TheVariants.{Add, Take, Override, Mark, Rest, Clear, Reset}

@@ -6,7 +6,7 @@ use Rattle.step_line.specs.declared.Record.{Record}
 use Rattle.step_line.specs.declared.Record.TheVariants as kinds
 use Rattle.step_line.specs.Ending.{IsEnded}
 use Rattle.step_line.specs.Asking.{Asked, moves_of, ticks_of_all, ticks_among}
-use Rattle.plan_passes.specs.Plans.{Planned}
+use Rattle.plan_rules.specs.Plans.{Planned}
 use Rattle.legal_heads.specs.Speeds.{HasLegalHeads}
 use Rattle.planner_runs.specs.declared.Action.{Action}
 use Rattle.planner_runs.specs.Runs.{Plans, IsStart, IsAtRest, IsPlannerRun, DisturbedOnlyBy, all_asked, all_records, moves_added}

@@ -11,14 +11,14 @@ use Rattle.step_line.specs.Pieces.{ComesBehind, records_of}
 use Rattle.step_line.specs.Asking.{Asked, moves_of, ticks_of_all}
 use Rattle.step_line.specs.Asking.Asked.{a_move, a_mark, a_rest}
 use Rattle.line_geom.specs.declared.Cap.TheVariants.{Free}
-use Rattle.planner_ring.specs.declared.Block.{Block}
+use Rattle.line_geom.specs.declared.Block.{Block}
 use Rattle.overrides.specs.declared.Overrides.{Overrides}
 use Rattle.overrides.specs.Percents.{IsOverrides}
-use Rattle.plan_passes.specs.Blocks.{left_of}
-use Rattle.plan_passes.specs.Plans.{Planned, added}
-use Rattle.plan_passes.specs.Segments.{advanced}
-use Rattle.segment_prep.specs.Taking.{IsNext}
-use Rattle.segment_prep.specs.declared.Mode.TheVariants.{Hold}
+use Rattle.plan_rules.specs.Blocks.{left_of}
+use Rattle.plan_rules.specs.Plans.{Planned, added}
+use Rattle.plan_rules.specs.Segments.{advanced}
+use Rattle.plan_rules.specs.Taking.{IsNext}
+use Rattle.plan_rules.specs.declared.Mode.TheVariants.{Hold}
 use Rattle.step_line.specs.declared.planned_move.PlannedMove.{PlannedMove}
 use Rattle.planner_runs.specs.declared.Action.{Action}
 use Rattle.planner_runs.specs.declared.Action.TheVariants.{Add, Take, Override, Mark, Rest, Clear, Reset}

@@ -11,7 +11,7 @@ pub use laws::{
     ticks_are_those_asked_for,
 };
 use overrides::Overrides;
-use segment_prep::Mode;
+use plan_rules::Mode;
 use step_line::{Mark, PlannedMove};
 
 /// What is done to a plan.

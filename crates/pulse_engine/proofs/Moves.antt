@@ -1,5 +1,5 @@
 -- What one step of a pulse makes of what it has done.
-use Rattle.std.proofs.Common.{◌≡◌, ℕ, ◌+◌, Bool, true, false, Option, None, List, [], ◌∷◌, ◌++◌, refl, ap, sym, ◌∙◌, arith, append_assoc}
+use Rattle.std.proofs.Common.{◌≡◌, ℕ, ◌+◌, Bool, true, false, zero, suc, Option, None, Some, List, [], ◌∷◌, ◌++◌, refl, ap, sym, ◌∙◌, arith, append_assoc}
 use Rattle.std.proofs.lemmas.List.{append-nil}
 use Rattle.std.specs.Option.{option_to_list}
 use Rattle.units.specs.Truths.{one_if}
@@ -76,6 +76,12 @@ gone_none t n e = same_trace _ _ _ _ refl (omega arith)
 
 pub nothing_waits : (hand : Option Record) (t : Trace) (n : ℕ) → hand ≡ None → n ≡ 0 → option_to_list hand ++ coming t n ≡ []
 nothing_waits hand t n e f = rw (e, f) refl
+
+-- and where nothing waits, nothing is in hand
+pub hand_is_empty : (hand : Option Record) (t : Trace) (n : ℕ) → option_to_list hand ++ coming t n ≡ [] → (hand ≡ None) × (n ≡ 0)
+hand_is_empty None t zero e = (refl, refl)
+hand_is_empty None t (suc n) e = absurd cc
+hand_is_empty (Some r) t n e = absurd cc
 
 -- nothing comes behind the end
 pub none_after : (r : Record) (t : Trace) (n : ℕ) → IsFirst r n → is_end r ≡ true → coming t n ≡ []

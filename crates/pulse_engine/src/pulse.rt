@@ -90,7 +90,7 @@ fn begin(piece: &Piece, tracer: &mut Tracer, left: &mut u32) -> Record
 }
 
 impl Pulse {
-    ghost use Rattle.std.specs.Prelude.{◌≡◌, ◌↔◌, true, []};
+    ghost use Rattle.std.specs.Prelude.{◌≡◌, ◌↔◌, true, false, []};
     ghost use Rattle.pulse_engine.specs.Logs.{PieceLog, RecordLog};
     ghost use Rattle.pulse_engine.specs.Turns.{PulseFits, PulseTurned};
     ghost use Rattle.outside.specs.declared.On.{On};
@@ -112,6 +112,28 @@ impl Pulse {
         }
     }
 
+    /// A turn between two pieces, where no record is left and no count is owed: it gets a piece, if one is there. It stands by itself so
+    /// that an event doesn't pay for the room that a piece takes.
+    #[inline(never)]
+    fn turn_between<P: PulsePort>(&mut self, pieces: &mut P) -> Turn
+        requires stands { (rest : P.Rest) × (h : PieceLog) × (k : RecordLog) × P.stands pieces.old rest h × PulseFits self.old h k }
+        requires between { (self.old.waiting ≡ []) × (self.old.owes ≡ false) }
+        ensures logs { (rest : P.Rest) (h : PieceLog) (k : RecordLog) → P.stands pieces.old rest h → PulseFits self.old h k
+            → (h' : PieceLog) × P.stands pieces.new rest h' × PulseFits self.new h' k × PulseTurned result h k h' k }
+        ensures waits { (on : On) → result ≡ Turn.Wait on → self.new ≡ self.old }
+        ensures done { (result ≡ Turn.Done) ↔ (self.old.over ≡ true) }
+        ensures still { self.old.over ≡ true → (self.new ≡ self.old) × (pieces.new ≡ pieces.old) }
+    {
+        if self.over {
+            return Turn::Done;
+        }
+        let Some(piece) = pieces.piece() else {
+            return Turn::Wait(On::Piece);
+        };
+        self.hand = Some(begin(&piece, &mut self.tracer, &mut self.left));
+        Turn::Did
+    }
+
     /// Does one step of work: gets a piece, puts a record or counts a tick, and then answers Did. Where there is no piece
     /// or no room for the record it waits for that, and is as before; so the record is put again in the next turn. From
     /// the turn after the one that put the end it answers Done, and nothing changes. Each turn that answers Did moves: it does one of
@@ -131,6 +153,22 @@ impl Pulse {
             self.owes = false;
             return Turn::Did;
         }
+        self.work(pieces, records)
+    }
+
+    /// A turn that owes no count: it puts a record or gets a piece. It stands by itself so that a count doesn't pay for the room that a
+    /// record takes.
+    #[inline(always)]
+    fn work<P: PulsePort, T: TickOut>(&mut self, pieces: &mut P, records: &mut T) -> Turn
+        requires stands { (rest : P.Rest) × (back : T.Rest) × (h : PieceLog) × (k : RecordLog) × P.stands pieces.old rest h × T.stands records.old back k × PulseFits self.old h k }
+        requires counted { self.old.owes ≡ false }
+        ensures logs { (rest : P.Rest) (back : T.Rest) (h : PieceLog) (k : RecordLog) → P.stands pieces.old rest h → T.stands records.old back k → PulseFits self.old h k
+            → (h' : PieceLog) × (k' : RecordLog) × P.stands pieces.new rest h' × T.stands records.new back k' × PulseFits self.new h' k' × PulseTurned result h k h' k' }
+        ensures waits { (on : On) → result ≡ Turn.Wait on → self.new ≡ self.old }
+        ensures between { result ≡ Turn.Wait On.Piece → self.old.waiting ≡ [] }
+        ensures done { (result ≡ Turn.Done) ↔ (self.old.over ≡ true) }
+        ensures still { self.old.over ≡ true → (self.new ≡ self.old) × (pieces.new ≡ pieces.old) × (records.new ≡ records.old) }
+    {
         if let Some(record) = self.hand {
             let Ok(()) = records.put(record) else {
                 return Turn::Wait(On::RecordRoom);
@@ -141,14 +179,7 @@ impl Pulse {
             return Turn::Did;
         }
         if self.left == 0 {
-            if self.over {
-                return Turn::Done;
-            }
-            let Some(piece) = pieces.piece() else {
-                return Turn::Wait(On::Piece);
-            };
-            self.hand = Some(begin(&piece, &mut self.tracer, &mut self.left));
-            return Turn::Did;
+            return self.turn_between(pieces);
         }
         let event = next_event(&mut self.tracer, &mut self.left);
         match records.put(Record::Event(event)) {

@@ -1,22 +1,29 @@
 //! What each of the four threads does: an actor takes its turns until it answers Done.
 //!
 //! Before each turn the actor passes a gate. Where a turn has to wait, the thread lets others run a few times before
-//! it tries again; it never spins.
+//! it tries again, by what it waits for; it never spins.
 
 ghost use Rattle.run_core.specs.Sides.{HostIsNew, HostRanAt, BoardIsNew, BoardRanAt, PulseIsNew, PulseRanAt, RecorderIsNew, RecorderRanAt};
 
 use crate::sides::{BoardSide, HostSide, PulseSide, RecorderSide};
-use outside::{Actor, Gate, Sink, Source, Turn};
+use outside::{Actor, Gate, On, Sink, Source, Turn};
 use std::sync::Wait;
 use std::thread;
 
-/// How many times a thread lets others run where its actor has to wait: so long that the other side then mostly has a batch
-/// ready, and no longer, since each time may give a busy machine's processor away.
-const YIELDS: u32 = 4;
+/// How many times a thread lets others run before its actor tries again, by what it waits for. A recorder that waits longer finds
+/// a batch of records, of which there is room for 1,024. Of pieces only five are on their way, so that a pulse or a board that
+/// comes late soon has the other stand still. Bytes and replies lie between.
+fn yields(on: On) -> u32 {
+    match on {
+        On::Records => 16,
+        On::Piece | On::SegmentRoom | On::RecordRoom | On::Motion => 1,
+        On::Byte | On::Answer | On::ReplyRoom | On::Resume => 4,
+    }
+}
 
 /// Lets other threads run.
-fn yield_often() {
-    for _ in 0..YIELDS {
+fn yield_for(on: On) {
+    for _ in 0..yields(on) {
         thread::yield_now();
     }
 }
@@ -36,7 +43,7 @@ pub(crate) fn run_host<R: Wait, J: Source, C: Sink, G: Gate>(
         gate.pass(Actor::Host);
         match side.host.turn(&mut side.link, job, console) {
             Turn::Did => {}
-            Turn::Wait(_) => yield_often(),
+            Turn::Wait(on) => yield_for(on),
             Turn::Done => return,
         }
     }
@@ -52,7 +59,7 @@ pub(crate) fn run_board<R: Wait, G: Gate>(rt: &R, side: &mut BoardSide, gate: &G
         gate.pass(Actor::Board);
         match side.board.turn(&mut side.link) {
             Turn::Did => {}
-            Turn::Wait(_) => yield_often(),
+            Turn::Wait(on) => yield_for(on),
             Turn::Done => return,
         }
     }
@@ -68,7 +75,7 @@ pub(crate) fn run_pulse<R: Wait, G: Gate>(rt: &R, side: &mut PulseSide, gate: &G
         gate.pass(Actor::Pulse);
         match side.pulse.turn(&mut side.pieces, &mut side.records) {
             Turn::Did => {}
-            Turn::Wait(_) => yield_often(),
+            Turn::Wait(on) => yield_for(on),
             Turn::Done => return,
         }
     }
@@ -89,7 +96,7 @@ pub(crate) fn run_recorder<R: Wait, S: Sink, G: Gate>(
         gate.pass(Actor::Record);
         match side.recorder.turn(&mut side.records, steps) {
             Turn::Did => {}
-            Turn::Wait(_) => yield_often(),
+            Turn::Wait(on) => yield_for(on),
             Turn::Done => return,
         }
     }

@@ -10,7 +10,7 @@ use Rattle.step_line.specs.Pieces.{ticks_of}
 use Rattle.step_line.specs.Finishing.{ticks_together}
 use Rattle.status_report.specs.Answering.{answers_in, without_reports, reports_among}
 use Rattle.status_report.proofs.Answered.{answers_on}
-use Rattle.plan_passes.specs.Plans.{Planned}
+use Rattle.plan_rules.specs.Plans.{Planned}
 use Rattle.planner_runs.specs.Runs.{IsAtRest, all_asked}
 use Rattle.run_rules.specs.declared.State.{State}
 use Rattle.run_rules.specs.Lines.{whole_lines}

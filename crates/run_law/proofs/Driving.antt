@@ -14,7 +14,7 @@ use Rattle.board_rules.proofs.Cancels.{few_cuts}
 use Rattle.board_rules.proofs.Keeping.{disturbed_is, never_clears}
 use Rattle.board_rules.proofs.Numbers.{parts_are, starts_are, joined_are, lines_are, numbers_are}
 use Rattle.board_rules.proofs.Parting.{asked_is, open_part}
-use Rattle.plan_passes.specs.Plans.{Planned}
+use Rattle.plan_rules.specs.Plans.{Planned}
 use Rattle.planner_runs.specs.declared.Action.TheVariants.{Clear, Mark}
 use Rattle.planner_runs.specs.Runs.{Plans, IsPlannerRun, IsStart, IsAtRest, DisturbedOnlyBy, NeverResets, fresh_plan, cleared, most_blocks, all_asked, all_records, ticks_left, ticks_left_in}
 use Rattle.planner_runs.specs.Driven.{IsDriven}

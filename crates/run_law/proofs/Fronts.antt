@@ -14,8 +14,8 @@ use Rattle.step_line.specs.declared.Record.TheVariants as kinds
 use Rattle.step_line.specs.Ending.{HasNoEnd, IsEnded}
 use Rattle.step_line.specs.Pieces.{records_of}
 use Rattle.planner_runs.proofs.Driven.{run_has_no_end}
-use Rattle.plan_passes.specs.Plans.{Planned}
-use Rattle.plan_passes.specs.Segments.{advanced}
+use Rattle.plan_rules.specs.Plans.{Planned}
+use Rattle.plan_rules.specs.Segments.{advanced}
 use Rattle.planner_runs.specs.declared.Action.{Action}
 use Rattle.planner_runs.specs.declared.Action.TheVariants.{Add, Take, Override, Mark, Rest, Clear, Reset}
 use Rattle.planner_runs.specs.Runs.{Plans, all_records, with_move, cleared, fresh_plan, most_blocks}

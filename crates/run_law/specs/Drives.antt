@@ -3,7 +3,7 @@ use Rattle.std.specs.Prelude.{◌≡◌, ℕ, ◌≤◌, Bool, true, ◌||◌, c
 use Rattle.std.specs.List.{flat_map, AllByRecursion}
 use Rattle.board_rules.specs.Parts.{Part, IsCutPart, AreJoined, AreNumbered, AreDisturbedOnlyBy, plan_behind, lines_in, actions_in, pieces_in, passed_in, counts_in}
 use Rattle.legal_heads.specs.Speeds.{HasLegalHeads}
-use Rattle.plan_passes.specs.Plans.{Planned}
+use Rattle.plan_rules.specs.Plans.{Planned}
 use Rattle.planner_runs.specs.declared.Action.{Action}
 use Rattle.planner_runs.specs.Driven.{IsDriven}
 use Rattle.planner_runs.specs.Runs.{Plans, IsPlannerRun, IsStart, IsAtRest, DisturbedOnlyBy, most_blocks, all_asked, all_records}

@@ -1,14 +1,16 @@
 -- How large the numbers of a segment are.
-use Rattle.std.proofs.Common.{◌≡◌, ℕ, ◌+◌, ◌-◌, ◌*◌, ◌/◌, ◌≤◌, ◌<◌, min, inl, inr, arith, sym}
+use Rattle.std.proofs.Common.{◌≡◌, ℕ, ◌+◌, ◌-◌, ◌*◌, ◌/◌, ◌≤◌, ◌<◌, inl, inr, arith, sym, subst}
 use Rattle.std.proofs.lemmas.Bool.{cases_lt}
 use Rattle.std.proofs.lemmas.Nat.{mul-le, le-div, div_below}
+use Rattle.std.proofs.Math.Nat.{le_of_mul-le-mul_right, div-mul-le_self}
 use Rattle.units.specs.Roots.{IsRoot, root_of}
 use Rattle.units.proofs.Places.{root_is, one_root}
-use Rattle.planner_ring.specs.declared.Block.{Block}
+use Rattle.line_geom.specs.declared.Block.{Block}
 use Rattle.overrides.specs.Percents.{nominal_of}
-use Rattle.plan_passes.specs.Blocks.{IsBlock, squared}
-use Rattle.plan_passes.specs.Plans.{Planned, IsReached, IsTail}
-use Rattle.plan_passes.proofs.Bounds.{bounds_of, rapid_small, nominal_below}
+use Rattle.plan_rules.specs.Blocks.{IsBlock, squared}
+use Rattle.plan_rules.specs.Segments.{count_of}
+use Rattle.plan_rules.specs.Plans.{Planned, IsReached, IsTail}
+use Rattle.plan_rules.proofs.Bounds.{bounds_of, rapid_small, nominal_below}
 
 -- the square of a speed that the axes allow
 pub square_le : (v : ℕ) (b : Block) → IsBlock b → v ≤ b.geom.rapid → v * v ≤ squared b.geom.rapid
@@ -55,48 +57,43 @@ product_some v b is some = let n_low = (bounds_of b is).n_low in mul-le 1 1 b.ge
 pub tail_nominal : (p : Planned) (b : Block) → IsReached p → IsTail p b → nominal_of p.overrides b.rate b.geom.rapid ≤ b.geom.rapid
 tail_nominal p b is tail = nominal_below p.overrides b is.overrides tail.block
 
--- the square of five times a block's events, and what a squared speed makes of it
-pub events_squared_small : (b : Block) → IsBlock b → 25 * b.geom.n * b.geom.n ≤ 1000000000000000000
-events_squared_small b is =
-    let high = (bounds_of b is).n_high in
-    let square = mul-le b.geom.n b.geom.n 200000000 200000000 high high in
-    grind (arith, square)
+-- fewer than two lengths are fewer than two events, and two or more are two or more
+pub one_event : (way length : ℕ) → 0 < length → way < 2 * length → way / length < 2
+one_event way length some less = div_below way length 2 some less
 
-pub slow_product_small : (w : ℕ) (b : Block) → IsBlock b → w ≤ squared b.geom.rapid
-    → (w + b.geom.q) * (25 * b.geom.n * b.geom.n) ≤ 1119111088888889 * 1000000000000000000
-slow_product_small w b is le =
-    let q_high = (bounds_of b is).q_high in
-    mul-le (w + b.geom.q) (25 * b.geom.n * b.geom.n) 1119111088888889 1000000000000000000
-    (omega (arith, q_high, le, rapid_small b is)) (events_squared_small b is)
+pub some_events : (way length : ℕ) → 0 < length → 2 * length ≤ way → 2 ≤ way / length
+some_events way length some le = le-div 2 way length some le
 
-pub length_squared_small : (b : Block) → IsBlock b → b.geom.length * b.geom.length ≤ 400000000000000 * 400000000000000
-length_squared_small b is =
+-- what events that take 10 ms at a speed may change: a fiftieth of the acceleration times the speed
+change_of : (q n N L a r : ℕ) → 0 < N → 0 < L → q * (1000 * N) ≤ 2 * a * L → n * L ≤ r * 10 * N → q * n * 1000 ≤ 20 * (a * r)
+change_of q n N L a r some part by way =
+    let both = mul-le (q * (1000 * N)) (n * L) (2 * a * L) (r * 10 * N) by way in
+    let left : q * (1000 * N) * (n * L) ≡ q * n * 1000 * (N * L) = grind arith in
+    let right : 2 * a * L * (r * 10 * N) ≡ 20 * (a * r) * (N * L) = grind arith in
+    le_of_mul-le-mul_right (omega (arith, both, left, right)) (mul-le 1 1 N L some part)
+
+-- the events of about 10 ms change the squared speed by little
+pub change_small : (w n : ℕ) (b : Block) → IsBlock b → w ≤ squared b.geom.rapid → n ≤ count_of b w → b.geom.q * n ≤ 2000000000000000
+change_small w n b is speed few =
     let bounds = bounds_of b is in
-    let length_high = bounds.length_high in
-    let n_high = bounds.n_high in
-    let le : b.geom.length ≤ 400000000000000 = omega (arith, length_high, n_high) in
-    mul-le b.geom.length b.geom.length 400000000000000 400000000000000 le le
-
-slow_root : (x r n length : ℕ) → r * r ≤ x → x * (25 * n * n) < length * length → r * 5 * n < length
-slow_root x r n length low slow = elim (cases_lt (r * 5 * n) length) [
-  | inl less ↦ less
-  | inr le ↦
-      let squares = mul-le length length (r * 5 * n) (r * 5 * n) le le in
-      let parts : (r * 5 * n) * (r * 5 * n) ≡ (r * r) * (25 * n * n) = grind arith in
-      let below = mul-le (r * r) (25 * n * n) x (25 * n * n) low (omega arith) in
-      absurd (omega (arith, squares, parts, below, slow))
-]
-
--- at a low speed fewer than two events take 10 ms
-pub one_event : (x n length : ℕ) → x * (25 * n * n) < length * length → root_of x * 10 * n / length < 2
-one_event x n length slow =
-    let r = root_of x in
-    let low = (root_is x).low in
-    let less = slow_root x r n length low slow in
-    let twice : r * 10 * n ≡ 2 * (r * 5 * n) = grind arith in
-    div_below (r * 10 * n) length 2 (omega (arith, less)) (omega (arith, less, twice))
-
--- a mean that is less than the square of a speed is the one that is meant, though its parts were held to 64 bits
-pub clipped_mean : (square s c d k : ℕ) → square ≤ 1111111088888889 → d ≡ min c 18446744073709551615
-    → k ≡ min (s + d) 18446744073709551615 → k / 2 < square → k / 2 ≡ min square ((s + c) / 2)
-clipped_mean square s c d k small part whole below = omega arith
+    let q_high = bounds.q_high in
+    let n_low = bounds.n_low in
+    let length_low = bounds.length_low in
+    let r = root_of (w + b.geom.q) in
+    let x = r * 10 * b.geom.n / b.geom.length in
+    elim (cases_lt 1 n) [
+      | inr one ↦ let most = mul-le b.geom.q n b.geom.q 1 (omega arith) one in omega (arith, most, q_high)
+      | inl more ↦
+          let rapid = rapid_small b is in
+          let slow = root_below (w + b.geom.q) 33453118 (omega (arith, speed, rapid, q_high)) in
+          let within : n ≤ x = omega (arith, few, more) in
+          let lengths = mul-le n b.geom.length x b.geom.length within (omega arith) in
+          let whole = div-mul-le_self (r * 10 * b.geom.n) b.geom.length in
+          let q = is.geom.geom.q in
+          let share = div-mul-le_self (2 * b.geom.accel * b.geom.length) (1000 * b.geom.n) in
+          let by : b.geom.q * (1000 * b.geom.n) ≤ 2 * b.geom.accel * b.geom.length =
+          subst (λ q. q * (1000 * b.geom.n) ≤ 2 * b.geom.accel * b.geom.length) (sym q) share in
+          let change = change_of b.geom.q n b.geom.n b.geom.length b.geom.accel r n_low (omega (arith, length_low, n_low)) by (omega (arith, lengths, whole)) in
+          let most = mul-le b.geom.accel r 2000000000 33453118 bounds.accel_high slow in
+          omega (arith, change, most)
+    ]

@@ -5,16 +5,16 @@ use Rattle.units.specs.Lengths.{IsMove}
 use Rattle.step_line.specs.declared.Segment.{Segment}
 use Rattle.step_line.specs.Counting.{events_of}
 use Rattle.step_line.specs.Pieces.{IsTraceable}
-use Rattle.planner_ring.specs.declared.Block.{Block}
-use Rattle.plan_passes.specs.Blocks.{IsBlock, left_of, squared, top_of}
-use Rattle.plan_passes.specs.Plans.{Planned, IsTail}
-use Rattle.plan_passes.specs.Segments.{IsGoing, IsSegment, IsSegmentOf, count_of, pace_of, cycles_of}
+use Rattle.line_geom.specs.declared.Block.{Block}
+use Rattle.plan_rules.specs.Blocks.{IsBlock, left_of, squared, top_of}
+use Rattle.plan_rules.specs.Plans.{Planned, IsTail}
+use Rattle.plan_rules.specs.Segments.{IsGoing, IsSegment, IsSegmentOf, count_of, pace_of, cycles_of}
 use Rattle.plan_passes.specs.declared.Pace.{Pace}
 use Rattle.plan_passes.specs.Paces.{IsPaceOf, IsPaceOfTail, IsSteady, IsSteadyOf}
-use Rattle.plan_passes.proofs.Bounds.{bounds_of, rapid_small}
-use Rattle.segment_prep.specs.declared.Mode.{Mode}
-use Rattle.segment_prep.specs.declared.Mode.TheVariants.{Go, Hold}
-use Rattle.segment_prep.specs.Taking.{ByMode, IsTaken, IsTakenOf, IsNext, nominal}
+use Rattle.plan_rules.proofs.Bounds.{bounds_of, rapid_small}
+use Rattle.plan_rules.specs.declared.Mode.{Mode}
+use Rattle.plan_rules.specs.declared.Mode.TheVariants.{Go, Hold}
+use Rattle.plan_rules.specs.Taking.{ByMode, IsTaken, IsTakenOf, IsNext, nominal}
 
 by_mode : (p : Planned) (b : Block) (mode : Mode) (n v : ℕ) → ByMode p b mode n v → IsSegmentOf p (b ∷ drop 1 p.blocks) n v
 by_mode p b Go n v rule = inl rule

@@ -1,2 +1,2 @@
-pub mod Taking
-pub mod Joining
+pub use Rattle.plan_rules.specs.Taking
+pub use Rattle.plan_rules.specs.Joining

@@ -1,22 +1,15 @@
 //! The segments that a plan gives to the steppers.
 //!
 //! A segment is some events in a row of the plan's tail, those of about 10 ms, which begin and end at squared speeds in
-//! µm²/s². The numbers of a block keep all in 64 bits but a product of events and squared speeds, which takes 128: a
-//! speed is at most the block's rapid one, which is at most 33,333,333 µm/s, and 16,000 times a length is below 2^63.
+//! µm²/s². The numbers of a block keep all in 64 bits: a speed is at most the block's rapid one, which is at most
+//! 33,333,333 µm/s, and 16,000 times a length is below 2^63.
 #![tactic(auto)]
 
-pub mod laws;
 mod pace;
 mod rule;
 mod taking;
 #[cfg(test)]
 mod tests;
 
+pub use plan_rules::{Mode, laws};
 pub use taking::next_segment;
-
-/// How a plan's next segment is taken: as fast as the plan allows, or so that it comes to a stop.
-#[derive(Clone, Copy, Debug, PartialEq, Eq)]
-pub enum Mode {
-    Go,
-    Hold,
-}

@@ -2,10 +2,10 @@
 
 ghost use Rattle.std.specs.Prelude.{◌≡◌, ◌≤◌, ◌<◌, ◌*◌, ◌^◌, max};
 ghost use Rattle.units.specs.Roots.{root_of};
-ghost use Rattle.plan_passes.specs.Blocks.{IsBlock, left_of, squared};
-ghost use Rattle.plan_passes.specs.Segments.{pace_of, cycles_of};
+ghost use Rattle.plan_rules.specs.Blocks.{IsBlock, left_of, squared};
+ghost use Rattle.plan_rules.specs.Segments.{count_of, pace_of, cycles_of};
 
-use crate::rule::change;
+use crate::rule::small_change;
 use planner_ring::Block;
 use units::small_root;
 
@@ -27,18 +27,19 @@ fn top(nominal: u64, w: u64) -> u64
 /// How fast n events go that change the squared speed from w to v, in µm/s: never below 1, and at most at the nominal
 /// speed, unless it was higher before.
 #[inline]
-#[tactic(auto, using(crate::proofs::Sizes::square_le, crate::proofs::Sizes::root_below, crate::proofs::Sizes::root_square, plan_passes::proofs::Bounds::bounds_of, plan_passes::proofs::Bounds::rapid_small, units::proofs::Places::one_root))]
+#[tactic(auto, using(crate::proofs::Sizes::square_le, crate::proofs::Sizes::root_below, crate::proofs::Sizes::root_square, plan_rules::proofs::Bounds::bounds_of, plan_rules::proofs::Bounds::rapid_small, units::proofs::Places::one_root))]
 fn pace(b: &Block, nominal: u64, w: u64, v: u64, n: u32) -> u64
     requires block { IsBlock b.now }
     requires nominal { nominal ≤ b.now.geom.rapid }
     requires begins { w ≤ squared b.now.geom.rapid }
     requires ends { v ≤ squared b.now.geom.rapid }
+    requires few { n ≤ count_of b.now w }
     ensures pace { result ≡ pace_of b.now nominal w v n }
     ensures some { 0 < result }
     ensures rapid { result ≤ b.now.geom.rapid }
 {
     let top = top(nominal, w);
-    let mean = (w + v).saturating_add(change(b, n)) / 2;
+    let mean = (w + v + small_change(b, w, n)) / 2;
     if top * top <= mean {
         return top.max(1);
     }
@@ -47,12 +48,13 @@ fn pace(b: &Block, nominal: u64, w: u64, v: u64, n: u32) -> u64
 
 /// The cycles of a clock of 16 MHz from one of them to the next, rounded up.
 #[inline]
-#[tactic(auto, using(crate::proofs::Sizes::product_small, crate::proofs::Sizes::product_some, crate::proofs::Sizes::some_rounded_up, plan_passes::proofs::Bounds::bounds_of))]
+#[tactic(auto, using(crate::proofs::Sizes::product_small, crate::proofs::Sizes::product_some, crate::proofs::Sizes::some_rounded_up, plan_rules::proofs::Bounds::bounds_of))]
 pub(crate) fn cycles(b: &Block, nominal: u64, w: u64, v: u64, n: u32) -> u64
     requires block { IsBlock b.now }
     requires nominal { nominal ≤ b.now.geom.rapid }
     requires begins { w ≤ squared b.now.geom.rapid }
     requires ends { v ≤ squared b.now.geom.rapid }
+    requires few { n ≤ count_of b.now w }
     ensures cycles { result ≡ cycles_of b.now (pace_of b.now nominal w v n) }
     ensures some { 0 < result }
 {

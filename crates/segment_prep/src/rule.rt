@@ -1,13 +1,12 @@
 //! The segment rule: how many events are taken, and the speed behind them.
 
-ghost use Rattle.std.specs.Prelude.{◌≡◌, ◌≤◌, ◌<◌, ◌+◌, ◌-◌, ◌*◌, ◌/◌, ◌↔◌, min, IsNone, IfSome, IsTrue};
-ghost use Rattle.units.specs.Roots.{root_of};
+ghost use Rattle.std.specs.Prelude.{◌≡◌, ◌≤◌, ◌<◌, ◌+◌, ◌-◌, ◌*◌, ◌↔◌, ◌^◌, min, max, IsNone, IfSome};
 ghost use Rattle.overrides.specs.Percents.{nominal_of};
 ghost use Rattle.profile.specs.Slowing.{speed_after};
-ghost use Rattle.plan_passes.specs.Blocks.{IsBlock, left_of, squared};
-ghost use Rattle.plan_passes.specs.Plans.{IsTail};
-ghost use Rattle.plan_passes.specs.Segments.{count_of, IsGoing, IsHolding};
-ghost use Rattle.segment_prep.specs.Taking.{ByMode, nominal};
+ghost use Rattle.plan_rules.specs.Blocks.{IsBlock, left_of, squared};
+ghost use Rattle.plan_rules.specs.Plans.{IsTail};
+ghost use Rattle.plan_rules.specs.Segments.{count_of, IsGoing, IsHolding};
+ghost use Rattle.plan_rules.specs.Taking.{ByMode, nominal};
 
 use crate::Mode;
 use plan_passes::Plan;
@@ -29,24 +28,23 @@ pub(crate) fn change(b: &Block, n: u32) -> u64
     b.geom.q.saturating_mul(n as u64)
 }
 
-/// Whether fewer than two events of a block take 10 ms at a squared speed: told by squares, without a root.
+/// How much events of a block may change the squared speed that they begin at, where they are no more than take about 10 ms.
 #[inline]
-#[tactic(auto, using(crate::proofs::Sizes::events_squared_small, crate::proofs::Sizes::length_squared_small, crate::proofs::Sizes::slow_product_small, crate::proofs::Sizes::one_event, plan_passes::proofs::Bounds::bounds_of, plan_passes::proofs::Bounds::rapid_small))]
-fn is_slow(b: &Block, w: u64) -> bool
+pub(crate) fn small_change(b: &Block, w: u64, n: u32) -> u64
     requires block { IsBlock b.now }
     requires speed { w ≤ squared b.now.geom.rapid }
-    ensures { IsTrue result → root_of (w + b.now.geom.q) * 10 * b.now.geom.n / b.now.geom.length < 2 }
+    requires few { n ≤ count_of b.now w }
+    ensures change { result ≡ b.now.geom.q * n }
+    ensures small { result ≤ 2000000000000000 }
 {
-    let n = b.geom.n as u64;
-    let length = b.geom.length as u128;
-    let square = (w + b.geom.q) as u128 * (25 * n * n) as u128;
-    square < length * length
+    let small = b.geom.q * n as u64;
+    small
 }
 
 /// How many events of a block are taken at a squared speed: those of about 10 ms, but one at least, and no more than are
 /// left.
 #[inline]
-#[tactic(auto, using(plan_passes::proofs::Bounds::bounds_of, plan_passes::proofs::Bounds::rapid_small, units::proofs::Places::one_root))]
+#[tactic(auto, using(crate::proofs::Sizes::some_events, crate::proofs::Sizes::one_event, plan_rules::proofs::Bounds::bounds_of, plan_rules::proofs::Bounds::rapid_small, units::proofs::Places::one_root))]
 fn count(b: &Block, w: u64) -> u32
     requires block { IsBlock b.now }
     requires speed { w ≤ squared b.now.geom.rapid }
@@ -58,43 +56,56 @@ fn count(b: &Block, w: u64) -> u32
     if left == 1 {
         return 1;
     }
-    if is_slow(b, w) {
+    let root = small_root(w + b.geom.q);
+    let way = root * 10 * b.geom.n as u64;
+    if way < 2 * b.geom.length {
         return 1;
     }
-    let root = small_root(w + b.geom.q);
-    let events = root * 10 * b.geom.n as u64 / b.geom.length;
-    events.min(left as u64).max(1) as u32
+    (way / b.geom.length).min(left as u64) as u32
+}
+
+/// The squared speed behind events that may change it by so much, where it goes up to `top`, or comes down to it.
+#[inline]
+fn speed_towards(w: u64, change: u64, top: u64) -> u64
+    requires { w + change < 2 ^ 64 }
+    ensures { result ≡ max (min (w + change) top) (w - change) }
+{
+    if w <= top {
+        top.min(w + change)
+    } else {
+        top.max(w.saturating_sub(change))
+    }
 }
 
 /// The squared speed behind n events of a block in mode Go, where its nominal speed and the plan's speed at its end are
 /// these.
 #[inline]
-#[tactic(auto, using(crate::proofs::Sizes::square_le, plan_passes::proofs::Bounds::rapid_small))]
+#[tactic(auto, using(crate::proofs::Sizes::square_le, plan_rules::proofs::Bounds::rapid_small))]
 fn speed_going(b: &Block, w: u64, n: u32, exit: u64, nominal: u64) -> u64
     requires block { IsBlock b.now }
     requires speed { w ≤ squared b.now.geom.rapid }
+    requires few { n ≤ count_of b.now w }
     requires within { n ≤ left_of b.now }
     requires nominal { nominal ≤ b.now.geom.rapid }
     ensures speed { result ≡ speed_after w b.now.geom.q n (left_of b.now - n) exit (squared nominal) }
     ensures rapid { result ≤ squared b.now.geom.rapid }
 {
-    let spread = change(b, n);
     let rest = b.geom.n - b.prepared - n;
     let for_exit = exit.saturating_add(change(b, rest));
-    let fastest = w.saturating_add(spread).min(nominal * nominal);
-    let slowest = w.saturating_sub(spread);
-    for_exit.min(fastest.max(slowest))
+    let towards = speed_towards(w, small_change(b, w, n), nominal * nominal);
+    for_exit.min(towards)
 }
 
 /// What is taken of the tail in mode Go.
 #[inline]
-#[tactic(auto, using(crate::proofs::Sizes::tail_nominal), unfolding(plan_passes::specs::Blocks::top_of))]
+#[tactic(auto, using(crate::proofs::Sizes::tail_nominal), unfolding(plan_rules::specs::Blocks::top_of))]
 fn going<const N: usize>(plan: &Plan<N>, b: &Block, nominal: u64) -> Stretch
     requires tail { IsTail plan.now b.now }
     requires nominal { nominal ≡ nominal_of plan.now.overrides b.now.rate b.now.geom.rapid }
     ensures rule { IsGoing plan.now b.now result.n result.w_out }
     ensures some { 0 < result.n }
     ensures within { result.n ≤ left_of b.now }
+    ensures few { result.n ≤ count_of b.now plan.now.speed }
     ensures rapid { result.w_out ≤ squared b.now.geom.rapid }
 {
     let w = plan.speed();
@@ -105,13 +116,14 @@ fn going<const N: usize>(plan: &Plan<N>, b: &Block, nominal: u64) -> Stretch
 
 /// What is taken of the tail in mode Hold.
 #[inline]
-#[tactic(auto, using(crate::proofs::Sizes::some_rounded_up, plan_passes::proofs::Bounds::bounds_of, plan_passes::proofs::Bounds::rapid_small))]
+#[tactic(auto, using(crate::proofs::Sizes::some_rounded_up, plan_rules::proofs::Bounds::bounds_of, plan_rules::proofs::Bounds::rapid_small))]
 fn holding<const N: usize>(plan: &Plan<N>, b: &Block) -> Stretch
     requires tail { IsTail plan.now b.now }
     requires moves { 0 < plan.now.speed }
     ensures rule { IsHolding plan.now b.now result.n result.w_out }
     ensures some { 0 < result.n }
     ensures within { result.n ≤ left_of b.now }
+    ensures few { result.n ≤ count_of b.now plan.now.speed }
     ensures rapid { result.w_out ≤ squared b.now.geom.rapid }
 {
     let w = plan.speed();
@@ -136,6 +148,7 @@ pub(crate) fn next_stretch<const N: usize>(
     ensures rule { IfSome result (λ s. ByMode plan.now b.now mode s.n s.w_out) }
     ensures some { IfSome result (λ s. 0 < s.n) }
     ensures within { IfSome result (λ s. s.n ≤ left_of b.now) }
+    ensures few { IfSome result (λ s. s.n ≤ count_of b.now plan.now.speed) }
     ensures rapid { IfSome result (λ s. s.w_out ≤ squared b.now.geom.rapid) }
 {
     match mode {

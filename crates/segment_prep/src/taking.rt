@@ -2,11 +2,11 @@
 
 ghost use Rattle.std.specs.Prelude.{◌≡◌, ◌≤◌, ◌<◌, ◌⊎◌, ◌↔◌, [], length, IsNone, IfNone, IfSome, IsTrue};
 ghost use Rattle.step_line.specs.Pieces.{IsTraceable};
-ghost use Rattle.plan_passes.specs.Blocks.{IsBlock, left_of, squared};
-ghost use Rattle.plan_passes.specs.Plans.{IsReached, IsTail};
+ghost use Rattle.plan_rules.specs.Blocks.{IsBlock, left_of, squared};
+ghost use Rattle.plan_rules.specs.Plans.{IsReached, IsTail};
 ghost use Rattle.plan_passes.specs.Paces.{IsSteadyOf};
-ghost use Rattle.plan_passes.specs.Segments.{IsSegment, advanced, IsLegalStep, pace_of, cycles_of};
-ghost use Rattle.segment_prep.specs.Taking.{IsNext, nominal};
+ghost use Rattle.plan_rules.specs.Segments.{IsSegment, advanced, IsLegalStep, count_of, pace_of, cycles_of};
+ghost use Rattle.plan_rules.specs.Taking.{IsNext, nominal};
 
 use crate::Mode;
 use crate::pace::cycles;
@@ -23,6 +23,7 @@ fn segment_of(b: &Block, nominal: u64, w_in: u64, stretch: Stretch) -> Segment
     requires nominal { nominal ≤ b.now.geom.rapid }
     requires begins { w_in ≤ squared b.now.geom.rapid }
     requires ends { stretch.w_out ≤ squared b.now.geom.rapid }
+    requires few { stretch.n ≤ count_of b.now w_in }
     ensures segment { result ≡ record {
       line = b.now.line;
       mv = b.now.mv;
@@ -125,7 +126,7 @@ fn segment_at_pace<const N: usize>(plan: &Plan<N>, mode: Mode) -> Option<Segment
 
 /// The nominal speed of a plan's tail, in µm/s.
 #[inline]
-#[tactic(auto, using(crate::proofs::Sizes::tail_nominal, plan_passes::proofs::Bounds::bounds_of))]
+#[tactic(auto, using(crate::proofs::Sizes::tail_nominal, plan_rules::proofs::Bounds::bounds_of))]
 fn tail_nominal<const N: usize>(plan: &Plan<N>, tail: &Block, o: &Overrides) -> u64
     requires tail { IsTail plan.now tail.now }
     requires reached { IsReached plan.now }
@@ -137,7 +138,7 @@ fn tail_nominal<const N: usize>(plan: &Plan<N>, tail: &Block, o: &Overrides) -> 
 }
 
 /// The next segment of a plan, worked out. Where it is one at the tail's nominal speed the plan keeps its pace.
-#[tactic(auto, using(crate::proofs::Sizes::tail_nominal, plan_passes::proofs::Bounds::bounds_of))]
+#[tactic(auto, using(crate::proofs::Sizes::tail_nominal, plan_rules::proofs::Bounds::bounds_of))]
 fn segment_anew<const N: usize>(plan: &mut Plan<N>, o: &Overrides, mode: Mode) -> Option<Segment>
     requires same { 0 < length plan.old.blocks → o.now ≡ plan.old.overrides }
     ensures same { plan.new ≡ plan.old }

@@ -1,7 +1,7 @@
 use Rattle.std.proofs.Common.{◌≡◌, map, take}
 use Rattle.std.specs.List.{All}
 use Rattle.units.specs.Lengths.{IsPlace}
-use Rattle.gcode_check.specs.Effects.{steps3}
+use Rattle.travel_limits.specs.Reach.{steps3}
 use Rattle.gcode_check.proofs.effects.stops.Given as goal
 
 -- the points so far, in steps

@@ -1,5 +1,5 @@
 use Rattle.std.proofs.Common.{◌∙◌, ap, sym}
-use Rattle.gcode_check.specs.Effects.{steps3}
+use Rattle.travel_limits.specs.Reach.{steps3}
 use Rattle.gcode_check.specs.Laws.{moves_axes}
 use Rattle.gcode_check.specs.declared.Accept.{Accept as Accepted}
 use Rattle.gcode_check.proofs.Causes.{is_accepted}

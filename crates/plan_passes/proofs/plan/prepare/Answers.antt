@@ -1,5 +1,5 @@
 use Rattle.std.proofs.Common.{drop, arith}
-use Rattle.plan_passes.proofs.Bounds.{prepared_small}
+use Rattle.plan_rules.proofs.Bounds.{prepared_small}
 use Rattle.plan_passes.proofs.plan.prepare.Goals as goal
 
 pub overflow_add-tail : goal.overflow_add-tail

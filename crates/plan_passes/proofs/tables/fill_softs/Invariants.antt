@@ -1,5 +1,5 @@
 use Rattle.std.proofs.Common.{◌≡◌, take, length}
-use Rattle.plan_passes.specs.Blocks.{softs_of}
+use Rattle.plan_rules.specs.Blocks.{softs_of}
 use Rattle.plan_passes.proofs.tables.fill_softs.Given as goal
 
 abbrev pub invariant-loop-i : goal.invariant-loop-i

@@ -1,5 +1,5 @@
 use Rattle.std.proofs.Common.{◌≡◌, ◌+◌, ◌-◌, get_or, take, arith, ap, sym, subst, ◌∙◌}
-use Rattle.plan_passes.specs.Blocks.{softs_of}
+use Rattle.plan_rules.specs.Blocks.{softs_of}
 use Rattle.plan_passes.proofs.Filling.{standing, soft_filled, soft_last}
 use Rattle.plan_passes.proofs.tables.put_soft.Goals as goal
 

@@ -1,5 +1,5 @@
 use Rattle.std.proofs.Common.{arith}
-use Rattle.plan_passes.proofs.Bounds.{rapid_small}
+use Rattle.plan_rules.proofs.Bounds.{rapid_small}
 use Rattle.segment_prep.proofs.Sizes.{square_le}
 use Rattle.segment_prep.proofs.taking.is_at_pace.Goals as goal
 

@@ -1,5 +1,5 @@
 use Rattle.std.proofs.Common.{refl, ap, ◌∙◌, rules}
-use Rattle.plan_passes.specs.Blocks.{squared}
+use Rattle.plan_rules.specs.Blocks.{squared}
 use Rattle.segment_prep.proofs.Taken.{is_segment, is_next, pace_kept}
 use Rattle.segment_prep.proofs.taking.segment_anew.Goals as goal
 

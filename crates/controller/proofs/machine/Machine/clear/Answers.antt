@@ -1,5 +1,5 @@
 use Rattle.std.proofs.Common.{ap}
-use Rattle.plan_passes.specs.Plans.{Planned}
+use Rattle.plan_rules.specs.Plans.{Planned}
 use Rattle.controller.proofs.Machining.{cleared_runs}
 use Rattle.controller.proofs.machine.Machine.clear.Goals as goal
 

@@ -1,7 +1,7 @@
 use Rattle.std.proofs.Common.{◌*◌, arith, w32, rules}
 use Rattle.std.proofs.lemmas.Int.{to_z-of_z}
 use mir.Val.{SFits}
-use Rattle.step_line.specs.Counting.{events_of}
+use Rattle.units.specs.Counting.{events_of}
 use Rattle.line_geom.proofs.Lines.{line_le, main_of}
 use Rattle.line_geom.proofs.measure.Line.of.Goals as goal
 

@@ -1,8 +1,8 @@
 use Rattle.std.proofs.Common.{◌≡◌, ℕ, ◌+◌, ◌<◌, length, refl, arith, rules, ap, sym, subst, ◌∙◌}
 use Rattle.std.proofs.lemmas.List.{length_push}
-use Rattle.plan_passes.specs.Plans.{Planned}
+use Rattle.plan_rules.specs.Plans.{Planned}
 use Rattle.plan_passes.proofs.Filling.{gaps_before, softs_before, row_small}
-use Rattle.plan_passes.proofs.Reached.{fresh_block, added_reached}
+use Rattle.plan_rules.proofs.Reached.{fresh_block, added_reached}
 use Rattle.plan_passes.proofs.Kept.{kept_anew}
 use Rattle.plan_passes.proofs.Onward.{onward_more, onward_before}
 use Rattle.plan_passes.proofs.Paces.{pace_added}

@@ -1,9 +1,9 @@
 use Rattle.std.proofs.Common.{◌≤◌, length, get_or, arith, rules, ap, sym, subst}
 use Rattle.profile.specs.Profiles.{distance}
-use Rattle.plan_passes.specs.Plans.{Planned, IsReached}
-use Rattle.plan_passes.specs.Segments.{IsSegment}
+use Rattle.plan_rules.specs.Plans.{Planned, IsReached}
+use Rattle.plan_rules.specs.Segments.{IsSegment}
 use Rattle.plan_passes.proofs.Filling.{row_small}
-use Rattle.plan_passes.proofs.Reached.{moved_reached, length-moved, legal_step, segment_some, segment_within}
+use Rattle.plan_rules.proofs.Reached.{moved_reached, length-moved, legal_step, segment_some, segment_within}
 use Rattle.plan_passes.proofs.Kept.{kept_anew, kept_on, tabled_moved}
 use Rattle.plan_passes.proofs.Onward.{onward_anew}
 use Rattle.plan_passes.proofs.Paces.{pace_moved}
@@ -63,8 +63,8 @@ invariant_of-self g c =
           c.put_first.new.gaps c.put_first.new.softs c.put_first.ensures.planned_left c.put_first.ensures.planned_gone
           c.point_behind-self-inside.ensures.left c.point_behind-self-inside.ensures.gone
           p.ring c.prepare-gap.new.ring kept segment now c.prepare-gap.ensures.gap reach tabled,
-      pace_moved p.speed c.args.n c.args.w c.prepare-gap.result p.overrides p.pace c.pace_behind-self-inside.result p.ring c.prepare-gap.new.ring
-          c.pace_behind-self-inside.ensures.left c.pace_behind-self-inside.ensures.gone kept.reached segment now c.prepare-gap.ensures.gap c.self.invariant.1,
+      pace_moved p.speed c.args.n c.args.w c.prepare-gap.result p.overrides p.pace c.pace_behind.new.kept p.ring c.prepare-gap.new.ring
+          c.pace_behind.ensures.left c.pace_behind.ensures.gone kept.reached segment now c.prepare-gap.ensures.gap c.self.invariant.1,
     )
 
 pub invariant_of-self-2 : goal.invariant_of-self-2
@@ -83,8 +83,8 @@ invariant_of-self-2 g c =
       kept_anew g.row.N c.args.w c.len-count.result c.plan_from-self-inside.result c.prepare-gap.new.ring p.overrides c.plan_from-self-inside.new.speeds c.put_first.new.gaps
           c.put_first.new.softs kept.some kept.few (omega (arith, kept.room, fewer, many)) reached tabled c.len-count.ensures.len
           c.plan_from-self-inside.ensures.planned c.plan_from-self-inside.ensures.settled c.plan_from-self-inside.ensures.none,
-      pace_moved p.speed c.args.n c.args.w c.prepare-gap.result p.overrides p.pace c.pace_behind-self-inside.result p.ring c.prepare-gap.new.ring
-          c.pace_behind-self-inside.ensures.left c.pace_behind-self-inside.ensures.gone kept.reached segment now c.prepare-gap.ensures.gap c.self.invariant.1,
+      pace_moved p.speed c.args.n c.args.w c.prepare-gap.result p.overrides p.pace c.pace_behind.new.kept p.ring c.prepare-gap.new.ring
+          c.pace_behind.ensures.left c.pace_behind.ensures.gone kept.reached segment now c.prepare-gap.ensures.gap c.self.invariant.1,
     )
 
 pub returns-then-abs_diff-gap-clause-legal : goal.returns-then-abs_diff-gap-clause-legal

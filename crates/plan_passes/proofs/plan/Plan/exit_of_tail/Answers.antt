@@ -1,6 +1,6 @@
 use Rattle.std.proofs.Common.{◌≡◌, ◌<◌, length, get_or, sym, subst, arith, ◌∙◌}
-use Rattle.plan_passes.specs.Plans.{Planned, IsReached, profile_of}
-use Rattle.plan_passes.proofs.Reached.{plan_of, greatest_plan, exit_at}
+use Rattle.plan_rules.specs.Plans.{Planned, IsReached, profile_of}
+use Rattle.plan_rules.proofs.Reached.{plan_of, greatest_plan, exit_at}
 use Rattle.plan_passes.proofs.plan.Plan.exit_of_tail.Goals as goal
 
 pub returns-clause-profile : goal.returns-clause-profile

@@ -1,5 +1,5 @@
 use Rattle.std.proofs.Common.{arith, rules, subst}
-use Rattle.plan_passes.specs.Plans.{Planned, IsLastPoint}
+use Rattle.plan_rules.specs.Plans.{Planned, IsLastPoint}
 use Rattle.plan_passes.proofs.Filling.{row_small}
 use Rattle.plan_passes.proofs.Kept.{last_point}
 use Rattle.plan_passes.proofs.Onward.{onward_anew}

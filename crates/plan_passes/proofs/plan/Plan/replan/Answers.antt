@@ -1,6 +1,6 @@
 use Rattle.std.proofs.Common.{arith, rules, refl}
 use Rattle.plan_passes.proofs.Filling.{row_small}
-use Rattle.plan_passes.proofs.Reached.{reached_replanned}
+use Rattle.plan_rules.proofs.Reached.{reached_replanned}
 use Rattle.plan_passes.proofs.Kept.{kept_anew}
 use Rattle.plan_passes.proofs.Onward.{onward_anew}
 use Rattle.plan_passes.proofs.Paces.{no_pace}

@@ -1,5 +1,5 @@
 use Rattle.std.proofs.Common.{◌<◌, length, get_or, refl, arith, ap, sym, subst, ◌∙◌}
-use Rattle.plan_passes.specs.Plans.{Planned, exit_of}
+use Rattle.plan_rules.specs.Plans.{Planned, exit_of}
 use Rattle.plan_passes.specs.Paces.{IsPaceOfTail}
 use Rattle.plan_passes.proofs.Paces.{steady_is}
 use Rattle.plan_passes.proofs.plan.Plan.steady.Goals as goal

@@ -1,6 +1,6 @@
 use Rattle.std.proofs.Common.{IfSome, subst}
-use Rattle.plan_passes.specs.Plans.{Planned, IsTail}
-use Rattle.plan_passes.proofs.Reached.{plan_of, tail_if}
+use Rattle.plan_rules.specs.Plans.{Planned, IsTail}
+use Rattle.plan_rules.proofs.Reached.{plan_of, tail_if}
 use Rattle.plan_passes.proofs.plan.Plan.tail.Goals as goal
 
 pub returns-clause-some : goal.returns-clause-some

@@ -1,14 +1,15 @@
 use Rattle.std.proofs.Common.{◌≡◌, ◌≢◌, ◌⊎◌, inl, inr}
+use Rattle.std.proofs.lemmas.Bool.{cases_eq}
 use Rattle.planner_ring.proofs.Lent.{lent_back, none_where, some_where}
 use Rattle.planner_ring.proofs.ring.Ring.tail_mut.Goals as goal
-use Rattle.planner_ring.proofs.ring.Ring.tail_mut.Goals.{then-self, else-self}
 
 pub returns : goal.returns
 returns g c =
     let r = c.self.inside in
-    let place = c.if-self.place in
+    let place = c.first_place-place.result in
+    let is = c.first_place-place.ensures in
     let asked : ((r.tail ≡ r.free) × (place ≡ g.row.N)) ⊎ ((r.tail ≢ r.free) × (place ≡ r.tail)) =
-    elim c.if-self.branch [ then-self w ↦ inl (w.if-self.true, w.place-is) | else-self w ↦ inr (w.if-self.false, w.place-is) ] in (
+    elim (cases_eq r.tail r.free) [ inl same ↦ inl (same, is.none same) | inr apart ↦ inr (apart, is.some apart) ] in (
       lent_back g.row.N r.tail r.free place r.slots.items c.args.self.now c.self.invariant c.self.view_is asked c.get_mut.result c.get_mut.ensures.variant,
       record {
         writes_back = tt;

@@ -1,0 +1,4 @@
+pub mod Bounds
+pub mod Junctions
+pub mod Reached
+pub mod Joins

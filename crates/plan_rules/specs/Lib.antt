@@ -1,0 +1,5 @@
+pub mod Blocks
+pub mod Plans
+pub mod Segments
+pub mod Taking
+pub mod Joining

@@ -1,0 +1,21 @@
+use Rattle.std.proofs.Common.{◌∷◌, ◌∙◌, inl, refl, sym}
+use Rattle.pulse_engine.specs.Logs.PieceEvent.{got}
+use Rattle.pulse_engine.proofs.Moves.{seen, hand_is_empty, gone_none, may_get, fits_got}
+use Rattle.pulse_engine.proofs.pulse.Pulse.turn_between.Goals as goal
+
+pub returns-clause-logs : goal.returns-clause-logs
+returns-clause-logs g c rest h k stands fits =
+    let i = c.self.inside in
+    let p = c.args.self.now in
+    let x = c.in-Some.piece in
+    let was = seen i.hand i.tracer i.left i.owes i.over p c.self.view_is in
+    let waits = c.requires.between.0 in
+    let owes = c.requires.between.1 in
+    let empty = hand_is_empty i.hand i.tracer i.left (sym was.0 ∙ waits) in
+    let now = c.begin.ensures in (
+      got x ∷ h,
+      c.in-Some.ensures.some rest h stands (may_get p h k waits owes fits),
+      fits_got p _ i.tracer h k x waits owes (was.2 ∙ c.if-self.false) (was.3 ∙ gone_none i.tracer i.left empty.1)
+          now.waiting (sym was.1 ∙ owes) c.if-self.false now.reached (c.in-Some.ensures.next rest h stands (may_get p h k waits owes fits)) fits,
+      inl (x, refl, refl),
+    )
