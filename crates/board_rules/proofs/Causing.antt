@@ -28,12 +28,6 @@ use Rattle.board_rules.proofs.Standing.{stands, Rested, calm_on, rest_later, res
 
 -- ---- queued blocks of a jog start before a line is begun
 
-last_of_four : (a b d e : Bool) → e ≡ true → ((a || (b || (d || e))) || false) ≡ true
-last_of_four true b d e is = refl
-last_of_four false true d e is = refl
-last_of_four false false true e is = refl
-last_of_four false false false e is = ap (λ (x : Bool). x || false) is
-
 or_left : (a b : Bool) → (a || b) ≡ false → a ≡ false
 or_left true b none = absurd cc
 or_left false b none = refl

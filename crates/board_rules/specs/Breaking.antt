@@ -17,15 +17,15 @@ use Rattle.board_rules.specs.Steps.Step.{at_port, turned}
 use Rattle.board_rules.specs.Turns.{this_turn, publishing, lacks_reply_room, lacks_piece_room}
 use Rattle.board_rules.specs.Conduct.{Conducted, IsFinished}
 
--- What a board has done: it goes on; or a reset has ended its run behind a journal, and since then it has done what another one
--- tells. What was planned, in hand, asked for or to be told then is dropped.
+-- What a board has done: it goes on; or a reset has ended its run after a journal, and a second one has what it has
+-- done since. What was planned, in hand, asked for or to be sent then is dropped.
 pub data Doings : Type 0 where
   goes : Journal → Doings
   broke : (since before : Journal) → Doings
 
--- ---- behind a reset
+-- ---- after a reset
 
--- how far the end of the run is: the end is to be published, Bye is to be told, or all is done
+-- how far the end of the run is: the end is to be published, Bye is to be sent, or all is done
 pub data Ending : Type 0 where
   publishes_end : Ending
   tells_bye : Ending
@@ -48,11 +48,12 @@ abbrev pub ending_by : Step → Ending → Ending
 ending_by (at_port s) e = ending_at s e
 ending_by s e = e
 
+-- how far the end is, once so much was done since the reset
 abbrev pub ending_of : Journal → Journal → Ending
 ending_of [] before = first_ending before
 ending_of (s ∷ since) before = ending_by s (ending_of since before)
 
--- The end is published, and then Bye is told; either may be handed back.
+-- The end is published, and then Bye is sent; either may be handed back.
 abbrev pub MayEndAtPort : PortStep → Ending → PortLog → Type 0
 MayEndAtPort (published p) e l = (e ≡ publishes_end) × (p ≡ pieces.End)
 MayEndAtPort (no_piece_room done) e l = (e ≡ publishes_end) × LacksPieceRoom done l
@@ -60,7 +61,7 @@ MayEndAtPort (answered r) e l = (e ≡ tells_bye) × (r ≡ Bye)
 MayEndAtPort no_reply_room e l = e ≡ tells_bye
 MayEndAtPort s e l = ⊥
 
--- A turn publishes one thing, or waits for room where it found none; it is done where all is.
+-- A turn publishes one thing, or waits for room if it found none; it is done if all is.
 abbrev pub MayEndTurn : Turn → Journal → Ending → Type 0
 MayEndTurn Did since e = count_by publishing (this_turn since) ≡ 1
 MayEndTurn (Wait on.SegmentRoom) since e = list_any lacks_piece_room (this_turn since) ≡ true
@@ -68,16 +69,18 @@ MayEndTurn (Wait on.ReplyRoom) since e = list_any lacks_reply_room (this_turn si
 MayEndTurn (Wait o) since e = ⊥
 MayEndTurn Done since e = (e ≡ over) × (this_turn since ≡ [])
 
+-- the rule of each kind of step after a reset
 abbrev pub MayEndStep : Step → Journal → Journal → Type 0
 MayEndStep (at_port s) since before = MayEndAtPort s (ending_of since before) (port_log since ++ port_log before)
 MayEndStep (turned t) since before = MayEndTurn t since (ending_of since before)
 MayEndStep s since before = ⊥
 
+-- after a reset the end is published, unless it is already, and Bye is sent, and nothing else
 abbrev pub EndsRun : Journal → Journal → Type 0
 EndsRun [] before = Unit {0}
 EndsRun (s ∷ since) before = MayEndStep s since before × EndsRun since before
 
--- The run is ended between two turns, once a word that asks for a reset was taken, unless Bye is told already.
+-- The run is ended between two turns, once a word that asks for a reset was taken, unless Bye is sent already.
 pub record MayBreakOff (h : Journal) : Type 0 where
   pub reset : has_reset_in (port_log h) ≡ true
   pub between : this_turn h ≡ []
@@ -95,15 +98,12 @@ abbrev pub HasEnded : Doings → Type 0
 HasEnded (goes h) = IsFinished h
 HasEnded (broke since before) = ending_of since before ≡ over
 
-abbrev pub is_broken : Doings → Bool
-is_broken (goes h) = false
-is_broken (broke since before) = true
-
 -- what it did at its port
 abbrev pub log_of : Doings → PortLog
 log_of (goes h) = port_log h
 log_of (broke since before) = port_log since ++ port_log before
 
+-- the same as of a journal
 abbrev pub taken_of : Doings → List ℕ
 taken_of d = taken_in (log_of d)
 
@@ -119,7 +119,7 @@ published_of d = published_in (log_of d)
 abbrev pub known_of : Doings → ℕ
 known_of d = known_in (log_of d)
 
--- the steps behind the last turn's end
+-- the steps after the last turn's end
 abbrev pub turn_of : Doings → Journal
 turn_of (goes h) = this_turn h
 turn_of (broke since before) = this_turn since

@@ -93,6 +93,7 @@ IsInHand p h = hand_of h ≡ p ∷ drop 1 (hand_of h)
 abbrev pub OwesNone : Journal → Type 0
 OwesNone h = owes_report h ≡ false
 
+-- the ticks of the pieces given, and of those published
 abbrev pub ticks_given : Journal → ℕ
 ticks_given h = ticks_together (given_of h)
 
@@ -105,10 +106,10 @@ pub record IsDrained (h : Journal) : Type 0 where
   pub hand : hand_of h ≡ []
   pub done : known_of h ≡ ticks_given h
 
--- ---- what is said at the port
+-- ---- what is done at the port
 
--- The next byte is polled for: nothing is left to do, no line waits to be begun, the run is not being closed, and no line has
--- raised an alarm.
+-- The next byte is polled for: nothing is left to do, no line waits to be begun, the run is not being closed, and no
+-- line has raised an alarm.
 pub record MayPoll (h : Journal) : Type 0 where
   pub calm : has_alarmed h ≡ false
   pub all_done : left_of h ≡ []
@@ -128,13 +129,13 @@ pub record MayTell (r : Reply) (h : Journal) : Type 0 where
   pub unowed : OwesNone h
   pub empty : r ≡ Bye → hand_of h ≡ []
 
--- A word of requests is taken once the last one is obeyed. Fewer than 2 ^ 31 that ask for a report were taken before one that
--- does, as the port promises.
+-- A word of requests is taken once the last one is obeyed. Fewer than 2 ^ 31 that ask for a report were taken before
+-- one that does, as the port promises.
 pub record MayTakeRequests (word : Exec) (h : Journal) : Type 0 where
   pub obeyed : unobeyed_of h ≡ []
   pub few : asks_report word ≡ true → HasFewReports (port_log h)
 
--- a piece is handed back where the port has no room, as it promises
+-- a piece is handed back if the port has no room, as it promises
 pub record MayKeep (done : ℕ) (h : Journal) : Type 0 where
   pub some : (hand_of h ≡ []) → ⊥
   pub full : LacksPieceRoom done (port_log h)
@@ -146,12 +147,12 @@ pub record MayGoOn (h : Journal) : Type 0 where
   pub goes : is_going (motion_of h) ≡ true
   pub empty : hand_of h ≡ []
 
--- and such that the machine slows down, while it is to be held, or its jogs are cancelled
+-- a segment is taken so that the machine slows down, while it is to be held, or its jogs are cancelled
 pub record MaySlowDown (h : Journal) : Type 0 where
   pub slows : is_stopping (motion_of h) ≡ true
   pub empty : hand_of h ≡ []
 
--- A word that changes overrides was just taken: it is planned for what these come to.
+-- A word that changes overrides was just taken: it is planned for the overrides that these give.
 pub record AreChanged (o : Overrides) (h : Journal) : Type 0 where
   pub word : Ovr
   pub earlier : PortLog
@@ -159,6 +160,7 @@ pub record AreChanged (o : Overrides) (h : Journal) : Type 0 where
   pub some : has_changes word ≡ true
   pub taken : o ≡ taken (plan_of h).overrides word
 
+-- a mark is made with an empty hand, if it is next
 pub record MayMark (t : Task) (h : Journal) : Type 0 where
   pub next : IsNextTask t h
   pub empty : hand_of h ≡ []
@@ -184,8 +186,8 @@ MayDo Reset h = ⊥
 abbrev pub Gives : Action → List Piece → Planned → Type 0
 Gives a ps p = Plans most_blocks p (a ∷ []) ps (behind a ps p)
 
--- the end is made where nothing is left to run, each tick is done, and the machine stands, also in alarm; and only by closing the
--- run
+-- the end is made when nothing is left to run, each tick is done, and the machine stands, also in alarm; and only by
+-- closing the run
 pub record MayEnd (h : Journal) : Type 0 where
   pub next : IsNextTask finish h
   pub drained : IsDrained h
@@ -194,19 +196,19 @@ pub record MayEnd (h : Journal) : Type 0 where
 
 -- ---- the motion
 
--- it slowed down to a stop, with nothing in hand
+-- the machine slowed down to a stop, with nothing in hand
 pub record HasSlowedDown (h : Journal) : Type 0 where
   pub slows : is_stopping (motion_of h) ≡ true
   pub speed : (plan_of h).speed ≡ 0
   pub empty : hand_of h ≡ []
 
--- and each tick that was given is done
+-- that, and each tick that was given is done
 pub record IsStopped (h : Journal) : Type 0 where
   pub slowed : HasSlowedDown h
   pub done : known_of h ≡ ticks_given h
 
--- Jogs that were cancelled are cut, once for each cancel: the machine has stopped, as a load in this turn told. The cut has the
--- number of the lines that were begun. No line has raised an alarm.
+-- Jogs that were cancelled are cut, once for each cancel: the machine has stopped, as a load in this turn showed. The
+-- cut has the number of the lines that were begun. No line has raised an alarm.
 pub record MayCut (k : ℕ) (h : Journal) : Type 0 where
   pub calm : has_alarmed h ≡ false
   pub cancelled : motion_of h ≡ motions.Cancelling
@@ -235,10 +237,10 @@ pub record MayStop (h : Journal) : Type 0 where
   pub cut_is : motion_of h ≡ motions.Cancelling → has_cut h ≡ true
   pub load : motion_of h ≡ motions.Cancelling → list_any loads (this_turn h) ≡ true
 
--- A word of requests was taken, while blocks are queued or none is. A report is told before, if it asks for one, or
--- finds no room. A machine that slowed down was looked after in this turn, and is held already where each tick is done,
--- so that the word may resume it; or its jogs are cut, and it stands. A jog that is to start does so before, and a machine that is
--- to be halted slows down by then, so that no hold comes before its alarm.
+-- A word of requests was taken, while blocks are queued or none is. A report is sent before, if it asks for one, or
+-- finds no room. In this turn the board looked whether a machine that slowed down has stopped: it is held already if
+-- each tick is done, so that the word may resume it; or its jogs are cut, and it stands. A jog that is to start does so
+-- before, and a machine that is to be halted slows down by then, so that no hold comes before its alarm.
 pub record MayObey (word : Exec) (queued : Bool) (h : Journal) : Type 0 where
   pub next : unobeyed_of h ≡ word ∷ []
   pub reported : owes_report h ≡ true → list_any lacks_reply_room (this_turn h) ≡ true
@@ -248,22 +250,22 @@ pub record MayObey (word : Exec) (queued : Bool) (h : Journal) : Type 0 where
   pub jog : has_jog_to_start h ≡ false
   pub halts : halts_next (left_of h) ≡ true → is_limited (motion_of h) ≡ true
 
--- queued blocks start the cycle, or a jog, where that is called for; where the machine is to be halted they are dropped, and do not
--- start
+-- queued blocks start the cycle, or a jog, if that is called for; if the machine is to be halted they are dropped, and
+-- do not start
 pub record MayStart (jog : Bool) (h : Journal) : Type 0 where
   pub goes : halts_next (left_of h) ≡ false
   pub blocks : has_blocks (plan_of h).blocks ≡ true
   pub called : starts_before_line h ≡ true
   pub jogs : has_jogged h ≡ jog
 
--- A line that was begun has raised an alarm: the machine is to be halted, and does not slow down for that yet. Where it runs it
--- slows down from here on, and where it stands it is in alarm at once.
+-- A line that was begun has raised an alarm: the machine is to be halted, and does not slow down for that yet. If it
+-- runs it slows down from here on, and if it stands it is in alarm at once.
 pub record MayLimit (h : Journal) : Type 0 where
   pub alarmed : has_alarmed h ≡ true
   pub next : IsNextTask halt h
   pub unlimited : is_limited (motion_of h) ≡ false
 
--- why it happens to the motion; a pause is a step of its own
+-- why something happens to the motion; a pause is a step of its own
 abbrev pub MayHappen : Call → Journal → Type 0
 MayHappen (on_start jog) h = MayStart jog h
 MayHappen on_drained h = IsDrained h
@@ -277,7 +279,7 @@ pub record MayPause (h : Journal) : Type 0 where
   pub rests : MayRest pause h
   pub held : after on_pause (motion_of h) ≡ Some motions.Held
 
--- At the end of a program, where the machine stands, it is planned for overrides of 100 percent.
+-- At the end of a program, when the machine stands, it is planned for overrides of 100 percent.
 pub record MayEven (h : Journal) : Type 0 where
   pub rests : MayRest normal h
   pub replans : Gives (Override normal_overrides) [] (plan_of h)
@@ -289,7 +291,7 @@ pub record AreWaiting (h : Journal) : Type 0 where
 
 -- ---- reports
 
--- the state of the motion, as reports tell it
+-- the state of the motion, as reports show it
 abbrev pub shown_as : Motion → Shown
 shown_as motions.Idle = shown.Idle
 shown_as motions.Run = shown.Run
@@ -304,14 +306,15 @@ shown_as motions.Alarm = shown.Alarm
 abbrev pub feed_of : ℕ → ℕ
 feed_of speed = root_of speed * 60 / 1000
 
--- the room that a report tells, where it tells any: for blocks of the plan, and for bytes of the link, by a load in this turn
+-- the room that a report shows, if it shows any: for blocks of the plan, and for bytes of the link, by a load in this
+-- turn
 abbrev pub IsRoom : Option (ℕ × ℕ) → Journal → Type 0
 IsRoom None h = Unit {0}
 IsRoom (Some (blocks, bytes)) h = (blocks + length (plan_of h).blocks ≡ most_blocks) × (list_any (finds_free bytes) (this_turn h) ≡ true)
 
--- A report is answered that a word asked for which was taken. In its turn the done ticks were loaded: the place is that
--- after these, on all axes; the cycle is over where nothing is left to run and each is done, and a machine that has
--- stopped is held, or its jogs are cut. The feed is 0 where each tick that was given is done.
+-- A report is answered for a word that was taken and asked for one. In its turn the done ticks were loaded: the place
+-- is that after these, on all axes; the cycle is over if nothing is left to run and each is done, and a machine that
+-- has stopped is held, or its jogs are cut. The feed is 0 if each tick that was given is done.
 pub record IsReportAt (first : State) (r : Report) (h : Journal) : Type 0 where
   pub owed : owes_report h ≡ true
   pub load : list_any loads (this_turn h) ≡ true
@@ -342,10 +345,10 @@ MayAtPort first (loaded done) h = MayBeDone done (port_log h)
 
 -- ---- the lines
 
--- A line that was taken whole is begun, once both words of flags were taken behind it, obeyed, and reported. In its
--- turn the done ticks were loaded, and the cycle is over where nothing is left to run and each is done. It becomes what it
--- does where the machine is found as it is. No line has raised an alarm; and where a segment was due since the line before, one
--- was tried to be published.
+-- A line that was taken whole is begun, once both words of flags were taken after it, obeyed, and reported. In its turn
+-- the done ticks were loaded, and the cycle is over if nothing is left to run and each is done. It becomes what it does
+-- with the machine as it is found (`Found`). No line has raised an alarm; and if a segment was due since the line
+-- before, one was tried to be published.
 pub record MayBegin (first : State) (o : Outcome) (h : Journal) : Type 0 where
   pub calm : has_alarmed h ≡ false
   pub free : left_of h ≡ []
@@ -361,8 +364,8 @@ pub record MayBegin (first : State) (o : Outcome) (h : Journal) : Type 0 where
   pub starts : AreWaiting h → starts_before_line h ≡ false
   pub tried : (missed_of h && is_due h) ≡ false
 
--- The run is closed where the link was found closed, and each line that was taken whole is begun and answered; or where one has
--- raised an alarm, and that is told.
+-- The run is closed if the link was found closed, and each line that was taken whole is begun and answered; or if one
+-- has raised an alarm, and the alarm is sent.
 pub record MayClose (h : Journal) : Type 0 where
   pub free : left_of h ≡ []
   pub going : closed_tells h ≡ []
@@ -371,10 +374,10 @@ pub record MayClose (h : Journal) : Type 0 where
 
 -- ---- the turns
 
--- What holds at the end of a turn: at most one thing was published; a move that is next is added unless the plan is full; no
--- queued block waits for a start that is called for; no more than five tries to publish stand behind the last poll; the word
--- of requests that was taken is obeyed, unless a report is told first; the plan is made anew for each change, once; and a machine
--- that is to be halted slows down for that, or stands in alarm.
+-- What holds at the end of a turn: at most one thing was published; a move that is next is added unless the plan is
+-- full; no queued block waits for a start that is called for; no more than five tries to publish come after the last
+-- poll; the word of requests that was taken is obeyed, unless a report is sent first; the plan is made anew for each
+-- change, once; and a machine that is to be halted slows down for that, or stands in alarm.
 pub record EndsTurn (h : Journal) : Type 0 where
   pub once : count_by publishing (this_turn h) ≤ 1
   pub adds : (m : PlannedMove) → IsNextTask (ask (a_move m)) h → is_full (plan_of h) ≡ true
@@ -391,8 +394,8 @@ pub record NeedsByte (h : Journal) : Type 0 where
   pub partial : whole_of h ≡ false
   pub unowed : OwesNone h
 
--- What is next waits for ticks that were found not to be done, since it waits for the motion, or since that slows down to a
--- stop.
+-- What is next waits for ticks that were found not to be done, as it waits for the motion, or the motion slows down to
+-- a stop.
 pub record NeedsMotion (h : Journal) : Type 0 where
   pub load : list_any loads (this_turn h) ≡ true
   pub undone : known_of h < ticks_published h
@@ -404,7 +407,7 @@ pub record NeedsResume (h : Journal) : Type 0 where
   pub unasked : list_any asks_no_start (this_turn h) ≡ true
   pub held_up : is_held_up h ≡ true
 
--- why it is waited for
+-- why the board waits
 abbrev pub Needs : On → Journal → Type 0
 Needs on.Byte h = NeedsByte h
 Needs on.ReplyRoom h = list_any lacks_reply_room (this_turn h) ≡ true
@@ -413,9 +416,9 @@ Needs on.Motion h = NeedsMotion h
 Needs on.Resume h = NeedsResume h
 Needs o h = ⊥
 
--- Something is waited for: there is a cause, nothing went on its way in this turn, both words of flags were taken since
--- anything was waited for last, and obeyed, and where a segment is due, one was tried to be published since the same
--- was. Where a report is owed, there was no room for it in this turn.
+-- Something is waited for: there is a cause, nothing went on its way in this turn, both words of flags were taken and
+-- obeyed since the last wait, and if a segment is due, the board tried to publish one since the last wait for the same.
+-- If a report is owed, there was no room for it in this turn.
 pub record Waits (o : On) (h : Journal) : Type 0 where
   pub ends : EndsTurn h
   pub cause : Needs o h
@@ -443,6 +446,7 @@ MayTurn Done h = IsOver h
 
 -- ---- all of it
 
+-- the rule of each kind of step
 abbrev pub MayStep : State → Step → Journal → Type 0
 MayStep first (at_port e) h = MayAtPort first e h
 MayStep first (began o) h = MayBegin first o h
@@ -456,6 +460,7 @@ MayStep first halted h = MayHalt h
 MayStep first closing h = MayClose h
 MayStep first (turned t) h = MayTurn t h
 
+-- each step of a journal might come when it came
 abbrev pub Conducted : State → Journal → Type 0
 Conducted first [] = Unit {0}
 Conducted first (s ∷ h) = MayStep first s h × Conducted first h

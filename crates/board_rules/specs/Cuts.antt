@@ -85,7 +85,7 @@ part_start (halted ∷ h) = part_start h
 part_start (closing ∷ h) = part_start h
 part_start (turned t ∷ h) = part_start h
 
--- the plan as it is behind what was done to it; a halt drops what is left of it, and nothing is done to it behind one
+-- the plan after what was done to it; nothing is done to it after a halt, which drops what is left of it
 abbrev pub part_plan : Journal → Planned
 part_plan [] = fresh_plan
 part_plan (at_port e ∷ h) = part_plan h
@@ -152,7 +152,7 @@ passed_of (halted ∷ h) = passed_of h
 passed_of (closing ∷ h) = passed_of h
 passed_of (turned t ∷ h) = passed_of h
 
--- how many ticks count of each line of the open part: behind a halt those that were given, the first ones
+-- how many ticks count of each line of the open part: after a halt those that were given, the first ones
 abbrev pub part_counts : Journal → List ℕ
 part_counts h = cond (has_halted h) (cut_to (ticks_together (part_given h)) (counts_asked (part_outcomes h))) (counts_asked (part_outcomes h))
 

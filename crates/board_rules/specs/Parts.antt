@@ -23,8 +23,8 @@ use Rattle.step_line.specs.declared.Piece.{Piece}
 use Rattle.step_line.specs.declared.Piece.TheVariants as pieces
 use Rattle.step_line.specs.declared.Record.TheVariants as kinds
 
--- A part that a cut has ended: the number of the cut; what became of its lines; the plan with which it began, what was done to
--- that, the pieces that it gave, and the plan that was cleared; and what was left to ask.
+-- A part that a cut has ended: the number of the cut; what became of its lines; the plan with which it began, what was
+-- done to that, the pieces that it gave, and the plan that was cleared; and what was left to ask.
 pub record Part : Type 0 where
   pub number : ℕ
   pub outcomes : List Outcome
@@ -34,9 +34,9 @@ pub record Part : Type 0 where
   pub plan : Planned
   pub dropped : List Asked
 
--- Such a part is a planner run from where the machine stood to where it has come to a stop, so that its heads are legal and a
--- cut may break a move off. What its lines ask for was done, or was left to ask; so the ticks that were given are the first of
--- those that the lines ask for, and the others are of jogs alone.
+-- Such a part is a planner run from where the machine stood to where it has come to a stop, so that its heads are legal
+-- and a cut may break a move off. What its lines ask for was done, or was left to ask; so the ticks that were given are
+-- the first of those that the lines ask for, and the others are of jogs alone.
 pub record IsCutPart (p : Part) : Type 0 where
   pub starts : IsStart p.start
   pub run : Plans most_blocks p.start p.actions p.given p.plan
@@ -46,10 +46,10 @@ pub record IsCutPart (p : Part) : Type 0 where
   pub ticks : ticks_of_all (asked_in p.outcomes) ≡ flat_map ticks_of p.given ++ (ticks_left p.plan ++ ticks_of_all p.dropped)
   pub jogs : LosesJogsAlone (ticks_together p.given) p.outcomes
 
--- The last part of a run that an alarm has ended: a planner run from where the machine stood to where it has come to a stop.
--- What its lines ask for was done, so the ticks that were given are the first of those that the lines ask for, and the others
--- are dropped; they hold all of the lines up to the last that settles. Its heads are legal up to the end, which may break a move
--- off.
+-- The last part of a run that an alarm has ended: a planner run from where the machine stood to where it has come to a
+-- stop. What its lines ask for was done, so the ticks that were given are the first of those that the lines ask for,
+-- and the others are dropped; they hold all of the lines up to the last that settles. Its heads are legal up to the
+-- end, which may break a move off.
 pub record IsHaltedPart (outcomes : List Outcome) (start : Planned) (actions : List Action) (given : List Piece) (plan : Planned) : Type 0 where
   pub starts : IsStart start
   pub run : Plans most_blocks start actions given plan
@@ -59,7 +59,7 @@ pub record IsHaltedPart (outcomes : List Outcome) (start : Planned) (actions : L
   pub ticks : ticks_of_all (asked_in outcomes) ≡ flat_map ticks_of given ++ ticks_left plan
   pub settled : length (ticks_of_all (asked_in (take (settled_to outcomes) outcomes))) ≤ ticks_together given
 
--- the plan behind these parts: the last one, cleared
+-- the plan after these parts: the last one, cleared
 abbrev pub plan_behind : NewestFirst Part → Planned
 plan_behind [] = fresh_plan
 plan_behind (p ∷ ps) = cleared p.plan
@@ -69,7 +69,7 @@ abbrev pub AreJoined : NewestFirst Part → Type 0
 AreJoined [] = Unit {0}
 AreJoined (p ∷ ps) = (p.start ≡ plan_behind ps) × AreJoined ps
 
--- nothing else disturbs them than a hold or a cancel, where there was one, and a change of overrides, where there was one
+-- nothing else disturbs them than a hold or a cancel, if there was one, and a change of overrides, if there was one
 abbrev pub AreDisturbedOnlyBy : Bool → Bool → NewestFirst Part → Type 0
 AreDisturbedOnlyBy slowed changed parts = AllByRecursion (λ p. DisturbedOnlyBy slowed changed p.actions) parts
 
@@ -95,7 +95,8 @@ abbrev pub passed_in : NewestFirst Part → List Passed
 passed_in [] = []
 passed_in (p ∷ ps) = passed_in ps ++ (map a_line p.outcomes ++ a_cut p.number (end_of (pieces_in ps ++ p.given)) ∷ [])
 
--- How many ticks count of each line: of a part's lines those that were given, the first ones, and the cut with the last line.
+-- How many ticks count of each line: of a part's lines those that were given, the first ones, and the cut with the last
+-- line.
 abbrev pub counts_in : NewestFirst Part → List ℕ
 counts_in [] = []
 counts_in (p ∷ ps) = counts_in ps ++ with_cut (cut_to (ticks_together p.given) (counts_asked p.outcomes))

@@ -15,6 +15,7 @@ use Rattle.step_line.specs.Finishing.{tick_count, ticks_together, unfinished, mo
 use Rattle.step_line.specs.Logs.{NewestFirst}
 use Rattle.step_line.specs.Ordering.{ComesNext}
 
+-- what a board does at its port
 pub data PortStep : Type 0 where
   took : ℕ → PortStep
   -- a poll found no byte; it found none, and the link closed
@@ -35,6 +36,7 @@ pub data PortStep : Type 0 where
   -- so many ticks were found done
   loaded : ℕ → PortStep
 
+-- all steps at the port, the latest first
 abbrev pub PortLog : Type 0
 PortLog = NewestFirst PortStep
 
@@ -42,7 +44,7 @@ PortLog = NewestFirst PortStep
 abbrev pub reset_byte : ℕ
 reset_byte = 0x18
 
--- what it is to answer with a reply
+-- the step of answering a reply
 abbrev pub said : Reply → PortStep
 said (replies.Report r) = reported r
 said r = answered r
@@ -53,6 +55,7 @@ abbrev pub taken_at : PortStep → List ℕ → List ℕ
 taken_at (took b) bytes = bytes ++ b ∷ []
 taken_at e bytes = bytes
 
+-- the bytes taken
 abbrev pub taken_in : PortLog → List ℕ
 taken_in [] = []
 taken_in (e ∷ l) = taken_at e (taken_in l)
@@ -71,6 +74,7 @@ answered_at (answered r) rs = rs ++ r ∷ []
 answered_at (reported r) rs = rs ++ replies.Report r ∷ []
 answered_at e rs = rs
 
+-- the replies answered
 abbrev pub answered_in : PortLog → List Reply
 answered_in [] = []
 answered_in (e ∷ l) = answered_at e (answered_in l)
@@ -150,6 +154,7 @@ abbrev pub published_at : PortStep → List Piece → List Piece
 published_at (published p) ps = ps ++ p ∷ []
 published_at e ps = ps
 
+-- the pieces published
 abbrev pub published_in : PortLog → List Piece
 published_in [] = []
 published_in (e ∷ l) = published_at e (published_in l)
@@ -165,38 +170,38 @@ known_in (e ∷ l) = known_at e (known_in l)
 
 -- ---- what a board owes
 
--- a reply may be answered: a line only where fewer lines were answered than were taken to their LF
+-- a reply may be answered: a line only if fewer lines were answered than were taken to their LF
 pub record MayAnswer (l : PortLog) (r : Reply) : Type 0 where
   pub line : is_answer r ≡ true → answers_in (answered_in l) < lfs_in (taken_in l)
   pub text : IsReply r
   pub few : length (answered_in l) < 2 ^ 62
 
--- a piece may be published: it may come behind those before it, and their ticks and its own are fewer than 2 ^ 62
+-- a piece may be published: it may come after those before it, and their ticks and its own are fewer than 2 ^ 62
 pub record MayPublish (l : PortLog) (p : Piece) : Type 0 where
   pub next : ComesNext (reverse (published_in l)) p
   pub few : ticks_together (published_in l) + tick_count p < 2 ^ 62
 
 -- ---- what a port promises
 
--- one byte more is taken: fewer than 2 ^ 31 were
+-- one more byte is taken: fewer than 2 ^ 31 were
 abbrev pub HasTakenFew : PortLog → Type 0
 HasTakenFew l = length (taken_in l) < 2 ^ 31
 
--- one report more is asked for: fewer than 2 ^ 31 were
+-- one more report is asked for: fewer than 2 ^ 31 were
 abbrev pub HasFewReports : PortLog → Type 0
 HasFewReports l = reports_in l < 2 ^ 31
 
--- a reply is handed back only where 16 that were answered may stand on the link
+-- a reply is handed back only if 16 that were answered may be on the link
 abbrev pub LacksReplyRoom : PortLog → Type 0
 LacksReplyRoom l = reply_room ≤ length (answered_in l)
 
--- a piece is handed back, while so many ticks are done, only where five pieces are unfinished
+-- a piece is handed back, while so many ticks are done, only if five pieces are unfinished
 pub record LacksPieceRoom (done : ℕ) (l : PortLog) : Type 0 where
   pub later : known_in l ≤ done
   pub full : unfinished (published_in l) done ≡ most_unfinished
 
--- So many ticks may be found done: no fewer than before, and no more than those of the published pieces, so that nothing is
--- done before it is published. At most five pieces are unfinished then.
+-- So many ticks may be found done: no fewer than before, and no more than those of the published pieces, so that
+-- nothing is done before it is published. At most five pieces are unfinished then.
 pub record MayBeDone (done : ℕ) (l : PortLog) : Type 0 where
   pub later : known_in l ≤ done
   pub below : done ≤ ticks_together (published_in l)

@@ -23,6 +23,7 @@ use Rattle.step_line.specs.Logs.{NewestFirst}
 use Rattle.board_rules.specs.Ports.{PortStep, PortLog, taken_in, has_closed_in, answered_in, published_in, known_in}
 use Rattle.board_rules.specs.Ports.PortStep.{took, answered, published}
 
+-- what a board does, at its port and by itself
 pub data Step : Type 0 where
   at_port : PortStep → Step
   -- the line that was taken whole is begun, and this becomes of it
@@ -35,7 +36,7 @@ pub data Step : Type 0 where
   evened : Step
   -- the machine is held for a pause
   paused : Step
-  -- something happens to the motion, whose state is this behind it
+  -- something happens to the motion, whose state is this after it
   became : Call → Motion → Step
   -- what is left of jogs that were cancelled is dropped, and this many lines were begun
   cut : ℕ → Step
@@ -46,9 +47,11 @@ pub data Step : Type 0 where
   -- a turn ends with this answer
   turned : Turn → Step
 
+-- all steps, the latest first
 abbrev pub Journal : Type 0
 Journal = NewestFirst Step
 
+-- the steps at the port alone
 abbrev pub port_log : Journal → PortLog
 port_log [] = []
 port_log (at_port e ∷ h) = e ∷ port_log h
@@ -63,6 +66,7 @@ port_log (halted ∷ h) = port_log h
 port_log (closing ∷ h) = port_log h
 port_log (turned t ∷ h) = port_log h
 
+-- what was done at the port, as `Ports` has it
 abbrev pub taken_of : Journal → List ℕ
 taken_of h = taken_in (port_log h)
 
@@ -185,7 +189,7 @@ without_asks (normal ∷ ts) = normal ∷ without_asks ts
 without_asks (finish ∷ ts) = finish ∷ without_asks ts
 without_asks (halt ∷ ts) = halt ∷ without_asks ts
 
--- What is left to do; at first the banner is told. A cut drops the move of a jog that waits for room.
+-- What is left to do; at first the banner is sent. A cut drops the move of a jog that waits for room.
 abbrev pub left_of : Journal → List Task
 left_of [] = tell Banner ∷ []
 left_of (at_port e ∷ h) = left_at e (left_of h)
@@ -262,7 +266,8 @@ given_of (halted ∷ h) = given_of h
 given_of (closing ∷ h) = given_of h
 given_of (turned t ∷ h) = given_of h
 
--- What the lines that were begun leave for the next. Behind a cut the position is where all pieces lead that were given.
+-- What the lines that were begun leave for the next. After a cut the position is the place to which all pieces given
+-- lead.
 abbrev pub before_of : State → Journal → Before
 before_of first [] = start first
 before_of first (at_port e ∷ h) = before_of first h
@@ -281,7 +286,7 @@ abbrev pub hand_at : PortStep → List Piece → List Piece
 hand_at (published p) ps = drop 1 ps
 hand_at e ps = ps
 
--- those of them that are not published yet
+-- the pieces that are given and not published yet
 abbrev pub hand_of : Journal → List Piece
 hand_of [] = []
 hand_of (at_port e ∷ h) = hand_at e (hand_of h)
@@ -296,7 +301,7 @@ hand_of (halted ∷ h) = hand_of h
 hand_of (closing ∷ h) = hand_of h
 hand_of (turned t ∷ h) = hand_of h
 
--- the plan behind an action that gives these pieces
+-- the plan after an action that gives these pieces
 abbrev pub behind : Action → List Piece → Planned → Planned
 behind (Add m) ps p = with_move p m
 behind (Override o) ps p = record p { overrides = o }
@@ -305,6 +310,7 @@ behind Clear ps p = cleared p
 behind Reset ps p = cleared p
 behind a ps p = p
 
+-- the plan that the actions leave
 abbrev pub plan_of : Journal → Planned
 plan_of [] = fresh_plan
 plan_of (at_port e ∷ h) = plan_of h

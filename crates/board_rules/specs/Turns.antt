@@ -25,7 +25,7 @@ use Rattle.board_rules.specs.Ports.PortStep.{took, found_empty, found_closed, fo
 use Rattle.board_rules.specs.Steps.{Step, Journal, port_log, open_of, whole_of, left_of, plan_of, motion_of}
 use Rattle.board_rules.specs.Steps.Step.{at_port, began, did, made_end, evened, paused, became, cut, halted, closing, turned}
 
--- the steps behind the last turn's end
+-- the steps after the last turn's end
 abbrev pub this_turn : Journal → Journal
 this_turn [] = []
 this_turn (at_port e ∷ h) = at_port e ∷ this_turn h
@@ -64,31 +64,38 @@ abbrev pub moving : Step → Bool
 moving (did (Add m) ps) = true
 moving s = passing s
 
+-- a step that ends a turn
 abbrev pub ends_turn : Step → Bool
 ends_turn (turned t) = true
 ends_turn _ = false
 
+-- a poll found the link empty
 abbrev pub found_nothing : Step → Bool
 found_nothing (at_port found_empty) = true
 found_nothing _ = false
 
+-- a poll found no byte: the link was empty, or closed
 abbrev pub found_none : Step → Bool
 found_none (at_port found_empty) = true
 found_none (at_port found_closed) = true
 found_none _ = false
 
+-- a reply was handed back
 abbrev pub lacks_reply_room : Step → Bool
 lacks_reply_room (at_port no_reply_room) = true
 lacks_reply_room _ = false
 
+-- a piece was handed back
 abbrev pub lacks_piece_room : Step → Bool
 lacks_piece_room (at_port (no_piece_room done)) = true
 lacks_piece_room _ = false
 
+-- the link had room for n bytes
 abbrev pub finds_free : ℕ → Step → Bool
 finds_free n (at_port (found_free free)) = nat_eq n free
 finds_free n _ = false
 
+-- the done ticks were loaded
 abbrev pub loads : Step → Bool
 loads (at_port (loaded done)) = true
 loads _ = false
@@ -136,12 +143,12 @@ abbrev pub takes_changes : Step → Bool
 takes_changes (at_port (took_ovr word)) = has_changes word
 takes_changes _ = false
 
--- it is planned for other overrides
+-- the plan is made for other overrides
 abbrev pub replans : Step → Bool
 replans (did (Override o) ps) = true
 replans _ = false
 
--- a word of requests is taken with which a machine that is held stays so
+-- a word of requests is taken that lets a held machine stay so
 abbrev pub asks_no_start : Step → Bool
 asks_no_start (at_port (took_exec word)) = not (asks word start_byte) || asks word hold_byte
 asks_no_start _ = false
@@ -215,13 +222,14 @@ abbrev pub halts_next : List Task → Bool
 halts_next (halt ∷ tasks) = true
 halts_next _ = false
 
--- What is next does not go on while the machine is held, or slows down for that: a line that was taken whole is not begun, a
--- move has no room in a full plan, and the motion is waited for.
+-- What is next does not go on while the machine is held, or slows down for that: a line that was taken whole is not
+-- begun, a move has no room in a full plan, and the motion is waited for.
 abbrev pub needs_motion : List Task → (whole full : Bool) → Bool
 needs_motion [] whole full = whole
 needs_motion (ask (a_move m) ∷ tasks) whole full = full
 needs_motion tasks whole full = awaits_motion tasks
 
+-- a block is in the plan
 abbrev pub has_blocks : List Block → Bool
 has_blocks [] = false
 has_blocks (b ∷ blocks) = true
@@ -245,20 +253,16 @@ has_jogged (halted ∷ h) = has_jogged h
 has_jogged (closing ∷ h) = has_jogged h
 has_jogged (turned t ∷ h) = has_jogged h
 
--- Queued blocks start the cycle in this turn: a poll found no byte, or the link closed; the plan is full; what is next waits
--- for the motion; or they are of a jog, which starts at once.
+-- Queued blocks start the cycle in this turn: a poll found no byte, or the link closed; the plan is full; what is next
+-- waits for the motion; or they are of a jog, which starts at once.
 abbrev pub starts_cycle : Journal → Bool
 starts_cycle h = list_any found_none (this_turn h) || (is_full (plan_of h) || (awaits_motion (left_of h) || has_jogged h))
 
--- they do also where a line is next that begins with `$`, before it is begun
+-- they do also if a line is next that begins with `$`, before it is begun
 abbrev pub starts_before_line : Journal → Bool
 starts_before_line h = starts_cycle h || (whole_of h && begins_with_dollar (open_of h))
 
 -- ---- the motion
-
-abbrev pub is_run : Motion → Bool
-is_run Run = true
-is_run _ = false
 
 -- how a line that is begun finds the machine
 abbrev pub machine_in : Motion → Machine
@@ -314,6 +318,7 @@ waits_to_jog m jogged some = false
 abbrev pub has_jog_to_start : Journal → Bool
 has_jog_to_start h = waits_to_jog (motion_of h) (has_jogged h) (has_blocks (plan_of h).blocks || has_moves (left_of h))
 
+-- a segment is due now
 abbrev pub is_due : Journal → Bool
 is_due h = has_segment (motion_of h) (plan_of h)
 
@@ -340,7 +345,7 @@ tries_at (published p) counted n = cond counted (n + 1) n
 tries_at (no_piece_room done) counted n = cond counted (n + 1) n
 tries_at e counted n = n
 
--- how often a piece was tried to be published since the last poll for a byte, while nothing was left to do, no report
+-- how many tries to publish a piece there were since the last poll for a byte, while nothing was left to do, no report
 -- was owed, and no line waited for a machine that is held, or slows down for that
 abbrev pub tries_of : Journal → ℕ
 tries_of [] = 0
@@ -356,7 +361,7 @@ tries_of (halted ∷ h) = tries_of h
 tries_of (closing ∷ h) = tries_of h
 tries_of (turned t ∷ h) = tries_of h
 
--- so many tries at most stand between two polls
+-- so many tries at most come between two polls
 abbrev pub most_tries : ℕ
 most_tries = 5
 
@@ -365,7 +370,7 @@ missed_at (published p) missed = false
 missed_at (no_piece_room done) missed = false
 missed_at e missed = missed
 
--- since the last line was begun, a segment was due at each turn's end, and none was tried to be published
+-- since the last line was begun, a segment was due at each turn's end, and there was no try to publish one
 abbrev pub missed_of : Journal → Bool
 missed_of [] = false
 missed_of (at_port e ∷ h) = missed_at e (missed_of h)
@@ -409,7 +414,7 @@ begun_at (published p) n = 0
 begun_at (no_piece_room done) n = 0
 begun_at e n = n
 
--- how many lines were begun since a piece was last tried to be published, and since no segment was due last
+-- how many lines were begun since the last try to publish a piece, and since no segment was due last
 abbrev pub begun_while_due : Journal → ℕ
 begun_while_due [] = 0
 begun_while_due (at_port e ∷ h) = begun_at e (begun_while_due h)
@@ -424,7 +429,7 @@ begun_while_due (halted ∷ h) = begun_while_due h
 begun_while_due (closing ∷ h) = begun_while_due h
 begun_while_due (turned t ∷ h) = cond (is_due h) (begun_while_due h) 0
 
--- what was waited for since a piece was last tried to be published, and since no segment was due last
+-- what was waited for since the last try to publish a piece, and since no segment was due last
 abbrev pub waits_while_due : Journal → List On
 waits_while_due [] = []
 waits_while_due (at_port e ∷ h) = waits_at e (waits_while_due h)

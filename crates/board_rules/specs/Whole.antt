@@ -18,15 +18,15 @@ use Rattle.board_rules.specs.Cuts.{counts_of}
 use Rattle.board_rules.specs.Turns.{this_turn, loads, has_blocks, is_going}
 use Rattle.board_rules.specs.Conduct.{IsDrained, ticks_given, ticks_published}
 
--- bytes that are taken: lines, each ended by LF, and the line that is not begun, with its LF where it was taken whole
+-- bytes that are taken: lines, each ended by LF, and the line that is not begun, with its LF if it was taken whole
 pub record AreLines (taken : List ℕ) (lines : List (List ℕ)) (raw : List ℕ) (whole : Bool) : Type 0 where
   pub bytes : taken ≡ ended lines ++ (raw ++ cond whole (10 ∷ []) [])
   pub each : AllByRecursion HasNoLf lines
   pub partial : HasNoLf raw
 
--- Where all is done, nothing is left in the plan or in hand, each line that was taken whole was begun, and the link was
--- found closed, or a line has raised an alarm. The end was given once, behind all that the plan gave, and each tick that was given
--- is done.
+-- If all is done, nothing is left in the plan or in hand, each line that was taken whole was begun, and the link was
+-- found closed, or a line has raised an alarm. The end was given once, after all that the plan gave, and each tick that
+-- was given is done.
 pub record IsSpent (h : Journal) : Type 0 where
   pub plan : IsAtRest (plan_of h)
   pub hand : hand_of h ≡ []
@@ -35,7 +35,7 @@ pub record IsSpent (h : Journal) : Type 0 where
   pub whole : whole_of h ≡ false
   pub closed : (has_closed h ≡ true) ⊎ (has_alarmed h ≡ true)
 
--- ---- where nothing has moved since the machine stood
+-- ---- while nothing has moved since the machine stood
 
 -- a move or a mark is asked for
 abbrev pub has_work : List Task → Bool
@@ -49,7 +49,7 @@ has_work (normal ∷ ts) = has_work ts
 has_work (finish ∷ ts) = has_work ts
 has_work (halt ∷ ts) = has_work ts
 
--- the machine is waited for, and no move or mark is asked for behind that
+-- the machine is waited for, and no move or mark is asked for after that
 abbrev pub comes_to_rest : List Task → Bool
 comes_to_rest [] = false
 comes_to_rest (ask a_rest ∷ ts) = cond (has_work ts) (comes_to_rest ts) true
@@ -61,7 +61,7 @@ comes_to_rest (normal ∷ ts) = comes_to_rest ts
 comes_to_rest (finish ∷ ts) = comes_to_rest ts
 comes_to_rest (halt ∷ ts) = comes_to_rest ts
 
--- What there is to do of a line brings the machine to rest where the line settles; and where it moves nothing, it does so or
+-- What there is to do of a line brings the machine to rest if the line settles; and if it moves nothing, it does so or
 -- gives the machine nothing to do.
 pub record WorkRests (o : Outcome) : Type 0 where
   pub settles : o.settles ≡ true → comes_to_rest o.work ≡ true
@@ -76,7 +76,7 @@ pub record IsQuiet (h : Journal) : Type 0 where
 abbrev pub ComesToRest : Journal → Type 0
 ComesToRest h = (comes_to_rest (left_of h) ≡ true) ⊎ IsQuiet h
 
--- A line is begun where the machine was found moving: it runs or jogs; the done ticks were loaded in this turn, and they
+-- A line is begun when the machine was found moving: it runs or jogs; the done ticks were loaded in this turn, and they
 -- were fewer than those of the published pieces, or an event is left to run: a block is queued, or a piece is in hand.
 pub record IsFoundMoving (h : Journal) : Type 0 where
   pub goes : is_going (motion_of h) ≡ true
@@ -103,7 +103,7 @@ course_of first h = record {
   changed = has_changed_in (port_log h);
 }
 
--- a load in this turn gave all ticks that are published as done, and all pieces that were given lead no further
+-- a load in this turn gave all ticks that are published as done, and no piece that was given leads further
 pub record IsKnown (h : Journal) : Type 0 where
   pub load : list_any loads (this_turn h) ≡ true
   pub known : known_of h ≡ ticks_published h

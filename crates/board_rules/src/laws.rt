@@ -114,10 +114,10 @@ ghost use Rattle.board_rules.specs.Turns.{
 };
 ghost use Rattle.board_rules.specs.Whole.{AreLines, IsSpent, OneByOne, WorkRests, ComesToRest, IsFoundMoving, IsKnown, has_any_moved};
 
-/// The bytes that a board has taken are its lines, and each line that it has begun is followed by what becomes of it.
-/// What it has answered, reports left out, and is still to tell, is what the lines tell, and Bye, once, where it is
-/// being closed; what was asked of the plan, and is still to be asked, is what they ask. No byte of a line is taken
-/// while a task of the line before is left. Where jogs are cut, what is asked is that since the last cut.
+/// The bytes that a board has taken are its lines, and each line that it has begun becomes what the rules say. What it
+/// has answered, reports left out, and has still to tell, is what the lines tell, and Bye, once, when the run is being
+/// closed; what was asked of the plan, and has still to be asked, is what they ask. No byte of a line is taken while a
+/// task of the line before is left. If jogs are cut, what is asked is that since the last cut.
 pub fn boards_keep_to_their_lines()
     ensures bytes { (first : State) (h : Journal) → Conducted first h → AreLines (taken_of h) (lines_of h) (open_of h) (whole_of h) }
     ensures follow { (first : State) (h : Journal) → Conducted first h → Follows true (start first) (lines_of h) (passed_of h) (before_of first h) }
@@ -128,9 +128,9 @@ pub fn boards_keep_to_their_lines()
     ensures one_by_one { (first : State) (h : Journal) → Conducted first h → closed_tells h ≡ [] → OneByOne (left_of h) (open_of h) (whole_of h) }
 {}
 
-/// Each line has one answer, but for one that raises an alarm: what was answered, what is still to be answered, the line that has
-/// raised an alarm, and the line that is taken whole and not begun, are the lines taken to their LF. So an answer that is next may
-/// be given.
+/// Each line has one answer, but for one that raises an alarm: what was answered, what is still to be answered, the
+/// line that has raised an alarm, and the line that is taken whole and not begun, are the lines taken to their LF. So
+/// an answer that is next may be given.
 pub fn boards_answer_each_line_once()
     ensures answers { (first : State) (h : Journal) → Conducted first h →
         answers_in (answered_of h) + answers_in (tells (left_of h)) + one_if (has_alarmed h) + cond (whole_of h) 1 0 ≡ lfs_in (taken_of h) }
@@ -138,8 +138,8 @@ pub fn boards_answer_each_line_once()
         answers_in (answered_of h) < lfs_in (taken_of h) }
 {}
 
-/// A board begins 2^31 lines at most, since its port gives no more bytes; so it gives fewer than 2^62 ticks, and answers
-/// fewer than 2^62 replies.
+/// A board begins 2^31 lines at most, since its port gives no more bytes; so it gives fewer than 2^62 ticks, and
+/// answers fewer than 2^62 replies.
 pub fn boards_do_a_bounded_amount()
     ensures lines { (first : State) (h : Journal) → Conducted first h → length (outcomes_of h) ≤ 2 ^ 31 }
     ensures ticks { (first : State) (h : Journal) → Conducted first h → ticks_given h < 2 ^ 62 }
@@ -147,12 +147,13 @@ pub fn boards_do_a_bounded_amount()
     ensures replies { (first : State) (h : Journal) → Conducted first h → length (answered_of h) < 2 ^ 62 }
 {}
 
-/// What a board does to its plan is a planner run; and so is what it has done since the last cut, from where nothing was left to
-/// run, to the plan as it is, or to what a halt has dropped. Only a word that asks for a hold or a cancel slows it down, or an
-/// alarm; and only a word that changes overrides, or the end of a program, plans it for others; before that they are at 100
-/// percent. Only cuts and halts take blocks away. Segments go on while the machine runs or jogs, and slow it down while it is being
-/// held, a jog is cancelled, or an alarm stops it. What was given is what the plan gave, and the end behind it where it was made; it
-/// is published, or in hand, and comes in turn, so that the piece in hand may be published.
+/// What a board does to its plan is a planner run; and so is what it has done since the last cut, from where nothing
+/// was left to run, to the plan as it is, or to what a halt has dropped. Only a word that asks for a hold or a cancel,
+/// or an alarm, slows it down; and only a word that changes overrides, or the end of a program, plans it for others;
+/// before that they are 100 percent. Only cuts and halts take blocks away. Segments go on while the machine runs or
+/// jogs, and slow it down while it is being held, a jog is cancelled, or an alarm stops it. What was given is what the
+/// plan gave, and the end after it if it was made; it is published, or in hand, and comes in turn, so that the piece in
+/// hand may be published.
 pub fn boards_run_their_plan()
     ensures run { (first : State) (h : Journal) → Conducted first h → IsPlannerRun (actions_of h) (planned_of h) (plan_of h) }
     ensures part { (first : State) (h : Journal) → Conducted first h → IsStart (part_start h) × Plans most_blocks (part_start h) (part_actions h) (part_given h) (part_plan h) }
@@ -172,19 +173,20 @@ pub fn boards_run_their_plan()
     ensures next { (first : State) (h : Journal) (p : AnyPiece) → Conducted first h → IsInHand p h → ComesNext (reverse (published_of h)) p }
 {}
 
-/// Each piece that is to be published begins where the ticks of the pieces before it lead, from the origin on: the moves of
-/// the lines join, and so do the blocks of the plan and the segments that it gives; behind a cut the next line begins there. So once some ticks of a segment that was
-/// published are done, and all before it, the machine is where so many events of the segment's move lead.
+/// Each piece that is to be published begins where the ticks of the pieces before it lead, from the origin on: the
+/// moves of the lines join, and so do the blocks of the plan and the segments that it gives; after a cut the next line
+/// begins there. So once some ticks of a published segment are done, and all before it, the machine is at the place to
+/// which so many events of the segment's move lead.
 pub fn boards_lead_the_machine()
     ensures next { (first : State) (h : Journal) (p : AnyPiece) → IsOpening first → Conducted first h → IsInHand p h → BeginsAt (end_of (published_of h)) p }
     ensures within { (first : State) (h : Journal) (early late : List AnyPiece) (s : AnySegment) (j : ℕ) → IsOpening first → Conducted first h →
         published_of h ≡ early ++ AnyPiece.Segment s ∷ late → j ≤ s.n → machine_at (published_of h) (ticks_together early + j) ≡ place_after s.mv (s.first + j) }
 {}
 
-/// Where no line, and no jog, has moved since the last line that settles, the machine stands or will be waited for; so where
-/// nothing is left to do, each tick that was given is done, and a machine that does not stand there has moved. What there
-/// is to do of a line brings the machine to rest where the line settles, and where it moves nothing it does so or gives the
-/// machine nothing to do.
+/// If no line, and no jog, has moved since the last line that settles, the machine stands or will be waited for; so if
+/// nothing is left to do, each tick that was given is done, and a machine that does not stand then has moved. What
+/// there is to do of a line brings the machine to rest if the line settles, and if it moves nothing it does so or gives
+/// the machine nothing to do.
 pub fn boards_stand_where_nothing_moved()
     ensures quiet { (first : State) (h : Journal) → Conducted first h → closed_tells h ≡ [] →
         has_any_moved (before_of first h) ≡ false → ComesToRest h }
@@ -196,9 +198,9 @@ pub fn boards_stand_where_nothing_moved()
     ensures motion { (first : State) (h : Journal) → Conducted first h → has_alarmed h ≡ false → (motion_of h ≡ Idle) ⊎ ((motion_of h ≡ Run) ⊎ ((motion_of h ≡ Holding) ⊎ ((motion_of h ≡ Held) ⊎ ((motion_of h ≡ Jog) ⊎ (motion_of h ≡ Cancelling))))) }
 {}
 
-/// While the machine runs, the last that was accepted of G-code and jogs is no jog, and a line of G-code has moved since the
-/// last line that settles, where a line is begun; in a jog it is one, and something has moved. So what becomes of a line
-/// where the machine is found so has its cause in the lines before.
+/// While the machine runs, the last that was accepted of G-code and jogs is no jog, and a line of G-code has moved
+/// since the last line that settles, when a line is begun; in a jog it is one, and something has moved. So what becomes
+/// of a line when the machine is found so has its cause in the lines before.
 pub fn boards_move_by_their_lines()
     ensures running { (first : State) (h : Journal) → Conducted first h → motion_of h ≡ Run → (before_of first h).jogged ≡ false }
     ensures jogging { (first : State) (h : Journal) → Conducted first h → motion_of h ≡ Jog → (before_of first h).jogged ≡ true }
@@ -206,15 +208,15 @@ pub fn boards_move_by_their_lines()
     ensures becomes { (first : State) (h : Journal) (o : Outcome) → Conducted first (began o ∷ h) → Becomes true (before_of first h) (open_of h) o }
 {}
 
-/// A line is refused for the machine's motion, with error 8 or 9, only where that was found moving: unless the line becomes
-/// the same wherever the machine stands, a load of the done ticks in its turn found fewer than are published where it is
-/// begun, or an event was left to run, in the plan or in hand.
+/// A line is refused for the machine's motion, with error 8 or 9, only if the machine was found moving. Unless the line
+/// becomes the same while the machine stands, a load of the done ticks in the turn that begins it found fewer than are
+/// published, or an event was left to run, in the plan or in hand.
 pub fn boards_refuse_only_while_they_move()
     ensures moving { (first : State) (h : Journal) (o : Outcome) → Conducted first (began o ∷ h) →
         (Becomes false (before_of first h) (open_of h) o → ⊥) → IsFoundMoving h }
 {}
 
-/// A board publishes one thing a turn at most, and between two turns no more than five tries to publish stand behind
+/// A board publishes one thing a turn at most, and between two turns no more than five tries to publish come after
 /// its last poll, while nothing was left to do, no report was owed, and no line waited for a machine that is held, or
 /// slows down for that. Each word of requests that was taken is obeyed once, in order, or is the last one: between two
 /// turns it waits only for a report that is owed. For each word that changes overrides the plan is made anew, once.
@@ -227,11 +229,12 @@ pub fn boards_take_turns()
     ensures changed { (first : State) (h : Journal) → Conducted first h → this_turn h ≡ [] → count_by replans h ≡ count_by takes_changes h }
 {}
 
-/// A line is begun once both words of flags were taken behind its LF, what they ask for is done, and no report is owed.
-/// Where anything is waited for, both were taken since the last wait, and obeyed. A word of requests lets a machine
-/// that is held stay so where it asks for no start, or for a hold. A machine that slows down is held, or in alarm, once it has
-/// stopped and each tick is done; and one whose jogs were cancelled stands then, once its jogs were cut. It is looked
-/// after before it obeys a word, so that a machine that has stopped is held by then, or its jogs are cut. A word is obeyed while a report is owed only where there was no room for it in that turn.
+/// A line is begun once both words of flags were taken after its LF, what they ask for is done, and no report is owed.
+/// When anything is waited for, both were taken since the last wait, and obeyed. A word of requests lets a machine that
+/// is held stay so if it asks for no start, or for a hold. A machine that slows down is held, or in alarm, once it has
+/// stopped and each tick is done; and one whose jogs were cancelled stands then, once its jogs were cut. The board
+/// looks for that before it obeys a word, so that a machine that has stopped is held by then, or its jogs are cut. A
+/// word is obeyed while a report is owed only if there was no room for it in that turn.
 pub fn boards_take_their_flags()
     ensures begun { (first : State) (h : Journal) (o : Outcome) → Conducted first (began o ∷ h) → (requests_taken h ≡ true) × (changes_taken h ≡ true) }
     ensures worked { (first : State) (h : Journal) (o : Outcome) → Conducted first (began o ∷ h) → (unobeyed_of h ≡ []) × (owes_report h ≡ false) }
@@ -247,7 +250,7 @@ pub fn boards_take_their_flags()
 {}
 
 /// Each report fits what was done before it: the place is that after the ticks that were found done in its turn, on all
-/// axes, and all else is of the same moment. A machine that has run out is not told as running, nor one that has
+/// axes, and all else is of the same moment. A machine that has run out is not reported as running, nor one that has
 /// stopped as slowing down. So it fits the whole run: the ticks that reports show never fall, they are at least those
 /// of the lines up to the last answered one that settles, and at most those of the next line; and a machine that
 /// nothing moves stands. For each word that asks for a report there is one at most.
@@ -258,12 +261,12 @@ pub fn boards_report_where_they_are()
     ensures few { (first : State) (h : Journal) → Conducted first h → reports_among (answered_of h) + cond (owes_report h) 1 0 ≤ reports_in (port_log h) }
 {}
 
-/// A turn that ends in a wait has a cause. For a byte: none was found, nothing is left to do, and no report is owed. For
-/// room for a reply: a reply is next, or a report is owed; and where one is owed, there was no room for it in that turn. For
-/// room for a segment: five of the published pieces are unfinished, while so many ticks are done. For motion: some of the
-/// published ticks were found not to be done, and what is next waits for them, or for the machine that is being held.
-/// For a resume: the machine is held, the word of requests that was taken lets it stay so, and what is next does not go
-/// on before. It waits for nothing else.
+/// A turn that ends in a wait has a cause. For a byte: none was found, nothing is left to do, and no report is owed.
+/// For room for a reply: a reply is next, or a report is owed; and if one is owed, there was no room for it in that
+/// turn. For room for a segment: five of the published pieces are unfinished, while so many ticks are done. For motion:
+/// some of the published ticks were found not to be done, and what is next waits for them, or for the machine that is
+/// being held. For a resume: the machine is held, the word of requests that was taken lets it stay so, and what is next
+/// does not go on before. It waits for nothing else.
 pub fn boards_wait_for_a_cause()
     ensures byte { (first : State) (h : Journal) → Conducted first (turned (Wait causes.Byte) ∷ h) → (left_of h ≡ []) × (whole_of h ≡ false) × (owes_report h ≡ false) }
     ensures reply_room { (first : State) (h : Journal) → Conducted first (turned (Wait causes.ReplyRoom) ∷ h) → (tells_next (left_of h) || owes_report h) ≡ true }
@@ -278,10 +281,10 @@ pub fn boards_wait_for_a_cause()
         (o ≡ causes.Byte) ⊎ ((o ≡ causes.ReplyRoom) ⊎ ((o ≡ causes.SegmentRoom) ⊎ ((o ≡ causes.Motion) ⊎ (o ≡ causes.Resume)))) }
 {}
 
-/// Between two turns a move that is next is added, unless the plan is full, and no queued block waits for a start that is
-/// called for: so a jog that a machine at rest was to carry out has started. While segments are due, one line at most is
-/// begun, and four turns at most end in a wait, between two tries to publish a piece: so the pulse is not left without
-/// segments by lines and replies.
+/// Between two turns a move that is next is added, unless the plan is full, and no queued block waits for a start that
+/// is called for: so a jog that a machine at rest was to carry out has started. While segments are due, one line at
+/// most is begun, and four turns at most end in a wait, between two tries to publish a piece: so the pulse is not left
+/// without segments by lines and replies.
 pub fn boards_keep_the_pulse_busy()
     ensures adds { (first : State) (h : Journal) (m : AnyMove) → Conducted first h → this_turn h ≡ [] → IsNextTask (ask (a_move m)) h → is_full (plan_of h) ≡ true }
     ensures starts { (first : State) (h : Journal) → Conducted first h → this_turn h ≡ [] → AreWaiting h → starts_cycle h ≡ false }
@@ -290,13 +293,14 @@ pub fn boards_keep_the_pulse_busy()
     ensures waits { (first : State) (h : Journal) → Conducted first h → length (waits_while_due h) ≤ 4 }
 {}
 
-/// Each part that a cut has ended holds the first ticks of its lines, and leaves out those of jogs alone; it is a planner run that has
-/// come to a stop, with legal heads, so that a cut may break a move off. Each begins with the plan that the cut before it has cleared. The parts hold all lines, all that was done to
-/// the plan, and all pieces that it gave. The number of each cut is that of the lines that were begun before it, and they
-/// rise. Each cancel has one cut, or has it to come, and each cut a word of its own that asks for a hold or a cancel. Where nothing
-/// is left to do or to run, all ticks are given of the lines behind the last cut, unless a halt has dropped some. Of each line
-/// those ticks count that it asks for, less those that a cut or a halt dropped, and the cut with the last line: all together, those
-/// that were given, that are left in the plan, and to ask.
+/// Each part that a cut has ended holds the first ticks of its lines, and leaves out those of jogs alone; it is a
+/// planner run that has come to a stop, with legal heads; a cut may break a move off. Each begins with the plan that
+/// the cut before it has cleared. The parts hold all lines, all that was done to the plan, and all pieces that it gave.
+/// The number of each cut is that of the lines that were begun before it, and these numbers rise. Each cancel has one
+/// cut, or has it to come, and each cut a word of its own that asks for a hold or a cancel. If nothing is left to do or
+/// to run, all ticks are given of the lines after the last cut, unless a halt has dropped some. Of each line those
+/// ticks count that it asks for, less those that a cut or a halt dropped; a cut counts with the last line before it.
+/// Together they are those that were given, that are left in the plan, and that are to be asked.
 pub fn cuts_lose_jogs_alone()
     ensures parts { (first : State) (h : Journal) → Conducted first h → AllByRecursion IsCutPart (parts_of h) }
     ensures starts { (h : Journal) → part_start h ≡ plan_behind (parts_of h) }
@@ -312,13 +316,14 @@ pub fn cuts_lose_jogs_alone()
     ensures counts { (first : State) (h : Journal) → Conducted first h → sum (counts_of h) ≡ ticks_given h + length (ticks_left (plan_of h)) + length (ticks_of_all (asks (left_of h))) }
 {}
 
-/// The lines that were begun, and the cuts, are passed part by part: each cut at the place to which all pieces before it lead.
+/// The lines that were begun, and the cuts, are passed part by part: each cut at the place to which all pieces before
+/// it lead.
 pub fn lines_follow_cuts()
     ensures { (first : State) (h : Journal) → Conducted first h → passed_of h ≡ passed_in (parts_of h) ++ map a_line (part_outcomes h) }
 {}
 
-/// A cut is made, and is published, and a cancel is over, each where a load in that turn gave all that is published as done; so the
-/// position behind a cut is where the machine is.
+/// A cut is made, or published, and a cancel is over, only in a turn whose load gave all that is published as done; so
+/// the position after a cut is where the machine is.
 pub fn cuts_are_at_known_places()
     ensures made { (first : State) (h : Journal) (k : ℕ) → Conducted first (cut k ∷ h) → IsKnown h }
     ensures published { (first : State) (h : Journal) (k : ℕ) → Conducted first (at_port (published (AnyPiece.Mark (Cut k))) ∷ h) →
@@ -327,10 +332,11 @@ pub fn cuts_are_at_known_places()
         (has_cut h ≡ true) × IsKnown h }
 {}
 
-/// A line that raises an alarm is the last that was passed: no line is begun behind it, no jog is cut, no queued block starts, and
-/// nothing more is asked of the machine. By the end of the turn, and before a word is obeyed, it slows down for a limit, or stands in
-/// alarm, as for nothing else; and it is halted once it stands in alarm, with an empty hand, and each tick that was given is done.
-/// Nothing is told before but reports. It is halted once, and never where no line has raised an alarm.
+/// A line that raises an alarm is the last that was passed: no line is begun after it, no jog is cut, no queued block
+/// starts, and nothing more is asked of the machine. By the end of the turn, and before a word is obeyed, it slows down
+/// for a limit, or stands in alarm, as for nothing else; and it is halted once it stands in alarm, with an empty hand,
+/// and each tick that was given is done. Nothing is sent before but reports. It is halted once, and never if no line
+/// has raised an alarm.
 pub fn boards_halt_at_alarms()
     ensures alarms { (first : State) (h : Journal) → Conducted first h → alarms_in (outcomes_of h) ≡ one_if (has_alarmed h) }
     ensures state { (first : State) (h : Journal) → (before_of first h).alarmed ≡ has_alarmed h }
@@ -349,10 +355,11 @@ pub fn boards_halt_at_alarms()
     ensures calm { (first : State) (h : Journal) → Conducted first h → has_alarmed h ≡ false → (has_halted h ≡ false) × (part_plan h ≡ plan_of h) }
 {}
 
-/// Where the machine was halted, the part behind the last cut is a planner run that has come to a stop, with legal heads; it holds
-/// the first ticks of its lines, and all of those up to the last that settles (`IsHaltedPart`). Nothing is left to run, the machine
-/// stands in alarm, and each tick that was given is done. No line is begun behind it, and the plan gives nothing more, so that only the
-/// end is given. A board that is finished, and of which a line has raised an alarm, was halted.
+/// If the machine was halted, the part after the last cut is a planner run that has come to a stop, with legal heads;
+/// it holds the first ticks of its lines, and all of those up to the last that settles (`IsHaltedPart`). Nothing is
+/// left to run, the machine stands in alarm, and each tick that was given is done. No line is begun after it, and the
+/// plan gives nothing more, so that only the end is given. A finished board, one of whose lines has raised an alarm,
+/// was halted.
 pub fn halts_drop_what_is_left()
     ensures part { (first : State) (h : Journal) → Conducted first h → has_halted h ≡ true →
         IsHaltedPart (part_outcomes h) (part_start h) (part_actions h) (part_given h) (part_plan h) }
@@ -364,7 +371,7 @@ pub fn halts_drop_what_is_left()
     ensures over { (first : State) (h : Journal) → Conducted first h → IsFinished h → has_alarmed h ≡ true → has_halted h ≡ true }
 {}
 
-/// Where a board is finished, nothing is left in its plan or in hand, all lines that were taken whole are begun, and the
+/// When a board is finished, nothing is left in its plan or in hand, all lines that were taken whole are begun, and the
 /// link was found closed, or a line has raised an alarm.
 pub fn boards_end_well()
     ensures { (first : State) (h : Journal) → Conducted first h → IsFinished h → IsSpent h }

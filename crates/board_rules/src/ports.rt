@@ -10,16 +10,16 @@ use serial_ring::ByteIn;
 use status_report::Reply;
 use step_line::Piece;
 
-/// The board's side of the host and of the pulse engine: bytes come and replies go, in order, realtime bytes come past
-/// the bytes that wait, and pieces go to the pulse engine, which counts the ticks that are done.
+/// The board's side of its links to the host and to the pulse: bytes come and replies go, in order; realtime bytes pass
+/// the bytes that wait; and pieces go to the pulse, which counts the ticks that are done.
 pub trait BoardPort {
     /// What this side does not change.
     ghost Rest: { Type 0 };
 
-    /// This side of the port has done what the log tells, the latest first.
+    /// This side of the port has done what the log says, the latest first.
     ghost stands: { Self → Rest → PortLog → Type 0 };
 
-    /// The next byte, where one is there. Fewer than 2^31 bytes were taken before any byte.
+    /// The next byte, if one is there. Fewer than 2^31 bytes were taken before any byte.
     fn byte(&mut self) -> ByteIn
         ensures byte { (b : ℕ) → result ≡ ByteIn.Byte b → (rest : Rest) (l : PortLog) → stands self.old rest l → stands self.new rest (took b ∷ l) }
         ensures few { (b : ℕ) → result ≡ ByteIn.Byte b → (rest : Rest) (l : PortLog) → stands self.old rest l → HasTakenFew l }
@@ -31,7 +31,7 @@ pub trait BoardPort {
         ensures room { result ≤ receive_room }
         ensures free { (rest : Rest) (l : PortLog) → stands self.old rest l → stands self.new rest (found_free result ∷ l) };
 
-    /// Answers, or hands the reply back where 16 may wait. An `ok` or an `error` answers a line: fewer lines must have
+    /// Answers, or hands the reply back if 16 may wait. An `ok` or an `error` answers a line: fewer lines must have
     /// been answered than were taken to their LF. Fewer than 2^62 replies must have been answered.
     fn answer(&mut self, r: Reply) -> Result<(), Reply>
         requires { (rest : Rest) × (l : PortLog) × stands self.old rest l × MayAnswer l r }
@@ -39,8 +39,8 @@ pub trait BoardPort {
         ensures full { OnErr result ((rest : Rest) (l : PortLog) → stands self.old rest l → stands self.new rest (no_reply_room ∷ l) × LacksReplyRoom l) }
         ensures back { IfErr result (λ handed. handed ≡ r) };
 
-    /// Takes the word of requests, and clears it. Fewer than 2^31 words that ask for a report were taken before one that
-    /// does.
+    /// Takes the word of requests, and clears it. Fewer than 2^31 words that ask for a report were taken before one
+    /// that does.
     fn take_exec(&mut self) -> Exec
         ensures taken { (rest : Rest) (l : PortLog) → stands self.old rest l → stands self.new rest (took_exec result ∷ l) }
         ensures few { asks_report result ≡ true → (rest : Rest) (l : PortLog) → stands self.old rest l → HasFewReports l };
@@ -49,7 +49,7 @@ pub trait BoardPort {
     fn take_override(&mut self) -> Ovr
         ensures { (rest : Rest) (l : PortLog) → stands self.old rest l → stands self.new rest (took_ovr result ∷ l) };
 
-    /// Publishes a piece, or hands it back where five pieces are unfinished. It must come next behind the published
+    /// Publishes a piece, or hands it back if five pieces are unfinished. It must come next after the published
     /// ones, with fewer than 2^62 ticks in all.
     fn publish(&mut self, p: Piece) -> Result<(), Piece>
         requires { (rest : Rest) × (l : PortLog) × stands self.old rest l × MayPublish l p }
@@ -57,8 +57,8 @@ pub trait BoardPort {
         ensures full { OnErr result ((rest : Rest) (l : PortLog) → stands self.old rest l → (done : ℕ) × stands self.new rest (no_piece_room done ∷ l) × LacksPieceRoom done l) }
         ensures back { IfErr result (λ handed. handed ≡ p) };
 
-    /// How many ticks are done: no fewer than were known, and no more than were published. At most five published pieces are
-    /// unfinished then.
+    /// How many ticks are done: no fewer than were known, and no more than were published. At most five published
+    /// pieces are unfinished then.
     fn done(&mut self) -> u64
         ensures done { (rest : Rest) (l : PortLog) → stands self.old rest l → stands self.new rest (loaded result ∷ l) }
         ensures known { (rest : Rest) (l : PortLog) → stands self.old rest l → MayBeDone result l };

@@ -12,7 +12,7 @@ Row = ℕ × ℕ
 abbrev pub value_of : ℕ → List Row → Option ℕ
 value_of key rows = lookup (nat_eq key) rows
 
--- both have the same keys, and the same value at each
+-- both have the same keys, and the same value for each
 abbrev pub AnswersAs : List Row → List Row → Type 0
 AnswersAs rows others = (key : ℕ) → value_of key rows ≡ value_of key others
 
@@ -159,17 +159,17 @@ rows_of_bytes =
     ∷ (0x7e, exec_bit 2)
     -- jog cancel
     ∷ (0x85, exec_bit 4)
-    -- feed: the whole, ten more, ten less, one more, one less
+    -- feed: 100 percent, ten more, ten less, one more, one less
     ∷ (0x90, override_bit 0)
     ∷ (0x91, override_bit 1)
     ∷ (0x92, override_bit 2)
     ∷ (0x93, override_bit 3)
     ∷ (0x94, override_bit 4)
-    -- rapids: the whole, a half, a quarter
+    -- rapids: 100, 50, 25 percent
     ∷ (0x95, override_bit 5)
     ∷ (0x96, override_bit 6)
     ∷ (0x97, override_bit 7)
-    -- spindle: the whole, ten more, ten less, one more, one less
+    -- spindle: 100 percent, ten more, ten less, one more, one less
     ∷ (0x99, override_bit 8)
     ∷ (0x9a, override_bit 9)
     ∷ (0x9b, override_bit 10)

@@ -52,7 +52,7 @@ pub struct Ovr(u16);
 
 bitflag_items! {
     impl Ovr: u16 {
-        /// 0x90 takes feeds as programmed.
+        /// 0x90 sets feeds to 100 percent.
         const FEED_100 = 1;
         /// 0x91 adds ten percent to feeds.
         const FEED_UP_10 = 2;
@@ -62,13 +62,13 @@ bitflag_items! {
         const FEED_UP_1 = 8;
         /// 0x94 takes one percent off feeds.
         const FEED_DOWN_1 = 16;
-        /// 0x95 takes rapids in full.
+        /// 0x95 sets rapids to 100 percent.
         const RAPID_100 = 32;
-        /// 0x96 takes a half of rapids.
+        /// 0x96 sets rapids to 50 percent.
         const RAPID_50 = 64;
-        /// 0x97 takes a quarter of rapids.
+        /// 0x97 sets rapids to 25 percent.
         const RAPID_25 = 128;
-        /// 0x99 takes spindle speeds as programmed.
+        /// 0x99 sets spindle speeds to 100 percent.
         const SPINDLE_100 = 256;
         /// 0x9A adds ten percent to spindle speeds.
         const SPINDLE_UP_10 = 512;

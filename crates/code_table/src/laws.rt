@@ -5,15 +5,15 @@ ghost use Rattle.std.specs.List.{IsDistinct};
 ghost use Rattle.std.specs.Map.{keys_of};
 ghost use Rattle.code_table.specs.Tables.{Row, value_of, g_rows, m_rows, rows_of_settings, rows_of_bytes};
 
-/// Where no key stands twice, a look-up answers with a value exactly where that row stands. It answers
-/// with none exactly where no row has the key.
+/// If no key comes twice, a look-up answers with a value exactly if there is a row of the key and that value, and with
+/// none exactly if no row has the key.
 pub fn rows_are_found()
     ensures row { (rows : List Row) (key value : ℕ) → IsDistinct nat_eq (keys_of rows) →
         (value_of key rows ≡ Some value) ↔ Contains rows (key, value) }
     ensures none { (rows : List Row) (key : ℕ) → IsNone (value_of key rows) ↔ (¬ Contains (keys_of rows) key) }
 {}
 
-/// No key of the four tables stands twice: no code has two groups, no setting two places, no byte two
+/// No key of the four tables comes twice: no code has two groups, no setting two places, no byte two
 /// bits.
 pub fn codes_have_one_group()
     ensures g { IsDistinct nat_eq (keys_of g_rows) }

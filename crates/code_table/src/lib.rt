@@ -1,5 +1,4 @@
-//! Tables of rows that answer a key with its value, the four tables of the controller, and the flags that realtime
-//! bytes raise.
+//! Tables that give the value of a key, the four tables of the controller, and the flags that realtime bytes raise.
 #![tactic(auto)]
 
 ghost use Rattle.std.specs.Prelude.{◌≡◌, List, zip, nat_eq, IsTrue, ◌↔◌, IsSome, IsNone, IfSome};
@@ -23,11 +22,11 @@ use std::marker::Model;
 #[derive(Clone, Copy, Debug, PartialEq, Eq)]
 pub struct Code(pub u8);
 
-/// Rows of a key and a value, in which each key stands once. Contracts see the list of the rows.
+/// Rows of a key and a value, in which each key comes once. Contracts see the list of the rows.
 ///
-/// The rows are kept in the order of their keys, so that a look-up halves what is left to search: five
-/// comparisons find one of 30 rows. The four tables of the controller are written in that order;
-/// `new` takes rows in any order and sorts them once.
+/// The rows are kept in the order of their keys, so that a look-up is a binary search: five comparisons find one of 30
+/// rows. The four tables of the controller are written in that order; `new` takes rows in any order and sorts them
+/// once.
 #[derive(Drop)]
 pub struct Table<const N: usize> {
     keys: [u16; N],
@@ -87,7 +86,7 @@ fn in_order<const N: usize>(mut rows: [(u16, u16); N]) -> ([u16; N], [u16; N])
 }
 
 impl<const N: usize> Table<N> {
-    /// A table of rows that may come in any order; None exactly where a key stands twice.
+    /// A table of rows that may come in any order; None exactly if a key comes twice.
     pub fn new(keys: [u16; N], values: [u16; N]) -> Option<Table<N>>
         ensures repeated { IsNone result ↔ (¬ IsDistinct nat_eq keys.entry) }
         ensures distinct { IsSome result → IsDistinct nat_eq keys.entry }
@@ -101,7 +100,7 @@ impl<const N: usize> Table<N> {
         }
     }
 
-    /// The value of the row with a key; None exactly where no row has it.
+    /// The value of the row with a key; None exactly if no row has it.
     #[inline]
     pub fn find(&self, key: u16) -> Option<u16>
         ensures { result ≡ value_of key self.now }

@@ -73,7 +73,7 @@ pub fn m_codes() -> Table<9>
     m_rows!(rows)
 }
 
-/// The modal group of the G code that is a tenth of a key; None where there is none.
+/// The modal group of the G code that is a tenth of a key; None if there is none.
 #[inline]
 pub fn g_group(key: u64) -> Option<u16>
     ensures group { result ≡ value_of key g_rows }
@@ -82,7 +82,7 @@ pub fn g_group(key: u64) -> Option<u16>
     g_rows!(find key;)
 }
 
-/// The group of the M code that is a tenth of a key; None where there is none.
+/// The group of the M code that is a tenth of a key; None if there is none.
 #[inline]
 pub fn m_group(key: u64) -> Option<u16>
     ensures group { result ≡ value_of key m_rows }

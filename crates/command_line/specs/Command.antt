@@ -12,8 +12,7 @@ use Rattle.command_line.specs.declared.Task.TheVariants.{Stream, Demo}
 use Rattle.command_line.specs.declared.WordsFault.{WordsFault}
 use Rattle.command_line.specs.declared.WordsFault.TheVariants.{Refused, OutOfMemory}
 
--- `grbl`: a subcommand is required, and the words do not hold the program's own name. All else is as clap has it
--- where nothing is said.
+-- `grbl`: a subcommand is required, and the words do not hold the program's own name. All else is clap's default.
 abbrev pub grbl : App
 grbl = on_top (λ s. record s { no_binary_name = true; subcommand_required = true }) (new_app (codes "grbl"))
 
@@ -53,7 +52,7 @@ Asks (Stream seed) words = IsSomeAnd (subcommand_of command_line words)
 Asks (Demo moves) words = IsSomeAnd (subcommand_of command_line words)
     (λ s. (s.0 ≡ codes "demo") × (Some moves ≡ option_map number_of (one_of (codes "moves") s.1)) × (1 ≤ moves) × (moves ≤ 100000))
 
--- what is told of a parse that failed
+-- what is said of a parse that failed
 abbrev pub fault_by_kind : ErrorKind → WordsFault
 fault_by_kind kind.OutOfMemory = OutOfMemory
 fault_by_kind _ = Refused

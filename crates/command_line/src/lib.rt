@@ -16,7 +16,7 @@ use std::alloc::{AllocError, Global};
 /// What the words ask for.
 #[derive(Clone, Copy, Debug, PartialEq, Eq)]
 pub enum Task {
-    /// A job is streamed: in lockstep with this seed, where one is given.
+    /// A job is streamed: in lockstep with this seed, if one is given.
     Stream(Option<u64>),
     /// The generated job of so many moves is run.
     Demo(u32),
@@ -85,8 +85,8 @@ fn command_line<'a>(alloc: Global) -> Result<Command<'a>, AllocError>
         .subcommand(demo_command(alloc)?)
 }
 
-/// Reads the words of the command line, which do not hold the program's own name. They are refused only where clap's
-/// definition of the command line has a fault for them, and accepted only where it has none. Want of memory is told in
+/// Reads the words of the command line, which do not hold the program's own name. They are refused only if clap's
+/// definition of the command line has a fault for them, and accepted only if it has none. Lack of memory is reported in
 /// place of either.
 pub fn read_words(alloc: Global, words: &[&str]) -> Result<Task, WordsFault>
     ensures refused { result ≡ Err WordsFault.Refused → Refuses (map (λ w. w.now) words.now) }
@@ -106,9 +106,10 @@ pub fn read_words(alloc: Global, words: &[&str]) -> Result<Task, WordsFault>
     }
 }
 
-/// What the definition of the command line means. Accepted words begin with `stream` or `demo`, and words ask for one task at
-/// most. A seed is any number that 64 bits hold, behind `--lockstep` or `--lockstep=`, and is given once at most. A number
-/// of moves is given, once, and is at least 1 and at most 100,000. A request for help is a fault as well.
+/// What the definition of the command line means. Accepted words begin with `stream` or `demo`, and words ask for one
+/// task at most. A seed is any number that 64 bits hold, after `--lockstep` or `--lockstep=`, and is given once at
+/// most. A number of moves is given, once, and is at least 1 and at most 100,000. A request for help is a fault as
+/// well.
 pub fn accepted_words()
     ensures begins { (words : List Text) → ¬ Refuses words → IsNamed words }
     ensures one { (words : List Text) (a b : Task) → Asks a words → Asks b words → a ≡ b }

@@ -62,10 +62,6 @@ stays_limited : (now was : Motion) (call : Call) → StaysOrReaches now call was
 stays_limited now was call (inl same) is = ap is_limited same ∙ is
 stays_limited now was call (inr how) is = reached_limited now was call how is
 
--- it stays in alarm
-not_alarm : {A : Type 0} (was x : Motion) → is_stopping x ≡ true → was ≡ x → was ≡ Alarm → A
-not_alarm was x slows same is = absurd (let e = sym slows ∙ ap is_stopping (sym same ∙ is) in cc)
-
 alarm_reached : (now was : Motion) (call : Call) → Reached now call was → was ≡ Alarm → now ≡ Alarm
 alarm_reached Alarm was call how is = refl
 alarm_reached Stopping was call how is = absurd (let e = sym how.0 ∙ is in cc)

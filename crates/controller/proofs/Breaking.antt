@@ -179,23 +179,6 @@ over_ends c since before f none rests = record {
     by_left tells_bye e = absurd (let l = sym rests.none ∙ f.left ∙ ap left_to_end e in cc)
     by_left over e = e
 
--- what is left of a run that has ended and is not over
-pub ends_or_tells : (c : Controller) (since before : Journal) → BrokenFits c since before → (BoardRests c → ⊥) → (c.lines.left ≡ finish ∷ drop 1 c.lines.left → ⊥) → ending_of since before ≡ tells_bye
-ends_or_tells c since before f unrested other = by_ending (ending_of since before) refl
-  where
-    by_ending : (e : Ending) → ending_of since before ≡ e → ending_of since before ≡ tells_bye
-    by_ending publishes_end e = absurd (let l = f.left ∙ ap left_to_end e in other (l ∙ ap (λ (ts : List Task). finish ∷ drop 1 ts) (sym l)))
-    by_ending tells_bye e = e
-    by_ending over e = absurd (unrested (record { closing = f.closing; none = f.left ∙ ap left_to_end e }))
-
-pub ends_next : (c : Controller) (since before : Journal) → BrokenFits c since before → c.lines.left ≡ finish ∷ drop 1 c.lines.left → ending_of since before ≡ publishes_end
-ends_next c since before f next = by_ending (ending_of since before) refl
-  where
-    by_ending : (e : Ending) → ending_of since before ≡ e → ending_of since before ≡ publishes_end
-    by_ending publishes_end e = e
-    by_ending tells_bye e = absurd (let l = sym next ∙ f.left ∙ ap left_to_end e in cc)
-    by_ending over e = absurd (let l = sym next ∙ f.left ∙ ap left_to_end e in cc)
-
 -- ---- a turn
 
 tell_is_next : (t : Todo) (left : List Task) → IsTodo t left → IsNextOf (tell Bye) left → t ≡ todos.Tell

@@ -198,6 +198,7 @@ impl Controller {
     }
 
     /// The byte that was taken belongs to the line that is not begun, or ends it.
+    #[inline(always)]
     fn keep(&mut self, byte: u8)
         requires flags { self.old.flags ≡ Flags.None }
         ensures kept { (h : Journal) → Keeps self.old h → MayTake h → Keeps self.new (at_port (took byte) ∷ h) }

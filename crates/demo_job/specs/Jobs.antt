@@ -51,14 +51,14 @@ job_events n = sum_by events_of (job_moves n)
 abbrev pub scale : ℕ
 scale = 250000
 
--- a text, and behind it a way in millimetres with three decimals
+-- a text, and after it a way in millimetres with three decimals
 unfoldable pub axis_text : List ℕ → ℤ → List ℕ
 axis_text before steps = before ++ fixed3 (thousandths_of steps scale)
 
 abbrev pub place_text : Steps3 → List ℕ
 place_text at = axis_text (codes " at ") at.x ++ axis_text (codes ",") at.y ++ axis_text (codes ",") at.z
 
--- a text, and behind it a number
+-- a text, and after it a number
 unfoldable pub count_text : List ℕ → ℕ → List ℕ
 count_text before n = before ++ decimal n
 

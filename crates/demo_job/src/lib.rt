@@ -1,5 +1,5 @@
-//! The generated job: moves to places that follow from their numbers alone. It is given line by line, with no memory
-//! taken, and one line sums up its run.
+//! The generated job: moves whose places follow from their numbers alone. It is given line by line, takes no memory,
+//! and one line sums up its run.
 #![tactic(auto)]
 
 mod lines;

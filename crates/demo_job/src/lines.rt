@@ -52,8 +52,8 @@ fn put_move(i: u32, out: &mut LineBuf)
     put_tenths(to.y, out);
 }
 
-/// Puts line `i` of the generated job of `n` moves into a buffer, which is emptied before: first the modes, then the feed,
-/// then the moves in their order, at last the end of the program.
+/// Puts line `i` of the generated job of `n` moves into a buffer, which is emptied before: first the modes, then the
+/// feed, then the moves in their order, at last the end of the program.
 #[tactic(auto, using(crate::proofs::Standing::modes_stand, crate::proofs::Standing::feed_stands, crate::proofs::Standing::moves_stand, crate::proofs::Standing::end_stands))]
 pub fn demo_line(n: u32, i: u32, out: &mut LineBuf)
     requires moves { (1 ≤ n) × (n ≤ 100000) }

@@ -31,7 +31,7 @@ impl DemoJob {
     ghost use Rattle.std.specs.Prelude.{◌≡◌, ◌≤◌};
     ghost use Rattle.demo_job.specs.Jobs.{job_text};
 
-    /// The job of so many moves, of which nothing is given yet.
+    /// The job of so many moves; nothing of it is given yet.
     pub fn new(moves: u32) -> DemoJob
         requires { (1 ≤ moves) × (moves ≤ 100000) }
         ensures { result ≡ job_text moves }

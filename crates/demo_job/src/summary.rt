@@ -52,7 +52,7 @@ fn job_events(n: u32) -> u32
     total
 }
 
-/// Appends a text and a number behind it.
+/// Appends a text and a number after it.
 #[tactic(auto, using(crate::proofs::Summing::number_short), unfolding(crate::specs::Jobs::count_text))]
 fn put_count(before: &[u8], number: u32, out: &mut Text)
     requires room { array_vec_len out.old + length before.now + 40 ≤ 192 }
@@ -64,7 +64,7 @@ fn put_count(before: &[u8], number: u32, out: &mut Text)
     append(buffer.format(number).as_bytes(), out);
 }
 
-/// Appends a text and, behind it, tenths of a millimetre as millimetres with three decimals.
+/// Appends a text and, after it, tenths of a millimetre as millimetres with three decimals.
 #[tactic(auto, unfolding(crate::specs::Jobs::axis_text))]
 fn put_axis(before: &[u8], tenths: u32, out: &mut Text)
     requires room { array_vec_len out.old + length before.now + 24 ≤ 192 }

@@ -8,7 +8,7 @@ use crate::{Answers, put_summary};
 use outside::{Failed, Sink};
 use units::Text;
 
-/// Writes a text, all of it unless a call fails. Behind a call that failed nothing more is written.
+/// Writes a text, all of it unless a call fails. After a call that failed nothing more is written.
 fn write_text<S: Sink>(text: &[u8], sink: &mut S) -> Result<(), Failed>
     ensures { Took (S.state sink.old) (S.state sink.new) (not (is_ok result)) text.now }
 {
@@ -20,7 +20,7 @@ fn write_text<S: Sink>(text: &[u8], sink: &mut S) -> Result<(), Failed>
     Ok(())
 }
 
-/// Tells the console the line on a run of the job of `n` moves: all of it, or a front of it where the console fails.
+/// Gives the console the line on a run of the job of `n` moves: all of it, or a front of it if the console fails.
 pub fn tell_summary<S: Sink>(n: u32, answers: Answers, console: &mut S) -> Result<(), Failed>
     requires moves { (1 ≤ n) × (n ≤ 100000) }
     ensures { Took (S.state console.old) (S.state console.new) (not (is_ok result)) (summary_of n (n + 3) answers.ok answers.error (job_events n) (stop n)) }

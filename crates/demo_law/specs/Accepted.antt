@@ -1,4 +1,4 @@
--- Jobs whose lines are all accepted, wherever the machine may be found running.
+-- Jobs whose lines are all accepted, also if the machine may be found running.
 use Rattle.std.specs.Prelude.{◌≡◌, ◌≢◌, ℕ, ◌≤◌, false, List, [], length, map, slice_get, Some}
 use Rattle.std.specs.List.{AllByRecursion}
 use Rattle.gcode_words.specs.Stripping.{plain, realtime}
@@ -16,7 +16,7 @@ use Rattle.step_line.specs.Asking.{Asked}
 abbrev pub IsNoSystemLine : List ℕ → Type 0
 IsNoSystemLine line = slice_get (plain line) 0 ≢ Some 36
 
--- no realtime byte stands in a line, outside its comments
+-- no realtime byte is in a line, outside its comments
 abbrev pub IsCalm : List ℕ → Type 0
 IsCalm line = realtime line ≡ []
 
@@ -24,9 +24,9 @@ IsCalm line = realtime line ≡ []
 abbrev pub IsCode : Outcome → Type 0
 IsCode o = o.kind ≡ of_code
 
--- A job of at most 16,777,216 bytes that is these lines. All of them are accepted from this state on, and together ask for
--- this: none is refused, and none raises an alarm. All are lines of G-code, and none of them begins with `$`, so that none is
--- refused for the motion; and none has a realtime byte.
+-- A job of at most 16,777,216 bytes that is these lines. All of them are accepted from this state on, and together ask
+-- for this: none is refused, and none raises an alarm. All are lines of G-code, and none of them begins with `$`, so
+-- that none is refused for the motion; and none has a realtime byte.
 pub record IsAccepted (job : List ℕ) (lines : List (List ℕ)) (asked : List Asked) (first : State) : Type 0 where
   pub few : length job ≤ largest_job
   pub cut : lines_of job ≡ lines

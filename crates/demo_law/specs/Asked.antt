@@ -13,6 +13,7 @@ use Rattle.demo_job.specs.Jobs.{job_move}
 abbrev pub demo_move : Settings → ℕ → PlannedMove
 demo_move s i = planned (i + 2) s (job_move i) (Feed (pos 600000000))
 
--- the moves of a job of n moves in their order, and that the machine comes to rest before the end of the program and behind it
+-- the moves of a job of n moves in their order, and that the machine comes to rest before the end of the program and
+-- after it
 abbrev pub demo_asks : Settings → ℕ → List Asked
 demo_asks s n = map (λ i. a_move (demo_move s i)) (range_with_len 1 n) ++ a_rest ∷ a_rest ∷ []

@@ -6,8 +6,8 @@ use Rattle.code_table.specs.Flags.{exec_bits, has_flag}
 use Rattle.feed_hold.specs.declared.Motion.{Motion}
 use Rattle.feed_hold.specs.declared.Motion.TheVariants.{Idle, Run, Holding, Held, Jog, Cancelling, Stopping, Alarm}
 
--- What becomes of one state: by `!`, by 0x85, by `~` where blocks are queued and where none is; where a move starts,
--- and where a jog does; at a limit; at a pause; once the motion has stopped; and once it has run out
+-- What becomes of one state: by `!`, by 0x85, by `~` with blocks queued and with none; when a move starts, and when a
+-- jog does; at a limit; at a pause; once the motion has stopped; and once it has run out
 pub record Row : Type 0 where
   pub held : Motion
   pub cancelled : Motion
@@ -67,7 +67,7 @@ cancel_byte = 0x85
 abbrev pub asks : Exec → ℕ → Bool
 asks word byte = has_flag (exec_bits word) byte
 
--- each request by the state that the one before left
+-- each request is applied to the state that the one before left
 abbrev pub after_hold : Bool → Motion → Motion
 after_hold asked motion = if asked then (becomes motion).held else motion
 
@@ -77,11 +77,11 @@ after_cancel asked motion = if asked then (becomes motion).cancelled else motion
 abbrev pub after_start : Bool → Bool → Motion → Motion
 after_start asked queued motion = if asked then (if queued then (becomes motion).resumed else (becomes motion).resumed_empty) else motion
 
--- hold, then cancel, then start; a start has no effect beside a hold
+-- hold, then cancel, then start; a start has no effect in a word with a hold
 abbrev pub after_requests : (hold cancel start queued : Bool) → Motion → Motion
 after_requests hold cancel start queued motion = after_start (start && not hold) queued (after_cancel cancel (after_hold hold motion))
 
--- what a word of requests makes of a state, where blocks are queued or none is
+-- what a word of requests makes of a state, with blocks queued or none
 abbrev pub after_word : Exec → Bool → Motion → Motion
 after_word word queued motion = after_requests (asks word hold_byte) (asks word cancel_byte) (asks word start_byte) queued motion
 
@@ -94,7 +94,7 @@ pub data Call : Type 0 where
   on_stopped : Call
   on_drained : Call
 
--- the state behind it, where the table has one
+-- the state after a call, if the table has one
 abbrev pub after : Call → Motion → Option Motion
 after (on_exec word queued) motion = Some (after_word word queued motion)
 after (on_start jog) motion = if jog then (becomes motion).jogged else (becomes motion).moved

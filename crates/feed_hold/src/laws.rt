@@ -7,15 +7,14 @@ ghost use Rattle.feed_hold.specs.declared.Motion.TheVariants.{Idle, Run, Held, A
 ghost use Rattle.feed_hold.specs.Motions.{Call, Reached, AsksOnly, becomes, hold_byte, cancel_byte, start_byte, asks, after, after_word, is_stopping};
 ghost use Rattle.feed_hold.specs.Motions.Call.{on_stopped};
 
-/// What the motion becomes from rest by each byte: held by `!`; at rest by 0x85; and by `~` running where moves are
-/// queued.
+/// What each byte makes of an idle motion: `!` holds it; 0x85 changes nothing; `~` runs it if moves are queued.
 pub fn bytes_at_rest()
     ensures hold { (word : Exec) (queued : Bool) → AsksOnly hold_byte word → after_word word queued Idle ≡ Held }
     ensures cancel { (word : Exec) (queued : Bool) → AsksOnly cancel_byte word → after_word word queued Idle ≡ Idle }
     ensures start { (word : Exec) (queued : Bool) → AsksOnly start_byte word → after_word word queued Idle ≡ (if queued then Run else Idle) }
 {}
 
-/// A word with one request does what the table has in its column.
+/// A word with one request does what the table has in that request's column.
 pub fn bytes_by_columns()
     ensures hold { (word : Exec) (queued : Bool) (was : Motion) → AsksOnly hold_byte word → after_word word queued was ≡ (becomes was).held }
     ensures cancel { (word : Exec) (queued : Bool) (was : Motion) → AsksOnly cancel_byte word → after_word word queued was ≡ (becomes was).cancelled }
@@ -28,19 +27,19 @@ pub fn stops_are_awaited()
     ensures { (call : Call) (was now : Motion) → is_stopping was ≡ true → after call was ≡ Some now → (now ≡ was) ⊎ (call ≡ on_stopped) }
 {}
 
-/// A lock stays.
+/// Nothing leaves Alarm.
 pub fn locks_stay()
     ensures { (call : Call) (now : Motion) → after call Alarm ≡ Some now → now ≡ Alarm }
 {}
 
-/// How each state is reached that isn't there before: Holding by `!` in Run alone, Cancelling by `!` or 0x85 in Jog
-/// alone, and so on.
+/// How each state is reached from another: Holding by `!` in Run alone, Cancelling by `!` or 0x85 in Jog alone, and so
+/// on.
 pub fn states_are_reached()
     ensures { (call : Call) (was now : Motion) → after call was ≡ Some now → (now ≡ was) ⊎ Reached now call was }
 {}
 
-/// The state of a word asks for nothing but what stood before it, what the word asks for, and whether moves are queued:
-/// without a hold, a cancel and a start it stays.
+/// A word of requests without a hold, a cancel and a start changes nothing. The state after a word depends on the state
+/// before, on these three requests, and on whether moves are queued.
 pub fn silent_words_change_nothing()
     ensures { (word : Exec) (queued : Bool) (was : Motion) → asks word hold_byte ≡ false → asks word cancel_byte ≡ false → asks word start_byte ≡ false → after_word word queued was ≡ was }
 {}

@@ -1,4 +1,4 @@
-//! The states of the motion: when it runs, holds, jogs, is cancelled, is stopped at a limit, and is locked.
+//! The states of the motion: idle, run, hold, jog, cancel, stop at a limit, alarm.
 #![tactic(auto)]
 
 pub mod laws;
@@ -23,7 +23,7 @@ pub enum Motion {
     Jog,
     /// A cancel slows a jog down, and what is left of it will be dropped.
     Cancelling,
-    /// The motion slows down since a line would leave the travel.
+    /// The motion slows down because a line would leave the travel.
     Stopping,
     /// Locked, with nothing moving.
     Alarm,
@@ -33,7 +33,7 @@ impl Motion {
     ghost use Rattle.std.specs.Prelude.{◌≡◌};
     ghost use Rattle.feed_hold.specs.Motions.{after_hold, after_cancel, after_start};
 
-    /// After `!`, where that was asked for.
+    /// After `!`, if that was asked for.
     fn after_hold(self, asked: bool) -> Motion
         ensures { result ≡ after_hold asked self }
     {
@@ -45,7 +45,7 @@ impl Motion {
         }
     }
 
-    /// After 0x85, where that was asked for.
+    /// After 0x85, if that was asked for.
     fn after_cancel(self, asked: bool) -> Motion
         ensures { result ≡ after_cancel asked self }
     {
@@ -56,7 +56,7 @@ impl Motion {
         }
     }
 
-    /// After `~`, where that was asked for.
+    /// After `~`, if that was asked for.
     fn after_start(self, asked: bool, queued: bool) -> Motion
         ensures { result ≡ after_start asked queued self }
     {
@@ -68,8 +68,8 @@ impl Motion {
     }
 }
 
-/// The state of the motion, and how each event changes it. An event has its condition: that the table of states has
-/// a state for it.
+/// The state of the motion, and how each event changes it. Each call has a condition: that the table has a state for
+/// it.
 #[derive(Clone, Copy, Debug, PartialEq, Eq)]
 pub struct Hold {
     pub motion: Motion,
@@ -90,8 +90,8 @@ impl Hold {
         }
     }
 
-    /// A word of requests was taken, with moves queued or not: works a hold, then a cancel, then a start, each by the
-    /// state that the one before left. A start has no effect beside a hold. Reports and resets aren't read.
+    /// A word of requests was taken, with moves queued or not: applies a hold, then a cancel, then a start, each to the
+    /// state that the one before left. A start has no effect in a word with a hold. Reports and resets aren't read.
     pub fn on_exec(&mut self, e: Exec, queued: bool)
         ensures { self.new.motion ≡ after_word e queued self.old.motion }
     {
@@ -114,7 +114,7 @@ impl Hold {
         }
     }
 
-    /// A line would leave the travel.
+    /// A line would leave the travel. Called in the turn that begins the line.
     pub fn on_limit(&mut self)
         requires { IsSome (after on_limit self.old.motion) }
         ensures { after on_limit self.old.motion ≡ Some self.new.motion }
@@ -134,7 +134,7 @@ impl Hold {
         self.motion = Motion::Held;
     }
 
-    /// The motion has slowed down to a stop.
+    /// The motion has slowed down to a stop. Called once each tick is done; after a cancel, once the cut is done too.
     pub fn on_stopped(&mut self)
         requires { IsSome (after on_stopped self.old.motion) }
         ensures { after on_stopped self.old.motion ≡ Some self.new.motion }

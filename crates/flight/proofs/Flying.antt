@@ -1,14 +1,12 @@
 -- What a flight knows of its pieces.
-use Rattle.std.proofs.Common.{◌≡◌, ℕ, zero, suc, ◌+◌, ◌-◌, ◌≤◌, ◌<◌, ◌⊎◌, Bool, true, false, List, [], ◌∷◌, ◌++◌, length, take, max, min, inl, inr, sym, refl, ap, ◌∙◌, arith, subst, append-nil, append_assoc}
+use Rattle.std.proofs.Common.{◌≡◌, ℕ, zero, suc, ◌+◌, ◌-◌, ◌≤◌, ◌<◌, ◌⊎◌, Bool, true, false, List, [], ◌∷◌, ◌++◌, length, take, max, min, inl, inr, sym, refl, ap, ◌∙◌, arith, subst, append_assoc}
 use Rattle.std.specs.List.{flat_map, filter, All}
 use Rattle.std.proofs.lemmas.Bool.{cases_lt}
 use Rattle.std.proofs.lemmas.Bool.Decides.{nat_tests}
 use Rattle.std.proofs.lemmas.List.{take-append-le}
 use Rattle.std.proofs.lemmas.List.Elements.{filter-append, filter_passes, All-head, All-tail}
 use Rattle.units.specs.declared.Steps3.{Steps3}
-use Rattle.step_line.specs.declared.Segment.{Segment}
 use Rattle.step_line.specs.declared.Piece.{Piece}
-use Rattle.step_line.specs.declared.Piece.TheVariants as pieces
 use Rattle.step_line.specs.declared.Record.{Record}
 use Rattle.step_line.specs.Pieces.{ticks_of}
 use Rattle.step_line.specs.Finishing.{tick_count, ticks_together, unfinished}

@@ -56,12 +56,12 @@ abbrev pub first_ticks : List Piece → ℕ
 first_ticks [] = 0
 first_ticks (p ∷ ps) = tick_count p
 
--- so many ticks end within the first of some pieces, its last one not among them, or where no piece is
+-- so many ticks end within the first of some pieces, before its last tick, or there is no piece
 abbrev pub EndsWithin : List Piece → ℕ → Type 0
 EndsWithin [] done = done ≡ 0
 EndsWithin (p ∷ ps) done = done < tick_count p
 
--- the fields of a flight: slots of which so many are in use, each by a piece that may be kept
+-- the fields of a flight: so many slots are in use, each by a piece that may be kept
 pub record IsFlight (slots : List Piece) (count : ℕ) (from : Steps3) (before known : ℕ) : Type 0 where
   pub long : length slots ≡ flight_room
   pub few : count ≤ flight_room
@@ -70,7 +70,7 @@ pub record IsFlight (slots : List Piece) (count : ℕ) (from : Steps3) (before k
   pub low : before ≤ known
   pub within : EndsWithin (take count slots) (known - before)
 
--- A flight of all these pieces, with so many ticks known to be done: of the pieces that have ticks it keeps those behind
+-- A flight of all these pieces, with so many ticks known to be done: of the pieces that have ticks it keeps those after
 -- the finished ones.
 pub record Flies (f : Flying) (published : List Piece) (known : ℕ) : Type 0 where
   pub done : f.known ≡ known

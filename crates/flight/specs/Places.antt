@@ -1,4 +1,4 @@
--- Where the machine is while pieces are run: it goes by their events, and nothing else moves it.
+-- Where the machine is while pieces are run: their events move it, and nothing else.
 use Rattle.std.specs.Prelude.{ℕ, pos, List, [], ◌∷◌, take}
 use Rattle.std.specs.List.{flat_map}
 use Rattle.units.specs.declared.Steps3.{Steps3}

@@ -22,7 +22,7 @@ fn tick_count(piece: &Piece) -> u32
     }
 }
 
-/// Where the machine is once the first so many ticks are done of a piece that begins at a place.
+/// Where the machine is once so many ticks of a piece are done, from the place where it begins.
 fn place_within(piece: &Piece, from: Steps3, done: u32) -> Steps3
     requires fits { IsFit piece.now }
     requires few { done ≤ tick_count piece.now }
@@ -98,7 +98,8 @@ impl Flight {
         self.first().is_none()
     }
 
-    /// A piece is published behind the others. There must be room, and a segment must begin where their ticks lead.
+    /// A piece is published after the others; called for each one. There must be room, and a segment must begin where
+    /// their ticks lead.
     pub fn push(&mut self, piece: Piece)
         requires room { length self.old.kept < flight_room }
         requires fits { IsFit piece }
@@ -121,7 +122,7 @@ impl Flight {
         self.slots[..self.count].first()
     }
 
-    /// Whether the last tick of the first piece is among the first so many.
+    /// Whether the first piece is finished once so many ticks are done.
     fn is_first_over(&self, done: u64) -> bool
         ensures over { result ≡ true → (0 < length self.now.kept) × (self.now.before + first_ticks self.now.kept ≤ done) }
         ensures left { result ≡ false → (self.now.kept ≡ []) ⊎ EndsWithin self.now.kept (done - self.now.before) }
@@ -165,8 +166,8 @@ impl Flight {
         self.known = self.known.max(done);
     }
 
-    /// So many ticks were found done. No fewer than before are known to be done afterwards, and no more than were
-    /// published; the pieces that are finished by that are dropped.
+    /// So many ticks were found done, by a load of the done ticks. No fewer than before are known to be done
+    /// afterwards, and no more than were published; the pieces that are finished then are dropped.
     pub fn learn(&mut self, done: u64)
         ensures flies { (published : List AnyPiece) (known : ℕ) → Flies self.old published known → Flies self.new published (max known (min done (ticks_together published))) }
         ensures room { (published : List AnyPiece) (known : ℕ) → Flies self.old published known → unfinished published done < flight_room → length self.new.kept < flight_room }

@@ -1,4 +1,4 @@
-//! What holds wherever a machine goes by pieces.
+//! What holds of every machine that runs pieces.
 
 ghost use Rattle.std.specs.Prelude.{◌≡◌, ℕ, ◌+◌, ◌≤◌, List, [], ◌∷◌, ◌++◌};
 ghost use Rattle.units.specs.declared.Steps3.{Steps3};
@@ -11,9 +11,9 @@ ghost use Rattle.step_line.specs.Finishing.{ticks_together};
 ghost use Rattle.flight.specs.Places.{machine_at, end_of};
 ghost use Rattle.flight.specs.Flights.{BeginsAt};
 
-/// Where the machine is does not hang on later pieces; within a segment it is where the segment's move is, and no mark
-/// moves it. So a segment begins where the ticks before it lead if it begins its move, which starts there, or goes on
-/// with the segment before it.
+/// The place of the machine does not depend on later pieces; within a segment it is that of the segment's move, and no
+/// mark moves it. So a segment begins where the ticks before it lead if it begins its move, which starts there, or goes
+/// on with the segment before it.
 #[tactic(auto, using(crate::proofs::Places::earlier, crate::proofs::Places::at_end_of, crate::proofs::Places::in_segment, crate::proofs::Places::ends, crate::proofs::Places::begins, crate::proofs::Places::goes_on, crate::proofs::Places::stays))]
 pub fn pieces_lead_the_machine()
     ensures earlier { (ps qs : List Piece) (done : ℕ) → done ≤ ticks_together ps → machine_at (ps ++ qs) done ≡ machine_at ps done }

@@ -170,6 +170,3 @@ pub fn check(p: &Parser, s: &Settings, w: &Words) -> Verdict
         Err(refusal) => refusal.verdict(),
     }
 }
-
-#[cfg(test)]
-mod tests;

@@ -65,9 +65,6 @@ scan_semicolon (x ∷ xs) = scan_semicolon xs
 
 -- ---- the cut is found so
 
-first_here : (p : ℕ → Bool) (x : ℕ) (xs : List ℕ) → p x ≡ true → position_or_len p (x ∷ xs) ≡ 0
-first_here p x xs h = rw h refl
-
 first_later : (p : ℕ → Bool) (x : ℕ) (xs : List ℕ) → p x ≡ false → position_or_len p (x ∷ xs) ≡ suc (position_or_len p xs)
 first_later p x xs h = rw h (omega arith)
 

@@ -39,8 +39,8 @@ taken_by (Keep c) = []
 taken_by (Realtime c) = c ∷ []
 taken_by LineEnd = []
 
--- The answer to a byte that follows the bytes of a line, given where these end, and where the line ends with the
--- byte: the answer keeps or takes just what the line then has more. A line feed ends the line.
+-- The answer to a byte that follows the bytes of a line, by how the line ends without it and with it (`comment_after`):
+-- the answer keeps or takes exactly what the byte adds. A line feed ends the line.
 pub record Feeds (before : Comment) (byte : ℕ) (answer : Stripped) (after : Comment) : Type 0 where
   pub line_end : (answer ≡ LineEnd) ↔ (byte ≡ 10)
   pub next_line : byte ≡ 10 → after ≡ Outside

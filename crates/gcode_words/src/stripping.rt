@@ -32,7 +32,7 @@ pub enum Stripped {
     LineEnd,
 }
 
-/// The kind of comment that a line stands in, if any.
+/// The kind of comment that a line is in, if any.
 #[derive(Clone, Copy, Debug, PartialEq, Eq)]
 enum Comment {
     Outside,
@@ -50,7 +50,7 @@ fn is_common(byte: u8) -> bool
     byte.is_ascii_digit() || byte.is_ascii_uppercase() || byte == b'.'
 }
 
-/// What becomes of a byte that stands outside comments and begins none.
+/// What becomes of a byte outside comments that begins none.
 fn answer_outside(byte: u8) -> Stripped
     ensures kept { kept_by result ≡ (if is_plain byte then capital byte ∷ [] else []) }
     ensures taken { taken_by result ≡ (if is_realtime byte then byte ∷ [] else []) }
@@ -65,10 +65,10 @@ fn answer_outside(byte: u8) -> Stripped
 
 /// Takes comments, blanks and realtime bytes off lines, byte by byte.
 ///
-/// Outside comments `(` begins a comment up to the next `)` or the line's end, and `;` one up to the line's end.
-/// Outside comments 0x18, `?`, `!`, `~` and every byte from 0x80 are realtime bytes, the other bytes up to 0x20
-/// and `/` are dropped, and all else is kept, also a `)` that ends no comment. Inside a comment all is
-/// dropped, realtime bytes too. A line feed ends the line and every comment.
+/// Outside comments `(` begins a comment, which ends with the next `)` or the line, and `;` one that ends with the
+/// line. There 0x18, `?`, `!`, `~` and every byte from 0x80 are realtime bytes, the other bytes up to 0x20 and `/` are
+/// dropped, and all else is kept, also a `)` that ends no comment. Inside a comment all is dropped, realtime bytes too.
+/// A line feed ends the line and every comment.
 ///
 /// Clauses see a stripper as the kind of comment that the bytes of its line so far end in.
 #[derive(Drop)]
@@ -130,11 +130,11 @@ impl Stripper {
     }
 }
 
-/// Where a comment begins and ends, said of a whole line.
+/// Where comments begin and end in a whole line.
 ///
-/// A line in which no `(` or `;` stands is all outside comments. Else the leftmost of these begins a comment:
-/// a `;` comment runs to the line's end; a `(` comment runs through the next `)`, behind which the same is
-/// said of the rest, or to the line's end.
+/// A line with no `(` or `;` is all outside comments. Else the leftmost of these begins a comment: a `;` comment runs
+/// to the line's end; a `(` comment runs through the next `)`, after which the same holds of what is left, or to the
+/// line's end.
 pub fn comments()
     ensures none { (line : List ℕ) → list_any begins_comment line ≡ false →
         cut line ≡ record { outside = line; comment = Outside } }
@@ -147,7 +147,7 @@ pub fn comments()
 {}
 
 /// What a stripper answers to the bytes of a line, one after the other from its front, keeps the plain bytes of
-/// the line and takes its realtime bytes, in their order. After a line feed a stripper stands at the front of
+/// the line and takes its realtime bytes, in their order. After a line feed a stripper is at the front of
 /// a line again.
 pub fn feeding()
     ensures kept { (line : List ℕ) (answers : List Stripped) (after : Comment) → All (λ b. b ≢ 10) line →

@@ -1,4 +1,4 @@
--- Jogs: what the words behind `$J=` do.
+-- Jogs: what the words after `$J=` do.
 use Rattle.std.specs.Prelude.{ℕ, Bool, true, not, ◌&&◌, ◌||◌, ◌==◌, List, [], ◌∷◌, ℤ, pos, nat_abs, unwrap_or, option_map, Some, None, Ok, Err}
 use Rattle.std.specs.List.{list_any}
 use Rattle.std.specs.Option.{option_map_or}
@@ -25,7 +25,7 @@ use Rattle.jog.specs.declared.JogMove.{JogMove}
 
 -- ---- what refuses a jog
 
--- no F word stands, or F is 0
+-- there is no F word, or F is 0
 abbrev pub has_no_feed : List Word → Bool
 has_no_feed ws = option_map_or (λ v. nat_abs v.micro == 0) (given F ws) true
 
@@ -83,7 +83,7 @@ jog_by None jog = Ok jog
 unfoldable pub jog_of : Parser → Settings → List Word → Result JogMove Code
 jog_of p s ws = jog_by (jog_refusal p s ws) (jog_move p s ws)
 
--- behind a jog the position is its target, and all else is as before
+-- after a jog the position is its target, and all else is as before
 abbrev pub jogged : Parser → JogMove → Parser
 jogged p jog = record p { pos_nm = jog.target; pos_steps = jog.mv.to }
 

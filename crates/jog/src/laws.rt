@@ -10,7 +10,7 @@ ghost use Rattle.travel_limits.specs.Reach.{steps3};
 ghost use Rattle.jog.specs.Jogs.{jog_refusal, jog_move, jog_of, g1};
 ghost use Rattle.jog.specs.declared.JogMove.{JogMove};
 
-/// A jog is refused exactly where an error holds, by the first; and else it is the move of its words.
+/// A jog is refused exactly if an error holds, by the first; and else it is the move of its words.
 pub fn jogs_have_one_cause()
     ensures refused { (p : Parser) (s : Settings) (ws : List Word) (error : Code) →
         (jog_of p s ws ≡ Err error) ↔ (jog_refusal p s ws ≡ Some error) }

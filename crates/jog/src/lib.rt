@@ -1,4 +1,4 @@
-//! Jogs: what becomes of the words behind `$J=`. A jog is one move at a feed of its own, which changes no mode.
+//! Jogs: what becomes of the words after `$J=`. A jog is one move at a feed of its own, which changes no mode.
 #![tactic(auto)]
 
 ghost use Rattle.std.specs.Prelude.{◌≡◌, All, IfOk, IfNone, false, [], ◌∷◌};
@@ -58,7 +58,7 @@ fn has_no_feed(line: &Line<'_>) -> bool
     }
 }
 
-/// Whether a word stands that no jog takes.
+/// Whether there is a word that no jog takes.
 fn unused_words(line: &Line<'_>) -> bool
     ensures { result ≡ unused_words line.now }
 {
@@ -120,7 +120,7 @@ fn first_error(s: &Settings, line: &Line<'_>, at: &Nm3) -> Option<Code>
     None
 }
 
-/// What refuses a jog whose words pass. What nothing refuses stays near.
+/// What refuses a jog whose words pass. If nothing does, the target is near.
 fn refusal(s: &Settings, line: &Line<'_>, at: &Nm3) -> Option<Code>
     ensures refusal { result ≡ jog_error s.now line.now at.now }
     ensures near { IfNone result (IsNear at.now) }
@@ -128,7 +128,7 @@ fn refusal(s: &Settings, line: &Line<'_>, at: &Nm3) -> Option<Code>
     first_error(s, line, at)
 }
 
-/// The feed that a jog says, in nm per minute.
+/// The feed of a jog, in nm per minute.
 fn feed_said(p: &Parser, line: &Line<'_>) -> i64
     requires { IsParser p.now }
     ensures feed { result ≡ feed_said p.now line.now }
@@ -140,15 +140,15 @@ fn feed_said(p: &Parser, line: &Line<'_>) -> i64
     feed_of(p, line)
 }
 
-/// What becomes of the words behind `$J=`: one move from the position to the target that any line with these words has,
-/// at the feed that they say. The parser stays as it is; `JogMove::finish` takes it to the end of the jog.
+/// What becomes of the words after `$J=`: one move from the position to the target that any line with these words has,
+/// at their feed. The parser stays as it is; `JogMove::finish` takes it to the end of the jog.
 ///
 /// # Errors
 ///
-/// That of the first word that does not pass behind those before it, as in any line; else the first of these: 27 where N
-/// is over 10,000,000; 22 where no F word stands or F is 0; 26 where no axis word stands; 36 where an I, J, K, L, P, R, S
-/// or T word stands; 16 where an M word or a G word other than G20, G21, G53, G90 and G91 stands; 33 where the target is
-/// beyond 10,000 mm of the machine's zero on some axis; 15 where soft limits are on and the target is outside travel on
+/// That of the first word that does not pass after those before it, as in any line; else the first of these: 27 if N is
+/// over 10,000,000; 22 if there is no F word or F is 0; 26 if there is no axis word; 36 if there is an I, J, K, L, P,
+/// R, S or T word; 16 if there is an M word or a G word other than G20, G21, G53, G90 and G91; 33 if the target is
+/// beyond 10,000 mm of the machine's zero on some axis; 15 if soft limits are on and the target is outside travel on
 /// some axis.
 #[tactic(auto, unfolding(crate::specs::Jogs::jog_of))]
 pub fn check_jog(p: &Parser, s: &Settings, w: &Words) -> Result<JogMove, Code>

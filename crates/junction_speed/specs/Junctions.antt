@@ -6,8 +6,8 @@ use Rattle.line_geom.specs.declared.Geom.{Geom}
 use Rattle.line_geom.specs.declared.Cap.{Cap}
 use Rattle.line_geom.specs.declared.Cap.TheVariants.{At, Free}
 
--- the cosine of the turn, in millionths, rounded down: -1,000,000 where the next move goes on straight, 1,000,000
--- where it goes straight back
+-- the cosine of the turn, in millionths, rounded down: -1,000,000 if the next move goes on straight, 1,000,000
+-- if it goes straight back
 abbrev pub turn_of : Geom → Geom → ℤ
 turn_of p n = int_div_euclid (neg_ℤ (p.ux *ℤ n.ux +ℤ p.uy *ℤ n.uy +ℤ p.uz *ℤ n.uz)) (pos 1000000)
 
@@ -34,6 +34,6 @@ pub record IsReversed (p n : Geom) : Type 0 where
   pub y : n.uy ≡ neg_ℤ p.uy
   pub z : n.uz ≡ neg_ℤ p.uz
 
--- the square of a direction's length, in millionths of millionths: 1,000,000,000,000 but for what rounding took
+-- the square of a direction's length, in millionths of millionths: 1,000,000,000,000 less what rounding took
 abbrev pub squared_length : Geom → ℕ
 squared_length g = nat_abs g.ux * nat_abs g.ux + nat_abs g.uy * nat_abs g.uy + nat_abs g.uz * nat_abs g.uz

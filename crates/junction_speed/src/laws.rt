@@ -12,13 +12,13 @@ pub fn same_in_either_order()
     ensures { (p n : Geom) (deviation : ℕ) → junction_of p n deviation ≡ junction_of n p deviation }
 {}
 
-/// The machine stops where the next move goes straight back, unless rounding made the direction too short.
+/// The machine stops if the next move goes straight back, unless rounding made the direction too short.
 pub fn stops_at_a_reversal()
     ensures { (p n : Geom) (deviation : ℕ) → IsReversed p n → 1000000000000 ≤ squared_length p → junction_of p n deviation ≡ At 0 }
 {}
 
-/// Rounding takes so little from a direction that the machine all but stops where any move is followed by one straight
-/// back: the squared speed is at most a 500th of the acceleration times the deviation.
+/// Rounding changes a direction so little that the machine nearly stops if a move is followed by one straight back: the
+/// squared speed is at most a 500th of the acceleration times the deviation.
 pub fn nearly_stops_at_every_reversal()
     ensures { (mv : Move) (p n : Geom) (deviation : ℕ) → IsGeomOf mv p → IsReversed p n →
         (cap : ℕ) × (junction_of p n deviation ≡ At cap) × (500 * cap ≤ min p.accel n.accel * deviation) }

@@ -1,4 +1,4 @@
-//! How fast the machine may go from one move into the next.
+//! How fast the machine may go from one move into the next, by Grbl's junction deviation, `$11`.
 #![tactic(auto)]
 
 ghost use Rattle.std.specs.Prelude.{◌≡◌, ◌+◌, ◌-◌, ◌*◌, ◌/◌, ◌≤◌, ◌<◌, min, nat_abs, ◌≤ℤ◌, pos, neg_ℤ, ◌-ℤ◌, ◌*ℤ◌, ◌+ℤ◌};
@@ -30,7 +30,7 @@ fn dot(prev: &Geom, next: &Geom) -> i128
     x + y + z
 }
 
-/// A millionth of a number, rounded down: divided in 64 bits where it is small enough.
+/// A millionth of a number, rounded down. Divided in 64 bits if it fits.
 #[inline]
 fn millionth(number: i128) -> i128
     ensures { result ≡ int_div_euclid number (pos 1000000) }
@@ -42,7 +42,7 @@ fn millionth(number: i128) -> i128
     number.div_euclid(1_000_000)
 }
 
-/// The cosine of the turn from one move to the next, in millionths: -1,000,000 where the next goes on straight.
+/// The cosine of the turn from one move to the next, in millionths: -1,000,000 if the next goes on straight.
 fn turn(prev: &Geom, next: &Geom) -> i128
     ensures { result ≡ turn_of prev.now next.now }
 {
@@ -78,7 +78,7 @@ fn lesser_accel(prev: &Geom, next: &Geom) -> u64
     prev.accel.min(next.accel)
 }
 
-/// A quotient, divided in 64 bits where the number is small enough.
+/// A quotient. Divided in 64 bits if the number fits.
 #[inline]
 fn quotient(number: u128, divisor: u64) -> u128
     requires { 0 < divisor }
@@ -91,7 +91,7 @@ fn quotient(number: u128, divisor: u64) -> u128
     number / divisor as u128
 }
 
-/// The squared speed, in µm²/s², at which a corner is rounded at an acceleration, off it by at most the deviation.
+/// The squared speed, in µm²/s², at which a corner is rounded at an acceleration, at most the deviation off it.
 fn corner(accel: u64, deviation: u32, sine: u64) -> u64
     requires { sine < 1000000 }
     ensures { result ≡ min (corner_of accel deviation sine) 18446744073709551615 }
@@ -103,8 +103,8 @@ fn corner(accel: u64, deviation: u32, sine: u64) -> u64
 
 /// The cap on the squared speed where `prev` ends and `next` begins, for a deviation in µm.
 ///
-/// With `c = -(upx * unx + upy * uny + upz * unz) div 10^6`, rounded down, the cap is `At(0)` where `c > 999999`, and
-/// `Free` where `c < -999999`. Else it is `At(J)` with `J = a * d * s div (10^6 - s)`, at most `u64::MAX`, where a is
+/// With `c = -(upx * unx + upy * uny + upz * unz) div 10^6`, rounded down, the cap is `At(0)` if `c > 999999`, and
+/// `Free` if `c < -999999`. Else it is `At(J)` with `J = a * d * s div (10^6 - s)`, at most `u64::MAX`, where a is
 /// the lesser acceleration, d the deviation, and s the root of `(10^6 - c) * 10^6 div 2`, rounded down.
 pub fn junction(prev: &Geom, next: &Geom, deviation: u32) -> Cap
     ensures { result ≡ junction_of prev.now next.now deviation }
@@ -118,40 +118,4 @@ pub fn junction(prev: &Geom, next: &Geom, deviation: u32) -> Cap
     }
     let accel = lesser_accel(prev, next);
     Cap::At(corner(accel, deviation, half_sine(gap(turn))))
-}
-
-#[cfg(test)]
-mod tests {
-    use super::*;
-
-    /// A move of 250 steps at 250 steps per mm, in a direction, with an acceleration of 10 mm/s².
-    fn towards(ux: i32, uy: i32) -> Geom {
-        Geom {
-            n: 250,
-            length: 1_000_000,
-            ux,
-            uy,
-            uz: 0,
-            accel: 10_000,
-            rapid: 8333,
-            q: 80_000,
-        }
-    }
-
-    #[test]
-    fn caps_the_speed_by_the_turn(rt: HostRuntime) {
-        let right = towards(1_000_000, 0);
-        let left = towards(-1_000_000, 0);
-        let up = towards(0, 1_000_000);
-        assert_eq!(rt; junction(&right, &right, 10), Cap::Free);
-        assert_eq!(rt; junction(&right, &up, 10), Cap::At(241_420));
-        assert_eq!(rt; junction(&right, &left, 10), Cap::At(0));
-    }
-
-    #[test]
-    fn nearly_stops_where_a_slanting_move_turns_back(rt: HostRuntime) {
-        let there = towards(707_106, 707_106);
-        let back = towards(-707_106, -707_106);
-        assert_eq!(rt; junction(&there, &back, 10), Cap::At(122));
-    }
 }

@@ -21,7 +21,7 @@ change_over m n = (geometry_of m).q * n
 abbrev pub fastest : PlannedMove → ℕ
 fastest m = squared (geometry_of m).rapid
 
--- the greatest squared speed at which a move may end where another begins: what their junction allows, and the axes of
--- both
+-- the greatest squared speed at which a move may end where another begins: what their junction, and the axes of both,
+-- allow
 unfoldable pub fastest_joint : PlannedMove → PlannedMove → ℕ
 fastest_joint a b = under (junction_of (geometry_of a) (geometry_of b) b.deviation) (min (fastest a) (fastest b))

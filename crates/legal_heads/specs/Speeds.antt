@@ -1,7 +1,7 @@
 -- Which speeds of recorded heads are legal.
 --
--- A stretch is the heads between two marks, or between a mark and either end of the records. A head is told with the move
--- that its events are of, and with how many of that move's events come before them.
+-- A stretch is the heads between two marks, or between a mark and either end of the records. `Told` has heads with the
+-- move that their events are of, and with how many of that move's events come before them.
 use Rattle.std.specs.Prelude.{◌≡◌, ℕ, ◌+◌, ◌≤◌, ◌⊎◌, nat_eq, cond, List, [], ◌∷◌, ◌++◌, map, Some, None}
 use Rattle.std.specs.List.{flat_map, AllByRecursion}
 use Rattle.std.specs.declared.option.Option.{Option}
@@ -28,27 +28,27 @@ pub record StaysInMove (a b : ToldHead) : Type 0 where
   pub planned : b.planned ≡ a.planned
   pub first : b.first ≡ a.first + a.head.n
 
--- all events of its move are told up to the end of a head
+-- a head's events are the last of its move
 abbrev pub EndsMove : ToldHead → Type 0
 EndsMove h = h.first + h.head.n ≡ events_of h.planned.mv
 
--- b begins a later move where that of a is done, no faster than the two moves may be joined
+-- b begins a later move once that of a is done, no faster than the two moves may be joined
 pub record BeginsLater (a b : ToldHead) : Type 0 where
   pub done : EndsMove a
   pub first : b.first ≡ 0
   pub joint : b.head.w ≤ fastest_joint a.planned b.planned
 
--- b comes next behind a in a stretch
+-- b comes next after a in a stretch
 pub record IsLegalChange (a b : ToldHead) : Type 0 where
   pub change : distance a.head.w b.head.w ≤ change_of a
   pub move : StaysInMove a b ⊎ BeginsLater a b
 
--- the first head of a stretch begins a move at rest, each other one comes behind the one before it
+-- the first head of a stretch begins a move at rest, each other one comes after the one before it
 abbrev pub MayCome : Option ToldHead → ToldHead → Type 0
 MayCome None h = (h.first ≡ 0) × (h.head.w ≡ 0)
 MayCome (Some a) h = IsLegalChange a h
 
--- a stretch may end where the machine can stop over the events of its last head
+-- a stretch may end if the machine can stop over the events of its last head
 abbrev pub MayStop : Option ToldHead → Type 0
 MayStop None = Unit {0}
 MayStop (Some a) = a.head.w ≤ change_of a
@@ -58,32 +58,31 @@ abbrev pub IsDone : Option ToldHead → Type 0
 IsDone None = Unit {0}
 IsDone (Some a) = EndsMove a
 
--- a stretch may end with a mark where the machine can stop; and where its latest move is done, but for a cut, which may
--- break it off
+-- a stretch may end with a mark if the machine can stop and the latest move is done; a cut may break a move off
 abbrev pub MayMark : Option ToldHead → AnyMark → Type 0
 MayMark before (Dwell ms) = MayStop before × IsDone before
 MayMark before (Spindle code speed) = MayStop before × IsDone before
 MayMark before (Coolant on) = MayStop before × IsDone before
 MayMark before (Cut line) = MayStop before
 
--- what is told comes next behind the latest head of a stretch, or at a stretch's beginning
+-- what is told comes next after the latest head of a stretch, or at a stretch's beginning
 abbrev pub ComesNext : Option ToldHead → Told → Type 0
 ComesNext before (Head h) = MayCome before h × (h.head.w ≤ fastest h.planned)
 ComesNext before (Mark m) = MayMark before m
 ComesNext before End = MayStop before × IsDone before
 
--- the latest head of the stretch behind it
+-- the latest head of the stretch after it
 abbrev pub latest_behind : Told → Option ToldHead
 latest_behind (Head h) = Some h
 latest_behind (Mark m) = None
 latest_behind End = None
 
--- all that is told comes next behind what is told before it
+-- all that is told comes next after what is told before it
 abbrev pub AreLegalBehind : Option ToldHead → List Told → Type 0
 AreLegalBehind before [] = Unit {0}
 AreLegalBehind before (t ∷ rest) = ComesNext before t × AreLegalBehind (latest_behind t) rest
 
--- all that is told is legal; where no end is told yet, the last stretch is still open
+-- all that is told is legal; if no end is told yet, the last stretch is still open
 abbrev pub AreLegal : List Told → Type 0
 AreLegal told = AreLegalBehind None told
 
@@ -93,7 +92,7 @@ IsOfPlannedMove (Head h) = IsPlannedMove h.planned
 IsOfPlannedMove (Mark m) = Unit {0}
 IsOfPlannedMove End = Unit {0}
 
--- a head tells some events of its move, and the move's line
+-- a head has some events of its move, and the move's line
 pub record IsOfItsMove (h : ToldHead) : Type 0 where
   pub line : h.head.line ≡ h.planned.line
   pub some : 1 ≤ h.head.n
@@ -116,8 +115,8 @@ begun_by (Head h) = cond (nat_eq h.first 0) (h.planned ∷ []) []
 begun_by (Mark m) = []
 begun_by End = []
 
--- The heads of some records tell events of these moves, move by move and none left out, at legal speeds. They need not tell
--- them to the end: where no end is recorded, the last stretch is still open.
+-- The heads of some records tell events of these moves, move by move and none left out, at legal speeds. They need not
+-- tell them to the end: if no end is recorded, the last stretch is still open.
 pub record HasLegalHeads (moves : List PlannedMove) (records : List Record) : Type 0 where
   pub told : List Told
   pub recorded : records ≡ flat_map told_records told

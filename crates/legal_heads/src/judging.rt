@@ -29,7 +29,7 @@ use std::marker::Model;
 use step_line::{Mark, PlannedMove};
 use units::{Limits, Move, Rate, Steps3};
 
-/// A head with the geometry of its move, which is worked out once.
+/// A head with the geometry of its move, worked out once.
 #[derive(Drop)]
 struct Measured {
     told: ToldHead,
@@ -115,21 +115,21 @@ fn is_same_way(a: &Move, b: &Move) -> bool
     is_same_place(&a.from, &b.from) && is_same_place(&a.to, &b.to)
 }
 
-/// Whether two moves are bounded alike.
+/// Whether two moves have the same limits.
 fn has_same_limits(a: &Limits, b: &Limits) -> bool
     ensures { IsTrue result ↔ (a.now ≡ b.now) }
 {
     *a == *b
 }
 
-/// Whether two moves are as fast.
+/// Whether two moves have the same rate.
 fn has_same_rate(a: &Rate, b: &Rate) -> bool
     ensures { IsTrue result ↔ (a.now ≡ b.now) }
 {
     *a == *b
 }
 
-/// Whether two moves are planned alike.
+/// Whether two moves are the same to a plan.
 fn is_same(a: &PlannedMove, b: &PlannedMove) -> bool
     ensures { IsTrue result ↔ (a.now ≡ b.now) }
 {
@@ -147,14 +147,14 @@ fn stays_in_move(a: &ToldHead, b: &ToldHead) -> bool
     is_same(&b.planned, &a.planned) && b.first as u64 == a.first as u64 + a.head.n as u64
 }
 
-/// Whether a head begins a later move where that of the one before it is done, no faster than the two may be joined.
+/// Whether a head begins a later move once that of the one before it is done, no faster than the two may be joined.
 fn begins_later(a: &Measured, b: &Measured) -> bool
     ensures { IsTrue result ↔ BeginsLater a.now b.now }
 {
     a.ends_move() && b.told.first == 0 && b.told.head.w <= a.fastest_to(b)
 }
 
-/// Whether a head may come behind another of its stretch.
+/// Whether a head may come after another of its stretch.
 fn is_legal_change(a: &Measured, b: &Measured) -> bool
     ensures { IsTrue result ↔ IsLegalChange a.now b.now }
 {
@@ -164,7 +164,7 @@ fn is_legal_change(a: &Measured, b: &Measured) -> bool
     stays_in_move(&a.told, &b.told) || begins_later(a, b)
 }
 
-/// Whether a head may come in a stretch: first at rest, or behind the one before it.
+/// Whether a head may come in a stretch: first at rest, or after the one before it.
 fn may_come(before: &Option<ToldHead>, h: &Measured) -> bool
     requires { IfSome before.now (λ a. IsPlannedMove a.planned) }
     ensures { IsTrue result ↔ MayCome before.now h.now }
@@ -175,7 +175,7 @@ fn may_come(before: &Option<ToldHead>, h: &Measured) -> bool
     }
 }
 
-/// Whether a stretch may end behind its latest head by a cut, which may break its move off.
+/// Whether a stretch may end after its latest head by a cut, which may break its move off.
 fn may_break_off(before: &Option<ToldHead>) -> bool
     requires { IfSome before.now (λ a. IsPlannedMove a.planned) }
     ensures { IsTrue result ↔ MayStop before.now }
@@ -186,7 +186,7 @@ fn may_break_off(before: &Option<ToldHead>) -> bool
     }
 }
 
-/// Whether a stretch may end behind its latest head, with the last event of its move.
+/// Whether a stretch may end after its latest head, with the last event of its move.
 fn may_end(before: &Option<ToldHead>) -> bool
     requires { IfSome before.now (λ a. IsPlannedMove a.planned) }
     ensures { IsTrue result ↔ (MayStop before.now × IsDone before.now) }
@@ -200,7 +200,7 @@ fn may_end(before: &Option<ToldHead>) -> bool
     }
 }
 
-/// Whether a mark may come behind the latest head of a stretch.
+/// Whether a mark may come after the latest head of a stretch.
 fn may_mark(before: &Option<ToldHead>, mark: &Mark) -> bool
     requires { IfSome before.now (λ a. IsPlannedMove a.planned) }
     ensures { IsTrue result ↔ MayMark before.now mark.now }
@@ -211,7 +211,7 @@ fn may_mark(before: &Option<ToldHead>, mark: &Mark) -> bool
     }
 }
 
-/// Whether what is told comes next behind the latest head of a stretch, or at a stretch's beginning.
+/// Whether what is told comes next after the latest head of a stretch, or at a stretch's beginning.
 pub fn comes_next(before: &Option<ToldHead>, told: &Told) -> bool
     requires before { IfSome before.now (λ a. IsPlannedMove a.planned) }
     requires told { IsOfPlannedMove told.now }
@@ -227,7 +227,7 @@ pub fn comes_next(before: &Option<ToldHead>, told: &Told) -> bool
     }
 }
 
-/// The latest head of the stretch behind what is told.
+/// The latest head of the stretch after what is told.
 pub fn latest(told: &Told) -> Option<ToldHead>
     ensures { result ≡ latest_behind told.now }
 {
@@ -238,7 +238,7 @@ pub fn latest(told: &Told) -> Option<ToldHead>
     }
 }
 
-/// Whether all that is told is legal. Where no end is told, the last stretch is still open.
+/// Whether all that is told is legal. If no end is told, the last stretch is still open.
 pub fn are_legal(told: &[Told]) -> bool
     requires { All IsOfPlannedMove told.now }
     ensures { IsTrue result ↔ AreLegal told.now }

@@ -1,4 +1,4 @@
-//! What legal heads are: of records and geometry alone, with no plan in sight.
+//! What legal heads are, by records and geometry alone, with no plan.
 //!
 //! Speeds are squared, in µm²/s².
 #![tactic(auto)]
@@ -20,7 +20,7 @@ pub struct ToldHead {
     pub first: u32,
 }
 
-/// What is recorded but for the events.
+/// What is recorded, without the events.
 #[derive(Clone, Copy, Debug, PartialEq, Eq)]
 pub enum Told {
     Head(ToldHead),

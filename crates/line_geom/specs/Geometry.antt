@@ -11,11 +11,11 @@ use Rattle.units.specs.Limits.{IsLimits}
 use Rattle.units.specs.Counting.{way, events_of}
 use Rattle.line_geom.specs.declared.Geom.{Geom}
 
--- how far a steps go at p thousandths of a step per mm, in nm
+-- the length of a steps at p thousandths of a step per mm, in nm
 abbrev pub axis_length : ℕ → ℕ → ℕ
 axis_length a p = a * 1000000000 / p
 
--- how long a line is that goes so far along each axis
+-- the length of a line that goes so far along each axis
 unfoldable pub line_length : ℕ → ℕ → ℕ → ℕ
 line_length x y z = max 1 (root_of (x * x + y * y + z * z))
 
@@ -31,7 +31,7 @@ unit_of d p length = with_sign_of d (axis_length (nat_abs d) p * 1000000 / lengt
 abbrev pub IsAxisCap : ℕ → Type 0
 IsAxisCap cap = (1000 ≤ cap) × (cap ≤ 1000000000)
 
--- what an axis's cap allows along a line of which the axis goes u millionths; nothing where the axis doesn't move
+-- what an axis's cap allows along a line if the axis goes u millionths of it; no cap if the axis doesn't move
 abbrev pub axis_cap : ℕ → ℕ → List ℕ
 axis_cap cap u = cond (nat_eq u 0) [] (cap * 1000000 / u ∷ [])
 
@@ -44,7 +44,7 @@ least [] = 0
 least (x ∷ []) = x
 least (x ∷ y ∷ ys) = min x (least (y ∷ ys))
 
--- an axis's number, which is the greatest u64 where the axis allows everything
+-- an axis's cap as a number: the greatest u64 if the axis sets none
 abbrev pub IsShare : ℕ → List ℕ → Type 0
 IsShare r xs = ((xs ≡ []) × (r ≡ 18446744073709551615)) ⊎ ((xs ≡ r ∷ []) × (r < 18446744073709551615))
 

@@ -13,7 +13,7 @@ pub fn least_is_least()
     ensures below { (xs : List ℕ) → All (λ x. least xs ≤ x) xs }
 {}
 
-/// A move under limits has at most one geometry, which is told field by field.
+/// A move under limits has at most one geometry, which is given field by field.
 pub fn one_geometry()
     ensures { (mv : Move) (l : Limits) (g : Geom) → (geom_of mv l ≡ Some g) ↔ IsGeom mv l g }
 {}

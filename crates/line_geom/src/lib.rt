@@ -1,5 +1,5 @@
-//! The geometry of a straight move: its length, its direction, and what bounds it along its line. A move that is planned is a
-//! block, which holds it.
+//! The geometry of a straight move: its length, its direction, and what bounds its speed. A move in a plan is a block,
+//! which has a geometry.
 #![tactic(auto)]
 
 pub mod laws;
@@ -20,9 +20,9 @@ pub struct Geom {
     pub uy: i32,
     /// How far Z goes, in millionths of the length.
     pub uz: i32,
-    /// The greatest acceleration along it that each axis allows, in µm/s².
+    /// The greatest acceleration along it that all axes allow, in µm/s².
     pub accel: u64,
-    /// The greatest speed along it that each axis allows, in µm/s.
+    /// The greatest speed along it that all axes allow, in µm/s.
     pub rapid: u64,
     /// How much the squared speed, in µm²/s², may change over one step event.
     pub q: u64,
@@ -41,7 +41,7 @@ pub struct Block {
     /// The line that it comes from.
     pub line: u32,
     pub mv: Move,
-    /// How fast the line asks it to be.
+    /// How fast the line asks for it.
     pub rate: Rate,
     pub geom: Geom,
     /// How many of its step events are prepared for the steppers.

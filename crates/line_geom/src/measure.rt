@@ -39,7 +39,7 @@ fn square(nm: u64) -> u128
     nm as u128 * nm as u128
 }
 
-/// How long a line is that goes so far along each axis, in nm, and at least 1 nm.
+/// The length of a line that goes so far along each axis, in nm, and at least 1 nm.
 fn line_nm(x: u64, y: u64, z: u64) -> u64
     requires x { x ≤ 200000000000000 }
     requires y { y ≤ 200000000000000 }
@@ -67,7 +67,7 @@ fn unit(from: i64, to: i64, axis: u64, length: u64) -> i32
     if to < from { -part } else { part }
 }
 
-/// What an axis's cap allows along a line of which the axis goes so many millionths: `u64::MAX` where it doesn't move.
+/// What an axis's cap allows along a line, if the axis goes so many millionths of it: `u64::MAX` if it doesn't move.
 fn along(cap: u32, part: u32) -> u64
     requires cap { IsAxisCap cap }
     requires part { part ≤ 1000000 }
@@ -136,7 +136,7 @@ fn change(accel: u64, length: u64, n: u32) -> u64
     (2 * accel as u128 * length as u128 / (1000 * n as u128)) as u64
 }
 
-/// The geometry of a move under limits; none exactly where the move has no steps.
+/// The geometry of a move under limits; none exactly if the move has no steps.
 ///
 /// An axis that makes a steps at p thousandths of a step per mm goes `a * 10^9 div p` nm. The length is the root of
 /// the sum of the squares of these, rounded down, and at least 1 nm. An axis's unit is `nm * 10^6 div length`, with

@@ -1,5 +1,5 @@
 -- How a line is judged.
-use Rattle.std.proofs.Common.{◌≡◌, ℕ, Bool, true, false, not, ◌&&◌, ◌||◌, if◌then◌else◌, List, [], ◌∷◌, ◌++◌, length, nat_eq, nat_lt, Some, None, inl, inr, refl, sym, ap, subst, arith, append-nil, append_assoc, ◌∙◌}
+use Rattle.std.proofs.Common.{◌≡◌, ℕ, Bool, true, false, List, [], ◌∷◌, ◌++◌, length, nat_eq, nat_lt, Some, None, refl, sym, subst, arith, append-nil, append_assoc}
 use Rattle.std.specs.List.{slice_get}
 use Rattle.std.specs.declared.option.Option.{Option}
 use Rattle.std.specs.declared.result.Result.{Result}
@@ -14,27 +14,23 @@ use Rattle.gcode_check.specs.declared.Item.{Item}
 use Rattle.gcode_check.specs.declared.Item.TheVariants as items
 use Rattle.gcode_check.specs.declared.Verdict.{Verdict}
 use Rattle.jog.specs.declared.JogMove.{JogMove}
-use Rattle.jog.specs.Jogs.{jogged}
-use Rattle.system_lines.specs.Commands.{command_of, kind_of, jog_words, is_jog, refused_in_run, refused_in_jog}
-use Rattle.system_lines.specs.declared.Kind.{Kind}
+use Rattle.system_lines.specs.Commands.{command_of, kind_of, jog_words, is_jog}
 use Rattle.system_lines.specs.declared.Kind.TheVariants as kinds
 use Rattle.system_lines.specs.declared.Command.{Command}
 use Rattle.status_report.specs.declared.Reply.TheVariants as replies
-use Rattle.run_rules.specs.Work.{Outcome, asking}
+use Rattle.run_rules.specs.Work.{Outcome}
 use Rattle.run_rules.specs.Work.Task.{tell}
 use Rattle.run_rules.specs.declared.State.{State}
-use Rattle.run_rules.specs.Asks.{item_work, work_of, move_asked, planned, spindle_after, flood_after}
-use Rattle.run_rules.specs.Outcomes.{Before, refused, told, jogging, has_cause, BySetting, ByCommand, ByVerdict, ByWords, ByJogMove, ByJog, ByServed, ByDollar, ByCode, ByKept, Becomes, either, most_kept}
+use Rattle.run_rules.specs.Asks.{item_work, work_of, spindle_after, flood_after}
+use Rattle.run_rules.specs.Outcomes.{Before, refused, told, BySetting, ByCommand, ByVerdict, ByWords, ByJogMove, ByJog, ByServed, either, most_kept}
 use Rattle.run_rules.specs.declared.machine.Machine.{Machine}
-use Rattle.run_rules.specs.declared.machine.Machine.TheVariants.{Stands, Runs, Jogs}
 use Rattle.run_rules.specs.Finding.{refuses, locks, ByDollarFound, ByCodeFound, ByKeptFound, Found}
-use Rattle.line_interpreter.specs.Since.{Since}
 use Rattle.status_report.specs.Lists.{setting_replies, modes_replies, offset_replies}
 use Rattle.line_interpreter.specs.declared.tasks.Body.{Body}
 use Rattle.line_interpreter.specs.declared.tasks.Body.TheVariants.{Items, Accepted, Settings, Modes, Offsets}
 use Rattle.line_interpreter.specs.declared.desk.Desk.{Desk}
 use Rattle.line_interpreter.specs.declared.desk.Accepted.TheVariants.{Neither}
-use Rattle.line_interpreter.specs.Desks.{Begun, standing}
+use Rattle.line_interpreter.specs.Desks.{Begun}
 use Rattle.line_interpreter.specs.Lefts.{part, behind_part}
 
 pub by_setting : (b : Before) (n : ℕ) (value : Decimal) (r q : Option Code) (o : Outcome) → q ≡ r → BySetting b n value q o → BySetting b n value r o
@@ -129,17 +125,3 @@ modes_begun old new same = rw same (record { state = refl; left = append-nil _; 
 
 pub offsets_begun : (old new : Desk) → new ≡ with_body old Offsets → Begun new (told old.state (offset_replies old.state.parser.offsets)) Neither
 offsets_begun old new same = rw same (record { state = refl; left = append-nil _; answer = refl })
-
--- a desk whose line has the move of a jog, of which nothing is done
-abbrev pub jogging_begun_from : Desk → JogMove → Desk
-jogging_begun_from d jog = record d {
-  state = record d.state { parser = jogged d.state.parser jog };
-  line = record d.line {
-    body = Items;
-    number = d.number;
-    running = record { spindle = d.state.parser.modal.spindle; flood = d.state.parser.modal.flood };
-    items = record d.line.items { items = items.Move jog.mv jog.rate ∷ [] };
-    place = 0;
-    stage = 0;
-  };
-}

@@ -291,17 +291,6 @@ line_next l s t e = next_on t (part_left l s) (later l s) e
 pub part_next : (l : Line) (s : State) (t : Task) → IsSettled l s → IsNextOf t (work_left l s) → IsNextOf t (part_left l s)
 part_next l s t settled e = next_in t (part_left l s) (later l s) settled e
 
-todo_by : (t : Todo) (w later : List Task) → (w ≡ [] → later ≡ []) → IsTodo t w → IsTodo t (w ++ later)
-todo_by todo.Nothing w later settled e = rw e (settled e)
-todo_by todo.Rest w later settled e = next_on (ask a_rest) w later e
-todo_by (todo.Mark m) w later settled e = (next_on (ask (a_mark m)) w later e.0, e.1)
-todo_by todo.Move w later settled e = (e.0, next_on (ask (a_move e.0)) w later e.1)
-todo_by todo.Tell w later settled e = (e.0, next_on (tell e.0) w later e.1)
-todo_by todo.Pause w later settled e = next_on pause w later e
-todo_by todo.Normal w later settled e = next_on normal w later e
-todo_by todo.Finish w later settled e = next_on finish w later e
-todo_by todo.Halt w later settled e = next_on halt w later e
-
 -- ---- a part is done
 
 no_tasks : (n : ℕ) (w : List Task) → drop n w ≡ [] → length w ≤ n

@@ -348,7 +348,7 @@ impl Desk {
     }
 
     /// Whether nothing is left to do.
-    #[inline]
+    #[inline(always)]
     pub(crate) fn is_done(&self) -> bool
         requires ready { IsReady self.now }
         requires settled { IsSettled self.now.line self.now.state }

@@ -94,7 +94,7 @@ impl Interpreter {
     }
 
     /// Whether nothing is left to do.
-    #[inline]
+    #[inline(always)]
     pub fn is_done(&self) -> bool
         ensures { (result ≡ true) ↔ (self.now.left ≡ []) }
     {

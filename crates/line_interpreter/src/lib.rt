@@ -9,8 +9,6 @@ mod interpreter;
 mod kept;
 mod reporting;
 mod tasks;
-#[cfg(test)]
-mod tests;
 
 pub use desk::Accepted;
 pub use interpreter::Interpreter;

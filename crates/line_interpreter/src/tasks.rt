@@ -416,7 +416,7 @@ impl Line {
     }
 
     /// Whether nothing is left of it, nor of what comes behind the present part.
-    #[inline]
+    #[inline(always)]
     pub(crate) fn is_done(&self) -> bool
         requires sound { IsSound self.now }
         ensures done { result ≡ true → (s : AnyState) → IsSettled self.now s → work_left self.now s ≡ [] }

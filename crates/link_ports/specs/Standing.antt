@@ -11,21 +11,30 @@ use Rattle.stream_host.specs.Ports.{IsOpen}
 use Rattle.board_rules.specs.Ports as board
 use Rattle.link_ports.specs.declared.host.HostLink.{HostLink}
 use Rattle.link_ports.specs.declared.board.BoardLink.{BoardLink}
-use Rattle.link_ports.specs.Hosts.{HostDid}
-use Rattle.link_ports.specs.Boards.{BoardDid}
+use Rattle.link_ports.specs.Hosts.{HostDid, HostLooked}
+use Rattle.link_ports.specs.Boards.{BoardDid, BoardLooked}
 
 -- what a host's port did
 abbrev pub HostLogs : {room : ℕ} → HostLink room → host.PortLog → Type 0
 HostLogs port h = HostDid (stored_by port.end) (closed_by port.end) (got_by port.end) (raises_by port.flags) h
 
+-- how often it looked, and what it saw
+abbrev pub HostSees : {room : ℕ} → HostLink room → host.PortLog → Type 0
+HostSees port h = HostLooked port.end h
+
 -- what a board's port did
 abbrev pub BoardLogs : BoardLink → board.PortLog → Type 0
 BoardLogs port l = BoardDid (taken_by port.end) (found_closed port.end) (answered_by port.end) (takes_by port.flags) (published_by port.pieces) (known_by port.pieces) l
+
+-- how often it looked, and what it saw
+abbrev pub BoardSees : BoardLink → board.PortLog → Type 0
+BoardSees port l = BoardLooked port.end port.pieces l
 
 -- the link is open, and at most so many bytes were stored
 pub record IsOpenBehind {room : ℕ} (n : ℕ) (port : HostLink room) : Type 0 where
   pub log : host.PortLog
   pub did : HostLogs port log
+  pub sees : HostSees port log
   pub going : IsOpen log
   pub few : length (host.stored_in log) ≤ n
 
@@ -33,6 +42,7 @@ pub record IsOpenBehind {room : ℕ} (n : ℕ) (port : HostLink room) : Type 0 w
 pub record OwesAnswers (owed n : ℕ) (port : BoardLink) : Type 0 where
   pub log : board.PortLog
   pub did : BoardLogs port log
+  pub sees : BoardSees port log
   pub owes : answers_in (board.answered_in log) + owed ≤ lfs_in (board.taken_in log)
   pub few : length (board.answered_in log) ≤ n
 
@@ -40,5 +50,6 @@ pub record OwesAnswers (owed n : ℕ) (port : BoardLink) : Type 0 where
 pub record HasPublished (n : ℕ) (port : BoardLink) : Type 0 where
   pub log : board.PortLog
   pub did : BoardLogs port log
+  pub sees : BoardSees port log
   pub going : has_ended (reverse (board.published_in log)) ≡ false
   pub few : ticks_together (board.published_in log) ≤ n

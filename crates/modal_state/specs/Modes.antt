@@ -59,7 +59,7 @@ pub record IsWithin (bound : ℕ) (at : Nm3) : Type 0 where
   pub y : nat_abs at.y ≤ bound
   pub z : nat_abs at.z ≤ bound
 
--- how far from zero a parser's offsets and position lie at most, in nm
+-- how far from zero a parser's offsets and position are at most, in nm
 abbrev pub farthest : ℕ
 farthest = 100000000000000
 

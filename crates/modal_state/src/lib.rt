@@ -7,9 +7,6 @@ ghost use Rattle.units.specs.Lengths.{IsPlace, IsScale};
 ghost use Rattle.units.specs.Limits.{OnEachAxis};
 ghost use Rattle.modal_state.specs.Modes.{opening_parser, offset_of, plus, wco_of, rebased, program_ended, farthest, IsWithin, IsSystem, IsOffsets, IsParser};
 
-#[cfg(test)]
-mod tests;
-
 use units::{Nm3, Per3, Steps3, to_nm};
 
 /// How an axis word moves: as a rapid, at a feed, or not at all.
@@ -161,7 +158,8 @@ impl Parser {
         plus(self.offsets.of_system(self.modal.system), self.offsets.g92)
     }
 
-    /// Takes a place in steps as the position, and its length in nm on each axis; all else stays.
+    /// Makes a place in steps the position, with its length in nm on each axis; all else stays. Called after a cut of
+    /// jogs.
     pub fn rebase(&mut self, at: Steps3, per_mm: &Per3)
         requires valid { IsParser self.old }
         requires place { IsPlace at }
@@ -177,7 +175,7 @@ impl Parser {
         self.pos_steps = at;
     }
 
-    /// Sets the modes that the end of a program sets: G1, G17, G90, G54, M5 and M9; all else stays.
+    /// Sets the modes that M2 and M30 set: G1, G17, G90, G54, M5 and M9; all else stays.
     pub fn end_program(&mut self)
         requires { IsParser self.old }
         ensures state { self.new ≡ program_ended self.old }

@@ -5,7 +5,7 @@ ghost use Rattle.rtrb.specs.Ring.{sent};
 ghost use Rattle.step_line.specs.Finishing.{ticks_together};
 ghost use Rattle.step_line.specs.Ordering.{has_ended};
 ghost use Rattle.step_line.specs.Records.{IsMark};
-ghost use Rattle.motion_ring.specs.Ends.{published_by, got_by, counted_by, left_in};
+ghost use Rattle.motion_ring.specs.Ends.{published_by, got_by, head_loads_of, counted_by, left_in};
 
 use super::*;
 use motion_ring::{SegIn, SegOut, motion};
@@ -113,7 +113,7 @@ impl Model for Line {
 
 impl Line {
     fn new(end: SegIn, records: RecordOut) -> Line
-        requires idle { (got_by end ≡ []) × (counted_by end ≡ 0) × (left_in end ≡ 0) }
+        requires idle { (got_by end ≡ []) × (counted_by end ≡ 0) × (left_in end ≡ 0) × (head_loads_of end ≡ 0) }
         requires fresh { sent records.end ≡ [] }
     {
         Line {

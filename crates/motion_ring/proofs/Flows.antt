@@ -6,9 +6,7 @@ use Rattle.units.specs.Truths.{one_if}
 use mathlib.Core.Option.{none, some}
 use mathlib.Core.Option as maybe
 use native.Mathlib.Decide.{dec_le}
-use lib.ListN.{get_elem?}
 use Rattle.shared_rings.specs.Placed.{placed}
-use Rattle.shared_rings.specs.Shelf.{Shelf}
 use Rattle.shared_rings.proofs.Placed.{next_placed, by_bool}
 use Rattle.shared_rings.proofs.Shelf as shelves
 use Rattle.step_line.specs.declared.Piece.{Piece}
@@ -17,7 +15,7 @@ use Rattle.step_line.specs.Finishing.{tick_count, ticks_together}
 use Rattle.step_line.proofs.Finished.{together}
 use Rattle.motion_ring.specs.Ticks.{head_word, done_word, room_from}
 use Rattle.motion_ring.specs.Rule.{Flows}
-use Rattle.motion_ring.proofs.Ticks.{of_suffix, going_before, fewer_dropped, fewer_further, got_among, got_below, pieces_few, has_tick}
+use Rattle.motion_ring.proofs.Ticks.{of_suffix, going_before, fewer_further, got_among, got_below, pieces_few, has_tick}
 
 abbrev pub Homes : Type 0
 Homes = List (maybe.Option (Option Piece))

@@ -1,14 +1,13 @@
 -- Each step keeps the rule.
-use Rattle.std.proofs.Common.{◌≡◌, ◌≢◌, ℕ, zero, suc, ◌+◌, ◌-◌, ◌%◌, ◌^◌, ◌<◌, ◌≤◌, ◌⊎◌, Bool, true, false, List, [], ◌∷◌, ◌++◌, length, drop, replicate, map, get_or, set, Some, None, sym, refl, ap, ◌∙◌, subst, ⊎_elim, arith, lt_of_not-le, length-set}
+use Rattle.std.proofs.Common.{◌≡◌, ℕ, ◌+◌, ◌-◌, ◌%◌, ◌^◌, ◌<◌, ◌≤◌, Bool, true, false, List, [], ◌∷◌, ◌++◌, length, drop, replicate, get_or, set, Some, None, sym, refl, ap, ◌∙◌, subst, ⊎_elim, arith, lt_of_not-le}
 use Rattle.std.proofs.lemmas.List.{set-get_or, get_or-set_same, get_or-set_other}
 use Rattle.std.specs.declared.option.Option.{Option}
 use mathlib.Core.Option.{none, some}
 use native.Mathlib.Decide.{dec_le}
 use lib.ListN.{get_elem?}
-use Rattle.atomic_table.specs.Table.{State, Me, Step, step, Act, Allows, Splits, Joins, opening, stepped, Valid, carried_after}
+use Rattle.atomic_table.specs.Table.{State, Me, step, Act, Allows, Splits, Joins, opening, stepped, Valid, carried_after}
 use Rattle.atomic_table.specs.Table.Act.{keeps, takes, gives}
 use Rattle.atomic_table.proofs.Lists.{at_set}
-use Rattle.shared_rings.specs.Rights.{Sole}
 use Rattle.shared_rings.proofs.Rights as rights
 use Rattle.shared_rings.proofs.Shelf as shelves
 use Rattle.step_line.specs.declared.Piece.{Piece}

@@ -1,5 +1,5 @@
 -- The segment of the tests.
-use Rattle.std.proofs.Common.{pos, refl, rules, lit≤, lit<, ◌≡◌, ◌<◌, [], arith}
+use Rattle.std.proofs.Common.{pos, refl, rules, lit≤, lit<, ◌≡◌, [], arith}
 use Rattle.step_line.specs.declared.Segment.{Segment}
 use Rattle.step_line.specs.declared.Piece.TheVariants as pieces
 use Rattle.step_line.specs.Counting.{events_of}

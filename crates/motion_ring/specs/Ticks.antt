@@ -1,5 +1,5 @@
 -- The ticks of pieces that were published, the latest first.
-use Rattle.std.specs.Prelude.{◌≡◌, ℕ, suc, ◌+◌, ◌^◌, ◌<◌, List, [], ◌∷◌, drop, reverse}
+use Rattle.std.specs.Prelude.{ℕ, ◌+◌, ◌^◌, ◌<◌, List, [], ◌∷◌, drop, reverse}
 use Rattle.step_line.specs.declared.Piece.{Piece}
 use Rattle.step_line.specs.Logs.{NewestFirst}
 use Rattle.step_line.specs.Ordering.{ComesNext}

@@ -139,6 +139,7 @@ impl SegIn {
         ensures counted { counted_by self.new ≡ counted_by self.old + 1 }
         ensures left { left_in self.new ≡ left_in self.old - 1 }
         ensures got { got_by self.new ≡ got_by self.old }
+        ensures loads { head_loads_of self.new ≡ head_loads_of self.old }
         ensures ring { ring_of_in self.new ≡ ring_of_in self.old }
     {
         let shared = &self.ring.shared;

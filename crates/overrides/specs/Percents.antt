@@ -15,7 +15,7 @@ pub record IsOverrides (o : Overrides) : Type 0 where
   pub spindle_low : 10 ≤ o.spindle
   pub spindle_high : o.spindle ≤ 200
 
--- a percentage after those of five flags that stand: 100, ten more, ten less, one more, one less, in that order, and
+-- a percentage after those of five flags that are set: 100, ten more, ten less, one more, one less, in that order, and
 -- then at most 200 and at least 10. A difference stops at 0, which is below 10 too
 abbrev pub percent_after : ℕ → Bool → Bool → Bool → Bool → Bool → ℕ
 percent_after present whole up_ten down_ten up_one down_one =
@@ -26,14 +26,14 @@ percent_after present whole up_ten down_ten up_one down_one =
     let e : ℕ = if down_one then d - 1 else d in
     max (min e 200) 10
 
--- a rapid percentage after those of three flags that stand: 100, then 50, then 25
+-- a rapid percentage after those of three flags that are set: 100, then 50, then 25
 abbrev pub rapid_after : ℕ → Bool → Bool → Bool → ℕ
 rapid_after present whole half quarter =
     let a : ℕ = if whole then 100 else present in
     let b : ℕ = if half then 50 else a in
     if quarter then 25 else b
 
--- whether the flag that a realtime byte raises stands
+-- whether the flag that a realtime byte raises is set
 abbrev pub raised : Ovr → ℕ → Bool
 raised flags byte = has_flag (ovr_bits flags) byte
 
@@ -45,7 +45,7 @@ taken o flags = record {
   spindle = percent_after o.spindle (raised flags 0x99) (raised flags 0x9a) (raised flags 0x9b) (raised flags 0x9c) (raised flags 0x9d);
 }
 
--- how fast a move is to go, in µm/s, where its axes allow the rapid speed; feeds are in nm per minute
+-- how fast a move is to go, in µm/s, if its axes allow the rapid speed; feeds are in nm per minute
 abbrev pub nominal_of : Overrides → Rate → ℕ → ℕ
 nominal_of o Rapid rapid = max (rapid * o.rapid / 100) 16
 nominal_of o (Feed feed) rapid = min rapid (max (nat_abs feed * o.feed / 6000000) 16)

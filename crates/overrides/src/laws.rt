@@ -17,7 +17,7 @@ pub fn opposites_cancel()
     ensures ones { (present : ℕ) (whole up down : Bool) → percent_after present whole up down true true ≡ percent_after present whole up down false false }
 {}
 
-/// The percentage of feeds acts on feeds alone: jogs know no override, and rapids only their own.
+/// The percentage of feeds acts on feeds alone: no override acts on jogs, and only their own on rapids.
 pub fn feeds_alone()
     ensures jogs { (o p : Overrides) (feed : ℤ) (rapid : ℕ) → nominal_of o (Jog feed) rapid ≡ nominal_of p (Jog feed) rapid }
     ensures rapids { (o p : Overrides) (rapid : ℕ) → o.rapid ≡ p.rapid → nominal_of o Rapid rapid ≡ nominal_of p Rapid rapid }

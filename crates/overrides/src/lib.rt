@@ -1,4 +1,4 @@
-//! The percentages by which the operator changes feeds, rapids and the spindle.
+//! The percentages by which the operator changes feeds, rapids and the spindle, with Grbl's realtime bytes.
 #![tactic(auto)]
 
 ghost use Rattle.std.specs.Prelude.{◌≡◌, ◌≤◌};
@@ -66,7 +66,7 @@ impl Changes {
         }
     }
 
-    /// A percentage with the changes made.
+    /// A percentage after the changes.
     fn made_to(&self, present: u8) -> u8
         ensures percent { result ≡ percent_after present self.now.whole self.now.up_ten self.now.down_ten self.now.up_one self.now.down_one }
     {
@@ -87,7 +87,7 @@ impl Changes {
     }
 }
 
-/// The percentage of rapids with the changes made that a word of flags asks for.
+/// The percentage of rapids after the changes that a word of flags asks for.
 fn rapid_of(flags: Ovr, present: u8) -> u8
     ensures { result ≡ rapid_after present (raised flags 0x95) (raised flags 0x96) (raised flags 0x97) }
 {
@@ -121,9 +121,9 @@ impl Overrides {
 
     /// Makes the changes that a word of flags asks for.
     ///
-    /// Of feeds: 100 where its flag stands, then ten more, ten less, one more, one less for those of the four flags
-    /// that stand, and then at most 200 and at least 10. The spindle's speed likewise. Of rapids: 100, then 50, then 25
-    /// for those of the three flags that stand.
+    /// Of feeds: 100 if its flag is set, then ten more, ten less, one more, one less for those of the four flags that
+    /// are set, and then at most 200 and at least 10. The spindle's speed likewise. Of rapids: 100, then 50, then 25
+    /// for those of the three flags that are set.
     #[tactic(auto, unfolding(crate::specs::Percents::taken))]
     pub fn take(&mut self, bits: Ovr)
         ensures taken { self.new ≡ taken self.old bits }
@@ -134,7 +134,7 @@ impl Overrides {
         self.rapid = rapid_of(bits, self.rapid);
     }
 
-    /// How fast a move is to go, in µm/s, where its axes allow the speed `rapid` along it.
+    /// How fast a move is to go, in µm/s, if its axes allow the speed `rapid` along it.
     ///
     /// A feed, in nm per minute, goes at `feed * percent div 6000000`, a jog always at 100 percent of its feed; both at
     /// least 16, which is 1 mm per minute, and at most `rapid`. A rapid goes at its percentage of `rapid`, and at least
@@ -153,35 +153,5 @@ impl Overrides {
                 .min(rapid),
             Rate::Jog(feed) => (feed.unsigned_abs() * 100 / 6_000_000).max(16).min(rapid),
         }
-    }
-}
-
-#[cfg(test)]
-mod tests {
-    use super::*;
-
-    #[test]
-    fn adds_up_to_the_greatest_percentage(rt: HostRuntime) {
-        let mut overrides = Overrides::normal();
-        for _ in 0..12u32 {
-            overrides.take(Ovr::FEED_UP_10);
-        }
-        assert_eq!(rt; overrides.feed, 200);
-        overrides.take(Ovr::FEED_100 | Ovr::FEED_UP_10 | Ovr::FEED_DOWN_10);
-        assert_eq!(rt; overrides, Overrides::normal());
-        overrides.take(Ovr::RAPID_50 | Ovr::RAPID_25 | Ovr::SPINDLE_DOWN_1);
-        assert_eq!(rt; overrides.rapid, 25);
-        assert_eq!(rt; overrides.spindle, 99);
-    }
-
-    #[test]
-    fn feeds_follow_their_percentage_and_jogs_do_not(rt: HostRuntime) {
-        let mut overrides = Overrides::normal();
-        overrides.take(Ovr::FEED_DOWN_10);
-        assert_eq!(rt; overrides.nominal(&Rate::Feed(300_000_000), 8333), 4500);
-        assert_eq!(rt; overrides.nominal(&Rate::Jog(300_000_000), 8333), 5000);
-        assert_eq!(rt; overrides.nominal(&Rate::Jog(900_000_000), 8333), 8333);
-        assert_eq!(rt; overrides.nominal(&Rate::Feed(0), 8333), 16);
-        assert_eq!(rt; overrides.nominal(&Rate::Rapid, 8333), 8333);
     }
 }

@@ -1,18 +1,16 @@
 -- The tables of gaps and caps, one more entry at a time.
 use Rattle.std.proofs.Common.{◌≡◌, ℕ, zero, suc, ◌+◌, ◌-◌, ◌*◌, ◌^◌, ◌≤◌, ◌<◌, max, inl, inr, refl, arith, ap, sym, ◌∙◌, subst}
-use Rattle.std.proofs.Common.{List, [], ◌∷◌, ◌++◌, length, get_or, take, drop, set, add-one, get_or-set_same, get_or-set_other, length-drop}
+use Rattle.std.proofs.Common.{List, [], ◌∷◌, ◌++◌, length, get_or, map, take, drop, set, add-one, get_or-set_same, get_or-set_other}
 use Rattle.std.specs.List.{All}
-use Rattle.std.proofs.lemmas.List.{take_more, take_more_set, take_all, take-append-le, get_or-map, get_or_past, get_or_append_left}
-use Rattle.std.proofs.lemmas.List.{length_push, map_push}
-use Rattle.std.proofs.lemmas.List.Edits.{paste_all}
-use Rattle.std.proofs.Math.Seq.{paste}
+use Rattle.std.proofs.lemmas.List.{take_more, take_more_set, take_all, take-append-le, drop-take, get_or-map, get_or_past}
+use Rattle.std.proofs.lemmas.List.{length_push, length-map, map_push}
 use Rattle.std.proofs.lemmas.List.Elements.{All-get_or}
 use Rattle.std.proofs.lemmas.Bool.{cases_lt, cases_eq}
 use Rattle.std.proofs.Math.Nat.{mul-le-mul}
 use Rattle.profile.specs.Profiles.{place, profile, greatest}
 use Rattle.profile.specs.Caps.{caps, planned}
 use Rattle.profile.specs.Settled.{IsPlannedTo}
-use Rattle.profile.proofs.Places.{profile_at, length-profile}
+use Rattle.profile.proofs.Places.{profile_at}
 use Rattle.profile.proofs.Caps.{caps_inner, caps_last}
 use Rattle.line_geom.specs.declared.Block.{Block}
 use Rattle.overrides.specs.declared.Overrides.{Overrides}
@@ -27,28 +25,26 @@ pub standing : (bs : List Block) (i : ℕ) (b : Block) → i < length bs → ((d
 standing bs i b h is all = subst IsBlock (sym (is b)) (All-get_or IsBlock bs i b h all)
 
 -- one more entry of a table that is filled from the front
-filled_more : (to xs : List ℕ) (i x : ℕ) → i < length xs → i < length to → x ≡ get_or xs i 0
+pub filled_more : (to xs : List ℕ) (i x : ℕ) → i < length xs → i < length to → x ≡ get_or xs i 0
     → take i to ≡ take i xs → take (i + 1) (set to i x) ≡ take (i + 1) xs
 filled_more to xs i x h h' e is =
     take_more_set to i x h' ∙ ap (λ s. s ++ x ∷ []) is ∙ ap (λ y. take i xs ++ y ∷ []) e ∙ sym (take_more xs i 0 h)
 
--- a table that is filled to its end
-pub filled_all : (to xs : List ℕ) (i : ℕ) → length to ≤ i → length xs ≤ i → take i to ≡ take i xs → to ≡ xs
-filled_all to xs i h h' is = sym (take_all i to h) ∙ is ∙ take_all i xs h'
+-- a number of each block
+pub number_at : (f : Block → ℕ) (bs : List Block) (i : ℕ) (b : Block) → i < length bs → ((d : Block) → b ≡ get_or bs i d)
+    → f b ≡ get_or (map f bs) i 0
+number_at f bs i b h is = ap f (is b) ∙ sym (get_or-map f bs i b 0 h)
 
-gaps_at : (bs : List Block) (i : ℕ) (b : Block) → i < length bs → ((d : Block) → b ≡ get_or bs i d)
-    → gap_of b ≡ get_or (gaps_of bs) i 0
-gaps_at bs i b h is = ap gap_of (is b) ∙ sym (get_or-map gap_of bs i b 0 h)
+-- that of one more block
+pub number_filled : (f : Block → ℕ) (bs : List Block) (row : List ℕ) (i x : ℕ) (b : Block) → i < length bs → i < length row
+    → ((d : Block) → b ≡ get_or bs i d) → x ≡ f b
+    → take i row ≡ take i (map f bs) → take (i + 1) (set row i x) ≡ take (i + 1) (map f bs)
+number_filled f bs row i x b h size is e filled =
+    let n = length-map bs f in
+    filled_more row (map f bs) i x (omega (arith, n)) size (e ∙ number_at f bs i b h is) filled
 
--- the gap of one more block
-pub gap_filled : (bs : List Block) (gaps : List ℕ) (i g : ℕ) (b : Block) → i < length bs → i < length gaps
-    → ((d : Block) → b ≡ get_or bs i d) → g ≡ gap_of b
-    → take i gaps ≡ take i (gaps_of bs) → take (i + 1) (set gaps i g) ≡ take (i + 1) (gaps_of bs)
-gap_filled bs gaps i g b h size is e filled =
-    let n = length-gaps bs in
-    filled_more gaps (gaps_of bs) i g (omega (arith, n)) size (e ∙ gaps_at bs i b h is) filled
-
-joints_in : (f : Block → Block → ℕ) (bs : List Block) (i : ℕ) (d : Block) → suc i < length bs
+-- the number of a junction
+pub joints_in : (f : Block → Block → ℕ) (bs : List Block) (i : ℕ) (d : Block) → suc i < length bs
     → get_or (joints f bs) i 0 ≡ f (get_or bs i d) (get_or bs (suc i) d)
 joints_in f [] i d h = absurd (omega arith)
 joints_in f (b ∷ []) i d h = absurd (omega arith)
@@ -82,75 +78,100 @@ gap_at_small (b ∷ bs) i all =
           rw (get_or_past (gaps_of (b ∷ bs)) i 0 (omega (arith, n))) (omega arith)
     ]
 
--- the soft cap of one more junction
-pub soft_filled : (o : Overrides) (bs : List Block) (softs : List ℕ) (i s : ℕ) (a b : Block) → i + 1 < length bs → i < length softs
-    → ((d : Block) → a ≡ get_or bs i d) → ((d : Block) → b ≡ get_or bs (i + 1) d) → s ≡ soft_of o a b
-    → take i softs ≡ take i (softs_of o bs) → take (i + 1) (set softs i s) ≡ take (i + 1) (softs_of o bs)
-soft_filled o bs softs i s a b h size first second e filled =
-    let n = length-joints (soft_of o) bs in
-    filled_more softs (softs_of o bs) i s (omega (arith, n)) size (e ∙ joints_at (soft_of o) bs i a b h first second) filled
+-- that of one more junction
+pub joint_filled : (f : Block → Block → ℕ) (bs : List Block) (row : List ℕ) (i x : ℕ) (a b : Block) → i + 1 < length bs → i < length row
+    → ((d : Block) → a ≡ get_or bs i d) → ((d : Block) → b ≡ get_or bs (i + 1) d) → x ≡ f a b
+    → take i row ≡ take i (joints f bs) → take (i + 1) (set row i x) ≡ take (i + 1) (joints f bs)
+joint_filled f bs row i x a b h size first second e filled =
+    let n = length-joints f bs in
+    filled_more row (joints f bs) i x (omega (arith, n)) size (e ∙ joints_at f bs i a b h first second) filled
 
--- the gap of the last block
-pub gap_last : (bs : List Block) (gaps : List ℕ) (count g : ℕ) (b : Block) → count ≡ length bs → 0 < length bs
-    → length bs ≤ length gaps → ((d : Block) → b ≡ get_or bs (count - 1) d) → g ≡ gap_of b
-    → take (length bs - 1) gaps ≡ take (length bs - 1) (gaps_of bs) → take (length bs) (set gaps (count - 1) g) ≡ gaps_of bs
-gap_last bs gaps count g b many some room is e filled =
-    let n = length-gaps bs in
+-- all of them, up to the last one
+pub number_all : (f : Block → ℕ) (bs : List Block) (row : List ℕ) (i : ℕ) → i ≡ length bs → take i row ≡ take i (map f bs)
+    → take (length bs) row ≡ map f bs
+number_all f bs row i on filled =
+    let n = length-map bs f in
+    subst (λ n. take n row ≡ take n (map f bs)) on filled ∙ take_all (length bs) (map f bs) (omega (arith, n))
+
+pub number_none : (f : Block → ℕ) (bs : List Block) (row : List ℕ) → length bs ≡ 0 → take (length bs) row ≡ map f bs
+number_none f [] row none = refl
+number_none f (b ∷ bs) row none = absurd (omega (arith, none))
+
+-- that of the last block
+pub number_last : (f : Block → ℕ) (bs : List Block) (row : List ℕ) (count x : ℕ) (b : Block) → count ≡ length bs → 0 < length bs
+    → length bs ≤ length row → ((d : Block) → b ≡ get_or bs (count - 1) d) → x ≡ f b
+    → take (length bs - 1) row ≡ take (length bs - 1) (map f bs) → take (length bs) (set row (count - 1) x) ≡ map f bs
+number_last f bs row count x b many some room is e filled =
     let at : length bs - 1 ≡ count - 1 = omega arith in
-    let on : count - 1 + 1 ≡ length bs = omega arith in
-    let put = gap_filled bs gaps (count - 1) g b (omega arith) (omega arith) is e
-    (subst (λ i. take i gaps ≡ take i (gaps_of bs)) at filled) in
-    subst (λ n. take n (set gaps (count - 1) g) ≡ take n (gaps_of bs)) on put ∙ take_all (length bs) (gaps_of bs) (omega (arith, n))
+    number_all f bs (set row (count - 1) x) (count - 1 + 1) (omega arith)
+    (number_filled f bs row (count - 1) x b (omega arith) (omega arith) is e (subst (λ i. take i row ≡ take i (map f bs)) at filled))
 
 -- fewer than two blocks have no junction
-pub soft_none : (o : Overrides) (bs : List Block) (softs : List ℕ) → length bs < 2 → take (length bs - 1) softs ≡ softs_of o bs
-soft_none o [] softs h = refl
-soft_none o (b ∷ []) softs h = refl
-soft_none o (a ∷ b ∷ bs) softs h = absurd (omega arith)
+pub joint_none : (f : Block → Block → ℕ) (bs : List Block) (row : List ℕ) → length bs < 2 → take (length bs - 1) row ≡ joints f bs
+joint_none f [] row h = refl
+joint_none f (b ∷ []) row h = refl
+joint_none f (a ∷ b ∷ bs) row h = absurd (omega arith)
 
--- all soft caps, up to the last one
-pub soft_last : (o : Overrides) (bs : List Block) (softs : List ℕ) (i : ℕ) → i + 1 ≡ length bs - 1
-    → take (i + 1) softs ≡ take (i + 1) (softs_of o bs) → take (length bs - 1) softs ≡ softs_of o bs
-soft_last o bs softs i on filled =
-    let n = length-joints (soft_of o) bs in
-    subst (λ n. take n softs ≡ take n (softs_of o bs)) on filled ∙ take_all (length bs - 1) (softs_of o bs) (omega (arith, n))
+-- all junctions, up to the last one
+pub joint_all : (f : Block → Block → ℕ) (bs : List Block) (row : List ℕ) (i : ℕ) → i ≡ length bs - 1
+    → take i row ≡ take i (joints f bs) → take (length bs - 1) row ≡ joints f bs
+joint_all f bs row i on filled =
+    let n = length-joints f bs in
+    subst (λ n. take n row ≡ take n (joints f bs)) on filled ∙ take_all (length bs - 1) (joints f bs) (omega (arith, n))
 
-pub soft_all : (o : Overrides) (bs : List Block) (softs : List ℕ) (i : ℕ) → i ≡ length bs - 1
-    → take i softs ≡ take i (softs_of o bs) → take (length bs - 1) softs ≡ softs_of o bs
-soft_all o bs softs i on filled =
-    let n = length-joints (soft_of o) bs in
-    subst (λ n. take n softs ≡ take n (softs_of o bs)) on filled ∙ take_all (length bs - 1) (softs_of o bs) (omega (arith, n))
+-- that of the last junction
+pub joint_last : (f : Block → Block → ℕ) (bs : List Block) (row : List ℕ) (i x : ℕ) (a b : Block) → i + 2 ≡ length bs → i < length row
+    → ((d : Block) → a ≡ get_or bs i d) → ((d : Block) → b ≡ get_or bs (i + 1) d) → x ≡ f a b
+    → take (length bs - 2) row ≡ take (length bs - 2) (joints f bs) → take (length bs - 1) (set row i x) ≡ joints f bs
+joint_last f bs row i x a b many size first second e filled =
+    let at : length bs - 2 ≡ i = omega (arith, many) in
+    joint_all f bs (set row i x) (i + 1) (omega (arith, many))
+    (joint_filled f bs row i x a b (omega (arith, many)) size first second e (subst (λ k. take k row ≡ take k (joints f bs)) at filled))
 
--- the gaps of the blocks in front of the last
-pub gaps_before : (bs bs' : List Block) (b : Block) (row : List ℕ) → bs' ≡ bs ++ b ∷ [] → take (length bs) row ≡ gaps_of bs
-    → take (length bs' - 1) row ≡ take (length bs' - 1) (gaps_of bs')
-gaps_before bs bs' b row e is =
-    let n = length-gaps bs in
+-- those behind the first, where that is gone
+pub joints_up : (f : Block → Block → ℕ) (N : ℕ) (row row' : List ℕ) (b : Block) (bs : List Block) → length (b ∷ bs) < N → IsMovedUp N row row'
+    → take (length (b ∷ bs) - 1) row ≡ joints f (b ∷ bs) → take (length bs - 1) row' ≡ joints f bs
+joints_up f N row row' b [] room up is = refl
+joints_up f N row row' b (c ∷ cs) room up is =
+    let m = length (c ∷ cs) - 1 in
+    let on : length (b ∷ c ∷ cs) - 1 ≡ 1 + m = omega arith in
+    up m (omega arith) ∙ sym (drop-take 1 m row) ∙ ap (drop 1) (subst (λ k. take k row ≡ joints f (b ∷ c ∷ cs)) on is)
+
+-- those of the blocks in front of the last
+pub numbers_before : (f : Block → ℕ) (bs bs' : List Block) (b : Block) (row : List ℕ) → bs' ≡ bs ++ b ∷ [] → take (length bs) row ≡ map f bs
+    → take (length bs' - 1) row ≡ take (length bs' - 1) (map f bs')
+numbers_before f bs bs' b row e is =
+    let n = length-map bs f in
     let more : length bs' ≡ length bs + 1 = ap length e ∙ length_push bs b in
     let many : length bs ≡ length bs' - 1 = omega (arith, more) in
-    let front : take (length bs) (gaps_of bs') ≡ gaps_of bs =
-    ap (take (length bs)) (ap gaps_of e ∙ map_push gap_of bs b) ∙ take-append-le (length bs) (gaps_of bs) (gap_of b ∷ []) (omega (arith, n))
-    ∙ take_all (length bs) (gaps_of bs) (omega (arith, n)) in
-    subst (λ n. take n row ≡ take n (gaps_of bs')) many (is ∙ sym front)
+    let front : take (length bs) (map f bs') ≡ map f bs =
+    ap (take (length bs)) (ap (map f) e ∙ map_push f bs b) ∙ take-append-le (length bs) (map f bs) (f b ∷ []) (omega (arith, n))
+    ∙ take_all (length bs) (map f bs) (omega (arith, n)) in
+    subst (λ n. take n row ≡ take n (map f bs')) many (is ∙ sym front)
 
--- the soft caps of the junctions in front of the last
+-- those of the junctions in front of the last
+pub joints_before : (f : Block → Block → ℕ) (bs bs' : List Block) (b : Block) (row : List ℕ) → bs' ≡ bs ++ b ∷ []
+    → take (length bs - 1) row ≡ joints f bs → take (length bs' - 2) row ≡ take (length bs' - 2) (joints f bs')
+joints_before f [] bs' b row e is =
+    let none : 0 ≡ length bs' - 2 = omega (arith, ap length e) in
+    subst (λ n. take n row ≡ take n (joints f bs')) none refl
+joints_before f (a ∷ bs) bs' b row e is =
+    let joint = joints_push f a bs b in
+    let n = length-joints f (a ∷ bs) in
+    let more : length bs' ≡ length (a ∷ bs) + 1 = ap length e ∙ length_push (a ∷ bs) b in
+    let many : length (a ∷ bs) - 1 ≡ length bs' - 2 = omega (arith, more) in
+    let front : take (length (a ∷ bs) - 1) (joints f bs') ≡ joints f (a ∷ bs) =
+    ap (take (length (a ∷ bs) - 1)) (ap (joints f) e ∙ joint.1)
+    ∙ take-append-le (length (a ∷ bs) - 1) (joints f (a ∷ bs)) (joint.0 ∷ []) (omega (arith, n))
+    ∙ take_all (length (a ∷ bs) - 1) (joints f (a ∷ bs)) (omega (arith, n)) in
+    subst (λ n. take n row ≡ take n (joints f bs')) many (is ∙ sym front)
+
 pub softs_before : (o over : Overrides) (bs bs' : List Block) (b : Block) (row : List ℕ) → bs' ≡ bs ++ b ∷ []
     → (0 < length bs → o ≡ over) → take (length bs - 1) row ≡ softs_of over bs
     → take (length bs' - 2) row ≡ take (length bs' - 2) (softs_of o bs')
-softs_before o over [] bs' b row e same is =
-    let none : 0 ≡ length bs' - 2 = omega (arith, ap length e) in
-    subst (λ n. take n row ≡ take n (softs_of o bs')) none refl
+softs_before o over [] bs' b row e same is = joints_before (soft_of o) [] bs' b row e refl
 softs_before o over (a ∷ bs) bs' b row e same is =
-    let joint = joints_push (soft_of o) a bs b in
-    let n = length-joints (soft_of o) (a ∷ bs) in
-    let more : length bs' ≡ length (a ∷ bs) + 1 = ap length e ∙ length_push (a ∷ bs) b in
-    let many : length (a ∷ bs) - 1 ≡ length bs' - 2 = omega (arith, more) in
-    let front : take (length (a ∷ bs) - 1) (softs_of o bs') ≡ softs_of o (a ∷ bs) =
-    ap (take (length (a ∷ bs) - 1)) (ap (softs_of o) e ∙ joint.1)
-    ∙ take-append-le (length (a ∷ bs) - 1) (softs_of o (a ∷ bs)) (joint.0 ∷ []) (omega (arith, n))
-    ∙ take_all (length (a ∷ bs) - 1) (softs_of o (a ∷ bs)) (omega (arith, n)) in
-    let was : take (length (a ∷ bs) - 1) row ≡ softs_of o (a ∷ bs) = is ∙ ap (λ o. softs_of o (a ∷ bs)) (sym (same (omega arith))) in
-    subst (λ n. take n row ≡ take n (softs_of o bs')) many (was ∙ sym front)
+    joints_before (soft_of o) (a ∷ bs) bs' b row e (is ∙ ap (λ o. softs_of o (a ∷ bs)) (sym (same (omega arith))))
 
 -- no gap in a row is great
 pub row_small : (bs : List Block) (n : ℕ) (row : List ℕ) (i : ℕ) → n ≡ length bs → take (length bs) row ≡ gaps_of bs
@@ -158,13 +179,6 @@ pub row_small : (bs : List Block) (n : ℕ) (row : List ℕ) (i : ℕ) → n ≡
 row_small bs n row i many is all =
     subst (λ n. get_or (take n row) i 0 < 2 ^ 71) (sym many)
     (subst (λ gs. get_or gs i 0 < 2 ^ 71) (sym is) (gap_at_small bs i all))
-
--- a row that is written one place up
-pub row_moved : {X : Type 0} (N : ℕ) (xs ys : List X) → N ≡ length xs → ys ≡ paste xs 0 (drop 1 xs) (length xs - 1) → IsMovedUp N xs ys
-row_moved N xs ys size e n h =
-    let long = length-drop 1 xs in
-    ap (take n) (e ∙ paste_all xs 0 (drop 1 xs) (length xs - 1) (omega (arith, long)))
-    ∙ take-append-le n (drop 1 xs) (drop (0 + (length xs - 1)) xs) (omega (arith, long))
 
 -- the cap of one more junction is written down
 pub cap_put : (from w : ℕ) (gaps softs speeds : List ℕ) (i p v : ℕ) → i < length softs → i + 1 < length speeds
@@ -209,11 +223,8 @@ planned_to w from gaps softs speeds was size first here at same left = record {
   left = left;
 }
 
--- what the passes leave at each point, in front of a rest
-pub planned_is : (w j : ℕ) (gaps softs done rest : List ℕ) → done ≡ profile gaps (caps w gaps softs)
-    → j ≤ length gaps → get_or (done ++ rest) j 0 ≡ planned w gaps softs j
+-- what the passes leave at each point
+pub planned_is : (w j : ℕ) (gaps softs done : List ℕ) → done ≡ profile gaps (caps w gaps softs) → j ≤ length gaps
+    → get_or done j 0 ≡ planned w gaps softs j
 unfolding planned
-planned_is w j gaps softs done rest all h =
-    let points = ap length all ∙ length-profile gaps (caps w gaps softs) in
-    get_or_append_left done rest 0 j (omega (arith, points))
-    ∙ ap (λ s. get_or s j 0) all ∙ profile_at gaps (caps w gaps softs) j h
+planned_is w j gaps softs done all h = ap (λ s. get_or s j 0) all ∙ profile_at gaps (caps w gaps softs) j h

@@ -20,6 +20,7 @@ use Rattle.plan_rules.specs.Plans.{planned_at, IsReached, IsSettledAt, IsPointer
 use Rattle.plan_rules.specs.Segments.{IsGoing, IsHolding, IsSegment, moved}
 use Rattle.plan_rules.proofs.Junctions.{length-gaps, length-joints}
 use Rattle.plan_rules.proofs.Reached.{plan_of, softer, segment_steps, moved_reached, length-moved, gap_split, kept_gap, gone_gap, left_gap}
+use Rattle.plan_passes.proofs.Filling.{joints_up}
 
 -- the soft caps know nothing of what is prepared
 softs_same : (o : Overrides) (b : Block) (n : ℕ) (bs : List Block)
@@ -246,15 +247,6 @@ module _ (N n g : ℕ) (o : Overrides) (gap_row gap_row' soft_row soft_row' : Li
     (gaps_left : g ≢ 0 → gap_row' ≡ set gap_row 0 g) (softs_left : g ≢ 0 → soft_row' ≡ soft_row)
     (gaps_gone : g ≡ 0 → IsMovedUp N gap_row gap_row') (softs_gone : g ≡ 0 → IsMovedUp N soft_row soft_row') where
   -- nothing of the tail is left
-  softs_up : (b : Block) (bs : List Block) → length (b ∷ bs) < N → take (length bs) soft_row ≡ softs_of o (b ∷ bs) → g ≡ 0
-      → take (length bs - 1) soft_row' ≡ softs_of o bs
-  softs_up b [] room is none = refl
-  softs_up b (c ∷ cs) room is none =
-      let m = length (c ∷ cs) - 1 in
-      let on : length (c ∷ cs) ≡ 1 + m = omega arith in
-      softs_gone none m (omega arith) ∙ sym (drop-take 1 m soft_row)
-      ∙ ap (drop 1) (subst (λ k. take k soft_row ≡ softs_of o (b ∷ c ∷ cs)) on is)
-
   gaps_up : (b : Block) (bs : List Block) → length (b ∷ bs) < N → take (length (b ∷ bs)) gap_row ≡ gaps_of (b ∷ bs) → g ≡ 0
       → take (length bs) gap_row' ≡ gaps_of bs
   gaps_up b bs room is none =
@@ -270,12 +262,10 @@ module _ (N n g : ℕ) (o : Overrides) (gap_row gap_row' soft_row soft_row' : Li
 
   tabled_gone : (b : Block) (bs : List Block) → length (b ∷ bs) < N → IsTabled (b ∷ bs) o gap_row soft_row → g ≡ 0
       → IsTabled bs o gap_row' soft_row'
-  tabled_gone b bs room is none =
-      let many : length (b ∷ bs) - 1 ≡ length bs = omega arith in
-      record {
-        gaps = gaps_up b bs room is.gaps none;
-        softs = softs_up b bs room (subst (λ k. take k soft_row ≡ softs_of o (b ∷ bs)) many is.softs) none;
-      }
+  tabled_gone b bs room is none = record {
+    gaps = gaps_up b bs room is.gaps none;
+    softs = joints_up (soft_of o) N soft_row soft_row' b bs room (softs_gone none) is.softs;
+  }
 
   tabled_left : (b : Block) (bs : List Block) → IsTabled (b ∷ bs) o gap_row soft_row → g ≢ 0
       → g ≡ gap_of (record b { prepared = b.prepared + n })

@@ -1,4 +1,7 @@
 pub mod Filling
+pub mod Hards
 pub mod Kept
+pub mod Nominals
 pub mod Onward
 pub mod Paces
+pub mod Rows

@@ -1,8 +1,9 @@
 //! What bounds the squared speed over blocks and at their junctions.
 
-ghost use Rattle.std.specs.Prelude.{◌≡◌, ◌≤◌, ◌<◌, ◌^◌};
+ghost use Rattle.std.specs.Prelude.{◌≡◌, ◌≤◌, ◌<◌, ◌^◌, min};
 ghost use Rattle.overrides.specs.Percents.{IsOverrides};
-ghost use Rattle.plan_rules.specs.Blocks.{IsBlock, squared, left_of, gap_of, top_of, hard_of, soft_of};
+ghost use Rattle.plan_rules.specs.Blocks.{IsBlock, squared, left_of, gap_of, hard_of};
+ghost use Rattle.plan_passes.specs.Tables.{nominal_speed};
 
 use line_geom::Cap;
 use overrides::Overrides;
@@ -26,16 +27,15 @@ pub(crate) fn gap(b: &Block) -> u128
     b.geom.q as u128 * left(b) as u128
 }
 
-/// The squared nominal speed of a block.
-#[tactic(auto, using(plan_rules::proofs::Bounds::top_le, plan_rules::proofs::Bounds::rapid_small, plan_rules::proofs::Bounds::bounds_of), unfolding(plan_rules::specs::Blocks::top_of))]
-pub(crate) fn top(o: &Overrides, b: &Block) -> u64
+/// The nominal speed of a block, in µm/s.
+#[tactic(auto, using(crate::proofs::Nominals::nominal_small, plan_rules::proofs::Bounds::bounds_of))]
+pub(crate) fn nominal(o: &Overrides, b: &Block) -> u64
     requires overrides { IsOverrides o.now }
     requires block { IsBlock b.now }
-    ensures top { result ≡ top_of o.now b.now }
-    ensures below { result ≤ squared b.now.geom.rapid }
+    ensures nominal { result ≡ nominal_speed o.now b.now }
+    ensures small { result ≤ 33333333 }
 {
-    let nominal = o.nominal(&b.rate, b.geom.rapid);
-    nominal * nominal
+    o.nominal(&b.rate, b.geom.rapid)
 }
 
 /// The hard cap of the junction of two blocks: what the junction and the axes allow.
@@ -52,13 +52,11 @@ pub(crate) fn hard(a: &Block, b: &Block) -> u64
     }
 }
 
-/// The soft cap of the junction of two blocks: what the overrides make of the hard one.
-#[tactic(auto, unfolding(plan_rules::specs::Blocks::soft_of))]
-pub(crate) fn soft(o: &Overrides, a: &Block, b: &Block) -> u64
-    requires overrides { IsOverrides o.now }
-    requires first { IsBlock a.now }
-    requires second { IsBlock b.now }
-    ensures { result ≡ soft_of o.now a.now b.now }
+/// The soft cap of a junction: what the nominal speeds of its two blocks make of the hard one.
+pub(crate) fn soft(hard: u64, first: u64, second: u64) -> u64
+    requires first { first ≤ 33333333 }
+    requires second { second ≤ 33333333 }
+    ensures { result ≡ min hard (min (squared first) (squared second)) }
 {
-    hard(a, b).min(top(o, a)).min(top(o, b))
+    hard.min(first * first).min(second * second)
 }

@@ -9,9 +9,8 @@
 mod blocks;
 mod passes;
 mod plan;
+mod row;
 mod tables;
-#[cfg(test)]
-mod tests;
 
 pub use plan::Plan;
 

@@ -6,6 +6,8 @@ ghost use Rattle.profile.specs.Caps.{caps, planned};
 ghost use Rattle.profile.specs.Settled.{IsLastSettled};
 ghost use Rattle.plan_passes.specs.Tables.{IsOnward};
 
+use crate::row::Row;
+
 /// The cap of a junction that lies so far from the present place: its soft one, unless the speed can't fall so far.
 #[inline]
 fn cap(soft: u64, w: u64, place: u128) -> u64
@@ -51,15 +53,31 @@ fn fill_caps(from: usize, w: u64, gaps: &[u128], softs: &[u64], speeds: &mut [u6
     speeds[last + 1] = 0;
 }
 
+/// Writes down the planned speed at each point behind a settled one. Answers the last settled point before the end.
+fn plan_points(from: usize, w: u64, gaps: &[u128], softs: &[u64], speeds: &mut [u64]) -> usize
+    requires few { length gaps.now < 64 }
+    requires junctions { length softs.now + 1 ≡ length gaps.now }
+    requires room { length speeds.old ≡ length gaps.now + 1 }
+    requires before { from < length gaps.now }
+    requires small { (i : ℕ) → get_or gaps.now i 0 < 2 ^ 71 }
+    requires onward { IsOnward w from gaps.now softs.now speeds.old }
+    ensures room { length speeds.new ≡ length gaps.now + 1 }
+    ensures planned { (j : ℕ) → 0 < j → j ≤ length gaps.now → get_or speeds.new j 0 ≡ planned w gaps.now softs.now j }
+    ensures settled { IsLastSettled gaps.now (caps w gaps.now softs.now) result }
+{
+    fill_caps(from, w, gaps, softs, speeds);
+    profile::plan_from(speeds, gaps, from)
+}
+
 /// Writes down the planned speed at each point behind a settled one, in a plan of so many blocks. Answers the last settled point
 /// before its end, or 0 where no block stands.
 pub(crate) fn plan_from<const N: usize>(
     from: usize,
     count: usize,
     w: u64,
-    gaps: &[u128; N],
-    softs: &[u64; N],
-    speeds: &mut [u64; N],
+    gaps: &Row<u128, N>,
+    softs: &Row<u64, N>,
+    speeds: &mut Row<u64, N>,
 ) -> usize
     requires few { N ≤ 64 }
     requires room { count < N }
@@ -74,8 +92,7 @@ pub(crate) fn plan_from<const N: usize>(
     if count == 0 {
         return 0;
     }
-    let gaps = &gaps[..count];
-    let points = &mut speeds[..count + 1];
-    fill_caps(from, w, gaps, &softs[..count - 1], points);
-    profile::plan_from(points, gaps, from)
+    let start = speeds.start;
+    let points = &mut speeds.places[start..start + count + 1];
+    plan_points(from, w, gaps.first(count), softs.first(count - 1), points)
 }

@@ -9,6 +9,7 @@ ghost use Rattle.plan_rules.specs.Segments.{moved};
 
 use crate::Pace;
 use crate::passes::plan_from;
+use crate::row::Row;
 use crate::tables::{block_at, fill_softs, put_first, put_gap, put_soft};
 use junction_speed::junction;
 use line_geom::Cap;
@@ -30,11 +31,15 @@ pub struct Plan<const N: usize> {
     speed: u64,
     overrides: Overrides,
     /// The planned squared speed at each point, of which the present place is the first.
-    planned: [u64; N],
+    planned: Row<u64, N>,
     /// How much the squared speed may change over what is left of each block.
-    gaps: [u128; N],
+    gaps: Row<u128, N>,
+    /// The hard cap of each junction.
+    hards: Row<u64, N>,
     /// The soft cap of each junction.
-    softs: [u64; N],
+    softs: Row<u64, N>,
+    /// The nominal speed of each block.
+    nominals: Row<u64, N>,
     /// The last point before the end whose speed the caps up to it alone hold.
     settled: usize,
     /// The pace of the tail, once one is known.
@@ -43,14 +48,16 @@ pub struct Plan<const N: usize> {
 
 impl<const N: usize> Model for Plan<N> {
     ghost use Rattle.plan_rules.specs.Plans.{Planned};
-    ghost use Rattle.plan_passes.specs.Tables.{IsKept};
+    ghost use Rattle.std.specs.Prelude.{◌≡◌, ◌-◌, length, take};
+    ghost use Rattle.plan_rules.specs.Blocks.{hards_of};
+    ghost use Rattle.plan_passes.specs.Tables.{IsKept, nominals_of};
     ghost use Rattle.plan_passes.specs.Paces.{IsPaceOfTail};
 
     ghost Value = { Planned };
 
     ghost view = { λ p. record { blocks = p.ring; speed = p.speed; overrides = p.overrides } };
 
-    ghost invariant = { λ p. IsKept N (record { blocks = p.ring; speed = p.speed; overrides = p.overrides }) p.planned p.gaps p.softs p.settled × IsPaceOfTail p.overrides p.ring p.pace };
+    ghost invariant = { λ p. IsKept N (record { blocks = p.ring; speed = p.speed; overrides = p.overrides }) p.planned p.gaps p.softs p.settled × IsPaceOfTail p.overrides p.ring p.pace × (take (length p.ring) p.nominals ≡ nominals_of p.overrides p.ring) × (take (length p.ring - 1) p.hards ≡ hards_of p.ring) };
 }
 
 /// The cap of a block's junction with the last one that stands.
@@ -129,6 +136,7 @@ impl<const N: usize> Plan<N> {
     ghost use Rattle.overrides.specs.Percents.{IsOverrides};
     ghost use Rattle.plan_rules.specs.Plans.{IsReached, IsTail, IsGreatest, IsLastPoint, exit_of, profile_of, added};
     ghost use Rattle.plan_rules.specs.Segments.{IsSegment, advanced, IsLegalStep};
+    ghost use Rattle.plan_rules.specs.Taking.{nominal};
     ghost use Rattle.plan_passes.specs.Paces.{IsPaceOfTail, IsSteadyOf};
 
     /// A plan of at most N - 1 blocks, at rest. N is from 2 to 64.
@@ -143,9 +151,11 @@ impl<const N: usize> Plan<N> {
             ring: Ring::new(),
             speed: 0,
             overrides: Overrides::normal(),
-            planned: [0; N],
-            gaps: [0; N],
-            softs: [0; N],
+            planned: Row::new(0),
+            gaps: Row::new(0),
+            hards: Row::new(0),
+            softs: Row::new(0),
+            nominals: Row::new(0),
             settled: 0,
             pace: NO_PACE,
         }
@@ -184,7 +194,16 @@ impl<const N: usize> Plan<N> {
         ensures greatest { IsGreatest self.now }
         ensures reached { IsReached self.now }
     {
-        self.planned[1]
+        self.planned.at(1)
+    }
+
+    /// How fast the tail is to go under the plan's overrides, in µm/s.
+    pub fn nominal_of_tail(&self) -> u64
+        requires { 0 < length self.now.blocks }
+        ensures nominal { (b : Block) → IsTail self.now b → result ≡ nominal self.now b }
+        ensures reached { IsReached self.now }
+    {
+        self.nominals.at(0)
     }
 
     /// The last settled point before the end: one whose planned speed the caps up to it alone hold, so that no block which is
@@ -193,8 +212,8 @@ impl<const N: usize> Plan<N> {
     pub fn planned(&self) -> usize
         ensures { IsLastPoint self.now result }
     {
-        let mut speeds = self.planned;
         let count = self.ring.len();
+        let mut speeds = Row::new(0);
         plan_from(0, count, self.speed, &self.gaps, &self.softs, &mut speeds)
     }
 
@@ -219,7 +238,13 @@ impl<const N: usize> Plan<N> {
             Ok(()) => {
                 self.overrides = *o;
                 put_gap(&self.ring, &mut self.gaps);
-                put_soft(&self.ring, o, &mut self.softs);
+                put_soft(
+                    &self.ring,
+                    o,
+                    &mut self.nominals,
+                    &mut self.hards,
+                    &mut self.softs,
+                );
                 let count = self.ring.len();
                 self.settled = plan_from(
                     self.settled,
@@ -241,7 +266,13 @@ impl<const N: usize> Plan<N> {
     {
         self.overrides = *o;
         self.pace = NO_PACE;
-        fill_softs(&self.ring, o, &mut self.softs);
+        fill_softs(
+            &self.ring,
+            o,
+            &self.hards,
+            &mut self.nominals,
+            &mut self.softs,
+        );
         let count = self.ring.len();
         self.settled = plan_from(
             0,
@@ -264,9 +295,16 @@ impl<const N: usize> Plan<N> {
         ensures legal { IsLegalStep self.old.blocks self.old.speed n w }
     {
         let gap = prepare(&mut self.ring, n);
-        let exit = self.planned[1];
+        let exit = self.planned.at(1);
         self.speed = w;
-        put_first(gap, &mut self.planned, &mut self.gaps, &mut self.softs);
+        put_first(
+            gap,
+            &mut self.planned,
+            &mut self.gaps,
+            &mut self.hards,
+            &mut self.softs,
+            &mut self.nominals,
+        );
         self.settled = point_behind(self.settled, gap);
         pace_behind(&mut self.pace, gap);
         if w.abs_diff(exit) as u128 <= gap {
@@ -294,7 +332,7 @@ impl<const N: usize> Plan<N> {
             return None;
         }
         let tail = self.tail()?;
-        if goes_on(tail, self.pace, self.planned[1]) {
+        if goes_on(tail, self.pace, self.planned.at(1)) {
             Some(self.pace)
         } else {
             None

@@ -29,11 +29,11 @@ top_of o b = squared (nominal_of o b.rate b.geom.rapid)
 unfoldable pub hard_of : Block → Block → ℕ
 hard_of a b = under b.entry (min (squared a.geom.rapid) (squared b.geom.rapid))
 
--- its soft cap: what the overrides make of it
+-- its soft cap: at most the nominal speeds too
 unfoldable pub soft_of : Overrides → Block → Block → ℕ
 soft_of o a b = min (hard_of a b) (min (top_of o a) (top_of o b))
 
--- a number of each two blocks in a row
+-- a number for each two blocks in a row
 abbrev pub joints : (Block → Block → ℕ) → List Block → List ℕ
 joints f [] = []
 joints f (b ∷ []) = []

@@ -16,12 +16,12 @@ pub record IsCutAt (b : Block) (s : Segment) : Type 0 where
   pub mv : b.mv ≡ s.mv
   pub prepared : b.prepared ≡ s.first + s.n
 
--- they are those up to the end of the last of the pieces before; the latest stands first
+-- they are those up to the end of the last of the pieces before; the latest is first
 abbrev pub IsCutBehind : List Piece → Block → Type 0
 IsCutBehind (pieces.Segment s ∷ before) b = IsCutAt b s
 IsCutBehind _ b = ⊥
 
--- each block is fresh, but for a tail that the last of the pieces before cuts
+-- each block is fresh, but for a tail that the last of the pieces before has begun
 abbrev pub BlocksJoin : List Piece → List Block → Type 0
 BlocksJoin before [] = Unit {0}
 BlocksJoin before (b ∷ bs) = (IsFresh b ⊎ IsCutBehind before b) × All IsFresh bs

@@ -18,7 +18,8 @@ pub record Planned : Type 0 where
   pub speed : ℕ
   pub overrides : Overrides
 
--- the cap of each point: the present speed; the junctions' soft caps, as far as the speed can fall to them; 0 at the end
+-- the cap of each point: the present speed; the junctions' soft caps, as far as the speed can fall to them; 0 at the
+-- end
 abbrev pub caps_of : Planned → List ℕ
 caps_of p = caps p.speed (gaps_of p.blocks) (softs_of p.overrides p.blocks)
 
@@ -59,11 +60,11 @@ pub record IsTail (p : Planned) (b : Block) : Type 0 where
   pub block : IsBlock b
   pub rapid : p.speed ≤ squared b.geom.rapid
 
--- the caps up to point j alone hold its speed
+-- the caps up to point j alone limit its speed
 abbrev pub IsSettledAt : Planned → ℕ → Type 0
 IsSettledAt p j = IsSettled (gaps_of p.blocks) (caps_of p) j
 
--- a settled point before the end, or 0 where no block stands
+-- a settled point before the end, or 0 if there is no block
 pub record IsPointer (p : Planned) (j : ℕ) : Type 0 where
   pub before : 0 < length p.blocks → j < length p.blocks
   pub none : length p.blocks ≡ 0 → j ≡ 0

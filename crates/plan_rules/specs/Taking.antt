@@ -8,7 +8,7 @@ use Rattle.plan_rules.specs.Segments.{IsGoing, IsHolding, pace_of, cycles_of}
 use Rattle.plan_rules.specs.declared.Mode.{Mode}
 use Rattle.plan_rules.specs.declared.Mode.TheVariants.{Go, Hold}
 
--- n events, and the squared speed v behind them, are those of the mode's rule
+-- n events, and the squared speed v after them, are those of the mode's rule
 abbrev pub ByMode : Planned → Block → Mode → ℕ → ℕ → Type 0
 ByMode p b Go n v = IsGoing p b n v
 ByMode p b Hold n v = IsHolding p b n v

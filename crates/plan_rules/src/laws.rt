@@ -14,8 +14,8 @@ ghost use Rattle.plan_rules.specs.declared.Mode.{Mode};
 ghost use Rattle.plan_rules.specs.Taking.{IsNext};
 ghost use Rattle.plan_rules.specs.Joining.{IsFresh, BlocksJoin};
 
-/// Where segments are taken from a plan one after another, each joins on to the pieces before it. A block of which some
-/// events are left goes on where its last segment ends; every other one begins its move.
+/// If segments are taken from a plan one after another, each joins on to the pieces before it. A block with some events
+/// left goes on where its last segment ends; every other one begins its move.
 pub fn segments_join()
     ensures fresh { (before : List Piece) (bs : List Block) → All IsFresh bs → BlocksJoin before bs }
     ensures added { (before : List Piece) (p : Planned) (b : Block) (deviation : ℕ) (o : Overrides) →

@@ -2,8 +2,6 @@
 #![tactic(auto)]
 
 mod ring;
-#[cfg(test)]
-mod tests;
 
 pub use line_geom::Block;
 pub use ring::Ring;

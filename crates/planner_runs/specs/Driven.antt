@@ -11,9 +11,9 @@ use Rattle.legal_heads.specs.Speeds.{HasLegalHeads}
 use Rattle.planner_runs.specs.declared.Action.{Action}
 use Rattle.planner_runs.specs.Runs.{Plans, IsStart, IsAtRest, IsPlannerRun, DisturbedOnlyBy, all_asked, all_records, moves_added}
 
--- What a whole run records of which this was asked: the pieces that a planner run gives, to which these moves are added, and
--- these marks and rests, in this order; and the end, behind them, where the machine stands. Nothing else disturbs the run
--- than a hold, where there was one, and a change of overrides, where there was one; neither changes an event or a mark.
+-- What a whole run records of what it was asked for: the pieces of a planner run to which these moves, marks and rests
+-- are given, in this order; and after them the end, when the machine stands. Nothing else disturbs the run than a hold,
+-- if there was one, and a change of overrides, if there was one; neither changes an event or a mark.
 pub record IsDriven (held changed : Bool) (asked : List Asked) (records : List Record) : Type 0 where
   pub actions : List Action
   pub given : List Piece
@@ -28,11 +28,11 @@ pub record IsDriven (held changed : Bool) (asked : List Asked) (records : List R
   pub ended : IsEnded records
   -- each event of each move is recorded, and each mark, once and in order
   pub ticks : ticks_among records ≡ ticks_of_all asked
-  -- each head stands before its events, which are of one of the moves, and the heads are legal
+  -- each head comes before its events, which are of one of the moves, and the heads are legal
   pub heads : HasLegalHeads (moves_of asked) records
 
--- A run that is cleared between some actions and more: it begins anew there, and behind what was recorded before a cut may
--- come, so that the machine stood.
+-- A run that is cleared between some actions and more: it begins anew there, and a cut may come after what was recorded
+-- before, so the machine stood.
 pub record IsParted (most : ℕ) (from : Planned) (actions more : List Action) (given : List Piece) (last : Planned) : Type 0 where
   pub early : List Piece
   pub late : List Piece

@@ -9,13 +9,13 @@ use Rattle.legal_heads.specs.declared.Told.{Told}
 use Rattle.legal_heads.specs.declared.ToldHead.{ToldHead}
 use Rattle.legal_heads.specs.Speeds.{AreLegal, IsToldRight, MayStop, begun_by, latest_behind, told_records}
 
--- the latest head of the stretch behind all that is told
+-- the latest head of the stretch after all that is told
 abbrev pub latest_of : Option ToldHead → List Told → Option ToldHead
 latest_of before [] = before
 latest_of before (t ∷ rest) = latest_of (latest_behind t) rest
 
--- Before the end the heads tell events of these moves, move by move and none left out, at legal speeds, and the machine can stop
--- over the events of the latest head. The end may break its move off, as a cut may: events may be left.
+-- Before the end the heads tell events of these moves, move by move and none left out, at legal speeds, and the machine
+-- can stop over the events of the latest head. The end may break its move off, as a cut may: events may be left.
 pub record HasHaltedHeads (moves : List PlannedMove) (records : List Record) : Type 0 where
   pub told : List Told
   pub recorded : records ≡ flat_map told_records told ++ kinds.End ∷ []

@@ -37,7 +37,7 @@ fresh_plan = record { blocks = []; speed = 0; overrides = normal_overrides }
 abbrev pub block_of : PlannedMove → Block
 block_of m = record { line = m.line; mv = m.mv; rate = m.rate; geom = geometry_of m; prepared = 0; entry = Free }
 
--- a plan behind whose blocks a move is added
+-- a plan after whose blocks a move is added
 abbrev pub with_move : Planned → PlannedMove → Planned
 with_move p m = added p (block_of m) m.deviation p.overrides
 
@@ -45,11 +45,11 @@ with_move p m = added p (block_of m) m.deviation p.overrides
 abbrev pub cleared : Planned → Planned
 cleared p = record p { blocks = []; speed = 0 }
 
--- so many blocks stand at most in the controller's plan
+-- the controller's plan has at most so many blocks
 abbrev pub most_blocks : ℕ
 most_blocks = 15
 
--- a move may be added where fewer stand
+-- a move may be added if fewer there are
 pub record MayAdd (most : ℕ) (p : Planned) (m : PlannedMove) : Type 0 where
   pub move : IsPlannedMove m
   pub room : length p.blocks < most
@@ -59,10 +59,10 @@ pub record IsAtRest (p : Planned) : Type 0 where
   pub blocks : p.blocks ≡ []
   pub speed : p.speed ≡ 0
 
--- From a plan, where so many blocks stand at most, these actions give these pieces, in order, and leave the plan `last`.
--- A move is added behind the others; the plan gives its next segment in a mode, and is advanced by it; it is planned for
--- other overrides; a mark comes where nothing is left to run, and a rest lasts until then; all blocks are taken away
--- where the machine stands, or at any speed by a reset, behind which nothing comes.
+-- From a plan of at most so many blocks these actions give these pieces, in order, and leave the plan `last`. A move is
+-- added after the others; the plan gives its next segment in a mode, and is advanced by it; it is planned for other
+-- overrides; a mark comes when nothing is left to run, and a rest lasts until then; all blocks are taken away when the
+-- machine stands, or at any speed by a reset, after which nothing comes.
 abbrev pub Plans : ℕ → Planned → List Action → List Piece → Planned → Type 0
 Plans most p [] [] last = last ≡ p
 Plans most p (Add m ∷ rest) ps last = MayAdd most p m × Plans most (with_move p m) rest ps last
@@ -133,7 +133,7 @@ KeepsAll a = Unit {0}
 abbrev pub NeverClears : List Action → Type 0
 NeverClears actions = AllByRecursion KeepsAll actions
 
--- more may come behind it
+-- more may come after it
 abbrev pub IsNoReset : Action → Type 0
 IsNoReset Reset = ⊥
 IsNoReset a = Unit {0}
@@ -141,8 +141,8 @@ IsNoReset a = Unit {0}
 abbrev pub NeverResets : List Action → Type 0
 NeverResets actions = AllByRecursion IsNoReset actions
 
--- An action that is done with no operator's word, but that segments may be taken to hold the machine where `held` says so,
--- and that it may be planned for other overrides where `changed` does. Nothing is taken away.
+-- An action that is done with no operator's word, but that segments may be taken to hold the machine if `held` says so,
+-- and that it may be planned for other overrides if `changed` does. Nothing is taken away.
 abbrev pub NeedsNoOther : (held changed : Bool) → Action → Type 0
 NeedsNoOther held changed (Take Hold) = held ≡ true
 NeedsNoOther held changed (Override o) = changed ≡ true
@@ -150,11 +150,11 @@ NeedsNoOther held changed Clear = ⊥
 NeedsNoOther held changed Reset = ⊥
 NeedsNoOther held changed a = Unit {0}
 
--- nothing else disturbs these than a hold, where there was one, and a change of overrides, where there was one
+-- nothing else disturbs these than a hold, if there was one, and a change of overrides, if there was one
 abbrev pub DisturbedOnlyBy : (held changed : Bool) → List Action → Type 0
 DisturbedOnlyBy held changed actions = AllByRecursion (NeedsNoOther held changed) actions
 
--- each piece follows those before it; of these the latest stands first
+-- each piece follows those before it; of these the latest is first
 abbrev pub AllFollow : List Piece → List Piece → Type 0
 AllFollow before [] = Unit {0}
 AllFollow before (p ∷ ps) = ComesBehind before p × AllFollow (p ∷ before) ps

@@ -1,4 +1,4 @@
-//! What holds of every planner run, and of every part of one that begins where nothing is left to run.
+//! What holds of every planner run, and of every part of one that begins when nothing is left to run.
 
 ghost use Rattle.std.specs.Prelude.{◌≡◌, ◌∷◌, ◌++◌, ℕ, Bool, true, List, [], reverse};
 ghost use Rattle.std.specs.List.{flat_map};
@@ -45,7 +45,7 @@ ghost use Rattle.planner_runs.specs.Runs.{
 ghost use Rattle.planner_runs.specs.Driven.{IsDriven, IsParted};
 ghost use Rattle.planner_runs.specs.Halted.{HasHaltedHeads};
 
-/// A run goes on by what is done to the plan that it leaves, unless it was reset, and can be taken apart again. So do what
+/// Unless it was reset, a run goes on by what is done to the plan that it leaves, and can be split again. So can what
 /// is asked for, its moves and its ticks.
 pub fn planner_runs_go_on()
     ensures goes_on { (most : ℕ) (from mid last : Planned) (actions more : List AnyAction) (given next : List AnyPiece) →
@@ -66,8 +66,8 @@ pub fn planner_runs_go_on()
     ensures on { (actions : List AnyAction) → NeverClears actions → NeverResets actions }
 {}
 
-/// A run, or a part of one, begins with the fresh plan, or where nothing is left to run of one that began so. Each plan of
-/// it can be slowed down to each corner ahead, and where no block is left the machine stands.
+/// A run, or a part of one, begins with the fresh plan, or when nothing is left to run of one that began so. Each plan
+/// of it can be slowed down to each corner ahead, and if no block is left the machine stands.
 pub fn planner_runs_begin_at_rest()
     ensures fresh { IsStart fresh_plan }
     ensures reached { (most : ℕ) (from last : Planned) (actions : List AnyAction) (given : List AnyPiece) → IsStart from →
@@ -102,8 +102,8 @@ pub fn planner_runs_grow()
         Plans most from (actions ++ Mark m ∷ []) (given ++ pieces.Mark m ∷ []) plan }
 {}
 
-/// The ticks of a run's pieces, and behind them the events that its plan has left, are those that its actions ask for: all
-/// events of each move that is added, and the marks, in order.
+/// The ticks of a run's pieces, and after them the events that its plan has left, are those that its actions ask for:
+/// all events of each move that is added, and the marks, in order.
 pub fn ticks_are_those_asked_for()
     ensures ticks { (most : ℕ) (from last : Planned) (actions : List AnyAction) (given : List AnyPiece) → IsStart from → NeverClears actions →
         Plans most from actions given last → ticks_asked actions ≡ flat_map ticks_of given ++ ticks_left last }
@@ -114,7 +114,7 @@ pub fn ticks_are_those_asked_for()
 {}
 
 /// Each piece of a run follows those before it, so that it can be traced and recorded. Of the pieces before, the latest
-/// stands first.
+/// is first.
 pub fn pieces_follow()
     ensures all { (most : ℕ) (before : List AnyPiece) (from last : Planned) (actions : List AnyAction) (given : List AnyPiece) → IsStart from →
         Plans most from actions given last → AllFollow before given }
@@ -123,8 +123,8 @@ pub fn pieces_follow()
         ComesBehind (later ++ before) (pieces.Segment s) }
 {}
 
-/// The heads that a run records are legal, and they are of a front of the moves that are added. Where nothing is left to
-/// run, the end may come behind them; and wherever the machine stands, a cut, which may break a move off.
+/// The heads that a run records are legal, and they are of a front of the moves that are added. If nothing is left to
+/// run, the end may come after them; and wherever the machine stands, a cut, which may break a move off.
 pub fn planner_runs_are_legal()
     ensures heads { (most : ℕ) (from last : Planned) (actions : List AnyAction) (given : List AnyPiece) → IsStart from → NeverClears actions →
         Plans most from actions given last → HasLegalHeads (moves_added actions) (all_records given) }
@@ -134,9 +134,9 @@ pub fn planner_runs_are_legal()
         Plans most from actions given last → last.speed ≡ 0 → HasLegalHeads (moves_added actions) (all_records given ++ kinds.Mark (Cut line) ∷ []) }
 {}
 
-/// A run that was stopped may end wherever the machine stands, as an alarm ends it: its heads are legal up to the end, which
-/// may break a move off, and the ticks that are recorded are the first of those that its actions ask for. The others are the
-/// events that its plan has left.
+/// A run that was stopped may end wherever the machine stands, as an alarm ends it: its heads are legal up to the end,
+/// which may break a move off, and the ticks that are recorded are the first of those that its actions ask for. The
+/// others are the events that its plan has left.
 pub fn halted_runs_are_legal()
     ensures heads { (most : ℕ) (from last : Planned) (actions : List AnyAction) (given : List AnyPiece) → IsStart from → NeverClears actions →
         Plans most from actions given last → last.speed ≡ 0 → HasHaltedHeads (moves_added actions) (all_records given ++ kinds.End ∷ []) }
@@ -144,14 +144,14 @@ pub fn halted_runs_are_legal()
         Plans most from actions given last → ticks_asked actions ≡ ticks_among (all_records given ++ kinds.End ∷ []) ++ ticks_left last }
 {}
 
-/// Where a run is cleared, its part before is legal, and another part begins. So each run is parts that never clear.
+/// If a run is cleared, its part before is legal, and another part begins. So each run has parts that never clear.
 pub fn cleared_runs_begin_anew()
     ensures { (most : ℕ) (from last : Planned) (actions more : List AnyAction) (given : List AnyPiece) → IsStart from → NeverClears actions →
         Plans most from (actions ++ Clear ∷ more) given last → IsParted most from actions more given last }
 {}
 
-/// A planner run that only holds and changes of overrides disturb, and that ends with nothing left to run, is what was driven
-/// of what it asks for.
+/// A planner run that only holds and changes of overrides disturb, and that ends with nothing left to run, is
+/// `IsDriven` of what it asks for.
 pub fn planner_runs_are_driven()
     ensures { (held changed : Bool) (actions : List AnyAction) (given : List AnyPiece) (last : Planned) → IsPlannerRun actions given last →
         DisturbedOnlyBy held changed actions → IsAtRest last → IsDriven held changed (all_asked actions) (all_records given ++ kinds.End ∷ []) }

@@ -17,18 +17,18 @@ use step_line::{Mark, PlannedMove};
 /// What is done to a plan.
 #[derive(Clone, Copy, Debug, PartialEq, Eq)]
 pub enum Action {
-    /// A move is put behind the others.
+    /// A move is put after the others.
     Add(PlannedMove),
     /// The next segment is taken.
     Take(Mode),
-    /// It is planned for other overrides.
+    /// The overrides change, and the plan is made anew.
     Override(Overrides),
-    /// A mark is made where nothing is left to run.
+    /// A mark is made when nothing is left to run.
     Mark(Mark),
-    /// It was waited for until nothing is left to run.
+    /// The board waited until nothing was left to run.
     Rest,
-    /// All blocks are taken away where the machine stands: a jog is cut, or an alarm is raised.
+    /// All blocks are taken away when the machine stands: a jog is cut, or an alarm is raised.
     Clear,
-    /// All blocks are taken away at any speed. Nothing comes behind it.
+    /// All blocks are taken away at any speed. Nothing comes after it.
     Reset,
 }

@@ -1,6 +1,6 @@
 -- The caps of a plan's points, one by one.
 use Rattle.std.proofs.Common.{◌≡◌, ℕ, ◌+◌, ◌<◌, refl, arith, ◌∙◌, List, [], ◌∷◌, ◌++◌, length, get_or, map, add-one}
-use Rattle.std.proofs.lemmas.List.{get_or_append_left, get_or_push, length_push}
+use Rattle.std.proofs.lemmas.List.{get_or_append_left, get_or_push}
 use Rattle.std.proofs.lemmas.List.FromFn.{get_or-map-range_with_len, length-map-range_with_len}
 use Rattle.std.specs.List.{range_with_len}
 use Rattle.profile.specs.Caps.{cap_of, caps}
@@ -31,10 +31,3 @@ caps_inner w gaps softs j h =
 pub caps_last : (w : ℕ) (gaps softs : List ℕ) → get_or (caps w gaps softs) (length softs + 1) 0 ≡ 0
 unfolding caps
 caps_last w gaps softs = rw add-one (get_or_push (inner w gaps softs) 0 0 (length softs) (length-inner w gaps softs))
-
-pub length-caps : (w : ℕ) (gaps softs : List ℕ) → length (caps w gaps softs) ≡ length softs + 2
-unfolding caps
-length-caps w gaps softs =
-    let pushed = length_push (inner w gaps softs) 0 in
-    let many = length-inner w gaps softs in
-    omega (arith, pushed, many)

@@ -7,7 +7,7 @@ use Rattle.std.specs.Prelude.{◌≡◌, ℕ, ◌+◌, ◌-◌, ◌≤◌, ◌<�
 use Rattle.std.specs.List.{range_with_len}
 use Rattle.profile.specs.Profiles.{place, greatest}
 
--- the cap of the point behind block j: the soft one, unless the speed can't fall so far on the way
+-- the cap of the point after block j: the soft one, unless the speed can't fall so far on the way
 abbrev pub cap_of : ℕ → List ℕ → List ℕ → ℕ → ℕ
 cap_of w gaps softs j = max (get_or softs j 0) (w - place gaps (j + 1))
 

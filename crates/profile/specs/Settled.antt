@@ -1,4 +1,4 @@
--- The points whose speed no later cap holds down, and speeds that are planned up to a point.
+-- The points whose speed no later cap limits, and speeds that are planned up to a point.
 use Rattle.std.specs.Prelude.{◌≡◌, ℕ, ◌+◌, ◌≤◌, ◌<◌, List, length, get_or}
 use Rattle.profile.specs.Profiles.{least, allowed_by, greatest}
 use Rattle.profile.specs.Passes.{greatest_ahead}
@@ -7,23 +7,24 @@ use Rattle.profile.specs.Passes.{greatest_ahead}
 unfoldable pub greatest_behind : List ℕ → List ℕ → ℕ → ℕ
 greatest_behind gaps caps j = least (allowed_by gaps caps j) j
 
--- the caps up to point j alone hold its speed
+-- the caps up to point j alone limit its speed
 unfoldable pub IsSettled : List ℕ → List ℕ → ℕ → Type 0
 IsSettled gaps caps j = greatest gaps caps j ≡ greatest_behind gaps caps j
 
--- each point up to j has its greatest speed, and each one behind it its cap
+-- each point up to j has its greatest speed, and each one after it its cap
 pub record IsPlannedTo (gaps caps : List ℕ) (j : ℕ) (speeds : List ℕ) : Type 0 where
   pub points : length speeds ≡ length gaps + 1
   pub planned : (i : ℕ) → i ≤ j → get_or speeds i 0 ≡ greatest gaps caps i
   pub left : (i : ℕ) → j < i → i ≤ length gaps → get_or speeds i 0 ≡ get_or caps i 0
 
--- each point up to j has its greatest speed, and each one behind it what its own cap and the later ones allow
+-- each point up to j has its greatest speed, and each one after it what its own cap and the later ones allow
 pub record IsHeldTo (gaps caps : List ℕ) (j : ℕ) (speeds : List ℕ) : Type 0 where
   pub points : length speeds ≡ length gaps + 1
   pub planned : (i : ℕ) → i ≤ j → get_or speeds i 0 ≡ greatest gaps caps i
   pub held : (i : ℕ) → j < i → i ≤ length gaps → get_or speeds i 0 ≡ greatest_ahead gaps caps i
 
--- own is the last point between j and the end that its own cap holds against the later ones, or j where there is none
+-- own is the last point between j and the end whose speed is its own cap, as far as the later ones go, or j if there is
+-- none
 pub record IsLastOwn (gaps caps : List ℕ) (j own : ℕ) : Type 0 where
   pub behind : j ≤ own
   pub before : own < length gaps

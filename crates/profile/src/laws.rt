@@ -20,15 +20,15 @@ pub fn profile_is_the_greatest()
         (j : ℕ) → j ≤ length gaps → get_or speeds j 0 ≤ greatest gaps caps j }
 {}
 
-/// A plan whose present speed can be slowed down for all that comes begins with that speed.
+/// A plan that can slow down in time from the present speed begins with that speed.
 pub fn plan_begins_with_the_present_speed()
     ensures { (w : ℕ) (gaps hards softs : List ℕ) → length gaps ≡ length hards + 1 →
         IsSofter softs hards → IsSlowable w gaps hards → planned w gaps softs 0 ≡ w }
 {}
 
 /// A speed that can be slowed down stays so, whatever happens to the plan: it is cleared, gets its first block or one
-/// more, goes on by n events in mode Go or Hold, or loses a tail of which nothing is left. Where overrides change, only
-/// the soft caps do, and these are none of its concern.
+/// more, goes on by n events in mode Go or Hold, or loses a tail that has no events left. If overrides change, only the
+/// soft caps change, which it does not depend on.
 pub fn stays_slowable()
     ensures cleared { IsSlowable 0 [] [] }
     ensures first { (gap : ℕ) → IsSlowable 0 (gap ∷ []) [] }
@@ -53,9 +53,9 @@ pub fn changes_little()
     ensures below { (w q n left exit top : ℕ) → speed_after w q n left exit top ≤ max w top }
 {}
 
-/// What need not be planned anew: where the speed changes by no more than n events may change it, and the planned speed
-/// at the tail's end is still within reach, no planned speed from there on changes; nor where a tail goes of which
-/// nothing is left. In mode Go it is always within reach.
+/// What need not be planned anew: if the speed changes by no more than n events may change it, and the planned speed at
+/// the tail's end is still within reach, no planned speed from there on changes; nor when a tail goes that has no
+/// events left. In mode Go that speed is always within reach.
 pub fn stays_planned()
     ensures within_reach { (w v q n left : ℕ) (gaps softs : List ℕ) (i : ℕ) → length gaps ≡ length softs →
         distance w v ≤ q * n → distance v (planned w (q * (left + n) ∷ gaps) softs 1) ≤ q * left → i ≤ length gaps →
@@ -68,9 +68,9 @@ pub fn stays_planned()
         j ≤ length gaps → planned v (0 ∷ gaps) (soft ∷ softs) (j + 1) ≡ planned v gaps softs j }
 {}
 
-/// The present place is settled. An added block changes no speed at or before a settled point that was not the end, and that
-/// point stays settled; so does one where the speed at the tail's end stays within reach, and where a tail goes of which
-/// nothing is left.
+/// The present place is settled. An added block changes no speed at or before a settled point that was not the end, and
+/// that point stays settled. So does one while the speed at the tail's end stays within reach, and when a tail goes
+/// that has no events left.
 pub fn settled_points()
     ensures first { (w : ℕ) (gaps hards softs : List ℕ) → length gaps ≡ length hards + 1 →
         IsSofter softs hards → IsSlowable w gaps hards → IsSettled gaps (caps w gaps softs) 0 }

@@ -1,6 +1,6 @@
-//! The greatest speeds along a row of points, each of which has a cap, and between which the speed may change by so much.
+//! The greatest speeds along a row of points: each point has a cap, and between two the speed may change by their gap.
 //!
-//! Speeds are squared, in µm²/s², and so is what changes them. A gap is what a block's events may change together: a
+//! Speeds are squared, in µm²/s², and so is what changes them. A gap is what a block's events together may change: a
 //! product that may be beyond 64 bits, while a speed is not.
 #![tactic(auto)]
 
@@ -24,7 +24,7 @@ fn held(cap: u64, neighbour: u64, gap: u128) -> u64
     }
 }
 
-/// Which of two points is the last one that its own cap holds: the earlier one where its speed is its cap.
+/// The last of two points whose speed is its own cap: the earlier one if that is so there.
 #[inline]
 fn last_own(speed: u64, cap: u64, point: usize, own: usize) -> usize
     ensures own { speed ≡ cap → result ≡ max own point }
@@ -34,8 +34,8 @@ fn last_own(speed: u64, cap: u64, point: usize, own: usize) -> usize
     if speed == cap { own.max(point) } else { own }
 }
 
-/// The backward pass, from the end to the point behind `from`: what its own cap and the later ones allow at each point.
-/// Answers the last point before the end that its own cap holds, or `from` where there is none.
+/// The backward pass, from the end to the point after `from`: what its own cap and the later ones allow at each point.
+/// Answers the last point before the end whose speed is its own cap, or `from` if there is none.
 fn hold_ahead(speeds: &mut [u64], gaps: &[u128], from: usize) -> usize
     requires points { length speeds.old ≡ length gaps.now + 1 }
     requires before { from < length gaps.now }
@@ -90,12 +90,12 @@ fn rises_to(speeds: &[u64], gaps: &[u128], from: usize) -> usize
     last
 }
 
-/// Turns the caps of the points behind `from`, in µm²/s², into their greatest speeds, for the gaps between all points, where
-/// each point up to `from` has its greatest speed: no speed is above a cap, no two neighbours differ by more than their
-/// gap, and no other such speeds are greater anywhere.
+/// Turns the caps of the points after `from`, in µm²/s², into their greatest speeds, for the gaps between all points,
+/// if each point up to `from` has its greatest speed: no speed is above a cap, no two neighbours differ by more than
+/// their gap, and no other such speeds are greater anywhere.
 ///
-/// A point is settled where the caps up to it alone hold its speed. Where `from` is, the last settled point before the end is
-/// answered.
+/// A point is settled if the caps up to it alone limit its speed. If `from` is, the answer is the last settled point
+/// before the end.
 pub fn plan_from(speeds: &mut [u64], gaps: &[u128], from: usize) -> usize
     requires before { from < length gaps.now }
     requires planned { (caps : List ℕ) × IsPlannedTo gaps.now caps from speeds.old }

@@ -12,8 +12,8 @@ use Rattle.step_line.specs.Records.{IsHead, IsMark}
 use Rattle.step_line.specs.Tracing.{Trace}
 
 -- what callers see of a pulse: the records of the piece in hand that are still to be put, in order; whether a tick was
--- put and is not counted; whether the end was put; and the move that was traced last, with the number of its events that
--- are put once nothing waits
+-- put and is not counted; whether the end was put; and the move that was traced last, with the number of its events
+-- that are put once nothing waits
 pub record Pulsing : Type 0 where
   pub waiting : List Record
   pub owes : Bool
@@ -31,7 +31,7 @@ gone t n = record { mv = t.mv; done = t.done + n }
 abbrev pub pulsing : Option Record → Trace → ℕ → Bool → Bool → Pulsing
 pulsing hand t n owes over = record { waiting = option_to_list hand ++ coming t n; owes = owes; over = over; reached = gone t n }
 
--- a record may stand before n events of a segment: a head, or an event, which has a line; any other comes before none
+-- a record may come before n events of a segment: a head, or an event, which has a line; any other comes before none
 abbrev pub IsFirst : Record → ℕ → Type 0
 IsFirst (kinds.Head h) n = IsHead h
 IsFirst (kinds.Event b) n = IsEvent b

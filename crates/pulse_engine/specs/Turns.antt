@@ -15,7 +15,7 @@ use Rattle.pulse_engine.specs.Logs.PieceEvent.{got, none, ticked}
 use Rattle.pulse_engine.specs.Logs.RecordEvent.{put, full}
 use Rattle.pulse_engine.specs.Steps.{Pulsing}
 
--- a move was traced up to the end of the segment that was got last, where that is the last piece
+-- a move was traced up to the end of the segment that was got last, if that is the last piece
 abbrev pub Reaches : NewestFirst Piece → Trace → Type 0
 Reaches [] t = Unit {0}
 Reaches (pieces.Segment s ∷ before) t = t ≡ record { mv = s.mv; done = s.first + s.n }
@@ -23,7 +23,7 @@ Reaches (pieces.Mark m ∷ before) t = Unit {0}
 Reaches (pieces.End ∷ before) t = Unit {0}
 
 -- a pulse that has done this: the pieces got came in turn, and what is recorded of them is what was put and what waits;
--- the ticks put are the ticks counted, or one more, and what waits has those that are neither
+-- the ticks put are the ticks counted, or one more, and the others are in what waits
 pub record PulseFits (p : Pulsing) (h : PieceLog) (k : RecordLog) : Type 0 where
   pub turns : InTurn (pieces_of h)
   pub records : recorded (pieces_of h) ≡ records_put k ++ p.waiting

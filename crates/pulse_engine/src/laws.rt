@@ -15,8 +15,9 @@ ghost use Rattle.pulse_engine.specs.Turns.{PulseFits};
 
 use step_line::{Piece, Record};
 
-/// What is recorded of pieces that came in turn: the records of each, in order, and each has a line. The events run on
-/// over the segments of a move: two that join have together the events of their move from the first's first on.
+/// What is recorded of pieces that came in turn: the records of each, in order, and each has a line. The events go on
+/// over the segments of a move: two that join have together the events of their move from the first one's first event
+/// on.
 #[tactic(auto, using(crate::proofs::Whole::recorded_each, crate::proofs::Whole::goes_on, crate::proofs::Whole::all_have_lines))]
 pub fn pieces_in_order()
     ensures each { (ps : List Piece) → recorded ps ≡ flat_map records_of (reverse ps) }

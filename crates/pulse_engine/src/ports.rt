@@ -14,10 +14,10 @@ pub trait PulsePort {
     /// What this side does not change.
     ghost Rest: { Type 0 };
 
-    /// This side of the port has done what the log tells.
+    /// This side of the port has done what the log says.
     ghost stands: { Self → Rest → PieceLog → Type 0 };
 
-    /// The next piece, where one is there. It may come after those before it; after the end none comes. Each tick of the
+    /// The next piece, if one is there. It may come after those before it; after the end none comes. Each tick of the
     /// pieces got before has to be counted.
     fn piece(&mut self) -> Option<Piece>
         requires { (rest : Rest) × (h : PieceLog) × stands self.old rest h × IsCounted h }
@@ -36,10 +36,10 @@ pub trait TickOut {
     /// What this side does not change.
     ghost Rest: { Type 0 };
 
-    /// This side of the port has done what the log tells.
+    /// This side of the port has done what the log says.
     ghost stands: { Self → Rest → RecordLog → Type 0 };
 
-    /// Puts a record that has a line, or hands it back where there is no room, and then nothing is put.
+    /// Puts a record that has a line, or hands it back if there is no room, and then nothing is put.
     fn put(&mut self, r: Record) -> Result<(), Record>
         requires { IsRecord r }
         ensures ok { OnOk result ((rest : Rest) (k : RecordLog) → stands self.old rest k → stands self.new rest (put r ∷ k)) }

@@ -20,7 +20,7 @@ use units::{Move, Steps3};
 pub struct Pulse {
     /// The record that is put next: the first of a piece, or an event for which there was no room.
     hand: Option<Record>,
-    /// How many events of the segment in hand come behind it.
+    /// How many events of the segment in hand come after it.
     left: u32,
     tracer: Tracer,
     /// The tick that was put last is to be counted.
@@ -63,7 +63,7 @@ fn trace(tracer: &mut Tracer, segment: &Segment)
     }
 }
 
-/// The first record of a piece, where the tracer is at the end of the piece before it.
+/// The first record of a piece, if the tracer is at the end of the piece before it.
 fn begin(piece: &Piece, tracer: &mut Tracer, left: &mut u32) -> Record
     requires may { MayBegin tracer.old piece.now }
     requires none { left.old ≡ 0 }
@@ -112,8 +112,8 @@ impl Pulse {
         }
     }
 
-    /// A turn between two pieces, where no record is left and no count is owed: it gets a piece, if one is there. It stands by itself so
-    /// that an event doesn't pay for the room that a piece takes.
+    /// A turn between two pieces, when no record is left and no count is owed: it gets a piece, if one is there. It is
+    /// a function of its own so that an event doesn't pay for the memory of a piece.
     #[inline(never)]
     fn turn_between<P: PulsePort>(&mut self, pieces: &mut P) -> Turn
         requires stands { (rest : P.Rest) × (h : PieceLog) × (k : RecordLog) × P.stands pieces.old rest h × PulseFits self.old h k }
@@ -134,9 +134,9 @@ impl Pulse {
         Turn::Did
     }
 
-    /// Does one step of work: gets a piece, puts a record or counts a tick, and then answers Did. Where there is no piece
-    /// or no room for the record it waits for that, and is as before; so the record is put again in the next turn. From
-    /// the turn after the one that put the end it answers Done, and nothing changes. Each turn that answers Did moves: it does one of
+    /// Does one step of work: gets a piece, puts a record or counts a tick, and then answers Did. If there is no piece,
+    /// or no room for the record, it waits for that and is as before; the next turn tries again. From the turn after
+    /// the one that put the end it answers Done, and nothing changes. Each turn that answers Did moves: it does one of
     /// the three.
     #[inline]
     pub fn turn<P: PulsePort, T: TickOut>(&mut self, pieces: &mut P, records: &mut T) -> Turn
@@ -156,8 +156,8 @@ impl Pulse {
         self.work(pieces, records)
     }
 
-    /// A turn that owes no count: it puts a record or gets a piece. It stands by itself so that a count doesn't pay for the room that a
-    /// record takes.
+    /// A turn that owes no count: it puts a record or gets a piece. It is a function of its own so that a count doesn't
+    /// pay for the memory of a record.
     #[inline(always)]
     fn work<P: PulsePort, T: TickOut>(&mut self, pieces: &mut P, records: &mut T) -> Turn
         requires stands { (rest : P.Rest) × (back : T.Rest) × (h : PieceLog) × (k : RecordLog) × P.stands pieces.old rest h × T.stands records.old back k × PulseFits self.old h k }

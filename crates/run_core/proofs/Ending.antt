@@ -1,5 +1,7 @@
 -- Actors that have answered Done.
-use Rattle.std.proofs.Common.{◌≡◌, false, sym, subst}
+use Rattle.std.proofs.Common.{◌≡◌, ◌≢◌, ◌↔◌, false, refl, sym, subst}
+use Rattle.outside.specs.declared.Turn.{Turn}
+use Rattle.outside.specs.declared.Turn.TheVariants.{Did, Done, Wait}
 use Rattle.outside.specs.declared.Actor.{Actor}
 use Rattle.outside.specs.declared.Actor.TheVariants as actors
 use Rattle.run_core.specs.declared.lockstep.Ended.{Ended}
@@ -47,3 +49,10 @@ ends_too actor e next w w' is done alone still ended =
     added actors.Board done all = record { host = all.host; board = λ yes. done; pulse = all.pulse; recorder = all.recorder }
     added actors.Pulse done all = record { host = all.host; board = all.board; pulse = λ yes. done; recorder = all.recorder }
     added actors.Record done all = record { host = all.host; board = all.board; pulse = all.pulse; recorder = λ yes. done }
+
+-- an actor has answered, Done where it is done
+pub learned : (actor : Actor) (t : Turn) (e next : Ended) (w w' : Seen) → (t ≡ Done → next ≡ with_end actor e) → (t ≢ Done → next ≡ e) → ((t ≡ Done) ↔ IsDone actor w) → ActsAlone actor w w' → (IsDone actor w → w' ≡ w)
+    → AreEnded e w → AreEnded next w'
+learned actor Done e next w w' ends same done alone still was = ends_too actor e next w w' (ends refl) (done.0 refl) alone still was
+learned actor Did e next w w' ends same done alone still was = subst (λ (n : Ended). AreEnded n w') (sym (same (λ is. cc))) (stay_ended actor e w w' alone still was)
+learned actor (Wait on) e next w w' ends same done alone still was = subst (λ (n : Ended). AreEnded n w') (sym (same (λ is. cc))) (stay_ended actor e w w' alone still was)

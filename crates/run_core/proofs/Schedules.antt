@@ -4,8 +4,8 @@ use Rattle.std.proofs.Math.Seq.{take-suc}
 use Rattle.outside.specs.declared.Actor.{Actor}
 use Rattle.outside.specs.declared.Actor.TheVariants as actors
 use Rattle.outside.specs.declared.Turn.{Turn}
-use Rattle.run_core.specs.Worlds.{Seen, History, Devices, Adds, Turns, TurnsOn, RunsOn, HasRunOn}
-use Rattle.run_core.specs.Lockstep.{state_after, number_of, actor_of, state_at, order_from, RunsInOrder}
+use Rattle.run_core.specs.Worlds.{Seen, History, Devices, Adds, Turns, TurnsOn, RunsOn}
+use Rattle.run_core.specs.Lockstep.{state_after, number_of, actor_of, state_at, order_from, RunsInOrder, IsInOrder}
 
 -- one turn more
 one_more : (schedule : List Actor) (actor : Actor) (t : Turn) (w mid w' : Seen) (hist between next : History) → Turns schedule w mid hist between → Adds actor t mid w' between next
@@ -35,22 +35,7 @@ pub next_taken : (schedule : List Actor) (i : ℕ) (other : Actor) (before after
 next_taken schedule i other before after w w' within runs =
     let e : take (suc i) schedule ≡ take i schedule ++ get_or schedule i other ∷ [] = take-suc schedule i other within in rw (add-one, e) runs
 
--- turns of some schedule, and one more
-pub some_nothing : (now : Devices) (w : Seen) → HasRunOn now now w w
-some_nothing now w = record { schedule = []; runs = runs_nothing now w }
-
-pub some_more : (actor : Actor) (t : Turn) (before now after : Devices) (w mid w' : Seen) → HasRunOn before now w mid → TurnsOn actor t now after mid w' → HasRunOn before after w w'
-some_more actor t before now after w mid w' has turns = record {
-  schedule = has.schedule ++ actor ∷ [];
-  runs = runs_more has.schedule actor t before now after w mid w' has.runs turns;
-}
-
 -- ---- in the order that a seed gives
-
--- so far, where no turn is left out: the turns that a seed gives, up to this number of the generator
-pub record IsInOrder (seed state : ℕ) (before after : Devices) (w w' : Seen) : Type 0 where
-  pub order : RunsInOrder seed before after w w'
-  pub state_is : state ≡ state_at seed order.count
 
 actor_is : (a : Actor) (n : ℕ) → number_of a ≡ n → a ≡ actor_of n
 actor_is actors.Host n is = ap actor_of is

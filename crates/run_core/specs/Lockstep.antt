@@ -35,6 +35,11 @@ pub record RunsInOrder (seed : ℕ) (before after : Devices) (w w' : Seen) : Typ
   pub count : ℕ
   pub runs : RunsOn (order_from seed count) before after w w'
 
+-- so far, where no turn is left out: the turns that a seed gives, up to this number of the generator
+pub record IsInOrder (seed state : ℕ) (before after : Devices) (w w' : Seen) : Type 0 where
+  pub order : RunsInOrder seed before after w w'
+  pub state_is : state ≡ state_at seed order.count
+
 -- an actor has answered Done
 abbrev pub with_end : Actor → Ended → Ended
 with_end actors.Host e = record e { host = true }

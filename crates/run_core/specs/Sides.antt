@@ -16,7 +16,7 @@ use Rattle.pulse_engine.specs.Logs.{PieceLog, RecordLog}
 use Rattle.pulse_engine.specs.Turns.{PulseFits}
 use Rattle.step_record.specs.Taking.{Log}
 use Rattle.step_record.specs.Recording.{RecorderFits, Rests}
-use Rattle.link_ports.specs.Standing.{HostLogs, BoardLogs}
+use Rattle.link_ports.specs.Standing.{HostLogs, HostSees, BoardLogs, BoardSees}
 use Rattle.motion_ports.specs.Ports.{HasGot, HasPut, HasTaken}
 use Rattle.run_core.specs.declared.sides.HostSide.{HostSide}
 use Rattle.run_core.specs.declared.sides.BoardSide.{BoardSide}
@@ -27,10 +27,12 @@ use Rattle.run_core.specs.declared.sides.RecorderSide.{RecorderSide}
 
 pub record HostIsNew (side : HostSide) : Type 0 where
   pub did : HostLogs side.link []
+  pub sees : HostSees side.link []
   pub fits : HostFits side.host []
 
 pub record BoardIsNew (side : BoardSide) : Type 0 where
   pub did : BoardLogs side.link []
+  pub sees : BoardSees side.link []
   pub fits : BoardFits side.board (goes [])
 
 pub record PulseIsNew (side : PulseSide) : Type 0 where
@@ -51,6 +53,7 @@ pub record HostRunsAt (job_was job_is : SourceState) (console_was console_is : S
   pub link : link_of_host is.link.end ≡ link_of_host was.link.end
   pub flags : raised_in is.link.flags ≡ raised_in was.link.flags
   pub did : HostLogs is.link (host_log journal)
+  pub sees : HostSees is.link (host_log journal)
   pub fits : HostFits is.host journal
   pub between : IsBetweenOfHost journal
   pub job : TellsJob journal job_was job_is
@@ -63,6 +66,7 @@ pub record BoardRunsAt (was is : BoardSide) : Type 0 where
   pub flags : taken_in is.link.flags ≡ taken_in was.link.flags
   pub pieces : ring_of_out is.link.pieces ≡ ring_of_out was.link.pieces
   pub did : BoardLogs is.link (board_log journal)
+  pub sees : BoardSees is.link (board_log journal)
   pub fits : BoardFits is.board journal
   pub between : IsBetweenOfBoard journal
 

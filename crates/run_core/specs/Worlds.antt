@@ -57,6 +57,7 @@ pub record History : Type 0 where
   pub puts : RecordLog
   pub takes : Log
 
+-- nothing was done
 abbrev pub no_history : History
 no_history = record { host = []; board = goes []; pulse = []; puts = []; takes = [] }
 
@@ -70,6 +71,7 @@ pub record Holds (w : Seen) (hist : History) : Type 0 where
   pub board_between : IsBetweenOfBoard hist.board
   pub pulse : PulseFits w.pulse hist.pulse hist.puts
 
+-- there is such a history
 abbrev pub HasHistory : Seen → Type 0
 HasHistory w = (hist : History) × Holds w hist
 
@@ -173,9 +175,11 @@ pub record HasRunOn (before after : Devices) (w w' : Seen) : Type 0 where
 abbrev pub end_after : Seen → History → RunEnd
 end_after w hist = ended (end_of hist.host) w.recorder.failed
 
+-- what was done since a moment is a run so far
 abbrev pub RunsSoFar : Devices → Devices → Type 0
 RunsSoFar was now = IsSoFar was.job now.job (sinks was) (sinks now)
 
+-- it is a run of the job, which ends so
 abbrev pub HasRun : Devices → Devices → RunEnd → Type 0
 HasRun was now end = IsRun was.job now.job (sinks was) (sinks now) end
 

@@ -27,6 +27,7 @@ impl BoardPort for Lists {
 
     /// The byte that has waited longest, where one waits; else Closed where the link is closed, and Empty where it is
     /// open.
+    #[inline(always)]
     fn byte(&mut self) -> ByteIn
         ensures byte { (b : ℕ) → result ≡ ByteIn.Byte b → (far : HostLog × PieceLog) (l : BoardLog) → Joined self.old far.0 l far.1 → Joined self.new far.0 (took b ∷ l) far.1 }
         ensures few { (b : ℕ) → result ≡ ByteIn.Byte b → (far : HostLog × PieceLog) (l : BoardLog) → Joined self.old far.0 l far.1 → HasTakenFew l }

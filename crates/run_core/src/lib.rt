@@ -19,8 +19,6 @@ mod records;
 mod rig;
 mod schedule;
 mod sides;
-#[cfg(test)]
-mod tests;
 mod world;
 
 pub use laws::{rigs_run, worlds_count_reports, worlds_run};

@@ -1,8 +1,8 @@
 //! Lockstep: the actors take their turns in an order that one number gives, until each has answered Done.
 
-ghost use Rattle.std.specs.Prelude.{◌≡◌, ◌↔◌, ◌/◌, ◌^◌, true};
-ghost use Rattle.run_core.specs.Worlds.{devices, HasRunOn, AreDone};
-ghost use Rattle.run_core.specs.Lockstep.{state_after, number_of, RunsInOrder, with_end, HaveAllEnded};
+ghost use Rattle.std.specs.Prelude.{◌≡◌, ◌≢◌, ◌↔◌, ◌/◌, ◌^◌, ℕ, true};
+ghost use Rattle.run_core.specs.Worlds.{devices, Devices, Seen, HasRunOn, AreDone};
+ghost use Rattle.run_core.specs.Lockstep.{state_after, number_of, RunsInOrder, IsInOrder, with_end, AreEnded, HaveAllEnded};
 
 use crate::World;
 use outside::{Actor, Sink, Source, Turn};
@@ -65,6 +65,49 @@ impl Ended {
     {
         self.host && self.board && self.pulse && self.recorder
     }
+
+    /// An actor has answered so. Answers whether it is the last that has answered Done.
+    #[inline(always)]
+    fn learn(&mut self, actor: Actor, turn: Turn) -> bool
+        ensures done { turn ≡ Turn.Done → self.new ≡ with_end actor self.old }
+        ensures same { turn ≢ Turn.Done → self.new ≡ self.old }
+        ensures all { result ≡ true → HaveAllEnded self.new }
+    {
+        if let Turn::Done = turn {
+            self.add(actor);
+            return self.all();
+        }
+        false
+    }
+}
+
+/// So many turns are taken in one go, at most: a loop of a known length costs a turn less than one that may go on forever.
+const TURNS_AT_ONCE: u32 = 64;
+
+/// Lets the actors take some turns, in the order that is given, or fewer where all of them have ended then. Answers
+/// whether they have.
+#[inline(always)]
+fn take_turns<J: Source, C: Sink, S: Sink>(
+    world: &mut World,
+    order: &mut Order,
+    ended: &mut Ended,
+    job: &mut J,
+    console: &mut C,
+    steps: &mut S,
+) -> bool
+    ensures goes_on { (seed : ℕ) (before : Devices) (w : Seen) → IsInOrder seed order.old.state before (devices (J.state job.old) (C.state console.old) (S.state steps.old)) w world.old
+        → IsInOrder seed order.new.state before (devices (J.state job.new) (C.state console.new) (S.state steps.new)) w world.new }
+    ensures ended { AreEnded ended.old world.old → AreEnded ended.new world.new }
+    ensures all { result ≡ true → HaveAllEnded ended.new }
+{
+    for _ in 0..TURNS_AT_ONCE {
+        let actor = order.next();
+        let turn = world.turn(actor, job, console, steps);
+        if ended.learn(actor, turn) {
+            return true;
+        }
+    }
+    false
 }
 
 /// Lets the actors take turns, in the order that a seed gives, until each has answered Done.
@@ -88,13 +131,8 @@ pub fn run_lockstep<R: Wait, J: Source, C: Sink, S: Sink>(
         recorder: false,
     };
     for _ in rt.forever() {
-        let actor = order.next();
-        let turn = world.turn(actor, job, console, steps);
-        if let Turn::Done = turn {
-            ended.add(actor);
-            if ended.all() {
-                return;
-            }
+        if take_turns(world, &mut order, &mut ended, job, console, steps) {
+            return;
         }
     }
     unreachable!()

@@ -219,6 +219,3 @@ pub fn run_threads<
     );
     rig.end()
 }
-
-#[cfg(test)]
-mod tests;

@@ -62,6 +62,7 @@ impl World {
         self.host.turn(&mut self.lists, job, console)
     }
 
+    #[inline(always)]
     fn turn_board(&mut self) -> Turn
         ensures goes_on { (now : Devices) → TurnsOn Actor.Board result now now self.old self.new }
         ensures alone { ActsAlone Actor.Board self.old self.new }
@@ -144,6 +145,3 @@ impl World {
         }
     }
 }
-
-#[cfg(test)]
-mod tests;

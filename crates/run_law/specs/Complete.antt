@@ -16,15 +16,15 @@ use Rattle.stream_host.specs.Jobs.{holds_reset}
 use Rattle.stream_host.specs.declared.Stop.TheVariants.{End}
 use Rattle.run_law.specs.declared.RunEnd.{RunEnd}
 
--- no line stands where the lines before it have a cause for its refusal: none of G-code behind a jog, and none that begins
--- with `$` where what its kind is refused for has moved since the last line that settles
+-- no line comes after lines that give a cause for its refusal: none of G-code after a jog, and none that begins with
+-- `$` if what its kind is refused for has moved since the last line that settles
 abbrev pub AreServed : Before → List (List ℕ) → List Outcome → Type 0
 AreServed b [] os = Unit {0}
 AreServed b (l ∷ ls) [] = Unit {0}
 AreServed b (l ∷ ls) (o ∷ os) = (slice_get l 0 ≡ Some 36 → has_cause b (kind_of l) ≡ false) × (b.jogged ≡ false) × AreServed (after b o) ls os
 
--- A job that its source tells, of at most 16,777,216 bytes, with no reset outside comments. All its lines are accepted, none
--- raises an alarm, and none stands where the lines before it have a cause for its refusal.
+-- A job that its source tells, of at most 16,777,216 bytes, with no reset outside comments. All its lines are accepted,
+-- none raises an alarm, and none comes after lines that give a cause for its refusal.
 pub record IsAcceptedJob (job : SourceState) : Type 0 where
   pub bytes : List ℕ
   pub told : job.left ≡ Some bytes
@@ -39,8 +39,8 @@ pub record IsAcceptedJob (job : SourceState) : Type 0 where
   pub accepted : errors_in outcomes ≡ 0
   pub calm : alarms_in outcomes ≡ 0
 
--- What a run of such a job does: all of it is read and sent, and each line is accepted, as where the machine is never found
--- in motion.
+-- What a run of such a job does: all of it is read and sent, and each line is accepted, as when the machine is never
+-- found in motion.
 pub record IsComplete (bytes read : List ℕ) (lines : List (List ℕ)) (outcomes became : List Outcome) (end : RunEnd) : Type 0 where
   pub stop : end.stop ≡ End
   pub errors : end.errors ≡ 0

@@ -1,4 +1,4 @@
--- What was done of lines, part by part: in the parts that cuts have ended, and behind the last cut.
+-- What was done of lines, part by part: in the parts that cuts have ended, and after the last cut.
 use Rattle.std.specs.Prelude.{◌≡◌, ℕ, ◌≤◌, Bool, true, ◌||◌, cond, List, [], ◌∷◌, ◌++◌, length, map}
 use Rattle.std.specs.List.{flat_map, AllByRecursion}
 use Rattle.board_rules.specs.Parts.{Part, IsCutPart, AreJoined, AreNumbered, AreDisturbedOnlyBy, plan_behind, lines_in, actions_in, pieces_in, passed_in, counts_in}
@@ -22,8 +22,9 @@ use Rattle.step_line.specs.declared.Record.{Record}
 use Rattle.step_line.specs.declared.Record.TheVariants as kinds
 use Rattle.run_law.specs.Fronts.{BeginsWith}
 
--- The parts that cuts have ended, the latest first; and of the lines behind them what became of each, what was done to the plan,
--- the pieces that it gave, the plan as it is, and whether the machine was halted, so that what is left of the plan is dropped.
+-- The parts that cuts have ended, the latest first; and of the lines after them what became of each, what was done to
+-- the plan, the pieces that it gave, the plan as it is, and whether the machine was halted, so that what is left of the
+-- plan is dropped.
 pub record Drive : Type 0 where
   pub parts : NewestFirst Part
   pub since : List Outcome
@@ -50,7 +51,7 @@ all_actions d = actions_in d.parts ++ d.actions
 abbrev pub all_given : Drive → List Piece
 all_given d = pieces_in d.parts ++ d.given
 
--- how many ticks count of each line behind the last cut: where the machine was halted those that were given, the first ones
+-- how many ticks count of each line after the last cut: if the machine was halted those that were given, the first ones
 abbrev pub since_counts : Drive → List ℕ
 since_counts d = cond d.halted (cut_to (ticks_together d.given) (counts_asked d.since)) (counts_asked d.since)
 
@@ -58,18 +59,19 @@ since_counts d = cond d.halted (cut_to (ticks_together d.given) (counts_asked d.
 abbrev pub all_counts : Drive → List ℕ
 all_counts d = counts_in d.parts ++ since_counts d
 
--- the ticks that are due: those that the closed parts gave, each with its cut, and all that the lines behind the last cut ask for
+-- the ticks that are due: those that the closed parts gave, each with its cut, and all that the lines after the last
+-- cut ask for
 abbrev pub ticks_due : Drive → List Record
 ticks_due d = flat_map ticks_of (pieces_in d.parts) ++ ticks_of_all (asked_in d.since)
 
 -- ---- what a drive is
 
--- The plan was driven from part to part. Each closed part gave the first ticks of its lines, and lost those of jogs alone; it came
--- to a stop, with legal heads, and was cleared, and the next began there. The number of each cut is that of the lines before
--- it, and they rise; there are no more of them than `cancels`. Of the lines behind the last cut a front of what they ask for was
--- asked of the plan. All of it is one planner run, and nothing else disturbed its parts than a hold or a cancel, where one
--- was taken, and a change of overrides, where there was one; and behind the last cut an alarm, where a line raised one. The
--- machine was halted only there.
+-- The plan was driven from part to part. Each closed part gave the first ticks of its lines, and lost those of jogs
+-- alone; it came to a stop, with legal heads, and was cleared, and the next began there. The number of each cut is that
+-- of the lines before it, and these rise; there are no more cuts than `cancels`. Of the lines after the last cut a
+-- front of what they ask for was asked of the plan. All of it is one planner run, and nothing else disturbed its parts
+-- than a hold or a cancel, if one was taken, and a change of overrides, if there was one; and after the last cut an
+-- alarm, if a line raised one. The machine was halted only then.
 pub record IsDrive (slowed alarmed changed : Bool) (cancels : ℕ) (d : Drive) : Type 0 where
   pub closed : AllByRecursion IsCutPart d.parts
   pub joined : AreJoined d.parts
@@ -83,9 +85,9 @@ pub record IsDrive (slowed alarmed changed : Bool) (cancels : ℕ) (d : Drive) :
   pub halts : d.halted ≡ true → alarmed ≡ true
   pub asks : BeginsWith (asked_in d.since) (all_asked d.actions)
 
--- All of it was carried out: all that the lines behind the last cut ask for was asked of the plan, and nothing is left to run. What
--- is recorded are all pieces, and the end behind them, once: so each tick that is due is recorded, once and in order. The
--- heads behind the last cut are legal up to the end. Where no jog was cut, it is the drive of all lines.
+-- All of it was carried out: all that the lines after the last cut ask for was asked of the plan, and nothing is left
+-- to run. What is recorded are all pieces, and the end after them, once: so each tick that is due is recorded, once and
+-- in order. The heads after the last cut are legal up to the end. If no jog was cut, it is the drive of all lines.
 pub record IsWholeDrive (slowed changed : Bool) (d : Drive) (records : List Record) : Type 0 where
   pub asks : all_asked d.actions ≡ asked_in d.since
   pub stops : IsAtRest d.plan

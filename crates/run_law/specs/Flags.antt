@@ -20,6 +20,7 @@ is_cancel b = nat_eq b cancel_byte
 abbrev pub is_slow : ℕ → Bool
 is_slow b = is_hold b || is_cancel b
 
+-- a flag that changes overrides
 abbrev pub is_override : Option Flag → Bool
 is_override (Some (in_ovr bit)) = true
 is_override f = false
@@ -28,8 +29,8 @@ is_override f = false
 abbrev pub is_change : ℕ → Bool
 is_change b = is_override (flag_of b)
 
--- Whether a hold, a hold or a cancel, and a change of overrides, was taken, and how many words that ask for a report were, and
--- how many that ask for a hold or a cancel: only where one of the bytes that were raised asks for it, and as many at most.
+-- A hold, a hold or a cancel, a change of overrides, and a reset, were taken only if one of the bytes that were raised
+-- asks for it; and words that ask for a report, or for a hold or a cancel, at most as many as bytes that do.
 pub record AreTaken (raised : List ℕ) (held slowed changed reset : Bool) (asked cancels : ℕ) : Type 0 where
   pub held_by : held ≡ true → list_any is_hold raised ≡ true
   pub slowed_by : slowed ≡ true → list_any is_slow raised ≡ true

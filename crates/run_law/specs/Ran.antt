@@ -31,8 +31,8 @@ abbrev pub HasReported : State → Drive → Bool → Bool → List Reply → Ty
 HasReported first drive held changed answered =
     (known : ℕ) × Reported (course first drive (flat_map ticks_of (all_given drive)) held changed) (reverse answered) known
 
--- A board has carried out all lines that it took: it found the link closed behind them, told all that is to be told of them,
--- and did all that they ask for, up to the last of it.
+-- A board has carried out all lines that it took: it found the link closed after them, told all that is to be told of
+-- them, and did all that they ask for, up to the last of it.
 pub record IsCarriedOut (taken : List ℕ) (closed : Bool) (lines : List (List ℕ)) (said : List Reply) (drive : Drive) (made : List Piece) : Type 0 where
   pub found : closed ≡ true
   pub begun : lines ≡ whole_lines taken
@@ -41,21 +41,22 @@ pub record IsCarriedOut (taken : List ℕ) (closed : Bool) (lines : List (List �
   pub asks : all_asked drive.actions ≡ asked_in drive.since
   pub whole : made ≡ all_given drive
 
--- A board has halted at an alarm: it told all that is to be told of the lines that it has begun. What it did of those behind the
--- last cut came to a stop, and what was left of the plan was dropped. It published all pieces that the plan gave.
+-- A board has halted at an alarm: it told all that is to be told of the lines that it has begun. What it did of those
+-- after the last cut came to a stop, and what was left of the plan was dropped. It published all pieces that the plan
+-- gave.
 pub record IsHalted (said : List Reply) (drive : Drive) (made : List Piece) : Type 0 where
   pub told : said ≡ replies_in (all_outcomes drive)
   pub halted : drive.halted ≡ true
   pub part : IsHaltedPart drive.since (plan_behind drive.parts) drive.actions drive.given drive.plan
   pub whole : made ≡ all_given drive
 
--- A board has run: it has begun a front of the lines that it took, and was told Bye behind a front of what is told of them, once
--- and in order. Each report tells what was so where it was answered; there are as many at most as words that asked for one. What
--- it has driven of the lines, part by part, was disturbed by no more than was taken, and jogs were cut as often at most as words
--- that ask for a hold or a cancel were taken. A front of its pieces was published, and the end behind them; however the run
--- ended, this front has the ticks of the lines up to the last answered one that settles. All of it was carried out, unless a
--- reset was taken or a line raised an alarm; where one did, and no reset was taken, it has halted there. Of the lines begun all
--- but the last one are answered.
+-- A board has run: it has begun a front of the lines that it took, and has told a front of what is told of them, once
+-- and in order, and then Bye. Each report shows what was so when it was answered; there are as many at most as words
+-- that asked for one. What it has driven of the lines, part by part, was disturbed by no more than was taken, and jogs
+-- were cut as often at most as words that ask for a hold or a cancel were taken. A front of its pieces was published,
+-- and the end after them; however the run ended, this front has the ticks of the lines up to the last answered one that
+-- settles. All of it was carried out, unless a reset was taken or a line raised an alarm; if one did, and no reset was
+-- taken, it has halted there. Of the lines begun all but the last one are answered.
 pub record BoardRan (taken : List ℕ) (closed held slowed changed reset : Bool) (asked cancels : ℕ) (answered : List Reply) (published : List Piece) : Type 0 where
   pub first : State
   pub lines : List (List ℕ)
@@ -78,8 +79,8 @@ pub record BoardRan (taken : List ℕ) (closed held slowed changed reset : Bool)
   pub whole : reset ≡ false → last.alarmed ≡ false → IsCarriedOut taken closed lines said drive made
   pub halted : reset ≡ false → last.alarmed ≡ true → IsHalted said drive made
 
--- A pulse has run: the pieces that it got came in turn, the end at last. It put what is recorded of each, and counted each
--- tick of it.
+-- A pulse has run: the pieces that it got came in turn, the end at last. It put what is recorded of each, and counted
+-- each tick of it.
 pub record PulseRan (got : List Piece) (counted : ℕ) (put : List Record) : Type 0 where
   pub turns : InTurn (reverse got)
   pub before : List Piece
@@ -92,7 +93,8 @@ pub record RecorderRan (was is : SinkState) (taken : List Record) (failed : Bool
   pub ended : IsEnded taken
   pub steps : Took was is failed (records_text taken)
 
--- The bytes of a link: those taken are a front of those stored. Where it was found closed, it is closed, and all are taken.
+-- The bytes of a link: those taken are a front of those stored. If it was found closed, it is closed, and all are
+-- taken.
 pub record IsLinked (stored : List ℕ) (shut : Bool) (taken : List ℕ) (closed : Bool) : Type 0 where
   pub rest : List ℕ
   pub front : stored ≡ taken ++ rest

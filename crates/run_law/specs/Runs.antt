@@ -1,4 +1,4 @@
--- What a run of a job is, and how it ends, with no word of who has done it.
+-- What a run of a job is, and how it ends, and not who has done it.
 use Rattle.std.specs.Prelude.{◌≡◌, ℕ, ◌+◌, ◌≤◌, Bool, true, false, List, [], ◌∷◌, ◌++◌, ◌||◌, length, map, drop, reverse}
 use Rattle.std.specs.List.{count_by, list_any}
 use Rattle.std.specs.Io.KnownBytes.{Consumes, IsAtEnd}
@@ -36,7 +36,7 @@ pub record Sinks : Type 0 where
   pub console : SinkState
   pub steps : SinkState
 
--- how a run ends: what its host tells, and whether a write of the steps failed
+-- how a run ends: what its host says, and whether a write of the steps failed
 abbrev pub ended : HostEnd → Bool → RunEnd
 ended host failed = record {
   stop = host.stop;
@@ -47,22 +47,23 @@ ended host failed = record {
   steps_failed = failed;
 }
 
--- a hold stands among the realtime bytes that are raised of what was scanned, and a change of overrides does
+-- a hold is among the realtime bytes that are raised of what was scanned
 abbrev pub asks_hold : List ℕ → Bool
 asks_hold scanned = list_any is_hold (served_in scanned)
 
--- a hold does, or a jog's cancel: each may slow the machine down
+-- a hold is, or a jog's cancel: each may slow the machine down
 abbrev pub asks_slow : List ℕ → Bool
 asks_slow scanned = list_any is_slow (served_in scanned)
 
--- how many of these bytes there are: jogs are cut as often at most
+-- how many of these there are: at most as often jogs are cut
 abbrev pub slows_in : List ℕ → ℕ
 slows_in scanned = count_by is_slow (served_in scanned)
 
+-- a change of overrides is
 abbrev pub asks_change : List ℕ → Bool
 asks_change scanned = list_any is_change (served_in scanned)
 
--- a reset does
+-- a reset is
 abbrev pub asks_reset : List ℕ → Bool
 asks_reset scanned = list_any is_reset (served_in scanned)
 
@@ -70,7 +71,7 @@ asks_reset scanned = list_any is_reset (served_in scanned)
 abbrev pub ends_program : List Outcome → Bool
 ends_program outcomes = list_any (λ o. has_normal o.work) outcomes
 
--- what reports are judged by, where these ticks were made in all
+-- what reports are judged by, if these are all ticks that were made
 abbrev pub course : State → Drive → List Record → Bool → Bool → Course
 course first drive ticks held changed = record {
   first = first;
@@ -83,7 +84,7 @@ course first drive ticks held changed = record {
 }
 
 -- The reports among these replies: each fits the lines and the ticks of a run in which these bytes were scanned. There
--- are as many at most as `?` were scanned outside comments, and each line with one that is answered has one, behind the
+-- are as many at most as `?` were scanned outside comments, and each line with one that is answered has one, after the
 -- answers to the lines before it.
 pub record AreReports (first : State) (drive : Drive) (ticks : List Record) (lines : List (List ℕ)) (scanned : List ℕ) (replies : List Reply) : Type 0 where
   pub known : ℕ
@@ -91,8 +92,8 @@ pub record AreReports (first : State) (drive : Drive) (ticks : List Record) (lin
   pub few : reports_among replies ≤ count_by is_query (served_in scanned)
   pub each : AreReported lines replies
 
--- All that was sent was carried out: each line was begun, all that is told of the lines was told, and the records are those of
--- all that was driven: of all that the lines ask for, but for what cuts have dropped of jogs.
+-- All that was sent was carried out: each line was begun, all that is told of the lines was told, and the records are
+-- those of all that was driven: of all that the lines ask for, but for what cuts have dropped of jogs.
 pub record IsCarriedOutWhole (scanned : List ℕ) (lines begun : List (List ℕ)) (drive : Drive) (said : List Reply) (records : List Record) (end : RunEnd) : Type 0 where
   pub begun_are : begun ≡ map plain lines
   pub said_are : said ≡ replies_in (all_outcomes drive)
@@ -102,10 +103,10 @@ pub record IsCarriedOutWhole (scanned : List ℕ) (lines begun : List (List ℕ)
   pub answered : end.answered ≡ length lines
   pub errors : end.errors ≡ errors_in (all_outcomes drive)
 
--- A line raised an alarm, and the run ended there: all that is told of the lines that were begun was told, the alarm and its
--- message at last, and all of them but that line have their answers. The motion came to a stop, and what was left of the plan
--- was dropped. So the records are those of the first ticks of what the lines ask for, part by part: behind the last cut they
--- hold all ticks of the lines up to the last that settles.
+-- A line raised an alarm, and the run ended there: all that is told of the lines that were begun was told, the alarm
+-- and its message at last, and all of them but that line have their answers. The motion came to a stop, and what was
+-- left of the plan was dropped. So the records are those of the first ticks of what the lines ask for, part by part:
+-- after the last cut they hold all ticks of the lines up to the last that settles.
 pub record IsHaltedWhole (begun : List (List ℕ)) (drive : Drive) (said : List Reply) (records : List Record) (end : RunEnd) : Type 0 where
   pub said_are : said ≡ replies_in (all_outcomes drive)
   pub halted : drive.halted ≡ true
@@ -116,21 +117,22 @@ pub record IsHaltedWhole (begun : List (List ℕ)) (drive : Drive) (said : List 
   pub answered : end.answered + 1 ≡ length begun
   pub errors : end.errors ≡ errors_in (all_outcomes drive)
 
--- A run of a job, whatever failed. Some of the job was read, and some lines of it were sent: all that is to be sent, where no
--- alarm was told. Why no more was sent is what the job says, or else an alarm, at the first line that has no answer. A front of
--- the lines was begun, all but the last of which have their answers, and what is kept of each is answered, once and in order,
--- where the machine may be found running, or in a jog. The console takes the banner, a front of what is told of these lines,
--- and Bye, which has no text, and status reports among that. What is driven of the lines goes part by part: a cut ends a part,
--- and drops what is left of jogs alone; there are as many cuts at most as `!` and 0x85 were scanned. Behind the last cut the
--- plan was asked for a front of the moves, marks and rests of the lines. The steps take the records of a front of the pieces
--- that it gave, and the end: so their ticks are the first of those that are due. However the run ended, the ticks of the lines up
--- to the last answered one that settles are there: of each line those that count, all that it asks for but for what a cut or a
--- halt dropped. Holds, resumes and overrides change no event. A segment slows down only where a `!` or a 0x85 was scanned, or a
--- line raised an alarm, and it is planned for other overrides only where a byte that changes them was scanned, or a program
--- ended. Unless a reset was scanned, all of it was carried out, or a line raised an alarm: then nothing is begun behind that
--- line, the motion came to a stop, and what was left of the plan was dropped; and an alarm is told exactly then. The lines that
--- have no answer take at most 128 bytes on the link, each with its LF, where no alarm was told. Each text is whole where its sink
--- did not fail. Of each of the three devices, the count of faults rose where a call failed, and is as before where none did.
+-- A run of a job, whatever failed. Some of the job was read, and some lines of it were sent: all that is to be sent, if
+-- no alarm was told. Why no more was sent is what the job says, or else an alarm, at the first line that has no answer.
+-- A front of the lines was begun; all but the last have their answers, and each became what the rules say, once and in
+-- order, in a run whose machine may be found running, or in a jog. The console takes the banner, a front of what is
+-- told of these lines, and Bye, which has no text, and status reports among that. What is driven of the lines goes part
+-- by part: a cut ends a part, and drops what is left of jogs alone; there are as many cuts at most as `!` and 0x85 were
+-- scanned. After the last cut the plan was asked for a front of the moves, marks and rests of the lines. The steps take
+-- the records of a front of the pieces that it gave, and the end: so their ticks are the first of those that are due.
+-- However the run ended, the ticks of the lines up to the last answered one that settles are there: of each line those
+-- that count, all that it asks for but for what a cut or a halt dropped. Holds, resumes and overrides change no event.
+-- A segment slows down only if a `!` or a 0x85 was scanned, or a line raised an alarm, and it is planned for other
+-- overrides only if a byte that changes them was scanned, or a program ended. Unless a reset was scanned, all of it was
+-- carried out, or a line raised an alarm: then nothing is begun after that line, the motion came to a stop, and what
+-- was left of the plan was dropped; and an alarm is told exactly then. The lines that have no answer take at most 128
+-- bytes on the link, each with its LF, if no alarm was told. Each text is whole if its sink did not fail. Of each of
+-- the three devices, the count of faults rose if a call failed, and is as before if none did.
 pub record IsRun (job_was job_is : SourceState) (was is : Sinks) (end : RunEnd) : Type 0 where
   pub read : List ℕ
   pub reading : Reading

@@ -30,10 +30,10 @@ use Rattle.run_law.specs.Drives.{Drive, all_outcomes, all_passed, all_given, tic
 use Rattle.run_law.specs.Ran.{HasReported}
 
 -- A board runs: it has begun a front of the lines that it took, and what was told, asked and published is a front of
--- what these tell and ask for, part by part, with its end behind that: behind all of it, unless a reset was taken. Nothing else
--- disturbed the plan than a hold or a cancel, where one was taken, a change of overrides, where one was taken or a program
--- ended, and an alarm, where a line raised one; and jogs were cut as often at most as words that ask for a hold or a cancel
--- were taken.
+-- what these tell and ask for, part by part, with its end after that: after all of it, unless a reset was taken.
+-- Nothing else disturbed the plan than a hold or a cancel, if one was taken, a change of overrides, if one was taken or
+-- a program ended, and an alarm, if a line raised one; and jogs were cut as often at most as words that ask for a hold
+-- or a cancel were taken.
 pub record BoardRuns (taken : List ℕ) (held slowed changed reset : Bool) (asked cancels : ℕ) (answered : List Reply) (published : List Piece) : Type 0 where
   pub first : State
   pub lines : List (List ℕ)
@@ -64,10 +64,10 @@ pub record RecorderRuns (was is : SinkState) (taken : List Record) : Type 0 wher
   pub waiting : List ℕ
   pub steps : Wrote was is failed waiting (records_text taken)
 
--- A run so far. A front of the lines that are sent was begun, and each is followed by what becomes of it. A front of
--- what they tell was got, and status reports among that, and a front of its text is on the console. A front of what
--- they ask for was driven, part by part, and a front of what is recorded of its pieces was taken: its ticks begin the
--- ticks that are due. It is disturbed by no more than a hold, a cancel, a change of overrides and an alarm, as in a whole run.
+-- A run so far. A front of the lines that are sent was begun, and each became what the rules say. A front of what they
+-- tell was got, and status reports among that, and a front of its text is on the console. A front of what they ask for
+-- was driven, part by part, and a front of what is recorded of its pieces was taken: its ticks begin the ticks that are
+-- due. It is disturbed by no more than a hold, a cancel, a change of overrides and an alarm, as in a whole run.
 pub record IsSoFar (job_was job_is : SourceState) (was is : Sinks) : Type 0 where
   pub read : List ℕ
   pub reading : Reading

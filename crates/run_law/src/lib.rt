@@ -46,10 +46,9 @@ pub struct RunEnd {
     pub steps_failed: bool,
 }
 
-/// Four actors that ran to their ends, where each got what the other gave, and what the board took of flags was raised, make
-/// a run: the lines that are sent of the job
-/// are answered in order, the console takes what is told of them, and the steps take the records of a drive that was
-/// asked for what they ask for.
+/// Four actors that ran to their ends make a run, if each got what the other gave, and what the board took of flags was
+/// raised: the lines that are sent of the job are answered in order, the console takes what is told of them, and the
+/// steps take the records of a drive of what they ask for.
 pub fn actors_make_a_run()
     ensures { (job_was job_is : SourceState) (was is : Sinks) (end : HostEnd) (steps_failed : Bool)
         (stored raised taken : List ℕ) (shut closed held slowed changed reset : Bool) (asked cancels : ℕ) (got answered : List Reply) (got_pieces published : List Piece) (ticks : ℕ) (got_records put : List Record) →
@@ -59,8 +58,8 @@ pub fn actors_make_a_run()
         IsRun job_was job_is was is (ended end steps_failed) }
 {}
 
-/// Four actors that ran to their ends make a run already where each has got a front of what the other gave: nothing waits
-/// behind Bye, nor behind the end.
+/// For four actors that ran to their ends to make a run it is enough that each has got a front of what the other gave:
+/// nothing waits after Bye, nor after the end.
 pub fn actors_that_end_make_a_run()
     ensures { (job_was job_is : SourceState) (was is : Sinks) (end : HostEnd) (steps_failed : Bool)
         (stored raised taken : List ℕ) (shut closed held slowed changed reset : Bool) (asked cancels : ℕ) (got answered : List Reply) (got_pieces published : List Piece) (ticks : ℕ) (got_records put : List Record) →
@@ -70,7 +69,7 @@ pub fn actors_that_end_make_a_run()
         IsRun job_was job_is was is (ended end steps_failed) }
 {}
 
-/// Four actors that run, where each has got a front of what the other gave, have done a run so far.
+/// Four actors that still run have done a run so far, if each has got a front of what the other gave.
 pub fn actors_make_a_run_so_far()
     ensures { (job_was job_is : SourceState) (was is : Sinks) (stored raised taken : List ℕ) (held slowed changed reset : Bool) (asked cancels : ℕ) (got answered : List Reply) (got_pieces published : List Piece) (got_records put : List Record) →
         HostRuns job_was job_is was.console is.console stored raised got → BoardRuns taken held slowed changed reset asked cancels answered published → PulseRuns got_pieces put → RecorderRuns was.steps is.steps got_records →
@@ -78,15 +77,15 @@ pub fn actors_make_a_run_so_far()
         IsSoFar job_was job_is was is }
 {}
 
-/// A run of a job whose lines are all accepted ends with no error, unless a read failed: all of the job is read and sent,
-/// and its lines become what they become where the machine is never found running.
+/// A run of a job whose lines are all accepted ends with no error, unless a read failed: all of the job is read and
+/// sent, and its lines become what they do if the machine is never found running.
 pub fn accepted_jobs_are_complete()
     ensures { (job_was job_is : SourceState) (was is : Sinks) (end : RunEnd) (run : IsRun job_was job_is was is end) (job : IsAcceptedJob job_was) →
         end.source_failed ≡ false → IsComplete job.bytes run.read run.lines job.outcomes (all_outcomes run.drive) end }
 {}
 
-/// A board that keeps to its rules, and has closed its run or ended it at a reset, and has nothing left to do, has run; before,
-/// it runs.
+/// A board that keeps to its rules, and has closed its run or ended it at a reset, and has nothing left to do, has run;
+/// before, it runs.
 pub fn boards_have_run()
     ensures whole { (first : State) (d : Doings) → IsOpening first → IsConducted first d → HasEnded d →
         BoardRan (taken_of d) (has_closed d) (has_held_in (log_of d)) (has_slowed_in (log_of d)) (has_changed_in (log_of d)) (has_reset_in (log_of d)) (reports_in (log_of d)) (cancel_words_in (log_of d)) (answered_of d) (published_of d) }
@@ -96,8 +95,8 @@ pub fn boards_have_run()
     boards_end_well();
 }
 
-/// What a board has taken of flags was raised, where each flag was found down by as many raises as there are takes that had
-/// it, and by one more where it is up.
+/// What a board has taken of flags was raised, if each flag was found down by as many raises as there are takes that
+/// had it, and by one more if it is up.
 pub fn flags_that_are_taken_were_raised()
     ensures { (words : List ℕ) (host : HostLog) (board : BoardLog) → IsBalanced words (raises_in host) (takes_in board) →
         AreTaken (bytes_raised_in host) (has_held_in board) (has_slowed_in board) (has_changed_in board) (has_reset_in board) (reports_in board) (cancel_words_in board) }

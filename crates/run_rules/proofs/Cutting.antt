@@ -1,5 +1,5 @@
 -- A text cut into lines, one byte more at a time.
-use Rattle.std.proofs.Common.{◌≡◌, ◌≢◌, ℕ, true, false, cond, List, [], ◌∷◌, ◌++◌, length, nat_eq, nat_lt, refl, sym, ap, ◌∙◌, arith, append-nil, append_assoc}
+use Rattle.std.proofs.Common.{◌≡◌, ℕ, true, false, cond, List, [], ◌∷◌, ◌++◌, length, nat_eq, nat_lt, refl, sym, ap, ◌∙◌, arith, append-nil, append_assoc}
 use Rattle.std.specs.List.{AllByRecursion}
 use Rattle.std.proofs.lemmas.Grind.{flat_map-append}
 use Rattle.std.proofs.lemmas.Bool.Decides.{nat_tests}
@@ -25,9 +25,6 @@ cut_line text lines xs is = record {
   each = all_push HasNoLf lines xs is.each is.partial;
   partial = tt;
 }
-
-pub is_no_lf : (b : ℕ) → b ≢ 10 → nat_eq b 10 ≡ false
-is_no_lf b h = grind (arith, nat_tests)
 
 pub cut_none : CutsInto [] [] []
 cut_none = record { whole = refl; each = tt; partial = tt }

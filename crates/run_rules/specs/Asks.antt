@@ -35,7 +35,7 @@ spindle_off Ccw = a_mark (spindle_mark Off 0) ∷ []
 abbrev pub coolant_off : Bool → List Asked
 coolant_off flood = if flood then a_mark (marks.Coolant false) ∷ [] else []
 
--- a move of a line, under the settings that stand then
+-- a move of a line, under the settings of that moment
 abbrev pub planned : ℕ → Settings → Way → Rate → PlannedMove
 planned line s mv rate = record { line = line; mv = mv; rate = rate; limits = s.limits; deviation = s.deviation }
 
@@ -43,13 +43,14 @@ planned line s mv rate = record { line = line; mv = mv; rate = rate; limits = s.
 abbrev pub move_asked : PlannedMove → List Asked
 move_asked m = if events_of m.mv == 0 then [] else a_move m ∷ []
 
--- marks come where the machine stands, and are waited for
+-- marks come when the machine stands, and are waited for
 abbrev pub at_rest : List Asked → List Task
 at_rest marks = ask a_rest ∷ asking marks ++ ask a_rest ∷ []
 
--- What there is to do of an item, while the spindle and the coolant are so: a move is asked for as it is, and a mark each
--- of spindle, coolant and dwell at rest. A pause comes to rest, is held, and is over where the machine stands again. The end of
--- a program runs all that is planned, turns off what is on, sets each override to 100 percent, and is told.
+-- What there is to do of an item, while the spindle and the coolant are so: a move is asked for as it is, and each mark
+-- of spindle, coolant and dwell at rest. A pause comes to rest, holds the machine, and is over when the machine stands
+-- again. The end of a program runs all that is planned, turns off what is on, sets each override to 100 percent, and is
+-- reported.
 abbrev pub item_work : ℕ → Settings → SpindleMode → Bool → Item → List Task
 item_work line s spindle flood (Spindle mode speed) = at_rest (a_mark (spindle_mark mode speed) ∷ [])
 item_work line s spindle flood (Coolant on) = at_rest (a_mark (marks.Coolant on) ∷ [])
@@ -58,13 +59,13 @@ item_work line s spindle flood (Move mv rate) = asking (move_asked (planned line
 item_work line s spindle flood Pause = ask a_rest ∷ pause ∷ ask a_rest ∷ []
 item_work line s spindle flood ProgramEnd = at_rest (spindle_off spindle ++ coolant_off flood) ++ normal ∷ tell (Message messages.ProgramEnd) ∷ []
 
--- how the spindle turns behind an item
+-- how the spindle turns after an item
 abbrev pub spindle_after : SpindleMode → Item → SpindleMode
 spindle_after spindle (Spindle mode speed) = mode
 spindle_after spindle ProgramEnd = Off
 spindle_after spindle _ = spindle
 
--- whether the coolant flows behind an item
+-- whether the coolant flows after an item
 abbrev pub flood_after : Bool → Item → Bool
 flood_after flood (Coolant on) = on
 flood_after flood ProgramEnd = false

@@ -11,7 +11,7 @@ ticks_for o = ticks_of_all (asks o.work)
 abbrev pub ticks_asked_for : Outcome → ℕ
 ticks_asked_for o = length (ticks_for o)
 
--- the first m ticks of these lines leave out no tick of a line that is no jog
+-- the first m ticks of these lines leave out ticks of jogs alone
 abbrev pub LosesJogsAlone : ℕ → List Outcome → Type 0
 LosesJogsAlone m [] = Unit {0}
 LosesJogsAlone m (o ∷ os) = ((is_jog o.kind ≡ true) ⊎ (ticks_asked_for o ≤ m)) × LosesJogsAlone (m - ticks_asked_for o) os
@@ -20,7 +20,7 @@ LosesJogsAlone m (o ∷ os) = ((is_jog o.kind ≡ true) ⊎ (ticks_asked_for o �
 abbrev pub counts_asked : List Outcome → List ℕ
 counts_asked outcomes = map ticks_asked_for outcomes
 
--- and where only the first m of all of them were given
+-- the same if only the first m of all of them were given
 abbrev pub cut_to : ℕ → List ℕ → List ℕ
 cut_to m [] = []
 cut_to m (n ∷ ns) = min n m ∷ cut_to (m - n) ns

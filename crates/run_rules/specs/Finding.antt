@@ -1,4 +1,4 @@
--- What becomes of a line where the machine is found so.
+-- What becomes of a line by how the machine is found: standing, running or in a jog.
 use Rattle.std.specs.Prelude.{◌≡◌, ℕ, ◌⊎◌, Bool, true, false, List, [], ◌∷◌, length, nat_eq, nat_lt}
 use Rattle.gcode_words.specs.Words.{words_of}
 use Rattle.system_lines.specs.Commands.{kind_of, refused_in_run, refused_in_jog}
@@ -35,20 +35,22 @@ abbrev pub ByKeptFound : Machine → Before → List ℕ → Outcome → Type 0
 ByKeptFound m b [] o = o ≡ told b.state []
 ByKeptFound m b (c ∷ cs) o = either (nat_eq c 36) (ByDollarFound m b (c ∷ cs) o) (ByCodeFound m b (c ∷ cs) o)
 
--- What becomes of a line of which this is kept. Where the machine stands it is what `Becomes` says of a machine that is never
--- found in motion; where it runs or jogs, what `Becomes` says of one that may be, if the lines before have a cause for it.
+-- What becomes of a line of which this is kept. If the machine stands it is what `Becomes` says of a machine that is
+-- never found in motion; if it runs or jogs, what `Becomes` says of one that may be, if the lines before have a cause
+-- for it.
 abbrev pub Found : Machine → Before → List ℕ → Outcome → Type 0
 Found m b kept o = either (nat_lt most_kept (length kept)) (o ≡ refused b 11) (ByKeptFound m b kept o)
 
--- ---- of which kind it is
+-- ---- of which kind a line is
 
 -- one move and `ok`, or nothing is asked of the machine
 abbrev pub IsJogWork : List Task → Type 0
 IsJogWork work = (asks work ≡ []) ⊎ ((m : PlannedMove) × (work ≡ ask (a_move m) ∷ tell Done ∷ []))
 
--- What becomes of a line where the machine is found so, by its kind. It is an accepted line of G-code, but not in a jog; an
--- accepted jog, which begins with `$`, asks for one move at most, and does not settle, but not while the machine runs; a line
--- that a soft limit stops, but not in a jog; or none of these, which asks nothing of the machine and does not settle.
+-- What becomes of a line if the machine is found so, by its kind. It is an accepted line of G-code, never in a jog; an
+-- accepted jog, never while the machine runs, which begins with `$`, asks for one move at most, and does not settle; a
+-- line that a soft limit stops, never in a jog; or none of these, which asks nothing of the machine and does not
+-- settle.
 pub data Fate (m : Machine) (kept : List ℕ) (o : Outcome) : Type 0 where
   coded : o.kind ≡ of_code → (m ≡ Jogs → ⊥) → Fate m kept o
   a_jog : o.kind ≡ of_jog → (m ≡ Runs → ⊥) → begins_with_dollar kept ≡ true → o.settles ≡ false → IsJogWork o.work → Fate m kept o

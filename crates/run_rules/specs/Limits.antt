@@ -6,7 +6,7 @@ use Rattle.gcode_words.specs.Words.{words_of}
 use Rattle.gcode_words.specs.declared.Word.{Word}
 use Rattle.run_rules.specs.Outcomes.{Before, begins_with_dollar, most_kept}
 
--- A line of G-code that can be read, that no error refuses, and of which a target lies outside the travel, with soft limits
+-- A line of G-code that can be read, that no error refuses, and that has a target outside the travel, with soft limits
 -- on.
 pub record IsBeyond (b : Before) (kept : List ℕ) : Type 0 where
   pub some : kept ≢ []

@@ -32,9 +32,9 @@ use Rattle.run_rules.specs.Work.Kind.{of_code, of_jog, of_none}
 use Rattle.run_rules.specs.Work.Task.{tell}
 use Rattle.run_rules.specs.Asks.{work_of, planned, move_asked}
 
--- what stands before a line: its number, and the state; whether a line of G-code with a move of some events was accepted
--- since the last accepted line that settles, and whether a jog with some was; whether the last that was accepted of
--- G-code and jogs is a jog; and whether a line has raised an alarm, behind which none is begun
+-- what the lines before leave for a line: its number, and the state; whether a line of G-code with a move of some
+-- events was accepted since the last accepted line that settles, and whether a jog with some was; whether the last that
+-- was accepted of G-code and jogs is a jog; and whether a line has raised an alarm, after which none is begun
 pub record Before : Type 0 where
   pub number : ℕ
   pub state : State
@@ -51,8 +51,8 @@ start first = record { number = 1; state = first; moved = false; jog_moved = fal
 abbrev pub refused : Before → ℕ → Outcome
 refused b n = record { work = telling (Error n ∷ []); answer = Error n; settles = false; kind = of_none; next = b.state }
 
--- A line that a soft limit stops: none of its items is begun, and nothing of the state changes. The machine is halted, and the
--- alarm is told in the place of an answer.
+-- A line that a soft limit stops: none of its items is begun, and nothing of the state changes. The machine is halted,
+-- and the alarm is sent in place of an answer.
 abbrev pub limited : Before → Outcome
 limited b = record { work = halting_work; answer = Alarm soft_limit; settles = false; kind = of_none; next = b.state }
 
@@ -90,7 +90,7 @@ abbrev pub fault_number : WordFault → ℕ
 fault_number Letter = 1
 fault_number Number = 2
 
--- an outcome by what holds
+-- one outcome or another, by what holds
 abbrev pub either : Bool → Type 0 → Type 0 → Type 0
 either true a b = a
 either false a b = b
@@ -122,20 +122,21 @@ abbrev pub ByJogMove : Before → Result JogMove Code → Outcome → Type 0
 ByJogMove b (Err code) o = o ≡ refused b code.0
 ByJogMove b (Ok jog) o = o ≡ jogging b jog
 
--- a jog by its words, those behind `$J=`
+-- a jog by its words, those after `$J=`
 abbrev pub ByJog : Before → Result (List Word) WordFault → Outcome → Type 0
 ByJog b (Err fault) o = o ≡ refused b (fault_number fault)
 ByJog b (Ok ws) o = ByJogMove b (jog_of b.state.parser b.state.settings ws) o
 
--- a line that begins with `$` and is served: a jog goes by its words, and any other by what it asks for
+-- a line that begins with `$` and is served: a jog by its words, and any other by what it asks for
 abbrev pub ByServed : Before → List ℕ → Outcome → Type 0
 ByServed b kept o = either (begins_jog (kind_of kept)) (ByJog b (words_of (jog_words kept)) o) (ByCommand b (command_of kept) o)
 
--- ---- lines that are refused where the machine is found in motion
+-- ---- lines that are refused if the machine is found in motion
 
--- What lines of these kinds are refused for with 8. `$$` and lines that begin with `$J` are refused while the machine runs, and
--- not in a jog: so a line of G-code that moves was accepted since the last one that settles, and the last accepted of
--- G-code and jogs is no jog. `$#` and setting lines are refused in a jog too: such a line was accepted, or a jog that moves.
+-- What lines of these kinds are refused for with 8. `$$` and lines that begin with `$J` are refused while the machine
+-- runs, and not in a jog: so a line of G-code that moves was accepted since the last one that settles, and the last
+-- accepted of G-code and jogs is no jog. `$#` and setting lines are refused in a jog too: such a line was accepted, or
+-- a jog that moves.
 abbrev pub has_cause : Before → DollarKind → Bool
 has_cause b kinds.ListSettings = b.moved && not b.jogged
 has_cause b kinds.Jog = b.moved && not b.jogged
@@ -174,8 +175,8 @@ ByKept runs b (c ∷ cs) o = either (nat_eq c 36) (ByDollar runs b (c ∷ cs) o)
 abbrev pub most_kept : ℕ
 most_kept = 79
 
--- What becomes of a line, where `runs` says whether the machine may be found running, or in a jog: a line that has too many
--- bytes is error 11, and any other goes by what is kept.
+-- What becomes of a line, where `runs` says whether the machine may be found running, or in a jog: a line that has too
+-- many bytes is error 11, and any other by what is kept.
 abbrev pub Becomes : Bool → Before → List ℕ → Outcome → Type 0
 Becomes runs b kept o = either (nat_lt most_kept (length kept)) (o ≡ refused b 11) (ByKept runs b kept o)
 
@@ -183,17 +184,17 @@ abbrev pub begins_with_dollar : List ℕ → Bool
 begins_with_dollar [] = false
 begins_with_dollar (c ∷ cs) = nat_eq c 36
 
--- what a line is refused with for the motion alone: one that begins with `$`, and one of G-code
+-- the errors that come from the motion alone: of a line that begins with `$`, and of one of G-code
 abbrev pub motion_error : List ℕ → ℕ
 motion_error kept = cond (begins_with_dollar kept) 8 9
 
--- whether the last that was accepted of G-code and jogs is a jog, behind a line that was, or was not, before
+-- whether the last that was accepted of G-code and jogs is a jog, after a line that was, or was not, before
 abbrev pub jogged_behind : Kind → Bool → Bool
 jogged_behind of_code was = false
 jogged_behind of_jog was = true
 jogged_behind of_none was = was
 
--- what stands before the next line
+-- the same for the next line
 abbrev pub after : Before → Outcome → Before
 after b o = record {
   number = b.number + 1;
@@ -208,8 +209,8 @@ after b o = record {
 abbrev pub at_place : Steps3 → Before → Before
 at_place at b = record b { state = record b.state { parser = rebased b.state.parser at b.state.settings.limits.per_mm } }
 
--- What a run passes: a line, of which this becomes; or a cut, which drops what is left of jogs that were cancelled. Behind so
--- many lines in all it leaves the machine at this place.
+-- What a run passes: a line, with what becomes of it; or a cut, which drops what is left of jogs that were cancelled:
+-- after so many lines in all, it leaves the machine at this place.
 pub data Passed : Type 0 where
   a_line : Outcome → Passed
   a_cut : ℕ → Steps3 → Passed
@@ -226,22 +227,22 @@ cuts_of [] = []
 cuts_of (a_line o ∷ ps) = cuts_of ps
 cuts_of (a_cut k at ∷ ps) = k ∷ cuts_of ps
 
--- A line is begun, and this becomes of it: no line before it has raised an alarm.
+-- A line is begun and becomes this: no line before it has raised an alarm.
 pub record IsBegun (runs : Bool) (b : Before) (kept : List ℕ) (o : Outcome) : Type 0 where
   pub free : b.alarmed ≡ false
   pub becomes : Becomes runs b kept o
 
--- Jogs are cut behind so many lines: the machine is found in a jog, so the last that was accepted of G-code and jogs is a jog.
--- No line has raised an alarm.
+-- Jogs are cut after so many lines: the machine is found in a jog, so the last that was accepted of G-code and jogs is
+-- a jog. No line has raised an alarm.
 pub record IsCut (runs : Bool) (b : Before) (k : ℕ) : Type 0 where
   pub free : b.alarmed ≡ false
   pub number : b.number ≡ k + 1
   pub cause : b.jogged ≡ true
   pub found : runs ≡ true
 
--- Lines are passed in order, each once, and this stands behind them. `runs` says whether the machine may be found running,
--- or in a jog. A cut has the number of the lines before it, and the lines behind it begin at its place. Behind a line that
--- raises an alarm nothing is passed.
+-- Lines are passed in order, each once, and leave this after them. `runs` says whether the machine may be found
+-- running, or in a jog. A cut has the number of the lines before it, and the lines after it begin at its place. After a
+-- line that raises an alarm nothing is passed.
 abbrev pub Follows : Bool → Before → List (List ℕ) → List Passed → Before → Type 0
 Follows runs b ls (a_cut k at ∷ ps) last = IsCut runs b k × Follows runs (at_place at b) ls ps last
 Follows runs b [] [] last = last ≡ b
@@ -249,7 +250,7 @@ Follows runs b (l ∷ ls) (a_line o ∷ ps) last = IsBegun runs b l o × Follows
 Follows runs b [] (a_line o ∷ ps) last = ⊥
 Follows runs b (l ∷ ls) [] last = ⊥
 
--- numbers that never fall, each at least the first of two, and none above the other
+-- numbers that never fall, each at least the first of these two and at most the second
 abbrev pub NeverFall : ℕ → List ℕ → ℕ → Type 0
 NeverFall low [] high = low ≤ high
 NeverFall low (n ∷ ns) high = (low ≤ n) × NeverFall n ns high

@@ -1,4 +1,4 @@
--- The reports of a run: what each of them may tell.
+-- The reports of a run: what each of them may show.
 use Rattle.std.specs.Prelude.{◌≡◌, ℕ, ◌+◌, ◌*◌, ◌/◌, ◌%◌, ◌≤◌, ◌<◌, ◌==◌, ◌⊎◌, Bool, true, false, ◌&&◌, cond, nat_eq, nat_lt, List, [], ◌∷◌, length, take, drop, reverse, get_or, Some, None}
 use Rattle.std.specs.List.{list_any, sum}
 use Rattle.std.specs.declared.option.Option.{Option}
@@ -26,6 +26,7 @@ use Rattle.run_rules.specs.Work.{Outcome, is_alarm, has_moves, pauses}
 
 -- ---- of lines that were begun, in order
 
+-- a line settles: it has items, and the last is no move
 abbrev pub settles : Outcome → Bool
 settles o = o.settles
 
@@ -34,23 +35,25 @@ abbrev pub settled_to : List Outcome → ℕ
 settled_to [] = 0
 settled_to (o ∷ os) = cond (list_any settles (o ∷ os)) (settled_to os + 1) 0
 
+-- a line asks for a move
 abbrev pub moves : Outcome → Bool
 moves o = has_moves o.work
 
+-- a line asks for a pause
 abbrev pub has_pause : Outcome → Bool
 has_pause o = nat_lt 0 (pauses o.work)
 
 abbrev pub raises_alarm : Outcome → Bool
 raises_alarm o = is_alarm o.answer
 
--- What they leave; a cut behind them changes no more of it than the position, which reports do not tell.
+-- What they leave; a cut after them changes no more of it than the position, which reports do not show.
 abbrev pub state_behind : State → List Outcome → State
 state_behind s [] = s
 state_behind s (o ∷ os) = state_behind o.next os
 
--- ---- where k lines were answered
+-- ---- when k lines were answered
 
--- Where so many ticks count of each line, so many at least are done: those of the lines up to the last among these k that
+-- If so many ticks count of each line, so many at least are done: those of the lines up to the last among these k that
 -- settles; and so many at most: those of the lines up to line k + 1.
 abbrev pub fewest : ℕ → List Outcome → List ℕ → ℕ
 fewest k os counts = sum (take (settled_to (take k os)) counts)
@@ -58,7 +61,7 @@ fewest k os counts = sum (take (settled_to (take k os)) counts)
 abbrev pub most : ℕ → List ℕ → ℕ
 most k counts = sum (take (k + 1) counts)
 
--- whether a line moves of those behind the last that settles among the first k, up to line k + 1
+-- whether a line moves, of those after the last one that settles among the first k, up to line k + 1
 abbrev pub may_move : ℕ → List Outcome → Bool
 may_move k os = list_any moves (drop (settled_to (take k os)) (take (k + 1) os))
 
@@ -72,7 +75,7 @@ place_at ticks d = moved_by origin (take d ticks)
 abbrev pub steps_in_thousandths : Steps3 → Per3 → Nm3
 steps_in_thousandths p per_mm = record { x = thousandths_of p.x per_mm.x; y = thousandths_of p.y per_mm.y; z = thousandths_of p.z per_mm.z }
 
--- the spindle speed by its override, and 0 where the spindle is off
+-- the spindle speed by its override, and 0 if the spindle is off
 abbrev pub turns_shown : SpindleMode → ℕ → ℕ → ℕ
 turns_shown Off rpm percent = 0
 turns_shown Cw rpm percent = rpm * percent / 100
@@ -89,7 +92,7 @@ abbrev pub has_room : Option (ℕ × ℕ) → Bool
 has_room None = false
 has_room (Some room) = true
 
--- What a report tells of a place and of what the lines left, all of one state: the position in thousandths of a mm, the
+-- What a report shows of a place and of what the lines left, all of one state: the position in thousandths of a mm, the
 -- fields that the mask asks for, the offset of the work, and the spindle speed.
 pub record Shows (place : Steps3) (s : State) (r : Report) : Type 0 where
   pub at : r.at ≡ steps_in_thousandths place s.settings.limits.per_mm
@@ -98,6 +101,7 @@ pub record Shows (place : Steps3) (s : State) (r : Report) : Type 0 where
   pub wco : r.wco ≡ in_thousandths (wco_of s.parser)
   pub turns : r.s ≡ turns_shown s.parser.modal.spindle s.parser.rpm r.ov.spindle
 
+-- the state is Hold:0 or Hold:1
 abbrev pub is_held : Told → Bool
 is_held told.Hold0 = true
 is_held told.Hold1 = true
@@ -109,10 +113,10 @@ hundreds = record { feed = 100; rapid = 100; spindle = 100 }
 
 -- ---- one report
 
--- What a run has done: the state before it, what became of the lines that were begun, and how many ticks count of each; the ticks
--- that were published, and how many were given; and whether a hold was asked for, and a change of overrides. Of a line those
--- ticks count that it asks for, less those that a cut or a halt dropped; a cut is a tick, and counts with the last line
--- before it.
+-- What a run has done: the state before it, what became of the lines that were begun, and how many ticks count of each;
+-- the ticks that were published, and how many were given; and whether a hold was asked for, and a change of overrides.
+-- Of a line those ticks count that it asks for, less those that a cut or a halt dropped; a cut is a tick, and counts
+-- with the last line before it.
 pub record Course : Type 0 where
   pub first : State
   pub outcomes : List Outcome
@@ -133,10 +137,10 @@ pub record IsAhead (c : Course) (k d : ℕ) : Type 0 where
 abbrev pub MayAlarm : Course → ℕ → Type 0
 MayAlarm c k = list_any raises_alarm (take (k + 1) c.outcomes) ≡ true
 
--- A report behind k answers, which shows the place after d ticks. It tells what line k left, or line k + 1. The feed is 0
--- where all ticks up to line k + 1 are done. Where no line moves behind the last that settles, the machine stands. It is held,
--- or slows down, only by a hold, a pause or an alarm, stands in alarm only by one, and its overrides are 100 percent where
--- none was changed.
+-- A report after k answers, which shows the place after d ticks. It shows what line k left, or line k + 1. The feed is
+-- 0 if all ticks up to line k + 1 are done. If no line moves after the last that settles, the machine stands. It is
+-- held, or slows down, only by a hold, a pause or an alarm, stands in alarm only by one, and its overrides are 100
+-- percent if none was changed.
 pub record FitsReport (c : Course) (k d : ℕ) (r : Report) : Type 0 where
   pub lines : ℕ
   pub of_lines : (lines ≡ k) ⊎ (lines ≡ k + 1)
@@ -155,25 +159,25 @@ pub record FitsReport (c : Course) (k d : ℕ) (r : Report) : Type 0 where
 
 -- ---- all of them
 
--- Each report among these replies fits, the latest first. The numbers of ticks that they show never fall, and are at most
--- `top`.
+-- Each report among these replies fits, the latest first. The numbers of ticks that they show never fall, and are at
+-- most `top`.
 abbrev pub Reported : Course → List Reply → ℕ → Type 0
 Reported c [] top = Unit {0}
 Reported c (replies.Report r ∷ earlier) top = (d : ℕ) × (d ≤ top) × FitsReport c (answers_in earlier) d r × Reported c earlier d
 Reported c (r ∷ earlier) top = Reported c earlier top
 
--- a line asks for a report: a `?` stands outside its comments
+-- a line asks for a report: a `?` is outside its comments
 abbrev pub is_query : ℕ → Bool
 is_query b = nat_eq b query
 
 abbrev pub asks_report : List ℕ → Bool
 asks_report line = list_any is_query (realtime line)
 
--- the reports among these replies, the latest first, that stand behind k answers, and before the next
+-- the reports among these replies, the latest first, that come after k answers, and before the next
 abbrev pub reports_behind : ℕ → List Reply → ℕ
 reports_behind k [] = 0
 reports_behind k (r ∷ earlier) = cond (is_report r && nat_eq (answers_in earlier) k) 1 0 + reports_behind k earlier
 
--- each of these lines that asks for a report and has its answer has a report, behind the answers to the lines before it
+-- each of these lines that asks for a report and has its answer has a report, after the answers to the lines before it
 abbrev pub AreReported : List (List ℕ) → List Reply → Type 0
 AreReported lines replies = (k : ℕ) → k < answers_in replies → asks_report (get_or lines k []) ≡ true → 0 < reports_behind k (reverse replies)

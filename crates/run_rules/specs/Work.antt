@@ -22,7 +22,7 @@ pub data Task : Type 0 where
   -- the machine slows down to rest, and all that it has not begun by then is dropped
   halt : Task
 
--- what was accepted: a line of G-code, a jog, or none of these, as where a line is empty, a command, or refused
+-- what was accepted: a line of G-code, a jog, or none of these, as when a line is empty, a command, or refused
 pub data Kind : Type 0 where
   of_code : Kind
   of_jog : Kind
@@ -32,7 +32,7 @@ pub data Kind : Type 0 where
 abbrev pub soft_limit : ℕ
 soft_limit = 2
 
--- a reply is an alarm, behind which no line is begun
+-- a reply is an alarm, after which no line is begun
 abbrev pub is_alarm : Reply → Bool
 is_alarm (Alarm n) = true
 is_alarm _ = false
@@ -47,9 +47,9 @@ is_jog of_code = false
 is_jog of_jog = true
 is_jog of_none = false
 
--- What becomes of a line: what there is to do; its answer, which is told last; whether it settles, that is, has items of which
--- the last is no move; what was accepted; and the state behind it. A line that ends the run has no answer of its own: in the
--- place of one is the alarm, and what is told of it ends with a message.
+-- What becomes of a line: what there is to do; its answer, which is told last; whether it settles, that is, has items,
+-- and the last is no move; what was accepted; and the state after it. A line that ends the run has no answer of its
+-- own: the alarm is in its place, and what is told of it ends with a message.
 pub record Outcome : Type 0 where
   pub work : List Task
   pub answer : Reply
@@ -57,11 +57,11 @@ pub record Outcome : Type 0 where
   pub kind : Kind
   pub next : State
 
--- a line that ends the run with an alarm: the machine is halted, and then it is told
+-- a line that ends the run with an alarm: the machine is halted, and then the alarm is told
 abbrev pub halting_work : List Task
 halting_work = halt ∷ tell (Alarm soft_limit) ∷ tell (Message ResetToContinue) ∷ []
 
--- behind the last line the end is given to the machine, and Bye is told
+-- after the last line the end is given to the machine, and Bye is told
 abbrev pub closing_work : List Task
 closing_work = finish ∷ tell Bye ∷ []
 
@@ -89,7 +89,7 @@ asked_by_task halt = []
 abbrev pub asks : List Task → List Asked
 asks work = flat_map asked_by_task work
 
--- tasks that ask for this, and that tell this
+-- tasks that ask for these things, and that tell these replies
 abbrev pub asking : List Asked → List Task
 asking asked = flat_map (λ a. ask a ∷ []) asked
 

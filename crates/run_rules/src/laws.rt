@@ -27,9 +27,9 @@ ghost use Rattle.run_rules.specs.declared.machine.Machine.{Machine as AnyMachine
 ghost use Rattle.run_rules.specs.declared.machine.Machine.TheVariants.{Stands, Runs, Jogs};
 ghost use Rattle.run_rules.specs.Lines.{CutsInto, lines_of, whole_lines};
 
-/// A run of lines of which none has raised an alarm goes on by each line and what becomes of it, and by a cut, behind which the
-/// position is where that left the machine. Each line has one outcome, and lines are numbered one by one; the numbers of cuts
-/// never fall. Where the machine may be found running, a run in which it never is stays one.
+/// A run of lines, none of which has raised an alarm, goes on by each line and what becomes of it, and by a cut, after
+/// which the position is where the cut left the machine. Each line has one outcome, and lines are numbered one by one;
+/// the numbers of cuts never fall. A run in which the machine is never found running is also one in which it may be.
 pub fn run_goes_on()
     ensures goes_on { (runs : Bool) (first last : Before) (lines : List (List ℕ)) (passed : List Passed) (line : List ℕ) (outcome : Outcome) →
         Follows runs first lines passed last → last.alarmed ≡ false → Becomes runs last line outcome →
@@ -49,8 +49,8 @@ pub fn run_goes_on()
         Follows runs first lines passed last → Follows other first lines passed last }
 {}
 
-/// Each line has one answer, which is told last, unless it raises an alarm: an outcome of a line tells a body with no answer,
-/// and then its answer. So as many lines are answered as were passed, less those that raised an alarm.
+/// Each line has one answer, which is told last, unless it raises an alarm: an outcome of a line tells a body with no
+/// answer, and then its answer. So as many lines are answered as were passed, less those that raised an alarm.
 pub fn lines_have_one_answer()
     ensures last { (runs : Bool) (before : Before) (line : List ℕ) (outcome : Outcome) → Becomes runs before line outcome → is_alarm outcome.answer ≡ false →
         (body : List AnyReply) × (tells outcome.work ≡ body ++ outcome.answer ∷ []) × (answers_in body ≡ 0) × (is_answer outcome.answer ≡ true) }
@@ -58,10 +58,10 @@ pub fn lines_have_one_answer()
         Follows runs first lines passed last → answers_in (replies_in (became_of passed)) + alarms_in (became_of passed) ≡ length lines }
 {}
 
-/// A line raises an alarm exactly where it is G-code that can be read and is not refused, with a target outside the travel while
-/// soft limits are on. Then nothing else is done of it: the machine is halted, the alarm is told with its message, nothing is
-/// asked of the machine, and the state stays. Behind it nothing is passed, neither a line nor a cut, so a run has one such line
-/// at most, its last.
+/// A line raises an alarm exactly if it is G-code that can be read and is not refused, with a target outside the travel
+/// while soft limits are on. Then nothing else is done of it: the machine is halted, the alarm is told with its
+/// message, nothing is asked of the machine, and the state stays. After it nothing is passed, neither a line nor a cut,
+/// so a run has one such line at most, its last.
 pub fn alarms_end_the_run()
     ensures cause { (runs : Bool) (before : Before) (line : List ℕ) (outcome : Outcome) → Becomes runs before line outcome → is_alarm outcome.answer ≡ true →
         IsBeyond before line × (outcome ≡ limited before) }
@@ -77,7 +77,7 @@ pub fn alarms_end_the_run()
         Follows runs (start first) lines passed last → alarms_in (became_of passed) ≡ one_if last.alarmed }
 {}
 
-/// The machine is held at most once in the work of a line, and not behind the last line.
+/// The machine is held at most once in the work of a line, and not after the last line.
 pub fn lines_pause_once()
     ensures line { (runs : Bool) (before : Before) (line : List ℕ) (outcome : Outcome) → Becomes runs before line outcome → pauses outcome.work ≤ 1 }
     ensures closing { pauses closing_work ≡ 0 }
@@ -85,7 +85,7 @@ pub fn lines_pause_once()
 
 /// There is one state before the first line. Two outcomes of a line are the same, or one of them is that of a machine
 /// which is found in motion: error 8 for a line that begins with `$`, and 9 for any other. So what becomes of lines is
-/// determined where it never is: then no jog is cut either.
+/// determined if the machine never is found so: then no jog is cut either.
 pub fn runs_are_determined()
     ensures opening { (s t : State) → IsOpening s → IsOpening t → s ≡ t }
     ensures line { (runs : Bool) (before : Before) (line : List ℕ) (a b : Outcome) →
@@ -95,15 +95,15 @@ pub fn runs_are_determined()
         Follows false first lines os t → Follows false first lines ps u → (os ≡ ps) × (t ≡ u) }
 {}
 
-/// An accepted line settles exactly where it has items and the last is no move, and nothing has moved behind one that does.
+/// An accepted line settles exactly if it has items and the last is no move, and nothing has moved after one that does.
 pub fn lines_settle()
     ensures last { (b : Before) (a : Accepted) (items : List AnyItem) (last : AnyItem) → a.items.items ≡ items ++ last ∷ [] → (executed b a).settles ≡ not (is_move last) }
     ensures none { (b : Before) (a : Accepted) → a.items.items ≡ [] → (executed b a).settles ≡ false }
     ensures still { (b : Before) (o : Outcome) → o.settles ≡ true → ((after b o).moved ≡ false) × ((after b o).jog_moved ≡ false) }
 {}
 
-/// A jog asks for one move, from the position and at its own feed, and for none where that has no steps. Its target is the
-/// position behind it, where the next line begins. Nothing else changes, and no jog settles.
+/// A jog asks for one move, from the position and at its own feed, or for none if the move has no steps. Its target is
+/// the position after it, where the next line begins. Nothing else changes, and no jog settles.
 pub fn jogs_change_the_place_alone()
     ensures asks { (before : Before) (jog : AnyJog) →
         asks (jogging before jog).work ≡ move_asked (planned before.number before.state.settings jog.mv jog.rate) }
@@ -118,7 +118,7 @@ pub fn jogs_change_the_place_alone()
         (behind.jogged ≡ true) × (behind.moved ≡ before.moved) }
 {}
 
-/// Where nothing has moved since the last line that settles, and the last that was accepted of G-code and jogs is no jog,
+/// If nothing has moved since the last line that settles, and the last that was accepted of G-code and jogs is no jog,
 /// no machine is found in motion.
 pub fn lines_find_a_machine_that_stands()
     ensures { (before : Before) (line : List ℕ) (outcome : Outcome) →
@@ -126,21 +126,20 @@ pub fn lines_find_a_machine_that_stands()
         Becomes true before line outcome → Becomes false before line outcome }
 {}
 
-/// What is found of a line is what becomes of it: while the machine stands, what becomes of it where none is found in motion;
-/// and while it runs or jogs, what becomes of it where one may be. While it runs a line of G-code must have moved since the
-/// last line that settles, and the last that was accepted of G-code and jogs be no jog. In a jog it must be one, and it or
-/// one of those lines must have moved.
+/// `Found` says what becomes of a line: if the machine stands, as if none were found in motion; if it runs or jogs, as
+/// if one may be. While it runs a line of G-code must have moved since the last line that settles, and the last that
+/// was accepted of G-code and jogs be no jog. In a jog it must be one, and it or one of those lines must have moved.
 pub fn found_lines_become()
     ensures standing { (b : Before) (kept : List ℕ) (o : Outcome) → Found Stands b kept o → Becomes false b kept o }
     ensures running { (b : Before) (kept : List ℕ) (o : Outcome) → b.moved ≡ true → b.jogged ≡ false → Found Runs b kept o → Becomes true b kept o }
     ensures jogging { (b : Before) (kept : List ℕ) (o : Outcome) → (b.moved || b.jog_moved) ≡ true → b.jogged ≡ true → Found Jogs b kept o → Becomes true b kept o }
 {}
 
-/// Errors 8 and 9 are told for the motion alone. A line is refused with 8 only where it begins with `$` and lines before it
-/// have a cause for its kind: for `$$`, and for lines that begin with `$J`, a line of G-code has moved since the last line that
-/// settles, and the last that was accepted of G-code and jogs is no jog; for `$#` and setting lines such a line has moved, or
-/// a jog. It is refused with 9 only where something is kept of it, no more than 79 bytes, and it does not begin with `$`, and
-/// the last that was accepted of G-code and jogs is a jog.
+/// Errors 8 and 9 come from the motion alone. A line is refused with 8 only if it begins with `$` and lines before it
+/// have a cause for its kind: for `$$`, and for lines that begin with `$J`, a line of G-code has moved since the last
+/// line that settles, and the last that was accepted of G-code and jogs is no jog; for `$#` and setting lines such a
+/// line has moved, or a jog. It is refused with 9 only if something is kept of it, no more than 79 bytes, and it does
+/// not begin with `$`, and the last that was accepted of G-code and jogs is a jog.
 pub fn errors_for_the_motion_have_causes()
     ensures eight { (runs : Bool) (before : Before) (line : List ℕ) (outcome : Outcome) → Becomes runs before line outcome → outcome.answer ≡ AnyReply.Error 8 →
         (begins_with_dollar line ≡ true) × (length line ≤ most_kept) × (has_cause before (kind_of line) ≡ true) }
@@ -148,14 +147,14 @@ pub fn errors_for_the_motion_have_causes()
         (line ≢ []) × (length line ≤ most_kept) × (begins_with_dollar line ≡ false) × (before.jogged ≡ true) }
 {}
 
-/// By how the machine is found, and what becomes of a line there, it is told of which kind the line is: no line of G-code is
-/// accepted in a jog, or stopped there by a soft limit, and no jog is accepted while the machine runs; what is none of these
-/// asks nothing of the machine.
+/// How the machine is found, and what becomes of a line then, says of which kind the line is: no line of G-code is
+/// accepted in a jog, or stopped there by a soft limit, and no jog is accepted while the machine runs; what is none of
+/// these asks nothing of the machine.
 pub fn lines_are_of_a_kind()
     ensures { (machine : AnyMachine) (before : Before) (line : List ℕ) (outcome : Outcome) → Found machine before line outcome → Fate machine line outcome }
 {}
 
-/// The lines of a text are the pieces between its LF bytes: those that LF ends, and a last one that is not empty.
+/// The lines of a text are what lies between its LF bytes: those that LF ends, and a last one that is not empty.
 pub fn lines_are_pieces()
     ensures whole { (text : List ℕ) (lines : List (List ℕ)) (rest : List ℕ) → CutsInto text lines rest → whole_lines text ≡ lines }
     ensures no_rest { (text : List ℕ) (lines : List (List ℕ)) → CutsInto text lines [] → lines_of text ≡ lines }

@@ -50,7 +50,7 @@ impl State {
     }
 }
 
-/// How a spindle mode is recorded, with its speed in turns per minute; a spindle that stands has none.
+/// How a spindle mode is recorded, with its speed in turns per minute; after M5 it has none.
 pub fn spindle_mark(mode: SpindleMode, speed: u32) -> Mark
     ensures mark { result ≡ spindle_mark mode speed }
     ensures valid { IsMark result }

@@ -1,11 +1,11 @@
-//! How the machine is found where a line is begun.
+//! How the machine is found when a line is begun.
 
 ghost use Rattle.std.specs.Prelude.{◌≡◌};
 ghost use Rattle.run_rules.specs.Finding.{refuses, locks};
 
 use system_lines::Kind;
 
-/// What the machine does where a line is begun.
+/// What the machine does when a line is begun.
 #[derive(Clone, Copy, Debug, PartialEq, Eq)]
 pub enum Machine {
     /// It stands.

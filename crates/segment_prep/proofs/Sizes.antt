@@ -1,5 +1,5 @@
 -- How large the numbers of a segment are.
-use Rattle.std.proofs.Common.{◌≡◌, ℕ, ◌+◌, ◌-◌, ◌*◌, ◌/◌, ◌≤◌, ◌<◌, inl, inr, arith, sym, subst}
+use Rattle.std.proofs.Common.{◌≡◌, ℕ, ◌+◌, ◌-◌, ◌*◌, ◌/◌, ◌≤◌, ◌<◌, min, max, inl, inr, arith, sym, ap, subst, ◌∙◌}
 use Rattle.std.proofs.lemmas.Bool.{cases_lt}
 use Rattle.std.proofs.lemmas.Nat.{mul-le, le-div, div_below}
 use Rattle.std.proofs.Math.Nat.{le_of_mul-le-mul_right, div-mul-le_self}
@@ -7,9 +7,10 @@ use Rattle.units.specs.Roots.{IsRoot, root_of}
 use Rattle.units.proofs.Places.{root_is, one_root}
 use Rattle.line_geom.specs.declared.Block.{Block}
 use Rattle.overrides.specs.Percents.{nominal_of}
-use Rattle.plan_rules.specs.Blocks.{IsBlock, squared}
-use Rattle.plan_rules.specs.Segments.{count_of}
-use Rattle.plan_rules.specs.Plans.{Planned, IsReached, IsTail}
+use Rattle.profile.specs.Slowing.{speed_after}
+use Rattle.plan_rules.specs.Blocks.{IsBlock, left_of, squared, top_of}
+use Rattle.plan_rules.specs.Segments.{count_of, stop_of, IsGoing, IsHolding}
+use Rattle.plan_rules.specs.Plans.{Planned, IsReached, IsTail, exit_of}
 use Rattle.plan_rules.proofs.Bounds.{bounds_of, rapid_small, nominal_below}
 
 -- the square of a speed that the axes allow
@@ -38,6 +39,10 @@ root_under x r t is less =
 pub root_square : (r : ℕ) → root_of (r * r) ≡ r
 root_square r = sym (one_root (r * r) r (record { low = omega arith; high = omega arith }))
 
+-- the greater of a speed that the axes allow and such a root is one too
+pub top_below : (nominal w rapid : ℕ) → nominal ≤ rapid → w ≤ squared rapid → (top : ℕ) → top ≡ max nominal (root_of w) → top ≤ rapid
+top_below nominal w rapid le begins top is = let root = root_below w rapid begins in omega (arith, le, root, is)
+
 -- a part of something is at least one, where it is rounded up
 pub some_rounded_up : (a d : ℕ) → 0 < a → 0 < d → 0 < (a + d - 1) / d
 some_rounded_up a d some part = le-div 1 (a + d - 1) d part (omega (arith, some))
@@ -56,6 +61,30 @@ product_some v b is some = let n_low = (bounds_of b is).n_low in mul-le 1 1 b.ge
 -- the nominal speed of a tail
 pub tail_nominal : (p : Planned) (b : Block) → IsReached p → IsTail p b → nominal_of p.overrides b.rate b.geom.rapid ≤ b.geom.rapid
 tail_nominal p b is tail = nominal_below p.overrides b is.overrides tail.block
+
+-- what the segment rule takes in mode Go, from the plan's speed, its speed at the tail's end and the nominal speed
+pub is_going : (p : Planned) (b : Block) (w exit nominal n v : ℕ) → w ≡ p.speed → exit ≡ exit_of p
+    → nominal ≡ nominal_of p.overrides b.rate b.geom.rapid → n ≡ count_of b w
+    → v ≡ speed_after w b.geom.q n (left_of b - n) exit (squared nominal) → IsGoing p b n v
+unfolding top_of
+is_going p b w exit nominal n v at_speed at_exit at_top events speed =
+    let left = left_of b - n in
+    record {
+      events = events ∙ ap (count_of b) at_speed;
+      speed = speed
+          ∙ ap (λ x. speed_after x b.geom.q n left exit (squared nominal)) at_speed
+          ∙ ap (λ x. speed_after p.speed b.geom.q n left x (squared nominal)) at_exit
+          ∙ ap (λ x. speed_after p.speed b.geom.q n left (exit_of p) (squared x)) at_top;
+    }
+
+-- and what it takes in mode Hold
+pub is_holding : (p : Planned) (b : Block) (w n v : ℕ) → 0 < w → w ≡ p.speed
+    → n ≡ min (count_of b w) (stop_of b w) → v ≡ w - b.geom.q * n → IsHolding p b n v
+is_holding p b w n v moves at_speed events speed = record {
+  moves = subst (λ x. 0 < x) at_speed moves;
+  events = events ∙ ap (λ x. min (count_of b x) (stop_of b x)) at_speed;
+  speed = speed ∙ ap (λ x. x - b.geom.q * n) at_speed;
+}
 
 -- fewer than two lengths are fewer than two events, and two or more are two or more
 pub one_event : (way length : ℕ) → 0 < length → way < 2 * length → way / length < 2

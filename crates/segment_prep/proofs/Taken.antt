@@ -1,5 +1,5 @@
 -- What holds of the segment that a plan gives.
-use Rattle.std.proofs.Common.{◌≡◌, ℕ, ◌+◌, ◌*◌, ◌/◌, ◌^◌, ◌≤◌, ◌<◌, ◌⊎◌, min, max, inl, inr, [], ◌∷◌, drop, refl, ap, sym, ◌∙◌, subst, arith}
+use Rattle.std.proofs.Common.{◌≡◌, ℕ, ◌+◌, ◌*◌, ◌/◌, ◌^◌, ◌≤◌, ◌<◌, min, max, inl, inr, ◌∷◌, drop, refl, ap, sym, ◌∙◌, subst, arith}
 use Rattle.units.specs.Roots.{root_of}
 use Rattle.units.specs.Lengths.{IsMove}
 use Rattle.step_line.specs.declared.Segment.{Segment}
@@ -44,11 +44,8 @@ traceable b s is mv first some within speed line time counted =
     }
 
 -- a segment of the tail is the next one
-pub is_next : (p : Planned) (b : Block) (mode : Mode) (s : Segment) → IsTail p b → s.line ≡ b.line → s.mv ≡ b.mv → s.first ≡ b.prepared
-    → ByMode p b mode s.n s.w_out → s.w_in ≡ p.speed → s.cycles ≡ cycles_of b (pace_of b (nominal p b) s.w_in s.w_out s.n) → IsNext p mode s
-is_next p b mode s tail line mv first rule w_in cycles =
-    let taken : IsTaken p b mode s = record { line = line; mv = mv; first = first; rule = rule; w_in = w_in; cycles = cycles } in
-    subst (λ bs. IsTakenOf p bs mode s) (sym tail.stands) taken
+pub is_next : (p : Planned) (b : Block) (mode : Mode) (s : Segment) → IsTail p b → IsTaken p b mode s → IsNext p mode s
+is_next p b mode s tail taken = subst (λ bs. IsTakenOf p bs mode s) (sym tail.stands) taken
 
 -- the pace of a segment at the nominal speed
 pub pace_kept : (p : Planned) (b : Block) (mode : Mode) (s : Segment) → IsTail p b → mode ≡ Go → ByMode p b mode s.n s.w_out
@@ -95,8 +92,3 @@ traceable_at_pace p b t s tail steady e line time =
     let w = ap (λ (s : Segment). s.w_in) e in
     traceable b s tail.block (ap (λ (s : Segment). s.mv) e) (ap (λ (s : Segment). s.first) e) (omega (arith, n, is.some.0)) (omega (arith, n, is.left))
     (omega (arith, w, is.speed, tail.rapid)) line time
-
--- a plan that goes gives some segment
-pub not_none : (p : Planned) (mode : Mode) (s : Segment) → mode ≡ Go → IsNext p mode s → (p.blocks ≡ []) ⊎ ((mode ≡ Hold) × (p.speed ≡ 0)) → ⊥
-not_none p mode s go next (inl none) = subst (λ bs. IsTakenOf p bs mode s) none next
-not_none p mode s go next (inr stands) = let apart : Go ≡ Hold = sym go ∙ stands.0 in absurd cc

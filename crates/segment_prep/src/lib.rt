@@ -8,8 +8,6 @@
 mod pace;
 mod rule;
 mod taking;
-#[cfg(test)]
-mod tests;
 
 pub use plan_rules::{Mode, laws};
 pub use taking::next_segment;

@@ -27,7 +27,6 @@ fn top(nominal: u64, w: u64) -> u64
 /// How fast n events go that change the squared speed from w to v, in µm/s: never below 1, and at most at the nominal
 /// speed, unless it was higher before.
 #[inline]
-#[tactic(auto, using(crate::proofs::Sizes::square_le, crate::proofs::Sizes::root_below, crate::proofs::Sizes::root_square, plan_rules::proofs::Bounds::bounds_of, plan_rules::proofs::Bounds::rapid_small, units::proofs::Places::one_root))]
 fn pace(b: &Block, nominal: u64, w: u64, v: u64, n: u32) -> u64
     requires block { IsBlock b.now }
     requires nominal { nominal ≤ b.now.geom.rapid }
@@ -48,7 +47,6 @@ fn pace(b: &Block, nominal: u64, w: u64, v: u64, n: u32) -> u64
 
 /// The cycles of a clock of 16 MHz from one of them to the next, rounded up.
 #[inline]
-#[tactic(auto, using(crate::proofs::Sizes::product_small, crate::proofs::Sizes::product_some, crate::proofs::Sizes::some_rounded_up, plan_rules::proofs::Bounds::bounds_of))]
 pub(crate) fn cycles(b: &Block, nominal: u64, w: u64, v: u64, n: u32) -> u64
     requires block { IsBlock b.now }
     requires nominal { nominal ≤ b.now.geom.rapid }

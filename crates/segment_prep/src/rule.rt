@@ -4,12 +4,11 @@ ghost use Rattle.std.specs.Prelude.{◌≡◌, ◌≤◌, ◌<◌, ◌+◌, ◌-
 ghost use Rattle.overrides.specs.Percents.{nominal_of};
 ghost use Rattle.profile.specs.Slowing.{speed_after};
 ghost use Rattle.plan_rules.specs.Blocks.{IsBlock, left_of, squared};
-ghost use Rattle.plan_rules.specs.Plans.{IsTail};
-ghost use Rattle.plan_rules.specs.Segments.{count_of, IsGoing, IsHolding};
-ghost use Rattle.plan_rules.specs.Taking.{ByMode, nominal};
+ghost use Rattle.plan_rules.specs.Plans.{Planned, exit_of};
+ghost use Rattle.plan_rules.specs.Segments.{count_of, stop_of};
+ghost use Rattle.plan_rules.specs.Taking.{ByMode};
 
 use crate::Mode;
-use plan_passes::Plan;
 use planner_ring::Block;
 use units::small_root;
 
@@ -96,37 +95,36 @@ fn speed_going(b: &Block, w: u64, n: u32, exit: u64, nominal: u64) -> u64
     for_exit.min(towards)
 }
 
-/// What is taken of the tail in mode Go.
+/// What is taken of a block in mode Go, where the squared speed here, the plan's at its end and its nominal speed are these.
 #[inline]
-#[tactic(auto, using(crate::proofs::Sizes::tail_nominal), unfolding(plan_rules::specs::Blocks::top_of))]
-fn going<const N: usize>(plan: &Plan<N>, b: &Block, nominal: u64) -> Stretch
-    requires tail { IsTail plan.now b.now }
-    requires nominal { nominal ≡ nominal_of plan.now.overrides b.now.rate b.now.geom.rapid }
-    ensures rule { IsGoing plan.now b.now result.n result.w_out }
+fn going(b: &Block, w: u64, exit: u64, nominal: u64) -> Stretch
+    requires block { IsBlock b.now }
+    requires speed { w ≤ squared b.now.geom.rapid }
+    requires nominal { nominal ≤ b.now.geom.rapid }
+    ensures events { result.n ≡ count_of b.now w }
+    ensures speed { result.w_out ≡ speed_after w b.now.geom.q result.n (left_of b.now - result.n) exit (squared nominal) }
     ensures some { 0 < result.n }
     ensures within { result.n ≤ left_of b.now }
-    ensures few { result.n ≤ count_of b.now plan.now.speed }
     ensures rapid { result.w_out ≤ squared b.now.geom.rapid }
 {
-    let w = plan.speed();
     let n = count(b, w);
-    let w_out = speed_going(b, w, n, plan.exit_of_tail(), nominal);
+    let w_out = speed_going(b, w, n, exit, nominal);
     Stretch { n, w_out }
 }
 
-/// What is taken of the tail in mode Hold.
+/// What is taken of a block in mode Hold, from a squared speed on.
 #[inline]
-#[tactic(auto, using(crate::proofs::Sizes::some_rounded_up, plan_rules::proofs::Bounds::bounds_of, plan_rules::proofs::Bounds::rapid_small))]
-fn holding<const N: usize>(plan: &Plan<N>, b: &Block) -> Stretch
-    requires tail { IsTail plan.now b.now }
-    requires moves { 0 < plan.now.speed }
-    ensures rule { IsHolding plan.now b.now result.n result.w_out }
+fn holding(b: &Block, w: u64) -> Stretch
+    requires block { IsBlock b.now }
+    requires speed { w ≤ squared b.now.geom.rapid }
+    requires moves { 0 < w }
+    ensures events { result.n ≡ min (count_of b.now w) (stop_of b.now w) }
+    ensures speed { result.w_out ≡ w - b.now.geom.q * result.n }
     ensures some { 0 < result.n }
     ensures within { result.n ≤ left_of b.now }
-    ensures few { result.n ≤ count_of b.now plan.now.speed }
+    ensures few { result.n ≤ count_of b.now w }
     ensures rapid { result.w_out ≤ squared b.now.geom.rapid }
 {
-    let w = plan.speed();
     let q = b.geom.q;
     let stop = (w + q - 1) / q;
     let n = (count(b, w) as u64).min(stop) as u32;
@@ -134,26 +132,30 @@ fn holding<const N: usize>(plan: &Plan<N>, b: &Block) -> Stretch
     Stretch { n, w_out }
 }
 
-/// What is taken of the tail in a mode, or None exactly where it is Hold and the plan stands still.
+/// What is taken of a block in a mode, or None exactly where it is Hold and the squared speed is 0: by the segment rule of
+/// each plan whose tail is the block, and whose speed here and at its end, and nominal speed, are these.
 #[inline]
-pub(crate) fn next_stretch<const N: usize>(
-    plan: &Plan<N>,
+pub(crate) fn next_stretch(
     b: &Block,
+    w: u64,
+    exit: u64,
     nominal: u64,
     mode: Mode,
 ) -> Option<Stretch>
-    requires tail { IsTail plan.now b.now }
-    requires nominal { nominal ≡ nominal_of plan.now.overrides b.now.rate b.now.geom.rapid }
-    ensures none { IsNone result ↔ ((mode ≡ Mode.Hold) × (plan.now.speed ≡ 0)) }
-    ensures rule { IfSome result (λ s. ByMode plan.now b.now mode s.n s.w_out) }
+    requires block { IsBlock b.now }
+    requires speed { w ≤ squared b.now.geom.rapid }
+    requires nominal { nominal ≤ b.now.geom.rapid }
+    ensures none { IsNone result ↔ ((mode ≡ Mode.Hold) × (w ≡ 0)) }
+    ensures rule { (p : Planned) → w ≡ p.speed → exit ≡ exit_of p → nominal ≡ nominal_of p.overrides b.now.rate b.now.geom.rapid
+        → IfSome result (λ s. ByMode p b.now mode s.n s.w_out) }
     ensures some { IfSome result (λ s. 0 < s.n) }
     ensures within { IfSome result (λ s. s.n ≤ left_of b.now) }
-    ensures few { IfSome result (λ s. s.n ≤ count_of b.now plan.now.speed) }
+    ensures few { IfSome result (λ s. s.n ≤ count_of b.now w) }
     ensures rapid { IfSome result (λ s. s.w_out ≤ squared b.now.geom.rapid) }
 {
     match mode {
-        Mode::Go => Some(going(plan, b, nominal)),
-        Mode::Hold if plan.speed() == 0 => None,
-        Mode::Hold => Some(holding(plan, b)),
+        Mode::Go => Some(going(b, w, exit, nominal)),
+        Mode::Hold if w == 0 => None,
+        Mode::Hold => Some(holding(b, w)),
     }
 }

@@ -3,10 +3,11 @@
 ghost use Rattle.std.specs.Prelude.{◌≡◌, ◌≤◌, ◌<◌, ◌⊎◌, ◌↔◌, [], length, IsNone, IfNone, IfSome, IsTrue};
 ghost use Rattle.step_line.specs.Pieces.{IsTraceable};
 ghost use Rattle.plan_rules.specs.Blocks.{IsBlock, left_of, squared};
-ghost use Rattle.plan_rules.specs.Plans.{IsReached, IsTail};
+ghost use Rattle.overrides.specs.Percents.{nominal_of};
+ghost use Rattle.plan_rules.specs.Plans.{Planned, IsReached, IsTail, exit_of};
 ghost use Rattle.plan_passes.specs.Paces.{IsSteadyOf};
 ghost use Rattle.plan_rules.specs.Segments.{IsSegment, advanced, IsLegalStep, count_of, pace_of, cycles_of};
-ghost use Rattle.plan_rules.specs.Taking.{IsNext, nominal};
+ghost use Rattle.plan_rules.specs.Taking.{IsTaken, IsNext, nominal};
 
 use crate::Mode;
 use crate::pace::cycles;
@@ -126,21 +127,34 @@ fn segment_at_pace<const N: usize>(plan: &Plan<N>, mode: Mode) -> Option<Segment
 
 /// The nominal speed of a plan's tail, in µm/s.
 #[inline]
-#[tactic(auto, using(crate::proofs::Sizes::tail_nominal, plan_rules::proofs::Bounds::bounds_of))]
-fn tail_nominal<const N: usize>(plan: &Plan<N>, tail: &Block, o: &Overrides) -> u64
-    requires tail { IsTail plan.now tail.now }
-    requires reached { IsReached plan.now }
-    requires same { 0 < length plan.now.blocks → o.now ≡ plan.now.overrides }
+#[tactic(auto, using(crate::proofs::Sizes::tail_nominal))]
+fn tail_nominal<const N: usize>(plan: &Plan<N>, tail: &Block) -> u64
+    requires { IsTail plan.now tail.now }
     ensures nominal { result ≡ nominal plan.now tail.now }
     ensures rapid { result ≤ tail.now.geom.rapid }
 {
-    o.nominal(&tail.rate, tail.geom.rapid)
+    plan.nominal_of_tail()
+}
+
+/// A block's next segment in a mode, worked out, where the squared speed here, the plan's at its end and its nominal speed
+/// are these. None comes exactly where the mode is Hold and the squared speed is 0.
+#[inline]
+fn worked_out(b: &Block, w_in: u64, exit: u64, nominal: u64, mode: Mode) -> Option<Segment>
+    requires block { IsBlock b.now }
+    requires speed { w_in ≤ squared b.now.geom.rapid }
+    requires nominal { nominal ≤ b.now.geom.rapid }
+    ensures none { IsNone result ↔ ((mode ≡ Mode.Hold) × (w_in ≡ 0)) }
+    ensures taken { (p : Planned) → w_in ≡ p.speed → exit ≡ exit_of p → nominal ≡ nominal_of p.overrides b.now.rate b.now.geom.rapid
+        → IfSome result (λ s. IsTaken p b.now mode s) }
+    ensures traceable { IfSome result (λ s. 1 ≤ s.line → IsTraceable s) }
+    ensures takes_time { IfSome result (λ s. 1 ≤ s.cycles) }
+{
+    let stretch = next_stretch(b, w_in, exit, nominal, mode)?;
+    Some(segment_of(b, nominal, w_in, stretch))
 }
 
 /// The next segment of a plan, worked out. Where it is one at the tail's nominal speed the plan keeps its pace.
-#[tactic(auto, using(crate::proofs::Sizes::tail_nominal, plan_rules::proofs::Bounds::bounds_of))]
-fn segment_anew<const N: usize>(plan: &mut Plan<N>, o: &Overrides, mode: Mode) -> Option<Segment>
-    requires same { 0 < length plan.old.blocks → o.now ≡ plan.old.overrides }
+fn segment_anew<const N: usize>(plan: &mut Plan<N>, mode: Mode) -> Option<Segment>
     ensures same { plan.new ≡ plan.old }
     ensures none { IsNone result ↔ ((plan.old.blocks ≡ []) ⊎ ((mode ≡ Mode.Hold) × (plan.old.speed ≡ 0))) }
     ensures segment { IfSome result (λ s. IsNext plan.old mode s) }
@@ -150,9 +164,9 @@ fn segment_anew<const N: usize>(plan: &mut Plan<N>, o: &Overrides, mode: Mode) -
 {
     let b = plan.tail()?;
     let w_in = plan.speed();
-    let nominal = tail_nominal(plan, b, o);
-    let stretch = next_stretch(plan, b, nominal, mode)?;
-    let segment = segment_of(b, nominal, w_in, stretch);
+    let nominal = tail_nominal(plan, b);
+    let exit = plan.exit_of_tail();
+    let segment = worked_out(b, w_in, exit, nominal, mode)?;
     if is_at_pace(b, nominal, mode, &segment) {
         plan.keep_pace(Pace {
             n: segment.n,
@@ -165,8 +179,7 @@ fn segment_anew<const N: usize>(plan: &mut Plan<N>, o: &Overrides, mode: Mode) -
 
 /// The next segment of a plan, whose numbers are those of its pace, or are worked out.
 #[inline]
-fn segment_next<const N: usize>(plan: &mut Plan<N>, o: &Overrides, mode: Mode) -> Option<Segment>
-    requires same { 0 < length plan.old.blocks → o.now ≡ plan.old.overrides }
+fn segment_next<const N: usize>(plan: &mut Plan<N>, mode: Mode) -> Option<Segment>
     ensures same { plan.new ≡ plan.old }
     ensures none { IsNone result ↔ ((plan.old.blocks ≡ []) ⊎ ((mode ≡ Mode.Hold) × (plan.old.speed ≡ 0))) }
     ensures segment { IfSome result (λ s. IsNext plan.old mode s) }
@@ -176,7 +189,7 @@ fn segment_next<const N: usize>(plan: &mut Plan<N>, o: &Overrides, mode: Mode) -
 {
     match segment_at_pace(plan, mode) {
         Some(segment) => Some(segment),
-        None => segment_anew(plan, o, mode),
+        None => segment_anew(plan, mode),
     }
 }
 
@@ -202,7 +215,7 @@ pub fn next_segment<const N: usize>(
     ensures traceable { IfSome result (λ s. 1 ≤ s.line → IsTraceable s) }
     ensures takes_time { IfSome result (λ s. 1 ≤ s.cycles) }
 {
-    let segment = segment_next(plan, o, mode)?;
+    let segment = segment_next(plan, mode)?;
     plan.advance(segment.n, segment.w_out);
     Some(segment)
 }

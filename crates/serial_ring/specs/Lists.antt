@@ -8,7 +8,7 @@ use Rattle.status_report.specs.Replies.{IsReply}
 abbrev pub IsRoom : ℕ → Type 0
 IsRoom room = (128 ≤ room) × (room ≤ 255)
 
--- the bytes behind the k-th line feed; behind the 0th stand all
+-- the bytes after the k-th line feed; after the 0th, all
 abbrev pub behind : ℕ → List ℕ → List ℕ
 behind k [] = []
 behind k (b ∷ earlier) = cond (nat_le k (lfs_in earlier)) (b ∷ behind k earlier) []
@@ -18,7 +18,7 @@ abbrev pub AreReplies : List Reply → Type 0
 AreReplies [] = Unit {0}
 AreReplies (r ∷ earlier) = IsReply r × AreReplies earlier
 
--- a line is answered only where fewer were answered than had their end taken
+-- a line is answered only if fewer were answered than had their end taken
 pub record MayAnswer (taken : List ℕ) (answered : List Reply) (r : Reply) : Type 0 where
   pub line : is_answer r ≡ true → answers_in answered < lfs_in taken
   pub text : IsReply r

@@ -1,6 +1,5 @@
--- The rule of the link, and what each step tells.
--- A link has room for so many bytes. The top bit of the head of the bytes closes it. Byte k has the cell k % room, reply k
--- the slot k % 16.
+-- The rule of the link, and what each step says. A link has room for so many bytes. The top bit of the head of the
+-- bytes closes it. Byte k has the cell k % room, reply k the slot k % 16.
 use Rattle.std.specs.Prelude.{◌≡◌, ◌≢◌, ℕ, ◌+◌, ◌%◌, ◌^◌, ◌<◌, ◌≤◌, Bool, true, false, cond, List, [], ◌∷◌, ◌++◌, length, slice_index, Some, None}
 use Rattle.std.specs.declared.option.Option.{Option}
 use Rattle.units.specs.Truths.{one_if}
@@ -16,7 +15,7 @@ use Rattle.serial_ring.specs.declared.view.Sight.{Sight}
 use Rattle.serial_ring.specs.Lists.{IsRoom, behind, AreReplies}
 use Rattle.status_report.specs.Answering.{reply_room, lfs_in, answers_in}
 
--- the words that the host writes, and 256 bytes behind them those that the board writes
+-- the words that the host writes, and 256 bytes after them those that the board writes
 abbrev pub head_word : ℕ
 head_word = 0
 
@@ -210,7 +209,7 @@ Sat = Me (Option Reply) Sight
 abbrev At : Type 0
 At = Step (Option Reply)
 
--- the bytes unread, as the load shows, are at most those behind the last line that was answered
+-- the bytes unread, as the load shows, are at most those after the last line that was answered
 abbrev pub saw_tail : ℕ → At → Sat → ℕ → Sat → Type 0
 saw_tail room st m n m' = (m' ≡ (with_tail m.0 n, m.1)) × (n ≤ length m.0.stored) × (length m.0.stored ≤ n + room) × (length m.0.stored ≤ n + length (behind (answers_in m.0.got) m.0.stored))
 
@@ -223,7 +222,7 @@ stored_byte st m n m' = (b : ℕ) → m.0.cell ≡ Some b → m' ≡ (with_store
 abbrev pub shut : At → Sat → ℕ → Sat → Type 0
 shut st m n m' = m' ≡ (with_closed m.0, m.1)
 
--- where a reply is there, its slot is taken
+-- if a reply is there, its slot is taken
 abbrev pub grasped : At → Sat → ℕ → Sat → Type 0
 grasped st m n m' = (length m.0.got ≤ n) × (n ≤ 2 ^ 62)
     × (length m.0.got < n → (r : Reply) × (m' ≡ (with_got m.0 n r, (length m.0.got % reply_room, Some r) ∷ m.1)) × IsReply r × (answers_in (r ∷ m.0.got) ≤ lfs_in m.0.stored))
@@ -232,7 +231,7 @@ grasped st m n m' = (length m.0.got ≤ n) × (n ≤ 2 ^ 62)
 abbrev pub gave_back : At → Sat → ℕ → Sat → Type 0
 gave_back st m n m' = m' ≡ (with_back m.0, [])
 
--- where all bytes are taken and the link is closed, no more will come; once it was seen so it is seen so again
+-- if all bytes are taken and the link is closed, no more will come; once it was seen so it is seen so again
 abbrev pub saw_head : ℕ → At → Sat → ℕ → Sat → Type 0
 saw_head room st m n m' = (length m.0.taken ≤ n % 2 ^ 63) × (n % 2 ^ 63 ≤ length m.0.taken + room) × (n % 2 ^ 63 ≤ 2 ^ 31) × (n < 2 ^ 64)
     × (n ≡ length m.0.taken + 2 ^ 63 → m' ≡ (with_over m.0 (n % 2 ^ 63), m.1))
@@ -244,7 +243,7 @@ looked st m n m' = (m' ≡ (with_read m.0 n, m.1)) × (n < 256)
 abbrev pub took : At → Sat → ℕ → Sat → Type 0
 took st m n m' = (b : ℕ) → m.0.read ≡ Some b → m' ≡ (with_taken m.0 b, m.1)
 
--- where there is room, the next slot is taken
+-- if there is room, the next slot is taken
 abbrev pub reached : At → Sat → ℕ → Sat → Type 0
 reached st m n m' = (n ≤ length m.0.answered) × (length m.0.answered ≤ n + reply_room)
     × (length m.0.answered < n + reply_room → m' ≡ (with_slot m.0 n, (length m.0.answered % reply_room, None) ∷ m.1))
@@ -253,13 +252,13 @@ reached st m n m' = (n ≤ length m.0.answered) × (length m.0.answered ≤ n + 
 abbrev pub gave : At → Sat → ℕ → Sat → Type 0
 gave st m n m' = (k : ℕ) (r : Reply) → m.1 ≡ (k, Some r) ∷ [] → m' ≡ (with_answered m.0 r, [])
 
--- what the lists of the two ends have to do with each other
+-- how the lists of the two ends agree
 pub record AreTied (room : ℕ) (stored : List ℕ) (closed : Bool) (taken : List ℕ) (over : Bool) (answered got : List Reply) : Type 0 where
-  -- the bytes taken are the first of those stored, and at most so many behind
+  -- the bytes taken are the first of those stored, and at most so many fewer
   pub unread : List ℕ
   pub bytes : stored ≡ unread ++ taken
   pub few_bytes : length unread ≤ room
-  -- where the board found the link closed, it is closed, and they are all of them
+  -- if the board found the link closed, it is closed, and they are all of them
   pub closes : over ≡ true → closed ≡ true
   pub all_bytes : over ≡ true → stored ≡ taken
   -- the replies got are the first of those answered

@@ -12,8 +12,8 @@ use shared_rings::place_behind;
 use status_report::Reply;
 
 impl<const RX: usize> BoardEnd<RX> {
-    /// The next byte, of at most 2^31. Where the head that it loads, once, is the number of bytes taken, the
-    /// answer is Closed where it is closed, and else Empty.
+    /// The next byte, of at most 2^31. If the head that it loads, once, is the number of bytes taken, the
+    /// answer is Closed if it is closed, and else Empty.
     #[inline]
     pub fn byte(&mut self) -> ByteIn
         ensures load { head_loads_of self.new ≡ head_loads_of self.old + 1 }
@@ -23,6 +23,7 @@ impl<const RX: usize> BoardEnd<RX> {
         ensures over { found_closed self.old ≡ true → found_closed self.new ≡ true }
         ensures closed { result ≡ ByteIn.Closed → (taken_by self.new ≡ taken_by self.old) × (bytes_shown self.new ≡ length (taken_by self.old)) × (found_closed self.new ≡ true) }
         ensures answered { answered_by self.new ≡ answered_by self.old }
+        ensures loads { room_loads_of self.new ≡ room_loads_of self.old }
         ensures link { link_of_board self.new ≡ link_of_board self.old }
     {
         let shared = &self.table.shared;
@@ -49,6 +50,7 @@ impl<const RX: usize> BoardEnd<RX> {
         ensures over { found_closed self.old ≡ true → found_closed self.new ≡ true }
         ensures taken { taken_by self.new ≡ taken_by self.old }
         ensures answered { answered_by self.new ≡ answered_by self.old }
+        ensures loads { room_loads_of self.new ≡ room_loads_of self.old }
         ensures link { link_of_board self.new ≡ link_of_board self.old }
     {
         let shared = &self.table.shared;
@@ -56,8 +58,8 @@ impl<const RX: usize> BoardEnd<RX> {
         (RX as u64 - (head % CLOSED - self.taken)) as u8
     }
 
-    /// Answers, or hands the reply back: exactly where the tail of the replies that it loads, once, shows 16
-    /// untaken ones. Then nothing was answered.
+    /// Answers, or hands the reply back exactly if the tail of the replies that it loads, once, shows 16 untaken ones.
+    /// Then nothing was answered.
     #[inline]
     pub fn answer(&mut self, r: Reply) -> Result<(), Reply>
         requires { MayAnswer (taken_by self.old) (answered_by self.old) r }
@@ -67,6 +69,7 @@ impl<const RX: usize> BoardEnd<RX> {
         ensures full { OnErr result ((answered_by self.new ≡ answered_by self.old) × (length (answered_by self.old) ≡ replies_taken self.new + reply_room)) }
         ensures back { IfErr result (λ handed. handed ≡ r) }
         ensures taken { (taken_by self.new ≡ taken_by self.old) × (found_closed self.new ≡ found_closed self.old) }
+        ensures polls { head_loads_of self.new ≡ head_loads_of self.old }
         ensures link { link_of_board self.new ≡ link_of_board self.old }
     {
         let shared = &self.table.shared;

@@ -13,9 +13,8 @@ use shared_rings::place_behind;
 use status_report::Reply;
 
 impl<const RX: usize> HostEnd<RX> {
-    /// Stores a byte, or drops it: exactly where the tail that it loads, once, shows no room for one. The
-    /// unread bytes are at most those behind the last line whose answer was got, so a host that keeps these
-    /// below the room loses none.
+    /// Stores a byte, or drops it exactly if the tail that it loads, once, shows no room for one. The unread bytes are
+    /// at most those after the last line whose answer was got, so a host that keeps these below the room loses none.
     #[inline]
     pub fn store(&mut self, byte: u8) -> Stored
         requires still { closed_by self.old ≡ false }
@@ -27,6 +26,7 @@ impl<const RX: usize> HostEnd<RX> {
         ensures unread { length (stored_by self.old) ≤ tail_shown self.new + length (behind (answers_in (got_by self.old)) (stored_by self.old)) }
         ensures open { closed_by self.new ≡ false }
         ensures got { got_by self.new ≡ got_by self.old }
+        ensures polls { reply_loads_of self.new ≡ reply_loads_of self.old }
         ensures link { link_of_host self.new ≡ link_of_host self.old }
     {
         let shared = &self.table.shared;
@@ -41,12 +41,13 @@ impl<const RX: usize> HostEnd<RX> {
         Stored::Stored
     }
 
-    /// Closes the link: no byte comes behind those stored.
+    /// Closes the link: no byte comes after those stored.
     pub fn close(&mut self)
         requires still { closed_by self.old ≡ false }
         ensures closed { closed_by self.new ≡ true }
         ensures stored { stored_by self.new ≡ stored_by self.old }
         ensures got { got_by self.new ≡ got_by self.old }
+        ensures loads { (tail_loads_of self.new ≡ tail_loads_of self.old) × (reply_loads_of self.new ≡ reply_loads_of self.old) }
         ensures link { link_of_host self.new ≡ link_of_host self.old }
     {
         self.table
@@ -54,7 +55,7 @@ impl<const RX: usize> HostEnd<RX> {
             .store::<Shut>(&mut self.seat, HEAD, self.stored + CLOSED);
     }
 
-    /// The next reply; None exactly where the head of the replies that it loads, once, is the number of those
+    /// The next reply; None exactly if the head of the replies that it loads, once, is the number of those
     /// got. No more lines have an answer among the replies got than end among the bytes stored.
     #[inline]
     pub fn reply(&mut self) -> Option<Reply>
@@ -64,6 +65,7 @@ impl<const RX: usize> HostEnd<RX> {
         ensures fewer { IfSome result (λ r. answers_in (got_by self.new) ≤ lfs_in (stored_by self.old)) }
         ensures none { IfNone result ((got_by self.new ≡ got_by self.old) × (replies_shown self.new ≡ length (got_by self.old))) }
         ensures stored { (stored_by self.new ≡ stored_by self.old) × (closed_by self.new ≡ closed_by self.old) }
+        ensures tail { tail_loads_of self.new ≡ tail_loads_of self.old }
         ensures link { link_of_host self.new ≡ link_of_host self.old }
     {
         let shared = &self.table.shared;

@@ -2,7 +2,7 @@
 ghost use Rattle.std.specs.Prelude.{◌≡◌, false, [], IfOk};
 ghost use Rattle.serial_ring.specs.Lists.{IsRoom};
 ghost use Rattle.serial_ring.specs.Rule.{AreTied};
-ghost use Rattle.serial_ring.specs.Ends.{link_of_host, link_of_board, stored_by, closed_by, got_by, taken_by, found_closed, answered_by};
+ghost use Rattle.serial_ring.specs.Ends.{link_of_host, link_of_board, stored_by, closed_by, tail_loads_of, got_by, reply_loads_of, taken_by, found_closed, head_loads_of, answered_by, room_loads_of};
 
 use crate::ends::{BoardEnd, HostEnd};
 use crate::plays::{Sides, Tie};
@@ -18,7 +18,7 @@ pub(crate) const REPLY_ROOM: usize = 16;
 pub(crate) const HEAD: usize = 0;
 
 pub(crate) const REPLY_TAIL: usize = 1;
-/// The board writes these, 256 bytes behind the others.
+/// The board writes these, 256 bytes after the others.
 pub(crate) const TAIL: usize = 32;
 
 pub(crate) const REPLY_HEAD: usize = 33;
@@ -34,7 +34,9 @@ pub fn link<const RX: usize>(alloc: Global) -> Result<(HostEnd<RX>, BoardEnd<RX>
     requires { IsRoom RX }
     ensures link { IfOk result (λ r. link_of_host r.0 ≡ link_of_board r.1) }
     ensures fresh_host { IfOk result (λ r. (stored_by r.0 ≡ []) × (closed_by r.0 ≡ false) × (got_by r.0 ≡ [])) }
+    ensures idle_host { IfOk result (λ r. (tail_loads_of r.0 ≡ 0) × (reply_loads_of r.0 ≡ 0)) }
     ensures fresh_board { IfOk result (λ r. (taken_by r.1 ≡ []) × (found_closed r.1 ≡ false) × (answered_by r.1 ≡ [])) }
+    ensures idle_board { IfOk result (λ r. (head_loads_of r.1 ≡ 0) × (room_loads_of r.1 ≡ 0)) }
 {
     let (table, mut seat): (LinkTable<RX>, Place) = Table::vacant(
         alloc,
@@ -64,9 +66,9 @@ pub fn link<const RX: usize>(alloc: Global) -> Result<(HostEnd<RX>, BoardEnd<RX>
     Ok((host, board))
 }
 
-/// Ends the link of these two ends. The bytes taken are the first of those stored, at most the link's room
-/// behind, and all of them where the board found the link closed, as it then is; the replies got are the first of those
-/// answered, at most 16 behind; and no more lines were answered than had their end taken.
+/// Ends the link of these two ends. The bytes taken are the first of those stored, at most the link's room fewer, and
+/// all of them if the board found the link closed, as it then is; the replies got are the first of those answered, at
+/// most 16 fewer; and no more lines were answered than had their end taken.
 pub fn join_link<const RX: usize>(host: HostEnd<RX>, board: BoardEnd<RX>)
     requires { link_of_host host ≡ link_of_board board }
     ensures { AreTied RX (stored_by host.entry) (closed_by host.entry) (taken_by board.entry) (found_closed board.entry) (answered_by board.entry) (got_by host.entry) }

@@ -1,9 +1,9 @@
 //! The link between host and board: bytes one way, replies the other, shared by two threads.
 //!
-//! A byte stands in a cell until it is taken, a reply in one of 16 slots; a link has 128 to 255 cells. The host stores the head
-//! of the bytes once a byte stands in its cell, and the top bit of the head closes the link; the board stores
-//! their tail once a byte is read. The board answers a line only after it has taken the line's end, so that
-//! the host knows from the answers that it got how many of its bytes are taken.
+//! A byte is in a cell until it is taken, a reply in one of 16 slots; a link has 128 to 255 cells. The host stores the
+//! head of the bytes once a byte is in its cell, and the top bit of the head closes the link; the board stores their
+//! tail once a byte is read. The board answers a line only after it has taken the line's end, so that the host knows
+//! from the answers that it got how many of its bytes are taken.
 #![tactic(auto)]
 
 mod board;
@@ -11,8 +11,6 @@ mod ends;
 mod host;
 mod joined;
 mod plays;
-#[cfg(test)]
-mod tests;
 mod view;
 
 pub use ends::{BoardEnd, HostEnd};

@@ -1,4 +1,4 @@
-//! What each step tells.
+//! What each step says.
 ghost use Rattle.serial_ring.specs.Rule.{saw_tail, wrote, stored_byte, shut, grasped, gave_back, saw_head, looked, took, reached, gave, tied, without_taking, without_storing, both_of, spent};
 
 use crate::view::Sight;
@@ -68,7 +68,7 @@ impl Play<Option<Reply>, Sight> for TakeByte {
     ghost then = { took };
 }
 
-/// The board loads the tail of the replies, and takes the next slot where there is room.
+/// The board loads the tail of the replies, and takes the next slot if there is room.
 pub(crate) struct Reach;
 
 impl Play<Option<Reply>, Sight> for Reach {

@@ -38,7 +38,7 @@ pub struct Sight {
     /// How many replies are answered, as it was loaded last, and how many times it was.
     pub reply_head: u64,
     pub reply_head_loads: u64,
-    /// The slot of the reply that was got last is out.
+    /// The slot of the reply that was got last is not given back yet.
     pub emptying: bool,
     pub taken: LinkedList<u8>,
     /// How many bytes are stored, as it was loaded last, and how many times it was.

@@ -13,8 +13,8 @@ use Rattle.settings.specs.declared.Keeping.{Keeping}
 use Rattle.settings.specs.declared.Keeping.TheVariants.{Whole, Switch, Thousandths}
 use Rattle.settings.specs.declared.Settings.{Settings}
 
--- a setting: its number, how its value is kept, its default, the lowest and the highest value that it
--- takes, and the value that settings have for it; values are in thousandths where these are kept
+-- a setting: its number, how its value is kept, its default, the lowest and the highest value that it takes, and the
+-- value that settings have for it; a value that is kept in thousandths is given in these
 pub record Setting : Type 0 where
   pub number : ℕ
   pub keeping : Keeping
@@ -69,7 +69,7 @@ kept Whole v = nat_abs v.micro / 1000000
 kept Switch v = nat_abs v.micro / 1000000
 kept Thousandths v = nat_abs v.micro / 1000
 
--- what a setting has then: a switch is on where the number isn't 0
+-- what the setting is then: a switch is on if the number isn't 0
 abbrev pub shown : Keeping → ℕ → ℕ
 shown Whole n = n
 shown Switch n = if n == 0 then 0 else 1

@@ -16,7 +16,7 @@ pub fn what_is_set_is_read()
         value_of other (values new) ≡ value_of other (values old) }
 {}
 
-/// Settings are those that a machine can have exactly where each value is in the range of its row.
+/// Settings are those that a machine can have exactly if each value is in the range of its row.
 pub fn ranges_are_those_of_the_rows()
     ensures { (s : Settings) → s.report < 2 ^ 8 → IsSettings s ↔ AllPass (λ row. can_have row (row.value s)) rows }
 {}

@@ -6,8 +6,6 @@ ghost use Rattle.code_table.specs.Tables.{value_of};
 ghost use Rattle.settings.specs.Numbers.{values, defaults, kept, shown, set_refusal, value_set, with_value, can_have_at, IsSettings};
 
 mod laws;
-#[cfg(test)]
-mod tests;
 
 use code_table::Code;
 pub use laws::{
@@ -109,7 +107,7 @@ fn kept(keeping: Keeping, v: Decimal) -> u64
     }
 }
 
-/// What a setting takes of a value, where that is in its range.
+/// What a setting takes of a value, if that is in its range.
 fn taken(keeping: Keeping, v: Decimal, low: u32, high: u32) -> Result<u32, Code>
     ensures value { IfOk result (λ value. value ≡ shown keeping (kept keeping v)) }
     ensures low { OnOk result (low ≤ kept keeping v) }
@@ -167,7 +165,7 @@ impl Settings {
     }
 
     /// The value of a setting: the whole number for 10 and 20, and thousandths for the others. None
-    /// exactly where no setting has the number.
+    /// exactly if no setting has the number.
     pub fn get(&self, n: u16) -> Option<u64>
         ensures { result ≡ value_of n (values self.now) }
     {
@@ -185,11 +183,11 @@ impl Settings {
     }
 
     /// Sets a setting by its number. Of the value three decimals count, and at 10 and 20 its whole part;
-    /// 20 is on where that isn't 0.
+    /// 20 is on if that isn't 0.
     ///
     /// # Errors
     ///
-    /// 4 where the value is negative; else 3 where no setting has the number, or where what counts of
+    /// 4 if the value is negative; else 3 if no setting has the number, or if what counts of
     /// the value is out of the setting's range. Then nothing changes.
     pub fn set(&mut self, n: u16, v: Decimal) -> Result<(), Code>
         requires { IsSettings self.old }

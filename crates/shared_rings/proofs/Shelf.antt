@@ -1,5 +1,5 @@
 -- The slots of a ring through its steps.
-use Rattle.std.proofs.Common.{◌≡◌, ◌≢◌, ℕ, zero, suc, ◌+◌, ◌%◌, ◌<◌, ◌≤◌, ◌⊎◌, Bool, true, false, List, [], ◌∷◌, ◌++◌, length, set, replicate, map, Some, None, sym, refl, ap, ◌∙◌, inl, inr, ⊎_elim, arith, length-set, lt_of_not-le}
+use Rattle.std.proofs.Common.{◌≡◌, ◌≢◌, ℕ, zero, suc, ◌+◌, ◌%◌, ◌<◌, ◌≤◌, Bool, true, false, List, [], ◌∷◌, length, set, replicate, map, Some, None, sym, refl, ap, ◌∙◌, ⊎_elim, arith, length-set, lt_of_not-le}
 use Rattle.std.specs.declared.option.Option.{Option}
 use mathlib.Core.Option.{none, some}
 use mathlib.Core.Option as maybe

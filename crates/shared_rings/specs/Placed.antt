@@ -1,4 +1,4 @@
--- What stands at a place of a log, of which the newest stands first.
+-- What is at a place of a log, of which the newest is first.
 use Rattle.std.specs.Prelude.{ℕ, cond, nat_eq, List, [], ◌∷◌, length}
 use mathlib.Core.Option.{Option, none, some}
 

@@ -6,8 +6,8 @@ use mathlib.Core.Option as maybe
 use lib.ListN.{get_elem?}
 use Rattle.shared_rings.specs.Placed.{placed}
 
--- Item k has the slot k % size. What was sent and not got stands in its slot. From the first item whose slot was given
--- back on, the slots behind what was sent are empty; where one is being filled, the next of them is out with the sender.
+-- Item k has the slot k % size. What was sent and not got is in its slot. From the first item whose slot was given
+-- back, the slots after what was sent are empty; if one is being filled, the next of them is out with the sender.
 pub record Shelf {A : Type 0} (size : ℕ) (homes : List (maybe.Option (Option A))) (sent got : List A) (given_back : ℕ) (filling : Bool) : Type 0 where
   pub deep : length homes ≡ size
   pub few : length sent ≤ given_back + size

@@ -1,14 +1,14 @@
--- The link between a host and a board: what may stand on it at once, and which lines its replies answer.
+-- The link between a host and a board: what may be on it at once, and which lines its replies answer.
 use Rattle.std.specs.Prelude.{ℕ, Bool, true, false, not, List, nat_eq}
 use Rattle.std.specs.List.{count_by, filter}
 use Rattle.status_report.specs.declared.Reply.{Reply}
 use Rattle.status_report.specs.declared.Reply.TheVariants.{Ok, Error, Report, Bye}
 
--- so many bytes may stand on the link at once
+-- so many bytes may be on the link at once
 abbrev pub receive_room : ℕ
 receive_room = 128
 
--- so many replies may stand on the link at once
+-- so many replies may be on the link at once
 abbrev pub reply_room : ℕ
 reply_room = 16
 

@@ -5,7 +5,7 @@ use Rattle.units.specs.declared.Nm3.{Nm3}
 use Rattle.units.specs.Fixed.{fixed3}
 use Rattle.units.specs.Lengths.{thousandths_of_nm}
 
--- texts parted by commas
+-- texts with commas between them
 abbrev pub listed : List (List ℕ) → List ℕ
 listed texts = join_with_byte 44 texts
 

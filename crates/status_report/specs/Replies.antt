@@ -68,7 +68,7 @@ number_words m =
 abbrev pub mode_words : ParserModes → List (List ℕ)
 mode_words m = modal_words m.modal ++ number_words m
 
--- parted by blanks
+-- the words, with blanks between them
 abbrev pub modes_text : ParserModes → List ℕ
 modes_text m = codes "[GC:" ++ join_with_byte 32 (mode_words m) ++ codes "]"
 

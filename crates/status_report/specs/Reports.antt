@@ -25,7 +25,7 @@ position_name machine = if machine then codes "MPos:" else codes "WPos:"
 abbrev pub position_shown : Report → Nm3
 position_shown r = if r.machine then r.at else minus r.at r.wco
 
--- the free blocks and bytes, where they are told
+-- the free blocks and bytes, if they are shown
 abbrev pub buffer_fields : Option (ℕ × ℕ) → List (List ℕ)
 buffer_fields None = []
 buffer_fields (Some free) = (codes "Bf:" ++ listed (decimal free.0 ∷ decimal free.1 ∷ [])) ∷ []
@@ -46,7 +46,7 @@ overrides_field ov = codes "Ov:" ++ listed (decimal ov.feed ∷ decimal ov.rapid
 abbrev pub report_fields : Report → List (List ℕ)
 report_fields r = position_field r ∷ buffer_fields r.buffer ++ speeds_field r.f r.s ∷ offset_field r.wco ∷ overrides_field r.ov ∷ []
 
--- each field behind a bar
+-- each field after a bar
 abbrev pub barred : List (List ℕ) → List ℕ
 barred fields = flat_map (λ field. 124 ∷ field) fields
 
@@ -54,7 +54,7 @@ barred fields = flat_map (λ field. 124 ∷ field) fields
 unfoldable pub report_text : Report → List ℕ
 report_text r = codes "<" ++ state_name r.state ++ barred (report_fields r) ++ codes ">"
 
--- how far from zero the position of a report and its offset lie at most, in thousandths of a mm
+-- how far from zero the position of a report and its offset are at most, in thousandths of a mm
 abbrev pub farthest_told : ℕ
 farthest_told = 1000000000000
 

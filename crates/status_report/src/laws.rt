@@ -1,4 +1,4 @@
-//! What the texts of reports tell, as a law.
+//! That the text of a report shows the report, as a law.
 
 ghost use Rattle.std.specs.Prelude.{◌≡◌};
 ghost use Rattle.status_report.specs.declared.reports.Report.{Report};

@@ -7,8 +7,6 @@ ghost use Rattle.status_report.specs.Replies.{reply_text, IsReply};
 pub mod laws;
 mod lists;
 mod reports;
-#[cfg(test)]
-mod tests;
 mod texts;
 
 pub use lists::{OFFSET_REPLIES, SETTING_REPLIES, lists_are_whole, offset_reply, setting_reply};
@@ -17,14 +15,14 @@ pub use reports::{Report, State};
 use texts::{line_end, put_words};
 use units::{Nm3, Text, append};
 
-/// What the board tells beside its answers.
+/// What the board sends beside its answers.
 #[derive(Clone, Copy, Debug, PartialEq, Eq)]
 pub enum Message {
     /// The alarm lock is off.
     Unlocked,
     /// A program has ended.
     ProgramEnd,
-    /// Nothing goes on before a reset.
+    /// A reset is needed to go on.
     ResetToContinue,
 }
 
@@ -48,7 +46,7 @@ pub enum Reply {
     Error(u8),
     /// The board has locked itself, with the number of the alarm.
     Alarm(u8),
-    /// Something to tell.
+    /// A message.
     Message(Message),
     /// The status that `?` asked for.
     Report(Report),
@@ -57,18 +55,18 @@ pub enum Reply {
     /// The modes.
     Modes(Modes),
     /// A row of the offsets, with its place in nm: rows 0 to 5 are G54 to G59, then come the points of G28 and
-    /// G30, the offset of G92, the tool length and the probe. The last two are not served, and are told
+    /// G30, the offset of G92, the tool length and the probe. The last two are not served, and are listed
     /// without their place.
     Offset { row: u8, at: Nm3 },
-    /// Nothing more is replied.
+    /// The last reply; it has no text.
     Bye,
 }
 
 /// Clears `out`, and puts the text of a reply into it. Each text ends with CR LF, but `Bye` has none.
 ///
 /// No text is longer than 186 bytes, and the longest report has as many. Settings 10 and 20 are written whole, and the
-/// others with three decimals; offsets in mm with three decimals, the thousandth nearest; and the feed in mm per minute,
-/// the whole number nearest, a half upward.
+/// others with three decimals; offsets in mm with three decimals, the thousandth nearest; and the feed in mm per
+/// minute, the whole number nearest, a half upward.
 #[tactic(auto, unfolding(crate::specs::Replies::reply_text))]
 pub fn put_reply(r: &Reply, out: &mut Text)
     requires { IsReply r.now }

@@ -19,7 +19,7 @@ pub const SETTING_REPLIES: usize = 15;
 /// How many replies `$#` lists.
 pub const OFFSET_REPLIES: usize = 11;
 
-/// The reply that tells a setting.
+/// The reply that lists a setting.
 fn setting(n: u16, value: u32) -> Reply
     ensures { result ≡ Reply.Setting n value }
 {

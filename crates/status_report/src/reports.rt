@@ -12,7 +12,7 @@ use itoa::Buffer;
 use overrides::Overrides;
 use units::{Nm3, Text, append};
 
-/// The state of the machine, as reports tell it.
+/// The state of the machine, as reports show it.
 #[derive(Clone, Copy, Debug, PartialEq, Eq)]
 pub enum State {
     Idle,
@@ -21,7 +21,7 @@ pub enum State {
     Hold0,
     /// The motion slows down to be held or stopped.
     Hold1,
-    /// A jog, also where it is being cancelled.
+    /// A jog, also while it is being cancelled.
     Jog,
     Alarm,
 }
@@ -34,7 +34,7 @@ pub struct Report {
     pub machine: bool,
     /// The position of the machine, in thousandths of a mm.
     pub at: Nm3,
-    /// The free blocks of the plan and the free bytes of the receive buffer, where they are told.
+    /// The free blocks of the plan and the free bytes of the receive buffer, if they are shown.
     pub buffer: Option<(u8, u8)>,
     /// The feed, in mm per minute.
     pub f: u64,
@@ -127,7 +127,7 @@ fn put_position(report: &Report, out: &mut Text)
     put_place(&report.position(), out);
 }
 
-/// Appends the field of the free blocks and bytes, where they are told. 11 bytes must be free.
+/// Appends the field of the free blocks and bytes, if they are shown. 11 bytes must be free.
 fn put_buffer(buffer: Option<(u8, u8)>, out: &mut Text)
     requires { array_vec_len out.old + 11 ≤ 192 }
     ensures text { out.new.items ≡ out.old.items ++ barred (buffer_fields buffer) }

@@ -1,4 +1,4 @@
-//! The texts of replies, piece by piece.
+//! The texts of replies, part by part.
 
 ghost use Rattle.std.specs.Prelude.{◌≡◌, ◌+◌, ◌*◌, ◌≤◌, ◌<◌, ◌^◌, ◌∷◌, ◌++◌, if◌then◌else◌, length, decimal};
 ghost use Rattle.std.specs.List.{join_with_byte};

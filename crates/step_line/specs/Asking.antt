@@ -1,5 +1,5 @@
 -- What is asked of the machine, and its ticks.
-use Rattle.std.specs.Prelude.{ℕ, ◌≤◌, ◌<◌, ◌^◌, List, [], ◌∷◌, map}
+use Rattle.std.specs.Prelude.{◌≤◌, ◌<◌, ◌^◌, List, [], ◌∷◌, map}
 use Rattle.std.specs.List.{flat_map, filter}
 use Rattle.units.specs.Lengths.{IsMove}
 use Rattle.units.specs.Limits.{IsRate, IsLimits}
@@ -17,7 +17,7 @@ pub data Asked : Type 0 where
   a_mark : Mark → Asked
   a_rest : Asked
 
--- the moves among it, in order
+-- the moves among what is asked, in order
 abbrev pub move_of : Asked → List PlannedMove
 move_of (a_move m) = m ∷ []
 move_of (a_mark m) = []

@@ -8,10 +8,6 @@ use Rattle.step_line.specs.declared.Record.TheVariants as kinds
 abbrev pub HasNoEnd : List Record → Type 0
 HasNoEnd rs = All (λ r. r ≢ kinds.End) rs
 
--- no record but the last is the end
-abbrev pub EndsOnce : List Record → Type 0
-EndsOnce rs = (front back : List Record) (r : Record) → rs ≡ front ++ r ∷ back → HasNoEnd front
-
 -- the records end with the end, which comes once
 pub record IsEnded (rs : List Record) : Type 0 where
   pub front : List Record

@@ -5,7 +5,7 @@ use Rattle.units.specs.Rounding.{with_sign_of}
 use Rattle.step_line.specs.declared.Bits.{Bits}
 use Rattle.step_line.specs.Counting.{count, way, events_of}
 
--- whether event k steps an axis: where its count rises
+-- whether event k steps an axis: if its count rises
 unfoldable pub steps_at : ℕ → ℕ → ℕ → Bool
 steps_at a N k = nat_lt (count a N (k - 1)) (count a N k)
 

@@ -1,4 +1,5 @@
--- The pieces of a run in order, the oldest first, and how many of them are unfinished while some of their ticks are done.
+-- The pieces of a run in order, the oldest first, and how many of them are unfinished while some of their ticks are
+-- done.
 use Rattle.std.specs.Prelude.{ℕ, suc, ◌-◌, cond, nat_lt, List, [], ◌∷◌, length}
 use Rattle.std.specs.List.{flat_map}
 use Rattle.step_line.specs.declared.Piece.{Piece}

@@ -12,7 +12,7 @@ use Rattle.step_line.specs.Events.{events_after}
 use Rattle.step_line.specs.Logs.{NewestFirst}
 use Rattle.step_line.specs.Records.{IsHead, IsMark}
 
--- what is told of a segment before its events: its speed is the one at which it begins
+-- what is recorded of a segment before its events: its speed is the one at which it begins
 abbrev pub head_of : Segment → Head
 head_of s = record { line = s.line; n = s.n; w = s.w_in; cycles = s.cycles }
 
@@ -34,7 +34,7 @@ pub record IsTraceable (s : Segment) : Type 0 where
   pub head : IsHead (head_of s)
   pub within : s.first + s.n ≤ events_of s.mv
 
--- a segment goes on where another of the same line and move ends
+-- a segment goes on from where another of the same line and move ends
 pub record GoesOn (s t : Segment) : Type 0 where
   pub line : t.line ≡ s.line
   pub mv : t.mv ≡ s.mv

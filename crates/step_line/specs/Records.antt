@@ -8,7 +8,7 @@ use Rattle.step_line.specs.declared.Record.{Record}
 use Rattle.step_line.specs.declared.Record.TheVariants as kinds
 use Rattle.step_line.specs.Events.{IsEvent}
 
--- whether a record is a tick: a step event or a mark
+-- whether a record is a tick: an event or a mark
 abbrev pub is_tick : Record → Bool
 is_tick (kinds.Head h) = false
 is_tick (kinds.Event b) = true
@@ -28,7 +28,7 @@ pub record IsHead (h : Head) : Type 0 where
   pub w : h.w < 2 ^ 64
   pub cycles : h.cycles < 2 ^ 64
 
--- a spindle that stands has the speed 0, and each number is one that its field has room for
+-- M5 has the speed 0, and each number is one that its field has room for
 abbrev pub IsMark : Mark → Type 0
 IsMark (Dwell ms) = ms < 2 ^ 64
 IsMark (Spindle M3 speed) = speed < 2 ^ 32

@@ -6,8 +6,8 @@ ghost use Rattle.units.specs.Rounding.{with_sign_of};
 ghost use Rattle.step_line.specs.Events.{bit_at};
 ghost use Rattle.step_line.specs.Tracing.{IsCounter};
 
-/// An axis of a number of steps, all of one sign. Its counter rises by twice that number at each event;
-/// where it is over twice the move's events, the axis steps and those come off.
+/// An axis of a number of steps, all of one sign. Its counter rises by twice that number at each event; if it is over
+/// twice the move's events, the axis steps and that is subtracted.
 #[derive(Clone, Copy)]
 pub(crate) struct Axis {
     pub(crate) count: u32,

@@ -23,7 +23,7 @@ fn count_of(a: u32, n: u32, k: u32) -> u32
     ((2 * a as u64 * k as u64 + n as u64 - 1) / (2 * n as u64)) as u32
 }
 
-/// Where an axis is that went a number of steps from one place towards another.
+/// The place of an axis after a number of steps from one place towards another.
 fn axis_place(from: i64, to: i64, made: u32) -> i64
     requires from { IsCoordinate from }
     requires to { IsCoordinate to }
@@ -38,7 +38,7 @@ fn axis_place(from: i64, to: i64, made: u32) -> i64
     }
 }
 
-/// Where a move is after k of its events, of which it has at least k.
+/// Where a move is after k of its events; it has at least k.
 #[tactic(auto, unfolding(units::specs::Counting::events_of, crate::specs::Places::place_after, crate::specs::Places::axis_after))]
 pub fn position_after(mv: &Move, k: u32) -> Steps3
     requires mv { IsMove mv.now }

@@ -20,8 +20,8 @@ pub fn events_in_order()
     ensures step { (m : Move) (k : ℕ) → k < events_of m → IsEvent (event_of m (k + 1)) }
 {}
 
-/// A move begins at its start, after all its events it is at its end, and between two moments it goes by
-/// the sum of the events between them. It stays among the places that coordinates name.
+/// A move begins at its start and is at its end after all its events; between two moments it moves by the sum of the
+/// events between them. It stays within the coordinates.
 pub fn places_are_sums()
     ensures start { (m : Move) → place_after m 0 ≡ m.from }
     ensures end { (m : Move) → place_after m (events_of m) ≡ m.to }
@@ -29,9 +29,9 @@ pub fn places_are_sums()
     ensures within { (m : Move) (k : ℕ) → IsMove m → k ≤ events_of m → IsPlace (place_after m k) }
 {}
 
-/// How many pieces are unfinished while so many of their ticks are done: none exactly where all ticks are; one more by a
-/// piece behind the others whose last tick is not done; and the end, which has no tick, is no such piece. The more ticks
-/// are done, the fewer pieces are unfinished.
+/// How many pieces are unfinished while so many of their ticks are done: none exactly if all ticks are; one more with
+/// each further piece whose last tick is not done. The end, which has no tick, never counts. The more ticks are done,
+/// the fewer pieces are unfinished.
 #[tactic(auto, using(crate::proofs::Finished::none_once_all_done, crate::proofs::Finished::one_more_behind, crate::proofs::Finished::end_is_finished, crate::proofs::Finished::fewer_later))]
 pub fn pieces_are_finished_in_order()
     ensures none { (ps : List Piece) (done : ℕ) → (unfinished ps done ≡ 0) ↔ (ticks_together ps ≤ done) }

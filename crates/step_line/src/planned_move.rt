@@ -8,10 +8,10 @@ pub struct PlannedMove {
     /// The line that it comes from, counted from 1.
     pub line: u32,
     pub mv: Move,
-    /// How fast the line asks it to be.
+    /// How fast the line asks for it.
     pub rate: Rate,
     /// What bounds it on each axis.
     pub limits: Limits,
-    /// How far, in µm, a corner may be rounded where it begins.
+    /// How far off, in µm, the corner at its beginning may be rounded: `$11`.
     pub deviation: u32,
 }

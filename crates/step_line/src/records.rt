@@ -6,7 +6,7 @@ ghost use Rattle.step_line.specs.Records.{is_tick, is_end};
 use crate::Record;
 
 impl Record {
-    /// Whether it is a tick: a step event or a mark.
+    /// Whether it is a tick: an event or a mark.
     #[inline]
     pub fn is_tick(&self) -> bool
         ensures { result ≡ is_tick self.now }

@@ -17,11 +17,7 @@ mod laws;
 mod numbers;
 mod reading;
 mod recorder;
-#[cfg(test)]
-mod recorder_tests;
 mod records;
-#[cfg(test)]
-mod tests;
 mod writing;
 
 pub use laws::{longest_lines, one_reading, recorded};

@@ -2,7 +2,7 @@
 use Rattle.std.proofs.Common.{◌≡◌, ◌↔◌, ℕ, ◌&&◌, ◌+◌, ◌≤◌, ◌<◌, ◌⊎◌, ◌||◌, inl, inr, Bool, true, false, cond, not, List, [], ◌∷◌, ◌++◌, length, map, take, drop, nat_eq, nat_lt, sum, option_to_list, Some, None, refl, sym, ap, ◌∙◌, arith, subst, length-append}
 use Rattle.std.specs.List.{count_by}
 use Rattle.std.proofs.lemmas.Bool.Decides.{nat_tests}
-use Rattle.std.proofs.lemmas.List.{map-append, drop-append-le, length-drop, length-take, drop_all}
+use Rattle.std.proofs.lemmas.List.{map-append, drop-append-le, length-drop, length-take}
 use Rattle.std.proofs.lemmas.List.Sums.{sum_by-cons}
 use Rattle.gcode_words.specs.Stripping.{plain}
 use Rattle.run_rules.specs.Readings.{largest_job}
@@ -14,22 +14,22 @@ use Rattle.stream_host.specs.declared.host.Host.{Host}
 use Rattle.stream_host.specs.Links.{on_link}
 use Rattle.stream_host.specs.Jobs.{resume, is_long, holds_reset, ends_sending, MayHaveRead}
 use Rattle.stream_host.specs.Holding.{held_after, has_pause, pauses}
-use Rattle.stream_host.specs.Steps.{Step, Journal, port_log, got_of, has_alarm, answered_of, read_of, reading_of, scanned_of, unscanned_of, raw_of, cut_of, to_store, begun_of, due_of, asking_of, pause_of, asked_more, is_waiting, more_served, PortLog, polls_of, empty_polls, text_of, this_turn}
-use Rattle.stream_host.specs.Steps.PortStep.{stored, raised, no_reply, shut}
+use Rattle.stream_host.specs.Steps.{Step, Journal, port_log, got_of, has_alarm, answered_of, read_of, reading_of, scanned_of, unscanned_of, raw_of, cut_of, to_store, begun_of, due_of, asking_of, pause_of, asked_more, more_served, PortLog, polls_of, empty_polls, text_of, this_turn}
+use Rattle.stream_host.specs.Steps.PortStep.{raised, no_reply, shut}
 use Rattle.stream_host.specs.Steps.Step.{at_port, scanned, wrote, gave_up}
 use Rattle.code_table.specs.Tables.{query}
 use Rattle.stream_host.specs.declared.line.Asking.{Asking}
-use Rattle.stream_host.specs.declared.line.Asking.TheVariants.{Nothing, Awaits, HasOne}
-use Rattle.stream_host.specs.Conduct.{Conducted, AreAnswered, waits_for_lines, MayScanNext, MayRaise, MayStore, MayShut, HasSentAll, HasNoMore, publishing}
-use Rattle.stream_host.specs.Hosts.{HostFits, HasLine, IsStoring, KeepsLine, KeepsDue, KeepsPolls, KeepsJob, KeepsCounts, IsQuiet, is_over, line_length, lengths, IsSummed, unread}
+use Rattle.stream_host.specs.declared.line.Asking.TheVariants.{Nothing}
+use Rattle.stream_host.specs.Conduct.{Conducted, AreAnswered, waits_for_lines, MayScanNext, MayRaise, MayShut, HasSentAll, HasNoMore, publishing}
+use Rattle.stream_host.specs.Hosts.{HostFits, HasLine, KeepsLine, KeepsDue, KeepsPolls, KeepsJob, KeepsCounts, IsQuiet, is_over, line_length, lengths, IsSummed, unread}
 use Rattle.stream_host.specs.declared.counts.Counts.{Counts}
 use Rattle.status_report.specs.declared.Reply.{Reply}
 use Rattle.status_report.specs.Answering.{answers_in}
 use Rattle.stream_host.specs.Hosts.{HasRoom, MayScanOn, MayReadOn, IsPiece}
-use Rattle.stream_host.specs.Ports.{TakesByte, TakesRaise, SeemsFull, IsOpen}
+use Rattle.stream_host.specs.Ports.{TakesRaise, IsOpen}
 use Rattle.stream_host.proofs.Pieces.{none_long, none_reset, neither}
 use Rattle.stream_host.proofs.Kept.{kept_whole}
-use Rattle.stream_host.proofs.Keeping.{read_is, few_scanned, reading_fits, open_is}
+use Rattle.stream_host.proofs.Keeping.{read_is, few_scanned, reading_fits}
 use Rattle.stream_host.proofs.Sending as sending
 use Rattle.std.specs.declared.option.Option.{Option}
 use Rattle.stream_host.proofs.Raising.{none_at_lf, few_queries}
@@ -151,13 +151,6 @@ has_room s h f free =
 
 pub none_due_by : (s : Host) (h : Journal) → HostFits s h → s.line.due ≡ None → due_of h ≡ []
 none_due_by s h f none = sym f.due_is ∙ ap option_to_list none
-
-pub none_due_now : (s : Host) (h : Journal) → HostFits s h → due_of h ≡ [] → s.line.due ≡ None
-none_due_now s h f none = by_due s.line.due (f.due_is ∙ none)
-  where
-    by_due : (d : Option ℕ) → option_to_list d ≡ [] → d ≡ None
-    by_due None e = refl
-    by_due (Some b) e = absurd cc
 
 not_tired : (n : ℕ) → n < empty_polls → nat_eq n empty_polls ≡ false
 not_tired n few = grind (arith, nat_tests)

@@ -20,7 +20,7 @@ use Rattle.stream_host.specs.Steps.Step.{read_some, read_end, read_failed, scann
 use Rattle.stream_host.specs.Conduct.{IsSettled, MayRead, HasWritten, moving}
 use Rattle.stream_host.specs.Hosts.{HostFits, KeepsLine, KeepsCounts, IsQuiet, MayReadOn, GaveBytes, GaveEnd, GaveNone, DidAlone, HostTellsOn, TellsJob, unread}
 use Rattle.stream_host.proofs.Keeping.{read_is}
-use Rattle.stream_host.proofs.Hosting.{calm_now, none_due_by, none_due_now, nothing_due, ends_is, pause_behind_line, used_by, quiet_on, same_job}
+use Rattle.stream_host.proofs.Hosting.{calm_now, none_due_by, nothing_due, ends_is, pause_behind_line, quiet_on, same_job}
 
 -- ---- some bytes are scanned
 
@@ -87,16 +87,6 @@ none_whole s h f free true e =
     let w = f.line_is.storing e in
     let l = ap length (sym w.left_is ∙ free) in let d = length-drop s.line.place (s.line.kept.items ++ 10 ∷ []) in let k = length-append s.line.kept.items (10 ∷ []) in let p = w.within in
     absurd (omega arith)
-
-pub may_read_on : (s : Host) (h : Journal) → HostFits s h → MayRead h → MayReadOn s
-may_read_on s h f may =
-    let whole = none_whole s h f may.free s.line.whole refl in record {
-      scanning = whole;
-      sends = sym (ends_is s h f whole) ∙ may.sends;
-      none_due = none_due_now s h f may.none_due;
-      used = used_by s.job (f.job_is.left_is ∙ may.used) f.job_is.piece;
-      on = f.job_is.reading_is ∙ may.on;
-    }
 
 read_more : (h : Journal) (bytes : List ℕ) (n : ℕ) → read_of h ≡ scanned_of h ++ unscanned_of h → unscanned_of h ≡ [] → n ≡ length (scanned_of h) → n + length bytes ≡ length (read_of h ++ bytes)
 read_more h bytes n is none count =

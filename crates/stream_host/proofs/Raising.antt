@@ -60,6 +60,11 @@ pub reset_more : (raw : List ℕ) (b : ℕ) (a : Stripped) (old is : Bool) → r
 reset_more raw b a old is taken was now =
     ap (λ x. x || is) was ∙ ap (λ x. holds_reset raw || x) now ∙ sym (list_any-append is_reset (realtime raw) (taken_by a)) ∙ sym (ap (list_any is_reset) taken)
 
+-- a byte that is not taken changes neither
+pub none_reset : (raw : List ℕ) (b : ℕ) (a : Stripped) (old : Bool) → realtime (raw ++ b ∷ []) ≡ realtime raw ++ taken_by a → taken_by a ≡ [] → old ≡ holds_reset raw → old ≡ holds_reset (raw ++ b ∷ [])
+none_reset raw b a old taken none was =
+    was ∙ sym (ap (list_any is_reset) (taken ∙ ap (λ bs. realtime raw ++ bs) none ∙ append-nil (realtime raw)))
+
 -- a line feed is none
 pub none_at_lf : (raw : List ℕ) (b : ℕ) → nat_eq b 10 ≡ true → more_served raw b ≡ []
 unfolding more_of

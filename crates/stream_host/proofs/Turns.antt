@@ -48,15 +48,6 @@ pub holds : (t : Bool) → (t ≡ false → ⊥) → t ≡ true
 holds true never = refl
 holds false never = absurd (never refl)
 
--- all is written exactly where no text waits
-pub written_by : (s : Host) (h : Journal) → HostFits s h → s.text.failed ≡ false → (t : Bool) → t ≡ nat_lt 0 (length s.text.waiting) → not t ≡ true → HasWritten h
-written_by s h f well true some none = absurd cc
-written_by s h f well false some none =
-    let is = ap length (f.text_is.waits well) ∙ length-drop (written_of h) (text_of h) in
-    let within = f.text_is.within in
-    let nothing : length s.text.waiting ≡ 0 = grind (arith, nat_tests) in
-    inr (omega arith)
-
 pub none_left : (s : Host) (h : Journal) → HostFits s h → s.text.failed ≡ false → (t : Bool) → t ≡ nat_lt 0 (length s.text.waiting) → HasWritten h → not t ≡ true
 none_left s h f well false some written = refl
 none_left s h f well true some (inl given) = absurd (let e = sym well ∙ f.text_is.failed_is ∙ given in cc)

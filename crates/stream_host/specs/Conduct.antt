@@ -114,6 +114,7 @@ HasNoMore Failed left raw n = left ≡ []
 HasNoMore Large left raw n = n ≡ largest_job
 HasNoMore Stopped left raw n = ⊥
 
+-- all that is to be sent is stored
 pub record HasSentAll (h : Journal) : Type 0 where
   pub free : to_store h ≡ []
   pub all : (ends_sending (raw_of h) ≡ true) ⊎ HasNoMore (reading_of h) (unscanned_of h) (raw_of h) (length (scanned_of h))
@@ -149,12 +150,14 @@ pub record MayWrite (n : ℕ) (h : Journal) : Type 0 where
   pub some : 0 < n
   pub front : written_of h + n ≤ length (text_of h)
 
+-- a write fails only if text waits
 pub record MayGiveUp (h : Journal) : Type 0 where
   pub going : has_given_up h ≡ false
   pub some : written_of h < length (text_of h)
 
 -- ---- turns
 
+-- a step that the other side can see
 abbrev pub publishing : Step → Bool
 publishing (at_port (stored b)) = true
 publishing (at_port (raised b down)) = true
@@ -174,6 +177,7 @@ moving (wrote n) = true
 moving gave_up = false
 moving (turned t) = false
 
+-- a poll found nothing
 abbrev pub found_none : Step → Bool
 found_none (at_port no_reply) = true
 found_none _ = false
@@ -189,6 +193,7 @@ pub record Waits (h : Journal) : Type 0 where
   pub no_close : MayShut h → ⊥
   pub written : HasWritten h
 
+-- Bye was got, all is written or given up, and nothing was done in this turn
 pub record IsDone (h : Journal) : Type 0 where
   pub bye : has_bye h ≡ true
   pub written : HasWritten h
@@ -201,6 +206,7 @@ MayTurn (Wait Answer) h = Waits h
 MayTurn (Wait on) h = ⊥
 MayTurn Done h = IsDone h
 
+-- the rule of each kind of step
 abbrev pub MayStep : Step → Journal → Type 0
 MayStep (at_port e) h = MayAtPort e h
 MayStep (read_some bytes) h = MayRead h × (0 < length bytes) × (length bytes ≤ largest_piece)
@@ -212,6 +218,7 @@ MayStep (wrote n) h = MayWrite n h
 MayStep gave_up h = MayGiveUp h
 MayStep (turned t) h = MayTurn t h
 
+-- each step of a journal might come when it came
 abbrev pub Conducted : Journal → Type 0
 Conducted [] = Unit {0}
 Conducted (s ∷ h) = MayStep s h × Conducted h

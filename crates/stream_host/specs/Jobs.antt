@@ -30,6 +30,7 @@ served_in text = flat_map served (lines_of text)
 abbrev pub most_kept_by_host : ℕ
 most_kept_by_host = 127
 
+-- a line is longer than may be kept
 abbrev pub is_long : List ℕ → Bool
 is_long line = nat_lt most_kept_by_host (length (plain line))
 
@@ -45,6 +46,7 @@ holds_reset line = list_any is_reset (realtime line)
 abbrev pub ends_sending : List ℕ → Bool
 ends_sending line = is_long line || holds_reset line
 
+-- a line is sent
 abbrev pub is_sent : List ℕ → Bool
 is_sent line = not (ends_sending line)
 

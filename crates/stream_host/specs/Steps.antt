@@ -18,6 +18,7 @@ use Rattle.status_report.specs.Answering.{answers_in, is_bye, is_report}
 use Rattle.stream_host.specs.Jobs.{resume, is_long, holds_reset, served}
 use Rattle.stream_host.specs.Holding.{held_after, pauses}
 
+-- what a host does at its port
 pub data PortStep : Type 0 where
   stored : ℕ → PortStep
   dropped : ℕ → PortStep
@@ -27,9 +28,11 @@ pub data PortStep : Type 0 where
   no_reply : PortStep
   shut : PortStep
 
+-- all steps at the port, the latest first
 abbrev pub PortLog : Type 0
 PortLog = List PortStep
 
+-- what a host does, at its port and by itself
 pub data Step : Type 0 where
   at_port : PortStep → Step
   -- a read of the job gave these bytes, found its end, or failed
@@ -46,9 +49,11 @@ pub data Step : Type 0 where
   gave_up : Step
   turned : Turn → Step
 
+-- all steps, the latest first
 abbrev pub Journal : Type 0
 Journal = List Step
 
+-- the steps at the port alone
 abbrev pub port_log : Journal → PortLog
 port_log [] = []
 port_log (at_port e ∷ h) = e ∷ port_log h
@@ -63,6 +68,7 @@ port_log (turned t ∷ h) = port_log h
 
 -- ---- projections of the port's log
 
+-- the bytes stored
 abbrev pub stored_in : PortLog → List ℕ
 stored_in [] = []
 stored_in (stored b ∷ h) = stored_in h ++ b ∷ []
@@ -72,6 +78,7 @@ stored_in (got r ∷ h) = stored_in h
 stored_in (no_reply ∷ h) = stored_in h
 stored_in (shut ∷ h) = stored_in h
 
+-- the replies got
 abbrev pub got_in : PortLog → List Reply
 got_in [] = []
 got_in (stored b ∷ h) = got_in h
@@ -81,6 +88,7 @@ got_in (got r ∷ h) = got_in h ++ r ∷ []
 got_in (no_reply ∷ h) = got_in h
 got_in (shut ∷ h) = got_in h
 
+-- the link was closed
 abbrev pub is_shut_in : PortLog → Bool
 is_shut_in [] = false
 is_shut_in (stored b ∷ h) = is_shut_in h
@@ -90,6 +98,7 @@ is_shut_in (got r ∷ h) = is_shut_in h
 is_shut_in (no_reply ∷ h) = is_shut_in h
 is_shut_in (shut ∷ h) = true
 
+-- the same as of the port's log
 abbrev pub stored_of : Journal → List ℕ
 stored_of h = stored_in (port_log h)
 
@@ -99,6 +108,7 @@ got_of h = got_in (port_log h)
 abbrev pub is_shut : Journal → Bool
 is_shut h = is_shut_in (port_log h)
 
+-- Bye was got
 abbrev pub has_bye : Journal → Bool
 has_bye h = list_any is_bye (got_of h)
 
@@ -106,9 +116,11 @@ has_bye h = list_any is_bye (got_of h)
 abbrev pub is_greeted : Journal → Bool
 is_greeted h = nat_lt 0 (length (got_of h))
 
+-- how many answers were got
 abbrev pub answered_of : Journal → ℕ
 answered_of h = answers_in (got_of h)
 
+-- how many of them are errors
 abbrev pub errors_of : Journal → ℕ
 errors_of h = errors_among (got_of h)
 
@@ -203,6 +215,7 @@ resumes_of h = resumes_in (port_log h)
 
 -- ---- what was read and scanned
 
+-- the bytes read
 abbrev pub read_of : Journal → List ℕ
 read_of [] = []
 read_of (at_port e ∷ h) = read_of h
@@ -228,6 +241,7 @@ reading_of (wrote n ∷ h) = reading_of h
 reading_of (gave_up ∷ h) = reading_of h
 reading_of (turned t ∷ h) = reading_of h
 
+-- the bytes scanned
 abbrev pub scanned_of : Journal → List ℕ
 scanned_of [] = []
 scanned_of (at_port e ∷ h) = scanned_of h
@@ -415,11 +429,13 @@ abbrev pub or_alarm : (alarm : Bool) → (answered : ℕ) → Stop → Stop
 or_alarm true answered End = Alarm (answered + 1)
 or_alarm alarm answered stop = stop
 
+-- why it sends no more: what the job says, or else an alarm, at the first line without an answer
 abbrev pub stop_of : Journal → Stop
 stop_of h = or_alarm (has_alarm h) (answered_of h) (job_stop_of h)
 
 -- ---- the console
 
+-- the text of the replies got
 abbrev pub text_of : Journal → List ℕ
 text_of h = replies_text (got_of h)
 
@@ -436,6 +452,7 @@ written_of (wrote n ∷ h) = written_of h + n
 written_of (gave_up ∷ h) = written_of h
 written_of (turned t ∷ h) = written_of h
 
+-- a write failed
 abbrev pub has_given_up : Journal → Bool
 has_given_up [] = false
 has_given_up (at_port e ∷ h) = has_given_up h
@@ -450,6 +467,7 @@ has_given_up (turned t ∷ h) = has_given_up h
 
 -- ---- the turn
 
+-- the steps of the turn that is not over
 abbrev pub this_turn : Journal → Journal
 this_turn [] = []
 this_turn (at_port e ∷ h) = at_port e ∷ this_turn h

@@ -234,7 +234,7 @@ impl Host {
         ensures fewer { length (unread self.new.job) < length (unread self.old.job) }
     {
         let byte = self.job.next_byte();
-        self.asking = self.asking.scanned(self.line.begun);
+        self.asking.scan(self.line.begun);
         if byte == b'\n' {
             finish_line(&mut self.line, &mut self.counts);
         } else {

@@ -9,8 +9,6 @@ mod pause;
 mod ports;
 mod reader;
 mod realtime;
-#[cfg(test)]
-mod tests;
 mod unanswered;
 
 pub use host::Host;

@@ -45,10 +45,12 @@ pub(crate) enum Asking {
 
 impl Asking {
     /// A byte is scanned. With its first one a line has not asked for a report.
-    pub(crate) fn scanned(self, begun: bool) -> Asking
-        ensures { result ≡ cond begun self Nothing }
+    pub(crate) fn scan(&mut self, begun: bool)
+        ensures { self.new ≡ cond begun self.old Nothing }
     {
-        if begun { self } else { Asking::Nothing }
+        if !begun {
+            *self = Asking::Nothing;
+        }
     }
 
     /// A realtime byte is raised: a `?` asks for one report more.
@@ -156,11 +158,12 @@ impl SentLine {
     {
         self.begun = true;
         let stripped = self.stripper.feed(byte);
-        self.due = due_in(stripped);
-        self.reset |= is_reset(stripped);
         if let Stripped::Keep(kept) = stripped {
             self.keep(kept);
+            return;
         }
+        self.due = due_in(stripped);
+        self.reset |= is_reset(stripped);
     }
 
     /// The line is over, and is stored from its first byte on. Answers its length with LF.

@@ -23,12 +23,10 @@ fn begins_zero(text: &[u8]) -> bool
 pub(crate) fn has_pause(text: &[u8]) -> bool
     ensures { result ≡ has_pause text.now }
 {
-    let mut rest = text;
-    while let Some((byte, behind)) = rest.split_first() {
-        if *byte == b'M' && begins_zero(behind) {
+    for place in 0..text.len() {
+        if text[place] == b'M' && begins_zero(&text[place + 1..]) {
             return true;
         }
-        rest = behind;
     }
     false
 }

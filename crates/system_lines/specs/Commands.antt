@@ -19,13 +19,13 @@ use Rattle.system_lines.specs.declared.Command.TheVariants.{ListSettings, ListMo
 abbrev pub code : ℕ → Code
 code n = record { 0 = n }
 
--- whether a byte stands at a place
+-- whether a byte is at a place
 abbrev pub stands_at : ℕ → List ℕ → ℕ → Bool
 stands_at c line at = option_map_or (λ b. b == c) (slice_get line at) false
 
 -- ---- the kinds of lines that begin with `$`
 
--- the lines that are whole as they stand
+-- the lines that are whole as they are
 abbrev pub spelled_lines : List (List ℕ × Kind)
 spelled_lines = (codes "$$", kinds.ListSettings) ∷ (codes "$G", kinds.ListModes) ∷ (codes "$X", kinds.Unlock) ∷ (codes "$#", kinds.ListOffsets) ∷ []
 
@@ -33,15 +33,15 @@ spelled_lines = (codes "$$", kinds.ListSettings) ∷ (codes "$G", kinds.ListMode
 abbrev pub other_kinds : List ℕ
 other_kinds = codes "$#CGHIJNRSX"
 
--- a setting line has a second byte, and that is none of these
+-- a setting line has a second byte, none of these
 abbrev pub is_setting_line : List ℕ → Bool
 is_setting_line line = option_map_or (λ c. not (list_any (λ kind. kind == c) other_kinds)) (slice_get line 1) false
 
--- `J` stands behind the `$`
+-- `J` comes after the `$`
 abbrev pub is_jog_line : List ℕ → Bool
 is_jog_line line = stands_at 74 line 1
 
--- and `=` behind that, before the words of a jog
+-- and `=` after that, before the words of a jog
 abbrev pub has_jog : List ℕ → Bool
 has_jog line = stands_at 61 line 2
 
@@ -73,22 +73,22 @@ refused_in_jog kinds.Jog = false
 refused_in_jog kinds.BareJog = false
 refused_in_jog kinds.Other = false
 
--- a jog is none of the commands: it goes by its words
+-- a jog is none of the commands: its words say what it does
 abbrev pub is_jog : Kind → Bool
 is_jog kinds.Jog = true
 is_jog kind = false
 
--- the words of a jog stand behind `$J=`
+-- the words of a jog come after `$J=`
 abbrev pub jog_words : List ℕ → List ℕ
 jog_words line = drop 3 line
 
 -- ---- setting lines, `$n=v`
 
--- the longest number that begins at a place of a line, and the place behind it
+-- the longest number that begins at a place of a line, and the place after it
 abbrev pub number_at : List ℕ → ℕ → Result (Decimal × ℕ) NumFault
 number_at line at = decimal_from at (drop at line)
 
--- a number that was read, and the place behind it; zeros where none was read
+-- a number that was read, and the place after it; zeros if none was read
 abbrev pub zero_number : Decimal × ℕ
 zero_number = (record { micro = pos 0 }, 0)
 
@@ -100,7 +100,7 @@ read_or_zero (Err fault) = zero_number
 abbrev pub is_setting_number : Decimal → Bool
 is_setting_number n = int_le (pos 0) n.micro && (nat_abs n.micro % 1000000 == 0) && nat_le (nat_abs n.micro) 255000000
 
--- the parts of a setting line: what is read behind `$`, and what is read behind the byte that follows it
+-- the parts of a setting line: what is read after `$`, and what is read after the byte that follows it
 abbrev pub n_of : List ℕ → Result (Decimal × ℕ) NumFault
 n_of line = number_at line 1
 
@@ -113,15 +113,15 @@ v_of line = number_at line (equals_place line + 1)
 -- the first that holds
 abbrev pub setting_refusal : List ℕ → Option Code
 setting_refusal line = first_refusal (
-    -- no number stands behind `$`
+    -- no number comes after `$`
     (2, not (is_ok (n_of line)))
-    -- no `=` stands behind it
+    -- no `=` comes after it
     ∷ (3, not (stands_at 61 line (equals_place line)))
-    -- no number stands behind the `=`
+    -- no number comes after the `=`
     ∷ (2, not (is_ok (v_of line)))
-    -- the line goes on behind that
+    -- the line goes on after that
     ∷ (3, not ((read_or_zero (v_of line)).1 == length line))
-    -- the first number is none of a setting
+    -- the first number is not that of a setting
     ∷ (3, not (is_setting_number (read_or_zero (n_of line)).0))
     ∷ [])
 

@@ -5,15 +5,12 @@ ghost use Rattle.std.specs.Prelude.{◌≡◌, ◌<◌, ◌≤◌, ◌/◌, IfOk
 ghost use Rattle.settings.specs.Numbers.{values, value_set, with_value, set_refusal, IsSettings};
 ghost use Rattle.system_lines.specs.Commands.{number_at, is_setting_number, setting_refusal, asked, unless, kind_of, refused_in_run, refused_in_jog, is_jog, jog_words, command_by_kind, command_of};
 
-#[cfg(test)]
-mod tests;
-
 use code_table::Code;
 use settings::Settings;
 use units::{Decimal, read_decimal};
 
-/// The kind of a line that begins with `$`. It is told before the line is read: whether a line is refused in a state of
-/// the machine goes by its kind alone.
+/// The kind of a line that begins with `$`. It is known before the line is read, and decides alone whether the line is
+/// refused while the machine runs or jogs.
 #[derive(Clone, Copy, Debug, PartialEq, Eq)]
 pub enum Kind {
     /// `$$`: lists the settings.
@@ -37,8 +34,8 @@ pub enum Kind {
 impl Kind {
     /// The kind of a line, given the bytes that are kept of it, the first of which is `$`.
     ///
-    /// `$$`, `$G`, `$X` and `$#` are whole as they stand. A line whose second byte is none of `$`, `#`, `C`, `G`, `H`, `I`,
-    /// `J`, `N`, `R`, `S` and `X` is a setting line.
+    /// `$$`, `$G`, `$X` and `$#` are whole as they are. A line whose second byte is none of `$`, `#`, `C`, `G`, `H`,
+    /// `I`, `J`, `N`, `R`, `S` and `X` is a setting line.
     #[tactic(auto, unfolding(crate::specs::Commands::kind_of))]
     pub fn of(line: &[u8]) -> Kind
         requires { slice_get line.now 0 ≡ Some 36 }
@@ -79,7 +76,7 @@ impl Kind {
         matches!(self, Kind::ListOffsets | Kind::Setting)
     }
 
-    /// Whether the words of a jog stand in the line.
+    /// Whether a line of this kind is a jog: `$J=` and its words.
     pub fn is_jog(self) -> bool
         ensures { result ≡ is_jog self }
     {
@@ -87,7 +84,7 @@ impl Kind {
     }
 }
 
-/// The words of a jog, given the bytes that are kept of its line: what stands behind `$J=`.
+/// The words of a jog, given the bytes that are kept of its line: what comes after `$J=`.
 pub fn jog_words(line: &[u8]) -> &[u8]
     ensures { result.now ≡ jog_words line.now }
 {
@@ -112,7 +109,7 @@ pub enum Command {
     Set { n: u8, value: Decimal },
 }
 
-/// The number that begins at a place of a line, and the place behind it, or error 2.
+/// The number that begins at a place of a line, and the place after it, or error 2.
 fn read_number(line: &[u8], at: usize) -> Result<(Decimal, usize), Code>
     requires { at ≤ length line.now }
     ensures read { IfOk result (λ x. number_at line.now at ≡ Ok x) }
@@ -161,8 +158,8 @@ fn read_setting(line: &[u8]) -> Result<Command, Code>
 ///
 /// # Errors
 ///
-/// In a setting line the first of these: 2 where no number stands behind the `$`; 3 where no `=` stands behind
-/// that; 2 where no number stands behind the `=`; 3 where the line goes on; 3 where n isn't a whole number from 0
+/// In a setting line the first of these: 2 if no number comes after the `$`; 3 if no `=` comes after
+/// that; 2 if no number comes after the `=`; 3 if the line goes on; 3 if n isn't a whole number from 0
 /// to 255. Every other line is refused with 3.
 #[tactic(auto, unfolding(crate::specs::Commands::command_of))]
 pub fn read_command(line: &[u8]) -> Result<Command, Code>

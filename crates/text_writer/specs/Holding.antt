@@ -6,8 +6,8 @@ use Rattle.text_writer.specs.Writers.{Writing, is_due}
 abbrev pub writing : List ℕ → ℕ → Bool → Bool → Writing
 writing held written failed asked = record { waiting = drop written held; begun = nat_lt 0 written; failed = failed; asked = asked }
 
--- at most 4,096 bytes are held; some of them wait, or none is written; none is held for a sink that has failed; and `due` says
--- whether what waits is to be written
+-- at most 4,096 bytes are held; some of them wait, or none is written; none is held for a sink that has failed; and
+-- `due` says whether what waits is to be written
 pub record IsHeld (held : List ℕ) (written : ℕ) (due failed asked : Bool) : Type 0 where
   pub few : length held ≤ 4096
   pub some : 0 < written → written < length held

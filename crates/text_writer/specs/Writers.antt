@@ -3,8 +3,8 @@ use Rattle.std.specs.Prelude.{◌≡◌, ℕ, ◌+◌, ◌≤◌, ◌<◌, ◌�
 use Rattle.std.specs.Io.KnownBytes.{Appends, Keeps}
 use Rattle.outside.specs.Causes.{Rose, SinkState}
 
--- the text that waits to be written, whether some of what waited with it is written, whether a call of the sink failed, and
--- whether all that waits was asked to be written
+-- the text that waits to be written, whether some of the text that waited with it is written, whether a call of the
+-- sink failed, and whether all that waits was asked to be written
 pub record Writing : Type 0 where
   pub waiting : List ℕ
   pub begun : Bool
@@ -15,8 +15,8 @@ pub record Writing : Type 0 where
 abbrev pub fresh : Writing
 fresh = record { waiting = []; begun = false; failed = false; asked = false }
 
--- Text is written once fewer than 192 of 4,096 bytes are free, or it was asked for, and then until none waits; never to a
--- sink that has failed.
+-- Text is written once fewer than 192 of 4,096 bytes are free, or it was asked for, and then until none waits; never to
+-- a sink that has failed.
 abbrev pub is_due : Writing → Bool
 is_due v = not v.failed && (nat_lt 0 (length v.waiting) && (v.begun || v.asked || nat_lt 4096 (length v.waiting + 192)))
 
@@ -27,7 +27,7 @@ Writes v = is_due v ≡ true
 abbrev pub is_done : Writing → Bool
 is_done v = v.asked && (v.failed || nat_eq (length v.waiting) 0)
 
--- a text more waits, unless the sink has failed
+-- one more text waits, unless the sink has failed
 abbrev pub with_text : Writing → List ℕ → Writing
 with_text v text = record v { waiting = cond v.failed v.waiting (v.waiting ++ text); asked = false }
 

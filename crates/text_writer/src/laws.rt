@@ -5,9 +5,9 @@ ghost use Rattle.outside.specs.Causes.{SinkState};
 ghost use Rattle.outside.specs.Writing.{Wrote, Took};
 ghost use Rattle.text_writer.specs.Writers.{Writing, Writes, WroteOnce, fresh, is_done, with_text};
 
-/// The sink has a front of the texts that were put, one behind the other, and the rest waits, or the sink has failed. This
-/// is so at first, once a text more is put, and once a call is made; and where all was asked for, and nothing waits, the sink
-/// has all of it.
+/// The sink has a front of the texts that were put, one after the other, and what is left waits, or the sink has
+/// failed. This is so at first, after each text that is put, and after each call; and if all was asked for, and nothing
+/// waits, the sink has all of it.
 pub fn text_arrives()
     ensures first { (sink : SinkState) → Wrote sink sink fresh.failed fresh.waiting [] }
     ensures put { (v : Writing) (text more : List ℕ) (before now : SinkState) → Wrote before now v.failed v.waiting text

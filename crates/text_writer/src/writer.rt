@@ -9,9 +9,9 @@ use std::marker::Model;
 /// So many bytes must be free for the next text.
 const RESERVE: usize = 192;
 
-/// Holds up to 4,096 bytes of text, and writes them, in calls of a sink: once fewer than 192 bytes are free, or where all
-/// that waits was asked for, and then until none waits. What a call leaves goes on in the next. A sink that has failed is
-/// given nothing more, and what comes for it is dropped.
+/// Holds up to 4,096 bytes of text, and writes them in calls of a sink: once fewer than 192 bytes are free, or all that
+/// waits was asked for, and then until none waits. The next call goes on with what a call left. A sink that has failed
+/// is given nothing more, and what comes for it is dropped.
 #[derive(Drop)]
 pub struct TextWriter {
     held: Waiting,
@@ -84,7 +84,7 @@ impl TextWriter {
         self.due
     }
 
-    /// Puts a text behind what waits, where nothing is due. It is dropped where the sink has failed.
+    /// Puts a text after what waits, if nothing is due. It is dropped if the sink has failed.
     #[inline]
     pub fn put<T: ShortText>(&mut self, of: &T)
         requires has { T.has_text of.now }
@@ -138,7 +138,7 @@ impl TextWriter {
         self.failed = true;
     }
 
-    /// Makes one call of the sink with what waits, where it is due. What the sink does not take goes on waiting.
+    /// Makes one call of the sink with what waits, if it is due. What the sink does not take goes on waiting.
     #[inline(never)]
     pub fn write<S: Sink>(&mut self, sink: &mut S)
         requires { Writes self.old }

@@ -1,4 +1,5 @@
-//! Where a target may lie: in reach of the machine's zero, and within travel while soft limits are on. And a target in steps.
+//! Where a target may lie: in reach of the machine's zero, and within travel while soft limits are on. And a target in
+//! steps.
 #![tactic(auto)]
 
 ghost use Rattle.std.specs.Prelude.{◌≡◌, ◌*◌, ◌<◌, nat_abs, ◌||◌, ◌&&◌};
@@ -38,8 +39,8 @@ fn any_outside(travel: &Per3, points: &[Nm3]) -> bool
     points.iter().any(|point| is_outside(travel, point))
 }
 
-/// Whether soft limits are on and one of these points lies outside travel, which is above 0 or below minus the travel, on
-/// some axis.
+/// Whether soft limits (`$20`) are on and one of these points is outside the travel (`$130` to `$132`): above 0 or
+/// below minus the travel, on some axis.
 pub fn leave_travel(s: &Settings, points: &[Nm3]) -> bool
     ensures { result ≡ leave_travel s.now points.now }
 {

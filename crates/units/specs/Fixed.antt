@@ -1,7 +1,7 @@
 -- Thousandths as a text with three decimals.
 use Rattle.std.specs.Prelude.{ℕ, ◌+◌, ◌/◌, ◌%◌, ℤ, pos, negsuc, nat_abs, List, [], ◌∷◌, ◌++◌, decimal}
 
--- a minus exactly where the number is negative
+-- a minus exactly if the number is negative
 abbrev pub minus_sign : ℤ → List ℕ
 minus_sign (pos n) = []
 minus_sign (negsuc n) = 45 ∷ []

@@ -44,7 +44,7 @@ thousandths_of steps per_mm = rounded_quotient (steps *ℤ pos 1000000) per_mm
 abbrev pub thousandths_of_nm : ℤ → ℤ
 thousandths_of_nm nm = rounded_quotient nm 1000
 
--- millionths of an inch, in nm: an inch is 25.4 mm, and what is no whole nm is cut off
+-- millionths of an inch, in nm: an inch is 25.4 mm, and parts of a nm are cut off
 unfoldable pub nm_of_inch : ℤ → ℤ
 nm_of_inch micro = with_sign_of micro (nat_abs micro * 254 / 10)
 

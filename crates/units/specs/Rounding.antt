@@ -18,6 +18,6 @@ pub record KeepsSign (a r : ℤ) : Type 0 where
 -- r is the whole number nearest to a / d: twice the distance, in parts of d, is at most d
 pub record IsNearest (a : ℤ) (d : ℕ) (r : ℤ) : Type 0 where
   pub near : 2 * nat_abs (a -ℤ (r *ℤ pos d)) ≤ d
-  -- where it is d, two numbers are as near, and r is the one farther from zero
+  -- if it is d, two numbers are equally near, and r is the one farther from zero
   pub tie : 2 * nat_abs (a -ℤ (r *ℤ pos d)) ≡ d → nat_abs a < nat_abs r * d
   pub sign : KeepsSign a r

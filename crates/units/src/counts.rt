@@ -48,7 +48,7 @@ impl Counts {
     }
 }
 
-/// How many events a move has: its largest axis count.
+/// How many events a move has: as many as its longest axis has steps.
 #[tactic(auto, unfolding(crate::specs::Counting::events_of))]
 pub fn events(mv: &Move) -> u32
     requires { IsMove mv.now }

@@ -24,7 +24,7 @@ use crate::{Decimal, NumFault};
 /// The first whole part that is too large.
 const TOO_LARGE: u64 = 1_000_000_000;
 
-/// A text cut behind a sign.
+/// A text cut after a sign.
 fn split_sign(text: &[u8]) -> (&[u8], &[u8])
     ensures front { result.0.now ≡ sign_in_front text.now }
     ensures rest { result.1.now ≡ behind (sign_in_front text.now) text.now }
@@ -36,7 +36,7 @@ fn split_sign(text: &[u8]) -> (&[u8], &[u8])
     }
 }
 
-/// A text cut behind a point.
+/// A text cut after a point.
 fn split_point(text: &[u8]) -> (&[u8], &[u8])
     ensures front { result.0.now ≡ point_in_front text.now }
     ensures rest { result.1.now ≡ behind (point_in_front text.now) text.now }
@@ -48,7 +48,7 @@ fn split_point(text: &[u8]) -> (&[u8], &[u8])
     }
 }
 
-/// Digits that begin a text, and what they say.
+/// Digits that begin a text, and their value.
 #[derive(Clone, Copy)]
 struct Digits<'a> {
     digits: &'a [u8],
@@ -56,7 +56,7 @@ struct Digits<'a> {
     value: u64,
 }
 
-/// The digits before a point. They say at most `TOO_LARGE`, where they say more.
+/// The digits before a point. Their value is `TOO_LARGE` if it is that or more.
 fn whole_part(text: &[u8]) -> Digits<'_>
     ensures digits { result.digits.now ≡ digits_in_front text.now }
     ensures rest { result.rest.now ≡ behind (digits_in_front text.now) text.now }
@@ -77,7 +77,7 @@ fn whole_part(text: &[u8]) -> Digits<'_>
     }
 }
 
-/// The digits behind a point, in millionths. Those past the sixth weigh nothing.
+/// The digits after a point, in millionths. Those past the sixth count nothing.
 fn decimal_part(text: &[u8]) -> Digits<'_>
     ensures digits { result.digits.now ≡ digits_in_front text.now }
     ensures rest { result.rest.now ≡ behind (digits_in_front text.now) text.now }
@@ -167,7 +167,7 @@ fn with_sign(sign: &[u8], magnitude: u64) -> i64
 /// The longest number that begins at `at`, in millionths, and the place after it: an optional sign,
 /// digits and at most one point. Decimals past the sixth are dropped.
 ///
-/// Errors: `NoDigit` where what begins there has no digit, else `TooLarge` where the magnitude is
+/// Errors: `NoDigit` if what begins there has no digit, else `TooLarge` if the magnitude is
 /// 1,000,000,000 or more.
 #[tactic(auto, unfolding(crate::specs::Reading::decimal_from))]
 pub fn read_decimal(text: &[u8], at: usize) -> Result<(Decimal, usize), NumFault>

@@ -7,7 +7,7 @@ ghost use Rattle.units.specs.Fixed.{fixed3, minus_sign, three_digits};
 use crate::{Text, append};
 use itoa::Buffer;
 
-/// A minus exactly where a number is negative.
+/// A minus exactly if a number is negative.
 fn minus_sign(v: i64) -> &'static [u8]
     ensures sign { result.now ≡ minus_sign v }
     ensures short { length result.now ≤ 1 }
@@ -26,7 +26,7 @@ fn three_digits(n: u64) -> [u8; 3]
     ]
 }
 
-/// Appends thousandths with three decimals, behind a minus sign exactly where they are negative.
+/// Appends thousandths with three decimals, after a minus sign exactly if they are negative.
 /// 24 bytes must be free; a magnitude of at most 10^12 takes 15 of them or fewer.
 #[tactic(auto, using(crate::proofs::Short::whole_short, crate::proofs::Short::fixed_short, crate::proofs::Short::fixed_shorter), unfolding(crate::specs::Fixed::fixed3))]
 pub fn put_fixed3(v: i64, out: &mut Text)

@@ -1,5 +1,5 @@
-//! Square roots of whole numbers: a float's root below 2^53, which a test confirms, Newton's steps below 2^62, and bit by
-//! bit from there on.
+//! Square roots of whole numbers: a float's root below 2^53, which a test confirms, Newton's steps below 2^62, and bit
+//! by bit from there on.
 
 ghost use Rattle.std.specs.Prelude.{◌≡◌, ℕ, ◌≤◌, ◌<◌, ◌+◌, ◌*◌, ◌^◌, IsTrue};
 ghost use Rattle.units.specs.Roots.{IsRoot, root_of};
@@ -45,8 +45,8 @@ fn is_root(x: u64, root: u64) -> bool
     square <= x && x - square <= 2 * root
 }
 
-/// The whole part of a float's root of x, of which nothing is promised. With 2^52 less a half added to a float, its lowest
-/// bits are its whole part.
+/// The whole part of a float's root of x, of which nothing is promised. A float with 2^52 less a half added has its
+/// whole part in its lowest bits.
 #[inline]
 fn float_root(x: u64) -> u64
     requires { x < 2 ^ 53 }
@@ -60,7 +60,7 @@ fn float_root(x: u64) -> u64
     }
 }
 
-/// The whole part of the square root of a number below 2^53: a float's, or, where a test denies it, by Newton's steps from
+/// The whole part of the square root of a number below 2^53: a float's, or, if a test denies it, by Newton's steps from
 /// there.
 #[inline]
 pub fn small_root(x: u64) -> u64
@@ -75,8 +75,8 @@ pub fn small_root(x: u64) -> u64
     }
 }
 
-/// A number within six percent of the square root of x: the mean of the power of two that is nearest to it and of what
-/// that leaves of x, found by shifts.
+/// A number within six percent of the square root of x, found by shifts: the mean of the power of two nearest to it and
+/// of x divided by that.
 #[inline]
 #[tactic(auto, using(crate::proofs::Newton::power_small))]
 fn guess(x: u64) -> u64

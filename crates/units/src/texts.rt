@@ -1,4 +1,4 @@
-//! Pieces of text, put together.
+//! Texts, put together.
 
 ghost use Rattle.std.specs.Prelude.{◌≡◌, ◌+◌, ◌≤◌, ◌++◌, length};
 ghost use Rattle.arrayvec.specs.ArrayVec.{array_vec_len};

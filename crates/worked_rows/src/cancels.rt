@@ -123,14 +123,14 @@ fn a_cancel_cuts_jogs_where_the_machine_is(rt: HostRuntime) {
 fn a_hold_cuts_a_jog_too(rt: HostRuntime) {
     let alloc = rt.alloc();
     // The `!` is read once the jog is answered. What counts from the position counts from the cut.
-    let rows: [(&[u8], usize, i64); 5] = [
+    const ROWS: &[(&[u8], usize, i64)] = &[
         (b"$J=G91X10F500\n!\nG91\nG0X1\n", 4, 250),
         (b"$J=G91X10F500\n!~\nG91X1\n", 3, 250),
         (b"$J=G91X10F500\n!\x85\nG91X1\n", 3, 250),
         (b"$J=G91X10F500\n!\n$J=G91X-0.4F500\n", 3, -100),
         (b"$J=G91X10F500\n!\n$10=1\nG10L20P1X7\nX7.004\n", 5, 1),
     ];
-    for (job, lines, behind) in rows {
+    for &(job, lines, behind) in ROWS {
         for words in WORDS {
             let way = way_by(&rt, alloc, words, job, LONG_JOG.len(), lines);
             let cut = way.first.unwrap_or(Cut {
@@ -148,7 +148,7 @@ fn a_hold_cuts_a_jog_too(rt: HostRuntime) {
 #[test]
 fn a_cancel_without_a_jog_does_nothing(rt: HostRuntime) {
     let alloc = rt.alloc();
-    let rows: [(&[u8], usize, i64); 8] = [
+    const ROWS: &[(&[u8], usize, i64)] = &[
         (b"\x85", 1, 0),
         (b"\x85\n", 1, 0),
         (b"\x85\x85G0X1\x85\n\x85", 2, 250),
@@ -159,7 +159,7 @@ fn a_cancel_without_a_jog_does_nothing(rt: HostRuntime) {
         // In a comment it is none.
         (b"$J=G91X10F500\n(\x85)\n;\x85!", 3, 2_500),
     ];
-    for (job, lines, end) in rows {
+    for &(job, lines, end) in ROWS {
         for words in WORDS {
             let way = way_by(&rt, alloc, words, job, 4096, lines);
             assert!(rt; way.cuts == 0 && way.end == end);
@@ -218,12 +218,12 @@ fn a_jog_that_waits_for_room_is_dropped(rt: HostRuntime) {
 fn reports_say_jog_until_the_machine_is_idle_at_the_cut(rt: HostRuntime) {
     let alloc = rt.alloc();
     // Read in pieces of a line, each once all before it is answered.
-    let jobs: [&[u8]; 3] = [
+    const JOBS: &[&[u8]] = &[
         b"$J=G91X10F500\n\x85          ??\n?             \nG4P0?         \n?",
         b"$J=G91X10F500\n!?            \n?             \nG4P0          \n?",
         b"$J=G91X10F500\n\x85?\n?\n?\n?\n?\n?\n?\n?\n?\n?\n?\n?\n?\n?\n?\n?\nG4P0\n?",
     ];
-    for job in jobs {
+    for &job in JOBS {
         for words in WORDS {
             let left = left_by(&rt, alloc, words, job, LONG_JOG.len());
             assert_eq!(rt; left.status, Status::Done);

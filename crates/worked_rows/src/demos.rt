@@ -1,14 +1,14 @@
 //! The generated job, run in lockstep, and the line on it; a job in threads and in lockstep.
 
 use crate::realtime::WORDS;
-use crate::runs::without_heads;
-use grbl_app::{Status, run_grbl};
-use outside::{MemSink, MemSource, OpenGate};
+use crate::runs::{run_over, without_heads};
+use grbl_app::Status;
+use outside::{MemSink, MemSource};
 
 #[test]
 fn demos_are_summed_up_and_leave_the_source(rt: HostRuntime) {
     let alloc = rt.alloc();
-    let rows: [(&str, &[u8], usize); 3] = [
+    const ROWS: &[(&str, &[u8], usize)] = &[
         (
             "1",
             b"demo 1 lines 4 ok 4 error 0 events 275 at 0.700,1.100,0.000\n",
@@ -25,20 +25,12 @@ fn demos_are_summed_up_and_leave_the_source(rt: HostRuntime) {
             3400,
         ),
     ];
-    for (moves, summary, events) in rows {
+    for &(moves, summary, events) in ROWS {
         let mut source = MemSource::new(b"G0X1", 4, &[]);
         let mut console = MemSink::new(alloc, 100, &[]).expect(&rt, "memory");
         let mut steps = MemSink::new(alloc, 100_000, &[]).expect(&rt, "memory");
         let words = ["demo", moves];
-        let status = run_grbl(
-            &rt,
-            alloc,
-            &words,
-            &mut source,
-            &mut console,
-            &mut steps,
-            &OpenGate,
-        );
+        let status = run_over(&rt, alloc, &words, &mut source, &mut console, &mut steps);
         assert_eq!(rt; status, Status::Done);
         assert_eq!(rt; console.held(), summary);
         let recorded = without_heads(&rt, alloc, steps.held());
@@ -51,7 +43,7 @@ fn demos_are_summed_up_and_leave_the_source(rt: HostRuntime) {
 #[test]
 fn wrong_numbers_are_usage(rt: HostRuntime) {
     let alloc = rt.alloc();
-    let rows: [&[&str]; 6] = [
+    const ROWS: &[&[&str]] = &[
         &["demo"],
         &["demo", "0"],
         &["demo", "100001"],
@@ -59,19 +51,11 @@ fn wrong_numbers_are_usage(rt: HostRuntime) {
         &["stream", "--lockstep", "-1"],
         &["stream", "--lockstep", "18446744073709551616"],
     ];
-    for words in rows {
+    for &words in ROWS {
         let mut source = MemSource::new(b"G0X1", 4, &[]);
         let mut console = MemSink::new(alloc, 100, &[]).expect(&rt, "memory");
         let mut steps = MemSink::new(alloc, 100, &[]).expect(&rt, "memory");
-        let status = run_grbl(
-            &rt,
-            alloc,
-            words,
-            &mut source,
-            &mut console,
-            &mut steps,
-            &OpenGate,
-        );
+        let status = run_over(&rt, alloc, words, &mut source, &mut console, &mut steps);
         assert_eq!(rt; status, Status::Usage);
         assert!(rt; console.held().is_empty() && steps.held().is_empty());
     }
@@ -85,15 +69,7 @@ fn threads_and_every_seed_give_the_same_texts(rt: HostRuntime) {
         let mut source = MemSource::new(job, 5, &[]);
         let mut console = MemSink::new(alloc, 100, &[]).expect(&rt, "memory");
         let mut steps = MemSink::new(alloc, 10_000, &[]).expect(&rt, "memory");
-        let status = run_grbl(
-            &rt,
-            alloc,
-            words,
-            &mut source,
-            &mut console,
-            &mut steps,
-            &OpenGate,
-        );
+        let status = run_over(&rt, alloc, words, &mut source, &mut console, &mut steps);
         assert_eq!(rt; status, Status::Done);
         assert!(rt;
             console

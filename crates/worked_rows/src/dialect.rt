@@ -5,7 +5,7 @@ use grbl_app::Status;
 
 #[test]
 fn a_refused_line_of_code_is_answered_with_its_number(rt: HostRuntime) {
-    let rows: [(&[u8], &[u8]); 32] = [
+    const ROWS: &[(&[u8], &[u8])] = &[
         (b"1X", b"error:1\r\n"),
         (b"%", b"error:1\r\n"),
         (b"X", b"error:2\r\n"),
@@ -39,12 +39,12 @@ fn a_refused_line_of_code_is_answered_with_its_number(rt: HostRuntime) {
         (b"T256", b"error:38\r\n"),
         (b"T1T256", b"error:38\r\n"),
     ];
-    expect_answers(&rt, rt.alloc(), &rows, Status::LineErrors(1));
+    expect_answers(&rt, rt.alloc(), ROWS, Status::LineErrors(1));
 }
 
 #[test]
 fn modes_and_units_shape_the_moves_of_later_lines(rt: HostRuntime) {
-    let rows: [(&[u8], &[u8], &[u8]); 5] = [
+    const ROWS: &[(&[u8], &[u8], &[u8])] = &[
         // Relative moves.
         (b"G91G1X0.004F100\nX0.004", b"ok\r\nok\r\n", b"X+\nX+\nE\n"),
         // 0.0001 inches are 2,540 nm, which are 0.635 steps.
@@ -60,12 +60,12 @@ fn modes_and_units_shape_the_moves_of_later_lines(rt: HostRuntime) {
         // A cancelled motion mode.
         (b"G80\nG0X0.004", b"ok\r\nok\r\n", b"X+\nE\n"),
     ];
-    expect_done(&rt, rt.alloc(), &rows);
+    expect_done(&rt, rt.alloc(), ROWS);
 }
 
 #[test]
 fn spindle_coolant_and_dwell_are_recorded_where_they_change(rt: HostRuntime) {
-    let rows: [(&[u8], &[u8], &[u8]); 6] = [
+    const ROWS: &[(&[u8], &[u8], &[u8])] = &[
         (b"M8\nM9", b"ok\r\nok\r\n", b"M8 0\nM9 0\nE\n"),
         (
             b"M8\nM8\nM9\nM9",
@@ -84,12 +84,12 @@ fn spindle_coolant_and_dwell_are_recorded_where_they_change(rt: HostRuntime) {
         // A pause goes on once the machine is at rest.
         (b"G0X0.004\nM0\nX0", b"ok\r\nok\r\nok\r\n", b"X+\nX-\nE\n"),
     ];
-    expect_done(&rt, rt.alloc(), &rows);
+    expect_done(&rt, rt.alloc(), ROWS);
 }
 
 #[test]
 fn the_end_of_the_program_turns_off_what_is_on(rt: HostRuntime) {
-    let rows: [(&[u8], &[u8], &[u8]); 5] = [
+    const ROWS: &[(&[u8], &[u8], &[u8])] = &[
         (
             b"M3S100M8\nM2",
             b"ok\r\n[MSG:Pgm End]\r\nok\r\n",
@@ -110,7 +110,7 @@ fn the_end_of_the_program_turns_off_what_is_on(rt: HostRuntime) {
             b"X+\nE\n",
         ),
     ];
-    expect_done(&rt, rt.alloc(), &rows);
+    expect_done(&rt, rt.alloc(), ROWS);
 }
 
 #[test]
@@ -127,13 +127,13 @@ fn a_long_comment_with_realtime_bytes_is_no_part_of_its_line(rt: HostRuntime) {
 #[test]
 fn a_line_number_may_have_seventy_eight_digits(rt: HostRuntime) {
     let alloc = rt.alloc();
-    let rows: [(usize, &[u8], Status); 4] = [
+    const ROWS: &[(usize, &[u8], Status)] = &[
         (78, b"ok\r\n", Status::Done),
         (79, b"error:11\r\n", Status::LineErrors(1)),
         (126, b"error:11\r\n", Status::LineErrors(1)),
         (127, b"", Status::LongLine(1)),
     ];
-    for (digits, answers, status) in rows {
+    for &(digits, answers, status) in ROWS {
         let job = text_of(&rt, alloc, &[(b"N", 1), (b"0", digits)]);
         let row = Row {
             job: job.as_slice(),
@@ -176,7 +176,7 @@ fn a_pocket_is_cut_in_eight_thousand_events(rt: HostRuntime) {
 #[test]
 fn a_job_with_every_code_of_the_dialect_is_done(rt: HostRuntime) {
     let alloc = rt.alloc();
-    let lines: [&[u8]; 43] = [
+    const LINES: &[&[u8]] = &[
         b"",
         b"(only a comment)",
         b"N1",
@@ -222,11 +222,11 @@ fn a_job_with_every_code_of_the_dialect_is_done(rt: HostRuntime) {
         b"M9",
     ];
     let mut job = Vec::new(alloc);
-    for line in &lines {
+    for line in LINES {
         append_times(&rt, &mut job, line, 1);
         append_times(&rt, &mut job, b"\n", 1);
     }
-    let answers = text_of(&rt, alloc, &[(b"ok\r\n", lines.len())]);
+    let answers = text_of(&rt, alloc, &[(b"ok\r\n", LINES.len())]);
     let steps = b"D 0\nM3 0\nM4 0\nM5 0\nM8 0\nM9 0\nE\n";
     expect_done(&rt, alloc, &[(job.as_slice(), answers.as_slice(), steps)]);
 }

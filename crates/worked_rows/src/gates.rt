@@ -43,12 +43,12 @@ impl Gate for Passes {
 #[test]
 fn gate_is_passed_by_each_actor_in_threads_alone(rt: HostRuntime) {
     let alloc = rt.alloc();
-    let rows: [(&[&str], bool); 3] = [
+    const ROWS: &[(&[&str], bool)] = &[
         (&["stream"], true),
         (&["stream", "--lockstep", "0"], false),
         (&["demo", "1"], false),
     ];
-    for (words, passed) in rows {
+    for &(words, passed) in ROWS {
         let passes = Passes::new();
         let mut source = MemSource::new(b"G0X0.004\n", 4, &[]);
         let mut console = MemSink::new(alloc, 100, &[]).expect(&rt, "memory");

@@ -1,13 +1,13 @@
 //! Whole steps texts, with the heads of their segments.
 
-use crate::runs::plain_run;
-use grbl_app::{Status, run_grbl};
-use outside::{MemSink, MemSource, OpenGate};
+use crate::runs::{plain_run, run_over};
+use grbl_app::Status;
+use outside::{MemSink, MemSource};
 
 #[test]
 fn segments_are_told_with_their_speeds_and_cycles(rt: HostRuntime) {
     let alloc = rt.alloc();
-    let rows: [(&[u8], &[u8]); 15] = [
+    const ROWS: &[(&[u8], &[u8])] = &[
         (b"G0X0.004", b"s 1 1 0 320000\nX+\nE\n"),
         (
             b"G0X0.012Y0.008",
@@ -63,19 +63,18 @@ fn segments_are_told_with_their_speeds_and_cycles(rt: HostRuntime) {
             b"s 1 1 0 320000\nX+\ns 3 1 0 320000\nX+\nE\n",
         ),
     ];
-    for &(job, steps) in &rows {
+    for &(job, steps) in ROWS {
         let run = plain_run(job);
         let mut source = MemSource::new(run.job, run.piece.max(1), &[]);
         let mut console = MemSink::new(alloc, 1_000, &[]).expect(&rt, "memory");
         let mut recorder = MemSink::new(alloc, 1_000, &[]).expect(&rt, "memory");
-        run_grbl(
+        run_over(
             &rt,
             alloc,
             run.words,
             &mut source,
             &mut console,
             &mut recorder,
-            &OpenGate,
         );
         assert_eq!(rt; recorder.held(), steps);
     }

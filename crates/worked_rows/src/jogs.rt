@@ -1,10 +1,10 @@
 //! Jogs, and what lines are answered in them.
 
 use crate::realtime::WORDS;
-use crate::runs::{BANNER, Row, expect_answers, text_of, without_heads};
+use crate::runs::{BANNER, Row, expect_answers, run_over, text_of, without_heads};
 use crate::system::LATER_SETTINGS;
-use grbl_app::{Status, run_grbl};
-use outside::{MemSink, MemSource, OpenGate};
+use grbl_app::Status;
+use outside::{MemSink, MemSource};
 use std::alloc::Global;
 use std::process::Abort;
 use std::sync::Wait;
@@ -37,15 +37,7 @@ pub(crate) fn left_by<R: Threads + Wait + Sync + Abort>(
     let mut source = MemSource::new(job, piece.max(1), &[]);
     let mut console = MemSink::new(alloc, 10_000, &[]).expect(rt, "memory");
     let mut steps = MemSink::new(alloc, 400_000, &[]).expect(rt, "memory");
-    let status = run_grbl(
-        rt,
-        alloc,
-        words,
-        &mut source,
-        &mut console,
-        &mut steps,
-        &OpenGate,
-    );
+    let status = run_over(rt, alloc, words, &mut source, &mut console, &mut steps);
     let answers = console.held().strip_prefix(BANNER).expect(rt, "a banner");
     Left {
         answers: Vec::from_slice(alloc, answers).expect(rt, "memory"),
@@ -76,7 +68,7 @@ fn expect_each<R: Threads + Wait + Sync + Abort>(
 
 #[test]
 fn jogs_start_at_once_and_move_the_position(rt: HostRuntime) {
-    let rows: [(&[u8], &[u8], &[u8]); 9] = [
+    const ROWS: &[(&[u8], &[u8], &[u8])] = &[
         (b"$J=G91X0.012F500", b"ok\r\n", b"X+\nX+\nX+\nE\n"),
         // Each jog begins where the one before ends, while that is carried out or behind it.
         (
@@ -121,7 +113,7 @@ fn jogs_start_at_once_and_move_the_position(rt: HostRuntime) {
             b"X+\nE\n",
         ),
     ];
-    for (job, answers, steps) in rows {
+    for &(job, answers, steps) in ROWS {
         expect_each(&rt, rt.alloc(), job, 7, answers, steps);
     }
 }
@@ -148,7 +140,7 @@ fn lists_are_served_in_a_jog(rt: HostRuntime) {
 
 #[test]
 fn a_refused_jog_is_answered_with_its_number(rt: HostRuntime) {
-    let rows: [(&[u8], &[u8]); 29] = [
+    const ROWS: &[(&[u8], &[u8])] = &[
         (b"$J", b"error:3\r\n"),
         (b"$JX1F10", b"error:3\r\n"),
         (b"$J=1", b"error:1\r\n"),
@@ -182,7 +174,7 @@ fn a_refused_jog_is_answered_with_its_number(rt: HostRuntime) {
         // The parser's feed is no feed of a jog.
         (b"F100\n$J=X1", b"ok\r\nerror:22\r\n"),
     ];
-    expect_answers(&rt, rt.alloc(), &rows, Status::LineErrors(1));
+    expect_answers(&rt, rt.alloc(), ROWS, Status::LineErrors(1));
 }
 
 #[test]
@@ -207,6 +199,15 @@ struct Behind {
     standing: &'static [u8],
     adds: &'static [u8],
 }
+
+/// The fields of such a line, in their order.
+type Said = (
+    &'static [u8],
+    &'static [u8],
+    &'static [u8],
+    &'static [u8],
+    &'static [u8],
+);
 
 /// A jog of 2,500 events.
 pub(crate) const LONG_JOG: &[u8] = b"$J=G91X10F500\n";
@@ -248,37 +249,37 @@ fn expect_behind<R: Threads + Wait + Sync + Abort>(rt: &R, alloc: Global, behind
 
 #[test]
 fn lines_are_refused_by_what_the_machine_does(rt: HostRuntime) {
-    let row = |first, line, moving, standing, adds| Behind {
-        first,
-        line,
-        moving,
-        standing,
-        adds,
-    };
-    let rows = [
+    const ROWS: &[Said] = &[
         // G-code in a jog, whatever it says.
-        row(LONG_JOG, b"G0X10.004", b"error:9\r\n", b"ok\r\n", b"X+\n"),
-        row(LONG_JOG, b"G4P0", b"error:9\r\n", b"ok\r\n", b"D 0\n"),
-        row(LONG_JOG, b"M0", b"error:9\r\n", b"ok\r\n", b""),
-        row(LONG_JOG, b"G21", b"error:9\r\n", b"ok\r\n", b""),
-        row(LONG_JOG, b"X", b"error:9\r\n", b"error:2\r\n", b""),
+        (LONG_JOG, b"G0X10.004", b"error:9\r\n", b"ok\r\n", b"X+\n"),
+        (LONG_JOG, b"G4P0", b"error:9\r\n", b"ok\r\n", b"D 0\n"),
+        (LONG_JOG, b"M0", b"error:9\r\n", b"ok\r\n", b""),
+        (LONG_JOG, b"G21", b"error:9\r\n", b"ok\r\n", b""),
+        (LONG_JOG, b"X", b"error:9\r\n", b"error:2\r\n", b""),
         // Settings in a jog, whether or not they can be read.
-        row(LONG_JOG, b"$110=600", b"error:8\r\n", b"ok\r\n", b""),
-        row(LONG_JOG, b"$5=1", b"error:8\r\n", b"error:3\r\n", b""),
+        (LONG_JOG, b"$110=600", b"error:8\r\n", b"ok\r\n", b""),
+        (LONG_JOG, b"$5=1", b"error:8\r\n", b"error:3\r\n", b""),
         // Jogs while G-code runs.
-        row(
+        (
             LONG_MOVE,
             b"$J=X10.004F9",
             b"error:8\r\n",
             b"ok\r\n",
             b"X+\n",
         ),
-        row(LONG_MOVE, b"$J=X1", b"error:8\r\n", b"error:22\r\n", b""),
-        row(LONG_MOVE, b"$J", b"error:8\r\n", b"error:3\r\n", b""),
-        row(LONG_MOVE, b"$110=600", b"error:8\r\n", b"ok\r\n", b""),
+        (LONG_MOVE, b"$J=X1", b"error:8\r\n", b"error:22\r\n", b""),
+        (LONG_MOVE, b"$J", b"error:8\r\n", b"error:3\r\n", b""),
+        (LONG_MOVE, b"$110=600", b"error:8\r\n", b"ok\r\n", b""),
     ];
-    for behind in &rows {
-        expect_behind(&rt, rt.alloc(), behind);
+    for &(first, line, moving, standing, adds) in ROWS {
+        let behind = Behind {
+            first,
+            line,
+            moving,
+            standing,
+            adds,
+        };
+        expect_behind(&rt, rt.alloc(), &behind);
     }
 }
 
@@ -338,12 +339,12 @@ fn many_jogs_come_behind_one_another(rt: HostRuntime) {
 fn reports_say_that_the_machine_jogs(rt: HostRuntime) {
     let alloc = rt.alloc();
     // The `?` is sent once the jog is answered; in threads the jog may be done by then.
-    let jobs: [&[u8]; 3] = [
+    const JOBS: &[&[u8]] = &[
         b"$J=G91X10F500\n?\n",
         b"$J=G91X10F500\n!?\n",
         b"$J=G91X10F500\n$J=G91X10F500\n$X?\n",
     ];
-    for job in jobs {
+    for &job in JOBS {
         for words in WORDS {
             let left = left_by(&rt, alloc, words, job, LONG_JOG.len());
             let mut reports = left

@@ -2,9 +2,9 @@
 
 use crate::jogs::left_by;
 use crate::realtime::{WORDS, changes_gradually, head_of};
-use crate::runs::{BANNER, Row, Run, expect, text_of, without_heads};
-use grbl_app::{Status, run_grbl};
-use outside::{MemSink, MemSource, OpenGate};
+use crate::runs::{BANNER, Row, Run, expect, run_over, text_of, without_heads};
+use grbl_app::Status;
+use outside::{MemSink, MemSource};
 use std::alloc::Global;
 use std::process::Abort;
 use std::sync::Wait;
@@ -47,7 +47,7 @@ fn expect_alarm<R: Threads + Wait + Sync + Abort>(
 
 #[test]
 fn a_line_that_leaves_the_travel_ends_the_run(rt: HostRuntime) {
-    let rows: [(&[u8], usize, &[u8]); 18] = [
+    const ROWS: &[(&[u8], usize, &[u8])] = &[
         (b"$20=1\nG0X1", 1, b"E\n"),
         // Nothing behind it is answered or done.
         (b"$20=1\nG0X1\nG0X-1\n\n$G\n$X\nX\n", 1, b"E\n"),
@@ -81,7 +81,7 @@ fn a_line_that_leaves_the_travel_ends_the_run(rt: HostRuntime) {
         (b"$20=1.5\nG92X-1\nG53G0X0.004", 2, b"E\n"),
         (b"$20=1\nG20G91G1F9Z0.0001", 1, b"E\n"),
     ];
-    for (job, lines, steps) in rows {
+    for &(job, lines, steps) in ROWS {
         expect_alarm(&rt, rt.alloc(), job, lines, steps);
     }
 }
@@ -89,7 +89,7 @@ fn a_line_that_leaves_the_travel_ends_the_run(rt: HostRuntime) {
 #[test]
 fn lines_inside_the_travel_and_without_limits_are_accepted(rt: HostRuntime) {
     let alloc = rt.alloc();
-    let rows: [(&[u8], usize, &[u8]); 7] = [
+    const ROWS: &[(&[u8], usize, &[u8])] = &[
         (b"$130=1\n$20=0\nG0X0.004", 3, b"X+\nE\n"),
         (b"$20=1\nG0X0Y0Z0\nG28\nG30X0", 4, b"E\n"),
         (b"$20=0\nG0X0.004", 2, b"X+\nE\n"),
@@ -103,7 +103,7 @@ fn lines_inside_the_travel_and_without_limits_are_accepted(rt: HostRuntime) {
         ),
         (b"$20=1\nG10L2P1X-1\nG0X0.996", 3, b"X-\nE\n"),
     ];
-    for (job, lines, steps) in rows {
+    for &(job, lines, steps) in ROWS {
         let answers = text_of(&rt, alloc, &[(b"ok\r\n", lines)]);
         let row = Row {
             job,
@@ -132,7 +132,7 @@ fn a_move_to_the_far_end_of_the_travel_is_whole(rt: HostRuntime) {
 
 #[test]
 fn jogs_outside_and_errors_are_refused_and_the_run_goes_on(rt: HostRuntime) {
-    let rows: [(&[u8], &[u8], &[u8], u32); 9] = [
+    const ROWS: &[(&[u8], &[u8], &[u8], u32)] = &[
         (b"$20=1\n$J=X1F10", b"ok\r\nerror:15\r\n", b"E\n", 1),
         (
             b"$20=1\n$J=X1F10\nG0X-0.004",
@@ -159,7 +159,7 @@ fn jogs_outside_and_errors_are_refused_and_the_run_goes_on(rt: HostRuntime) {
             4,
         ),
     ];
-    for (job, answers, steps, errors) in rows {
+    for &(job, answers, steps, errors) in ROWS {
         let row = Row {
             job,
             answers,
@@ -182,15 +182,7 @@ fn steps_by<R: Threads + Wait + Sync + Abort>(
     let mut source = MemSource::new(job, 4096, &[]);
     let mut console = MemSink::new(alloc, 10_000, &[]).expect(rt, "memory");
     let mut steps = MemSink::new(alloc, 400_000, &[]).expect(rt, "memory");
-    let got = run_grbl(
-        rt,
-        alloc,
-        words,
-        &mut source,
-        &mut console,
-        &mut steps,
-        &OpenGate,
-    );
+    let got = run_over(rt, alloc, words, &mut source, &mut console, &mut steps);
     assert_eq!(rt; got, status);
     assert!(rt; console.held().strip_prefix(BANNER) == Some(answers));
     Vec::from_slice(alloc, steps.held()).expect(rt, "memory")
@@ -250,9 +242,9 @@ fn a_machine_that_runs_slows_down_to_rest(rt: HostRuntime) {
         alloc,
         &[(b"X-\n", 250), (b"M3 5\n", 1), (b"X-\n", 2_500)],
     );
-    let rows = [
+    const ROWS: &[(&[u8], usize)] = &[
         // In the middle of a long move.
-        (b"$20=1\nG0X-10\nX1\n".as_slice(), 2),
+        (b"$20=1\nG0X-10\nX1\n", 2),
         (b"$20=1\nG0X-10\nY0.004", 2),
         // With lines behind it, and between them.
         (b"$20=1\nF500\nG1X-10\nX1\nX-10\nX0\n", 3),
@@ -262,7 +254,7 @@ fn a_machine_that_runs_slows_down_to_rest(rt: HostRuntime) {
         (b"$20=1\nG0X-10\nX1!\n\x85\n", 2),
         (b"$20=1\nG0X-10\nX1\n!!~\x92\x95\x9a\n", 2),
     ];
-    for (job, lines) in rows {
+    for &(job, lines) in ROWS {
         let moving = Moving {
             job,
             lines,

@@ -38,7 +38,7 @@ fn a_stored_point_is_reached_over_the_given_one(rt: HostRuntime) {
 
 #[test]
 fn offsets_by_themselves_move_nothing(rt: HostRuntime) {
-    let rows: [(&[u8], &[u8], &[u8]); 7] = [
+    const ROWS: &[(&[u8], &[u8], &[u8])] = &[
         (b"G92X5", b"ok\r\n", b"E\n"),
         (b"G92X5\nG0X5", b"ok\r\nok\r\n", b"E\n"),
         (b"G10L2P1X10", b"ok\r\n", b"E\n"),
@@ -54,13 +54,13 @@ fn offsets_by_themselves_move_nothing(rt: HostRuntime) {
             b"X+\nX-\nX+\nE\n",
         ),
     ];
-    expect_done(&rt, rt.alloc(), &rows);
+    expect_done(&rt, rt.alloc(), ROWS);
 }
 
 #[test]
 fn changed_steps_per_mm_move_with_the_next_line_of_motion(rt: HostRuntime) {
     // The dwell makes sure that the machine stands where it is set.
-    let rows: [(&[u8], &[u8], &[u8]); 3] = [
+    const ROWS: &[(&[u8], &[u8], &[u8])] = &[
         (
             b"G0X0.004\nG4P0\n$100=500",
             b"ok\r\nok\r\nok\r\n",
@@ -79,5 +79,5 @@ fn changed_steps_per_mm_move_with_the_next_line_of_motion(rt: HostRuntime) {
             b"X+\nD 0\nX+Y+\nE\n",
         ),
     ];
-    expect_done(&rt, rt.alloc(), &rows);
+    expect_done(&rt, rt.alloc(), ROWS);
 }

@@ -1,8 +1,8 @@
 //! Realtime bytes: holds, resumes, pauses and overrides. None of them changes an answer, an event or a mark.
 
-use crate::runs::{BANNER, Run, append_times, expect, text_of, without_heads};
-use grbl_app::{Status, run_grbl};
-use outside::{MemSink, MemSource, OpenGate};
+use crate::runs::{BANNER, Run, append_times, expect, run_over, text_of, without_heads};
+use grbl_app::Status;
+use outside::{MemSink, MemSource};
 use std::alloc::Global;
 use std::process::Abort;
 use std::sync::Wait;
@@ -38,15 +38,7 @@ fn starts_of<R: Threads + Wait + Sync + Abort>(
     let mut source = MemSource::new(job, 4096, &[]);
     let mut console = MemSink::new(alloc, 10_000, &[]).expect(rt, "memory");
     let mut steps = MemSink::new(alloc, 200_000, &[]).expect(rt, "memory");
-    let status = run_grbl(
-        rt,
-        alloc,
-        words,
-        &mut source,
-        &mut console,
-        &mut steps,
-        &OpenGate,
-    );
+    let status = run_over(rt, alloc, words, &mut source, &mut console, &mut steps);
     assert_eq!(rt; status, Status::Done);
     starts(steps.held())
 }
@@ -153,15 +145,7 @@ fn overrides_change_no_speed_at_once(rt: HostRuntime) {
         let mut source = MemSource::new(b"G1X10F500\n\x92\x92\x92\x92\x92\x92\nG1X0\n", 4096, &[]);
         let mut console = MemSink::new(alloc, 1_000, &[]).expect(&rt, "memory");
         let mut steps = MemSink::new(alloc, 200_000, &[]).expect(&rt, "memory");
-        let status = run_grbl(
-            &rt,
-            alloc,
-            words,
-            &mut source,
-            &mut console,
-            &mut steps,
-            &OpenGate,
-        );
+        let status = run_over(&rt, alloc, words, &mut source, &mut console, &mut steps);
         assert_eq!(rt; status, Status::Done);
         assert!(rt; changes_gradually(steps.held()));
     }
@@ -189,28 +173,20 @@ fn a_reset_ends_the_sending(rt: HostRuntime) {
     let alloc = rt.alloc();
     // Nothing behind the reset is sent, nor is its own line; what is recorded is a front of the events of the lines
     // before it. In a comment it is no reset.
-    let rows: [(&[u8], &[u8], usize, Status); 4] = [
+    const ROWS: &[(&[u8], &[u8], usize, Status)] = &[
         (b"G0X100\n\x18", b"ok\r\n", 25_000, Status::Reset),
         (b"G0X1\nX0\x18.5\nX7", b"ok\r\n", 250, Status::Reset),
         (b"\x18G0X1", b"", 0, Status::Reset),
         (b"G0X1(\x18)\n;\x18", b"ok\r\nok\r\n", 250, Status::Done),
     ];
-    for (job, answers, most, status) in rows {
+    for &(job, answers, most, status) in ROWS {
         let mut console = Vec::from_slice(alloc, BANNER).expect(&rt, "memory");
         append_times(&rt, &mut console, answers, 1);
         for words in WORDS {
             let mut source = MemSource::new(job, 3, &[]);
             let mut out = MemSink::new(alloc, 10_000, &[]).expect(&rt, "memory");
             let mut steps = MemSink::new(alloc, 1_000_000, &[]).expect(&rt, "memory");
-            let got = run_grbl(
-                &rt,
-                alloc,
-                words,
-                &mut source,
-                &mut out,
-                &mut steps,
-                &OpenGate,
-            );
+            let got = run_over(&rt, alloc, words, &mut source, &mut out, &mut steps);
             assert_eq!(rt; got, status);
             assert!(rt; console.as_slice().starts_with(out.held()));
             let text = without_heads(&rt, alloc, steps.held());

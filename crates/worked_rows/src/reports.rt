@@ -7,7 +7,7 @@ use grbl_app::Status;
 #[test]
 fn a_report_tells_where_the_machine_is_and_what_lines_left(rt: HostRuntime) {
     let alloc = rt.alloc();
-    let rows: [(&[u8], &[u8], &[(&[u8], usize)]); 11] = [
+    const ROWS: &[(&[u8], &[u8], &[(&[u8], usize)])] = &[
         // Before anything else.
         (
             b"?",
@@ -73,7 +73,7 @@ fn a_report_tells_where_the_machine_is_and_what_lines_left(rt: HostRuntime) {
             &[(b"X+\n", 250), (b"D 0\n", 1)],
         ),
     ];
-    for (job, answers, ticks) in rows {
+    for &(job, answers, ticks) in ROWS {
         let mut steps = text_of(&rt, alloc, ticks);
         append_times(&rt, &mut steps, b"E\n", 1);
         let mut console = Vec::from_slice(alloc, BANNER).expect(&rt, "memory");

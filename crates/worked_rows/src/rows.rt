@@ -1,13 +1,13 @@
 //! Whole runs over a source and sinks in memory.
 
 use crate::realtime::WORDS;
-use crate::runs::{BANNER, Row, Run, expect, expect_row, text_of, without_heads};
-use grbl_app::{Status, run_grbl};
-use outside::{MemSink, MemSource, OpenGate};
+use crate::runs::{BANNER, Row, Run, expect, expect_row, run_over, text_of, without_heads};
+use grbl_app::Status;
+use outside::{MemSink, MemSource};
 
 #[test]
 fn jobs_give_their_answers_and_their_events(rt: HostRuntime) {
-    let rows = [
+    const ROWS: &[Row] = &[
         Row {
             job: b"",
             answers: b"",
@@ -96,7 +96,7 @@ fn jobs_give_their_answers_and_their_events(rt: HostRuntime) {
             status: Status::LineErrors(6),
         },
     ];
-    for row in &rows {
+    for row in ROWS {
         expect_row(&rt, rt.alloc(), row);
     }
 }
@@ -205,15 +205,7 @@ fn steps_that_fail_in_mid_stream_hold_a_front_of_their_text(rt: HostRuntime) {
         let mut source = MemSource::new(b"G0X10", 7, &[]);
         let mut console = MemSink::new(alloc, 100, &[]).expect(&rt, "memory");
         let mut steps = MemSink::new(alloc, 10_000, &[2]).expect(&rt, "memory");
-        let status = run_grbl(
-            &rt,
-            alloc,
-            words,
-            &mut source,
-            &mut console,
-            &mut steps,
-            &OpenGate,
-        );
+        let status = run_over(&rt, alloc, words, &mut source, &mut console, &mut steps);
         assert_eq!(rt; status, Status::StepsFault);
         assert!(rt; console.held() == answered.as_slice());
         // The first write comes once fewer than 192 of 4,096 bytes are free.

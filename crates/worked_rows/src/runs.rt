@@ -41,6 +41,19 @@ pub(crate) fn without_heads<R: Abort>(rt: &R, alloc: Global, text: &[u8]) -> Vec
     rest
 }
 
+/// Runs over devices in memory, with an open gate. Most rows call `run_grbl` by this, since the proof of each function that calls it
+/// goes over all that it promises.
+pub(crate) fn run_over<R: Threads + Wait + Sync + Abort>(
+    rt: &R,
+    alloc: Global,
+    words: &[&str],
+    source: &mut MemSource,
+    console: &mut MemSink,
+    steps: &mut MemSink,
+) -> Status {
+    run_grbl(rt, alloc, words, source, console, steps, &OpenGate)
+}
+
 /// Makes a run, and compares what the sinks hold, but for heads, and the status.
 pub(crate) fn expect<R: Threads + Wait + Sync + Abort>(
     rt: &R,
@@ -53,15 +66,7 @@ pub(crate) fn expect<R: Threads + Wait + Sync + Abort>(
     let mut source = MemSource::new(run.job, run.piece.max(1), run.source_fails);
     let mut out = MemSink::new(alloc, 200_000, run.console_fails).expect(rt, "memory");
     let mut recorder = MemSink::new(alloc, 200_000, run.steps_fails).expect(rt, "memory");
-    let got = run_grbl(
-        rt,
-        alloc,
-        run.words,
-        &mut source,
-        &mut out,
-        &mut recorder,
-        &OpenGate,
-    );
+    let got = run_over(rt, alloc, run.words, &mut source, &mut out, &mut recorder);
     assert_eq!(rt; got, status);
     assert!(rt; out.held() == console);
     assert!(rt; without_heads(rt, alloc, recorder.held()).as_slice() == steps);

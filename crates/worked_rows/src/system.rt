@@ -9,7 +9,7 @@ pub(crate) const LATER_SETTINGS: &[u8] =
 
 #[test]
 fn a_refused_system_line_is_answered_with_its_number(rt: HostRuntime) {
-    let rows: [(&[u8], &[u8]); 17] = [
+    const ROWS: &[(&[u8], &[u8])] = &[
         (b"$Z", b"error:2\r\n"),
         (b"$=1", b"error:2\r\n"),
         (b"$11=", b"error:2\r\n"),
@@ -28,7 +28,7 @@ fn a_refused_system_line_is_answered_with_its_number(rt: HostRuntime) {
         (b"$$1", b"error:3\r\n"),
         (b"$N", b"error:3\r\n"),
     ];
-    expect_answers(&rt, rt.alloc(), &rows, Status::LineErrors(1));
+    expect_answers(&rt, rt.alloc(), ROWS, Status::LineErrors(1));
 }
 
 #[test]
@@ -55,7 +55,7 @@ fn settings_are_listed_as_they_stand(rt: HostRuntime) {
 
 #[test]
 fn modes_offsets_and_the_lock_are_told(rt: HostRuntime) {
-    let rows: [(&[u8], &[u8]); 5] = [
+    const ROWS: &[(&[u8], &[u8])] = &[
         (
             b"$G",
             b"[GC:G0 G54 G17 G21 G90 G94 M5 M9 T0 F0 S0]\r\nok\r\n",
@@ -75,5 +75,5 @@ fn modes_offsets_and_the_lock_are_told(rt: HostRuntime) {
         ),
         (b"$X", b"ok\r\n"),
     ];
-    expect_answers(&rt, rt.alloc(), &rows, Status::Done);
+    expect_answers(&rt, rt.alloc(), ROWS, Status::Done);
 }

@@ -1,12 +1,7 @@
-use Rattle.std.proofs.Common.{◌≡◌, ◌≤◌, ◌+◌, sym, ap, ◌∙◌, arith, subst, append-nil, length, take, List, ℕ}
-use Rattle.units.specs.declared.Steps3.{Steps3}
-use Rattle.step_line.specs.declared.Segment.{Segment}
+use Rattle.std.proofs.Common.{◌≤◌, sym, ◌∙◌, arith, subst}
 use Rattle.step_line.specs.declared.Piece.{Piece}
-use Rattle.step_line.specs.declared.Piece.TheVariants as pieces
-use Rattle.step_line.specs.Pieces.{IsTraceable}
 use Rattle.step_line.specs.Finishing.{tick_count}
 use Rattle.flight.specs.Flights.{IsFit}
-use Rattle.flight.proofs.Counts.{segment_ticks}
 use Rattle.flight.proofs.Places.{few_events, within_move, some_of_one}
 use Rattle.flight.proofs.flight.place_within.Goals as goal
 

@@ -1,4 +1,3 @@
-use Rattle.std.proofs.Common.{sym}
 use Rattle.flight.proofs.Counts.{segment_ticks}
 use Rattle.flight.proofs.flight.tick_count.Goals as goal
 

@@ -7,13 +7,14 @@ use Rattle.link_ports.proofs.tests.answer_line.Goals as goal
 
 pub answer-requires : goal.answer-requires
 answer-requires c = let q = c.requires in let w = c.ranges.answered.fits in
-    ((_, _, _), q.log, (refl, refl, refl, q.did), record { line = λ e. (let f = q.owes in omega arith); text = tt; few = (let f = q.few in omega arith) })
+    ((_, _, _), q.log, (refl, refl, refl, q.did, q.sees), record { line = λ e. (let f = q.owes in omega arith); text = tt; few = (let f = q.few in omega arith) })
 
 pub returns-clause-ok : goal.returns-clause-ok
 returns-clause-ok c = let q = c.requires in let w = c.ranges.answered.fits in on_ok_weaker c.answer.result
-    (λ s. record {
+    (λ s. let t = s (_, _, _) q.log (refl, refl, refl, q.did, q.sees) (record { line = λ e. (let f = q.owes in omega arith); text = tt; few = (let f = q.few in omega arith) }) in record {
       log = answered Ok ∷ q.log;
-      did = (s (_, _, _) q.log (refl, refl, refl, q.did) (record { line = λ e. (let f = q.owes in omega arith); text = tt; few = (let f = q.few in omega arith) })).3;
+      did = t.3;
+      sees = t.4;
       owes = (let m = answer_more Ok q.log _ q.owes in omega arith);
       few = reply_more Ok q.log _ q.few;
     })
@@ -21,8 +22,8 @@ returns-clause-ok c = let q = c.requires in let w = c.ranges.answered.fits in on
 
 pub returns-clause-full : goal.returns-clause-full
 returns-clause-full c = let q = c.requires in on_err_weaker c.answer.result
-    (λ s. let t = (s (_, _, _) q.log (refl, refl, refl, q.did)).0.3 in (
-      record { log = no_reply_room ∷ q.log; did = t; owes = q.owes; few = q.few },
-      record { log = no_reply_room ∷ q.log; did = t; owes = (let f = q.owes in omega arith); few = q.few },
+    (λ s. let t = (s (_, _, _) q.log (refl, refl, refl, q.did, q.sees)).0 in (
+      record { log = no_reply_room ∷ q.log; did = t.3; sees = t.4; owes = q.owes; few = q.few },
+      record { log = no_reply_room ∷ q.log; did = t.3; sees = t.4; owes = (let f = q.owes in omega arith); few = q.few },
     ))
     c.answer.ensures.full

@@ -11,13 +11,14 @@ use Rattle.link_ports.proofs.tests.publish.Goals as goal
 
 pub publish-requires : goal.publish-requires
 publish-requires c = let q = c.requires in let w = c.ranges.ticks.fits in
-    ((_, _, _), q.log, (refl, refl, refl, q.did), record { next = record { going = q.going; follows = search rules }; few = (let f = q.few in omega arith) })
+    ((_, _, _), q.log, (refl, refl, refl, q.did, q.sees), record { next = record { going = q.going; follows = search rules }; few = (let f = q.few in omega arith) })
 
 pub returns-clause-ok : goal.returns-clause-ok
 returns-clause-ok c = let q = c.requires in let w = c.ranges.ticks.fits in on_ok_weaker c.publish.result
-    (λ s. record {
+    (λ s. let t = s (_, _, _) q.log (refl, refl, refl, q.did, q.sees) (record { next = record { going = q.going; follows = search rules }; few = (let f = q.few in omega arith) }) in record {
       log = published (Mark (Dwell 1)) ∷ q.log;
-      did = (s (_, _, _) q.log (refl, refl, refl, q.did) (record { next = record { going = q.going; follows = search rules }; few = (let f = q.few in omega arith) })).3;
+      did = t.3;
+      sees = t.4;
       going = ap has_ended (reverse-append (published_in q.log) (Mark (Dwell 1) ∷ []));
       few = (let f = q.few in let e = together_on (published_in q.log) (Mark (Dwell 1)) in omega arith);
     })
@@ -25,5 +26,5 @@ returns-clause-ok c = let q = c.requires in let w = c.ranges.ticks.fits in on_ok
 
 pub returns-clause-full : goal.returns-clause-full
 returns-clause-full c = let q = c.requires in on_err_weaker c.publish.result
-    (λ s. let t = s (_, _, _) q.log (refl, refl, refl, q.did) in record { log = no_piece_room t.0 ∷ q.log; did = t.1.3; going = q.going; few = q.few })
+    (λ s. let t = s (_, _, _) q.log (refl, refl, refl, q.did, q.sees) in record { log = no_piece_room t.0 ∷ q.log; did = t.1.3; sees = t.1.4; going = q.going; few = q.few })
     c.publish.ensures.full

@@ -1,4 +1,4 @@
-use Rattle.std.proofs.Common.{refl, rules, ap, sym, ◌∙◌}
+use Rattle.std.proofs.Common.{rules, ap, ◌∙◌}
 use Rattle.motion_ring.proofs.Steps.{joins, ties}
 use Rattle.motion_ring.proofs.calls.join_motion.Goals as goal
 

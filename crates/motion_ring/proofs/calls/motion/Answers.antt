@@ -1,4 +1,4 @@
-use Rattle.std.proofs.Common.{refl, rules, ap, ◌∙◌}
+use Rattle.std.proofs.Common.{rules, ap}
 use Rattle.motion_ring.proofs.Steps.{starts, splits}
 use Rattle.motion_ring.proofs.calls.motion.Goals as goal
 

@@ -1,47 +1,55 @@
-use Rattle.std.proofs.Common.{◌+◌, ◌-◌, ◌<◌, drop, take, length-take-le, get_or-take, arith, ◌∙◌}
-use Rattle.profile.specs.Caps.{caps}
-use Rattle.plan_passes.proofs.Filling.{planned_is, planned_to}
+use Rattle.std.proofs.Common.{◌≡◌, ◌+◌, ◌-◌, ◌<◌, ◌^◌, length, get_or, take, drop, arith, ap, sym, subst, ◌∙◌}
+use Rattle.profile.specs.Caps.{caps, planned}
+use Rattle.profile.specs.Settled.{IsLastSettled}
+use Rattle.plan_passes.specs.Tables.{IsOnward}
+use Rattle.plan_passes.proofs.Rows.{first_at, written_at, length-standing}
 use Rattle.plan_passes.proofs.passes.plan_from.Goals as goal
 
-pub plan_from-requires : goal.plan_from-requires
-plan_from-requires g c =
-    let gaps = take c.args.count c.args.gaps.now in
-    let softs = take (c.args.count - 1) c.args.softs.now in
-    let long = length-take-le c.args.count c.args.gaps.now (omega arith) in
+pub plan_points-requires : goal.plan_points-requires
+plan_points-requires g c =
+    let r = c.speeds.inside in
+    let k = r.start + c.args.count + 1 - r.start in
+    let part = take k (drop r.start r.places) in
+    let on : k ≡ c.args.count + 1 = omega arith in
     let some : 0 < c.args.count = omega arith in
-    let on = c.requires.onward some in
+    let room = c.requires.room in
+    let gaps = c.first.ensures in
+    let softs = c.first-2.ensures in
+    let onward = c.requires.onward some in
+    let long : length part ≡ k = length-standing k r.start r.places (omega (arith, c.speeds.invariant, on, room)) in
+    let before = c.requires.before some in
+    let moved : IsOnward c.args.w c.args.from (take c.args.count c.args.gaps.now) (take (c.args.count - 1) c.args.softs.now) part = record {
+      first = onward.first;
+      planned_to = λ j h l.
+          first_at g.row.N r.start r.places k j 0 (omega (arith, l, before, on)) (omega (arith, on, room))
+          ∙ ap (λ xs. get_or xs j 0) c.speeds.view_is ∙ onward.planned_to j h l;
+      settled = onward.settled;
+    } in
     record {
-      before = omega (arith, long, c.requires.before some);
-      planned = (
-        caps c.args.w gaps softs,
-        planned_to c.args.w c.args.from gaps softs c.fill_caps.new.speeds (take (c.args.count + 1) c.args.speeds.now)
-            c.fill_caps.ensures.room on.first c.fill_caps.ensures.first
-            (λ j some' h. get_or-take (c.args.count + 1) c.args.speeds.now j 0 (omega (arith, h, c.requires.before some)) ∙ on.planned_to j some' h)
-            c.fill_caps.ensures.before c.fill_caps.ensures.caps,
-      );
+      few = omega (arith, gaps.long, c.requires.few, room);
+      junctions = omega (arith, gaps.long, softs.long, some);
+      room = omega (arith, long, on, gaps.long);
+      before = omega (arith, before, gaps.long);
+      small = λ i. subst (λ xs. get_or xs i 0 < 2 ^ 71) (sym gaps.part) (c.requires.small i);
+      onward = subst (λ xs. IsOnward c.args.w c.args.from xs c.first-2.result.now part) (sym gaps.part)
+          (subst (λ xs. IsOnward c.args.w c.args.from (take c.args.count c.args.gaps.now) xs part) (sym softs.part) moved);
     }
 
 pub returns-clause-planned : goal.returns-clause-planned
-returns-clause-planned g c = λ j some' h.
-    let gaps = take c.args.count c.args.gaps.now in
-    let softs = take (c.args.count - 1) c.args.softs.now in
-    let long = length-take-le c.args.count c.args.gaps.now (omega arith) in
-    let some : 0 < c.args.count = omega arith in
-    let on = c.requires.onward some in
-    let to = planned_to c.args.w c.args.from gaps softs c.fill_caps.new.speeds (take (c.args.count + 1) c.args.speeds.now)
-    c.fill_caps.ensures.room on.first c.fill_caps.ensures.first
-    (λ j some' h. get_or-take (c.args.count + 1) c.args.speeds.now j 0 (omega (arith, h, c.requires.before some)) ∙ on.planned_to j some' h)
-    c.fill_caps.ensures.before c.fill_caps.ensures.caps in
-    planned_is c.args.w j gaps softs c.plan_from.new.speeds (drop (c.args.count + 1) c.args.speeds.now)
-    (c.plan_from.ensures.planned (caps c.args.w gaps softs) to) (omega (arith, h, long))
+returns-clause-planned g c = λ j some h.
+    let r = c.speeds.inside in
+    let gaps = c.first.ensures in
+    let softs = c.first-2.ensures in
+    let room = c.plan_points.ensures.room in
+    written_at g.row.N r.start r.places (r.start + c.args.count + 1 - r.start) c.plan_points.new.speeds j 0
+    (omega (arith, c.speeds.invariant)) (omega (arith, room, gaps.long, h)) (omega (arith, room, gaps.long, c.requires.room))
+    ∙ c.plan_points.ensures.planned j some (omega (arith, h, gaps.long))
+    ∙ ap (λ xs. planned c.args.w xs c.first-2.result.now j) gaps.part
+    ∙ ap (λ xs. planned c.args.w (take c.args.count c.args.gaps.now) xs j) softs.part
 
 pub returns-clause-settled : goal.returns-clause-settled
 returns-clause-settled g c = λ some.
-    let gaps = take c.args.count c.args.gaps.now in
-    let softs = take (c.args.count - 1) c.args.softs.now in
-    let on = c.requires.onward some in
-    let to = planned_to c.args.w c.args.from gaps softs c.fill_caps.new.speeds (take (c.args.count + 1) c.args.speeds.now)
-    c.fill_caps.ensures.room on.first c.fill_caps.ensures.first
-    (λ j some' h. get_or-take (c.args.count + 1) c.args.speeds.now j 0 (omega (arith, h, c.requires.before some)) ∙ on.planned_to j some' h)
-    c.fill_caps.ensures.before c.fill_caps.ensures.caps in
-    c.plan_from.ensures.settled (caps c.args.w gaps softs) to on.settled
+    let gaps = c.first.ensures in
+    let softs = c.first-2.ensures in
+    subst (λ xs. IsLastSettled xs (caps c.args.w xs (take (c.args.count - 1) c.args.softs.now)) c.plan_points.result) gaps.part
+    (subst (λ xs. IsLastSettled c.first.result.now (caps c.args.w c.first.result.now xs) c.plan_points.result) softs.part c.plan_points.ensures.settled)

@@ -1,5 +1,6 @@
-use Rattle.std.proofs.Common.{◌-◌, arith}
-use Rattle.plan_passes.proofs.Filling.{standing, gap_last}
+use Rattle.std.proofs.Common.{◌-◌, length, take, ap, arith, ◌∙◌}
+use Rattle.plan_rules.specs.Blocks.{gap_of}
+use Rattle.plan_passes.proofs.Filling.{standing, number_last}
 use Rattle.plan_passes.proofs.tables.put_gap.Goals as goal
 
 pub gap-requires : goal.gap-requires
@@ -9,5 +10,6 @@ gap-requires g c =
 
 pub returns : goal.returns
 returns g c =
-    gap_last c.args.ring.now c.args.gaps.now c.len-count.result c.gap.result c.block_at.result.now c.len-count.ensures.len c.requires.some
-    (omega (arith, c.len-count.ensures.few, c.len-count.ensures.len)) c.block_at.ensures c.gap.ensures.gap c.requires.before
+    ap (take (length c.args.ring.now)) c.put.ensures.put
+    ∙ number_last gap_of c.args.ring.now c.args.gaps.now c.len-count.result c.gap.result c.block_at.result.now c.len-count.ensures.len c.requires.some
+    (omega (arith, c.len-count.ensures.few, c.len-count.ensures.len, c.put.ensures.places)) c.block_at.ensures c.gap.ensures.gap c.requires.before

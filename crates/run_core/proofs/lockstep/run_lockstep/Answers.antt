@@ -1,20 +1,17 @@
-use Rattle.run_core.proofs.Schedules.{some_nothing, some_more, order_nothing, order_more}
-use Rattle.run_core.proofs.Ending.{none_ended, stay_ended, ends_too}
+use Rattle.run_core.specs.Lockstep.{order_from}
+use Rattle.run_core.proofs.Schedules.{order_nothing}
+use Rattle.run_core.proofs.Ending.{none_ended}
 use Rattle.run_core.proofs.lockstep.run_lockstep.Goals as goal
 
 pub loop-init : goal.loop-init
-loop-init g c = (some_nothing _ _, order_nothing _ _ _, none_ended _)
+loop-init g c = (order_nothing _ _ _, none_ended _)
 
 pub loop-preserved : goal.loop-preserved
-loop-preserved g c = (
-  some_more _ _ _ _ _ _ _ _ c.loop.invariant.0 c.turn-turn.ensures.goes_on,
-  order_more _ _ _ _ _ _ _ _ _ _ _ c.loop.invariant.1 c.next-actor.ensures.state c.next-actor.ensures.chosen c.turn-turn.ensures.goes_on,
-  stay_ended _ _ _ _ c.turn-turn.ensures.alone (λ d. (c.turn-turn.ensures.still d).0) c.loop.invariant.2,
-)
+loop-preserved g c = (c.take_turns.ensures.goes_on _ _ _ c.loop.invariant.0, c.take_turns.ensures.ended c.loop.invariant.1)
 
-pub loop-preserved-else-all : goal.loop-preserved-else-all
-loop-preserved-else-all g c = (
-  some_more _ _ _ _ _ _ _ _ c.loop.invariant.0 c.turn-turn.ensures.goes_on,
-  order_more _ _ _ _ _ _ _ _ _ _ _ c.loop.invariant.1 c.next-actor.ensures.state c.next-actor.ensures.chosen c.turn-turn.ensures.goes_on,
-  ends_too _ _ _ _ _ c.add.ensures (c.turn-turn.ensures.done.0 c.in-Done.is) c.turn-turn.ensures.alone (λ d. (c.turn-turn.ensures.still d).0) c.loop.invariant.2,
-)
+pub returns-then-take_turns-clause-goes_on : goal.returns-then-take_turns-clause-goes_on
+returns-then-take_turns-clause-goes_on g c =
+    let so = (c.take_turns.ensures.goes_on _ _ _ c.loop.invariant.0).order in record { schedule = order_from c.args.seed so.count; runs = so.runs }
+
+pub returns-then-take_turns-clause-order : goal.returns-then-take_turns-clause-order
+returns-then-take_turns-clause-order g c = (c.take_turns.ensures.goes_on _ _ _ c.loop.invariant.0).order

@@ -6,24 +6,24 @@ use Rattle.board_rules.specs.Breaking.Doings.{goes}
 use Rattle.run_core.proofs.loops.run_board.Goals as goal
 
 pub loop-init : goal.loop-init
-loop-init g c = record { journal = goes []; link = refl; flags = refl; pieces = refl; did = c.requires.did; fits = c.requires.fits; between = refl }
+loop-init g c = record { journal = goes []; link = refl; flags = refl; pieces = refl; did = c.requires.did; sees = c.requires.sees; fits = c.requires.fits; between = refl }
 
 pub turn-requires : goal.turn-requires
 turn-requires g c =
     let i = c.loop.invariant in
     let port = c.args.side.now.link in
-    record { stands = ((link_of_board port.end, taken_in port.flags, ring_of_out port.pieces), i.journal, (i.link, i.flags, i.pieces, i.did), i.fits, i.between) }
+    record { stands = ((link_of_board port.end, taken_in port.flags, ring_of_out port.pieces), i.journal, (i.link, i.flags, i.pieces, i.did, i.sees), i.fits, i.between) }
 
 pub loop-preserved-in-Did : goal.loop-preserved-in-Did
 loop-preserved-in-Did g c =
     let i = c.loop.invariant in
     let port = c.args.side.now.link in
-    let t = c.turn.ensures.goes_on (link_of_board port.end, taken_in port.flags, ring_of_out port.pieces) i.journal (i.link, i.flags, i.pieces, i.did) i.fits i.between in
-    record { journal = t.0; link = t.1.0; flags = t.1.1; pieces = t.1.2; did = t.1.3; fits = t.2; between = t.3 }
+    let t = c.turn.ensures.goes_on (link_of_board port.end, taken_in port.flags, ring_of_out port.pieces) i.journal (i.link, i.flags, i.pieces, i.did, i.sees) i.fits i.between in
+    record { journal = t.0; link = t.1.0; flags = t.1.1; pieces = t.1.2; did = t.1.3; sees = t.1.4; fits = t.2; between = t.3 }
 
 pub loop-preserved : goal.loop-preserved
 loop-preserved g c =
     let i = c.loop.invariant in
     let port = c.args.side.now.link in
-    let t = c.turn.ensures.goes_on (link_of_board port.end, taken_in port.flags, ring_of_out port.pieces) i.journal (i.link, i.flags, i.pieces, i.did) i.fits i.between in
-    record { journal = t.0; link = t.1.0; flags = t.1.1; pieces = t.1.2; did = t.1.3; fits = t.2; between = t.3 }
+    let t = c.turn.ensures.goes_on (link_of_board port.end, taken_in port.flags, ring_of_out port.pieces) i.journal (i.link, i.flags, i.pieces, i.did, i.sees) i.fits i.between in
+    record { journal = t.0; link = t.1.0; flags = t.1.1; pieces = t.1.2; did = t.1.3; sees = t.1.4; fits = t.2; between = t.3 }

@@ -3,7 +3,7 @@ use Rattle.motion_ring.specs.Ends.{ring_of_in}
 use Rattle.run_core.proofs.loops.run_pulse.Goals as goal
 
 pub loop-init : goal.loop-init
-loop-init g c = record { got = []; put = []; pieces = c.requires.got; records = (((refl, refl, refl, refl), refl), c.requires.put); fits = c.requires.fits }
+loop-init g c = record { got = []; put = []; pieces = c.requires.got; records = (((refl, refl, refl, refl), refl), c.requires.put, tt); fits = c.requires.fits }
 
 pub turn-requires : goal.turn-requires
 turn-requires g c = let i = c.loop.invariant in (ring_of_in c.args.side.now.pieces.end, c.args.side.now.records, i.got, i.put, i.pieces, i.records, i.fits)

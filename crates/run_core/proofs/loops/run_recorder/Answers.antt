@@ -2,7 +2,7 @@ use Rattle.std.proofs.Common.{[], refl}
 use Rattle.run_core.proofs.loops.run_recorder.Goals as goal
 
 pub loop-init : goal.loop-init
-loop-init g c = record { log = []; records = (((refl, refl, refl, refl), refl), c.requires.taken); fits = c.requires.fits (g.S.Sink.state c.args.steps.now) }
+loop-init g c = record { log = []; records = (((refl, refl, refl, refl), refl), c.requires.taken, tt); fits = c.requires.fits (g.S.Sink.state c.args.steps.now) }
 
 pub turn-requires : goal.turn-requires
 turn-requires g c = let i = c.loop.invariant in (c.args.side.now.records, i.log, i.records)

@@ -1,4 +1,4 @@
-use Rattle.std.proofs.Common.{◌≡◌, ◌<◌, ◌+◌, ◌-◌, ◌++◌, ◌∷◌, [], List, ℕ, length, drop, sym, ap, ◌∙◌, arith, subst, take, take_all}
+use Rattle.std.proofs.Common.{◌≡◌, ◌<◌, ◌+◌, List, length, drop, sym, ap, ◌∙◌, arith, subst, take, take_all}
 use Rattle.units.specs.declared.Steps3.{Steps3}
 use Rattle.step_line.specs.declared.Piece.{Piece}
 use Rattle.step_line.specs.Pieces.{ticks_of}

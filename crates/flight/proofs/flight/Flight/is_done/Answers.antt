@@ -1,4 +1,4 @@
-use Rattle.std.proofs.Common.{◌≡◌, true, false, Bool, not, sym, ap, ◌∙◌, refl}
+use Rattle.std.proofs.Common.{◌≡◌, true, false, Bool, not, sym, ◌∙◌, refl}
 use Rattle.std.specs.Option.{is_some}
 use Rattle.flight.proofs.Flying.{none_left, all_there}
 use Rattle.flight.proofs.flight.Flight.is_done.Goals as goal

@@ -1,4 +1,4 @@
-use Rattle.std.proofs.Common.{◌≡◌, ℕ, max, min, length, ap, ◌∙◌, arith, subst, List}
+use Rattle.std.proofs.Common.{ℕ, max, min, ap, ◌∙◌, arith, subst, List}
 use Rattle.step_line.specs.declared.Piece.{Piece}
 use Rattle.step_line.specs.Finishing.{ticks_together}
 use Rattle.flight.specs.Flights.{Flies}

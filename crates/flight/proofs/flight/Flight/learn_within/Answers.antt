@@ -1,4 +1,4 @@
-use Rattle.std.proofs.Common.{◌≡◌, ◌<◌, List, length, ap, ◌∙◌, arith, subst, take, sym, max, min}
+use Rattle.std.proofs.Common.{◌≡◌, ◌<◌, length, ap, ◌∙◌, arith, subst, take, sym, max, min}
 use Rattle.step_line.specs.Finishing.{ticks_together}
 use Rattle.flight.specs.Flights.{Flying, Flies}
 use Rattle.flight.proofs.Flying.{none_more, learned_within, no_pieces, some_pieces}

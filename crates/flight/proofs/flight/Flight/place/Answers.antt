@@ -1,4 +1,4 @@
-use Rattle.std.proofs.Common.{◌≡◌, ◌<◌, ◌+◌, ◌-◌, ◌++◌, ◌∷◌, [], List, ℕ, length, drop, sym, ap, ◌∙◌, arith, subst, take, refl}
+use Rattle.std.proofs.Common.{◌≡◌, ◌-◌, List, drop, sym, ap, ◌∙◌, arith, subst, take, refl}
 use Rattle.step_line.specs.declared.Piece.{Piece}
 use Rattle.flight.specs.Flights.{Flying, BeginsAt, EndsWithin}
 use Rattle.flight.specs.Places.{moved_by}

@@ -1,7 +1,7 @@
-use Rattle.std.proofs.Common.{◌≡◌, ◌<◌, ◌++◌, ◌∷◌, [], List, ℕ, length, sym, ap, ◌∙◌, arith, subst, take}
+use Rattle.std.proofs.Common.{◌≡◌, ◌<◌, ◌++◌, ◌∷◌, [], List, length, sym, ap, arith, subst, take}
 use Rattle.step_line.specs.declared.Piece.{Piece}
 use Rattle.step_line.specs.Finishing.{tick_count}
-use Rattle.flight.specs.Flights.{Flying, Flies, flight_room, IsKept}
+use Rattle.flight.specs.Flights.{Flying, Flies, flight_room}
 use Rattle.flight.proofs.Flying.{pushed}
 use Rattle.flight.proofs.Slots.{in_use, pushed_slots, pushed_flight}
 use Rattle.flight.proofs.flight.Flight.push.Goals as goal

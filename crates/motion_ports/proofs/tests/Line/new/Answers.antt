@@ -8,7 +8,7 @@ invariant_of-result c = let q = c.requires.idle in record {
   put = [];
   ring = ring_of_in c.args.end;
   start = c.args.records.end;
-  pieces_are = (refl, q.0, q.1, q.2);
-  records_are = (search rules, c.requires.fresh);
+  pieces_are = (refl, q.0, q.1, q.2, q.3, tt);
+  records_are = (search rules, c.requires.fresh, tt);
   fits = c.new.ensures;
 }

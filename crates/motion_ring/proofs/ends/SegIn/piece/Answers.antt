@@ -1,4 +1,4 @@
-use Rattle.std.proofs.Common.{◌≡◌, ℕ, ◌+◌, ◌-◌, ◌%◌, ◌<◌, ◌≤◌, true, false, Some, None, [], ◌∷◌, List, length, refl, sym, ap, ◌∙◌, rules, arith}
+use Rattle.std.proofs.Common.{◌≡◌, ◌%◌, Some, ◌∷◌, length, sym, ap, ◌∙◌, rules, arith}
 use Rattle.atomic_table.specs.Table.{rest}
 use Rattle.motion_ring.proofs.Steps.{grasps}
 use Rattle.motion_ring.proofs.ends.SegIn.piece.Goals as goal

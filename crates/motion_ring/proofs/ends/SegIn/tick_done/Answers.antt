@@ -1,4 +1,4 @@
-use Rattle.std.proofs.Common.{◌≡◌, ℕ, ◌+◌, ◌-◌, ◌%◌, ◌<◌, ◌≤◌, true, false, Some, None, [], ◌∷◌, List, length, refl, sym, ap, ◌∙◌, subst, rules, arith}
+use Rattle.std.proofs.Common.{◌+◌, refl, sym, subst, rules, arith}
 use Rattle.std.specs.declared.option.Option.{Option}
 use Rattle.atomic_table.specs.Table.{Me, step, Allows}
 use mathlib.Core.Option.{none}

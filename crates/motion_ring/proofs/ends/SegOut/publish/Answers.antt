@@ -1,4 +1,4 @@
-use Rattle.std.proofs.Common.{◌≡◌, ℕ, ◌+◌, ◌-◌, ◌%◌, ◌<◌, ◌≤◌, true, false, Some, None, [], ◌∷◌, List, length, get_or, length-append, refl, sym, ap, ◌∙◌, subst, rules, arith}
+use Rattle.std.proofs.Common.{◌≡◌, ◌+◌, ◌%◌, Some, [], ◌∷◌, length, get_or, refl, sym, ap, ◌∙◌, subst, rules, arith}
 use Rattle.std.specs.declared.option.Option.{Option}
 use mathlib.Core.Option.{none}
 use Rattle.atomic_table.specs.Table.{Me, rest, step, Allows}
@@ -6,7 +6,7 @@ use Rattle.step_line.specs.declared.Piece.{Piece}
 use Rattle.motion_ring.specs.declared.view.Sight.{Sight}
 use Rattle.motion_ring.specs.Rule.{Kept, with_slot, published}
 use Rattle.motion_ring.specs.Ticks.{room_from, unfinished_of, earlier_ticks}
-use Rattle.step_line.specs.Finishing.{tick_count, ticks_together}
+use Rattle.step_line.specs.Finishing.{ticks_together}
 use Rattle.step_line.proofs.Finished.{together}
 use Rattle.motion_ring.proofs.Ticks.{few_unfinished, many_unfinished}
 use Rattle.motion_ring.proofs.Steps.{reaches, publishes}

@@ -1,9 +1,11 @@
 use Rattle.std.proofs.Common.{◌≡◌, ℕ, ◌+◌, ◌<◌, length, refl, arith, rules, ap, sym, subst, ◌∙◌}
 use Rattle.std.proofs.lemmas.List.{length_push}
 use Rattle.plan_rules.specs.Plans.{Planned}
-use Rattle.plan_passes.proofs.Filling.{gaps_before, softs_before, row_small}
+use Rattle.plan_rules.specs.Blocks.{gap_of, hard_of}
+use Rattle.plan_passes.proofs.Filling.{numbers_before, joints_before, softs_before, row_small}
 use Rattle.plan_rules.proofs.Reached.{fresh_block, added_reached}
 use Rattle.plan_passes.proofs.Kept.{kept_anew}
+use Rattle.plan_passes.proofs.Nominals.{nominals_before}
 use Rattle.plan_passes.proofs.Onward.{onward_more, onward_before}
 use Rattle.plan_passes.proofs.Paces.{pace_added}
 use Rattle.plan_passes.proofs.plan.Plan.add.Goals as goal
@@ -15,7 +17,7 @@ put_gap-requires g c =
     let reached = added_reached p.ring c.push.new.self p.speed p.overrides c.args.o.now _
     c.in-Ok.ensures.ok c.self.invariant.0.reached block c.requires.overrides in
     let more : length c.push.new.self ≡ length p.ring + 1 = ap length c.in-Ok.ensures.ok ∙ length_push p.ring _ in
-    let before = gaps_before p.ring c.push.new.self _ p.gaps c.in-Ok.ensures.ok c.self.invariant.0.tabled.gaps in
+    let before = numbers_before gap_of p.ring c.push.new.self _ p.gaps c.in-Ok.ensures.ok c.self.invariant.0.tabled.gaps in
     (search rules, (search rules, (omega (arith, more), (reached.each, before))))
 
 pub put_soft-requires : goal.put_soft-requires
@@ -24,10 +26,13 @@ put_soft-requires g c =
     let block = fresh_block c.args.b c.entry_cap-entry.result c.requires.rate c.requires.geom c.requires.fresh in
     let reached = added_reached p.ring c.push.new.self p.speed p.overrides c.args.o.now _
     c.in-Ok.ensures.ok c.self.invariant.0.reached block c.requires.overrides in
+    let more : length c.push.new.self ≡ length p.ring + 1 = ap length c.in-Ok.ensures.ok ∙ length_push p.ring _ in
     let same : 0 < length p.ring → c.args.o.now ≡ p.overrides = λ some.
     c.requires.same (subst (λ (p : Planned). 0 < length p.blocks) c.self.view_is some) ∙ ap (λ (p : Planned). p.overrides) (sym c.self.view_is) in
-    let before = softs_before c.args.o.now p.overrides p.ring c.push.new.self _ p.softs c.in-Ok.ensures.ok same c.self.invariant.0.tabled.softs in
-    (search rules, (search rules, (reached.each, (c.requires.overrides, before))))
+    let nominals = nominals_before c.args.o.now p.overrides p.ring c.push.new.self _ p.nominals c.in-Ok.ensures.ok same c.self.invariant.2 in
+    let softs = softs_before c.args.o.now p.overrides p.ring c.push.new.self _ p.softs c.in-Ok.ensures.ok same c.self.invariant.0.tabled.softs in
+    let hards = joints_before hard_of p.ring c.push.new.self _ p.hards c.in-Ok.ensures.ok c.self.invariant.3 in
+    (search rules, (search rules, (omega (arith, more), (reached.each, (c.requires.overrides, (nominals, (hards, softs)))))))
 
 pub plan_from-self-inside-requires : goal.plan_from-self-inside-requires
 plan_from-self-inside-requires g c =
@@ -42,7 +47,7 @@ plan_from-self-inside-requires g c =
     let small = λ (i : ℕ). row_small c.push.new.self c.len-count.result c.put_gap.new.gaps i c.len-count.ensures.len c.put_gap.ensures reached.each in
     let onward = λ (some : 0 < c.len-count.result). onward_more p.speed c.len-count.result p.settled p.ring c.push.new.self _ p.overrides c.args.o.now p.planned
     c.put_gap.new.gaps c.put_soft.new.softs c.in-Ok.ensures.ok same c.len-count.ensures.len
-    (record { gaps = c.put_gap.ensures; softs = c.put_soft.ensures }) c.self.invariant.0.pointer c.self.invariant.0.planned reached in
+    (record { gaps = c.put_gap.ensures; softs = c.put_soft.ensures.softs }) c.self.invariant.0.pointer c.self.invariant.0.planned reached in
     let few = c.self.invariant.0.few in
     let count = c.len-count.ensures.few in (
       search rules,
@@ -76,7 +81,9 @@ invariant_of-self-in-Ok g c =
     let same : 0 < length p.ring → c.args.o.now ≡ p.overrides = λ some.
     c.requires.same (subst (λ (p : Planned). 0 < length p.blocks) c.self.view_is some) ∙ ap (λ (p : Planned). p.overrides) (sym c.self.view_is) in (
       kept_anew g.row.N p.speed c.len-count.result c.plan_from-self-inside.result c.push.new.self c.args.o.now c.plan_from-self-inside.new.speeds c.put_gap.new.gaps c.put_soft.new.softs
-          kept.some kept.few (omega (arith, more, room)) reached (record { gaps = c.put_gap.ensures; softs = c.put_soft.ensures })
+          kept.some kept.few (omega (arith, more, room)) reached (record { gaps = c.put_gap.ensures; softs = c.put_soft.ensures.softs })
           c.len-count.ensures.len c.plan_from-self-inside.ensures.planned c.plan_from-self-inside.ensures.settled c.plan_from-self-inside.ensures.none,
       pace_added p.ring c.push.new.self _ p.overrides c.args.o.now p.pace c.in-Ok.ensures.ok same c.self.invariant.1,
+      c.put_soft.ensures.nominals,
+      c.put_soft.ensures.hards,
     )

@@ -4,7 +4,9 @@ use Rattle.plan_rules.specs.Plans.{Planned, IsReached}
 use Rattle.plan_rules.specs.Segments.{IsSegment}
 use Rattle.plan_passes.proofs.Filling.{row_small}
 use Rattle.plan_rules.proofs.Reached.{moved_reached, length-moved, legal_step, segment_some, segment_within}
+use Rattle.plan_passes.proofs.Hards.{hards_moved}
 use Rattle.plan_passes.proofs.Kept.{kept_anew, kept_on, tabled_moved}
+use Rattle.plan_passes.proofs.Nominals.{nominals_moved}
 use Rattle.plan_passes.proofs.Onward.{onward_anew}
 use Rattle.plan_passes.proofs.Paces.{pace_moved}
 use Rattle.plan_passes.proofs.plan.Plan.advance.Goals as goal
@@ -55,7 +57,7 @@ invariant_of-self g c =
     let kept = c.self.invariant.0 in
     let segment = subst (λ (p : Planned). IsSegment p c.args.n c.args.w) (sym c.self.view_is) c.requires in
     let now = c.prepare-gap.ensures.moved in
-    let reach : distance c.args.w (get_or p.planned 1 0) ≤ c.prepare-gap.result = omega (arith, c.abs_diff.ensures) in
+    let reach : distance c.args.w (get_or p.planned 1 0) ≤ c.prepare-gap.result = omega (arith, c.abs_diff.ensures, c.at-exit.ensures 0) in
     let tabled = tabled_moved g.row.N c.args.n c.prepare-gap.result p.overrides p.gaps c.put_first.new.gaps p.softs c.put_first.new.softs
     c.put_first.ensures.gaps_left c.put_first.ensures.softs_left c.put_first.ensures.gaps_gone c.put_first.ensures.softs_gone
     p.speed c.args.w p.settled p.planned p.ring c.prepare-gap.new.ring kept segment now c.prepare-gap.ensures.gap in (
@@ -65,6 +67,10 @@ invariant_of-self g c =
           p.ring c.prepare-gap.new.ring kept segment now c.prepare-gap.ensures.gap reach tabled,
       pace_moved p.speed c.args.n c.args.w c.prepare-gap.result p.overrides p.pace c.pace_behind.new.kept p.ring c.prepare-gap.new.ring
           c.pace_behind.ensures.left c.pace_behind.ensures.gone kept.reached segment now c.prepare-gap.ensures.gap c.self.invariant.1,
+      nominals_moved g.row.N c.args.n c.prepare-gap.result p.speed c.args.w p.overrides p.nominals c.put_first.new.nominals p.ring c.prepare-gap.new.ring
+          c.put_first.ensures.nominals_left c.put_first.ensures.nominals_gone kept.room kept.reached segment now c.prepare-gap.ensures.gap c.self.invariant.2,
+      hards_moved g.row.N c.args.n c.prepare-gap.result p.speed c.args.w p.overrides p.hards c.put_first.new.hards p.ring c.prepare-gap.new.ring
+          c.put_first.ensures.hards_left c.put_first.ensures.hards_gone kept.room kept.reached segment now c.prepare-gap.ensures.gap c.self.invariant.3,
     )
 
 pub invariant_of-self-2 : goal.invariant_of-self-2
@@ -85,6 +91,10 @@ invariant_of-self-2 g c =
           c.plan_from-self-inside.ensures.planned c.plan_from-self-inside.ensures.settled c.plan_from-self-inside.ensures.none,
       pace_moved p.speed c.args.n c.args.w c.prepare-gap.result p.overrides p.pace c.pace_behind.new.kept p.ring c.prepare-gap.new.ring
           c.pace_behind.ensures.left c.pace_behind.ensures.gone kept.reached segment now c.prepare-gap.ensures.gap c.self.invariant.1,
+      nominals_moved g.row.N c.args.n c.prepare-gap.result p.speed c.args.w p.overrides p.nominals c.put_first.new.nominals p.ring c.prepare-gap.new.ring
+          c.put_first.ensures.nominals_left c.put_first.ensures.nominals_gone kept.room kept.reached segment now c.prepare-gap.ensures.gap c.self.invariant.2,
+      hards_moved g.row.N c.args.n c.prepare-gap.result p.speed c.args.w p.overrides p.hards c.put_first.new.hards p.ring c.prepare-gap.new.ring
+          c.put_first.ensures.hards_left c.put_first.ensures.hards_gone kept.room kept.reached segment now c.prepare-gap.ensures.gap c.self.invariant.3,
     )
 
 pub returns-then-abs_diff-gap-clause-legal : goal.returns-then-abs_diff-gap-clause-legal

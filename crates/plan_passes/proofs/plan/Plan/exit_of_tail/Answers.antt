@@ -9,7 +9,7 @@ returns-clause-profile g c =
     let p : Planned = plan_of inside.ring inside.speed inside.overrides in
     let some : 0 < length inside.ring = subst (λ (p : Planned). 0 < length p.blocks) (sym c.self.view_is) c.requires in
     let exit = c.self.invariant.0.planned 1 (omega arith) (omega arith) in
-    subst (λ (p : Planned). get_or inside.planned 1 0 ≡ get_or (profile_of p) 1 0) c.self.view_is (exit ∙ exit_at p some)
+    subst (λ (p : Planned). c.at.result ≡ get_or (profile_of p) 1 0) c.self.view_is (c.at.ensures 0 ∙ exit ∙ exit_at p some)
 
 pub returns-clause-greatest : goal.returns-clause-greatest
 returns-clause-greatest g c = greatest_plan c.args.self.now (subst IsReached c.self.view_is c.self.invariant.0.reached) c.requires

@@ -22,7 +22,7 @@ plan_from-requires g c =
               λ some. some,
               (
                 λ i. row_small p.ring c.len-count.result p.gaps i c.len-count.ensures.len kept.tabled.gaps kept.reached.each,
-                onward_anew p.speed c.len-count.result p.ring p.overrides p.planned p.gaps p.softs c.len-count.ensures.len kept.tabled kept.reached,
+                onward_anew p.speed c.len-count.result p.ring p.overrides c.new-speeds.result p.gaps p.softs c.len-count.ensures.len kept.tabled kept.reached,
               ),
             ),
           ),

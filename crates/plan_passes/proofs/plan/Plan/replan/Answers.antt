@@ -25,7 +25,7 @@ plan_from-self-inside-requires g c =
               (
                 λ i. row_small p.ring c.len-count.result p.gaps i c.len-count.ensures.len kept.tabled.gaps kept.reached.each,
                 onward_anew p.speed c.len-count.result p.ring c.args.o.now p.planned p.gaps c.fill_softs.new.softs c.len-count.ensures.len
-                    (record { gaps = kept.tabled.gaps; softs = c.fill_softs.ensures }) reached,
+                    (record { gaps = kept.tabled.gaps; softs = c.fill_softs.ensures.softs }) reached,
               ),
             ),
           ),
@@ -39,7 +39,9 @@ invariant_of-self g c =
     let kept = c.self.invariant.0 in
     let reached = reached_replanned p.ring p.speed p.overrides c.args.o.now kept.reached c.requires in (
       kept_anew g.row.N p.speed c.len-count.result c.plan_from-self-inside.result p.ring c.args.o.now c.plan_from-self-inside.new.speeds p.gaps c.fill_softs.new.softs
-          kept.some kept.few kept.room reached (record { gaps = kept.tabled.gaps; softs = c.fill_softs.ensures })
+          kept.some kept.few kept.room reached (record { gaps = kept.tabled.gaps; softs = c.fill_softs.ensures.softs })
           c.len-count.ensures.len c.plan_from-self-inside.ensures.planned c.plan_from-self-inside.ensures.settled c.plan_from-self-inside.ensures.none,
       no_pace p.ring c.args.o.now _ refl,
+      c.fill_softs.ensures.nominals,
+      c.self.invariant.3,
     )

@@ -1,8 +1,8 @@
-use Rattle.std.proofs.Common.{refl, ◌≡◌, ◌++◌, ◌∷◌, [], ap, ◌∙◌, append-nil}
-use Rattle.gcode_words.specs.Stripping.{plain, kept_by}
+use Rattle.std.proofs.Common.{refl, sym, None, ◌≡◌, ◌++◌, ◌∷◌, [], ap, ◌∙◌, append-nil}
+use Rattle.gcode_words.specs.Stripping.{plain, kept_by, taken_by}
 use Rattle.gcode_words.proofs.Fed.{not_kept}
 use Rattle.stream_host.proofs.Kept.{begun_more}
-use Rattle.stream_host.proofs.Raising.{due_more, reset_more}
+use Rattle.stream_host.proofs.Raising.{due_more, none_reset, reset_more}
 use Rattle.stream_host.proofs.line.SentLine.feed.Goals as goal
 
 pub returns-in-Keep-clause-fed : goal.returns-in-Keep-clause-fed
@@ -14,16 +14,16 @@ returns-in-Keep-clause-fed c = λ bytes was.
       stripper = c.keep.ensures.stripper ∙ fed.comment bytes c.requires.text was.stripper;
       kept = rw more (c.keep.ensures.kept (plain bytes) was.kept);
       long = rw more (c.keep.ensures.long (plain bytes) was.kept was.long);
-      reset = c.keep.ensures.reset ∙ reset_more bytes c.args.byte c.feed-stripped.result _ _ (fed.taken bytes c.requires.text was.stripper) was.reset c.is_reset.ensures;
+      reset = c.keep.ensures.reset ∙ none_reset bytes c.args.byte c.feed-stripped.result _ (fed.taken bytes c.requires.text was.stripper) (ap taken_by c.in-Keep.is) was.reset;
       begun = c.keep.ensures.begun ∙ begun_more bytes c.args.byte;
     }
 
 pub returns-in-Keep-clause-due : goal.returns-in-Keep-clause-due
 returns-in-Keep-clause-due c = λ bytes was.
-    rw c.keep.ensures.due (due_more bytes c.args.byte c.feed-stripped.result c.due_in-self.result (c.feed-stripped.ensures.taken bytes c.requires.text was.stripper) c.due_in-self.ensures)
+    rw (c.keep.ensures.due, c.requires.none_due) (due_more bytes c.args.byte c.feed-stripped.result None (c.feed-stripped.ensures.taken bytes c.requires.text was.stripper) (sym (ap taken_by c.in-Keep.is)))
 
-pub returns-in_default : goal.returns-in_default
-returns-in_default c = record {
+pub returns : goal.returns
+returns c = record {
   fed = λ bytes was.
       let fed = c.feed-stripped.ensures in
       let same : plain (bytes ++ c.args.byte ∷ []) ≡ plain bytes =

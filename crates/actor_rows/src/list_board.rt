@@ -1,0 +1,250 @@
+//! A board that is a plain list, and a host over it.
+
+ghost use Rattle.std.specs.Prelude.{◌≡◌, ◌+◌, ◌≤◌, []};
+
+use code_table::realtime_rows;
+use outside::{MemSink, MemSource, OutOfMemory, Sink, Turn};
+use overrides::Overrides;
+use realtime_flags::Raised;
+use serial_ring::Stored;
+use status_report::{Message, Reply, Report, State};
+use std::alloc::Global;
+use std::marker::Model;
+use stream_host::{Host, HostPort};
+use units::Nm3;
+
+/// A board that takes each byte at once, also those that are raised. It tells the banner, reports where it was asked
+/// to, answers the lines one by one, and says Bye once the link is closed and each line has its answer. A line may raise an
+/// alarm: no line from there on has an answer. So many polls find no reply before each reply.
+#[derive(Drop)]
+pub(crate) struct Board<'a> {
+    taken: MemSink<'a>,
+    /// Among what is taken stand a `<` for each report, a `=` for each answer and a `#` for an alarm, at the place where they
+    /// are told.
+    pub(crate) marked: bool,
+    /// A `?` was raised, and nothing is reported since.
+    asked: bool,
+    /// Lines that have no answer.
+    owed: u32,
+    told: u32,
+    /// Every second line is refused.
+    pub(crate) strict: bool,
+    /// The number of the line that raises an alarm, or 0.
+    pub(crate) limit: u32,
+    /// An alarm is told, and its message is not.
+    locks: bool,
+    pause: u32,
+    polls: u32,
+    pub(crate) shut: bool,
+    over: bool,
+}
+
+impl Board<'_> {
+    ghost use Rattle.std.specs.Prelude.{◌≡◌, true, false};
+    ghost use Rattle.status_report.specs.Replies.{IsReply};
+    ghost use Rattle.status_report.specs.Answering.{is_answer};
+
+    /// What is answered to a line.
+    fn answer(&self) -> Reply
+        ensures text { IsReply result }
+        ensures answers { is_answer result ≡ true }
+    {
+        if self.strict && self.told % 2 == 1 {
+            Reply::Error(20)
+        } else {
+            Reply::Ok
+        }
+    }
+
+    /// What is reported: a machine that stands.
+    fn report(&self) -> Reply
+        ensures text { IsReply result }
+        ensures other { is_answer result ≡ false }
+    {
+        let zero = Nm3 { x: 0, y: 0, z: 0 };
+        Reply::Report(Report {
+            state: State::Idle,
+            machine: false,
+            at: zero,
+            buffer: None,
+            f: 0,
+            s: 0,
+            wco: zero,
+            ov: Overrides {
+                feed: 100,
+                rapid: 100,
+                spindle: 100,
+            },
+        })
+    }
+
+    /// Marks that a reply is told.
+    fn mark(&mut self, byte: u8)
+        ensures { self.new ≡ record self.old { taken = self.new.taken } }
+    {
+        if self.marked {
+            let _ = self.taken.write(&[byte]);
+        }
+    }
+}
+
+impl HostPort for Board<'_> {
+    ghost use Rattle.std.specs.Prelude.{◌+◌, ◌≤◌};
+    ghost use Rattle.status_report.specs.Answering.{answers_in, lfs_in};
+    ghost use Rattle.stream_host.specs.Steps.{got_in, stored_in};
+
+    ghost Rest = { Unit {0} };
+
+    /// No more lines are owed an answer than were stored and have none.
+    ghost stands = { λ board _ h. answers_in (got_in h) + board.owed ≤ lfs_in (stored_in h) };
+
+    fn store(&mut self, byte: u8) -> Stored {
+        let _ = self.taken.write(&[byte]);
+        if byte == b'\n' {
+            self.owed = self.owed.saturating_add(1);
+        }
+        Stored::Stored
+    }
+
+    fn raise(&mut self, byte: u8) -> Raised {
+        let _ = self.taken.write(&[byte]);
+        if byte == b'?' {
+            self.asked = true;
+        }
+        match realtime_rows().find(u16::from(byte)) {
+            Some(bit) if bit < 16 => Raised::Exec,
+            Some(_) => Raised::Override,
+            None if byte < 0x80 => Raised::Plain,
+            None => Raised::Ignored,
+        }
+    }
+
+    fn reply(&mut self) -> Option<Reply> {
+        if self.polls < self.pause {
+            self.polls += 1;
+            return None;
+        }
+        self.polls = 0;
+        if self.told == 0 {
+            self.told = 1;
+            return Some(Reply::Banner);
+        }
+        if self.asked {
+            self.asked = false;
+            self.mark(b'<');
+            return Some(self.report());
+        }
+        if self.locks {
+            self.locks = false;
+            return Some(Reply::Message(Message::ResetToContinue));
+        }
+        if self.owed > 0 && self.told == self.limit {
+            self.owed = 0;
+            self.locks = true;
+            self.mark(b'#');
+            return Some(Reply::Alarm(2));
+        }
+        if self.owed > 0 {
+            self.owed -= 1;
+            self.mark(b'=');
+            self.told = self.told.saturating_add(1);
+            return Some(self.answer());
+        }
+        if self.shut && !self.over {
+            self.over = true;
+            return Some(Reply::Bye);
+        }
+        None
+    }
+
+    fn close(&mut self) {
+        self.shut = true;
+    }
+}
+
+/// A host between two turns, with its board, its job and its console.
+#[derive(Drop)]
+pub(crate) struct Line<'a> {
+    pub(crate) host: Host,
+    pub(crate) board: Board<'a>,
+    pub(crate) job: MemSource<'a>,
+    pub(crate) console: MemSink<'a>,
+}
+
+impl<'a> Model for Line<'a> {
+    ghost use Rattle.std.specs.Prelude.{◌+◌, ◌≤◌};
+    ghost use Rattle.status_report.specs.Answering.{answers_in, lfs_in};
+    ghost use Rattle.stream_host.specs.Steps.{Journal, got_of, stored_of};
+    ghost use Rattle.stream_host.specs.Hosts.{HostFits, IsBetween};
+
+    ghost Value = { Unit {0} };
+
+    ghost view = { λ _. tt };
+
+    ghost invariant = { λ l. (h : Journal) × (answers_in (got_of h) + l.board.owed ≤ lfs_in (stored_of h)) × HostFits l.host h × IsBetween h };
+}
+
+impl<'a> Line<'a> {
+    /// A new host with a job, of which so many bytes are read at once, and a board that finds so many polls before each
+    /// reply but the banner. It accepts each line, and marks nothing.
+    pub(crate) fn new(
+        alloc: Global,
+        job: &'a [u8],
+        piece: usize,
+        pause: u32,
+    ) -> Result<Line<'a>, OutOfMemory> {
+        let taken = MemSink::new(alloc, 400, &[])?;
+        let console = MemSink::new(alloc, 1000, &[])?;
+        let job = MemSource::new(job, piece.max(1), &[]);
+        Ok(Line::over(taken, job, console, pause))
+    }
+
+    /// One with this job and this console.
+    pub(crate) fn over(
+        taken: MemSink<'a>,
+        job: MemSource<'a>,
+        console: MemSink<'a>,
+        pause: u32,
+    ) -> Line<'a> {
+        Line {
+            host: Host::new(),
+            board: Board {
+                taken,
+                marked: false,
+                asked: false,
+                owed: 0,
+                told: 0,
+                strict: false,
+                limit: 0,
+                locks: false,
+                pause,
+                polls: pause,
+                shut: false,
+                over: false,
+            },
+            job,
+            console,
+        }
+    }
+
+    pub(crate) fn turn(&mut self) -> Turn {
+        self.host
+            .turn(&mut self.board, &mut self.job, &mut self.console)
+    }
+
+    /// Turns until the host gives this answer, at most so often.
+    pub(crate) fn run(&mut self, until: Turn, most: u32) -> Turn {
+        for _ in 0..most {
+            let last = self.turn();
+            if last == until {
+                return last;
+            }
+        }
+        Turn::Did
+    }
+
+    /// What the board has taken, with its marks.
+    pub(crate) fn taken(&self) -> &[u8] {
+        self.board.taken.held()
+    }
+}

@@ -1,5 +1,0 @@
-use Rattle.std.proofs.Common.{◌≡◌, ◌+◌}
-use Rattle.line_interpreter.proofs.tests.each_line_is_done_task_by_task.Given as goal
-
-abbrev pub invariant-loop-text : goal.invariant-loop-text
-invariant-loop-text g l = l.interpreter.number ≡ l.text-index + 1

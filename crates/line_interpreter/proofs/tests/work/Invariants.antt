@@ -1,8 +1,0 @@
-use Rattle.std.proofs.Common.{◌≡◌, ◌≤◌, length}
-use Rattle.line_interpreter.proofs.tests.work.Given as goal
-
-abbrev pub invariant-loop : goal.invariant-loop
-invariant-loop l = record {
-  number : l.interpreter.number ≡ l.fn.interpreter.number;
-  room : length l.letters.items ≤ l.counter;
-}

@@ -1,5 +1,0 @@
-use Rattle.std.proofs.Common.{[], refl, arith}
-use Rattle.run_core.proofs.tests.byte_goes_from_host_to_board.Goals as goal
-
-pub store-requires : goal.store-requires
-store-requires g c = (([], []), [], c.fresh-lists.ensures, record { going = refl; few = omega arith })

@@ -1,5 +1,0 @@
-use Rattle.std.proofs.Common.{[], arith}
-use Rattle.run_core.proofs.tests.bytes_raise_their_flags.Goals as goal
-
-pub raise-requires : goal.raise-requires
-raise-requires g c = (([], []), [], c.fresh-lists.ensures, λ e. omega arith)

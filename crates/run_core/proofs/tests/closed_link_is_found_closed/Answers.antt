@@ -1,5 +1,0 @@
-use Rattle.std.proofs.Common.{[], refl}
-use Rattle.run_core.proofs.tests.closed_link_is_found_closed.Goals as goal
-
-pub close-requires : goal.close-requires
-close-requires g c = (([], []), [], c.fresh-lists.ensures, refl)

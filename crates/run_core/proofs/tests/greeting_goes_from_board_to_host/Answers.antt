@@ -1,5 +1,0 @@
-use Rattle.std.proofs.Common.{◌≡◌, true, false, [], arith}
-use Rattle.run_core.proofs.tests.greeting_goes_from_board_to_host.Goals as goal
-
-pub answer-requires : goal.answer-requires
-answer-requires g c = (([], []), [], c.fresh-lists.ensures, record { line = λ e. absurd (let f : false ≡ true = e in cc); text = tt; few = omega arith })

@@ -1,0 +1,5 @@
+use Rattle.std.proofs.Common.{[], refl}
+use Rattle.run_rows.proofs.lists.closed_link_is_found_closed.Goals as goal
+
+pub close-requires : goal.close-requires
+close-requires g c = (([], []), [], c.fresh-lists.ensures, refl)
