@@ -1,10 +1,16 @@
 //! The rings that two threads share, in plain Rust: the same words, the same slots and the same orderings as those of
 //! `crates/motion_ring`, `serial_ring`, `realtime_flags` and `rtrb`, to measure the proved ones beside them.
 //!
-//! Its words are what goes through (pieces, bytes, kept, flags, records or polled), how the two sides lie (apart or beside),
-//! and how many times. It writes how many came. `kept` is bytes where each side loads the other's count only where its last
-//! load leaves no room, or no byte. `polled` is records where a side that finds nothing polls again at once.
+//! Its words are what goes through (pieces, bytes, kept, flags, records, polled, events or lines), how the two sides lie (apart
+//! or beside), and how many times. It writes how many came. `kept` is bytes where each side loads the other's count only where
+//! its last load leaves no room, or no byte. `polled` is records where a side that finds nothing polls again at once.
+//!
+//! `events` and `lines` are what threads could do at most: all that the program's threads share, and its waiting, with no work
+//! between. `events` go in pieces of 20 from a board through a pulse, which records each and counts it, to a recorder, which
+//! writes them. `lines` of seven bytes go to a board, which takes both words of flags after each and answers it, from a host
+//! that counts characters.
 use std::cell::UnsafeCell;
+use std::io::Write;
 use std::mem::MaybeUninit;
 use std::sync::atomic::{AtomicU64, Ordering::SeqCst};
 use std::{env, process, thread};
@@ -314,6 +320,158 @@ fn records<P: Place<AtomicU64>, Q: Place<Own>, const POLLED: bool>(count: u64) -
     )
 }
 
+/// Lets others run so many times, as the program's threads do where they wait: 16 times for records, four times for bytes and
+/// replies, and once for all else.
+fn wait(times: u32) {
+    for _ in 0..times {
+        thread::yield_now();
+    }
+}
+
+/// Board, pulse and recorder with nothing to do but to pass on so many events.
+fn events<P: Place<AtomicU64>, Q: Place<Own>>(count: u64) -> u64 {
+    const ROOM: u64 = 1024;
+    let mut pieces = Sides::<P, Q>::new();
+    let mut records = Sides::<P, Q>::new();
+    let piece_slots = Slots::<Piece, 6>::new();
+    let record_slots = Box::new(Slots::<Record, 1024>::new());
+    let (head, done) = (pieces.left_word.get(), pieces.right_word.get());
+    let (sent, taken) = (records.left_word.get(), records.right_word.get());
+    let (board, pulse) = (pieces.left.get_mut(), pieces.right.get_mut());
+    let (out, recorder) = (records.left.get_mut(), records.right.get_mut());
+    let board_runs = || {
+        while board.ticks < count {
+            if done.load(SeqCst) < board.before[3] {
+                wait(1);
+                continue;
+            }
+            piece_slots.put(board.place, TWENTY);
+            head.store(board.count + 1, SeqCst);
+            board.count += 1;
+            board.place = place_behind(board.place, 6);
+            board.before = [board.ticks, board.before[0], board.before[1], board.before[2]];
+            board.ticks += tick_count(&TWENTY);
+        }
+    };
+    let pulse_runs = || {
+        let mut left = 0;
+        while pulse.ticks < count {
+            if left == 0 {
+                if head.load(SeqCst) == pulse.count {
+                    wait(1);
+                    continue;
+                }
+                left = tick_count(&piece_slots.take(pulse.place));
+                pulse.count += 1;
+                pulse.place = place_behind(pulse.place, 6);
+            }
+            if out.count - out.known >= ROOM {
+                out.known = taken.load(SeqCst);
+                if out.count - out.known >= ROOM {
+                    wait(1);
+                    continue;
+                }
+            }
+            record_slots.put(out.place, Record::Event([1, 0, 0]));
+            sent.store(out.count + 1, SeqCst);
+            out.count += 1;
+            out.place = place_behind(out.place, 1024);
+            pulse.ticks += 1;
+            left -= 1;
+            done.store(pulse.ticks, SeqCst);
+        }
+    };
+    let recorder_runs = || {
+        let mut file = std::fs::File::create("steps.out").unwrap();
+        let mut text = Vec::with_capacity(4096);
+        while recorder.count < count {
+            if recorder.known == recorder.count {
+                recorder.known = sent.load(SeqCst);
+                if recorder.known == recorder.count {
+                    wait(16);
+                    continue;
+                }
+            }
+            if let Record::Event(steps) = record_slots.take(recorder.place) {
+                if text.len() + 3 > 4096 {
+                    file.write_all(&text).unwrap();
+                    text.clear();
+                }
+                text.extend_from_slice(if steps[0] > 0 { b"X+\n" } else { b"X-\n" });
+            }
+            taken.store(recorder.count + 1, SeqCst);
+            recorder.count += 1;
+            recorder.place = place_behind(recorder.place, 1024);
+        }
+        file.write_all(&text).unwrap();
+        recorder.count
+    };
+    thread::scope(|scope| {
+        scope.spawn(board_runs);
+        scope.spawn(pulse_runs);
+        scope.spawn(recorder_runs).join().unwrap()
+    })
+}
+
+/// Host and board with nothing to do but to pass on so many lines and their answers.
+fn lines<P: Place<AtomicU64>, Q: Place<Own>>(count: u64) -> u64 {
+    const LINE: u64 = 7;
+    let mut link = Sides::<P, Q>::new();
+    let mut replies = Sides::<P, Q>::new();
+    let (exec, overrides) = (P::of(AtomicU64::new(0)), P::of(AtomicU64::new(0)));
+    let cells: [AtomicU64; 128] = [const { AtomicU64::new(0) }; 128];
+    let reply_slots = Slots::<[u64; 16], 16>::new();
+    let (head, tail) = (link.left_word.get(), link.right_word.get());
+    let (reply_tail, reply_head) = (replies.left_word.get(), replies.right_word.get());
+    let (host, board) = (link.left.get_mut(), link.right.get_mut());
+    let (got, given) = (replies.left.get_mut(), replies.right.get_mut());
+    let host_runs = || {
+        while got.count < count {
+            let is_open = host.count < count * LINE;
+            let begun = host.count / LINE;
+            if is_open && (begun + 1 - got.count) * LINE <= 128 && host.count - tail.load(SeqCst) < 128 {
+                let byte = if host.count % LINE == LINE - 1 { 10 } else { 65 };
+                cells[host.place].store(byte, SeqCst);
+                head.store(host.count + 1, SeqCst);
+                host.count += 1;
+                host.place = place_behind(host.place, 128);
+            } else if reply_head.load(SeqCst) == got.count {
+                wait(4);
+            } else {
+                std::hint::black_box(reply_slots.take(got.place));
+                reply_tail.store(got.count + 1, SeqCst);
+                got.count += 1;
+                got.place = place_behind(got.place, 16);
+            }
+        }
+    };
+    let board_runs = || {
+        while given.count < count {
+            if head.load(SeqCst) == board.count {
+                wait(4);
+                continue;
+            }
+            let byte = cells[board.place].load(SeqCst);
+            tail.store(board.count + 1, SeqCst);
+            board.count += 1;
+            board.place = place_behind(board.place, 128);
+            if byte == 10 {
+                std::hint::black_box(exec.get().fetch_and(0, SeqCst));
+                std::hint::black_box(overrides.get().fetch_and(0, SeqCst));
+                while given.count - reply_tail.load(SeqCst) >= 16 {
+                    wait(4);
+                }
+                reply_slots.put(given.place, [given.count; 16]);
+                reply_head.store(given.count + 1, SeqCst);
+                given.count += 1;
+                given.place = place_behind(given.place, 16);
+            }
+        }
+        given.count
+    };
+    both(host_runs, board_runs)
+}
+
 /// Sends so many, with the sides' words and what each keeps for itself in such places.
 fn send<P: Place<AtomicU64>, Q: Place<Own>>(what: &str, count: u64) -> Option<u64> {
     match what {
@@ -323,6 +481,8 @@ fn send<P: Place<AtomicU64>, Q: Place<Own>>(what: &str, count: u64) -> Option<u6
         "flags" => Some(flags::<P, Q>(count)),
         "records" => Some(records::<P, Q, false>(count)),
         "polled" => Some(records::<P, Q, true>(count)),
+        "events" => Some(events::<P, Q>(count)),
+        "lines" => Some(lines::<P, Q>(count)),
         _ => None,
     }
 }

@@ -1,14 +1,14 @@
 -- A whole run of a board that a soft limit ends: behind a line whose move is queued, and has not started, comes one that is beyond the
 -- travel, as `G0X9` is where soft limits are on. The machine stands, so it is in alarm at once; the queued move is dropped, the alarm
 -- is told, and the run is closed.
-use Rattle.std.proofs.Common.{◌≡◌, [], ◌∷◌, inl, inr, refl, arith}
+use Rattle.std.proofs.Common.{[], ◌∷◌, inl, inr, refl, arith}
 use Rattle.feed_hold.specs.declared.Motion.TheVariants as motions
 use Rattle.feed_hold.specs.Motions.Call.{on_limit}
 use Rattle.outside.specs.declared.Turn.TheVariants.{Did, Done}
 use Rattle.run_rules.specs.declared.State.{State}
 use Rattle.run_rules.specs.declared.machine.Machine.TheVariants.{Stands}
 use Rattle.run_rules.specs.Finding.{Found}
-use Rattle.run_rules.specs.Outcomes.{Before, start, after, limited}
+use Rattle.run_rules.specs.Outcomes.{start, after, limited}
 use Rattle.run_rules.specs.Work.{Outcome}
 use Rattle.status_report.specs.declared.Message.TheVariants.{ResetToContinue}
 use Rattle.status_report.specs.declared.Reply.TheVariants.{Alarm, Message, Bye}
@@ -16,10 +16,10 @@ use Rattle.step_line.specs.declared.Piece.TheVariants as pieces
 use Rattle.step_line.specs.declared.Segment.{Segment}
 use Rattle.step_line.specs.declared.planned_move.PlannedMove.{PlannedMove}
 use Rattle.board_rules.specs.Ports.PortStep.{took, answered, published, loaded}
-use Rattle.board_rules.specs.Steps.{Journal, before_of}
+use Rattle.board_rules.specs.Steps.{Journal}
 use Rattle.board_rules.specs.Steps.Step.{at_port, began, made_end, became, halted, closing, turned}
 use Rattle.board_rules.specs.Conduct.{Conducted}
-use Rattle.board_rules.proofs.Example.{nothing, no_changes}
+use Rattle.board_rules.proofs.Example.{nothing, no_changes, holds, under, untrue, no_move, elsewhere}
 use Rattle.board_rules.proofs.MovingExample.{IsOneSegment, moved, j26, c26}
 use Rattle.board_rules.proofs.Taking.{requested, unchanged, may_request, may_take_no_change}
 
@@ -36,61 +36,61 @@ abbrev h27 : State → State → PlannedMove → Segment → Journal
 h27 first last m s = at_port (took 71) ∷ j26 last m s
 
 a27 : (first last : State) (m : PlannedMove) (s : Segment) → IsBeyondBehind first last m s → Conducted first (h27 first last m s)
-a27 first last m s p = (record { polls = record { calm = refl; all_done = refl; partial = refl; unclosed = refl }; few = omega arith }, c26 first last m s p.one)
+a27 first last m s p = (record { polls = record { calm = refl; all_done = refl; partial = refl; unclosed = refl }; few = under _ _ refl }, c26 first last m s p.one)
 
 abbrev h28 : State → State → PlannedMove → Segment → Journal
 h28 first last m s = turned Did ∷ h27 first last m s
 
 a28 : (first last : State) (m : PlannedMove) (s : Segment) → IsBeyondBehind first last m s → Conducted first (h28 first last m s)
-a28 first last m s p = (record { once = omega arith; adds = λ m e. absurd cc; starts = λ w. refl; tries = omega arith; obeyed = λ e. refl; changed = refl; halts = λ e. absurd cc }, a27 first last m s p)
+a28 first last m s p = (record { once = holds _ _ refl; adds = λ m e. no_move _ _ m e refl; starts = λ w. refl; tries = holds _ _ refl; obeyed = λ e. refl; changed = refl; halts = λ e. untrue e }, a27 first last m s p)
 
 abbrev h29 : State → State → PlannedMove → Segment → Journal
 h29 first last m s = at_port (took 48) ∷ h28 first last m s
 
 a29 : (first last : State) (m : PlannedMove) (s : Segment) → IsBeyondBehind first last m s → Conducted first (h29 first last m s)
-a29 first last m s p = (record { polls = record { calm = refl; all_done = refl; partial = refl; unclosed = refl }; few = omega arith }, a28 first last m s p)
+a29 first last m s p = (record { polls = record { calm = refl; all_done = refl; partial = refl; unclosed = refl }; few = under _ _ refl }, a28 first last m s p)
 
 abbrev h30 : State → State → PlannedMove → Segment → Journal
 h30 first last m s = turned Did ∷ h29 first last m s
 
 a30 : (first last : State) (m : PlannedMove) (s : Segment) → IsBeyondBehind first last m s → Conducted first (h30 first last m s)
-a30 first last m s p = (record { once = omega arith; adds = λ m e. absurd cc; starts = λ w. refl; tries = omega arith; obeyed = λ e. refl; changed = refl; halts = λ e. absurd cc }, a29 first last m s p)
+a30 first last m s p = (record { once = holds _ _ refl; adds = λ m e. no_move _ _ m e refl; starts = λ w. refl; tries = holds _ _ refl; obeyed = λ e. refl; changed = refl; halts = λ e. untrue e }, a29 first last m s p)
 
 abbrev h31 : State → State → PlannedMove → Segment → Journal
 h31 first last m s = at_port (took 88) ∷ h30 first last m s
 
 a31 : (first last : State) (m : PlannedMove) (s : Segment) → IsBeyondBehind first last m s → Conducted first (h31 first last m s)
-a31 first last m s p = (record { polls = record { calm = refl; all_done = refl; partial = refl; unclosed = refl }; few = omega arith }, a30 first last m s p)
+a31 first last m s p = (record { polls = record { calm = refl; all_done = refl; partial = refl; unclosed = refl }; few = under _ _ refl }, a30 first last m s p)
 
 abbrev h32 : State → State → PlannedMove → Segment → Journal
 h32 first last m s = turned Did ∷ h31 first last m s
 
 a32 : (first last : State) (m : PlannedMove) (s : Segment) → IsBeyondBehind first last m s → Conducted first (h32 first last m s)
-a32 first last m s p = (record { once = omega arith; adds = λ m e. absurd cc; starts = λ w. refl; tries = omega arith; obeyed = λ e. refl; changed = refl; halts = λ e. absurd cc }, a31 first last m s p)
+a32 first last m s p = (record { once = holds _ _ refl; adds = λ m e. no_move _ _ m e refl; starts = λ w. refl; tries = holds _ _ refl; obeyed = λ e. refl; changed = refl; halts = λ e. untrue e }, a31 first last m s p)
 
 abbrev h33 : State → State → PlannedMove → Segment → Journal
 h33 first last m s = at_port (took 57) ∷ h32 first last m s
 
 a33 : (first last : State) (m : PlannedMove) (s : Segment) → IsBeyondBehind first last m s → Conducted first (h33 first last m s)
-a33 first last m s p = (record { polls = record { calm = refl; all_done = refl; partial = refl; unclosed = refl }; few = omega arith }, a32 first last m s p)
+a33 first last m s p = (record { polls = record { calm = refl; all_done = refl; partial = refl; unclosed = refl }; few = under _ _ refl }, a32 first last m s p)
 
 abbrev h34 : State → State → PlannedMove → Segment → Journal
 h34 first last m s = turned Did ∷ h33 first last m s
 
 a34 : (first last : State) (m : PlannedMove) (s : Segment) → IsBeyondBehind first last m s → Conducted first (h34 first last m s)
-a34 first last m s p = (record { once = omega arith; adds = λ m e. absurd cc; starts = λ w. refl; tries = omega arith; obeyed = λ e. refl; changed = refl; halts = λ e. absurd cc }, a33 first last m s p)
+a34 first last m s p = (record { once = holds _ _ refl; adds = λ m e. no_move _ _ m e refl; starts = λ w. refl; tries = holds _ _ refl; obeyed = λ e. refl; changed = refl; halts = λ e. untrue e }, a33 first last m s p)
 
 abbrev h35 : State → State → PlannedMove → Segment → Journal
 h35 first last m s = at_port (took 10) ∷ h34 first last m s
 
 a35 : (first last : State) (m : PlannedMove) (s : Segment) → IsBeyondBehind first last m s → Conducted first (h35 first last m s)
-a35 first last m s p = (record { polls = record { calm = refl; all_done = refl; partial = refl; unclosed = refl }; few = omega arith }, a34 first last m s p)
+a35 first last m s p = (record { polls = record { calm = refl; all_done = refl; partial = refl; unclosed = refl }; few = under _ _ refl }, a34 first last m s p)
 
 abbrev h36 : State → State → PlannedMove → Segment → Journal
 h36 first last m s = turned Did ∷ h35 first last m s
 
 a36 : (first last : State) (m : PlannedMove) (s : Segment) → IsBeyondBehind first last m s → Conducted first (h36 first last m s)
-a36 first last m s p = (record { once = omega arith; adds = λ m e. absurd cc; starts = λ w. refl; tries = omega arith; obeyed = λ e. refl; changed = refl; halts = λ e. absurd cc }, a35 first last m s p)
+a36 first last m s p = (record { once = holds _ _ refl; adds = λ m e. no_move _ _ m e refl; starts = λ w. refl; tries = holds _ _ refl; obeyed = λ e. refl; changed = refl; halts = λ e. untrue e }, a35 first last m s p)
 
 abbrev h37 : State → State → PlannedMove → Segment → Journal
 h37 first last m s = unchanged no_changes (h36 first last m s)
@@ -138,7 +138,7 @@ abbrev h44 : State → State → PlannedMove → Segment → Journal
 h44 first last m s = turned Did ∷ h43 first last m s
 
 a44 : (first last : State) (m : PlannedMove) (s : Segment) → IsBeyondBehind first last m s → Conducted first (h44 first last m s)
-a44 first last m s p = (record { once = omega arith; adds = λ m e. absurd cc; starts = λ w. absurd (let b = w.stands in cc); tries = omega arith; obeyed = λ e. refl; changed = refl; halts = λ e. absurd cc }, a43 first last m s p)
+a44 first last m s p = (record { once = holds _ _ refl; adds = λ m e. no_move _ _ m e refl; starts = λ w. elsewhere _ w.stands refl; tries = holds _ _ refl; obeyed = λ e. refl; changed = refl; halts = λ e. untrue e }, a43 first last m s p)
 
 abbrev h45 : State → State → PlannedMove → Segment → Journal
 h45 first last m s = at_port (answered (Message ResetToContinue)) ∷ h44 first last m s
@@ -156,7 +156,7 @@ abbrev h47 : State → State → PlannedMove → Segment → Journal
 h47 first last m s = turned Did ∷ h46 first last m s
 
 a47 : (first last : State) (m : PlannedMove) (s : Segment) → IsBeyondBehind first last m s → Conducted first (h47 first last m s)
-a47 first last m s p = (record { once = omega arith; adds = λ m e. absurd cc; starts = λ w. absurd (let b = w.stands in cc); tries = omega arith; obeyed = λ e. refl; changed = refl; halts = λ e. absurd cc }, a46 first last m s p)
+a47 first last m s p = (record { once = holds _ _ refl; adds = λ m e. no_move _ _ m e refl; starts = λ w. elsewhere _ w.stands refl; tries = holds _ _ refl; obeyed = λ e. refl; changed = refl; halts = λ e. untrue e }, a46 first last m s p)
 
 abbrev h48 : State → State → PlannedMove → Segment → Journal
 h48 first last m s = made_end ∷ h47 first last m s
@@ -174,7 +174,7 @@ abbrev h50 : State → State → PlannedMove → Segment → Journal
 h50 first last m s = turned Did ∷ h49 first last m s
 
 a50 : (first last : State) (m : PlannedMove) (s : Segment) → IsBeyondBehind first last m s → Conducted first (h50 first last m s)
-a50 first last m s p = (record { once = omega arith; adds = λ m e. absurd cc; starts = λ w. absurd (let b = w.stands in cc); tries = omega arith; obeyed = λ e. refl; changed = refl; halts = λ e. absurd cc }, a49 first last m s p)
+a50 first last m s p = (record { once = holds _ _ refl; adds = λ m e. no_move _ _ m e refl; starts = λ w. elsewhere _ w.stands refl; tries = holds _ _ refl; obeyed = λ e. refl; changed = refl; halts = λ e. untrue e }, a49 first last m s p)
 
 abbrev h51 : State → State → PlannedMove → Segment → Journal
 h51 first last m s = at_port (answered Bye) ∷ h50 first last m s
@@ -186,7 +186,7 @@ abbrev h52 : State → State → PlannedMove → Segment → Journal
 h52 first last m s = turned Did ∷ h51 first last m s
 
 a52 : (first last : State) (m : PlannedMove) (s : Segment) → IsBeyondBehind first last m s → Conducted first (h52 first last m s)
-a52 first last m s p = (record { once = omega arith; adds = λ m e. absurd cc; starts = λ w. absurd (let b = w.stands in cc); tries = omega arith; obeyed = λ e. refl; changed = refl; halts = λ e. absurd cc }, a51 first last m s p)
+a52 first last m s p = (record { once = holds _ _ refl; adds = λ m e. no_move _ _ m e refl; starts = λ w. elsewhere _ w.stands refl; tries = holds _ _ refl; obeyed = λ e. refl; changed = refl; halts = λ e. untrue e }, a51 first last m s p)
 
 abbrev pub h53 : State → State → PlannedMove → Segment → Journal
 h53 first last m s = turned Done ∷ h52 first last m s

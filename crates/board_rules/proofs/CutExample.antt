@@ -43,7 +43,7 @@ use Rattle.board_rules.specs.Steps.{Journal, before_of, left_of, plan_of}
 use Rattle.board_rules.specs.Steps.Step.{at_port, began, did, became, cut, turned}
 use Rattle.board_rules.specs.Turns.{has_blocks}
 use Rattle.board_rules.specs.Conduct.{Conducted}
-use Rattle.board_rules.proofs.Example.{nothing, no_changes}
+use Rattle.board_rules.proofs.Example.{nothing, no_changes, holds, under, untrue, no_move, elsewhere}
 use Rattle.board_rules.proofs.JogExample.{IsOneJog, jog, machine, opening, behind_jog, target_steps, way, one_unfinished, j33, c33}
 use Rattle.board_rules.proofs.Taking.{requested, unchanged, may_request, may_take_no_change}
 
@@ -101,139 +101,139 @@ abbrev k36 : State → State → PlannedMove → PlannedMove → Segment → Jou
 k36 next last m n s = turned Did ∷ k35 next last m n s
 
 d36 : (first next last : State) (m n : PlannedMove) (s : Segment) → AreTwoJogs first next last m n s → Conducted first (k36 next last m n s)
-d36 first next last m n s p = (record { once = omega arith; adds = λ m e. absurd cc; starts = λ w. absurd (let b = w.stands in cc); tries = omega arith; obeyed = λ e. refl; changed = refl; halts = λ e. absurd cc }, d35 first next last m n s p)
+d36 first next last m n s p = (record { once = holds _ _ refl; adds = λ m e. no_move _ _ m e refl; starts = λ w. elsewhere _ w.stands refl; tries = holds _ _ refl; obeyed = λ e. refl; changed = refl; halts = λ e. untrue e }, d35 first next last m n s p)
 
 abbrev k37 : State → State → PlannedMove → PlannedMove → Segment → Journal
 k37 next last m n s = at_port (took 36) ∷ k36 next last m n s
 
 d37 : (first next last : State) (m n : PlannedMove) (s : Segment) → AreTwoJogs first next last m n s → Conducted first (k37 next last m n s)
-d37 first next last m n s p = (record { polls = record { calm = refl; all_done = refl; partial = refl; unclosed = refl }; few = omega arith }, d36 first next last m n s p)
+d37 first next last m n s p = (record { polls = record { calm = refl; all_done = refl; partial = refl; unclosed = refl }; few = under _ _ refl }, d36 first next last m n s p)
 
 abbrev k38 : State → State → PlannedMove → PlannedMove → Segment → Journal
 k38 next last m n s = turned Did ∷ k37 next last m n s
 
 d38 : (first next last : State) (m n : PlannedMove) (s : Segment) → AreTwoJogs first next last m n s → Conducted first (k38 next last m n s)
-d38 first next last m n s p = (record { once = omega arith; adds = λ m e. absurd cc; starts = λ w. absurd (let b = w.stands in cc); tries = omega arith; obeyed = λ e. refl; changed = refl; halts = λ e. absurd cc }, d37 first next last m n s p)
+d38 first next last m n s p = (record { once = holds _ _ refl; adds = λ m e. no_move _ _ m e refl; starts = λ w. elsewhere _ w.stands refl; tries = holds _ _ refl; obeyed = λ e. refl; changed = refl; halts = λ e. untrue e }, d37 first next last m n s p)
 
 abbrev k39 : State → State → PlannedMove → PlannedMove → Segment → Journal
 k39 next last m n s = at_port (took 74) ∷ k38 next last m n s
 
 d39 : (first next last : State) (m n : PlannedMove) (s : Segment) → AreTwoJogs first next last m n s → Conducted first (k39 next last m n s)
-d39 first next last m n s p = (record { polls = record { calm = refl; all_done = refl; partial = refl; unclosed = refl }; few = omega arith }, d38 first next last m n s p)
+d39 first next last m n s p = (record { polls = record { calm = refl; all_done = refl; partial = refl; unclosed = refl }; few = under _ _ refl }, d38 first next last m n s p)
 
 abbrev k40 : State → State → PlannedMove → PlannedMove → Segment → Journal
 k40 next last m n s = turned Did ∷ k39 next last m n s
 
 d40 : (first next last : State) (m n : PlannedMove) (s : Segment) → AreTwoJogs first next last m n s → Conducted first (k40 next last m n s)
-d40 first next last m n s p = (record { once = omega arith; adds = λ m e. absurd cc; starts = λ w. absurd (let b = w.stands in cc); tries = omega arith; obeyed = λ e. refl; changed = refl; halts = λ e. absurd cc }, d39 first next last m n s p)
+d40 first next last m n s p = (record { once = holds _ _ refl; adds = λ m e. no_move _ _ m e refl; starts = λ w. elsewhere _ w.stands refl; tries = holds _ _ refl; obeyed = λ e. refl; changed = refl; halts = λ e. untrue e }, d39 first next last m n s p)
 
 abbrev k41 : State → State → PlannedMove → PlannedMove → Segment → Journal
 k41 next last m n s = at_port (took 61) ∷ k40 next last m n s
 
 d41 : (first next last : State) (m n : PlannedMove) (s : Segment) → AreTwoJogs first next last m n s → Conducted first (k41 next last m n s)
-d41 first next last m n s p = (record { polls = record { calm = refl; all_done = refl; partial = refl; unclosed = refl }; few = omega arith }, d40 first next last m n s p)
+d41 first next last m n s p = (record { polls = record { calm = refl; all_done = refl; partial = refl; unclosed = refl }; few = under _ _ refl }, d40 first next last m n s p)
 
 abbrev k42 : State → State → PlannedMove → PlannedMove → Segment → Journal
 k42 next last m n s = turned Did ∷ k41 next last m n s
 
 d42 : (first next last : State) (m n : PlannedMove) (s : Segment) → AreTwoJogs first next last m n s → Conducted first (k42 next last m n s)
-d42 first next last m n s p = (record { once = omega arith; adds = λ m e. absurd cc; starts = λ w. absurd (let b = w.stands in cc); tries = omega arith; obeyed = λ e. refl; changed = refl; halts = λ e. absurd cc }, d41 first next last m n s p)
+d42 first next last m n s p = (record { once = holds _ _ refl; adds = λ m e. no_move _ _ m e refl; starts = λ w. elsewhere _ w.stands refl; tries = holds _ _ refl; obeyed = λ e. refl; changed = refl; halts = λ e. untrue e }, d41 first next last m n s p)
 
 abbrev k43 : State → State → PlannedMove → PlannedMove → Segment → Journal
 k43 next last m n s = at_port (took 88) ∷ k42 next last m n s
 
 d43 : (first next last : State) (m n : PlannedMove) (s : Segment) → AreTwoJogs first next last m n s → Conducted first (k43 next last m n s)
-d43 first next last m n s p = (record { polls = record { calm = refl; all_done = refl; partial = refl; unclosed = refl }; few = omega arith }, d42 first next last m n s p)
+d43 first next last m n s p = (record { polls = record { calm = refl; all_done = refl; partial = refl; unclosed = refl }; few = under _ _ refl }, d42 first next last m n s p)
 
 abbrev k44 : State → State → PlannedMove → PlannedMove → Segment → Journal
 k44 next last m n s = turned Did ∷ k43 next last m n s
 
 d44 : (first next last : State) (m n : PlannedMove) (s : Segment) → AreTwoJogs first next last m n s → Conducted first (k44 next last m n s)
-d44 first next last m n s p = (record { once = omega arith; adds = λ m e. absurd cc; starts = λ w. absurd (let b = w.stands in cc); tries = omega arith; obeyed = λ e. refl; changed = refl; halts = λ e. absurd cc }, d43 first next last m n s p)
+d44 first next last m n s p = (record { once = holds _ _ refl; adds = λ m e. no_move _ _ m e refl; starts = λ w. elsewhere _ w.stands refl; tries = holds _ _ refl; obeyed = λ e. refl; changed = refl; halts = λ e. untrue e }, d43 first next last m n s p)
 
 abbrev k45 : State → State → PlannedMove → PlannedMove → Segment → Journal
 k45 next last m n s = at_port (took 46) ∷ k44 next last m n s
 
 d45 : (first next last : State) (m n : PlannedMove) (s : Segment) → AreTwoJogs first next last m n s → Conducted first (k45 next last m n s)
-d45 first next last m n s p = (record { polls = record { calm = refl; all_done = refl; partial = refl; unclosed = refl }; few = omega arith }, d44 first next last m n s p)
+d45 first next last m n s p = (record { polls = record { calm = refl; all_done = refl; partial = refl; unclosed = refl }; few = under _ _ refl }, d44 first next last m n s p)
 
 abbrev k46 : State → State → PlannedMove → PlannedMove → Segment → Journal
 k46 next last m n s = turned Did ∷ k45 next last m n s
 
 d46 : (first next last : State) (m n : PlannedMove) (s : Segment) → AreTwoJogs first next last m n s → Conducted first (k46 next last m n s)
-d46 first next last m n s p = (record { once = omega arith; adds = λ m e. absurd cc; starts = λ w. absurd (let b = w.stands in cc); tries = omega arith; obeyed = λ e. refl; changed = refl; halts = λ e. absurd cc }, d45 first next last m n s p)
+d46 first next last m n s p = (record { once = holds _ _ refl; adds = λ m e. no_move _ _ m e refl; starts = λ w. elsewhere _ w.stands refl; tries = holds _ _ refl; obeyed = λ e. refl; changed = refl; halts = λ e. untrue e }, d45 first next last m n s p)
 
 abbrev k47 : State → State → PlannedMove → PlannedMove → Segment → Journal
 k47 next last m n s = at_port (took 48) ∷ k46 next last m n s
 
 d47 : (first next last : State) (m n : PlannedMove) (s : Segment) → AreTwoJogs first next last m n s → Conducted first (k47 next last m n s)
-d47 first next last m n s p = (record { polls = record { calm = refl; all_done = refl; partial = refl; unclosed = refl }; few = omega arith }, d46 first next last m n s p)
+d47 first next last m n s p = (record { polls = record { calm = refl; all_done = refl; partial = refl; unclosed = refl }; few = under _ _ refl }, d46 first next last m n s p)
 
 abbrev k48 : State → State → PlannedMove → PlannedMove → Segment → Journal
 k48 next last m n s = turned Did ∷ k47 next last m n s
 
 d48 : (first next last : State) (m n : PlannedMove) (s : Segment) → AreTwoJogs first next last m n s → Conducted first (k48 next last m n s)
-d48 first next last m n s p = (record { once = omega arith; adds = λ m e. absurd cc; starts = λ w. absurd (let b = w.stands in cc); tries = omega arith; obeyed = λ e. refl; changed = refl; halts = λ e. absurd cc }, d47 first next last m n s p)
+d48 first next last m n s p = (record { once = holds _ _ refl; adds = λ m e. no_move _ _ m e refl; starts = λ w. elsewhere _ w.stands refl; tries = holds _ _ refl; obeyed = λ e. refl; changed = refl; halts = λ e. untrue e }, d47 first next last m n s p)
 
 abbrev k49 : State → State → PlannedMove → PlannedMove → Segment → Journal
 k49 next last m n s = at_port (took 48) ∷ k48 next last m n s
 
 d49 : (first next last : State) (m n : PlannedMove) (s : Segment) → AreTwoJogs first next last m n s → Conducted first (k49 next last m n s)
-d49 first next last m n s p = (record { polls = record { calm = refl; all_done = refl; partial = refl; unclosed = refl }; few = omega arith }, d48 first next last m n s p)
+d49 first next last m n s p = (record { polls = record { calm = refl; all_done = refl; partial = refl; unclosed = refl }; few = under _ _ refl }, d48 first next last m n s p)
 
 abbrev k50 : State → State → PlannedMove → PlannedMove → Segment → Journal
 k50 next last m n s = turned Did ∷ k49 next last m n s
 
 d50 : (first next last : State) (m n : PlannedMove) (s : Segment) → AreTwoJogs first next last m n s → Conducted first (k50 next last m n s)
-d50 first next last m n s p = (record { once = omega arith; adds = λ m e. absurd cc; starts = λ w. absurd (let b = w.stands in cc); tries = omega arith; obeyed = λ e. refl; changed = refl; halts = λ e. absurd cc }, d49 first next last m n s p)
+d50 first next last m n s p = (record { once = holds _ _ refl; adds = λ m e. no_move _ _ m e refl; starts = λ w. elsewhere _ w.stands refl; tries = holds _ _ refl; obeyed = λ e. refl; changed = refl; halts = λ e. untrue e }, d49 first next last m n s p)
 
 abbrev k51 : State → State → PlannedMove → PlannedMove → Segment → Journal
 k51 next last m n s = at_port (took 56) ∷ k50 next last m n s
 
 d51 : (first next last : State) (m n : PlannedMove) (s : Segment) → AreTwoJogs first next last m n s → Conducted first (k51 next last m n s)
-d51 first next last m n s p = (record { polls = record { calm = refl; all_done = refl; partial = refl; unclosed = refl }; few = omega arith }, d50 first next last m n s p)
+d51 first next last m n s p = (record { polls = record { calm = refl; all_done = refl; partial = refl; unclosed = refl }; few = under _ _ refl }, d50 first next last m n s p)
 
 abbrev k52 : State → State → PlannedMove → PlannedMove → Segment → Journal
 k52 next last m n s = turned Did ∷ k51 next last m n s
 
 d52 : (first next last : State) (m n : PlannedMove) (s : Segment) → AreTwoJogs first next last m n s → Conducted first (k52 next last m n s)
-d52 first next last m n s p = (record { once = omega arith; adds = λ m e. absurd cc; starts = λ w. absurd (let b = w.stands in cc); tries = omega arith; obeyed = λ e. refl; changed = refl; halts = λ e. absurd cc }, d51 first next last m n s p)
+d52 first next last m n s p = (record { once = holds _ _ refl; adds = λ m e. no_move _ _ m e refl; starts = λ w. elsewhere _ w.stands refl; tries = holds _ _ refl; obeyed = λ e. refl; changed = refl; halts = λ e. untrue e }, d51 first next last m n s p)
 
 abbrev k53 : State → State → PlannedMove → PlannedMove → Segment → Journal
 k53 next last m n s = at_port (took 70) ∷ k52 next last m n s
 
 d53 : (first next last : State) (m n : PlannedMove) (s : Segment) → AreTwoJogs first next last m n s → Conducted first (k53 next last m n s)
-d53 first next last m n s p = (record { polls = record { calm = refl; all_done = refl; partial = refl; unclosed = refl }; few = omega arith }, d52 first next last m n s p)
+d53 first next last m n s p = (record { polls = record { calm = refl; all_done = refl; partial = refl; unclosed = refl }; few = under _ _ refl }, d52 first next last m n s p)
 
 abbrev k54 : State → State → PlannedMove → PlannedMove → Segment → Journal
 k54 next last m n s = turned Did ∷ k53 next last m n s
 
 d54 : (first next last : State) (m n : PlannedMove) (s : Segment) → AreTwoJogs first next last m n s → Conducted first (k54 next last m n s)
-d54 first next last m n s p = (record { once = omega arith; adds = λ m e. absurd cc; starts = λ w. absurd (let b = w.stands in cc); tries = omega arith; obeyed = λ e. refl; changed = refl; halts = λ e. absurd cc }, d53 first next last m n s p)
+d54 first next last m n s p = (record { once = holds _ _ refl; adds = λ m e. no_move _ _ m e refl; starts = λ w. elsewhere _ w.stands refl; tries = holds _ _ refl; obeyed = λ e. refl; changed = refl; halts = λ e. untrue e }, d53 first next last m n s p)
 
 abbrev k55 : State → State → PlannedMove → PlannedMove → Segment → Journal
 k55 next last m n s = at_port (took 57) ∷ k54 next last m n s
 
 d55 : (first next last : State) (m n : PlannedMove) (s : Segment) → AreTwoJogs first next last m n s → Conducted first (k55 next last m n s)
-d55 first next last m n s p = (record { polls = record { calm = refl; all_done = refl; partial = refl; unclosed = refl }; few = omega arith }, d54 first next last m n s p)
+d55 first next last m n s p = (record { polls = record { calm = refl; all_done = refl; partial = refl; unclosed = refl }; few = under _ _ refl }, d54 first next last m n s p)
 
 abbrev k56 : State → State → PlannedMove → PlannedMove → Segment → Journal
 k56 next last m n s = turned Did ∷ k55 next last m n s
 
 d56 : (first next last : State) (m n : PlannedMove) (s : Segment) → AreTwoJogs first next last m n s → Conducted first (k56 next last m n s)
-d56 first next last m n s p = (record { once = omega arith; adds = λ m e. absurd cc; starts = λ w. absurd (let b = w.stands in cc); tries = omega arith; obeyed = λ e. refl; changed = refl; halts = λ e. absurd cc }, d55 first next last m n s p)
+d56 first next last m n s p = (record { once = holds _ _ refl; adds = λ m e. no_move _ _ m e refl; starts = λ w. elsewhere _ w.stands refl; tries = holds _ _ refl; obeyed = λ e. refl; changed = refl; halts = λ e. untrue e }, d55 first next last m n s p)
 
 abbrev k57 : State → State → PlannedMove → PlannedMove → Segment → Journal
 k57 next last m n s = at_port (took 10) ∷ k56 next last m n s
 
 d57 : (first next last : State) (m n : PlannedMove) (s : Segment) → AreTwoJogs first next last m n s → Conducted first (k57 next last m n s)
-d57 first next last m n s p = (record { polls = record { calm = refl; all_done = refl; partial = refl; unclosed = refl }; few = omega arith }, d56 first next last m n s p)
+d57 first next last m n s p = (record { polls = record { calm = refl; all_done = refl; partial = refl; unclosed = refl }; few = under _ _ refl }, d56 first next last m n s p)
 
 abbrev k58 : State → State → PlannedMove → PlannedMove → Segment → Journal
 k58 next last m n s = turned Did ∷ k57 next last m n s
 
 d58 : (first next last : State) (m n : PlannedMove) (s : Segment) → AreTwoJogs first next last m n s → Conducted first (k58 next last m n s)
-d58 first next last m n s p = (record { once = omega arith; adds = λ m e. absurd cc; starts = λ w. absurd (let b = w.stands in cc); tries = omega arith; obeyed = λ e. refl; changed = refl; halts = λ e. absurd cc }, d57 first next last m n s p)
+d58 first next last m n s p = (record { once = holds _ _ refl; adds = λ m e. no_move _ _ m e refl; starts = λ w. elsewhere _ w.stands refl; tries = holds _ _ refl; obeyed = λ e. refl; changed = refl; halts = λ e. untrue e }, d57 first next last m n s p)
 
 abbrev k59 : State → State → PlannedMove → PlannedMove → Segment → Journal
 k59 next last m n s = unchanged no_changes (k58 next last m n s)
@@ -257,7 +257,7 @@ abbrev k62 : State → State → PlannedMove → PlannedMove → Segment → Jou
 k62 next last m n s = began (jog n last) ∷ k61 next last m n s
 
 d62 : (first next last : State) (m n : PlannedMove) (s : Segment) → AreTwoJogs first next last m n s → Conducted first (k62 next last m n s)
-d62 first next last m n s p = (record { calm = refl; free = refl; going = refl; whole = refl; becomes = p.becomes; begins = refl; flags = refl; obeyed = refl; unowed = refl; load = refl; idle = λ d. absurd (let e = d.done in let some = p.some in omega (arith, e, some)); starts = λ w. absurd (let b = w.stands in cc); tried = refl }, d61 first next last m n s p)
+d62 first next last m n s p = (record { calm = refl; free = refl; going = refl; whole = refl; becomes = p.becomes; begins = refl; flags = refl; obeyed = refl; unowed = refl; load = refl; idle = λ d. absurd (let e = d.done in let some = p.some in omega (arith, e, some)); starts = λ w. elsewhere _ w.stands refl; tried = refl }, d61 first next last m n s p)
 
 abbrev k63 : State → State → PlannedMove → PlannedMove → Segment → Journal
 k63 next last m n s = at_port (took_exec cancel) ∷ k62 next last m n s
@@ -269,7 +269,7 @@ abbrev k64 : State → State → PlannedMove → PlannedMove → Segment → Jou
 k64 next last m n s = became (on_exec cancel (queued m s)) motions.Cancelling ∷ k63 next last m n s
 
 d64 : (first next last : State) (m n : PlannedMove) (s : Segment) → AreTwoJogs first next last m n s → Conducted first (k64 next last m n s)
-d64 first next last m n s p = ((refl, record { next = refl; reported = λ owed. absurd cc; blocks = refl; looked = λ slowed. absurd (let b = slowed.slows in cc); stopped = λ stopped. absurd (let b = stopped.slowed.slows in cc); jog = refl; halts = λ e. absurd cc }), d63 first next last m n s p)
+d64 first next last m n s p = ((refl, record { next = refl; reported = λ owed. absurd cc; blocks = refl; looked = λ slowed. absurd (let b = slowed.slows in cc); stopped = λ stopped. absurd (let b = stopped.slowed.slows in cc); jog = refl; halts = λ e. untrue e }), d63 first next last m n s p)
 
 abbrev k65 : State → State → PlannedMove → PlannedMove → Segment → Journal
 k65 next last m n s = at_port (loaded (all_ticks s)) ∷ k64 next last m n s
@@ -287,7 +287,7 @@ abbrev k67 : State → State → PlannedMove → PlannedMove → Segment → Jou
 k67 next last m n s = turned Did ∷ k66 next last m n s
 
 d67 : (first next last : State) (m n : PlannedMove) (s : Segment) → AreTwoJogs first next last m n s → Conducted first (k67 next last m n s)
-d67 first next last m n s p = (record { once = omega arith; adds = λ m e. absurd cc; starts = λ w. absurd (let b = w.stands in cc); tries = omega arith; obeyed = λ e. refl; changed = refl; halts = λ e. absurd cc }, d66 first next last m n s p)
+d67 first next last m n s p = (record { once = holds _ _ refl; adds = λ m e. no_move _ _ m e refl; starts = λ w. elsewhere _ w.stands refl; tries = holds _ _ refl; obeyed = λ e. refl; changed = refl; halts = λ e. untrue e }, d66 first next last m n s p)
 
 abbrev k68 : State → State → PlannedMove → PlannedMove → Segment → Journal
 k68 next last m n s = at_port (loaded (all_ticks s)) ∷ k67 next last m n s
@@ -305,7 +305,7 @@ abbrev k70 : State → State → PlannedMove → PlannedMove → Segment → Jou
 k70 next last m n s = turned Did ∷ k69 next last m n s
 
 d70 : (first next last : State) (m n : PlannedMove) (s : Segment) → AreTwoJogs first next last m n s → Conducted first (k70 next last m n s)
-d70 first next last m n s p = (record { once = omega arith; adds = λ m e. absurd cc; starts = λ w. absurd (let b = w.stands in cc); tries = omega arith; obeyed = λ e. refl; changed = refl; halts = λ e. absurd cc }, d69 first next last m n s p)
+d70 first next last m n s p = (record { once = holds _ _ refl; adds = λ m e. no_move _ _ m e refl; starts = λ w. elsewhere _ w.stands refl; tries = holds _ _ refl; obeyed = λ e. refl; changed = refl; halts = λ e. untrue e }, d69 first next last m n s p)
 
 abbrev k71 : State → State → PlannedMove → PlannedMove → Segment → Journal
 k71 next last m n s = at_port (answered Ok) ∷ k70 next last m n s
@@ -317,7 +317,7 @@ abbrev k72 : State → State → PlannedMove → PlannedMove → Segment → Jou
 k72 next last m n s = turned Did ∷ k71 next last m n s
 
 d72 : (first next last : State) (m n : PlannedMove) (s : Segment) → AreTwoJogs first next last m n s → Conducted first (k72 next last m n s)
-d72 first next last m n s p = (record { once = omega arith; adds = λ m e. absurd cc; starts = λ w. absurd (let b = w.stands in cc); tries = omega arith; obeyed = λ e. refl; changed = refl; halts = λ e. absurd cc }, d71 first next last m n s p)
+d72 first next last m n s p = (record { once = holds _ _ refl; adds = λ m e. no_move _ _ m e refl; starts = λ w. elsewhere _ w.stands refl; tries = holds _ _ refl; obeyed = λ e. refl; changed = refl; halts = λ e. untrue e }, d71 first next last m n s p)
 
 abbrev k73 : State → State → PlannedMove → PlannedMove → Segment → Journal
 k73 next last m n s = at_port (loaded (all_ticks s + 1)) ∷ k72 next last m n s
@@ -335,7 +335,7 @@ abbrev pub k75 : State → State → PlannedMove → PlannedMove → Segment →
 k75 next last m n s = turned Did ∷ k74 next last m n s
 
 pub d75 : (first next last : State) (m n : PlannedMove) (s : Segment) → AreTwoJogs first next last m n s → Conducted first (k75 next last m n s)
-d75 first next last m n s p = (record { once = omega arith; adds = λ m e. absurd cc; starts = λ w. absurd (let b = w.blocks in cc); tries = omega arith; obeyed = λ e. refl; changed = refl; halts = λ e. absurd cc }, d74 first next last m n s p)
+d75 first next last m n s p = (record { once = holds _ _ refl; adds = λ m e. no_move _ _ m e refl; starts = λ w. untrue w.blocks; tries = holds _ _ refl; obeyed = λ e. refl; changed = refl; halts = λ e. untrue e }, d74 first next last m n s p)
 
 -- the position is where the first jog's segment has led, and nothing is left to do or to run
 pub place_is : (first next last : State) (m n : PlannedMove) (s : Segment) → AreTwoJogs first next last m n s → (before_of first (k75 next last m n s)).state.parser.pos_steps ≡ end_of (pieces.Segment s ∷ [])

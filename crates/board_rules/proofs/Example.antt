@@ -1,6 +1,8 @@
 -- A whole run of a board to which one line comes, `M8`, with a hold before it is begun, a resume, and then the link's end:
 -- the rules allow it.
-use Rattle.std.proofs.Common.{pos, inl, inr, List, [], ◌∷◌, ◌++◌, true, false, refl, arith}
+use Rattle.std.proofs.Common.{pos, inl, inr, List, [], ◌∷◌, ◌++◌, true, false, refl, arith, ℕ, ◌≤◌, ◌<◌, ◌≡◌, nat_lt, Bool, sym, ap, ◌∙◌}
+use Rattle.feed_hold.specs.declared.Motion.{Motion}
+use Rattle.std.proofs.lemmas.Bool.Decides.{nat_tests}
 use Rattle.code_table.specs.declared.flags.Exec.{Exec}
 use Rattle.code_table.specs.declared.flags.Ovr.{Ovr}
 use Rattle.code_table.specs.Flags.{raised_by}
@@ -29,11 +31,11 @@ use Rattle.run_rules.specs.Asks.{at_rest}
 use Rattle.run_rules.specs.declared.machine.Machine.TheVariants.{Stands}
 use Rattle.run_rules.specs.Finding.{Found}
 use Rattle.run_rules.specs.Outcomes.{start}
-use Rattle.run_rules.specs.Work.{Outcome}
+use Rattle.run_rules.specs.Work.{Outcome, Task}
 use Rattle.run_rules.specs.Work.Kind.{of_code}
-use Rattle.run_rules.specs.Work.Task.{tell}
+use Rattle.run_rules.specs.Work.Task.{tell, ask}
 use Rattle.status_report.specs.declared.Reply.TheVariants.{Banner, Ok, Bye}
-use Rattle.step_line.specs.Asking.Asked.{a_mark}
+use Rattle.step_line.specs.Asking.Asked.{a_mark, a_move}
 use Rattle.step_line.specs.declared.Mark.TheVariants as marks
 use Rattle.step_line.specs.declared.Piece.TheVariants as pieces
 use Rattle.board_rules.specs.Ports.PortStep.{took, found_empty, found_closed, answered, took_exec, published, loaded}
@@ -41,6 +43,31 @@ use Rattle.board_rules.specs.Steps.{Journal}
 use Rattle.board_rules.specs.Steps.Step.{at_port, began, did, made_end, became, closing, turned}
 use Rattle.board_rules.specs.Conduct.{Conducted}
 use Rattle.board_rules.proofs.Taking.{requested, unchanged, may_request, may_take_no_change}
+use Rattle.step_line.specs.declared.planned_move.PlannedMove.{PlannedMove}
+
+-- what is found by computing
+pub holds : (n m : ℕ) → nat_lt m n ≡ false → n ≤ m
+holds n m e = grind (arith, nat_tests)
+
+pub under : (n m : ℕ) → nat_lt n m ≡ true → n < m
+under n m e = grind (arith, nat_tests)
+
+pub untrue : {A : Type 0} → false ≡ true → A
+untrue e = absurd cc
+
+abbrev is_idle : Motion → Bool
+is_idle motions.Idle = true
+is_idle _ = false
+
+pub elsewhere : {A : Type 0} (m : Motion) → m ≡ motions.Idle → is_idle m ≡ false → A
+elsewhere m is other = untrue (sym other ∙ ap is_idle is)
+
+abbrev next_is_move : List Task → Bool
+next_is_move (ask (a_move m) ∷ ts) = true
+next_is_move _ = false
+
+pub no_move : {A : Type 0} (ts rest : List Task) (m : PlannedMove) → ts ≡ ask (a_move m) ∷ rest → next_is_move ts ≡ false → A
+no_move ts rest m is other = untrue (sym other ∙ ap next_is_move is)
 
 -- what becomes of the line, where the coolant does not flow yet: its mark, at rest, and `ok`
 abbrev flood : State → Outcome
@@ -90,43 +117,43 @@ abbrev j2 : Settings → Journal
 j2 s = turned Did ∷ j1 s
 
 c2 : (s : Settings) → Conducted (first_state s) (j2 s)
-c2 s = (record { once = omega arith; adds = λ m e. absurd cc; starts = λ w. absurd (let b = w.blocks in cc); tries = omega arith; obeyed = λ e. refl; changed = refl; halts = λ e. absurd cc }, c1 s)
+c2 s = (record { once = holds _ _ refl; adds = λ m e. no_move _ _ m e refl; starts = λ w. untrue w.blocks; tries = holds _ _ refl; obeyed = λ e. refl; changed = refl; halts = λ e. untrue e }, c1 s)
 
 abbrev j3 : Settings → Journal
 j3 s = at_port (took 77) ∷ j2 s
 
 c3 : (s : Settings) → Conducted (first_state s) (j3 s)
-c3 s = (record { polls = record { calm = refl; all_done = refl; partial = refl; unclosed = refl }; few = omega arith }, c2 s)
+c3 s = (record { polls = record { calm = refl; all_done = refl; partial = refl; unclosed = refl }; few = under _ _ refl }, c2 s)
 
 abbrev j4 : Settings → Journal
 j4 s = turned Did ∷ j3 s
 
 c4 : (s : Settings) → Conducted (first_state s) (j4 s)
-c4 s = (record { once = omega arith; adds = λ m e. absurd cc; starts = λ w. absurd (let b = w.blocks in cc); tries = omega arith; obeyed = λ e. refl; changed = refl; halts = λ e. absurd cc }, c3 s)
+c4 s = (record { once = holds _ _ refl; adds = λ m e. no_move _ _ m e refl; starts = λ w. untrue w.blocks; tries = holds _ _ refl; obeyed = λ e. refl; changed = refl; halts = λ e. untrue e }, c3 s)
 
 abbrev j5 : Settings → Journal
 j5 s = at_port (took 56) ∷ j4 s
 
 c5 : (s : Settings) → Conducted (first_state s) (j5 s)
-c5 s = (record { polls = record { calm = refl; all_done = refl; partial = refl; unclosed = refl }; few = omega arith }, c4 s)
+c5 s = (record { polls = record { calm = refl; all_done = refl; partial = refl; unclosed = refl }; few = under _ _ refl }, c4 s)
 
 abbrev j6 : Settings → Journal
 j6 s = turned Did ∷ j5 s
 
 c6 : (s : Settings) → Conducted (first_state s) (j6 s)
-c6 s = (record { once = omega arith; adds = λ m e. absurd cc; starts = λ w. absurd (let b = w.blocks in cc); tries = omega arith; obeyed = λ e. refl; changed = refl; halts = λ e. absurd cc }, c5 s)
+c6 s = (record { once = holds _ _ refl; adds = λ m e. no_move _ _ m e refl; starts = λ w. untrue w.blocks; tries = holds _ _ refl; obeyed = λ e. refl; changed = refl; halts = λ e. untrue e }, c5 s)
 
 abbrev j7 : Settings → Journal
 j7 s = at_port (took 10) ∷ j6 s
 
 c7 : (s : Settings) → Conducted (first_state s) (j7 s)
-c7 s = (record { polls = record { calm = refl; all_done = refl; partial = refl; unclosed = refl }; few = omega arith }, c6 s)
+c7 s = (record { polls = record { calm = refl; all_done = refl; partial = refl; unclosed = refl }; few = under _ _ refl }, c6 s)
 
 abbrev j8 : Settings → Journal
 j8 s = turned Did ∷ j7 s
 
 c8 : (s : Settings) → Conducted (first_state s) (j8 s)
-c8 s = (record { once = omega arith; adds = λ m e. absurd cc; starts = λ w. absurd (let b = w.blocks in cc); tries = omega arith; obeyed = λ e. refl; changed = refl; halts = λ e. absurd cc }, c7 s)
+c8 s = (record { once = holds _ _ refl; adds = λ m e. no_move _ _ m e refl; starts = λ w. untrue w.blocks; tries = holds _ _ refl; obeyed = λ e. refl; changed = refl; halts = λ e. untrue e }, c7 s)
 
 abbrev j9 : Settings → Journal
 j9 s = unchanged no_changes (j8 s)
@@ -150,13 +177,13 @@ abbrev j12 : Settings → Journal
 j12 s = became (on_exec nothing false) motions.Held ∷ j11 s
 
 c12 : (s : Settings) → Conducted (first_state s) (j12 s)
-c12 s = ((refl, record { next = refl; reported = λ owed. absurd cc; blocks = refl; looked = λ s. absurd (let e = s.slows in cc); jog = refl; stopped = λ s. absurd (let e = s.slowed.slows in cc); halts = λ e. absurd cc }), c11 s)
+c12 s = ((refl, record { next = refl; reported = λ owed. absurd cc; blocks = refl; looked = λ s. absurd (let e = s.slows in cc); jog = refl; stopped = λ s. absurd (let e = s.slowed.slows in cc); halts = λ e. untrue e }), c11 s)
 
 abbrev j13 : Settings → Journal
 j13 s = turned (Wait on.Resume) ∷ j12 s
 
 c13 : (s : Settings) → Conducted (first_state s) (j13 s)
-c13 s = (record { ends = record { once = omega arith; adds = λ m e. absurd cc; starts = λ w. absurd (let b = w.blocks in cc); tries = omega arith; obeyed = λ e. refl; changed = refl; halts = λ e. absurd cc }; cause = record { held = refl; unasked = refl; held_up = refl }; still = refl; flags = refl; obeyed = refl; unowed = λ owed. absurd cc; round = λ due. absurd cc }, c12 s)
+c13 s = (record { ends = record { once = holds _ _ refl; adds = λ m e. no_move _ _ m e refl; starts = λ w. untrue w.blocks; tries = holds _ _ refl; obeyed = λ e. refl; changed = refl; halts = λ e. untrue e }; cause = record { held = refl; unasked = refl; held_up = refl }; still = refl; flags = refl; obeyed = refl; unowed = λ owed. absurd cc; round = λ due. absurd cc }, c12 s)
 
 abbrev j14 : Settings → Journal
 j14 s = unchanged no_changes (j13 s)
@@ -180,7 +207,7 @@ abbrev j17 : Settings → Journal
 j17 s = began (flood (next_state s)) ∷ j16 s
 
 c17 : (s : Settings) → Conducted (first_state s) (j17 s)
-c17 s = (record { calm = refl; free = refl; going = refl; whole = refl; becomes = is_flood s; begins = refl; flags = refl; obeyed = refl; unowed = refl; load = refl; idle = λ drained. refl; starts = λ w. absurd (let b = w.blocks in cc); tried = refl }, c16 s)
+c17 s = (record { calm = refl; free = refl; going = refl; whole = refl; becomes = is_flood s; begins = refl; flags = refl; obeyed = refl; unowed = refl; load = refl; idle = λ drained. refl; starts = λ w. untrue w.blocks; tried = refl }, c16 s)
 
 abbrev j18 : Settings → Journal
 j18 s = did Rest [] ∷ j17 s
@@ -204,7 +231,7 @@ abbrev j21 : Settings → Journal
 j21 s = turned Did ∷ j20 s
 
 c21 : (s : Settings) → Conducted (first_state s) (j21 s)
-c21 s = (record { once = omega arith; adds = λ m e. absurd cc; starts = λ w. absurd (let b = w.blocks in cc); tries = omega arith; obeyed = λ e. refl; changed = refl; halts = λ e. absurd cc }, c20 s)
+c21 s = (record { once = holds _ _ refl; adds = λ m e. no_move _ _ m e refl; starts = λ w. untrue w.blocks; tries = holds _ _ refl; obeyed = λ e. refl; changed = refl; halts = λ e. untrue e }, c20 s)
 
 abbrev j22 : Settings → Journal
 j22 s = at_port (loaded 0) ∷ j21 s
@@ -216,7 +243,7 @@ abbrev j23 : Settings → Journal
 j23 s = turned (Wait on.Motion) ∷ j22 s
 
 c23 : (s : Settings) → Conducted (first_state s) (j23 s)
-c23 s = (record { ends = record { once = omega arith; adds = λ m e. absurd cc; starts = λ w. absurd (let b = w.blocks in cc); tries = omega arith; obeyed = λ e. refl; changed = refl; halts = λ e. absurd cc }; cause = record { load = refl; undone = omega arith; awaits = refl }; still = refl; flags = refl; obeyed = refl; unowed = λ owed. absurd cc; round = λ due. absurd cc }, c22 s)
+c23 s = (record { ends = record { once = holds _ _ refl; adds = λ m e. no_move _ _ m e refl; starts = λ w. untrue w.blocks; tries = holds _ _ refl; obeyed = λ e. refl; changed = refl; halts = λ e. untrue e }; cause = record { load = refl; undone = omega arith; awaits = refl }; still = refl; flags = refl; obeyed = refl; unowed = λ owed. absurd cc; round = λ due. absurd cc }, c22 s)
 
 abbrev j24 : Settings → Journal
 j24 s = unchanged no_changes (j23 s)
@@ -252,7 +279,7 @@ abbrev j29 : Settings → Journal
 j29 s = turned Did ∷ j28 s
 
 c29 : (s : Settings) → Conducted (first_state s) (j29 s)
-c29 s = (record { once = omega arith; adds = λ m e. absurd cc; starts = λ w. absurd (let b = w.blocks in cc); tries = omega arith; obeyed = λ e. refl; changed = refl; halts = λ e. absurd cc }, c28 s)
+c29 s = (record { once = holds _ _ refl; adds = λ m e. no_move _ _ m e refl; starts = λ w. untrue w.blocks; tries = holds _ _ refl; obeyed = λ e. refl; changed = refl; halts = λ e. untrue e }, c28 s)
 
 abbrev j30 : Settings → Journal
 j30 s = at_port found_empty ∷ j29 s
@@ -264,7 +291,7 @@ abbrev j31 : Settings → Journal
 j31 s = turned (Wait on.Byte) ∷ j30 s
 
 c31 : (s : Settings) → Conducted (first_state s) (j31 s)
-c31 s = (record { ends = record { once = omega arith; adds = λ m e. absurd cc; starts = λ w. absurd (let b = w.blocks in cc); tries = omega arith; obeyed = λ e. refl; changed = refl; halts = λ e. absurd cc }; cause = record { poll = refl; free = refl; partial = refl; unowed = refl }; still = refl; flags = refl; obeyed = refl; unowed = λ owed. absurd cc; round = λ due. absurd cc }, c30 s)
+c31 s = (record { ends = record { once = holds _ _ refl; adds = λ m e. no_move _ _ m e refl; starts = λ w. untrue w.blocks; tries = holds _ _ refl; obeyed = λ e. refl; changed = refl; halts = λ e. untrue e }; cause = record { poll = refl; free = refl; partial = refl; unowed = refl }; still = refl; flags = refl; obeyed = refl; unowed = λ owed. absurd cc; round = λ due. absurd cc }, c30 s)
 
 abbrev j32 : Settings → Journal
 j32 s = unchanged no_changes (j31 s)
@@ -306,7 +333,7 @@ abbrev j38 : Settings → Journal
 j38 s = turned Did ∷ j37 s
 
 c38 : (s : Settings) → Conducted (first_state s) (j38 s)
-c38 s = (record { once = omega arith; adds = λ m e. absurd cc; starts = λ w. absurd (let b = w.blocks in cc); tries = omega arith; obeyed = λ e. refl; changed = refl; halts = λ e. absurd cc }, c37 s)
+c38 s = (record { once = holds _ _ refl; adds = λ m e. no_move _ _ m e refl; starts = λ w. untrue w.blocks; tries = holds _ _ refl; obeyed = λ e. refl; changed = refl; halts = λ e. untrue e }, c37 s)
 
 abbrev j39 : Settings → Journal
 j39 s = at_port (answered Bye) ∷ j38 s
@@ -318,7 +345,7 @@ abbrev j40 : Settings → Journal
 j40 s = turned Did ∷ j39 s
 
 c40 : (s : Settings) → Conducted (first_state s) (j40 s)
-c40 s = (record { once = omega arith; adds = λ m e. absurd cc; starts = λ w. absurd (let b = w.blocks in cc); tries = omega arith; obeyed = λ e. refl; changed = refl; halts = λ e. absurd cc }, c39 s)
+c40 s = (record { once = holds _ _ refl; adds = λ m e. no_move _ _ m e refl; starts = λ w. untrue w.blocks; tries = holds _ _ refl; obeyed = λ e. refl; changed = refl; halts = λ e. untrue e }, c39 s)
 
 abbrev j41 : Settings → Journal
 j41 s = turned Done ∷ j40 s

@@ -30,7 +30,7 @@ use Rattle.board_rules.specs.Steps.{Journal}
 use Rattle.board_rules.specs.Steps.Step.{at_port, began, did, made_end, became, closing, turned}
 use Rattle.board_rules.specs.Turns.{has_blocks}
 use Rattle.board_rules.specs.Conduct.{Conducted}
-use Rattle.board_rules.proofs.Example.{nothing, no_changes}
+use Rattle.board_rules.proofs.Example.{nothing, no_changes, holds, under, untrue, no_move, elsewhere}
 use Rattle.board_rules.proofs.Taking.{requested, unchanged, may_request, may_take_no_change}
 
 -- what becomes of the line: its move, and `ok`
@@ -70,103 +70,103 @@ abbrev j2 : State → PlannedMove → Segment → Journal
 j2 last m s = turned Did ∷ j1 last m s
 
 c2 : (first last : State) (m : PlannedMove) (s : Segment) → IsOneSegment first last m s → Conducted first (j2 last m s)
-c2 first last m s p = (record { once = omega arith; adds = λ m e. absurd cc; starts = λ w. absurd (let b = w.blocks in cc); tries = omega arith; obeyed = λ e. refl; changed = refl; halts = λ e. absurd cc }, c1 first last m s p)
+c2 first last m s p = (record { once = holds _ _ refl; adds = λ m e. no_move _ _ m e refl; starts = λ w. untrue w.blocks; tries = holds _ _ refl; obeyed = λ e. refl; changed = refl; halts = λ e. untrue e }, c1 first last m s p)
 
 abbrev j3 : State → PlannedMove → Segment → Journal
 j3 last m s = at_port (took 71) ∷ j2 last m s
 
 c3 : (first last : State) (m : PlannedMove) (s : Segment) → IsOneSegment first last m s → Conducted first (j3 last m s)
-c3 first last m s p = (record { polls = record { calm = refl; all_done = refl; partial = refl; unclosed = refl }; few = omega arith }, c2 first last m s p)
+c3 first last m s p = (record { polls = record { calm = refl; all_done = refl; partial = refl; unclosed = refl }; few = under _ _ refl }, c2 first last m s p)
 
 abbrev j4 : State → PlannedMove → Segment → Journal
 j4 last m s = turned Did ∷ j3 last m s
 
 c4 : (first last : State) (m : PlannedMove) (s : Segment) → IsOneSegment first last m s → Conducted first (j4 last m s)
-c4 first last m s p = (record { once = omega arith; adds = λ m e. absurd cc; starts = λ w. absurd (let b = w.blocks in cc); tries = omega arith; obeyed = λ e. refl; changed = refl; halts = λ e. absurd cc }, c3 first last m s p)
+c4 first last m s p = (record { once = holds _ _ refl; adds = λ m e. no_move _ _ m e refl; starts = λ w. untrue w.blocks; tries = holds _ _ refl; obeyed = λ e. refl; changed = refl; halts = λ e. untrue e }, c3 first last m s p)
 
 abbrev j5 : State → PlannedMove → Segment → Journal
 j5 last m s = at_port (took 48) ∷ j4 last m s
 
 c5 : (first last : State) (m : PlannedMove) (s : Segment) → IsOneSegment first last m s → Conducted first (j5 last m s)
-c5 first last m s p = (record { polls = record { calm = refl; all_done = refl; partial = refl; unclosed = refl }; few = omega arith }, c4 first last m s p)
+c5 first last m s p = (record { polls = record { calm = refl; all_done = refl; partial = refl; unclosed = refl }; few = under _ _ refl }, c4 first last m s p)
 
 abbrev j6 : State → PlannedMove → Segment → Journal
 j6 last m s = turned Did ∷ j5 last m s
 
 c6 : (first last : State) (m : PlannedMove) (s : Segment) → IsOneSegment first last m s → Conducted first (j6 last m s)
-c6 first last m s p = (record { once = omega arith; adds = λ m e. absurd cc; starts = λ w. absurd (let b = w.blocks in cc); tries = omega arith; obeyed = λ e. refl; changed = refl; halts = λ e. absurd cc }, c5 first last m s p)
+c6 first last m s p = (record { once = holds _ _ refl; adds = λ m e. no_move _ _ m e refl; starts = λ w. untrue w.blocks; tries = holds _ _ refl; obeyed = λ e. refl; changed = refl; halts = λ e. untrue e }, c5 first last m s p)
 
 abbrev j7 : State → PlannedMove → Segment → Journal
 j7 last m s = at_port (took 88) ∷ j6 last m s
 
 c7 : (first last : State) (m : PlannedMove) (s : Segment) → IsOneSegment first last m s → Conducted first (j7 last m s)
-c7 first last m s p = (record { polls = record { calm = refl; all_done = refl; partial = refl; unclosed = refl }; few = omega arith }, c6 first last m s p)
+c7 first last m s p = (record { polls = record { calm = refl; all_done = refl; partial = refl; unclosed = refl }; few = under _ _ refl }, c6 first last m s p)
 
 abbrev j8 : State → PlannedMove → Segment → Journal
 j8 last m s = turned Did ∷ j7 last m s
 
 c8 : (first last : State) (m : PlannedMove) (s : Segment) → IsOneSegment first last m s → Conducted first (j8 last m s)
-c8 first last m s p = (record { once = omega arith; adds = λ m e. absurd cc; starts = λ w. absurd (let b = w.blocks in cc); tries = omega arith; obeyed = λ e. refl; changed = refl; halts = λ e. absurd cc }, c7 first last m s p)
+c8 first last m s p = (record { once = holds _ _ refl; adds = λ m e. no_move _ _ m e refl; starts = λ w. untrue w.blocks; tries = holds _ _ refl; obeyed = λ e. refl; changed = refl; halts = λ e. untrue e }, c7 first last m s p)
 
 abbrev j9 : State → PlannedMove → Segment → Journal
 j9 last m s = at_port (took 46) ∷ j8 last m s
 
 c9 : (first last : State) (m : PlannedMove) (s : Segment) → IsOneSegment first last m s → Conducted first (j9 last m s)
-c9 first last m s p = (record { polls = record { calm = refl; all_done = refl; partial = refl; unclosed = refl }; few = omega arith }, c8 first last m s p)
+c9 first last m s p = (record { polls = record { calm = refl; all_done = refl; partial = refl; unclosed = refl }; few = under _ _ refl }, c8 first last m s p)
 
 abbrev j10 : State → PlannedMove → Segment → Journal
 j10 last m s = turned Did ∷ j9 last m s
 
 c10 : (first last : State) (m : PlannedMove) (s : Segment) → IsOneSegment first last m s → Conducted first (j10 last m s)
-c10 first last m s p = (record { once = omega arith; adds = λ m e. absurd cc; starts = λ w. absurd (let b = w.blocks in cc); tries = omega arith; obeyed = λ e. refl; changed = refl; halts = λ e. absurd cc }, c9 first last m s p)
+c10 first last m s p = (record { once = holds _ _ refl; adds = λ m e. no_move _ _ m e refl; starts = λ w. untrue w.blocks; tries = holds _ _ refl; obeyed = λ e. refl; changed = refl; halts = λ e. untrue e }, c9 first last m s p)
 
 abbrev j11 : State → PlannedMove → Segment → Journal
 j11 last m s = at_port (took 48) ∷ j10 last m s
 
 c11 : (first last : State) (m : PlannedMove) (s : Segment) → IsOneSegment first last m s → Conducted first (j11 last m s)
-c11 first last m s p = (record { polls = record { calm = refl; all_done = refl; partial = refl; unclosed = refl }; few = omega arith }, c10 first last m s p)
+c11 first last m s p = (record { polls = record { calm = refl; all_done = refl; partial = refl; unclosed = refl }; few = under _ _ refl }, c10 first last m s p)
 
 abbrev j12 : State → PlannedMove → Segment → Journal
 j12 last m s = turned Did ∷ j11 last m s
 
 c12 : (first last : State) (m : PlannedMove) (s : Segment) → IsOneSegment first last m s → Conducted first (j12 last m s)
-c12 first last m s p = (record { once = omega arith; adds = λ m e. absurd cc; starts = λ w. absurd (let b = w.blocks in cc); tries = omega arith; obeyed = λ e. refl; changed = refl; halts = λ e. absurd cc }, c11 first last m s p)
+c12 first last m s p = (record { once = holds _ _ refl; adds = λ m e. no_move _ _ m e refl; starts = λ w. untrue w.blocks; tries = holds _ _ refl; obeyed = λ e. refl; changed = refl; halts = λ e. untrue e }, c11 first last m s p)
 
 abbrev j13 : State → PlannedMove → Segment → Journal
 j13 last m s = at_port (took 48) ∷ j12 last m s
 
 c13 : (first last : State) (m : PlannedMove) (s : Segment) → IsOneSegment first last m s → Conducted first (j13 last m s)
-c13 first last m s p = (record { polls = record { calm = refl; all_done = refl; partial = refl; unclosed = refl }; few = omega arith }, c12 first last m s p)
+c13 first last m s p = (record { polls = record { calm = refl; all_done = refl; partial = refl; unclosed = refl }; few = under _ _ refl }, c12 first last m s p)
 
 abbrev j14 : State → PlannedMove → Segment → Journal
 j14 last m s = turned Did ∷ j13 last m s
 
 c14 : (first last : State) (m : PlannedMove) (s : Segment) → IsOneSegment first last m s → Conducted first (j14 last m s)
-c14 first last m s p = (record { once = omega arith; adds = λ m e. absurd cc; starts = λ w. absurd (let b = w.blocks in cc); tries = omega arith; obeyed = λ e. refl; changed = refl; halts = λ e. absurd cc }, c13 first last m s p)
+c14 first last m s p = (record { once = holds _ _ refl; adds = λ m e. no_move _ _ m e refl; starts = λ w. untrue w.blocks; tries = holds _ _ refl; obeyed = λ e. refl; changed = refl; halts = λ e. untrue e }, c13 first last m s p)
 
 abbrev j15 : State → PlannedMove → Segment → Journal
 j15 last m s = at_port (took 52) ∷ j14 last m s
 
 c15 : (first last : State) (m : PlannedMove) (s : Segment) → IsOneSegment first last m s → Conducted first (j15 last m s)
-c15 first last m s p = (record { polls = record { calm = refl; all_done = refl; partial = refl; unclosed = refl }; few = omega arith }, c14 first last m s p)
+c15 first last m s p = (record { polls = record { calm = refl; all_done = refl; partial = refl; unclosed = refl }; few = under _ _ refl }, c14 first last m s p)
 
 abbrev j16 : State → PlannedMove → Segment → Journal
 j16 last m s = turned Did ∷ j15 last m s
 
 c16 : (first last : State) (m : PlannedMove) (s : Segment) → IsOneSegment first last m s → Conducted first (j16 last m s)
-c16 first last m s p = (record { once = omega arith; adds = λ m e. absurd cc; starts = λ w. absurd (let b = w.blocks in cc); tries = omega arith; obeyed = λ e. refl; changed = refl; halts = λ e. absurd cc }, c15 first last m s p)
+c16 first last m s p = (record { once = holds _ _ refl; adds = λ m e. no_move _ _ m e refl; starts = λ w. untrue w.blocks; tries = holds _ _ refl; obeyed = λ e. refl; changed = refl; halts = λ e. untrue e }, c15 first last m s p)
 
 abbrev j17 : State → PlannedMove → Segment → Journal
 j17 last m s = at_port (took 10) ∷ j16 last m s
 
 c17 : (first last : State) (m : PlannedMove) (s : Segment) → IsOneSegment first last m s → Conducted first (j17 last m s)
-c17 first last m s p = (record { polls = record { calm = refl; all_done = refl; partial = refl; unclosed = refl }; few = omega arith }, c16 first last m s p)
+c17 first last m s p = (record { polls = record { calm = refl; all_done = refl; partial = refl; unclosed = refl }; few = under _ _ refl }, c16 first last m s p)
 
 abbrev j18 : State → PlannedMove → Segment → Journal
 j18 last m s = turned Did ∷ j17 last m s
 
 c18 : (first last : State) (m : PlannedMove) (s : Segment) → IsOneSegment first last m s → Conducted first (j18 last m s)
-c18 first last m s p = (record { once = omega arith; adds = λ m e. absurd cc; starts = λ w. absurd (let b = w.blocks in cc); tries = omega arith; obeyed = λ e. refl; changed = refl; halts = λ e. absurd cc }, c17 first last m s p)
+c18 first last m s p = (record { once = holds _ _ refl; adds = λ m e. no_move _ _ m e refl; starts = λ w. untrue w.blocks; tries = holds _ _ refl; obeyed = λ e. refl; changed = refl; halts = λ e. untrue e }, c17 first last m s p)
 
 abbrev j19 : State → PlannedMove → Segment → Journal
 j19 last m s = unchanged no_changes (j18 last m s)
@@ -190,7 +190,7 @@ abbrev j22 : State → PlannedMove → Segment → Journal
 j22 last m s = began (moved m last) ∷ j21 last m s
 
 c22 : (first last : State) (m : PlannedMove) (s : Segment) → IsOneSegment first last m s → Conducted first (j22 last m s)
-c22 first last m s p = (record { calm = refl; free = refl; going = refl; whole = refl; becomes = p.becomes; begins = refl; flags = refl; obeyed = refl; unowed = refl; load = refl; idle = λ d. refl; starts = λ w. absurd (let b = w.blocks in cc); tried = refl }, c21 first last m s p)
+c22 first last m s p = (record { calm = refl; free = refl; going = refl; whole = refl; becomes = p.becomes; begins = refl; flags = refl; obeyed = refl; unowed = refl; load = refl; idle = λ d. refl; starts = λ w. untrue w.blocks; tried = refl }, c21 first last m s p)
 
 abbrev j23 : State → PlannedMove → Segment → Journal
 j23 last m s = did (Add m) [] ∷ j22 last m s
@@ -202,7 +202,7 @@ abbrev j24 : State → PlannedMove → Segment → Journal
 j24 last m s = turned Did ∷ j23 last m s
 
 c24 : (first last : State) (m : PlannedMove) (s : Segment) → IsOneSegment first last m s → Conducted first (j24 last m s)
-c24 first last m s p = (record { once = omega arith; adds = λ m e. absurd cc; starts = λ w. refl; tries = omega arith; obeyed = λ e. refl; changed = refl; halts = λ e. absurd cc }, c23 first last m s p)
+c24 first last m s p = (record { once = holds _ _ refl; adds = λ m e. no_move _ _ m e refl; starts = λ w. refl; tries = holds _ _ refl; obeyed = λ e. refl; changed = refl; halts = λ e. untrue e }, c23 first last m s p)
 
 abbrev j25 : State → PlannedMove → Segment → Journal
 j25 last m s = at_port (answered Ok) ∷ j24 last m s
@@ -214,7 +214,7 @@ abbrev pub j26 : State → PlannedMove → Segment → Journal
 j26 last m s = turned Did ∷ j25 last m s
 
 pub c26 : (first last : State) (m : PlannedMove) (s : Segment) → IsOneSegment first last m s → Conducted first (j26 last m s)
-c26 first last m s p = (record { once = omega arith; adds = λ m e. absurd cc; starts = λ w. refl; tries = omega arith; obeyed = λ e. refl; changed = refl; halts = λ e. absurd cc }, c25 first last m s p)
+c26 first last m s p = (record { once = holds _ _ refl; adds = λ m e. no_move _ _ m e refl; starts = λ w. refl; tries = holds _ _ refl; obeyed = λ e. refl; changed = refl; halts = λ e. untrue e }, c25 first last m s p)
 
 abbrev j27 : State → PlannedMove → Segment → Journal
 j27 last m s = at_port found_empty ∷ j26 last m s
@@ -232,7 +232,7 @@ abbrev j29 : State → PlannedMove → Segment → Journal
 j29 last m s = turned (Wait on.Byte) ∷ j28 last m s
 
 c29 : (first last : State) (m : PlannedMove) (s : Segment) → IsOneSegment first last m s → Conducted first (j29 last m s)
-c29 first last m s p = (record { ends = record { once = omega arith; adds = λ m e. absurd cc; starts = λ w. absurd (let b = w.stands in cc); tries = omega arith; obeyed = λ e. refl; changed = refl; halts = λ e. absurd cc }; cause = record { poll = refl; free = refl; partial = refl; unowed = refl }; still = refl; flags = refl; obeyed = refl; unowed = λ owed. absurd cc; round = λ due c. none_in on.Byte c }, c28 first last m s p)
+c29 first last m s p = (record { ends = record { once = holds _ _ refl; adds = λ m e. no_move _ _ m e refl; starts = λ w. elsewhere _ w.stands refl; tries = holds _ _ refl; obeyed = λ e. refl; changed = refl; halts = λ e. untrue e }; cause = record { poll = refl; free = refl; partial = refl; unowed = refl }; still = refl; flags = refl; obeyed = refl; unowed = λ owed. absurd cc; round = λ due c. none_in on.Byte c }, c28 first last m s p)
 
 abbrev j30 : State → PlannedMove → Segment → Journal
 j30 last m s = unchanged no_changes (j29 last m s)
@@ -262,7 +262,7 @@ abbrev j34 : State → PlannedMove → Segment → Journal
 j34 last m s = turned Did ∷ j33 last m s
 
 c34 : (first last : State) (m : PlannedMove) (s : Segment) → IsOneSegment first last m s → Conducted first (j34 last m s)
-c34 first last m s p = (record { once = omega arith; adds = λ m e. absurd cc; starts = λ w. absurd (let b = w.stands in cc); tries = omega arith; obeyed = λ e. refl; changed = refl; halts = λ e. absurd cc }, c33 first last m s p)
+c34 first last m s p = (record { once = holds _ _ refl; adds = λ m e. no_move _ _ m e refl; starts = λ w. elsewhere _ w.stands refl; tries = holds _ _ refl; obeyed = λ e. refl; changed = refl; halts = λ e. untrue e }, c33 first last m s p)
 
 abbrev j35 : State → PlannedMove → Segment → Journal
 j35 last m s = at_port found_empty ∷ j34 last m s
@@ -286,7 +286,7 @@ abbrev j38 : State → PlannedMove → Segment → Journal
 j38 last m s = turned (Wait on.Byte) ∷ j37 last m s
 
 c38 : (first last : State) (m : PlannedMove) (s : Segment) → IsOneSegment first last m s → Conducted first (j38 last m s)
-c38 first last m s p = (record { ends = record { once = omega arith; adds = λ m e. absurd cc; starts = λ w. absurd (no_blocks m s p.rests w.blocks); tries = omega arith; obeyed = λ e. refl; changed = refl; halts = λ e. absurd cc }; cause = record { poll = refl; free = refl; partial = refl; unowed = refl }; still = refl; flags = refl; obeyed = refl; unowed = λ owed. absurd cc; round = λ due. absurd cc }, c37 first last m s p)
+c38 first last m s p = (record { ends = record { once = holds _ _ refl; adds = λ m e. no_move _ _ m e refl; starts = λ w. absurd (no_blocks m s p.rests w.blocks); tries = holds _ _ refl; obeyed = λ e. refl; changed = refl; halts = λ e. untrue e }; cause = record { poll = refl; free = refl; partial = refl; unowed = refl }; still = refl; flags = refl; obeyed = refl; unowed = λ owed. absurd cc; round = λ due. absurd cc }, c37 first last m s p)
 
 abbrev j39 : State → PlannedMove → Segment → Journal
 j39 last m s = unchanged no_changes (j38 last m s)
@@ -328,7 +328,7 @@ abbrev j45 : State → PlannedMove → Segment → Journal
 j45 last m s = turned Did ∷ j44 last m s
 
 c45 : (first last : State) (m : PlannedMove) (s : Segment) → IsOneSegment first last m s → Conducted first (j45 last m s)
-c45 first last m s p = (record { once = omega arith; adds = λ m e. absurd cc; starts = λ w. absurd (no_blocks m s p.rests w.blocks); tries = omega arith; obeyed = λ e. refl; changed = refl; halts = λ e. absurd cc }, c44 first last m s p)
+c45 first last m s p = (record { once = holds _ _ refl; adds = λ m e. no_move _ _ m e refl; starts = λ w. absurd (no_blocks m s p.rests w.blocks); tries = holds _ _ refl; obeyed = λ e. refl; changed = refl; halts = λ e. untrue e }, c44 first last m s p)
 
 abbrev j46 : State → PlannedMove → Segment → Journal
 j46 last m s = at_port (answered Bye) ∷ j45 last m s
@@ -340,7 +340,7 @@ abbrev j47 : State → PlannedMove → Segment → Journal
 j47 last m s = turned Did ∷ j46 last m s
 
 c47 : (first last : State) (m : PlannedMove) (s : Segment) → IsOneSegment first last m s → Conducted first (j47 last m s)
-c47 first last m s p = (record { once = omega arith; adds = λ m e. absurd cc; starts = λ w. absurd (no_blocks m s p.rests w.blocks); tries = omega arith; obeyed = λ e. refl; changed = refl; halts = λ e. absurd cc }, c46 first last m s p)
+c47 first last m s p = (record { once = holds _ _ refl; adds = λ m e. no_move _ _ m e refl; starts = λ w. absurd (no_blocks m s p.rests w.blocks); tries = holds _ _ refl; obeyed = λ e. refl; changed = refl; halts = λ e. untrue e }, c46 first last m s p)
 
 abbrev j48 : State → PlannedMove → Segment → Journal
 j48 last m s = turned Done ∷ j47 last m s

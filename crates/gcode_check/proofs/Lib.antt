@@ -6,3 +6,6 @@ pub mod Moves
 pub mod FirstRows
 pub mod Joining
 pub mod Readings
+pub mod Casts
+pub mod Moving
+pub mod Taking

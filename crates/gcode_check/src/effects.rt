@@ -56,7 +56,6 @@ fn set_offset(offsets: &mut Offsets, system: u32, at: Nm3)
 }
 
 /// Changes the offsets and stored points as a line does.
-#[tactic(auto, unfolding(crate::specs::Effects::offsets_after))]
 fn set_offsets(p: &mut Parser, line: &Line<'_>)
     requires valid { IsParser p.old }
     requires near { IfSome (new_offset p.old line.now) IsNear }
@@ -128,7 +127,6 @@ pub fn ends_program(line: &Line<'_>) -> bool
 }
 
 /// Takes the state behind the moves of a line.
-#[tactic(auto, unfolding(crate::specs::Effects::parser_moved))]
 fn move_parser(p: &mut Parser, line: &Line<'_>, points: &[Nm3], stops: &[Steps3])
     requires valid { IsParser p.old }
     requires near { All IsNear points.now }

@@ -98,7 +98,7 @@ pub fn check_words(w: &Words) -> Result<(), Code>
 }
 
 /// Why a line is not accepted.
-#[derive(Clone, Copy, Debug, PartialEq, Eq)]
+#[derive(Clone, Copy)]
 pub enum Refusal {
     /// The number of the first error that holds.
     Error(Code),
@@ -122,7 +122,6 @@ impl Refusal {
 /// Takes a line: an accepted line leaves its state in the parser and gives its items. Where the error of the first word
 /// that does not pass, or else the first error of the line, or else a soft limit refuses it, the parser stays as it was
 /// and there are no items. Nothing is copied: a program that goes on with the state behind the line calls this.
-#[tactic(auto, unfolding(crate::specs::Verdicts::verdict))]
 pub fn take_line(p: &mut Parser, s: &Settings, w: &Words, items: &mut Items) -> Result<(), Refusal>
     requires words { All IsSmallWord w.now.items }
     requires parser { IsParser p.old }

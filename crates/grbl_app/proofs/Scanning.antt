@@ -53,14 +53,20 @@ not_shorter read text other scans also whole short =
     let long : length read ≡ length other + length also.left = ap length also.front ∙ length-append other also.left in
     absurd (omega (arith, all, long, short))
 
+longer : (a b : ℕ) → nat_lt a b ≡ true → a < b
+longer a b e = grind (arith, nat_tests)
+
+neither_longer : (a b : ℕ) → nat_lt a b ≡ false → nat_lt b a ≡ false → a ≡ b
+neither_longer a b e f = grind (arith, nat_tests)
+
 one_scanned : (read text other : List ℕ) → ScansFront read text → ScansFront read other → (ends_in text ≡ false → read ≡ text) → (ends_in other ≡ false → read ≡ other) → text ≡ other
 one_scanned read text other scans also whole whole_too = by_test (nat_lt (length text) (length other)) (nat_lt (length other) (length text)) refl refl
   where
     by_test : (t u : Bool) → nat_lt (length text) (length other) ≡ t → nat_lt (length other) (length text) ≡ u → text ≡ other
-    by_test true u e f = not_shorter read text other scans also whole (grind (arith, nat_tests))
-    by_test false true e f = not_shorter read other text also scans whole_too (grind (arith, nat_tests))
+    by_test true u e f = not_shorter read text other scans also whole (longer _ _ e)
+    by_test false true e f = not_shorter read other text also scans whole_too (longer _ _ f)
     by_test false false e f =
-        let same : length text ≡ length other = grind (arith, nat_tests) in
+        let same : length text ≡ length other = neither_longer _ _ e f in
         sym (front_is read text scans.left scans.front) ∙ ap (λ n. take n read) same ∙ front_is read other also.left also.front
 
 -- why no more was sent

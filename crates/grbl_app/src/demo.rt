@@ -3,10 +3,10 @@
 ghost use Rattle.std.specs.Prelude.{◌≡◌, ◌≤◌, IfOk, OnErr};
 ghost use Rattle.grbl_app.specs.Demos.{IsDemo};
 
-use crate::runs::run_in_lockstep;
 use crate::status::{Status, status_of};
 use demo_job::{Answers, DemoJob, NoConsole, tell_summary};
 use outside::{OutOfMemory, Sink};
+use run_core::run_in_lockstep;
 use run_law::RunEnd;
 use std::alloc::Global;
 use std::sync::Wait;

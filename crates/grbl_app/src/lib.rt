@@ -70,7 +70,6 @@ fn stream<
 ///
 /// `demo N`: the generated job of N moves is run in lockstep, with N as the seed. The console takes one line on the run, and the
 /// job is left as it is.
-#[tactic(auto, using(crate::proofs::Tasks::no_stream, crate::proofs::Tasks::same_moves))]
 pub fn run_grbl<
     R: Threads + Wait + Sync,
     So: Source + Send,

@@ -1,57 +1,13 @@
-//! Runs of a job by four actors: each in a thread of its own, or all in lockstep.
+//! A run of a job, as the command asks for it.
 
 ghost use Rattle.std.specs.Prelude.{◌≡◌, IfOk, OnErr};
-ghost use Rattle.run_core.specs.Worlds.{devices, HasRun};
+ghost use Rattle.run_law.specs.Devices.{devices, HasRun};
 
 use outside::{Gate, OutOfMemory, Sink, Source};
-use run_core::{Rig, RunEnd, World, rigs_run, run_lockstep, run_threads};
+use run_core::{RunEnd, run_in_lockstep, run_in_threads};
 use std::alloc::Global;
 use std::sync::Wait;
 use std::thread::Threads;
-
-/// Runs a job in four threads, one for each actor, and answers how the run ends. Each turn is taken once the gate is passed. All
-/// room is taken before the first turn; where there is none, no device is touched.
-fn run_in_threads<
-    R: Threads + Wait + Sync,
-    So: Source + Send,
-    Co: Sink + Send,
-    St: Sink + Send,
-    G: Gate + Sync,
->(
-    rt: &R,
-    alloc: Global,
-    job: &mut So,
-    console: &mut Co,
-    steps: &mut St,
-    gate: &G,
-) -> Result<RunEnd, OutOfMemory>
-    ensures run { IfOk result (λ end. HasRun (devices (So.state job.old) (Co.state console.old) (St.state steps.old)) (devices (So.state job.new) (Co.state console.new) (St.state steps.new)) end) }
-    ensures untouched { OnErr result ((job.new ≡ job.old) × (console.new ≡ console.old) × (steps.new ≡ steps.old)) }
-{
-    let mut rig = Rig::new(alloc)?;
-    let end = run_threads(rt, &mut rig, job, console, steps, gate);
-    rig.join();
-    rigs_run();
-    Ok(end)
-}
-
-/// Runs a job on this thread, in the order of turns that a seed gives, and answers how the run ends. All room is taken before
-/// the first turn; where there is none, no device is touched.
-pub(crate) fn run_in_lockstep<R: Wait, So: Source, Co: Sink, St: Sink>(
-    rt: &R,
-    alloc: Global,
-    seed: u64,
-    job: &mut So,
-    console: &mut Co,
-    steps: &mut St,
-) -> Result<RunEnd, OutOfMemory>
-    ensures run { IfOk result (λ end. HasRun (devices (So.state job.old) (Co.state console.old) (St.state steps.old)) (devices (So.state job.new) (Co.state console.new) (St.state steps.new)) end) }
-    ensures untouched { OnErr result ((job.new ≡ job.old) × (console.new ≡ console.old) × (steps.new ≡ steps.old)) }
-{
-    let mut world = World::new(alloc)?;
-    run_lockstep(rt, &mut world, seed, job, console, steps);
-    Ok(world.end())
-}
 
 /// Runs a job: in lockstep where a seed gives the order of the turns, else in four threads.
 pub(crate) fn run_job<

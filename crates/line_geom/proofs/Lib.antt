@@ -1,3 +1,4 @@
 pub mod Squares
+pub mod Signs
 pub mod Lines
 pub mod Geometries

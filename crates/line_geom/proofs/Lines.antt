@@ -90,6 +90,16 @@ least_of a b c xs ys zs p q r some = elim p [
   ]
 ]
 
+-- the least is low, since some axis goes at least half as far as the line
+pub least_high : (a b c u v w : ℕ) → (500000 ≤ u → a ≤ 2000000000) → (500000 ≤ v → b ≤ 2000000000) → (500000 ≤ w → c ≤ 2000000000) → (500000 ≤ u) ⊎ (500000 ≤ v) ⊎ (500000 ≤ w) → min (min a b) c ≤ 2000000000
+least_high a b c u v w x y z main = elim main [
+  | inl first ↦ omega (arith, x first)
+  | inr rest ↦ elim rest [ inl second ↦ omega (arith, y second) | inr third ↦ omega (arith, z third) ]
+]
+
+pub least_here : (a b c r : ℕ) (xs ys zs : List ℕ) → IsShare a xs → IsShare b ys → IsShare c zs → min (min a b) c ≤ 2000000000 → r ≡ min (min a b) c → r ≡ least (xs ++ ys ++ zs)
+least_here a b c r xs ys zs p q s high is = is ∙ least_of a b c xs ys zs p q s (omega (arith, high))
+
 -- the share of an axis
 pub share_still : (cap : ℕ) → IsShare 18446744073709551615 (axis_cap cap 0)
 share_still cap = inl (refl, refl)
@@ -110,10 +120,7 @@ least_bounds cap ux uy uz caps way =
     let x = share_bounds cap.x (nat_abs ux) caps.x.0 caps.x.1 way.x in
     let y = share_bounds cap.y (nat_abs uy) caps.y.0 caps.y.1 way.y in
     let z = share_bounds cap.z (nat_abs uz) caps.z.0 caps.z.1 way.z in
-    let high : min (min x.0 y.0) z.0 ≤ 2000000000 = elim way.main [
-      | inl main ↦ omega (arith, x.3 main)
-      | inr rest ↦ elim rest [ inl main ↦ omega (arith, y.3 main) | inr main ↦ omega (arith, z.3 main) ]
-    ] in
+    let high = least_high x.0 y.0 z.0 _ _ _ x.3 y.3 z.3 way.main in
     let is = least_of x.0 y.0 z.0 _ _ _ x.1 y.1 z.1 (omega arith) in (omega (arith, is, x.2, y.2, z.2), omega (arith, is, high))
 
 -- how much the squared speed may change

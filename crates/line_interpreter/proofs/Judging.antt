@@ -1,5 +1,5 @@
 -- How a line is judged.
-use Rattle.std.proofs.Common.{◌≡◌, ℕ, Bool, true, false, List, [], ◌∷◌, ◌++◌, length, nat_eq, nat_lt, Some, None, refl, sym, subst, arith, append-nil, append_assoc}
+use Rattle.std.proofs.Common.{◌≡◌, ℕ, zero, suc, drop, ◌∙◌, Bool, true, false, List, [], ◌∷◌, ◌++◌, length, nat_eq, nat_lt, Some, None, refl, sym, ap, subst, arith, append-nil, append_assoc}
 use Rattle.std.specs.List.{slice_get}
 use Rattle.std.specs.declared.option.Option.{Option}
 use Rattle.std.specs.declared.result.Result.{Result}
@@ -11,11 +11,9 @@ use Rattle.gcode_words.specs.Words.{words_of}
 use Rattle.code_table.specs.declared.Code.{Code}
 use Rattle.modal_state.specs.declared.SpindleMode.{SpindleMode}
 use Rattle.gcode_check.specs.declared.Item.{Item}
-use Rattle.gcode_check.specs.declared.Item.TheVariants as items
 use Rattle.gcode_check.specs.declared.Verdict.{Verdict}
 use Rattle.jog.specs.declared.JogMove.{JogMove}
 use Rattle.system_lines.specs.Commands.{command_of, kind_of, jog_words, is_jog}
-use Rattle.system_lines.specs.declared.Kind.TheVariants as kinds
 use Rattle.system_lines.specs.declared.Command.{Command}
 use Rattle.status_report.specs.declared.Reply.TheVariants as replies
 use Rattle.run_rules.specs.Work.{Outcome}
@@ -30,7 +28,7 @@ use Rattle.line_interpreter.specs.declared.tasks.Body.{Body}
 use Rattle.line_interpreter.specs.declared.tasks.Body.TheVariants.{Items, Accepted, Settings, Modes, Offsets}
 use Rattle.line_interpreter.specs.declared.desk.Desk.{Desk}
 use Rattle.line_interpreter.specs.declared.desk.Accepted.TheVariants.{Neither}
-use Rattle.line_interpreter.specs.Desks.{Begun}
+use Rattle.line_interpreter.specs.Desks.{IsReady, Begun}
 use Rattle.line_interpreter.specs.Lefts.{part, behind_part}
 
 pub by_setting : (b : Before) (n : ℕ) (value : Decimal) (r q : Option Code) (o : Outcome) → q ≡ r → BySetting b n value q o → BySetting b n value r o
@@ -125,3 +123,36 @@ modes_begun old new same = rw same (record { state = refl; left = append-nil _; 
 
 pub offsets_begun : (old new : Desk) → new ≡ with_body old Offsets → Begun new (told old.state (offset_replies old.state.parser.offsets)) Neither
 offsets_begun old new same = rw same (record { state = refl; left = append-nil _; answer = refl })
+
+pub begun_number : (old new : Desk) (body : Body) → new ≡ with_body old body → new.number ≡ old.number
+begun_number old new body same = ap (λ (d : Desk). d.number) same
+
+pub begun_ready : (old new : Desk) (body : Body) → new ≡ with_body old body → IsReady old → IsReady new
+begun_ready old new body same ready = rw same (record { state = ready.state; number = ready.number; line = record { line = ready.line.line; items = ready.line.items } })
+
+pub accepted_alone : Accepted ≡ Items → ⊥
+accepted_alone e = cc
+
+pub settings_alone : Settings ≡ Items → ⊥
+settings_alone e = cc
+
+pub modes_alone : Modes ≡ Items → ⊥
+modes_alone e = cc
+
+pub offsets_alone : Offsets ≡ Items → ⊥
+offsets_alone e = cc
+
+-- ---- the next item is gone on to
+
+gone_on : (line : ℕ) (s : State) (spindle : SpindleMode) (flood : Bool) (all : List Item) (place : ℕ) (item : Item) → slice_get all place ≡ Some item
+    → behind_part Items line s spindle flood (drop place all) ≡ work_of line s.settings (spindle_after spindle item) (flood_after flood item) (drop (suc place) all) ++ tell replies.Ok ∷ []
+gone_on line s spindle flood [] place item at = absurd cc
+gone_on line s spindle flood (x ∷ all) zero item at = let same : x ≡ item = cc in rw same refl
+gone_on line s spindle flood (x ∷ all) (suc place) item at = gone_on line s spindle flood all place item at
+
+pub passed_on : (body : Body) (line : ℕ) (s : State) (spindle next_spindle : SpindleMode) (flood next_flood : Bool) (all : List Item) (place next_place k : ℕ) (item : Item) → body ≡ Items
+    → next_place ≡ suc place → slice_get all place ≡ Some item → next_spindle ≡ spindle_after spindle item → next_flood ≡ flood_after flood item → drop k (part body line s spindle flood (drop place all)) ≡ []
+    → part body line s next_spindle next_flood (drop next_place all) ++ behind_part body line s next_spindle next_flood (drop next_place all)
+    ≡ drop k (part body line s spindle flood (drop place all)) ++ behind_part body line s spindle flood (drop place all)
+passed_on body line s spindle next_spindle flood next_flood all place next_place k item is ep at es ef none =
+    rw (none, is, ep, es, ef) (work_is line s (spindle_after spindle item) (flood_after flood item) (drop (suc place) all) ∙ sym (gone_on line s spindle flood all place item at))

@@ -1,8 +1,7 @@
 -- How far from zero the places of a report lie.
-use Rattle.std.proofs.Common.{◌≡◌, ℕ, zero, suc, ◌+◌, ◌*◌, ◌/◌, ◌≤◌, ◌<◌, ◌-◌, ◌+ℤ◌, ℤ, pos, negsuc, nat_abs, get_or, refl, sym, ap, subst, arith}
+use Rattle.std.proofs.Common.{◌≡◌, ℕ, zero, suc, ◌+◌, ◌*◌, ◌/◌, ◌≤◌, ◌<◌, ◌-◌, ◌+ℤ◌, ℤ, pos, negsuc, nat_abs, get_or, refl, arith}
 use Rattle.std.proofs.lemmas.Int.{ints}
 use Rattle.std.proofs.lemmas.Nat.{div_below}
-use Rattle.units.specs.declared.Nm3.{Nm3}
 use Rattle.units.specs.Rounding.{with_sign_of, rounded_quotient}
 use Rattle.modal_state.specs.declared.Offsets.{Offsets}
 use Rattle.modal_state.specs.declared.Parser.{Parser}

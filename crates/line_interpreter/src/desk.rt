@@ -46,7 +46,7 @@ pub(crate) struct Desk {
 }
 
 /// What is accepted where a line is begun.
-#[derive(Clone, Copy, Debug, PartialEq, Eq)]
+#[derive(Clone, Copy)]
 pub enum Accepted {
     /// A line of G-code.
     Code,

@@ -18,7 +18,7 @@ use status_report::{Report, State as Shown};
 use units::{Nm3, Per3, Steps3, nm_to_thousandths, to_thousandths};
 
 /// What a report tells of a machine.
-#[derive(Clone, Copy, Debug, PartialEq, Eq)]
+#[derive(Clone, Copy)]
 pub struct Seen {
     pub state: Shown,
     /// Where it is, in steps.

@@ -39,7 +39,7 @@ use units::{Move, Rate};
 const SOFT_LIMIT: u8 = 2;
 
 /// What there is to do next.
-#[derive(Clone, Copy, Debug, PartialEq, Eq)]
+#[derive(Clone, Copy, PartialEq, Eq)]
 pub enum Todo {
     /// Nothing is left.
     Nothing,
@@ -62,7 +62,7 @@ pub enum Todo {
 }
 
 /// What a line asks for, as a whole.
-#[derive(Clone, Copy, Debug, PartialEq, Eq)]
+#[derive(Clone, Copy, PartialEq, Eq)]
 pub(crate) enum Body {
     /// The banner, before the first line.
     Opening,
@@ -85,7 +85,7 @@ pub(crate) enum Body {
 }
 
 /// What runs between the items of a line: the spindle, and the coolant.
-#[derive(Clone, Copy, Debug, PartialEq, Eq)]
+#[derive(Clone, Copy)]
 pub(crate) struct Running {
     pub(crate) spindle: SpindleMode,
     pub(crate) flood: bool,

@@ -14,7 +14,7 @@ use modal_state::Parser;
 use units::Nm3;
 
 /// A length for each axis that is named.
-#[derive(Clone, Copy, Debug, PartialEq, Eq)]
+#[derive(Clone, Copy)]
 pub struct Lengths {
     pub x: Option<i64>,
     pub y: Option<i64>,

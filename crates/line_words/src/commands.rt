@@ -5,7 +5,7 @@ use code_table::groups::{
 };
 
 /// A G or M code: its letter, ten times its number, and its modal group.
-#[derive(Clone, Copy, Debug, PartialEq, Eq)]
+#[derive(Clone, Copy)]
 pub struct Command {
     pub(crate) letter: u8,
     pub(crate) key: u16,

@@ -37,7 +37,7 @@ pub fn group_slot(group: u16) -> usize
 }
 
 /// The words of a line that passed so far.
-#[derive(Clone, Copy, Debug)]
+#[derive(Clone, Copy)]
 pub struct Index {
     pub slots: Slots,
     pub axis_command: bool,

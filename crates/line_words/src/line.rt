@@ -38,7 +38,7 @@ fn key_held(held: Option<i64>) -> Option<u64>
 }
 
 /// The words of a line, each of which passes behind those before it. Contracts see the list of the words.
-#[derive(Drop, Debug)]
+#[derive(Drop)]
 pub struct Line<'a> {
     words: &'a [Word],
     slots: Slots,

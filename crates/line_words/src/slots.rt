@@ -27,7 +27,7 @@ fn with(set: u64, number: usize) -> u64
 }
 
 /// The words of a line that fill slots: a set of the slots that are filled, and the place of the word that fills each.
-#[derive(Clone, Copy, Debug)]
+#[derive(Clone, Copy)]
 pub struct Slots {
     filled: u64,
     places: [u8; SLOTS],

@@ -58,7 +58,7 @@ joints_at f bs i a b h first second =
     ap (λ x. f x b) (first a) ∙ ap (λ x. f (get_or bs i a) x) e ∙ sym (joints_in f bs i a (omega arith))
 
 -- how much a block's gap is at most
-gap_small : (b : Block) → IsBlock b → gap_of b < 2 ^ 71
+pub gap_small : (b : Block) → IsBlock b → gap_of b < 2 ^ 71
 unfolding gap_of
 gap_small b is =
     let bounds = bounds_of b is in
@@ -111,6 +111,9 @@ pub joint_none : (f : Block → Block → ℕ) (bs : List Block) (row : List ℕ
 joint_none f [] row h = refl
 joint_none f (b ∷ []) row h = refl
 joint_none f (a ∷ b ∷ bs) row h = absurd (omega arith)
+
+pub joints_none : (f : Block → Block → ℕ) (bs : List Block) (row : List ℕ) → length bs ≡ 0 → take (length bs - 1) row ≡ joints f bs
+joints_none f bs row none = joint_none f bs row (omega (arith, none))
 
 -- all junctions, up to the last one
 pub joint_all : (f : Block → Block → ℕ) (bs : List Block) (row : List ℕ) (i : ℕ) → i ≡ length bs - 1

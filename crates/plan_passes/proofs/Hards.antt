@@ -1,8 +1,7 @@
 -- The hard caps that a plan keeps of its junctions.
-use Rattle.std.proofs.Common.{◌≡◌, ◌≢◌, ℕ, ◌+◌, ◌-◌, ◌*◌, ◌<◌, inl, inr, refl, arith, ap, sym, ◌∙◌, subst}
-use Rattle.std.proofs.Common.{List, [], ◌∷◌, length, take, cond, nat_eq, true, false}
+use Rattle.std.proofs.Common.{◌≡◌, ◌≢◌, ℕ, ◌+◌, ◌-◌, ◌*◌, ◌<◌, inl, inr, refl, ap, sym, ◌∙◌, subst}
+use Rattle.std.proofs.Common.{List, [], ◌∷◌, length, take}
 use Rattle.std.proofs.lemmas.Bool.{cases_eq}
-use Rattle.std.proofs.lemmas.Bool.Decides.{nat_tests}
 use Rattle.std.proofs.lemmas.List.Elements.{All-head}
 use Rattle.line_geom.specs.declared.Block.{Block}
 use Rattle.overrides.specs.declared.Overrides.{Overrides}
@@ -10,7 +9,8 @@ use Rattle.plan_rules.specs.Blocks.{IsBlock, left_of, hard_of, hards_of}
 use Rattle.plan_rules.specs.Plans.{IsReached}
 use Rattle.plan_rules.specs.Segments.{IsSegment, moved}
 use Rattle.plan_passes.specs.Tables.{IsMovedUp}
-use Rattle.plan_rules.proofs.Reached.{plan_of, segment_steps, gone_gap, left_gap}
+use Rattle.plan_rules.proofs.Reached.{plan_of, segment_steps, left_gap}
+use Rattle.plan_passes.proofs.Moved.{tail_gone, tail_left}
 use Rattle.plan_passes.proofs.Filling.{joints_up}
 
 -- they know nothing of what is prepared
@@ -33,12 +33,9 @@ hards_moved N n g w v o row row' (b ∷ bs) bs' left gone room reached segment e
     elim (cases_eq g 0) [
       | inl none ↦
           let same = left_gap b n block steps.within (sym now ∙ none) in
-          let test : nat_eq n (left_of b) ≡ true = grind (arith, nat_tests) in
-          subst (λ bs. take (length bs - 1) row' ≡ hards_of bs) (sym (e ∙ ap (λ t. cond t bs (b' ∷ bs)) test))
+          subst (λ bs. take (length bs - 1) row' ≡ hards_of bs) (sym (tail_gone b bs bs' n e same))
           (joints_up hard_of N row row' b bs room (gone none) is)
       | inr some ↦
-          let other : n ≢ left_of b = λ same. some (now ∙ gone_gap b n same) in
-          let test : nat_eq n (left_of b) ≡ false = grind (arith, nat_tests) in
-          subst (λ bs. take (length bs - 1) row' ≡ hards_of bs) (sym (e ∙ ap (λ t. cond t bs (b' ∷ bs)) test))
+          subst (λ bs. take (length bs - 1) row' ≡ hards_of bs) (sym (tail_left b bs bs' n g e now some))
           (ap (take (length (b' ∷ bs) - 1)) (left some) ∙ is ∙ sym (hards_same b (b.prepared + n) bs))
     ]

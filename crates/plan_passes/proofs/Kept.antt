@@ -1,12 +1,12 @@
 -- The planned speeds that a plan keeps, while a segment of its tail is taken.
 use Rattle.std.proofs.Common.{◌≡◌, ◌≢◌, ℕ, ◌+◌, ◌-◌, ◌*◌, ◌≤◌, ◌<◌, ◌⊎◌, inl, inr, refl, arith, ap, sym, ◌∙◌, subst}
-use Rattle.std.proofs.Common.{List, [], ◌∷◌, length, get_or, take, drop, set, cond, nat_eq, true, false, get_or-take, get_or-drop}
+use Rattle.std.proofs.Common.{List, [], ◌∷◌, length, get_or, take, drop, set, get_or-take, get_or-drop}
 use Rattle.std.proofs.lemmas.Bool.{cases_eq}
 use Rattle.std.proofs.lemmas.List.{drop-take}
-use Rattle.std.proofs.lemmas.Bool.Decides.{nat_tests}
 use Rattle.std.proofs.lemmas.List.Elements.{All-head}
 use Rattle.line_geom.specs.declared.Block.{Block}
 use Rattle.overrides.specs.declared.Overrides.{Overrides}
+use Rattle.overrides.specs.Percents.{IsOverrides}
 use Rattle.profile.specs.Profiles.{distance}
 use Rattle.profile.specs.Caps.{caps, planned}
 use Rattle.profile.specs.Settled.{IsSettled, IsLastSettled}
@@ -19,8 +19,16 @@ use Rattle.plan_passes.specs.Tables.{IsTabled, IsMovedUp, IsKept}
 use Rattle.plan_rules.specs.Plans.{planned_at, IsReached, IsSettledAt, IsPointer, IsLastPoint}
 use Rattle.plan_rules.specs.Segments.{IsGoing, IsHolding, IsSegment, moved}
 use Rattle.plan_rules.proofs.Junctions.{length-gaps, length-joints}
-use Rattle.plan_rules.proofs.Reached.{plan_of, softer, segment_steps, moved_reached, length-moved, gap_split, kept_gap, gone_gap, left_gap}
+use Rattle.plan_rules.proofs.Reached.{plan_of, reached_cleared, softer, segment_steps, moved_reached, length-moved, gap_split, kept_gap, gone_gap, left_gap}
+use Rattle.plan_passes.proofs.Moved.{tail_gone, tail_left}
 use Rattle.plan_passes.proofs.Filling.{joints_up}
+
+-- some slots
+pub one_below : (N : ℕ) → 2 ≤ N → 1 < N
+one_below N some = omega (arith, some)
+
+pub none_below : (N : ℕ) → 2 ≤ N → 0 < N
+none_below N some = omega (arith, some)
 
 -- the soft caps know nothing of what is prepared
 softs_same : (o : Overrides) (b : Block) (n : ℕ) (bs : List Block)
@@ -242,6 +250,20 @@ kept_anew N w count settled bs o speeds gap_row soft_row some few room is tabled
   pointer = (last_point w count settled bs o gap_row soft_row tabled many last none).point;
 }
 
+-- no block stands, at rest
+pub kept_none : (N : ℕ) (bs : List Block) (o : Overrides) (speeds gap_row soft_row : List ℕ) → 2 ≤ N → N ≤ 64 → IsOverrides o → bs ≡ []
+    → IsKept N (plan_of bs 0 o) speeds gap_row soft_row 0
+kept_none N bs o speeds gap_row soft_row some few right none =
+    subst (λ bs. IsKept N (plan_of bs 0 o) speeds gap_row soft_row 0) (sym none) record {
+      some = some;
+      few = few;
+      room = omega (arith, some);
+      reached = reached_cleared o right;
+      planned = λ j h l. absurd (omega (arith, h, l));
+      tabled = record { gaps = refl; softs = refl };
+      pointer = pointer_none [] 0 o refl;
+    }
+
 -- what stands beside the blocks while a segment of the tail is taken
 module _ (N n g : ℕ) (o : Overrides) (gap_row gap_row' soft_row soft_row' : List ℕ)
     (gaps_left : g ≢ 0 → gap_row' ≡ set gap_row 0 g) (softs_left : g ≢ 0 → soft_row' ≡ soft_row)
@@ -289,13 +311,10 @@ module _ (N n g : ℕ) (o : Overrides) (gap_row gap_row' soft_row soft_row' : Li
       elim (cases_eq g 0) [
         | inl none ↦
             let same = left_gap b n block steps.within (sym now ∙ none) in
-            let test : nat_eq n (left_of b) ≡ true = grind (arith, nat_tests) in
-            subst (λ bs. IsTabled bs o gap_row' soft_row') (sym (e ∙ ap (λ t. cond t bs (b' ∷ bs)) test))
+            subst (λ bs. IsTabled bs o gap_row' soft_row') (sym (tail_gone b bs bs' n e same))
             (tabled_gone b bs is.room is.tabled none)
         | inr left ↦
-            let other : n ≢ left_of b = λ same. left (now ∙ gone_gap b n same) in
-            let test : nat_eq n (left_of b) ≡ false = grind (arith, nat_tests) in
-            subst (λ bs. IsTabled bs o gap_row' soft_row') (sym (e ∙ ap (λ t. cond t bs (b' ∷ bs)) test))
+            subst (λ bs. IsTabled bs o gap_row' soft_row') (sym (tail_left b bs bs' n g e now left))
             (tabled_left b bs is.tabled left (now ∙ kept_gap b n))
       ]
 
@@ -331,9 +350,7 @@ module _ (N w n v g settled settled' : ℕ) (o : Overrides) (speeds speeds' gap_
       let many = ap length e in
       let room = is.room in
       let left_at : g ≢ 0 → (j : ℕ) → 0 < j → j ≤ length bs' → get_or speeds' j 0 ≡ planned_at (plan_of bs' v o) j = λ left j h l.
-      let other : n ≢ left_of b = λ same. left (now ∙ gone_gap b n same) in
-      let test : nat_eq n (left_of b) ≡ false = grind (arith, nat_tests) in
-      let put : bs' ≡ b' ∷ bs = e ∙ ap (λ t. cond t bs (b' ∷ bs)) test in
+      let put : bs' ≡ b' ∷ bs = tail_left b bs bs' n g e now left in
       let back : j - 1 + 1 ≡ j = omega arith in
       let size = ap length put in
       let same = ahead_left b bs w n v o is.reached segment reach' (j - 1) (omega (arith, size)) in
@@ -342,8 +359,7 @@ module _ (N w n v g settled settled' : ℕ) (o : Overrides) (speeds speeds' gap_
       ∙ ap (λ bs. planned_at (plan_of bs v o) j) (sym put) in
       let gone_at : g ≡ 0 → (j : ℕ) → 0 < j → j ≤ length bs' → get_or speeds' j 0 ≡ planned_at (plan_of bs' v o) j = λ none j h l.
       let same = left_gap b n block steps.within (sym now ∙ none) in
-      let test : nat_eq n (left_of b) ≡ true = grind (arith, nat_tests) in
-      let put : bs' ≡ bs = e ∙ ap (λ t. cond t bs (b' ∷ bs)) test in
+      let put : bs' ≡ bs = tail_gone b bs bs' n e same in
       let size = ap length put in
       up_at j none (omega (arith, size, room)) ∙ is.planned (j + 1) (omega arith) (omega (arith, size))
       ∙ sym (ahead_gone b bs w n v o is.reached segment reach' same j h (omega (arith, size)))
@@ -359,15 +375,12 @@ module _ (N w n v g settled settled' : ℕ) (o : Overrides) (speeds speeds' gap_
         pointer = elim (cases_eq g 0) [
           | inl none ↦
               let same = left_gap b n block steps.within (sym now ∙ none) in
-              let test : nat_eq n (left_of b) ≡ true = grind (arith, nat_tests) in
-              let put : bs' ≡ bs = e ∙ ap (λ t. cond t bs (b' ∷ bs)) test in
+              let put : bs' ≡ bs = tail_gone b bs bs' n e same in
               subst (λ bs. IsPointer (plan_of bs v o) settled') (sym put)
               (pointer_gone b bs w n v settled settled' o is.reached segment reach' same (subst (λ bs. IsReached (plan_of bs v o)) put now_reached)
               (point_gone none) is.pointer)
           | inr left ↦
-              let other : n ≢ left_of b = λ same. left (now ∙ gone_gap b n same) in
-              let test : nat_eq n (left_of b) ≡ false = grind (arith, nat_tests) in
-              let put : bs' ≡ b' ∷ bs = e ∙ ap (λ t. cond t bs (b' ∷ bs)) test in
+              let put : bs' ≡ b' ∷ bs = tail_left b bs bs' n g e now left in
               subst (λ bs. IsPointer (plan_of bs v o) settled') (sym put)
               (subst (λ j. IsPointer (plan_of (b' ∷ bs) v o) j) (sym (point_left left))
               (pointer_left b bs w n v settled o is.reached segment reach' (subst (λ bs. IsReached (plan_of bs v o)) put now_reached) is.pointer))

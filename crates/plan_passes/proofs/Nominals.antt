@@ -1,9 +1,8 @@
 -- The nominal speeds that a plan keeps of its blocks, and what the soft caps are by them.
 use Rattle.std.proofs.Common.{◌≡◌, ◌≢◌, ℕ, suc, ◌+◌, ◌-◌, ◌*◌, ◌≤◌, ◌<◌, min, inl, inr, refl, arith, ap, sym, ◌∙◌, subst}
-use Rattle.std.proofs.Common.{List, [], ◌∷◌, ◌++◌, length, get_or, take, drop, cond, nat_eq, true, false, add-one, get_or-take}
+use Rattle.std.proofs.Common.{List, [], ◌∷◌, ◌++◌, length, get_or, take, drop, add-one, get_or-take}
 use Rattle.std.proofs.Math.Nat.{mul-le-mul}
 use Rattle.std.proofs.lemmas.Bool.{cases_eq}
-use Rattle.std.proofs.lemmas.Bool.Decides.{nat_tests}
 use Rattle.std.proofs.lemmas.List.{drop-take, get_or-map}
 use Rattle.std.proofs.lemmas.List.Elements.{All-head}
 use Rattle.line_geom.specs.declared.Block.{Block}
@@ -15,7 +14,8 @@ use Rattle.plan_rules.specs.Taking.{nominal}
 use Rattle.plan_passes.specs.Tables.{IsMovedUp, nominal_speed, nominals_of}
 use Rattle.overrides.specs.Percents.{IsOverrides}
 use Rattle.plan_rules.proofs.Bounds.{bounds_of, nominal_below}
-use Rattle.plan_rules.proofs.Reached.{plan_of, segment_steps, gone_gap, left_gap}
+use Rattle.plan_rules.proofs.Reached.{plan_of, segment_steps, left_gap}
+use Rattle.plan_passes.proofs.Moved.{tail_gone, tail_left}
 use Rattle.plan_passes.proofs.Filling.{number_at, numbers_before, joints_in}
 
 -- how fast a block is to go at most
@@ -84,14 +84,11 @@ nominals_moved N n g w v o row row' (b ∷ bs) bs' left gone room reached segmen
     elim (cases_eq g 0) [
       | inl none ↦
           let same = left_gap b n block steps.within (sym now ∙ none) in
-          let test : nat_eq n (left_of b) ≡ true = grind (arith, nat_tests) in
           let on : length (b ∷ bs) ≡ 1 + length bs = omega arith in
-          subst (λ bs. take (length bs) row' ≡ nominals_of o bs) (sym (e ∙ ap (λ t. cond t bs (b' ∷ bs)) test))
+          subst (λ bs. take (length bs) row' ≡ nominals_of o bs) (sym (tail_gone b bs bs' n e same))
           (gone none (length bs) (omega arith) ∙ sym (drop-take 1 (length bs) row)
           ∙ ap (drop 1) (subst (λ k. take k row ≡ nominals_of o (b ∷ bs)) on is))
       | inr some ↦
-          let other : n ≢ left_of b = λ same. some (now ∙ gone_gap b n same) in
-          let test : nat_eq n (left_of b) ≡ false = grind (arith, nat_tests) in
-          subst (λ bs. take (length bs) row' ≡ nominals_of o bs) (sym (e ∙ ap (λ t. cond t bs (b' ∷ bs)) test))
+          subst (λ bs. take (length bs) row' ≡ nominals_of o bs) (sym (tail_left b bs bs' n g e now some))
           (ap (take (length (b' ∷ bs))) (left some) ∙ is)
     ]

@@ -1,8 +1,7 @@
 -- The pace that a plan keeps of its tail.
 use Rattle.std.proofs.Common.{◌≡◌, ◌≢◌, ℕ, ◌+◌, ◌-◌, ◌*◌, ◌/◌, ◌≤◌, ◌<◌, min, max, inl, inr, refl, arith, ap, sym, ◌∙◌, subst}
-use Rattle.std.proofs.Common.{List, [], ◌∷◌, ◌++◌, length, cond, nat_eq, false}
+use Rattle.std.proofs.Common.{List, [], ◌∷◌, ◌++◌, length, get_or, drop, Some, Bor}
 use Rattle.std.proofs.lemmas.Bool.{cases_eq}
-use Rattle.std.proofs.lemmas.Bool.Decides.{nat_tests}
 use Rattle.units.specs.Roots.{root_of}
 use Rattle.profile.specs.Slowing.{speed_after}
 use Rattle.line_geom.specs.declared.Block.{Block}
@@ -12,7 +11,9 @@ use Rattle.plan_rules.specs.Blocks.{left_of, top_of}
 use Rattle.plan_rules.specs.Plans.{Planned, IsReached, IsTail, exit_of}
 use Rattle.plan_rules.specs.Segments.{IsSegment, count_of, moved}
 use Rattle.plan_passes.specs.Paces.{IsPaceOf, IsPaceOfTail, IsSteady, IsSteadyOf}
-use Rattle.plan_rules.proofs.Reached.{plan_of, gone_gap}
+use Rattle.plan_passes.specs.Tables.{IsKept}
+use Rattle.plan_rules.proofs.Reached.{plan_of, tail_if}
+use Rattle.plan_passes.proofs.Moved.{tail_left}
 
 -- no pace is kept
 pub no_pace : (bs : List Block) (o : Overrides) (s : Pace) → s.n ≡ 0 → IsPaceOfTail o bs s
@@ -38,9 +39,7 @@ pace_moved w n v g o s s' (b ∷ bs) bs' left gone is segment e gap pace =
     elim (cases_eq g 0) [
       | inl none ↦ no_pace bs' o s' (gone none)
       | inr some ↦
-          let other : n ≢ left_of b = λ same. some (now ∙ gone_gap b n same) in
-          let test : nat_eq n (left_of b) ≡ false = grind (arith, nat_tests) in
-          let put : bs' ≡ b' ∷ bs = e ∙ ap (λ t. cond t bs (b' ∷ bs)) test in
+          let put : bs' ≡ b' ∷ bs = tail_left b bs bs' n g e now some in
           let kept : IsPaceOfTail o (b' ∷ bs) s = λ h.
           let p = pace h in
           record { top = p.top; events = p.events; cycles = p.cycles; some = p.some } in
@@ -51,7 +50,7 @@ pace_moved w n v g o s s' (b ∷ bs) bs' left gone is segment e gap pace =
 least_speed : (w c d exit : ℕ) → w ≤ exit + d → w ≡ min (exit + d) (max (min (w + c) w) (w - c))
 least_speed w c d exit h = omega (arith, h)
 
-pub steady_is : (p : Planned) (s : Pace) (b : Block) (exit : ℕ) → IsTail p b → IsPaceOfTail p.overrides p.blocks s → 0 < s.n
+steady_is : (p : Planned) (s : Pace) (b : Block) (exit : ℕ) → IsTail p b → IsPaceOfTail p.overrides p.blocks s → 0 < s.n
     → p.speed ≡ s.w → exit ≡ exit_of p → s.n < left_of b → s.w ≤ exit + b.geom.q * (left_of b - s.n) → IsSteadyOf p p.blocks s
 steady_is p s b exit tail pace some same exit_is left reach =
     let q = b.geom.q in
@@ -73,3 +72,17 @@ steady_is p s b exit tail pace some same exit_is left reach =
       left = left;
     } in
     subst (λ bs. IsSteadyOf p bs s) (sym tail.stands) is
+
+-- by what the fields of a plan keep
+pub tail_kept : (N w settled : ℕ) (bs : List Block) (o : Overrides) (speeds gap_row soft_row : List ℕ) (b : Bor Block)
+    → IsKept N (plan_of bs w o) speeds gap_row soft_row settled → bs ≡ b.now ∷ drop 1 bs → IsTail (plan_of bs w o) b.now
+tail_kept N w settled bs o speeds gap_row soft_row b kept e = tail_if (Some b) (plan_of bs w o) e kept.reached
+
+pub steady_kept : (N w settled exit : ℕ) (bs : List Block) (o : Overrides) (speeds gap_row soft_row : List ℕ) (b : Bor Block) (s : Pace)
+    → IsKept N (plan_of bs w o) speeds gap_row soft_row settled → bs ≡ b.now ∷ drop 1 bs → IsPaceOfTail o bs s → s.n ≢ 0 → w ≡ s.w
+    → exit ≡ get_or speeds 1 0 → (s.n < left_of b.now) × (s.w ≤ exit + b.now.geom.q * (left_of b.now - s.n)) → IsSteadyOf (plan_of bs w o) bs s
+steady_kept N w settled exit bs o speeds gap_row soft_row b s kept e pace some same at on =
+    let long = ap length e in
+    let planned = kept.planned 1 (omega arith) (omega (arith, long)) in
+    steady_is (plan_of bs w o) s b.now exit (tail_kept N w settled bs o speeds gap_row soft_row b kept e) pace (omega (arith, some)) same (at ∙ planned)
+    on.0 on.1

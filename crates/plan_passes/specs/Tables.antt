@@ -1,4 +1,4 @@
--- What stands beside the blocks of a plan, in rows that may be longer than they are, and what a plan's fields keep.
+-- What is kept beside the blocks of a plan, in rows that may be longer than they are, and what a plan's fields keep.
 use Rattle.std.specs.Prelude.{◌≡◌, ℕ, ◌-◌, ◌≤◌, ◌<◌, List, length, get_or, take, drop, map}
 use Rattle.line_geom.specs.declared.Block.{Block}
 use Rattle.overrides.specs.declared.Overrides.{Overrides}
@@ -21,7 +21,7 @@ nominal_speed o b = nominal_of o b.rate b.geom.rapid
 abbrev pub nominals_of : Overrides → List Block → List ℕ
 nominals_of o bs = map (nominal_speed o) bs
 
--- a row of N places whose first is gone: what stood behind it stands one place up
+-- a row of N places whose first is gone: what came after it is one place up
 abbrev pub IsMovedUp : {X : Type 0} → ℕ → List X → List X → Type 0
 IsMovedUp N xs ys = (n : ℕ) → n < N → take n ys ≡ take n (drop 1 xs)
 
@@ -31,7 +31,7 @@ pub record IsOnward (w from : ℕ) (gaps softs speeds : List ℕ) : Type 0 where
   pub planned_to : (j : ℕ) → 0 < j → j ≤ from → get_or speeds j 0 ≡ planned w gaps softs j
   pub settled : IsSettled gaps (caps w gaps softs) from
 
--- what the fields of a plan of N slots keep: what every plan keeps, the planned speed at each point, what stands beside the
+-- what the fields of a plan of N slots keep: what every plan keeps, the planned speed at each point, what is kept beside the
 -- blocks, and a settled point
 pub record IsKept (N : ℕ) (p : Planned) (speeds gap_row soft_row : List ℕ) (settled : ℕ) : Type 0 where
   pub some : 2 ≤ N

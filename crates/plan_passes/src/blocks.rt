@@ -18,7 +18,6 @@ pub(crate) fn left(b: &Block) -> u32
 }
 
 /// How much the squared speed may change over what is left of a block.
-#[tactic(auto, using(plan_rules::proofs::Bounds::bounds_of), unfolding(plan_rules::specs::Blocks::gap_of))]
 pub(crate) fn gap(b: &Block) -> u128
     requires { IsBlock b.now }
     ensures gap { result ≡ gap_of b.now }
@@ -28,7 +27,6 @@ pub(crate) fn gap(b: &Block) -> u128
 }
 
 /// The nominal speed of a block, in µm/s.
-#[tactic(auto, using(crate::proofs::Nominals::nominal_small, plan_rules::proofs::Bounds::bounds_of))]
 pub(crate) fn nominal(o: &Overrides, b: &Block) -> u64
     requires overrides { IsOverrides o.now }
     requires block { IsBlock b.now }
@@ -39,7 +37,6 @@ pub(crate) fn nominal(o: &Overrides, b: &Block) -> u64
 }
 
 /// The hard cap of the junction of two blocks: what the junction and the axes allow.
-#[tactic(auto, using(plan_rules::proofs::Bounds::rapid_small), unfolding(plan_rules::specs::Blocks::hard_of))]
 pub(crate) fn hard(a: &Block, b: &Block) -> u64
     requires first { IsBlock a.now }
     requires second { IsBlock b.now }

@@ -70,7 +70,7 @@ fn plan_points(from: usize, w: u64, gaps: &[u128], softs: &[u64], speeds: &mut [
 }
 
 /// Writes down the planned speed at each point behind a settled one, in a plan of so many blocks. Answers the last settled point
-/// before its end, or 0 where no block stands.
+/// before its end, or 0 if there is no block.
 pub(crate) fn plan_from<const N: usize>(
     from: usize,
     count: usize,

@@ -3,6 +3,7 @@
 ghost use Rattle.std.specs.Prelude.{◌≡◌, ◌≢◌, ◌<◌, ◌≤◌, ◌-◌, ◌+◌, ◌*◌, List, ◌∷◌, length, IsTrue};
 ghost use Rattle.std.specs.List.{All};
 ghost use Rattle.line_geom.specs.declared.Block.{Block};
+ghost use Rattle.profile.specs.Profiles.{distance};
 ghost use Rattle.plan_rules.specs.Blocks.{IsBlock, left_of};
 ghost use Rattle.plan_rules.specs.Plans.{entry_at};
 ghost use Rattle.plan_rules.specs.Segments.{moved};
@@ -60,7 +61,7 @@ impl<const N: usize> Model for Plan<N> {
     ghost invariant = { λ p. IsKept N (record { blocks = p.ring; speed = p.speed; overrides = p.overrides }) p.planned p.gaps p.softs p.settled × IsPaceOfTail p.overrides p.ring p.pace × (take (length p.ring) p.nominals ≡ nominals_of p.overrides p.ring) × (take (length p.ring - 1) p.hards ≡ hards_of p.ring) };
 }
 
-/// The cap of a block's junction with the last one that stands.
+/// The cap of a block's junction with the last block of the plan.
 fn entry_cap<const N: usize>(ring: &Ring<N>, b: &Block, deviation: u32) -> Cap
     ensures { result ≡ entry_at ring.now b.now deviation }
 {
@@ -73,7 +74,6 @@ fn entry_cap<const N: usize>(ring: &Ring<N>, b: &Block, deviation: u32) -> Cap
 
 /// Marks n more events of the tail as prepared, and takes it away where none is left. How much the squared speed may
 /// change over what is left of it is answered: 0 exactly where it goes.
-#[tactic(auto, using(plan_rules::proofs::Bounds::bounds_of))]
 fn prepare<const N: usize>(ring: &mut Ring<N>, n: u32) -> u128
     requires some { 0 < length ring.old }
     requires blocks { All IsBlock ring.old }
@@ -115,6 +115,14 @@ fn pace_behind(kept: &mut Pace, gap: u128)
     }
 }
 
+/// Whether the squared speed may change so far over a gap.
+#[inline]
+fn within_reach(w: u64, exit: u64, gap: u128) -> bool
+    ensures { IsTrue result → distance w exit ≤ gap }
+{
+    w.abs_diff(exit) as u128 <= gap
+}
+
 /// Whether a block of which more events are left than a pace has goes on at it, where the planned speed at its end is this.
 fn goes_on(b: &Block, pace: Pace, exit: u64) -> bool
     requires { IsBlock b.now }
@@ -140,7 +148,6 @@ impl<const N: usize> Plan<N> {
     ghost use Rattle.plan_passes.specs.Paces.{IsPaceOfTail, IsSteadyOf};
 
     /// A plan of at most N - 1 blocks, at rest. N is from 2 to 64.
-    #[tactic(auto, using(crate::proofs::Kept::pointer_none))]
     pub fn new() -> Plan<N>
         requires { (2 ≤ N) × (N ≤ 64) }
         ensures blocks { result.blocks ≡ [] }
@@ -161,14 +168,14 @@ impl<const N: usize> Plan<N> {
         }
     }
 
-    /// How many blocks stand.
+    /// How many blocks there are.
     pub fn len(&self) -> usize
         ensures { result ≡ length self.now.blocks }
     {
         self.ring.len()
     }
 
-    /// The block that is run, or None exactly where no block stands.
+    /// The block that is run, or None exactly if there is none.
     pub fn tail(&self) -> Option<&Block>
         ensures none { IsNone result ↔ (self.now.blocks ≡ []) }
         ensures some { IfSome result (λ b. IsTail self.now b.now) }
@@ -207,8 +214,8 @@ impl<const N: usize> Plan<N> {
     }
 
     /// The last settled point before the end: one whose planned speed the caps up to it alone hold, so that no block which is
-    /// added changes it. It is 0, the present place, where no other one is settled or no block stands. The plan keeps a settled
-    /// point, from which it plans where a block is added; the last one is found anew.
+    /// added changes it. It is 0, the present place, if no other one is settled or there is no block. The plan keeps a settled
+    /// point, from which it plans when a block is added; the last one is found anew.
     pub fn planned(&self) -> usize
         ensures { IsLastPoint self.now result }
     {
@@ -217,10 +224,10 @@ impl<const N: usize> Plan<N> {
         plan_from(0, count, self.speed, &self.gaps, &self.softs, &mut speeds)
     }
 
-    /// Puts a block behind the others and plans, or hands it back exactly where N - 1 blocks stand.
+    /// Puts a block after the others and plans, or hands it back exactly if the plan has N - 1 blocks.
     ///
-    /// Its entry cap becomes that of its junction with the last block, for a deviation in µm, or `At(0)` where no block
-    /// stands. The plan keeps the overrides; where blocks stand they are the ones that it has.
+    /// Its entry cap becomes that of its junction with the last block, for a deviation in µm, or `At(0)` if there is
+    /// none. The plan keeps the overrides; if it has blocks, they are the ones that it has already.
     pub fn add(&mut self, b: Block, deviation: u32, o: &Overrides) -> Result<(), Block>
         requires rate { IsRate b.rate }
         requires geom { IsGeomOf b.mv b.geom }
@@ -307,7 +314,7 @@ impl<const N: usize> Plan<N> {
         );
         self.settled = point_behind(self.settled, gap);
         pace_behind(&mut self.pace, gap);
-        if w.abs_diff(exit) as u128 <= gap {
+        if within_reach(w, exit, gap) {
             return;
         }
         let count = self.ring.len();
@@ -331,7 +338,7 @@ impl<const N: usize> Plan<N> {
         if self.pace.n == 0 || self.speed != self.pace.w {
             return None;
         }
-        let tail = self.tail()?;
+        let tail = self.ring.tail()?;
         if goes_on(tail, self.pace, self.planned.at(1)) {
             Some(self.pace)
         } else {
@@ -340,7 +347,6 @@ impl<const N: usize> Plan<N> {
     }
 
     /// Takes all blocks away, and stops.
-    #[tactic(auto, using(crate::proofs::Kept::pointer_none, crate::proofs::Paces::no_pace))]
     pub fn clear(&mut self)
         ensures { self.new ≡ record self.old { blocks = []; speed = 0 } }
     {

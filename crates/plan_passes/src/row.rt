@@ -6,11 +6,11 @@ ghost use Rattle.plan_passes.specs.Tables.{IsMovedUp};
 use std::marker::Model;
 
 /// N places, at most 64, that stand one behind another among 64. Where the first goes, those that stand begin one place
-/// further on; only where the last of the 64 stands already are they copied to the front.
+/// further on; only if the last of the 64 is in use are they copied to the front.
 #[derive(Drop)]
 pub(crate) struct Row<T: Copy, const N: usize> {
     pub(crate) places: [T; 64],
-    /// The first place that stands.
+    /// The first place in use.
     pub(crate) start: usize,
 }
 
@@ -28,7 +28,7 @@ impl<T: Copy, const N: usize> Row<T, N> {
     ghost use Rattle.std.specs.Prelude.{◌≡◌, ◌≤◌, ◌<◌, ◌+◌, List, length, replicate, get_or, set, take, drop};
     ghost use Rattle.plan_passes.specs.Tables.{IsMovedUp};
 
-    /// A row in each of whose places the same stands.
+    /// A row with the same in each place.
     pub(crate) fn new(x: T) -> Row<T, N>
         requires { N ≤ 64 }
         ensures { result ≡ replicate N x }
@@ -39,7 +39,7 @@ impl<T: Copy, const N: usize> Row<T, N> {
         }
     }
 
-    /// What stands in a place.
+    /// What a place holds.
     pub(crate) fn at(&self, i: usize) -> T
         requires { i < N }
         ensures { (d : T) → result ≡ get_or self.now i d }
@@ -47,7 +47,7 @@ impl<T: Copy, const N: usize> Row<T, N> {
         self.places[self.start + i]
     }
 
-    /// What stands in the first places.
+    /// What the first places hold.
     pub(crate) fn first(&self, count: usize) -> &[T]
         requires { count ≤ N }
         ensures part { result.now ≡ take count self.now }
@@ -66,7 +66,7 @@ impl<T: Copy, const N: usize> Row<T, N> {
         self.places[self.start + i] = x;
     }
 
-    /// Moves what stands in the row one place up: the first is gone, and anything stands in the last place.
+    /// Moves what the row holds one place up: the first is gone, and the last place may hold anything.
     pub(crate) fn move_up(&mut self)
         requires { 0 < N }
         ensures { IsMovedUp N self.old self.new }

@@ -1,4 +1,4 @@
-//! What stands beside the blocks: how much the squared speed may change over each, its nominal speed, and the hard and the
+//! What is kept beside the blocks: how much the squared speed may change over each, its nominal speed, and the hard and the
 //! soft cap of each junction. Each number is worked out once, when its block comes; where the overrides change, nominal
 //! speeds and soft caps are again.
 
@@ -14,7 +14,7 @@ use crate::row::Row;
 use overrides::Overrides;
 use planner_ring::{Block, Ring};
 
-/// A block that stands.
+/// A block of the plan.
 pub(crate) fn block_at<const N: usize>(ring: &Ring<N>, i: usize) -> &Block
     requires { i < length ring.now }
     ensures { (d : Block) → result.now ≡ get_or ring.now i d }
@@ -69,7 +69,7 @@ pub(crate) fn put_soft<const N: usize>(
     softs.put(count - 2, soft(cap, first, second));
 }
 
-/// Writes down the nominal speed of each block, and the soft cap of each junction, whose hard cap stands there already.
+/// Writes down the nominal speed of each block, and the soft cap of each junction, whose hard cap is there already.
 pub(crate) fn fill_softs<const N: usize>(
     ring: &Ring<N>,
     o: &Overrides,

@@ -1,6 +1,5 @@
 -- What a world stands for: its actors, the lists between them, and what was done.
 use Rattle.std.specs.Prelude.{◌≡◌, ℕ, ◌≤◌, Bool, true, List, [], ◌∷◌, ◌++◌, length, reverse}
-use Rattle.outside.specs.Causes.{SourceState, SinkState}
 use Rattle.outside.specs.declared.Actor.{Actor}
 use Rattle.outside.specs.declared.Actor.TheVariants as actors
 use Rattle.outside.specs.declared.Turn.{Turn}
@@ -24,8 +23,8 @@ use Rattle.pulse_engine.specs.Turns.{PulseFits, PulseTurned}
 use Rattle.step_record.specs.Taking.{Log, records}
 use Rattle.step_record.specs.Recording.{RecorderFits, RecorderTurned, Rests}
 use Rattle.run_law.specs.declared.RunEnd.{RunEnd}
-use Rattle.run_law.specs.Runs.{Sinks, ended, IsRun}
-use Rattle.run_law.specs.SoFar.{IsSoFar}
+use Rattle.run_law.specs.Runs.{ended}
+pub use Rattle.run_law.specs.Devices.{Devices, devices, sinks, RunsSoFar, HasRun}
 use Rattle.run_core.specs.Passing.{HandsOn, record_room}
 use Rattle.realtime_flags.specs.Bits.{IsBalanced}
 use Rattle.run_law.specs.Taking.{raises_in, takes_in}
@@ -74,18 +73,6 @@ pub record Holds (w : Seen) (hist : History) : Type 0 where
 -- there is such a history
 abbrev pub HasHistory : Seen → Type 0
 HasHistory w = (hist : History) × Holds w hist
-
--- what the devices tell: the source of the job, the console, and the sink of the steps
-pub record Devices : Type 0 where
-  pub job : SourceState
-  pub console : SinkState
-  pub steps : SinkState
-
-abbrev pub devices : SourceState → SinkState → SinkState → Devices
-devices job console steps = record { job = job; console = console; steps = steps }
-
-abbrev pub sinks : Devices → Sinks
-sinks now = record { console = now.console; steps = now.steps }
 
 -- a world that has done this since a moment
 pub record Stands (was now : Devices) (w : Seen) (hist : History) : Type 0 where
@@ -174,14 +161,6 @@ pub record HasRunOn (before after : Devices) (w w' : Seen) : Type 0 where
 -- how it ends
 abbrev pub end_after : Seen → History → RunEnd
 end_after w hist = ended (end_of hist.host) w.recorder.failed
-
--- what was done since a moment is a run so far
-abbrev pub RunsSoFar : Devices → Devices → Type 0
-RunsSoFar was now = IsSoFar was.job now.job (sinks was) (sinks now)
-
--- it is a run of the job, which ends so
-abbrev pub HasRun : Devices → Devices → RunEnd → Type 0
-HasRun was now end = IsRun was.job now.job (sinks was) (sinks now) end
 
 -- ---- its reports, line by line
 

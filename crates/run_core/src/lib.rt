@@ -5,6 +5,8 @@
 //! On one thread bytes and replies between a host and a board, the flags that realtime bytes raise, and pieces on their way to a
 //! pulse stand in `Lists`; records go from a pulse to a recorder through `Records`. `World` is the four actors over these lists.
 //! Its turns go by a schedule, or in lockstep by an order that a seed gives.
+//!
+//! `run_in_threads` and `run_in_lockstep` run a job from its first turn to its end.
 #![tactic(auto)]
 
 mod board_port;
@@ -17,6 +19,7 @@ mod loops;
 mod pulse_port;
 mod records;
 mod rig;
+mod runs;
 mod schedule;
 mod sides;
 mod world;
@@ -27,5 +30,6 @@ pub use lockstep::{Order, run_lockstep};
 pub use records::Records;
 pub use rig::{Rig, run_threads};
 pub use run_law::RunEnd;
+pub use runs::{run_in_lockstep, run_in_threads};
 pub use schedule::run_schedule;
 pub use world::World;

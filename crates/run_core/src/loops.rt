@@ -3,6 +3,7 @@
 //! Before each turn the actor passes a gate. Where a turn has to wait, the thread lets others run a few times before
 //! it tries again, by what it waits for; it never spins.
 
+ghost use Rattle.std.specs.Prelude.{◌≡◌, ◌↔◌, true};
 ghost use Rattle.run_core.specs.Sides.{HostIsNew, HostRanAt, BoardIsNew, BoardRanAt, PulseIsNew, PulseRanAt, RecorderIsNew, RecorderRanAt};
 
 use crate::sides::{BoardSide, HostSide, PulseSide, RecorderSide};
@@ -28,6 +29,21 @@ fn yield_for(on: On) {
     }
 }
 
+/// Whether a turn is its actor's last. If the turn has to wait, other threads run first.
+#[inline]
+fn is_last(turn: Turn) -> bool
+    ensures { (result ≡ true) ↔ (turn ≡ Turn.Done) }
+{
+    match turn {
+        Turn::Did => false,
+        Turn::Wait(on) => {
+            yield_for(on);
+            false
+        }
+        Turn::Done => true,
+    }
+}
+
 /// Runs a host until it is done.
 pub(crate) fn run_host<R: Wait, J: Source, C: Sink, G: Gate>(
     rt: &R,
@@ -41,10 +57,8 @@ pub(crate) fn run_host<R: Wait, J: Source, C: Sink, G: Gate>(
 {
     for _ in rt.forever() {
         gate.pass(Actor::Host);
-        match side.host.turn(&mut side.link, job, console) {
-            Turn::Did => {}
-            Turn::Wait(on) => yield_for(on),
-            Turn::Done => return,
+        if is_last(side.host.turn(&mut side.link, job, console)) {
+            return;
         }
     }
     unreachable!()
@@ -57,10 +71,8 @@ pub(crate) fn run_board<R: Wait, G: Gate>(rt: &R, side: &mut BoardSide, gate: &G
 {
     for _ in rt.forever() {
         gate.pass(Actor::Board);
-        match side.board.turn(&mut side.link) {
-            Turn::Did => {}
-            Turn::Wait(on) => yield_for(on),
-            Turn::Done => return,
+        if is_last(side.board.turn(&mut side.link)) {
+            return;
         }
     }
     unreachable!()
@@ -73,10 +85,8 @@ pub(crate) fn run_pulse<R: Wait, G: Gate>(rt: &R, side: &mut PulseSide, gate: &G
 {
     for _ in rt.forever() {
         gate.pass(Actor::Pulse);
-        match side.pulse.turn(&mut side.pieces, &mut side.records) {
-            Turn::Did => {}
-            Turn::Wait(on) => yield_for(on),
-            Turn::Done => return,
+        if is_last(side.pulse.turn(&mut side.pieces, &mut side.records)) {
+            return;
         }
     }
     unreachable!()
@@ -94,10 +104,8 @@ pub(crate) fn run_recorder<R: Wait, S: Sink, G: Gate>(
 {
     for _ in rt.forever() {
         gate.pass(Actor::Record);
-        match side.recorder.turn(&mut side.records, steps) {
-            Turn::Did => {}
-            Turn::Wait(on) => yield_for(on),
-            Turn::Done => return,
+        if is_last(side.recorder.turn(&mut side.records, steps)) {
+            return;
         }
     }
     unreachable!()

@@ -6,3 +6,4 @@ pub mod Runs
 pub mod Ran
 pub mod SoFar
 pub mod Complete
+pub mod Devices

@@ -1,5 +1,5 @@
 -- How large the numbers of a segment are.
-use Rattle.std.proofs.Common.{◌≡◌, ℕ, ◌+◌, ◌-◌, ◌*◌, ◌/◌, ◌≤◌, ◌<◌, min, max, inl, inr, arith, sym, ap, subst, ◌∙◌}
+use Rattle.std.proofs.Common.{◌≡◌, ℕ, ◌+◌, ◌-◌, ◌*◌, ◌/◌, ◌^◌, ◌≤◌, ◌<◌, min, max, inl, inr, arith, sym, ap, subst, ◌∙◌}
 use Rattle.std.proofs.lemmas.Bool.{cases_lt}
 use Rattle.std.proofs.lemmas.Nat.{mul-le, le-div, div_below}
 use Rattle.std.proofs.Math.Nat.{le_of_mul-le-mul_right, div-mul-le_self}
@@ -59,8 +59,8 @@ pub product_some : (v : ℕ) (b : Block) → IsBlock b → 0 < v → 0 < b.geom.
 product_some v b is some = let n_low = (bounds_of b is).n_low in mul-le 1 1 b.geom.n v n_low some
 
 -- the nominal speed of a tail
-pub tail_nominal : (p : Planned) (b : Block) → IsReached p → IsTail p b → nominal_of p.overrides b.rate b.geom.rapid ≤ b.geom.rapid
-tail_nominal p b is tail = nominal_below p.overrides b is.overrides tail.block
+pub tail_nominal : (p : Planned) (b : Block) (top : ℕ) → IsReached p → IsTail p b → top ≡ nominal_of p.overrides b.rate b.geom.rapid → top ≤ b.geom.rapid
+tail_nominal p b top is tail nominal = let below = nominal_below p.overrides b is.overrides tail.block in omega (arith, below, nominal)
 
 -- what the segment rule takes in mode Go, from the plan's speed, its speed at the tail's end and the nominal speed
 pub is_going : (p : Planned) (b : Block) (w exit nominal n v : ℕ) → w ≡ p.speed → exit ≡ exit_of p
@@ -126,3 +126,45 @@ change_small w n b is speed few =
           let most = mul-le b.geom.accel r 2000000000 33453118 bounds.accel_high slow in
           omega (arith, change, most)
     ]
+
+-- one event is taken where no more is left, and where two take longer than 10 ms
+pub one_left : (b : Block) (w : ℕ) → left_of b ≡ 1 → 1 ≡ count_of b w
+one_left b w left = omega arith
+
+pub one_taken : (b : Block) (w r : ℕ) → IsBlock b → IsRoot (w + b.geom.q) r → r * 10 * b.geom.n < 2 * b.geom.length → 1 ≡ count_of b w
+one_taken b w r is root less =
+    let left = is.left in
+    let few = one_event (r * 10 * b.geom.n) b.geom.length (omega arith) less in
+    let same = ap (λ r. r * 10 * b.geom.n / b.geom.length) (one_root _ r root) in
+    omega (arith, few, same, left)
+
+-- and otherwise those of about 10 ms, as far as they are left
+pub some_taken : (b : Block) (w r m : ℕ) → IsBlock b → IsRoot (w + b.geom.q) r → 2 * b.geom.length ≤ r * 10 * b.geom.n
+    → m ≡ min (r * 10 * b.geom.n / b.geom.length) (left_of b) → m ≡ count_of b w
+some_taken b w r m is root more least =
+    let left = is.left in
+    let low = (bounds_of b is).length_low in
+    let some = some_events (r * 10 * b.geom.n) b.geom.length (omega (arith, low)) more in
+    let same = ap (λ r. r * 10 * b.geom.n / b.geom.length) (one_root _ r root) in
+    omega (arith, some, same, left, least)
+
+-- one at least, and no more than are left
+pub count_within : (b : Block) (w : ℕ) → IsBlock b → (0 < count_of b w) × (count_of b w ≤ left_of b)
+count_within b w is = let left = is.left in (omega arith, omega (arith, left))
+
+-- what the numbers of a block come to in 64 bits
+pub nominal_fits : (b : Block) (v : ℕ) → IsBlock b → v ≤ b.geom.rapid → v * v < 2 ^ 64
+nominal_fits b v is le = omega (arith, square_le v b is le, rapid_small b is)
+
+pub changed_fits : (b : Block) (w change : ℕ) → IsBlock b → w ≤ squared b.geom.rapid → change ≤ 2000000000000000 → w + change < 2 ^ 64
+changed_fits b w change is speed small = omega (arith, speed, small, rapid_small b is)
+
+-- the speed behind events in mode Go, where both ways to it are cut off at the end of 64 bits; it is one that the axes allow
+pub speed_is : (b : Block) (w n exit nominal change change' for_exit towards v : ℕ) → IsBlock b → w ≤ squared b.geom.rapid → nominal ≤ b.geom.rapid
+    → change' ≡ min (b.geom.q * (left_of b - n)) 18446744073709551615 → for_exit ≡ min (exit + change') 18446744073709551615
+    → change ≡ b.geom.q * n → towards ≡ max (min (w + change) (nominal * nominal)) (w - change) → v ≡ min for_exit towards
+    → (v ≡ speed_after w b.geom.q n (left_of b - n) exit (squared nominal)) × (v ≤ squared b.geom.rapid)
+speed_is b w n exit nominal change change' for_exit towards v is speed top rest at_exit by at_top least =
+    let square = square_le nominal b is top in
+    let rapid = rapid_small b is in
+    (omega (arith, square, rapid, speed, rest, at_exit, by, at_top, least), omega (arith, square, speed, at_top, least))

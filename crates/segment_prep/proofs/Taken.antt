@@ -1,5 +1,5 @@
 -- What holds of the segment that a plan gives.
-use Rattle.std.proofs.Common.{◌≡◌, ℕ, ◌+◌, ◌*◌, ◌/◌, ◌^◌, ◌≤◌, ◌<◌, min, max, inl, inr, ◌∷◌, drop, refl, ap, sym, ◌∙◌, subst, arith}
+use Rattle.std.proofs.Common.{◌≡◌, ℕ, ◌+◌, ◌*◌, ◌/◌, ◌^◌, ◌≤◌, ◌<◌, ◌⊎◌, true, false, Bool, min, max, inl, inr, [], ◌∷◌, length, drop, refl, ap, sym, ◌∙◌, subst, arith}
 use Rattle.units.specs.Roots.{root_of}
 use Rattle.units.specs.Lengths.{IsMove}
 use Rattle.step_line.specs.declared.Segment.{Segment}
@@ -92,3 +92,39 @@ traceable_at_pace p b t s tail steady e line time =
     let w = ap (λ (s : Segment). s.w_in) e in
     traceable b s tail.block (ap (λ (s : Segment). s.mv) e) (ap (λ (s : Segment). s.first) e) (omega (arith, n, is.some.0)) (omega (arith, n, is.left))
     (omega (arith, w, is.speed, tail.rapid)) line time
+
+-- a segment comes where a block stands, and not in mode Hold at rest
+abbrev pub ComesAsAsked : Planned → Mode → Bool → Type 0
+ComesAsAsked p mode some = (some ≡ false → (p.blocks ≡ []) ⊎ ((mode ≡ Hold) × (p.speed ≡ 0))) × ((p.blocks ≡ []) ⊎ ((mode ≡ Hold) × (p.speed ≡ 0)) → some ≡ false)
+
+pub some_at_pace : (p : Planned) (mode : Mode) (s : Segment) → mode ≡ Go → IsNext p mode s → ComesAsAsked p mode true
+some_at_pace p mode s go next = (
+  λ no. absurd cc,
+  elim [
+    | inl empty ↦ absurd (subst (λ bs. IsTakenOf p bs mode s) empty next)
+    | inr held ↦ absurd (let e = sym go ∙ held.0 in cc)
+  ],
+)
+
+pub some_worked_out : (p : Planned) (b : Block) (mode : Mode) (w : ℕ) → IsTail p b → w ≡ p.speed → ((mode ≡ Hold) × (w ≡ 0) → true ≡ false) → ComesAsAsked p mode true
+some_worked_out p b mode w tail speed rests = (
+  λ no. absurd cc,
+  elim [
+    | inl empty ↦ absurd (omega (arith, ap length (sym tail.stands ∙ empty)))
+    | inr held ↦ rests (held.0, speed ∙ held.1)
+  ],
+)
+
+pub none_worked_out : (p : Planned) (mode : Mode) (w : ℕ) → w ≡ p.speed → (mode ≡ Hold) × (w ≡ 0) → ComesAsAsked p mode false
+none_worked_out p mode w speed held = (λ no. inr (held.0, sym speed ∙ held.1), λ comes. refl)
+
+pub none_of_none : (p : Planned) (mode : Mode) → p.blocks ≡ [] → ComesAsAsked p mode false
+none_of_none p mode empty = (λ no. inl empty, λ comes. refl)
+
+-- the tail's block stands
+pub tail_stands : (p : Planned) (b : Block) → IsTail p b → 0 < length p.blocks
+tail_stands p b tail = omega (arith, ap length tail.stands)
+
+-- a plan is no faster than its tail's axes allow
+pub tail_rapid : (p : Planned) (b : Block) (w : ℕ) → IsTail p b → w ≡ p.speed → w ≤ squared b.geom.rapid
+tail_rapid p b w tail speed = omega (arith, speed, tail.rapid)

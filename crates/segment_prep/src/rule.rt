@@ -43,7 +43,6 @@ pub(crate) fn small_change(b: &Block, w: u64, n: u32) -> u64
 /// How many events of a block are taken at a squared speed: those of about 10 ms, but one at least, and no more than are
 /// left.
 #[inline]
-#[tactic(auto, using(crate::proofs::Sizes::some_events, crate::proofs::Sizes::one_event, plan_rules::proofs::Bounds::bounds_of, plan_rules::proofs::Bounds::rapid_small, units::proofs::Places::one_root))]
 fn count(b: &Block, w: u64) -> u32
     requires block { IsBlock b.now }
     requires speed { w ≤ squared b.now.geom.rapid }
@@ -79,7 +78,6 @@ fn speed_towards(w: u64, change: u64, top: u64) -> u64
 /// The squared speed behind n events of a block in mode Go, where its nominal speed and the plan's speed at its end are
 /// these.
 #[inline]
-#[tactic(auto, using(crate::proofs::Sizes::square_le, plan_rules::proofs::Bounds::rapid_small))]
 fn speed_going(b: &Block, w: u64, n: u32, exit: u64, nominal: u64) -> u64
     requires block { IsBlock b.now }
     requires speed { w ≤ squared b.now.geom.rapid }

@@ -118,22 +118,15 @@ fn segment_at_pace<const N: usize>(plan: &Plan<N>, mode: Mode) -> Option<Segment
     match mode {
         Mode::Hold => None,
         Mode::Go => {
-            let pace = plan.steady()?;
-            let tail = plan.tail()?;
+            let Some(pace) = plan.steady() else {
+                return None;
+            };
+            let Some(tail) = plan.tail() else {
+                return None;
+            };
             Some(tail_at_pace(plan, tail, pace))
         }
     }
-}
-
-/// The nominal speed of a plan's tail, in µm/s.
-#[inline]
-#[tactic(auto, using(crate::proofs::Sizes::tail_nominal))]
-fn tail_nominal<const N: usize>(plan: &Plan<N>, tail: &Block) -> u64
-    requires { IsTail plan.now tail.now }
-    ensures nominal { result ≡ nominal plan.now tail.now }
-    ensures rapid { result ≤ tail.now.geom.rapid }
-{
-    plan.nominal_of_tail()
 }
 
 /// A block's next segment in a mode, worked out, where the squared speed here, the plan's at its end and its nominal speed
@@ -162,12 +155,16 @@ fn segment_anew<const N: usize>(plan: &mut Plan<N>, mode: Mode) -> Option<Segmen
     ensures traceable { IfSome result (λ s. 1 ≤ s.line → IsTraceable s) }
     ensures takes_time { IfSome result (λ s. 1 ≤ s.cycles) }
 {
-    let b = plan.tail()?;
+    let Some(tail) = plan.tail() else {
+        return None;
+    };
     let w_in = plan.speed();
-    let nominal = tail_nominal(plan, b);
+    let nominal = plan.nominal_of_tail();
     let exit = plan.exit_of_tail();
-    let segment = worked_out(b, w_in, exit, nominal, mode)?;
-    if is_at_pace(b, nominal, mode, &segment) {
+    let Some(segment) = worked_out(tail, w_in, exit, nominal, mode) else {
+        return None;
+    };
+    if is_at_pace(tail, nominal, mode, &segment) {
         plan.keep_pace(Pace {
             n: segment.n,
             w: segment.w_out,
@@ -193,12 +190,12 @@ fn segment_next<const N: usize>(plan: &mut Plan<N>, mode: Mode) -> Option<Segmen
     }
 }
 
-/// Takes the next segment of a plan in a mode, and advances the plan by it. Where a block stands, `o` are the overrides
+/// Takes the next segment of a plan in a mode, and advances the plan by it. If there is a block, `o` are the overrides
 /// that the plan is made for.
 ///
 /// In mode Go the segment has the tail's events of about 10 ms, one at least, and ends as fast as the plan allows. In mode
-/// Hold it has no more of them than it takes to stop, and each slows the plan down. None comes exactly where no block
-/// stands, or where the mode is Hold and the plan stands still; then the plan stays as it is.
+/// Hold it has no more of them than it takes to stop, and each slows the plan down. None comes exactly if there is
+/// no block, or if the mode is Hold and the planned speed is 0; then the plan stays as it is.
 #[inline]
 pub fn next_segment<const N: usize>(
     plan: &mut Plan<N>,
@@ -215,7 +212,9 @@ pub fn next_segment<const N: usize>(
     ensures traceable { IfSome result (λ s. 1 ≤ s.line → IsTraceable s) }
     ensures takes_time { IfSome result (λ s. 1 ≤ s.cycles) }
 {
-    let segment = segment_next(plan, mode)?;
+    let Some(segment) = segment_next(plan, mode) else {
+        return None;
+    };
     plan.advance(segment.n, segment.w_out);
     Some(segment)
 }

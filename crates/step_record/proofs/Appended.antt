@@ -1,5 +1,5 @@
 -- Lines that are appended part by part.
-use Rattle.std.proofs.Common.{◌≡◌, ℕ, ◌^◌, ◌+◌, ◌-◌, ◌≤◌, ◌<◌, ℤ, List, [], ◌∷◌, ◌++◌, length, drop, set, length-set, decimal, append_assoc, refl, ap, ◌∙◌, arith}
+use Rattle.std.proofs.Common.{◌≡◌, ℕ, ◌^◌, ◌+◌, ◌-◌, ◌≤◌, ◌<◌, ℤ, List, [], ◌∷◌, ◌++◌, length, drop, set, length-set, decimal, append_assoc, refl, sym, ap, ◌∙◌, arith}
 use Rattle.std.proofs.Math.ListN.{drop_of_length-le}
 use Rattle.std.proofs.lemmas.List.{drop-set}
 use Rattle.std.proofs.lemmas.Fmt.{length-decimal-le}
@@ -12,8 +12,6 @@ short32 n h = length-decimal-le 10 n (omega arith) (omega arith) (omega arith)
 
 pub short64 : (n : ℕ) → n < 2 ^ 64 → length (decimal n) ≤ 20
 short64 n h = length-decimal-le 20 n (omega arith) (omega arith) h
-
-pub ruleset short_numbers = (short32, short64)
 
 -- the axes of an event, and the end of its line
 pub event_parts : (b : Bits) (o o1 o2 o3 o4 : List ℕ) (x y z : ℤ) → x ≡ b.x → y ≡ b.y → z ≡ b.z
@@ -47,3 +45,12 @@ head_line h line at low within numbers =
     ∙ ap (λ (k : ℕ). 115 ∷ drop k (set line (at - 1) 32)) one
     ∙ ap (λ (xs : List ℕ). 115 ∷ xs) (drop-set line (at - 1) 32 (omega (arith, low, within)) ∙ ap (λ (k : ℕ). 32 ∷ drop k line) two ∙ ap (λ (xs : List ℕ). 32 ∷ xs) numbers)
     ∙ head_whole h
+
+-- ---- a number behind what stands before
+
+pub number_behind : (o m w digits shown : List ℕ) (end : ℕ) → m ≡ o ++ shown → shown ≡ digits → w ≡ m ++ end ∷ [] → w ≡ o ++ (digits ++ end ∷ [])
+number_behind o m w digits shown end em es ew = rw (ew, em, es) (append_assoc o digits (end ∷ []))
+
+pub named_behind : (o m w name digits : List ℕ) (end : ℕ) → m ≡ o ++ name → w ≡ m ++ (digits ++ end ∷ []) → w ≡ o ++ ((name ++ digits) ++ end ∷ [])
+named_behind o m w name digits end em ew =
+    rw (ew, em) (append_assoc o name (digits ++ end ∷ []) ∙ ap (λ (xs : List ℕ). o ++ xs) (sym (append_assoc name digits (end ∷ []))))

@@ -1,18 +1,21 @@
 -- What a recorder's state says stays true from turn to turn.
-use Rattle.std.proofs.Common.{◌≡◌, ◌≢◌, true, false, List, [], ◌∷◌, ◌++◌, refl, sym, ap, ◌∙◌, append-nil, inl, inr}
+use Rattle.std.proofs.Common.{◌≡◌, ◌≢◌, ℕ, ◌+◌, Bool, true, false, not, ◌&&◌, ◌||◌, nat_lt, nat_eq, length, arith, List, [], ◌∷◌, ◌++◌, refl, sym, ap, ◌∙◌, append-nil, inl, inr}
 use Rattle.std.specs.List.{flat_map}
+use Rattle.std.proofs.lemmas.Bool.Decides.{nat_tests}
 use Rattle.std.proofs.lemmas.Grind.{flat_map-append}
 use Rattle.std.proofs.lemmas.List.Concat.{flat_map-cons}
 use Rattle.std.proofs.lemmas.List.Elements.{All-append, All-cons, All-nil}
 use Rattle.outside.specs.Causes.{SinkState}
+use Rattle.outside.specs.declared.On.TheVariants as polls
+use Rattle.outside.specs.declared.Turn.TheVariants.{Did, Wait, Done}
 use Rattle.outside.proofs.Written.{more_waits}
-use Rattle.text_writer.specs.Writers.{Writing, Writes, WroteOnce}
+use Rattle.text_writer.specs.Writers.{Writing, Writes, WroteOnce, is_due}
 use Rattle.text_writer.proofs.Arriving.{once_more, done_waits}
 use Rattle.step_line.specs.declared.Record.{Record}
 use Rattle.step_line.specs.declared.Record.TheVariants as kinds
 use Rattle.step_line.specs.Records.{IsRecord, is_end}
 use Rattle.step_line.specs.Ending.{HasNoEnd}
-use Rattle.step_record.specs.Taking.Event.{took}
+use Rattle.step_record.specs.Taking.Event.{took, none}
 use Rattle.step_record.specs.Taking.{Log, records}
 use Rattle.step_record.specs.Texts.{record_text}
 use Rattle.step_record.specs.Recording.{Takes, Rests, with_record, RecorderFits, RecorderFitsOn, text_of, HasFront, HasAll, HasFailed}
@@ -58,6 +61,50 @@ fits_taken v log now r takes line = record {
     wrote = rw (one_more_text (records log) r) (more_waits before now v.failed v.waiting (text_of log) (record_text r) fits.wrote);
   };
 }
+
+-- ---- what a turn answers
+
+pub did_on : Did ≡ Done → ⊥
+did_on e = cc
+
+pub waits_on : Wait polls.Records ≡ Done → ⊥
+waits_on e = cc
+
+pub not_both : (b : Bool) → b ≡ false → b ≡ true → ⊥
+not_both b e f = cc
+
+-- a recorder that writes does not rest
+due_is_on : (failed asked due : Bool) (n : ℕ) → (not failed && (nat_lt 0 n && due)) ≡ true → (asked && (failed || nat_eq n 0)) ≡ true → ⊥
+due_is_on true asked due n e f = cc
+due_is_on false false due n e f = cc
+due_is_on false true due n e f = grind (arith, nat_tests)
+
+pub due_not_rests : (v : Writing) → Writes v → Rests v → ⊥
+due_not_rests v due rests = due_is_on v.failed v.asked (v.begun || v.asked || nat_lt 4096 (length v.waiting + 192)) (length v.waiting) due rests
+
+-- nor one that takes
+pub takes_not_rests : (v : Writing) → Takes v → Rests v → ⊥
+takes_not_rests v takes rests = not_both v.asked takes.1 (first v.asked (v.failed || nat_eq (length v.waiting) 0) rests)
+  where
+    first : (a b : Bool) → (a && b) ≡ true → a ≡ true
+    first true b e = refl
+    first false b e = e
+
+-- one that has nothing due and was asked for all does
+asked_rests : (failed begun asked full : Bool) (n : ℕ) → (not failed && (nat_lt 0 n && (begun || asked || full))) ≡ false → asked ≡ true → (asked && (failed || nat_eq n 0)) ≡ true
+asked_rests failed begun false full n e f = absurd cc
+asked_rests true begun true full n e f = refl
+asked_rests false true true full n e f = grind (arith, nat_tests)
+asked_rests false false true full n e f = grind (arith, nat_tests)
+
+pub rests_now : (v : Writing) → is_due v ≡ false → v.asked ≡ true → Rests v
+rests_now v idle asked = asked_rests v.failed v.begun v.asked (nat_lt 4096 (length v.waiting + 192)) (length v.waiting) idle asked
+
+pub fits_none : (v : Writing) (log : Log) (now : SinkState) → RecorderFitsOn v v log (none ∷ log) now now
+fits_none v log now = record { on = λ before fits. record { each = fits.each; going = fits.going; over = fits.over; wrote = fits.wrote } }
+
+pub fits_same : (v : Writing) (log : Log) (now : SinkState) → RecorderFitsOn v v log log now now
+fits_same v log now = record { on = λ before fits. fits }
 
 -- ---- what it says of the sink
 

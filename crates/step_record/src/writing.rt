@@ -69,7 +69,6 @@ fn write_number(n: u64, ending: u8, line: &mut [u8], end: usize) -> usize
 
 /// Writes the line of a segment's head at the end of a row of bytes, its last number first. Where it begins is answered.
 #[inline]
-#[tactic(auto, using(crate::proofs::Appended::short_numbers))]
 fn write_head(head: &Head, line: &mut [u8; LONGEST_LINE]) -> usize
     requires { IsHead head.now }
     ensures text { drop result line.new ≡ head_text head.now }
@@ -97,7 +96,6 @@ fn push_head<const N: usize>(head: &Head, out: &mut ArrayVec<u8, N>)
 }
 
 /// Appends a number behind what says what it is.
-#[tactic(auto, using(crate::proofs::Appended::short_numbers))]
 fn push_named<const N: usize>(name: &[u8], n: u64, out: &mut ArrayVec<u8, N>)
     requires name { length name.now ≤ 3 }
     requires room { array_vec_len out.old + 24 ≤ N }

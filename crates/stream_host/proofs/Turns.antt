@@ -21,6 +21,18 @@ use Rattle.stream_host.proofs.Keeping.{calm_one}
 use Rattle.stream_host.proofs.Raising.{none_due_first}
 use Rattle.stream_host.proofs.Hosting.{calm_now, none_due_by, never_raised, due_next, quiet_on, same_job, total_is}
 
+-- ---- what a turn answers
+
+pub did_goes_on : Did ≡ Done → ⊥
+did_goes_on e = cc
+
+pub waits_on : Wait Answer ≡ Done → ⊥
+waits_on e = cc
+
+-- a test is not both
+pub not_both : (b : Bool) → b ≡ false → b ≡ true → ⊥
+not_both b e f = cc
+
 -- ---- what waits for the console
 
 none_waits : (v : Writing) → is_due v ≡ false → v.asked ≡ true → v.failed ≡ false → length v.waiting ≡ 0

@@ -20,7 +20,7 @@ pub use ports::HostPort;
 
 /// How the reading of a job ended: at the source's end, at a read that failed, with a byte more than a job may have, or
 /// at none of these, where no later byte was read.
-#[derive(Clone, Copy, Debug, PartialEq, Eq)]
+#[derive(Clone, Copy)]
 pub enum Reading {
     Ended,
     Failed,

@@ -33,7 +33,7 @@ pub(crate) struct SentLine {
 }
 
 /// Whether a line has asked for a report, and whether one was got since it last did.
-#[derive(Clone, Copy, Debug, PartialEq, Eq)]
+#[derive(Clone, Copy, PartialEq, Eq)]
 pub(crate) enum Asking {
     /// It has not asked for one.
     Nothing,

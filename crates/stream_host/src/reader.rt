@@ -24,7 +24,7 @@ pub(crate) struct Reader {
 }
 
 /// What a read gave.
-#[derive(Clone, Copy, Debug, PartialEq, Eq)]
+#[derive(Clone, Copy)]
 pub(crate) enum Gave {
     Bytes,
     End,

@@ -17,7 +17,7 @@ fn axis_count(from: i64, to: i64) -> u32
 }
 
 /// How many steps a move makes on each axis.
-#[derive(Clone, Copy, Debug, PartialEq, Eq)]
+#[derive(Clone, Copy)]
 pub struct Counts {
     pub x: u32,
     pub y: u32,

@@ -1,12 +1,16 @@
-use Rattle.std.proofs.Common.{◌≡◌, inl, map, refl, subst}
+use Rattle.std.proofs.Common.{◌≡◌, ap, inl, inr, map, refl, subst, sym}
 use Rattle.command_line.specs.Command.{Asks}
 use Rattle.command_line.specs.declared.Task.TheVariants as tasks
 use Rattle.grbl_app.specs.Demos.{IsDemo}
-use Rattle.grbl_app.proofs.Tasks.{same_moves}
+use Rattle.grbl_app.proofs.Tasks.{no_stream, same_moves}
 use Rattle.grbl_app.specs.Ends.{HasRun}
 use Rattle.grbl_app.proofs.Demos.{demo_causes, has_begun}
 use Rattle.grbl_app.proofs.Statuses.{one_cause, tells_faults, demo_tells_faults}
+use Rattle.grbl_app.specs.declared.status.Status.TheVariants.{Usage, OutOfMemory}
 use Rattle.grbl_app.proofs.run_grbl.Goals as goal
+
+not_usage : {A : Type 0} → OutOfMemory ≡ Usage → A
+not_usage e = absurd cc
 
 pub returns-in-Ok-stream-clause-complete : goal.returns-in-Ok-stream-clause-complete
 returns-in-Ok-stream-clause-complete g c = λ seed asks words job source console steps. inl (c.in-Ok-stream.ensures.causes.complete job source console steps)
@@ -44,3 +48,291 @@ returns-in-Ok-run_demo-clause-demo g c = λ n asks run.
           (g.St.Sink.state c.run_demo.new.steps) c.in-Ok-run_demo.status) same c.in-Ok-run_demo.ensures.run,
       refl,
     )
+
+pub returns-in-Err-Refused-clause-refused : goal.returns-in-Err-Refused-clause-refused
+returns-in-Err-Refused-clause-refused g c = λ r. tt
+
+pub returns-in-Err-Refused-clause-untouched : goal.returns-in-Err-Refused-clause-untouched
+returns-in-Err-Refused-clause-untouched g c = λ none. (refl, refl, refl)
+
+pub returns-in-Err-Refused-clause-source_fault : goal.returns-in-Err-Refused-clause-source_fault
+returns-in-Err-Refused-clause-source_fault g c = λ seed asks e. absurd (subst HasRun (sym e) tt)
+
+pub returns-in-Err-Refused-clause-too_large : goal.returns-in-Err-Refused-clause-too_large
+returns-in-Err-Refused-clause-too_large g c = λ seed asks e. absurd (subst HasRun (sym e) tt)
+
+pub returns-in-Err-Refused-clause-reset : goal.returns-in-Err-Refused-clause-reset
+returns-in-Err-Refused-clause-reset g c = λ seed asks e. absurd (subst HasRun (sym e) tt)
+
+pub returns-in-Err-Refused-clause-console_fault : goal.returns-in-Err-Refused-clause-console_fault
+returns-in-Err-Refused-clause-console_fault g c = λ e. absurd (subst HasRun (sym e) tt)
+
+pub returns-in-Err-Refused-clause-steps_fault : goal.returns-in-Err-Refused-clause-steps_fault
+returns-in-Err-Refused-clause-steps_fault g c = λ e. absurd (subst HasRun (sym e) tt)
+
+pub returns-in-Err-Refused-clause-long_line : goal.returns-in-Err-Refused-clause-long_line
+returns-in-Err-Refused-clause-long_line g c = λ seed k asks e. absurd (subst HasRun (sym e) tt)
+
+pub returns-in-Err-Refused-clause-alarm : goal.returns-in-Err-Refused-clause-alarm
+returns-in-Err-Refused-clause-alarm g c = λ seed k asks e. absurd (subst HasRun (sym e) tt)
+
+pub returns-in-Err-Refused-clause-its_cause : goal.returns-in-Err-Refused-clause-its_cause
+returns-in-Err-Refused-clause-its_cause g c = λ seed asks run. absurd run
+
+pub returns-in-Err-Refused-clause-run : goal.returns-in-Err-Refused-clause-run
+returns-in-Err-Refused-clause-run g c = λ seed asks run. absurd run
+
+pub returns-in-Err-Refused-clause-whole_run : goal.returns-in-Err-Refused-clause-whole_run
+returns-in-Err-Refused-clause-whole_run g c = λ seed asks run. absurd run
+
+pub returns-in-Err-Refused-clause-no_other : goal.returns-in-Err-Refused-clause-no_other
+returns-in-Err-Refused-clause-no_other g c = λ seed bytes status asks run. absurd run
+
+pub returns-in-Err-Refused-clause-first_fault : goal.returns-in-Err-Refused-clause-first_fault
+returns-in-Err-Refused-clause-first_fault g c = λ run. absurd run
+
+pub returns-in-Err-Refused-clause-faultless : goal.returns-in-Err-Refused-clause-faultless
+returns-in-Err-Refused-clause-faultless g c = λ whole. absurd whole
+
+pub returns-in-Err-Refused-clause-demo : goal.returns-in-Err-Refused-clause-demo
+returns-in-Err-Refused-clause-demo g c = λ n asks run. absurd run
+
+pub returns-in-Err-OutOfMemory-clause-refused : goal.returns-in-Err-OutOfMemory-clause-refused
+returns-in-Err-OutOfMemory-clause-refused g c = λ r. tt
+
+pub returns-in-Err-OutOfMemory-clause-usage : goal.returns-in-Err-OutOfMemory-clause-usage
+returns-in-Err-OutOfMemory-clause-usage g c = λ e. not_usage e
+
+pub returns-in-Err-OutOfMemory-clause-complete : goal.returns-in-Err-OutOfMemory-clause-complete
+returns-in-Err-OutOfMemory-clause-complete g c = λ seed asks words job source console steps. inr refl
+
+pub returns-in-Err-OutOfMemory-clause-untouched : goal.returns-in-Err-OutOfMemory-clause-untouched
+returns-in-Err-OutOfMemory-clause-untouched g c = λ none. (refl, refl, refl)
+
+pub returns-in-Err-OutOfMemory-clause-source_fault : goal.returns-in-Err-OutOfMemory-clause-source_fault
+returns-in-Err-OutOfMemory-clause-source_fault g c = λ seed asks e. absurd (subst HasRun (sym e) tt)
+
+pub returns-in-Err-OutOfMemory-clause-too_large : goal.returns-in-Err-OutOfMemory-clause-too_large
+returns-in-Err-OutOfMemory-clause-too_large g c = λ seed asks e. absurd (subst HasRun (sym e) tt)
+
+pub returns-in-Err-OutOfMemory-clause-reset : goal.returns-in-Err-OutOfMemory-clause-reset
+returns-in-Err-OutOfMemory-clause-reset g c = λ seed asks e. absurd (subst HasRun (sym e) tt)
+
+pub returns-in-Err-OutOfMemory-clause-console_fault : goal.returns-in-Err-OutOfMemory-clause-console_fault
+returns-in-Err-OutOfMemory-clause-console_fault g c = λ e. absurd (subst HasRun (sym e) tt)
+
+pub returns-in-Err-OutOfMemory-clause-steps_fault : goal.returns-in-Err-OutOfMemory-clause-steps_fault
+returns-in-Err-OutOfMemory-clause-steps_fault g c = λ e. absurd (subst HasRun (sym e) tt)
+
+pub returns-in-Err-OutOfMemory-clause-long_line : goal.returns-in-Err-OutOfMemory-clause-long_line
+returns-in-Err-OutOfMemory-clause-long_line g c = λ seed k asks e. absurd (subst HasRun (sym e) tt)
+
+pub returns-in-Err-OutOfMemory-clause-alarm : goal.returns-in-Err-OutOfMemory-clause-alarm
+returns-in-Err-OutOfMemory-clause-alarm g c = λ seed k asks e. absurd (subst HasRun (sym e) tt)
+
+pub returns-in-Err-OutOfMemory-clause-its_cause : goal.returns-in-Err-OutOfMemory-clause-its_cause
+returns-in-Err-OutOfMemory-clause-its_cause g c = λ seed asks run. absurd run
+
+pub returns-in-Err-OutOfMemory-clause-run : goal.returns-in-Err-OutOfMemory-clause-run
+returns-in-Err-OutOfMemory-clause-run g c = λ seed asks run. absurd run
+
+pub returns-in-Err-OutOfMemory-clause-whole_run : goal.returns-in-Err-OutOfMemory-clause-whole_run
+returns-in-Err-OutOfMemory-clause-whole_run g c = λ seed asks run. absurd run
+
+pub returns-in-Err-OutOfMemory-clause-no_other : goal.returns-in-Err-OutOfMemory-clause-no_other
+returns-in-Err-OutOfMemory-clause-no_other g c = λ seed bytes status asks run. absurd run
+
+pub returns-in-Err-OutOfMemory-clause-first_fault : goal.returns-in-Err-OutOfMemory-clause-first_fault
+returns-in-Err-OutOfMemory-clause-first_fault g c = λ run. absurd run
+
+pub returns-in-Err-OutOfMemory-clause-faultless : goal.returns-in-Err-OutOfMemory-clause-faultless
+returns-in-Err-OutOfMemory-clause-faultless g c = λ whole. absurd whole
+
+pub returns-in-Err-OutOfMemory-clause-demo : goal.returns-in-Err-OutOfMemory-clause-demo
+returns-in-Err-OutOfMemory-clause-demo g c = λ n asks run. absurd run
+
+pub returns-in-Err-clause-refused : goal.returns-in-Err-clause-refused
+returns-in-Err-clause-refused g c = λ r. tt
+
+pub returns-in-Err-clause-usage : goal.returns-in-Err-clause-usage
+returns-in-Err-clause-usage g c = λ e. not_usage e
+
+pub returns-in-Err-clause-complete : goal.returns-in-Err-clause-complete
+returns-in-Err-clause-complete g c = λ seed asks words job source console steps. inr refl
+
+pub returns-in-Err-clause-untouched : goal.returns-in-Err-clause-untouched
+returns-in-Err-clause-untouched g c = λ none. let same = c.in-Err.ensures.untouched in (ap g.So.Source.state same.0, ap g.Co.Sink.state same.1, ap g.St.Sink.state same.2)
+
+pub returns-in-Err-clause-source_fault : goal.returns-in-Err-clause-source_fault
+returns-in-Err-clause-source_fault g c = λ seed asks e. absurd (subst HasRun (sym e) tt)
+
+pub returns-in-Err-clause-too_large : goal.returns-in-Err-clause-too_large
+returns-in-Err-clause-too_large g c = λ seed asks e. absurd (subst HasRun (sym e) tt)
+
+pub returns-in-Err-clause-reset : goal.returns-in-Err-clause-reset
+returns-in-Err-clause-reset g c = λ seed asks e. absurd (subst HasRun (sym e) tt)
+
+pub returns-in-Err-clause-console_fault : goal.returns-in-Err-clause-console_fault
+returns-in-Err-clause-console_fault g c = λ e. absurd (subst HasRun (sym e) tt)
+
+pub returns-in-Err-clause-steps_fault : goal.returns-in-Err-clause-steps_fault
+returns-in-Err-clause-steps_fault g c = λ e. absurd (subst HasRun (sym e) tt)
+
+pub returns-in-Err-clause-long_line : goal.returns-in-Err-clause-long_line
+returns-in-Err-clause-long_line g c = λ seed k asks e. absurd (subst HasRun (sym e) tt)
+
+pub returns-in-Err-clause-alarm : goal.returns-in-Err-clause-alarm
+returns-in-Err-clause-alarm g c = λ seed k asks e. absurd (subst HasRun (sym e) tt)
+
+pub returns-in-Err-clause-its_cause : goal.returns-in-Err-clause-its_cause
+returns-in-Err-clause-its_cause g c = λ seed asks run. absurd run
+
+pub returns-in-Err-clause-run : goal.returns-in-Err-clause-run
+returns-in-Err-clause-run g c = λ seed asks run. absurd run
+
+pub returns-in-Err-clause-whole_run : goal.returns-in-Err-clause-whole_run
+returns-in-Err-clause-whole_run g c = λ seed asks run. absurd run
+
+pub returns-in-Err-clause-no_other : goal.returns-in-Err-clause-no_other
+returns-in-Err-clause-no_other g c = λ seed bytes status asks run. absurd run
+
+pub returns-in-Err-clause-first_fault : goal.returns-in-Err-clause-first_fault
+returns-in-Err-clause-first_fault g c = λ run. absurd run
+
+pub returns-in-Err-clause-faultless : goal.returns-in-Err-clause-faultless
+returns-in-Err-clause-faultless g c = λ whole. absurd whole
+
+pub returns-in-Err-clause-demo : goal.returns-in-Err-clause-demo
+returns-in-Err-clause-demo g c = λ n asks run. absurd run
+
+pub returns-in-Err-run_demo-clause-refused : goal.returns-in-Err-run_demo-clause-refused
+returns-in-Err-run_demo-clause-refused g c = λ r. tt
+
+pub returns-in-Err-run_demo-clause-usage : goal.returns-in-Err-run_demo-clause-usage
+returns-in-Err-run_demo-clause-usage g c = λ e. not_usage e
+
+pub returns-in-Err-run_demo-clause-complete : goal.returns-in-Err-run_demo-clause-complete
+returns-in-Err-run_demo-clause-complete g c = λ seed asks words job source console steps. inr refl
+
+pub returns-in-Err-run_demo-clause-untouched : goal.returns-in-Err-run_demo-clause-untouched
+returns-in-Err-run_demo-clause-untouched g c = λ none. let same = c.in-Err-run_demo.ensures.untouched in (refl, ap g.Co.Sink.state same.0, ap g.St.Sink.state same.1)
+
+pub returns-in-Err-run_demo-clause-source_fault : goal.returns-in-Err-run_demo-clause-source_fault
+returns-in-Err-run_demo-clause-source_fault g c = λ seed asks e. absurd (subst HasRun (sym e) tt)
+
+pub returns-in-Err-run_demo-clause-too_large : goal.returns-in-Err-run_demo-clause-too_large
+returns-in-Err-run_demo-clause-too_large g c = λ seed asks e. absurd (subst HasRun (sym e) tt)
+
+pub returns-in-Err-run_demo-clause-reset : goal.returns-in-Err-run_demo-clause-reset
+returns-in-Err-run_demo-clause-reset g c = λ seed asks e. absurd (subst HasRun (sym e) tt)
+
+pub returns-in-Err-run_demo-clause-console_fault : goal.returns-in-Err-run_demo-clause-console_fault
+returns-in-Err-run_demo-clause-console_fault g c = λ e. absurd (subst HasRun (sym e) tt)
+
+pub returns-in-Err-run_demo-clause-steps_fault : goal.returns-in-Err-run_demo-clause-steps_fault
+returns-in-Err-run_demo-clause-steps_fault g c = λ e. absurd (subst HasRun (sym e) tt)
+
+pub returns-in-Err-run_demo-clause-long_line : goal.returns-in-Err-run_demo-clause-long_line
+returns-in-Err-run_demo-clause-long_line g c = λ seed k asks e. absurd (subst HasRun (sym e) tt)
+
+pub returns-in-Err-run_demo-clause-alarm : goal.returns-in-Err-run_demo-clause-alarm
+returns-in-Err-run_demo-clause-alarm g c = λ seed k asks e. absurd (subst HasRun (sym e) tt)
+
+pub returns-in-Err-run_demo-clause-its_cause : goal.returns-in-Err-run_demo-clause-its_cause
+returns-in-Err-run_demo-clause-its_cause g c = λ seed asks run. absurd run
+
+pub returns-in-Err-run_demo-clause-run : goal.returns-in-Err-run_demo-clause-run
+returns-in-Err-run_demo-clause-run g c = λ seed asks run. absurd run
+
+pub returns-in-Err-run_demo-clause-whole_run : goal.returns-in-Err-run_demo-clause-whole_run
+returns-in-Err-run_demo-clause-whole_run g c = λ seed asks run. absurd run
+
+pub returns-in-Err-run_demo-clause-no_other : goal.returns-in-Err-run_demo-clause-no_other
+returns-in-Err-run_demo-clause-no_other g c = λ seed bytes status asks run. absurd run
+
+pub returns-in-Err-run_demo-clause-first_fault : goal.returns-in-Err-run_demo-clause-first_fault
+returns-in-Err-run_demo-clause-first_fault g c = λ run. absurd run
+
+pub returns-in-Err-run_demo-clause-faultless : goal.returns-in-Err-run_demo-clause-faultless
+returns-in-Err-run_demo-clause-faultless g c = λ whole. absurd whole
+
+pub returns-in-Err-run_demo-clause-demo : goal.returns-in-Err-run_demo-clause-demo
+returns-in-Err-run_demo-clause-demo g c = λ n asks run. absurd run
+
+pub returns-in-Ok-stream-clause-refused : goal.returns-in-Ok-stream-clause-refused
+returns-in-Ok-stream-clause-refused g c = λ r. absurd (c.in-Ok.ensures.accepted refl r)
+
+pub returns-in-Ok-stream-clause-usage : goal.returns-in-Ok-stream-clause-usage
+returns-in-Ok-stream-clause-usage g c = λ e. absurd (subst HasRun e c.in-Ok-stream.ensures.causes.has_run)
+
+pub returns-in-Ok-stream-clause-untouched : goal.returns-in-Ok-stream-clause-untouched
+returns-in-Ok-stream-clause-untouched g c = λ none. has_begun c.in-Ok-stream.status c.in-Ok-stream.ensures.causes.has_run none
+
+pub returns-in-Ok-stream-clause-source_fault : goal.returns-in-Ok-stream-clause-source_fault
+returns-in-Ok-stream-clause-source_fault g c = λ seed asks e. c.in-Ok-stream.ensures.causes.source e
+
+pub returns-in-Ok-stream-clause-console_fault : goal.returns-in-Ok-stream-clause-console_fault
+returns-in-Ok-stream-clause-console_fault g c = c.in-Ok-stream.ensures.causes.console
+
+pub returns-in-Ok-stream-clause-steps_fault : goal.returns-in-Ok-stream-clause-steps_fault
+returns-in-Ok-stream-clause-steps_fault g c = c.in-Ok-stream.ensures.causes.steps
+
+pub returns-in-Ok-stream-clause-too_large : goal.returns-in-Ok-stream-clause-too_large
+returns-in-Ok-stream-clause-too_large g c = λ seed asks e. c.in-Ok-stream.ensures.causes.large e
+
+pub returns-in-Ok-stream-clause-reset : goal.returns-in-Ok-stream-clause-reset
+returns-in-Ok-stream-clause-reset g c = λ seed asks e. c.in-Ok-stream.ensures.causes.reset e
+
+pub returns-in-Ok-stream-clause-long_line : goal.returns-in-Ok-stream-clause-long_line
+returns-in-Ok-stream-clause-long_line g c = λ seed k asks e. c.in-Ok-stream.ensures.causes.long k e
+
+pub returns-in-Ok-stream-clause-alarm : goal.returns-in-Ok-stream-clause-alarm
+returns-in-Ok-stream-clause-alarm g c = λ seed k asks e. c.in-Ok-stream.ensures.causes.alarm k e
+
+pub returns-in-Ok-stream-clause-its_cause : goal.returns-in-Ok-stream-clause-its_cause
+returns-in-Ok-stream-clause-its_cause g c = λ seed asks run. c.in-Ok-stream.ensures.its_cause
+
+pub returns-in-Ok-stream-clause-run : goal.returns-in-Ok-stream-clause-run
+returns-in-Ok-stream-clause-run g c = λ seed asks run. c.in-Ok-stream.ensures.run
+
+pub returns-in-Ok-stream-clause-whole_run : goal.returns-in-Ok-stream-clause-whole_run
+returns-in-Ok-stream-clause-whole_run g c = λ seed asks whole. c.in-Ok-stream.ensures.causes.whole whole
+
+pub returns-in-Ok-stream-clause-faultless : goal.returns-in-Ok-stream-clause-faultless
+returns-in-Ok-stream-clause-faultless g c = c.in-Ok-stream.ensures.causes.faultless
+
+pub returns-in-Ok-stream-clause-demo : goal.returns-in-Ok-stream-clause-demo
+returns-in-Ok-stream-clause-demo g c = λ n asks run. absurd (no_stream (map (λ w. w.now) c.args.words.now) c.in-Stream.seed n asks (subst (λ task. Asks task (map (λ w. w.now) c.args.words.now)) c.in-Stream.is c.in-Ok.ensures.asked))
+
+pub returns-in-Ok-run_demo-clause-refused : goal.returns-in-Ok-run_demo-clause-refused
+returns-in-Ok-run_demo-clause-refused g c = λ r. absurd (c.in-Ok.ensures.accepted refl r)
+
+pub returns-in-Ok-run_demo-clause-source_fault : goal.returns-in-Ok-run_demo-clause-source_fault
+returns-in-Ok-run_demo-clause-source_fault g c = λ seed asks. absurd (no_stream (map (λ w. w.now) c.args.words.now) seed c.in-Demo.moves (subst (λ task. Asks task (map (λ w. w.now) c.args.words.now)) c.in-Demo.is c.in-Ok.ensures.asked) asks)
+
+pub returns-in-Ok-run_demo-clause-too_large : goal.returns-in-Ok-run_demo-clause-too_large
+returns-in-Ok-run_demo-clause-too_large g c = λ seed asks. absurd (no_stream (map (λ w. w.now) c.args.words.now) seed c.in-Demo.moves (subst (λ task. Asks task (map (λ w. w.now) c.args.words.now)) c.in-Demo.is c.in-Ok.ensures.asked) asks)
+
+pub returns-in-Ok-run_demo-clause-reset : goal.returns-in-Ok-run_demo-clause-reset
+returns-in-Ok-run_demo-clause-reset g c = λ seed asks. absurd (no_stream (map (λ w. w.now) c.args.words.now) seed c.in-Demo.moves (subst (λ task. Asks task (map (λ w. w.now) c.args.words.now)) c.in-Demo.is c.in-Ok.ensures.asked) asks)
+
+pub returns-in-Ok-run_demo-clause-its_cause : goal.returns-in-Ok-run_demo-clause-its_cause
+returns-in-Ok-run_demo-clause-its_cause g c = λ seed asks. absurd (no_stream (map (λ w. w.now) c.args.words.now) seed c.in-Demo.moves (subst (λ task. Asks task (map (λ w. w.now) c.args.words.now)) c.in-Demo.is c.in-Ok.ensures.asked) asks)
+
+pub returns-in-Ok-run_demo-clause-run : goal.returns-in-Ok-run_demo-clause-run
+returns-in-Ok-run_demo-clause-run g c = λ seed asks. absurd (no_stream (map (λ w. w.now) c.args.words.now) seed c.in-Demo.moves (subst (λ task. Asks task (map (λ w. w.now) c.args.words.now)) c.in-Demo.is c.in-Ok.ensures.asked) asks)
+
+pub returns-in-Ok-run_demo-clause-whole_run : goal.returns-in-Ok-run_demo-clause-whole_run
+returns-in-Ok-run_demo-clause-whole_run g c = λ seed asks. absurd (no_stream (map (λ w. w.now) c.args.words.now) seed c.in-Demo.moves (subst (λ task. Asks task (map (λ w. w.now) c.args.words.now)) c.in-Demo.is c.in-Ok.ensures.asked) asks)
+
+pub returns-in-Ok-run_demo-clause-complete : goal.returns-in-Ok-run_demo-clause-complete
+returns-in-Ok-run_demo-clause-complete g c = λ seed asks. absurd (no_stream (map (λ w. w.now) c.args.words.now) seed c.in-Demo.moves (subst (λ task. Asks task (map (λ w. w.now) c.args.words.now)) c.in-Demo.is c.in-Ok.ensures.asked) asks)
+
+pub returns-in-Ok-run_demo-clause-long_line : goal.returns-in-Ok-run_demo-clause-long_line
+returns-in-Ok-run_demo-clause-long_line g c = λ seed k asks. absurd (no_stream (map (λ w. w.now) c.args.words.now) seed c.in-Demo.moves (subst (λ task. Asks task (map (λ w. w.now) c.args.words.now)) c.in-Demo.is c.in-Ok.ensures.asked) asks)
+
+pub returns-in-Ok-run_demo-clause-alarm : goal.returns-in-Ok-run_demo-clause-alarm
+returns-in-Ok-run_demo-clause-alarm g c = λ seed k asks. absurd (no_stream (map (λ w. w.now) c.args.words.now) seed c.in-Demo.moves (subst (λ task. Asks task (map (λ w. w.now) c.args.words.now)) c.in-Demo.is c.in-Ok.ensures.asked) asks)
+
+pub returns-in-Ok-run_demo-clause-no_other : goal.returns-in-Ok-run_demo-clause-no_other
+returns-in-Ok-run_demo-clause-no_other g c = λ seed bytes status asks. absurd (no_stream (map (λ w. w.now) c.args.words.now) seed c.in-Demo.moves (subst (λ task. Asks task (map (λ w. w.now) c.args.words.now)) c.in-Demo.is c.in-Ok.ensures.asked) asks)

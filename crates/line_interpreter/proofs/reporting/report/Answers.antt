@@ -1,4 +1,4 @@
-use Rattle.std.proofs.Common.{◌≡◌, sym, subst}
+use Rattle.std.proofs.Common.{sym, subst}
 use Rattle.modal_state.specs.Modes.{IsWithin}
 use Rattle.line_interpreter.proofs.Nearness.{wco_near}
 use Rattle.line_interpreter.proofs.reporting.report.Goals as goal

@@ -1,14 +1,19 @@
-use Rattle.std.proofs.Common.{◌≡◌, pos, ◌*ℤ◌, to_z, of_z, w64, arith, rules}
-use Rattle.units.specs.Rounding.{rounded_quotient}
+use Rattle.std.proofs.Common.{pos, ◌*ℤ◌, arith, rules}
 use Rattle.units.proofs.Nearest.{quotient_keeps, quotient_small}
+use Rattle.units.proofs.Quotients.{factor, nm_fit, told}
 use Rattle.units.proofs.lengths.to_nm.Goals as goal
 
-pub returns-clause-small : goal.returns-clause-small
-returns-clause-small c =
-    let e : to_z w64 (of_z w64 c.rounded_quotient.result) ≡ rounded_quotient (c.args.steps *ℤ pos 1000000000) c.args.per_mm = search rules in
-    rw e (quotient_small c.args.steps 1000000000 c.args.per_mm 100000000000000 (omega arith) (grind arith))
+pub overflow_mul-steps : goal.overflow_mul-steps
+overflow_mul-steps c = rw (factor c.args.steps 1000000000 c.ranges.steps) (nm_fit c.args.steps 1000000000 c.requires.steps (omega arith))
 
-pub returns-clause-sign : goal.returns-clause-sign
-returns-clause-sign c =
-    let e : to_z w64 (of_z w64 c.rounded_quotient.result) ≡ rounded_quotient (c.args.steps *ℤ pos 1000000000) c.args.per_mm = search rules in
-    rw e (quotient_keeps c.args.steps 1000000000 c.args.per_mm (omega arith))
+pub returns : goal.returns
+returns c =
+    let steps = c.args.steps in
+    let per_mm = c.args.per_mm in
+    let is = told c.rounded_quotient.result _ (steps *ℤ pos 1000000000) per_mm (search rules) (nm_fit steps 1000000000 c.requires.steps (omega arith))
+    (factor steps 1000000000 c.ranges.steps) c.rounded_quotient.ensures.value in
+    record {
+      nm = is;
+      small = rw is (quotient_small steps 1000000000 per_mm 100000000000000 (omega arith) (omega arith));
+      sign = rw is (quotient_keeps steps 1000000000 per_mm (omega arith));
+    }

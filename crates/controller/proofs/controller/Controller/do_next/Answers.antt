@@ -3,15 +3,31 @@ use Rattle.controller.proofs.Nexts.{finish_next, some_next}
 use Rattle.run_rules.specs.Work.Task.{finish}
 use Rattle.controller.proofs.controller.Controller.do_next.Goals as goal
 
--- src/controller.rt:544:29
 pub finish-requires-clause-stands : goal.finish-requires-clause-stands
 finish-requires-clause-stands g c =
     let r = c.requires.stands in
     let next = finish_next c.args.self.now r.1 r.3 r.6 c.in-Finish.ensures in
     (r.0, r.1, r.2, r.3, may_run r.3.first r.1 r.3.conducted r.4 (some_next r.1 finish next.1), next.0, next.1)
 
--- src/controller.rt:529:5
 pub returns-in-Finish-clause-goes_on : goal.returns-in-Finish-clause-goes_on
 returns-in-Finish-clause-goes_on g c = λ rest h stands keeps ready goes needs.
     let next = finish_next c.args.self.now h keeps needs c.in-Finish.ensures in
     c.finish.ensures.goes_on rest h stands keeps (may_run keeps.first h keeps.conducted ready (some_next h finish next.1)) next.0 next.1
+
+pub next_line-requires-clause-stands : goal.next_line-requires-clause-stands
+next_line-requires-clause-stands g c = let r = c.requires.stands in (r.0, r.1, r.2, r.3, r.4, r.5)
+
+pub tell-requires-clause-stands : goal.tell-requires-clause-stands
+tell-requires-clause-stands g c = let r = c.requires.stands in (r.0, r.1, r.2, r.3, r.4)
+
+pub mark-requires-clause-stands : goal.mark-requires-clause-stands
+mark-requires-clause-stands g c = let r = c.requires.stands in (r.0, r.1, r.2, r.3, r.4)
+
+pub returns-in-Nothing-clause-goes_on : goal.returns-in-Nothing-clause-goes_on
+returns-in-Nothing-clause-goes_on g c = λ rest h stands keeps ready goes needs. c.next_line.ensures.goes_on rest h stands keeps ready goes
+
+pub returns-in-Tell-clause-goes_on : goal.returns-in-Tell-clause-goes_on
+returns-in-Tell-clause-goes_on g c = λ rest h stands keeps ready goes needs. c.tell.ensures.goes_on rest h stands keeps ready
+
+pub returns-in-Mark-clause-goes_on : goal.returns-in-Mark-clause-goes_on
+returns-in-Mark-clause-goes_on g c = λ rest h stands keeps ready goes needs. c.mark.ensures.goes_on rest h stands keeps ready

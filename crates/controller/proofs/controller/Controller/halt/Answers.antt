@@ -2,12 +2,26 @@ use Rattle.std.proofs.Common.{sym, ◌∙◌}
 use Rattle.controller.proofs.Halting.{may_run_halted}
 use Rattle.controller.proofs.controller.Controller.halt.Goals as goal
 
+pub run-requires-clause-stands : goal.run-requires-clause-stands
+run-requires-clause-stands g c =
+    let r = c.requires.stands in (r.0, r.1, r.2, r.3, may_run_halted r.1 r.4, (c.has_piece.ensures r.1 r.3).0 c.if-has_piece.true)
+
 pub returns-then-has_piece-clause-goes_on : goal.returns-then-has_piece-clause-goes_on
 returns-then-has_piece-clause-goes_on g c rest h stands k halted = c.run.ensures.goes_on rest h stands k (may_run_halted h halted) ((c.has_piece.ensures h k).0 c.if-has_piece.true)
+
+pub await_resume-requires-clause-stands : goal.await_resume-requires-clause-stands
+await_resume-requires-clause-stands g c =
+    let r = c.requires.stands in
+    (r.0, r.1, r.2, r.3, r.4, λ piece. absurd (let e = sym c.if-has_piece.false ∙ (c.has_piece.ensures r.1 r.3).1 piece in cc))
 
 pub returns-then-is_held-clause-goes_on : goal.returns-then-is_held-clause-goes_on
 returns-then-is_held-clause-goes_on g c rest h stands k halted =
     c.await_resume.ensures.goes_on rest h stands k halted (λ piece. absurd (let e = sym c.if-has_piece.false ∙ (c.has_piece.ensures h k).1 piece in cc))
+
+pub await_stop-requires-clause-stands : goal.await_stop-requires-clause-stands
+await_stop-requires-clause-stands g c =
+    let r = c.requires.stands in
+    (r.0, r.1, r.2, r.3, r.4, λ piece. absurd (let e = sym c.if-has_piece.false ∙ (c.has_piece.ensures r.1 r.3).1 piece in cc))
 
 pub returns-clause-goes_on : goal.returns-clause-goes_on
 returns-clause-goes_on g c rest h stands k halted =

@@ -51,3 +51,9 @@ pass-requires g c =
     let awaits = subst (λ ts. awaits_motion ts ≡ true) r.3.lines.left_is (sym c.if-not-awaits_motion.ensures) in
     let n = c.in_default.ensures.over r.0 r.1 r.2 r.3 (may_await_now c.args.self.now r.1 r.3 r.4 r.5 awaits) in
     (n.0, n.2, n.3)
+
+pub next_line-requires-clause-stands : goal.next_line-requires-clause-stands
+next_line-requires-clause-stands g c = let r = c.requires.stands in (r.0, r.1, r.2, r.3, r.4, r.5)
+
+pub returns-then-is_done-clause-goes_on : goal.returns-then-is_done-clause-goes_on
+returns-then-is_done-clause-goes_on g c = λ rest h stands keeps ready goes. c.next_line.ensures.goes_on rest h stands keeps ready goes

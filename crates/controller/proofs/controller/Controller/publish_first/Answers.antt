@@ -6,6 +6,15 @@ use Rattle.controller.proofs.Ends.{works_on, works_passed, number_tried, may_try
 use Rattle.controller.proofs.Owing.{none_left, owing_tried}
 use Rattle.controller.proofs.controller.Controller.publish_first.Goals as goal
 
+pub publish_next-published-requires : goal.publish_next-published-requires
+publish_next-published-requires g c = let r = c.requires.stands in record { stands = (r.0, r.1, r.2, r.3.keeps, r.5) }
+
+pub fill-requires : goal.fill-requires
+fill-requires g c =
+    let r = c.requires.stands in
+    let n = c.publish_next-published.ensures.goes_on r.0 r.1 r.2 r.3.keeps r.5 in
+    (n.0, n.2)
+
 pub returns-then-published-clause-goes_on : goal.returns-then-published-clause-goes_on
 returns-then-published-clause-goes_on g c = λ rest h stands f between piece.
     let s = c.args.self.now in
@@ -34,6 +43,13 @@ report-requires-clause-stands g c =
     let same = sym (ap (λ (b : Controller). b.flags) c.publish_next-published.ensures.same) ∙ c.in-Report.is in
     let asked = subst (λ x. TakesFlags x r.1) same r.3.flags in
     (r.0, m.0, rw m.2.alone.port n.1, m.1, owing_tried c.in-Report.word r.1 n.0 m.0 (subst (λ b. Rounds b r.1) c.requires.beat r.3.rounds) r.4 asked (subst (λ b. HasTried b r.1 n.0) c.if-published.false n.3) m.2)
+
+pub report-requires-clause-beat : goal.report-requires-clause-beat
+report-requires-clause-beat g c =
+    ap (λ (b : Controller). b.beat) c.fill-in-Report.ensures.same ∙ ap (λ (b : Controller). b.beat) c.publish_next-published.ensures.same ∙ c.requires.beat
+
+pub returns-in-Report-clause-going : goal.returns-in-Report-clause-going
+returns-in-Report-clause-going g c = c.report.ensures.going
 
 pub main-requires : goal.main-requires
 main-requires g c =

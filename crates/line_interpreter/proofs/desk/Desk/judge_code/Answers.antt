@@ -21,3 +21,15 @@ returns-in-Err-clause-begun c = λ since.
       by_words b _ (Err c.in-Err.fault) (refused b (fault_number c.in-Err.fault)) (sym c.in-Err.ensures.err) refl,
       record { state = begun.state; left = begun.left; answer = begun.answer },
     )
+
+pub returns-in-Ok-clause-number : goal.returns-in-Ok-clause-number
+returns-in-Ok-clause-number c = c.judge_words.ensures.number
+
+pub returns-in-Ok-clause-ready : goal.returns-in-Ok-clause-ready
+returns-in-Ok-clause-ready c = c.judge_words.ensures.ready
+
+pub returns-in-Err-clause-number : goal.returns-in-Err-clause-number
+returns-in-Err-clause-number c = c.refuse.ensures.number
+
+pub returns-in-Err-clause-ready : goal.returns-in-Err-clause-ready
+returns-in-Err-clause-ready c = c.refuse.ensures.ready

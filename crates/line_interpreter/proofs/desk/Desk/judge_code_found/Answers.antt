@@ -14,3 +14,15 @@ returns-clause-begun c = λ since.
     let b = standing c.args.self.now since in
     let is = c.judge_code.ensures.begun since in
     (is.0, code_served c.args.machine b c.args.kept.now is.0 (sym c.locks.ensures ∙ c.if-locks.false) is.1, is.2)
+
+pub returns-then-locks-clause-number : goal.returns-then-locks-clause-number
+returns-then-locks-clause-number c = c.refuse.ensures.number
+
+pub returns-then-locks-clause-ready : goal.returns-then-locks-clause-ready
+returns-then-locks-clause-ready c = c.refuse.ensures.ready
+
+pub returns-clause-number : goal.returns-clause-number
+returns-clause-number c = c.judge_code.ensures.number
+
+pub returns-clause-ready : goal.returns-clause-ready
+returns-clause-ready c = c.judge_code.ensures.ready

@@ -13,3 +13,15 @@ pub returns-in-Err-clause-begun : goal.returns-in-Err-clause-begun
 returns-in-Err-clause-begun c = λ since.
     let b = standing c.args.self.now since in
     (refused b c.in-Err.code.0, by_command b _ (Err c.in-Err.code) _ c.in-Err.ensures refl, c.refuse.ensures.begun since)
+
+pub returns-in-Ok-clause-number : goal.returns-in-Ok-clause-number
+returns-in-Ok-clause-number c = c.obey.ensures.number
+
+pub returns-in-Ok-clause-ready : goal.returns-in-Ok-clause-ready
+returns-in-Ok-clause-ready c = c.obey.ensures.ready
+
+pub returns-in-Err-clause-number : goal.returns-in-Err-clause-number
+returns-in-Err-clause-number c = c.refuse.ensures.number
+
+pub returns-in-Err-clause-ready : goal.returns-in-Err-clause-ready
+returns-in-Err-clause-ready c = c.refuse.ensures.ready

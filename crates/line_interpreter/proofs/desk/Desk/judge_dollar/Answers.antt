@@ -27,3 +27,21 @@ returns-clause-begun c = λ since.
     let other : is_jog (kind_of c.args.kept.now) ≡ false = sym (ap is_jog c.of-kind.ensures) ∙ sym c.is_jog.ensures ∙ c.if-is_jog.false in
     let is = c.judge_command.ensures.begun since in
     (is.0, command_served c.args.machine b c.args.kept.now is.0 served other is.1, is.2)
+
+pub returns-then-refuses-clause-number : goal.returns-then-refuses-clause-number
+returns-then-refuses-clause-number c = c.refuse.ensures.number
+
+pub returns-then-refuses-clause-ready : goal.returns-then-refuses-clause-ready
+returns-then-refuses-clause-ready c = c.refuse.ensures.ready
+
+pub returns-then-is_jog-clause-number : goal.returns-then-is_jog-clause-number
+returns-then-is_jog-clause-number c = c.judge_jog.ensures.number
+
+pub returns-then-is_jog-clause-ready : goal.returns-then-is_jog-clause-ready
+returns-then-is_jog-clause-ready c = c.judge_jog.ensures.ready
+
+pub returns-clause-number : goal.returns-clause-number
+returns-clause-number c = c.judge_command.ensures.number
+
+pub returns-clause-ready : goal.returns-clause-ready
+returns-clause-ready c = c.judge_command.ensures.ready

@@ -1,4 +1,4 @@
-use Rattle.std.proofs.Common.{refl, sym, Ok, Err}
+use Rattle.std.proofs.Common.{refl, Ok, Err}
 use Rattle.run_rules.specs.Outcomes.{refused, jogging}
 use Rattle.line_interpreter.specs.Desks.{standing}
 use Rattle.line_interpreter.proofs.Judging.{by_jog_move}
@@ -15,3 +15,15 @@ returns-in-Err-clause-begun c = λ since.
     let b = standing c.args.self.now since in
     let code = c.in-Err.code in
     (refused b code.0, by_jog_move b _ (Err code) (refused b code.0) c.in-Err.ensures.verdict refl, c.refuse.ensures.begun since)
+
+pub returns-in-Ok-clause-number : goal.returns-in-Ok-clause-number
+returns-in-Ok-clause-number c = c.begin_jog.ensures.number
+
+pub returns-in-Ok-clause-ready : goal.returns-in-Ok-clause-ready
+returns-in-Ok-clause-ready c = c.begin_jog.ensures.ready
+
+pub returns-in-Err-clause-number : goal.returns-in-Err-clause-number
+returns-in-Err-clause-number c = c.refuse.ensures.number
+
+pub returns-in-Err-clause-ready : goal.returns-in-Err-clause-ready
+returns-in-Err-clause-ready c = c.refuse.ensures.ready

@@ -17,3 +17,15 @@ returns-in-None-clause-begun c = λ since kept is.
     let many = c.bytes.ensures.long c.in-None.is kept is in
     let long : nat_lt 79 (length kept) ≡ true = grind (arith, nat_tests, many) in
     (refused (standing c.args.self.now since) 11, found_too_long c.args.machine (standing c.args.self.now since) kept long, c.refuse.ensures.begun since)
+
+pub returns-in-Some-clause-number : goal.returns-in-Some-clause-number
+returns-in-Some-clause-number c = c.judge_kept.ensures.number
+
+pub returns-in-Some-clause-ready : goal.returns-in-Some-clause-ready
+returns-in-Some-clause-ready c = c.judge_kept.ensures.ready
+
+pub returns-in-None-clause-number : goal.returns-in-None-clause-number
+returns-in-None-clause-number c = c.refuse.ensures.number
+
+pub returns-in-None-clause-ready : goal.returns-in-None-clause-ready
+returns-in-None-clause-ready c = c.refuse.ensures.ready

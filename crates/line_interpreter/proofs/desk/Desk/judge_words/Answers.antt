@@ -46,3 +46,18 @@ returns-in-Err-SoftLimit-clause-begun c = λ since.
       by_verdict b _ Limit (limited b) (sym (c.in-Err-SoftLimit.ensures.refused ∙ ap verdict_of c.in-Err-SoftLimit.field-0-is)) refl,
       record { state = begun.state ∙ same; left = begun.left; answer = begun.answer },
     )
+
+pub take_line-requires : goal.take_line-requires
+take_line-requires c = record { words = c.requires.words; parser = c.requires.ready.state.parser; settings = c.requires.ready.state.settings }
+
+pub returns-in-Err-Error-clause-number : goal.returns-in-Err-Error-clause-number
+returns-in-Err-Error-clause-number c = c.refuse.ensures.number
+
+pub returns-in-Err-Error-clause-ready : goal.returns-in-Err-Error-clause-ready
+returns-in-Err-Error-clause-ready c = c.refuse.ensures.ready
+
+pub returns-in-Err-SoftLimit-clause-number : goal.returns-in-Err-SoftLimit-clause-number
+returns-in-Err-SoftLimit-clause-number c = c.limit.ensures.number
+
+pub returns-in-Err-SoftLimit-clause-ready : goal.returns-in-Err-SoftLimit-clause-ready
+returns-in-Err-SoftLimit-clause-ready c = c.limit.ensures.ready

@@ -1,13 +1,15 @@
-use Rattle.std.proofs.Common.{◌≡◌, ℕ, ◌+◌, ◌<◌, length, refl, arith, rules, ap, sym, subst, ◌∙◌}
+use Rattle.std.proofs.Common.{◌≡◌, ℕ, ◌+◌, ◌<◌, length, refl, arith, rules, ap, sym, subst, ◌∙◌, take, ◌-◌, ◌↔◌, true, false, [], ◌∷◌, ◌++◌}
 use Rattle.std.proofs.lemmas.List.{length_push}
-use Rattle.plan_rules.specs.Plans.{Planned}
-use Rattle.plan_rules.specs.Blocks.{gap_of, hard_of}
+use Rattle.plan_rules.specs.Plans.{Planned, added}
+use Rattle.plan_rules.specs.Blocks.{gap_of, hard_of, hards_of}
 use Rattle.plan_passes.proofs.Filling.{numbers_before, joints_before, softs_before, row_small}
-use Rattle.plan_rules.proofs.Reached.{fresh_block, added_reached}
+use Rattle.plan_rules.proofs.Reached.{fresh_block, added_reached, plan_of}
 use Rattle.plan_passes.proofs.Kept.{kept_anew}
 use Rattle.plan_passes.proofs.Nominals.{nominals_before}
 use Rattle.plan_passes.proofs.Onward.{onward_more, onward_before}
 use Rattle.plan_passes.proofs.Paces.{pace_added}
+use Rattle.plan_passes.specs.Tables.{IsKept, nominals_of}
+use Rattle.plan_passes.specs.Paces.{IsPaceOfTail}
 use Rattle.plan_passes.proofs.plan.Plan.add.Goals as goal
 
 pub put_gap-requires : goal.put_gap-requires
@@ -18,7 +20,7 @@ put_gap-requires g c =
     c.in-Ok.ensures.ok c.self.invariant.0.reached block c.requires.overrides in
     let more : length c.push.new.self ≡ length p.ring + 1 = ap length c.in-Ok.ensures.ok ∙ length_push p.ring _ in
     let before = numbers_before gap_of p.ring c.push.new.self _ p.gaps c.in-Ok.ensures.ok c.self.invariant.0.tabled.gaps in
-    (search rules, (search rules, (omega (arith, more), (reached.each, before))))
+    (omega (arith, c.self.invariant.0.few), (search rules, (omega (arith, more), (reached.each, before))))
 
 pub put_soft-requires : goal.put_soft-requires
 put_soft-requires g c =
@@ -32,7 +34,7 @@ put_soft-requires g c =
     let nominals = nominals_before c.args.o.now p.overrides p.ring c.push.new.self _ p.nominals c.in-Ok.ensures.ok same c.self.invariant.2 in
     let softs = softs_before c.args.o.now p.overrides p.ring c.push.new.self _ p.softs c.in-Ok.ensures.ok same c.self.invariant.0.tabled.softs in
     let hards = joints_before hard_of p.ring c.push.new.self _ p.hards c.in-Ok.ensures.ok c.self.invariant.3 in
-    (search rules, (search rules, (omega (arith, more), (reached.each, (c.requires.overrides, (nominals, (hards, softs)))))))
+    (omega (arith, c.self.invariant.0.few), (search rules, (omega (arith, more), (reached.each, (c.requires.overrides, (nominals, (hards, softs)))))))
 
 pub plan_from-self-inside-requires : goal.plan_from-self-inside-requires
 plan_from-self-inside-requires g c =
@@ -50,11 +52,11 @@ plan_from-self-inside-requires g c =
     (record { gaps = c.put_gap.ensures; softs = c.put_soft.ensures.softs }) c.self.invariant.0.pointer c.self.invariant.0.planned reached in
     let few = c.self.invariant.0.few in
     let count = c.len-count.ensures.few in (
-      search rules,
+      omega (arith, few),
       (
         search rules,
         (
-          omega (arith, few),
+          few,
           (
             omega (arith, count),
             (
@@ -87,3 +89,51 @@ invariant_of-self-in-Ok g c =
       c.put_soft.ensures.nominals,
       c.put_soft.ensures.hards,
     )
+
+pub entry_cap-entry-requires : goal.entry_cap-entry-requires
+entry_cap-entry-requires g c = omega (arith, c.self.invariant.0.few)
+
+pub push-requires : goal.push-requires
+push-requires g c = omega (arith, c.self.invariant.0.few)
+
+pub invariant_of-self : goal.invariant_of-self
+invariant_of-self g c =
+    let p = c.self.inside in
+    subst (λ bs. IsKept g.row.N (plan_of bs p.speed p.overrides) p.planned p.gaps p.softs p.settled × IsPaceOfTail p.overrides bs p.pace
+    × (take (length bs) p.nominals ≡ nominals_of p.overrides bs) × (take (length bs - 1) p.hards ≡ hards_of bs)) (sym c.in-Err.ensures.full) c.self.invariant
+
+pub len-count-requires : goal.len-count-requires
+len-count-requires g c = omega (arith, c.self.invariant.0.few)
+
+pub returns-in-Err-clause-room : goal.returns-in-Err-clause-room
+returns-in-Err-clause-room g c =
+    subst (λ (q : Planned). (false ≡ true) ↔ (length q.blocks + 1 < g.row.N)) c.self.view_is c.in-Err.ensures.room
+
+pub returns-in-Err-clause-ok : goal.returns-in-Err-clause-ok
+returns-in-Err-clause-ok g c = tt
+
+pub returns-in-Err-clause-full : goal.returns-in-Err-clause-full
+returns-in-Err-clause-full g c =
+    ap (λ bs. plan_of bs c.self.inside.speed c.self.inside.overrides) c.in-Err.ensures.full ∙ c.self.view_is
+
+pub returns-in-Err-clause-back : goal.returns-in-Err-clause-back
+returns-in-Err-clause-back g c = refl
+
+pub returns-in-Ok-clause-room : goal.returns-in-Ok-clause-room
+returns-in-Ok-clause-room g c =
+    subst (λ (q : Planned). (true ≡ true) ↔ (length q.blocks + 1 < g.row.N)) c.self.view_is c.in-Ok.ensures.room
+
+pub returns-in-Ok-clause-ok : goal.returns-in-Ok-clause-ok
+returns-in-Ok-clause-ok g c =
+    let p = c.self.inside in
+    let b = c.args.b in
+    let o = c.args.o.now in
+    ap (λ bs. plan_of bs p.speed o) c.in-Ok.ensures.ok
+    ∙ ap (λ entry. plan_of (p.ring ++ record b { entry = entry } ∷ []) p.speed o) c.entry_cap-entry.ensures
+    ∙ ap (λ (q : Planned). added q b c.args.deviation o) c.self.view_is
+
+pub returns-in-Ok-clause-full : goal.returns-in-Ok-clause-full
+returns-in-Ok-clause-full g c = tt
+
+pub returns-in-Ok-clause-back : goal.returns-in-Ok-clause-back
+returns-in-Ok-clause-back g c = tt

@@ -1,11 +1,11 @@
-use Rattle.std.proofs.Common.{◌≤◌, length, get_or, arith, rules, ap, sym, subst}
+use Rattle.std.proofs.Common.{refl, ◌≤◌, length, arith, rules, ap, sym, subst, ◌∙◌}
 use Rattle.profile.specs.Profiles.{distance}
 use Rattle.plan_rules.specs.Plans.{Planned, IsReached}
-use Rattle.plan_rules.specs.Segments.{IsSegment}
+use Rattle.plan_rules.specs.Segments.{IsSegment, advanced}
 use Rattle.plan_passes.proofs.Filling.{row_small}
-use Rattle.plan_rules.proofs.Reached.{moved_reached, length-moved, legal_step, segment_some, segment_within}
+use Rattle.plan_rules.proofs.Reached.{moved_reached, length-moved, legal_step, segment_some, segment_within, plan_of}
 use Rattle.plan_passes.proofs.Hards.{hards_moved}
-use Rattle.plan_passes.proofs.Kept.{kept_anew, kept_on, tabled_moved}
+use Rattle.plan_passes.proofs.Kept.{kept_anew, kept_on, tabled_moved, one_below, none_below}
 use Rattle.plan_passes.proofs.Nominals.{nominals_moved}
 use Rattle.plan_passes.proofs.Onward.{onward_anew}
 use Rattle.plan_passes.proofs.Paces.{pace_moved}
@@ -18,7 +18,7 @@ prepare-gap-requires g c =
     let few = c.self.invariant.0.few in
     let some = segment_some p.ring p.speed c.args.n c.args.w p.overrides segment in
     let within = segment_within p.ring p.speed c.args.n c.args.w p.overrides c.self.invariant.0.reached segment in
-    (search rules, (some, (c.self.invariant.0.reached.each, within)))
+    (omega (arith, few), (some, (c.self.invariant.0.reached.each, within)))
 
 pub plan_from-self-inside-requires : goal.plan_from-self-inside-requires
 plan_from-self-inside-requires g c =
@@ -35,7 +35,7 @@ plan_from-self-inside-requires g c =
       (
         search rules,
         (
-          omega (arith, few),
+          few,
           (
             omega (arith, count),
             (
@@ -57,7 +57,7 @@ invariant_of-self g c =
     let kept = c.self.invariant.0 in
     let segment = subst (λ (p : Planned). IsSegment p c.args.n c.args.w) (sym c.self.view_is) c.requires in
     let now = c.prepare-gap.ensures.moved in
-    let reach : distance c.args.w (get_or p.planned 1 0) ≤ c.prepare-gap.result = omega (arith, c.abs_diff.ensures, c.at-exit.ensures 0) in
+    let reach = subst (λ exit. distance c.args.w exit ≤ c.prepare-gap.result) (c.at-exit.ensures 0) (c.if-within_reach.ensures refl) in
     let tabled = tabled_moved g.row.N c.args.n c.prepare-gap.result p.overrides p.gaps c.put_first.new.gaps p.softs c.put_first.new.softs
     c.put_first.ensures.gaps_left c.put_first.ensures.softs_left c.put_first.ensures.gaps_gone c.put_first.ensures.softs_gone
     p.speed c.args.w p.settled p.planned p.ring c.prepare-gap.new.ring kept segment now c.prepare-gap.ensures.gap in (
@@ -97,8 +97,8 @@ invariant_of-self-2 g c =
           c.put_first.ensures.hards_left c.put_first.ensures.hards_gone kept.room kept.reached segment now c.prepare-gap.ensures.gap c.self.invariant.3,
     )
 
-pub returns-then-abs_diff-gap-clause-legal : goal.returns-then-abs_diff-gap-clause-legal
-returns-then-abs_diff-gap-clause-legal g c =
+pub returns-then-within_reach-clause-legal : goal.returns-then-within_reach-clause-legal
+returns-then-within_reach-clause-legal g c =
     legal_step c.args.self.now.blocks c.args.self.now.speed c.args.n c.args.w c.args.self.now.overrides
     (subst IsReached c.self.view_is c.self.invariant.0.reached) c.requires
 
@@ -106,3 +106,31 @@ pub returns-clause-legal : goal.returns-clause-legal
 returns-clause-legal g c =
     legal_step c.args.self.now.blocks c.args.self.now.speed c.args.n c.args.w c.args.self.now.overrides
     (subst IsReached c.self.view_is c.self.invariant.0.reached) c.requires
+
+pub at-exit-requires : goal.at-exit-requires
+at-exit-requires g c = (search rules, one_below g.row.N c.self.invariant.0.some)
+
+pub put_first-requires : goal.put_first-requires
+put_first-requires g c = (search rules, (search rules, none_below g.row.N c.self.invariant.0.some))
+
+pub point_behind-self-inside-requires : goal.point_behind-self-inside-requires
+point_behind-self-inside-requires g c = tt
+
+pub pace_behind-requires : goal.pace_behind-requires
+pace_behind-requires g c = tt
+
+pub within_reach-requires : goal.within_reach-requires
+within_reach-requires g c = tt
+
+pub len-count-requires : goal.len-count-requires
+len-count-requires g c = omega (arith, c.self.invariant.0.few)
+
+pub returns-then-within_reach-clause-advanced : goal.returns-then-within_reach-clause-advanced
+returns-then-within_reach-clause-advanced g c =
+    ap (λ bs. plan_of bs c.args.w c.self.inside.overrides) c.prepare-gap.ensures.moved
+    ∙ ap (λ (q : Planned). advanced q c.args.n c.args.w) c.self.view_is
+
+pub returns-clause-advanced : goal.returns-clause-advanced
+returns-clause-advanced g c =
+    ap (λ bs. plan_of bs c.args.w c.self.inside.overrides) c.prepare-gap.ensures.moved
+    ∙ ap (λ (q : Planned). advanced q c.args.n c.args.w) c.self.view_is

@@ -1,6 +1,7 @@
-use Rattle.std.proofs.Common.{◌≡◌, ◌<◌, length, get_or, sym, subst, arith, ◌∙◌}
-use Rattle.plan_rules.specs.Plans.{Planned, IsReached, profile_of}
+use Rattle.std.proofs.Common.{◌≡◌, ◌<◌, length, get_or, sym, subst, arith, ◌∙◌, ap, rules}
+use Rattle.plan_rules.specs.Plans.{Planned, IsReached, profile_of, exit_of}
 use Rattle.plan_rules.proofs.Reached.{plan_of, greatest_plan, exit_at}
+use Rattle.plan_passes.proofs.Kept.{one_below}
 use Rattle.plan_passes.proofs.plan.Plan.exit_of_tail.Goals as goal
 
 pub returns-clause-profile : goal.returns-clause-profile
@@ -13,3 +14,15 @@ returns-clause-profile g c =
 
 pub returns-clause-greatest : goal.returns-clause-greatest
 returns-clause-greatest g c = greatest_plan c.args.self.now (subst IsReached c.self.view_is c.self.invariant.0.reached) c.requires
+
+pub at-requires : goal.at-requires
+at-requires g c = (search rules, one_below g.row.N c.self.invariant.0.some)
+
+pub returns-clause-exit : goal.returns-clause-exit
+returns-clause-exit g c =
+    let some : 0 < length c.self.inside.ring = subst (λ (p : Planned). 0 < length p.blocks) (sym c.self.view_is) c.requires in
+    let exit = c.self.invariant.0.planned 1 (omega arith) some in
+    c.at.ensures 0 ∙ exit ∙ ap exit_of c.self.view_is
+
+pub returns-clause-reached : goal.returns-clause-reached
+returns-clause-reached g c = subst IsReached c.self.view_is c.self.invariant.0.reached

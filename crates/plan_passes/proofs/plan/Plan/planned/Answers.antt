@@ -15,7 +15,7 @@ plan_from-requires g c =
       (
         search rules,
         (
-          omega (arith, few),
+          few,
           (
             omega (arith, count),
             (
@@ -36,3 +36,9 @@ returns g c =
     subst (λ (p : Planned). IsLastPoint p c.plan_from.result) c.self.view_is
     (last_point p.speed c.len-count.result c.plan_from.result p.ring p.overrides p.gaps p.softs c.self.invariant.0.tabled c.len-count.ensures.len
     c.plan_from.ensures.settled c.plan_from.ensures.none)
+
+pub len-count-requires : goal.len-count-requires
+len-count-requires g c = omega (arith, c.self.invariant.0.few)
+
+pub new-speeds-requires : goal.new-speeds-requires
+new-speeds-requires g c = (search rules, c.self.invariant.0.few)

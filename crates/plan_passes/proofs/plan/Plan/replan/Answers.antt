@@ -1,9 +1,10 @@
-use Rattle.std.proofs.Common.{arith, rules, refl}
+use Rattle.std.proofs.Common.{arith, rules, refl, ap}
 use Rattle.plan_passes.proofs.Filling.{row_small}
 use Rattle.plan_rules.proofs.Reached.{reached_replanned}
 use Rattle.plan_passes.proofs.Kept.{kept_anew}
 use Rattle.plan_passes.proofs.Onward.{onward_anew}
 use Rattle.plan_passes.proofs.Paces.{no_pace}
+use Rattle.plan_rules.specs.Plans.{Planned}
 use Rattle.plan_passes.proofs.plan.Plan.replan.Goals as goal
 
 pub plan_from-self-inside-requires : goal.plan_from-self-inside-requires
@@ -17,7 +18,7 @@ plan_from-self-inside-requires g c =
       (
         search rules,
         (
-          omega (arith, few),
+          few,
           (
             omega (arith, count),
             (
@@ -45,3 +46,12 @@ invariant_of-self g c =
       c.fill_softs.ensures.nominals,
       c.self.invariant.3,
     )
+
+pub fill_softs-requires : goal.fill_softs-requires
+fill_softs-requires g c = (omega (arith, c.self.invariant.0.few), (search rules, (c.self.invariant.0.reached.each, (c.requires, c.self.invariant.3))))
+
+pub len-count-requires : goal.len-count-requires
+len-count-requires g c = omega (arith, c.self.invariant.0.few)
+
+pub returns : goal.returns
+returns g c = ap (λ (q : Planned). record q { overrides = c.args.o.now }) c.self.view_is

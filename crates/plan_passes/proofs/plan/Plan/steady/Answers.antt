@@ -1,17 +1,43 @@
-use Rattle.std.proofs.Common.{◌<◌, length, refl, arith, ap, sym, subst, ◌∙◌}
-use Rattle.plan_rules.specs.Plans.{Planned, exit_of}
-use Rattle.plan_passes.specs.Paces.{IsPaceOfTail}
-use Rattle.plan_passes.proofs.Paces.{steady_is}
+use Rattle.std.proofs.Common.{rules, refl, arith, subst}
+use Rattle.plan_rules.specs.Plans.{Planned, IsReached}
+use Rattle.plan_passes.specs.Paces.{IsSteadyOf}
+use Rattle.plan_passes.proofs.Kept.{one_below}
+use Rattle.plan_passes.proofs.Paces.{tail_kept, steady_kept}
 use Rattle.plan_passes.proofs.plan.Plan.steady.Goals as goal
+
+pub returns-then-self-eq0-clause-steady : goal.returns-then-self-eq0-clause-steady
+returns-then-self-eq0-clause-steady g c = tt
+
+pub returns-then-self-eq0-clause-reached : goal.returns-then-self-eq0-clause-reached
+returns-then-self-eq0-clause-reached g c = subst IsReached c.self.view_is c.self.invariant.0.reached
+
+pub tail-requires : goal.tail-requires
+tail-requires g c = omega (arith, c.self.invariant.0.few)
+
+pub returns-in_err-tail-clause-reached : goal.returns-in_err-tail-clause-reached
+returns-in_err-tail-clause-reached g c = subst IsReached c.self.view_is c.self.invariant.0.reached
+
+pub at-requires : goal.at-requires
+at-requires g c = (search rules, one_below g.row.N c.self.invariant.0.some)
+
+pub goes_on-requires : goal.goes_on-requires
+goes_on-requires g c =
+    let p = c.self.inside in
+    let tail = tail_kept g.row.N p.speed p.settled p.ring p.overrides p.planned p.gaps p.softs c.in_ok-tail.tail c.self.invariant.0 c.in_ok-tail.ensures.some in
+    tail.block
 
 pub returns-then-goes_on-clause-steady : goal.returns-then-goes_on-clause-steady
 returns-then-goes_on-clause-steady g c =
-    let inside = c.self.inside in
-    let tail = c.in_ok-tail.ensures.some in
-    let long = ap length tail.stands in
-    let some : 0 < length inside.ring = subst (λ (p : Planned). 0 < length p.blocks) (sym c.self.view_is) (omega (arith, long)) in
-    let exit = c.self.invariant.0.planned 1 (omega arith) (omega (arith, some)) in
-    let speed = ap (λ (p : Planned). p.speed) c.self.view_is in
-    steady_is c.args.self.now inside.pace c.in_ok-tail.tail.now c.at.result tail
-    (subst (λ (p : Planned). IsPaceOfTail p.overrides p.blocks inside.pace) c.self.view_is c.self.invariant.1)
-    (omega arith) (omega (arith, speed)) (c.at.ensures 0 ∙ exit ∙ ap exit_of c.self.view_is) (c.if-goes_on.ensures refl).0 (c.if-goes_on.ensures refl).1
+    let p = c.self.inside in
+    subst (λ (plan : Planned). IsSteadyOf plan plan.blocks p.pace) c.self.view_is
+    (steady_kept g.row.N p.speed p.settled c.at.result p.ring p.overrides p.planned p.gaps p.softs c.in_ok-tail.tail p.pace c.self.invariant.0
+    c.in_ok-tail.ensures.some c.self.invariant.1 c.if-self-eq0.false c.if-self.false (c.at.ensures 0) (c.if-goes_on.ensures refl))
+
+pub returns-then-goes_on-clause-reached : goal.returns-then-goes_on-clause-reached
+returns-then-goes_on-clause-reached g c = subst IsReached c.self.view_is c.self.invariant.0.reached
+
+pub returns-else-goes_on-clause-steady : goal.returns-else-goes_on-clause-steady
+returns-else-goes_on-clause-steady g c = tt
+
+pub returns-else-goes_on-clause-reached : goal.returns-else-goes_on-clause-reached
+returns-else-goes_on-clause-reached g c = subst IsReached c.self.view_is c.self.invariant.0.reached

@@ -24,3 +24,13 @@ loop-self-preserved c =
 
 pub returns : goal.returns
 returns c = λ h f. did_scan c.args.self.now _ h c.loop-self.invariant.text (c.loop-self.invariant.scans h f)
+
+pub scan_byte-requires : goal.scan_byte-requires
+scan_byte-requires c = record { may = c.requires.may; going = c.requires.going; calm = c.requires.calm; fits = c.requires.fits }
+
+pub scan_byte-requires-in-loop-self : goal.scan_byte-requires-in-loop-self
+scan_byte-requires-in-loop-self c =
+    let i = c.loop-self.invariant in
+    let r = c.requires.fits in
+    let was = i.scans r.0 r.1 in
+    record { may = c.may_scan.ensures.may c.loop-self-test.true; going = i.shut; calm = i.calm; fits = (map scanned was.0 ++ r.0, was.2) }

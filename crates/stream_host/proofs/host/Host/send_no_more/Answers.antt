@@ -2,7 +2,7 @@ use Rattle.std.proofs.Common.{◌∷◌, refl}
 use Rattle.stream_host.specs.Steps.PortStep.{shut}
 use Rattle.stream_host.specs.Steps.Step.{at_port}
 use Rattle.stream_host.proofs.Hosting.{may_shut_at_alarm}
-use Rattle.stream_host.proofs.Turns.{did_at_port, few_shut_now, tells_shut, tells_same, waits_at_alarm}
+use Rattle.stream_host.proofs.Turns.{did_at_port, few_shut_now, tells_shut, tells_same, waits_at_alarm, did_goes_on, waits_on}
 use Rattle.stream_host.proofs.host.Host.send_no_more.Goals as goal
 
 pub returns-then-self-clause-goes_on : goal.returns-then-self-clause-goes_on
@@ -20,3 +20,15 @@ returns-clause-goes_on g c = λ rest h stands f polled.
       did_at_port c.args.self.now _ (at_port shut) h refl polled.quiet t.1 (few_shut_now h polled.quiet),
       λ job console. tells_shut c.args.self.now _ h job console c.close.ensures.text,
     )
+
+pub returns-then-self-clause-going : goal.returns-then-self-clause-going
+returns-then-self-clause-going g c = waits_on
+
+pub returns-clause-going : goal.returns-clause-going
+returns-clause-going g c = did_goes_on
+
+pub close-requires-clause-going : goal.close-requires-clause-going
+close-requires-clause-going g c = c.if-self.false
+
+pub close-requires-clause-stands : goal.close-requires-clause-stands
+close-requires-clause-stands g c = let r = c.requires.stands in (r.0, r.1, r.2, r.3)

@@ -1,9 +1,9 @@
-use Rattle.std.proofs.Common.{◌≡◌, ◌≤◌, true, false, ◌∷◌, refl, sym, ◌∙◌}
+use Rattle.std.proofs.Common.{◌≡◌, ◌≤◌, true, false, ◌∷◌, refl}
 use Rattle.stream_host.specs.Steps.{awaits_report}
 use Rattle.stream_host.specs.Conduct.{AreAnswered, IsSettled, waits_for_lines}
 use Rattle.stream_host.specs.Steps.PortStep.{stored, raised, shut}
 use Rattle.stream_host.specs.Steps.Step.{at_port}
-use Rattle.stream_host.proofs.Turns.{did_alone, did_at_port, few_stored_now, few_raised_now, few_shut_now, tells_stored, tells_raised, tells_shut, tells_same, waits_early, waits_held_back, waits_shut}
+use Rattle.stream_host.proofs.Turns.{did_alone, did_at_port, few_stored_now, few_raised_now, few_shut_now, tells_stored, tells_raised, tells_shut, tells_same, waits_early, waits_held_back, waits_shut, did_goes_on, waits_on, not_both}
 use Rattle.stream_host.proofs.Settling.{waits_unsettled}
 use Rattle.stream_host.proofs.Hosting.{may_shut}
 use Rattle.stream_host.proofs.host.Host.send_on.Goals as goal
@@ -19,12 +19,12 @@ returns-in-Some-clause-goes_on g c = λ rest h stands f polled.
 
 pub returns-then-is_early-clause-goes_on : goal.returns-then-is_early-clause-goes_on
 returns-then-is_early-clause-goes_on g c = λ rest h stands f polled.
-    let early : (waits_for_lines c.in-Some.byte ≡ true → AreAnswered h) → ⊥ = (λ after. absurd (let e = sym c.if-is_early.true ∙ (c.is_early.ensures h f).1 after in cc)) in
+    let early : (waits_for_lines c.in-Some.byte ≡ true → AreAnswered h) → ⊥ = (λ after. not_both _ ((c.is_early.ensures h f).1 after) c.if-is_early.true) in
     (h, stands, waits_early c.args.self.now c.in-Some.byte h f c.requires.calm polled c.requires.shown c.in-Some.is early, λ console. tells_same c.args.self.now h _ console)
 
 pub returns-then-is_held_back-clause-goes_on : goal.returns-then-is_held_back-clause-goes_on
 returns-then-is_held_back-clause-goes_on g c = λ rest h stands f polled.
-    let held : (awaits_report h ≡ false) × (c.args.self.now.counts.unanswered.total ≤ 128) → ⊥ = (λ free. absurd (let e = sym c.if-is_held_back.true ∙ (c.is_held_back.ensures h f).1 free in cc)) in
+    let held : (awaits_report h ≡ false) × (c.args.self.now.counts.unanswered.total ≤ 128) → ⊥ = (λ free. not_both _ ((c.is_held_back.ensures h f).1 free) c.if-is_held_back.true) in
     (h, stands, waits_held_back c.args.self.now h f c.requires.calm polled c.requires.shown c.in_default.is c.if-self.true held, λ console. tells_same c.args.self.now h _ console)
 
 pub returns-then-self-clause-goes_on : goal.returns-then-self-clause-goes_on
@@ -46,7 +46,7 @@ returns-then-may_scan-clause-goes_on g c = λ rest h stands f polled.
 
 pub returns-then-not-is_settled-clause-goes_on : goal.returns-then-not-is_settled-clause-goes_on
 returns-then-not-is_settled-clause-goes_on g c = λ rest h stands f polled.
-    let busy : IsSettled h → ⊥ = (λ settled. absurd (let e = sym c.if-not-is_settled.true ∙ (c.is_settled.ensures h f).1 settled in cc)) in
+    let busy : IsSettled h → ⊥ = (λ settled. not_both _ c.if-not-is_settled.true ((c.is_settled.ensures h f).1 settled)) in
     (h, stands, waits_unsettled c.args.self.now h f c.requires.calm polled c.requires.shown (c.may_read.ensures.may c.if-may_read.true) busy, λ console. tells_same c.args.self.now h _ console)
 
 pub returns-then-may_read-clause-goes_on : goal.returns-then-may_read-clause-goes_on
@@ -65,3 +65,66 @@ returns-clause-goes_on g c = λ rest h stands f polled.
       did_at_port c.args.self.now _ (at_port shut) h refl polled.quiet t.1 (few_shut_now h polled.quiet),
       λ console. tells_shut c.args.self.now _ h _ console c.close.ensures.text,
     )
+
+pub returns-then-is_early-clause-going : goal.returns-then-is_early-clause-going
+returns-then-is_early-clause-going g c = waits_on
+
+pub returns-in-Some-clause-going : goal.returns-in-Some-clause-going
+returns-in-Some-clause-going g c = did_goes_on
+
+pub returns-then-is_held_back-clause-going : goal.returns-then-is_held_back-clause-going
+returns-then-is_held_back-clause-going g c = waits_on
+
+pub returns-then-self-clause-going : goal.returns-then-self-clause-going
+returns-then-self-clause-going g c = did_goes_on
+
+pub returns-then-self-2-clause-going : goal.returns-then-self-2-clause-going
+returns-then-self-2-clause-going g c = waits_on
+
+pub returns-then-may_scan-clause-going : goal.returns-then-may_scan-clause-going
+returns-then-may_scan-clause-going g c = did_goes_on
+
+pub returns-then-not-is_settled-clause-going : goal.returns-then-not-is_settled-clause-going
+returns-then-not-is_settled-clause-going g c = waits_on
+
+pub returns-then-may_read-clause-going : goal.returns-then-may_read-clause-going
+returns-then-may_read-clause-going g c = did_goes_on
+
+pub returns-clause-going : goal.returns-clause-going
+returns-clause-going g c = did_goes_on
+
+pub raise-requires : goal.raise-requires
+raise-requires g c = let r = c.requires.stands in record { due = c.in-Some.is; calm = c.requires.calm; after = λ h f. (c.is_early.ensures h f).0 c.if-is_early.false; stands = (r.0, r.1, r.2, r.3) }
+
+pub store-requires-clause-storing : goal.store-requires-clause-storing
+store-requires-clause-storing g c = c.if-self.true
+
+pub store-requires-clause-calm : goal.store-requires-clause-calm
+store-requires-clause-calm g c = c.requires.calm
+
+pub store-requires-clause-room : goal.store-requires-clause-room
+store-requires-clause-room g c = let r = c.requires.stands in ((c.is_held_back.ensures r.1 r.3).0 c.if-is_held_back.false).1
+
+pub store-requires-clause-stands : goal.store-requires-clause-stands
+store-requires-clause-stands g c = let r = c.requires.stands in (r.0, r.1, r.2, r.3)
+
+pub scan-requires : goal.scan-requires
+scan-requires g c = let r = c.requires.stands in record { may = c.may_scan.ensures.may c.if-may_scan.true; going = c.if-self-2.false; calm = c.requires.calm; fits = (r.1, r.3) }
+
+pub read-requires : goal.read-requires
+read-requires g c =
+    let r = c.requires.stands in
+    record {
+      may = c.may_read.ensures.may c.if-may_read.true;
+      shown = c.requires.shown;
+      going = c.if-self-2.false;
+      calm = c.requires.calm;
+      settled = λ h f. (c.is_settled.ensures h f).0 c.if-not-is_settled.false;
+      fits = (r.1, r.3);
+    }
+
+pub close-requires-clause-going : goal.close-requires-clause-going
+close-requires-clause-going g c = c.if-self-2.false
+
+pub close-requires-clause-stands : goal.close-requires-clause-stands
+close-requires-clause-stands g c = let r = c.requires.stands in (r.0, r.1, r.2, r.3)

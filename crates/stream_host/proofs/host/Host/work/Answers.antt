@@ -3,7 +3,7 @@ use Rattle.stream_host.specs.Steps.{port_log}
 use Rattle.stream_host.specs.Steps.PortStep.{raised, got, no_reply}
 use Rattle.stream_host.specs.Steps.Step.{at_port}
 use Rattle.stream_host.specs.Jobs.{resume}
-use Rattle.stream_host.proofs.Turns.{did_alone, did_at_port, few_got_now, quiet_between, has_polled, worked_on, few_raised_now, tells_polled, tells_resumed, tells_same, is_done}
+use Rattle.stream_host.proofs.Turns.{did_alone, did_at_port, few_got_now, quiet_between, has_polled, worked_on, few_raised_now, tells_polled, tells_resumed, tells_same, is_done, did_goes_on, not_both}
 use Rattle.stream_host.proofs.host.Host.work.Goals as goal
 
 pub returns-then-is_due-clause-goes_on : goal.returns-then-is_due-clause-goes_on
@@ -55,3 +55,45 @@ returns-in-Some-clause-goes_on g c = λ rest h stands f between.
       did_at_port c.args.self.now _ (at_port (got r)) h refl (quiet_between h between) (c.take_reply.ensures.fits h f lines) (few_got_now r h (quiet_between h between)),
       c.take_reply.ensures.tells h _ _,
     )
+
+pub write-requires : goal.write-requires
+write-requires g c = sym c.is_due.ensures.due ∙ c.if-is_due.true
+
+pub returns-then-is_due-clause-done : goal.returns-then-is_due-clause-done
+returns-then-is_due-clause-done g c = (λ e. absurd (did_goes_on e), λ rests. absurd (not_both _ rests.none (sym c.is_due.ensures.due ∙ c.if-is_due.true)))
+
+pub returns-then-is_due-clause-still : goal.returns-then-is_due-clause-still
+returns-then-is_due-clause-still g c = λ rests. absurd (not_both _ rests.none (sym c.is_due.ensures.due ∙ c.if-is_due.true))
+
+pub returns-then-self-clause-done : goal.returns-then-self-clause-done
+returns-then-self-clause-done g c = (λ e. record { bye = c.if-self.true; none = sym c.is_due.ensures.due ∙ c.if-is_due.false }, λ rests. refl)
+
+pub returns-then-self-clause-still : goal.returns-then-self-clause-still
+returns-then-self-clause-still g c = λ rests. (refl, refl, refl, refl)
+
+pub take_reply-requires-clause-ready : goal.take_reply-requires-clause-ready
+take_reply-requires-clause-ready g c = sym c.is_due.ensures.due ∙ c.if-is_due.false
+
+pub take_reply-requires-clause-going : goal.take_reply-requires-clause-going
+take_reply-requires-clause-going g c = c.if-self.false
+
+pub count_poll-requires-clause-going : goal.count_poll-requires-clause-going
+count_poll-requires-clause-going g c = c.if-self.false
+
+pub returns-then-count_poll-clause-done : goal.returns-then-count_poll-clause-done
+returns-then-count_poll-clause-done g c = (λ e. absurd (did_goes_on e), λ rests. absurd (not_both _ c.if-self.false rests.bye))
+
+pub returns-then-count_poll-clause-still : goal.returns-then-count_poll-clause-still
+returns-then-count_poll-clause-still g c = λ rests. absurd (not_both _ c.if-self.false rests.bye)
+
+pub returns-in-Some-clause-done : goal.returns-in-Some-clause-done
+returns-in-Some-clause-done g c = (λ e. absurd (did_goes_on e), λ rests. absurd (not_both _ c.if-self.false rests.bye))
+
+pub returns-in-Some-clause-still : goal.returns-in-Some-clause-still
+returns-in-Some-clause-still g c = λ rests. absurd (not_both _ c.if-self.false rests.bye)
+
+pub returns-else-count_poll-clause-done : goal.returns-else-count_poll-clause-done
+returns-else-count_poll-clause-done g c = (λ e. absurd (c.without_reply.ensures.going e), λ rests. absurd (not_both _ c.if-self.false rests.bye))
+
+pub returns-else-count_poll-clause-still : goal.returns-else-count_poll-clause-still
+returns-else-count_poll-clause-still g c = λ rests. absurd (not_both _ c.if-self.false rests.bye)

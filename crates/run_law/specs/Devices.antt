@@ -1,0 +1,25 @@
+-- What the devices of a run tell, and that a run was done over them.
+use Rattle.outside.specs.Causes.{SourceState, SinkState}
+use Rattle.run_law.specs.declared.RunEnd.{RunEnd}
+use Rattle.run_law.specs.Runs.{Sinks, IsRun}
+use Rattle.run_law.specs.SoFar.{IsSoFar}
+
+-- what the devices tell: the source of the job, the console, and the sink of the steps
+pub record Devices : Type 0 where
+  pub job : SourceState
+  pub console : SinkState
+  pub steps : SinkState
+
+abbrev pub devices : SourceState → SinkState → SinkState → Devices
+devices job console steps = record { job = job; console = console; steps = steps }
+
+abbrev pub sinks : Devices → Sinks
+sinks now = record { console = now.console; steps = now.steps }
+
+-- what was done since a moment is a run so far
+abbrev pub RunsSoFar : Devices → Devices → Type 0
+RunsSoFar was now = IsSoFar was.job now.job (sinks was) (sinks now)
+
+-- it is a run of the job, which ends so
+abbrev pub HasRun : Devices → Devices → RunEnd → Type 0
+HasRun was now end = IsRun was.job now.job (sinks was) (sinks now) end
