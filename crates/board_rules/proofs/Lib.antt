@@ -43,3 +43,13 @@ pub mod Standing
 pub mod JogExample
 pub mod CutExample
 pub mod AlarmExample
+pub mod Asking
+pub mod Marks
+pub mod HaltWorks
+pub mod Lasts
+pub mod Stages
+pub mod Facts
+pub mod Speeds
+pub mod Uncut
+pub mod CutMarks
+pub mod Tries

@@ -4,8 +4,11 @@ pub mod Parts
 pub mod Cuts
 pub mod Turns
 pub mod Conduct
+pub mod Within
+pub mod Limiting
 pub mod Whole
 pub mod Breaking
+pub mod Takes
 pub use Rattle.planner_runs.specs.Runs
 pub use Rattle.run_rules.specs.Lines
 pub use Rattle.run_rules.specs.Outcomes

@@ -1,19 +1,18 @@
 -- The turns of a board: what it has done in this one, and what it owes its port from turn to turn.
-use Rattle.std.specs.Prelude.{ℕ, ◌+◌, Bool, true, false, ◌&&◌, ◌||◌, not, cond, nat_eq, nat_le, List, [], ◌∷◌, ◌++◌, length, drop}
+use Rattle.std.specs.Prelude.{ℕ, ◌+◌, Bool, true, false, ◌&&◌, ◌||◌, not, cond, nat_eq, List, [], ◌∷◌, ◌++◌, drop}
 use Rattle.std.specs.List.{list_any}
 use Rattle.feed_hold.specs.declared.Motion.{Motion}
-use Rattle.feed_hold.specs.declared.Motion.TheVariants.{Idle, Run, Holding, Held, Jog, Cancelling, Stopping, Alarm}
-use Rattle.feed_hold.specs.Motions.{asks, hold_byte, start_byte, is_stopping}
+use Rattle.feed_hold.specs.declared.Motion.TheVariants.{Idle, Run, Jog, Alarm}
+use Rattle.feed_hold.specs.Motions.{asks, hold_byte, start_byte}
+pub use Rattle.feed_hold.specs.Motions.{is_going, is_halting, is_limited}
 use Rattle.feed_hold.specs.Motions.{Call}
 use Rattle.feed_hold.specs.Motions.Call.{on_exec}
 use Rattle.code_table.specs.declared.flags.Exec.{Exec}
 use Rattle.outside.specs.declared.On.{On}
 use Rattle.outside.specs.declared.Turn.{Turn}
 use Rattle.outside.specs.declared.Turn.TheVariants.{Wait}
-use Rattle.line_geom.specs.declared.Block.{Block}
-use Rattle.plan_rules.specs.Plans.{Planned}
 use Rattle.planner_runs.specs.declared.Action.TheVariants.{Add, Override}
-use Rattle.planner_runs.specs.Runs.{most_blocks}
+pub use Rattle.planner_runs.specs.Moving.{has_blocks, is_full, is_slowing, has_segment}
 use Rattle.run_rules.specs.declared.machine.Machine.{Machine}
 use Rattle.run_rules.specs.declared.machine.Machine.TheVariants.{Stands, Runs, Jogs}
 use Rattle.run_rules.specs.Work.{Task, has_moves}
@@ -229,15 +228,6 @@ needs_motion [] whole full = whole
 needs_motion (ask (a_move m) ∷ tasks) whole full = full
 needs_motion tasks whole full = awaits_motion tasks
 
--- a block is in the plan
-abbrev pub has_blocks : List Block → Bool
-has_blocks [] = false
-has_blocks (b ∷ blocks) = true
-
--- no move can be added
-abbrev pub is_full : Planned → Bool
-is_full p = nat_le most_blocks (length p.blocks)
-
 -- the last that was accepted of G-code and jogs is a jog
 abbrev pub has_jogged : Journal → Bool
 has_jogged [] = false
@@ -270,23 +260,11 @@ machine_in Run = Runs
 machine_in Jog = Jogs
 machine_in _ = Stands
 
--- a soft limit stops the machine, or has stopped it
-abbrev pub is_limited : Motion → Bool
-is_limited Stopping = true
-is_limited Alarm = true
-is_limited _ = false
-
 -- the machine stands, and does not go on by itself
 abbrev pub stands_still : Motion → Bool
 stands_still Idle = true
 stands_still Alarm = true
 stands_still _ = false
-
--- moves or jogs are carried out
-abbrev pub is_going : Motion → Bool
-is_going Run = true
-is_going Jog = true
-is_going _ = false
 
 -- a line may be begun
 abbrev pub begins_in : Motion → Bool
@@ -294,21 +272,6 @@ begins_in Idle = true
 begins_in Run = true
 begins_in Jog = true
 begins_in _ = false
-
--- it moves, and slows down to a stop
-abbrev pub is_slowing : Motion → ℕ → Bool
-is_slowing m speed = is_stopping m && not (nat_eq speed 0)
-
--- the machine is held, or slows down for that, or its jogs were cancelled
-abbrev pub is_halting : Motion → Bool
-is_halting Holding = true
-is_halting Held = true
-is_halting Cancelling = true
-is_halting _ = false
-
--- a segment is due: the plan has an event left, and the machine runs, or slows down to a stop
-abbrev pub has_segment : Motion → Planned → Bool
-has_segment m p = (is_going m || is_slowing m p.speed) && has_blocks p.blocks
 
 -- A jog waits for its start: the machine stands, and blocks of jogs are queued, or a jog's move is to be added.
 abbrev pub waits_to_jog : Motion → Bool → Bool → Bool

@@ -19,9 +19,9 @@ use Rattle.line_interpreter.specs.declared.tasks.Todo.{Todo}
 use Rattle.line_interpreter.specs.declared.tasks.Todo.TheVariants as todo
 use Rattle.controller.specs.declared.controller.Controller.{Controller}
 use Rattle.controller.specs.Boards.{Keeps, NoneWaits}
-use Rattle.controller.specs.Machines.{start_motion}
+use Rattle.board_machine.specs.Machines.{start_motion}
 use Rattle.controller.specs.Turning.{IsNextMove, NoneFits, DidAlone, HasAdded, HasFilled, starting}
-use Rattle.controller.proofs.Tries.{alone_did, alone_on, alone_motion}
+use Rattle.board_rules.proofs.Tries.{alone_did, alone_on, alone_motion}
 use Rattle.controller.proofs.Starting.{none_left_to_change, starts_off}
 use Rattle.controller.proofs.Ends.{same_calls}
 use Rattle.controller.proofs.Steps.{none_halts}

@@ -1,5 +1,5 @@
 -- A line that was taken whole is begun.
-use Rattle.std.proofs.Common.{◌≡◌, ℕ, ◌+◌, ◌≤◌, ◌⊎◌, inl, inr, Bool, true, false, ◌&&◌, ◌||◌, Some, List, ◌∷◌, ◌++◌, sym, refl, ap, ◌∙◌, subst, arith, append_assoc}
+use Rattle.std.proofs.Common.{◌≡◌, ℕ, ◌+◌, ◌≤◌, ◌⊎◌, inl, inr, Bool, true, false, ◌&&◌, ◌||◌, Some, List, [], ◌∷◌, ◌++◌, sym, refl, ap, ◌∙◌, subst, arith, append_assoc}
 use Rattle.std.specs.List.{list_any, count_by}
 use Rattle.feed_hold.specs.declared.Motion.{Motion as AnyMotion}
 use Rattle.feed_hold.specs.declared.Motion.TheVariants as motions
@@ -15,26 +15,30 @@ use Rattle.line_interpreter.specs.Lefts.{IsTodo}
 use Rattle.line_interpreter.specs.declared.tasks.Todo.{Todo}
 use Rattle.line_interpreter.specs.declared.tasks.Todo.TheVariants as todo
 use Rattle.board_rules.specs.Steps.{Journal, port_log, has_alarmed, open_of, whole_of, before_of, left_of, given_of, hand_of, plan_of, motion_of}
-use Rattle.board_rules.specs.Steps.Step.{began, became}
+use Rattle.board_rules.specs.Ports.PortStep.{answered, no_reply_room}
+use Rattle.board_rules.specs.Steps.{Step}
+use Rattle.board_rules.specs.Steps.Step.{at_port, began, became}
 use Rattle.board_rules.specs.Cuts.{has_cut, is_cancelling}
 use Rattle.board_rules.proofs.Beginning.{caused, becomes_caused}
-use Rattle.board_rules.specs.Turns.{this_turn, publishing, found_none, has_blocks, has_jogged, machine_in, tries_of, missed_of, is_due, is_full, awaits_motion, halts_next, is_limited, starts_cycle}
+use Rattle.board_rules.specs.Turns.{this_turn, publishing, moving, owes_report, unobeyed_of, flags_taken, found_none, has_blocks, has_jogged, machine_in, tries_of, missed_of, is_due, is_full, awaits_motion, halts_next, is_limited, starts_cycle}
 use Rattle.board_rules.specs.Conduct.{MayBegin, MayStart}
 use Rattle.controller.specs.declared.controller.Controller.{Controller}
-use Rattle.controller.specs.declared.machine.Machine.{Machine}
+use Rattle.board_machine.specs.declared.machine.Machine.{Machine}
 use Rattle.units.specs.Truths.{one_if}
 use Rattle.controller.specs.declared.controller.Flags.{Flags}
 use Rattle.controller.specs.declared.controller.Flags.TheVariants as words
 use Rattle.controller.specs.declared.controller.Beat.TheVariants.{Motion}
-use Rattle.controller.specs.Boards.{Keeps, Works, IsFree, changes_left}
-use Rattle.controller.specs.Machines.{Runs, limit_motion, start_motion}
-use Rattle.controller.specs.Turning.{IsReady, IsWholeLine, IsLooked, MayJudge, IsJudged, PassesNothing, DidAlone, HasLooked, HasBegun, HasFilled, BoardWorked, starting}
+use Rattle.controller.specs.Boards.{Keeps, Works, IsFree}
+use Rattle.board_machine.specs.Machines.{Runs, limit_motion, start_motion}
+use Rattle.controller.specs.Turning.{IsReady, IsWholeLine, IsLooked, MayJudge, IsJudged, PassesNothing, DidAlone, HasLooked, HasBegun, HasFilled, BoardWorked, MayHaveTold, starting}
+use Rattle.controller.specs.Turning.MayHaveTold.{untold, handed_back, was_told}
+use Rattle.board_rules.specs.Within.{AreWorked}
 use Rattle.controller.proofs.Starting.{starts_off, starts_to_begin}
 use Rattle.controller.proofs.Standing.{blocks_undrained}
-use Rattle.controller.proofs.Tries.{worked_behind, alone_on, alone_motion}
-use Rattle.controller.proofs.Cuts.{uncut_else}
-use Rattle.controller.proofs.Halts.{HaltsOrNot, line_halts, none_halts_next}
-use Rattle.controller.proofs.Alarms.{alarm_stands}
+use Rattle.board_rules.proofs.Tries.{IsNoWord, worked_behind, publishes_one, publishes_none}
+use Rattle.board_rules.proofs.Uncut.{uncut_else}
+use Rattle.board_rules.proofs.HaltWorks.{HaltsOrNot, line_halts, none_halts_next}
+use Rattle.board_rules.proofs.Stages.{alarm_stands}
 use Rattle.controller.proofs.Steps.{begins_unlimited, calm_now}
 use Rattle.controller.proofs.Ends.{takes_none, did_filled, free_of, free_passed}
 
@@ -247,51 +251,108 @@ judges_started jog h l blocks = record {
 
 -- ---- the turn
 
-limits_change : (m : AnyMotion) (was : Bool) (now : AnyMotion) → changes_left (limit_motion m) (is_cancelling (limit_motion m) && was) ≤ changes_left now was
-limits_change motions.Run was now = omega arith
-limits_change m was now = omega arith
+-- A line was begun after these steps, with at most so many things published since, and nothing that bears on words of flags.
+pub record IsBegun (k : ℕ) (o : Outcome) (mid h : Journal) : Type 0 where
+  pub front : List Step
+  pub are : h ≡ front ++ began o ∷ mid
+  pub worked : AreWorked mid → AreWorked h
+  pub once : count_by publishing (this_turn h) ≤ count_by publishing (this_turn mid) + k
+  pub unpolled : list_any found_none (this_turn h) ≡ list_any found_none (this_turn mid)
+  pub tries : tries_of h + one_if (whole_of h) ≡ tries_of mid
+  pub free : IsFree mid → IsFree h
+  pub moved : list_any moving (this_turn h) ≡ true
 
-limit_off : {A : Type 0} (m : AnyMotion) → limit_motion m ≡ motions.Idle → A
-limit_off motions.Run is = absurd cc
-limit_off m is = absurd cc
+or_true : (a b : Bool) → b ≡ true → (a || b) ≡ true
+or_true true b e = refl
+or_true false b e = e
 
--- a line is begun, and moves are added behind it
-did_begin : (was : Flags) (board : Controller) (h seen mid next : Journal) (o : Outcome) → IsReady h → IsWholeLine h → PassesNothing h seen → DidAlone seen mid → Keeps board next → board.beat ≡ Motion
-    → board.flags ≡ words.None → HasFilled (began o ∷ mid) next → BoardWorked Did was board h next
-did_begin was board h seen mid next o ready line look alone keeps beat no_word filled =
+line_begun : (o : Outcome) (mid : Journal) → IsBegun 0 o mid (began o ∷ mid)
+line_begun o mid = record {
+  front = [];
+  are = refl;
+  worked = worked_behind (began o) mid (began o ∷ mid) refl (record { no_changes = refl; none_planned = refl }) refl refl;
+  once = (let c = publishes_none (began o) (this_turn mid) refl in omega (arith, c));
+  unpolled = refl;
+  tries = omega arith;
+  free = λ f. record { flags = f.flags; obeyed = f.obeyed; unowed = f.unowed };
+  moved = refl;
+}
+
+-- the motion is stopped for it at once
+line_limited : (o : Outcome) (mid : Journal) (m : AnyMotion) → IsBegun 0 o mid (became on_limit m ∷ began o ∷ mid)
+line_limited o mid m =
+    let line : Journal = began o ∷ mid in
+    let b = line_begun o mid in
+    record {
+      front = became on_limit m ∷ [];
+      are = refl;
+      worked = λ w. worked_behind (became on_limit m) line (became on_limit m ∷ line) refl (record { no_changes = refl; none_planned = refl }) refl refl (b.worked w);
+      once = (let c = publishes_none (became on_limit m) (this_turn line) refl in let had = b.once in omega (arith, c, had));
+      unpolled = refl;
+      tries = b.tries;
+      free = λ f. record { flags = f.flags; obeyed = f.obeyed; unowed = f.unowed };
+      moved = refl;
+    }
+
+has_begun : (o : Outcome) (mid line : Journal) → HasBegun o mid line → IsBegun 0 o mid line
+has_begun o mid line (inl is) = subst (λ (j : Journal). IsBegun 0 o mid j) (sym is) (line_begun o mid)
+has_begun o mid line (inr is) = subst (λ (j : Journal). IsBegun 0 o mid j) (sym is) (line_limited o mid (limit_motion (motion_of mid)))
+
+-- a step at the port behind it that takes no byte, tries no piece and takes no word of flags
+begun_on : (o : Outcome) (mid h next : Journal) (s : Step) → next ≡ s ∷ h → IsBegun 0 o mid h → IsNoWord s → owes_report next ≡ owes_report h → unobeyed_of next ≡ unobeyed_of h → flags_taken next ≡ flags_taken h
+    → this_turn next ≡ s ∷ this_turn h → found_none s ≡ false → tries_of next ≡ tries_of h → whole_of next ≡ whole_of h → IsBegun 1 o mid next
+begun_on o mid h next s is b plain owed words flags turn none tries whole = record {
+  front = s ∷ b.front;
+  are = is ∙ ap (λ (j : Journal). s ∷ j) b.are;
+  worked = λ w. worked_behind s h next turn plain owed words (b.worked w);
+  once = (let c = ap (λ ss. count_by publishing ss) turn in let one = at_most_one s (this_turn h) in let had = b.once in omega (arith, c, one, had));
+  unpolled = ap (λ ss. list_any found_none ss) turn ∙ ap (λ t. t || list_any found_none (this_turn h)) none ∙ b.unpolled;
+  tries = (let t = b.tries in let w = ap one_if whole in omega (arith, t, w, tries));
+  free = λ f. let free = b.free f in record { flags = flags ∙ free.flags; obeyed = words ∙ free.obeyed; unowed = owed ∙ free.unowed };
+  moved = ap (λ ss. list_any moving ss) turn ∙ or_true (moving s) (list_any moving (this_turn h)) b.moved;
+}
+  where
+    at_most_one : (s : Step) (ss : List Step) → count_by publishing (s ∷ ss) ≤ count_by publishing ss + 1
+    at_most_one s ss = by_test (publishing s) refl
+      where
+        by_test : (t : Bool) → publishing s ≡ t → count_by publishing (s ∷ ss) ≤ count_by publishing ss + 1
+        by_test true e = let c = publishes_one s ss e in omega (arith, c)
+        by_test false e = let c = publishes_none s ss e in omega (arith, c)
+
+-- and its first reply was told, or handed back
+pub has_spoken : (o : Outcome) (mid line next : Journal) → HasBegun o mid line → MayHaveTold line next → IsBegun 1 o mid next
+has_spoken o mid line next begun (untold is) =
+    let b = has_begun o mid line begun in
+    subst (λ (j : Journal). IsBegun 1 o mid j) (sym is) (record { front = b.front; are = b.are; worked = b.worked; once = (let c = b.once in omega (arith, c)); unpolled = b.unpolled; tries = b.tries; free = b.free; moved = b.moved })
+has_spoken o mid line next begun (handed_back is) =
+    subst (λ (j : Journal). IsBegun 1 o mid j) (sym is)
+    (begun_on o mid line (at_port no_reply_room ∷ line) (at_port no_reply_room) refl (has_begun o mid line begun) (record { no_changes = refl; none_planned = refl }) refl refl refl refl refl refl refl)
+has_spoken o mid line next begun (was_told r is) =
+    subst (λ (j : Journal). IsBegun 1 o mid j) (sym is)
+    (begun_on o mid line (at_port (answered r) ∷ line) (at_port (answered r)) refl (has_begun o mid line begun) (record { no_changes = refl; none_planned = refl }) refl refl refl refl refl refl refl)
+
+-- no report is owed behind a line that was begun
+pub begun_unowed : (o : Outcome) (mid line : Journal) → MayJudge mid → HasBegun o mid line → owes_report line ≡ false
+begun_unowed o mid line may (inl is) = ap owes_report is ∙ may.looked.unowed
+begun_unowed o mid line may (inr is) = ap owes_report is ∙ may.looked.unowed
+
+-- a line is begun, its first reply is told where it has room, and moves are added behind it
+pub did_begin_line : (was : Flags) (board : Controller) (h seen mid spoken next : Journal) (o : Outcome) → IsReady h → IsWholeLine h → PassesNothing h seen → DidAlone seen mid → IsBegun 1 o mid spoken → Keeps board next
+    → board.beat ≡ Motion → board.flags ≡ words.None → HasFilled spoken next → BoardWorked Did was board h next
+did_begin_line was board h seen mid spoken next o ready line look alone b keeps beat no_word filled =
     let a = alone.passes in
     let few = few_where_whole (tries_of h) (whole_of h) line.whole ready.tries in
     let quiet : count_by publishing (this_turn mid) ≡ 0 = a.quiet ∙ look.quiet ∙ ready.quiet.quiet in
     let tries : tries_of mid ≡ tries_of h = a.tries ∙ look.tries in
-    let worked = worked_behind (began o) mid (began o ∷ mid) refl (record { no_changes = refl; none_planned = refl }) refl refl (a.worked (look.worked ready.quiet.worked)) in
     let free = free_passed seen mid a (free_passed h seen look (free_of h ready.quiet)) in
-    let now : IsFree (began o ∷ mid) = record { flags = free.flags; obeyed = free.obeyed; unowed = free.unowed } in
-    let taken = takes_none board next no_word (free_passed (began o ∷ mid) next filled.alone.passes now) in
-    did_filled was board h (began o ∷ mid) next (began o ∷ (a.steps ++ look.steps))
-    (ap (λ (j : Journal). began o ∷ j) (a.are ∙ ap (λ (j : Journal). a.steps ++ j) look.are ∙ sym (append_assoc a.steps look.steps h)))
-    keeps beat taken filled worked (omega (arith, quiet)) (a.polled ∙ look.polled ∙ ready.unpolled) (omega (arith, few, tries)) (inl (filled.alone.passes.moves refl))
-
--- the motion is stopped for it before moves are added
-filled_limited : (m : AnyMotion) (mid next : Journal) (o : Outcome) → HasFilled (became on_limit (limit_motion m) ∷ began o ∷ mid) next → HasFilled (began o ∷ mid) next
-filled_limited m mid next o f =
-    let line : Journal = began o ∷ mid in
-    let now = became on_limit (limit_motion m) ∷ line in
-    record {
-      alone = alone_on line now next (alone_motion on_limit (limit_motion m) line refl (limits_change m (has_cut line) (motion_of line))) f.alone;
-      hand = f.hand;
-      adds = f.adds;
-      none_waits = f.none_waits;
-      moved = λ move room. f.moved move room;
-      waiting = λ none w. absurd (limit_off m (f.waiting none w).stands);
-    }
-
--- the line is begun, and the motion stopped for it where a soft limit stops it
-pub did_begin_line : (was : Flags) (board : Controller) (h seen mid line next : Journal) (o : Outcome) → IsReady h → IsWholeLine h → PassesNothing h seen → DidAlone seen mid → HasBegun o mid line → Keeps board next
-    → board.beat ≡ Motion → board.flags ≡ words.None → HasFilled line next → BoardWorked Did was board h next
-did_begin_line was board h seen mid line next o ready whole look alone (inl is) keeps beat no_word filled =
-    did_begin was board h seen mid next o ready whole look alone keeps beat no_word (subst (λ (j : Journal). HasFilled j next) is filled)
-did_begin_line was board h seen mid line next o ready whole look alone (inr is) keeps beat no_word filled =
-    did_begin was board h seen mid next o ready whole look alone keeps beat no_word (filled_limited (motion_of mid) mid next o (subst (λ (j : Journal). HasFilled j next) is filled))
+    let taken = takes_none board next no_word (free_passed spoken next filled.alone.passes (b.free free)) in
+    let steps = b.front ++ began o ∷ (a.steps ++ look.steps) in
+    let before : began o ∷ mid ≡ began o ∷ ((a.steps ++ look.steps) ++ h) = ap (λ (j : Journal). began o ∷ j) (a.are ∙ ap (λ (j : Journal). a.steps ++ j) look.are ∙ sym (append_assoc a.steps look.steps h)) in
+    let are : spoken ≡ steps ++ h = b.are ∙ ap (λ (j : Journal). b.front ++ j) before ∙ sym (append_assoc b.front (began o ∷ (a.steps ++ look.steps)) h) in
+    let once = b.once in
+    let tried = b.tries in
+    did_filled was board h spoken next steps are keeps beat taken filled (b.worked (a.worked (look.worked ready.quiet.worked)))
+    (omega (arith, once, quiet)) (b.unpolled ∙ a.polled ∙ look.polled ∙ ready.unpolled) (omega (arith, few, tries, tried)) (inl (filled.alone.passes.moves b.moved))
 
 -- the port knows nothing of that
 pub port_begun : (o : Outcome) (mid line : Journal) → HasBegun o mid line → port_log line ≡ port_log mid

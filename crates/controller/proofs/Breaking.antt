@@ -59,6 +59,12 @@ over_worked c h f between rests = record {
   moves = λ e. absurd cc;
 }
 
+-- where the run is not over, and a reset was asked for, a reset has ended it
+pub is_broken : (was : PortLog → Type 0) (c : Controller) (d : Doings) → c.reset ≡ true → (BoardRests c → ⊥) → was (log_of d) → BoardFits c d → IsBetween d
+    → (since before : Journal) × was (log_of (broke since before)) × BrokenFits c since before × IsBetween (broke since before)
+is_broken was c (goes h) reset unrested at f between = absurd (unrested (f.1 reset))
+is_broken was c (broke since before) reset unrested at f between = (since, before, at, f, between)
+
 -- ---- whether the end is published
 
 pub end_is_out : (c : Controller) (h : Journal) (r : Reply) → Keeps c h → (BoardRests c → ⊥) → c.closing ≡ true → c.machine.hand ≡ None → IsNextOf (tell r) c.lines.left
@@ -206,6 +212,28 @@ a_reply_next todos.Pause left is e = absurd cc
 a_reply_next todos.Normal left is e = absurd cc
 a_reply_next todos.Finish left is e = absurd cc
 a_reply_next todos.Halt left is e = absurd cc
+
+finish_is_next : (t : Todo) (left : List Task) → IsTodo t left → IsNextOf finish left → t ≡ todos.Finish
+finish_is_next todos.Finish left is next = refl
+finish_is_next todos.Nothing left is next = absurd (let e = sym is ∙ next in cc)
+finish_is_next todos.Rest left is next = absurd (let e = sym is ∙ next in cc)
+finish_is_next (todos.Mark m) left is next = absurd (let e = sym is.0 ∙ next in cc)
+finish_is_next todos.Move left is next = absurd (let e = sym is.1 ∙ next in cc)
+finish_is_next todos.Tell left is next = absurd (let e = sym is.1 ∙ next in cc)
+finish_is_next todos.Pause left is next = absurd (let e = sym is ∙ next in cc)
+finish_is_next todos.Normal left is next = absurd (let e = sym is ∙ next in cc)
+finish_is_next todos.Halt left is next = absurd (let e = sym is ∙ next in cc)
+
+-- what is next of a run that a reset has ended: the end is to be published, or Bye to be told
+pub end_is_next : (e : Ending) (left : List Task) → left ≡ left_to_end e → IsNextOf finish left → e ≡ publishes_end
+end_is_next publishes_end left is next = refl
+end_is_next tells_bye left is next = absurd (let e = sym is ∙ next in cc)
+end_is_next over left is next = absurd (let e = sym is ∙ next in cc)
+
+pub bye_is_next : (e : Ending) (t : Todo) (left : List Task) → left ≡ left_to_end e → (left ≡ [] → ⊥) → IsTodo t left → (t ≡ todos.Finish → ⊥) → e ≡ tells_bye
+bye_is_next publishes_end t left is some todo other = absurd (other (finish_is_next t left todo (is ∙ ap (λ (ts : List Task). finish ∷ drop 1 ts) (sym is))))
+bye_is_next tells_bye t left is some todo other = refl
+bye_is_next over t left is some todo other = absurd (some is)
 
 -- what a turn leaves of a port and a board
 abbrev pub GoesOn : (PortLog → Type 0) → Turn → Controller → Controller → Doings → Type 0

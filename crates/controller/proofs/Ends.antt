@@ -53,7 +53,7 @@ use Rattle.controller.specs.declared.controller.Beat.TheVariants.{Motion, Main}
 use Rattle.controller.specs.Boards.{Keeps, Rounds, NoneWaits, GoingBetween, IsFree, TakesFlags, takes_no_word, GoingFits, GoingTurned, has_published, changes_left, number_of}
 use Rattle.controller.specs.Turning.{IsNextMove, AreWorked, IsQuiet, IsReady, MayRun, MayAwait, HasStopped, NeedsNoWait, GoesOn, PassesNothing, HasFilled, HasTried, BoardWorked, WorksOn}
 pub use Rattle.controller.proofs.Freeing.{free_of, takes_none, no_word_left, free_passed, free_tried, flags_tried, flags_passed, taken_by, obeyed_by}
-use Rattle.controller.proofs.Facts.{not_whole, uncounted, uncounted_line, uncounted_owing}
+use Rattle.board_rules.proofs.Facts.{not_whole, uncounted, uncounted_line, uncounted_owing}
 use Rattle.controller.proofs.Steps.{other_beat, other_flags, ends, halts_by, none_halts}
 
 -- ---- what follows

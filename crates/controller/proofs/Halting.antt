@@ -33,8 +33,8 @@ use Rattle.controller.specs.declared.controller.Flags.{Flags}
 use Rattle.controller.specs.declared.controller.Flags.TheVariants as words
 use Rattle.controller.specs.Boards.{Keeps, Rounds, IsFree, IsAsked, TakesFlags, takes_no_word, words_left, changes_left, number_of}
 use Rattle.controller.specs.Turning.{HasPiece, IsHalted, MayRun, PassesNothing, StaysSo, IsCutNow, HasSettled, AreWorked, BoardWorked, obeyed}
-use Rattle.controller.proofs.Facts.{uncounted, uncounted_line}
-use Rattle.controller.proofs.Tries.{counts_none, counts_one}
+use Rattle.board_rules.proofs.Facts.{uncounted, uncounted_line}
+use Rattle.board_rules.proofs.Tries.{counts_none, counts_one}
 use Rattle.controller.proofs.Steps.{at_rest, halts_by}
 use Rattle.controller.proofs.Standing.{all_published}
 use Rattle.controller.proofs.Settling.{none_fits_so}

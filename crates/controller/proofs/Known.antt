@@ -31,8 +31,8 @@ use Rattle.board_rules.proofs.Answering.{answer_is_due}
 use Rattle.controller.specs.declared.controller.Controller.{Controller}
 use Rattle.controller.specs.Boards.{Keeps}
 use Rattle.controller.specs.Turning.{HasPiece}
-use Rattle.controller.proofs.Alarms.{halts_limited, left_alarmed, unalarmed}
-use Rattle.controller.proofs.Facts.{uncounted}
+use Rattle.board_rules.proofs.Stages.{halts_limited, left_alarmed, unalarmed}
+use Rattle.board_rules.proofs.Facts.{uncounted}
 
 -- what is next of what is left, is next of the journal's tasks
 pub is_next : (c : Controller) (h : Journal) (t : Task) → Keeps c h → IsNextOf t c.lines.left → IsNextTask t h

@@ -1,11 +1,4 @@
-pub mod Marks
-pub mod Halts
-pub mod Speeds
-pub mod Alarms
-pub mod Facts
 pub mod Begins
-pub mod Cuts
-pub mod CutMarks
 pub mod Known
 pub mod Turns
 pub mod Steps
@@ -18,9 +11,7 @@ pub mod Limiting
 pub mod Stopping
 pub mod Words
 pub mod Resting
-pub mod Tries
 pub mod Adding
-pub mod Machining
 pub mod Flying
 pub mod Freeing
 pub mod Telling
@@ -28,6 +19,6 @@ pub mod Ends
 pub mod Breaking
 pub mod Owing
 pub mod Owed
-pub mod Lasts
 pub mod Nexts
 pub mod Numbers
+pub mod Kept

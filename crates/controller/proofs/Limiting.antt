@@ -29,17 +29,17 @@ use Rattle.controller.specs.declared.controller.Controller.{Controller}
 use Rattle.controller.specs.declared.controller.Beat.TheVariants.{Motion}
 use Rattle.controller.specs.declared.controller.Flags.{Flags}
 use Rattle.controller.specs.declared.controller.Flags.TheVariants as flags
-use Rattle.controller.specs.declared.machine.Machine.{Machine}
-use Rattle.controller.specs.Machines.{Runs}
+use Rattle.board_machine.specs.declared.machine.Machine.{Machine}
+use Rattle.board_machine.specs.Machines.{Runs}
 use Rattle.controller.specs.Boards.{Keeps, Rounds, number_of}
 use Rattle.controller.specs.Turning.{HasPiece, IsAtLimit, IsLocked, HasHalted, IsReady, PassesNothing, BoardWorked}
 use Rattle.controller.proofs.Steps.{is_next, looked, one_less, halts_by}
-use Rattle.controller.proofs.Speeds.{no_speed, rests}
-use Rattle.controller.proofs.Alarms.{ends_run, limit_alarms, limited_next}
+use Rattle.board_rules.proofs.Speeds.{no_speed, rests}
+use Rattle.board_rules.proofs.Stages.{ends_run, limit_alarms, limited_next}
 use Rattle.controller.proofs.Stopping.{locks}
 use Rattle.controller.proofs.Standing.{all_published, awaits_no_move}
 use Rattle.controller.proofs.Halting.{not_due, none_in_hand, slow_stands}
-use Rattle.controller.proofs.Tries.{publishes_none, worked_behind, fewer_pauses, passes_none, passes_load, passes_on, alone_on, alone_motion}
+use Rattle.board_rules.proofs.Tries.{publishes_none, worked_behind, fewer_pauses, passes_none, passes_load, passes_on, alone_on, alone_motion}
 use Rattle.controller.proofs.Ends.{rounds_still, free_of, free_passed, takes_none, no_word_left}
 use Rattle.controller.proofs.Nexts.{quiet_on}
 

@@ -5,7 +5,7 @@ use Rattle.outside.specs.declared.On.TheVariants.{Byte, ReplyRoom}
 use Rattle.outside.specs.declared.Turn.TheVariants.{Did, Wait}
 use Rattle.feed_hold.specs.declared.Motion.TheVariants.{Idle}
 use Rattle.feed_hold.specs.Motions.Call.{on_start}
-use Rattle.controller.specs.Machines.{StandsOrGoes, start_motion}
+use Rattle.board_machine.specs.Machines.{StandsOrGoes, start_motion}
 use Rattle.planner_runs.specs.declared.Action.TheVariants.{Mark}
 use Rattle.step_line.specs.declared.Mark.{Mark as AnyMark}
 use Rattle.step_line.specs.declared.Piece.{Piece}
@@ -31,13 +31,13 @@ use Rattle.controller.specs.declared.controller.Flags.TheVariants as words
 use Rattle.controller.specs.declared.controller.Beat.{Beat}
 use Rattle.controller.specs.declared.controller.Beat.TheVariants.{Motion, Main}
 use Rattle.controller.specs.Boards.{Keeps, Rounds, NoneWaits, GoingBetween, IsFree, TakesFlags, has_published, number_of}
-use Rattle.controller.specs.Turning.{IsNextMove, IsQuiet, IsReady, HasPiece, HasPolled, MayRun, MayAwait, MayFinish, IsWholeLine, NeedsNoWait, GoesOn, PassesNothing, BoardWorked, starting}
+use Rattle.controller.specs.Turning.{IsNextMove, IsQuiet, IsReady, IsHalted, HasPiece, HasPolled, MayRun, MayAwait, MayFinish, IsWholeLine, NeedsNoWait, GoesOn, PassesNothing, BoardWorked, starting}
 use Rattle.controller.proofs.Steps.{is_next, not_told, begins_by, calm_now, halts_by}
-use Rattle.controller.proofs.Facts.{not_whole, uncounted, unmissed}
-use Rattle.controller.proofs.Tries.{publishes_none, publishes_one, worked_behind, passes_did, passes_end, passes_motion}
+use Rattle.board_rules.proofs.Facts.{not_whole, uncounted, unmissed}
+use Rattle.board_rules.proofs.Tries.{publishes_none, publishes_one, worked_behind, passes_did, passes_end, passes_motion}
 use Rattle.controller.proofs.Standing.{full_is_queued, goes_or_stands}
 use Rattle.controller.proofs.Starting.{none_left_to_change, starts_off, starts_going}
-use Rattle.controller.proofs.Lasts.{behind_asked, IsClosing}
+use Rattle.board_rules.proofs.Lasts.{behind_asked, IsClosing}
 use Rattle.controller.proofs.Ends.{none_called, none_waited, rounds_still, one_at_most, takes_none, ready_sent, ready_idle, may_await, free_of, no_word_left}
 
 -- ---- how a turn begins
@@ -127,17 +127,22 @@ may_poll b h k goes none open_yet partial = record {
   unclosed = k.going open_yet;
 }
 
+-- what is next is held up as the fields tell
+held_up : (b : Controller) (h : Journal) → Keeps b h → is_held_up h ≡ needs_motion b.lines.left b.input.whole (is_full b.machine.plan)
+held_up b h k =
+    ap (λ (ts : List Task). needs_motion ts (whole_of h) (is_full (plan_of h))) (sym k.lines.left_is) ∙ ap (λ w. needs_motion b.lines.left w (is_full (plan_of h))) (sym k.input.whole_is)
+    ∙ ap (λ p. needs_motion b.lines.left b.input.whole (is_full p)) (sym k.machine.plan_is)
+
+-- what is next is held up by a machine that is held, or slows down for that
+pub is_halted : (b : Controller) (h : Journal) → Keeps b h → IsReady h → is_halting b.machine.hold.motion ≡ true → needs_motion b.lines.left b.input.whole (is_full b.machine.plan) ≡ true → IsHalted h
+is_halted b h k ready halts up = record { ready = ready; halts = ap is_halting (sym k.machine.motion_is) ∙ halts; held_up = held_up b h k ∙ up }
+
 -- what is next goes on, by the fields
 pub goes_on : (b : Controller) (h : Journal) → Keeps b h → (is_halting b.machine.hold.motion ≡ true → needs_motion b.lines.left b.input.whole (is_full b.machine.plan) ≡ false) → is_limited b.machine.hold.motion ≡ false → GoesOn h
 goes_on b h k held other = record {
-  held = λ halts. up ∙ held (ap is_halting k.machine.motion_is ∙ halts);
+  held = λ halts. held_up b h k ∙ held (ap is_halting k.machine.motion_is ∙ halts);
   unlimited = ap is_limited (sym k.machine.motion_is) ∙ other;
 }
-  where
-    up : is_held_up h ≡ needs_motion b.lines.left b.input.whole (is_full b.machine.plan)
-    up =
-        ap (λ (ts : List Task). needs_motion ts (whole_of h) (is_full (plan_of h))) (sym k.lines.left_is) ∙ ap (λ w. needs_motion b.lines.left w (is_full (plan_of h))) (sym k.input.whole_is)
-        ∙ ap (λ p. needs_motion b.lines.left b.input.whole (is_full p)) (sym k.machine.plan_is)
 
 -- ---- a machine that is held, or slows down for that
 

@@ -17,7 +17,7 @@ use Rattle.controller.specs.declared.controller.Controller.{Controller}
 use Rattle.controller.specs.declared.controller.Flags.{Flags}
 use Rattle.controller.specs.declared.controller.Flags.TheVariants as words
 use Rattle.controller.specs.Boards.{GoingFits, words_left, changes_left, number_of}
-use Rattle.controller.proofs.Tries.{fewer_pauses, pauses_by}
+use Rattle.board_rules.proofs.Tries.{fewer_pauses, pauses_by}
 
 less_too : (a b : ℕ) → a ≤ b → b ≤ 1 → a ≤ 1
 less_too a b e f = omega (arith, e, f)

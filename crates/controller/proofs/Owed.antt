@@ -35,8 +35,8 @@ use Rattle.controller.specs.Boards.{Keeps, Rounds, NoneWaits, TakesFlags, has_pu
 use Rattle.controller.specs.Turning.{NoneFits, HasPiece, HasTried, HasFilled, BoardWorked}
 use Rattle.controller.specs.Reporting.{HasObserved, HasAskedRoom, IsBehind, IsReported, IsTold, IsToReport, LacksRoom, obeying}
 use Rattle.controller.proofs.Steps.{report_told, report_kept, other_flags, halts_by}
-use Rattle.controller.proofs.Tries.{counts_none, publishes_none, publishes_one}
-use Rattle.controller.proofs.Facts.{uncounted_owing}
+use Rattle.board_rules.proofs.Tries.{counts_none, publishes_none, publishes_one}
+use Rattle.board_rules.proofs.Facts.{uncounted_owing}
 use Rattle.controller.proofs.Halting.{waited_before}
 use Rattle.controller.proofs.Settling.{none_waits_so, none_fits_so}
 use Rattle.controller.proofs.Ends.{MayTry, sent_by, rounds_still, none_called, none_waited}

@@ -15,7 +15,7 @@ use Rattle.controller.specs.declared.controller.Beat.TheVariants.{Motion, Main}
 use Rattle.controller.specs.Boards.{Rounds, GoingBetween, IsAsked, takes_no_word}
 use Rattle.controller.specs.Turning.{HasPiece, HasFilled, HasTried}
 use Rattle.controller.specs.Reporting.{IsToReport}
-use Rattle.controller.proofs.Facts.{uncounted_owing}
+use Rattle.board_rules.proofs.Facts.{uncounted_owing}
 use Rattle.controller.proofs.Ends.{none_between, count_between, none_worked}
 
 -- ---- which words are left

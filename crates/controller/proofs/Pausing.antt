@@ -15,9 +15,9 @@ use Rattle.controller.specs.declared.controller.Beat.TheVariants.{Motion}
 use Rattle.controller.specs.declared.controller.Flags.TheVariants as flags
 use Rattle.controller.specs.Boards.{Keeps, Rounds, number_of}
 use Rattle.controller.specs.Turning.{IsReady, PassesNothing, HasFilled, BoardWorked}
-use Rattle.controller.proofs.Facts.{not_whole}
+use Rattle.board_rules.proofs.Facts.{not_whole}
 use Rattle.controller.proofs.Steps.{halts_by}
-use Rattle.controller.proofs.Tries.{publishes_none, worked_behind}
+use Rattle.board_rules.proofs.Tries.{publishes_none, worked_behind}
 use Rattle.controller.proofs.Ends.{none_called, rounds_still, free_of, free_passed, takes_none, no_word_left}
 
 -- a pause less is left

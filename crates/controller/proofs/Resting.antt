@@ -16,13 +16,13 @@ use Rattle.board_rules.specs.Steps.{Journal, given_of, hand_of, plan_of, motion_
 use Rattle.board_rules.specs.Steps.Step.{did, evened}
 use Rattle.board_rules.proofs.Tasks.{none_next, head_is}
 use Rattle.controller.specs.declared.controller.Controller.{Controller}
-use Rattle.controller.specs.declared.machine.Machine.{Machine}
-use Rattle.controller.specs.Machines.{Runs}
+use Rattle.board_machine.specs.declared.machine.Machine.{Machine}
+use Rattle.board_machine.specs.Machines.{Runs}
 use Rattle.controller.specs.Boards.{Keeps}
 use Rattle.controller.specs.Turning.{HasStopped, IsPassed, DidAlone}
-use Rattle.controller.proofs.Facts.{no_rest_closing, no_normal_closing}
+use Rattle.board_rules.proofs.Facts.{no_rest_closing, no_normal_closing}
 use Rattle.controller.proofs.Steps.{is_next, rested, evens}
-use Rattle.controller.proofs.Tries.{alone_did, alone_even}
+use Rattle.board_rules.proofs.Tries.{alone_did, alone_even}
 
 still_stopped : (h : Journal) → HasStopped h → HasStopped (did Rest [] ∷ h)
 still_stopped h s = record {

@@ -29,14 +29,14 @@ use Rattle.board_rules.specs.Turns.{this_turn, loads, has_blocks, has_jogged, wa
 use Rattle.board_rules.specs.Conduct.{Conducted, HasSlowedDown, AreWaiting}
 use Rattle.board_rules.proofs.Dropping.{asks_dropped, none_moves}
 use Rattle.controller.specs.declared.controller.Controller.{Controller}
-use Rattle.controller.specs.declared.machine.Machine.{Machine}
+use Rattle.board_machine.specs.declared.machine.Machine.{Machine}
 use Rattle.controller.specs.Boards.{Keeps, NoneWaits, changes_left}
 use Rattle.controller.specs.Turning.{NoneFits, StaysSo, IsCutNow, IsUncut, IsFoundStopped, ComesOf, HasSettled, replanned}
 use Rattle.controller.specs.Turning.ComesOf.{is_held, is_cut, is_locked, is_over}
-use Rattle.controller.proofs.Cuts.{none_asked, cut_off}
+use Rattle.board_rules.proofs.Uncut.{none_asked, cut_off}
 use Rattle.controller.proofs.Steps.{hand_empty, looked, other_flight}
 use Rattle.controller.proofs.Flying.{learned, learned_all}
-use Rattle.controller.proofs.Tries.{passes_none, passes_load, passes_motion, passes_cut, passes_on}
+use Rattle.board_rules.proofs.Tries.{passes_none, passes_load, passes_motion, passes_cut, passes_on}
 use Rattle.controller.proofs.Ends.{same_calls}
 
 -- ---- a machine that slowed down

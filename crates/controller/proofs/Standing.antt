@@ -27,13 +27,13 @@ use Rattle.board_rules.proofs.Keeping.{hand_is}
 use Rattle.controller.specs.declared.controller.Controller.{Controller}
 use Rattle.controller.specs.declared.controller.Beat.TheVariants.{Motion as MotionBeat}
 use Rattle.controller.specs.declared.controller.Flags.TheVariants as flags
-use Rattle.controller.specs.declared.machine.Machine.{Machine}
-use Rattle.controller.specs.Machines.{Runs, StandsOrGoes}
+use Rattle.board_machine.specs.declared.machine.Machine.{Machine}
+use Rattle.board_machine.specs.Machines.{Runs, StandsOrGoes}
 use Rattle.controller.specs.Boards.{Keeps, Rounds}
 use Rattle.controller.specs.Turning.{HasPiece, HasLooked, MayAwait, PassesNothing, BoardWorked}
-use Rattle.controller.proofs.Facts.{uncounted, and_false}
+use Rattle.board_rules.proofs.Facts.{uncounted, and_false}
 use Rattle.controller.proofs.Steps.{at_rest, hand_empty, none_by_test, looked, drained, halts_by}
-use Rattle.controller.proofs.Tries.{passes_load, passes_motion, passes_on}
+use Rattle.board_rules.proofs.Tries.{passes_load, passes_motion, passes_on}
 use Rattle.controller.proofs.Ends.{rounds_still, some_awaited, free_of, free_passed, takes_none, no_word_left}
 
 -- ---- hands and blocks

@@ -4,7 +4,7 @@ use Rattle.feed_hold.specs.declared.Motion.TheVariants as motions
 use Rattle.board_rules.specs.Steps.{Journal, motion_of}
 use Rattle.board_rules.specs.Cuts.{has_cut, is_cancelling}
 use Rattle.board_rules.specs.Turns.{is_halting, begins_in}
-use Rattle.controller.specs.Machines.{start_motion}
+use Rattle.board_machine.specs.Machines.{start_motion}
 use Rattle.controller.specs.Boards.{changes_left}
 
 -- the machine does not stand
@@ -25,3 +25,9 @@ starts_to_begin true = refl
 pub none_left_to_change : (jog : Bool) (h : Journal) → changes_left (start_motion jog) (is_cancelling (start_motion jog) && has_cut h) ≤ changes_left (motion_of h) (has_cut h)
 none_left_to_change false h = omega arith
 none_left_to_change true h = omega arith
+
+-- a start cuts nothing
+pub uncut_started : (jog was : Bool) → was ≡ false → was ≡ (is_cancelling (start_motion jog) && was)
+uncut_started jog true is = absurd cc
+uncut_started true false is = refl
+uncut_started false false is = refl

@@ -1,6 +1,5 @@
 -- One lemma a step: a board keeps on what its fields say of what it has done.
-use Rattle.std.proofs.Common.{◌≡◌, ℕ, ◌<◌, ◌⊎◌, inl, inr, List, [], ◌∷◌, ◌++◌, length, drop, Bool, true, false, ◌||◌, Some, None, sym, refl, ap, ◌∙◌, subst, arith, append-nil}
-use Rattle.std.proofs.lemmas.Bool.Decides.{nat_tests}
+use Rattle.std.proofs.Common.{◌≡◌, ℕ, ◌⊎◌, inl, inr, List, [], ◌∷◌, ◌++◌, drop, Bool, true, false, ◌||◌, Some, None, sym, refl, ap, ◌∙◌, subst, arith, append-nil}
 use Rattle.code_table.specs.declared.flags.Exec.{Exec}
 use Rattle.code_table.specs.declared.flags.Ovr.{Ovr}
 use Rattle.feed_hold.specs.declared.Motion.{Motion}
@@ -30,7 +29,7 @@ use Rattle.plan_rules.specs.Taking.{IsNext}
 use Rattle.plan_rules.specs.declared.Mode.{Mode}
 use Rattle.plan_rules.specs.declared.Mode.TheVariants.{Go, Hold}
 use Rattle.planner_runs.specs.declared.Action.TheVariants.{Add, Take, Override, Mark, Rest}
-use Rattle.planner_runs.specs.Runs.{IsAtRest, with_move, normal_overrides, most_blocks}
+use Rattle.planner_runs.specs.Runs.{IsAtRest, with_move, normal_overrides}
 use Rattle.planner_runs.proofs.Runs.{fresh_starts}
 use Rattle.line_interpreter.specs.Interpreting.{Interpreting}
 use Rattle.board_rules.specs.Ports.{MayBeDone, LacksPieceRoom, has_changes, has_reset_in}
@@ -40,12 +39,14 @@ use Rattle.board_rules.specs.Steps.Step.{at_port, did, made_end, evened, paused,
 use Rattle.board_rules.specs.Cuts.{has_cut}
 use Rattle.board_rules.specs.Turns.{owes_report, tells_next, is_full, is_due, is_going, has_blocks, stands_still}
 use Rattle.board_rules.specs.Conduct.{MayDo, IsNextTask, IsDrained, IsTimely, MayPoll, MayStart, MayTakeRequests, MayObey, IsReportAt}
+pub use Rattle.board_machine.proofs.Machining.{has_room}
 use Rattle.controller.specs.declared.controller.Controller.{Controller}
-use Rattle.controller.specs.declared.machine.Machine.{Machine}
-use Rattle.controller.specs.Machines.{Runs, StandsOrGoes, mode_in, start_motion}
+use Rattle.board_machine.specs.declared.machine.Machine.{Machine}
+use Rattle.board_machine.specs.Machines.{Runs, StandsOrGoes, mode_in, start_motion}
 use Rattle.controller.specs.Boards.{Keeps, Works}
 use Rattle.controller.specs.Turning.{HasPiece, starting}
-use Rattle.controller.proofs.Cuts.{uncut_else, uncut_idle, uncut_started, cut_obeyed}
+use Rattle.board_rules.proofs.Uncut.{uncut_else, uncut_idle, cut_obeyed}
+use Rattle.controller.proofs.Starting.{uncut_started}
 pub use Rattle.controller.proofs.Turns.{closes, ends, other_beat, other_flags, other_flight, room_found}
 pub use Rattle.controller.proofs.Known.{is_next, hand_empty, none_by_test, in_hand, some_in_hand, hand_left, one_in_hand, hand_of_one, due_moves, due_now, at_rest, few_ticks, in_range, same_overrides, may_publish, may_answer, few_tried, begins_unlimited, begins_by, halts_by, none_halts, calm_now}
 
@@ -248,10 +249,6 @@ polled_closed c h k may = record {
 }
 
 -- ---- the plan
-
--- a plan that is not full has room
-pub has_room : (p : Planned) → is_full p ≡ false → length p.blocks < most_blocks
-has_room p e = grind (arith, nat_tests, e)
 
 -- a move is added
 pub added_move : (c : Controller) (m : Machine) (i : Interpreting) (mv : PlannedMove) (h : Journal) → Keeps c h → IsNextTask (ask (a_move mv)) h → IsPlannedMove mv → is_full (plan_of h) ≡ false

@@ -29,16 +29,16 @@ use Rattle.board_rules.proofs.Jogging.{OneMove, one_move, cancel_is_jog}
 use Rattle.board_rules.proofs.Keeping.{hand_is}
 use Rattle.board_rules.proofs.Limits.{few_lines}
 use Rattle.controller.specs.declared.controller.Controller.{Controller}
-use Rattle.controller.specs.declared.machine.Machine.{Machine}
-use Rattle.controller.specs.Machines.{Runs}
+use Rattle.board_machine.specs.declared.machine.Machine.{Machine}
+use Rattle.board_machine.specs.Machines.{Runs}
 use Rattle.controller.specs.Boards.{Keeps}
 use Rattle.controller.specs.Turning.{IsFoundStopped, IsUncut, ComesOf}
 use Rattle.controller.specs.Turning.ComesOf.{is_held, is_cut, is_locked, is_over}
 use Rattle.controller.proofs.Known.{calm_now}
 use Rattle.board_rules.specs.Turns.{is_limited}
-use Rattle.controller.proofs.Cuts.{none_asked, uncut_else}
-use Rattle.controller.proofs.CutMarks.{known_where_stopped}
-use Rattle.controller.proofs.Facts.{number_is}
+use Rattle.board_rules.proofs.Uncut.{none_asked, uncut_else}
+use Rattle.board_rules.proofs.CutMarks.{known_where_stopped}
+use Rattle.board_rules.proofs.Facts.{number_is}
 
 -- a machine that slowed down is held where each tick is done
 pub stops : (c : Controller) (m : Machine) (h : Journal) → Keeps c h → motion_of h ≡ motions.Holding → IsStopped h → Runs m (plan_of h) motions.Held (hand_of h) (given_of h)

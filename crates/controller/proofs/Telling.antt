@@ -27,14 +27,14 @@ use Rattle.board_rules.specs.Conduct.{IsDrained, HasSlowedDown, IsStopped, ticks
 use Rattle.board_rules.proofs.Keeping.{run_is}
 use Rattle.board_rules.proofs.Taking.{no_jog_to_start}
 use Rattle.controller.specs.declared.controller.Controller.{Controller}
-use Rattle.controller.specs.declared.machine.Machine.{Machine}
-use Rattle.controller.specs.Machines.{Runs, StandsOrGoes, observed, settled}
+use Rattle.board_machine.specs.declared.machine.Machine.{Machine}
+use Rattle.board_machine.specs.Machines.{Runs, StandsOrGoes, observed, settled}
 use Rattle.controller.specs.Boards.{Keeps}
 use Rattle.controller.specs.Reporting.{HasObserved, HasAskedRoom, IsReported, obeying}
 use Rattle.controller.specs.Turning.{ComesOf}
 use Rattle.controller.proofs.Steps.{looked, drained, obeys, other_flight, at_rest, halts_by}
 use Rattle.controller.proofs.Settling.{CameOf, came_of, port_came, published_came, known_came}
-use Rattle.controller.proofs.Tries.{passes_load, passes_motion, passes_on}
+use Rattle.board_rules.proofs.Tries.{passes_load, passes_motion, passes_on}
 use Rattle.controller.proofs.Ends.{none_called}
 
 -- ---- what is observed

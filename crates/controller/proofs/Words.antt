@@ -26,7 +26,7 @@ use Rattle.controller.specs.declared.controller.Beat.TheVariants.{Motion, Main}
 use Rattle.controller.specs.declared.controller.Flags.TheVariants as words
 use Rattle.controller.specs.Boards.{Keeps, Rounds, NoneWaits, HasChanges, TakesFlags, GoingBetween, GoingFits, takes_no_word, has_published, words_left, changes_left, number_of}
 use Rattle.controller.specs.Turning.{HasSettled, AreWorked, BoardWorked, asked, flags_behind, obeyed, replanned}
-use Rattle.controller.proofs.Tries.{counts_none, counts_one}
+use Rattle.board_rules.proofs.Tries.{counts_none, counts_one}
 use Rattle.controller.proofs.Numbers.{few_changes}
 use Rattle.controller.proofs.Steps.{halts_by}
 use Rattle.controller.proofs.Ends.{none_called, same_calls, rounds_still, takes_none, no_word_left}

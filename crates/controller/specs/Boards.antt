@@ -1,5 +1,5 @@
 -- What the fields of a board say of what it has done.
-use Rattle.std.specs.Prelude.{◌≡◌, ◌⊎◌, ℕ, ◌+◌, ◌*◌, ◌≤◌, ◌<◌, Bool, true, false, ◌||◌, cond, nat_eq, List, [], ◌∷◌, ◌++◌, length}
+use Rattle.std.specs.Prelude.{◌≡◌, ◌⊎◌, ℕ, ◌+◌, ◌*◌, ◌≤◌, ◌<◌, Bool, true, false, ◌||◌, nat_eq, List, [], ◌∷◌, ◌++◌, length}
 use Rattle.std.specs.List.{list_any}
 use Rattle.outside.specs.declared.Turn.{Turn}
 use Rattle.outside.specs.declared.Turn.TheVariants.{Did}
@@ -21,20 +21,19 @@ use Rattle.board_rules.specs.Steps.Step.{turned}
 use Rattle.board_rules.specs.Turns.{this_turn, unobeyed_of, owes_report, moving, is_full, is_halting, awaits_motion, has_jogged, changes_taken, flags_taken, tries_of, missed_of, waits_of}
 use Rattle.board_rules.specs.Conduct.{Conducted, AreWaiting}
 use Rattle.board_rules.specs.Cuts.{has_cut}
+pub use Rattle.board_rules.specs.Within.{changes_left}
 use Rattle.board_rules.specs.Breaking.{Doings, Ending, IsConducted, ending_of, turn_of}
 use Rattle.board_rules.specs.Breaking.Doings.{goes, broke}
 use Rattle.board_rules.specs.Breaking.Ending.{publishes_end, tells_bye, over}
 use Rattle.units.specs.Truths.{one_if}
 use Rattle.controller.specs.declared.controller.Controller.{Controller}
-use Rattle.feed_hold.specs.declared.Motion.{Motion as AnyMotion}
-use Rattle.feed_hold.specs.declared.Motion.TheVariants as motions
 use Rattle.controller.specs.declared.controller.Flags.{Flags}
 use Rattle.controller.specs.declared.controller.Flags.TheVariants as words
 use Rattle.controller.specs.declared.controller.Beat.{Beat}
 use Rattle.controller.specs.declared.controller.Beat.TheVariants.{Motion, Main}
 use Rattle.controller.specs.declared.input.Input.{Input}
-use Rattle.controller.specs.Machines.{Runs}
-use Rattle.controller.specs.Limiting.{limit_pending}
+use Rattle.board_machine.specs.Machines.{Runs}
+use Rattle.board_rules.specs.Limiting.{limit_pending}
 
 -- the lines, by what is left to do, and what stands before the next line
 pub record Works (i : Interpreting) (left : List Task) (b : Before) : Type 0 where
@@ -145,14 +144,6 @@ words_left words.Both = 3
 words_left words.Requests = 2
 words_left words.None = 1
 words_left (words.Report word) = 0
-
--- a machine that slows down is to be held, one that is held to be resumed; and jogs that were cancelled are to be cut, and then
--- the machine stands
-abbrev pub changes_left : AnyMotion → (has_cut : Bool) → ℕ
-changes_left motions.Holding has_cut = 2
-changes_left motions.Cancelling has_cut = cond has_cut 1 2
-changes_left motions.Held has_cut = 1
-changes_left _ has_cut = 0
 
 -- What a board can do with which nothing moves: words of flags are taken, pauses begin, a hold comes to its end, the
 -- machine is resumed, jogs are cut, a cancel comes to its end, and the run is closed. It falls in each turn that answers Did and moves nothing.

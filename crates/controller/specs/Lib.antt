@@ -1,8 +1,7 @@
-pub mod Machines
-pub mod Limiting
 pub mod Boards
 pub mod Breaking
 pub mod Turning
 pub mod Reporting
 pub use Rattle.board_rules.specs.Conduct
 pub use Rattle.board_rules.specs.Turns
+pub use Rattle.board_machine.specs.Machines

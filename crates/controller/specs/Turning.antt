@@ -12,57 +12,26 @@ use Rattle.flight.specs.Flights.{Flying, Flies}
 use Rattle.outside.specs.declared.Turn.{Turn}
 use Rattle.outside.specs.declared.Turn.TheVariants.{Did, Wait}
 use Rattle.outside.specs.declared.On.{On}
-use Rattle.run_rules.specs.Work.{Task, Outcome, asks, pauses}
+use Rattle.run_rules.specs.Work.{Task, Outcome, asks}
 use Rattle.run_rules.specs.Work.Task.{ask, pause, normal, finish, halt}
 use Rattle.line_interpreter.specs.Lefts.{IsNextOf}
 use Rattle.step_line.specs.Asking.Asked.{a_move, a_rest}
-use Rattle.step_line.specs.declared.Piece.{Piece}
 use Rattle.step_line.specs.declared.planned_move.PlannedMove.{PlannedMove}
 use Rattle.board_rules.specs.Ports.{PortLog}
 use Rattle.board_rules.specs.Ports.{has_changes}
-use Rattle.board_rules.specs.Ports.PortStep.{took_exec, took_ovr, published, no_piece_room, loaded}
+use Rattle.status_report.specs.declared.Reply.{Reply}
+use Rattle.board_rules.specs.Ports.PortStep.{answered, no_reply_room, took_exec, took_ovr}
 use Rattle.board_rules.specs.Steps.{Step, Journal, port_log, open_of, before_of, whole_of, left_of, closed_tells, published_of, known_of, hand_of, plan_of, motion_of}
 use Rattle.board_rules.specs.Steps.Step.{at_port, began, did, became, cut}
 use Rattle.board_rules.specs.Cuts.{has_cut}
 use Rattle.run_rules.specs.Outcomes.{jogged_behind, begins_with_dollar}
 use Rattle.run_rules.specs.Finding.{Found}
-use Rattle.board_rules.specs.Turns.{
-  this_turn,
-  publishing,
-  passing,
-  moving,
-  found_none,
-  loads,
-  lacks_reply_room,
-  lacks_piece_room,
-  has_blocks,
-  awaits_motion,
-  has_jogged,
-  has_jog_to_start,
-  is_full,
-  is_going,
-  begins_in,
-  is_due,
-  is_held_up,
-  is_halting,
-  machine_in,
-  is_limited,
-  stands_still,
-  is_counted,
-  changes_taken,
-  flags_taken,
-  unobeyed_of,
-  owes_report,
-  takes_changes,
-  replans,
-  tries_of,
-  missed_of,
-  waits_of,
-}
+use Rattle.board_rules.specs.Turns.{this_turn, publishing, passing, moving, found_none, loads, has_blocks, awaits_motion, has_jog_to_start, is_full, is_going, begins_in, is_due, is_held_up, is_halting, machine_in, is_limited, is_counted, changes_taken, flags_taken, owes_report, tries_of, missed_of, waits_of}
 use Rattle.board_rules.specs.Conduct.{MayTurn, IsNextTask, IsDrained, HasSlowedDown, IsStopped, AreWaiting, ticks_given}
 use Rattle.units.specs.Truths.{one_if}
+pub use Rattle.board_rules.specs.Within.{AreWorked, MayFinish, PassesNothing, DidAlone, MayHaveLooked, Tried, HasTried}
 use Rattle.controller.specs.declared.controller.Controller.{Controller}
-use Rattle.controller.specs.Machines.{start_motion, limit_motion}
+use Rattle.board_machine.specs.Machines.{start_motion, limit_motion}
 use Rattle.controller.specs.declared.controller.Beat.TheVariants.{Motion}
 use Rattle.controller.specs.declared.controller.Flags.{Flags}
 use Rattle.controller.specs.declared.controller.Flags.TheVariants as words
@@ -77,12 +46,6 @@ IsNextMove h = (m : PlannedMove) × IsNextTask (ask (a_move m)) h
 -- a piece is in hand, or a segment is due
 abbrev pub HasPiece : Journal → Type 0
 HasPiece h = (hand_of h ≡ [] → ⊥) ⊎ (is_due h ≡ true)
-
--- the word of requests that was taken is obeyed, unless a report is owed; and the plan was made anew for each change of
--- this turn
-pub record AreWorked (h : Journal) : Type 0 where
-  pub obeyed : owes_report h ≡ false → unobeyed_of h ≡ []
-  pub changed : count_by replans (this_turn h) ≡ count_by takes_changes (this_turn h)
 
 -- Nothing has passed in this turn, and nothing was published. No word of flags is to be taken, and no report is owed.
 pub record IsQuiet (h : Journal) : Type 0 where
@@ -137,11 +100,6 @@ NeedsNoWait h = awaits_motion (left_of h) ≡ true → HasStopped h × (IsNextTa
 pub record GoesOn (h : Journal) : Type 0 where
   pub held : is_halting (motion_of h) ≡ true → is_held_up h ≡ false
   pub unlimited : is_limited (motion_of h) ≡ false
-
--- nothing is left to run, each tick is done, and the machine stands, also in alarm
-pub record MayFinish (h : Journal) : Type 0 where
-  pub drained : IsDrained h
-  pub stands : stands_still (motion_of h) ≡ true
 
 -- What is next is held up, and it was not tried yet to publish a piece for it.
 pub record IsHalted (h : Journal) : Type 0 where
@@ -213,36 +171,11 @@ pub record IsAtLimit (h : Journal) : Type 0 where
 
 -- ---- what is added
 
--- Steps of one turn with which nothing passes, no byte is polled for, and no piece is tried to be published.
-pub record PassesNothing (h next : Journal) : Type 0 where
-  pub steps : List Step
-  pub are : next ≡ steps ++ h
-  pub still : list_any passing (this_turn next) ≡ list_any passing (this_turn h)
-  pub quiet : count_by publishing (this_turn next) ≡ count_by publishing (this_turn h)
-  pub polled : list_any found_none (this_turn next) ≡ list_any found_none (this_turn h)
-  pub room : list_any lacks_piece_room (this_turn next) ≡ list_any lacks_piece_room (this_turn h)
-  pub moves : list_any moving (this_turn h) ≡ true → list_any moving (this_turn next) ≡ true
-  pub loaded : list_any loads (this_turn h) ≡ true → list_any loads (this_turn next) ≡ true
-  pub waits : waits_of next ≡ waits_of h
-  pub tries : tries_of next ≡ tries_of h
-  pub missed : missed_of next ≡ missed_of h
-  pub jogged : has_jogged next ≡ has_jogged h
-  pub raw : open_of next ≡ open_of h
-  pub whole : whole_of next ≡ whole_of h
-  pub closed : closed_tells next ≡ closed_tells h
-  pub flags : flags_taken next ≡ flags_taken h
-  pub replies : list_any lacks_reply_room (this_turn next) ≡ list_any lacks_reply_room (this_turn h)
-  pub owed : owes_report next ≡ owes_report h
-  pub words : unobeyed_of next ≡ unobeyed_of h
-  pub worked : AreWorked h → AreWorked next
-  pub pauses : pauses (left_of next) ≤ pauses (left_of h)
-  pub changes : changes_left (motion_of next) (has_cut next) ≤ changes_left (motion_of h) (has_cut h)
-  pub less : (left_of next ≡ [] → ⊥) → left_of h ≡ [] → ⊥
-
--- what a board did by itself: its port knows nothing of it
-pub record DidAlone (h next : Journal) : Type 0 where
-  pub passes : PassesNothing h next
-  pub port : port_log next ≡ port_log h
+-- A reply was told that is next, or was handed back, or nothing was done.
+pub data MayHaveTold (h next : Journal) : Type 0 where
+  untold : next ≡ h → MayHaveTold h next
+  handed_back : next ≡ at_port no_reply_room ∷ h → MayHaveTold h next
+  was_told : (r : Reply) → next ≡ at_port (answered r) ∷ h → MayHaveTold h next
 
 -- It was looked how many ticks are done; and where nothing is left to run and each is done, the machine stands.
 pub record HasLooked (h next : Journal) : Type 0 where
@@ -274,43 +207,6 @@ pub record HasFilled (h next : Journal) : Type 0 where
   pub none_waits : NoneWaits next
   pub moved : IsNextMove h → is_full (plan_of h) ≡ false → list_any moving (this_turn next) ≡ true
   pub waiting : (IsNextMove h → ⊥) → AreWaiting next → AreWaiting h
-
--- nothing was done, or it was looked how many ticks are done
-abbrev pub MayHaveLooked : Journal → Journal → Type 0
-MayHaveLooked h next = (next ≡ h) ⊎ ((done : ℕ) × (next ≡ at_port (loaded done) ∷ h))
-
--- a piece was tried to be published: it was, or it was handed back
-abbrev pub Tried : Bool → Journal → Journal → Type 0
-Tried true h next = (p : Piece) × (mid : Journal) × MayHaveLooked h mid × (next ≡ at_port (published p) ∷ mid)
-Tried false h next = (done : ℕ) × (mid : Journal) × MayHaveLooked h mid × (next ≡ at_port (no_piece_room done) ∷ mid)
-
--- The piece in hand was tried to be published, or a segment, which came into the hand before.
-pub record HasTried (published : Bool) (h next : Journal) : Type 0 where
-  pub steps : List Step
-  pub are : next ≡ steps ++ h
-  pub still : published ≡ false → list_any passing (this_turn next) ≡ list_any passing (this_turn h)
-  pub quiet : count_by publishing (this_turn next) ≡ count_by publishing (this_turn h) + one_if published
-  pub polled : list_any found_none (this_turn next) ≡ list_any found_none (this_turn h)
-  pub room : published ≡ false → list_any lacks_piece_room (this_turn next) ≡ true
-  pub moves : published ≡ true → list_any moving (this_turn next) ≡ true
-  pub sent : published ≡ true → hand_of next ≡ []
-  pub waits : waits_of next ≡ []
-  pub missed : missed_of next ≡ false
-  pub jogged : has_jogged next ≡ has_jogged h
-  pub first : tries_of next ≤ tries_of h + 1
-  pub later : is_counted h ≡ false → tries_of next ≡ tries_of h
-  pub left : left_of next ≡ left_of h
-  pub whole : whole_of next ≡ whole_of h
-  pub motion : motion_of next ≡ motion_of h
-  pub cuts : has_cut next ≡ has_cut h
-  pub closed : closed_tells next ≡ closed_tells h
-  pub flags : flags_taken next ≡ flags_taken h
-  pub replies : list_any lacks_reply_room (this_turn next) ≡ list_any lacks_reply_room (this_turn h)
-  pub owed : owes_report next ≡ owes_report h
-  pub words : unobeyed_of next ≡ unobeyed_of h
-  pub worked : AreWorked h → AreWorked next
-  pub waiting : AreWaiting next → AreWaiting h
-  pub full : is_full (plan_of next) ≡ true → is_full (plan_of h) ≡ true
 
 -- queued blocks start, as a jog or not
 abbrev pub starting : Bool → Journal → Journal

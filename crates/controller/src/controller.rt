@@ -13,23 +13,25 @@ ghost use Rattle.board_rules.specs.Ports.PortStep.{took};
 ghost use Rattle.board_rules.specs.Steps.{Journal, port_log, left_of, motion_of, has_closed};
 ghost use Rattle.board_rules.specs.Steps.Step.{at_port};
 ghost use Rattle.board_rules.specs.Breaking.Doings.{goes};
-ghost use Rattle.board_rules.specs.Turns.{this_turn, awaits_motion, begins_in, needs_motion, flags_taken, found_nothing, has_blocks, is_full};
+ghost use Rattle.board_rules.specs.Turns.{this_turn, awaits_motion, begins_in, machine_in, needs_motion, flags_taken, found_nothing, has_blocks, is_full};
 ghost use Rattle.board_rules.specs.Conduct.{IsNextTask, MayTake, MayPoll};
 ghost use Rattle.controller.specs.Boards.{Keeps, BoardFits, GoingFits, GoingTurned, BoardRests, GoingBetween, IsFree, TakesFlags, takes_no_word, number_of};
 ghost use Rattle.controller.specs.Turning.{IsNextMove, HasPiece, IsReady, MayRun, MayAwait, MayJudge, IsLooked, NeedsNoWait, IsWholeLine, HasPolled, HasStopped, PassesNothing, DidAlone, HasLooked, HasAdded, HasFilled, HasBegun, Tried, HasTried, BoardWorked, IsHalted, IsJudged, GoesOn, HasSettled, IsPassed, WorksOn};
 
 use crate::input::Input;
-use crate::machine::Machine;
+use board_machine::Machine;
 use board_rules::BoardPort;
 use code_table::Exec;
+use feed_hold::Motion;
 use flight::Flight;
 use line_interpreter::{Accepted, Interpreter, Todo};
 use outside::{On, Turn};
+use run_rules::Machine as Found;
 use serial_ring::ByteIn;
 use step_line::Mark;
 
 /// Which words of flags are taken before the board goes on, one a turn: both behind a line feed, and behind each wait.
-#[derive(Clone, Copy, Debug, PartialEq, Eq)]
+#[derive(Clone, Copy)]
 pub(crate) enum Flags {
     /// The word of changes of overrides, and then that of requests.
     Both,
@@ -42,7 +44,7 @@ pub(crate) enum Flags {
 }
 
 /// What the next turn begins with.
-#[derive(Clone, Copy, Debug, PartialEq, Eq)]
+#[derive(Clone, Copy)]
 pub(crate) enum Beat {
     /// With a piece, where one is in hand or a segment is due.
     Motion,
@@ -66,6 +68,17 @@ pub struct Controller {
     pub(crate) jogged: bool,
     /// Jogs are cancelled, and were cut since.
     pub(crate) cut: bool,
+}
+
+/// How a line that is begun finds the machine.
+fn found(motion: Motion) -> Found
+    ensures { result ≡ machine_in motion }
+{
+    match motion {
+        Motion::Run => Found::Runs,
+        Motion::Jog => Found::Jogs,
+        _ => Found::Stands,
+    }
 }
 
 /// Whether the last that was accepted of G-code and jogs is a jog, behind a line of which this is accepted.
@@ -311,7 +324,9 @@ impl Controller {
         ensures judged { (h : Journal) → Keeps self.old h → MayJudge h → (o : Outcome) × IsJudged self.old self.new h o }
         ensures same { self.new ≡ record self.old { lines = self.new.lines; input = self.new.input; jogged = self.new.jogged } }
     {
-        let accepted = self.lines.judge(&self.input.kept, self.machine.found());
+        let accepted = self
+            .lines
+            .judge(&self.input.kept, found(self.machine.hold.motion));
         self.jogged = jogs_behind(accepted, self.jogged);
         self.input.clear();
     }
@@ -328,7 +343,8 @@ impl Controller {
         }
     }
 
-    /// Begins the line that was taken whole. Where it begins with `$`, queued blocks start before.
+    /// Begins the line that was taken whole, and tells its first reply where that is what is next. Where it begins with `$`,
+    /// queued blocks start before.
     #[inline(never)]
     fn begin<P: BoardPort>(&mut self, port: &mut P) -> Turn
         requires stands { (rest : P.Rest) × (h : Journal) × P.stands port.old rest (port_log h) × Keeps self.old h × IsReady h × IsWholeLine h }
@@ -341,6 +357,7 @@ impl Controller {
         self.look(port);
         self.start_before_line();
         self.judge();
+        self.tell_first(port);
         self.fill();
         Turn::Did
     }

@@ -99,10 +99,10 @@ impl Controller {
             → EndsOn (P.stands port.new rest) result self.new since before }
         ensures going { result ≢ Done }
     {
-        if self.lines.todo() == Todo::Finish {
-            return self.publish_end(port);
+        match self.lines.todo() {
+            Todo::Finish => self.publish_end(port),
+            _ => self.tell_bye(port),
         }
-        self.tell_bye(port)
     }
 
     /// Takes a turn: behind a line feed and behind each wait it takes a word of flags, and does what that asks for;

@@ -6,7 +6,6 @@ mod ending;
 mod flags;
 mod input;
 mod limits;
-mod machine;
 mod pieces;
 mod reports;
 mod stops;

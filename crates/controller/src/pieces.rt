@@ -9,26 +9,20 @@ ghost use Rattle.step_line.specs.Asking.Asked.{a_mark};
 ghost use Rattle.step_line.specs.Records.{IsMark};
 ghost use Rattle.line_interpreter.specs.Lefts.{IsNextOf};
 ghost use Rattle.board_rules.specs.Steps.{Journal, port_log};
-ghost use Rattle.board_rules.specs.Turns.{awaits_motion, has_blocks, is_full};
+ghost use Rattle.board_rules.specs.Turns.{awaits_motion, has_blocks, is_full, owes_report};
 ghost use Rattle.board_rules.specs.Conduct.{IsNextTask, IsTimely};
 ghost use Rattle.controller.specs.Boards.{Keeps};
-ghost use Rattle.controller.specs.Machines.{marks_cut};
+ghost use Rattle.board_machine.specs.Machines.{marks_cut};
 ghost use Rattle.flight.specs.Flights.{flight_room};
-ghost use Rattle.controller.specs.Turning.{IsNextMove, HasPiece, IsReady, MayRun, MayHaveLooked, MayFinish, HasAdded, HasFilled, Tried, HasTried, GoesOn, WorksOn};
+ghost use Rattle.controller.specs.Turning.{IsNextMove, HasPiece, IsReady, MayRun, MayHaveLooked, MayHaveTold, MayFinish, HasAdded, HasFilled, Tried, HasTried, GoesOn, WorksOn};
 
 use crate::controller::{Beat, Controller, Flags};
+use board_machine::is_cut;
 use board_rules::BoardPort;
 use line_interpreter::Todo;
 use outside::{On, Turn};
 use status_report::Reply;
 use step_line::{Mark, Piece};
-
-/// Whether a piece marks a cut.
-fn is_cut(piece: Piece) -> bool
-    ensures { result ≡ marks_cut piece }
-{
-    matches!(piece, Piece::Mark(Mark::Cut(_)))
-}
 
 impl Controller {
     /// Whether a piece is in hand, or a segment is due.
@@ -183,6 +177,27 @@ impl Controller {
         self.lines.done();
         self.fill();
         Turn::Did
+    }
+
+    /// Tells the first reply of a line that was begun in this turn, where that is what is next, and has room. Else it has a turn
+    /// of its own.
+    pub(crate) fn tell_first<P: BoardPort>(&mut self, port: &mut P)
+        requires stands { (rest : P.Rest) × (h : Journal) × P.stands port.old rest (port_log h) × Keeps self.old h × (owes_report h ≡ false) }
+        ensures goes_on { (rest : P.Rest) (h : Journal) → P.stands port.old rest (port_log h) → Keeps self.old h → owes_report h ≡ false
+            → (next : Journal) × P.stands port.new rest (port_log next) × Keeps self.new next × MayHaveTold h next }
+        ensures same { self.new ≡ record self.old { lines = self.new.lines } }
+    {
+        if self.lines.todo() != Todo::Tell {
+            return;
+        }
+        let reply = self.lines.reply();
+        if self.holds_back(reply) {
+            return;
+        }
+        let Ok(()) = port.answer(reply) else {
+            return;
+        };
+        self.lines.done();
     }
 
     /// Adds the moves that are next, or runs what is planned where they have no room.

@@ -1,6 +1,6 @@
 //! How a board tells status reports.
 
-ghost use Rattle.std.specs.Prelude.{◌≡◌, ◌≢◌, Bool, true};
+ghost use Rattle.std.specs.Prelude.{◌≡◌, ◌≢◌, Bool, true, cond, nat_lt};
 ghost use Rattle.std.specs.List.{list_any};
 ghost use Rattle.outside.specs.declared.Turn.TheVariants.{Did, Done};
 ghost use Rattle.flight.specs.Flights.{Flies};
@@ -8,6 +8,7 @@ ghost use Rattle.run_rules.specs.Reports.{has_room, shows_room};
 ghost use Rattle.board_rules.specs.Ports.{asks_report, asks_reset};
 ghost use Rattle.board_rules.specs.Steps.{Journal, port_log, published_of, known_of};
 ghost use Rattle.board_rules.specs.Turns.{this_turn, moving};
+ghost use Rattle.board_rules.specs.Conduct.{feed_of, shown_as};
 ghost use Rattle.controller.specs.declared.controller.Flags.{Flags as AnyFlags};
 ghost use Rattle.controller.specs.Boards.{Keeps};
 ghost use Rattle.controller.specs.Turning.{BoardWorked, WorksOn};
@@ -15,11 +16,14 @@ ghost use Rattle.controller.specs.Reporting.{HasAskedRoom, HasObserved, IsBehind
 
 use crate::controller::{Beat, Controller, Flags};
 use bitflags::Flags as _;
+use board_machine::Machine;
 use board_rules::BoardPort;
 use code_table::Exec;
+use feed_hold::Motion;
 use line_interpreter::Seen;
 use outside::{On, Turn};
-use status_report::{Reply, Report};
+use status_report::{Reply, Report, State};
+use units::isqrt;
 
 /// Whether a word of requests asks for a report.
 pub(crate) fn asks_report(word: Exec) -> bool
@@ -33,6 +37,32 @@ pub(crate) fn asks_reset(word: Exec) -> bool
     ensures { result ≡ asks_reset word }
 {
     word.contains(Exec::RESET)
+}
+
+/// The state, as reports tell it.
+fn shown(motion: Motion) -> State
+    ensures { result ≡ shown_as motion }
+{
+    match motion {
+        Motion::Idle => State::Idle,
+        Motion::Run => State::Run,
+        Motion::Holding | Motion::Stopping => State::Hold1,
+        Motion::Held => State::Hold0,
+        Motion::Jog | Motion::Cancelling => State::Jog,
+        Motion::Alarm => State::Alarm,
+    }
+}
+
+/// The feed, in mm per minute, by the speed behind the last segment that was given; 0 where each tick that was given is
+/// known to be done.
+fn feed(machine: &Machine, known: u64) -> u64
+    ensures { result ≡ cond (nat_lt known machine.now.given) (feed_of machine.now.plan.speed) 0 }
+{
+    if known < machine.given {
+        isqrt(u128::from(machine.plan.speed())) * 60 / 1000
+    } else {
+        0
+    }
 }
 
 impl Controller {
@@ -74,10 +104,10 @@ impl Controller {
         ensures told { (h : Journal) → Keeps self.now h → Flies self.now.flight (published_of h) (known_of h) → HasAskedRoom buffer h h → IsTold self.now result h }
     {
         self.lines.report(&Seen {
-            state: self.machine.shown(),
+            state: shown(self.machine.hold.motion),
             place: self.flight.place(),
             buffer,
-            feed: self.machine.feed(self.flight.known()),
+            feed: feed(&self.machine, self.flight.known()),
             overrides: self.machine.overrides,
         })
     }

@@ -116,6 +116,25 @@ is_stopping Cancelling = true
 is_stopping Stopping = true
 is_stopping _ = false
 
+-- moves or jogs are carried out
+abbrev pub is_going : Motion → Bool
+is_going Run = true
+is_going Jog = true
+is_going _ = false
+
+-- the motion is held, or slows down for that, or its jogs were cancelled
+abbrev pub is_halting : Motion → Bool
+is_halting Holding = true
+is_halting Held = true
+is_halting Cancelling = true
+is_halting _ = false
+
+-- a soft limit stops it, or has stopped it
+abbrev pub is_limited : Motion → Bool
+is_limited Stopping = true
+is_limited Alarm = true
+is_limited _ = false
+
 -- a word with this request came
 abbrev pub IsBy : ℕ → Call → Type 0
 IsBy byte call = (word : Exec) × (queued : Bool) × (call ≡ on_exec word queued) × (asks word byte ≡ true)

@@ -1,13 +1,11 @@
 -- What an accepted line gives to do.
-use Rattle.std.specs.Prelude.{ℕ, ◌/◌, ◌<◌, Bool, true, false, not, ◌&&◌, ◌||◌, ◌==◌, nat_lt, if◌then◌else◌, List, [], ◌∷◌, ◌++◌, nat_abs, unwrap_or, option_map}
-use Rattle.std.specs.List.{list_any}
+use Rattle.std.specs.Prelude.{ℕ, ◌/◌, ◌<◌, Bool, true, false, not, ◌&&◌, ◌||◌, ◌==◌, if◌then◌else◌, List, [], ◌∷◌, ◌++◌, nat_abs, unwrap_or, option_map}
 use Rattle.units.specs.declared.Steps3.{Steps3}
 use Rattle.units.specs.declared.Rate.{Rate}
 use Rattle.units.specs.declared.Rate.TheVariants.{Rapid, Feed}
 use Rattle.units.specs.declared.Move.{Move as Way}
 use Rattle.units.specs.Lengths.{IsMove}
 use Rattle.units.specs.Limits.{IsRate}
-use Rattle.step_line.specs.Counting.{events_of}
 use Rattle.gcode_words.specs.declared.Word.{Word}
 use Rattle.code_table.specs.Tables.{code}
 use Rattle.modal_state.specs.declared.SpindleMode.{SpindleMode}

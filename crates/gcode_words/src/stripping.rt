@@ -33,7 +33,7 @@ pub enum Stripped {
 }
 
 /// The kind of comment that a line is in, if any.
-#[derive(Clone, Copy, Debug, PartialEq, Eq)]
+#[derive(Clone, Copy, PartialEq, Eq)]
 enum Comment {
     Outside,
     Paren,

@@ -1,8 +1,1 @@
-pub mod Stops
-pub mod Halting
-pub mod Endings
 pub mod Tasks
-pub mod Accepted
-pub mod Demos
-pub mod Scanning
-pub mod Statuses

@@ -1,13 +1,13 @@
 //! The demo: the generated job is run in lockstep, and one line tells of it.
 
 ghost use Rattle.std.specs.Prelude.{◌≡◌, ◌≤◌, IfOk, OnErr};
-ghost use Rattle.grbl_app.specs.Demos.{IsDemo};
+ghost use Rattle.run_status.specs.Demos.{IsDemo};
 
-use crate::status::{Status, status_of};
+use actor_turns::run_in_lockstep;
 use demo_job::{Answers, DemoJob, NoConsole, tell_summary};
 use outside::{OutOfMemory, Sink};
-use run_core::run_in_lockstep;
 use run_law::RunEnd;
+use run_status::{Status, status_of};
 use std::alloc::Global;
 use std::sync::Wait;
 

@@ -6,22 +6,21 @@ ghost use Rattle.outside.specs.Causes.{Rose};
 ghost use Rattle.run_law.specs.Complete.{IsAcceptedJob};
 ghost use Rattle.command_line.specs.Command.{Asks, Refuses};
 ghost use Rattle.command_line.specs.declared.Task.TheVariants as tasks;
-ghost use Rattle.grbl_app.specs.Demos.{IsDemo};
-ghost use Rattle.grbl_app.specs.Statuses.{HasItsCause, CanFail, AreOne, TellsFaults};
-ghost use Rattle.grbl_app.specs.Ends.{EndsWith, IsWhole, IsWholeRun, IsHaltedRun, IsFaultless, TookMore, HasLongLine, HasReset, HasNotBegun, HasRun, HasCauses};
+ghost use Rattle.run_status.specs.Demos.{IsDemo};
+ghost use Rattle.run_status.specs.Statuses.{HasItsCause, CanFail, AreOne, TellsFaults};
+ghost use Rattle.run_status.specs.Ends.{EndsWith, IsWhole, IsWholeRun, IsHaltedRun, IsFaultless, TookMore, HasLongLine, HasReset, HasNotBegun, HasRun, HasCauses};
 
 mod demo;
 mod runs;
-mod status;
 
 pub use command_line::accepted_words;
 use command_line::{Task, WordsFault, read_words};
 use demo::run_demo;
 pub use demo_job::demo_line;
 use outside::{Gate, OutOfMemory, Sink, Source};
+use run_status::status_of;
+pub use run_status::{Status, exit_number, put_fault};
 use runs::run_job;
-use status::status_of;
-pub use status::{Status, exit_number, put_fault};
 use std::alloc::Global;
 use std::sync::Wait;
 use std::thread::Threads;

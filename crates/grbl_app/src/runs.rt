@@ -3,11 +3,13 @@
 ghost use Rattle.std.specs.Prelude.{◌≡◌, IfOk, OnErr};
 ghost use Rattle.run_law.specs.Devices.{devices, HasRun};
 
+use actor_turns::run_in_lockstep;
 use outside::{Gate, OutOfMemory, Sink, Source};
-use run_core::{RunEnd, run_in_lockstep, run_in_threads};
+use run_law::RunEnd;
 use std::alloc::Global;
 use std::sync::Wait;
 use std::thread::Threads;
+use thread_rig::run_in_threads;
 
 /// Runs a job: in lockstep where a seed gives the order of the turns, else in four threads.
 pub(crate) fn run_job<

@@ -2,7 +2,7 @@
 use Rattle.std.proofs.Common.{◌≡◌, ℕ, true, false, min, ℤ, pos, neg_ℤ, int_lt, refl, sym, ap}
 use Rattle.line_geom.specs.declared.Geom.{Geom}
 use Rattle.line_geom.specs.declared.Cap.TheVariants.{At, Free}
-use Rattle.junction_speed.specs.Junctions.{turn_of, cap_at, corner_of, sine_of, junction_of}
+use Rattle.line_geom.specs.Junctions.{turn_of, cap_at, corner_of, sine_of, junction_of}
 
 pub cap_back : (c : ℤ) (a d : ℕ) → int_lt (pos 999999) c ≡ true → cap_at c a d ≡ At 0
 cap_back c a d back = rw back refl

@@ -15,7 +15,7 @@ use Rattle.units.specs.Counting.{way}
 use Rattle.line_geom.specs.Geometry.{axis_length, IsGeomOf, line_length}
 use Rattle.line_geom.proofs.Squares.{root_below}
 use Rattle.line_geom.proofs.Geometries.{bounded, unit_size}
-use Rattle.junction_speed.specs.Junctions.{turn_of, sine_of, corner_of, cap_at, junction_of, squared_length, IsReversed}
+use Rattle.line_geom.specs.Junctions.{turn_of, sine_of, corner_of, cap_at, junction_of, squared_length, IsReversed}
 use Rattle.junction_speed.proofs.Caps.{cap_back, cap_corner}
 
 turn_swapped : (p n : Geom) → turn_of p n ≡ turn_of n p

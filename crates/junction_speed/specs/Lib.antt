@@ -1,1 +1,1 @@
-pub mod Junctions
+pub use Rattle.line_geom.specs.Junctions

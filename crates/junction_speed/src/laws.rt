@@ -5,7 +5,7 @@ ghost use Rattle.units.specs.declared.Move.{Move};
 ghost use Rattle.line_geom.specs.declared.Geom.{Geom};
 ghost use Rattle.line_geom.specs.declared.Cap.TheVariants.{At};
 ghost use Rattle.line_geom.specs.Geometry.{IsGeomOf};
-ghost use Rattle.junction_speed.specs.Junctions.{junction_of, squared_length, IsReversed};
+ghost use Rattle.line_geom.specs.Junctions.{junction_of, squared_length, IsReversed};
 
 /// Two moves have the same cap in either order.
 pub fn same_in_either_order()

@@ -4,7 +4,7 @@
 ghost use Rattle.std.specs.Prelude.{◌≡◌, ◌+◌, ◌-◌, ◌*◌, ◌/◌, ◌≤◌, ◌<◌, min, nat_abs, ◌≤ℤ◌, pos, neg_ℤ, ◌-ℤ◌, ◌*ℤ◌, ◌+ℤ◌};
 ghost use Rattle.std.specs.Int.{int_div_euclid};
 ghost use Rattle.units.specs.Roots.{root_of};
-ghost use Rattle.junction_speed.specs.Junctions.{turn_of, corner_of, junction_of};
+ghost use Rattle.line_geom.specs.Junctions.{turn_of, corner_of, junction_of};
 
 pub mod laws;
 

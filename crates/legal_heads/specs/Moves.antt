@@ -5,7 +5,7 @@ use Rattle.units.specs.Limits.{IsRate, IsLimits}
 use Rattle.step_line.specs.Counting.{events_of}
 use Rattle.line_geom.specs.declared.Geom.{Geom}
 use Rattle.line_geom.specs.Geometry.{geometry}
-use Rattle.junction_speed.specs.Junctions.{junction_of}
+use Rattle.line_geom.specs.Junctions.{junction_of}
 use Rattle.line_geom.specs.Caps.{under, squared}
 use Rattle.step_line.specs.declared.planned_move.PlannedMove.{PlannedMove}
 

@@ -298,17 +298,7 @@ no_tasks n [] e = omega arith
 no_tasks zero (t ∷ w) e = absurd cc
 no_tasks (suc n) (t ∷ w) e = let i = no_tasks n w e in omega (arith, i)
 
--- an item whose tasks are all done, or not
-pub item_done : (line : ℕ) (s : State) (spindle : SpindleMode) (flood : Bool) (all : List Item) (place k count : ℕ) (item : Item) → slice_get all place ≡ Some item
-    → length (item_work line s.settings spindle flood item) ≡ count → count ≤ k → drop k (part Items line s spindle flood (drop place all)) ≡ []
-item_done line s spindle flood [] place k count item e many done = absurd cc
-item_done line s spindle flood (x ∷ all) zero k count item e many done =
-    let same : item ≡ x = cc in
-    let size = ap (λ (y : Item). length (item_work line s.settings spindle flood y)) same in
-    let few : length (item_work line s.settings spindle flood x) ≤ k = omega (arith, done, many, size) in
-    drop_all k (item_work line s.settings spindle flood x) few
-item_done line s spindle flood (x ∷ all) (suc place) k count item e many done = item_done line s spindle flood all place k count item e many done
-
+-- an item one of whose tasks is left
 item_open : (line : ℕ) (s : State) (spindle : SpindleMode) (flood : Bool) (all : List Item) (place k count : ℕ) (item : Item) → slice_get all place ≡ Some item
     → length (item_work line s.settings spindle flood item) ≡ count → k < count → drop k (part Items line s spindle flood (drop place all)) ≡ [] → ⊥
 item_open line s spindle flood [] place k count item e many open_task none = absurd cc

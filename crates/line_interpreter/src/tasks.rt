@@ -62,7 +62,7 @@ pub enum Todo {
 }
 
 /// What a line asks for, as a whole.
-#[derive(Clone, Copy, PartialEq, Eq)]
+#[derive(Clone, Copy)]
 pub(crate) enum Body {
     /// The banner, before the first line.
     Opening,
@@ -422,7 +422,7 @@ impl Line {
         ensures done { result ≡ true → (s : AnyState) → IsSettled self.now s → work_left self.now s ≡ [] }
         ensures going { result ≡ false → (s : AnyState) → work_left self.now s ≡ [] → ⊥ }
     {
-        if self.body == Body::Items && self.items.len() <= self.place {
+        if matches!(self.body, Body::Items) && self.items.len() <= self.place {
             return self.stage > 0;
         }
         matches!(self.part_todo(), Todo::Nothing)
@@ -485,7 +485,7 @@ impl Line {
         ensures place { result ≡ true → self.now.place < length self.now.items.items }
         ensures settled { result ≡ false → (s : AnyState) → IsSettled self.now s }
     {
-        if self.body != Body::Items {
+        if !matches!(self.body, Body::Items) {
             return false;
         }
         match self.items.as_slice().get(self.place) {

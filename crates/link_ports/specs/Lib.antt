@@ -1,3 +1,4 @@
 pub mod Hosts
 pub mod Boards
 pub mod Standing
+pub mod HostSides

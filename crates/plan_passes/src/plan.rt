@@ -1,6 +1,6 @@
 //! The plan.
 
-ghost use Rattle.std.specs.Prelude.{◌≡◌, ◌≢◌, ◌<◌, ◌≤◌, ◌-◌, ◌+◌, ◌*◌, List, ◌∷◌, length, IsTrue};
+ghost use Rattle.std.specs.Prelude.{◌≡◌, ◌≢◌, ◌↔◌, ◌<◌, ◌≤◌, ◌-◌, ◌+◌, ◌*◌, List, ◌∷◌, length, true};
 ghost use Rattle.std.specs.List.{All};
 ghost use Rattle.line_geom.specs.declared.Block.{Block};
 ghost use Rattle.profile.specs.Profiles.{distance};
@@ -118,7 +118,7 @@ fn pace_behind(kept: &mut Pace, gap: u128)
 /// Whether the squared speed may change so far over a gap.
 #[inline]
 fn within_reach(w: u64, exit: u64, gap: u128) -> bool
-    ensures { IsTrue result → distance w exit ≤ gap }
+    ensures { (result ≡ true) ↔ distance w exit ≤ gap }
 {
     w.abs_diff(exit) as u128 <= gap
 }
@@ -126,7 +126,7 @@ fn within_reach(w: u64, exit: u64, gap: u128) -> bool
 /// Whether a block of which more events are left than a pace has goes on at it, where the planned speed at its end is this.
 fn goes_on(b: &Block, pace: Pace, exit: u64) -> bool
     requires { IsBlock b.now }
-    ensures { IsTrue result → (pace.n < left_of b.now) × (pace.w ≤ exit + b.now.geom.q * (left_of b.now - pace.n)) }
+    ensures { (result ≡ true) ↔ (pace.n < left_of b.now) × (pace.w ≤ exit + b.now.geom.q * (left_of b.now - pace.n)) }
 {
     let left = b.geom.n - b.prepared;
     if left <= pace.n {

@@ -3,7 +3,7 @@ use Rattle.std.specs.Prelude.{◌≡◌, ℕ, ◌-◌, ◌<◌, ◌≤◌, nat_e
 use Rattle.std.specs.List.{All}
 use Rattle.line_geom.specs.declared.Cap.{Cap}
 use Rattle.line_geom.specs.declared.Cap.TheVariants.{At}
-use Rattle.junction_speed.specs.Junctions.{junction_of}
+use Rattle.line_geom.specs.Junctions.{junction_of}
 use Rattle.line_geom.specs.declared.Block.{Block}
 use Rattle.overrides.specs.declared.Overrides.{Overrides}
 use Rattle.overrides.specs.Percents.{IsOverrides}

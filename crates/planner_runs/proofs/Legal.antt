@@ -13,7 +13,7 @@ use Rattle.step_line.specs.Events.{events_after}
 use Rattle.step_line.specs.Pieces.{head_of}
 use Rattle.line_geom.specs.declared.Geom.{Geom}
 use Rattle.line_geom.specs.declared.Cap.{Cap}
-use Rattle.junction_speed.specs.Junctions.{junction_of}
+use Rattle.line_geom.specs.Junctions.{junction_of}
 use Rattle.line_geom.specs.declared.Block.{Block}
 use Rattle.overrides.specs.declared.Overrides.{Overrides}
 use Rattle.profile.specs.Profiles.{distance}

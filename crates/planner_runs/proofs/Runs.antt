@@ -12,7 +12,7 @@ use Rattle.step_line.specs.Asking.{move_of, moves_of, ticks_of_one, ticks_of_all
 use Rattle.line_geom.specs.declared.Geom.{Geom}
 use Rattle.line_geom.specs.Geometry.{IsGeom, IsGeomOf}
 use Rattle.line_geom.proofs.Geometries.{geometry_is, geometry_has}
-use Rattle.junction_speed.specs.Junctions.{junction_of}
+use Rattle.line_geom.specs.Junctions.{junction_of}
 use Rattle.line_geom.specs.declared.Block.{Block}
 use Rattle.overrides.specs.declared.Overrides.{Overrides}
 use Rattle.overrides.specs.Percents.{IsOverrides}

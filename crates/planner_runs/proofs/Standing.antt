@@ -1,6 +1,6 @@
 -- The moves whose blocks stand in a plan.
 use Rattle.std.proofs.Common.{◌≡◌, ◌+◌, ◌-◌, ℕ, List, [], ◌∷◌, ◌++◌, length, get_or, refl, ap, ◌∙◌, arith}
-use Rattle.junction_speed.specs.Junctions.{junction_of}
+use Rattle.line_geom.specs.Junctions.{junction_of}
 use Rattle.line_geom.specs.declared.Block.{Block}
 use Rattle.plan_rules.specs.Plans.{entered}
 use Rattle.step_line.specs.declared.planned_move.PlannedMove.{PlannedMove}

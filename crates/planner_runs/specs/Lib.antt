@@ -1,3 +1,4 @@
 pub mod Runs
+pub mod Moving
 pub mod Driven
 pub mod Halted

@@ -1,6 +1,7 @@
 -- Planner runs: what is done to a plan, and the pieces that it gives.
-use Rattle.std.specs.Prelude.{◌≡◌, ℕ, ◌<◌, Bool, true, List, [], ◌∷◌, ◌++◌, length, map}
+use Rattle.std.specs.Prelude.{◌≡◌, ℕ, ◌<◌, Bool, true, false, List, [], ◌∷◌, ◌++◌, length, map}
 use Rattle.std.specs.List.{flat_map, AllByRecursion}
+use Rattle.step_line.specs.declared.Mark.TheVariants as marks
 use Rattle.step_line.specs.declared.Piece.{Piece}
 use Rattle.step_line.specs.declared.Piece.TheVariants as pieces
 use Rattle.step_line.specs.declared.Record.{Record}
@@ -44,6 +45,11 @@ with_move p m = added p (block_of m) m.deviation p.overrides
 -- all blocks of a plan are taken away, and it is at rest
 abbrev pub cleared : Planned → Planned
 cleared p = record p { blocks = []; speed = 0 }
+
+-- a piece marks a cut
+abbrev pub marks_cut : Piece → Bool
+marks_cut (pieces.Mark (marks.Cut k)) = true
+marks_cut p = false
 
 -- the controller's plan has at most so many blocks
 abbrev pub most_blocks : ℕ

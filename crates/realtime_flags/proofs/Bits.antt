@@ -116,3 +116,10 @@ named_high bit above low = omega (arith, low)
 pub same_power : (j k : ℕ) → 2 ^ j ≡ 2 ^ k → j ≡ k
 same_power j k e = by_bool (nat_eq j k) (λ t. same_place j k t) (λ f. let z : bit_at (2 ^ k) j ≡ 0 = bit_at-pow_other k j (other_place j k f) in
     let o : bit_at (2 ^ k) j ≡ 1 = ap (λ n. bit_at n j) (sym e) ∙ bit_at-pow_same j in absurd (omega arith))
+
+-- a count that goes up where one test holds is at most one that goes up where another does, if that holds where the first does
+pub one_more : (a t : Bool) (n q : ℕ) → (a ≡ true → t ≡ true) → n ≤ q → cond a (n + 1) n ≤ cond t (q + 1) q
+one_more true true n q same le = omega arith
+one_more true false n q same le = absurd (let s : false ≡ true = same refl in cc)
+one_more false true n q same le = omega arith
+one_more false false n q same le = le

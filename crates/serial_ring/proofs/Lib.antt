@@ -3,3 +3,4 @@ pub mod Bytes
 pub mod Replies
 pub mod Frames
 pub mod Steps
+pub mod Turned

@@ -1,4 +1,4 @@
-//! What the rules of rings that two threads share have in common: rights, slots, places.
+//! What the rules of rings that two threads share have in common: rights, slots, places; and how a thread waits.
 //!
 //! A rule of a table of `atomic_table` often says that one seat alone may do something, and that its view has what was
 //! done so far. The lemmas of `proofs/` carry this through steps, splits and joins.
@@ -6,6 +6,10 @@
 
 ghost use Rattle.std.specs.Prelude.{◌≡◌, ℕ, ◌+◌, ◌%◌, ◌<◌, Bool, true, List, slice_set};
 ghost use Rattle.shared_rings.specs.Rights.{Sole};
+
+mod waits;
+
+pub use waits::is_last;
 
 /// The place after another, of so many in a circle.
 #[inline]

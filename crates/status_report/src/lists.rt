@@ -19,40 +19,42 @@ pub const SETTING_REPLIES: usize = 15;
 /// How many replies `$#` lists.
 pub const OFFSET_REPLIES: usize = 11;
 
-/// The reply that lists a setting.
-fn setting(n: u16, value: u32) -> Reply
-    ensures { result ≡ Reply.Setting n value }
+/// The number of the setting at a place, from 0, among those that `$$` lists, and its value.
+#[tactic(auto, unfolding(crate::specs::Lists::setting_replies))]
+fn setting_at(settings: &Settings, place: usize) -> (u16, u32)
+    requires { place < SETTING_REPLIES }
+    ensures { slice_get (setting_replies settings.now) place ≡ Some (Reply.Setting result.0 result.1) }
 {
-    Reply::Setting {
-        n,
-        value: u64::from(value),
+    match place {
+        0 => (10, u32::from(settings.report)),
+        1 => (11, settings.deviation),
+        2 => (20, u32::from(settings.soft)),
+        3 => (100, settings.limits.per_mm.x),
+        4 => (101, settings.limits.per_mm.y),
+        5 => (102, settings.limits.per_mm.z),
+        6 => (110, settings.limits.rate.x),
+        7 => (111, settings.limits.rate.y),
+        8 => (112, settings.limits.rate.z),
+        9 => (120, settings.limits.accel.x),
+        10 => (121, settings.limits.accel.y),
+        11 => (122, settings.limits.accel.z),
+        12 => (130, settings.travel.x),
+        13 => (131, settings.travel.y),
+        _ => (132, settings.travel.z),
     }
 }
 
 /// The reply at a place, from 0, among those that `$$` lists: each setting, in the order of the numbers.
-#[tactic(auto, unfolding(crate::specs::Lists::setting_replies))]
 pub fn setting_reply(settings: &Settings, place: usize) -> Reply
     requires { place < SETTING_REPLIES }
     ensures listed { slice_get (setting_replies settings.now) place ≡ Some result }
     ensures valid { IsReply result }
     ensures plain { is_report result ≡ false }
 {
-    match place {
-        0 => setting(10, u32::from(settings.report)),
-        1 => setting(11, settings.deviation),
-        2 => setting(20, u32::from(settings.soft)),
-        3 => setting(100, settings.limits.per_mm.x),
-        4 => setting(101, settings.limits.per_mm.y),
-        5 => setting(102, settings.limits.per_mm.z),
-        6 => setting(110, settings.limits.rate.x),
-        7 => setting(111, settings.limits.rate.y),
-        8 => setting(112, settings.limits.rate.z),
-        9 => setting(120, settings.limits.accel.x),
-        10 => setting(121, settings.limits.accel.y),
-        11 => setting(122, settings.limits.accel.z),
-        12 => setting(130, settings.travel.x),
-        13 => setting(131, settings.travel.y),
-        _ => setting(132, settings.travel.z),
+    let (n, value) = setting_at(settings, place);
+    Reply::Setting {
+        n,
+        value: u64::from(value),
     }
 }
 

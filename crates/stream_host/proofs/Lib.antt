@@ -18,3 +18,4 @@ pub mod Reporting
 pub mod Example
 pub mod AlarmExample
 pub mod Running
+pub mod Queries

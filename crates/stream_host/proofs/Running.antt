@@ -130,3 +130,16 @@ tells_nothing job = record { taken = nothing_taken job.left; at_end = λ e. absu
 
 pub shows_nothing : (console : SinkState) → TellsConsole [] console console
 shows_nothing console = record { front = []; back = []; whole = refl; held = Appends-nil console.held; all = λ e. refl; same = λ e. refl; later = omega arith; cause = λ e. absurd cc }
+
+-- nor is anything waiting in the text of a host that has done nothing
+pub new_shows_nothing : (host : Host) (now : SinkState) → HostFits host [] → TellsText host.text [] now now
+new_shows_nothing host now f = let failed = f.text_is.failed_is in record {
+  front = [];
+  back = [];
+  whole = refl;
+  held = Appends-nil now.held;
+  all = λ e. sym (f.text_is.waits e);
+  same = λ e. refl;
+  later = omega arith;
+  cause = λ e. absurd cc;
+}

@@ -6,6 +6,7 @@ pub mod Conduct
 pub mod Ports
 pub mod Hosts
 pub mod Ran
+pub mod Raises
 pub use Rattle.run_rules.specs.Lines
 pub use Rattle.run_rules.specs.Readings
 pub use Rattle.run_rules.specs.Told

@@ -1,12 +1,12 @@
 use Rattle.std.proofs.Common.{◌≡◌, ap, inl, inr, map, refl, subst, sym}
 use Rattle.command_line.specs.Command.{Asks}
 use Rattle.command_line.specs.declared.Task.TheVariants as tasks
-use Rattle.grbl_app.specs.Demos.{IsDemo}
+use Rattle.run_status.specs.Demos.{IsDemo}
 use Rattle.grbl_app.proofs.Tasks.{no_stream, same_moves}
-use Rattle.grbl_app.specs.Ends.{HasRun}
-use Rattle.grbl_app.proofs.Demos.{demo_causes, has_begun}
-use Rattle.grbl_app.proofs.Statuses.{one_cause, tells_faults, demo_tells_faults}
-use Rattle.grbl_app.specs.declared.status.Status.TheVariants.{Usage, OutOfMemory}
+use Rattle.run_status.specs.Ends.{HasRun}
+use Rattle.run_status.proofs.Demos.{demo_causes, has_begun}
+use Rattle.run_status.proofs.Statuses.{one_cause, tells_faults, demo_tells_faults}
+use Rattle.run_status.specs.declared.Status.TheVariants.{Usage, OutOfMemory}
 use Rattle.grbl_app.proofs.run_grbl.Goals as goal
 
 not_usage : {A : Type 0} → OutOfMemory ≡ Usage → A

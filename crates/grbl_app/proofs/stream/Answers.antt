@@ -1,5 +1,5 @@
-use Rattle.grbl_app.proofs.Endings.{has_causes}
-use Rattle.grbl_app.proofs.Statuses.{has_its_cause}
+use Rattle.run_status.proofs.Endings.{has_causes}
+use Rattle.run_status.proofs.Statuses.{has_its_cause}
 use Rattle.grbl_app.proofs.stream.Goals as goal
 
 pub returns-clause-run : goal.returns-clause-run

@@ -4,7 +4,7 @@ use mir.Syntax.{w128}
 use mir.Val.{SFits}
 use Rattle.units.specs.Roots.{root_of}
 use Rattle.line_geom.specs.declared.Cap.TheVariants.{At}
-use Rattle.junction_speed.specs.Junctions.{corner_of, sine_of}
+use Rattle.line_geom.specs.Junctions.{corner_of, sine_of}
 use Rattle.junction_speed.proofs.Caps.{cap_back, cap_on, cap_corner, junction_at}
 use Rattle.junction_speed.proofs.junction.Goals as goal
 

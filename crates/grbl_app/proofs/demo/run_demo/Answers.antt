@@ -4,9 +4,9 @@ use Rattle.std.specs.Result.{is_ok, is_err}
 use Rattle.std.proofs.Common.{List, ℕ}
 use Rattle.outside.specs.Writing.{Took}
 use Rattle.run_law.specs.Runs.{IsRun}
-use Rattle.grbl_app.specs.Demos.{generated, keeps_nothing}
-use Rattle.grbl_app.proofs.Accepted.{runs_whole}
-use Rattle.grbl_app.proofs.Demos.{well_ended, told_whole}
+use Rattle.run_status.specs.Demos.{generated, keeps_nothing}
+use Rattle.run_status.proofs.Accepted.{runs_whole}
+use Rattle.run_status.proofs.Demos.{well_ended, told_whole}
 use Rattle.grbl_app.proofs.demo.run_demo.Goals as goal
 
 errs : {A B : Type 0} (r : Result A B) → is_err r ≡ not (is_ok r)

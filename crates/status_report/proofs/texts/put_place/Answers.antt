@@ -23,3 +23,32 @@ returns-clause-short c = λ near.
     let ys : length (fixed3 at.y) ≤ 15 = fixed_short at.y near.y in
     let zs : length (fixed3 at.z) ≤ 15 = fixed_short at.z near.z in
     omega (arith, xs, ys, zs, c.append.ensures.room, c.append-2.ensures.room, simp length-append at (ap length x), simp length-append at (ap length y), simp length-append at (ap length z))
+
+pub append-requires : goal.append-requires
+append-requires c =
+    let l1 = simp length-append at (ap length c.put_fixed3.ensures.text) in
+    omega (arith, c.put_fixed3.ensures.short, l1)
+
+pub put_fixed3-requires-2 : goal.put_fixed3-requires-2
+put_fixed3-requires-2 c =
+    let l1 = simp length-append at (ap length c.put_fixed3.ensures.text) in
+    omega (arith, c.put_fixed3.ensures.short, l1, c.append.ensures.room)
+
+pub append-requires-2 : goal.append-requires-2
+append-requires-2 c =
+    let l1 = simp length-append at (ap length c.put_fixed3.ensures.text) in
+    let l2 = simp length-append at (ap length c.put_fixed3-2.ensures.text) in
+    omega (arith, c.put_fixed3.ensures.short, c.put_fixed3-2.ensures.short, l1, l2, c.append.ensures.room)
+
+pub put_fixed3-requires-3 : goal.put_fixed3-requires-3
+put_fixed3-requires-3 c =
+    let l1 = simp length-append at (ap length c.put_fixed3.ensures.text) in
+    let l2 = simp length-append at (ap length c.put_fixed3-2.ensures.text) in
+    omega (arith, c.put_fixed3.ensures.short, c.put_fixed3-2.ensures.short, l1, l2, c.append.ensures.room, c.append-2.ensures.room)
+
+pub returns-clause-len : goal.returns-clause-len
+returns-clause-len c =
+    let l1 = simp length-append at (ap length c.put_fixed3.ensures.text) in
+    let l2 = simp length-append at (ap length c.put_fixed3-2.ensures.text) in
+    let l3 = simp length-append at (ap length c.put_fixed3-3.ensures.text) in
+    omega (arith, c.put_fixed3.ensures.short, c.put_fixed3-2.ensures.short, c.put_fixed3-3.ensures.short, l1, l2, l3, c.append.ensures.room, c.append-2.ensures.room)

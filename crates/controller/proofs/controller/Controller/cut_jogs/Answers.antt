@@ -3,7 +3,7 @@ use Rattle.flight.specs.Flights.{Flies}
 use Rattle.modal_state.specs.Modes.{rebased}
 use Rattle.board_rules.specs.Steps.{published_of, known_of, given_of, plan_of, motion_of}
 use Rattle.controller.specs.declared.controller.Controller.{Controller}
-use Rattle.controller.specs.Machines.{Runs}
+use Rattle.board_machine.specs.Machines.{Runs}
 use Rattle.line_interpreter.specs.Interpreting.{Interpreting}
 use Rattle.controller.proofs.Known.{few_ticks}
 use Rattle.controller.proofs.Stopping.{cut_number, less_one, cut_behind}

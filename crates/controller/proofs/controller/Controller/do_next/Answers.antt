@@ -1,6 +1,12 @@
 use Rattle.controller.proofs.Ends.{may_run}
 use Rattle.controller.proofs.Nexts.{finish_next, some_next}
-use Rattle.run_rules.specs.Work.Task.{finish}
+use Rattle.run_rules.specs.Work.Task.{finish, ask, pause}
+use Rattle.step_line.specs.Asking.Asked.{a_move}
+use Rattle.board_rules.specs.Turns.{awaits_motion}
+use Rattle.std.proofs.Common.{ap, sym, subst}
+use Rattle.controller.specs.declared.controller.Flags.{Flags}
+use Rattle.controller.specs.Turning.{BoardWorked}
+use Rattle.controller.proofs.Steps.{is_next}
 use Rattle.controller.proofs.controller.Controller.do_next.Goals as goal
 
 pub finish-requires-clause-stands : goal.finish-requires-clause-stands
@@ -31,3 +37,26 @@ returns-in-Tell-clause-goes_on g c = λ rest h stands keeps ready goes needs. c.
 
 pub returns-in-Mark-clause-goes_on : goal.returns-in-Mark-clause-goes_on
 returns-in-Mark-clause-goes_on g c = λ rest h stands keeps ready goes needs. c.mark.ensures.goes_on rest h stands keeps ready
+
+pub go-requires-clause-stands : goal.go-requires-clause-stands
+go-requires-clause-stands g c =
+    let r = c.requires.stands in
+    let m = c.in-Move.ensures in
+    (r.0, r.1, r.2, r.3, r.4, r.5, (m.0, is_next c.args.self.now r.1 (ask (a_move m.0)) r.3 m.1))
+
+pub returns-in-Move-clause-goes_on : goal.returns-in-Move-clause-goes_on
+returns-in-Move-clause-goes_on g c = λ rest h stands keeps ready goes needs.
+    let m = c.in-Move.ensures in
+    c.go.ensures.goes_on rest h stands keeps ready goes (m.0, is_next c.args.self.now h (ask (a_move m.0)) keeps m.1)
+
+pub pause-requires-clause-stands : goal.pause-requires-clause-stands
+pause-requires-clause-stands g c =
+    let r = c.requires.stands in
+    let next = is_next c.args.self.now r.1 pause r.3 c.in-Pause.ensures in
+    (r.1, r.3, r.4, (r.6 (ap awaits_motion next)).0, next)
+
+pub returns-in-Pause-clause-goes_on : goal.returns-in-Pause-clause-goes_on
+returns-in-Pause-clause-goes_on g c = λ rest h stands keeps ready goes needs.
+    let next = is_next c.args.self.now h pause keeps c.in-Pause.ensures in
+    let n = c.pause.ensures.goes_on h keeps ready (needs (ap awaits_motion next)).0 next in
+    (n.0, rw n.1 stands, subst (λ (f : Flags). BoardWorked c.pause.result f c.pause.new.self h n.0) (sym c.requires.flags) n.2)

@@ -2,11 +2,11 @@ use Rattle.std.proofs.Common.{◌∷◌, subst, inl}
 use Rattle.step_line.specs.declared.Piece.TheVariants as pieces
 use Rattle.board_rules.specs.Steps.{hand_of, plan_of, motion_of, given_of}
 use Rattle.board_rules.specs.Steps.Step.{made_end}
-use Rattle.controller.specs.Machines.{Runs}
+use Rattle.board_machine.specs.Machines.{Runs}
 use Rattle.controller.proofs.Steps.{ended}
-use Rattle.controller.proofs.Lasts.{closes_at_end}
+use Rattle.board_rules.proofs.Lasts.{closes_at_end}
 use Rattle.controller.proofs.Ends.{works_passed}
-use Rattle.controller.proofs.Tries.{passes_end}
+use Rattle.board_rules.proofs.Tries.{passes_end}
 use Rattle.controller.proofs.Nexts.{may_run_ended, none_behind}
 use Rattle.controller.proofs.controller.Controller.finish.Goals as goal
 

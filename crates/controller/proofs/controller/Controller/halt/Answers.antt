@@ -26,3 +26,9 @@ await_stop-requires-clause-stands g c =
 pub returns-clause-goes_on : goal.returns-clause-goes_on
 returns-clause-goes_on g c rest h stands k halted =
     c.await_stop.ensures.goes_on rest h stands k halted (λ piece. absurd (let e = sym c.if-has_piece.false ∙ (c.has_piece.ensures h k).1 piece in cc))
+
+pub await_resume-requires-clause-held : goal.await_resume-requires-clause-held
+await_resume-requires-clause-held g c = c.is_held.ensures.0 c.if-is_held.true
+
+pub await_stop-requires-clause-slows : goal.await_stop-requires-clause-slows
+await_stop-requires-clause-slows g c = λ held. absurd (let e = sym c.if-is_held.false ∙ c.is_held.ensures.1 held in cc)

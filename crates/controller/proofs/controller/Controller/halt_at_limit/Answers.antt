@@ -6,13 +6,13 @@ use Rattle.run_rules.specs.Work.Task.{halt}
 use Rattle.controller.specs.declared.controller.Controller.{Controller}
 use Rattle.controller.specs.declared.controller.Flags.{Flags}
 use Rattle.controller.specs.Turning.{HasPiece, WorksOn}
-use Rattle.controller.proofs.Alarms.{halting_left}
+use Rattle.board_rules.proofs.Stages.{halting_left}
 use Rattle.controller.proofs.Ends.{may_run, works_passed}
 use Rattle.controller.proofs.Limiting.{alarm_next, at_limit, waits_at_limit, ready_halted}
 use Rattle.controller.proofs.Nexts.{some_next}
 use Rattle.controller.proofs.Standing.{done_all}
 use Rattle.controller.proofs.Steps.{looked}
-use Rattle.controller.proofs.Tries.{passes_load, passes_on}
+use Rattle.board_rules.proofs.Tries.{passes_load, passes_on}
 use Rattle.controller.proofs.controller.Controller.halt_at_limit.Goals as goal
 
 pub run-requires-clause-stands : goal.run-requires-clause-stands

@@ -5,7 +5,7 @@ use Rattle.line_interpreter.specs.declared.tasks.Todo.TheVariants as todo
 use Rattle.feed_hold.specs.Motions.Call.{on_limit}
 use Rattle.board_rules.specs.Steps.{hand_of, given_of, plan_of, motion_of}
 use Rattle.board_rules.specs.Steps.Step.{began, became}
-use Rattle.controller.specs.Machines.{limit_motion}
+use Rattle.board_machine.specs.Machines.{limit_motion}
 use Rattle.controller.proofs.Begins.{begun, begun_limited, machine_judged, may_limit}
 use Rattle.controller.proofs.controller.Controller.judge.Goals as goal
 

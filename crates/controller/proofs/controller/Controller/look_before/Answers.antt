@@ -4,7 +4,7 @@ use Rattle.board_rules.specs.Steps.{port_log}
 use Rattle.board_rules.specs.Steps.Step.{at_port}
 use Rattle.controller.proofs.Known.{in_hand}
 use Rattle.controller.proofs.Settling.{looked_learned}
-use Rattle.controller.proofs.CutMarks.{other_timely, timely_looked}
+use Rattle.board_rules.proofs.CutMarks.{other_timely, timely_looked}
 use Rattle.controller.proofs.controller.Controller.look_before.Goals as goal
 
 pub returns-then-needs_look-clause-goes_on : goal.returns-then-needs_look-clause-goes_on

@@ -1,6 +1,6 @@
-use Rattle.std.proofs.Common.{◌≡◌, true, false, sym, ◌∙◌}
-use Rattle.board_rules.specs.Turns.{is_full, is_halting, needs_motion}
-use Rattle.controller.proofs.Nexts.{goes_on}
+use Rattle.std.proofs.Common.{◌≡◌, true, false, sym, ◌∙◌, ap}
+use Rattle.board_rules.specs.Turns.{is_full, is_halting, needs_motion, is_limited}
+use Rattle.controller.proofs.Nexts.{goes_on, is_halted}
 use Rattle.controller.proofs.controller.Controller.main.Goals.{else-is_halting-via-then-is_halting+else-is_held_up, else-is_halting-via-else-is_halting}
 use Rattle.controller.proofs.controller.Controller.main.Goals as goal
 
@@ -22,3 +22,21 @@ returns-clause-goes_on g c = λ rest h stands k ready.
       | else-is_halting-via-else-is_halting w ↦ absurd (let f = sym w.if-is_halting.false ∙ c.is_halting.ensures ∙ e in cc)
     ] in
     c.proceed.ensures.goes_on rest h stands k ready (goes_on s h k held (sym c.if-is_limited.ensures))
+
+pub halt-requires-clause-stands : goal.halt-requires-clause-stands
+halt-requires-clause-stands g c =
+    let r = c.requires.stands in
+    (r.0, r.1, r.2, r.3, is_halted c.args.self.now r.1 r.3 r.4 (sym c.if-is_halting.ensures) (sym c.if-is_held_up.ensures))
+
+pub returns-then-is_held_up-clause-goes_on : goal.returns-then-is_held_up-clause-goes_on
+returns-then-is_held_up-clause-goes_on g c = λ rest h stands k ready.
+    c.halt.ensures.goes_on rest h stands k (is_halted c.args.self.now h k ready (sym c.if-is_halting.ensures) (sym c.if-is_held_up.ensures))
+
+pub end_limited-requires-clause-stands : goal.end_limited-requires-clause-stands
+end_limited-requires-clause-stands g c =
+    let r = c.requires.stands in
+    (r.0, r.1, r.2, r.3, r.4, ap is_limited (sym r.3.machine.motion_is) ∙ sym c.if-is_limited.ensures)
+
+pub returns-then-is_limited-clause-goes_on : goal.returns-then-is_limited-clause-goes_on
+returns-then-is_limited-clause-goes_on g c = λ rest h stands k ready.
+    c.end_limited.ensures.goes_on rest h stands k ready (ap is_limited (sym k.machine.motion_is) ∙ sym c.if-is_limited.ensures)

@@ -5,12 +5,12 @@ use Rattle.step_line.specs.declared.Piece.TheVariants as pieces
 use Rattle.planner_runs.specs.declared.Action.TheVariants.{Mark}
 use Rattle.board_rules.specs.Steps.{hand_of, plan_of, motion_of, given_of}
 use Rattle.board_rules.specs.Steps.Step.{did}
-use Rattle.controller.specs.Machines.{Runs}
-use Rattle.controller.proofs.Marks.{mark_at_rest}
+use Rattle.board_machine.specs.Machines.{Runs}
+use Rattle.board_rules.proofs.Marks.{mark_at_rest}
 use Rattle.controller.proofs.Standing.{hand_none, hand_some}
 use Rattle.controller.proofs.Steps.{is_next, few_ticks, marked}
 use Rattle.controller.proofs.Ends.{may_run, works_passed}
-use Rattle.controller.proofs.Tries.{passes_did}
+use Rattle.board_rules.proofs.Tries.{passes_did}
 use Rattle.controller.proofs.Nexts.{may_run_marked, none_behind, some_next}
 use Rattle.controller.proofs.controller.Controller.mark.Goals as goal
 

@@ -5,7 +5,7 @@ use Rattle.step_line.specs.Asking.Asked.{a_rest}
 use Rattle.line_interpreter.specs.Lefts.{IsNextOf}
 use Rattle.controller.specs.declared.controller.Controller.{Controller}
 use Rattle.controller.specs.Turning.{IsPassed}
-use Rattle.controller.proofs.Tries.{alone_on}
+use Rattle.board_rules.proofs.Tries.{alone_on}
 use Rattle.controller.proofs.Resting.{no_rest, no_normal, none_passed}
 use Rattle.controller.proofs.controller.Controller.pass.Goals as goal
 

@@ -57,3 +57,12 @@ next_line-requires-clause-stands g c = let r = c.requires.stands in (r.0, r.1, r
 
 pub returns-then-is_done-clause-goes_on : goal.returns-then-is_done-clause-goes_on
 returns-then-is_done-clause-goes_on g c = λ rest h stands keeps ready goes. c.next_line.ensures.goes_on rest h stands keeps ready goes
+
+pub do_next-requires-clause-stands : goal.do_next-requires-clause-stands
+do_next-requires-clause-stands g c =
+    let r = c.requires.stands in
+    (r.0, r.1, r.2, r.3, r.4, r.5, λ awaits. absurd (let e = c.if-not-awaits_motion.ensures ∙ ap awaits_motion r.3.lines.left_is ∙ awaits in cc))
+
+pub returns-then-not-awaits_motion-clause-goes_on : goal.returns-then-not-awaits_motion-clause-goes_on
+returns-then-not-awaits_motion-clause-goes_on g c = λ rest h stands keeps ready goes.
+    c.do_next.ensures.goes_on rest h stands keeps ready goes (λ awaits. absurd (let e = c.if-not-awaits_motion.ensures ∙ ap awaits_motion keeps.lines.left_is ∙ awaits in cc))

@@ -2,7 +2,7 @@ use Rattle.std.proofs.Common.{◌∷◌, refl, ap, ◌∙◌, subst}
 use Rattle.board_rules.specs.Steps.{port_log, published_of, plan_of, motion_of, given_of}
 use Rattle.board_rules.specs.Ports.PortStep.{published, no_piece_room}
 use Rattle.board_rules.specs.Steps.Step.{at_port}
-use Rattle.controller.specs.Machines.{Runs}
+use Rattle.board_machine.specs.Machines.{Runs}
 use Rattle.controller.specs.declared.controller.Controller.{Controller}
 use Rattle.controller.proofs.Steps.{in_hand, some_in_hand, may_publish, sent, not_sent}
 use Rattle.controller.proofs.Flying.{fits_next, begins_next}
@@ -42,3 +42,9 @@ returns-clause-goes_on g c = λ rest h stands k.
       sent s c.drop_hand.new.self c.push.new.self p m.0 m.2 is m.4 runs (λ known flies. c.push.ensures (published_of m.0) known flies (begins_next s m.0 p m.2 is)),
       (p, m.0, m.3, refl),
     )
+
+pub look_before-requires : goal.look_before-requires
+look_before-requires g c = record { stands = c.requires.stands; hand = c.in-Some.is }
+
+pub push-requires-clause-room : goal.push-requires-clause-room
+push-requires-clause-room g c = c.look_before.ensures.room

@@ -3,9 +3,9 @@ use Rattle.planner_runs.specs.declared.Action.TheVariants.{Take}
 use Rattle.step_line.specs.declared.Piece.TheVariants as pieces
 use Rattle.board_rules.specs.Steps.{motion_of}
 use Rattle.board_rules.specs.Steps.Step.{did}
-use Rattle.controller.specs.Machines.{mode_in}
+use Rattle.board_machine.specs.Machines.{mode_in}
 use Rattle.controller.proofs.Steps.{few_ticks, none_by_test, took_next, one_in_hand, hand_of_one}
-use Rattle.controller.proofs.Tries.{tried, tried_behind}
+use Rattle.board_rules.proofs.Tries.{tried, tried_behind}
 use Rattle.controller.proofs.controller.Controller.publish_next.Goals as goal
 
 pub returns-then-is_some-clause-goes_on : goal.returns-then-is_some-clause-goes_on

@@ -4,10 +4,10 @@ use Rattle.board_rules.specs.Steps.{hand_of, given_of, plan_of, motion_of}
 use Rattle.board_rules.specs.Turns.{has_blocks}
 use Rattle.controller.proofs.Begins.{may_start, judges_started}
 use Rattle.controller.proofs.Steps.{started}
-use Rattle.controller.specs.Machines.{start_motion}
+use Rattle.board_machine.specs.Machines.{start_motion}
 use Rattle.controller.specs.Turning.{starting}
 use Rattle.controller.proofs.Starting.{none_left_to_change}
-use Rattle.controller.proofs.Tries.{alone_motion}
+use Rattle.board_rules.proofs.Tries.{alone_motion}
 use Rattle.controller.proofs.controller.Controller.start_before_line.Goals as goal
 
 -- src/controller.rt:384:5

@@ -30,3 +30,12 @@ returns-in-Requests-clause-goes_on g c rest h stands f between =
       n.3,
       took_requests c.args.self.now c.take_requests.new.self n.0 h n.1 f between c.in-Requests.is n.2 n.4 (ap (λ (b : Controller). b.beat) c.take_requests.ensures.same) n.5,
     )
+
+pub take_changes-requires : goal.take_changes-requires
+take_changes-requires g c = let r = c.requires.stands in record { stands = (r.0, r.1, r.2, r.3.keeps) }
+
+pub go_on-requires-clause-stands : goal.go_on-requires-clause-stands
+go_on-requires-clause-stands g c = c.requires.stands
+
+pub returns-in-Report-clause-goes_on : goal.returns-in-Report-clause-goes_on
+returns-in-Report-clause-goes_on g c = λ rest h stands f between. c.go_on.ensures.goes_on rest h stands f between

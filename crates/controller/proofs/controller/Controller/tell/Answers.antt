@@ -6,7 +6,7 @@ use Rattle.board_rules.specs.Steps.Step.{at_port}
 use Rattle.board_rules.specs.Ports.PortStep.{answered, no_reply_room}
 use Rattle.controller.specs.declared.controller.Controller.{Controller}
 use Rattle.controller.proofs.Steps.{is_next, may_answer, told, hand_empty, hand_left}
-use Rattle.controller.proofs.Tries.{publishes_one, worked_behind}
+use Rattle.board_rules.proofs.Tries.{publishes_one, worked_behind}
 use Rattle.controller.specs.Boards.{IsFree}
 use Rattle.controller.proofs.Known.{said_plain}
 use Rattle.controller.proofs.Ends.{did_filled, may_run, takes_none, free_of, free_passed}

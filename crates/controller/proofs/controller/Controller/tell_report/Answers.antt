@@ -33,3 +33,6 @@ returns-clause-goes_on g c rest h stands k to =
     let r = reports g.P.BoardPort.Rest (λ x l. g.P.BoardPort.stands c.room-buffer.new.port x l) (λ x l. g.P.BoardPort.stands c.answer.new.self x l) rest c.answer.result s c.args.word buffer
     c.report_now-report.result h n.0 m.0 to n.3 m.3 m.2 told m.1 c.answer.ensures.ok c.answer.ensures.full in
     subst (λ b. Reports (λ l. g.P.BoardPort.stands c.answer.new.self rest l) b s c.args.word h) (sym c.is_ok-told.ensures.value) r
+
+pub observe-requires : goal.observe-requires
+observe-requires g c = let r = c.requires.stands in record { stands = (r.0, r.1, r.2, r.3) }

@@ -57,7 +57,7 @@ invariant_of-self g c =
     let kept = c.self.invariant.0 in
     let segment = subst (λ (p : Planned). IsSegment p c.args.n c.args.w) (sym c.self.view_is) c.requires in
     let now = c.prepare-gap.ensures.moved in
-    let reach = subst (λ exit. distance c.args.w exit ≤ c.prepare-gap.result) (c.at-exit.ensures 0) (c.if-within_reach.ensures refl) in
+    let reach = subst (λ exit. distance c.args.w exit ≤ c.prepare-gap.result) (c.at-exit.ensures 0) (c.if-within_reach.ensures.0 refl) in
     let tabled = tabled_moved g.row.N c.args.n c.prepare-gap.result p.overrides p.gaps c.put_first.new.gaps p.softs c.put_first.new.softs
     c.put_first.ensures.gaps_left c.put_first.ensures.softs_left c.put_first.ensures.gaps_gone c.put_first.ensures.softs_gone
     p.speed c.args.w p.settled p.planned p.ring c.prepare-gap.new.ring kept segment now c.prepare-gap.ensures.gap in (

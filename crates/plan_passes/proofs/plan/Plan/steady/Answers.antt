@@ -31,7 +31,7 @@ returns-then-goes_on-clause-steady g c =
     let p = c.self.inside in
     subst (λ (plan : Planned). IsSteadyOf plan plan.blocks p.pace) c.self.view_is
     (steady_kept g.row.N p.speed p.settled c.at.result p.ring p.overrides p.planned p.gaps p.softs c.in_ok-tail.tail p.pace c.self.invariant.0
-    c.in_ok-tail.ensures.some c.self.invariant.1 c.if-self-eq0.false c.if-self.false (c.at.ensures 0) (c.if-goes_on.ensures refl))
+    c.in_ok-tail.ensures.some c.self.invariant.1 c.if-self-eq0.false c.if-self.false (c.at.ensures 0) (c.if-goes_on.ensures.0 refl))
 
 pub returns-then-goes_on-clause-reached : goal.returns-then-goes_on-clause-reached
 returns-then-goes_on-clause-reached g c = subst IsReached c.self.view_is c.self.invariant.0.reached

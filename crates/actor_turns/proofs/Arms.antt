@@ -1,0 +1,103 @@
+-- What a turn of one actor makes of what was done.
+use Rattle.std.proofs.Common.{List, refl}
+use Rattle.outside.specs.Causes.{SourceState, SinkState}
+use Rattle.outside.specs.declared.Actor.{Actor}
+use Rattle.outside.specs.declared.Actor.TheVariants as actors
+use Rattle.outside.specs.declared.Turn.{Turn}
+use Rattle.step_line.specs.declared.Record.{Record}
+use Rattle.text_writer.specs.Writers.{Writing}
+use Rattle.stream_host.specs.declared.host.Host.{Host}
+use Rattle.stream_host.specs.Steps.{Journal as HostJournal, port_log as host_log, PortLog as HostLog}
+use Rattle.stream_host.specs.Hosts.{HostFits, HostTurned, HostTellsOn}
+use Rattle.stream_host.specs.Hosts.{IsBetween as IsBetweenOfHost}
+use Rattle.board_rules.specs.Ports.{PortLog as BoardLog}
+use Rattle.board_rules.specs.Breaking.{Doings as BoardJournal, log_of as board_log}
+use Rattle.controller.specs.declared.controller.Controller.{Controller}
+use Rattle.controller.specs.Boards.{BoardFits, BoardTurned}
+use Rattle.controller.specs.Boards.{IsBetween as IsBetweenOfBoard}
+use Rattle.pulse_engine.specs.Logs.{PieceLog, RecordLog}
+use Rattle.pulse_engine.specs.Steps.{Pulsing}
+use Rattle.pulse_engine.specs.Turns.{PulseFits, PulseTurned}
+use Rattle.step_record.specs.Taking.{Log}
+use Rattle.step_record.specs.Recording.{RecorderFitsOn, RecorderTurned}
+use Rattle.list_ports.specs.Passing.{HandsOn}
+use Rattle.list_ports.specs.Joining.{Listed, Joined}
+use Rattle.actor_turns.specs.Worlds.{Seen, History, Holds, HasHistory, Devices, devices, Adds, TurnsOn}
+
+-- what the actors tell of the devices, whatever the moment since
+pub record TellsOn (before after : Devices) (w w' : Seen) (hist next : History) : Type 0 where
+  pub host : HostTellsOn w.host w'.host hist.host next.host before.job after.job before.console after.console
+  pub recorder : RecorderFitsOn w.recorder w'.recorder hist.takes next.takes before.steps after.steps
+
+-- whatever was done, there is what was done after
+pub record Moves (actor : Actor) (t : Turn) (before after : Devices) (w w' : Seen) : Type 0 where
+  pub on : (hist : History) → Holds w hist → (next : History) × Holds w' next × TellsOn before after w w' hist next × Adds actor t w w' hist next
+
+pub holds_on : (actor : Actor) (t : Turn) (before after : Devices) (w w' : Seen) → Moves actor t before after w w' → HasHistory w → HasHistory w'
+holds_on actor t before after w w' m has = let n = m.on has.0 has.1 in (n.0, n.1)
+
+pub turns_on : (actor : Actor) (t : Turn) (before after : Devices) (w w' : Seen) → Moves actor t before after w w' → TurnsOn actor t before after w w'
+turns_on actor t before after w w' m = record {
+  on = λ was hist st. let n = m.on hist st.holds in (
+    n.0,
+    record {
+      holds = n.1;
+      job = n.2.host.job was.job st.job;
+      console = n.2.host.console was.console st.console;
+      wrote = n.2.recorder.on was.steps st.wrote;
+    },
+    n.3,
+  );
+}
+
+pub host_moves : (w : Seen) (host' : Host) (lists' : Listed) (t : Turn) (job job' : SourceState) (console console' steps : SinkState)
+    → ((far : BoardLog × PieceLog) (h : HostJournal) → Joined w.lists (host_log h) far.0 far.1 → HostFits w.host h → IsBetweenOfHost h
+    → (next : HostJournal) × Joined lists' (host_log next) far.0 far.1 × HostFits host' next × IsBetweenOfHost next × HostTurned t w.host host' h next × HostTellsOn w.host host' h next job job' console console')
+    → Moves actors.Host t (devices job console steps) (devices job' console' steps) w (record w { host = host'; lists = lists' })
+host_moves w host' lists' t job job' console console' steps turns = record {
+  on = λ hist h. let n = turns (board_log hist.board, hist.pulse) hist.host h.joined h.host h.host_between in (
+    record hist { host = n.0 },
+    record { joined = n.1; passed = h.passed; host = n.2; host_between = n.3; board = h.board; board_between = h.board_between; pulse = h.pulse },
+    record { host = n.5; recorder = record { on = λ was r. r } },
+    (refl, n.4),
+  );
+}
+
+pub board_moves : (w : Seen) (board' : Controller) (lists' : Listed) (t : Turn) (now : Devices)
+    → ((far : HostLog × PieceLog) (h : BoardJournal) → Joined w.lists far.0 (board_log h) far.1 → BoardFits w.board h → IsBetweenOfBoard h
+    → (next : BoardJournal) × Joined lists' far.0 (board_log next) far.1 × BoardFits board' next × IsBetweenOfBoard next × BoardTurned t w.board board' h next)
+    → Moves actors.Board t now now w (record w { board = board'; lists = lists' })
+board_moves w board' lists' t now turns = record {
+  on = λ hist h. let n = turns (host_log hist.host, hist.pulse) hist.board h.joined h.board h.board_between in (
+    record hist { board = n.0 },
+    record { joined = n.1; passed = h.passed; host = h.host; host_between = h.host_between; board = n.2; board_between = n.3; pulse = h.pulse },
+    record { host = record { job = λ was x. x; console = λ was x. x }; recorder = record { on = λ was r. r } },
+    (refl, n.4),
+  );
+}
+
+pub pulse_moves : (w : Seen) (pulse' : Pulsing) (lists' : Listed) (waiting' : List Record) (t : Turn) (now : Devices)
+    → ((far : HostLog × BoardLog) (back : Log) (h : PieceLog) (k : RecordLog) → Joined w.lists far.0 far.1 h → HandsOn w.waiting k back → PulseFits w.pulse h k
+    → (h' : PieceLog) × (k' : RecordLog) × Joined lists' far.0 far.1 h' × HandsOn waiting' k' back × PulseFits pulse' h' k' × PulseTurned t h k h' k')
+    → Moves actors.Pulse t now now w (record w { pulse = pulse'; lists = lists'; waiting = waiting' })
+pulse_moves w pulse' lists' waiting' t now turns = record {
+  on = λ hist h. let n = turns (host_log hist.host, board_log hist.board) hist.takes hist.pulse hist.puts h.joined h.passed h.pulse in (
+    record hist { pulse = n.0; puts = n.1 },
+    record { joined = n.2; passed = n.3; host = h.host; host_between = h.host_between; board = h.board; board_between = h.board_between; pulse = n.4 },
+    record { host = record { job = λ was x. x; console = λ was x. x }; recorder = record { on = λ was r. r } },
+    (refl, n.5),
+  );
+}
+
+pub recorder_moves : (w : Seen) (recorder' : Writing) (waiting' : List Record) (t : Turn) (job : SourceState) (console steps steps' : SinkState)
+    → ((far : RecordLog) (log : Log) → HandsOn w.waiting far log
+    → (next : Log) × HandsOn waiting' far next × RecorderFitsOn w.recorder recorder' log next steps steps' × RecorderTurned t w.recorder recorder' log next)
+    → Moves actors.Record t (devices job console steps) (devices job console steps') w (record w { recorder = recorder'; waiting = waiting' })
+recorder_moves w recorder' waiting' t job console steps steps' turns = record {
+  on = λ hist h. let n = turns hist.puts hist.takes h.passed in (
+    record hist { takes = n.0 },
+    record { joined = h.joined; passed = n.1; host = h.host; host_between = h.host_between; board = h.board; board_between = h.board_between; pulse = h.pulse },
+    record { host = record { job = λ was x. x; console = λ was x. x }; recorder = n.2 },
+    (refl, n.3),
+  );
+}

@@ -1,0 +1,16 @@
+use Rattle.std.proofs.Common.{sym}
+use Rattle.stream_host.specs.Steps.{reading_of}
+use Rattle.actor_turns.proofs.Running.{failed_is}
+use Rattle.actor_turns.proofs.world.World.end.Goals as goal
+
+pub returns-clause-whole : goal.returns-clause-whole
+returns-clause-whole c = rw (sym c.self.view_is) (λ was now hist st done.
+    let f = st.holds.host in
+    rw (
+      c.stop.ensures hist.host f,
+      c.answered.ensures hist.host f,
+      c.errors.ensures hist.host f,
+      failed_is c.source_failed.result (reading_of hist.host) (c.source_failed.ensures hist.host f),
+      c.console_failed.ensures hist.host f,
+      c.failed.ensures,
+    ) (c.worlds_run.ensures.whole was now _ hist st done))

@@ -1,0 +1,181 @@
+-- What a world stands for: its actors, the lists between them, and what was done.
+use Rattle.std.specs.Prelude.{◌≡◌, ℕ, ◌≤◌, Bool, true, List, [], ◌∷◌, ◌++◌, length, reverse}
+use Rattle.outside.specs.declared.Actor.{Actor}
+use Rattle.outside.specs.declared.Actor.TheVariants as actors
+use Rattle.outside.specs.declared.Turn.{Turn}
+use Rattle.step_line.specs.declared.Record.{Record as AnyRecord}
+use Rattle.text_writer.specs.Writers.{Writing}
+use Rattle.stream_host.specs.declared.host.Host.{Host}
+use Rattle.stream_host.specs.Steps.{Journal as HostJournal, port_log as host_log, stored_of, got_of}
+use Rattle.stream_host.specs.Hosts.{HostFits, HostTurned, HostRests, TellsJob, TellsText}
+use Rattle.stream_host.specs.Hosts.{IsBetween as IsBetweenOfHost}
+use Rattle.stream_host.specs.Ran.{end_of}
+use Rattle.board_rules.specs.Breaking.{Doings as BoardJournal, log_of as board_log, taken_of, answered_of, published_of}
+use Rattle.board_rules.specs.Breaking.Doings.{goes}
+use Rattle.controller.specs.declared.controller.Controller.{Controller}
+use Rattle.controller.specs.Boards.{BoardFits, BoardTurned, BoardRests}
+use Rattle.controller.specs.Boards.{IsBetween as IsBetweenOfBoard}
+use Rattle.status_report.specs.Answering.{receive_room, reply_room, answers_in, lfs_in}
+use Rattle.step_line.specs.Finishing.{ticks_together, unfinished, most_unfinished}
+use Rattle.pulse_engine.specs.Logs.{PieceLog, RecordLog, pieces_of, counted, records_put}
+use Rattle.pulse_engine.specs.Steps.{Pulsing}
+use Rattle.pulse_engine.specs.Turns.{PulseFits, PulseTurned}
+use Rattle.step_record.specs.Taking.{Log, records}
+use Rattle.step_record.specs.Recording.{RecorderFits, RecorderTurned, Rests}
+use Rattle.run_law.specs.declared.RunEnd.{RunEnd}
+use Rattle.run_law.specs.Runs.{ended}
+pub use Rattle.run_law.specs.Devices.{Devices, devices, sinks, RunsSoFar, HasRun}
+use Rattle.list_ports.specs.Passing.{HandsOn, record_room}
+use Rattle.realtime_flags.specs.Bits.{IsBalanced}
+use Rattle.run_law.specs.Taking.{raises_in, takes_in}
+use Rattle.list_ports.specs.Joining.{Listed, Joined}
+use Rattle.list_ports.specs.PerLine.{ReportsPerLine}
+use Rattle.run_rules.specs.Lines.{lines_of}
+use Rattle.run_rules.specs.Told.{replies_text}
+use Rattle.std.specs.Io.KnownBytes.{Consumes}
+use Rattle.outside.specs.Writing.{Wrote}
+use Rattle.status_report.specs.declared.Reply.{Reply}
+use Rattle.stream_host.specs.declared.Reading.{Reading}
+use Rattle.stream_host.specs.declared.Stop.{Stop}
+use Rattle.stream_host.specs.Jobs.{IsSentSoFar}
+
+-- what callers see of a world
+pub record Seen : Type 0 where
+  pub host : Host
+  pub board : Controller
+  pub pulse : Pulsing
+  pub recorder : Writing
+  pub lists : Listed
+  pub waiting : List AnyRecord
+
+-- what was done: the journals of host and board, the pieces that the pulse got, the records put, and those taken
+pub record History : Type 0 where
+  pub host : HostJournal
+  pub board : BoardJournal
+  pub pulse : PieceLog
+  pub puts : RecordLog
+  pub takes : Log
+
+-- nothing was done
+abbrev pub no_history : History
+no_history = record { host = []; board = goes []; pulse = []; puts = []; takes = [] }
+
+-- what a world says of what was done, with no word of a device
+pub record Holds (w : Seen) (hist : History) : Type 0 where
+  pub joined : Joined w.lists (host_log hist.host) (board_log hist.board) hist.pulse
+  pub passed : HandsOn w.waiting hist.puts hist.takes
+  pub host : HostFits w.host hist.host
+  pub host_between : IsBetweenOfHost hist.host
+  pub board : BoardFits w.board hist.board
+  pub board_between : IsBetweenOfBoard hist.board
+  pub pulse : PulseFits w.pulse hist.pulse hist.puts
+
+-- there is such a history
+abbrev pub HasHistory : Seen → Type 0
+HasHistory w = (hist : History) × Holds w hist
+
+-- a world that has done this since a moment
+pub record Stands (was now : Devices) (w : Seen) (hist : History) : Type 0 where
+  pub holds : Holds w hist
+  pub job : TellsJob hist.host was.job now.job
+  pub console : TellsText w.host.text hist.host was.console now.console
+  pub wrote : RecorderFits w.recorder hist.takes was.steps now.steps
+
+-- ---- what is on its way
+
+-- Between host and board: the bytes taken are a front of those stored, and at most 128 behind; the replies got are a front of
+-- those answered, and at most 16 behind. No more lines are answered than were taken to their LF.
+pub record LinkIsKept (w : Seen) (hist : History) : Type 0 where
+  pub taken : stored_of hist.host ≡ taken_of hist.board ++ w.lists.bytes
+  pub bytes : length w.lists.bytes ≤ receive_room
+  pub got : answered_of hist.board ≡ got_of hist.host ++ w.lists.replies
+  pub replies : length w.lists.replies ≤ reply_room
+  pub answers : answers_in (answered_of hist.board) ≤ lfs_in (taken_of hist.board)
+
+-- Between host and board: each flag was found down by as many raises as there are takes that had it, and by one more where it
+-- is up. So none is lost, and none is taken twice.
+pub record FlagsAreKept (w : Seen) (hist : History) : Type 0 where
+  pub balance : IsBalanced (w.lists.exec ∷ w.lists.override ∷ []) (raises_in (host_log hist.host)) (takes_in (board_log hist.board))
+
+-- Between board and pulse: the pieces got are a front of those published, and no more ticks are done than these have; at most
+-- five pieces are unfinished. Between pulse and recorder: the records taken are a front of those put, at most 1,024 behind.
+pub record MotionIsKept (w : Seen) (hist : History) : Type 0 where
+  pub got : published_of hist.board ≡ reverse (pieces_of hist.pulse) ++ w.lists.pieces
+  pub done : counted hist.pulse ≤ ticks_together (pieces_of hist.pulse)
+  pub few : unfinished (published_of hist.board) (counted hist.pulse) ≤ most_unfinished
+  pub taken : records_put hist.puts ≡ records hist.takes ++ w.waiting
+  pub room : length w.waiting ≤ record_room
+
+-- ---- one turn
+
+-- what one turn of an actor adds to what was done: its own steps and its answer, and nothing to the others'
+abbrev pub Adds : Actor → Turn → Seen → Seen → History → History → Type 0
+Adds actors.Host t w w' hist next = (next ≡ record hist { host = next.host }) × HostTurned t w.host w'.host hist.host next.host
+Adds actors.Board t w w' hist next = (next ≡ record hist { board = next.board }) × BoardTurned t w.board w'.board hist.board next.board
+Adds actors.Pulse t w w' hist next = (next ≡ record hist { pulse = next.pulse; puts = next.puts }) × PulseTurned t hist.pulse hist.puts next.pulse next.puts
+Adds actors.Record t w w' hist next = (next ≡ record hist { takes = next.takes }) × RecorderTurned t w.recorder w'.recorder hist.takes next.takes
+
+-- one turn of an actor: whatever was done before, and since whatever moment, there is what was done after it
+pub record TurnsOn (actor : Actor) (t : Turn) (before after : Devices) (w w' : Seen) : Type 0 where
+  pub on : (was : Devices) (hist : History) → Stands was before w hist → (next : History) × Stands was after w' next × Adds actor t w w' hist next
+
+-- the other actors, and the lists that are not its ports, are as before
+abbrev pub ActsAlone : Actor → Seen → Seen → Type 0
+ActsAlone actors.Host w w' = w' ≡ record w { host = w'.host; lists = w'.lists }
+ActsAlone actors.Board w w' = w' ≡ record w { board = w'.board; lists = w'.lists }
+ActsAlone actors.Pulse w w' = w' ≡ record w { pulse = w'.pulse; lists = w'.lists; waiting = w'.waiting }
+ActsAlone actors.Record w w' = w' ≡ record w { recorder = w'.recorder; waiting = w'.waiting }
+
+-- an actor is done
+abbrev pub IsDone : Actor → Seen → Type 0
+IsDone actors.Host w = HostRests w.host
+IsDone actors.Board w = BoardRests w.board
+IsDone actors.Pulse w = w.pulse.over ≡ true
+IsDone actors.Record w = Rests w.recorder
+
+-- all four are
+pub record AreDone (w : Seen) : Type 0 where
+  pub host : IsDone actors.Host w
+  pub board : IsDone actors.Board w
+  pub pulse : IsDone actors.Pulse w
+  pub recorder : IsDone actors.Record w
+
+-- ---- turns one after the other
+
+-- the actors of a schedule each took a turn, in its order
+abbrev pub Turns : List Actor → Seen → Seen → History → History → Type 0
+Turns [] w w' hist next = (w' ≡ w) × (next ≡ hist)
+Turns (actor ∷ schedule) w w' hist next = (t : Turn) × (mid : Seen) × (between : History) × Adds actor t w mid hist between × Turns schedule mid w' between next
+
+-- the turns of a schedule: whatever was done before, and since whatever moment, there is what was done after them
+pub record RunsOn (schedule : List Actor) (before after : Devices) (w w' : Seen) : Type 0 where
+  pub on : (was : Devices) (hist : History) → Stands was before w hist → (next : History) × Stands was after w' next × Turns schedule w w' hist next
+
+-- the turns of some schedule
+pub record HasRunOn (before after : Devices) (w w' : Seen) : Type 0 where
+  pub schedule : List Actor
+  pub runs : RunsOn schedule before after w w'
+
+-- ---- what a world has done since a moment, as a run of the job
+
+-- how it ends
+abbrev pub end_after : Seen → History → RunEnd
+end_after w hist = ended (end_of hist.host) w.recorder.failed
+
+-- ---- its reports, line by line
+
+-- What was read of the job since a moment, and scanned, and the replies whose text the console was given, as far as it does not
+-- wait: each line that was scanned has at most as many reports among them as it has `?`.
+pub record CountsReports (was now : Devices) : Type 0 where
+  pub read : List ℕ
+  pub reading : Reading
+  pub scanned : List ℕ
+  pub lines : List (List ℕ)
+  pub stop : Stop
+  pub taken : Consumes was.job.left now.job.left read
+  pub sent : IsSentSoFar read reading scanned lines stop
+  pub replies : List Reply
+  pub failed : Bool
+  pub waiting : List ℕ
+  pub console : Wrote was.console now.console failed waiting (replies_text replies)
+  pub reports : ReportsPerLine (lines_of scanned) replies

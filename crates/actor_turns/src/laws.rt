@@ -1,0 +1,35 @@
+//! What holds of every world.
+
+ghost use Rattle.run_rules.specs.Lines.{lines_of};
+ghost use Rattle.stream_host.specs.Steps.{scanned_of, got_of};
+ghost use Rattle.list_ports.specs.PerLine.{ReportsPerLine};
+ghost use Rattle.actor_turns.specs.Worlds.{Devices, History, Seen, Holds, Stands, AreDone, end_after, RunsSoFar, HasRun, CountsReports};
+
+use run_law::{
+    actors_make_a_run_so_far, actors_that_end_make_a_run, boards_have_run, pulses_have_run,
+    recorders_have_run,
+};
+use stream_host::{hosts_have_run, hosts_send_their_lines};
+
+/// What a world has done since it was new is a run of the job so far. Where all four actors are done, it is a whole run.
+pub fn worlds_run()
+    ensures so_far { (was now : Devices) (w : Seen) (hist : History) → Stands was now w hist → RunsSoFar was now }
+    ensures whole { (was now : Devices) (w : Seen) (hist : History) → Stands was now w hist → AreDone w → HasRun was now (end_after w hist) }
+{
+    hosts_have_run();
+    boards_have_run();
+    pulses_have_run();
+    recorders_have_run();
+    actors_make_a_run_so_far();
+    actors_that_end_make_a_run();
+}
+
+/// On one thread each line of a job has at most as many reports as it has `?` outside comments, so that a line without has
+/// none: by the bytes that the host has scanned so far and the replies that it has got, which are those of the job and of the
+/// console.
+pub fn worlds_count_reports()
+    ensures each { (w : Seen) (hist : History) → Holds w hist → ReportsPerLine (lines_of (scanned_of hist.host)) (got_of hist.host) }
+    ensures told { (was now : Devices) (w : Seen) (hist : History) → Stands was now w hist → CountsReports was now }
+{
+    hosts_send_their_lines();
+}

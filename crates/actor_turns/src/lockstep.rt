@@ -1,0 +1,139 @@
+//! Lockstep: the actors take their turns in an order that one number gives, until each has answered Done.
+
+ghost use Rattle.std.specs.Prelude.{◌≡◌, ◌≢◌, ◌↔◌, ◌/◌, ◌^◌, ℕ, true};
+ghost use Rattle.actor_turns.specs.Worlds.{devices, Devices, Seen, HasRunOn, AreDone};
+ghost use Rattle.actor_turns.specs.Lockstep.{state_after, number_of, RunsInOrder, IsInOrder, with_end, AreEnded, HaveAllEnded};
+
+use crate::World;
+use outside::{Actor, Sink, Source, Turn};
+use std::sync::Wait;
+
+/// The multiplier of the generator.
+const MULTIPLIER: u64 = 6_364_136_223_846_793_005;
+
+/// What the generator adds.
+const INCREMENT: u64 = 1_442_695_040_888_963_407;
+
+/// The order of turns in lockstep, by a linear congruential generator of 64 bits.
+#[derive(Clone, Copy, Debug, PartialEq, Eq)]
+pub struct Order {
+    pub state: u64,
+}
+
+impl Order {
+    /// The actor whose turn is next: the state goes on by one step of the generator, and its two highest bits choose.
+    #[inline]
+    pub fn next(&mut self) -> Actor
+        ensures state { self.new.state ≡ state_after self.old.state }
+        ensures chosen { number_of result ≡ self.new.state / 2 ^ 62 }
+    {
+        self.state = self.state.wrapping_mul(MULTIPLIER).wrapping_add(INCREMENT);
+        match self.state >> 62 {
+            0 => Actor::Host,
+            1 => Actor::Board,
+            2 => Actor::Pulse,
+            _ => Actor::Record,
+        }
+    }
+}
+
+/// Which actors have answered Done.
+#[derive(Clone, Copy)]
+pub(crate) struct Ended {
+    host: bool,
+    board: bool,
+    pulse: bool,
+    recorder: bool,
+}
+
+impl Ended {
+    /// An actor has answered Done.
+    fn add(&mut self, actor: Actor)
+        ensures { self.new ≡ with_end actor self.old }
+    {
+        match actor {
+            Actor::Host => self.host = true,
+            Actor::Board => self.board = true,
+            Actor::Pulse => self.pulse = true,
+            Actor::Record => self.recorder = true,
+        }
+    }
+
+    /// Whether all have.
+    fn all(&self) -> bool
+        ensures { (result ≡ true) ↔ HaveAllEnded self.now }
+    {
+        self.host && self.board && self.pulse && self.recorder
+    }
+
+    /// An actor has answered so. Answers whether it is the last that has answered Done.
+    #[inline(always)]
+    fn learn(&mut self, actor: Actor, turn: Turn) -> bool
+        ensures done { turn ≡ Turn.Done → self.new ≡ with_end actor self.old }
+        ensures same { turn ≢ Turn.Done → self.new ≡ self.old }
+        ensures all { result ≡ true → HaveAllEnded self.new }
+    {
+        if let Turn::Done = turn {
+            self.add(actor);
+            return self.all();
+        }
+        false
+    }
+}
+
+/// So many turns are taken in one go, at most: a loop of a known length costs a turn less than one that may go on forever.
+const TURNS_AT_ONCE: u32 = 64;
+
+/// Lets the actors take some turns, in the order that is given, or fewer where all of them have ended then. Answers
+/// whether they have.
+#[inline(always)]
+fn take_turns<J: Source, C: Sink, S: Sink>(
+    world: &mut World,
+    order: &mut Order,
+    ended: &mut Ended,
+    job: &mut J,
+    console: &mut C,
+    steps: &mut S,
+) -> bool
+    ensures goes_on { (seed : ℕ) (before : Devices) (w : Seen) → IsInOrder seed order.old.state before (devices (J.state job.old) (C.state console.old) (S.state steps.old)) w world.old
+        → IsInOrder seed order.new.state before (devices (J.state job.new) (C.state console.new) (S.state steps.new)) w world.new }
+    ensures ended { AreEnded ended.old world.old → AreEnded ended.new world.new }
+    ensures all { result ≡ true → HaveAllEnded ended.new }
+{
+    for _ in 0..TURNS_AT_ONCE {
+        let actor = order.next();
+        let turn = world.turn(actor, job, console, steps);
+        if ended.learn(actor, turn) {
+            return true;
+        }
+    }
+    false
+}
+
+/// Lets the actors take turns, in the order that a seed gives, until each has answered Done.
+pub fn run_lockstep<R: Wait, J: Source, C: Sink, S: Sink>(
+    rt: &R,
+    world: &mut World,
+    seed: u64,
+    job: &mut J,
+    console: &mut C,
+    steps: &mut S,
+)
+    ensures goes_on { HasRunOn (devices (J.state job.old) (C.state console.old) (S.state steps.old)) (devices (J.state job.new) (C.state console.new) (S.state steps.new)) world.old world.new }
+    ensures order { RunsInOrder seed (devices (J.state job.old) (C.state console.old) (S.state steps.old)) (devices (J.state job.new) (C.state console.new) (S.state steps.new)) world.old world.new }
+    ensures done { AreDone world.new }
+{
+    let mut order = Order { state: seed };
+    let mut ended = Ended {
+        host: false,
+        board: false,
+        pulse: false,
+        recorder: false,
+    };
+    for _ in rt.forever() {
+        if take_turns(world, &mut order, &mut ended, job, console, steps) {
+            return;
+        }
+    }
+    unreachable!()
+}

@@ -1,0 +1,35 @@
+//! A run of a job by four actors in lockstep.
+
+ghost use Rattle.std.specs.Prelude.{◌≡◌, IfOk, OnErr};
+ghost use Rattle.actor_turns.specs.Worlds.{History, Stands, AreDone, Devices, devices, HasRun};
+
+use crate::{World, run_lockstep};
+use outside::{OutOfMemory, Sink, Source};
+use run_law::RunEnd;
+use std::alloc::Global;
+use std::sync::Wait;
+
+/// How the run of a world ends. The world is dropped here, so that the caller's proof need not follow its fields.
+fn end_of(world: World) -> RunEnd
+    ensures { (was now : Devices) (hist : History) → Stands was now world hist → AreDone world → HasRun was now result }
+{
+    world.end()
+}
+
+/// Runs a job on this thread, in the order of turns that a seed gives, and answers how the run ends. All room is taken before
+/// the first turn; where there is none, no device is touched.
+pub fn run_in_lockstep<R: Wait, So: Source, Co: Sink, St: Sink>(
+    rt: &R,
+    alloc: Global,
+    seed: u64,
+    job: &mut So,
+    console: &mut Co,
+    steps: &mut St,
+) -> Result<RunEnd, OutOfMemory>
+    ensures run { IfOk result (λ end. HasRun (devices (So.state job.old) (Co.state console.old) (St.state steps.old)) (devices (So.state job.new) (Co.state console.new) (St.state steps.new)) end) }
+    ensures untouched { OnErr result ((job.new ≡ job.old) × (console.new ≡ console.old) × (steps.new ≡ steps.old)) }
+{
+    let mut world = World::new(alloc)?;
+    run_lockstep(rt, &mut world, seed, job, console, steps);
+    Ok(end_of(world))
+}

@@ -1,0 +1,148 @@
+//! The actors of a run, and the lists between them.
+
+ghost use Rattle.std.specs.Prelude.{◌≡◌, ◌≢◌, ◌↔◌, true, IfOk};
+ghost use Rattle.outside.specs.Causes.{SourceState, SinkState};
+ghost use Rattle.stream_host.specs.Hosts.{HostRests};
+ghost use Rattle.controller.specs.Boards.{BoardRests};
+ghost use Rattle.step_record.specs.Recording.{Rests};
+ghost use Rattle.actor_turns.specs.Worlds.{Devices, devices, History, no_history, Holds, Stands, LinkIsKept, FlagsAreKept, MotionIsKept, TurnsOn, ActsAlone, IsDone, AreDone, end_after, HasRun};
+
+use crate::worlds_run;
+use controller::Controller;
+use list_ports::{Lists, Records};
+use outside::{Actor, OutOfMemory, Sink, Source, Turn};
+use pulse_engine::Pulse;
+use run_law::RunEnd;
+use std::alloc::Global;
+use std::marker::Model;
+use step_record::Recorder;
+use stream_host::Host;
+
+/// The four actors of a run, and the lists between them. There is a history of all that was done.
+#[derive(Drop)]
+pub struct World {
+    host: Host,
+    board: Controller,
+    pulse: Pulse,
+    recorder: Recorder,
+    lists: Lists,
+    waiting: Records,
+}
+
+impl Model for World {
+    ghost use Rattle.actor_turns.specs.Worlds.{Seen, HasHistory};
+
+    ghost Value = { Seen };
+
+    ghost view = { λ w. record { host = w.host; board = w.board; pulse = w.pulse; recorder = w.recorder; lists = w.lists; waiting = w.waiting } };
+
+    ghost invariant = { λ w. HasHistory (record { host = w.host; board = w.board; pulse = w.pulse; recorder = w.recorder; lists = w.lists; waiting = w.waiting }) };
+}
+
+impl World {
+    /// A world in which nothing was done. All room is taken here.
+    pub fn new(alloc: Global) -> Result<World, OutOfMemory>
+        ensures { IfOk result (λ world. (now : Devices) → Stands now now world no_history) }
+    {
+        Ok(World {
+            host: Host::new(),
+            board: Controller::new(),
+            pulse: Pulse::new(),
+            recorder: Recorder::new(),
+            lists: Lists::new(alloc)?,
+            waiting: Records::new(alloc)?,
+        })
+    }
+
+    fn turn_host<J: Source, C: Sink>(&mut self, job: &mut J, console: &mut C) -> Turn
+        ensures goes_on { (steps : SinkState) → TurnsOn Actor.Host result (devices (J.state job.old) (C.state console.old) steps) (devices (J.state job.new) (C.state console.new) steps) self.old self.new }
+        ensures alone { ActsAlone Actor.Host self.old self.new }
+        ensures done { (result ≡ Turn.Done) ↔ HostRests self.old.host }
+        ensures still { HostRests self.old.host → (self.new ≡ self.old) × (job.new ≡ job.old) × (console.new ≡ console.old) }
+    {
+        self.host.turn(&mut self.lists, job, console)
+    }
+
+    #[inline(always)]
+    fn turn_board(&mut self) -> Turn
+        ensures goes_on { (now : Devices) → TurnsOn Actor.Board result now now self.old self.new }
+        ensures alone { ActsAlone Actor.Board self.old self.new }
+        ensures done { (result ≡ Turn.Done) ↔ BoardRests self.old.board }
+        ensures still { BoardRests self.old.board → self.new ≡ self.old }
+    {
+        self.board.turn(&mut self.lists)
+    }
+
+    #[inline]
+    fn turn_pulse(&mut self) -> Turn
+        ensures goes_on { (now : Devices) → TurnsOn Actor.Pulse result now now self.old self.new }
+        ensures alone { ActsAlone Actor.Pulse self.old self.new }
+        ensures done { (result ≡ Turn.Done) ↔ (self.old.pulse.over ≡ true) }
+        ensures still { self.old.pulse.over ≡ true → self.new ≡ self.old }
+    {
+        self.pulse.turn(&mut self.lists, &mut self.waiting)
+    }
+
+    #[inline]
+    fn turn_recorder<S: Sink>(&mut self, steps: &mut S) -> Turn
+        ensures goes_on { (job : SourceState) (console : SinkState) → TurnsOn Actor.Record result (devices job console (S.state steps.old)) (devices job console (S.state steps.new)) self.old self.new }
+        ensures alone { ActsAlone Actor.Record self.old self.new }
+        ensures done { (result ≡ Turn.Done) ↔ Rests self.old.recorder }
+        ensures still { Rests self.old.recorder → (self.new ≡ self.old) × (steps.new ≡ steps.old) }
+    {
+        self.recorder.turn(&mut self.waiting, steps)
+    }
+
+    /// A turn of an actor: the host over the job and the console, the recorder over the steps, the board and the pulse
+    /// over the lists alone. Whatever was done before, it goes on as the actor's rules allow. An actor answers Done
+    /// exactly where it rests, and then nothing changes.
+    #[inline]
+    pub fn turn<J: Source, C: Sink, S: Sink>(
+        &mut self,
+        actor: Actor,
+        job: &mut J,
+        console: &mut C,
+        steps: &mut S,
+    ) -> Turn
+        ensures goes_on { TurnsOn actor result (devices (J.state job.old) (C.state console.old) (S.state steps.old)) (devices (J.state job.new) (C.state console.new) (S.state steps.new)) self.old self.new }
+        ensures alone { ActsAlone actor self.old self.new }
+        ensures sending { actor ≢ Actor.Host → (job.new ≡ job.old) × (console.new ≡ console.old) }
+        ensures recording { actor ≢ Actor.Record → steps.new ≡ steps.old }
+        ensures done { (result ≡ Turn.Done) ↔ IsDone actor self.old }
+        ensures still { IsDone actor self.old → (self.new ≡ self.old) × (job.new ≡ job.old) × (console.new ≡ console.old) × (steps.new ≡ steps.old) }
+    {
+        match actor {
+            Actor::Host => self.turn_host(job, console),
+            Actor::Board => self.turn_board(),
+            Actor::Pulse => self.turn_pulse(),
+            Actor::Record => self.turn_recorder(steps),
+        }
+    }
+
+    /// What is on its way between the actors comes in order, and has room; no flag is lost, and none is taken twice.
+    pub fn keeps_order(&self)
+        ensures link { (hist : History) → Holds self.now hist → LinkIsKept self.now hist }
+        ensures flags { (hist : History) → Holds self.now hist → FlagsAreKept self.now hist }
+        ensures motion { (hist : History) → Holds self.now hist → MotionIsKept self.now hist }
+    {
+        self.lists.have_room();
+        self.waiting.have_room();
+    }
+
+    /// How the run ends: why no more of the job was sent, what was answered, and which devices have failed. Where all four
+    /// actors are done, a run of the job was done since the world was new, and this is its end.
+    pub fn end(&self) -> RunEnd
+        ensures tells { (hist : History) → Holds self.now hist → result ≡ end_after self.now hist }
+        ensures whole { (was now : Devices) (hist : History) → Stands was now self.now hist → AreDone self.now → HasRun was now result }
+    {
+        worlds_run();
+        RunEnd {
+            stop: self.host.stop(),
+            answered: self.host.answered(),
+            errors: self.host.errors(),
+            source_failed: self.host.source_failed(),
+            console_failed: self.host.console_failed(),
+            steps_failed: self.recorder.failed(),
+        }
+    }
+}

@@ -1,0 +1,3 @@
+pub mod Machines
+pub use Rattle.planner_runs.specs.Runs
+pub use Rattle.planner_runs.specs.Moving

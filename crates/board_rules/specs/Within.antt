@@ -1,0 +1,122 @@
+-- What is done within a turn of a board, part by part.
+use Rattle.std.specs.Prelude.{◌≡◌, ◌⊎◌, ℕ, ◌+◌, ◌≤◌, Bool, true, false, cond, List, [], ◌∷◌, ◌++◌}
+use Rattle.std.specs.List.{list_any, count_by}
+use Rattle.feed_hold.specs.declared.Motion.{Motion}
+use Rattle.feed_hold.specs.declared.Motion.TheVariants.{Holding, Cancelling, Held}
+use Rattle.run_rules.specs.Work.{pauses}
+use Rattle.step_line.specs.declared.Piece.{Piece}
+use Rattle.units.specs.Truths.{one_if}
+use Rattle.board_rules.specs.Ports.PortStep.{published, no_piece_room, loaded}
+use Rattle.board_rules.specs.Steps.{Step, Journal, port_log, open_of, whole_of, left_of, closed_tells, hand_of, plan_of, motion_of}
+use Rattle.board_rules.specs.Steps.Step.{at_port}
+use Rattle.board_rules.specs.Cuts.{has_cut}
+use Rattle.board_rules.specs.Turns.{
+  this_turn,
+  publishing,
+  passing,
+  moving,
+  found_none,
+  loads,
+  lacks_reply_room,
+  lacks_piece_room,
+  has_jogged,
+  is_full,
+  stands_still,
+  is_counted,
+  flags_taken,
+  unobeyed_of,
+  owes_report,
+  takes_changes,
+  replans,
+  tries_of,
+  missed_of,
+  waits_of,
+}
+use Rattle.board_rules.specs.Conduct.{IsDrained, AreWaiting}
+
+-- a machine that slows down is to be held, one that is held to be resumed; and jogs that were cancelled are to be cut, and then
+-- the machine stands
+abbrev pub changes_left : Motion → (has_cut : Bool) → ℕ
+changes_left Holding has_cut = 2
+changes_left Cancelling has_cut = cond has_cut 1 2
+changes_left Held has_cut = 1
+changes_left _ has_cut = 0
+
+-- the word of requests that was taken is obeyed, unless a report is owed; and the plan was made anew for each change of
+-- this turn
+pub record AreWorked (h : Journal) : Type 0 where
+  pub obeyed : owes_report h ≡ false → unobeyed_of h ≡ []
+  pub changed : count_by replans (this_turn h) ≡ count_by takes_changes (this_turn h)
+
+-- nothing is left to run, each tick is done, and the machine stands, also in alarm
+pub record MayFinish (h : Journal) : Type 0 where
+  pub drained : IsDrained h
+  pub stands : stands_still (motion_of h) ≡ true
+
+-- Steps of one turn with which nothing passes, no byte is polled for, and no piece is tried to be published.
+pub record PassesNothing (h next : Journal) : Type 0 where
+  pub steps : List Step
+  pub are : next ≡ steps ++ h
+  pub still : list_any passing (this_turn next) ≡ list_any passing (this_turn h)
+  pub quiet : count_by publishing (this_turn next) ≡ count_by publishing (this_turn h)
+  pub polled : list_any found_none (this_turn next) ≡ list_any found_none (this_turn h)
+  pub room : list_any lacks_piece_room (this_turn next) ≡ list_any lacks_piece_room (this_turn h)
+  pub moves : list_any moving (this_turn h) ≡ true → list_any moving (this_turn next) ≡ true
+  pub loaded : list_any loads (this_turn h) ≡ true → list_any loads (this_turn next) ≡ true
+  pub waits : waits_of next ≡ waits_of h
+  pub tries : tries_of next ≡ tries_of h
+  pub missed : missed_of next ≡ missed_of h
+  pub jogged : has_jogged next ≡ has_jogged h
+  pub raw : open_of next ≡ open_of h
+  pub whole : whole_of next ≡ whole_of h
+  pub closed : closed_tells next ≡ closed_tells h
+  pub flags : flags_taken next ≡ flags_taken h
+  pub replies : list_any lacks_reply_room (this_turn next) ≡ list_any lacks_reply_room (this_turn h)
+  pub owed : owes_report next ≡ owes_report h
+  pub words : unobeyed_of next ≡ unobeyed_of h
+  pub worked : AreWorked h → AreWorked next
+  pub pauses : pauses (left_of next) ≤ pauses (left_of h)
+  pub changes : changes_left (motion_of next) (has_cut next) ≤ changes_left (motion_of h) (has_cut h)
+  pub less : (left_of next ≡ [] → ⊥) → left_of h ≡ [] → ⊥
+
+-- what a board did by itself: its port knows nothing of it
+pub record DidAlone (h next : Journal) : Type 0 where
+  pub passes : PassesNothing h next
+  pub port : port_log next ≡ port_log h
+
+-- nothing was done, or it was looked how many ticks are done
+abbrev pub MayHaveLooked : Journal → Journal → Type 0
+MayHaveLooked h next = (next ≡ h) ⊎ ((done : ℕ) × (next ≡ at_port (loaded done) ∷ h))
+
+-- a piece was tried to be published: it was, or it was handed back
+abbrev pub Tried : Bool → Journal → Journal → Type 0
+Tried true h next = (p : Piece) × (mid : Journal) × MayHaveLooked h mid × (next ≡ at_port (published p) ∷ mid)
+Tried false h next = (done : ℕ) × (mid : Journal) × MayHaveLooked h mid × (next ≡ at_port (no_piece_room done) ∷ mid)
+
+-- The piece in hand was tried to be published, or a segment, which came into the hand before.
+pub record HasTried (published : Bool) (h next : Journal) : Type 0 where
+  pub steps : List Step
+  pub are : next ≡ steps ++ h
+  pub still : published ≡ false → list_any passing (this_turn next) ≡ list_any passing (this_turn h)
+  pub quiet : count_by publishing (this_turn next) ≡ count_by publishing (this_turn h) + one_if published
+  pub polled : list_any found_none (this_turn next) ≡ list_any found_none (this_turn h)
+  pub room : published ≡ false → list_any lacks_piece_room (this_turn next) ≡ true
+  pub moves : published ≡ true → list_any moving (this_turn next) ≡ true
+  pub sent : published ≡ true → hand_of next ≡ []
+  pub waits : waits_of next ≡ []
+  pub missed : missed_of next ≡ false
+  pub jogged : has_jogged next ≡ has_jogged h
+  pub first : tries_of next ≤ tries_of h + 1
+  pub later : is_counted h ≡ false → tries_of next ≡ tries_of h
+  pub left : left_of next ≡ left_of h
+  pub whole : whole_of next ≡ whole_of h
+  pub motion : motion_of next ≡ motion_of h
+  pub cuts : has_cut next ≡ has_cut h
+  pub closed : closed_tells next ≡ closed_tells h
+  pub flags : flags_taken next ≡ flags_taken h
+  pub replies : list_any lacks_reply_room (this_turn next) ≡ list_any lacks_reply_room (this_turn h)
+  pub owed : owes_report next ≡ owes_report h
+  pub words : unobeyed_of next ≡ unobeyed_of h
+  pub worked : AreWorked h → AreWorked next
+  pub waiting : AreWaiting next → AreWaiting h
+  pub full : is_full (plan_of next) ≡ true → is_full (plan_of h) ≡ true

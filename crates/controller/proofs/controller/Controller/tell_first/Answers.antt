@@ -1,0 +1,33 @@
+use Rattle.std.proofs.Common.{◌∷◌, refl, sym, ap}
+use Rattle.run_rules.specs.Work.Task.{tell}
+use Rattle.board_rules.specs.Steps.{port_log}
+use Rattle.board_rules.specs.Turns.{tells_next}
+use Rattle.board_rules.specs.Steps.Step.{at_port}
+use Rattle.board_rules.specs.Ports.PortStep.{answered, no_reply_room}
+use Rattle.controller.specs.Turning.MayHaveTold.{handed_back, was_told}
+use Rattle.controller.proofs.Steps.{is_next, may_answer, told, not_told, hand_empty}
+use Rattle.controller.proofs.Known.{said_plain}
+use Rattle.controller.proofs.controller.Controller.tell_first.Goals as goal
+
+pub answer-requires : goal.answer-requires
+answer-requires g c =
+    let r = c.requires.stands in
+    let s = c.args.self.now in
+    let reply = c.reply-reply.result in
+    (r.0, port_log r.1, r.2, may_answer s r.1 reply r.3 (is_next s r.1 (tell reply) r.3 c.reply-reply.ensures.next) c.reply-reply.ensures.valid)
+
+pub returns-in_default-clause-goes_on : goal.returns-in_default-clause-goes_on
+returns-in_default-clause-goes_on g c = λ rest h stands keeps unowed.
+    let s = c.args.self.now in
+    let next = is_next s h (tell c.reply-reply.result) keeps c.reply-reply.ensures.next in
+    let back = c.in_default.ensures.full rest (port_log h) stands in
+    (at_port no_reply_room ∷ h, back.0, not_told s h keeps (ap tells_next next), handed_back refl)
+
+pub returns-clause-goes_on : goal.returns-clause-goes_on
+returns-clause-goes_on g c = λ rest h stands keeps unowed.
+    let s = c.args.self.now in
+    let r = c.reply-reply.result in
+    let next = is_next s h (tell r) keeps c.reply-reply.ensures.next in
+    let now = told s _ r h keeps next c.reply-reply.ensures.plain unowed (λ bye. hand_empty s h keeps (c.if-holds_back.ensures.no refl bye)) c.done.ensures in
+    let stood = c.in-Ok.ensures.ok rest (port_log h) stands (may_answer s h r keeps next c.reply-reply.ensures.valid) in
+    (at_port (answered r) ∷ h, rw (sym (said_plain r c.reply-reply.ensures.plain)) stood, now, was_told r refl)

@@ -1,6 +1,0 @@
-use Rattle.controller.proofs.Machining.{taken}
-use Rattle.controller.proofs.machine.Machine.take.Goals as goal
-
-pub returns : goal.returns
-returns c p now given r =
-    let s = c.in-Some.segment in let t = taken c.args.self.now s _ _ p now given c.mode-mode.ensures c.in-Some.ensures.segment c.in-Some.ensures.advanced r in (s, t.0, t.1)

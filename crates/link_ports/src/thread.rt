@@ -1,0 +1,36 @@
+//! What the thread of the host has, and what it does: its host takes turns, each once the gate is passed, until it answers Done.
+
+ghost use Rattle.link_ports.specs.HostSides.{HostIsNew, HostRanAt};
+
+use crate::HostLink;
+use outside::{Actor, Gate, Sink, Source};
+use shared_rings::is_last;
+use std::sync::Wait;
+use stream_host::Host;
+
+/// The host, and its ends of the link and of the flags.
+#[derive(Drop)]
+pub struct HostSide {
+    pub host: Host,
+    pub link: HostLink<128>,
+}
+
+/// Runs a host until it is done.
+pub fn run_host<R: Wait, J: Source, C: Sink, G: Gate>(
+    rt: &R,
+    side: &mut HostSide,
+    job: &mut J,
+    console: &mut C,
+    gate: &G,
+)
+    requires { HostIsNew side.old }
+    ensures { HostRanAt (J.state job.old) (J.state job.new) (C.state console.old) (C.state console.new) side.old side.new }
+{
+    for _ in rt.forever() {
+        gate.pass(Actor::Host);
+        if is_last(side.host.turn(&mut side.link, job, console)) {
+            return;
+        }
+    }
+    unreachable!()
+}

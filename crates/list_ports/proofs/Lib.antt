@@ -1,0 +1,10 @@
+pub mod Fronts
+pub mod Links
+pub mod Pieces
+pub mod Raising
+pub mod Steps
+pub mod Asks
+pub mod HostAsks
+pub mod BoardAsks
+pub mod Counting
+pub mod PerLineExample

@@ -1,0 +1,62 @@
+//! The lists as the port of a host.
+
+ghost use Rattle.std.specs.Prelude.{◌≡◌, ◌∷◌, IfSome, IfNone};
+ghost use Rattle.std.specs.List.{slice_get};
+ghost use Rattle.status_report.specs.Replies.{IsReply};
+ghost use Rattle.board_rules.specs.Ports.{PortLog as BoardLog};
+ghost use Rattle.stream_host.specs.Ports.{AnswersLines};
+ghost use Rattle.stream_host.specs.Steps.{PortLog as HostLog};
+ghost use Rattle.stream_host.specs.Steps.PortStep.{got, no_reply};
+ghost use Rattle.pulse_engine.specs.Logs.{PieceLog};
+ghost use Rattle.list_ports.specs.Joining.{Joined};
+
+use crate::Lists;
+use realtime_flags::{Flag, Raised, flag_of_byte};
+use serial_ring::Stored;
+use status_report::Reply;
+use stream_host::HostPort;
+
+impl HostPort for Lists {
+    /// What the board and the pulse have done.
+    ghost Rest = { BoardLog × PieceLog };
+
+    ghost stands = { λ lists far h. Joined lists h far.0 far.1 };
+
+    /// Stores a byte, or drops it where 128 wait.
+    fn store(&mut self, byte: u8) -> Stored {
+        if self.bytes.try_push_back(byte).is_err() {
+            return Stored::Dropped;
+        }
+        Stored::Stored
+    }
+
+    fn raise(&mut self, byte: u8) -> Raised {
+        let Some(flag) = flag_of_byte(byte) else {
+            return if byte < 0x80 {
+                Raised::Plain
+            } else {
+                Raised::Ignored
+            };
+        };
+        self.raise_flag(flag);
+        match flag {
+            Flag::Exec(_) => Raised::Exec,
+            Flag::Override(_) => Raised::Override,
+        }
+    }
+
+    /// The reply that has waited longest, where one waits.
+    fn reply(&mut self) -> Option<Reply>
+        ensures valid { IfSome result (λ r. IsReply r) }
+        ensures some { IfSome result (λ r. (far : BoardLog × PieceLog) (h : HostLog) → Joined self.old h far.0 far.1 → Joined self.new (got r ∷ h) far.0 far.1) }
+        ensures lines { IfSome result (λ r. (far : BoardLog × PieceLog) (h : HostLog) → Joined self.old h far.0 far.1 → AnswersLines (got r ∷ h)) }
+        ensures none { IfNone result ((far : BoardLog × PieceLog) (h : HostLog) → Joined self.old h far.0 far.1 → Joined self.new (no_reply ∷ h) far.0 far.1) }
+        ensures found { result ≡ slice_get self.old.replies 0 }
+    {
+        self.replies.pop_front()
+    }
+
+    fn close(&mut self) {
+        self.closed = true;
+    }
+}

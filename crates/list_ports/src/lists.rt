@@ -1,0 +1,101 @@
+//! The lists between a host, a board and a pulse.
+
+ghost use Rattle.std.specs.Prelude.{◌≡◌, ◌≤◌, ◌+◌, [], length, IfOk};
+ghost use Rattle.status_report.specs.Answering.{receive_room, reply_room};
+ghost use Rattle.step_line.specs.Finishing.{tick_count};
+ghost use Rattle.list_ports.specs.Joining.{Joined, one_if_some};
+
+use bitflags::Flags;
+use circular_buffer::HeapCircularBuffer;
+use code_table::{Exec, Ovr};
+use status_report::Reply;
+use std::alloc::{AllocError, Global};
+use std::marker::Model;
+use step_line::Piece;
+
+/// How many bytes may wait.
+pub(crate) const RECEIVE_ROOM: usize = 128;
+
+/// How many replies may wait.
+const REPLY_ROOM: usize = 16;
+
+/// How many pieces have room.
+const PIECE_ROOM: usize = 6;
+
+/// How many pieces may be unfinished.
+pub(crate) const MOST_UNFINISHED: usize = 5;
+
+/// What is on its way between a host, a board and a pulse: bytes, replies, flags and pieces, and how many ticks are
+/// done. Each of the three has them as its port. All room is taken once, by `new`.
+#[derive(Drop)]
+pub struct Lists {
+    pub(crate) bytes: HeapCircularBuffer<u8>,
+    pub(crate) closed: bool,
+    pub(crate) replies: HeapCircularBuffer<Reply>,
+    pub(crate) exec: Exec,
+    pub(crate) overrides: Ovr,
+    pub(crate) pieces: HeapCircularBuffer<Piece>,
+    /// How many ticks of the piece that was got last are not done.
+    pub(crate) left: u32,
+    pub(crate) done: u64,
+}
+
+impl Model for Lists {
+    ghost use Rattle.list_ports.specs.Joining.{Listed, AreSized};
+
+    ghost Value = { Listed };
+
+    ghost view = { λ l. record { bytes = l.bytes.items; closed = l.closed; replies = l.replies.items; exec = l.exec.0; override = l.overrides.0; pieces = l.pieces.items; left = l.left; done = l.done } };
+
+    ghost invariant = { λ l. AreSized l.bytes.capacity l.replies.capacity l.pieces.capacity l.replies.items };
+}
+
+/// How many ticks a piece has.
+pub(crate) fn ticks(piece: &Piece) -> u32
+    ensures { result ≡ tick_count piece.now }
+{
+    match piece {
+        Piece::Segment(segment) => segment.n,
+        Piece::Mark(_) => 1,
+        Piece::End => 0,
+    }
+}
+
+impl Lists {
+    /// Lists in which nothing is on its way, and the link is open.
+    pub fn new(alloc: Global) -> Result<Lists, AllocError>
+        ensures { IfOk result (λ lists. Joined lists [] [] []) }
+    {
+        Ok(Lists {
+            bytes: HeapCircularBuffer::with_capacity(alloc, RECEIVE_ROOM)?,
+            closed: false,
+            replies: HeapCircularBuffer::with_capacity(alloc, REPLY_ROOM)?,
+            exec: Exec::from_bits_retain(0),
+            overrides: Ovr::from_bits_retain(0),
+            pieces: HeapCircularBuffer::with_capacity(alloc, PIECE_ROOM)?,
+            left: 0,
+            done: 0,
+        })
+    }
+
+    /// At most 128 bytes and 16 replies wait.
+    pub fn have_room(&self)
+        ensures bytes { length self.now.bytes ≤ receive_room }
+        ensures replies { length self.now.replies ≤ reply_room }
+    {
+        let _bytes = self.bytes.len();
+        let _replies = self.replies.len();
+    }
+
+    /// How many pieces are unfinished, where the end does not wait: those that wait, and the one that was got last
+    /// where ticks of it are left.
+    pub(crate) fn unfinished(&self) -> usize
+        ensures { result ≡ length self.now.pieces + one_if_some self.now.left }
+    {
+        if self.left > 0 {
+            self.pieces.len() + 1
+        } else {
+            self.pieces.len()
+        }
+    }
+}

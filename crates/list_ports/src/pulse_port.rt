@@ -1,0 +1,41 @@
+//! The lists as the port of a pulse.
+
+ghost use Rattle.std.specs.Prelude.{◌≡◌, ◌∷◌, IfSome, IfNone};
+ghost use Rattle.std.specs.List.{slice_get};
+ghost use Rattle.step_line.specs.Ordering.{ComesNext};
+ghost use Rattle.board_rules.specs.Ports.{PortLog as BoardLog};
+ghost use Rattle.stream_host.specs.Steps.{PortLog as HostLog};
+ghost use Rattle.pulse_engine.specs.Logs.{PieceLog, IsCounted, pieces_of};
+ghost use Rattle.pulse_engine.specs.Logs.PieceEvent.{got, none};
+ghost use Rattle.list_ports.specs.Joining.{Joined};
+
+use crate::Lists;
+use crate::lists::ticks;
+use pulse_engine::PulsePort;
+use step_line::Piece;
+
+impl PulsePort for Lists {
+    /// What the host and the board have done.
+    ghost Rest = { HostLog × BoardLog };
+
+    ghost stands = { λ lists far h. Joined lists far.0 far.1 h };
+
+    /// The piece that has waited longest, where one waits.
+    fn piece(&mut self) -> Option<Piece>
+        requires { (far : HostLog × BoardLog) × (h : PieceLog) × Joined self.old far.0 far.1 h × IsCounted h }
+        ensures some { IfSome result (λ p. (far : HostLog × BoardLog) (h : PieceLog) → Joined self.old far.0 far.1 h → IsCounted h → Joined self.new far.0 far.1 (got p ∷ h)) }
+        ensures next { IfSome result (λ p. (far : HostLog × BoardLog) (h : PieceLog) → Joined self.old far.0 far.1 h → IsCounted h → ComesNext (pieces_of h) p) }
+        ensures none { IfNone result ((far : HostLog × BoardLog) (h : PieceLog) → Joined self.old far.0 far.1 h → IsCounted h → Joined self.new far.0 far.1 (none ∷ h)) }
+        ensures found { result ≡ slice_get self.old.pieces 0 }
+    {
+        let piece = self.pieces.pop_front()?;
+        self.left = ticks(&piece);
+        Some(piece)
+    }
+
+    #[inline]
+    fn tick_done(&mut self) {
+        self.left -= 1;
+        self.done += 1;
+    }
+}

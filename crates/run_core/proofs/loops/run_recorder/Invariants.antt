@@ -1,5 +1,0 @@
-use Rattle.run_core.specs.Sides.{RecorderRunsAt}
-use Rattle.run_core.proofs.loops.run_recorder.Given as goal
-
-abbrev pub invariant-loop : goal.invariant-loop
-invariant-loop g l = RecorderRunsAt (g.S.Sink.state l.fn.steps) (g.S.Sink.state l.steps) l.fn.side l.side

@@ -1,0 +1,41 @@
+-- What several steps of a side come to.
+use Rattle.std.proofs.Common.{◌≡◌, ℕ, [], ◌∷◌, Some, None, ap, ◌∙◌}
+use Rattle.std.specs.declared.option.Option.{Option}
+use Rattle.atomic_table.specs.Table.{Me, rest}
+use Rattle.status_report.specs.declared.Reply.{Reply}
+use Rattle.serial_ring.specs.declared.view.Sight.{Sight}
+use Rattle.serial_ring.specs.Rule.{with_tail, with_cell, with_stored, with_head, with_read, with_taken, with_slot, with_answered, with_got, with_back, beginning, without_taking, without_storing}
+
+-- the tail was loaded, a cell written and the head stored
+pub byte_stored : (a b d e : Me (Option Reply) Sight) (tail byte : ℕ) → b ≡ (with_tail a.0 tail, a.1) → d ≡ (with_cell b.0 byte, b.1)
+    → ((k : ℕ) → d.0.cell ≡ Some k → e ≡ (with_stored d.0 k, d.1)) → e ≡ (with_stored (with_tail a.0 tail) byte, a.1)
+byte_stored a b d e tail byte saw wrote kept =
+    kept byte (ap (λ m. m.0.cell) wrote) ∙ (ap (λ m. (with_stored m.0 byte, m.1)) wrote ∙ ap (λ m. (with_stored (with_cell m.0 byte) byte, m.1)) saw)
+
+-- the head was loaded, a cell read and the tail stored
+pub byte_taken : (a b d e : Me (Option Reply) Sight) (head byte : ℕ) → b ≡ (with_head a.0 head, a.1) → d ≡ (with_read b.0 byte, b.1)
+    → ((k : ℕ) → d.0.read ≡ Some k → e ≡ (with_taken d.0 k, d.1)) → e ≡ (with_taken (with_head a.0 head) byte, a.1)
+byte_taken a b d e head byte saw read kept =
+    kept byte (ap (λ m. m.0.read) read) ∙ (ap (λ m. (with_taken m.0 byte, m.1)) read ∙ ap (λ m. (with_taken (with_read m.0 byte) byte, m.1)) saw)
+
+-- the tail of the replies was loaded and a slot taken, which was filled and given
+pub reply_answered : (a b d e : Me (Option Reply) Sight) (taken at slot : ℕ) (r : Reply) → a.1 ≡ [] → b ≡ (with_slot a.0 taken, (at, None) ∷ a.1)
+    → d ≡ (b.0, (slot, Some r) ∷ rest b.1) → ((k : ℕ) (s : Reply) → d.1 ≡ (k, Some s) ∷ [] → e ≡ (with_answered d.0 s, []))
+    → e ≡ (with_answered (with_slot a.0 taken) r, [])
+reply_answered a b d e taken at slot r bare reached wrote gave =
+    let none_else : rest b.1 ≡ [] = ap (λ m. rest m.1) reached ∙ bare in
+    gave slot r (ap (λ m. m.1) wrote ∙ ap (λ l. (slot, Some r) ∷ l) none_else)
+    ∙ (ap (λ m. (with_answered m.0 r, [])) wrote ∙ ap (λ m. (with_answered m.0 r, [])) reached)
+
+-- the head of the replies was loaded and a slot taken, which was emptied and given back
+pub reply_got : (a b d e : Me (Option Reply) Sight) (shown at slot : ℕ) (r : Reply) → a.1 ≡ [] → b ≡ (with_got a.0 shown r, (at, Some r) ∷ a.1)
+    → d ≡ (b.0, (slot, None) ∷ rest b.1) → e ≡ (with_back d.0, []) → e ≡ (with_back (with_got a.0 shown r), [])
+reply_got a b d e shown at slot r bare grasped wrote gave =
+    gave ∙ (ap (λ m. (with_back m.0, [])) wrote ∙ ap (λ m. (with_back m.0, [])) grasped)
+
+-- what the two seats of a new link know
+pub host_begins : (made host : Me (Option Reply) Sight) → made ≡ (beginning, []) → host ≡ (without_taking made.0, made.1) → host ≡ (without_taking beginning, [])
+host_begins made host is left = left ∙ ap (λ m. (without_taking m.0, m.1)) is
+
+pub board_begins : (made board : Me (Option Reply) Sight) → made ≡ (beginning, []) → board ≡ (without_storing made.0, []) → board ≡ (without_storing beginning, [])
+board_begins made board is right = right ∙ ap (λ m. (without_storing m.0, [])) is

@@ -1,0 +1,51 @@
+use Rattle.std.proofs.Common.{reverse, refl, sym, ap, ◌∙◌, subst, arith}
+use Rattle.rtrb.specs.Ring.{IsPair}
+use Rattle.serial_ring.specs.Ends.{link_of_host, link_of_board}
+use Rattle.realtime_flags.specs.Ends.{raised_in, taken_in}
+use Rattle.motion_ring.specs.Ends.{ring_of_out, ring_of_in}
+use Rattle.link_ports.specs.declared.thread.HostSide.{HostSide}
+use Rattle.thread_rig.specs.declared.board.BoardSide.{BoardSide}
+use Rattle.motion_ports.specs.declared.threads.PulseSide.{PulseSide}
+use Rattle.motion_ports.specs.declared.threads.RecorderSide.{RecorderSide}
+use Rattle.link_ports.specs.HostSides.{HostIsNew}
+use Rattle.motion_ports.specs.MotionSides.{PulseIsNew, RecorderIsNew}
+use Rattle.thread_rig.specs.BoardSides.{BoardIsNew}
+use Rattle.thread_rig.proofs.rig.Rig.new.Goals as goal
+
+pub returns : goal.returns
+returns c =
+    let host = c.new-2.ensures in
+    let board = c.new-4.ensures in
+    let pulse = c.new-6.ensures in
+    let recorder = c.new-8.ensures in
+    let link = c.in_ok-host_end.ensures in
+    let flags = c.in_ok-raiser.ensures in
+    let pieces = c.in_ok-out.ensures in
+    let records = c.in_ok-records_out.ensures in record {
+      meets = record {
+        link = ap (λ (s : HostSide). link_of_host s.link.end) host ∙ (link.link ∙ sym (ap (λ (s : BoardSide). link_of_board s.link.end) board));
+        flags = ap (λ (s : HostSide). raised_in s.link.flags) host ∙ (flags.table ∙ sym (ap (λ (s : BoardSide). taken_in s.link.flags) board));
+        pieces = ap (λ (s : BoardSide). ring_of_out s.link.pieces) board ∙ (pieces.ring ∙ sym (ap (λ (s : PulseSide). ring_of_in s.pieces.end) pulse));
+        records = subst (λ (s : PulseSide). IsPair s.records.end c.new-8.result.side.records.end) (sym pulse)
+            (subst (λ (s : RecorderSide). IsPair c.in_ok-records_out.records_out.end s.records.end) (sym recorder) records.pair);
+      };
+      host = subst HostIsNew (sym host) (record {
+        did = record { bytes_are = sym (ap reverse link.fresh_host.0); shut_is = sym link.fresh_host.1; replies_are = sym (ap reverse link.fresh_host.2); raises_are = sym flags.fresh.0 };
+        sees = record { room_looks = link.idle_host.0; reply_looks = link.idle_host.1; saw = tt };
+        fits = c.new.ensures;
+      });
+      board = subst BoardIsNew (sym board) (record {
+        did = record {
+          bytes_are = sym (ap reverse link.fresh_board.0);
+          over_is = λ e. absurd cc;
+          replies_are = sym (ap reverse link.fresh_board.2);
+          takes_are = sym flags.fresh.1;
+          pieces_are = sym (ap reverse pieces.fresh.0);
+          known_is = omega arith;
+        };
+        sees = record { byte_looks = link.idle_board.0; room_looks = link.idle_board.1; done_looks = pieces.fresh.2; saw = tt };
+        fits = c.new-3.ensures;
+      });
+      pulse = subst PulseIsNew (sym pulse) (record { got = (refl, pieces.idle.0, pieces.idle.1, pieces.idle.2, pieces.idle.3, tt); put = records.fresh.0; fits = c.new-5.ensures });
+      recorder = subst RecorderIsNew (sym recorder) (record { taken = records.fresh.1; fits = c.new-7.ensures.fits });
+    }

@@ -1,0 +1,37 @@
+-- What the thread of the board has done at its ends.
+use Rattle.std.specs.Prelude.{◌≡◌, []}
+use Rattle.serial_ring.specs.Ends.{link_of_board}
+use Rattle.realtime_flags.specs.Ends.{taken_in}
+use Rattle.motion_ring.specs.Ends.{ring_of_out}
+use Rattle.board_rules.specs.Breaking.{Doings as BoardJournal, log_of as board_log}
+use Rattle.board_rules.specs.Breaking.Doings.{goes}
+use Rattle.controller.specs.Boards.{BoardFits, BoardRests}
+use Rattle.controller.specs.Boards.{IsBetween as IsBetweenOfBoard}
+use Rattle.link_ports.specs.Standing.{BoardLogs, BoardSees}
+use Rattle.thread_rig.specs.declared.board.BoardSide.{BoardSide}
+
+-- ---- no turn was made
+
+pub record BoardIsNew (side : BoardSide) : Type 0 where
+  pub did : BoardLogs side.link []
+  pub sees : BoardSees side.link []
+  pub fits : BoardFits side.board (goes [])
+
+-- ---- turns were made
+
+-- The board has, and what its ends took, answered and published is what its journal says.
+pub record BoardRunsAt (was is : BoardSide) : Type 0 where
+  pub journal : BoardJournal
+  pub link : link_of_board is.link.end ≡ link_of_board was.link.end
+  pub flags : taken_in is.link.flags ≡ taken_in was.link.flags
+  pub pieces : ring_of_out is.link.pieces ≡ ring_of_out was.link.pieces
+  pub did : BoardLogs is.link (board_log journal)
+  pub sees : BoardSees is.link (board_log journal)
+  pub fits : BoardFits is.board journal
+  pub between : IsBetweenOfBoard journal
+
+-- ---- and the board is done
+
+pub record BoardRanAt (was is : BoardSide) : Type 0 where
+  pub runs : BoardRunsAt was is
+  pub done : BoardRests is.board

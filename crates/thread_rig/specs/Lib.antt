@@ -1,0 +1,2 @@
+pub mod BoardSides
+pub mod Rigs

@@ -1,0 +1,58 @@
+-- What a rig stands for: its actors, each with its ends, and how the ends hang together.
+use Rattle.std.specs.Prelude.{◌≡◌, ℕ, List, ◌++◌}
+use Rattle.rtrb.specs.Ring.{sent, received, IsPair}
+use Rattle.step_line.specs.declared.Record.{Record as AnyRecord}
+use Rattle.serial_ring.specs.Ends.{link_of_host, link_of_board, stored_by, closed_by, got_by, taken_by, found_closed, answered_by}
+use Rattle.serial_ring.specs.Rule.{AreTied}
+use Rattle.realtime_flags.specs.Ends.{raised_in, taken_in, raises_by, takes_by}
+use Rattle.realtime_flags.specs.Bits.{IsBalanced}
+use Rattle.motion_ring.specs.Ends.{ring_of_out, ring_of_in, published_by, known_by, counted_by, left_in}
+use Rattle.motion_ring.specs.Ends.{got_by as pieces_got_by}
+use Rattle.motion_ring.specs.Rule.{AreTied as PiecesAreTied}
+use Rattle.status_report.specs.Answering.{receive_room}
+use Rattle.stream_host.specs.Steps.{Journal as HostJournal}
+use Rattle.stream_host.specs.Hosts.{HostFits}
+use Rattle.stream_host.specs.Ran.{end_of}
+use Rattle.run_law.specs.declared.RunEnd.{RunEnd}
+use Rattle.run_law.specs.Runs.{ended}
+use Rattle.thread_rig.specs.declared.rig.Rig.{Rig}
+use Rattle.run_law.specs.Devices.{Devices}
+use Rattle.link_ports.specs.HostSides.{HostIsNew, HostRanAt}
+use Rattle.motion_ports.specs.MotionSides.{PulseIsNew, PulseRanAt, RecorderIsNew, RecorderRanAt}
+use Rattle.thread_rig.specs.BoardSides.{BoardIsNew, BoardRanAt}
+
+-- the ends of a rig are those of one link, of one table of flags, of one ring of pieces and of one of records
+pub record EndsMeet (rig : Rig) : Type 0 where
+  pub link : link_of_host rig.host.side.link.end ≡ link_of_board rig.board.side.link.end
+  pub flags : raised_in rig.host.side.link.flags ≡ taken_in rig.board.side.link.flags
+  pub pieces : ring_of_out rig.board.side.link.pieces ≡ ring_of_in rig.pulse.side.pieces.end
+  pub records : IsPair rig.pulse.side.records.end rig.recorder.side.records.end
+
+-- no turn was made with a rig
+pub record IsNew (rig : Rig) : Type 0 where
+  pub meets : EndsMeet rig
+  pub host : HostIsNew rig.host.side
+  pub board : BoardIsNew rig.board.side
+  pub pulse : PulseIsNew rig.pulse.side
+  pub recorder : RecorderIsNew rig.recorder.side
+
+-- The actors of a rig have run, each over the lists of its ends, until each was done: since the devices told one thing, up to
+-- where they tell another. What is answered is what the host tells, and whether a write of the steps failed.
+pub record RigRan (before after : Devices) (was is : Rig) (end : RunEnd) : Type 0 where
+  pub host : HostRanAt before.job after.job before.console after.console was.host.side is.host.side
+  pub board : BoardRanAt was.board.side is.board.side
+  pub pulse : PulseRanAt was.pulse.side is.pulse.side
+  pub recorder : RecorderRanAt before.steps after.steps was.recorder.side is.recorder.side
+  pub tells : (h : HostJournal) → HostFits is.host.side.host h → end ≡ ended (end_of h) is.recorder.side.recorder.failed
+
+-- What one side has got is a front of what the other gave, and each flag that was raised is taken once or is up. (The lists of
+-- bytes, replies, flags and pieces have the latest first.)
+pub record EndsAgree (rig : Rig) : Type 0 where
+  pub link : AreTied receive_room (stored_by rig.host.side.link.end) (closed_by rig.host.side.link.end) (taken_by rig.board.side.link.end) (found_closed rig.board.side.link.end)
+      (answered_by rig.board.side.link.end) (got_by rig.host.side.link.end)
+  pub words : List ℕ
+  pub flags : IsBalanced words (raises_by rig.host.side.link.flags) (takes_by rig.board.side.link.flags)
+  pub pieces : PiecesAreTied (published_by rig.board.side.link.pieces) (known_by rig.board.side.link.pieces) (pieces_got_by rig.pulse.side.pieces.end) (counted_by rig.pulse.side.pieces.end)
+      (left_in rig.pulse.side.pieces.end)
+  pub untaken : List AnyRecord
+  pub records : sent rig.pulse.side.records.end ≡ received rig.recorder.side.records.end ++ untaken

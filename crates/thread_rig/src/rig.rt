@@ -1,0 +1,197 @@
+//! A run in four threads: the actors, each with its ends of what they share.
+
+ghost use Rattle.std.specs.Prelude.{◌≡◌, IfOk};
+ghost use Rattle.stream_host.specs.Steps.{Journal};
+ghost use Rattle.stream_host.specs.Hosts.{HostFits};
+ghost use Rattle.stream_host.specs.Ran.{end_of};
+ghost use Rattle.run_law.specs.Runs.{ended};
+ghost use Rattle.run_law.specs.Devices.{devices};
+ghost use Rattle.link_ports.specs.HostSides.{HostIsNew, HostRanAt};
+ghost use Rattle.motion_ports.specs.MotionSides.{PulseIsNew, PulseRanAt, RecorderIsNew, RecorderRanAt};
+ghost use Rattle.thread_rig.specs.BoardSides.{BoardIsNew, BoardRanAt};
+ghost use Rattle.thread_rig.specs.Rigs.{IsNew, EndsMeet, RigRan, EndsAgree};
+
+use crate::apart::Apart;
+use crate::board::{BoardSide, run_board};
+use controller::Controller;
+use link_ports::{BoardLink, HostLink, HostSide, run_host};
+use motion_ports::{PiecePort, PulseSide, RecorderSide, join_records, record_ring, run_motion};
+use motion_ring::{join_motion, motion};
+use outside::{Gate, OutOfMemory, Sink, Source};
+use pulse_engine::Pulse;
+use realtime_flags::{flag_table, join_flags};
+use run_law::RunEnd;
+use serial_ring::{join_link, link};
+use std::alloc::Global;
+use std::sync::Wait;
+use std::thread::{Threads, join_mut};
+use step_record::Recorder;
+use stream_host::Host;
+
+/// The four actors of a run, each with its ends of the link, of the flags, and of the rings of pieces and of records.
+#[derive(Drop)]
+pub struct Rig {
+    host: Apart<HostSide>,
+    board: Apart<BoardSide>,
+    pulse: Apart<PulseSide>,
+    recorder: Apart<RecorderSide>,
+}
+
+impl Rig {
+    /// A rig with which no turn was made. All room is taken here.
+    pub fn new(alloc: Global) -> Result<Rig, OutOfMemory>
+        ensures { IfOk result (λ rig. IsNew rig) }
+    {
+        let (host_end, board_end) = link::<128>(alloc)?;
+        let (raiser, taker) = flag_table(alloc)?;
+        let (out, into) = motion(alloc)?;
+        let (records_out, records_in) = record_ring(alloc)?;
+        Ok(Rig {
+            host: Apart::new(HostSide {
+                host: Host::new(),
+                link: HostLink {
+                    end: host_end,
+                    flags: raiser,
+                },
+            }),
+            board: Apart::new(BoardSide {
+                board: Controller::new(),
+                link: BoardLink {
+                    end: board_end,
+                    flags: taker,
+                    pieces: out,
+                },
+            }),
+            pulse: Apart::new(PulseSide {
+                pulse: Pulse::new(),
+                pieces: PiecePort { end: into },
+                records: records_out,
+            }),
+            recorder: Apart::new(RecorderSide {
+                recorder: Recorder::new(),
+                records: records_in,
+            }),
+        })
+    }
+
+    /// How the run ends, as its host tells, and whether a write of the steps failed.
+    fn end(&self) -> RunEnd
+        ensures { (h : Journal) → HostFits self.now.host.side.host h → result ≡ ended (end_of h) self.now.recorder.side.recorder.failed }
+    {
+        let host = &self.host.side.host;
+        RunEnd {
+            stop: host.stop(),
+            answered: host.answered(),
+            errors: host.errors(),
+            source_failed: host.source_failed(),
+            console_failed: host.console_failed(),
+            steps_failed: self.recorder.side.recorder.failed(),
+        }
+    }
+
+    /// Brings the ends together again. What one side has got is a front of what the other gave: the bytes taken of those
+    /// stored, and all of them where the board found the link closed; the replies got of those answered; the pieces got of
+    /// those published; the records taken of those put. Each flag was found down by as many raises as there are takes that
+    /// had it, and by one more where it is up.
+    pub fn join(self)
+        requires { EndsMeet self }
+        ensures { EndsAgree self }
+    {
+        let Rig {
+            host,
+            board,
+            pulse,
+            recorder,
+        } = self;
+        let Apart { side, .. } = host;
+        let HostSide { host: _, link } = side;
+        let Apart { side, .. } = board;
+        let BoardSide {
+            board: _,
+            link: board_link,
+        } = side;
+        let Apart { side, .. } = pulse;
+        let PulseSide {
+            pulse: _,
+            pieces,
+            records: records_out,
+        } = side;
+        let Apart { side, .. } = recorder;
+        let RecorderSide {
+            recorder: _,
+            records: records_in,
+        } = side;
+        join_link(link.end, board_link.end);
+        join_flags(link.flags, board_link.flags);
+        join_motion(board_link.pieces, pieces.end);
+        join_records(records_out, records_in);
+    }
+}
+
+/// Runs a host and a board beside each other.
+fn run_link<R: Threads + Wait + Sync, J: Source + Send, C: Sink + Send, G: Gate + Sync>(
+    rt: &R,
+    host: &mut HostSide,
+    board: &mut BoardSide,
+    job: &mut J,
+    console: &mut C,
+    gate: &G,
+)
+    requires host { HostIsNew host.old }
+    requires board { BoardIsNew board.old }
+    ensures host { HostRanAt (J.state job.old) (J.state job.new) (C.state console.old) (C.state console.new) host.old host.new }
+    ensures board { BoardRanAt board.old board.new }
+{
+    join_mut(
+        rt,
+        &mut ||
+            requires { HostIsNew host.now }
+            ensures { HostRanAt (J.state job.entry.now) (J.state job.exit.now) (C.state console.entry.now) (C.state console.exit.now) host.entry.now host.exit.now }
+        { run_host(rt, host, job, console, gate) },
+        &mut ||
+            requires { BoardIsNew board.now }
+            ensures { BoardRanAt board.entry.now board.exit.now }
+        { run_board(rt, board, gate) },
+    );
+}
+
+/// Runs the actors of a rig with which no turn was made, each in a thread of its own until it is done, and answers how the
+/// run ends. Each actor has kept to its rules at its ends of the rig: what it stored, raised, got, took, answered, published
+/// and put there is what it did, and what its devices gave and took since is what it read and wrote.
+///
+/// Each turn is made only once the gate is passed. Where a thread can't be started, its actor runs before or behind the other,
+/// and such a run may wait for ever.
+pub fn run_threads<
+    R: Threads + Wait + Sync,
+    J: Source + Send,
+    C: Sink + Send,
+    S: Sink + Send,
+    G: Gate + Sync,
+>(rt: &R, rig: &mut Rig, job: &mut J, console: &mut C, steps: &mut S, gate: &G) -> RunEnd
+    requires { IsNew rig.old }
+    ensures ran { RigRan (devices (J.state job.old) (C.state console.old) (S.state steps.old)) (devices (J.state job.new) (C.state console.new) (S.state steps.new)) rig.old rig.new result }
+    ensures meets { EndsMeet rig.new }
+{
+    let Rig {
+        host,
+        board,
+        pulse,
+        recorder,
+    } = rig;
+    join_mut(
+        rt,
+        &mut ||
+            requires host { HostIsNew host.now.side }
+            requires board { BoardIsNew board.now.side }
+            ensures host { HostRanAt (J.state job.entry.now) (J.state job.exit.now) (C.state console.entry.now) (C.state console.exit.now) host.entry.now.side host.exit.now.side }
+            ensures board { BoardRanAt board.entry.now.side board.exit.now.side }
+        { run_link(rt, &mut host.side, &mut board.side, job, console, gate) },
+        &mut ||
+            requires pulse { PulseIsNew pulse.now.side }
+            requires recorder { RecorderIsNew recorder.now.side }
+            ensures pulse { PulseRanAt pulse.entry.now.side pulse.exit.now.side }
+            ensures recorder { RecorderRanAt (S.state steps.entry.now) (S.state steps.exit.now) recorder.entry.now.side recorder.exit.now.side }
+        { run_motion(rt, &mut pulse.side, &mut recorder.side, steps, gate) },
+    );
+    rig.end()
+}

@@ -1,0 +1,37 @@
+//! A run of a job by four actors, each in a thread of its own.
+
+ghost use Rattle.std.specs.Prelude.{◌≡◌, IfOk, OnErr};
+ghost use Rattle.run_law.specs.Devices.{devices, HasRun};
+
+use crate::{Rig, rigs_run, run_threads};
+use outside::{Gate, OutOfMemory, Sink, Source};
+use run_law::RunEnd;
+use std::alloc::Global;
+use std::sync::Wait;
+use std::thread::Threads;
+
+/// Runs a job in four threads, one for each actor, and answers how the run ends. Each turn is taken once the gate is passed. All
+/// room is taken before the first turn; where there is none, no device is touched.
+pub fn run_in_threads<
+    R: Threads + Wait + Sync,
+    So: Source + Send,
+    Co: Sink + Send,
+    St: Sink + Send,
+    G: Gate + Sync,
+>(
+    rt: &R,
+    alloc: Global,
+    job: &mut So,
+    console: &mut Co,
+    steps: &mut St,
+    gate: &G,
+) -> Result<RunEnd, OutOfMemory>
+    ensures run { IfOk result (λ end. HasRun (devices (So.state job.old) (Co.state console.old) (St.state steps.old)) (devices (So.state job.new) (Co.state console.new) (St.state steps.new)) end) }
+    ensures untouched { OnErr result ((job.new ≡ job.old) × (console.new ≡ console.old) × (steps.new ≡ steps.old)) }
+{
+    let mut rig = Rig::new(alloc)?;
+    let end = run_threads(rt, &mut rig, job, console, steps, gate);
+    rig.join();
+    rigs_run();
+    Ok(end)
+}
