@@ -320,8 +320,8 @@ fn records<P: Place<AtomicU64>, Q: Place<Own>, const POLLED: bool>(count: u64) -
     )
 }
 
-/// Lets others run so many times, as the program's threads do where they wait: 16 times for records, four times for bytes and
-/// replies, and once for all else.
+/// Lets others run so many times, as the program's threads do where they wait: eight times for records, four times where the board
+/// waits for the motion, and once for all else.
 fn wait(times: u32) {
     for _ in 0..times {
         thread::yield_now();
@@ -342,7 +342,7 @@ fn events<P: Place<AtomicU64>, Q: Place<Own>>(count: u64) -> u64 {
     let board_runs = || {
         while board.ticks < count {
             if done.load(SeqCst) < board.before[3] {
-                wait(1);
+                wait(4);
                 continue;
             }
             piece_slots.put(board.place, TWENTY);
@@ -388,7 +388,7 @@ fn events<P: Place<AtomicU64>, Q: Place<Own>>(count: u64) -> u64 {
             if recorder.known == recorder.count {
                 recorder.known = sent.load(SeqCst);
                 if recorder.known == recorder.count {
-                    wait(16);
+                    wait(8);
                     continue;
                 }
             }
@@ -436,7 +436,7 @@ fn lines<P: Place<AtomicU64>, Q: Place<Own>>(count: u64) -> u64 {
                 host.count += 1;
                 host.place = place_behind(host.place, 128);
             } else if reply_head.load(SeqCst) == got.count {
-                wait(4);
+                wait(1);
             } else {
                 std::hint::black_box(reply_slots.take(got.place));
                 reply_tail.store(got.count + 1, SeqCst);
@@ -448,7 +448,7 @@ fn lines<P: Place<AtomicU64>, Q: Place<Own>>(count: u64) -> u64 {
     let board_runs = || {
         while given.count < count {
             if head.load(SeqCst) == board.count {
-                wait(4);
+                wait(1);
                 continue;
             }
             let byte = cells[board.place].load(SeqCst);
@@ -459,7 +459,7 @@ fn lines<P: Place<AtomicU64>, Q: Place<Own>>(count: u64) -> u64 {
                 std::hint::black_box(exec.get().fetch_and(0, SeqCst));
                 std::hint::black_box(overrides.get().fetch_and(0, SeqCst));
                 while given.count - reply_tail.load(SeqCst) >= 16 {
-                    wait(4);
+                    wait(1);
                 }
                 reply_slots.put(given.place, [given.count; 16]);
                 reply_head.store(given.count + 1, SeqCst);

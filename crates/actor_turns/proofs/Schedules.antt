@@ -5,7 +5,7 @@ use Rattle.outside.specs.declared.Actor.{Actor}
 use Rattle.outside.specs.declared.Actor.TheVariants as actors
 use Rattle.outside.specs.declared.Turn.{Turn}
 use Rattle.actor_turns.specs.Worlds.{Seen, History, Devices, Adds, Turns, TurnsOn, RunsOn}
-use Rattle.actor_turns.specs.Lockstep.{state_after, number_of, actor_of, state_at, order_from, RunsInOrder, IsInOrder}
+use Rattle.actor_turns.specs.Lockstep.{state_after, number_of, actor_of, state_at, order_from, IsInOrder}
 
 -- one turn more
 one_more : (schedule : List Actor) (actor : Actor) (t : Turn) (w mid w' : Seen) (hist between next : History) → Turns schedule w mid hist between → Adds actor t mid w' between next

@@ -1,5 +1,5 @@
 -- The order of turns in lockstep.
-use Rattle.std.specs.Prelude.{◌≡◌, ℕ, zero, suc, ◌+◌, ◌*◌, ◌/◌, ◌%◌, ◌^◌, true, cond, nat_eq, List, [], ◌∷◌, ◌++◌}
+use Rattle.std.specs.Prelude.{◌≡◌, ℕ, zero, suc, ◌+◌, ◌*◌, ◌/◌, ◌%◌, ◌^◌, ◌≤◌, ◌<◌, true, cond, nat_eq, List, [], ◌∷◌, ◌++◌}
 use Rattle.outside.specs.declared.Actor.{Actor}
 use Rattle.outside.specs.declared.Actor.TheVariants as actors
 use Rattle.actor_turns.specs.Worlds.{Seen, Devices, IsDone, RunsOn}
@@ -29,6 +29,16 @@ state_at seed (suc n) = state_after (state_at seed n)
 abbrev pub order_from : ℕ → ℕ → List Actor
 order_from seed zero = []
 order_from seed (suc n) = order_from seed n ++ actor_of (state_at seed (suc n) / 2 ^ 62) ∷ []
+
+-- from one number, so many further on, to another: each of them gives the pulse or the recorder a turn
+abbrev pub Passes : ℕ → ℕ → ℕ → Type 0
+Passes zero from to = to ≡ from
+Passes (suc n) from to = (mid : ℕ) × Passes n from mid × (to ≡ state_after mid) × (2 ≤ to / 2 ^ 62)
+
+-- of the numbers behind one up to another, these are, in order, those that give the host or the board a turn
+abbrev pub Sifts : ℕ → List ℕ → ℕ → Type 0
+Sifts from [] to = (n : ℕ) × Passes n from to
+Sifts from (number ∷ numbers) to = (n : ℕ) × (before : ℕ) × Passes n from before × (number ≡ state_after before) × (number / 2 ^ 62 < 2) × Sifts number numbers to
 
 -- the turns that a seed gives, as many as there were
 pub record RunsInOrder (seed : ℕ) (before after : Devices) (w w' : Seen) : Type 0 where

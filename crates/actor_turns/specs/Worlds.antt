@@ -18,10 +18,10 @@ use Rattle.controller.specs.Boards.{IsBetween as IsBetweenOfBoard}
 use Rattle.status_report.specs.Answering.{receive_room, reply_room, answers_in, lfs_in}
 use Rattle.step_line.specs.Finishing.{ticks_together, unfinished, most_unfinished}
 use Rattle.pulse_engine.specs.Logs.{PieceLog, RecordLog, pieces_of, counted, records_put}
-use Rattle.pulse_engine.specs.Steps.{Pulsing}
+use Rattle.pulse_engine.specs.Steps.{Pulsing, AwaitsPiece}
 use Rattle.pulse_engine.specs.Turns.{PulseFits, PulseTurned}
 use Rattle.step_record.specs.Taking.{Log, records}
-use Rattle.step_record.specs.Recording.{RecorderFits, RecorderTurned, Rests}
+use Rattle.step_record.specs.Recording.{RecorderFits, RecorderTurned, Rests, Takes}
 use Rattle.run_law.specs.declared.RunEnd.{RunEnd}
 use Rattle.run_law.specs.Runs.{ended}
 pub use Rattle.run_law.specs.Devices.{Devices, devices, sinks, RunsSoFar, HasRun}
@@ -139,6 +139,13 @@ pub record AreDone (w : Seen) : Type 0 where
   pub board : IsDone actors.Board w
   pub pulse : IsDone actors.Pulse w
   pub recorder : IsDone actors.Record w
+
+-- Nothing moves: the pulse has nothing to put, and finds no piece; the recorder has nothing to write, and finds no record.
+pub record MotionRests (w : Seen) : Type 0 where
+  pub no_piece : w.lists.pieces ≡ []
+  pub no_record : w.waiting ≡ []
+  pub pulse : AwaitsPiece w.pulse
+  pub recorder : Takes w.recorder
 
 -- ---- turns one after the other
 

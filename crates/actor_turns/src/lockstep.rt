@@ -1,8 +1,9 @@
 //! Lockstep: the actors take their turns in an order that one number gives, until each has answered Done.
 
-ghost use Rattle.std.specs.Prelude.{◌≡◌, ◌≢◌, ◌↔◌, ◌/◌, ◌^◌, ℕ, true};
-ghost use Rattle.actor_turns.specs.Worlds.{devices, Devices, Seen, HasRunOn, AreDone};
-ghost use Rattle.actor_turns.specs.Lockstep.{state_after, number_of, RunsInOrder, IsInOrder, with_end, AreEnded, HaveAllEnded};
+ghost use Rattle.std.specs.Prelude.{◌≡◌, ◌≢◌, ◌↔◌, ◌≤◌, ◌<◌, ◌/◌, ◌^◌, ℕ, true, take};
+ghost use Rattle.outside.specs.Causes.{SinkState};
+ghost use Rattle.actor_turns.specs.Worlds.{devices, Devices, Seen, HasRunOn, AreDone, MotionRests};
+ghost use Rattle.actor_turns.specs.Lockstep.{state_after, number_of, RunsInOrder, IsInOrder, Sifts, with_end, AreEnded, HaveAllEnded};
 
 use crate::World;
 use outside::{Actor, Sink, Source, Turn};
@@ -27,13 +28,49 @@ impl Order {
         ensures state { self.new.state ≡ state_after self.old.state }
         ensures chosen { number_of result ≡ self.new.state / 2 ^ 62 }
     {
-        self.state = self.state.wrapping_mul(MULTIPLIER).wrapping_add(INCREMENT);
+        self.go_on();
         match self.state >> 62 {
             0 => Actor::Host,
             1 => Actor::Board,
             2 => Actor::Pulse,
             _ => Actor::Record,
         }
+    }
+
+    /// One step of the generator.
+    #[inline]
+    fn go_on(&mut self)
+        ensures { self.new.state ≡ state_after self.old.state }
+    {
+        self.state = self.state.wrapping_mul(MULTIPLIER).wrapping_add(INCREMENT);
+    }
+
+    /// Makes the next 64 steps, and keeps the numbers that give the host or the board a turn, in order. Answers how many. None
+    /// is kept by a branch, since a processor would take every other one wrongly.
+    fn sift(&mut self, numbers: &mut [u64; AT_ONCE]) -> usize
+        ensures sifted { Sifts self.old.state (take result numbers.new) self.new.state }
+        ensures few { result ≤ 64 }
+    {
+        let mut count = 0;
+        for _ in 0..AT_ONCE {
+            self.go_on();
+            numbers[count] = self.state;
+            count += usize::from(self.state >> 62 < 2);
+        }
+        count
+    }
+}
+
+/// Whose turn a number gives that gives the host or the board one.
+#[inline]
+fn sender(number: u64) -> Actor
+    requires { number / 2 ^ 62 < 2 }
+    ensures { number_of result ≡ number / 2 ^ 62 }
+{
+    if number >> 62 == 0 {
+        Actor::Host
+    } else {
+        Actor::Board
     }
 }
 
@@ -82,7 +119,7 @@ impl Ended {
 }
 
 /// So many turns are taken in one go, at most: a loop of a known length costs a turn less than one that may go on forever.
-const TURNS_AT_ONCE: u32 = 64;
+const AT_ONCE: usize = 64;
 
 /// Lets the actors take some turns, in the order that is given, or fewer where all of them have ended then. Answers
 /// whether they have.
@@ -100,7 +137,7 @@ fn take_turns<J: Source, C: Sink, S: Sink>(
     ensures ended { AreEnded ended.old world.old → AreEnded ended.new world.new }
     ensures all { result ≡ true → HaveAllEnded ended.new }
 {
-    for _ in 0..TURNS_AT_ONCE {
+    for _ in 0..AT_ONCE {
         let actor = order.next();
         let turn = world.turn(actor, job, console, steps);
         if ended.learn(actor, turn) {
@@ -108,6 +145,62 @@ fn take_turns<J: Source, C: Sink, S: Sink>(
         }
     }
     false
+}
+
+/// Does the same where nothing moves, until a piece is there: turns of the pulse and of the recorder would change nothing, and
+/// are passed over.
+fn take_turns_of_two<J: Source, C: Sink>(
+    world: &mut World,
+    order: &mut Order,
+    ended: &mut Ended,
+    job: &mut J,
+    console: &mut C,
+) -> bool
+    requires rests { MotionRests world.old }
+    ensures goes_on { (seed : ℕ) (before : Devices) (w : Seen) (steps : SinkState) → IsInOrder seed order.old.state before (devices (J.state job.old) (C.state console.old) steps) w world.old
+        → IsInOrder seed order.new.state before (devices (J.state job.new) (C.state console.new) steps) w world.new }
+    ensures ended { AreEnded ended.old world.old → AreEnded ended.new world.new }
+    ensures all { result ≡ true → HaveAllEnded ended.new }
+{
+    let mut ahead = *order;
+    let mut numbers = [0; AT_ONCE];
+    let count = ahead.sift(&mut numbers);
+    let chosen = &numbers[..count];
+    for number in chosen {
+        order.state = *number;
+        let actor = sender(*number);
+        let turn = world.turn_sender(actor, job, console);
+        if ended.learn(actor, turn) {
+            return true;
+        }
+        if !world.has_no_piece() {
+            return false;
+        }
+    }
+    *order = ahead;
+    false
+}
+
+/// Lets the actors take some turns, in the order that is given. Answers whether all of them have ended.
+#[inline(always)]
+fn take_next_turns<J: Source, C: Sink, S: Sink>(
+    world: &mut World,
+    order: &mut Order,
+    ended: &mut Ended,
+    job: &mut J,
+    console: &mut C,
+    steps: &mut S,
+) -> bool
+    ensures goes_on { (seed : ℕ) (before : Devices) (w : Seen) → IsInOrder seed order.old.state before (devices (J.state job.old) (C.state console.old) (S.state steps.old)) w world.old
+        → IsInOrder seed order.new.state before (devices (J.state job.new) (C.state console.new) (S.state steps.new)) w world.new }
+    ensures ended { AreEnded ended.old world.old → AreEnded ended.new world.new }
+    ensures all { result ≡ true → HaveAllEnded ended.new }
+{
+    if world.rests() {
+        take_turns_of_two(world, order, ended, job, console)
+    } else {
+        take_turns(world, order, ended, job, console, steps)
+    }
 }
 
 /// Lets the actors take turns, in the order that a seed gives, until each has answered Done.
@@ -131,7 +224,7 @@ pub fn run_lockstep<R: Wait, J: Source, C: Sink, S: Sink>(
         recorder: false,
     };
     for _ in rt.forever() {
-        if take_turns(world, &mut order, &mut ended, job, console, steps) {
+        if take_next_turns(world, &mut order, &mut ended, job, console, steps) {
             return;
         }
     }

@@ -1,11 +1,12 @@
 //! The actors of a run, and the lists between them.
 
-ghost use Rattle.std.specs.Prelude.{◌≡◌, ◌≢◌, ◌↔◌, true, IfOk};
+ghost use Rattle.std.specs.Prelude.{◌≡◌, ◌≢◌, ◌↔◌, ◌<◌, true, [], IfOk};
 ghost use Rattle.outside.specs.Causes.{SourceState, SinkState};
 ghost use Rattle.stream_host.specs.Hosts.{HostRests};
 ghost use Rattle.controller.specs.Boards.{BoardRests};
 ghost use Rattle.step_record.specs.Recording.{Rests};
-ghost use Rattle.actor_turns.specs.Worlds.{Devices, devices, History, no_history, Holds, Stands, LinkIsKept, FlagsAreKept, MotionIsKept, TurnsOn, ActsAlone, IsDone, AreDone, end_after, HasRun};
+ghost use Rattle.actor_turns.specs.Worlds.{Devices, devices, History, no_history, Holds, Stands, LinkIsKept, FlagsAreKept, MotionIsKept, TurnsOn, ActsAlone, IsDone, AreDone, MotionRests, end_after, HasRun};
+ghost use Rattle.actor_turns.specs.Lockstep.{number_of};
 
 use crate::worlds_run;
 use controller::Controller;
@@ -117,6 +118,45 @@ impl World {
             Actor::Pulse => self.turn_pulse(),
             Actor::Record => self.turn_recorder(steps),
         }
+    }
+
+    /// A turn of the host or of the board, where the actor is one of the two.
+    #[inline(always)]
+    pub(crate) fn turn_sender<J: Source, C: Sink>(
+        &mut self,
+        actor: Actor,
+        job: &mut J,
+        console: &mut C,
+    ) -> Turn
+        requires { number_of actor < 2 }
+        ensures goes_on { (steps : SinkState) → TurnsOn actor result (devices (J.state job.old) (C.state console.old) steps) (devices (J.state job.new) (C.state console.new) steps) self.old self.new }
+        ensures alone { ActsAlone actor self.old self.new }
+        ensures done { (result ≡ Turn.Done) ↔ IsDone actor self.old }
+        ensures still { IsDone actor self.old → self.new ≡ self.old }
+    {
+        match actor {
+            Actor::Host => self.turn_host(job, console),
+            _ => self.turn_board(),
+        }
+    }
+
+    /// Whether no piece waits for the pulse.
+    #[inline]
+    pub(crate) fn has_no_piece(&self) -> bool
+        ensures { (result ≡ true) ↔ (self.now.lists.pieces ≡ []) }
+    {
+        self.lists.has_no_piece()
+    }
+
+    /// Whether nothing moves: the pulse has nothing to put, and finds no piece, and the recorder has nothing to write, and finds no
+    /// record. Then a turn of either changes nothing.
+    pub(crate) fn rests(&self) -> bool
+        ensures { (result ≡ true) ↔ MotionRests self.now }
+    {
+        self.has_no_piece()
+            && self.waiting.is_empty()
+            && self.pulse.awaits_piece()
+            && self.recorder.takes()
     }
 
     /// What is on its way between the actors comes in order, and has room; no flag is lost, and none is taken twice.

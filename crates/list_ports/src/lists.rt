@@ -1,6 +1,6 @@
 //! The lists between a host, a board and a pulse.
 
-ghost use Rattle.std.specs.Prelude.{◌≡◌, ◌≤◌, ◌+◌, [], length, IfOk};
+ghost use Rattle.std.specs.Prelude.{◌≡◌, ◌≤◌, ◌+◌, ◌↔◌, true, [], length, IfOk};
 ghost use Rattle.status_report.specs.Answering.{receive_room, reply_room};
 ghost use Rattle.step_line.specs.Finishing.{tick_count};
 ghost use Rattle.list_ports.specs.Joining.{Joined, one_if_some};
@@ -85,6 +85,14 @@ impl Lists {
     {
         let _bytes = self.bytes.len();
         let _replies = self.replies.len();
+    }
+
+    /// Whether no piece waits.
+    #[inline]
+    pub fn has_no_piece(&self) -> bool
+        ensures { (result ≡ true) ↔ (self.now.pieces ≡ []) }
+    {
+        self.pieces.is_empty()
     }
 
     /// How many pieces are unfinished, where the end does not wait: those that wait, and the one that was got last

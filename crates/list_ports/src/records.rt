@@ -1,6 +1,6 @@
 //! The records between a pulse and a recorder.
 
-ghost use Rattle.std.specs.Prelude.{◌≡◌, ◌≤◌, ◌++◌, [], ◌∷◌, length, IfOk, IfSome, IfNone, OnOk, OnErr, IfErr};
+ghost use Rattle.std.specs.Prelude.{◌≡◌, ◌≤◌, ◌++◌, ◌↔◌, true, [], ◌∷◌, length, IfOk, IfSome, IfNone, OnOk, OnErr, IfErr};
 ghost use Rattle.step_line.specs.Records.{IsRecord};
 ghost use Rattle.pulse_engine.specs.Logs.{RecordLog};
 ghost use Rattle.pulse_engine.specs.Logs.RecordEvent.{put, full};
@@ -44,6 +44,13 @@ impl Records {
     {
         let held = HeapCircularBuffer::with_capacity(alloc, RECORD_ROOM)?;
         Ok(Records { held })
+    }
+
+    /// Whether no record waits.
+    pub fn is_empty(&self) -> bool
+        ensures { (result ≡ true) ↔ (self.now ≡ []) }
+    {
+        self.held.is_empty()
     }
 
     /// At most 1,024 records wait.

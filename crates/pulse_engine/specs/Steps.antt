@@ -1,5 +1,5 @@
 -- What a pulse has in hand.
-use Rattle.std.specs.Prelude.{◌≡◌, ℕ, ◌+◌, ◌≤◌, ◌⊎◌, Bool, true, false, List, ◌++◌, map, Option, Some, None}
+use Rattle.std.specs.Prelude.{◌≡◌, ℕ, ◌+◌, ◌≤◌, ◌⊎◌, Bool, true, false, List, [], ◌++◌, map, Option, Some, None}
 use Rattle.std.specs.Option.{option_to_list}
 use Rattle.step_line.specs.declared.Piece.{Piece}
 use Rattle.step_line.specs.declared.Piece.TheVariants as pieces
@@ -41,6 +41,12 @@ IsFirst kinds.End n = n ≡ 0
 abbrev pub IsHand : Option Record → ℕ → Type 0
 IsHand None n = Unit {0}
 IsHand (Some r) n = IsFirst r n
+
+-- between two pieces: the next turn gets one, or finds none
+pub record AwaitsPiece (p : Pulsing) : Type 0 where
+  pub nothing_left : p.waiting ≡ []
+  pub counted : p.owes ≡ false
+  pub going : p.over ≡ false
 
 -- what the fields of a pulse keep
 pub record IsKept (hand : Option Record) (t : Trace) (n : ℕ) (owes over : Bool) : Type 0 where

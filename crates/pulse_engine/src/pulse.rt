@@ -92,6 +92,7 @@ fn begin(piece: &Piece, tracer: &mut Tracer, left: &mut u32) -> Record
 impl Pulse {
     ghost use Rattle.std.specs.Prelude.{◌≡◌, ◌↔◌, true, false, []};
     ghost use Rattle.pulse_engine.specs.Logs.{PieceLog, RecordLog};
+    ghost use Rattle.pulse_engine.specs.Steps.{AwaitsPiece};
     ghost use Rattle.pulse_engine.specs.Turns.{PulseFits, PulseTurned};
     ghost use Rattle.outside.specs.declared.On.{On};
 
@@ -110,6 +111,14 @@ impl Pulse {
             owes: false,
             over: false,
         }
+    }
+
+    /// Whether the next turn gets a piece, or finds none: no record is left to be put, no count is owed, and the end was
+    /// not put.
+    pub fn awaits_piece(&self) -> bool
+        ensures { (result ≡ true) ↔ AwaitsPiece self.now }
+    {
+        self.hand.is_none() && self.left == 0 && !self.owes && !self.over
     }
 
     /// A turn between two pieces, when no record is left and no count is owed: it gets a piece, if one is there. It is

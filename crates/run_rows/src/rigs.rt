@@ -3,22 +3,29 @@
 use crate::runs::{Left, ROOM, in_lockstep, in_threads};
 use outside::{Actor, Failed, Gate, MemSink, OutOfMemory, Source};
 use run_core::{Rig, run_threads};
+use std::alloc::Global;
 use std::process::Abort;
+use std::sync::Wait;
 use std::sync::atomic::{AtomicU64, Ordering};
 use std::test::Fail;
+use std::thread::Threads;
 use stream_host::Stop;
 
 /// Jobs with moves that begin and end at rest, and no `$` line behind one, so that all that they give is the same in any order of
-/// turns; one has a word that is refused, and one a line that a soft limit stops.
+/// turns; one has words that are refused, and one a line that a soft limit stops.
 const JOBS: &[&str] = &[
     "",
     "G0X0.004",
     "G1X1\n\nG0X0.02\nG4P0\n",
     "M3S1000\nG0X0.012Y0.008\nM5\n(a comment)\nG0X0Y0\nM2\n",
     "$$\n$#\nG20\nG10L2P1X0.005\nG54\nG0X0.0001\n",
-    "G0X0.004\nG4P0\n$10=1\nX0X1\nM0\n~G0X0.02\nM30\n",
+    "G0X0.004\nG4P0\n$10=1\nX0X1\nG0X0.02\nM30\n",
     "$20=1\nG0X-0.004\nG4P0\nG0X-200.004\nG0X-0.008\n",
 ];
+
+/// A job with a pause that its host resumes: 4,096 of its polls in a row find no reply before, and each lets other threads run,
+/// which takes a while where all processors are busy.
+const PAUSED: &str = "G0X0.004\nM0\n~G0X0.02\nM30\n";
 
 /// Two runs of a job leave the same.
 fn expect_same(rt: &impl Abort, one: &Left, other: &Left, text: &str) {
@@ -27,16 +34,26 @@ fn expect_same(rt: &impl Abort, one: &Left, other: &Left, text: &str) {
     assert_eq!(rt; one.end, other.end, "{text}");
 }
 
+/// A run of a job in threads leaves what one in lockstep does.
+fn expect_as_in_lockstep<R: Threads + Wait + Sync + Abort>(
+    rt: &R,
+    alloc: Global,
+    text: &str,
+) -> Result<(), Fail> {
+    let threads = in_threads(rt, alloc, text, ROOM)?;
+    let lockstep = in_lockstep(rt, alloc, text, 7, 5)?;
+    expect_same(rt, &threads, &lockstep, text);
+    Ok(())
+}
+
 #[test]
 fn threads_do_what_lockstep_does(rt: HostRuntime) -> Result<(), Fail> {
-    for text in JOBS {
-        for _ in 0..10 {
-            let threads = in_threads(&rt, rt.alloc(), text, ROOM)?;
-            let lockstep = in_lockstep(&rt, rt.alloc(), text, 7, 5)?;
-            expect_same(&rt, &threads, &lockstep, text);
+    for _ in 0..3 {
+        for text in JOBS {
+            expect_as_in_lockstep(&rt, rt.alloc(), text)?;
         }
     }
-    Ok(())
+    expect_as_in_lockstep(&rt, rt.alloc(), PAUSED)
 }
 
 /// A console that can't be written ends no run: the steps are whole.

@@ -1,7 +1,7 @@
 //! Runs of a job in memory, and what they leave.
 
 use outside::{Actor, MemSink, MemSource, OpenGate, OutOfMemory};
-use run_core::{Rig, RunEnd, World, run_lockstep, run_schedule, run_threads};
+use run_core::{Order, Rig, RunEnd, World, run_lockstep, run_schedule, run_threads};
 use std::alloc::Global;
 use std::sync::Wait;
 use std::thread::Threads;
@@ -63,6 +63,24 @@ pub(crate) fn in_lockstep<R: Wait>(
         end,
     } = &mut left;
     run_lockstep(rt, &mut world, seed, &mut job, console, steps);
+    *end = world.end();
+    Ok(left)
+}
+
+/// Runs it by the first 40,000 turns of the order of a seed, of which each is taken by itself.
+pub(crate) fn in_order(alloc: Global, text: &str, seed: u64) -> Result<Left<'static>, OutOfMemory> {
+    let mut left = nothing(alloc, ROOM)?;
+    let mut job = MemSource::new(text.as_bytes(), 7, &[]);
+    let mut world = World::new(alloc)?;
+    let mut order = Order { state: seed };
+    let Left {
+        console,
+        steps,
+        end,
+    } = &mut left;
+    for _ in 0..40_000 {
+        world.turn(order.next(), &mut job, console, steps);
+    }
     *end = world.end();
     Ok(left)
 }

@@ -1,6 +1,6 @@
 //! Whole jobs, by a schedule and in lockstep, and a host alone.
 
-use crate::runs::{Left, in_lockstep, in_rounds};
+use crate::runs::{Left, in_lockstep, in_order, in_rounds};
 use outside::{Actor, MemSink, MemSource, On, Turn};
 use run_core::{RunEnd, World, run_schedule};
 use std::process::Abort;
@@ -111,6 +111,24 @@ fn jobs_are_done_in_lockstep(rt: HostRuntime) -> Result<(), Fail> {
         for seed in [0, 1, u64::MAX] {
             expect(&rt, &in_lockstep(&rt, rt.alloc(), row.job, 7, seed)?, row);
         }
+    }
+    Ok(())
+}
+
+/// Lines that move nothing between moves, a rest, a hold, reports and a list: what a run leaves depends on the order of the turns.
+const MIXED: &str =
+    "F100\nG1X0.1\nF200\n?\nF300\nX0\nG4P0\n?\n!\n~\n$G\nF400\nX0.02Y0.02\nX0\nG91\nX0.004\n\n\nY0.01\n?\nF5\n";
+
+/// Turns in which nothing would change may be passed over; so it must leave the same as turns that are taken one by one.
+#[test]
+fn lockstep_is_turn_by_turn(rt: HostRuntime) -> Result<(), Fail> {
+    for seed in [0, 1, 2, 3, 99, u64::MAX] {
+        let left = in_lockstep(&rt, rt.alloc(), MIXED, 7, seed)?;
+        let one_by_one = in_order(rt.alloc(), MIXED, seed)?;
+        assert!(rt; left.console.held() == one_by_one.console.held(), "{seed}");
+        assert!(rt; left.steps.held() == one_by_one.steps.held(), "{seed}");
+        assert_eq!(rt; left.end, one_by_one.end, "{seed}");
+        assert!(rt; left.steps.held().ends_with(b"E\n"), "{seed}");
     }
     Ok(())
 }

@@ -5,14 +5,15 @@ ghost use Rattle.std.specs.Prelude.{◌≡◌, ◌↔◌, true};
 use outside::{On, Turn};
 use std::thread;
 
-/// How many times a thread lets others run before its actor tries again, by what it waits for. A recorder that waits longer finds
-/// a batch of records, of which there is room for 1,024. Of pieces only five are on their way, so that a pulse or a board that
-/// comes late soon has the other stand still. Bytes and replies lie between.
+/// How many times a thread lets others run before its actor tries again, by what it waits for: once, if more times gain
+/// nothing, since each may take some milliseconds on a machine whose processors are all busy. A recorder that waits longer finds
+/// a batch of records, of which there is room for 1,024. A board that looks for the motion takes the count of ticks from the
+/// processor of the pulse, which writes it for each event; five pieces that are not finished last longer than four such times.
 fn yields(on: On) -> u32 {
     match on {
-        On::Records => 16,
-        On::Piece | On::SegmentRoom | On::RecordRoom | On::Motion => 1,
-        On::Byte | On::Answer | On::ReplyRoom | On::Resume => 4,
+        On::Records => 8,
+        On::SegmentRoom | On::Motion => 4,
+        On::Byte | On::Answer | On::ReplyRoom | On::Resume | On::Piece | On::RecordRoom => 1,
     }
 }
 

@@ -1,6 +1,6 @@
 //! The recorder: takes records, and writes their lines to a sink.
 
-ghost use Rattle.std.specs.Prelude.{◌≡◌, ◌≢◌, ◌≤◌, ◌↔◌, [], ◌∷◌, length, IfSome, IfNone};
+ghost use Rattle.std.specs.Prelude.{◌≡◌, ◌≢◌, ◌≤◌, ◌↔◌, true, [], ◌∷◌, length, IfSome, IfNone};
 ghost use Rattle.outside.specs.Causes.{SinkState};
 ghost use Rattle.step_line.specs.Records.{IsRecord};
 ghost use Rattle.step_line.specs.declared.Record.TheVariants.{Event};
@@ -64,6 +64,14 @@ impl Recorder {
         ensures { result ≡ self.now.failed }
     {
         self.writer.failed()
+    }
+
+    /// Whether the next turn takes a record, or finds none.
+    #[inline]
+    pub fn takes(&self) -> bool
+        ensures { (result ≡ true) ↔ Takes self.now }
+    {
+        !self.writer.is_due() && !self.writer.is_asked()
     }
 
     /// Holds the line of an event. Nearly all records are events.

@@ -1,6 +1,6 @@
 //! What the thread of the board has, and what it does.
 
-ghost use Rattle.thread_rig.specs.BoardSides.{BoardIsNew, BoardRanAt};
+ghost use Rattle.thread_rig.specs.BoardSides.{BoardIsNew, BoardRunsAt, BoardRanAt};
 
 use controller::Controller;
 use link_ports::BoardLink;
@@ -15,10 +15,20 @@ pub(crate) struct BoardSide {
     pub(crate) link: BoardLink,
 }
 
-/// Runs a board until it is done.
-pub(crate) fn run_board<R: Wait, G: Gate>(rt: &R, side: &mut BoardSide, gate: &G)
+/// A board's first turn, which tells the banner. It is taken before the host's thread is started: a host that has found no
+/// banner for a while reads on, and its sender may wait for the banner.
+pub(crate) fn begin_board<G: Gate>(side: &mut BoardSide, gate: &G)
     requires { BoardIsNew side.old }
-    ensures { BoardRanAt side.old side.new }
+    ensures { BoardRunsAt side.old side.new }
+{
+    gate.pass(Actor::Board);
+    side.board.turn(&mut side.link);
+}
+
+/// Runs a board, which has begun, until it is done.
+pub(crate) fn run_board<R: Wait, G: Gate>(rt: &R, side: &mut BoardSide, gate: &G)
+    requires { (before : BoardSide) × BoardRunsAt before side.old }
+    ensures { (before : BoardSide) → BoardRunsAt before side.old → BoardRanAt before side.new }
 {
     for _ in rt.forever() {
         gate.pass(Actor::Board);

@@ -8,11 +8,12 @@ ghost use Rattle.run_law.specs.Runs.{ended};
 ghost use Rattle.run_law.specs.Devices.{devices};
 ghost use Rattle.link_ports.specs.HostSides.{HostIsNew, HostRanAt};
 ghost use Rattle.motion_ports.specs.MotionSides.{PulseIsNew, PulseRanAt, RecorderIsNew, RecorderRanAt};
-ghost use Rattle.thread_rig.specs.BoardSides.{BoardIsNew, BoardRanAt};
+ghost use Rattle.thread_rig.specs.BoardSides.{BoardIsNew, BoardRunsAt, BoardRanAt};
+ghost use Rattle.thread_rig.specs.declared.board.BoardSide.{BoardSide};
 ghost use Rattle.thread_rig.specs.Rigs.{IsNew, EndsMeet, RigRan, EndsAgree};
 
 use crate::apart::Apart;
-use crate::board::{BoardSide, run_board};
+use crate::board::{BoardSide, begin_board, run_board};
 use controller::Controller;
 use link_ports::{BoardLink, HostLink, HostSide, run_host};
 use motion_ports::{PiecePort, PulseSide, RecorderSide, join_records, record_ring, run_motion};
@@ -128,7 +129,7 @@ impl Rig {
     }
 }
 
-/// Runs a host and a board beside each other.
+/// Runs a host and a board beside each other. The board has its first turn before the host has any.
 fn run_link<R: Threads + Wait + Sync, J: Source + Send, C: Sink + Send, G: Gate + Sync>(
     rt: &R,
     host: &mut HostSide,
@@ -142,6 +143,7 @@ fn run_link<R: Threads + Wait + Sync, J: Source + Send, C: Sink + Send, G: Gate 
     ensures host { HostRanAt (J.state job.old) (J.state job.new) (C.state console.old) (C.state console.new) host.old host.new }
     ensures board { BoardRanAt board.old board.new }
 {
+    begin_board(board, gate);
     join_mut(
         rt,
         &mut ||
@@ -149,8 +151,8 @@ fn run_link<R: Threads + Wait + Sync, J: Source + Send, C: Sink + Send, G: Gate 
             ensures { HostRanAt (J.state job.entry.now) (J.state job.exit.now) (C.state console.entry.now) (C.state console.exit.now) host.entry.now host.exit.now }
         { run_host(rt, host, job, console, gate) },
         &mut ||
-            requires { BoardIsNew board.now }
-            ensures { BoardRanAt board.entry.now board.exit.now }
+            requires { (before : BoardSide) × BoardRunsAt before board.now }
+            ensures { (before : BoardSide) → BoardRunsAt before board.entry.now → BoardRanAt before board.exit.now }
         { run_board(rt, board, gate) },
     );
 }

@@ -7,11 +7,11 @@ pub loop-init : goal.loop-init
 loop-init g c = (order_nothing _ _ _, none_ended _)
 
 pub loop-preserved : goal.loop-preserved
-loop-preserved g c = (c.take_turns.ensures.goes_on _ _ _ c.loop.invariant.0, c.take_turns.ensures.ended c.loop.invariant.1)
+loop-preserved g c = (c.take_next_turns.ensures.goes_on _ _ _ c.loop.invariant.0, c.take_next_turns.ensures.ended c.loop.invariant.1)
 
-pub returns-then-take_turns-clause-goes_on : goal.returns-then-take_turns-clause-goes_on
-returns-then-take_turns-clause-goes_on g c =
-    let so = (c.take_turns.ensures.goes_on _ _ _ c.loop.invariant.0).order in record { schedule = order_from c.args.seed so.count; runs = so.runs }
+pub returns-then-take_next_turns-clause-goes_on : goal.returns-then-take_next_turns-clause-goes_on
+returns-then-take_next_turns-clause-goes_on g c =
+    let so = (c.take_next_turns.ensures.goes_on _ _ _ c.loop.invariant.0).order in record { schedule = order_from c.args.seed so.count; runs = so.runs }
 
-pub returns-then-take_turns-clause-order : goal.returns-then-take_turns-clause-order
-returns-then-take_turns-clause-order g c = (c.take_turns.ensures.goes_on _ _ _ c.loop.invariant.0).order
+pub returns-then-take_next_turns-clause-order : goal.returns-then-take_next_turns-clause-order
+returns-then-take_next_turns-clause-order g c = (c.take_next_turns.ensures.goes_on _ _ _ c.loop.invariant.0).order
