@@ -1,14 +1,17 @@
 //! The rings that two threads share, in plain Rust: the same words, the same slots and the same orderings as those of
 //! `crates/motion_ring`, `serial_ring`, `realtime_flags` and `rtrb`, to measure the proved ones beside them.
 //!
-//! Its words are what goes through (pieces, bytes, kept, flags, records, polled, events or lines), how the two sides lie (apart
-//! or beside), and how many times. It writes how many came. `kept` is bytes where each side loads the other's count only where
-//! its last load leaves no room, or no byte. `polled` is records where a side that finds nothing polls again at once.
+//! Its words are what goes through (pieces, bytes, loaded, flags, records, polled, events, busy, moves or lines), how the two sides
+//! lie (apart or beside), and how many times. It writes how many came. `loaded` is bytes where each side loads the other's count
+//! in each call, and not only where its last load leaves no room, or no byte. `polled` is records where a side that finds
+//! nothing polls again at once.
 //!
 //! `events` and `lines` are what threads could do at most: all that the program's threads share, and its waiting, with no work
 //! between. `events` go in pieces of 20 from a board through a pulse, which records each and counts it, to a recorder, which
-//! writes them. `lines` of seven bytes go to a board, which takes both words of flags after each and answers it, from a host
-//! that counts characters.
+//! writes them; `busy` are the same, where pulse and recorder have about as many instructions an event as the program's have.
+//! `lines` of seven bytes, as those of the job of still lines, go to a board, which takes both words of flags after
+//! each and answers it, from a host that counts characters; `moves` are lines of eight bytes, as those of the job of short moves,
+//! of which no piece is made.
 use std::cell::UnsafeCell;
 use std::io::Write;
 use std::mem::MaybeUninit;
@@ -201,7 +204,7 @@ fn pieces<P: Place<AtomicU64>, Q: Place<Own>>(count: u64) -> u64 {
 }
 
 /// 128 cells of one word each; the top bit of the head closes.
-fn bytes<P: Place<AtomicU64>, Q: Place<Own>, const KEPT: bool>(count: u64) -> u64 {
+fn bytes<P: Place<AtomicU64>, Q: Place<Own>, const LOADED: bool>(count: u64) -> u64 {
     const ROOM: u64 = 128;
     const CLOSED: u64 = 1 << 63;
     let mut sides = Sides::<P, Q>::new();
@@ -212,7 +215,7 @@ fn bytes<P: Place<AtomicU64>, Q: Place<Own>, const KEPT: bool>(count: u64) -> u6
         || {
             let mut polls = Polls(0);
             while host.count < count {
-                if !KEPT || host.count - host.known >= ROOM {
+                if LOADED || host.count - host.known >= ROOM {
                     host.known = tail.load(SeqCst);
                 }
                 if host.count - host.known >= ROOM {
@@ -229,7 +232,7 @@ fn bytes<P: Place<AtomicU64>, Q: Place<Own>, const KEPT: bool>(count: u64) -> u6
         || {
             let mut polls = Polls(0);
             loop {
-                if !KEPT || board.known == board.count {
+                if LOADED || board.known == board.count {
                     board.known = head.load(SeqCst);
                 }
                 if board.known == board.count + CLOSED {
@@ -320,7 +323,7 @@ fn records<P: Place<AtomicU64>, Q: Place<Own>, const POLLED: bool>(count: u64) -
     )
 }
 
-/// Lets others run so many times, as the program's threads do where they wait: eight times for records, four times where the board
+/// Lets others run so many times, as the program's threads do where they wait: eight times for records, three times where the board
 /// waits for the motion, and once for all else.
 fn wait(times: u32) {
     for _ in 0..times {
@@ -328,8 +331,18 @@ fn wait(times: u32) {
     }
 }
 
-/// Board, pulse and recorder with nothing to do but to pass on so many events.
-fn events<P: Place<AtomicU64>, Q: Place<Own>>(count: u64) -> u64 {
+/// So many additions in memory, four instructions each.
+fn work<const STEPS: usize>(seed: u64) {
+    let mut sums = [seed; 4];
+    for step in 0..STEPS {
+        let sum = &mut sums[step % 4];
+        *sum = std::hint::black_box(*sum).wrapping_add(step as u64);
+    }
+    std::hint::black_box(sums);
+}
+
+/// Board, pulse and recorder with nothing to do but to pass on so many events, and such work for each.
+fn events<P: Place<AtomicU64>, Q: Place<Own>, const STEPS: usize>(count: u64) -> u64 {
     const ROOM: u64 = 1024;
     let mut pieces = Sides::<P, Q>::new();
     let mut records = Sides::<P, Q>::new();
@@ -342,7 +355,7 @@ fn events<P: Place<AtomicU64>, Q: Place<Own>>(count: u64) -> u64 {
     let board_runs = || {
         while board.ticks < count {
             if done.load(SeqCst) < board.before[3] {
-                wait(4);
+                wait(3);
                 continue;
             }
             piece_slots.put(board.place, TWENTY);
@@ -372,6 +385,7 @@ fn events<P: Place<AtomicU64>, Q: Place<Own>>(count: u64) -> u64 {
                     continue;
                 }
             }
+            work::<STEPS>(pulse.ticks);
             record_slots.put(out.place, Record::Event([1, 0, 0]));
             sent.store(out.count + 1, SeqCst);
             out.count += 1;
@@ -392,6 +406,7 @@ fn events<P: Place<AtomicU64>, Q: Place<Own>>(count: u64) -> u64 {
                     continue;
                 }
             }
+            work::<STEPS>(recorder.count);
             if let Record::Event(steps) = record_slots.take(recorder.place) {
                 if text.len() + 3 > 4096 {
                     file.write_all(&text).unwrap();
@@ -414,8 +429,7 @@ fn events<P: Place<AtomicU64>, Q: Place<Own>>(count: u64) -> u64 {
 }
 
 /// Host and board with nothing to do but to pass on so many lines and their answers.
-fn lines<P: Place<AtomicU64>, Q: Place<Own>>(count: u64) -> u64 {
-    const LINE: u64 = 7;
+fn lines<P: Place<AtomicU64>, Q: Place<Own>, const LINE: u64>(count: u64) -> u64 {
     let mut link = Sides::<P, Q>::new();
     let mut replies = Sides::<P, Q>::new();
     let (exec, overrides) = (P::of(AtomicU64::new(0)), P::of(AtomicU64::new(0)));
@@ -429,7 +443,11 @@ fn lines<P: Place<AtomicU64>, Q: Place<Own>>(count: u64) -> u64 {
         while got.count < count {
             let is_open = host.count < count * LINE;
             let begun = host.count / LINE;
-            if is_open && (begun + 1 - got.count) * LINE <= 128 && host.count - tail.load(SeqCst) < 128 {
+            let may_send = is_open && (begun + 1 - got.count) * LINE <= 128;
+            if may_send && host.count - host.known >= 128 {
+                host.known = tail.load(SeqCst);
+            }
+            if may_send && host.count - host.known < 128 {
                 let byte = if host.count % LINE == LINE - 1 { 10 } else { 65 };
                 cells[host.place].store(byte, SeqCst);
                 head.store(host.count + 1, SeqCst);
@@ -447,9 +465,12 @@ fn lines<P: Place<AtomicU64>, Q: Place<Own>>(count: u64) -> u64 {
     };
     let board_runs = || {
         while given.count < count {
-            if head.load(SeqCst) == board.count {
-                wait(1);
-                continue;
+            if board.known == board.count {
+                board.known = head.load(SeqCst);
+                if board.known == board.count {
+                    wait(1);
+                    continue;
+                }
             }
             let byte = cells[board.place].load(SeqCst);
             tail.store(board.count + 1, SeqCst);
@@ -477,12 +498,14 @@ fn send<P: Place<AtomicU64>, Q: Place<Own>>(what: &str, count: u64) -> Option<u6
     match what {
         "pieces" => Some(pieces::<P, Q>(count)),
         "bytes" => Some(bytes::<P, Q, false>(count)),
-        "kept" => Some(bytes::<P, Q, true>(count)),
+        "loaded" => Some(bytes::<P, Q, true>(count)),
         "flags" => Some(flags::<P, Q>(count)),
         "records" => Some(records::<P, Q, false>(count)),
         "polled" => Some(records::<P, Q, true>(count)),
-        "events" => Some(events::<P, Q>(count)),
-        "lines" => Some(lines::<P, Q>(count)),
+        "events" => Some(events::<P, Q, 0>(count)),
+        "busy" => Some(events::<P, Q, 20>(count)),
+        "lines" => Some(lines::<P, Q, 7>(count)),
+        "moves" => Some(lines::<P, Q, 8>(count)),
         _ => None,
     }
 }

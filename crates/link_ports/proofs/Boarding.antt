@@ -1,5 +1,5 @@
 -- What a board's log says through each call.
-use Rattle.std.proofs.Common.{◌≡◌, ℕ, ◌+◌, ◌/◌, ◌^◌, ◌≤◌, ◌<◌, Bool, true, false, cond, nat_eq, List, [], ◌∷◌, ◌++◌, length, reverse, refl, sym, ap, ◌∙◌, subst, arith}
+use Rattle.std.proofs.Common.{◌≡◌, ℕ, ◌+◌, ◌-◌, ◌/◌, ◌^◌, ◌≤◌, ◌<◌, Bool, true, false, cond, nat_eq, List, [], ◌∷◌, ◌++◌, length, reverse, refl, sym, ap, ◌∙◌, subst, arith}
 use Rattle.std.specs.Int.Bits.{bit_and}
 use Rattle.std.proofs.lemmas.List.{length-reverse, reverse-reverse}
 use Rattle.std.proofs.lemmas.Nat.Bits.{shr_and_one}
@@ -17,9 +17,10 @@ use Rattle.realtime_flags.specs.Bits.{report_flag, stood_in, counted, takes_with
 use Rattle.serial_ring.specs.Lists as link
 use Rattle.motion_ring.specs.Ticks as ring
 use Rattle.motion_ring.proofs.Ticks.{together_reversed}
-use Rattle.board_rules.specs.Ports.{PortLog, said, asks_report, reports_in, published_in, MayAnswer, MayPublish, HasTakenFew, HasFewReports, LacksReplyRoom, LacksPieceRoom, MayBeDone}
+use Rattle.board_rules.specs.Ports.{PortLog, said, taken_in, asks_report, reports_in, published_in, MayAnswer, MayPublish, HasTakenFew, HasFewReports, LacksReplyRoom, LacksPieceRoom, MayBeDone}
 use Rattle.board_rules.specs.Ports.PortStep.{took, found_empty, found_closed, found_free, answered, reported, no_reply_room, took_exec, took_ovr, published, no_piece_room, loaded}
-use Rattle.link_ports.specs.Boards.{BoardDid, takes_in}
+use Rattle.link_ports.specs.Loads.{FoundNoByte}
+use Rattle.link_ports.specs.Boards.{BoardDid, takes_in, LooksForBytes}
 use Rattle.link_ports.proofs.Lists.{reverse_on, same_answers, same_lines, by_said}
 
 -- a port that stands for a reply stands for what it is to answer with it
@@ -30,6 +31,26 @@ as_said bytes over replies takes pieces known l = by_said (λ r e. BoardDid byte
     (λ p d. record { bytes_are = d.bytes_are; over_is = d.over_is; replies_are = d.replies_are; takes_are = d.takes_are; pieces_are = d.pieces_are; known_is = d.known_is })
 
 module _ (bytes bytes' : List ℕ) (over over' : Bool) (replies replies' : List Reply) (takes : List Take) (pieces : List Piece) (known : ℕ) (l : PortLog) (d : BoardDid bytes over replies takes pieces known l) where
+  count : length (taken_in l) ≡ length bytes
+  count = ap length d.bytes_are ∙ length-reverse bytes
+
+  -- how often the link was looked at for bytes
+  module _ (k s loads shown : ℕ) (looks : LooksForBytes l k s) where
+    pub looks_and_takes : (b : ℕ) → (length bytes ≡ s → loads ≡ k + 1) → (¬ (length bytes ≡ s) → (loads ≡ k) × (shown ≡ s)) → length bytes < shown → LooksForBytes (took b ∷ l) loads shown
+    looks_and_takes b anew kept there = (k, s, looks, record { look = record { anew = λ e. anew (sym count ∙ e); kept = λ n. kept (λ e. n (count ∙ e)) }; there = (let c = count in omega arith) })
+
+    found_none : length bytes ≡ s → loads ≡ k + 1 → length bytes ≡ shown → FoundNoByte (length (taken_in l)) k s loads shown
+    found_none before anew none = record { before = count ∙ before; look = anew; none = count ∙ none }
+
+    pub looks_in_vain : length bytes ≡ s → loads ≡ k + 1 → length bytes ≡ shown → LooksForBytes (found_empty ∷ l) loads shown
+    looks_in_vain before anew none = (k, s, looks, found_none before anew none)
+
+    pub looks_and_ends : length bytes ≡ s → loads ≡ k + 1 → length bytes ≡ shown → LooksForBytes (found_closed ∷ l) loads shown
+    looks_and_ends before anew none = (k, s, looks, found_none before anew none)
+
+    pub looks_at_room : (n : ℕ) → loads ≡ k + 1 → n + (shown - length bytes) ≡ 128 → LooksForBytes (found_free n ∷ l) loads shown
+    looks_at_room n anew free = (k, s, looks, anew, (let c = count in omega arith))
+
   pub byte_taken : (b : ℕ) → bytes' ≡ b ∷ bytes → (over ≡ true → over' ≡ true) → replies' ≡ replies → BoardDid bytes' over' replies' takes pieces known (took b ∷ l)
   byte_taken b e o g = record {
     bytes_are = ap (λ z. z ++ b ∷ []) d.bytes_are ∙ (sym (reverse_on b bytes) ∙ sym (ap reverse e));

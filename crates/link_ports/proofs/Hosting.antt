@@ -10,7 +10,7 @@ use Rattle.stream_host.specs.Links as host
 use Rattle.stream_host.specs.Ports.{TakesByte, SeemsFull, AnswersLines}
 use Rattle.stream_host.specs.Steps.{PortLog, stored_in, got_in}
 use Rattle.stream_host.specs.Steps.PortStep.{stored, dropped, got, no_reply, shut}
-use Rattle.link_ports.specs.Hosts.{HostDid}
+use Rattle.link_ports.specs.Hosts.{HostDid, LooksForRoom}
 use Rattle.link_ports.proofs.Lists.{reverse_on, same_answers, same_lines, fewer_behind}
 
 -- what holds of a reply, where there is one, by two things that do
@@ -19,6 +19,9 @@ both_some None p q both = tt
 both_some (Some r) p q both = both r p q
 
 module _ (bytes bytes' : List ℕ) (closed closed' : Bool) (replies replies' : List Reply) (raises raises' : List Raise) (h : PortLog) (d : HostDid bytes closed replies raises h) where
+  count : length (stored_in h) ≡ length bytes
+  count = ap length d.bytes_are ∙ length-reverse bytes
+
   pub byte_stored : (b : ℕ) → bytes' ≡ b ∷ bytes → closed' ≡ closed → replies' ≡ replies → raises' ≡ raises → HostDid bytes' closed' replies' raises' (stored b ∷ h)
   byte_stored b e c g r = record {
     bytes_are = ap (λ l. l ++ b ∷ []) d.bytes_are ∙ (sym (reverse_on b bytes) ∙ sym (ap reverse e));
@@ -54,6 +57,14 @@ module _ (bytes bytes' : List ℕ) (closed closed' : Bool) (replies replies' : L
       let f = fewer_behind (answers_in replies) bytes in
       let k : answers_in (got_in h) ≡ answers_in replies = ap answers_in d.replies_are ∙ same_answers replies in
       let e : length (host.behind (answers_in (got_in h)) (stored_in h)) ≡ length (host.behind (answers_in replies) (reverse bytes)) = ap (λ n. length (host.behind n (stored_in h))) k ∙ ap (λ l. length (host.behind (answers_in replies) l)) d.bytes_are in omega arith
+
+  -- how often the link was looked at for room
+  module _ (room k s loads shown : ℕ) (looks : LooksForRoom room h k s) (anew : length bytes ≡ s + room → loads ≡ k + 1) where
+    pub looks_and_stores : (b : ℕ) → (¬ (length bytes ≡ s + room) → (loads ≡ k) × (shown ≡ s)) → length bytes < shown + room → LooksForRoom room (stored b ∷ h) loads shown
+    looks_and_stores b kept there = (k, s, looks, record { look = record { anew = λ e. anew (sym count ∙ e); kept = λ n. kept (λ e. n (count ∙ e)) }; there = (let c = count in omega arith) })
+
+    pub looks_and_drops : (b : ℕ) → length bytes ≡ s + room → length bytes ≡ shown + room → LooksForRoom room (dropped b ∷ h) loads shown
+    looks_and_drops b before none = (k, s, looks, record { before = count ∙ before; look = anew before; none = count ∙ none })
 
   pub answers_lines : (x : Reply) → replies' ≡ x ∷ replies → answers_in replies' ≤ lfs_in bytes → AnswersLines (got x ∷ h)
   answers_lines x g few =

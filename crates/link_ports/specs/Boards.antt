@@ -10,6 +10,7 @@ use Rattle.serial_ring.specs.declared.ends.BoardEnd.{BoardEnd}
 use Rattle.serial_ring.specs.Ends.{taken_by, found_closed as closed_for, bytes_shown, head_loads_of, answered_by, replies_taken, room_loads_of}
 use Rattle.motion_ring.specs.declared.ends.SegOut.{SegOut}
 use Rattle.motion_ring.specs.Ends.{known_by, done_loads_of}
+use Rattle.link_ports.specs.Loads.{TookByte, FoundNoByte}
 use Rattle.board_rules.specs.Ports.{PortStep, PortLog, taken_in, has_closed_in, answered_in, published_in, known_in}
 use Rattle.board_rules.specs.Ports.PortStep.{took, found_empty, found_closed, found_free, answered, reported, no_reply_room, took_exec, took_ovr, published, no_piece_room, loaded}
 
@@ -33,23 +34,17 @@ pub record BoardDid (bytes : List ℕ) (over : Bool) (replies : List Reply) (tak
   pub pieces_are : published_in l ≡ reverse pieces
   pub known_is : known_in l ≤ known
 
--- the head showed that all bytes are taken, and whether the link is closed
-pub record SawNoByte (bytes taken : ℕ) (closed is_closed : Bool) : Type 0 where
-  pub all_taken : bytes ≡ taken
-  pub told : closed ≡ is_closed
+-- How often the head of the bytes was loaded, and how many bytes it showed stored at last: a call that finds no byte, or that
+-- tells the room, loads it once, and a call that takes a byte loads it if all that it had shown were taken.
+abbrev pub LooksForBytes : PortLog → (loads shown : ℕ) → Type 0
+LooksForBytes [] loads shown = (loads ≡ 0) × (shown ≡ 0)
+LooksForBytes (took b ∷ l) loads shown = (k s : ℕ) × LooksForBytes l k s × TookByte (length (taken_in l)) k s loads shown
+LooksForBytes (found_empty ∷ l) loads shown = (k s : ℕ) × LooksForBytes l k s × FoundNoByte (length (taken_in l)) k s loads shown
+LooksForBytes (found_closed ∷ l) loads shown = (k s : ℕ) × LooksForBytes l k s × FoundNoByte (length (taken_in l)) k s loads shown
+LooksForBytes (found_free n ∷ l) loads shown = (k s : ℕ) × LooksForBytes l k s × (loads ≡ k + 1) × (n + (shown - length (taken_in l)) ≡ receive_room)
+LooksForBytes (e ∷ l) loads shown = LooksForBytes l loads shown
 
--- how often it was looked for bytes, for room for a reply, and for the done count
-abbrev pub byte_looks_at : PortStep → ℕ → ℕ
-byte_looks_at (took b) n = n + 1
-byte_looks_at found_empty n = n + 1
-byte_looks_at found_closed n = n + 1
-byte_looks_at (found_free free) n = n + 1
-byte_looks_at e n = n
-
-abbrev pub byte_looks_in : PortLog → ℕ
-byte_looks_in [] = 0
-byte_looks_in (e ∷ l) = byte_looks_at e (byte_looks_in l)
-
+-- how often it was looked for room for a reply, and for the done count
 abbrev pub room_looks_at : PortStep → ℕ → ℕ
 room_looks_at (answered r) n = n + 1
 room_looks_at (reported r) n = n + 1
@@ -70,24 +65,21 @@ abbrev pub done_looks_in : PortLog → ℕ
 done_looks_in [] = 0
 done_looks_in (e ∷ l) = done_looks_at e (done_looks_in l)
 
--- What was loaded last showed: no byte is found only where the head showed that all are taken, and the link is found closed
--- only where it was; a reply is handed back only where the tail of the replies showed 16 untaken ones; the room and the ticks
--- that it tells are those that it loaded.
-abbrev pub BoardSaw : PortLog → (bytes taken : ℕ) (closed : Bool) (replies got known : ℕ) → Type 0
-BoardSaw [] bytes taken closed replies got known = Unit {0}
-BoardSaw (found_empty ∷ l) bytes taken closed replies got known = SawNoByte bytes taken closed false
-BoardSaw (found_closed ∷ l) bytes taken closed replies got known = SawNoByte bytes taken closed true
-BoardSaw (found_free n ∷ l) bytes taken closed replies got known = n + (bytes - taken) ≡ receive_room
-BoardSaw (no_reply_room ∷ l) bytes taken closed replies got known = replies ≡ got + reply_room
-BoardSaw (no_piece_room n ∷ l) bytes taken closed replies got known = known ≡ n
-BoardSaw (loaded n ∷ l) bytes taken closed replies got known = known ≡ n
-BoardSaw (e ∷ l) bytes taken closed replies got known = Unit {0}
+-- What was loaded last showed: the link is found closed exactly if the head showed it closed; a reply is handed back only where
+-- the tail of the replies showed 16 untaken ones; the ticks that it tells are those that it loaded.
+abbrev pub BoardSaw : PortLog → (closed : Bool) (replies got known : ℕ) → Type 0
+BoardSaw [] closed replies got known = Unit {0}
+BoardSaw (found_empty ∷ l) closed replies got known = closed ≡ false
+BoardSaw (found_closed ∷ l) closed replies got known = closed ≡ true
+BoardSaw (no_reply_room ∷ l) closed replies got known = replies ≡ got + reply_room
+BoardSaw (no_piece_room n ∷ l) closed replies got known = known ≡ n
+BoardSaw (loaded n ∷ l) closed replies got known = known ≡ n
+BoardSaw (e ∷ l) closed replies got known = Unit {0}
 
--- The ends have loaded the head of the bytes once each time that they looked for bytes, the tail of the replies once each time that
--- they looked for room, and the done count once each time that they looked for that. So what the last look found is what its own
--- load showed.
+-- The ends have loaded the head of the bytes as often as they had to, the tail of the replies once each time that they looked for
+-- room, and the done count once each time that they looked for that. So what is not found is what a load of that call showed.
 pub record BoardLooked {room : ℕ} (end : BoardEnd room) (pieces : SegOut) (l : PortLog) : Type 0 where
-  pub byte_looks : head_loads_of end ≡ byte_looks_in l
+  pub byte_looks : LooksForBytes l (head_loads_of end) (bytes_shown end)
   pub room_looks : room_loads_of end ≡ room_looks_in l
   pub done_looks : done_loads_of pieces ≡ done_looks_in l
-  pub saw : BoardSaw l (bytes_shown end) (length (taken_by end)) (closed_for end) (length (answered_by end)) (replies_taken end) (known_by pieces)
+  pub saw : BoardSaw l (closed_for end) (length (answered_by end)) (replies_taken end) (known_by pieces)

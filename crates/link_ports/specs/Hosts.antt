@@ -7,6 +7,7 @@ use Rattle.realtime_flags.specs.declared.words.Raise.{Raise}
 use Rattle.realtime_flags.specs.Bytes.{flag_of_byte}
 use Rattle.serial_ring.specs.declared.ends.HostEnd.{HostEnd}
 use Rattle.serial_ring.specs.Ends.{stored_by, tail_shown, tail_loads_of, got_by, replies_shown, reply_loads_of}
+use Rattle.link_ports.specs.Loads.{StoredByte, FoundNoRoom}
 use Rattle.stream_host.specs.Steps.{PortLog, stored_in, got_in, is_shut_in}
 use Rattle.stream_host.specs.Steps.PortStep.{stored, dropped, raised, got, no_reply, shut}
 
@@ -32,16 +33,18 @@ pub record HostDid (bytes : List ℕ) (closed : Bool) (replies : List Reply) (ra
   pub replies_are : got_in h ≡ reverse replies
   pub raises_are : raises_in h ≡ raises
 
--- how often it was looked for room, and for a reply
-abbrev pub room_looks_in : PortLog → ℕ
-room_looks_in [] = 0
-room_looks_in (stored b ∷ h) = room_looks_in h + 1
-room_looks_in (dropped b ∷ h) = room_looks_in h + 1
-room_looks_in (raised b down ∷ h) = room_looks_in h
-room_looks_in (got r ∷ h) = room_looks_in h
-room_looks_in (no_reply ∷ h) = room_looks_in h
-room_looks_in (shut ∷ h) = room_looks_in h
+-- How often the tail of the bytes was loaded, and how many bytes it showed taken at last: a call that stores a byte, or drops it,
+-- loads it if it had shown no room for one.
+abbrev pub LooksForRoom : (room : ℕ) → PortLog → (loads shown : ℕ) → Type 0
+LooksForRoom room [] loads shown = (loads ≡ 0) × (shown ≡ 0)
+LooksForRoom room (stored b ∷ h) loads shown = (k s : ℕ) × LooksForRoom room h k s × StoredByte room (length (stored_in h)) k s loads shown
+LooksForRoom room (dropped b ∷ h) loads shown = (k s : ℕ) × LooksForRoom room h k s × FoundNoRoom room (length (stored_in h)) k s loads shown
+LooksForRoom room (raised b down ∷ h) loads shown = LooksForRoom room h loads shown
+LooksForRoom room (got r ∷ h) loads shown = LooksForRoom room h loads shown
+LooksForRoom room (no_reply ∷ h) loads shown = LooksForRoom room h loads shown
+LooksForRoom room (shut ∷ h) loads shown = LooksForRoom room h loads shown
 
+-- how often it was looked for a reply
 abbrev pub reply_looks_in : PortLog → ℕ
 reply_looks_in [] = 0
 reply_looks_in (stored b ∷ h) = reply_looks_in h
@@ -51,20 +54,19 @@ reply_looks_in (got r ∷ h) = reply_looks_in h + 1
 reply_looks_in (no_reply ∷ h) = reply_looks_in h + 1
 reply_looks_in (shut ∷ h) = reply_looks_in h
 
--- What was loaded last showed: a byte is dropped only where the tail showed no room for it, and no reply is found only where
--- the head of the replies showed that all are obtained.
-abbrev pub HostSaw : PortLog → (room bytes taken replies obtained : ℕ) → Type 0
-HostSaw [] room bytes taken replies obtained = Unit {0}
-HostSaw (stored b ∷ h) room bytes taken replies obtained = Unit {0}
-HostSaw (dropped b ∷ h) room bytes taken replies obtained = bytes ≡ taken + room
-HostSaw (raised b down ∷ h) room bytes taken replies obtained = Unit {0}
-HostSaw (got r ∷ h) room bytes taken replies obtained = Unit {0}
-HostSaw (no_reply ∷ h) room bytes taken replies obtained = replies ≡ obtained
-HostSaw (shut ∷ h) room bytes taken replies obtained = Unit {0}
+-- What was loaded last showed: no reply is found only where the head of the replies showed that all are obtained.
+abbrev pub HostSaw : PortLog → (replies obtained : ℕ) → Type 0
+HostSaw [] replies obtained = Unit {0}
+HostSaw (stored b ∷ h) replies obtained = Unit {0}
+HostSaw (dropped b ∷ h) replies obtained = Unit {0}
+HostSaw (raised b down ∷ h) replies obtained = Unit {0}
+HostSaw (got r ∷ h) replies obtained = Unit {0}
+HostSaw (no_reply ∷ h) replies obtained = replies ≡ obtained
+HostSaw (shut ∷ h) replies obtained = Unit {0}
 
--- The end has loaded the tail once each time that it looked for room, and the head of the replies once each time that it looked for
--- a reply. So what the last look found is what its own load showed.
+-- The end has loaded the tail of the bytes as often as it had to, and the head of the replies once each time that it looked for a
+-- reply. So what is not found is what a load of that call showed.
 pub record HostLooked {room : ℕ} (end : HostEnd room) (h : PortLog) : Type 0 where
-  pub room_looks : tail_loads_of end ≡ room_looks_in h
+  pub room_looks : LooksForRoom room h (tail_loads_of end) (tail_shown end)
   pub reply_looks : reply_loads_of end ≡ reply_looks_in h
-  pub saw : HostSaw h room (length (stored_by end)) (tail_shown end) (replies_shown end) (length (got_by end))
+  pub saw : HostSaw h (replies_shown end) (length (got_by end))

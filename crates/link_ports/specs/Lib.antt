@@ -1,3 +1,4 @@
+pub mod Loads
 pub mod Hosts
 pub mod Boards
 pub mod Standing

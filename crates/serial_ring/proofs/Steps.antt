@@ -456,7 +456,7 @@ ties room slots id v c storing taking s k size at small =
 abbrev no_reply : Option Reply
 no_reply = None
 
-pub starts : (room : ℕ) → IsRoom room → Kept room (opening (replicate 320 0) (replicate 16 no_reply) beginning)
+pub starts : (room : ℕ) → IsRoom room → Kept room (opening (replicate 352 0) (replicate 16 no_reply) beginning)
 starts room sized = record {
   stored = [];
   taken = [];

@@ -4,19 +4,15 @@ use Rattle.std.specs.declared.option.Option.{Option}
 use Rattle.atomic_table.specs.Table.{Me, rest}
 use Rattle.status_report.specs.declared.Reply.{Reply}
 use Rattle.serial_ring.specs.declared.view.Sight.{Sight}
-use Rattle.serial_ring.specs.Rule.{with_tail, with_cell, with_stored, with_head, with_read, with_taken, with_slot, with_answered, with_got, with_back, beginning, without_taking, without_storing}
+use Rattle.serial_ring.specs.Rule.{with_cell, with_stored, with_read, with_taken, with_slot, with_answered, with_got, with_back, beginning, without_taking, without_storing}
 
--- the tail was loaded, a cell written and the head stored
-pub byte_stored : (a b d e : Me (Option Reply) Sight) (tail byte : ℕ) → b ≡ (with_tail a.0 tail, a.1) → d ≡ (with_cell b.0 byte, b.1)
-    → ((k : ℕ) → d.0.cell ≡ Some k → e ≡ (with_stored d.0 k, d.1)) → e ≡ (with_stored (with_tail a.0 tail) byte, a.1)
-byte_stored a b d e tail byte saw wrote kept =
-    kept byte (ap (λ m. m.0.cell) wrote) ∙ (ap (λ m. (with_stored m.0 byte, m.1)) wrote ∙ ap (λ m. (with_stored (with_cell m.0 byte) byte, m.1)) saw)
+-- a cell was written and the head stored
+pub byte_stored : (a b d : Me (Option Reply) Sight) (byte : ℕ) → b ≡ (with_cell a.0 byte, a.1) → ((k : ℕ) → b.0.cell ≡ Some k → d ≡ (with_stored b.0 k, b.1)) → d ≡ (with_stored a.0 byte, a.1)
+byte_stored a b d byte wrote kept = kept byte (ap (λ m. m.0.cell) wrote) ∙ ap (λ m. (with_stored m.0 byte, m.1)) wrote
 
--- the head was loaded, a cell read and the tail stored
-pub byte_taken : (a b d e : Me (Option Reply) Sight) (head byte : ℕ) → b ≡ (with_head a.0 head, a.1) → d ≡ (with_read b.0 byte, b.1)
-    → ((k : ℕ) → d.0.read ≡ Some k → e ≡ (with_taken d.0 k, d.1)) → e ≡ (with_taken (with_head a.0 head) byte, a.1)
-byte_taken a b d e head byte saw read kept =
-    kept byte (ap (λ m. m.0.read) read) ∙ (ap (λ m. (with_taken m.0 byte, m.1)) read ∙ ap (λ m. (with_taken (with_read m.0 byte) byte, m.1)) saw)
+-- a cell was read and the tail stored
+pub byte_taken : (a b d : Me (Option Reply) Sight) (byte : ℕ) → b ≡ (with_read a.0 byte, a.1) → ((k : ℕ) → b.0.read ≡ Some k → d ≡ (with_taken b.0 k, b.1)) → d ≡ (with_taken a.0 byte, a.1)
+byte_taken a b d byte read kept = kept byte (ap (λ m. m.0.read) read) ∙ ap (λ m. (with_taken m.0 byte, m.1)) read
 
 -- the tail of the replies was loaded and a slot taken, which was filled and given
 pub reply_answered : (a b d e : Me (Option Reply) Sight) (taken at slot : ℕ) (r : Reply) → a.1 ≡ [] → b ≡ (with_slot a.0 taken, (at, None) ∷ a.1)

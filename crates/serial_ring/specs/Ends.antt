@@ -1,5 +1,5 @@
 -- What the two ends stand for.
-use Rattle.std.specs.Prelude.{ℕ, Bool, List}
+use Rattle.std.specs.Prelude.{◌≡◌, ℕ, ◌+◌, Bool, List, length}
 use Rattle.atomic_table.specs.Seated.{TableId}
 use Rattle.status_report.specs.declared.Reply.{Reply}
 use Rattle.serial_ring.specs.declared.ends.HostEnd.{HostEnd}
@@ -24,6 +24,10 @@ module _ {room : ℕ} (h : HostEnd room) where
 
   abbrev pub tail_loads_of : ℕ
   tail_loads_of = h.seat.me.0.tail_loads
+
+  -- the tail that it loaded last shows no room for a byte
+  abbrev pub IsFull : Type 0
+  IsFull = length stored_by ≡ tail_shown + room
 
   -- the replies got
   abbrev pub got_by : List Reply
@@ -54,6 +58,10 @@ module _ {room : ℕ} (b : BoardEnd room) where
 
   abbrev pub head_loads_of : ℕ
   head_loads_of = b.seat.me.0.head_loads
+
+  -- all bytes that the head shows that it loaded last are taken
+  abbrev pub HasTakenAll : Type 0
+  HasTakenAll = length taken_by ≡ bytes_shown
 
   -- the replies answered
   abbrev pub answered_by : List Reply

@@ -15,25 +15,25 @@ use Rattle.serial_ring.specs.declared.view.Sight.{Sight}
 use Rattle.serial_ring.specs.Lists.{IsRoom, behind, AreReplies}
 use Rattle.status_report.specs.Answering.{reply_room, lfs_in, answers_in}
 
--- the words that the host writes, and 256 bytes after them those that the board writes
+-- the words that the host writes, and 256 bytes after them those that the board writes; each 128 bytes from the next
 abbrev pub head_word : ℕ
 head_word = 0
 
 abbrev pub reply_tail_word : ℕ
-reply_tail_word = 1
+reply_tail_word = 16
 
 abbrev pub tail_word : ℕ
-tail_word = 32
+tail_word = 48
 
 abbrev pub reply_head_word : ℕ
-reply_head_word = 33
+reply_head_word = 64
 
--- then the cells, as many as the greatest link has
+-- 256 bytes after them the cells, which the host writes, as many as the greatest link has
 abbrev pub first_cell : ℕ
-first_cell = 64
+first_cell = 96
 
 abbrev pub all_words : ℕ
-all_words = 320
+all_words = 352
 
 abbrev pub cell_of : ℕ → ℕ → ℕ
 cell_of room k = first_cell + k % room

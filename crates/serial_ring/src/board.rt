@@ -2,7 +2,7 @@
 ghost use Rattle.std.specs.Prelude.{◌≡◌, ◌+◌, ◌-◌, ◌^◌, ◌<◌, ◌≤◌, true, false, ◌∷◌, length, OnOk, OnErr, IfErr, ℕ};
 ghost use Rattle.serial_ring.specs.Lists.{MayAnswer};
 ghost use Rattle.status_report.specs.Answering.{reply_room};
-ghost use Rattle.serial_ring.specs.Ends.{link_of_board, taken_by, found_closed, bytes_shown, head_loads_of, answered_by, replies_taken, room_loads_of};
+ghost use Rattle.serial_ring.specs.Ends.{link_of_board, taken_by, found_closed, bytes_shown, head_loads_of, HasTakenAll, answered_by, replies_taken, room_loads_of};
 
 use crate::ends::BoardEnd;
 use crate::joined::{CLOSED, FIRST_CELL, HEAD, REPLY_HEAD, REPLY_ROOM, REPLY_TAIL, TAIL};
@@ -12,28 +12,47 @@ use shared_rings::place_behind;
 use status_report::Reply;
 
 impl<const RX: usize> BoardEnd<RX> {
-    /// The next byte, of at most 2^31. If the head that it loads, once, is the number of bytes taken, the
-    /// answer is Closed if it is closed, and else Empty.
-    #[inline]
-    pub fn byte(&mut self) -> ByteIn
+    /// Loads the head of the bytes.
+    fn look(&mut self)
         ensures load { head_loads_of self.new ≡ head_loads_of self.old + 1 }
-        ensures byte { (b : ℕ) → result ≡ ByteIn.Byte b → (taken_by self.new ≡ b ∷ taken_by self.old) × (length (taken_by self.old) < bytes_shown self.new) }
-        ensures few { (b : ℕ) → result ≡ ByteIn.Byte b → length (taken_by self.old) < 2 ^ 31 }
-        ensures empty { result ≡ ByteIn.Empty → (taken_by self.new ≡ taken_by self.old) × (bytes_shown self.new ≡ length (taken_by self.old)) × (found_closed self.new ≡ false) }
+        ensures taken { taken_by self.new ≡ taken_by self.old }
         ensures over { found_closed self.old ≡ true → found_closed self.new ≡ true }
-        ensures closed { result ≡ ByteIn.Closed → (taken_by self.new ≡ taken_by self.old) × (bytes_shown self.new ≡ length (taken_by self.old)) × (found_closed self.new ≡ true) }
         ensures answered { answered_by self.new ≡ answered_by self.old }
         ensures loads { room_loads_of self.new ≡ room_loads_of self.old }
         ensures link { link_of_board self.new ≡ link_of_board self.old }
     {
         let shared = &self.table.shared;
         let head = shared.load::<SeeHead<RX>>(&mut self.seat, HEAD);
-        if head == self.taken + CLOSED {
-            return ByteIn::Closed;
+        self.stored = head % CLOSED;
+        self.over = head == self.taken + CLOSED;
+    }
+
+    /// The next byte, of at most 2^31. If all bytes that the head showed that it loaded last are taken, it loads it once, and
+    /// if that shows no more, the answer is Closed if it is closed, and else Empty.
+    #[inline]
+    pub fn byte(&mut self) -> ByteIn
+        ensures load { HasTakenAll self.old → head_loads_of self.new ≡ head_loads_of self.old + 1 }
+        ensures kept { ¬ HasTakenAll self.old → (head_loads_of self.new ≡ head_loads_of self.old) × (bytes_shown self.new ≡ bytes_shown self.old) }
+        ensures byte { (b : ℕ) → result ≡ ByteIn.Byte b → (taken_by self.new ≡ b ∷ taken_by self.old) × (length (taken_by self.old) < bytes_shown self.new) }
+        ensures few { (b : ℕ) → result ≡ ByteIn.Byte b → length (taken_by self.old) < 2 ^ 31 }
+        ensures empty { result ≡ ByteIn.Empty → (taken_by self.new ≡ taken_by self.old) × HasTakenAll self.old × HasTakenAll self.new × (found_closed self.new ≡ false) }
+        ensures over { found_closed self.old ≡ true → found_closed self.new ≡ true }
+        ensures closed { result ≡ ByteIn.Closed → (taken_by self.new ≡ taken_by self.old) × HasTakenAll self.old × HasTakenAll self.new × (found_closed self.new ≡ true) }
+        ensures answered { answered_by self.new ≡ answered_by self.old }
+        ensures loads { room_loads_of self.new ≡ room_loads_of self.old }
+        ensures link { link_of_board self.new ≡ link_of_board self.old }
+    {
+        if self.taken == self.stored {
+            self.look();
         }
-        if head == self.taken {
-            return ByteIn::Empty;
+        if self.taken == self.stored {
+            return if self.over {
+                ByteIn::Closed
+            } else {
+                ByteIn::Empty
+            };
         }
+        let shared = &self.table.shared;
         let byte = shared.load::<Look>(&mut self.seat, FIRST_CELL + self.cell) as u8;
         shared.store::<TakeByte>(&mut self.seat, TAIL, self.taken + 1);
         self.taken += 1;
@@ -53,9 +72,8 @@ impl<const RX: usize> BoardEnd<RX> {
         ensures loads { room_loads_of self.new ≡ room_loads_of self.old }
         ensures link { link_of_board self.new ≡ link_of_board self.old }
     {
-        let shared = &self.table.shared;
-        let head = shared.load::<SeeHead<RX>>(&mut self.seat, HEAD);
-        (RX as u64 - (head % CLOSED - self.taken)) as u8
+        self.look();
+        (RX as u64 - (self.stored - self.taken)) as u8
     }
 
     /// Answers, or hands the reply back exactly if the tail of the replies that it loads, once, shows 16 untaken ones.
@@ -69,7 +87,7 @@ impl<const RX: usize> BoardEnd<RX> {
         ensures full { OnErr result ((answered_by self.new ≡ answered_by self.old) × (length (answered_by self.old) ≡ replies_taken self.new + reply_room)) }
         ensures back { IfErr result (λ handed. handed ≡ r) }
         ensures taken { (taken_by self.new ≡ taken_by self.old) × (found_closed self.new ≡ found_closed self.old) }
-        ensures polls { head_loads_of self.new ≡ head_loads_of self.old }
+        ensures polls { (head_loads_of self.new ≡ head_loads_of self.old) × (bytes_shown self.new ≡ bytes_shown self.old) }
         ensures link { link_of_board self.new ≡ link_of_board self.old }
     {
         let shared = &self.table.shared;

@@ -3,7 +3,7 @@ ghost use Rattle.std.specs.Prelude.{◌≡◌, ◌+◌, ◌^◌, ◌<◌, ◌≤
 ghost use Rattle.status_report.specs.Replies.{IsReply};
 ghost use Rattle.serial_ring.specs.Lists.{behind};
 ghost use Rattle.status_report.specs.Answering.{answers_in, lfs_in};
-ghost use Rattle.serial_ring.specs.Ends.{link_of_host, stored_by, closed_by, tail_shown, tail_loads_of, got_by, replies_shown, reply_loads_of};
+ghost use Rattle.serial_ring.specs.Ends.{link_of_host, stored_by, closed_by, tail_shown, tail_loads_of, IsFull, got_by, replies_shown, reply_loads_of};
 
 use crate::ends::HostEnd;
 use crate::joined::{CLOSED, FIRST_CELL, HEAD, REPLY_HEAD, REPLY_ROOM, REPLY_TAIL, TAIL};
@@ -13,27 +13,43 @@ use shared_rings::place_behind;
 use status_report::Reply;
 
 impl<const RX: usize> HostEnd<RX> {
-    /// Stores a byte, or drops it exactly if the tail that it loads, once, shows no room for one. The unread bytes are
-    /// at most those after the last line whose answer was got, so a host that keeps these below the room loses none.
+    /// Loads the tail of the bytes. What it shows unread is at most what stands behind the last line whose answer was got.
+    fn look(&mut self)
+        ensures load { tail_loads_of self.new ≡ tail_loads_of self.old + 1 }
+        ensures unread { length (stored_by self.old) ≤ tail_shown self.new + length (behind (answers_in (got_by self.old)) (stored_by self.old)) }
+        ensures stored { (stored_by self.new ≡ stored_by self.old) × (closed_by self.new ≡ closed_by self.old) }
+        ensures got { got_by self.new ≡ got_by self.old }
+        ensures polls { reply_loads_of self.new ≡ reply_loads_of self.old }
+        ensures link { link_of_host self.new ≡ link_of_host self.old }
+    {
+        self.taken = self.table.shared.load::<SeeTail<RX>>(&mut self.seat, TAIL);
+    }
+
+    /// Stores a byte. If the tail that it loaded last shows no room for one, it loads it once, and drops the byte exactly
+    /// if that shows none either. The unread bytes that the load shows are at most those after the last line whose answer
+    /// was got, so a host that keeps these below the room loses none.
     #[inline]
     pub fn store(&mut self, byte: u8) -> Stored
         requires still { closed_by self.old ≡ false }
         requires few { length (stored_by self.old) < 2 ^ 31 }
-        ensures load { tail_loads_of self.new ≡ tail_loads_of self.old + 1 }
+        ensures load { IsFull self.old → tail_loads_of self.new ≡ tail_loads_of self.old + 1 }
+        ensures kept { ¬ IsFull self.old → (tail_loads_of self.new ≡ tail_loads_of self.old) × (tail_shown self.new ≡ tail_shown self.old) }
         ensures stored { result ≡ Stored.Stored → stored_by self.new ≡ byte ∷ stored_by self.old }
         ensures room { result ≡ Stored.Stored → length (stored_by self.old) < tail_shown self.new + RX }
-        ensures dropped { result ≡ Stored.Dropped → (stored_by self.new ≡ stored_by self.old) × (length (stored_by self.old) ≡ tail_shown self.new + RX) }
-        ensures unread { length (stored_by self.old) ≤ tail_shown self.new + length (behind (answers_in (got_by self.old)) (stored_by self.old)) }
+        ensures dropped { result ≡ Stored.Dropped → (stored_by self.new ≡ stored_by self.old) × IsFull self.old × IsFull self.new }
+        ensures unread { IsFull self.old → length (stored_by self.old) ≤ tail_shown self.new + length (behind (answers_in (got_by self.old)) (stored_by self.old)) }
         ensures open { closed_by self.new ≡ false }
         ensures got { got_by self.new ≡ got_by self.old }
         ensures polls { reply_loads_of self.new ≡ reply_loads_of self.old }
         ensures link { link_of_host self.new ≡ link_of_host self.old }
     {
-        let shared = &self.table.shared;
-        let taken = shared.load::<SeeTail<RX>>(&mut self.seat, TAIL);
-        if self.stored - taken >= RX as u64 {
+        if self.stored - self.taken == RX as u64 {
+            self.look();
+        }
+        if self.stored - self.taken == RX as u64 {
             return Stored::Dropped;
         }
+        let shared = &self.table.shared;
         shared.store::<Write>(&mut self.seat, FIRST_CELL + self.cell, byte as u64);
         shared.store::<StoreByte>(&mut self.seat, HEAD, self.stored + 1);
         self.stored += 1;
@@ -47,7 +63,7 @@ impl<const RX: usize> HostEnd<RX> {
         ensures closed { closed_by self.new ≡ true }
         ensures stored { stored_by self.new ≡ stored_by self.old }
         ensures got { got_by self.new ≡ got_by self.old }
-        ensures loads { (tail_loads_of self.new ≡ tail_loads_of self.old) × (reply_loads_of self.new ≡ reply_loads_of self.old) }
+        ensures loads { (tail_loads_of self.new ≡ tail_loads_of self.old) × (tail_shown self.new ≡ tail_shown self.old) × (reply_loads_of self.new ≡ reply_loads_of self.old) }
         ensures link { link_of_host self.new ≡ link_of_host self.old }
     {
         self.table
@@ -65,7 +81,7 @@ impl<const RX: usize> HostEnd<RX> {
         ensures fewer { IfSome result (λ r. answers_in (got_by self.new) ≤ lfs_in (stored_by self.old)) }
         ensures none { IfNone result ((got_by self.new ≡ got_by self.old) × (replies_shown self.new ≡ length (got_by self.old))) }
         ensures stored { (stored_by self.new ≡ stored_by self.old) × (closed_by self.new ≡ closed_by self.old) }
-        ensures tail { tail_loads_of self.new ≡ tail_loads_of self.old }
+        ensures tail { (tail_loads_of self.new ≡ tail_loads_of self.old) × (tail_shown self.new ≡ tail_shown self.old) }
         ensures link { link_of_host self.new ≡ link_of_host self.old }
     {
         let shared = &self.table.shared;

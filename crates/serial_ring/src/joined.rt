@@ -2,7 +2,7 @@
 ghost use Rattle.std.specs.Prelude.{◌≡◌, false, [], IfOk};
 ghost use Rattle.serial_ring.specs.Lists.{IsRoom};
 ghost use Rattle.serial_ring.specs.Rule.{AreTied};
-ghost use Rattle.serial_ring.specs.Ends.{link_of_host, link_of_board, stored_by, closed_by, tail_loads_of, got_by, reply_loads_of, taken_by, found_closed, head_loads_of, answered_by, room_loads_of};
+ghost use Rattle.serial_ring.specs.Ends.{link_of_host, link_of_board, stored_by, closed_by, tail_loads_of, tail_shown, got_by, reply_loads_of, taken_by, found_closed, head_loads_of, bytes_shown, answered_by, room_loads_of};
 
 use crate::ends::{BoardEnd, HostEnd};
 use crate::plays::{Sides, Tie};
@@ -14,18 +14,20 @@ use std::sync::Arc;
 
 /// How many replies may be untaken.
 pub(crate) const REPLY_ROOM: usize = 16;
-/// The host writes these words and the cells.
+/// The host writes these words and the cells, the board the two between. Each stands 128 bytes or more from the next, since
+/// what one side looks at each turn must not lie beside what the other writes each turn; and what the host writes stands 256
+/// from what the board writes.
 pub(crate) const HEAD: usize = 0;
 
-pub(crate) const REPLY_TAIL: usize = 1;
-/// The board writes these, 256 bytes after the others.
-pub(crate) const TAIL: usize = 32;
+pub(crate) const REPLY_TAIL: usize = 16;
 
-pub(crate) const REPLY_HEAD: usize = 33;
+pub(crate) const TAIL: usize = 48;
+
+pub(crate) const REPLY_HEAD: usize = 64;
 /// There are as many cells as the greatest link has.
-pub(crate) const FIRST_CELL: usize = 64;
+pub(crate) const FIRST_CELL: usize = 96;
 
-const WORDS: usize = 320;
+const WORDS: usize = 352;
 /// The top bit of the head closes the link.
 pub(crate) const CLOSED: u64 = 1 << 63;
 
@@ -34,9 +36,9 @@ pub fn link<const RX: usize>(alloc: Global) -> Result<(HostEnd<RX>, BoardEnd<RX>
     requires { IsRoom RX }
     ensures link { IfOk result (λ r. link_of_host r.0 ≡ link_of_board r.1) }
     ensures fresh_host { IfOk result (λ r. (stored_by r.0 ≡ []) × (closed_by r.0 ≡ false) × (got_by r.0 ≡ [])) }
-    ensures idle_host { IfOk result (λ r. (tail_loads_of r.0 ≡ 0) × (reply_loads_of r.0 ≡ 0)) }
+    ensures idle_host { IfOk result (λ r. (tail_loads_of r.0 ≡ 0) × (tail_shown r.0 ≡ 0) × (reply_loads_of r.0 ≡ 0)) }
     ensures fresh_board { IfOk result (λ r. (taken_by r.1 ≡ []) × (found_closed r.1 ≡ false) × (answered_by r.1 ≡ [])) }
-    ensures idle_board { IfOk result (λ r. (head_loads_of r.1 ≡ 0) × (room_loads_of r.1 ≡ 0)) }
+    ensures idle_board { IfOk result (λ r. (head_loads_of r.1 ≡ 0) × (bytes_shown r.1 ≡ 0) × (room_loads_of r.1 ≡ 0)) }
 {
     let (table, mut seat): (LinkTable<RX>, Place) = Table::vacant(
         alloc,
@@ -51,6 +53,7 @@ pub fn link<const RX: usize>(alloc: Global) -> Result<(HostEnd<RX>, BoardEnd<RX>
         table,
         seat,
         stored: 0,
+        taken: 0,
         cell: 0,
         got: 0,
         slot: 0,
@@ -59,6 +62,8 @@ pub fn link<const RX: usize>(alloc: Global) -> Result<(HostEnd<RX>, BoardEnd<RX>
         table: other,
         seat: far,
         taken: 0,
+        stored: 0,
+        over: false,
         cell: 0,
         answered: 0,
         slot: 0,
@@ -77,6 +82,7 @@ pub fn join_link<const RX: usize>(host: HostEnd<RX>, board: BoardEnd<RX>)
         table,
         mut seat,
         stored: _,
+        taken: _,
         cell: _,
         got: _,
         slot: _,
@@ -85,6 +91,8 @@ pub fn join_link<const RX: usize>(host: HostEnd<RX>, board: BoardEnd<RX>)
         table: _,
         seat: far,
         taken: _,
+        stored: _,
+        over: _,
         cell: _,
         answered: _,
         slot: _,

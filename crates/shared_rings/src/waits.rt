@@ -8,11 +8,11 @@ use std::thread;
 /// How many times a thread lets others run before its actor tries again, by what it waits for: once, if more times gain
 /// nothing, since each may take some milliseconds on a machine whose processors are all busy. A recorder that waits longer finds
 /// a batch of records, of which there is room for 1,024. A board that looks for the motion takes the count of ticks from the
-/// processor of the pulse, which writes it for each event; five pieces that are not finished last longer than four such times.
+/// processor of the pulse, which writes it for each event; five pieces that are not finished last longer than three such times.
 fn yields(on: On) -> u32 {
     match on {
         On::Records => 8,
-        On::SegmentRoom | On::Motion => 4,
+        On::SegmentRoom | On::Motion => 3,
         On::Byte | On::Answer | On::ReplyRoom | On::Resume | On::Piece | On::RecordRoom => 1,
     }
 }

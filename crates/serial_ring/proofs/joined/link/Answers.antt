@@ -38,10 +38,10 @@ pub returns-clause-fresh_host : goal.returns-clause-fresh_host
 returns-clause-fresh_host g c = let host = host_begins _ _ c.in_ok-table.ensures.4 c.split_seat-far.ensures.2 in (ap (λ m. m.0.stored) host, ap (λ m. m.0.closed) host, ap (λ m. m.0.got) host)
 
 pub returns-clause-idle_host : goal.returns-clause-idle_host
-returns-clause-idle_host g c = let host = host_begins _ _ c.in_ok-table.ensures.4 c.split_seat-far.ensures.2 in (ap (λ m. m.0.tail_loads) host, ap (λ m. m.0.reply_head_loads) host)
+returns-clause-idle_host g c = let host = host_begins _ _ c.in_ok-table.ensures.4 c.split_seat-far.ensures.2 in (ap (λ m. m.0.tail_loads) host, ap (λ m. m.0.tail) host, ap (λ m. m.0.reply_head_loads) host)
 
 pub returns-clause-fresh_board : goal.returns-clause-fresh_board
 returns-clause-fresh_board g c = let board = board_begins _ _ c.in_ok-table.ensures.4 c.split_seat-far.ensures.4 in (ap (λ m. m.0.taken) board, ap (λ m. m.0.over) board, ap (λ m. m.0.answered) board)
 
 pub returns-clause-idle_board : goal.returns-clause-idle_board
-returns-clause-idle_board g c = let board = board_begins _ _ c.in_ok-table.ensures.4 c.split_seat-far.ensures.4 in (ap (λ m. m.0.head_loads) board, ap (λ m. m.0.reply_tail_loads) board)
+returns-clause-idle_board g c = let board = board_begins _ _ c.in_ok-table.ensures.4 c.split_seat-far.ensures.4 in (ap (λ m. m.0.head_loads) board, ap (λ m. m.0.head) board, ap (λ m. m.0.reply_tail_loads) board)

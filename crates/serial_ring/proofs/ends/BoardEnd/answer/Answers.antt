@@ -36,6 +36,8 @@ invariant_of-self g c =
       bare = ap (λ m. m.1) saw ∙ o.bare;
       mine = (ap (λ m. m.0.may_take) saw ∙ o.mine.0, ap (λ m. m.0.filling) saw ∙ o.mine.1);
       bytes = o.bytes ∙ sym (ap (λ m. length m.0.taken) saw);
+      shown = (o.shown.0 ∙ sym (ap (λ m. m.0.head) saw), o.shown.1, o.shown.2, o.shown.3);
+      ended = o.ended ∙ sym (ap (λ m. m.0.over) saw);
       celled = o.celled;
       replies = o.replies ∙ sym (ap (λ m. length m.0.answered) saw);
       slotted = o.slotted;
@@ -48,7 +50,7 @@ pub returns-then-self-taken-clause-taken : goal.returns-then-self-taken-clause-t
 returns-then-self-taken-clause-taken g c = let full = c.load-taken.ensures.2.3 (omega arith) in (ap (λ m. m.0.taken) full, ap (λ m. m.0.over) full)
 
 pub returns-then-self-taken-clause-polls : goal.returns-then-self-taken-clause-polls
-returns-then-self-taken-clause-polls g c = ap (λ m. m.0.head_loads) (c.load-taken.ensures.2.3 (omega arith))
+returns-then-self-taken-clause-polls g c = let full = c.load-taken.ensures.2.3 (omega arith) in (ap (λ m. m.0.head_loads) full, ap (λ m. m.0.head) full)
 
 pub returns-then-self-taken-clause-link : goal.returns-then-self-taken-clause-link
 returns-then-self-taken-clause-link g c = c.load-taken.ensures.0
@@ -67,6 +69,8 @@ invariant_of-self-2 g c =
       bare = ap (λ m. m.1) all;
       mine = (ap (λ m. m.0.may_take) all ∙ o.mine.0, ap (λ m. m.0.filling) all);
       bytes = o.bytes ∙ sym (ap (λ m. length m.0.taken) all);
+      shown = (o.shown.0 ∙ sym (ap (λ m. m.0.head) all), o.shown.1, o.shown.2, o.shown.3);
+      ended = o.ended ∙ sym (ap (λ m. m.0.over) all);
       celled = o.celled;
       replies = omega arith;
       slotted = c.place_behind-self.ensures ∙ next_place o.slot o.answered 16 o.slotted;
@@ -84,7 +88,9 @@ returns-clause-taken g c =
     (ap (λ m. m.0.taken) all, ap (λ m. m.0.over) all)
 
 pub returns-clause-polls : goal.returns-clause-polls
-returns-clause-polls g c = ap (λ m. m.0.head_loads) (reply_answered c.args.self.now.seat.me c.load-taken.new.seat.me c.exchange.new.seat.me _ c.load-taken.result _ c.args.self.now.slot c.args.r c.args.self.now.bare (c.load-taken.ensures.2.2 (omega arith)) c.exchange.ensures.3 c.store.ensures.2)
+returns-clause-polls g c =
+    let all = reply_answered c.args.self.now.seat.me c.load-taken.new.seat.me c.exchange.new.seat.me _ c.load-taken.result _ c.args.self.now.slot c.args.r c.args.self.now.bare (c.load-taken.ensures.2.2 (omega arith)) c.exchange.ensures.3 c.store.ensures.2 in
+    (ap (λ m. m.0.head_loads) all, ap (λ m. m.0.head) all)
 
 pub returns-clause-link : goal.returns-clause-link
 returns-clause-link g c = c.store.ensures.0 ∙ (c.exchange.ensures.0 ∙ c.load-taken.ensures.0)

@@ -45,6 +45,7 @@ invariant_of-self g c =
       bare = ap (λ m. m.1) none ∙ o.bare;
       mine = (ap (λ m. m.0.may_store) none ∙ o.mine.0, ap (λ m. m.0.emptying) none ∙ o.mine.1);
       bytes = (o.bytes.0 ∙ sym (ap (λ m. length m.0.stored) none), o.bytes.1);
+      shown = (o.shown.0 ∙ sym (ap (λ m. m.0.tail) none), o.shown.1, o.shown.2);
       celled = o.celled;
       replies = o.replies ∙ sym (ap (λ m. length m.0.got) none);
       slotted = o.slotted;
@@ -63,7 +64,7 @@ pub returns-then-shown-self-clause-stored : goal.returns-then-shown-self-clause-
 returns-then-shown-self-clause-stored g c = let was = c.args.self.now.replies in let none = c.load-shown.ensures.2.3 (omega arith) in (ap (λ m. m.0.stored) none, ap (λ m. m.0.closed) none)
 
 pub returns-then-shown-self-clause-tail : goal.returns-then-shown-self-clause-tail
-returns-then-shown-self-clause-tail g c = let was = c.args.self.now.replies in let none = c.load-shown.ensures.2.3 (omega arith) in ap (λ m. m.0.tail_loads) none
+returns-then-shown-self-clause-tail g c = let was = c.args.self.now.replies in let none = c.load-shown.ensures.2.3 (omega arith) in (ap (λ m. m.0.tail_loads) none, ap (λ m. m.0.tail) none)
 
 pub returns-then-shown-self-clause-link : goal.returns-then-shown-self-clause-link
 returns-then-shown-self-clause-link g c = c.load-shown.ensures.0
@@ -82,6 +83,7 @@ invariant_of-self-2 g c =
       bare = ap (λ m. m.1) all;
       mine = (ap (λ m. m.0.may_store) all ∙ o.mine.0, ap (λ m. m.0.emptying) all);
       bytes = (o.bytes.0 ∙ sym (ap (λ m. length m.0.stored) all), o.bytes.1);
+      shown = (o.shown.0 ∙ sym (ap (λ m. m.0.tail) all), o.shown.1, o.shown.2);
       celled = o.celled;
       replies = omega arith;
       slotted = c.place_behind-self.ensures ∙ next_place o.slot o.got 16 o.slotted;
@@ -97,7 +99,10 @@ returns-clause-stored g c =
     (ap (λ m. m.0.stored) all, ap (λ m. m.0.closed) all)
 
 pub returns-clause-tail : goal.returns-clause-tail
-returns-clause-tail g c = let was = c.args.self.now.replies in let found = c.load-shown.ensures.2.2 (omega arith) in ap (λ m. m.0.tail_loads) (reply_got c.args.self.now.seat.me c.load-shown.new.seat.me c.exchange.new.seat.me _ c.load-shown.result _ c.args.self.now.slot found.0 c.args.self.now.bare found.1 c.exchange.ensures.3 c.store.ensures.2)
+returns-clause-tail g c =
+    let was = c.args.self.now.replies in let found = c.load-shown.ensures.2.2 (omega arith) in
+    let all = reply_got c.args.self.now.seat.me c.load-shown.new.seat.me c.exchange.new.seat.me _ c.load-shown.result _ c.args.self.now.slot found.0 c.args.self.now.bare found.1 c.exchange.ensures.3 c.store.ensures.2 in
+    (ap (λ m. m.0.tail_loads) all, ap (λ m. m.0.tail) all)
 
 pub returns-clause-link : goal.returns-clause-link
 returns-clause-link g c = c.store.ensures.0 ∙ (c.exchange.ensures.0 ∙ c.load-shown.ensures.0)

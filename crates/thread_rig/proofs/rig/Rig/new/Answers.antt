@@ -31,7 +31,7 @@ returns c =
       };
       host = subst HostIsNew (sym host) (record {
         did = record { bytes_are = sym (ap reverse link.fresh_host.0); shut_is = sym link.fresh_host.1; replies_are = sym (ap reverse link.fresh_host.2); raises_are = sym flags.fresh.0 };
-        sees = record { room_looks = link.idle_host.0; reply_looks = link.idle_host.1; saw = tt };
+        sees = record { room_looks = (link.idle_host.0, link.idle_host.1); reply_looks = link.idle_host.2; saw = tt };
         fits = c.new.ensures;
       });
       board = subst BoardIsNew (sym board) (record {
@@ -43,7 +43,7 @@ returns c =
           pieces_are = sym (ap reverse pieces.fresh.0);
           known_is = omega arith;
         };
-        sees = record { byte_looks = link.idle_board.0; room_looks = link.idle_board.1; done_looks = pieces.fresh.2; saw = tt };
+        sees = record { byte_looks = (link.idle_board.0, link.idle_board.1); room_looks = link.idle_board.2; done_looks = pieces.fresh.2; saw = tt };
         fits = c.new-3.ensures;
       });
       pulse = subst PulseIsNew (sym pulse) (record { got = (refl, pieces.idle.0, pieces.idle.1, pieces.idle.2, pieces.idle.3, tt); put = records.fresh.0; fits = c.new-5.ensures });
