@@ -1,0 +1,1 @@
+"""The texts of a run, read: the job, the console, and the steps."""
