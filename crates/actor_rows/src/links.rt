@@ -1,7 +1,7 @@
 //! The first calls on a fresh link, and two threads.
 
 ghost use Rattle.std.specs.Prelude.{◌≡◌, ◌≤◌, false, [], length};
-ghost use Rattle.serial_ring.specs.Ends.{closed_by, stored_by, answered_by};
+ghost use Rattle.serial_ring.specs.Ends.{closed_by, stored_by, marks_by, log_by, answered_by};
 
 use serial_ring::{BoardEnd, ByteIn, HostEnd, Stored, join_link, link};
 use status_report::Reply;
@@ -60,6 +60,77 @@ fn refused_memory_is_told(rt: HostRuntime) {
     }
 }
 
+#[test]
+fn mark_at_the_start(rt: HostRuntime) {
+    let (mut host, mut board) = link::<128>(rt.alloc()).expect(&rt, "memory");
+    assert_eq!(rt; board.marked(), (0, 0));
+    host.mark();
+    assert_eq!(rt; board.marked(), (1, 0));
+    assert_eq!(rt; board.marked(), (1, 0));
+    assert_eq!(rt; board.byte(), ByteIn::Empty);
+    join_link(host, board);
+}
+
+#[test]
+fn mark_behind_five_bytes_of_which_three_are_taken(rt: HostRuntime) {
+    let (mut host, mut board) = link::<128>(rt.alloc()).expect(&rt, "memory");
+    assert_eq!(rt; host.store(b'G'), Stored::Stored);
+    assert_eq!(rt; host.store(b'0'), Stored::Stored);
+    assert_eq!(rt; host.store(b'X'), Stored::Stored);
+    assert_eq!(rt; host.store(b'1'), Stored::Stored);
+    assert_eq!(rt; host.store(b'2'), Stored::Stored);
+    assert_eq!(rt; board.byte(), ByteIn::Byte(b'G'));
+    assert_eq!(rt; board.byte(), ByteIn::Byte(b'0'));
+    assert_eq!(rt; board.byte(), ByteIn::Byte(b'X'));
+    host.mark();
+    assert_eq!(rt; host.store(b'M'), Stored::Stored);
+    assert_eq!(rt; board.marked(), (1, 5));
+    assert_eq!(rt; board.byte(), ByteIn::Byte(b'1'));
+    assert_eq!(rt; board.byte(), ByteIn::Byte(b'2'));
+    assert_eq!(rt; board.byte(), ByteIn::Byte(b'M'));
+    assert_eq!(rt; board.byte(), ByteIn::Empty);
+    host.mark();
+    assert_eq!(rt; board.marked(), (2, 6));
+    join_link(host, board);
+}
+
+#[test]
+fn closed_comes_behind_the_bytes_of_a_mark(rt: HostRuntime) {
+    let (mut host, mut board) = link::<128>(rt.alloc()).expect(&rt, "memory");
+    assert_eq!(rt; host.store(b'G'), Stored::Stored);
+    assert_eq!(rt; host.store(b'0'), Stored::Stored);
+    host.mark();
+    host.close();
+    assert_eq!(rt; board.marked(), (1, 2));
+    assert_eq!(rt; board.byte(), ByteIn::Byte(b'G'));
+    assert_eq!(rt; board.byte(), ByteIn::Byte(b'0'));
+    assert_eq!(rt; board.byte(), ByteIn::Closed);
+    join_link(host, board);
+}
+
+/// Greets, stores a mark, and greets again if the mark that is loaded is new, and no byte stands before it.
+fn greet_twice(host: &mut HostEnd<128>, board: &mut BoardEnd<128>) -> Result<(), Reply>
+    requires none { log_by board.old ≡ [] }
+    requires fresh { marks_by host.old ≡ [] }
+{
+    board.answer(Reply::Banner)?;
+    host.mark();
+    let (number, bytes) = board.marked();
+    if number == 0 || bytes > 0 {
+        return Err(Reply::Bye);
+    }
+    board.answer(Reply::Banner)
+}
+
+#[test]
+fn second_banner_comes_behind_a_mark(rt: HostRuntime) {
+    let (mut host, mut board) = link::<128>(rt.alloc()).expect(&rt, "memory");
+    assert!(rt; greet_twice(&mut host, &mut board).is_ok());
+    assert!(rt; matches!(host.reply(), Some(Reply::Banner)));
+    assert!(rt; matches!(host.reply(), Some(Reply::Banner)));
+    assert!(rt; host.reply().is_none());
+}
+
 /// Stores bytes until one is dropped, and counts those that were not.
 fn fill<R: Wait, const RX: usize>(rt: &R, mut host: HostEnd<RX>) -> (HostEnd<RX>, u32)
     requires { (closed_by host ≡ false) × (stored_by host ≡ []) }
@@ -78,7 +149,7 @@ fn fill<R: Wait, const RX: usize>(rt: &R, mut host: HostEnd<RX>) -> (HostEnd<RX>
     (host, stored)
 }
 
-/// Answers by greetings until one is handed back, and counts those that were not.
+/// Answers by alarms until one is handed back, and counts those that were not.
 fn fill_replies<R: Wait>(rt: &R, mut board: BoardEnd<128>) -> (BoardEnd<128>, u32)
     requires { answered_by board ≡ [] }
 {
@@ -87,7 +158,7 @@ fn fill_replies<R: Wait>(rt: &R, mut board: BoardEnd<128>) -> (BoardEnd<128>, u3
         if answered >= 1000 {
             break;
         }
-        match board.answer(Reply::Banner) {
+        match board.answer(Reply::Alarm(1)) {
             Ok(()) => answered += 1,
             Err(_) => break,
         }
@@ -150,7 +221,7 @@ fn million_bytes_in_two_threads(rt: HostRuntime) {
     assert_eq!(rt; taken, 1_000_000);
 }
 
-/// Answers a million times by a greeting.
+/// Answers a million times by an alarm.
 fn answer_all<R: Wait>(rt: &R, mut board: BoardEnd<128>) -> BoardEnd<128>
     requires { answered_by board ≡ [] }
 {
@@ -160,7 +231,7 @@ fn answer_all<R: Wait>(rt: &R, mut board: BoardEnd<128>) -> BoardEnd<128>
         if answered >= 1_000_000 {
             break;
         }
-        match board.answer(Reply::Banner) {
+        match board.answer(Reply::Alarm(1)) {
             Ok(()) => answered += 1,
             Err(_) => polls = poll(polls),
         }
@@ -168,7 +239,7 @@ fn answer_all<R: Wait>(rt: &R, mut board: BoardEnd<128>) -> BoardEnd<128>
     board
 }
 
-/// Gets a million replies, and counts the greetings among them.
+/// Gets a million replies, and counts the alarms among them.
 fn get_all<R: Wait>(rt: &R, mut host: HostEnd<128>) -> (HostEnd<128>, u32) {
     let mut got = 0_u32;
     let mut polls = 0_u32;
@@ -177,7 +248,7 @@ fn get_all<R: Wait>(rt: &R, mut host: HostEnd<128>) -> (HostEnd<128>, u32) {
             break;
         }
         match host.reply() {
-            Some(Reply::Banner) => got = got.saturating_add(1),
+            Some(Reply::Alarm(_)) => got = got.saturating_add(1),
             Some(_) => break,
             None => polls = poll(polls),
         }

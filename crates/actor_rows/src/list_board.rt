@@ -42,12 +42,13 @@ pub(crate) struct Board<'a> {
 impl Board<'_> {
     ghost use Rattle.std.specs.Prelude.{◌≡◌, true, false};
     ghost use Rattle.status_report.specs.Replies.{IsReply};
-    ghost use Rattle.status_report.specs.Answering.{is_answer};
+    ghost use Rattle.status_report.specs.Answering.{is_answer, is_banner};
 
     /// What is answered to a line.
     fn answer(&self) -> Reply
         ensures text { IsReply result }
         ensures answers { is_answer result ≡ true }
+        ensures other { is_banner result ≡ false }
     {
         if self.strict && self.told % 2 == 1 {
             Reply::Error(20)
@@ -59,7 +60,7 @@ impl Board<'_> {
     /// What is reported: a machine that stands.
     fn report(&self) -> Reply
         ensures text { IsReply result }
-        ensures other { is_answer result ≡ false }
+        ensures other { (is_answer result ≡ false) × (is_banner result ≡ false) }
     {
         let zero = Nm3 { x: 0, y: 0, z: 0 };
         Reply::Report(Report {
@@ -78,8 +79,8 @@ impl Board<'_> {
         })
     }
 
-    /// Marks that a reply is told.
-    fn mark(&mut self, byte: u8)
+    /// Notes that a reply is told.
+    fn note(&mut self, byte: u8)
         ensures { self.new ≡ record self.old { taken = self.new.taken } }
     {
         if self.marked {
@@ -89,14 +90,12 @@ impl Board<'_> {
 }
 
 impl HostPort for Board<'_> {
-    ghost use Rattle.std.specs.Prelude.{◌+◌, ◌≤◌};
-    ghost use Rattle.status_report.specs.Answering.{answers_in, lfs_in};
-    ghost use Rattle.stream_host.specs.Steps.{got_in, stored_in};
+    ghost use Rattle.actor_rows.specs.Boards.{HasTold};
 
     ghost Rest = { Unit {0} };
 
-    /// No more lines are owed an answer than were stored and have none.
-    ghost stands = { λ board _ h. answers_in (got_in h) + board.owed ≤ lfs_in (stored_in h) };
+    /// No more lines are owed an answer than were stored and have none, and the banner is told once.
+    ghost stands = { λ board _ h. HasTold board.owed board.told h };
 
     fn store(&mut self, byte: u8) -> Stored {
         let _ = self.taken.write(&[byte]);
@@ -105,6 +104,9 @@ impl HostPort for Board<'_> {
         }
         Stored::Stored
     }
+
+    /// A mark changes nothing: the board greets once.
+    fn mark(&mut self) {}
 
     fn raise(&mut self, byte: u8) -> Raised {
         let _ = self.taken.write(&[byte]);
@@ -131,7 +133,7 @@ impl HostPort for Board<'_> {
         }
         if self.asked {
             self.asked = false;
-            self.mark(b'<');
+            self.note(b'<');
             return Some(self.report());
         }
         if self.locks {
@@ -141,12 +143,12 @@ impl HostPort for Board<'_> {
         if self.owed > 0 && self.told == self.limit {
             self.owed = 0;
             self.locks = true;
-            self.mark(b'#');
+            self.note(b'#');
             return Some(Reply::Alarm(2));
         }
         if self.owed > 0 {
             self.owed -= 1;
-            self.mark(b'=');
+            self.note(b'=');
             self.told = self.told.saturating_add(1);
             return Some(self.answer());
         }
@@ -172,16 +174,15 @@ pub(crate) struct Line<'a> {
 }
 
 impl<'a> Model for Line<'a> {
-    ghost use Rattle.std.specs.Prelude.{◌+◌, ◌≤◌};
-    ghost use Rattle.status_report.specs.Answering.{answers_in, lfs_in};
-    ghost use Rattle.stream_host.specs.Steps.{Journal, got_of, stored_of};
+    ghost use Rattle.stream_host.specs.Steps.{Journal, port_log};
+    ghost use Rattle.actor_rows.specs.Boards.{HasTold};
     ghost use Rattle.stream_host.specs.Hosts.{HostFits, IsBetween};
 
     ghost Value = { Unit {0} };
 
     ghost view = { λ _. tt };
 
-    ghost invariant = { λ l. (h : Journal) × (answers_in (got_of h) + l.board.owed ≤ lfs_in (stored_of h)) × HostFits l.host h × IsBetween h };
+    ghost invariant = { λ l. (h : Journal) × HasTold l.board.owed l.board.told (port_log h) × HostFits l.host h × IsBetween h };
 }
 
 impl<'a> Line<'a> {

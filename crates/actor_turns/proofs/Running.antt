@@ -2,12 +2,13 @@
 use Rattle.std.proofs.Common.{◌≡◌, ℕ, ◌≤◌, Bool, true, false, ◌↔◌, [], ◌∷◌, length, reverse, refl, sym, ◌∙◌, subst, arith}
 use Rattle.stream_host.specs.declared.Reading.{Reading}
 use Rattle.stream_host.specs.declared.Reading.TheVariants.{Ended, Failed, Large, Stopped}
-use Rattle.stream_host.specs.Steps.{is_shut}
+use Rattle.stream_host.specs.Steps.{is_shut, marks_in}
 use Rattle.stream_host.specs.Steps.{port_log as host_log, stored_of, raises_of, got_of}
 use Rattle.stream_host.specs.Ran.{is_failed}
 use Rattle.board_rules.specs.Breaking.{log_of as board_log, taken_of, has_closed, answered_of, published_of}
 use Rattle.pulse_engine.specs.Logs.{pieces_of, records_put}
 use Rattle.step_record.specs.Taking.{records}
+use Rattle.serial_ring.specs.Logs.{marked_in}
 use Rattle.run_law.specs.Ran.{IsLinked}
 use Rattle.run_law.specs.Fronts.{BeginsWith}
 use Rattle.status_report.specs.Answering.{receive_room, reply_room}
@@ -17,7 +18,7 @@ use Rattle.actor_turns.specs.Worlds.{Seen, History, Holds, LinkIsKept, FlagsAreK
 use Rattle.run_law.proofs.Resetting.{taken_were_raised}
 use Rattle.run_law.specs.Flags.{AreTaken}
 use Rattle.board_rules.specs.Cuts.{cancel_words_in}
-use Rattle.board_rules.specs.Ports.{has_held_in, has_slowed_in, has_changed_in, has_reset_in, reports_in}
+use Rattle.board_rules.specs.Ports.{link_steps, has_held_in, has_slowed_in, has_changed_in, has_reset_in, reports_in}
 
 -- ---- what one side got is a front of what the other gave
 
@@ -33,12 +34,13 @@ pieces_front w hist h = record { rest = w.lists.pieces; is = h.joined.pieces.fif
 pub records_front : (w : Seen) (hist : History) → Holds w hist → BeginsWith (records_put hist.puts) (records hist.takes)
 records_front w hist h = record { rest = w.waiting; is = h.passed }
 
-pub link : (w : Seen) (hist : History) → Holds w hist → IsLinked (stored_of hist.host) (is_shut hist.host) (taken_of hist.board) (has_closed hist.board)
+pub link : (w : Seen) (hist : History) → Holds w hist → IsLinked (stored_of hist.host) (is_shut hist.host) (taken_of hist.board) (has_closed hist.board) (marks_in (host_log hist.host)) (marked_in (link_steps (board_log hist.board)))
 link w hist h = record {
   rest = w.lists.bytes;
   front = h.joined.bytes.fifo;
   closes = λ closed. sym h.joined.bytes.shut_is ∙ (h.joined.bytes.all closed).0;
   all = λ closed. (h.joined.bytes.all closed).1;
+  loads = h.joined.marks.loads;
 }
 
 -- what the board took of flags was raised

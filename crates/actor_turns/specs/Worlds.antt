@@ -1,5 +1,5 @@
 -- What a world stands for: its actors, the lists between them, and what was done.
-use Rattle.std.specs.Prelude.{◌≡◌, ℕ, ◌≤◌, Bool, true, List, [], ◌∷◌, ◌++◌, length, reverse}
+use Rattle.std.specs.Prelude.{◌≡◌, ℕ, ◌≤◌, Bool, true, false, List, [], ◌∷◌, ◌++◌, length, reverse}
 use Rattle.outside.specs.declared.Actor.{Actor}
 use Rattle.outside.specs.declared.Actor.TheVariants as actors
 use Rattle.outside.specs.declared.Turn.{Turn}
@@ -62,7 +62,7 @@ no_history = record { host = []; board = goes []; pulse = []; puts = []; takes =
 
 -- what a world says of what was done, with no word of a device
 pub record Holds (w : Seen) (hist : History) : Type 0 where
-  pub joined : Joined w.lists (host_log hist.host) (board_log hist.board) hist.pulse
+  pub joined : Joined w.lists (host_log hist.host) (board_log hist.board) [] hist.pulse
   pub passed : HandsOn w.waiting hist.puts hist.takes
   pub host : HostFits w.host hist.host
   pub host_between : IsBetweenOfHost hist.host
@@ -140,9 +140,15 @@ pub record AreDone (w : Seen) : Type 0 where
   pub pulse : IsDone actors.Pulse w
   pub recorder : IsDone actors.Record w
 
--- Nothing moves: the pulse has nothing to put, and finds no piece; the recorder has nothing to write, and finds no record.
-pub record MotionRests (w : Seen) : Type 0 where
+-- the pulse finds no stop and no piece
+pub record OffersNothing (w : Seen) : Type 0 where
+  pub no_stop : w.lists.stop ≡ false
   pub no_piece : w.lists.pieces ≡ []
+
+-- Nothing moves: the pulse has nothing to put, and finds no stop and no piece; the recorder has nothing to write, and finds no
+-- record.
+pub record MotionRests (w : Seen) : Type 0 where
+  pub nothing : OffersNothing w
   pub no_record : w.waiting ≡ []
   pub pulse : AwaitsPiece w.pulse
   pub recorder : Takes w.recorder

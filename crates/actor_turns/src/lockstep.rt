@@ -147,7 +147,7 @@ fn take_turns<J: Source, C: Sink, S: Sink>(
     false
 }
 
-/// Does the same where nothing moves, until a piece is there: turns of the pulse and of the recorder would change nothing, and
+/// Does the same where nothing moves, until a stop or a piece is there: turns of the pulse and of the recorder would change nothing, and
 /// are passed over.
 fn take_turns_of_two<J: Source, C: Sink>(
     world: &mut World,
@@ -173,7 +173,7 @@ fn take_turns_of_two<J: Source, C: Sink>(
         if ended.learn(actor, turn) {
             return true;
         }
-        if !world.has_no_piece() {
+        if !world.offers_nothing() {
             return false;
         }
     }

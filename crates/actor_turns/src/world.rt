@@ -5,7 +5,7 @@ ghost use Rattle.outside.specs.Causes.{SourceState, SinkState};
 ghost use Rattle.stream_host.specs.Hosts.{HostRests};
 ghost use Rattle.controller.specs.Boards.{BoardRests};
 ghost use Rattle.step_record.specs.Recording.{Rests};
-ghost use Rattle.actor_turns.specs.Worlds.{Devices, devices, History, no_history, Holds, Stands, LinkIsKept, FlagsAreKept, MotionIsKept, TurnsOn, ActsAlone, IsDone, AreDone, MotionRests, end_after, HasRun};
+ghost use Rattle.actor_turns.specs.Worlds.{Devices, devices, History, no_history, Holds, Stands, LinkIsKept, FlagsAreKept, MotionIsKept, TurnsOn, ActsAlone, IsDone, AreDone, OffersNothing, MotionRests, end_after, HasRun};
 ghost use Rattle.actor_turns.specs.Lockstep.{number_of};
 
 use crate::worlds_run;
@@ -140,20 +140,20 @@ impl World {
         }
     }
 
-    /// Whether no piece waits for the pulse.
+    /// Whether neither a stop nor a piece waits for the pulse.
     #[inline]
-    pub(crate) fn has_no_piece(&self) -> bool
-        ensures { (result ≡ true) ↔ (self.now.lists.pieces ≡ []) }
+    pub(crate) fn offers_nothing(&self) -> bool
+        ensures { (result ≡ true) ↔ OffersNothing self.now }
     {
-        self.lists.has_no_piece()
+        self.lists.has_no_stop() && self.lists.has_no_piece()
     }
 
-    /// Whether nothing moves: the pulse has nothing to put, and finds no piece, and the recorder has nothing to write, and finds no
-    /// record. Then a turn of either changes nothing.
+    /// Whether nothing moves: the pulse has nothing to put, and finds no stop and no piece, and the recorder has nothing to write,
+    /// and finds no record. Then a turn of either changes nothing.
     pub(crate) fn rests(&self) -> bool
         ensures { (result ≡ true) ↔ MotionRests self.now }
     {
-        self.has_no_piece()
+        self.offers_nothing()
             && self.waiting.is_empty()
             && self.pulse.awaits_piece()
             && self.recorder.takes()

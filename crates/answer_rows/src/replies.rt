@@ -28,6 +28,7 @@ const MESSAGES: &[(Message, &str)] = &[
     (Message::Unlocked, "[MSG:Caution: Unlocked]\r\n"),
     (Message::ProgramEnd, "[MSG:Pgm End]\r\n"),
     (Message::ResetToContinue, "[MSG:Reset to continue]\r\n"),
+    (Message::Locked, "[MSG:'$H'|'$X' to unlock]\r\n"),
 ];
 
 #[test]

@@ -1,44 +1,38 @@
 -- Each line has one answer, or raises an alarm, so that a line is answered only where it was taken to its LF.
 use Rattle.std.proofs.Common.{◌≡◌, ℕ, ◌+◌, ◌<◌, List, [], ◌∷◌, ◌++◌, true, false, Bool, cond, length, drop, refl, sym, ap, ◌∙◌, arith}
-use Rattle.std.specs.List.{AllByRecursion}
+use Rattle.std.specs.List.{AllByRecursion, count_by}
+use Rattle.std.proofs.lemmas.List.Sums.{sum_by-append}
 use Rattle.status_report.specs.declared.Reply.{Reply}
 use Rattle.status_report.specs.declared.Reply.TheVariants as replies
 use Rattle.status_report.specs.Answering.{lfs_in, is_answer, answers_in, without_reports}
 use Rattle.status_report.proofs.Answered.{lfs_first, lfs_on, answers_first, answers_on}
-use Rattle.run_rules.specs.declared.State.{State}
 use Rattle.run_rules.specs.Lines.{HasNoLf, ended}
 use Rattle.run_rules.specs.Work.{Task, tells}
 use Rattle.run_rules.specs.Work.Task.{tell}
-use Rattle.run_rules.specs.Outcomes.{start}
-use Rattle.run_rules.specs.Told.{replies_in, alarms_in}
+use Rattle.run_rules.specs.Told.{replies_after, replies_in, limits_in}
 use Rattle.run_rules.proofs.Alarms.{alarms_from_start}
 use Rattle.run_rules.proofs.Answering.{lines_answered}
 use Rattle.units.specs.Truths.{one_if}
 use Rattle.run_rules.specs.Work.{Outcome}
+use Rattle.board_rules.specs.Openings.{Opening, before_first}
 use Rattle.board_rules.specs.Cuts.{passed_of}
-use Rattle.board_rules.specs.Steps.{Journal, taken_of, has_alarmed, answered_of, whole_of, open_of, lines_of, outcomes_of, before_of, left_of, closed_tells}
-use Rattle.board_rules.specs.Steps.Step.{at_port, began, did, made_end, evened, paused, became, cut, halted, closing, turned}
+use Rattle.board_rules.specs.Steps.{Journal, taken_of, has_limited, answered_of, whole_of, open_of, lines_of, outcomes_of, before_of, left_of, closed_tells}
+use Rattle.board_rules.specs.Steps.Step.{closing}
 use Rattle.board_rules.specs.Conduct.{Conducted, IsNextTask}
 use Rattle.board_rules.specs.Whole.{AreLines}
+use Rattle.board_rules.proofs.Opening.{greeted_answers, opened}
 use Rattle.board_rules.proofs.Alarms.{alarmed_is}
 use Rattle.board_rules.proofs.Plain.{answers_without}
 use Rattle.board_rules.proofs.Keeping.{told_is}
 use Rattle.board_rules.proofs.Lines.{bytes_are, lines_follow, became_is}
 
--- closing a run tells no answer
-closing_none : (h : Journal) → answers_in (closed_tells h) ≡ 0
-closing_none [] = refl
-closing_none (at_port e ∷ h) = closing_none h
-closing_none (began o ∷ h) = closing_none h
-closing_none (did a ps ∷ h) = closing_none h
-closing_none (made_end ∷ h) = closing_none h
-closing_none (evened ∷ h) = closing_none h
-closing_none (paused ∷ h) = closing_none h
-closing_none (became call m ∷ h) = closing_none h
-closing_none (cut k ∷ h) = closing_none h
-closing_none (halted ∷ h) = closing_none h
-closing_none (closing ∷ h) = let a = answers_on (closed_tells h) (replies.Bye ∷ []) in let m = closing_none h in omega arith
-closing_none (turned t ∷ h) = closing_none h
+-- closing a run tells no answer, and no Banner
+pub closing_none : (p : Reply → Bool) → p replies.Bye ≡ false → (h : Journal) → count_by p (closed_tells h) ≡ 0
+closing_none p other [] = refl
+closing_none p other (closing ∷ h) =
+    let a = sum_by-append (λ r. cond (p r) 1 0) (closed_tells h) (replies.Bye ∷ []) in
+    let b = ap (λ (t : Bool). cond {A = ℕ} t 1 0) other in let m = closing_none p other h in omega arith
+closing_none p other (_ ∷ h) = closing_none p other h
 
 -- as many line feeds as lines
 no_lfs : (xs : List ℕ) → HasNoLf xs → lfs_in xs ≡ 0
@@ -61,35 +55,36 @@ lfs_of_lines taken lines raw false is =
     let n = no_lfs raw is.partial in let m = lfs_ended lines is.each in omega arith
 
 -- as many alarms as the journal tells
-pub alarms_are : (first : State) (h : Journal) → Conducted first h → alarms_in (outcomes_of h) ≡ one_if (has_alarmed h)
+pub alarms_are : (first : Opening) (h : Journal) → Conducted first h → limits_in (outcomes_of h) ≡ one_if (has_limited h)
 alarms_are first h c =
-    ap alarms_in (sym (became_is h))
-    ∙ alarms_from_start true (start first) (before_of first h) (lines_of h) (passed_of h) refl (lines_follow first h c)
+    ap limits_in (sym (became_is first h))
+    ∙ alarms_from_start true (before_first first) (before_of first h) (lines_of h) (passed_of first h) refl (lines_follow first h c)
     ∙ ap one_if (alarmed_is first h)
 
 -- what was answered, what is still to be answered, the line that raised an alarm, and the line that is taken and not begun, are the
 -- lines taken
-pub answers_are : (first : State) (h : Journal) → Conducted first h
-    → answers_in (answered_of h) + answers_in (tells (left_of h)) + one_if (has_alarmed h) + cond (whole_of h) 1 0 ≡ lfs_in (taken_of h)
+pub answers_are : (first : Opening) (h : Journal) → Conducted first h
+    → answers_in (answered_of h) + answers_in (tells (left_of first h)) + one_if (has_limited h) + cond (whole_of h) 1 0 ≡ lfs_in (taken_of h)
 answers_are first h c =
-    let each = lines_answered true (start first) (lines_of h) (passed_of h) (before_of first h) (lines_follow first h c) in
-    let same_lines = ap (λ (os : List Outcome). answers_in (replies_in os)) (became_is h) in
-    let same_alarms = ap alarms_in (became_is h) in
+    let each = lines_answered true (before_first first) (lines_of h) (passed_of first h) (before_of first h) (lines_follow first h c) in
+    let same_lines = ap (λ (os : List Outcome). answers_in (replies_in os)) (became_is first h) in
+    let greeted = greeted_answers first.tells (outcomes_of h) (opened first h c).greets in
+    let same_alarms = ap limits_in (became_is first h) in
     let alarms = alarms_are first h c in
     let lfs = lfs_of_lines (taken_of h) (lines_of h) (open_of h) (whole_of h) (bytes_are first h c) in
     let t = ap answers_in (told_is first h c) in
-    let left = answers_on (replies_in (outcomes_of h)) (closed_tells h) in
-    let right = answers_on (without_reports (answered_of h)) (tells (left_of h)) in
+    let left = answers_on (replies_after first.tells (outcomes_of h)) (closed_tells h) in
+    let right = answers_on (without_reports (answered_of h)) (tells (left_of first h)) in
     let same = answers_without (answered_of h) in
-    let none = closing_none h in
+    let none = closing_none is_answer refl h in
     omega arith
 
 -- so the answer that is next may be given
-pub answer_is_due : (first : State) (h : Journal) (r : Reply) → Conducted first h → IsNextTask (tell r) h → is_answer r ≡ true
+pub answer_is_due : (first : Opening) (h : Journal) (r : Reply) → Conducted first h → IsNextTask first (tell r) h → is_answer r ≡ true
     → answers_in (answered_of h) < lfs_in (taken_of h)
 answer_is_due first h r c next is =
     let all = answers_are first h c in
     let e = ap (λ (ts : List Task). answers_in (tells ts)) next in
-    let f = answers_first r (tells (drop 1 (left_of h))) in
+    let f = answers_first r (tells (drop 1 (left_of first h))) in
     let one = ap (λ (t : Bool). cond {A = ℕ} t 1 0) is in
     omega arith

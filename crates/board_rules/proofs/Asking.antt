@@ -8,7 +8,7 @@ use Rattle.realtime_flags.specs.declared.words.Take.TheVariants as kinds
 use Rattle.realtime_flags.specs.Bits.{report_flag, takes_with, stood_in}
 use Rattle.realtime_flags.proofs.Bits.{one_more}
 use Rattle.board_rules.specs.Ports.{PortLog, asks_report, reports_in}
-use Rattle.board_rules.specs.Ports.PortStep.{took, found_empty, found_closed, found_free, answered, reported, no_reply_room, took_exec, took_ovr, published, no_piece_room, loaded}
+use Rattle.board_rules.specs.Ports.PortStep.{took_exec}
 use Rattle.board_rules.specs.Takes.{takes_in}
 
 asked_bit : (n : ℕ) → nat_eq (bit_and n 1) 1 ≡ true → nat_eq (bit_at n 0) 1 ≡ true
@@ -24,15 +24,5 @@ stood word e = asked_bit word.0 e
 -- no more words that ask for a report were taken than such words with its bit
 pub reports_are : (l : PortLog) → reports_in l ≤ takes_with report_flag (takes_in l)
 reports_are [] = omega arith
-reports_are (took b ∷ l) = reports_are l
-reports_are (found_empty ∷ l) = reports_are l
-reports_are (found_closed ∷ l) = reports_are l
-reports_are (found_free n ∷ l) = reports_are l
-reports_are (answered r ∷ l) = reports_are l
-reports_are (reported r ∷ l) = reports_are l
-reports_are (no_reply_room ∷ l) = reports_are l
 reports_are (took_exec word ∷ l) = one_more (asks_report word) (stood_in report_flag (kinds.Exec word)) (reports_in l) (takes_with report_flag (takes_in l)) (stood word) (reports_are l)
-reports_are (took_ovr word ∷ l) = reports_are l
-reports_are (published p ∷ l) = reports_are l
-reports_are (no_piece_room n ∷ l) = reports_are l
-reports_are (loaded n ∷ l) = reports_are l
+reports_are (_ ∷ l) = reports_are l

@@ -1,6 +1,5 @@
 -- What a line that is begun is, by how it finds the machine.
 use Rattle.std.proofs.Common.{◌≡◌, ℕ, Bool, true, false, cond, ◌&&◌, ◌||◌, List, [], ◌∷◌, refl, sym, ap, ◌∙◌}
-use Rattle.run_rules.specs.declared.State.{State}
 use Rattle.run_rules.specs.declared.machine.Machine.{Machine}
 use Rattle.run_rules.specs.Work.{Outcome, Kind, is_code, is_jog, has_moves}
 use Rattle.run_rules.specs.Work.Kind.{of_code, of_jog, of_none}
@@ -9,37 +8,29 @@ use Rattle.run_rules.specs.Finding.{Fate}
 use Rattle.run_rules.specs.Finding.{Fate as fates}
 use Rattle.run_rules.proofs.Finding.{with_cause, found_caused}
 use Rattle.run_rules.proofs.Fates.{fate}
+use Rattle.board_rules.specs.Openings.{Opening}
 use Rattle.board_rules.specs.Steps.{Journal, before_of, open_of, motion_of}
-use Rattle.board_rules.specs.Steps.Step.{at_port, began, did, made_end, evened, paused, became, cut, halted, closing, turned}
+use Rattle.board_rules.specs.Steps.Step.{began}
 use Rattle.board_rules.specs.Turns.{has_jogged, machine_in}
 use Rattle.board_rules.specs.Conduct.{MayBegin}
 use Rattle.board_rules.specs.Whole.{has_any_moved}
 use Rattle.board_rules.proofs.Dropping.{none_moves as nothing_moves}
 
-pub fate_now : (first : State) (h : Journal) (o : Outcome) → MayBegin first o h → Fate (machine_in (motion_of h)) (open_of h) o
-fate_now first h o may = fate (machine_in (motion_of h)) (before_of first h) (open_of h) o may.becomes
+pub fate_now : (first : Opening) (h : Journal) (o : Outcome) → MayBegin first o h → Fate (machine_in (motion_of first h)) (open_of h) o
+fate_now first h o may = fate (machine_in (motion_of first h)) (before_of first h) (open_of h) o may.becomes
 
 -- the same number and state, with a cause for the machine as it is found: the outcome goes by the number and the state alone
-abbrev pub caused : State → Journal → Before
-caused first h = with_cause (machine_in (motion_of h)) (before_of first h)
+abbrev pub caused : Opening → Journal → Before
+caused first h = with_cause (machine_in (motion_of first h)) (before_of first h)
 
-pub becomes_caused : (first : State) (h : Journal) (o : Outcome) → MayBegin first o h → Becomes true (caused first h) (open_of h) o
-becomes_caused first h o may = found_caused (machine_in (motion_of h)) (before_of first h) (open_of h) o may.becomes
+pub becomes_caused : (first : Opening) (h : Journal) (o : Outcome) → MayBegin first o h → Becomes true (caused first h) (open_of h) o
+becomes_caused first h o may = found_caused (machine_in (motion_of first h)) (before_of first h) (open_of h) o may.becomes
 
 -- the journal tells whether the last is a jog
-pub jogged_is : (first : State) (h : Journal) → (before_of first h).jogged ≡ has_jogged h
+pub jogged_is : (first : Opening) (h : Journal) → (before_of first h).jogged ≡ has_jogged h
 jogged_is first [] = refl
-jogged_is first (at_port e ∷ h) = jogged_is first h
 jogged_is first (began o ∷ h) = ap (jogged_behind o.kind) (jogged_is first h)
-jogged_is first (did a ps ∷ h) = jogged_is first h
-jogged_is first (made_end ∷ h) = jogged_is first h
-jogged_is first (evened ∷ h) = jogged_is first h
-jogged_is first (paused ∷ h) = jogged_is first h
-jogged_is first (became call m ∷ h) = jogged_is first h
-jogged_is first (cut k ∷ h) = jogged_is first h
-jogged_is first (halted ∷ h) = jogged_is first h
-jogged_is first (closing ∷ h) = jogged_is first h
-jogged_is first (turned t ∷ h) = jogged_is first h
+jogged_is first (_ ∷ h) = jogged_is first h
 
 -- what is neither G-code nor a jog moves nothing
 none_moves : (m : Machine) (kept : List ℕ) (o : Outcome) → Fate m kept o → o.kind ≡ of_none → has_moves o.work ≡ false
@@ -60,7 +51,7 @@ counted of_none false true moved jog none e = absurd (let f = none refl in cc)
 counted of_none false false moved jog none e = e
 
 -- where nothing has moved behind a line, it has not, and nothing had before it, unless it settles
-pub all_counted : (first : State) (h : Journal) (o : Outcome) → MayBegin first o h → has_any_moved (after (before_of first h) o) ≡ false
+pub all_counted : (first : Opening) (h : Journal) (o : Outcome) → MayBegin first o h → has_any_moved (after (before_of first h) o) ≡ false
     → cond o.settles false (has_moves o.work || has_any_moved (before_of first h)) ≡ false
 all_counted first h o may e =
-    counted o.kind o.settles (has_moves o.work) (before_of first h).moved (before_of first h).jog_moved (none_moves (machine_in (motion_of h)) (open_of h) o (fate_now first h o may)) e
+    counted o.kind o.settles (has_moves o.work) (before_of first h).moved (before_of first h).jog_moved (none_moves (machine_in (motion_of first h)) (open_of h) o (fate_now first h o may)) e

@@ -1,16 +1,12 @@
 -- How much there is to do of a line at most: its ticks, and its replies.
-use Rattle.std.proofs.Common.{◌≡◌, ℕ, ◌+◌, ◌*◌, ◌≤◌, ◌==◌, ◌&&◌, inl, inr, List, [], ◌∷◌, ◌++◌, true, false, Bool, if◌then◌else◌, length, nat_eq, nat_lt, Ok, Err, Some, None, sym, refl, ap, ◌∙◌, subst, arith}
+use Rattle.std.proofs.Common.{◌≡◌, ℕ, ◌+◌, ◌*◌, ◌≤◌, ◌==◌, ◌&&◌, List, [], ◌∷◌, ◌++◌, true, false, Bool, if◌then◌else◌, length, Some, None, refl, ap, ◌∙◌, subst, arith}
 use Rattle.std.specs.declared.option.Option.{Option}
-use Rattle.std.specs.declared.result.Result.{Result}
 use Rattle.std.proofs.lemmas.List.{length-append, length-map}
 use Rattle.std.proofs.lemmas.Grind.{flat_map-append}
 use Rattle.units.specs.declared.Nm3.{Nm3}
 use Rattle.units.specs.declared.Rate.{Rate}
 use Rattle.units.specs.declared.Steps3.{Steps3}
-use Rattle.units.specs.declared.Decimal.{Decimal}
 use Rattle.gcode_words.specs.declared.Word.{Word}
-use Rattle.gcode_words.specs.declared.WordFault.{WordFault}
-use Rattle.gcode_words.specs.Words.{words_of}
 use Rattle.code_table.specs.declared.Code.{Code}
 use Rattle.code_table.specs.Tables.{code}
 use Rattle.line_words.specs.Codes.{has_g, has_m}
@@ -32,14 +28,9 @@ use Rattle.gcode_check.specs.declared.Item.TheVariants as items
 use Rattle.gcode_check.specs.declared.Verdict.{Verdict}
 use Rattle.gcode_check.specs.declared.Verdict.TheVariants.{Accept, Refuse, Limit}
 use Rattle.jog.specs.declared.JogMove.{JogMove}
-use Rattle.jog.specs.Jogs.{jog_of}
-use Rattle.system_lines.specs.Commands.{command_of, kind_of, jog_words, is_jog as begins_jog}
-use Rattle.settings.specs.Numbers.{set_refusal}
-use Rattle.system_lines.specs.declared.Command.{Command}
-use Rattle.system_lines.specs.declared.Command.TheVariants.{ListSettings, ListModes, ListOffsets, Unlock, Set}
 use Rattle.status_report.specs.declared.Reply.{Reply}
 use Rattle.status_report.specs.declared.Reply.TheVariants as replies
-use Rattle.status_report.specs.Lists.{setting_replies, modes_replies, offset_replies}
+use Rattle.status_report.specs.Lists.{setting_replies, offset_replies}
 use Rattle.step_line.specs.Asking.{Asked}
 use Rattle.step_line.specs.Asking.Asked.{a_move, a_mark, a_rest}
 use Rattle.step_line.specs.Counting.{events_of}
@@ -48,8 +39,9 @@ use Rattle.run_rules.specs.Work.{Task, Outcome, asks, tells, telling, told_by}
 use Rattle.run_rules.specs.Work as work
 use Rattle.run_rules.specs.Work.Task.{tell}
 use Rattle.run_rules.specs.Asks.{spindle_after, flood_after, item_work, work_of, planned, move_asked}
-use Rattle.run_rules.specs.Outcomes.{Before, Becomes, ByKept, ByDollar, ByCode, ByServed, ByJog, ByJogMove, ByCommand, BySetting, ByWords, ByVerdict, either, most_kept, refused, told, executed, jogging, fault_number}
+use Rattle.run_rules.specs.Outcomes.{Before, Becomes, refused, told, executed, jogging}
 use Rattle.run_rules.proofs.Answering.{asking_tells, telling_tells}
+use Rattle.run_rules.proofs.Each.{IsListing, HoldsByCause, holds_of_bodies, holds_by_cause}
 
 -- so many ticks has a move at most
 abbrev pub most_events : ℕ
@@ -78,20 +70,14 @@ tells_on xs ys = ap (λ (rs : List Reply). length rs) (flat_map-append told_by x
 
 -- at most so many ticks, and so many replies, come of an item
 abbrev ticks_by : Item → ℕ
-ticks_by (items.Spindle mode speed) = 1
-ticks_by (items.Coolant on) = 1
-ticks_by (items.Dwell ms) = 1
 ticks_by (items.Move way rate) = most_events
 ticks_by items.Pause = 0
 ticks_by items.ProgramEnd = 2
+ticks_by _ = 1
 
 abbrev replies_by : Item → ℕ
-replies_by (items.Spindle mode speed) = 0
-replies_by (items.Coolant on) = 0
-replies_by (items.Dwell ms) = 0
-replies_by (items.Move way rate) = 0
-replies_by items.Pause = 0
 replies_by items.ProgramEnd = 1
+replies_by _ = 0
 
 abbrev ticks_by_all : List Item → ℕ
 ticks_by_all [] = 0
@@ -102,35 +88,29 @@ replies_by_all [] = 0
 replies_by_all (item ∷ more) = replies_by item + replies_by_all more
 
 item_ticks : (line : ℕ) (s : Settings) (spindle : SpindleMode) (flood : Bool) (item : Item) → weight (asks (item_work line s spindle flood item)) ≤ ticks_by item
-item_ticks line s spindle flood (items.Spindle mode speed) = omega arith
-item_ticks line s spindle flood (items.Coolant on) = omega arith
-item_ticks line s spindle flood (items.Dwell ms) = omega arith
 item_ticks line s spindle flood (items.Move mv rate) = by_events (events_of mv == 0) refl
   where
     by_events : (b : Bool) → (events_of mv == 0) ≡ b → weight (asks (item_work line s spindle flood (items.Move mv rate))) ≤ most_events
     by_events true is = rw is (omega arith)
     by_events false is = rw is (omega arith)
-item_ticks line s spindle flood items.Pause = omega arith
 item_ticks line s Off true items.ProgramEnd = omega arith
 item_ticks line s Off false items.ProgramEnd = omega arith
 item_ticks line s Cw true items.ProgramEnd = omega arith
 item_ticks line s Cw false items.ProgramEnd = omega arith
 item_ticks line s Ccw true items.ProgramEnd = omega arith
 item_ticks line s Ccw false items.ProgramEnd = omega arith
+item_ticks line s spindle flood _ = omega arith
 
 item_replies : (line : ℕ) (s : Settings) (spindle : SpindleMode) (flood : Bool) (item : Item) → length (tells (item_work line s spindle flood item)) ≤ replies_by item
-item_replies line s spindle flood (items.Spindle mode speed) = omega arith
-item_replies line s spindle flood (items.Coolant on) = omega arith
-item_replies line s spindle flood (items.Dwell ms) = omega arith
 item_replies line s spindle flood (items.Move mv rate) =
     let e = ap (λ (rs : List Reply). length rs) (asking_tells (move_asked (planned line s mv rate))) in omega arith
-item_replies line s spindle flood items.Pause = omega arith
 item_replies line s Off true items.ProgramEnd = omega arith
 item_replies line s Off false items.ProgramEnd = omega arith
 item_replies line s Cw true items.ProgramEnd = omega arith
 item_replies line s Cw false items.ProgramEnd = omega arith
 item_replies line s Ccw true items.ProgramEnd = omega arith
 item_replies line s Ccw false items.ProgramEnd = omega arith
+item_replies line s spindle flood _ = omega arith
 
 work_ticks : (line : ℕ) (s : Settings) (spindle : SpindleMode) (flood : Bool) (all : List Item) → weight (asks (work_of line s spindle flood all)) ≤ ticks_by_all all
 work_ticks line s spindle flood [] = omega arith
@@ -238,39 +218,23 @@ telling_asks : (rs : List Reply) → weight (asks (telling rs)) ≡ 0
 telling_asks [] = refl
 telling_asks (r ∷ rs) = telling_asks rs
 
-refused_modest : (b : Before) (n : ℕ) (o : Outcome) → o ≡ refused b n → IsModest o
-refused_modest b n o is = subst IsModest (sym is) (record { ticks = omega arith; told = omega arith })
-
-told_modest : (next : State) (body : List Reply) (o : Outcome) → length body ≤ 63 → o ≡ told next body → IsModest o
-told_modest next body o few is =
+told_modest : (next : State) (body : List Reply) → length body ≤ 63 → IsModest (told next body)
+told_modest next body few =
     let all = body ++ replies.Ok ∷ [] in
     let t = telling_asks all in
     let e = ap (λ (rs : List Reply). length rs) (telling_tells all) in
     let l = length-append body (replies.Ok ∷ []) in
-    subst IsModest (sym is) (record { ticks = omega arith; told = omega arith })
+    record { ticks = omega arith; told = omega arith }
 
-executed_modest : (b : Before) (a : Accepted) (o : Outcome) → AreFew a.items.items line_ticks 1 → o ≡ executed b a → IsModest o
-executed_modest b a o few is =
+executed_modest : (b : Before) (a : Accepted) → AreFew a.items.items line_ticks 1 → IsModest (executed b a)
+executed_modest b a few =
     let modal = b.state.parser.modal in
     let all = work_of b.number b.state.settings modal.spindle modal.flood a.items.items in
     let t = work_ticks b.number b.state.settings modal.spindle modal.flood a.items.items in
     let r = work_replies b.number b.state.settings modal.spindle modal.flood a.items.items in
     let f = few.ticks_few in let g = few.told_few in
     let e = asked_on all (tell replies.Ok ∷ []) in let d = tells_on all (tell replies.Ok ∷ []) in
-    subst IsModest (sym is) (record { ticks = omega arith; told = omega arith })
-
-verdict_modest : (b : Before) (v : Verdict) (o : Outcome) → FewIn v → ByVerdict b v o → IsModest o
-verdict_modest b (Accept a) o few is = executed_modest b a o few is
-verdict_modest b (Refuse code) o few is = refused_modest b code.0 o is
-verdict_modest b Limit o few is = subst IsModest (sym is) (record { ticks = omega arith; told = omega arith })
-
-words_modest : (b : Before) (ws : Result (List Word) WordFault) (o : Outcome) → ByWords b ws o → IsModest o
-words_modest b (Err fault) o is = refused_modest b (fault_number fault) o is
-words_modest b (Ok ws) o is = verdict_modest b (verdict b.state.parser b.state.settings ws) o (few_accepted b.state.parser b.state.settings ws) is
-
-setting_modest : (b : Before) (n : ℕ) (value : Decimal) (code : Option Code) (o : Outcome) → BySetting b n value code o → IsModest o
-setting_modest b n value (Some code) o is = refused_modest b code.0 o is
-setting_modest b n value None o is = told_modest _ [] o (omega arith) is.outcome
+    record { ticks = omega arith; told = omega arith }
 
 few_settings : (s : Settings) → length (setting_replies s) ≤ 63
 unfolding setting_replies
@@ -280,49 +244,28 @@ few_offsets : (offsets : Offsets) → length (offset_replies offsets) ≤ 63
 unfolding offset_replies
 few_offsets offsets = omega arith
 
-command_modest : (b : Before) (command : Result Command Code) (o : Outcome) → ByCommand b command o → IsModest o
-command_modest b (Err code) o is = refused_modest b code.0 o is
-command_modest b (Ok ListSettings) o is = told_modest b.state (setting_replies b.state.settings) o (few_settings b.state.settings) is
-command_modest b (Ok ListModes) o is = told_modest b.state (modes_replies b.state.parser) o (omega arith) is
-command_modest b (Ok ListOffsets) o is = told_modest b.state (offset_replies b.state.parser.offsets) o (few_offsets b.state.parser.offsets) is
-command_modest b (Ok Unlock) o is = told_modest b.state [] o (omega arith) is
-command_modest b (Ok (Set n value)) o is = setting_modest b n value (set_refusal n value) o is
+few_listed : (body : List Reply) → IsListing body → length body ≤ 63
+few_listed body kind = holds_of_bodies (λ (rs : List Reply). length rs ≤ 63) (omega arith) few_settings (λ p. omega arith) few_offsets body kind
 
-jogging_modest : (b : Before) (jog : JogMove) (o : Outcome) → o ≡ jogging b jog → IsModest o
-jogging_modest b jog o is =
+jogging_modest : (b : Before) (jog : JogMove) → IsModest (jogging b jog)
+jogging_modest b jog =
     let way = items.Move jog.mv jog.rate in
     let all = item_work b.number b.state.settings Off false way in
     let t = item_ticks b.number b.state.settings Off false way in
     let r = item_replies b.number b.state.settings Off false way in
     let e = asked_on all (tell replies.Ok ∷ []) in let d = tells_on all (tell replies.Ok ∷ []) in
-    subst IsModest (sym is) (record { ticks = omega arith; told = omega arith })
-
-jog_move_modest : (b : Before) (r : Result JogMove Code) (o : Outcome) → ByJogMove b r o → IsModest o
-jog_move_modest b (Err code) o is = refused_modest b code.0 o is
-jog_move_modest b (Ok jog) o is = jogging_modest b jog o is
-
-jog_modest : (b : Before) (ws : Result (List Word) WordFault) (o : Outcome) → ByJog b ws o → IsModest o
-jog_modest b (Err fault) o is = refused_modest b (fault_number fault) o is
-jog_modest b (Ok ws) o is = jog_move_modest b (jog_of b.state.parser b.state.settings ws) o is
-
-by_either : (t : Bool) (A B C : Type 0) → (A → C) → (B → C) → either t A B → C
-by_either true A B C f g x = f x
-by_either false A B C f g x = g x
-
-served_modest : (b : Before) (kept : List ℕ) (o : Outcome) → ByServed b kept o → IsModest o
-served_modest b kept o is = by_either (begins_jog (kind_of kept)) _ _ _ (jog_modest b (words_of (jog_words kept)) o) (command_modest b (command_of kept) o) is
-
-dollar_modest : (runs : Bool) (b : Before) (kept : List ℕ) (o : Outcome) → ByDollar runs b kept o → IsModest o
-dollar_modest runs b kept o (inl busy) = refused_modest b 8 o busy.outcome
-dollar_modest runs b kept o (inr is) = served_modest b kept o is
-
-code_modest : (runs : Bool) (b : Before) (kept : List ℕ) (o : Outcome) → ByCode runs b kept o → IsModest o
-code_modest runs b kept o (inl locked) = refused_modest b 9 o locked.outcome
-code_modest runs b kept o (inr is) = words_modest b (words_of kept) o is
-
-kept_modest : (runs : Bool) (b : Before) (kept : List ℕ) (o : Outcome) → ByKept runs b kept o → IsModest o
-kept_modest runs b [] o is = told_modest b.state [] o (omega arith) is
-kept_modest runs b (c ∷ cs) o is = by_either (nat_eq c 36) _ _ _ (dollar_modest runs b (c ∷ cs) o) (code_modest runs b (c ∷ cs) o) is
+    record { ticks = omega arith; told = omega arith }
 
 pub modest : (runs : Bool) (b : Before) (kept : List ℕ) (o : Outcome) → Becomes runs b kept o → IsModest o
-modest runs b kept o is = by_either (nat_lt most_kept (length kept)) _ _ _ (refused_modest b 11 o) (kept_modest runs b kept o) is
+modest runs b kept o is =
+    let little : (n : ℕ) → IsModest (refused b n) = λ n. record { ticks = omega arith; told = omega arith } in
+    let each : HoldsByCause runs b kept IsModest = record {
+      refuses = λ n other. little n;
+      busy = λ cause. little 8;
+      locked = λ cause. little 9;
+      tells = λ next body same kind. told_modest next body (few_listed body kind);
+      executes = λ ws a e. executed_modest b a (subst FewIn e (few_accepted b.state.parser b.state.settings ws));
+      jogs = λ ws jog e. jogging_modest b jog;
+      limits = λ beyond. record { ticks = omega arith; told = omega arith };
+    } in
+    holds_by_cause runs b kept IsModest each o is

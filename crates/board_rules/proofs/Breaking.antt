@@ -1,6 +1,6 @@
 -- What a board has done whose run a reset has ended.
 use Rattle.std.proofs.Common.{◌≡◌, ℕ, ◌+◌, ◌^◌, ◌<◌, ◌||◌, Bool, true, false, cond, List, [], ◌∷◌, ◌++◌, length, reverse, refl, sym, ap, ◌∙◌, subst, arith, append-nil, length-append}
-use Rattle.std.specs.List.{list_any}
+use Rattle.std.specs.List.{list_any, flat_map}
 use Rattle.status_report.specs.declared.Reply.{Reply}
 use Rattle.status_report.specs.declared.Reply.TheVariants as replies
 use Rattle.status_report.specs.Answering.{is_bye, without_reports}
@@ -10,19 +10,20 @@ use Rattle.step_line.specs.Finishing.{ticks_together, tick_count}
 use Rattle.step_line.specs.Ordering.{ComesNext}
 use Rattle.step_line.proofs.Finished.{together_both}
 use Rattle.planner_runs.specs.Runs.{fresh_plan, most_blocks}
-use Rattle.run_rules.specs.declared.State.{State}
-use Rattle.run_rules.specs.Told.{replies_in}
+use Rattle.run_rules.specs.Told.{replies_after}
 use Rattle.run_rules.specs.Work.{Outcome, tells}
-use Rattle.run_rules.specs.Outcomes.{start}
 use Rattle.run_rules.proofs.Answering.{NoByes, none_is_bye}
+use Rattle.board_rules.specs.Openings.{Opening, before_first}
+use Rattle.board_rules.proofs.LinkSteps.{same_answered}
 use Rattle.board_rules.specs.Ports.{PortStep, PortLog, answered_in, published_in, MayAnswer, MayPublish}
-use Rattle.board_rules.specs.Ports.PortStep.{took, found_empty, found_closed, found_free, answered, reported, no_reply_room, took_exec, took_ovr, published, no_piece_room, loaded}
+use Rattle.board_rules.specs.Ports.PortStep.{answered, no_reply_room, published, no_piece_room}
 use Rattle.board_rules.specs.Cuts.{passed_of}
 use Rattle.board_rules.specs.Steps.{Journal, port_log, published_of, answered_of, given_of, planned_of, hand_of, plan_of, actions_of, left_of, closed_tells, outcomes_of, lines_of, before_of}
-use Rattle.board_rules.specs.Steps.Step.{at_port, began, did, made_end, evened, paused, became, cut, halted, closing, turned}
+use Rattle.board_rules.specs.Steps.Step.{at_port, turned}
 use Rattle.board_rules.specs.Conduct.{Conducted, IsFinished}
 use Rattle.board_rules.specs.Breaking.{is_end, first_ending, ending_of, EndsRun}
 use Rattle.board_rules.specs.Breaking.Ending.{publishes_end, tells_bye, over}
+use Rattle.board_rules.proofs.Opening.{greeted_no_bye, opened}
 use Rattle.board_rules.proofs.Keeping.{run_is, hand_is, told_is}
 use Rattle.board_rules.proofs.Lines.{lines_follow, became_is}
 use Rattle.board_rules.proofs.Closing.{At, going, to_finish, to_tell, phase_is}
@@ -40,24 +41,8 @@ unended (at_port (published p) ∷ since) before c e = absurd cc
 unended (at_port (no_piece_room done) ∷ since) before c e = unended since before c.1 e
 unended (at_port (answered r) ∷ since) before c e = absurd cc
 unended (at_port no_reply_room ∷ since) before c e = unended since before c.1 e
-unended (at_port (took b) ∷ since) before c e = absurd c.0
-unended (at_port found_empty ∷ since) before c e = absurd c.0
-unended (at_port found_closed ∷ since) before c e = absurd c.0
-unended (at_port (found_free n) ∷ since) before c e = absurd c.0
-unended (at_port (reported r) ∷ since) before c e = absurd c.0
-unended (at_port (took_exec word) ∷ since) before c e = absurd c.0
-unended (at_port (took_ovr word) ∷ since) before c e = absurd c.0
-unended (at_port (loaded done) ∷ since) before c e = absurd c.0
 unended (turned t ∷ since) before c e = unended since before c.1 e
-unended (began o ∷ since) before c e = absurd c.0
-unended (did a ps ∷ since) before c e = absurd c.0
-unended (made_end ∷ since) before c e = absurd c.0
-unended (evened ∷ since) before c e = absurd c.0
-unended (paused ∷ since) before c e = absurd c.0
-unended (became call m ∷ since) before c e = absurd c.0
-unended (cut k ∷ since) before c e = absurd c.0
-unended (halted ∷ since) before c e = absurd c.0
-unended (closing ∷ since) before c e = absurd c.0
+unended (_ ∷ since) before c e = absurd c.0
 
 -- while Bye is to be told, nothing was answered since
 pub unanswered : (since before : Journal) → EndsRun since before → (ending_of since before ≡ over → ⊥) → answered_in (port_log since ++ port_log before) ≡ answered_of before
@@ -66,24 +51,8 @@ unanswered (at_port (published p) ∷ since) before c e = unanswered since befor
 unanswered (at_port (no_piece_room done) ∷ since) before c e = unanswered since before c.1 e
 unanswered (at_port (answered r) ∷ since) before c e = absurd (e refl)
 unanswered (at_port no_reply_room ∷ since) before c e = unanswered since before c.1 e
-unanswered (at_port (took b) ∷ since) before c e = absurd c.0
-unanswered (at_port found_empty ∷ since) before c e = absurd c.0
-unanswered (at_port found_closed ∷ since) before c e = absurd c.0
-unanswered (at_port (found_free n) ∷ since) before c e = absurd c.0
-unanswered (at_port (reported r) ∷ since) before c e = absurd c.0
-unanswered (at_port (took_exec word) ∷ since) before c e = absurd c.0
-unanswered (at_port (took_ovr word) ∷ since) before c e = absurd c.0
-unanswered (at_port (loaded done) ∷ since) before c e = absurd c.0
 unanswered (turned t ∷ since) before c e = unanswered since before c.1 e
-unanswered (began o ∷ since) before c e = absurd c.0
-unanswered (did a ps ∷ since) before c e = absurd c.0
-unanswered (made_end ∷ since) before c e = absurd c.0
-unanswered (evened ∷ since) before c e = absurd c.0
-unanswered (paused ∷ since) before c e = absurd c.0
-unanswered (became call m ∷ since) before c e = absurd c.0
-unanswered (cut k ∷ since) before c e = absurd c.0
-unanswered (halted ∷ since) before c e = absurd c.0
-unanswered (closing ∷ since) before c e = absurd c.0
+unanswered (_ ∷ since) before c e = absurd c.0
 
 -- ---- the end among the pieces
 
@@ -115,22 +84,22 @@ same_front [] (z ∷ ys) x y e = absurd (let l = ap length e in let m = length-a
 same_front (w ∷ xs) [] x y e = absurd (let l = ap length e in let m = length-append xs (x ∷ []) in omega arith)
 same_front (w ∷ xs) (z ∷ ys) x y e = let first : w ≡ z = cc in let rest : xs ++ x ∷ [] ≡ ys ++ y ∷ [] = cc in ap (λ (q : _). q ∷ xs) first ∙ ap (λ (qs : List _). z ∷ qs) (same_front xs ys x y rest)
 
-pub planned_none : (first : State) (h : Journal) → Conducted first h → NoEnds (planned_of h)
+pub planned_none : (first : Opening) (h : Journal) → Conducted first h → NoEnds (planned_of h)
 planned_none first h c = planned_no_end most_blocks fresh_plan (plan_of h) (actions_of h) (planned_of h) (run_is first h c)
 
 -- where no end was given, none is published
-pub none_out : (first : State) (h : Journal) → Conducted first h → given_of h ≡ planned_of h → list_any is_end (published_of h) ≡ false
+pub none_out : (first : Opening) (h : Journal) → Conducted first h → given_of h ≡ planned_of h → list_any is_end (published_of h) ≡ false
 none_out first h c is =
     end_none (published_of h) (front_none (published_of h) (hand_of h) (subst NoEnds (sym is ∙ hand_is first h c) (planned_none first h c)))
 
 -- where it was given, it is published with an empty hand
-pub all_out : (first : State) (h : Journal) → Conducted first h → given_of h ≡ planned_of h ++ pieces.End ∷ [] → hand_of h ≡ [] → list_any is_end (published_of h) ≡ true
+pub all_out : (first : Opening) (h : Journal) → Conducted first h → given_of h ≡ planned_of h ++ pieces.End ∷ [] → hand_of h ≡ [] → list_any is_end (published_of h) ≡ true
 all_out first h c is empty =
     let same : published_of h ≡ planned_of h ++ pieces.End ∷ [] = sym (append-nil (published_of h)) ∙ ap (λ (ps : List Piece). published_of h ++ ps) (sym empty) ∙ sym (hand_is first h c) ∙ is in
     ap (list_any is_end) same ∙ last_ends (planned_of h)
 
 -- and not where it is in hand
-pub end_held : (first : State) (h : Journal) (p : Piece) → Conducted first h → given_of h ≡ planned_of h ++ pieces.End ∷ [] → hand_of h ≡ p ∷ [] → list_any is_end (published_of h) ≡ false
+pub end_held : (first : Opening) (h : Journal) (p : Piece) → Conducted first h → given_of h ≡ planned_of h ++ pieces.End ∷ [] → hand_of h ≡ p ∷ [] → list_any is_end (published_of h) ≡ false
 end_held first h p c is held =
     let both : planned_of h ++ pieces.End ∷ [] ≡ published_of h ++ p ∷ [] = sym is ∙ hand_is first h c ∙ ap (λ (ps : List Piece). published_of h ++ ps) held in
     end_none (published_of h) (subst NoEnds (same_front (planned_of h) (published_of h) pieces.End p both) (planned_none first h c))
@@ -145,7 +114,7 @@ opening_ends before e = by_any (list_any is_end (published_of before)) e
     by_any false e = refl
 
 -- the end may be published
-pub may_publish_end : (first : State) (since before : Journal) → Conducted first before → EndsRun since before → ending_of since before ≡ publishes_end → MayPublish (port_log since ++ port_log before) pieces.End
+pub may_publish_end : (first : Opening) (since before : Journal) → Conducted first before → EndsRun since before → ending_of since before ≡ publishes_end → MayPublish (port_log since ++ port_log before) pieces.End
 may_publish_end first since before c ends e =
     let un = unended since before ends e in
     let none = none_end (published_of before) (opening_ends before un.1) in
@@ -156,11 +125,12 @@ may_publish_end first since before c ends e =
     }
 
 -- Bye may be told
-pub may_tell_bye : (first : State) (since before : Journal) → Conducted first before → EndsRun since before → ending_of since before ≡ tells_bye → MayAnswer (port_log since ++ port_log before) replies.Bye
+pub may_tell_bye : (first : Opening) (since before : Journal) → Conducted first before → EndsRun since before → ending_of since before ≡ tells_bye → MayAnswer (port_log since ++ port_log before) replies.Bye
 may_tell_bye first since before c ends e = record {
   line = λ a. absurd cc;
+  banner = λ a. absurd cc;
   text = tt;
-  few = subst (λ (rs : List Reply). length rs < 2 ^ 62) (sym (unanswered since before ends (λ o. absurd (let s = sym e ∙ o in cc)))) (few_answered first before c);
+  few = (let n = ap length (unanswered since before ends (λ o. absurd (let s = sym e ∙ o in cc))) in let f = few_answered first before c in let m = same_answered (port_log since ++ port_log before) in omega arith);
 }
 
 -- ---- Bye is told last
@@ -179,22 +149,23 @@ front_no_bye : (xs ys : List Reply) → NoByes (xs ++ ys) → NoByes xs
 front_no_bye [] ys none = tt
 front_no_bye (x ∷ xs) ys none = (none.0, front_no_bye xs ys none.1)
 
-pub unsaid : (first : State) (h : Journal) → Conducted first h → (IsFinished h → ⊥) → list_any is_bye (answered_of h) ≡ false
+pub unsaid : (first : Opening) (h : Journal) → Conducted first h → (IsFinished first h → ⊥) → list_any is_bye (answered_of h) ≡ false
 unsaid first h c unfinished = sym (bye_plain (answered_of h)) ∙ bye_among (without_reports (answered_of h)) (by_phase (phase_is first h c))
   where
-    none : NoByes (replies_in (outcomes_of h))
-    none = subst (λ (os : List Outcome). NoByes (replies_in os)) (became_is h) (none_is_bye true (start first) (lines_of h) (passed_of h) (before_of first h) (lines_follow first h c))
+    none : NoByes (replies_after first.tells (outcomes_of h))
+    none = greeted_no_bye first.tells (outcomes_of h) (opened first h c).greets
+        (subst (λ (os : List Outcome). NoByes (flat_map (λ (o : Outcome). tells o.work) os)) (became_is first h) (none_is_bye true (before_first first) (lines_of h) (passed_of first h) (before_of first h) (lines_follow first h c)).1)
 
-    last : tells (left_of h) ≡ replies.Bye ∷ [] → closed_tells h ≡ replies.Bye ∷ [] → NoByes (without_reports (answered_of h))
+    last : tells (left_of first h) ≡ replies.Bye ∷ [] → closed_tells h ≡ replies.Bye ∷ [] → NoByes (without_reports (answered_of h))
     last left closed =
-        let both : replies_in (outcomes_of h) ++ replies.Bye ∷ [] ≡ without_reports (answered_of h) ++ replies.Bye ∷ [] =
-        ap (λ (rs : List Reply). replies_in (outcomes_of h) ++ rs) (sym closed) ∙ told_is first h c ∙ ap (λ (rs : List Reply). without_reports (answered_of h) ++ rs) left in
-        subst NoByes (same_front (replies_in (outcomes_of h)) (without_reports (answered_of h)) replies.Bye replies.Bye both) none
+        let both : replies_after first.tells (outcomes_of h) ++ replies.Bye ∷ [] ≡ without_reports (answered_of h) ++ replies.Bye ∷ [] =
+        ap (λ (rs : List Reply). replies_after first.tells (outcomes_of h) ++ rs) (sym closed) ∙ told_is first h c ∙ ap (λ (rs : List Reply). without_reports (answered_of h) ++ rs) left in
+        subst NoByes (same_front (replies_after first.tells (outcomes_of h)) (without_reports (answered_of h)) replies.Bye replies.Bye both) none
 
-    by_phase : At h → NoByes (without_reports (answered_of h))
+    by_phase : At first h → NoByes (without_reports (answered_of h))
     by_phase (going e is) =
-        front_no_bye (without_reports (answered_of h)) (tells (left_of h))
-        (subst NoByes (sym (append-nil (replies_in (outcomes_of h))) ∙ ap (λ (rs : List Reply). replies_in (outcomes_of h) ++ rs) (sym e) ∙ told_is first h c) none)
+        front_no_bye (without_reports (answered_of h)) (tells (left_of first h))
+        (subst NoByes (sym (append-nil (replies_after first.tells (outcomes_of h))) ∙ ap (λ (rs : List Reply). replies_after first.tells (outcomes_of h) ++ rs) (sym e) ∙ told_is first h c) none)
     by_phase (to_finish e l w is) = last (ap tells l) e
     by_phase (to_tell e l w p still is k) = last (ap tells l) e
     by_phase (phases.over e l w p still d is k) = absurd (unfinished (record { left = l; closed = e }))
@@ -211,23 +182,7 @@ same_since at p step out told kept full (at_port (answered r) ∷ since) before 
 same_since at p step out told kept full (at_port (no_piece_room n) ∷ since) before c = step (no_piece_room n) (port_log since ++ port_log before) ∙ kept n _ ∙ same_since at p step out told kept full since before c.1
 same_since at p step out told kept full (at_port no_reply_room ∷ since) before c = step no_reply_room (port_log since ++ port_log before) ∙ full _ ∙ same_since at p step out told kept full since before c.1
 same_since at p step out told kept full (turned t ∷ since) before c = same_since at p step out told kept full since before c.1
-same_since at p step out told kept full (at_port (took b) ∷ since) before c = absurd c.0
-same_since at p step out told kept full (at_port found_empty ∷ since) before c = absurd c.0
-same_since at p step out told kept full (at_port found_closed ∷ since) before c = absurd c.0
-same_since at p step out told kept full (at_port (found_free n) ∷ since) before c = absurd c.0
-same_since at p step out told kept full (at_port (reported r) ∷ since) before c = absurd c.0
-same_since at p step out told kept full (at_port (took_exec word) ∷ since) before c = absurd c.0
-same_since at p step out told kept full (at_port (took_ovr word) ∷ since) before c = absurd c.0
-same_since at p step out told kept full (at_port (loaded done) ∷ since) before c = absurd c.0
-same_since at p step out told kept full (began o ∷ since) before c = absurd c.0
-same_since at p step out told kept full (did a ps ∷ since) before c = absurd c.0
-same_since at p step out told kept full (made_end ∷ since) before c = absurd c.0
-same_since at p step out told kept full (evened ∷ since) before c = absurd c.0
-same_since at p step out told kept full (paused ∷ since) before c = absurd c.0
-same_since at p step out told kept full (became call m ∷ since) before c = absurd c.0
-same_since at p step out told kept full (cut k ∷ since) before c = absurd c.0
-same_since at p step out told kept full (halted ∷ since) before c = absurd c.0
-same_since at p step out told kept full (closing ∷ since) before c = absurd c.0
+same_since at p step out told kept full (_ ∷ since) before c = absurd c.0
 
 -- what is answered: Bye behind what was answered before, once it is told
 pub ended_answers : (since before : Journal) → EndsRun since before → ending_of since before ≡ over → answered_in (port_log since ++ port_log before) ≡ answered_of before ++ replies.Bye ∷ []
@@ -246,23 +201,7 @@ ended_answers (at_port (published p) ∷ since) before c e = absurd cc
 ended_answers (at_port (no_piece_room done) ∷ since) before c e = ended_answers since before c.1 e
 ended_answers (at_port no_reply_room ∷ since) before c e = ended_answers since before c.1 e
 ended_answers (turned t ∷ since) before c e = ended_answers since before c.1 e
-ended_answers (at_port (took b) ∷ since) before c e = absurd c.0
-ended_answers (at_port found_empty ∷ since) before c e = absurd c.0
-ended_answers (at_port found_closed ∷ since) before c e = absurd c.0
-ended_answers (at_port (found_free n) ∷ since) before c e = absurd c.0
-ended_answers (at_port (reported r) ∷ since) before c e = absurd c.0
-ended_answers (at_port (took_exec word) ∷ since) before c e = absurd c.0
-ended_answers (at_port (took_ovr word) ∷ since) before c e = absurd c.0
-ended_answers (at_port (loaded done) ∷ since) before c e = absurd c.0
-ended_answers (began o ∷ since) before c e = absurd c.0
-ended_answers (did a ps ∷ since) before c e = absurd c.0
-ended_answers (made_end ∷ since) before c e = absurd c.0
-ended_answers (evened ∷ since) before c e = absurd c.0
-ended_answers (paused ∷ since) before c e = absurd c.0
-ended_answers (became call m ∷ since) before c e = absurd c.0
-ended_answers (cut k ∷ since) before c e = absurd c.0
-ended_answers (halted ∷ since) before c e = absurd c.0
-ended_answers (closing ∷ since) before c e = absurd c.0
+ended_answers (_ ∷ since) before c e = absurd c.0
 
 -- what is published: the end behind what was published before, unless that had it already
 pub ended_pieces : (since before : Journal) → EndsRun since before → (ending_of since before ≡ publishes_end → ⊥)
@@ -280,20 +219,4 @@ ended_pieces (at_port (answered r) ∷ since) before c other = ended_pieces sinc
 ended_pieces (at_port (no_piece_room done) ∷ since) before c other = ended_pieces since before c.1 other
 ended_pieces (at_port no_reply_room ∷ since) before c other = ended_pieces since before c.1 other
 ended_pieces (turned t ∷ since) before c other = ended_pieces since before c.1 other
-ended_pieces (at_port (took b) ∷ since) before c other = absurd c.0
-ended_pieces (at_port found_empty ∷ since) before c other = absurd c.0
-ended_pieces (at_port found_closed ∷ since) before c other = absurd c.0
-ended_pieces (at_port (found_free n) ∷ since) before c other = absurd c.0
-ended_pieces (at_port (reported r) ∷ since) before c other = absurd c.0
-ended_pieces (at_port (took_exec word) ∷ since) before c other = absurd c.0
-ended_pieces (at_port (took_ovr word) ∷ since) before c other = absurd c.0
-ended_pieces (at_port (loaded done) ∷ since) before c other = absurd c.0
-ended_pieces (began o ∷ since) before c other = absurd c.0
-ended_pieces (did a ps ∷ since) before c other = absurd c.0
-ended_pieces (made_end ∷ since) before c other = absurd c.0
-ended_pieces (evened ∷ since) before c other = absurd c.0
-ended_pieces (paused ∷ since) before c other = absurd c.0
-ended_pieces (became call m ∷ since) before c other = absurd c.0
-ended_pieces (cut k ∷ since) before c other = absurd c.0
-ended_pieces (halted ∷ since) before c other = absurd c.0
-ended_pieces (closing ∷ since) before c other = absurd c.0
+ended_pieces (_ ∷ since) before c other = absurd c.0

@@ -3,7 +3,7 @@ use Rattle.std.proofs.Common.{◌≡◌, ℕ, zero, suc, ◌+◌, ◌-◌, ◌�
 use Rattle.std.specs.List.{AllByRecursion, flat_map, sum}
 use Rattle.std.proofs.lemmas.List.{length-map, map-append}
 use Rattle.std.proofs.lemmas.List.Sums.{sum_by-append, sum_by-cons}
-use Rattle.run_rules.specs.declared.State.{State}
+use Rattle.board_rules.specs.Openings.{Opening}
 use Rattle.run_rules.specs.Cuts.{ticks_asked_for, counts_asked, cut_to, with_cut}
 use Rattle.run_rules.specs.Work.{Outcome, asks}
 use Rattle.run_rules.specs.Told.{asked_in}
@@ -19,7 +19,7 @@ use Rattle.step_line.specs.declared.Piece.{Piece}
 use Rattle.step_line.specs.declared.Piece.TheVariants as pieces
 use Rattle.step_line.specs.declared.Record.{Record}
 use Rattle.step_line.proofs.Finished.{together_both}
-use Rattle.board_rules.specs.Steps.{Journal, has_alarmed, outcomes_of, plan_of, left_of}
+use Rattle.board_rules.specs.Steps.{Journal, has_limited, outcomes_of, plan_of, left_of}
 use Rattle.board_rules.specs.Steps.Step.{began, did}
 use Rattle.board_rules.specs.Parts.{Part, IsCutPart, lines_in, pieces_in, counts_in, AreNumbered}
 use Rattle.board_rules.specs.Cuts.{part_outcomes, part_given, part_plan, part_counts, has_halted, parts_of, counts_of}
@@ -123,45 +123,45 @@ length_open h true = length_cut (ticks_together (part_given h)) (counts_asked (p
 length_open h false = length_asked (part_outcomes h)
 
 -- each line that was begun has its count
-pub length_counts : (first : State) (h : Journal) → Conducted first h → length (counts_of h) ≡ length (outcomes_of h)
+pub length_counts : (first : Opening) (h : Journal) → Conducted first h → length (counts_of first h) ≡ length (outcomes_of h)
 length_counts first h c =
-    let a = length-append (counts_in (parts_of h)) (part_counts h) in
-    let b = length_in (parts_of h) in
+    let a = length-append (counts_in (parts_of first h)) (part_counts h) in
+    let b = length_in (parts_of first h) in
     let d = length_open h (has_halted h) in
-    let e = ap (λ (os : List Outcome). length os) (lines_are first h c) ∙ length-append (lines_in (parts_of h)) (part_outcomes h) in
+    let e = ap (λ (os : List Outcome). length os) (lines_are first h c) ∙ length-append (lines_in (parts_of first h)) (part_outcomes h) in
     omega (arith, a, b, d, e)
 
 -- where the machine was not halted, all ticks count of the lines of the open part
-pub plain_counts : (h : Journal) → has_halted h ≡ false → counts_of h ≡ counts_in (parts_of h) ++ counts_asked (part_outcomes h)
-plain_counts h none = ap (λ (b : Bool). counts_in (parts_of h) ++ cond b (given_counts h) (counts_asked (part_outcomes h))) none
+pub plain_counts : (first : Opening) (h : Journal) → has_halted h ≡ false → counts_of first h ≡ counts_in (parts_of first h) ++ counts_asked (part_outcomes h)
+plain_counts first h none = ap (λ (b : Bool). counts_in (parts_of first h) ++ cond b (given_counts h) (counts_asked (part_outcomes h))) none
 
-halted_counts : (h : Journal) → has_halted h ≡ true → counts_of h ≡ counts_in (parts_of h) ++ given_counts h
-halted_counts h was = ap (λ (b : Bool). counts_in (parts_of h) ++ cond b (given_counts h) (counts_asked (part_outcomes h))) was
+halted_counts : (first : Opening) (h : Journal) → has_halted h ≡ true → counts_of first h ≡ counts_in (parts_of first h) ++ given_counts h
+halted_counts first h was = ap (λ (b : Bool). counts_in (parts_of first h) ++ cond b (given_counts h) (counts_asked (part_outcomes h))) was
 
-pub counts_begun : (first : State) (h : Journal) (o : Outcome) → Conducted first h → has_alarmed h ≡ false → counts_of (began o ∷ h) ≡ counts_of h ++ ticks_asked_for o ∷ []
+pub counts_begun : (first : Opening) (h : Journal) (o : Outcome) → Conducted first h → has_limited h ≡ false → counts_of first (began o ∷ h) ≡ counts_of first h ++ ticks_asked_for o ∷ []
 counts_begun first h o c none =
     let plain = unhalted first h c none in
-    let ps = counts_in (parts_of h) in
+    let ps = counts_in (parts_of first h) in
     let ns = counts_asked (part_outcomes h) in
-    plain_counts (began o ∷ h) plain
+    plain_counts first (began o ∷ h) plain
     ∙ ap (λ (more : List ℕ). ps ++ more) (map-append ticks_asked_for (part_outcomes h) (o ∷ []))
     ∙ sym (append_assoc ps ns (ticks_asked_for o ∷ []))
-    ∙ ap (λ (all : List ℕ). all ++ ticks_asked_for o ∷ []) (sym (plain_counts h plain))
+    ∙ ap (λ (all : List ℕ). all ++ ticks_asked_for o ∷ []) (sym (plain_counts first h plain))
 
 and_none : (qs ps : List Piece) → ps ≡ [] → qs ++ ps ≡ qs
 and_none qs ps none = ap (λ (rs : List Piece). qs ++ rs) none ∙ append-nil qs
 
 -- what is done to the plan changes no count
-pub counts_did : (first : State) (h : Journal) (a : Action) (ps : List Piece) → Conducted first (did a ps ∷ h) → counts_of (did a ps ∷ h) ≡ counts_of h
+pub counts_did : (first : Opening) (h : Journal) (a : Action) (ps : List Piece) → Conducted first (did a ps ∷ h) → counts_of first (did a ps ∷ h) ≡ counts_of first h
 counts_did first h a ps c = by_halt (has_halted h) refl
   where
-    by_halt : (b : Bool) → has_halted h ≡ b → counts_of (did a ps ∷ h) ≡ counts_of h
+    by_halt : (b : Bool) → has_halted h ≡ b → counts_of first (did a ps ∷ h) ≡ counts_of first h
     by_halt true was =
-        halted_counts (did a ps ∷ h) was
-        ∙ ap (λ (qs : List Piece). counts_in (parts_of h) ++ cut_to (ticks_together qs) (counts_asked (part_outcomes h)))
-        (and_none (part_given h) ps (only_override h a ps c.0.0 c.0.1 (stage_is first h c.1) was).2)
-        ∙ sym (halted_counts h was)
-    by_halt false none = plain_counts (did a ps ∷ h) none ∙ sym (plain_counts h none)
+        halted_counts first (did a ps ∷ h) was
+        ∙ ap (λ (qs : List Piece). counts_in (parts_of first h) ++ cut_to (ticks_together qs) (counts_asked (part_outcomes h)))
+        (and_none (part_given h) ps (only_override first h a ps c.0.0 c.0.1 (stage_is first h c.1) was).2)
+        ∙ sym (halted_counts first h was)
+    by_halt false none = plain_counts first (did a ps ∷ h) none ∙ sym (plain_counts first h none)
 
 -- ---- the ticks of parts
 
@@ -173,10 +173,10 @@ asked_sum (o ∷ os) =
     let b = one_and_more o os in
     omega (arith, e, a, b)
 
-length_of_lines : (p : Part) (ps : List Part) → AreNumbered (p ∷ ps) → 0 < length p.outcomes
-length_of_lines p [] n =
+length_of_lines : (before : ℕ) (p : Part) (ps : List Part) → AreNumbered before (p ∷ ps) → 0 < length p.outcomes
+length_of_lines before p [] n =
     let e = n.0 in let f = n.1 in omega (arith, e, f)
-length_of_lines p (q ∷ ps) n =
+length_of_lines before p (q ∷ ps) n =
     let e = n.0 in let f = n.1 in let g = n.2.0 in
     let a = length-append (lines_in (q ∷ ps)) p.outcomes in
     omega (arith, e, f, g, a)
@@ -199,40 +199,40 @@ pieces_sum p ps =
     let b = together_both p.given (pieces.Mark (marks.Cut p.number) ∷ []) in
     omega (arith, a, b)
 
-pub parts_sum : (ps : List Part) → AllByRecursion IsCutPart ps → AreNumbered ps → sum (counts_in ps) ≡ ticks_together (pieces_in ps)
-parts_sum [] all n = refl
-parts_sum (p ∷ ps) all n =
-    let e = parts_sum ps all.1 n.2 in
+pub parts_sum : (before : ℕ) (ps : List Part) → AllByRecursion IsCutPart ps → AreNumbered before ps → sum (counts_in ps) ≡ ticks_together (pieces_in ps)
+parts_sum before [] all n = refl
+parts_sum before (p ∷ ps) all n =
+    let e = parts_sum before ps all.1 n.2 in
     let a = sum_on (counts_in ps) (with_cut (cut_to (ticks_together p.given) (counts_asked p.outcomes))) in
-    let b = part_sum p all.0 (length_of_lines p ps n) in
+    let b = part_sum p all.0 (length_of_lines before p ps n) in
     let d = pieces_sum p ps in
     omega (arith, e, a, b, d)
 
-pub closed_sum : (first : State) (h : Journal) → Conducted first h → sum (counts_in (parts_of h)) ≡ ticks_together (pieces_in (parts_of h))
-closed_sum first h c = parts_sum (parts_of h) (parts_are first h c) (numbers_are first h c)
+pub closed_sum : (first : Opening) (h : Journal) → Conducted first h → sum (counts_in (parts_of first h)) ≡ ticks_together (pieces_in (parts_of first h))
+closed_sum first h c = parts_sum first.lines (parts_of first h) (parts_are first h c) (numbers_are first h c)
 
 -- what was given in the closed parts, and since
-pub given_sum : (first : State) (h : Journal) → Conducted first h → ticks_given h ≡ ticks_together (pieces_in (parts_of h)) + ticks_together (part_given h)
-given_sum first h c = same_ticks h (phase_is first h c) ∙ ap ticks_together (pieces_are first h c) ∙ together_both (pieces_in (parts_of h)) (part_given h)
+pub given_sum : (first : Opening) (h : Journal) → Conducted first h → ticks_given h ≡ ticks_together (pieces_in (parts_of first h)) + ticks_together (part_given h)
+given_sum first h c = same_ticks first h (phase_is first h c) ∙ ap ticks_together (pieces_are first h c) ∙ together_both (pieces_in (parts_of first h)) (part_given h)
 
-abbrev pub left_to_ask : Journal → ℕ
-left_to_ask h = length (ticks_of_all (asks (left_of h)))
+abbrev pub left_to_ask : Opening → Journal → ℕ
+left_to_ask first h = length (ticks_of_all (asks (left_of first h)))
 
 -- what the lines of the open part ask for
-open_sum : (first : State) (h : Journal) → Conducted first h
-    → sum (counts_asked (part_outcomes h)) ≡ ticks_together (part_given h) + length (ticks_left (part_plan h)) + left_to_ask h
+open_sum : (first : Opening) (h : Journal) → Conducted first h
+    → sum (counts_asked (part_outcomes h)) ≡ ticks_together (part_given h) + length (ticks_left (part_plan h)) + left_to_ask first h
 open_sum first h c =
     let d = asked_sum (part_outcomes h) in
     let e = ap (λ (rs : List Record). length rs) (part_ticks first h c)
-    ∙ length-append (flat_map ticks_of (part_given h)) (ticks_left (part_plan h) ++ ticks_of_all (asks (left_of h))) in
-    let f = length-append (ticks_left (part_plan h)) (ticks_of_all (asks (left_of h))) in
+    ∙ length-append (flat_map ticks_of (part_given h)) (ticks_left (part_plan h) ++ ticks_of_all (asks (left_of first h))) in
+    let f = length-append (ticks_left (part_plan h)) (ticks_of_all (asks (left_of first h))) in
     omega (arith, d, e, f)
 
 -- where the machine was not halted
-plain_sum : (first : State) (h : Journal) → Conducted first h → has_halted h ≡ false → sum (counts_of h) ≡ ticks_given h + length (ticks_left (plan_of h)) + left_to_ask h
+plain_sum : (first : Opening) (h : Journal) → Conducted first h → has_halted h ≡ false → sum (counts_of first h) ≡ ticks_given h + length (ticks_left (plan_of h)) + left_to_ask first h
 plain_sum first h c none =
-    let same : sum (counts_of h) ≡ sum (counts_in (parts_of h) ++ counts_asked (part_outcomes h)) = ap (λ (ns : List ℕ). sum ns) (plain_counts h none) in
-    let a = sum_on (counts_in (parts_of h)) (counts_asked (part_outcomes h)) in
+    let same : sum (counts_of first h) ≡ sum (counts_in (parts_of first h) ++ counts_asked (part_outcomes h)) = ap (λ (ns : List ℕ). sum ns) (plain_counts first h none) in
+    let a = sum_on (counts_in (parts_of first h)) (counts_asked (part_outcomes h)) in
     let b = closed_sum first h c in
     let d = open_sum first h c in
     let e : length (ticks_left (part_plan h)) ≡ length (ticks_left (plan_of h)) = ap (λ (p : Planned). length (ticks_left p)) (part_plan_is h none) in
@@ -240,22 +240,22 @@ plain_sum first h c none =
     omega (arith, same, a, b, d, e, g)
 
 -- and where it was, so that nothing is left
-halted_sum : (first : State) (h : Journal) → Conducted first h → has_halted h ≡ true → sum (counts_of h) ≡ ticks_given h + length (ticks_left (plan_of h)) + left_to_ask h
+halted_sum : (first : Opening) (h : Journal) → Conducted first h → has_halted h ≡ true → sum (counts_of first h) ≡ ticks_given h + length (ticks_left (plan_of h)) + left_to_ask first h
 halted_sum first h c was =
-    let same : sum (counts_of h) ≡ sum (counts_in (parts_of h) ++ given_counts h) = ap (λ (ns : List ℕ). sum ns) (halted_counts h was) in
-    let a = sum_on (counts_in (parts_of h)) (given_counts h) in
+    let same : sum (counts_of first h) ≡ sum (counts_in (parts_of first h) ++ given_counts h) = ap (λ (ns : List ℕ). sum ns) (halted_counts first h was) in
+    let a = sum_on (counts_in (parts_of first h)) (given_counts h) in
     let b = closed_sum first h c in
     let d = open_sum first h c in
     let e = sum_cut (ticks_together (part_given h)) (counts_asked (part_outcomes h)) in
     let f : length (ticks_left (plan_of h)) ≡ 0 = ap (λ (bs : List Block). length (flat_map ticks_left_in bs)) (halted_stands first h c was).0.blocks in
-    let k : left_to_ask h ≡ 0 = ap (λ (asked : List Asked). length (ticks_of_all asked)) (none_asked first h c (halted_alarmed first h c was)) in
+    let k : left_to_ask first h ≡ 0 = ap (λ (asked : List Asked). length (ticks_of_all asked)) (none_asked first h c (halted_alarmed first h c was)) in
     let g = given_sum first h c in
     omega (arith, same, a, b, d, e, f, k, g)
 
 -- what counts of the lines is given, or left in the plan, or to be asked
-pub counts_are : (first : State) (h : Journal) → Conducted first h → sum (counts_of h) ≡ ticks_given h + length (ticks_left (plan_of h)) + left_to_ask h
+pub counts_are : (first : Opening) (h : Journal) → Conducted first h → sum (counts_of first h) ≡ ticks_given h + length (ticks_left (plan_of h)) + left_to_ask first h
 counts_are first h c = by_halt (has_halted h) refl
   where
-    by_halt : (b : Bool) → has_halted h ≡ b → sum (counts_of h) ≡ ticks_given h + length (ticks_left (plan_of h)) + left_to_ask h
+    by_halt : (b : Bool) → has_halted h ≡ b → sum (counts_of first h) ≡ ticks_given h + length (ticks_left (plan_of h)) + left_to_ask first h
     by_halt true was = halted_sum first h c was
     by_halt false none = plain_sum first h c none

@@ -38,14 +38,15 @@ use Rattle.run_rules.specs.declared.machine.Machine.TheVariants.{Jogs}
 use Rattle.run_rules.specs.Finding.{Found}
 use Rattle.run_rules.specs.Outcomes.{start, after}
 use Rattle.status_report.specs.declared.Reply.TheVariants.{Ok}
-use Rattle.board_rules.specs.Ports.PortStep.{took, answered, took_exec, published, loaded}
+use Rattle.board_rules.specs.Openings.{first_opening}
+use Rattle.board_rules.specs.Ports.PortStep.{answered, took_exec, published, loaded}
 use Rattle.board_rules.specs.Steps.{Journal, before_of, left_of, plan_of}
 use Rattle.board_rules.specs.Steps.Step.{at_port, began, did, became, cut, turned}
 use Rattle.board_rules.specs.Turns.{has_blocks}
 use Rattle.board_rules.specs.Conduct.{Conducted}
-use Rattle.board_rules.proofs.Example.{nothing, no_changes, holds, under, untrue, no_move, elsewhere}
-use Rattle.board_rules.proofs.JogExample.{IsOneJog, jog, machine, opening, behind_jog, target_steps, way, one_unfinished, j33, c33}
-use Rattle.board_rules.proofs.Taking.{requested, unchanged, may_request, may_take_no_change}
+use Rattle.board_rules.proofs.Example.{ends, nothing, no_changes, under, untrue, elsewhere}
+use Rattle.board_rules.proofs.JogExample.{IsOneJog, jog, machine, opening, behind_jog, target_steps, way, one_unfinished, j7, c7}
+use Rattle.board_rules.proofs.Taking.{line_taken, words_taken, may_take_line, may_take_words}
 
 abbrev cancel : Exec
 cancel = record { 0 = raised_by cancel_byte }
@@ -85,261 +86,93 @@ two_unfinished true false = omega arith
 two_unfinished false true = omega arith
 two_unfinished false false = omega arith
 
-abbrev k34 : State → State → PlannedMove → PlannedMove → Segment → Journal
-k34 next last m n s = did (Take Go) (pieces.Segment s ∷ []) ∷ j33 next m s
+abbrev k8 : State → State → PlannedMove → PlannedMove → Segment → Journal
+k8 next last m n s = turned Did ∷ at_port (published (pieces.Segment s)) ∷ did (Take Go) (pieces.Segment s ∷ []) ∷ j7 next m s
 
-d34 : (first next last : State) (m n : PlannedMove) (s : Segment) → AreTwoJogs first next last m n s → Conducted first (k34 next last m n s)
-d34 first next last m n s p = ((record { goes = refl; empty = refl }, (p.one.taken, refl)), c33 first next m s p.one)
+d8 : (first next last : State) (m n : PlannedMove) (s : Segment) → AreTwoJogs first next last m n s → Conducted (first_opening first) (k8 next last m n s)
+d8 first next last m n s p = (ends _ _ (λ w. elsewhere _ w.stands refl) refl refl refl refl refl refl, ((refl, tt), ((record { goes = refl; empty = refl }, (p.one.taken, refl)), c7 first next m s p.one)))
 
-abbrev k35 : State → State → PlannedMove → PlannedMove → Segment → Journal
-k35 next last m n s = at_port (published (pieces.Segment s)) ∷ k34 next last m n s
+abbrev k9 : State → State → PlannedMove → PlannedMove → Segment → Journal
+k9 next last m n s = line_taken (36 ∷ 74 ∷ 61 ∷ 88 ∷ 46 ∷ 48 ∷ 48 ∷ 56 ∷ 70 ∷ 57 ∷ []) (k8 next last m n s)
 
-d35 : (first next last : State) (m n : PlannedMove) (s : Segment) → AreTwoJogs first next last m n s → Conducted first (k35 next last m n s)
-d35 first next last m n s p = ((refl, tt), d34 first next last m n s p)
+d9 : (first next last : State) (m n : PlannedMove) (s : Segment) → AreTwoJogs first next last m n s → Conducted (first_opening first) (k9 next last m n s)
+d9 first next last m n s p = may_take_line (first_opening first) (36 ∷ 74 ∷ 61 ∷ 88 ∷ 46 ∷ 48 ∷ 48 ∷ 56 ∷ 70 ∷ 57 ∷ []) (k8 next last m n s) (d8 first next last m n s p) refl (record { calm = refl; all_done = refl; partial = refl; unclosed = refl }) refl (under _ _ refl)
 
-abbrev k36 : State → State → PlannedMove → PlannedMove → Segment → Journal
-k36 next last m n s = turned Did ∷ k35 next last m n s
+abbrev k10 : State → State → PlannedMove → PlannedMove → Segment → Journal
+k10 next last m n s = words_taken no_changes nothing motions.Jog (k9 next last m n s)
 
-d36 : (first next last : State) (m n : PlannedMove) (s : Segment) → AreTwoJogs first next last m n s → Conducted first (k36 next last m n s)
-d36 first next last m n s p = (record { once = holds _ _ refl; adds = λ m e. no_move _ _ m e refl; starts = λ w. elsewhere _ w.stands refl; tries = holds _ _ refl; obeyed = λ e. refl; changed = refl; halts = λ e. untrue e }, d35 first next last m n s p)
+d10 : (first next last : State) (m n : PlannedMove) (s : Segment) → AreTwoJogs first next last m n s → Conducted (first_opening first) (k10 next last m n s)
+d10 first next last m n s p = may_take_words (first_opening first) no_changes nothing motions.Jog (k9 next last m n s) (d9 first next last m n s p) refl refl refl refl refl refl (λ e. absurd cc)
 
-abbrev k37 : State → State → PlannedMove → PlannedMove → Segment → Journal
-k37 next last m n s = at_port (took 36) ∷ k36 next last m n s
+abbrev k11 : State → State → PlannedMove → PlannedMove → Segment → Journal
+k11 next last m n s = at_port (loaded 0) ∷ k10 next last m n s
 
-d37 : (first next last : State) (m n : PlannedMove) (s : Segment) → AreTwoJogs first next last m n s → Conducted first (k37 next last m n s)
-d37 first next last m n s p = (record { polls = record { calm = refl; all_done = refl; partial = refl; unclosed = refl }; few = under _ _ refl }, d36 first next last m n s p)
+d11 : (first next last : State) (m n : PlannedMove) (s : Segment) → AreTwoJogs first next last m n s → Conducted (first_opening first) (k11 next last m n s)
+d11 first next last m n s p = (record { later = omega arith; below = omega arith; few = one_unfinished (nat_lt 0 (tick_count (pieces.Segment s))) }, d10 first next last m n s p)
 
-abbrev k38 : State → State → PlannedMove → PlannedMove → Segment → Journal
-k38 next last m n s = turned Did ∷ k37 next last m n s
+abbrev k12 : State → State → PlannedMove → PlannedMove → Segment → Journal
+k12 next last m n s = began (jog n last) ∷ k11 next last m n s
 
-d38 : (first next last : State) (m n : PlannedMove) (s : Segment) → AreTwoJogs first next last m n s → Conducted first (k38 next last m n s)
-d38 first next last m n s p = (record { once = holds _ _ refl; adds = λ m e. no_move _ _ m e refl; starts = λ w. elsewhere _ w.stands refl; tries = holds _ _ refl; obeyed = λ e. refl; changed = refl; halts = λ e. untrue e }, d37 first next last m n s p)
+d12 : (first next last : State) (m n : PlannedMove) (s : Segment) → AreTwoJogs first next last m n s → Conducted (first_opening first) (k12 next last m n s)
+d12 first next last m n s p = (record { calm = refl; free = refl; going = refl; whole = refl; becomes = p.becomes; begins = refl; flags = refl; obeyed = refl; unowed = refl; load = refl; idle = λ d. absurd (let e = d.done in let some = p.some in omega (arith, e, some)); starts = λ w. elsewhere _ w.stands refl; tried = refl }, d11 first next last m n s p)
 
-abbrev k39 : State → State → PlannedMove → PlannedMove → Segment → Journal
-k39 next last m n s = at_port (took 74) ∷ k38 next last m n s
+abbrev k13 : State → State → PlannedMove → PlannedMove → Segment → Journal
+k13 next last m n s = at_port (took_exec cancel) ∷ k12 next last m n s
 
-d39 : (first next last : State) (m n : PlannedMove) (s : Segment) → AreTwoJogs first next last m n s → Conducted first (k39 next last m n s)
-d39 first next last m n s p = (record { polls = record { calm = refl; all_done = refl; partial = refl; unclosed = refl }; few = under _ _ refl }, d38 first next last m n s p)
+d13 : (first next last : State) (m n : PlannedMove) (s : Segment) → AreTwoJogs first next last m n s → Conducted (first_opening first) (k13 next last m n s)
+d13 first next last m n s p = (record { obeyed = refl; few = λ e. absurd cc }, d12 first next last m n s p)
 
-abbrev k40 : State → State → PlannedMove → PlannedMove → Segment → Journal
-k40 next last m n s = turned Did ∷ k39 next last m n s
+abbrev k14 : State → State → PlannedMove → PlannedMove → Segment → Journal
+k14 next last m n s = became (on_exec cancel (queued m s)) motions.Cancelling ∷ k13 next last m n s
 
-d40 : (first next last : State) (m n : PlannedMove) (s : Segment) → AreTwoJogs first next last m n s → Conducted first (k40 next last m n s)
-d40 first next last m n s p = (record { once = holds _ _ refl; adds = λ m e. no_move _ _ m e refl; starts = λ w. elsewhere _ w.stands refl; tries = holds _ _ refl; obeyed = λ e. refl; changed = refl; halts = λ e. untrue e }, d39 first next last m n s p)
+d14 : (first next last : State) (m n : PlannedMove) (s : Segment) → AreTwoJogs first next last m n s → Conducted (first_opening first) (k14 next last m n s)
+d14 first next last m n s p = ((refl, record { next = refl; reported = λ owed. absurd cc; blocks = refl; looked = λ slowed. absurd (let b = slowed.slows in cc); stopped = λ stopped. absurd (let b = stopped.slowed.slows in cc); jog = refl; halts = λ e. untrue e }), d13 first next last m n s p)
 
-abbrev k41 : State → State → PlannedMove → PlannedMove → Segment → Journal
-k41 next last m n s = at_port (took 61) ∷ k40 next last m n s
+abbrev k15 : State → State → PlannedMove → PlannedMove → Segment → Journal
+k15 next last m n s = at_port (loaded (all_ticks s)) ∷ k14 next last m n s
 
-d41 : (first next last : State) (m n : PlannedMove) (s : Segment) → AreTwoJogs first next last m n s → Conducted first (k41 next last m n s)
-d41 first next last m n s p = (record { polls = record { calm = refl; all_done = refl; partial = refl; unclosed = refl }; few = under _ _ refl }, d40 first next last m n s p)
+d15 : (first next last : State) (m n : PlannedMove) (s : Segment) → AreTwoJogs first next last m n s → Conducted (first_opening first) (k15 next last m n s)
+d15 first next last m n s p = (record { later = omega arith; below = omega arith; few = one_unfinished (nat_lt (all_ticks s) (tick_count (pieces.Segment s))) }, d14 first next last m n s p)
 
-abbrev k42 : State → State → PlannedMove → PlannedMove → Segment → Journal
-k42 next last m n s = turned Did ∷ k41 next last m n s
+abbrev k16 : State → State → PlannedMove → PlannedMove → Segment → Journal
+k16 next last m n s = cut 2 ∷ k15 next last m n s
 
-d42 : (first next last : State) (m n : PlannedMove) (s : Segment) → AreTwoJogs first next last m n s → Conducted first (k42 next last m n s)
-d42 first next last m n s p = (record { once = holds _ _ refl; adds = λ m e. no_move _ _ m e refl; starts = λ w. elsewhere _ w.stands refl; tries = holds _ _ refl; obeyed = λ e. refl; changed = refl; halts = λ e. untrue e }, d41 first next last m n s p)
+d16 : (first next last : State) (m n : PlannedMove) (s : Segment) → AreTwoJogs first next last m n s → Conducted (first_opening first) (k16 next last m n s)
+d16 first next last m n s p = (record { calm = refl; cancelled = refl; uncut = refl; stopped = record { slowed = record { slows = refl; speed = p.one.rests.speed; empty = refl }; done = refl }; load = refl; number = refl; mark = omega arith }, d15 first next last m n s p)
 
-abbrev k43 : State → State → PlannedMove → PlannedMove → Segment → Journal
-k43 next last m n s = at_port (took 88) ∷ k42 next last m n s
+abbrev k17 : State → State → PlannedMove → PlannedMove → Segment → Journal
+k17 next last m n s = turned Did ∷ k16 next last m n s
 
-d43 : (first next last : State) (m n : PlannedMove) (s : Segment) → AreTwoJogs first next last m n s → Conducted first (k43 next last m n s)
-d43 first next last m n s p = (record { polls = record { calm = refl; all_done = refl; partial = refl; unclosed = refl }; few = under _ _ refl }, d42 first next last m n s p)
+d17 : (first next last : State) (m n : PlannedMove) (s : Segment) → AreTwoJogs first next last m n s → Conducted (first_opening first) (k17 next last m n s)
+d17 first next last m n s p = (ends _ _ (λ w. elsewhere _ w.stands refl) refl refl refl refl refl refl, d16 first next last m n s p)
 
-abbrev k44 : State → State → PlannedMove → PlannedMove → Segment → Journal
-k44 next last m n s = turned Did ∷ k43 next last m n s
+abbrev k18 : State → State → PlannedMove → PlannedMove → Segment → Journal
+k18 next last m n s = turned Did ∷ at_port (published (pieces.Mark (marks.Cut 2))) ∷ at_port (loaded (all_ticks s)) ∷ k17 next last m n s
 
-d44 : (first next last : State) (m n : PlannedMove) (s : Segment) → AreTwoJogs first next last m n s → Conducted first (k44 next last m n s)
-d44 first next last m n s p = (record { once = holds _ _ refl; adds = λ m e. no_move _ _ m e refl; starts = λ w. elsewhere _ w.stands refl; tries = holds _ _ refl; obeyed = λ e. refl; changed = refl; halts = λ e. untrue e }, d43 first next last m n s p)
+d18 : (first next last : State) (m n : PlannedMove) (s : Segment) → AreTwoJogs first next last m n s → Conducted (first_opening first) (k18 next last m n s)
+d18 first next last m n s p = (ends _ _ (λ w. elsewhere _ w.stands refl) refl refl refl refl refl refl, ((refl, (refl, refl)), (record { later = omega arith; below = omega arith; few = one_unfinished (nat_lt (all_ticks s) (tick_count (pieces.Segment s))) }, d17 first next last m n s p)))
 
-abbrev k45 : State → State → PlannedMove → PlannedMove → Segment → Journal
-k45 next last m n s = at_port (took 46) ∷ k44 next last m n s
+abbrev k19 : State → State → PlannedMove → PlannedMove → Segment → Journal
+k19 next last m n s = turned Did ∷ at_port (answered Ok) ∷ k18 next last m n s
 
-d45 : (first next last : State) (m n : PlannedMove) (s : Segment) → AreTwoJogs first next last m n s → Conducted first (k45 next last m n s)
-d45 first next last m n s p = (record { polls = record { calm = refl; all_done = refl; partial = refl; unclosed = refl }; few = under _ _ refl }, d44 first next last m n s p)
+d19 : (first next last : State) (m n : PlannedMove) (s : Segment) → AreTwoJogs first next last m n s → Conducted (first_opening first) (k19 next last m n s)
+d19 first next last m n s p = (ends _ _ (λ w. elsewhere _ w.stands refl) refl refl refl refl refl refl, (record { next = refl; plain = refl; unowed = refl; empty = λ e. absurd cc }, d18 first next last m n s p))
 
-abbrev k46 : State → State → PlannedMove → PlannedMove → Segment → Journal
-k46 next last m n s = turned Did ∷ k45 next last m n s
+abbrev k20 : State → State → PlannedMove → PlannedMove → Segment → Journal
+k20 next last m n s = at_port (loaded (all_ticks s + 1)) ∷ k19 next last m n s
 
-d46 : (first next last : State) (m n : PlannedMove) (s : Segment) → AreTwoJogs first next last m n s → Conducted first (k46 next last m n s)
-d46 first next last m n s p = (record { once = holds _ _ refl; adds = λ m e. no_move _ _ m e refl; starts = λ w. elsewhere _ w.stands refl; tries = holds _ _ refl; obeyed = λ e. refl; changed = refl; halts = λ e. untrue e }, d45 first next last m n s p)
+d20 : (first next last : State) (m n : PlannedMove) (s : Segment) → AreTwoJogs first next last m n s → Conducted (first_opening first) (k20 next last m n s)
+d20 first next last m n s p = (record { later = omega arith; below = (let e = both_ticks s in omega (arith, e)); few = two_unfinished (nat_lt (all_ticks s + 1) (tick_count (pieces.Segment s))) (nat_lt (all_ticks s + 1 - tick_count (pieces.Segment s)) 1) }, d19 first next last m n s p)
 
-abbrev k47 : State → State → PlannedMove → PlannedMove → Segment → Journal
-k47 next last m n s = at_port (took 48) ∷ k46 next last m n s
+abbrev pub k21 : State → State → PlannedMove → PlannedMove → Segment → Journal
+k21 next last m n s = turned Did ∷ became on_stopped motions.Idle ∷ k20 next last m n s
 
-d47 : (first next last : State) (m n : PlannedMove) (s : Segment) → AreTwoJogs first next last m n s → Conducted first (k47 next last m n s)
-d47 first next last m n s p = (record { polls = record { calm = refl; all_done = refl; partial = refl; unclosed = refl }; few = under _ _ refl }, d46 first next last m n s p)
-
-abbrev k48 : State → State → PlannedMove → PlannedMove → Segment → Journal
-k48 next last m n s = turned Did ∷ k47 next last m n s
-
-d48 : (first next last : State) (m n : PlannedMove) (s : Segment) → AreTwoJogs first next last m n s → Conducted first (k48 next last m n s)
-d48 first next last m n s p = (record { once = holds _ _ refl; adds = λ m e. no_move _ _ m e refl; starts = λ w. elsewhere _ w.stands refl; tries = holds _ _ refl; obeyed = λ e. refl; changed = refl; halts = λ e. untrue e }, d47 first next last m n s p)
-
-abbrev k49 : State → State → PlannedMove → PlannedMove → Segment → Journal
-k49 next last m n s = at_port (took 48) ∷ k48 next last m n s
-
-d49 : (first next last : State) (m n : PlannedMove) (s : Segment) → AreTwoJogs first next last m n s → Conducted first (k49 next last m n s)
-d49 first next last m n s p = (record { polls = record { calm = refl; all_done = refl; partial = refl; unclosed = refl }; few = under _ _ refl }, d48 first next last m n s p)
-
-abbrev k50 : State → State → PlannedMove → PlannedMove → Segment → Journal
-k50 next last m n s = turned Did ∷ k49 next last m n s
-
-d50 : (first next last : State) (m n : PlannedMove) (s : Segment) → AreTwoJogs first next last m n s → Conducted first (k50 next last m n s)
-d50 first next last m n s p = (record { once = holds _ _ refl; adds = λ m e. no_move _ _ m e refl; starts = λ w. elsewhere _ w.stands refl; tries = holds _ _ refl; obeyed = λ e. refl; changed = refl; halts = λ e. untrue e }, d49 first next last m n s p)
-
-abbrev k51 : State → State → PlannedMove → PlannedMove → Segment → Journal
-k51 next last m n s = at_port (took 56) ∷ k50 next last m n s
-
-d51 : (first next last : State) (m n : PlannedMove) (s : Segment) → AreTwoJogs first next last m n s → Conducted first (k51 next last m n s)
-d51 first next last m n s p = (record { polls = record { calm = refl; all_done = refl; partial = refl; unclosed = refl }; few = under _ _ refl }, d50 first next last m n s p)
-
-abbrev k52 : State → State → PlannedMove → PlannedMove → Segment → Journal
-k52 next last m n s = turned Did ∷ k51 next last m n s
-
-d52 : (first next last : State) (m n : PlannedMove) (s : Segment) → AreTwoJogs first next last m n s → Conducted first (k52 next last m n s)
-d52 first next last m n s p = (record { once = holds _ _ refl; adds = λ m e. no_move _ _ m e refl; starts = λ w. elsewhere _ w.stands refl; tries = holds _ _ refl; obeyed = λ e. refl; changed = refl; halts = λ e. untrue e }, d51 first next last m n s p)
-
-abbrev k53 : State → State → PlannedMove → PlannedMove → Segment → Journal
-k53 next last m n s = at_port (took 70) ∷ k52 next last m n s
-
-d53 : (first next last : State) (m n : PlannedMove) (s : Segment) → AreTwoJogs first next last m n s → Conducted first (k53 next last m n s)
-d53 first next last m n s p = (record { polls = record { calm = refl; all_done = refl; partial = refl; unclosed = refl }; few = under _ _ refl }, d52 first next last m n s p)
-
-abbrev k54 : State → State → PlannedMove → PlannedMove → Segment → Journal
-k54 next last m n s = turned Did ∷ k53 next last m n s
-
-d54 : (first next last : State) (m n : PlannedMove) (s : Segment) → AreTwoJogs first next last m n s → Conducted first (k54 next last m n s)
-d54 first next last m n s p = (record { once = holds _ _ refl; adds = λ m e. no_move _ _ m e refl; starts = λ w. elsewhere _ w.stands refl; tries = holds _ _ refl; obeyed = λ e. refl; changed = refl; halts = λ e. untrue e }, d53 first next last m n s p)
-
-abbrev k55 : State → State → PlannedMove → PlannedMove → Segment → Journal
-k55 next last m n s = at_port (took 57) ∷ k54 next last m n s
-
-d55 : (first next last : State) (m n : PlannedMove) (s : Segment) → AreTwoJogs first next last m n s → Conducted first (k55 next last m n s)
-d55 first next last m n s p = (record { polls = record { calm = refl; all_done = refl; partial = refl; unclosed = refl }; few = under _ _ refl }, d54 first next last m n s p)
-
-abbrev k56 : State → State → PlannedMove → PlannedMove → Segment → Journal
-k56 next last m n s = turned Did ∷ k55 next last m n s
-
-d56 : (first next last : State) (m n : PlannedMove) (s : Segment) → AreTwoJogs first next last m n s → Conducted first (k56 next last m n s)
-d56 first next last m n s p = (record { once = holds _ _ refl; adds = λ m e. no_move _ _ m e refl; starts = λ w. elsewhere _ w.stands refl; tries = holds _ _ refl; obeyed = λ e. refl; changed = refl; halts = λ e. untrue e }, d55 first next last m n s p)
-
-abbrev k57 : State → State → PlannedMove → PlannedMove → Segment → Journal
-k57 next last m n s = at_port (took 10) ∷ k56 next last m n s
-
-d57 : (first next last : State) (m n : PlannedMove) (s : Segment) → AreTwoJogs first next last m n s → Conducted first (k57 next last m n s)
-d57 first next last m n s p = (record { polls = record { calm = refl; all_done = refl; partial = refl; unclosed = refl }; few = under _ _ refl }, d56 first next last m n s p)
-
-abbrev k58 : State → State → PlannedMove → PlannedMove → Segment → Journal
-k58 next last m n s = turned Did ∷ k57 next last m n s
-
-d58 : (first next last : State) (m n : PlannedMove) (s : Segment) → AreTwoJogs first next last m n s → Conducted first (k58 next last m n s)
-d58 first next last m n s p = (record { once = holds _ _ refl; adds = λ m e. no_move _ _ m e refl; starts = λ w. elsewhere _ w.stands refl; tries = holds _ _ refl; obeyed = λ e. refl; changed = refl; halts = λ e. untrue e }, d57 first next last m n s p)
-
-abbrev k59 : State → State → PlannedMove → PlannedMove → Segment → Journal
-k59 next last m n s = unchanged no_changes (k58 next last m n s)
-
-d59 : (first next last : State) (m n : PlannedMove) (s : Segment) → AreTwoJogs first next last m n s → Conducted first (k59 next last m n s)
-d59 first next last m n s p = may_take_no_change first no_changes (k58 next last m n s) refl (d58 first next last m n s p) refl
-
-abbrev k60 : State → State → PlannedMove → PlannedMove → Segment → Journal
-k60 next last m n s = requested nothing motions.Jog (k59 next last m n s)
-
-d60 : (first next last : State) (m n : PlannedMove) (s : Segment) → AreTwoJogs first next last m n s → Conducted first (k60 next last m n s)
-d60 first next last m n s p = may_request first nothing motions.Jog (k59 next last m n s) (d59 first next last m n s p) refl refl refl refl refl (λ e. absurd cc)
-
-abbrev k61 : State → State → PlannedMove → PlannedMove → Segment → Journal
-k61 next last m n s = at_port (loaded 0) ∷ k60 next last m n s
-
-d61 : (first next last : State) (m n : PlannedMove) (s : Segment) → AreTwoJogs first next last m n s → Conducted first (k61 next last m n s)
-d61 first next last m n s p = (record { later = omega arith; below = omega arith; few = one_unfinished (nat_lt 0 (tick_count (pieces.Segment s))) }, d60 first next last m n s p)
-
-abbrev k62 : State → State → PlannedMove → PlannedMove → Segment → Journal
-k62 next last m n s = began (jog n last) ∷ k61 next last m n s
-
-d62 : (first next last : State) (m n : PlannedMove) (s : Segment) → AreTwoJogs first next last m n s → Conducted first (k62 next last m n s)
-d62 first next last m n s p = (record { calm = refl; free = refl; going = refl; whole = refl; becomes = p.becomes; begins = refl; flags = refl; obeyed = refl; unowed = refl; load = refl; idle = λ d. absurd (let e = d.done in let some = p.some in omega (arith, e, some)); starts = λ w. elsewhere _ w.stands refl; tried = refl }, d61 first next last m n s p)
-
-abbrev k63 : State → State → PlannedMove → PlannedMove → Segment → Journal
-k63 next last m n s = at_port (took_exec cancel) ∷ k62 next last m n s
-
-d63 : (first next last : State) (m n : PlannedMove) (s : Segment) → AreTwoJogs first next last m n s → Conducted first (k63 next last m n s)
-d63 first next last m n s p = (record { obeyed = refl; few = λ e. absurd cc }, d62 first next last m n s p)
-
-abbrev k64 : State → State → PlannedMove → PlannedMove → Segment → Journal
-k64 next last m n s = became (on_exec cancel (queued m s)) motions.Cancelling ∷ k63 next last m n s
-
-d64 : (first next last : State) (m n : PlannedMove) (s : Segment) → AreTwoJogs first next last m n s → Conducted first (k64 next last m n s)
-d64 first next last m n s p = ((refl, record { next = refl; reported = λ owed. absurd cc; blocks = refl; looked = λ slowed. absurd (let b = slowed.slows in cc); stopped = λ stopped. absurd (let b = stopped.slowed.slows in cc); jog = refl; halts = λ e. untrue e }), d63 first next last m n s p)
-
-abbrev k65 : State → State → PlannedMove → PlannedMove → Segment → Journal
-k65 next last m n s = at_port (loaded (all_ticks s)) ∷ k64 next last m n s
-
-d65 : (first next last : State) (m n : PlannedMove) (s : Segment) → AreTwoJogs first next last m n s → Conducted first (k65 next last m n s)
-d65 first next last m n s p = (record { later = omega arith; below = omega arith; few = one_unfinished (nat_lt (all_ticks s) (tick_count (pieces.Segment s))) }, d64 first next last m n s p)
-
-abbrev k66 : State → State → PlannedMove → PlannedMove → Segment → Journal
-k66 next last m n s = cut 2 ∷ k65 next last m n s
-
-d66 : (first next last : State) (m n : PlannedMove) (s : Segment) → AreTwoJogs first next last m n s → Conducted first (k66 next last m n s)
-d66 first next last m n s p = (record { calm = refl; cancelled = refl; uncut = refl; stopped = record { slowed = record { slows = refl; speed = p.one.rests.speed; empty = refl }; done = refl }; load = refl; number = refl; mark = omega arith }, d65 first next last m n s p)
-
-abbrev k67 : State → State → PlannedMove → PlannedMove → Segment → Journal
-k67 next last m n s = turned Did ∷ k66 next last m n s
-
-d67 : (first next last : State) (m n : PlannedMove) (s : Segment) → AreTwoJogs first next last m n s → Conducted first (k67 next last m n s)
-d67 first next last m n s p = (record { once = holds _ _ refl; adds = λ m e. no_move _ _ m e refl; starts = λ w. elsewhere _ w.stands refl; tries = holds _ _ refl; obeyed = λ e. refl; changed = refl; halts = λ e. untrue e }, d66 first next last m n s p)
-
-abbrev k68 : State → State → PlannedMove → PlannedMove → Segment → Journal
-k68 next last m n s = at_port (loaded (all_ticks s)) ∷ k67 next last m n s
-
-d68 : (first next last : State) (m n : PlannedMove) (s : Segment) → AreTwoJogs first next last m n s → Conducted first (k68 next last m n s)
-d68 first next last m n s p = (record { later = omega arith; below = omega arith; few = one_unfinished (nat_lt (all_ticks s) (tick_count (pieces.Segment s))) }, d67 first next last m n s p)
-
-abbrev k69 : State → State → PlannedMove → PlannedMove → Segment → Journal
-k69 next last m n s = at_port (published (pieces.Mark (marks.Cut 2))) ∷ k68 next last m n s
-
-d69 : (first next last : State) (m n : PlannedMove) (s : Segment) → AreTwoJogs first next last m n s → Conducted first (k69 next last m n s)
-d69 first next last m n s p = ((refl, (refl, refl)), d68 first next last m n s p)
-
-abbrev k70 : State → State → PlannedMove → PlannedMove → Segment → Journal
-k70 next last m n s = turned Did ∷ k69 next last m n s
-
-d70 : (first next last : State) (m n : PlannedMove) (s : Segment) → AreTwoJogs first next last m n s → Conducted first (k70 next last m n s)
-d70 first next last m n s p = (record { once = holds _ _ refl; adds = λ m e. no_move _ _ m e refl; starts = λ w. elsewhere _ w.stands refl; tries = holds _ _ refl; obeyed = λ e. refl; changed = refl; halts = λ e. untrue e }, d69 first next last m n s p)
-
-abbrev k71 : State → State → PlannedMove → PlannedMove → Segment → Journal
-k71 next last m n s = at_port (answered Ok) ∷ k70 next last m n s
-
-d71 : (first next last : State) (m n : PlannedMove) (s : Segment) → AreTwoJogs first next last m n s → Conducted first (k71 next last m n s)
-d71 first next last m n s p = (record { next = refl; plain = refl; unowed = refl; empty = λ e. absurd cc }, d70 first next last m n s p)
-
-abbrev k72 : State → State → PlannedMove → PlannedMove → Segment → Journal
-k72 next last m n s = turned Did ∷ k71 next last m n s
-
-d72 : (first next last : State) (m n : PlannedMove) (s : Segment) → AreTwoJogs first next last m n s → Conducted first (k72 next last m n s)
-d72 first next last m n s p = (record { once = holds _ _ refl; adds = λ m e. no_move _ _ m e refl; starts = λ w. elsewhere _ w.stands refl; tries = holds _ _ refl; obeyed = λ e. refl; changed = refl; halts = λ e. untrue e }, d71 first next last m n s p)
-
-abbrev k73 : State → State → PlannedMove → PlannedMove → Segment → Journal
-k73 next last m n s = at_port (loaded (all_ticks s + 1)) ∷ k72 next last m n s
-
-d73 : (first next last : State) (m n : PlannedMove) (s : Segment) → AreTwoJogs first next last m n s → Conducted first (k73 next last m n s)
-d73 first next last m n s p = (record { later = omega arith; below = (let e = both_ticks s in omega (arith, e)); few = two_unfinished (nat_lt (all_ticks s + 1) (tick_count (pieces.Segment s))) (nat_lt (all_ticks s + 1 - tick_count (pieces.Segment s)) 1) }, d72 first next last m n s p)
-
-abbrev k74 : State → State → PlannedMove → PlannedMove → Segment → Journal
-k74 next last m n s = became on_stopped motions.Idle ∷ k73 next last m n s
-
-d74 : (first next last : State) (m n : PlannedMove) (s : Segment) → AreTwoJogs first next last m n s → Conducted first (k74 next last m n s)
-d74 first next last m n s p = ((refl, record { stopped = record { slowed = record { slows = refl; speed = refl; empty = refl }; done = sym (both_ticks s) }; cut_is = λ e. refl; load = λ e. refl }), d73 first next last m n s p)
-
-abbrev pub k75 : State → State → PlannedMove → PlannedMove → Segment → Journal
-k75 next last m n s = turned Did ∷ k74 next last m n s
-
-pub d75 : (first next last : State) (m n : PlannedMove) (s : Segment) → AreTwoJogs first next last m n s → Conducted first (k75 next last m n s)
-d75 first next last m n s p = (record { once = holds _ _ refl; adds = λ m e. no_move _ _ m e refl; starts = λ w. untrue w.blocks; tries = holds _ _ refl; obeyed = λ e. refl; changed = refl; halts = λ e. untrue e }, d74 first next last m n s p)
+pub d21 : (first next last : State) (m n : PlannedMove) (s : Segment) → AreTwoJogs first next last m n s → Conducted (first_opening first) (k21 next last m n s)
+d21 first next last m n s p = (ends _ _ (λ w. untrue w.blocks) refl refl refl refl refl refl, ((refl, record { stopped = record { slowed = record { slows = refl; speed = refl; empty = refl }; done = sym (both_ticks s) }; cut_is = λ e. refl; load = λ e. refl }), d20 first next last m n s p))
 
 -- the position is where the first jog's segment has led, and nothing is left to do or to run
-pub place_is : (first next last : State) (m n : PlannedMove) (s : Segment) → AreTwoJogs first next last m n s → (before_of first (k75 next last m n s)).state.parser.pos_steps ≡ end_of (pieces.Segment s ∷ [])
+pub place_is : (first next last : State) (m n : PlannedMove) (s : Segment) → AreTwoJogs first next last m n s → (before_of (first_opening first) (k21 next last m n s)).state.parser.pos_steps ≡ end_of (pieces.Segment s ∷ [])
 place_is first next last m n s p = refl
 
-pub nothing_left : (first next last : State) (m n : PlannedMove) (s : Segment) → AreTwoJogs first next last m n s → (left_of (k75 next last m n s) ≡ []) × ((plan_of (k75 next last m n s)).blocks ≡ [])
+pub nothing_left : (first next last : State) (m n : PlannedMove) (s : Segment) → AreTwoJogs first next last m n s → (left_of (first_opening first) (k21 next last m n s) ≡ []) × ((plan_of (k21 next last m n s)).blocks ≡ [])
 nothing_left first next last m n s p = (refl, refl)

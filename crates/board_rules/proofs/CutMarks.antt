@@ -1,28 +1,20 @@
 -- While a cut is in hand, each tick that is published is known to be done: it was made so, no line asks for one, and nothing is
 -- published since.
-use Rattle.std.proofs.Common.{◌≡◌, ℕ, ◌≤◌, ◌==◌, if◌then◌else◌, ◌⊎◌, inl, inr, Bool, true, false, List, [], ◌∷◌, ◌++◌, drop, refl, sym, ap, ◌∙◌, subst, arith, append_assoc, append-nil}
-use Rattle.settings.specs.declared.Settings.{Settings}
-use Rattle.modal_state.specs.declared.SpindleMode.{SpindleMode}
-use Rattle.modal_state.specs.declared.SpindleMode.TheVariants.{Off, Cw, Ccw}
-use Rattle.gcode_check.specs.declared.Item.{Item}
-use Rattle.gcode_check.specs.declared.Item.TheVariants as items
+use Rattle.std.proofs.Common.{◌≡◌, ℕ, ◌≤◌, ◌⊎◌, inl, inr, Bool, true, false, List, [], ◌∷◌, ◌++◌, drop, refl, sym, ap, ◌∙◌, subst, arith, append-nil}
 use Rattle.status_report.specs.declared.Reply.{Reply}
-use Rattle.status_report.specs.declared.Reply.TheVariants as replies
-use Rattle.step_line.specs.Counting.{events_of}
 use Rattle.step_line.specs.declared.Mark.{Mark as AnyMark}
 use Rattle.step_line.specs.declared.Mark.TheVariants as marks
 use Rattle.step_line.specs.declared.Piece.{Piece}
 use Rattle.step_line.specs.declared.Piece.TheVariants as pieces
-use Rattle.step_line.specs.declared.planned_move.PlannedMove.{PlannedMove}
 use Rattle.step_line.specs.Asking.Asked.{a_move, a_mark, a_rest}
+use Rattle.step_line.specs.Asking.{Asked}
 use Rattle.step_line.specs.Finishing.{ticks_together}
 use Rattle.plan_rules.specs.declared.Mode.TheVariants.{Go, Hold}
 use Rattle.planner_runs.specs.declared.Action.{Action}
 use Rattle.planner_runs.specs.declared.Action.TheVariants.{Add, Take, Override, Mark, Rest, Clear, Reset}
-use Rattle.run_rules.specs.declared.State.{State}
-use Rattle.run_rules.specs.Asks.{spindle_after, flood_after, item_work, work_of, planned}
-use Rattle.run_rules.specs.Work.{Task, Outcome, asking, telling}
-use Rattle.run_rules.specs.Work.Task.{ask, tell, pause, normal, finish, halt}
+use Rattle.board_rules.specs.Openings.{Opening}
+use Rattle.run_rules.specs.Work.{Task, Outcome, telling}
+use Rattle.run_rules.specs.Work.Task.{ask}
 use Rattle.run_rules.specs.Outcomes.{Before, Becomes}
 use Rattle.board_rules.specs.Ports.PortStep.{answered, published, loaded}
 use Rattle.board_rules.specs.Steps.{Journal, published_of, known_of, open_of, left_of, left_by, without_asks, hand_of, plan_of}
@@ -31,117 +23,62 @@ use Rattle.board_rules.specs.Conduct.{Conducted, Gives, MayDo, IsStopped, IsTime
 use Rattle.board_rules.proofs.Beginning.{caused, becomes_caused}
 use Rattle.board_rules.proofs.Keeping.{hand_is}
 use Rattle.planner_runs.specs.Runs.{marks_cut}
-use Rattle.board_rules.proofs.Marks.{HoldsOfEach, holds_of_each}
+use Rattle.run_rules.proofs.Items.{IsOfItem, PassesTasks, holds_of_lines}
 
 -- ---- no line asks for a cut
 
 abbrev NoCuts : List Task → Type 0
 NoCuts [] = Unit {0}
-NoCuts (ask a_rest ∷ ts) = NoCuts ts
-NoCuts (ask (a_move m) ∷ ts) = NoCuts ts
 NoCuts (ask (a_mark m) ∷ ts) = (marks_cut (pieces.Mark m) ≡ false) × NoCuts ts
-NoCuts (tell r ∷ ts) = NoCuts ts
-NoCuts (pause ∷ ts) = NoCuts ts
-NoCuts (normal ∷ ts) = NoCuts ts
-NoCuts (finish ∷ ts) = NoCuts ts
-NoCuts (halt ∷ ts) = NoCuts ts
+NoCuts (_ ∷ ts) = NoCuts ts
 
-abbrev answer : List Task
-answer = tell replies.Ok ∷ []
-
-item_cuts : (line : ℕ) (s : Settings) (spindle : SpindleMode) (flood : Bool) (item : Item) (ts : List Task) → NoCuts ts → NoCuts (item_work line s spindle flood item ++ ts)
-item_cuts line s spindle flood (items.Spindle Off speed) ts none = (refl, none)
-item_cuts line s spindle flood (items.Spindle Cw speed) ts none = (refl, none)
-item_cuts line s spindle flood (items.Spindle Ccw speed) ts none = (refl, none)
-item_cuts line s spindle flood (items.Coolant on) ts none = (refl, none)
-item_cuts line s spindle flood (items.Dwell ms) ts none = (refl, none)
-item_cuts line s spindle flood (items.Move mv rate) ts none = by_events (events_of mv == 0) refl
-  where
-    by_events : (b : Bool) → (events_of mv == 0) ≡ b → NoCuts (item_work line s spindle flood (items.Move mv rate) ++ ts)
-    by_events true is = rw is none
-    by_events false is = rw is none
-item_cuts line s spindle flood items.Pause ts none = none
-item_cuts line s Off true items.ProgramEnd ts none = (refl, none)
-item_cuts line s Off false items.ProgramEnd ts none = none
-item_cuts line s Cw true items.ProgramEnd ts none = (refl, (refl, none))
-item_cuts line s Cw false items.ProgramEnd ts none = (refl, none)
-item_cuts line s Ccw true items.ProgramEnd ts none = (refl, (refl, none))
-item_cuts line s Ccw false items.ProgramEnd ts none = (refl, none)
-
-work_cuts : (line : ℕ) (s : Settings) (spindle : SpindleMode) (flood : Bool) (all : List Item) → NoCuts (work_of line s spindle flood all ++ answer)
-work_cuts line s spindle flood [] = tt
-work_cuts line s spindle flood (item ∷ more) =
-    let later = work_of line s (spindle_after spindle item) (flood_after flood item) more in
-    subst NoCuts (sym (append_assoc (item_work line s spindle flood item) later answer))
-    (item_cuts line s spindle flood item (later ++ answer) (work_cuts line s (spindle_after spindle item) (flood_after flood item) more))
-
-told_cuts : (rs : List Reply) → NoCuts (telling rs)
-told_cuts [] = tt
-told_cuts (r ∷ rs) = told_cuts rs
-
-jog_cuts : (none : Bool) (m : PlannedMove) → NoCuts (asking (if none then [] else a_move m ∷ []) ++ tell replies.Ok ∷ [])
-jog_cuts true m = tt
-jog_cuts false m = tt
+asked_first : (a : Asked) (ts : List Task) → IsOfItem a → NoCuts ts → NoCuts (ask a ∷ ts)
+asked_first (a_move m) ts is none = none
+asked_first a_rest ts is none = none
+asked_first (a_mark (marks.Cut k)) ts is none = absurd is
+asked_first (a_mark (marks.Reset k)) ts is none = absurd is
+asked_first _ ts is none = (refl, none)
 
 line_cuts : (runs : Bool) (b : Before) (kept : List ℕ) (o : Outcome) → Becomes runs b kept o → NoCuts o.work
 line_cuts runs b kept o is =
-    let modal = b.state.parser.modal in
-    let each : HoldsOfEach b (λ (o : Outcome). NoCuts o.work) = record {
-      refuses = λ n. tt;
-      tells = λ next body. told_cuts (body ++ replies.Ok ∷ []);
-      executes = λ a. work_cuts b.number b.state.settings modal.spindle modal.flood a.items.items;
-      jogs = λ jog. jog_cuts (events_of jog.mv == 0) (planned b.number b.state.settings jog.mv jog.rate);
-      limits = tt;
-    } in
-    holds_of_each runs b (λ (o : Outcome). NoCuts o.work) each kept o is
+    let each : PassesTasks NoCuts = record { asks = asked_first; pauses = λ ts none. none; normals = λ ts none. none; ends = λ ts none. none } in
+    holds_of_lines NoCuts each (λ r ts none. none) (λ n. tt) tt tt runs b kept o is
 
 cuts_behind : (ts : List Task) → NoCuts ts → NoCuts (drop 1 ts)
 cuts_behind [] none = tt
-cuts_behind (ask a_rest ∷ ts) none = none
-cuts_behind (ask (a_move m) ∷ ts) none = none
 cuts_behind (ask (a_mark m) ∷ ts) none = none.1
-cuts_behind (tell r ∷ ts) none = none
-cuts_behind (pause ∷ ts) none = none
-cuts_behind (normal ∷ ts) none = none
-cuts_behind (finish ∷ ts) none = none
-cuts_behind (halt ∷ ts) none = none
+cuts_behind (_ ∷ ts) none = none
 
 cuts_dropped : (ts : List Task) → NoCuts (without_asks ts)
 cuts_dropped [] = tt
 cuts_dropped (ask a ∷ ts) = cuts_dropped ts
-cuts_dropped (tell r ∷ ts) = cuts_dropped ts
-cuts_dropped (pause ∷ ts) = cuts_dropped ts
-cuts_dropped (normal ∷ ts) = cuts_dropped ts
-cuts_dropped (finish ∷ ts) = cuts_dropped ts
-cuts_dropped (halt ∷ ts) = cuts_dropped ts
+cuts_dropped (_ ∷ ts) = cuts_dropped ts
 
 cuts_by : (a : Action) (ts : List Task) → NoCuts ts → NoCuts (left_by a ts)
 cuts_by (Add m) ts none = cuts_behind ts none
 cuts_by (Mark m) ts none = cuts_behind ts none
 cuts_by Rest ts none = cuts_behind ts none
-cuts_by (Take mode) ts none = none
-cuts_by (Override o) ts none = none
-cuts_by Clear ts none = none
-cuts_by Reset ts none = none
+cuts_by _ ts none = none
 
-no_cuts : (first : State) (h : Journal) → Conducted first h → NoCuts (left_of h)
-no_cuts first [] c = tt
-no_cuts first (at_port (answered r) ∷ h) c = cuts_behind (left_of h) (no_cuts first h c.1)
+cuts_told : (rs : List Reply) → NoCuts (telling rs)
+cuts_told [] = tt
+cuts_told (r ∷ rs) = cuts_told rs
+
+no_cuts : (first : Opening) (h : Journal) → Conducted first h → NoCuts (left_of first h)
+no_cuts first [] c = cuts_told first.tells
+no_cuts first (at_port (answered r) ∷ h) c = cuts_behind (left_of first h) (no_cuts first h c.1)
 no_cuts first (at_port e ∷ h) c = no_cuts first h c.1
 no_cuts first (began o ∷ h) c = line_cuts true (caused first h) (open_of h) o (becomes_caused first h o c.0)
-no_cuts first (did a ps ∷ h) c = cuts_by a (left_of h) (no_cuts first h c.1)
-no_cuts first (made_end ∷ h) c = cuts_behind (left_of h) (no_cuts first h c.1)
-no_cuts first (evened ∷ h) c = cuts_behind (left_of h) (no_cuts first h c.1)
-no_cuts first (paused ∷ h) c = cuts_behind (left_of h) (no_cuts first h c.1)
+no_cuts first (did a ps ∷ h) c = cuts_by a (left_of first h) (no_cuts first h c.1)
 no_cuts first (became call m ∷ h) c = no_cuts first h c.1
-no_cuts first (cut k ∷ h) c = cuts_dropped (left_of h)
-no_cuts first (halted ∷ h) c = cuts_behind (left_of h) (no_cuts first h c.1)
+no_cuts first (cut k ∷ h) c = cuts_dropped (left_of first h)
 no_cuts first (closing ∷ h) c = tt
 no_cuts first (turned t ∷ h) c = no_cuts first h c.1
+no_cuts first (_ ∷ h) c = cuts_behind (left_of first h) (no_cuts first h c.1)
 
-no_cut_next : (first : State) (h : Journal) (m : AnyMark) → Conducted first h → left_of h ≡ ask (a_mark m) ∷ drop 1 (left_of h) → marks_cut (pieces.Mark m) ≡ false
+no_cut_next : (first : Opening) (h : Journal) (m : AnyMark) → Conducted first h → left_of first h ≡ ask (a_mark m) ∷ drop 1 (left_of first h) → marks_cut (pieces.Mark m) ≡ false
 no_cut_next first h m c next =
-    let is : (marks_cut (pieces.Mark m) ≡ false) × NoCuts (drop 1 (left_of h)) = subst NoCuts next (no_cuts first h c) in is.0
+    let is : (marks_cut (pieces.Mark m) ≡ false) × NoCuts (drop 1 (left_of first h)) = subst NoCuts next (no_cuts first h c) in is.0
 
 -- ---- the piece in hand
 
@@ -169,13 +106,10 @@ stays h a ps none (inr (p, is, known)) = inr (p, ap (λ (qs : List Piece). hand_
 comes_in : (h : Journal) (a : Action) (p : Piece) → hand_of h ≡ [] → marks_cut p ≡ false → OneInHand (did a (p ∷ []) ∷ h)
 comes_in h a p empty other = inr (p, ap (λ (qs : List Piece). qs ++ p ∷ []) empty, λ cuts. no_cut p other cuts)
 
-did_hand : (first : State) (h : Journal) (a : Action) (ps : List Piece) → Conducted first h → MayDo a h → Gives a ps (plan_of h) → OneInHand h → OneInHand (did a ps ∷ h)
+did_hand : (first : Opening) (h : Journal) (a : Action) (ps : List Piece) → Conducted first h → MayDo first a h → Gives a ps (plan_of h) → OneInHand h → OneInHand (did a ps ∷ h)
 did_hand first h (Add m) [] c may run one = stays h (Add m) [] refl one
-did_hand first h (Add m) (p ∷ ps) c may run one = absurd run.1
 did_hand first h (Override o) [] c may run one = stays h (Override o) [] refl one
-did_hand first h (Override o) (p ∷ ps) c may run one = absurd run.1
 did_hand first h Rest [] c may run one = stays h Rest [] refl one
-did_hand first h Rest (p ∷ ps) c may run one = absurd run.1
 did_hand first h (Mark m) (pieces.Mark g ∷ []) c may run one =
     comes_in h (Mark m) (pieces.Mark g) may.empty (ap (λ (x : AnyMark). marks_cut (pieces.Mark x)) run.0 ∙ no_cut_next first h m c may.next)
 did_hand first h (Mark m) (pieces.Mark g ∷ p ∷ ps) c may run one = absurd run.3
@@ -190,30 +124,24 @@ did_hand first h (Take mode) (pieces.End ∷ ps) c may run one = absurd run
 did_hand first h (Take mode) [] c may run one = absurd run
 did_hand first h Clear ps c may run one = absurd may
 did_hand first h Reset ps c may run one = absurd may
+did_hand first h _ (p ∷ ps) c may run one = absurd run.1
 
 -- all that was given is published where nothing is in hand
-pub known_where_stopped : (first : State) (h : Journal) → Conducted first h → IsStopped h → known_of h ≡ ticks_published h
+pub known_where_stopped : (first : Opening) (h : Journal) → Conducted first h → IsStopped first h → known_of h ≡ ticks_published h
 known_where_stopped first h c stopped =
     stopped.done ∙ ap ticks_together (hand_is first h c ∙ ap (λ (ps : List Piece). published_of h ++ ps) stopped.slowed.empty ∙ append-nil (published_of h))
 
-one_in_hand : (first : State) (h : Journal) → Conducted first h → OneInHand h
+one_in_hand : (first : Opening) (h : Journal) → Conducted first h → OneInHand h
 one_in_hand first [] c = inl refl
 one_in_hand first (at_port (published q) ∷ h) c = goes_out h q (one_in_hand first h c.1)
 one_in_hand first (at_port (loaded done) ∷ h) c = more_known h done c.0.later c.0.below (one_in_hand first h c.1)
-one_in_hand first (at_port e ∷ h) c = one_in_hand first h c.1
-one_in_hand first (began o ∷ h) c = one_in_hand first h c.1
 one_in_hand first (did a ps ∷ h) c = did_hand first h a ps c.1 c.0.0 c.0.1 (one_in_hand first h c.1)
 one_in_hand first (made_end ∷ h) c = inr (pieces.End, ap (λ (qs : List Piece). qs ++ pieces.End ∷ []) c.0.drained.hand, λ cuts. absurd cc)
-one_in_hand first (evened ∷ h) c = one_in_hand first h c.1
-one_in_hand first (paused ∷ h) c = one_in_hand first h c.1
-one_in_hand first (became call m ∷ h) c = one_in_hand first h c.1
 one_in_hand first (cut k ∷ h) c =
     inr (pieces.Mark (marks.Cut k), ap (λ (qs : List Piece). qs ++ pieces.Mark (marks.Cut k) ∷ []) c.0.stopped.slowed.empty, λ cuts. known_where_stopped first h c.1 c.0.stopped)
-one_in_hand first (halted ∷ h) c = one_in_hand first h c.1
-one_in_hand first (closing ∷ h) c = one_in_hand first h c.1
-one_in_hand first (turned t ∷ h) c = one_in_hand first h c.1
+one_in_hand first (_ ∷ h) c = one_in_hand first h c.1
 
-cut_known : (first : State) (h : Journal) (p : Piece) → Conducted first h → hand_of h ≡ p ∷ [] → marks_cut p ≡ true → known_of h ≡ ticks_published h
+cut_known : (first : Opening) (h : Journal) (p : Piece) → Conducted first h → hand_of h ≡ p ∷ [] → marks_cut p ≡ true → known_of h ≡ ticks_published h
 cut_known first h p c is cuts = by_hand (one_in_hand first h c)
   where
     by_hand : OneInHand h → known_of h ≡ ticks_published h
@@ -225,17 +153,9 @@ cut_known first h p c is cuts = by_hand (one_in_hand first h c)
 -- a piece that is no cut, at any time
 pub other_timely : (p : Piece) (h : Journal) → marks_cut p ≡ false → IsTimely p h
 other_timely (pieces.Mark (marks.Cut k)) h other = absurd cc
-other_timely (pieces.Mark (marks.Dwell ms)) h other = tt
-other_timely (pieces.Mark (marks.Spindle code speed)) h other = tt
-other_timely (pieces.Mark (marks.Coolant on)) h other = tt
-other_timely (pieces.Segment s) h other = tt
-other_timely pieces.End h other = tt
+other_timely _ h other = tt
 
 -- and each piece behind a look
-pub timely_looked : (first : State) (p : Piece) (done : ℕ) (h : Journal) → Conducted first (at_port (loaded done) ∷ h) → hand_of h ≡ p ∷ [] → IsTimely p (at_port (loaded done) ∷ h)
+pub timely_looked : (first : Opening) (p : Piece) (done : ℕ) (h : Journal) → Conducted first (at_port (loaded done) ∷ h) → hand_of h ≡ p ∷ [] → IsTimely p (at_port (loaded done) ∷ h)
 timely_looked first (pieces.Mark (marks.Cut k)) done h c is = (refl, cut_known first (at_port (loaded done) ∷ h) (pieces.Mark (marks.Cut k)) c is refl)
-timely_looked first (pieces.Mark (marks.Dwell ms)) done h c is = tt
-timely_looked first (pieces.Mark (marks.Spindle code speed)) done h c is = tt
-timely_looked first (pieces.Mark (marks.Coolant on)) done h c is = tt
-timely_looked first (pieces.Segment s) done h c is = tt
-timely_looked first pieces.End done h c is = tt
+timely_looked first _ done h c is = tt

@@ -2,7 +2,7 @@
 use Rattle.std.proofs.Common.{◌≡◌, ◌+◌, true, false, List, [], ◌∷◌, refl, ap}
 use Rattle.status_report.specs.declared.Reply.{Reply}
 use Rattle.run_rules.specs.Work.{Task, asks, tells, has_moves, has_normal, pauses}
-use Rattle.run_rules.specs.Work.Task.{ask, tell, pause, normal, finish, halt}
+use Rattle.run_rules.specs.Work.Task.{ask, tell, pause, normal}
 use Rattle.board_rules.specs.Steps.{without_asks}
 use Rattle.board_rules.specs.Turns.{tells_next}
 use Rattle.board_rules.specs.Whole.{comes_to_rest}
@@ -10,68 +10,40 @@ use Rattle.board_rules.specs.Whole.{comes_to_rest}
 pub asks_dropped : (ts : List Task) → asks (without_asks ts) ≡ []
 asks_dropped [] = refl
 asks_dropped (ask a ∷ ts) = asks_dropped ts
-asks_dropped (tell r ∷ ts) = asks_dropped ts
-asks_dropped (pause ∷ ts) = asks_dropped ts
-asks_dropped (normal ∷ ts) = asks_dropped ts
-asks_dropped (finish ∷ ts) = asks_dropped ts
-asks_dropped (halt ∷ ts) = asks_dropped ts
+asks_dropped (_ ∷ ts) = asks_dropped ts
 
 pub tells_kept : (ts : List Task) → tells (without_asks ts) ≡ tells ts
 tells_kept [] = refl
-tells_kept (ask a ∷ ts) = tells_kept ts
 tells_kept (tell r ∷ ts) = ap (λ (rs : List Reply). r ∷ rs) (tells_kept ts)
-tells_kept (pause ∷ ts) = tells_kept ts
-tells_kept (normal ∷ ts) = tells_kept ts
-tells_kept (finish ∷ ts) = tells_kept ts
-tells_kept (halt ∷ ts) = tells_kept ts
+tells_kept (_ ∷ ts) = tells_kept ts
 
 pub normal_kept : (ts : List Task) → has_normal (without_asks ts) ≡ has_normal ts
 normal_kept [] = refl
-normal_kept (ask a ∷ ts) = normal_kept ts
-normal_kept (tell r ∷ ts) = normal_kept ts
-normal_kept (pause ∷ ts) = normal_kept ts
 normal_kept (normal ∷ ts) = refl
-normal_kept (finish ∷ ts) = normal_kept ts
-normal_kept (halt ∷ ts) = normal_kept ts
+normal_kept (_ ∷ ts) = normal_kept ts
 
 pub pauses_kept : (ts : List Task) → pauses (without_asks ts) ≡ pauses ts
 pauses_kept [] = refl
-pauses_kept (ask a ∷ ts) = pauses_kept ts
-pauses_kept (tell r ∷ ts) = pauses_kept ts
 pauses_kept (pause ∷ ts) = ap (λ n. n + 1) (pauses_kept ts)
-pauses_kept (normal ∷ ts) = pauses_kept ts
-pauses_kept (finish ∷ ts) = pauses_kept ts
-pauses_kept (halt ∷ ts) = pauses_kept ts
+pauses_kept (_ ∷ ts) = pauses_kept ts
 
 -- a reply that is next stays next
 pub tell_kept : (ts : List Task) → tells_next ts ≡ true → tells_next (without_asks ts) ≡ true
 tell_kept (tell r ∷ ts) is = refl
 tell_kept [] is = absurd cc
-tell_kept (ask a ∷ ts) is = absurd cc
-tell_kept (pause ∷ ts) is = absurd cc
-tell_kept (normal ∷ ts) is = absurd cc
-tell_kept (finish ∷ ts) is = absurd cc
-tell_kept (halt ∷ ts) is = absurd cc
+tell_kept (_ ∷ ts) is = absurd cc
 
 -- ---- where nothing is asked for
 
 pub none_moves : (ts : List Task) → asks ts ≡ [] → has_moves ts ≡ false
 none_moves [] none = refl
 none_moves (ask a ∷ ts) none = absurd cc
-none_moves (tell r ∷ ts) none = none_moves ts none
-none_moves (pause ∷ ts) none = none_moves ts none
-none_moves (normal ∷ ts) none = none_moves ts none
-none_moves (finish ∷ ts) none = none_moves ts none
-none_moves (halt ∷ ts) none = none_moves ts none
+none_moves (_ ∷ ts) none = none_moves ts none
 
 pub none_rests : (ts : List Task) → asks ts ≡ [] → comes_to_rest ts ≡ false
 none_rests [] none = refl
 none_rests (ask a ∷ ts) none = absurd cc
-none_rests (tell r ∷ ts) none = none_rests ts none
-none_rests (pause ∷ ts) none = none_rests ts none
-none_rests (normal ∷ ts) none = none_rests ts none
-none_rests (finish ∷ ts) none = none_rests ts none
-none_rests (halt ∷ ts) none = none_rests ts none
+none_rests (_ ∷ ts) none = none_rests ts none
 
 pub moves_dropped : (ts : List Task) → has_moves (without_asks ts) ≡ false
 moves_dropped ts = none_moves (without_asks ts) (asks_dropped ts)

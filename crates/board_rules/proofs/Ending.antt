@@ -12,7 +12,7 @@ use Rattle.planner_runs.specs.declared.Action.TheVariants.{Add, Take, Override, 
 use Rattle.planner_runs.specs.Runs.{Plans, AllFollow, fresh_plan, most_blocks, with_move, cleared}
 use Rattle.planner_runs.proofs.Runs.{fresh_starts}
 use Rattle.planner_runs.proofs.Following.{start_follows}
-use Rattle.run_rules.specs.declared.State.{State}
+use Rattle.board_rules.specs.Openings.{Opening}
 use Rattle.board_rules.specs.Steps.{Journal, given_of, planned_of, plan_of, hand_of, actions_of, published_of}
 use Rattle.board_rules.specs.Conduct.{Conducted, IsInHand}
 use Rattle.board_rules.proofs.Keeping.{run_is, hand_is}
@@ -63,16 +63,16 @@ end_turns ps none follow =
     subst InTurn (sym (reverse-append ps (pieces.End ∷ [])))
     (record { going = not_ended (reverse ps) (no_ends_back ps none); follows = tt }, planned_turns ps none follow)
 
-by_phase : (h : Journal) → NoEnds (planned_of h) → AllFollow [] (planned_of h) → At h → InTurn (reverse (given_of h))
-by_phase h none follow (going e is) = subst (λ (ps : List Piece). InTurn (reverse ps)) (sym is) (planned_turns (planned_of h) none follow)
-by_phase h none follow (to_finish e l w is) = subst (λ (ps : List Piece). InTurn (reverse ps)) (sym is) (planned_turns (planned_of h) none follow)
-by_phase h none follow (to_tell e l w p still is k) = subst (λ (ps : List Piece). InTurn (reverse ps)) (sym is) (end_turns (planned_of h) none follow)
-by_phase h none follow (over e l w p still d is k) = subst (λ (ps : List Piece). InTurn (reverse ps)) (sym is) (end_turns (planned_of h) none follow)
+by_phase : (first : Opening) (h : Journal) → NoEnds (planned_of h) → AllFollow [] (planned_of h) → At first h → InTurn (reverse (given_of h))
+by_phase first h none follow (going e is) = subst (λ (ps : List Piece). InTurn (reverse ps)) (sym is) (planned_turns (planned_of h) none follow)
+by_phase first h none follow (to_finish e l w is) = subst (λ (ps : List Piece). InTurn (reverse ps)) (sym is) (planned_turns (planned_of h) none follow)
+by_phase first h none follow (to_tell e l w p still is k) = subst (λ (ps : List Piece). InTurn (reverse ps)) (sym is) (end_turns (planned_of h) none follow)
+by_phase first h none follow (over e l w p still d is k) = subst (λ (ps : List Piece). InTurn (reverse ps)) (sym is) (end_turns (planned_of h) none follow)
 
-pub turns_are : (first : State) (h : Journal) → Conducted first h → InTurn (reverse (given_of h))
+pub turns_are : (first : Opening) (h : Journal) → Conducted first h → InTurn (reverse (given_of h))
 turns_are first h c =
     let run = run_is first h c in
-    by_phase h (planned_no_end most_blocks fresh_plan (plan_of h) (actions_of h) (planned_of h) run)
+    by_phase first h (planned_no_end most_blocks fresh_plan (plan_of h) (actions_of h) (planned_of h) run)
     (start_follows most_blocks [] fresh_plan (plan_of h) (actions_of h) (planned_of h) fresh_starts run) (phase_is first h c)
 
 turns_back : (xs ys : List Piece) → InTurn (xs ++ ys) → InTurn ys
@@ -80,7 +80,7 @@ turns_back [] ys turns = turns
 turns_back (x ∷ xs) ys turns = turns_back xs ys turns.1
 
 -- the piece in hand may be published
-pub next_turns : (first : State) (h : Journal) (p : Piece) → Conducted first h → IsInHand p h → ComesNext (reverse (published_of h)) p
+pub next_turns : (first : Opening) (h : Journal) (p : Piece) → Conducted first h → IsInHand p h → ComesNext (reverse (published_of h)) p
 next_turns first h p c next =
     let qs : List Piece = drop 1 (hand_of h) in
     let e : reverse (given_of h) ≡ reverse qs ++ (p ∷ reverse (published_of h)) =

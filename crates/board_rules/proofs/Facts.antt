@@ -2,15 +2,15 @@
 use Rattle.std.proofs.Common.{◌≡◌, ◌+◌, ◌⊎◌, inl, inr, Bool, true, false, ◌&&◌, not, List, [], ◌∷◌, length, drop, refl, ap, arith, length-append}
 use Rattle.status_report.specs.declared.Reply.TheVariants.{Bye}
 use Rattle.step_line.specs.Asking.Asked.{a_move, a_mark, a_rest}
-use Rattle.plan_rules.specs.declared.Mode.TheVariants.{Go, Hold}
+use Rattle.plan_rules.specs.declared.Mode.TheVariants.{Go}
 use Rattle.planner_runs.specs.declared.Action.{Action}
-use Rattle.planner_runs.specs.declared.Action.TheVariants.{Add, Take, Override, Mark, Rest, Clear, Reset}
-use Rattle.run_rules.specs.declared.State.{State}
+use Rattle.planner_runs.specs.declared.Action.TheVariants.{Add, Take, Mark, Rest, Clear, Reset}
+use Rattle.board_rules.specs.Openings.{Opening}
 use Rattle.run_rules.specs.Work.{Task}
 use Rattle.run_rules.specs.Work.Task.{ask, tell, pause, normal, finish, halt}
-use Rattle.board_rules.specs.Ports.PortStep.{took, found_empty, found_closed, found_free, answered, reported, no_reply_room, took_exec, took_ovr, published, no_piece_room, loaded}
+use Rattle.board_rules.specs.Ports.PortStep.{took, answered}
 use Rattle.board_rules.specs.Steps.{Journal, outcomes_of, before_of, left_of, left_by, without_asks, whole_of, closed_tells, motion_of}
-use Rattle.board_rules.specs.Steps.Step.{at_port, began, did, made_end, evened, paused, became, cut, halted, closing, turned}
+use Rattle.board_rules.specs.Steps.Step.{at_port, began, did, made_end, evened, paused, cut, halted, closing, turned}
 use Rattle.board_rules.specs.Turns.{this_turn, missed_of, is_due, is_halting, is_counted, counts_tries, owes_report}
 use Rattle.board_rules.specs.Conduct.{Conducted, IsNextTask, MayDo}
 use Rattle.board_rules.proofs.Closing.{At, going, to_finish, to_tell, over, phase_is}
@@ -25,50 +25,38 @@ one_less : (left : List Task) (whole : Bool) (t : Task) → left ≡ t ∷ drop 
 one_less left whole t next (inl none) = none_first left t next none
 one_less left whole t next (inr partial) = inr partial
 
-free_behind : (h : Journal) (a : Action) → MayDo a h → Free (left_of h) (whole_of h) → Free (left_by a (left_of h)) (whole_of h)
-free_behind h (Add m) may free = one_less (left_of h) (whole_of h) (ask (a_move m)) may free
-free_behind h (Mark m) may free = one_less (left_of h) (whole_of h) (ask (a_mark m)) may.next free
-free_behind h Rest may free = one_less (left_of h) (whole_of h) (ask a_rest) may.next free
-free_behind h (Take Go) may free = free
-free_behind h (Take Hold) may free = free
-free_behind h (Override o) may free = free
-free_behind h Clear may free = absurd may
-free_behind h Reset may free = absurd may
+free_behind : (first : Opening) (h : Journal) (a : Action) → MayDo first a h → Free (left_of first h) (whole_of h) → Free (left_by a (left_of first h)) (whole_of h)
+free_behind first h (Add m) may free = one_less (left_of first h) (whole_of h) (ask (a_move m)) may free
+free_behind first h (Mark m) may free = one_less (left_of first h) (whole_of h) (ask (a_mark m)) may.next free
+free_behind first h Rest may free = one_less (left_of first h) (whole_of h) (ask a_rest) may.next free
+free_behind first h (Take Go) may free = free
+free_behind first h Clear may free = absurd may
+free_behind first h Reset may free = absurd may
+free_behind first h _ may free = free
 
 free_cut : (left : List Task) (whole : Bool) → Free left whole → Free (without_asks left) whole
 free_cut left whole (inl none) = inl (ap without_asks none)
 free_cut left whole (inr partial) = inr partial
 
-free_is : (first : State) (h : Journal) → Conducted first h → Free (left_of h) (whole_of h)
+free_is : (first : Opening) (h : Journal) → Conducted first h → Free (left_of first h) (whole_of h)
 free_is first [] c = inr refl
 free_is first (at_port (took b) ∷ h) c = inl c.0.polls.all_done
-free_is first (at_port found_empty ∷ h) c = free_is first h c.1
-free_is first (at_port found_closed ∷ h) c = free_is first h c.1
-free_is first (at_port (found_free n) ∷ h) c = free_is first h c.1
-free_is first (at_port (answered r) ∷ h) c = one_less (left_of h) (whole_of h) (tell r) c.0.next (free_is first h c.1)
-free_is first (at_port (reported r) ∷ h) c = free_is first h c.1
-free_is first (at_port no_reply_room ∷ h) c = free_is first h c.1
-free_is first (at_port (took_exec word) ∷ h) c = free_is first h c.1
-free_is first (at_port (took_ovr word) ∷ h) c = free_is first h c.1
-free_is first (at_port (published p) ∷ h) c = free_is first h c.1
-free_is first (at_port (no_piece_room done) ∷ h) c = free_is first h c.1
-free_is first (at_port (loaded done) ∷ h) c = free_is first h c.1
+free_is first (at_port (answered r) ∷ h) c = one_less (left_of first h) (whole_of h) (tell r) c.0.next (free_is first h c.1)
 free_is first (began o ∷ h) c = inr refl
-free_is first (did a ps ∷ h) c = free_behind h a c.0.0 (free_is first h c.1)
-free_is first (made_end ∷ h) c = one_less (left_of h) (whole_of h) finish c.0.next (free_is first h c.1)
-free_is first (evened ∷ h) c = one_less (left_of h) (whole_of h) normal c.0.rests.next (free_is first h c.1)
-free_is first (paused ∷ h) c = one_less (left_of h) (whole_of h) pause c.0.rests.next (free_is first h c.1)
-free_is first (became call m ∷ h) c = free_is first h c.1
-free_is first (cut k ∷ h) c = free_cut (left_of h) (whole_of h) (free_is first h c.1)
-free_is first (halted ∷ h) c = one_less (left_of h) (whole_of h) halt c.0.next (free_is first h c.1)
+free_is first (did a ps ∷ h) c = free_behind first h a c.0.0 (free_is first h c.1)
+free_is first (made_end ∷ h) c = one_less (left_of first h) (whole_of h) finish c.0.next (free_is first h c.1)
+free_is first (evened ∷ h) c = one_less (left_of first h) (whole_of h) normal c.0.rests.next (free_is first h c.1)
+free_is first (paused ∷ h) c = one_less (left_of first h) (whole_of h) pause c.0.rests.next (free_is first h c.1)
+free_is first (cut k ∷ h) c = free_cut (left_of first h) (whole_of h) (free_is first h c.1)
+free_is first (halted ∷ h) c = one_less (left_of first h) (whole_of h) halt c.0.next (free_is first h c.1)
 free_is first (closing ∷ h) c = inr c.0.begun
-free_is first (turned t ∷ h) c = free_is first h c.1
+free_is first (_ ∷ h) c = free_is first h c.1
 
 -- no line waits to be begun while something is left to do of the one before
-pub not_whole : (first : State) (h : Journal) → Conducted first h → (left_of h ≡ [] → ⊥) → whole_of h ≡ false
+pub not_whole : (first : Opening) (h : Journal) → Conducted first h → (left_of first h ≡ [] → ⊥) → whole_of h ≡ false
 not_whole first h c some = by_free (free_is first h c)
   where
-    by_free : Free (left_of h) (whole_of h) → whole_of h ≡ false
+    by_free : Free (left_of first h) (whole_of h) → whole_of h ≡ false
     by_free (inl none) = absurd (some none)
     by_free (inr partial) = partial
 
@@ -77,47 +65,47 @@ and_none true b e = e
 and_none false b e = refl
 
 -- nor is one while a report is owed
-pub uncounted_owing : (h : Journal) → owes_report h ≡ true → is_counted h ≡ false
-uncounted_owing h owed = ap (λ b. not b && counts_tries (left_of h) (whole_of h) (motion_of h)) owed
+pub uncounted_owing : (first : Opening) (h : Journal) → owes_report h ≡ true → is_counted first h ≡ false
+uncounted_owing first h owed = ap (λ b. not b && counts_tries (left_of first h) (whole_of h) (motion_of first h)) owed
 
 -- no try to publish is counted then
-pub uncounted : (h : Journal) → (left_of h ≡ [] → ⊥) → is_counted h ≡ false
-uncounted h some = and_none (not (owes_report h)) (counts_tries (left_of h) (whole_of h) (motion_of h)) (by_left (left_of h) some)
+pub uncounted : (first : Opening) (h : Journal) → (left_of first h ≡ [] → ⊥) → is_counted first h ≡ false
+uncounted first h some = and_none (not (owes_report h)) (counts_tries (left_of first h) (whole_of h) (motion_of first h)) (by_left (left_of first h) some)
   where
-    by_left : (ts : List Task) → (ts ≡ [] → ⊥) → counts_tries ts (whole_of h) (motion_of h) ≡ false
+    by_left : (ts : List Task) → (ts ≡ [] → ⊥) → counts_tries ts (whole_of h) (motion_of first h) ≡ false
     by_left [] some = absurd (some refl)
     by_left (t ∷ ts) some = refl
 
 -- nor is one while a line waits for a machine that is held, or slows down for that
-pub uncounted_line : (h : Journal) → is_halting (motion_of h) ≡ true → whole_of h ≡ true → is_counted h ≡ false
-uncounted_line h halts whole = and_none (not (owes_report h)) (counts_tries (left_of h) (whole_of h) (motion_of h)) (by_left (left_of h))
+pub uncounted_line : (first : Opening) (h : Journal) → is_halting (motion_of first h) ≡ true → whole_of h ≡ true → is_counted first h ≡ false
+uncounted_line first h halts whole = and_none (not (owes_report h)) (counts_tries (left_of first h) (whole_of h) (motion_of first h)) (by_left (left_of first h))
   where
     none : (a b : Bool) → a ≡ true → b ≡ true → not (a && b) ≡ false
     none true true e f = refl
     none true false e f = absurd cc
     none false b e f = absurd cc
 
-    by_left : (ts : List Task) → counts_tries ts (whole_of h) (motion_of h) ≡ false
-    by_left [] = none (is_halting (motion_of h)) (whole_of h) halts whole
+    by_left : (ts : List Task) → counts_tries ts (whole_of h) (motion_of first h) ≡ false
+    by_left [] = none (is_halting (motion_of first h)) (whole_of h) halts whole
     by_left (t ∷ ts) = refl
 
 -- ---- a run that is being closed
 
 -- once the run is being closed only the end and Bye are left
-only_end : (first : State) (h : Journal) (t : Task) → Conducted first h → (closed_tells h ≡ [] → ⊥) → (t ≡ finish → ⊥) → (t ≡ tell Bye → ⊥) → IsNextTask t h → ⊥
+only_end : (first : Opening) (h : Journal) (t : Task) → Conducted first h → (closed_tells h ≡ [] → ⊥) → (t ≡ finish → ⊥) → (t ≡ tell Bye → ⊥) → IsNextTask first t h → ⊥
 only_end first h t c closes no_end no_bye next = by_phase (phase_is first h c)
   where
-    by_phase : At h → ⊥
+    by_phase : At first h → ⊥
     by_phase (going none is) = closes none
-    by_phase (to_finish e left w is) = no_end (head_is (left_of h) t finish _ next left)
-    by_phase (to_tell e left w p still is k) = no_bye (head_is (left_of h) t (tell Bye) _ next left)
-    by_phase (over e left w p still d is k) = none_next (left_of h) t left next
+    by_phase (to_finish e left w is) = no_end (head_is (left_of first h) t finish _ next left)
+    by_phase (to_tell e left w p still is k) = no_bye (head_is (left_of first h) t (tell Bye) _ next left)
+    by_phase (over e left w p still d is k) = none_next (left_of first h) t left next
 
 -- nothing is waited for by a rest then, and no override is set
-pub no_rest_closing : (first : State) (h : Journal) → Conducted first h → (closed_tells h ≡ [] → ⊥) → IsNextTask (ask a_rest) h → ⊥
+pub no_rest_closing : (first : Opening) (h : Journal) → Conducted first h → (closed_tells h ≡ [] → ⊥) → IsNextTask first (ask a_rest) h → ⊥
 no_rest_closing first h c closes next = only_end first h (ask a_rest) c closes (λ e. absurd cc) (λ e. absurd cc) next
 
-pub no_normal_closing : (first : State) (h : Journal) → Conducted first h → (closed_tells h ≡ [] → ⊥) → IsNextTask normal h → ⊥
+pub no_normal_closing : (first : Opening) (h : Journal) → Conducted first h → (closed_tells h ≡ [] → ⊥) → IsNextTask first normal h → ⊥
 no_normal_closing first h c closes next = only_end first h normal c closes (λ e. absurd cc) (λ e. absurd cc) next
 
 -- ---- between two turns
@@ -127,35 +115,17 @@ and_false true b is = is
 and_false false b is = refl
 
 -- where no segment is due none is missed
-pub unmissed : (h : Journal) → this_turn h ≡ [] → is_due h ≡ false → missed_of h ≡ false
-unmissed [] none due = refl
-unmissed (at_port e ∷ h) none due = absurd cc
-unmissed (began o ∷ h) none due = absurd cc
-unmissed (did a ps ∷ h) none due = absurd cc
-unmissed (made_end ∷ h) none due = absurd cc
-unmissed (evened ∷ h) none due = absurd cc
-unmissed (paused ∷ h) none due = absurd cc
-unmissed (became call m ∷ h) none due = absurd cc
-unmissed (cut k ∷ h) none due = absurd cc
-unmissed (halted ∷ h) none due = absurd cc
-unmissed (closing ∷ h) none due = absurd cc
-unmissed (turned t ∷ h) none due = and_false (missed_of h) (is_due h) due
+pub unmissed : (first : Opening) (h : Journal) → this_turn h ≡ [] → is_due first h ≡ false → missed_of first h ≡ false
+unmissed first [] none due = refl
+unmissed first (turned t ∷ h) none due = and_false (missed_of first h) (is_due first h) due
+unmissed first (_ ∷ h) none due = absurd cc
 
 -- ---- the lines
 
 -- the number of the next line
-pub number_is : (first : State) (h : Journal) → Conducted first h → (before_of first h).number ≡ length (outcomes_of h) + 1
-number_is first [] c = refl
-number_is first (at_port e ∷ h) c = number_is first h c.1
+pub number_is : (first : Opening) (h : Journal) → Conducted first h → (before_of first h).number ≡ first.lines + length (outcomes_of h) + 1
+number_is first [] c = omega arith
 number_is first (began o ∷ h) c =
     let n = number_is first h c.1 in
     let l = length-append (outcomes_of h) (o ∷ []) in omega (arith, n, l)
-number_is first (did a ps ∷ h) c = number_is first h c.1
-number_is first (made_end ∷ h) c = number_is first h c.1
-number_is first (evened ∷ h) c = number_is first h c.1
-number_is first (paused ∷ h) c = number_is first h c.1
-number_is first (became call m ∷ h) c = number_is first h c.1
-number_is first (cut k ∷ h) c = number_is first h c.1
-number_is first (halted ∷ h) c = number_is first h c.1
-number_is first (closing ∷ h) c = number_is first h c.1
-number_is first (turned t ∷ h) c = number_is first h c.1
+number_is first (_ ∷ h) c = number_is first h c.1

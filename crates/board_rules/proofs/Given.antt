@@ -2,49 +2,30 @@
 use Rattle.std.proofs.Common.{◌≡◌, ℕ, ◌+◌, ◌≤◌, [], ◌∷◌, ◌++◌, ap, ◌∙◌, arith}
 use Rattle.step_line.specs.Finishing.{ticks_together}
 use Rattle.step_line.proofs.Finished.{together_both}
-use Rattle.run_rules.specs.declared.State.{State}
+use Rattle.board_rules.specs.Openings.{Opening}
 use Rattle.board_rules.specs.Ports.{MayBeDone}
-use Rattle.board_rules.specs.Ports.PortStep.{took, found_empty, found_closed, found_free, answered, reported, no_reply_room, took_exec, took_ovr, published, no_piece_room, loaded}
+use Rattle.board_rules.specs.Ports.PortStep.{published, loaded}
 use Rattle.board_rules.specs.Steps.{Journal, port_log, hand_of, known_of, published_of}
-use Rattle.board_rules.specs.Steps.Step.{at_port, began, did, made_end, evened, paused, became, cut, halted, closing, turned}
+use Rattle.board_rules.specs.Steps.Step.{at_port}
 use Rattle.board_rules.specs.Conduct.{Conducted, ticks_given, ticks_published}
 use Rattle.board_rules.proofs.Keeping.{hand_is}
 
 -- no more is found done than is published
-pub known_within : (first : State) (h : Journal) → Conducted first h → known_of h ≤ ticks_published h
+pub known_within : (first : Opening) (h : Journal) → Conducted first h → known_of h ≤ ticks_published h
 known_within first [] c = omega arith
-known_within first (at_port (took b) ∷ h) c = known_within first h c.1
-known_within first (at_port found_empty ∷ h) c = known_within first h c.1
-known_within first (at_port found_closed ∷ h) c = known_within first h c.1
-known_within first (at_port (found_free n) ∷ h) c = known_within first h c.1
-known_within first (at_port (answered r) ∷ h) c = known_within first h c.1
-known_within first (at_port (reported r) ∷ h) c = known_within first h c.1
-known_within first (at_port no_reply_room ∷ h) c = known_within first h c.1
-known_within first (at_port (took_exec word) ∷ h) c = known_within first h c.1
-known_within first (at_port (took_ovr word) ∷ h) c = known_within first h c.1
 known_within first (at_port (published p) ∷ h) c =
     let low = known_within first h c.1 in
     let all : ticks_together (published_of h ++ p ∷ []) ≡ ticks_published h + ticks_together (p ∷ []) = together_both (published_of h) (p ∷ []) in omega (arith, low, all)
-known_within first (at_port (no_piece_room done) ∷ h) c = known_within first h c.1
 known_within first (at_port (loaded done) ∷ h) c = c.0.below
-known_within first (began o ∷ h) c = known_within first h c.1
-known_within first (did a ps ∷ h) c = known_within first h c.1
-known_within first (made_end ∷ h) c = known_within first h c.1
-known_within first (evened ∷ h) c = known_within first h c.1
-known_within first (paused ∷ h) c = known_within first h c.1
-known_within first (became call m ∷ h) c = known_within first h c.1
-known_within first (cut k ∷ h) c = known_within first h c.1
-known_within first (halted ∷ h) c = known_within first h c.1
-known_within first (closing ∷ h) c = known_within first h c.1
-known_within first (turned t ∷ h) c = known_within first h c.1
+known_within first (_ ∷ h) c = known_within first h c.1
 
-pub published_within : (first : State) (h : Journal) → Conducted first h → ticks_published h ≤ ticks_given h
+pub published_within : (first : Opening) (h : Journal) → Conducted first h → ticks_published h ≤ ticks_given h
 published_within first h c =
     let e : ticks_given h ≡ ticks_published h + ticks_together (hand_of h) = ap ticks_together (hand_is first h c) ∙ together_both (published_of h) (hand_of h) in
     omega (arith, e)
 
 -- nothing more is found done where all that was given is
-pub all_known : (first : State) (h : Journal) (n : ℕ) → Conducted first h → MayBeDone n (port_log h) → known_of h ≡ ticks_given h → n ≡ ticks_given h
+pub all_known : (first : Opening) (h : Journal) (n : ℕ) → Conducted first h → MayBeDone n (port_log h) → known_of h ≡ ticks_given h → n ≡ ticks_given h
 all_known first h n c may k =
     let low : known_of h ≤ n = may.later in
     let high : n ≤ ticks_published h = may.below in

@@ -5,7 +5,7 @@ use Rattle.std.proofs.lemmas.List.{take-append-le, take_all, drop-append-le, len
 use Rattle.std.proofs.lemmas.Bool.{or_left}
 use Rattle.std.proofs.lemmas.List.Folds.{list_any-append}
 use Rattle.line_words.proofs.Tests.{or_false}
-use Rattle.flight.specs.Places.{moved_by, origin}
+use Rattle.flight.specs.Places.{moved_by}
 use Rattle.status_report.specs.Answering.{answers_in}
 use Rattle.status_report.specs.declared.Reply.{Reply}
 use Rattle.status_report.specs.declared.Reply.TheVariants as replies
@@ -137,6 +137,8 @@ any_more p k os more is =
 -- no less than what was given up to any.
 pub record Grows (c e : Course) : Type 0 where
   pub first : e.first ≡ c.first
+  pub place : e.place ≡ c.place
+  pub locked : e.locked ≡ c.locked
   pub more : List Outcome
   pub outcomes : e.outcomes ≡ c.outcomes ++ more
   pub low : (k : ℕ) → k ≤ length c.outcomes → fewest k e.outcomes e.counts ≤ fewest k c.outcomes c.counts
@@ -158,8 +160,8 @@ held_still c e k g (inl some) = inl (g.held some)
 held_still c e k g (inr (inl is)) = inr (inl (any_still has_pause c e k g is))
 held_still c e k g (inr (inr is)) = inr (inr (any_still raises_alarm c e k g is))
 
-place_same : (ticks later : List Record) (d : ℕ) → d ≤ length ticks → place_at (ticks ++ later) d ≡ place_at ticks d
-place_same ticks later d made = ap (moved_by origin) (take-append-le d ticks later made)
+place_same : (place : Steps3) (ticks later : List Record) (d : ℕ) → d ≤ length ticks → place_at place (ticks ++ later) d ≡ place_at place ticks d
+place_same place ticks later d made = ap (moved_by place) (take-append-le d ticks later made)
 
 ahead_still : (c e : Course) (k d f : ℕ) → Grows c e → (f ≡ 0) ⊎ IsAhead c k d → (f ≡ 0) ⊎ IsAhead e k d
 ahead_still c e k d f g (inl none) = inl none
@@ -169,6 +171,10 @@ ahead_still c e k d f g (inr is) = inr (record {
   asked = g.high k is.given is.whole is.asked;
   whole = (let a = is.whole in let b = g.given in omega (arith, a, b));
 })
+
+alarm_still : (c e : Course) (k : ℕ) → Grows c e → (c.locked ≡ true) ⊎ MayAlarm c k → (e.locked ≡ true) ⊎ MayAlarm e k
+alarm_still c e k g (inl locked) = inl (g.locked ∙ locked)
+alarm_still c e k g (inr is) = inr (any_still raises_alarm c e k g is)
 
 -- a feed is told only where more than these ticks is given of the lines
 stands_there : (c : Course) (k d f : ℕ) → (f ≡ 0) ⊎ IsAhead c k d → d ≡ most k c.counts → f ≡ 0
@@ -183,7 +189,8 @@ fits_still c e k d r within g f =
     let few : fewest k e.outcomes e.counts ≤ fewest k c.outcomes c.counts = g.low k f.answered in
     let many : d ≤ most k e.counts = g.high k d (let a = f.made in omega (arith, a, within)) f.high in
     let ahead = ahead_still c e k d r.f g f.ahead in
-    let place : place_at e.ticks d ≡ place_at c.ticks d = ap (λ (rs : List Record). place_at rs d) g.ticks ∙ place_same c.ticks g.later d f.made in
+    let place : place_at e.place e.ticks d ≡ place_at c.place c.ticks d =
+    ap (λ (at : Steps3). place_at at e.ticks d) g.place ∙ ap (λ (rs : List Record). place_at c.place rs d) g.ticks ∙ place_same c.place c.ticks g.later d f.made in
     let state : state_behind e.first (take f.lines e.outcomes) ≡ state_behind c.first (take f.lines c.outcomes) =
     ap (λ (s : State). state_behind s (take f.lines e.outcomes)) g.first
     ∙ ap (λ (os : List Outcome). state_behind c.first (take f.lines os)) outcomes
@@ -196,12 +203,12 @@ fits_still c e k d r within g f =
       made = (let b = f.made in omega (arith, b, later));
       low = (let b = f.low in omega (arith, b, few));
       high = many;
-      shows = subst (λ (s : State). Shows (place_at e.ticks d) s r) (sym state) (subst (λ (p : Steps3). Shows p (state_behind c.first (take f.lines c.outcomes)) r) (sym place) f.shows);
+      shows = subst (λ (s : State). Shows (place_at e.place e.ticks d) s r) (sym state) (subst (λ (p : Steps3). Shows p (state_behind c.first (take f.lines c.outcomes)) r) (sym place) f.shows);
       speed = λ at. stands_there e k d r.f ahead at;
       ahead = ahead;
       state = λ none. f.state (moves_fewer k c.outcomes g.more f.answered (sym (ap (λ (os : List Outcome). may_move k os) outcomes) ∙ none));
       holds = λ is. held_still c e k g (f.holds is);
-      alarm = λ is. any_still raises_alarm c e k g (f.alarm is);
+      alarm = λ is. alarm_still c e k g (f.alarm is);
       overrides = λ none. f.overrides (g.changed none);
     }
 

@@ -9,20 +9,20 @@ use Rattle.planner_runs.specs.declared.Action.{Action}
 use Rattle.planner_runs.specs.declared.Action.TheVariants.{Override}
 use Rattle.planner_runs.specs.Runs.{most_blocks, all_asked, ticks_left}
 use Rattle.planner_runs.proofs.Legal.{halted_heads_are_legal}
-use Rattle.run_rules.specs.declared.State.{State}
+use Rattle.board_rules.specs.Openings.{Opening}
 use Rattle.run_rules.specs.Cuts.{ticks_asked_for, counts_asked}
 use Rattle.run_rules.specs.Outcomes.{Passed}
 use Rattle.run_rules.specs.Outcomes.Passed.{a_line}
 use Rattle.run_rules.specs.Reports.{settles, settled_to}
 use Rattle.run_rules.specs.Told.{asked_in}
-use Rattle.run_rules.specs.Work.{Outcome, is_alarm, asks, halting_work}
+use Rattle.run_rules.specs.Work.{Outcome, is_limit, asks, halting_work}
 use Rattle.step_line.specs.Asking.{Asked, ticks_of_all}
 use Rattle.step_line.specs.Finishing.{ticks_together}
 use Rattle.step_line.specs.Pieces.{ticks_of}
 use Rattle.step_line.specs.declared.Piece.{Piece}
-use Rattle.board_rules.specs.Ports.PortStep.{took, found_empty, found_closed, found_free, answered, reported, no_reply_room, took_exec, took_ovr, published, no_piece_room, loaded}
+use Rattle.board_rules.specs.Ports.PortStep.{loaded}
 use Rattle.board_rules.specs.Parts.{IsHaltedPart, lines_in, counts_in}
-use Rattle.board_rules.specs.Steps.{Step, Journal, has_alarmed, outcomes_of, known_of, given_of, planned_of, left_of, behind}
+use Rattle.board_rules.specs.Steps.{Step, Journal, has_limited, outcomes_of, known_of, given_of, planned_of, left_of, behind}
 use Rattle.board_rules.specs.Steps.Step.{at_port, began, did, made_end, evened, paused, became, cut, halted, closing, turned}
 use Rattle.board_rules.specs.Cuts.{part_outcomes, part_actions, part_given, part_start, part_plan, has_halted, parts_of, passed_of}
 use Rattle.board_rules.specs.Conduct.{Conducted, ticks_given}
@@ -44,29 +44,21 @@ pub record EndsInAlarm (ps : List Passed) : Type 0 where
   pub early : List Passed
   pub outcome : Outcome
   pub last : ps ≡ early ++ a_line outcome ∷ []
-  pub alarm : is_alarm outcome.answer ≡ true
+  pub alarm : is_limit outcome.answer ≡ true
 
-pub alarm_last : (first : State) (h : Journal) → Conducted first h → has_alarmed h ≡ true → EndsInAlarm (passed_of h)
+pub alarm_last : (first : Opening) (h : Journal) → Conducted first h → has_limited h ≡ true → EndsInAlarm (passed_of first h)
 alarm_last first [] c one = absurd cc
-alarm_last first (at_port e ∷ h) c one = alarm_last first h c.1 one
-alarm_last first (began o ∷ h) c one = record { early = passed_of h; outcome = o; last = refl; alarm = one }
-alarm_last first (did a ps ∷ h) c one = alarm_last first h c.1 one
-alarm_last first (made_end ∷ h) c one = alarm_last first h c.1 one
-alarm_last first (evened ∷ h) c one = alarm_last first h c.1 one
-alarm_last first (paused ∷ h) c one = alarm_last first h c.1 one
-alarm_last first (became call m ∷ h) c one = alarm_last first h c.1 one
-alarm_last first (cut k ∷ h) c one = opposite (has_alarmed h) one c.0.calm
-alarm_last first (halted ∷ h) c one = alarm_last first h c.1 one
-alarm_last first (closing ∷ h) c one = alarm_last first h c.1 one
-alarm_last first (turned t ∷ h) c one = alarm_last first h c.1 one
+alarm_last first (began o ∷ h) c one = record { early = passed_of first h; outcome = o; last = refl; alarm = one }
+alarm_last first (cut k ∷ h) c one = opposite (has_limited h) one c.0.calm
+alarm_last first (_ ∷ h) c one = alarm_last first h c.1 one
 
 -- ---- behind a halt
 
-not_calm : {A : Type 0} (first : State) (h : Journal) → Conducted first h → has_halted h ≡ true → has_alarmed h ≡ false → A
-not_calm first h c was none = opposite (has_alarmed h) (halted_alarmed first h c was) none
+not_calm : {A : Type 0} (first : Opening) (h : Journal) → Conducted first h → has_halted h ≡ true → has_limited h ≡ false → A
+not_calm first h c was none = opposite (has_limited h) (halted_alarmed first h c was) none
 
-none_given : (first : State) (h : Journal) (a : Action) (ps : List Piece) → Conducted first (did a ps ∷ h) → has_halted h ≡ true → (o : Overrides) × (a ≡ Override o) × (ps ≡ [])
-none_given first h a ps c was = only_override h a ps c.0.0 c.0.1 (stage_is first h c.1) was
+none_given : (first : Opening) (h : Journal) (a : Action) (ps : List Piece) → Conducted first (did a ps ∷ h) → has_halted h ≡ true → (o : Overrides) × (a ≡ Override o) × (ps ≡ [])
+none_given first h a ps c was = only_override first h a ps c.0.0 c.0.1 (stage_is first h c.1) was
 
 and_none : (qs ps : List Piece) → ps ≡ [] → qs ++ ps ≡ qs
 and_none qs ps none = ap (λ (rs : List Piece). qs ++ rs) none ∙ append-nil qs
@@ -75,74 +67,47 @@ and_none qs ps none = ap (λ (rs : List Piece). qs ++ rs) none ∙ append-nil qs
 abbrev pub IsFrozen : Step → Journal → Type 0
 IsFrozen s h = (outcomes_of (s ∷ h) ≡ outcomes_of h) × (planned_of (s ∷ h) ≡ planned_of h)
 
-pub frozen : (first : State) (s : Step) (h : Journal) → Conducted first (s ∷ h) → has_halted h ≡ true → IsFrozen s h
-frozen first (at_port e) h c was = (refl, refl)
+pub frozen : (first : Opening) (s : Step) (h : Journal) → Conducted first (s ∷ h) → has_halted h ≡ true → IsFrozen s h
 frozen first (began o) h c was = not_calm first h c.1 was c.0.calm
 frozen first (did a ps) h c was = (refl, and_none (planned_of h) ps (none_given first h a ps c was).2)
-frozen first made_end h c was = (refl, refl)
-frozen first evened h c was = (refl, refl)
-frozen first paused h c was = (refl, refl)
-frozen first (became call m) h c was = (refl, refl)
 frozen first (cut k) h c was = not_calm first h c.1 was c.0.calm
-frozen first halted h c was = (refl, refl)
-frozen first closing h c was = (refl, refl)
-frozen first (turned t) h c was = (refl, refl)
+frozen first _ h c was = (refl, refl)
 
 -- each tick that was given is done
-pub halted_known : (first : State) (h : Journal) → Conducted first h → has_halted h ≡ true → known_of h ≡ ticks_given h
+pub halted_known : (first : Opening) (h : Journal) → Conducted first h → has_halted h ≡ true → known_of h ≡ ticks_given h
 halted_known first [] c was = absurd cc
 halted_known first (at_port (loaded n) ∷ h) c was = all_known first h n c.1 c.0 (halted_known first h c.1 was)
-halted_known first (at_port (took b) ∷ h) c was = halted_known first h c.1 was
-halted_known first (at_port found_empty ∷ h) c was = halted_known first h c.1 was
-halted_known first (at_port found_closed ∷ h) c was = halted_known first h c.1 was
-halted_known first (at_port (found_free n) ∷ h) c was = halted_known first h c.1 was
-halted_known first (at_port (answered r) ∷ h) c was = halted_known first h c.1 was
-halted_known first (at_port (reported r) ∷ h) c was = halted_known first h c.1 was
-halted_known first (at_port no_reply_room ∷ h) c was = halted_known first h c.1 was
-halted_known first (at_port (took_exec word) ∷ h) c was = halted_known first h c.1 was
-halted_known first (at_port (took_ovr word) ∷ h) c was = halted_known first h c.1 was
-halted_known first (at_port (published p) ∷ h) c was = halted_known first h c.1 was
-halted_known first (at_port (no_piece_room done) ∷ h) c was = halted_known first h c.1 was
 halted_known first (began o ∷ h) c was = not_calm first h c.1 was c.0.calm
 halted_known first (did a ps ∷ h) c was = halted_known first h c.1 was ∙ ap ticks_together (sym (and_none (given_of h) ps (none_given first h a ps c was).2))
 halted_known first (made_end ∷ h) c was = halted_known first h c.1 was ∙ sym (no_more_ticks (given_of h))
-halted_known first (evened ∷ h) c was = halted_known first h c.1 was
-halted_known first (paused ∷ h) c was = halted_known first h c.1 was
-halted_known first (became call m ∷ h) c was = halted_known first h c.1 was
 halted_known first (cut k ∷ h) c was = not_calm first h c.1 was c.0.calm
 halted_known first (halted ∷ h) c was = c.0.done
-halted_known first (closing ∷ h) c was = halted_known first h c.1 was
-halted_known first (turned t ∷ h) c was = halted_known first h c.1 was
+halted_known first (_ ∷ h) c was = halted_known first h c.1 was
 
 -- ---- the journal up to the halt
 
 -- what was begun and given since the last cut is what it was then, and the plan that was dropped stands still
-record HaltedThen (first : State) (h : Journal) : Type 0 where
+record HaltedThen (first : Opening) (h : Journal) : Type 0 where
   then : Journal
   halts : Conducted first (halted ∷ then)
   outcomes : part_outcomes h ≡ part_outcomes then
   given : part_given h ≡ part_given then
   still : (part_plan h).speed ≡ 0
 
-same_then : (first : State) (h : Journal) (s : Step) → part_outcomes (s ∷ h) ≡ part_outcomes h → part_given (s ∷ h) ≡ part_given h → (part_plan (s ∷ h)).speed ≡ (part_plan h).speed
+same_then : (first : Opening) (h : Journal) (s : Step) → part_outcomes (s ∷ h) ≡ part_outcomes h → part_given (s ∷ h) ≡ part_given h → (part_plan (s ∷ h)).speed ≡ (part_plan h).speed
     → HaltedThen first h → HaltedThen first (s ∷ h)
 same_then first h s outcomes given speed t = record { then = t.then; halts = t.halts; outcomes = outcomes ∙ t.outcomes; given = given ∙ t.given; still = speed ∙ t.still }
 
 override_speed : (a : Action) (ps : List Piece) (p : Planned) (o : Overrides) → a ≡ Override o → (behind a ps p).speed ≡ p.speed
 override_speed a ps p o is = ap (λ (b : Action). (behind b ps p).speed) is
 
-did_then : (first : State) (h : Journal) (a : Action) (ps : List Piece) → (o : Overrides) × (a ≡ Override o) × (ps ≡ []) → HaltedThen first h → HaltedThen first (did a ps ∷ h)
+did_then : (first : Opening) (h : Journal) (a : Action) (ps : List Piece) → (o : Overrides) × (a ≡ Override o) × (ps ≡ []) → HaltedThen first h → HaltedThen first (did a ps ∷ h)
 did_then first h a ps (o, is, none) t = same_then first h (did a ps) refl (and_none (part_given h) ps none) (override_speed a ps (part_plan h) o is) t
 
-halted_then : (first : State) (h : Journal) → Conducted first h → has_halted h ≡ true → HaltedThen first h
+halted_then : (first : Opening) (h : Journal) → Conducted first h → has_halted h ≡ true → HaltedThen first h
 halted_then first [] c was = absurd cc
-halted_then first (at_port e ∷ h) c was = same_then first h (at_port e) refl refl refl (halted_then first h c.1 was)
 halted_then first (began o ∷ h) c was = not_calm first h c.1 was c.0.calm
 halted_then first (did a ps ∷ h) c was = did_then first h a ps (none_given first h a ps c was) (halted_then first h c.1 was)
-halted_then first (made_end ∷ h) c was = same_then first h made_end refl refl refl (halted_then first h c.1 was)
-halted_then first (evened ∷ h) c was = same_then first h evened refl refl refl (halted_then first h c.1 was)
-halted_then first (paused ∷ h) c was = same_then first h paused refl refl refl (halted_then first h c.1 was)
-halted_then first (became call m ∷ h) c was = same_then first h (became call m) refl refl refl (halted_then first h c.1 was)
 halted_then first (cut k ∷ h) c was = not_calm first h c.1 was c.0.calm
 halted_then first (halted ∷ h) c was = record {
   then = h;
@@ -151,8 +116,7 @@ halted_then first (halted ∷ h) c was = record {
   given = refl;
   still = ap (λ (p : Planned). p.speed) (part_plan_is h (halted_once first h c)) ∙ c.0.still;
 }
-halted_then first (closing ∷ h) c was = same_then first h closing refl refl refl (halted_then first h c.1 was)
-halted_then first (turned t ∷ h) c was = same_then first h (turned t) refl refl refl (halted_then first h c.1 was)
+halted_then first (s ∷ h) c was = same_then first h s refl refl refl (halted_then first h c.1 was)
 
 -- ---- the lines that settled are whole
 
@@ -175,7 +139,7 @@ settled_behind (o ∷ os) more is =
     ap (λ (b : Bool). cond b (settled_to (os ++ more) + 1) 0) (any_behind (o ∷ os) more is) ∙ (omega (arith, rest))
 
 -- the line that has raised the alarm does not settle
-settled_now : (first : State) (h : Journal) → left_of h ≡ halting_work → Phase first h → settled_to (outcomes_of h) ≡ settled_to (done_of h)
+settled_now : (first : Opening) (h : Journal) → left_of first h ≡ halting_work → Phase first h → settled_to (outcomes_of h) ≡ settled_to (done_of h)
 settled_now first h left (in_line x) = absurd (subst Ends left x.left)
 settled_now first h left (between y) = ap settled_to y.all
 settled_now first h left (unanswered z) = ap settled_to z.begun ∙ settled_other (done_of h) z.o z.settles
@@ -188,18 +152,18 @@ front_asked (suc s) (o ∷ os) = ap (λ (ns : List ℕ). ticks_asked_for o ∷ n
 abbrev settled_asks : List Outcome → ℕ
 settled_asks os = length (ticks_of_all (asked_in (take (settled_to os) os)))
 
-some_settled : (first : State) (h : Journal) → Conducted first (halted ∷ h) → list_any settles (part_outcomes h) ≡ true → settled_asks (part_outcomes h) ≤ ticks_together (part_given h)
+some_settled : (first : Opening) (h : Journal) → Conducted first (halted ∷ h) → list_any settles (part_outcomes h) ≡ true → settled_asks (part_outcomes h) ≤ ticks_together (part_given h)
 some_settled first h c is =
     let os = part_outcomes h in
     let s = settled_to os in
-    let A = counts_in (parts_of h) in
+    let A = counts_in (parts_of first h) in
     let B = counts_asked os in
-    let low : settled_ticks h ≤ known_of h = settled_is_known first h c.1 in
+    let low : settled_ticks first h ≤ known_of h = settled_is_known first h c.1 in
     let done : known_of h ≡ ticks_given h = c.0.done in
-    let at : settled_to (done_of h) ≡ length (lines_in (parts_of h)) + s =
-    sym (settled_now first h (halting_left first h c) (phase_is first h c.1)) ∙ ap settled_to (lines_are first h c.1) ∙ settled_behind (lines_in (parts_of h)) os is in
-    let long : length A ≡ length (lines_in (parts_of h)) = length_in (parts_of h) in
-    let counts : settled_ticks h ≡ sum (take (settled_to (done_of h)) (A ++ B)) = ap (λ (ns : List ℕ). sum (take (settled_to (done_of h)) ns)) (plain_counts h (halted_once first h c)) in
+    let at : settled_to (done_of h) ≡ length (lines_in (parts_of first h)) + s =
+    sym (settled_now first h (halting_left first h c) (phase_is first h c.1)) ∙ ap settled_to (lines_are first h c.1) ∙ settled_behind (lines_in (parts_of first h)) os is in
+    let long : length A ≡ length (lines_in (parts_of first h)) = length_in (parts_of first h) in
+    let counts : settled_ticks first h ≡ sum (take (settled_to (done_of h)) (A ++ B)) = ap (λ (ns : List ℕ). sum (take (settled_to (done_of h)) ns)) (plain_counts first h (halted_once first h c)) in
     let split = front_sum (settled_to (done_of h)) A B in
     let whole : sum (take (settled_to (done_of h)) A) ≡ sum A = ap sum (take_all (settled_to (done_of h)) A (omega (arith, at, long))) in
     let left : settled_to (done_of h) - length A ≡ s = omega (arith, at, long) in
@@ -209,7 +173,7 @@ some_settled first h c is =
     let given = given_sum first h c.1 in
     omega (arith, low, done, counts, split, whole, rest, same, closed, given)
 
-pub settled_whole : (first : State) (h : Journal) → Conducted first (halted ∷ h) → settled_asks (part_outcomes h) ≤ ticks_together (part_given h)
+pub settled_whole : (first : Opening) (h : Journal) → Conducted first (halted ∷ h) → settled_asks (part_outcomes h) ≤ ticks_together (part_given h)
 settled_whole first h c = by_any (list_any settles (part_outcomes h)) refl
   where
     by_any : (b : Bool) → list_any settles (part_outcomes h) ≡ b → settled_asks (part_outcomes h) ≤ ticks_together (part_given h)
@@ -220,11 +184,11 @@ settled_whole first h c = by_any (list_any settles (part_outcomes h)) refl
 
 -- ---- the part that it ends
 
-pub halted_part : (first : State) (h : Journal) → Conducted first h → has_halted h ≡ true → IsHaltedPart (part_outcomes h) (part_start h) (part_actions h) (part_given h) (part_plan h)
+pub halted_part : (first : Opening) (h : Journal) → Conducted first h → has_halted h ≡ true → IsHaltedPart (part_outcomes h) (part_start h) (part_actions h) (part_given h) (part_plan h)
 halted_part first h c was =
     let p = open_part first h c in
     let t = halted_then first h c was in
-    let none : asks (left_of h) ≡ [] = none_asked first h c (halted_alarmed first h c was) in
+    let none : asks (left_of first h) ≡ [] = none_asked first h c (halted_alarmed first h c was) in
     let given = flat_map ticks_of (part_given h) in
     record {
       starts = p.starts;

@@ -40,13 +40,14 @@ use Rattle.step_line.specs.declared.Piece.TheVariants as pieces
 use Rattle.step_line.specs.declared.Segment.{Segment}
 use Rattle.step_line.specs.declared.planned_move.PlannedMove.{PlannedMove}
 use Rattle.step_line.specs.Finishing.{tick_count, ticks_together}
-use Rattle.board_rules.specs.Ports.PortStep.{took, found_empty, found_closed, answered, published, loaded}
+use Rattle.board_rules.specs.Openings.{first_opening}
+use Rattle.board_rules.specs.Ports.PortStep.{found_empty, found_closed, answered, published, loaded}
 use Rattle.board_rules.specs.Steps.{Journal}
 use Rattle.board_rules.specs.Steps.Step.{at_port, began, did, made_end, became, closing, turned}
 use Rattle.board_rules.specs.Turns.{has_blocks}
 use Rattle.board_rules.specs.Conduct.{Conducted}
-use Rattle.board_rules.proofs.Example.{nothing, no_changes, holds, under, untrue, no_move, elsewhere}
-use Rattle.board_rules.proofs.Taking.{requested, unchanged, may_request, may_take_no_change}
+use Rattle.board_rules.proofs.Example.{opens, ends, nothing, no_changes, under, untrue, elsewhere}
+use Rattle.board_rules.proofs.Taking.{line_taken, words_taken, may_take_line, may_take_words}
 
 -- what becomes of the line: its move, and `ok`
 abbrev pub jog : PlannedMove → State → Outcome
@@ -101,305 +102,101 @@ one_unfinished false = omega arith
 abbrev j0 : State → PlannedMove → Segment → Journal
 j0 last m s = []
 
-c0 : (first last : State) (m : PlannedMove) (s : Segment) → IsOneJog first last m s → Conducted first (j0 last m s)
-c0 first last m s p = tt
+c0 : (first last : State) (m : PlannedMove) (s : Segment) → IsOneJog first last m s → Conducted (first_opening first) (j0 last m s)
+c0 first last m s p = opens first
 
 abbrev j1 : State → PlannedMove → Segment → Journal
-j1 last m s = at_port (answered Banner) ∷ j0 last m s
+j1 last m s = turned Did ∷ at_port (answered Banner) ∷ j0 last m s
 
-c1 : (first last : State) (m : PlannedMove) (s : Segment) → IsOneJog first last m s → Conducted first (j1 last m s)
-c1 first last m s p = (record { next = refl; plain = refl; unowed = refl; empty = λ e. absurd cc }, c0 first last m s p)
+c1 : (first last : State) (m : PlannedMove) (s : Segment) → IsOneJog first last m s → Conducted (first_opening first) (j1 last m s)
+c1 first last m s p = (ends _ _ (λ w. untrue w.blocks) refl refl refl refl refl refl, (record { next = refl; plain = refl; unowed = refl; empty = λ e. absurd cc }, c0 first last m s p))
 
 abbrev j2 : State → PlannedMove → Segment → Journal
-j2 last m s = turned Did ∷ j1 last m s
+j2 last m s = line_taken (36 ∷ 74 ∷ 61 ∷ 88 ∷ 46 ∷ 48 ∷ 48 ∷ 52 ∷ 70 ∷ 57 ∷ []) (j1 last m s)
 
-c2 : (first last : State) (m : PlannedMove) (s : Segment) → IsOneJog first last m s → Conducted first (j2 last m s)
-c2 first last m s p = (record { once = holds _ _ refl; adds = λ m e. no_move _ _ m e refl; starts = λ w. untrue w.blocks; tries = holds _ _ refl; obeyed = λ e. refl; changed = refl; halts = λ e. untrue e }, c1 first last m s p)
+c2 : (first last : State) (m : PlannedMove) (s : Segment) → IsOneJog first last m s → Conducted (first_opening first) (j2 last m s)
+c2 first last m s p = may_take_line (first_opening first) (36 ∷ 74 ∷ 61 ∷ 88 ∷ 46 ∷ 48 ∷ 48 ∷ 52 ∷ 70 ∷ 57 ∷ []) (j1 last m s) (c1 first last m s p) refl (record { calm = refl; all_done = refl; partial = refl; unclosed = refl }) refl (under _ _ refl)
 
 abbrev j3 : State → PlannedMove → Segment → Journal
-j3 last m s = at_port (took 36) ∷ j2 last m s
+j3 last m s = words_taken no_changes nothing motions.Idle (j2 last m s)
 
-c3 : (first last : State) (m : PlannedMove) (s : Segment) → IsOneJog first last m s → Conducted first (j3 last m s)
-c3 first last m s p = (record { polls = record { calm = refl; all_done = refl; partial = refl; unclosed = refl }; few = under _ _ refl }, c2 first last m s p)
+c3 : (first last : State) (m : PlannedMove) (s : Segment) → IsOneJog first last m s → Conducted (first_opening first) (j3 last m s)
+c3 first last m s p = may_take_words (first_opening first) no_changes nothing motions.Idle (j2 last m s) (c2 first last m s p) refl refl refl refl refl refl (λ e. inl refl)
 
 abbrev j4 : State → PlannedMove → Segment → Journal
-j4 last m s = turned Did ∷ j3 last m s
+j4 last m s = at_port (loaded 0) ∷ j3 last m s
 
-c4 : (first last : State) (m : PlannedMove) (s : Segment) → IsOneJog first last m s → Conducted first (j4 last m s)
-c4 first last m s p = (record { once = holds _ _ refl; adds = λ m e. no_move _ _ m e refl; starts = λ w. untrue w.blocks; tries = holds _ _ refl; obeyed = λ e. refl; changed = refl; halts = λ e. untrue e }, c3 first last m s p)
+c4 : (first last : State) (m : PlannedMove) (s : Segment) → IsOneJog first last m s → Conducted (first_opening first) (j4 last m s)
+c4 first last m s p = (record { later = omega arith; below = omega arith; few = omega arith }, c3 first last m s p)
 
 abbrev j5 : State → PlannedMove → Segment → Journal
-j5 last m s = at_port (took 74) ∷ j4 last m s
+j5 last m s = began (jog m last) ∷ j4 last m s
 
-c5 : (first last : State) (m : PlannedMove) (s : Segment) → IsOneJog first last m s → Conducted first (j5 last m s)
-c5 first last m s p = (record { polls = record { calm = refl; all_done = refl; partial = refl; unclosed = refl }; few = under _ _ refl }, c4 first last m s p)
+c5 : (first last : State) (m : PlannedMove) (s : Segment) → IsOneJog first last m s → Conducted (first_opening first) (j5 last m s)
+c5 first last m s p = (record { calm = refl; free = refl; going = refl; whole = refl; becomes = p.becomes; begins = refl; flags = refl; obeyed = refl; unowed = refl; load = refl; idle = λ d. refl; starts = λ w. untrue w.blocks; tried = refl }, c4 first last m s p)
 
 abbrev j6 : State → PlannedMove → Segment → Journal
-j6 last m s = turned Did ∷ j5 last m s
+j6 last m s = turned Did ∷ became (on_start true) motions.Jog ∷ did (Add m) [] ∷ j5 last m s
 
-c6 : (first last : State) (m : PlannedMove) (s : Segment) → IsOneJog first last m s → Conducted first (j6 last m s)
-c6 first last m s p = (record { once = holds _ _ refl; adds = λ m e. no_move _ _ m e refl; starts = λ w. untrue w.blocks; tries = holds _ _ refl; obeyed = λ e. refl; changed = refl; halts = λ e. untrue e }, c5 first last m s p)
+c6 : (first last : State) (m : PlannedMove) (s : Segment) → IsOneJog first last m s → Conducted (first_opening first) (j6 last m s)
+c6 first last m s p = (ends _ _ (λ w. elsewhere _ w.stands refl) refl refl refl refl refl refl, ((refl, record { goes = refl; blocks = refl; called = refl; jogs = refl }), ((refl, (p.add, refl)), c5 first last m s p)))
 
-abbrev j7 : State → PlannedMove → Segment → Journal
-j7 last m s = at_port (took 61) ∷ j6 last m s
+abbrev pub j7 : State → PlannedMove → Segment → Journal
+j7 last m s = turned Did ∷ at_port (answered Ok) ∷ j6 last m s
 
-c7 : (first last : State) (m : PlannedMove) (s : Segment) → IsOneJog first last m s → Conducted first (j7 last m s)
-c7 first last m s p = (record { polls = record { calm = refl; all_done = refl; partial = refl; unclosed = refl }; few = under _ _ refl }, c6 first last m s p)
+pub c7 : (first last : State) (m : PlannedMove) (s : Segment) → IsOneJog first last m s → Conducted (first_opening first) (j7 last m s)
+c7 first last m s p = (ends _ _ (λ w. elsewhere _ w.stands refl) refl refl refl refl refl refl, (record { next = refl; plain = refl; unowed = refl; empty = λ e. absurd cc }, c6 first last m s p))
 
 abbrev j8 : State → PlannedMove → Segment → Journal
-j8 last m s = turned Did ∷ j7 last m s
+j8 last m s = turned Did ∷ at_port (published (pieces.Segment s)) ∷ did (Take Go) (pieces.Segment s ∷ []) ∷ j7 last m s
 
-c8 : (first last : State) (m : PlannedMove) (s : Segment) → IsOneJog first last m s → Conducted first (j8 last m s)
-c8 first last m s p = (record { once = holds _ _ refl; adds = λ m e. no_move _ _ m e refl; starts = λ w. untrue w.blocks; tries = holds _ _ refl; obeyed = λ e. refl; changed = refl; halts = λ e. untrue e }, c7 first last m s p)
+c8 : (first last : State) (m : PlannedMove) (s : Segment) → IsOneJog first last m s → Conducted (first_opening first) (j8 last m s)
+c8 first last m s p = (ends _ _ (λ w. elsewhere _ w.stands refl) refl refl refl refl refl refl, ((refl, tt), ((record { goes = refl; empty = refl }, (p.taken, refl)), c7 first last m s p)))
 
 abbrev j9 : State → PlannedMove → Segment → Journal
-j9 last m s = at_port (took 88) ∷ j8 last m s
+j9 last m s = at_port found_empty ∷ j8 last m s
 
-c9 : (first last : State) (m : PlannedMove) (s : Segment) → IsOneJog first last m s → Conducted first (j9 last m s)
-c9 first last m s p = (record { polls = record { calm = refl; all_done = refl; partial = refl; unclosed = refl }; few = under _ _ refl }, c8 first last m s p)
+c9 : (first last : State) (m : PlannedMove) (s : Segment) → IsOneJog first last m s → Conducted (first_opening first) (j9 last m s)
+c9 first last m s p = (record { calm = refl; all_done = refl; partial = refl; unclosed = refl }, c8 first last m s p)
 
 abbrev j10 : State → PlannedMove → Segment → Journal
-j10 last m s = turned Did ∷ j9 last m s
+j10 last m s = became on_drained motions.Idle ∷ at_port (loaded (ticks_together (pieces.Segment s ∷ []))) ∷ j9 last m s
 
-c10 : (first last : State) (m : PlannedMove) (s : Segment) → IsOneJog first last m s → Conducted first (j10 last m s)
-c10 first last m s p = (record { once = holds _ _ refl; adds = λ m e. no_move _ _ m e refl; starts = λ w. untrue w.blocks; tries = holds _ _ refl; obeyed = λ e. refl; changed = refl; halts = λ e. untrue e }, c9 first last m s p)
+c10 : (first last : State) (m : PlannedMove) (s : Segment) → IsOneJog first last m s → Conducted (first_opening first) (j10 last m s)
+c10 first last m s p = ((refl, record { plan = p.rests; hand = refl; done = refl }), (record { later = omega arith; below = omega arith; few = one_unfinished (nat_lt (ticks_together (pieces.Segment s ∷ [])) (tick_count (pieces.Segment s))) }, c9 first last m s p))
 
 abbrev j11 : State → PlannedMove → Segment → Journal
-j11 last m s = at_port (took 46) ∷ j10 last m s
+j11 last m s = turned (Wait on.Byte) ∷ j10 last m s
 
-c11 : (first last : State) (m : PlannedMove) (s : Segment) → IsOneJog first last m s → Conducted first (j11 last m s)
-c11 first last m s p = (record { polls = record { calm = refl; all_done = refl; partial = refl; unclosed = refl }; few = under _ _ refl }, c10 first last m s p)
+c11 : (first last : State) (m : PlannedMove) (s : Segment) → IsOneJog first last m s → Conducted (first_opening first) (j11 last m s)
+c11 first last m s p = (record { ends = ends _ _ (λ w. absurd (no_blocks m s p.rests w.blocks)) refl refl refl refl refl refl; cause = record { poll = refl; free = refl; partial = refl; unowed = refl }; still = refl; flags = refl; obeyed = refl; unowed = λ owed. absurd cc; round = λ due. absurd cc }, c10 first last m s p)
 
 abbrev j12 : State → PlannedMove → Segment → Journal
-j12 last m s = turned Did ∷ j11 last m s
+j12 last m s = words_taken no_changes nothing motions.Idle (j11 last m s)
 
-c12 : (first last : State) (m : PlannedMove) (s : Segment) → IsOneJog first last m s → Conducted first (j12 last m s)
-c12 first last m s p = (record { once = holds _ _ refl; adds = λ m e. no_move _ _ m e refl; starts = λ w. untrue w.blocks; tries = holds _ _ refl; obeyed = λ e. refl; changed = refl; halts = λ e. untrue e }, c11 first last m s p)
+c12 : (first last : State) (m : PlannedMove) (s : Segment) → IsOneJog first last m s → Conducted (first_opening first) (j12 last m s)
+c12 first last m s p = may_take_words (first_opening first) no_changes nothing motions.Idle (j11 last m s) (c11 first last m s p) refl refl refl refl refl refl (λ e. inl refl)
 
 abbrev j13 : State → PlannedMove → Segment → Journal
-j13 last m s = at_port (took 48) ∷ j12 last m s
+j13 last m s = closing ∷ at_port found_closed ∷ j12 last m s
 
-c13 : (first last : State) (m : PlannedMove) (s : Segment) → IsOneJog first last m s → Conducted first (j13 last m s)
-c13 first last m s p = (record { polls = record { calm = refl; all_done = refl; partial = refl; unclosed = refl }; few = under _ _ refl }, c12 first last m s p)
+c13 : (first last : State) (m : PlannedMove) (s : Segment) → IsOneJog first last m s → Conducted (first_opening first) (j13 last m s)
+c13 first last m s p = (record { free = refl; going = refl; begun = refl; closed = inl refl }, (record { calm = refl; all_done = refl; partial = refl; unclosed = refl }, c12 first last m s p))
 
 abbrev j14 : State → PlannedMove → Segment → Journal
-j14 last m s = turned Did ∷ j13 last m s
+j14 last m s = turned Did ∷ at_port (published pieces.End) ∷ made_end ∷ j13 last m s
 
-c14 : (first last : State) (m : PlannedMove) (s : Segment) → IsOneJog first last m s → Conducted first (j14 last m s)
-c14 first last m s p = (record { once = holds _ _ refl; adds = λ m e. no_move _ _ m e refl; starts = λ w. untrue w.blocks; tries = holds _ _ refl; obeyed = λ e. refl; changed = refl; halts = λ e. untrue e }, c13 first last m s p)
+c14 : (first last : State) (m : PlannedMove) (s : Segment) → IsOneJog first last m s → Conducted (first_opening first) (j14 last m s)
+c14 first last m s p = (ends _ _ (λ w. absurd (no_blocks m s p.rests w.blocks)) refl refl refl refl refl refl, ((refl, tt), (record { next = refl; drained = record { plan = p.rests; hand = refl; done = refl }; stands = refl; closes = λ e. absurd cc }, c13 first last m s p)))
 
 abbrev j15 : State → PlannedMove → Segment → Journal
-j15 last m s = at_port (took 48) ∷ j14 last m s
+j15 last m s = turned Did ∷ at_port (answered Bye) ∷ j14 last m s
 
-c15 : (first last : State) (m : PlannedMove) (s : Segment) → IsOneJog first last m s → Conducted first (j15 last m s)
-c15 first last m s p = (record { polls = record { calm = refl; all_done = refl; partial = refl; unclosed = refl }; few = under _ _ refl }, c14 first last m s p)
+c15 : (first last : State) (m : PlannedMove) (s : Segment) → IsOneJog first last m s → Conducted (first_opening first) (j15 last m s)
+c15 first last m s p = (ends _ _ (λ w. absurd (no_blocks m s p.rests w.blocks)) refl refl refl refl refl refl, (record { next = refl; plain = refl; unowed = refl; empty = λ e. refl }, c14 first last m s p))
 
 abbrev j16 : State → PlannedMove → Segment → Journal
-j16 last m s = turned Did ∷ j15 last m s
+j16 last m s = turned Done ∷ j15 last m s
 
-c16 : (first last : State) (m : PlannedMove) (s : Segment) → IsOneJog first last m s → Conducted first (j16 last m s)
-c16 first last m s p = (record { once = holds _ _ refl; adds = λ m e. no_move _ _ m e refl; starts = λ w. untrue w.blocks; tries = holds _ _ refl; obeyed = λ e. refl; changed = refl; halts = λ e. untrue e }, c15 first last m s p)
-
-abbrev j17 : State → PlannedMove → Segment → Journal
-j17 last m s = at_port (took 52) ∷ j16 last m s
-
-c17 : (first last : State) (m : PlannedMove) (s : Segment) → IsOneJog first last m s → Conducted first (j17 last m s)
-c17 first last m s p = (record { polls = record { calm = refl; all_done = refl; partial = refl; unclosed = refl }; few = under _ _ refl }, c16 first last m s p)
-
-abbrev j18 : State → PlannedMove → Segment → Journal
-j18 last m s = turned Did ∷ j17 last m s
-
-c18 : (first last : State) (m : PlannedMove) (s : Segment) → IsOneJog first last m s → Conducted first (j18 last m s)
-c18 first last m s p = (record { once = holds _ _ refl; adds = λ m e. no_move _ _ m e refl; starts = λ w. untrue w.blocks; tries = holds _ _ refl; obeyed = λ e. refl; changed = refl; halts = λ e. untrue e }, c17 first last m s p)
-
-abbrev j19 : State → PlannedMove → Segment → Journal
-j19 last m s = at_port (took 70) ∷ j18 last m s
-
-c19 : (first last : State) (m : PlannedMove) (s : Segment) → IsOneJog first last m s → Conducted first (j19 last m s)
-c19 first last m s p = (record { polls = record { calm = refl; all_done = refl; partial = refl; unclosed = refl }; few = under _ _ refl }, c18 first last m s p)
-
-abbrev j20 : State → PlannedMove → Segment → Journal
-j20 last m s = turned Did ∷ j19 last m s
-
-c20 : (first last : State) (m : PlannedMove) (s : Segment) → IsOneJog first last m s → Conducted first (j20 last m s)
-c20 first last m s p = (record { once = holds _ _ refl; adds = λ m e. no_move _ _ m e refl; starts = λ w. untrue w.blocks; tries = holds _ _ refl; obeyed = λ e. refl; changed = refl; halts = λ e. untrue e }, c19 first last m s p)
-
-abbrev j21 : State → PlannedMove → Segment → Journal
-j21 last m s = at_port (took 57) ∷ j20 last m s
-
-c21 : (first last : State) (m : PlannedMove) (s : Segment) → IsOneJog first last m s → Conducted first (j21 last m s)
-c21 first last m s p = (record { polls = record { calm = refl; all_done = refl; partial = refl; unclosed = refl }; few = under _ _ refl }, c20 first last m s p)
-
-abbrev j22 : State → PlannedMove → Segment → Journal
-j22 last m s = turned Did ∷ j21 last m s
-
-c22 : (first last : State) (m : PlannedMove) (s : Segment) → IsOneJog first last m s → Conducted first (j22 last m s)
-c22 first last m s p = (record { once = holds _ _ refl; adds = λ m e. no_move _ _ m e refl; starts = λ w. untrue w.blocks; tries = holds _ _ refl; obeyed = λ e. refl; changed = refl; halts = λ e. untrue e }, c21 first last m s p)
-
-abbrev j23 : State → PlannedMove → Segment → Journal
-j23 last m s = at_port (took 10) ∷ j22 last m s
-
-c23 : (first last : State) (m : PlannedMove) (s : Segment) → IsOneJog first last m s → Conducted first (j23 last m s)
-c23 first last m s p = (record { polls = record { calm = refl; all_done = refl; partial = refl; unclosed = refl }; few = under _ _ refl }, c22 first last m s p)
-
-abbrev j24 : State → PlannedMove → Segment → Journal
-j24 last m s = turned Did ∷ j23 last m s
-
-c24 : (first last : State) (m : PlannedMove) (s : Segment) → IsOneJog first last m s → Conducted first (j24 last m s)
-c24 first last m s p = (record { once = holds _ _ refl; adds = λ m e. no_move _ _ m e refl; starts = λ w. untrue w.blocks; tries = holds _ _ refl; obeyed = λ e. refl; changed = refl; halts = λ e. untrue e }, c23 first last m s p)
-
-abbrev j25 : State → PlannedMove → Segment → Journal
-j25 last m s = unchanged no_changes (j24 last m s)
-
-c25 : (first last : State) (m : PlannedMove) (s : Segment) → IsOneJog first last m s → Conducted first (j25 last m s)
-c25 first last m s p = may_take_no_change first no_changes (j24 last m s) refl (c24 first last m s p) refl
-
-abbrev j26 : State → PlannedMove → Segment → Journal
-j26 last m s = requested nothing motions.Idle (j25 last m s)
-
-c26 : (first last : State) (m : PlannedMove) (s : Segment) → IsOneJog first last m s → Conducted first (j26 last m s)
-c26 first last m s p = may_request first nothing motions.Idle (j25 last m s) (c25 first last m s p) refl refl refl refl refl (λ e. inl refl)
-
-abbrev j27 : State → PlannedMove → Segment → Journal
-j27 last m s = at_port (loaded 0) ∷ j26 last m s
-
-c27 : (first last : State) (m : PlannedMove) (s : Segment) → IsOneJog first last m s → Conducted first (j27 last m s)
-c27 first last m s p = (record { later = omega arith; below = omega arith; few = omega arith }, c26 first last m s p)
-
-abbrev j28 : State → PlannedMove → Segment → Journal
-j28 last m s = began (jog m last) ∷ j27 last m s
-
-c28 : (first last : State) (m : PlannedMove) (s : Segment) → IsOneJog first last m s → Conducted first (j28 last m s)
-c28 first last m s p = (record { calm = refl; free = refl; going = refl; whole = refl; becomes = p.becomes; begins = refl; flags = refl; obeyed = refl; unowed = refl; load = refl; idle = λ d. refl; starts = λ w. untrue w.blocks; tried = refl }, c27 first last m s p)
-
-abbrev j29 : State → PlannedMove → Segment → Journal
-j29 last m s = did (Add m) [] ∷ j28 last m s
-
-c29 : (first last : State) (m : PlannedMove) (s : Segment) → IsOneJog first last m s → Conducted first (j29 last m s)
-c29 first last m s p = ((refl, (p.add, refl)), c28 first last m s p)
-
-abbrev j30 : State → PlannedMove → Segment → Journal
-j30 last m s = became (on_start true) motions.Jog ∷ j29 last m s
-
-c30 : (first last : State) (m : PlannedMove) (s : Segment) → IsOneJog first last m s → Conducted first (j30 last m s)
-c30 first last m s p = ((refl, record { goes = refl; blocks = refl; called = refl; jogs = refl }), c29 first last m s p)
-
-abbrev j31 : State → PlannedMove → Segment → Journal
-j31 last m s = turned Did ∷ j30 last m s
-
-c31 : (first last : State) (m : PlannedMove) (s : Segment) → IsOneJog first last m s → Conducted first (j31 last m s)
-c31 first last m s p = (record { once = holds _ _ refl; adds = λ m e. no_move _ _ m e refl; starts = λ w. elsewhere _ w.stands refl; tries = holds _ _ refl; obeyed = λ e. refl; changed = refl; halts = λ e. untrue e }, c30 first last m s p)
-
-abbrev j32 : State → PlannedMove → Segment → Journal
-j32 last m s = at_port (answered Ok) ∷ j31 last m s
-
-c32 : (first last : State) (m : PlannedMove) (s : Segment) → IsOneJog first last m s → Conducted first (j32 last m s)
-c32 first last m s p = (record { next = refl; plain = refl; unowed = refl; empty = λ e. absurd cc }, c31 first last m s p)
-
-abbrev pub j33 : State → PlannedMove → Segment → Journal
-j33 last m s = turned Did ∷ j32 last m s
-
-pub c33 : (first last : State) (m : PlannedMove) (s : Segment) → IsOneJog first last m s → Conducted first (j33 last m s)
-c33 first last m s p = (record { once = holds _ _ refl; adds = λ m e. no_move _ _ m e refl; starts = λ w. elsewhere _ w.stands refl; tries = holds _ _ refl; obeyed = λ e. refl; changed = refl; halts = λ e. untrue e }, c32 first last m s p)
-
-abbrev j34 : State → PlannedMove → Segment → Journal
-j34 last m s = did (Take Go) (pieces.Segment s ∷ []) ∷ j33 last m s
-
-c34 : (first last : State) (m : PlannedMove) (s : Segment) → IsOneJog first last m s → Conducted first (j34 last m s)
-c34 first last m s p = ((record { goes = refl; empty = refl }, (p.taken, refl)), c33 first last m s p)
-
-abbrev j35 : State → PlannedMove → Segment → Journal
-j35 last m s = at_port (published (pieces.Segment s)) ∷ j34 last m s
-
-c35 : (first last : State) (m : PlannedMove) (s : Segment) → IsOneJog first last m s → Conducted first (j35 last m s)
-c35 first last m s p = ((refl, tt), c34 first last m s p)
-
-abbrev j36 : State → PlannedMove → Segment → Journal
-j36 last m s = turned Did ∷ j35 last m s
-
-c36 : (first last : State) (m : PlannedMove) (s : Segment) → IsOneJog first last m s → Conducted first (j36 last m s)
-c36 first last m s p = (record { once = holds _ _ refl; adds = λ m e. no_move _ _ m e refl; starts = λ w. elsewhere _ w.stands refl; tries = holds _ _ refl; obeyed = λ e. refl; changed = refl; halts = λ e. untrue e }, c35 first last m s p)
-
-abbrev j37 : State → PlannedMove → Segment → Journal
-j37 last m s = at_port found_empty ∷ j36 last m s
-
-c37 : (first last : State) (m : PlannedMove) (s : Segment) → IsOneJog first last m s → Conducted first (j37 last m s)
-c37 first last m s p = (record { calm = refl; all_done = refl; partial = refl; unclosed = refl }, c36 first last m s p)
-
-abbrev j38 : State → PlannedMove → Segment → Journal
-j38 last m s = at_port (loaded (ticks_together (pieces.Segment s ∷ []))) ∷ j37 last m s
-
-c38 : (first last : State) (m : PlannedMove) (s : Segment) → IsOneJog first last m s → Conducted first (j38 last m s)
-c38 first last m s p = (record { later = omega arith; below = omega arith; few = one_unfinished (nat_lt (ticks_together (pieces.Segment s ∷ [])) (tick_count (pieces.Segment s))) }, c37 first last m s p)
-
-abbrev j39 : State → PlannedMove → Segment → Journal
-j39 last m s = became on_drained motions.Idle ∷ j38 last m s
-
-c39 : (first last : State) (m : PlannedMove) (s : Segment) → IsOneJog first last m s → Conducted first (j39 last m s)
-c39 first last m s p = ((refl, record { plan = p.rests; hand = refl; done = refl }), c38 first last m s p)
-
-abbrev j40 : State → PlannedMove → Segment → Journal
-j40 last m s = turned (Wait on.Byte) ∷ j39 last m s
-
-c40 : (first last : State) (m : PlannedMove) (s : Segment) → IsOneJog first last m s → Conducted first (j40 last m s)
-c40 first last m s p = (record { ends = record { once = holds _ _ refl; adds = λ m e. no_move _ _ m e refl; starts = λ w. absurd (no_blocks m s p.rests w.blocks); tries = holds _ _ refl; obeyed = λ e. refl; changed = refl; halts = λ e. untrue e }; cause = record { poll = refl; free = refl; partial = refl; unowed = refl }; still = refl; flags = refl; obeyed = refl; unowed = λ owed. absurd cc; round = λ due. absurd cc }, c39 first last m s p)
-
-abbrev j41 : State → PlannedMove → Segment → Journal
-j41 last m s = unchanged no_changes (j40 last m s)
-
-c41 : (first last : State) (m : PlannedMove) (s : Segment) → IsOneJog first last m s → Conducted first (j41 last m s)
-c41 first last m s p = may_take_no_change first no_changes (j40 last m s) refl (c40 first last m s p) refl
-
-abbrev j42 : State → PlannedMove → Segment → Journal
-j42 last m s = requested nothing motions.Idle (j41 last m s)
-
-c42 : (first last : State) (m : PlannedMove) (s : Segment) → IsOneJog first last m s → Conducted first (j42 last m s)
-c42 first last m s p = may_request first nothing motions.Idle (j41 last m s) (c41 first last m s p) refl refl refl refl refl (λ e. inl refl)
-
-abbrev j43 : State → PlannedMove → Segment → Journal
-j43 last m s = at_port found_closed ∷ j42 last m s
-
-c43 : (first last : State) (m : PlannedMove) (s : Segment) → IsOneJog first last m s → Conducted first (j43 last m s)
-c43 first last m s p = (record { calm = refl; all_done = refl; partial = refl; unclosed = refl }, c42 first last m s p)
-
-abbrev j44 : State → PlannedMove → Segment → Journal
-j44 last m s = closing ∷ j43 last m s
-
-c44 : (first last : State) (m : PlannedMove) (s : Segment) → IsOneJog first last m s → Conducted first (j44 last m s)
-c44 first last m s p = (record { free = refl; going = refl; begun = refl; closed = inl refl }, c43 first last m s p)
-
-abbrev j45 : State → PlannedMove → Segment → Journal
-j45 last m s = made_end ∷ j44 last m s
-
-c45 : (first last : State) (m : PlannedMove) (s : Segment) → IsOneJog first last m s → Conducted first (j45 last m s)
-c45 first last m s p = (record { next = refl; drained = record { plan = p.rests; hand = refl; done = refl }; stands = refl; closes = λ e. absurd cc }, c44 first last m s p)
-
-abbrev j46 : State → PlannedMove → Segment → Journal
-j46 last m s = at_port (published pieces.End) ∷ j45 last m s
-
-c46 : (first last : State) (m : PlannedMove) (s : Segment) → IsOneJog first last m s → Conducted first (j46 last m s)
-c46 first last m s p = ((refl, tt), c45 first last m s p)
-
-abbrev j47 : State → PlannedMove → Segment → Journal
-j47 last m s = turned Did ∷ j46 last m s
-
-c47 : (first last : State) (m : PlannedMove) (s : Segment) → IsOneJog first last m s → Conducted first (j47 last m s)
-c47 first last m s p = (record { once = holds _ _ refl; adds = λ m e. no_move _ _ m e refl; starts = λ w. absurd (no_blocks m s p.rests w.blocks); tries = holds _ _ refl; obeyed = λ e. refl; changed = refl; halts = λ e. untrue e }, c46 first last m s p)
-
-abbrev j48 : State → PlannedMove → Segment → Journal
-j48 last m s = at_port (answered Bye) ∷ j47 last m s
-
-c48 : (first last : State) (m : PlannedMove) (s : Segment) → IsOneJog first last m s → Conducted first (j48 last m s)
-c48 first last m s p = (record { next = refl; plain = refl; unowed = refl; empty = λ e. refl }, c47 first last m s p)
-
-abbrev j49 : State → PlannedMove → Segment → Journal
-j49 last m s = turned Did ∷ j48 last m s
-
-c49 : (first last : State) (m : PlannedMove) (s : Segment) → IsOneJog first last m s → Conducted first (j49 last m s)
-c49 first last m s p = (record { once = holds _ _ refl; adds = λ m e. no_move _ _ m e refl; starts = λ w. absurd (no_blocks m s p.rests w.blocks); tries = holds _ _ refl; obeyed = λ e. refl; changed = refl; halts = λ e. untrue e }, c48 first last m s p)
-
-abbrev j50 : State → PlannedMove → Segment → Journal
-j50 last m s = turned Done ∷ j49 last m s
-
-pub c50 : (first last : State) (m : PlannedMove) (s : Segment) → IsOneJog first last m s → Conducted first (j50 last m s)
-c50 first last m s p = (record { finished = record { left = refl; closed = refl }; still = refl }, c49 first last m s p)
+pub c16 : (first last : State) (m : PlannedMove) (s : Segment) → IsOneJog first last m s → Conducted (first_opening first) (j16 last m s)
+c16 first last m s p = (record { finished = record { left = refl; closed = refl }; still = refl }, c15 first last m s p)

@@ -12,10 +12,10 @@ use Rattle.plan_rules.specs.declared.Mode.TheVariants.{Go, Hold}
 use Rattle.step_line.specs.Asking.Asked.{a_move}
 use Rattle.step_line.specs.declared.Piece.{Piece}
 use Rattle.step_line.specs.declared.planned_move.PlannedMove.{PlannedMove}
-use Rattle.run_rules.specs.declared.State.{State}
+use Rattle.board_rules.specs.Openings.{Opening}
 use Rattle.run_rules.specs.declared.machine.Machine.{Machine}
 use Rattle.run_rules.specs.Work.{Task, Outcome, Kind, asks, asks_move, has_moves}
-use Rattle.run_rules.specs.Work.Task.{ask, tell, pause, normal, finish, halt}
+use Rattle.run_rules.specs.Work.Task.{ask, pause}
 use Rattle.run_rules.specs.Outcomes.{jogged_behind}
 use Rattle.run_rules.specs.Finding.{Fate, IsJogWork}
 use Rattle.run_rules.specs.Finding.{Fate as fates}
@@ -23,8 +23,9 @@ use Rattle.board_rules.specs.Ports.PortStep.{answered}
 use Rattle.board_rules.specs.Steps.{Journal, plan_of, motion_of, left_of, open_of}
 use Rattle.board_rules.specs.Steps.Step.{at_port, began, did, made_end, evened, paused, became, cut, halted, closing, turned}
 use Rattle.board_rules.specs.Turns.{has_blocks, has_jogged, waits_to_jog, machine_in, begins_in, is_going}
-use Rattle.board_rules.specs.Conduct.{Conducted, MayDo, MayHappen}
+use Rattle.board_rules.specs.Conduct.{Conducted, MayDo, MayHappen, MayOpen}
 use Rattle.board_rules.specs.Whole.{comes_to_rest}
+use Rattle.board_rules.proofs.Opening.{opens_still}
 use Rattle.board_rules.proofs.Beginning.{fate_now}
 use Rattle.board_rules.proofs.Dropping.{asks_dropped, moves_dropped, none_moves, none_rests}
 
@@ -37,11 +38,7 @@ OneMove ts = (asks ts ≡ []) ⊎ ((m : PlannedMove) × (ts ≡ ask (a_move m) �
 no_more : (ts : List Task) → asks ts ≡ [] → asks (drop 1 ts) ≡ []
 no_more [] none = refl
 no_more (ask a ∷ ts) none = absurd cc
-no_more (tell r ∷ ts) none = none
-no_more (pause ∷ ts) none = none
-no_more (normal ∷ ts) none = none
-no_more (finish ∷ ts) none = none
-no_more (halt ∷ ts) none = none
+no_more (_ ∷ ts) none = none
 
 -- one task less: then it asks for none
 popped : (ts : List Task) → OneMove ts → OneMove (drop 1 ts)
@@ -58,74 +55,59 @@ begun_work m kept o was (fates.a_jog kind other dollar still work) is = jog_work
 begun_work m kept o was (fates.halted kind other still work) is = inl (ap asks work)
 begun_work m kept o was (fates.neither kind still none) is = inl none
 
-on_did_work : (h : Journal) (a : Action) (ps : List Piece) → MayDo a h → OneMove (left_of h) → OneMove (left_of (did a ps ∷ h))
-on_did_work h (Add m) ps may one = popped (left_of h) one
-on_did_work h (Mark m) ps may one = popped (left_of h) one
-on_did_work h Rest ps may one = popped (left_of h) one
-on_did_work h (Take mode) ps may one = one
-on_did_work h (Override o) ps may one = one
-on_did_work h Clear ps may one = absurd may
-on_did_work h Reset ps may one = absurd may
+on_did_work : (first : Opening) (h : Journal) (a : Action) (ps : List Piece) → MayDo first a h → OneMove (left_of first h) → OneMove (left_of first (did a ps ∷ h))
+on_did_work first h (Take mode) ps may one = one
+on_did_work first h (Override o) ps may one = one
+on_did_work first h Clear ps may one = absurd may
+on_did_work first h Reset ps may one = absurd may
+on_did_work first h _ ps may one = popped (left_of first h) one
 
 -- behind a jog only its move is left to ask for, if any
-pub one_move : (first : State) (h : Journal) → Conducted first h → has_jogged h ≡ true → OneMove (left_of h)
+pub one_move : (first : Opening) (h : Journal) → Conducted first h → has_jogged h ≡ true → OneMove (left_of first h)
 one_move first [] c is = absurd cc
-one_move first (at_port (answered r) ∷ h) c is = popped (left_of h) (one_move first h c.1 is)
+one_move first (at_port (answered r) ∷ h) c is = popped (left_of first h) (one_move first h c.1 is)
 one_move first (at_port e ∷ h) c is = one_move first h c.1 is
-one_move first (began o ∷ h) c is = begun_work (machine_in (motion_of h)) (open_of h) o (has_jogged h) (fate_now first h o c.0) is
-one_move first (did a ps ∷ h) c is = on_did_work h a ps c.0.0 (one_move first h c.1 is)
-one_move first (made_end ∷ h) c is = popped (left_of h) (one_move first h c.1 is)
-one_move first (evened ∷ h) c is = popped (left_of h) (one_move first h c.1 is)
-one_move first (paused ∷ h) c is = popped (left_of h) (one_move first h c.1 is)
+one_move first (began o ∷ h) c is = begun_work (machine_in (motion_of first h)) (open_of h) o (has_jogged h) (fate_now first h o c.0) is
+one_move first (did a ps ∷ h) c is = on_did_work first h a ps c.0.0 (one_move first h c.1 is)
 one_move first (became call m ∷ h) c is = one_move first h c.1 is
-one_move first (cut k ∷ h) c is = inl (asks_dropped (left_of h))
-one_move first (halted ∷ h) c is = popped (left_of h) (one_move first h c.1 is)
+one_move first (cut k ∷ h) c is = inl (asks_dropped (left_of first h))
 one_move first (closing ∷ h) c is = inl refl
 one_move first (turned t ∷ h) c is = one_move first h c.1 is
+one_move first (_ ∷ h) c is = popped (left_of first h) (one_move first h c.1 is)
 
 -- ---- the motion
 
 -- blocks are queued, or a move is left to ask for
-abbrev has_some : Journal → Bool
-has_some h = has_blocks (plan_of h).blocks || has_moves (left_of h)
+abbrev has_some : Opening → Journal → Bool
+has_some first h = has_blocks (plan_of h).blocks || has_moves (left_of first h)
 
 -- what the last that was accepted is, in a state of the motion
 abbrev JogRule : Motion → (jogged some : Bool) → Type 0
 JogRule motions.Idle jogged some = Unit {0}
-JogRule motions.Run jogged some = jogged ≡ false
-JogRule motions.Holding jogged some = jogged ≡ false
 JogRule motions.Held jogged some = (jogged && some) ≡ false
 JogRule motions.Jog jogged some = jogged ≡ true
 JogRule motions.Cancelling jogged some = jogged ≡ true
-JogRule motions.Stopping jogged some = jogged ≡ false
 JogRule motions.Alarm jogged some = Unit {0}
+JogRule _ jogged some = jogged ≡ false
 
-abbrev KeepsRule : Journal → Type 0
-KeepsRule h = JogRule (motion_of h) (has_jogged h) (has_some h)
+abbrev KeepsRule : Opening → Journal → Type 0
+KeepsRule first h = JogRule (motion_of first h) (has_jogged h) (has_some first h)
 
 -- less is queued and left
 fewer : (m : Motion) (jogged was some : Bool) → (some ≡ true → was ≡ true) → JogRule m jogged was → JogRule m jogged some
 fewer motions.Idle jogged was some less rule = tt
-fewer motions.Run jogged was some less rule = rule
-fewer motions.Holding jogged was some less rule = rule
 fewer motions.Held false was some less rule = refl
 fewer motions.Held true was false less rule = refl
 fewer motions.Held true was true less rule = sym (less refl) ∙ rule
-fewer motions.Jog jogged was some less rule = rule
-fewer motions.Cancelling jogged was some less rule = rule
-fewer motions.Stopping jogged was some less rule = rule
 fewer motions.Alarm jogged was some less rule = tt
+fewer _ jogged was some less rule = rule
 
 -- the rule for held machines alone speaks of what is queued
 other_motion : (m : Motion) (jogged was some : Bool) → (m ≡ motions.Held → (jogged && some) ≡ false) → JogRule m jogged was → JogRule m jogged some
 other_motion motions.Idle jogged was some held rule = tt
-other_motion motions.Run jogged was some held rule = rule
-other_motion motions.Holding jogged was some held rule = rule
 other_motion motions.Held jogged was some held rule = held refl
-other_motion motions.Jog jogged was some held rule = rule
-other_motion motions.Cancelling jogged was some held rule = rule
-other_motion motions.Stopping jogged was some held rule = rule
 other_motion motions.Alarm jogged was some held rule = tt
+other_motion _ jogged was some held rule = rule
 
 some_true : (blocks moves : Bool) → moves ≡ true → (blocks || moves) ≡ true
 some_true true moves is = refl
@@ -140,8 +122,8 @@ blocks_alone : (blocks moves : Bool) → (blocks || false) ≡ true → (blocks 
 blocks_alone true moves is = refl
 blocks_alone false moves is = absurd cc
 
-on_tail : (h : Journal) → KeepsRule h → JogRule (motion_of h) (has_jogged h) (has_blocks (plan_of h).blocks || has_moves (drop 1 (left_of h)))
-on_tail h rule = fewer (motion_of h) (has_jogged h) (has_some h) _ (tail_some (has_blocks (plan_of h).blocks) (left_of h)) rule
+on_tail : (first : Opening) (h : Journal) → KeepsRule first h → JogRule (motion_of first h) (has_jogged h) (has_blocks (plan_of h).blocks || has_moves (drop 1 (left_of first h)))
+on_tail first h rule = fewer (motion_of first h) (has_jogged h) (has_some first h) _ (tail_some (has_blocks (plan_of h).blocks) (left_of first h)) rule
 
 -- ---- a line is begun
 
@@ -155,11 +137,7 @@ begun_rule motions.Jog kept o was some now begins (fates.coded kind other) rule 
 begun_rule motions.Jog kept o was some now begins (fates.a_jog kind other dollar still work) rule = ap (λ (k : Kind). jogged_behind k was) kind
 begun_rule motions.Jog kept o was some now begins (fates.halted kind other still work) rule = absurd (other refl)
 begun_rule motions.Jog kept o was some now begins (fates.neither kind still none) rule = ap (λ (k : Kind). jogged_behind k was) kind ∙ rule
-begun_rule motions.Holding kept o was some now begins fate rule = absurd cc
-begun_rule motions.Held kept o was some now begins fate rule = absurd cc
-begun_rule motions.Cancelling kept o was some now begins fate rule = absurd cc
-begun_rule motions.Stopping kept o was some now begins fate rule = absurd cc
-begun_rule motions.Alarm kept o was some now begins fate rule = absurd cc
+begun_rule _ kept o was some now begins fate rule = absurd cc
 
 -- ---- something is done to the plan
 
@@ -175,16 +153,16 @@ not_going m goes held = absurd (let e = sym (ap is_going held) ∙ goes in cc)
 held_rule : (m : Motion) (jogged some : Bool) → m ≡ motions.Held → JogRule m jogged some → (jogged && some) ≡ false
 held_rule m jogged some is rule = subst (λ (n : Motion). JogRule n jogged some) is rule
 
-did_rule : (h : Journal) (a : Action) (ps : List Piece) → MayDo a h → KeepsRule h → KeepsRule (did a ps ∷ h)
-did_rule h (Add m) ps may rule = other_motion (motion_of h) (has_jogged h) (has_some h) _
-    (λ held. none_added (has_jogged h) (has_blocks (plan_of h).blocks) (left_of h) m may _ (held_rule (motion_of h) (has_jogged h) (has_some h) held rule)) rule
-did_rule h (Mark m) ps may rule = on_tail h rule
-did_rule h Rest ps may rule = on_tail h rule
-did_rule h (Take Go) ps may rule = other_motion (motion_of h) (has_jogged h) (has_some h) _ (λ held. absurd (not_going (motion_of h) may.goes held)) rule
-did_rule h (Take Hold) ps may rule = other_motion (motion_of h) (has_jogged h) (has_some h) _ (λ held. absurd (let e = sym (ap is_stopping held) ∙ may.slows in cc)) rule
-did_rule h (Override o) ps may rule = rule
-did_rule h Clear ps may rule = absurd may
-did_rule h Reset ps may rule = absurd may
+did_rule : (first : Opening) (h : Journal) (a : Action) (ps : List Piece) → MayDo first a h → KeepsRule first h → KeepsRule first (did a ps ∷ h)
+did_rule first h (Add m) ps may rule = other_motion (motion_of first h) (has_jogged h) (has_some first h) _
+    (λ held. none_added (has_jogged h) (has_blocks (plan_of h).blocks) (left_of first h) m may _ (held_rule (motion_of first h) (has_jogged h) (has_some first h) held rule)) rule
+did_rule first h (Mark m) ps may rule = on_tail first h rule
+did_rule first h Rest ps may rule = on_tail first h rule
+did_rule first h (Take Go) ps may rule = other_motion (motion_of first h) (has_jogged h) (has_some first h) _ (λ held. absurd (not_going (motion_of first h) may.goes held)) rule
+did_rule first h (Take Hold) ps may rule = other_motion (motion_of first h) (has_jogged h) (has_some first h) _ (λ held. absurd (let e = sym (ap is_stopping held) ∙ may.slows in cc)) rule
+did_rule first h (Override o) ps may rule = rule
+did_rule first h Clear ps may rule = absurd may
+did_rule first h Reset ps may rule = absurd may
 
 -- ---- something happens to the motion
 
@@ -200,28 +178,28 @@ no_jog true false moves some rule = absurd cc
 idle_waits : (m : Motion) (jogged some : Bool) → m ≡ motions.Idle → waits_to_jog m jogged some ≡ false → (jogged && some) ≡ false
 idle_waits m jogged some is none = subst (λ (n : Motion). waits_to_jog n jogged some ≡ false) is none
 
-call_rule : (h : Journal) (call : Call) (m : Motion) → MayHappen call h → StaysOrReaches m call (motion_of h) → KeepsRule h → JogRule m (has_jogged h) (has_some h)
-call_rule h call m may (inl same) rule = same_rule (motion_of h) m (has_jogged h) (has_some h) same rule
-call_rule h call motions.Idle may (inr how) rule = tt
-call_rule h call motions.Run may (inr (inl (inl was, (word, is, asked, unheld)))) rule =
-    let obeys : MayHappen (on_exec word true) h = subst (λ (x : Call). MayHappen x h) is may in
-    no_jog (has_jogged h) (has_blocks (plan_of h).blocks) (has_moves (left_of h)) (sym obeys.blocks) (idle_waits (motion_of h) (has_jogged h) (has_some h) was obeys.jog)
-call_rule h call motions.Run may (inr (inl (inr was, (word, is, asked, unheld)))) rule =
-    let obeys : MayHappen (on_exec word true) h = subst (λ (x : Call). MayHappen x h) is may in
-    no_jog (has_jogged h) (has_blocks (plan_of h).blocks) (has_moves (left_of h)) (sym obeys.blocks) (held_rule (motion_of h) (has_jogged h) (has_some h) was rule)
-call_rule h call motions.Run may (inr (inr (was, is))) rule =
-    let begins : MayHappen (on_start false) h = subst (λ (x : Call). MayHappen x h) is may in begins.jogs
-call_rule h call motions.Holding may (inr (was, by)) rule = same_rule (motion_of h) motions.Run (has_jogged h) (has_some h) (sym was) rule
-call_rule h call motions.Held may (inr (inl (was, inl (word, queued, is, asked)))) rule =
-    let obeys : MayHappen (on_exec word queued) h = subst (λ (x : Call). MayHappen x h) is may in idle_waits (motion_of h) (has_jogged h) (has_some h) was obeys.jog
-call_rule h call motions.Held may (inr (inl (was, inr is))) rule = absurd (subst (λ (x : Call). MayHappen x h) is may)
-call_rule h call motions.Held may (inr (inr (was, is))) rule =
-    let none : has_jogged h ≡ false = same_rule (motion_of h) motions.Holding (has_jogged h) (has_some h) (sym was) rule in ap (λ (j : Bool). j && has_some h) none
-call_rule h call motions.Jog may (inr (was, is)) rule =
-    let begins : MayHappen (on_start true) h = subst (λ (x : Call). MayHappen x h) is may in begins.jogs
-call_rule h call motions.Cancelling may (inr (was, by)) rule = same_rule (motion_of h) motions.Jog (has_jogged h) (has_some h) (sym was) rule
-call_rule h call motions.Stopping may (inr (was, is)) rule = same_rule (motion_of h) motions.Run (has_jogged h) (has_some h) (sym was) rule
-call_rule h call motions.Alarm may (inr how) rule = tt
+call_rule : (first : Opening) (h : Journal) (call : Call) (m : Motion) → MayHappen first call h → StaysOrReaches m call (motion_of first h) → KeepsRule first h → JogRule m (has_jogged h) (has_some first h)
+call_rule first h call m may (inl same) rule = same_rule (motion_of first h) m (has_jogged h) (has_some first h) same rule
+call_rule first h call motions.Idle may (inr how) rule = tt
+call_rule first h call motions.Run may (inr (inl (inl was, (word, is, asked, unheld)))) rule =
+    let obeys : MayHappen first (on_exec word true) h = subst (λ (x : Call). MayHappen first x h) is may in
+    no_jog (has_jogged h) (has_blocks (plan_of h).blocks) (has_moves (left_of first h)) (sym obeys.blocks) (idle_waits (motion_of first h) (has_jogged h) (has_some first h) was obeys.jog)
+call_rule first h call motions.Run may (inr (inl (inr was, (word, is, asked, unheld)))) rule =
+    let obeys : MayHappen first (on_exec word true) h = subst (λ (x : Call). MayHappen first x h) is may in
+    no_jog (has_jogged h) (has_blocks (plan_of h).blocks) (has_moves (left_of first h)) (sym obeys.blocks) (held_rule (motion_of first h) (has_jogged h) (has_some first h) was rule)
+call_rule first h call motions.Run may (inr (inr (was, is))) rule =
+    let begins : MayHappen first (on_start false) h = subst (λ (x : Call). MayHappen first x h) is may in begins.jogs
+call_rule first h call motions.Holding may (inr (was, by)) rule = same_rule (motion_of first h) motions.Run (has_jogged h) (has_some first h) (sym was) rule
+call_rule first h call motions.Held may (inr (inl (was, inl (word, queued, is, asked)))) rule =
+    let obeys : MayHappen first (on_exec word queued) h = subst (λ (x : Call). MayHappen first x h) is may in idle_waits (motion_of first h) (has_jogged h) (has_some first h) was obeys.jog
+call_rule first h call motions.Held may (inr (inl (was, inr is))) rule = absurd (subst (λ (x : Call). MayHappen first x h) is may)
+call_rule first h call motions.Held may (inr (inr (was, is))) rule =
+    let none : has_jogged h ≡ false = same_rule (motion_of first h) motions.Holding (has_jogged h) (has_some first h) (sym was) rule in ap (λ (j : Bool). j && has_some first h) none
+call_rule first h call motions.Jog may (inr (was, is)) rule =
+    let begins : MayHappen first (on_start true) h = subst (λ (x : Call). MayHappen first x h) is may in begins.jogs
+call_rule first h call motions.Cancelling may (inr (was, by)) rule = same_rule (motion_of first h) motions.Jog (has_jogged h) (has_some first h) (sym was) rule
+call_rule first h call motions.Stopping may (inr (was, is)) rule = same_rule (motion_of first h) motions.Run (has_jogged h) (has_some first h) (sym was) rule
+call_rule first h call motions.Alarm may (inr how) rule = tt
 
 -- a pause is no jog's
 paused_rule : (jogged : Bool) (ts : List Task) (bs : List Block) → (jogged ≡ true → OneMove ts) → ts ≡ pause ∷ drop 1 ts → bs ≡ [] → (jogged && (has_blocks bs || has_moves (drop 1 ts))) ≡ false
@@ -232,34 +210,39 @@ paused_rule true ts bs one next none = by_work (one refl)
     by_work (inl still) = ap (λ (b : Bool). b || has_moves (drop 1 ts)) (ap has_blocks none) ∙ none_moves (drop 1 ts) (no_more ts still)
     by_work (inr (m, is, still)) = ap (λ (b : Bool). b || has_moves (drop 1 ts)) (ap has_blocks none) ∙ none_moves (drop 1 ts) still
 
-pub rule_is : (first : State) (h : Journal) → Conducted first h → KeepsRule h
-rule_is first [] c = tt
-rule_is first (at_port (answered r) ∷ h) c = on_tail h (rule_is first h c.1)
+opens_rule : (first : Opening) → MayOpen first → (m : Motion) → first.motion ≡ m → JogRule m false (has_some first [])
+opens_rule first opens motions.Idle is = tt
+opens_rule first opens motions.Alarm is = tt
+opens_rule first opens m is = opens_still first m opens is refl
+
+pub rule_is : (first : Opening) (h : Journal) → Conducted first h → KeepsRule first h
+rule_is first [] c = opens_rule first c first.motion refl
+rule_is first (at_port (answered r) ∷ h) c = on_tail first h (rule_is first h c.1)
 rule_is first (at_port e ∷ h) c = rule_is first h c.1
-rule_is first (began o ∷ h) c = begun_rule (motion_of h) (open_of h) o (has_jogged h) (has_some h) _ c.0.begins (fate_now first h o c.0) (rule_is first h c.1)
-rule_is first (did a ps ∷ h) c = did_rule h a ps c.0.0 (rule_is first h c.1)
-rule_is first (made_end ∷ h) c = on_tail h (rule_is first h c.1)
-rule_is first (evened ∷ h) c = on_tail h (rule_is first h c.1)
-rule_is first (paused ∷ h) c = paused_rule (has_jogged h) (left_of h) (plan_of h).blocks (one_move first h c.1) c.0.rests.next c.0.rests.drained.plan.blocks
-rule_is first (became call m ∷ h) c = call_rule h call m c.0.1 (reached call (motion_of h) m c.0.0) (rule_is first h c.1)
-rule_is first (cut k ∷ h) c = fewer (motion_of h) (has_jogged h) (has_some h) _ (λ some. absurd (let e = sym some ∙ moves_dropped (left_of h) in cc)) (rule_is first h c.1)
-rule_is first (halted ∷ h) c = same_rule motions.Alarm (motion_of h) (has_jogged h) _ c.0.alarm tt
-rule_is first (closing ∷ h) c = fewer (motion_of h) (has_jogged h) (has_some h) _ (blocks_alone (has_blocks (plan_of h).blocks) (has_moves (left_of h))) (rule_is first h c.1)
+rule_is first (began o ∷ h) c = begun_rule (motion_of first h) (open_of h) o (has_jogged h) (has_some first h) _ c.0.begins (fate_now first h o c.0) (rule_is first h c.1)
+rule_is first (did a ps ∷ h) c = did_rule first h a ps c.0.0 (rule_is first h c.1)
+rule_is first (made_end ∷ h) c = on_tail first h (rule_is first h c.1)
+rule_is first (evened ∷ h) c = on_tail first h (rule_is first h c.1)
+rule_is first (paused ∷ h) c = paused_rule (has_jogged h) (left_of first h) (plan_of h).blocks (one_move first h c.1) c.0.rests.next c.0.rests.drained.plan.blocks
+rule_is first (became call m ∷ h) c = call_rule first h call m c.0.1 (reached call (motion_of first h) m c.0.0) (rule_is first h c.1)
+rule_is first (cut k ∷ h) c = fewer (motion_of first h) (has_jogged h) (has_some first h) _ (λ some. absurd (let e = sym some ∙ moves_dropped (left_of first h) in cc)) (rule_is first h c.1)
+rule_is first (halted ∷ h) c = same_rule motions.Alarm (motion_of first h) (has_jogged h) _ c.0.alarm tt
+rule_is first (closing ∷ h) c = fewer (motion_of first h) (has_jogged h) (has_some first h) _ (blocks_alone (has_blocks (plan_of h).blocks) (has_moves (left_of first h))) (rule_is first h c.1)
 rule_is first (turned t ∷ h) c = rule_is first h c.1
 
-pub run_is_code : (first : State) (h : Journal) → Conducted first h → motion_of h ≡ motions.Run → has_jogged h ≡ false
-run_is_code first h c is = same_rule (motion_of h) motions.Run (has_jogged h) (has_some h) (sym is) (rule_is first h c)
+pub run_is_code : (first : Opening) (h : Journal) → Conducted first h → motion_of first h ≡ motions.Run → has_jogged h ≡ false
+run_is_code first h c is = same_rule (motion_of first h) motions.Run (has_jogged h) (has_some first h) (sym is) (rule_is first h c)
 
-pub jog_is_last : (first : State) (h : Journal) → Conducted first h → motion_of h ≡ motions.Jog → has_jogged h ≡ true
-jog_is_last first h c is = same_rule (motion_of h) motions.Jog (has_jogged h) (has_some h) (sym is) (rule_is first h c)
+pub jog_is_last : (first : Opening) (h : Journal) → Conducted first h → motion_of first h ≡ motions.Jog → has_jogged h ≡ true
+jog_is_last first h c is = same_rule (motion_of first h) motions.Jog (has_jogged h) (has_some first h) (sym is) (rule_is first h c)
 
-pub cancel_is_jog : (first : State) (h : Journal) → Conducted first h → motion_of h ≡ motions.Cancelling → has_jogged h ≡ true
-cancel_is_jog first h c is = same_rule (motion_of h) motions.Cancelling (has_jogged h) (has_some h) (sym is) (rule_is first h c)
+pub cancel_is_jog : (first : Opening) (h : Journal) → Conducted first h → motion_of first h ≡ motions.Cancelling → has_jogged h ≡ true
+cancel_is_jog first h c is = same_rule (motion_of first h) motions.Cancelling (has_jogged h) (has_some first h) (sym is) (rule_is first h c)
 
 one_rests : (ts : List Task) → OneMove ts → comes_to_rest ts ≡ false
 one_rests ts (inl none) = none_rests ts none
 one_rests ts (inr (m, next, none)) = ap comes_to_rest next ∙ none_rests (drop 1 ts) none
 
 -- behind a jog the machine is not waited for
-pub jog_rests : (first : State) (h : Journal) → Conducted first h → has_jogged h ≡ true → comes_to_rest (left_of h) ≡ false
-jog_rests first h c is = one_rests (left_of h) (one_move first h c is)
+pub jog_rests : (first : Opening) (h : Journal) → Conducted first h → has_jogged h ≡ true → comes_to_rest (left_of first h) ≡ false
+jog_rests first h c is = one_rests (left_of first h) (one_move first h c is)

@@ -1,17 +1,11 @@
 -- The moves that a line asks for join: the first begins at the position before the line, each other where the one before ends,
 -- and the last ends at the position behind.
-use Rattle.std.proofs.Common.{◌≡◌, ℕ, ◌==◌, inl, inr, List, [], ◌∷◌, ◌++◌, length, true, false, Bool, nat_eq, nat_lt, sym, refl, ap, ◌∙◌, arith, subst, Ok, Err, Some, None}
-use Rattle.std.specs.declared.option.Option.{Option}
-use Rattle.std.specs.declared.result.Result.{Result}
+use Rattle.std.proofs.Common.{◌≡◌, ℕ, ◌==◌, List, [], ◌∷◌, ◌++◌, true, false, Bool, sym, refl, ap, ◌∙◌, arith, subst, Ok}
 use Rattle.std.proofs.lemmas.Bool.Decides.{nat_tests}
-use Rattle.units.specs.declared.Decimal.{Decimal}
 use Rattle.units.specs.declared.Rate.{Rate}
 use Rattle.units.specs.declared.Move.{Move as Way}
 use Rattle.units.specs.declared.Steps3.{Steps3}
 use Rattle.gcode_words.specs.declared.Word.{Word}
-use Rattle.gcode_words.specs.declared.WordFault.{WordFault}
-use Rattle.gcode_words.specs.Words.{words_of}
-use Rattle.code_table.specs.declared.Code.{Code}
 use Rattle.line_words.specs.Targets.{targets}
 use Rattle.gcode_check.specs.Effects.{stops}
 use Rattle.gcode_check.specs.Items.{items_of}
@@ -20,8 +14,7 @@ use Rattle.gcode_check.specs.Verdicts.{verdict}
 use Rattle.gcode_check.specs.declared.Accept.{Accept as Accepted}
 use Rattle.gcode_check.specs.declared.Item.{Item}
 use Rattle.gcode_check.specs.declared.Item.TheVariants as items
-use Rattle.gcode_check.specs.declared.Verdict.{Verdict}
-use Rattle.gcode_check.specs.declared.Verdict.TheVariants.{Accept, Refuse, Limit}
+use Rattle.gcode_check.specs.declared.Verdict.TheVariants.{Accept}
 use Rattle.gcode_check.proofs.Causes.{is_accepted}
 use Rattle.jog.proofs.Causes.{is_accepted as is_jog}
 use Rattle.gcode_check.proofs.Joining.{line}
@@ -32,34 +25,24 @@ use Rattle.modal_state.specs.declared.SpindleMode.TheVariants.{Off, Cw, Ccw}
 use Rattle.settings.specs.declared.Settings.{Settings}
 use Rattle.jog.specs.declared.JogMove.{JogMove}
 use Rattle.jog.specs.Jogs.{jog_of}
-use Rattle.system_lines.specs.Commands.{command_of, kind_of, jog_words, is_jog as begins_jog}
-use Rattle.settings.specs.Numbers.{set_refusal}
-use Rattle.system_lines.specs.declared.Command.{Command}
-use Rattle.system_lines.specs.declared.Command.TheVariants.{ListSettings, ListModes, ListOffsets, Unlock, Set}
-use Rattle.status_report.specs.Lists.{setting_replies, modes_replies, offset_replies}
 use Rattle.status_report.specs.declared.Reply.{Reply}
 use Rattle.status_report.specs.declared.Reply.TheVariants as replies
 use Rattle.step_line.specs.Counting.{events_of}
 use Rattle.step_line.specs.Places.{place_after}
-use Rattle.step_line.specs.Asking.Asked.{a_move, a_mark, a_rest}
+use Rattle.step_line.specs.Asking.Asked.{a_move}
 use Rattle.step_line.proofs.Sums.{at_start, at_end}
 use Rattle.run_rules.specs.declared.State.{State}
 use Rattle.run_rules.specs.Asks.{move_asked, planned, item_work, work_of}
-use Rattle.run_rules.specs.Outcomes.{Before, Becomes, ByKept, ByDollar, ByCode, ByServed, ByJog, ByJogMove, ByCommand, BySetting, ByWords, ByVerdict, either, most_kept, limited, refused, told, jogging, fault_number}
+use Rattle.run_rules.specs.Outcomes.{Before, Becomes, executed, told, jogging}
 use Rattle.run_rules.specs.Work.{Task, Outcome, asking, telling}
-use Rattle.run_rules.specs.Work.Task.{ask, tell, pause, normal, finish, halt}
+use Rattle.run_rules.specs.Work.Task.{ask, tell}
+use Rattle.run_rules.proofs.Each.{HoldsByCause, holds_by_cause}
 
 -- the moves that tasks ask for join, from a place to another
 abbrev pub TasksLead : Steps3 → List Task → Steps3 → Type 0
 TasksLead from [] to = from ≡ to
 TasksLead from (ask (a_move m) ∷ ts) to = (m.mv.from ≡ from) × TasksLead m.mv.to ts to
-TasksLead from (ask (a_mark m) ∷ ts) to = TasksLead from ts to
-TasksLead from (ask a_rest ∷ ts) to = TasksLead from ts to
-TasksLead from (tell r ∷ ts) to = TasksLead from ts to
-TasksLead from (pause ∷ ts) to = TasksLead from ts to
-TasksLead from (normal ∷ ts) to = TasksLead from ts to
-TasksLead from (finish ∷ ts) to = TasksLead from ts to
-TasksLead from (halt ∷ ts) to = TasksLead from ts to
+TasksLead from (_ ∷ ts) to = TasksLead from ts to
 
 pub tasks_start : (a b : Steps3) (ts : List Task) (c : Steps3) → a ≡ b → TasksLead b ts c → TasksLead a ts c
 tasks_start a b ts c e lead = subst (λ (p : Steps3). TasksLead p ts c) (sym e) lead
@@ -67,13 +50,7 @@ tasks_start a b ts c e lead = subst (λ (p : Steps3). TasksLead p ts c) (sym e) 
 together : (a b c : Steps3) (xs ys : List Task) → TasksLead a xs b → TasksLead b ys c → TasksLead a (xs ++ ys) c
 together a b c [] ys e on = tasks_start a b ys c e on
 together a b c (ask (a_move m) ∷ ts) ys e on = (e.0, together m.mv.to b c ts ys e.1 on)
-together a b c (ask (a_mark m) ∷ ts) ys e on = together a b c ts ys e on
-together a b c (ask a_rest ∷ ts) ys e on = together a b c ts ys e on
-together a b c (tell r ∷ ts) ys e on = together a b c ts ys e on
-together a b c (pause ∷ ts) ys e on = together a b c ts ys e on
-together a b c (normal ∷ ts) ys e on = together a b c ts ys e on
-together a b c (finish ∷ ts) ys e on = together a b c ts ys e on
-together a b c (halt ∷ ts) ys e on = together a b c ts ys e on
+together a b c (_ ∷ ts) ys e on = together a b c ts ys e on
 
 -- ---- the items of an accepted line
 
@@ -128,74 +105,33 @@ tells_stay : (at : Steps3) (rs : List Reply) → TasksLead at (telling rs) at
 tells_stay at [] = refl
 tells_stay at (r ∷ rs) = tells_stay at rs
 
-refused_leads : (b : Before) (n : ℕ) (o : Outcome) → o ≡ refused b n → Leads b o
-refused_leads b n o is = subst (Leads b) (sym is) (let stays : Leads b (refused b n) = refl in stays)
-
-told_leads : (b : Before) (next : State) (body : List Reply) (o : Outcome) → next.parser ≡ b.state.parser → o ≡ told next body → Leads b o
-told_leads b next body o stays is =
+told_leads : (b : Before) (next : State) (body : List Reply) → next.parser ≡ b.state.parser → Leads b (told next body)
+told_leads b next body same =
     let at = b.state.parser.pos_steps in
-    let there : Leads b (told next body) = subst (λ (p : Parser). TasksLead at (telling (body ++ replies.Ok ∷ [])) p.pos_steps) (sym stays) (tells_stay at (body ++ replies.Ok ∷ [])) in
-    subst (Leads b) (sym is) there
+    subst (λ (p : Parser). TasksLead at (telling (body ++ replies.Ok ∷ [])) p.pos_steps) (sym same) (tells_stay at (body ++ replies.Ok ∷ []))
 
-limited_leads : (b : Before) (o : Outcome) → o ≡ limited b → Leads b o
-limited_leads b o is = subst (Leads b) (sym is) (let stays : Leads b (limited b) = refl in stays)
-
-by_verdict : (b : Before) (ws : List Word) (v : Verdict) (o : Outcome) → verdict b.state.parser b.state.settings ws ≡ v → ByVerdict b v o → Leads b o
-by_verdict b ws (Accept a) o e is =
+executed_leads : (b : Before) (ws : List Word) (a : Accepted) → verdict b.state.parser b.state.settings ws ≡ Accept a → Leads b (executed b a)
+executed_leads b ws a e =
     let at = b.state.parser.pos_steps in
     let modal = b.state.parser.modal in
     let work = work_of b.number b.state.settings modal.spindle modal.flood a.items.items in
     let leads = work_leads b.number b.state.settings modal.spindle modal.flood a.items.items at a.next.pos_steps (verdict_leads b.state.parser b.state.settings ws a e) in
-    subst (Leads b) (sym is) (together at a.next.pos_steps a.next.pos_steps work (tell replies.Ok ∷ []) leads refl)
-by_verdict b ws (Refuse code) o e is = refused_leads b code.0 o is
-by_verdict b ws Limit o e is = limited_leads b o is
+    together at a.next.pos_steps a.next.pos_steps work (tell replies.Ok ∷ []) leads refl
 
-by_words : (b : Before) (ws : Result (List Word) WordFault) (o : Outcome) → ByWords b ws o → Leads b o
-by_words b (Err fault) o is = refused_leads b (fault_number fault) o is
-by_words b (Ok ws) o is = by_verdict b ws (verdict b.state.parser b.state.settings ws) o refl is
-
-by_setting : (b : Before) (n : ℕ) (value : Decimal) (code : Option Code) (o : Outcome) → BySetting b n value code o → Leads b o
-by_setting b n value (Some code) o is = refused_leads b code.0 o is
-by_setting b n value None o is = told_leads b _ [] o refl is.outcome
-
-by_command : (b : Before) (c : Result Command Code) (o : Outcome) → ByCommand b c o → Leads b o
-by_command b (Err code) o is = refused_leads b code.0 o is
-by_command b (Ok ListSettings) o is = told_leads b b.state (setting_replies b.state.settings) o refl is
-by_command b (Ok ListModes) o is = told_leads b b.state (modes_replies b.state.parser) o refl is
-by_command b (Ok ListOffsets) o is = told_leads b b.state (offset_replies b.state.parser.offsets) o refl is
-by_command b (Ok Unlock) o is = told_leads b b.state [] o refl is
-by_command b (Ok (Set n value)) o is = by_setting b n value (set_refusal n value) o is
-
-by_jog_move : (b : Before) (ws : List Word) (r : Result JogMove Code) (o : Outcome) → jog_of b.state.parser b.state.settings ws ≡ r → ByJogMove b r o → Leads b o
-by_jog_move b ws (Err code) o e is = refused_leads b code.0 o is
-by_jog_move b ws (Ok jog) o e is =
+jog_leads : (b : Before) (ws : List Word) (jog : JogMove) → jog_of b.state.parser b.state.settings ws ≡ Ok jog → Leads b (jogging b jog)
+jog_leads b ws jog e =
     let from : jog.mv.from ≡ b.state.parser.pos_steps = rw (← (is_jog b.state.parser b.state.settings ws jog e).1) refl in
-    let there : Leads b (jogging b jog) =
-    move_leads b.number b.state.settings jog.mv jog.rate (tell replies.Ok ∷ []) b.state.parser.pos_steps jog.mv.to from refl (events_of jog.mv == 0) refl in
-    subst (Leads b) (sym is) there
-
-by_jog : (b : Before) (ws : Result (List Word) WordFault) (o : Outcome) → ByJog b ws o → Leads b o
-by_jog b (Err fault) o is = refused_leads b (fault_number fault) o is
-by_jog b (Ok ws) o is = by_jog_move b ws (jog_of b.state.parser b.state.settings ws) o refl is
-
-by_either : (t : Bool) (A B C : Type 0) → (A → C) → (B → C) → either t A B → C
-by_either true A B C first second is = first is
-by_either false A B C first second is = second is
-
-by_served : (b : Before) (kept : List ℕ) (o : Outcome) → ByServed b kept o → Leads b o
-by_served b kept o is = by_either (begins_jog (kind_of kept)) _ _ _ (by_jog b (words_of (jog_words kept)) o) (by_command b (command_of kept) o) is
-
-by_dollar : (runs : Bool) (b : Before) (kept : List ℕ) (o : Outcome) → ByDollar runs b kept o → Leads b o
-by_dollar runs b kept o (inl busy) = refused_leads b 8 o busy.outcome
-by_dollar runs b kept o (inr is) = by_served b kept o is
-
-by_code : (runs : Bool) (b : Before) (kept : List ℕ) (o : Outcome) → ByCode runs b kept o → Leads b o
-by_code runs b kept o (inl locked) = refused_leads b 9 o locked.outcome
-by_code runs b kept o (inr is) = by_words b (words_of kept) o is
-
-by_kept : (runs : Bool) (b : Before) (kept : List ℕ) (o : Outcome) → ByKept runs b kept o → Leads b o
-by_kept runs b [] o is = told_leads b b.state [] o refl is
-by_kept runs b (c ∷ cs) o is = by_either (nat_eq c 36) _ _ _ (by_dollar runs b (c ∷ cs) o) (by_code runs b (c ∷ cs) o) is
+    move_leads b.number b.state.settings jog.mv jog.rate (tell replies.Ok ∷ []) b.state.parser.pos_steps jog.mv.to from refl (events_of jog.mv == 0) refl
 
 pub line_leads : (runs : Bool) (b : Before) (kept : List ℕ) (o : Outcome) → Becomes runs b kept o → Leads b o
-line_leads runs b kept o is = by_either (nat_lt most_kept (length kept)) _ _ _ (refused_leads b 11 o) (by_kept runs b kept o) is
+line_leads runs b kept o is =
+    let each : HoldsByCause runs b kept (Leads b) = record {
+      refuses = λ n other. refl;
+      busy = λ cause. refl;
+      locked = λ cause. refl;
+      tells = λ next body same kind. told_leads b next body same;
+      executes = executed_leads b;
+      jogs = jog_leads b;
+      limits = λ beyond. refl;
+    } in
+    holds_by_cause runs b kept (Leads b) each o is

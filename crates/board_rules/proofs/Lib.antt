@@ -1,3 +1,6 @@
+pub mod Opening
+pub mod DroppedJogs
+pub mod LinkSteps
 pub mod Tasks
 pub mod Dropping
 pub mod Plain
@@ -12,6 +15,7 @@ pub mod Halts
 pub mod Given
 pub mod Lines
 pub mod Answering
+pub mod Greeting
 pub mod Closing
 pub mod Ending
 pub mod Breaking

@@ -27,17 +27,19 @@ use Rattle.planner_runs.specs.declared.Action.{Action}
 use Rattle.planner_runs.specs.declared.Action.TheVariants.{Add, Take, Override, Mark, Rest, Clear, Reset}
 use Rattle.planner_runs.specs.Runs.{Plans, with_move, cleared, most_blocks, all_asked, ticks_left}
 use Rattle.planner_runs.proofs.Ticks.{ticks_from_start}
-use Rattle.run_rules.specs.declared.State.{State}
 use Rattle.run_rules.specs.Work.{Outcome, asks, tells}
-use Rattle.run_rules.specs.Outcomes.{Before, Passed, Follows, start, after, at_place, became_of}
+use Rattle.run_rules.specs.Outcomes.{Before, Passed, Follows, after, at_place, became_of}
 use Rattle.run_rules.specs.Outcomes.Passed.{a_line, a_cut}
-use Rattle.run_rules.specs.Told.{asked_in, replies_in}
-use Rattle.board_rules.specs.Ports.PortStep.{took, found_empty, found_closed, found_free, answered, reported, no_reply_room, took_exec, took_ovr, published, no_piece_room, loaded}
-use Rattle.board_rules.specs.Steps.{Journal, taken_of, answered_of, published_of, lines_of, outcomes_of, before_of, left_of, closed_tells, hand_of, open_of, whole_of}
-use Rattle.board_rules.specs.Steps.Step.{at_port, began, did, made_end, evened, paused, became, cut, halted, closing, turned}
+use Rattle.run_rules.specs.Told.{asked_in, replies_after}
+use Rattle.board_rules.specs.Openings.{Opening, before_first}
+use Rattle.board_rules.specs.Ports.{reports_in}
+use Rattle.board_rules.specs.Ports.PortStep.{took}
+use Rattle.board_rules.specs.Steps.{Journal, port_log, taken_of, answered_of, published_of, lines_of, outcomes_of, before_of, left_of, closed_tells, hand_of, open_of, whole_of}
+use Rattle.board_rules.specs.Steps.Step.{at_port}
 use Rattle.board_rules.specs.Conduct.{Conducted, IsInHand, ticks_given, ticks_published}
+use Rattle.board_rules.proofs.Opening.{opened}
 use Rattle.board_rules.proofs.Plain.{length_apart}
-use Rattle.board_rules.proofs.Owing.{few_reports}
+use Rattle.board_rules.proofs.Owing.{owes_few, few_asked}
 use Rattle.board_rules.specs.Parts.{Part, IsCutPart, lines_in, pieces_in, last_number, AreNumbered}
 use Rattle.board_rules.specs.Cuts.{part_outcomes, part_actions, part_given, part_start, part_plan, parts_of, passed_of}
 use Rattle.board_rules.proofs.Keeping.{never_clears, told_is, hand_is}
@@ -54,41 +56,23 @@ use Rattle.board_rules.proofs.Bounding.{most_events, weight, weight_on, line_tic
 -- ---- lines
 
 -- as many bytes as a port may give
-few_taken : (first : State) (h : Journal) → Conducted first h → length (taken_of h) ≤ 2 ^ 31
+few_taken : (first : Opening) (h : Journal) → Conducted first h → length (taken_of h) ≤ 2 ^ 31
 few_taken first [] c = omega arith
 few_taken first (at_port (took b) ∷ h) c =
     let few : length (taken_of h) < 2 ^ 31 = c.0.few in
     let e = length-append (taken_of h) (b ∷ []) in omega arith
-few_taken first (at_port found_empty ∷ h) c = few_taken first h c.1
-few_taken first (at_port found_closed ∷ h) c = few_taken first h c.1
-few_taken first (at_port (found_free n) ∷ h) c = few_taken first h c.1
-few_taken first (at_port (answered r) ∷ h) c = few_taken first h c.1
-few_taken first (at_port (reported r) ∷ h) c = few_taken first h c.1
-few_taken first (at_port no_reply_room ∷ h) c = few_taken first h c.1
-few_taken first (at_port (took_exec word) ∷ h) c = few_taken first h c.1
-few_taken first (at_port (took_ovr word) ∷ h) c = few_taken first h c.1
-few_taken first (at_port (published p) ∷ h) c = few_taken first h c.1
-few_taken first (at_port (no_piece_room done) ∷ h) c = few_taken first h c.1
-few_taken first (at_port (loaded done) ∷ h) c = few_taken first h c.1
-few_taken first (began o ∷ h) c = few_taken first h c.1
-few_taken first (did a ps ∷ h) c = few_taken first h c.1
-few_taken first (made_end ∷ h) c = few_taken first h c.1
-few_taken first (evened ∷ h) c = few_taken first h c.1
-few_taken first (paused ∷ h) c = few_taken first h c.1
-few_taken first (became call m ∷ h) c = few_taken first h c.1
-few_taken first (cut k ∷ h) c = few_taken first h c.1
-few_taken first (halted ∷ h) c = few_taken first h c.1
-few_taken first (closing ∷ h) c = few_taken first h c.1
-few_taken first (turned t ∷ h) c = few_taken first h c.1
+few_taken first (_ ∷ h) c = few_taken first h c.1
 
-pub few_lines : (first : State) (h : Journal) → Conducted first h → length (outcomes_of h) ≤ 2 ^ 31
-few_lines first h c =
-    let many = as_many true (start first) (before_of first h) (lines_of h) (passed_of h) (lines_follow first h c) in
-    let same = ap (λ (os : List Outcome). length os) (became_is h) in
+pub lines_in_bytes : (first : Opening) (h : Journal) → Conducted first h → length (outcomes_of h) ≤ length (taken_of h)
+lines_in_bytes first h c =
+    let many = as_many true (before_first first) (before_of first h) (lines_of h) (passed_of first h) (lines_follow first h c) in
+    let same = ap (λ (os : List Outcome). length os) (became_is first h) in
     let lfs = lfs_of_lines (taken_of h) (lines_of h) (open_of h) (whole_of h) (bytes_are first h c) in
-    let few = few_taken first h c in
     let below = count_by-le-length (λ (b : ℕ). nat_eq b 10) (taken_of h) in
     omega arith
+
+pub few_lines : (first : Opening) (h : Journal) → Conducted first h → length (outcomes_of h) ≤ 2 ^ 31
+few_lines first h c = let few = few_taken first h c in let lines = lines_in_bytes first h c in omega (arith, few, lines)
 
 -- what all lines ask for, and tell
 all_modest : (b last : Before) (ls : List (List ℕ)) (ps : List Passed) → Follows true b ls ps last
@@ -108,11 +92,11 @@ all_modest b last [] (a_line o ∷ ps) f = absurd f
 all_modest b last (l ∷ ls) [] f = absurd f
 
 -- of the lines that were begun
-begun_modest : (first : State) (h : Journal) → Conducted first h
+begun_modest : (first : Opening) (h : Journal) → Conducted first h
     → (weight (asked_in (outcomes_of h)) ≤ line_ticks * length (outcomes_of h)) × (length (flat_map (λ (o : Outcome). tells o.work) (outcomes_of h)) ≤ line_replies * length (outcomes_of h))
 begun_modest first h c =
-    subst (λ (os : List Outcome). (weight (asked_in os) ≤ line_ticks * length os) × (length (flat_map (λ (o : Outcome). tells o.work) os) ≤ line_replies * length os)) (became_is h)
-    (all_modest (start first) (before_of first h) (lines_of h) (passed_of h) (lines_follow first h c))
+    subst (λ (os : List Outcome). (weight (asked_in os) ≤ line_ticks * length os) × (length (flat_map (λ (o : Outcome). tells o.work) os) ≤ line_replies * length os)) (became_is first h)
+    (all_modest (before_first first) (before_of first h) (lines_of h) (passed_of first h) (lines_follow first h c))
 
 -- ---- ticks
 
@@ -186,29 +170,31 @@ parts_given_few (p ∷ ps) all =
     let b = together_both p.given (pieces.Mark (marks.Cut p.number) ∷ []) in
     omega (arith, rest, one, lines, a, b)
 
-parts_few : (ps : List Part) → AreNumbered ps → length ps ≤ last_number ps
-parts_few [] n = omega arith
-parts_few (p ∷ ps) n = let e = parts_few ps n.2 in let f = n.1 in omega (arith, e, f)
+parts_few : (before : ℕ) (ps : List Part) → AreNumbered before ps → before + length ps ≤ last_number before ps
+parts_few before [] n = omega arith
+parts_few before (p ∷ ps) n = let e = parts_few before ps n.2 in let f = n.1 in omega (arith, e, f)
 
-pub few_given : (first : State) (h : Journal) → Conducted first h → ticks_given h < 2 ^ 62
-few_given first h c =
+pub given_by_lines : (first : Opening) (h : Journal) → Conducted first h → ticks_given h ≤ 400000006 * length (outcomes_of h)
+given_by_lines first h c =
     let part = open_part first h c in
     let few = few_ticks (all_asked (part_actions h)) (moves_planned most_blocks (part_start h) (part_plan h) (part_actions h) (part_given h) part.run) in
     let ticks = ap (λ (rs : List Record). length rs) (ticks_from_start most_blocks (part_start h) (part_plan h) (part_actions h) (part_given h) part.starts (never_clears first h c) part.run) in
     let split = length-append (flat_map ticks_of (part_given h)) (ticks_left (part_plan h)) in
     let asked = ap weight (asked_is first h c) in
-    let parts = weight_on (all_asked (part_actions h)) (asks (left_of h)) in
-    let closed = parts_given_few (parts_of h) (parts_are first h c) in
-    let cuts = parts_few (parts_of h) (numbers_are first h c) in
+    let parts = weight_on (all_asked (part_actions h)) (asks (left_of first h)) in
+    let closed = parts_given_few (parts_of first h) (parts_are first h c) in
+    let cuts = parts_few first.lines (parts_of first h) (numbers_are first h c) in
     let count = count_is first h c in
     let given = given_sum first h c in
     let all = (begun_modest first h c).0 in
-    let both = ap (λ (os : List Outcome). weight (asked_in os)) (lines_are first h c) ∙ weight_in (lines_in (parts_of h)) (part_outcomes h) in
-    let lines = few_lines first h c in
+    let both = ap (λ (os : List Outcome). weight (asked_in os)) (lines_are first h c) ∙ weight_in (lines_in (parts_of first h)) (part_outcomes h) in
     omega arith
 
+pub few_given : (first : Opening) (h : Journal) → Conducted first h → ticks_given h < 2 ^ 62
+few_given first h c = let few = given_by_lines first h c in let lines = few_lines first h c in omega (arith, few, lines)
+
 -- so the piece in hand may be published
-pub few_next : (first : State) (h : Journal) (p : Piece) → Conducted first h → IsInHand p h → ticks_published h + tick_count p < 2 ^ 62
+pub few_next : (first : Opening) (h : Journal) (p : Piece) → Conducted first h → IsInHand p h → ticks_published h + tick_count p < 2 ^ 62
 few_next first h p c next =
     let few = few_given first h c in
     let e = ap ticks_together (hand_is first h c) ∙ together_both (published_of h) (hand_of h) in
@@ -219,20 +205,28 @@ few_next first h p c next =
 
 -- ---- replies
 
-closing_few : (h : Journal) → At h → length (closed_tells h) ≤ 1
-closing_few h (going e is) = let n = ap (λ (rs : List Reply). length rs) e in omega arith
-closing_few h (to_finish e l w is) = let n = ap (λ (rs : List Reply). length rs) e in omega arith
-closing_few h (to_tell e l w p still is k) = let n = ap (λ (rs : List Reply). length rs) e in omega arith
-closing_few h (over e l w p still d is k) = let n = ap (λ (rs : List Reply). length rs) e in omega arith
+closing_few : (first : Opening) (h : Journal) → At first h → length (closed_tells h) ≤ 1
+closing_few first h (going e is) = let n = ap (λ (rs : List Reply). length rs) e in omega arith
+closing_few first h (to_finish e l w is) = let n = ap (λ (rs : List Reply). length rs) e in omega arith
+closing_few first h (to_tell e l w p still is k) = let n = ap (λ (rs : List Reply). length rs) e in omega arith
+closing_few first h (over e l w p still d is k) = let n = ap (λ (rs : List Reply). length rs) e in omega arith
 
-pub few_answered : (first : State) (h : Journal) → Conducted first h → length (answered_of h) < 2 ^ 62
-few_answered first h c =
+pub answered_by_lines : (first : Opening) (h : Journal) → Conducted first h → length (answered_of h) ≤ 64 * length (outcomes_of h) + 4 + reports_in (port_log h)
+answered_by_lines first h c =
     let all = (begun_modest first h c).1 in
-    let lines = few_lines first h c in
-    let closed = closing_few h (phase_is first h c) in
+    let closed = closing_few first h (phase_is first h c) in
     let same = ap (λ (rs : List Reply). length rs) (told_is first h c) in
-    let left = length-append (replies_in (outcomes_of h)) (closed_tells h) in
-    let right = length-append (without_reports (answered_of h)) (tells (left_of h)) in
+    let left = length-append (replies_after first.tells (outcomes_of h)) (closed_tells h) in
+    let front = length-append first.tells (flat_map (λ (o : Outcome). tells o.work) (outcomes_of h)) in
+    let greeted = (opened first h c).few in
+    let right = length-append (without_reports (answered_of h)) (tells (left_of first h)) in
     let apart = length_apart (answered_of h) in
-    let reports = few_reports first h c in
+    let reports = owes_few first h c in
     omega arith
+
+pub few_answered : (first : Opening) (h : Journal) → Conducted first h → length (answered_of h) < 2 ^ 62
+few_answered first h c =
+    let all = answered_by_lines first h c in
+    let lines = few_lines first h c in
+    let reports = few_asked first h c in
+    omega (arith, all, lines, reports)

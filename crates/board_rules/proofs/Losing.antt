@@ -8,7 +8,7 @@ use Rattle.feed_hold.specs.declared.Motion.TheVariants as motions
 use Rattle.plan_rules.specs.Plans.{Planned}
 use Rattle.line_geom.specs.declared.Block.{Block}
 use Rattle.planner_runs.specs.Runs.{ticks_left_in, ticks_left}
-use Rattle.run_rules.specs.declared.State.{State}
+use Rattle.board_rules.specs.Openings.{Opening}
 use Rattle.run_rules.specs.declared.machine.Machine.TheVariants.{Runs}
 use Rattle.run_rules.specs.Cuts.{ticks_for, ticks_asked_for, LosesJogsAlone}
 use Rattle.run_rules.specs.Finding.{Fate}
@@ -23,7 +23,7 @@ use Rattle.step_line.specs.Finishing.{ticks_together}
 use Rattle.step_line.specs.Pieces.{ticks_of}
 use Rattle.step_line.proofs.Finished.{together_both}
 use Rattle.board_rules.specs.Steps.{Journal, plan_of, motion_of, left_of, open_of, whole_of}
-use Rattle.board_rules.specs.Steps.Step.{at_port, began, did, made_end, evened, paused, became, cut, halted, closing, turned}
+use Rattle.board_rules.specs.Steps.Step.{began, did, cut}
 use Rattle.board_rules.specs.Cuts.{part_outcomes, part_given, part_plan}
 use Rattle.board_rules.specs.Turns.{has_blocks, has_jogged, machine_in, begins_in, starts_cycle}
 use Rattle.board_rules.specs.Conduct.{Conducted}
@@ -73,7 +73,7 @@ given_ticks h = ticks_together (part_given h)
 abbrev Loses : Journal → Type 0
 Loses h = LosesJogsAlone (given_ticks h) (part_outcomes h)
 
-all_given : (first : State) (h : Journal) → Conducted first h → left_of h ≡ [] → (part_plan h).blocks ≡ [] → Loses h
+all_given : (first : Opening) (h : Journal) → Conducted first h → left_of first h ≡ [] → (part_plan h).blocks ≡ [] → Loses h
 all_given first h c free empty =
     let given = flat_map ticks_of (part_given h) in
     let e : ticks_of_all (asked_in (part_outcomes h)) ≡ given =
@@ -95,28 +95,24 @@ starts_then false true true w d none = absurd cc
 starts_then false true false w d none = absurd cc
 starts_then false false dollar w d none = absurd cc
 
-none_queued : (first : State) (h : Journal) (o : Outcome) → Conducted first (began o ∷ h) → motion_of h ≡ motions.Idle → begins_with_dollar (open_of h) ≡ true → (plan_of h).blocks ≡ []
+none_queued : (first : Opening) (h : Journal) (o : Outcome) → Conducted first (began o ∷ h) → motion_of first h ≡ motions.Idle → begins_with_dollar (open_of h) ≡ true → (plan_of h).blocks ≡ []
 none_queued first h o c idle dollar =
-    no_blocks (plan_of h).blocks (λ some. starts_then (starts_cycle h) (whole_of h) (begins_with_dollar (open_of h)) c.0.whole dollar (c.0.starts (record { stands = idle; blocks = some })))
+    no_blocks (plan_of h).blocks (λ some. starts_then (starts_cycle first h) (whole_of h) (begins_with_dollar (open_of h)) c.0.whole dollar (c.0.starts (record { stands = idle; blocks = some })))
 
 -- before an accepted jog, nothing of the lines before is left to run, but of jogs
-before_jog : (first : State) (h : Journal) (o : Outcome) → Conducted first (began o ∷ h) → (m : Motion) → motion_of h ≡ m → begins_in m ≡ true → (machine_in m ≡ Runs → ⊥)
+before_jog : (first : Opening) (h : Journal) (o : Outcome) → Conducted first (began o ∷ h) → (m : Motion) → motion_of first h ≡ m → begins_in m ≡ true → (machine_in m ≡ Runs → ⊥)
     → begins_with_dollar (open_of h) ≡ true → (has_jogged h ≡ true → Loses h) → Loses h
 before_jog first h o c motions.Idle is begins other dollar jogs =
     all_given first h c.1 c.0.free (ap (λ (p : Planned). p.blocks) (calm_plan first h c.1 c.0.calm) ∙ none_queued first h o c is dollar)
 before_jog first h o c motions.Run is begins other dollar jogs = absurd (other refl)
 before_jog first h o c motions.Jog is begins other dollar jogs = jogs (jog_is_last first h c.1 is)
-before_jog first h o c motions.Alarm is begins other dollar jogs = absurd cc
-before_jog first h o c motions.Holding is begins other dollar jogs = absurd cc
-before_jog first h o c motions.Held is begins other dollar jogs = absurd cc
-before_jog first h o c motions.Cancelling is begins other dollar jogs = absurd cc
-before_jog first h o c motions.Stopping is begins other dollar jogs = absurd cc
+before_jog first h o c _ is begins other dollar jogs = absurd cc
 
-line_begins : (first : State) (h : Journal) (o : Outcome) → Conducted first (began o ∷ h) → Fate (machine_in (motion_of h)) (open_of h) o → jogged_behind o.kind (has_jogged h) ≡ true
+line_begins : (first : Opening) (h : Journal) (o : Outcome) → Conducted first (began o ∷ h) → Fate (machine_in (motion_of first h)) (open_of h) o → jogged_behind o.kind (has_jogged h) ≡ true
     → (has_jogged h ≡ true → Loses h) → LosesJogsAlone (given_ticks h) (part_outcomes h ++ o ∷ [])
 line_begins first h o c (fates.coded kind other) is jogs = absurd (let f = sym (ap (λ (k : Kind). jogged_behind k (has_jogged h)) kind) ∙ is in cc)
 line_begins first h o c (fates.a_jog kind other dollar still work) is jogs =
-    one_more (given_ticks h) (part_outcomes h) o (inl (ap is_jog kind)) (before_jog first h o c (motion_of h) refl c.0.begins other dollar jogs)
+    one_more (given_ticks h) (part_outcomes h) o (inl (ap is_jog kind)) (before_jog first h o c (motion_of first h) refl c.0.begins other dollar jogs)
 line_begins first h o c (fates.halted kind other still work) is jogs =
     one_more (given_ticks h) (part_outcomes h) o (inr (ap asks work)) (jogs (sym (ap (λ (k : Kind). jogged_behind k (has_jogged h)) kind) ∙ is))
 line_begins first h o c (fates.neither kind still none) is jogs =
@@ -126,16 +122,9 @@ more_given : (h : Journal) (ps : List Piece) → given_ticks h ≤ ticks_togethe
 more_given h ps = let e = together_both (part_given h) ps in omega (arith, e)
 
 -- where the last that was accepted of G-code and jogs is a jog, each tick that was not given since the last cut is a jog's
-pub jogs_alone : (first : State) (h : Journal) → Conducted first h → has_jogged h ≡ true → Loses h
+pub jogs_alone : (first : Opening) (h : Journal) → Conducted first h → has_jogged h ≡ true → Loses h
 jogs_alone first [] c is = tt
-jogs_alone first (at_port e ∷ h) c is = jogs_alone first h c.1 is
 jogs_alone first (began o ∷ h) c is = line_begins first h o c (fate_now first h o c.0) is (jogs_alone first h c.1)
 jogs_alone first (did a ps ∷ h) c is = more_is_kept (given_ticks h) (ticks_together (part_given h ++ ps)) (part_outcomes h) (more_given h ps) (jogs_alone first h c.1 is)
-jogs_alone first (made_end ∷ h) c is = jogs_alone first h c.1 is
-jogs_alone first (evened ∷ h) c is = jogs_alone first h c.1 is
-jogs_alone first (paused ∷ h) c is = jogs_alone first h c.1 is
-jogs_alone first (became call m ∷ h) c is = jogs_alone first h c.1 is
 jogs_alone first (cut k ∷ h) c is = tt
-jogs_alone first (halted ∷ h) c is = jogs_alone first h c.1 is
-jogs_alone first (closing ∷ h) c is = jogs_alone first h c.1 is
-jogs_alone first (turned t ∷ h) c is = jogs_alone first h c.1 is
+jogs_alone first (_ ∷ h) c is = jogs_alone first h c.1 is

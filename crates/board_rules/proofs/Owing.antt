@@ -4,11 +4,11 @@ use Rattle.status_report.specs.declared.Reply.{Reply}
 use Rattle.status_report.specs.declared.Reply.TheVariants as replies
 use Rattle.status_report.specs.declared.reports.Report.{Report}
 use Rattle.status_report.specs.Answering.{is_report, reports_among}
-use Rattle.run_rules.specs.declared.State.{State}
+use Rattle.board_rules.specs.Openings.{Opening}
 use Rattle.board_rules.specs.Ports.{asks_report, reports_in}
-use Rattle.board_rules.specs.Ports.PortStep.{took, found_empty, found_closed, found_free, answered, reported, no_reply_room, took_exec, took_ovr, published, no_piece_room, loaded}
+use Rattle.board_rules.specs.Ports.PortStep.{answered, reported, took_exec}
 use Rattle.board_rules.specs.Steps.{Journal, port_log, answered_of}
-use Rattle.board_rules.specs.Steps.Step.{at_port, began, did, made_end, evened, paused, became, cut, halted, closing, turned}
+use Rattle.board_rules.specs.Steps.Step.{at_port}
 use Rattle.board_rules.specs.Turns.{owes_report}
 use Rattle.board_rules.specs.Conduct.{Conducted}
 use Rattle.board_rules.proofs.Plain.{reports_on}
@@ -35,61 +35,23 @@ asked_more true true told n few = omega arith
 asked_more true false told n few = omega arith
 asked_more false owes told n few = few
 
-pub owes_few : (first : State) (h : Journal) → Conducted first h → Owes h
+pub owes_few : (first : Opening) (h : Journal) → Conducted first h → Owes h
 owes_few first [] c = omega arith
-owes_few first (at_port (took b) ∷ h) c = owes_few first h c.1
-owes_few first (at_port found_empty ∷ h) c = owes_few first h c.1
-owes_few first (at_port found_closed ∷ h) c = owes_few first h c.1
-owes_few first (at_port (found_free n) ∷ h) c = owes_few first h c.1
 owes_few first (at_port (answered r) ∷ h) c = on_answer h r c.0.plain (owes_few first h c.1)
 owes_few first (at_port (reported r) ∷ h) c = on_report h r c.0.owed (owes_few first h c.1)
-owes_few first (at_port no_reply_room ∷ h) c = owes_few first h c.1
 owes_few first (at_port (took_exec word) ∷ h) c = asked_more (asks_report word) (owes_report h) (reports_among (answered_of h)) (reports_in (port_log h)) (owes_few first h c.1)
-owes_few first (at_port (took_ovr word) ∷ h) c = owes_few first h c.1
-owes_few first (at_port (published p) ∷ h) c = owes_few first h c.1
-owes_few first (at_port (no_piece_room done) ∷ h) c = owes_few first h c.1
-owes_few first (at_port (loaded done) ∷ h) c = owes_few first h c.1
-owes_few first (began o ∷ h) c = owes_few first h c.1
-owes_few first (did a ps ∷ h) c = owes_few first h c.1
-owes_few first (made_end ∷ h) c = owes_few first h c.1
-owes_few first (evened ∷ h) c = owes_few first h c.1
-owes_few first (paused ∷ h) c = owes_few first h c.1
-owes_few first (became call m ∷ h) c = owes_few first h c.1
-owes_few first (cut k ∷ h) c = owes_few first h c.1
-owes_few first (halted ∷ h) c = owes_few first h c.1
-owes_few first (closing ∷ h) c = owes_few first h c.1
-owes_few first (turned t ∷ h) c = owes_few first h c.1
+owes_few first (_ ∷ h) c = owes_few first h c.1
 
 -- as many words that ask for a report as a port may give
 one_asked : (asks : Bool) (n : ℕ) → (asks ≡ true → n < 2 ^ 31) → n ≤ 2 ^ 31 → cond asks (n + 1) n ≤ 2 ^ 31
 one_asked true n few was = let f = few refl in omega arith
 one_asked false n few was = was
 
-few_asked : (first : State) (h : Journal) → Conducted first h → reports_in (port_log h) ≤ 2 ^ 31
+pub few_asked : (first : Opening) (h : Journal) → Conducted first h → reports_in (port_log h) ≤ 2 ^ 31
 few_asked first [] c = omega arith
-few_asked first (at_port (took b) ∷ h) c = few_asked first h c.1
-few_asked first (at_port found_empty ∷ h) c = few_asked first h c.1
-few_asked first (at_port found_closed ∷ h) c = few_asked first h c.1
-few_asked first (at_port (found_free n) ∷ h) c = few_asked first h c.1
-few_asked first (at_port (answered r) ∷ h) c = few_asked first h c.1
-few_asked first (at_port (reported r) ∷ h) c = few_asked first h c.1
-few_asked first (at_port no_reply_room ∷ h) c = few_asked first h c.1
 few_asked first (at_port (took_exec word) ∷ h) c = one_asked (asks_report word) (reports_in (port_log h)) c.0.few (few_asked first h c.1)
-few_asked first (at_port (took_ovr word) ∷ h) c = few_asked first h c.1
-few_asked first (at_port (published p) ∷ h) c = few_asked first h c.1
-few_asked first (at_port (no_piece_room done) ∷ h) c = few_asked first h c.1
-few_asked first (at_port (loaded done) ∷ h) c = few_asked first h c.1
-few_asked first (began o ∷ h) c = few_asked first h c.1
-few_asked first (did a ps ∷ h) c = few_asked first h c.1
-few_asked first (made_end ∷ h) c = few_asked first h c.1
-few_asked first (evened ∷ h) c = few_asked first h c.1
-few_asked first (paused ∷ h) c = few_asked first h c.1
-few_asked first (became call m ∷ h) c = few_asked first h c.1
-few_asked first (cut k ∷ h) c = few_asked first h c.1
-few_asked first (halted ∷ h) c = few_asked first h c.1
-few_asked first (closing ∷ h) c = few_asked first h c.1
-few_asked first (turned t ∷ h) c = few_asked first h c.1
+few_asked first (_ ∷ h) c = few_asked first h c.1
 
 -- so reports are few
-pub few_reports : (first : State) (h : Journal) → Conducted first h → reports_among (answered_of h) ≤ 2 ^ 31
+pub few_reports : (first : Opening) (h : Journal) → Conducted first h → reports_among (answered_of h) ≤ 2 ^ 31
 few_reports first h c = let o = owes_few first h c in let f = few_asked first h c in omega arith

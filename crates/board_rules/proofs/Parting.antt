@@ -10,21 +10,22 @@ use Rattle.planner_runs.specs.Runs.{Plans, IsStart, NeverResets, normal_override
 use Rattle.line_geom.specs.declared.Block.{Block}
 use Rattle.planner_runs.proofs.Runs.{goes_on, grows_by_override, keeps_on, fresh_starts, clears_behind}
 use Rattle.planner_runs.proofs.Ticks.{ticks_from_start}
-use Rattle.run_rules.specs.declared.State.{State}
+use Rattle.board_rules.specs.Openings.{Opening}
 use Rattle.run_rules.specs.Work.{Outcome, Task, asked_by_task, asks}
 use Rattle.run_rules.specs.Work.Task.{ask, normal}
 use Rattle.run_rules.specs.Told.{asked_in}
-use Rattle.plan_rules.specs.declared.Mode.TheVariants.{Go, Hold}
+use Rattle.plan_rules.specs.declared.Mode.TheVariants.{Go}
 use Rattle.step_line.specs.declared.Piece.{Piece}
 use Rattle.step_line.specs.declared.Record.{Record}
 use Rattle.step_line.specs.Asking.{Asked, ticks_of_one, ticks_of_all}
 use Rattle.step_line.specs.Asking.Asked.{a_move, a_mark, a_rest}
 use Rattle.step_line.specs.Pieces.{ticks_of}
-use Rattle.board_rules.specs.Ports.PortStep.{took, found_empty, found_closed, found_free, answered, reported, no_reply_room, took_exec, took_ovr, published, no_piece_room, loaded}
+use Rattle.board_rules.specs.Ports.PortStep.{answered}
 use Rattle.board_rules.specs.Steps.{Journal, plan_of, left_of, left_by, behind}
-use Rattle.board_rules.specs.Steps.Step.{at_port, began, did, made_end, evened, paused, became, cut, halted, closing, turned}
+use Rattle.board_rules.specs.Steps.Step.{at_port, began, did, made_end, evened, paused, cut, halted, closing}
 use Rattle.board_rules.specs.Cuts.{part_outcomes, part_actions, part_given, part_start, part_plan, has_halted}
 use Rattle.board_rules.specs.Conduct.{Conducted, MayDo, Gives}
+use Rattle.board_rules.proofs.Opening.{asks_telling}
 use Rattle.board_rules.proofs.Dropping.{asks_dropped}
 use Rattle.board_rules.proofs.Alarms.{Stage, stage_is, only_override, part_plan_is, calm_plan}
 use Rattle.board_rules.proofs.Keeping.{never_clears}
@@ -36,60 +37,47 @@ abbrev asked : Journal → List Task → List Asked
 asked h tasks = all_asked (part_actions h) ++ asks tasks
 
 -- a task less, which asks for what is done
-asked_by_next : (h : Journal) (a : Action) (t : Task) → left_of h ≡ t ∷ drop 1 (left_of h) → asked_by_task t ≡ asked_by a
-    → asked h (left_of h) ≡ all_asked (part_actions h ++ a ∷ []) ++ asks (drop 1 (left_of h))
-asked_by_next h a t next same =
+asked_by_next : (first : Opening) (h : Journal) (a : Action) (t : Task) → left_of first h ≡ t ∷ drop 1 (left_of first h) → asked_by_task t ≡ asked_by a
+    → asked h (left_of first h) ≡ all_asked (part_actions h ++ a ∷ []) ++ asks (drop 1 (left_of first h))
+asked_by_next first h a t next same =
     ap (asked h) next
-    ∙ ap (λ (xs : List Asked). all_asked (part_actions h) ++ (xs ++ asks (drop 1 (left_of h)))) same
-    ∙ sym (append_assoc (all_asked (part_actions h)) (asked_by a) (asks (drop 1 (left_of h))))
-    ∙ ap (λ (xs : List Asked). xs ++ asks (drop 1 (left_of h)))
+    ∙ ap (λ (xs : List Asked). all_asked (part_actions h) ++ (xs ++ asks (drop 1 (left_of first h)))) same
+    ∙ sym (append_assoc (all_asked (part_actions h)) (asked_by a) (asks (drop 1 (left_of first h))))
+    ∙ ap (λ (xs : List Asked). xs ++ asks (drop 1 (left_of first h)))
     (ap (λ (xs : List Asked). all_asked (part_actions h) ++ xs) (sym (append-nil (asked_by a))) ∙ sym (flat_map-append asked_by (part_actions h) (a ∷ [])))
 
 -- nothing is asked for by what is done
-asked_by_none : (h : Journal) (a : Action) → [] ≡ asked_by a → asked h (left_of h) ≡ all_asked (part_actions h ++ a ∷ []) ++ asks (left_of h)
-asked_by_none h a same =
-    ap (λ (xs : List Asked). xs ++ asks (left_of h))
+asked_by_none : (first : Opening) (h : Journal) (a : Action) → [] ≡ asked_by a → asked h (left_of first h) ≡ all_asked (part_actions h ++ a ∷ []) ++ asks (left_of first h)
+asked_by_none first h a same =
+    ap (λ (xs : List Asked). xs ++ asks (left_of first h))
     (sym (append-nil (all_asked (part_actions h))) ∙ ap (λ (xs : List Asked). all_asked (part_actions h) ++ xs) (same ∙ sym (append-nil (asked_by a)))
     ∙ sym (flat_map-append asked_by (part_actions h) (a ∷ [])))
 
-asked_behind : (h : Journal) (a : Action) → MayDo a h → asked h (left_of h) ≡ all_asked (part_actions h ++ a ∷ []) ++ asks (left_by a (left_of h))
-asked_behind h (Add m) may = asked_by_next h (Add m) (ask (a_move m)) may refl
-asked_behind h (Mark m) may = asked_by_next h (Mark m) (ask (a_mark m)) may.next refl
-asked_behind h Rest may = asked_by_next h Rest (ask a_rest) may.next refl
-asked_behind h (Take Go) may = asked_by_none h (Take Go) refl
-asked_behind h (Take Hold) may = asked_by_none h (Take Hold) refl
-asked_behind h (Override o) may = asked_by_none h (Override o) refl
-asked_behind h Clear may = absurd may
-asked_behind h Reset may = absurd may
+asked_behind : (first : Opening) (h : Journal) (a : Action) → MayDo first a h → asked h (left_of first h) ≡ all_asked (part_actions h ++ a ∷ []) ++ asks (left_by a (left_of first h))
+asked_behind first h (Add m) may = asked_by_next first h (Add m) (ask (a_move m)) may refl
+asked_behind first h (Mark m) may = asked_by_next first h (Mark m) (ask (a_mark m)) may.next refl
+asked_behind first h Rest may = asked_by_next first h Rest (ask a_rest) may.next refl
+asked_behind first h (Take Go) may = asked_by_none first h (Take Go) refl
+asked_behind first h Clear may = absurd may
+asked_behind first h Reset may = absurd may
+asked_behind first h e may = asked_by_none first h e refl
 
 -- what the lines since the last cut ask for is what was done since, and what is left to ask
-pub asked_is : (first : State) (h : Journal) → Conducted first h → asked_in (part_outcomes h) ≡ asked h (left_of h)
-asked_is first [] c = refl
-asked_is first (at_port (took b) ∷ h) c = asked_is first h c.1
-asked_is first (at_port found_empty ∷ h) c = asked_is first h c.1
-asked_is first (at_port found_closed ∷ h) c = asked_is first h c.1
-asked_is first (at_port (found_free n) ∷ h) c = asked_is first h c.1
+pub asked_is : (first : Opening) (h : Journal) → Conducted first h → asked_in (part_outcomes h) ≡ asked h (left_of first h)
+asked_is first [] c = sym (asks_telling first.tells)
 asked_is first (at_port (answered r) ∷ h) c = asked_is first h c.1 ∙ ap (asked h) c.0.next
-asked_is first (at_port (reported r) ∷ h) c = asked_is first h c.1
-asked_is first (at_port no_reply_room ∷ h) c = asked_is first h c.1
-asked_is first (at_port (took_exec word) ∷ h) c = asked_is first h c.1
-asked_is first (at_port (took_ovr word) ∷ h) c = asked_is first h c.1
-asked_is first (at_port (published p) ∷ h) c = asked_is first h c.1
-asked_is first (at_port (no_piece_room done) ∷ h) c = asked_is first h c.1
-asked_is first (at_port (loaded done) ∷ h) c = asked_is first h c.1
 asked_is first (began o ∷ h) c =
     flat_map-append (λ (o : Outcome). asks o.work) (part_outcomes h) (o ∷ [])
     ∙ ap (λ (a : List Asked). asked_in (part_outcomes h) ++ a) (append-nil (asks o.work))
     ∙ ap (λ (a : List Asked). a ++ asks o.work) (asked_is first h c.1 ∙ ap (asked h) c.0.free ∙ append-nil (all_asked (part_actions h)))
-asked_is first (did a ps ∷ h) c = asked_is first h c.1 ∙ asked_behind h a c.0.0
+asked_is first (did a ps ∷ h) c = asked_is first h c.1 ∙ asked_behind first h a c.0.0
 asked_is first (made_end ∷ h) c = asked_is first h c.1 ∙ ap (asked h) c.0.next
-asked_is first (evened ∷ h) c = asked_is first h c.1 ∙ asked_by_next h (Override normal_overrides) normal c.0.rests.next refl
+asked_is first (evened ∷ h) c = asked_is first h c.1 ∙ asked_by_next first h (Override normal_overrides) normal c.0.rests.next refl
 asked_is first (paused ∷ h) c = asked_is first h c.1 ∙ ap (asked h) c.0.rests.next
-asked_is first (became call m ∷ h) c = asked_is first h c.1
-asked_is first (cut k ∷ h) c = sym (asks_dropped (left_of h))
+asked_is first (cut k ∷ h) c = sym (asks_dropped (left_of first h))
 asked_is first (halted ∷ h) c = asked_is first h c.1 ∙ ap (asked h) c.0.next
 asked_is first (closing ∷ h) c = asked_is first h c.1 ∙ ap (asked h) c.0.free
-asked_is first (turned t ∷ h) c = asked_is first h c.1
+asked_is first (_ ∷ h) c = asked_is first h c.1
 
 -- ---- the planner's run since the last cut
 
@@ -107,34 +95,28 @@ override_gives h a ps gives (o, is, none) =
     let was : Gives (Override o) [] (plan_of h) = subst (λ (b : Action). Gives b [] (plan_of h)) is (subst (λ (qs : List Piece). Gives a qs (plan_of h)) none gives) in
     subst (λ (qs : List Piece). Gives a qs (part_plan h)) (sym none) (subst (λ (b : Action). Gives b [] (part_plan h)) (sym is) (was.0, refl))
 
-part_gives : (h : Journal) (a : Action) (ps : List Piece) → MayDo a h → Gives a ps (plan_of h) → Stage h → (was : Bool) → has_halted h ≡ was → Gives a ps (part_plan h)
-part_gives h a ps may gives stage true was = override_gives h a ps gives (only_override h a ps may gives stage was)
-part_gives h a ps may gives stage false none = same_gives h a ps none gives
+part_gives : (first : Opening) (h : Journal) (a : Action) (ps : List Piece) → MayDo first a h → Gives a ps (plan_of h) → Stage first h → (was : Bool) → has_halted h ≡ was → Gives a ps (part_plan h)
+part_gives first h a ps may gives stage true was = override_gives h a ps gives (only_override first h a ps may gives stage was)
+part_gives first h a ps may gives stage false none = same_gives h a ps none gives
 
-unreset : (first : State) (h : Journal) → Conducted first h → NeverResets (part_actions h)
+unreset : (first : Opening) (h : Journal) → Conducted first h → NeverResets (part_actions h)
 unreset first h c = keeps_on (part_actions h) (never_clears first h c)
 
-pub open_part : (first : State) (h : Journal) → Conducted first h → IsOpenPart h
+pub open_part : (first : Opening) (h : Journal) → Conducted first h → IsOpenPart h
 open_part first [] c = record { starts = fresh_starts; run = refl }
-open_part first (at_port e ∷ h) c = let p = open_part first h c.1 in record { starts = p.starts; run = p.run }
-open_part first (began o ∷ h) c = let p = open_part first h c.1 in record { starts = p.starts; run = p.run }
 open_part first (did a ps ∷ h) c =
     let p = open_part first h c.1 in
     record {
       starts = p.starts;
       run = goes_on most_blocks (part_start h) (part_plan h) (behind a ps (part_plan h)) (part_actions h) (a ∷ []) (part_given h) ps (unreset first h c.1) p.run
-          (part_gives h a ps c.0.0 c.0.1 (stage_is first h c.1) (has_halted h) refl);
+          (part_gives first h a ps c.0.0 c.0.1 (stage_is first h c.1) (has_halted h) refl);
     }
-open_part first (made_end ∷ h) c = let p = open_part first h c.1 in record { starts = p.starts; run = p.run }
 open_part first (evened ∷ h) c =
     let p = open_part first h c.1 in
     record {
       starts = p.starts;
       run = grows_by_override most_blocks (part_start h) (part_plan h) (part_actions h) (part_given h) normal_overrides (unreset first h c.1) p.run c.0.replans.0;
     }
-open_part first (paused ∷ h) c = let p = open_part first h c.1 in record { starts = p.starts; run = p.run }
-open_part first (halted ∷ h) c = let p = open_part first h c.1 in record { starts = p.starts; run = p.run }
-open_part first (became call m ∷ h) c = let p = open_part first h c.1 in record { starts = p.starts; run = p.run }
 open_part first (cut k ∷ h) c =
     let p = open_part first h c.1 in
     let same = calm_plan first h c.1 c.0.calm in
@@ -142,23 +124,22 @@ open_part first (cut k ∷ h) c =
       starts = subst (λ (q : Planned). IsStart (cleared q)) same (clears_behind most_blocks (part_start h) (part_plan h) (part_actions h) (part_given h) p.starts p.run);
       run = ap cleared same;
     }
-open_part first (closing ∷ h) c = let p = open_part first h c.1 in record { starts = p.starts; run = p.run }
-open_part first (turned t ∷ h) c = let p = open_part first h c.1 in record { starts = p.starts; run = p.run }
+open_part first (_ ∷ h) c = let p = open_part first h c.1 in record { starts = p.starts; run = p.run }
 
 -- the ticks that the lines since the last cut ask for were given, or are left in that plan, or to ask
-pub part_ticks : (first : State) (h : Journal) → Conducted first h
-    → ticks_of_all (asked_in (part_outcomes h)) ≡ flat_map ticks_of (part_given h) ++ (ticks_left (part_plan h) ++ ticks_of_all (asks (left_of h)))
+pub part_ticks : (first : Opening) (h : Journal) → Conducted first h
+    → ticks_of_all (asked_in (part_outcomes h)) ≡ flat_map ticks_of (part_given h) ++ (ticks_left (part_plan h) ++ ticks_of_all (asks (left_of first h)))
 part_ticks first h c =
     let p = open_part first h c in
     let done : ticks_of_all (all_asked (part_actions h)) ≡ flat_map ticks_of (part_given h) ++ ticks_left (part_plan h) =
     ticks_from_start most_blocks (part_start h) (part_plan h) (part_actions h) (part_given h) p.starts (never_clears first h c) p.run in
     ap ticks_of_all (asked_is first h c)
-    ∙ flat_map-append ticks_of_one (all_asked (part_actions h)) (asks (left_of h))
-    ∙ ap (λ (rs : List Record). rs ++ ticks_of_all (asks (left_of h))) done
-    ∙ append_assoc (flat_map ticks_of (part_given h)) (ticks_left (part_plan h)) (ticks_of_all (asks (left_of h)))
+    ∙ flat_map-append ticks_of_one (all_asked (part_actions h)) (asks (left_of first h))
+    ∙ ap (λ (rs : List Record). rs ++ ticks_of_all (asks (left_of first h))) done
+    ∙ append_assoc (flat_map ticks_of (part_given h)) (ticks_left (part_plan h)) (ticks_of_all (asks (left_of first h)))
 
 -- where nothing is left to ask or to run, they were all given
-pub last_part : (first : State) (h : Journal) → Conducted first h → asks (left_of h) ≡ [] → (part_plan h).blocks ≡ [] → ticks_of_all (asked_in (part_outcomes h)) ≡ flat_map ticks_of (part_given h)
+pub last_part : (first : Opening) (h : Journal) → Conducted first h → asks (left_of first h) ≡ [] → (part_plan h).blocks ≡ [] → ticks_of_all (asked_in (part_outcomes h)) ≡ flat_map ticks_of (part_given h)
 last_part first h c free empty =
     let given = flat_map ticks_of (part_given h) in
     part_ticks first h c

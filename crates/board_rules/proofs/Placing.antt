@@ -4,7 +4,6 @@ use Rattle.std.specs.List.{flat_map, All}
 use Rattle.std.proofs.lemmas.List.Elements.{All-head}
 use Rattle.std.proofs.lemmas.Bool.Decides.{nat_tests}
 use Rattle.units.specs.declared.Steps3.{Steps3}
-use Rattle.modal_state.specs.declared.Parser.{Parser}
 use Rattle.step_line.specs.declared.Segment.{Segment}
 use Rattle.step_line.specs.declared.Mark.TheVariants as marks
 use Rattle.step_line.specs.declared.Piece.{Piece}
@@ -26,14 +25,14 @@ use Rattle.planner_runs.specs.declared.Action.{Action}
 use Rattle.planner_runs.specs.declared.Action.TheVariants.{Add, Take, Override, Mark, Rest, Clear, Reset}
 use Rattle.planner_runs.specs.Runs.{most_blocks, fresh_plan, block_of}
 use Rattle.planner_runs.proofs.Runs.{reached_from, fresh_starts}
-use Rattle.flight.specs.Places.{moved_by, origin, machine_at, end_of}
+use Rattle.flight.specs.Places.{moved_by, machine_from, end_from}
 use Rattle.flight.specs.Flights.{BeginsAt, Join}
-use Rattle.flight.proofs.Places.{moved_on, end_on, ends, in_segment}
+use Rattle.flight.proofs.Places.{moved_on, end_on_from, ends_from, in_segment_from}
 use Rattle.flight.proofs.Flying.{joined_on}
-use Rattle.run_rules.specs.declared.State.{State}
-use Rattle.run_rules.specs.States.{IsOpening}
-use Rattle.run_rules.specs.Work.{Task, asks_move}
-use Rattle.run_rules.specs.Work.Task.{ask, tell, pause, normal, finish, halt}
+use Rattle.run_rules.specs.Work.{Task, asks_move, telling}
+use Rattle.run_rules.specs.Work.Task.{ask, tell, pause, normal, finish}
+use Rattle.board_rules.specs.Openings.{Opening, IsPlaced}
+use Rattle.status_report.specs.declared.Reply.{Reply}
 use Rattle.board_rules.specs.Ports.{PortStep}
 use Rattle.board_rules.specs.Ports.PortStep.{answered}
 use Rattle.board_rules.specs.Steps.{Step, Journal, actions_of, given_of, planned_of, published_of, hand_of, plan_of, left_of as tasks_left, without_asks, before_of, open_of}
@@ -80,7 +79,7 @@ segment_moves p (b ∷ bs) mode s from to e is next lead =
     let there : place_after s.mv (s.first + s.n) ≡ place_after b.mv (b.prepared + s.n) = cc in
     (lead.0 ∙ sym here, blocks_start (place_after s.mv (s.first + s.n)) (place_after b.mv (b.prepared + s.n)) (moved s.n (b ∷ bs)) to there (blocks_moved b bs s.n to block lead.1 (nat_eq s.n (left_of b)) refl))
 
-reached : (first : State) (h : Journal) → Conducted first h → IsReached (plan_of h)
+reached : (first : Opening) (h : Journal) → Conducted first h → IsReached (plan_of h)
 reached first h c = reached_from most_blocks fresh_plan (plan_of h) (actions_of h) (planned_of h) fresh_starts (run_is first h c)
 
 -- ---- a board that keeps to its rules
@@ -90,94 +89,85 @@ abbrev pub goal_by : Action → Steps3 → Steps3
 goal_by (Add m) at = m.mv.to
 goal_by a at = at
 
-abbrev pub goal_of : Journal → Steps3
-goal_of [] = origin
-goal_of (did a ps ∷ h) = goal_by a (goal_of h)
-goal_of (cut k ∷ h) = end_of (given_of h)
-goal_of (s ∷ h) = goal_of h
+abbrev pub goal_of : Opening → Journal → Steps3
+goal_of first [] = first.place
+goal_of first (did a ps ∷ h) = goal_by a (goal_of first h)
+goal_of first (cut k ∷ h) = end_from first.place (given_of h)
+goal_of first (s ∷ h) = goal_of first h
 
 -- the position behind the lines that were begun
-abbrev position_of : State → Journal → Steps3
+abbrev position_of : Opening → Journal → Steps3
 position_of first h = (before_of first h).state.parser.pos_steps
 
--- The pieces that were given join from the origin on, the blocks from where these lead, and the tasks that are left from
+-- The pieces that were given join from the opening's place on, the blocks from where these lead, and the tasks that are left from
 -- where the blocks do, to the position behind the lines.
-pub record JournalLeads (first : State) (h : Journal) : Type 0 where
-  pub given : Join origin (given_of h)
-  pub blocks : BlocksLead (end_of (given_of h)) (plan_of h).blocks (goal_of h)
-  pub tasks : TasksLead (goal_of h) (tasks_left h) (position_of first h)
+pub record JournalLeads (first : Opening) (h : Journal) : Type 0 where
+  pub given : Join first.place (given_of h)
+  pub blocks : BlocksLead (end_from first.place (given_of h)) (plan_of h).blocks (goal_of first h)
+  pub tasks : TasksLead (goal_of first h) (tasks_left first h) (position_of first h)
 
 -- a task less, which asks for no move
 pop_leads : (from to : Steps3) (ts : List Task) (t : Task) → ts ≡ t ∷ drop 1 ts → asks_move t ≡ false → TasksLead from ts to → TasksLead from (drop 1 ts) to
 pop_leads from to ts (ask (a_move m)) next none lead = absurd cc
-pop_leads from to ts (ask (a_mark m)) next none lead = subst (λ (ts : List Task). TasksLead from ts to) next lead
-pop_leads from to ts (ask a_rest) next none lead = subst (λ (ts : List Task). TasksLead from ts to) next lead
-pop_leads from to ts (tell r) next none lead = subst (λ (ts : List Task). TasksLead from ts to) next lead
-pop_leads from to ts pause next none lead = subst (λ (ts : List Task). TasksLead from ts to) next lead
-pop_leads from to ts normal next none lead = subst (λ (ts : List Task). TasksLead from ts to) next lead
-pop_leads from to ts finish next none lead = subst (λ (ts : List Task). TasksLead from ts to) next lead
-pop_leads from to ts halt next none lead = subst (λ (ts : List Task). TasksLead from ts to) next lead
+pop_leads from to ts _ next none lead = subst (λ (ts : List Task). TasksLead from ts to) next lead
 
-popped : (first : State) (h : Journal) (t : Task) → tasks_left h ≡ t ∷ drop 1 (tasks_left h) → asks_move t ≡ false → JournalLeads first h
-    → TasksLead (goal_of h) (drop 1 (tasks_left h)) (position_of first h)
-popped first h t next none j = pop_leads (goal_of h) (position_of first h) (tasks_left h) t next none j.tasks
+popped : (first : Opening) (h : Journal) (t : Task) → tasks_left first h ≡ t ∷ drop 1 (tasks_left first h) → asks_move t ≡ false → JournalLeads first h
+    → TasksLead (goal_of first h) (drop 1 (tasks_left first h)) (position_of first h)
+popped first h t next none j = pop_leads (goal_of first h) (position_of first h) (tasks_left first h) t next none j.tasks
 
 -- where nothing is left to do, the moves lead to the position
-all_done : (first : State) (h : Journal) → tasks_left h ≡ [] → JournalLeads first h → goal_of h ≡ position_of first h
-all_done first h free j = subst (λ (ts : List Task). TasksLead (goal_of h) ts (position_of first h)) free j.tasks
+all_done : (first : Opening) (h : Journal) → tasks_left first h ≡ [] → JournalLeads first h → goal_of first h ≡ position_of first h
+all_done first h free j = subst (λ (ts : List Task). TasksLead (goal_of first h) ts (position_of first h)) free j.tasks
 
 -- a step that gives nothing, and adds no move
-keeps : (first : State) (h : Journal) (s : Step) → given_of (s ∷ h) ≡ given_of h → (plan_of (s ∷ h)).blocks ≡ (plan_of h).blocks → goal_of (s ∷ h) ≡ goal_of h
-    → TasksLead (goal_of h) (tasks_left (s ∷ h)) (position_of first (s ∷ h)) → JournalLeads first h → JournalLeads first (s ∷ h)
+keeps : (first : Opening) (h : Journal) (s : Step) → given_of (s ∷ h) ≡ given_of h → (plan_of (s ∷ h)).blocks ≡ (plan_of h).blocks → goal_of first (s ∷ h) ≡ goal_of first h
+    → TasksLead (goal_of first h) (tasks_left first (s ∷ h)) (position_of first (s ∷ h)) → JournalLeads first h → JournalLeads first (s ∷ h)
 keeps first h s given blocks goal tasks j = record {
-  given = subst (Join origin) (sym given) j.given;
-  blocks = subst (λ (ps : List Piece). BlocksLead (end_of ps) (plan_of (s ∷ h)).blocks (goal_of (s ∷ h))) (sym given)
-      (subst (λ (bs : List Block). BlocksLead (end_of (given_of h)) bs (goal_of (s ∷ h))) (sym blocks) (subst (λ (to : Steps3). BlocksLead (end_of (given_of h)) (plan_of h).blocks to) (sym goal) j.blocks));
-  tasks = subst (λ (from : Steps3). TasksLead from (tasks_left (s ∷ h)) (position_of first (s ∷ h))) (sym goal) tasks;
+  given = subst (Join first.place) (sym given) j.given;
+  blocks = subst (λ (ps : List Piece). BlocksLead (end_from first.place ps) (plan_of (s ∷ h)).blocks (goal_of first (s ∷ h))) (sym given)
+      (subst (λ (bs : List Block). BlocksLead (end_from first.place (given_of h)) bs (goal_of first (s ∷ h))) (sym blocks) (subst (λ (to : Steps3). BlocksLead (end_from first.place (given_of h)) (plan_of h).blocks to) (sym goal) j.blocks));
+  tasks = subst (λ (from : Steps3). TasksLead from (tasks_left first (s ∷ h)) (position_of first (s ∷ h))) (sym goal) tasks;
 }
 
 -- a step that gives one piece, which begins where those before it lead
-gives : (first : State) (h : Journal) (s : Step) (p : Piece) (bs : List Block) → given_of (s ∷ h) ≡ given_of h ++ p ∷ [] → BeginsAt (end_of (given_of h)) p
-    → (plan_of (s ∷ h)).blocks ≡ bs → BlocksLead (end_of (given_of h ++ p ∷ [])) bs (goal_of (s ∷ h)) → TasksLead (goal_of (s ∷ h)) (tasks_left (s ∷ h)) (position_of first (s ∷ h))
+gives : (first : Opening) (h : Journal) (s : Step) (p : Piece) (bs : List Block) → given_of (s ∷ h) ≡ given_of h ++ p ∷ [] → BeginsAt (end_from first.place (given_of h)) p
+    → (plan_of (s ∷ h)).blocks ≡ bs → BlocksLead (end_from first.place (given_of h ++ p ∷ [])) bs (goal_of first (s ∷ h)) → TasksLead (goal_of first (s ∷ h)) (tasks_left first (s ∷ h)) (position_of first (s ∷ h))
     → JournalLeads first h → JournalLeads first (s ∷ h)
 gives first h s p bs given begins blocks lead tasks j = record {
-  given = subst (Join origin) (sym given) (joined_on origin (given_of h) p j.given begins);
-  blocks = subst (λ (ps : List Piece). BlocksLead (end_of ps) (plan_of (s ∷ h)).blocks (goal_of (s ∷ h))) (sym given)
-      (subst (λ (bs : List Block). BlocksLead (end_of (given_of h ++ p ∷ [])) bs (goal_of (s ∷ h))) (sym blocks) lead);
+  given = subst (Join first.place) (sym given) (joined_on first.place (given_of h) p j.given begins);
+  blocks = subst (λ (ps : List Piece). BlocksLead (end_from first.place ps) (plan_of (s ∷ h)).blocks (goal_of first (s ∷ h))) (sym given)
+      (subst (λ (bs : List Block). BlocksLead (end_from first.place (given_of h ++ p ∷ [])) bs (goal_of first (s ∷ h))) (sym blocks) lead);
   tasks = tasks;
 }
 
-on_add : (first : State) (h : Journal) (m : PlannedMove) → tasks_left h ≡ ask (a_move m) ∷ drop 1 (tasks_left h) → JournalLeads first h → JournalLeads first (did (Add m) [] ∷ h)
+on_add : (first : Opening) (h : Journal) (m : PlannedMove) → tasks_left first h ≡ ask (a_move m) ∷ drop 1 (tasks_left first h) → JournalLeads first h → JournalLeads first (did (Add m) [] ∷ h)
 on_add first h m next j =
-    let lead : TasksLead (goal_of h) (ask (a_move m) ∷ drop 1 (tasks_left h)) (position_of first h) =
-    subst (λ (ts : List Task). TasksLead (goal_of h) ts (position_of first h)) next j.tasks in
+    let lead : TasksLead (goal_of first h) (ask (a_move m) ∷ drop 1 (tasks_left first h)) (position_of first h) =
+    subst (λ (ts : List Task). TasksLead (goal_of first h) ts (position_of first h)) next j.tasks in
     let b = entered (plan_of h).blocks (block_of m) m.deviation in
     let same = sym (append-nil (given_of h)) in
     record {
-      given = subst (Join origin) same j.given;
-      blocks = subst (λ (ps : List Piece). BlocksLead (end_of ps) ((plan_of h).blocks ++ b ∷ []) m.mv.to) same
-          (blocks_on (end_of (given_of h)) (plan_of h).blocks b (goal_of h) j.blocks (sym lead.0 ∙ sym (at_start m.mv)));
+      given = subst (Join first.place) same j.given;
+      blocks = subst (λ (ps : List Piece). BlocksLead (end_from first.place ps) ((plan_of h).blocks ++ b ∷ []) m.mv.to) same
+          (blocks_on (end_from first.place (given_of h)) (plan_of h).blocks b (goal_of first h) j.blocks (sym lead.0 ∙ sym (at_start m.mv)));
       tasks = lead.1;
     }
 
-on_take : (first : State) (h : Journal) (mode : Mode) (s : Segment) → Conducted first h → IsTakenOf (plan_of h) (plan_of h).blocks mode s → JournalLeads first h
+on_take : (first : Opening) (h : Journal) (mode : Mode) (s : Segment) → Conducted first h → IsTakenOf (plan_of h) (plan_of h).blocks mode s → JournalLeads first h
     → JournalLeads first (did (Take mode) (pieces.Segment s ∷ []) ∷ h)
 on_take first h mode s c next j =
-    let moves = segment_moves (plan_of h) (plan_of h).blocks mode s (end_of (given_of h)) (goal_of h) refl (reached first h c) next j.blocks in
-    let there = ends (given_of h) s moves.0 in
+    let moves = segment_moves (plan_of h) (plan_of h).blocks mode s (end_from first.place (given_of h)) (goal_of first h) refl (reached first h c) next j.blocks in
+    let there = ends_from first.place (given_of h) s moves.0 in
     gives first h (did (Take mode) (pieces.Segment s ∷ [])) (pieces.Segment s) (moved s.n (plan_of h).blocks) refl moves.0 refl
-    (blocks_start (end_of (given_of h ++ pieces.Segment s ∷ [])) (place_after s.mv (s.first + s.n)) (moved s.n (plan_of h).blocks) (goal_of h) there moves.1) j.tasks j
+    (blocks_start (end_from first.place (given_of h ++ pieces.Segment s ∷ [])) (place_after s.mv (s.first + s.n)) (moved s.n (plan_of h).blocks) (goal_of first h) there moves.1) j.tasks j
 
-on_did : (first : State) (h : Journal) (a : Action) (ps : List Piece) → Conducted first h → MayDo a h → Gives a ps (plan_of h) → JournalLeads first h → JournalLeads first (did a ps ∷ h)
+on_did : (first : Opening) (h : Journal) (a : Action) (ps : List Piece) → Conducted first h → MayDo first a h → Gives a ps (plan_of h) → JournalLeads first h → JournalLeads first (did a ps ∷ h)
 on_did first h (Add m) [] c may run j = on_add first h m may j
-on_did first h (Add m) (p ∷ ps) c may run j = absurd run.1
 on_did first h (Override o) [] c may run j = keeps first h (did (Override o) []) (append-nil (given_of h)) refl refl j.tasks j
-on_did first h (Override o) (p ∷ ps) c may run j = absurd run.1
 on_did first h Rest [] c may run j = keeps first h (did Rest []) (append-nil (given_of h)) refl refl (popped first h (ask a_rest) may.next refl j) j
-on_did first h Rest (p ∷ ps) c may run j = absurd run.1
 on_did first h (Mark m) (pieces.Mark g ∷ []) c may run j =
     gives first h (did (Mark m) (pieces.Mark g ∷ [])) (pieces.Mark g) (plan_of h).blocks refl tt refl
-    (blocks_start (end_of (given_of h ++ pieces.Mark g ∷ [])) (end_of (given_of h)) (plan_of h).blocks (goal_of h) (end_on (given_of h) (pieces.Mark g)) j.blocks)
+    (blocks_start (end_from first.place (given_of h ++ pieces.Mark g ∷ [])) (end_from first.place (given_of h)) (plan_of h).blocks (goal_of first h) (end_on_from first.place (given_of h) (pieces.Mark g)) j.blocks)
     (popped first h (ask (a_mark m)) may.next refl j) j
 on_did first h (Mark m) (pieces.Mark g ∷ p ∷ ps) c may run j = absurd run.3
 on_did first h (Mark m) (pieces.Segment s ∷ ps) c may run j = absurd run
@@ -190,41 +180,43 @@ on_did first h (Take mode) (pieces.End ∷ ps) c may run j = absurd run
 on_did first h (Take mode) [] c may run j = absurd run
 on_did first h Clear ps c may run j = absurd may
 on_did first h Reset ps c may run j = absurd may
+on_did first h _ (p ∷ ps) c may run j = absurd run.1
 
 -- of what is done at the port only a reply that is answered is a task less
-on_port : (first : State) (h : Journal) (e : PortStep) → MayAtPort first e h → JournalLeads first h → JournalLeads first (at_port e ∷ h)
+on_port : (first : Opening) (h : Journal) (e : PortStep) → MayAtPort first e h → JournalLeads first h → JournalLeads first (at_port e ∷ h)
 on_port first h (answered r) may j = keeps first h (at_port (answered r)) refl refl refl (popped first h (tell r) may.next refl j) j
 on_port first h e may j = keeps first h (at_port e) refl refl refl j.tasks j
 
-on_end : (first : State) (h : Journal) → tasks_left h ≡ finish ∷ drop 1 (tasks_left h) → JournalLeads first h → JournalLeads first (made_end ∷ h)
+on_end : (first : Opening) (h : Journal) → tasks_left first h ≡ finish ∷ drop 1 (tasks_left first h) → JournalLeads first h → JournalLeads first (made_end ∷ h)
 on_end first h next j =
     gives first h made_end pieces.End (plan_of h).blocks refl tt refl
-    (blocks_start (end_of (given_of h ++ pieces.End ∷ [])) (end_of (given_of h)) (plan_of h).blocks (goal_of h) (end_on (given_of h) pieces.End) j.blocks)
+    (blocks_start (end_from first.place (given_of h ++ pieces.End ∷ [])) (end_from first.place (given_of h)) (plan_of h).blocks (goal_of first h) (end_on_from first.place (given_of h) pieces.End) j.blocks)
     (popped first h finish next refl j) j
 
 dropped_lead : (at : Steps3) (ts : List Task) → TasksLead at (without_asks ts) at
 dropped_lead at [] = refl
 dropped_lead at (ask a ∷ ts) = dropped_lead at ts
-dropped_lead at (tell r ∷ ts) = dropped_lead at ts
-dropped_lead at (pause ∷ ts) = dropped_lead at ts
-dropped_lead at (normal ∷ ts) = dropped_lead at ts
-dropped_lead at (finish ∷ ts) = dropped_lead at ts
-dropped_lead at (halt ∷ ts) = dropped_lead at ts
+dropped_lead at (_ ∷ ts) = dropped_lead at ts
 
 -- behind a cut the next line begins where the pieces lead that were given
-on_cut : (first : State) (h : Journal) (k : ℕ) → JournalLeads first h → JournalLeads first (cut k ∷ h)
+on_cut : (first : Opening) (h : Journal) (k : ℕ) → JournalLeads first h → JournalLeads first (cut k ∷ h)
 on_cut first h k j =
-    gives first h (cut k) (pieces.Mark (marks.Cut k)) [] refl tt refl (end_on (given_of h) (pieces.Mark (marks.Cut k))) (dropped_lead (end_of (given_of h)) (tasks_left h)) j
+    gives first h (cut k) (pieces.Mark (marks.Cut k)) [] refl tt refl (end_on_from first.place (given_of h) (pieces.Mark (marks.Cut k))) (dropped_lead (end_from first.place (given_of h)) (tasks_left first h)) j
 
-module _ (first : State) (opens : first.parser.pos_steps ≡ origin) where
+-- what greets moves nothing
+told_lead : (from to : Steps3) (rs : List Reply) → from ≡ to → TasksLead from (telling rs) to
+told_lead from to [] same = same
+told_lead from to (r ∷ rs) same = told_lead from to rs same
+
+module _ (first : Opening) (placed : IsPlaced first) where
   -- until the machine is halted
   pub journal_leads : (h : Journal) → Conducted first h → has_halted h ≡ false → JournalLeads first h
-  journal_leads [] c none = record { given = tt; blocks = refl; tasks = sym opens }
+  journal_leads [] c none = record { given = tt; blocks = refl; tasks = told_lead first.place (position_of first []) first.tells placed }
   journal_leads (at_port e ∷ h) c none = on_port first h e c.0 (journal_leads h c.1 none)
   journal_leads (began o ∷ h) c none =
       let j = journal_leads h c.1 none in
       keeps first h (began o) refl refl refl
-      (tasks_start (goal_of h) (position_of first h) o.work o.next.parser.pos_steps (all_done first h c.0.free j) (line_leads true (caused first h) (open_of h) o (becomes_caused first h o c.0))) j
+      (tasks_start (goal_of first h) (position_of first h) o.work o.next.parser.pos_steps (all_done first h c.0.free j) (line_leads true (caused first h) (open_of h) o (becomes_caused first h o c.0))) j
   journal_leads (did a ps ∷ h) c none = on_did first h a ps c.1 c.0.0 c.0.1 (journal_leads h c.1 none)
   journal_leads (made_end ∷ h) c none = on_end first h c.0.next (journal_leads h c.1 none)
   journal_leads (evened ∷ h) c none = let j = journal_leads h c.1 none in keeps first h evened refl refl refl (popped first h normal c.0.rests.next refl j) j
@@ -235,26 +227,19 @@ module _ (first : State) (opens : first.parser.pos_steps ≡ origin) where
   journal_leads (closing ∷ h) c none = let j = journal_leads h c.1 none in keeps first h closing refl refl refl (all_done first h c.0.free j) j
   journal_leads (turned t ∷ h) c none = let j = journal_leads h c.1 none in keeps first h (turned t) refl refl refl j.tasks j
 
-  did_joins : (h : Journal) (a : Action) (ps : List Piece) → Conducted first (did a ps ∷ h) → (was : Bool) → has_halted h ≡ was → Join origin (given_of h) → Join origin (given_of (did a ps ∷ h))
+  did_joins : (h : Journal) (a : Action) (ps : List Piece) → Conducted first (did a ps ∷ h) → (was : Bool) → has_halted h ≡ was → Join first.place (given_of h) → Join first.place (given_of (did a ps ∷ h))
   did_joins h a ps c true was joined =
-      let none = (only_override h a ps c.0.0 c.0.1 (stage_is first h c.1) was).2 in
-      subst (Join origin) (sym (append-nil (given_of h)) ∙ ap (λ (qs : List Piece). given_of h ++ qs) (sym none)) joined
+      let none = (only_override first h a ps c.0.0 c.0.1 (stage_is first h c.1) was).2 in
+      subst (Join first.place) (sym (append-nil (given_of h)) ∙ ap (λ (qs : List Piece). given_of h ++ qs) (sym none)) joined
   did_joins h a ps c false none joined = (journal_leads (did a ps ∷ h) c none).given
 
   -- behind a halt only the end is given
-  pub given_joins : (h : Journal) → Conducted first h → Join origin (given_of h)
+  pub given_joins : (h : Journal) → Conducted first h → Join first.place (given_of h)
   given_joins [] c = tt
-  given_joins (at_port e ∷ h) c = given_joins h c.1
-  given_joins (began o ∷ h) c = given_joins h c.1
   given_joins (did a ps ∷ h) c = did_joins h a ps c (has_halted h) refl (given_joins h c.1)
-  given_joins (made_end ∷ h) c = joined_on origin (given_of h) pieces.End (given_joins h c.1) tt
-  given_joins (evened ∷ h) c = given_joins h c.1
-  given_joins (paused ∷ h) c = given_joins h c.1
-  given_joins (became call m ∷ h) c = given_joins h c.1
-  given_joins (cut k ∷ h) c = joined_on origin (given_of h) (pieces.Mark (marks.Cut k)) (given_joins h c.1) tt
-  given_joins (halted ∷ h) c = given_joins h c.1
-  given_joins (closing ∷ h) c = given_joins h c.1
-  given_joins (turned t ∷ h) c = given_joins h c.1
+  given_joins (made_end ∷ h) c = joined_on first.place (given_of h) pieces.End (given_joins h c.1) tt
+  given_joins (cut k ∷ h) c = joined_on first.place (given_of h) (pieces.Mark (marks.Cut k)) (given_joins h c.1) tt
+  given_joins (_ ∷ h) c = given_joins h c.1
 
 -- ---- the pieces that are published
 
@@ -268,15 +253,15 @@ front : (from : Steps3) (early late : List Piece) → Join from (early ++ late) 
 front from [] late joined = tt
 front from (q ∷ early) late joined = (joined.0, front (moved_by from (ticks_of q)) early late joined.1)
 
-module _ (first : State) (h : Journal) (opens : IsOpening first) (c : Conducted first h) where
-  all_join : Join origin (published_of h ++ hand_of h)
-  all_join = subst (Join origin) (hand_is first h c) (given_joins first (ap (λ (p : Parser). p.pos_steps) opens.parser) h c)
+module _ (first : Opening) (h : Journal) (placed : IsPlaced first) (c : Conducted first h) where
+  all_join : Join first.place (published_of h ++ hand_of h)
+  all_join = subst (Join first.place) (hand_is first h c) (given_joins first placed h c)
 
-  pub next_begins : (p : Piece) → IsInHand p h → BeginsAt (end_of (published_of h)) p
-  next_begins p next = begins_there origin (published_of h) (drop 1 (hand_of h)) p (subst (λ (ps : List Piece). Join origin (published_of h ++ ps)) next all_join)
+  pub next_begins : (p : Piece) → IsInHand p h → BeginsAt (end_from first.place (published_of h)) p
+  next_begins p next = begins_there first.place (published_of h) (drop 1 (hand_of h)) p (subst (λ (ps : List Piece). Join first.place (published_of h ++ ps)) next all_join)
 
   pub within_segment : (early late : List Piece) (s : Segment) (j : ℕ) → published_of h ≡ early ++ pieces.Segment s ∷ late → j ≤ s.n
-      → machine_at (published_of h) (ticks_together early + j) ≡ place_after s.mv (s.first + j)
+      → machine_from first.place (published_of h) (ticks_together early + j) ≡ place_after s.mv (s.first + j)
   within_segment early late s j is few =
-      let joined : Join origin (early ++ pieces.Segment s ∷ late) = subst (Join origin) is (front origin (published_of h) (hand_of h) all_join) in
-      ap (λ (ps : List Piece). machine_at ps (ticks_together early + j)) is ∙ in_segment early late s j (begins_there origin early late (pieces.Segment s) joined) few
+      let joined : Join first.place (early ++ pieces.Segment s ∷ late) = subst (Join first.place) is (front first.place (published_of h) (hand_of h) all_join) in
+      ap (λ (ps : List Piece). machine_from first.place ps (ticks_together early + j)) is ∙ in_segment_from first.place early late s j (begins_there first.place early late (pieces.Segment s) joined) few

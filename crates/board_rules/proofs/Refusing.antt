@@ -2,13 +2,13 @@
 use Rattle.std.proofs.Common.{◌≡◌, ◌≢◌, ℕ, ◌≤◌, ◌<◌, ◌⊎◌, inl, inr, List, [], ◌∷◌, ◌++◌, Bool, true, false, nat_lt, refl, sym, ap, ◌∙◌, append-nil, arith}
 use Rattle.std.proofs.lemmas.Bool.Decides.{nat_tests}
 use Rattle.feed_hold.specs.declared.Motion.{Motion}
-use Rattle.feed_hold.specs.declared.Motion.TheVariants.{Idle, Run, Holding, Held, Jog, Cancelling, Stopping, Alarm}
+use Rattle.feed_hold.specs.declared.Motion.TheVariants.{Run, Jog}
 use Rattle.line_geom.specs.declared.Block.{Block}
 use Rattle.planner_runs.specs.Runs.{fresh_plan, most_blocks}
 use Rattle.planner_runs.proofs.Runs.{fresh_starts, rests_behind}
 use Rattle.step_line.specs.declared.Piece.{Piece}
 use Rattle.step_line.specs.Finishing.{ticks_together}
-use Rattle.run_rules.specs.declared.State.{State}
+use Rattle.board_rules.specs.Openings.{Opening}
 use Rattle.run_rules.specs.Work.{Outcome}
 use Rattle.run_rules.specs.Outcomes.{Before, Becomes}
 use Rattle.run_rules.specs.Finding.{Found}
@@ -25,18 +25,13 @@ use Rattle.board_rules.proofs.Keeping.{run_is, hand_is}
 it_goes : (m : Motion) (b : Before) (kept : List ℕ) (o : Outcome) → Found (machine_in m) b kept o → (Becomes false b kept o → ⊥) → is_going m ≡ true
 it_goes Run b kept o found other = refl
 it_goes Jog b kept o found other = refl
-it_goes Idle b kept o found other = absurd (other (becomes_still b kept o found))
-it_goes Holding b kept o found other = absurd (other (becomes_still b kept o found))
-it_goes Held b kept o found other = absurd (other (becomes_still b kept o found))
-it_goes Cancelling b kept o found other = absurd (other (becomes_still b kept o found))
-it_goes Stopping b kept o found other = absurd (other (becomes_still b kept o found))
-it_goes Alarm b kept o found other = absurd (other (becomes_still b kept o found))
+it_goes _ b kept o found other = absurd (other (becomes_still b kept o found))
 
 no_blocks : (blocks : List Block) → has_blocks blocks ≡ false → blocks ≡ []
 no_blocks [] none = refl
 no_blocks (b ∷ blocks) none = absurd cc
 
-drained : (first : State) (h : Journal) → Conducted first h → (plan_of h).blocks ≡ [] → hand_of h ≡ [] → ticks_published h ≤ known_of h → IsDrained h
+drained : (first : Opening) (h : Journal) → Conducted first h → (plan_of h).blocks ≡ [] → hand_of h ≡ [] → ticks_published h ≤ known_of h → IsDrained h
 drained first h c none empty done =
     let same : given_of h ≡ published_of h = hand_is first h c ∙ ap (λ (ps : List Piece). published_of h ++ ps) empty ∙ append-nil (published_of h) in
     let all = ap ticks_together same in
@@ -48,7 +43,7 @@ drained first h c none empty done =
     }
 
 -- what is left where it is not drained
-what_is_left : (first : State) (h : Journal) → Conducted first h → (IsDrained h → ⊥)
+what_is_left : (first : Opening) (h : Journal) → Conducted first h → (IsDrained h → ⊥)
     → (known_of h < ticks_published h) ⊎ ((has_blocks (plan_of h).blocks ≡ true) ⊎ (hand_of h ≢ []))
 what_is_left first h c undrained = by_parts (nat_lt (known_of h) (ticks_published h)) (has_blocks (plan_of h).blocks) (hand_of h) refl refl refl
   where
@@ -59,9 +54,9 @@ what_is_left first h c undrained = by_parts (nat_lt (known_of h) (ticks_publishe
     by_parts false false (p ∷ ps) e f g = inr (inr (λ none. absurd (let same = sym g ∙ none in cc)))
     by_parts false false [] e f g = absurd (undrained (drained first h c (no_blocks (plan_of h).blocks f) g (grind (arith, nat_tests))))
 
-pub found_moving : (first : State) (h : Journal) (o : Outcome) → Conducted first (began o ∷ h) → (Becomes false (before_of first h) (open_of h) o → ⊥) → IsFoundMoving h
+pub found_moving : (first : Opening) (h : Journal) (o : Outcome) → Conducted first (began o ∷ h) → (Becomes false (before_of first h) (open_of h) o → ⊥) → IsFoundMoving first h
 found_moving first h o c other =
-    let goes = it_goes (motion_of h) (before_of first h) (open_of h) o c.0.becomes other in
+    let goes = it_goes (motion_of first h) (before_of first h) (open_of h) o c.0.becomes other in
     record {
       goes = goes;
       loaded = c.0.load;

@@ -10,12 +10,12 @@ use Rattle.gcode_check.specs.declared.Item.TheVariants as items
 use Rattle.step_line.specs.Counting.{events_of}
 use Rattle.step_line.specs.declared.Mark.TheVariants as marks
 use Rattle.step_line.specs.Asking.{Asked}
-use Rattle.step_line.specs.Asking.Asked.{a_move, a_mark, a_rest}
+use Rattle.step_line.specs.Asking.Asked.{a_mark, a_rest}
 use Rattle.status_report.specs.declared.Message.TheVariants as messages
 use Rattle.status_report.specs.declared.Reply.TheVariants as replies
 use Rattle.run_rules.specs.Asks.{spindle_mark, spindle_after, flood_after, spindle_off, coolant_off, item_work, work_of}
 use Rattle.run_rules.specs.Work.{Task, asking, has_moves, asks_move}
-use Rattle.run_rules.specs.Work.Task.{ask, tell, pause, normal, finish, halt}
+use Rattle.run_rules.specs.Work.Task.{ask, tell, normal}
 use Rattle.board_rules.specs.Whole.{has_work, comes_to_rest}
 
 abbrev answer : List Task
@@ -29,13 +29,7 @@ both false c is = refl
 before_rest : (xs ys : List Task) → comes_to_rest ys ≡ true → comes_to_rest (xs ++ ys) ≡ true
 before_rest [] ys is = is
 before_rest (ask a_rest ∷ xs) ys is = both (has_work (xs ++ ys)) (comes_to_rest (xs ++ ys)) (before_rest xs ys is)
-before_rest (ask (a_move m) ∷ xs) ys is = before_rest xs ys is
-before_rest (ask (a_mark m) ∷ xs) ys is = before_rest xs ys is
-before_rest (tell r ∷ xs) ys is = before_rest xs ys is
-before_rest (pause ∷ xs) ys is = before_rest xs ys is
-before_rest (normal ∷ xs) ys is = before_rest xs ys is
-before_rest (finish ∷ xs) ys is = before_rest xs ys is
-before_rest (halt ∷ xs) ys is = before_rest xs ys is
+before_rest (_ ∷ xs) ys is = before_rest xs ys is
 
 abbrev Rests : List Task → Type 0
 Rests ts = (comes_to_rest ts ≡ true) ⊎ (has_work ts ≡ false)
@@ -52,17 +46,14 @@ or_right false b none = none
 -- the last item settles
 last_settles : (line : ℕ) (s : Settings) (spindle : SpindleMode) (flood : Bool) (item : Item) → settling (item ∷ []) ≡ true
     → comes_to_rest (item_work line s spindle flood item ++ answer) ≡ true
-last_settles line s spindle flood (items.Spindle mode speed) is = refl
-last_settles line s spindle flood (items.Coolant on) is = refl
-last_settles line s spindle flood (items.Dwell ms) is = refl
 last_settles line s spindle flood (items.Move mv rate) is = absurd cc
-last_settles line s spindle flood items.Pause is = refl
 last_settles line s Off true items.ProgramEnd is = refl
 last_settles line s Off false items.ProgramEnd is = refl
 last_settles line s Cw true items.ProgramEnd is = refl
 last_settles line s Cw false items.ProgramEnd is = refl
 last_settles line s Ccw true items.ProgramEnd is = refl
 last_settles line s Ccw false items.ProgramEnd is = refl
+last_settles line s spindle flood _ is = refl
 
 pub settles : (line : ℕ) (s : Settings) (spindle : SpindleMode) (flood : Bool) (all : List Item) → settling all ≡ true
     → comes_to_rest (work_of line s spindle flood all ++ answer) ≡ true

@@ -3,7 +3,7 @@ use Rattle.std.proofs.Common.{◌≡◌, ℕ, zero, suc, ◌+◌, ◌-◌, ◌�
 use Rattle.std.specs.List.{sum}
 use Rattle.std.proofs.lemmas.Bool.Decides.{nat_tests}
 use Rattle.std.proofs.lemmas.List.{take_all}
-use Rattle.run_rules.specs.declared.State.{State}
+use Rattle.board_rules.specs.Openings.{Opening}
 use Rattle.run_rules.specs.declared.machine.Machine.{Machine}
 use Rattle.run_rules.specs.Cuts.{counts_asked, cut_to, with_cut}
 use Rattle.run_rules.specs.Finding.{Fate}
@@ -13,7 +13,7 @@ use Rattle.run_rules.specs.Reports.{settled_to, fewest, most}
 use Rattle.run_rules.specs.Work.{Outcome, Kind}
 use Rattle.step_line.specs.Finishing.{ticks_together}
 use Rattle.board_rules.specs.Steps.{Journal, outcomes_of, open_of, motion_of}
-use Rattle.board_rules.specs.Steps.Step.{at_port, began, did, made_end, evened, paused, became, cut, halted, closing, turned}
+use Rattle.board_rules.specs.Steps.Step.{began, cut, halted}
 use Rattle.board_rules.specs.Parts.{counts_in}
 use Rattle.board_rules.specs.Cuts.{part_outcomes, part_given, has_halted, parts_of, counts_of}
 use Rattle.board_rules.specs.Turns.{has_jogged, machine_in}
@@ -33,19 +33,10 @@ begun_stays m kept os o was (fates.a_jog kind other dollar still work) is = last
 begun_stays m kept os o was (fates.halted kind other still work) is = last_stays os o still
 begun_stays m kept os o was (fates.neither kind still none) is = last_stays os o still
 
-stays_is : (first : State) (h : Journal) → Conducted first h → has_jogged h ≡ true → LastStays (outcomes_of h)
+stays_is : (first : Opening) (h : Journal) → Conducted first h → has_jogged h ≡ true → LastStays (outcomes_of h)
 stays_is first [] c is = absurd cc
-stays_is first (at_port e ∷ h) c is = stays_is first h c.1 is
-stays_is first (began o ∷ h) c is = begun_stays (machine_in (motion_of h)) (open_of h) (outcomes_of h) o (has_jogged h) (fate_now first h o c.0) is
-stays_is first (did a ps ∷ h) c is = stays_is first h c.1 is
-stays_is first (made_end ∷ h) c is = stays_is first h c.1 is
-stays_is first (evened ∷ h) c is = stays_is first h c.1 is
-stays_is first (paused ∷ h) c is = stays_is first h c.1 is
-stays_is first (became call m ∷ h) c is = stays_is first h c.1 is
-stays_is first (cut k ∷ h) c is = stays_is first h c.1 is
-stays_is first (halted ∷ h) c is = stays_is first h c.1 is
-stays_is first (closing ∷ h) c is = stays_is first h c.1 is
-stays_is first (turned t ∷ h) c is = stays_is first h c.1 is
+stays_is first (began o ∷ h) c is = begun_stays (machine_in (motion_of first h)) (open_of h) (outcomes_of h) o (has_jogged h) (fate_now first h o c.0) is
+stays_is first (_ ∷ h) c is = stays_is first h c.1 is
 
 -- ---- fronts of two lists behind one another
 
@@ -106,59 +97,59 @@ no_less i m n xs ns false t given asked =
     let nothing : sum (take j ns) ≡ 0 = ap (λ (q : ℕ). sum (take q ns)) none in
     omega (arith, a, b, nothing, asked)
 
-behind_cut : (h : Journal) (k : ℕ) → has_halted h ≡ false → counts_of (cut k ∷ h) ≡ cut_counts (counts_in (parts_of h)) (ticks_together (part_given h)) (counts_asked (part_outcomes h))
-behind_cut h k none = plain_counts (cut k ∷ h) none ∙ append-nil (cut_counts (counts_in (parts_of h)) (ticks_together (part_given h)) (counts_asked (part_outcomes h)))
+behind_cut : (first : Opening) (h : Journal) (k : ℕ) → has_halted h ≡ false → counts_of first (cut k ∷ h) ≡ cut_counts (counts_in (parts_of first h)) (ticks_together (part_given h)) (counts_asked (part_outcomes h))
+behind_cut first h k none = plain_counts first (cut k ∷ h) none ∙ append-nil (cut_counts (counts_in (parts_of first h)) (ticks_together (part_given h)) (counts_asked (part_outcomes h)))
 
 -- up to a line that settles no more counts than before
-pub low_behind : (first : State) (h : Journal) (k : ℕ) → Conducted first (cut k ∷ h) → (n : ℕ) → fewest n (outcomes_of h) (counts_of (cut k ∷ h)) ≤ fewest n (outcomes_of h) (counts_of h)
+pub low_behind : (first : Opening) (h : Journal) (k : ℕ) → Conducted first (cut k ∷ h) → (n : ℕ) → fewest n (outcomes_of h) (counts_of first (cut k ∷ h)) ≤ fewest n (outcomes_of h) (counts_of first h)
 low_behind first h k c n =
     let s = settled_to (take n (outcomes_of h)) in
-    let A = counts_in (parts_of h) in
+    let A = counts_in (parts_of first h) in
     let B = counts_asked (part_outcomes h) in
     let none = unhalted first h c.1 c.0.calm in
-    let plain = ap (λ (ns : List ℕ). length ns) (plain_counts h none) in
+    let plain = ap (λ (ns : List ℕ). length ns) (plain_counts first h none) in
     let short = settled_short (outcomes_of h) (stays_is first h c.1 (cancel_is_jog first h c.1 c.0.cancelled)) n in
     let long = length_counts first h c.1 in
     let split = length-append A B in
     let some : 0 < length B = (let e = length_asked (part_outcomes h) in let f = cut_has_lines first h k c in omega (arith, e, f)) in
     let less = fewer s (ticks_together (part_given h)) A B (omega (arith, short, long, split, plain)) some in
-    let was : sum (take s (counts_of h)) ≡ sum (take s (A ++ B)) = ap (λ (ns : List ℕ). sum (take s ns)) (plain_counts h none) in
-    let now : sum (take s (counts_of (cut k ∷ h))) ≡ sum (take s (cut_counts A (ticks_together (part_given h)) B)) = ap (λ (ns : List ℕ). sum (take s ns)) (behind_cut h k none) in
+    let was : sum (take s (counts_of first h)) ≡ sum (take s (A ++ B)) = ap (λ (ns : List ℕ). sum (take s ns)) (plain_counts first h none) in
+    let now : sum (take s (counts_of first (cut k ∷ h))) ≡ sum (take s (cut_counts A (ticks_together (part_given h)) B)) = ap (λ (ns : List ℕ). sum (take s ns)) (behind_cut first h k none) in
     omega (arith, less, was, now)
 
 -- up to any line no less counts than what was given
-pub high_behind : (first : State) (h : Journal) (k : ℕ) → Conducted first (cut k ∷ h) → (i n : ℕ) → n ≤ ticks_given h → n ≤ most i (counts_of h) → n ≤ most i (counts_of (cut k ∷ h))
+pub high_behind : (first : Opening) (h : Journal) (k : ℕ) → Conducted first (cut k ∷ h) → (i n : ℕ) → n ≤ ticks_given h → n ≤ most i (counts_of first h) → n ≤ most i (counts_of first (cut k ∷ h))
 high_behind first h k c i n given asked =
-    let A = counts_in (parts_of h) in
+    let A = counts_in (parts_of first h) in
     let B = counts_asked (part_outcomes h) in
     let m = ticks_together (part_given h) in
     let all : ticks_given h ≡ sum A + m = (let e = closed_sum first h c.1 in let f = given_sum first h c.1 in omega (arith, e, f)) in
     let none = unhalted first h c.1 c.0.calm in
-    let was : most i (counts_of h) ≡ most i (A ++ B) = ap (most i) (plain_counts h none) in
-    let now : most i (counts_of (cut k ∷ h)) ≡ most i (cut_counts A m B) = ap (most i) (behind_cut h k none) in
+    let was : most i (counts_of first h) ≡ most i (A ++ B) = ap (most i) (plain_counts first h none) in
+    let now : most i (counts_of first (cut k ∷ h)) ≡ most i (cut_counts A m B) = ap (most i) (behind_cut first h k none) in
     let some = no_less (i + 1) m n A B (nat_le (length A) (i + 1)) refl (omega (arith, all, given)) (omega (arith, asked, was)) in
     let more = with_more (i + 1) A (cut_to m B) in
     omega (arith, some, more, now)
 
 -- ---- behind a halt
 
-pub halt_low : (first : State) (h : Journal) → Conducted first (halted ∷ h) → (n : ℕ) → fewest n (outcomes_of h) (counts_of (halted ∷ h)) ≤ fewest n (outcomes_of h) (counts_of h)
+pub halt_low : (first : Opening) (h : Journal) → Conducted first (halted ∷ h) → (n : ℕ) → fewest n (outcomes_of h) (counts_of first (halted ∷ h)) ≤ fewest n (outcomes_of h) (counts_of first h)
 halt_low first h c n =
     let s = settled_to (take n (outcomes_of h)) in
-    let A = counts_in (parts_of h) in
+    let A = counts_in (parts_of first h) in
     let B = counts_asked (part_outcomes h) in
     let m = ticks_together (part_given h) in
-    let was : sum (take s (counts_of h)) ≡ sum (take s (A ++ B)) = ap (λ (ns : List ℕ). sum (take s ns)) (plain_counts h (halted_once first h c)) in
+    let was : sum (take s (counts_of first h)) ≡ sum (take s (A ++ B)) = ap (λ (ns : List ℕ). sum (take s ns)) (plain_counts first h (halted_once first h c)) in
     let a = front_sum s A B in
     let b = front_sum s A (cut_to m B) in
     let d = front_cut (s - length A) m B in
     omega (arith, was, a, b, d)
 
-pub halt_high : (first : State) (h : Journal) → Conducted first (halted ∷ h) → (i n : ℕ) → n ≤ ticks_given h → n ≤ most i (counts_of h) → n ≤ most i (counts_of (halted ∷ h))
+pub halt_high : (first : Opening) (h : Journal) → Conducted first (halted ∷ h) → (i n : ℕ) → n ≤ ticks_given h → n ≤ most i (counts_of first h) → n ≤ most i (counts_of first (halted ∷ h))
 halt_high first h c i n given asked =
-    let A = counts_in (parts_of h) in
+    let A = counts_in (parts_of first h) in
     let B = counts_asked (part_outcomes h) in
     let m = ticks_together (part_given h) in
     let all : ticks_given h ≡ sum A + m = (let e = closed_sum first h c.1 in let f = given_sum first h c.1 in omega (arith, e, f)) in
-    let was : most i (counts_of h) ≡ most i (A ++ B) = ap (most i) (plain_counts h (halted_once first h c)) in
+    let was : most i (counts_of first h) ≡ most i (A ++ B) = ap (most i) (plain_counts first h (halted_once first h c)) in
     no_less (i + 1) m n A B (nat_le (length A) (i + 1)) refl (omega (arith, all, given)) (omega (arith, asked, was))

@@ -15,14 +15,14 @@ use Rattle.status_report.specs.declared.Reply.TheVariants.{Bye}
 use Rattle.step_line.specs.Asking.Asked.{a_move, a_mark, a_rest}
 use Rattle.step_line.specs.Finishing.{ticks_together}
 use Rattle.step_line.specs.declared.Piece.{Piece}
-use Rattle.run_rules.specs.declared.State.{State}
-use Rattle.run_rules.specs.Work.{Task, Outcome, is_alarm, halting_work}
+use Rattle.board_rules.specs.Openings.{Opening}
+use Rattle.run_rules.specs.Work.{Task, Outcome, is_limit, halting_work, telling}
 use Rattle.run_rules.specs.Work.Task.{ask, tell, pause, normal, finish, halt}
 use Rattle.run_rules.specs.Finding.{Found}
 use Rattle.board_rules.specs.Ports.{MayBeDone}
-use Rattle.board_rules.specs.Ports.PortStep.{took, found_empty, found_closed, found_free, answered, reported, no_reply_room, took_exec, took_ovr, published, no_piece_room, loaded}
-use Rattle.board_rules.specs.Steps.{Journal, port_log, has_alarmed, open_of, before_of, left_of, whole_of, closed_tells, known_of, given_of, hand_of, plan_of, motion_of, behind}
-use Rattle.board_rules.specs.Steps.Step.{at_port, began, did, made_end, evened, paused, became, cut, halted, closing, turned}
+use Rattle.board_rules.specs.Ports.PortStep.{took, answered, published, loaded}
+use Rattle.board_rules.specs.Steps.{Journal, port_log, has_limited, open_of, before_of, left_of, whole_of, closed_tells, known_of, given_of, hand_of, plan_of, motion_of, behind}
+use Rattle.board_rules.specs.Steps.Step.{at_port, began, did, made_end, evened, paused, became, cut, halted, closing}
 use Rattle.board_rules.specs.Turns.{begins_in, machine_in, is_going, is_limited, halts_next, stands_still}
 use Rattle.board_rules.specs.Conduct.{Conducted, Gives, IsDrained, IsNextTask, MayBegin, MayDo, MayHappen, MayTell, ticks_given}
 use Rattle.board_rules.proofs.Beginning.{caused, becomes_caused}
@@ -65,12 +65,7 @@ stays_limited now was call (inr how) is = reached_limited now was call how is
 alarm_reached : (now was : Motion) (call : Call) → Reached now call was → was ≡ Alarm → now ≡ Alarm
 alarm_reached Alarm was call how is = refl
 alarm_reached Stopping was call how is = absurd (let e = sym how.0 ∙ is in cc)
-alarm_reached Idle was call how is = absurd (let e = reached_limited Idle was call how (ap is_limited is) in cc)
-alarm_reached Run was call how is = absurd (let e = reached_limited Run was call how (ap is_limited is) in cc)
-alarm_reached Holding was call how is = absurd (let e = reached_limited Holding was call how (ap is_limited is) in cc)
-alarm_reached Held was call how is = absurd (let e = reached_limited Held was call how (ap is_limited is) in cc)
-alarm_reached Jog was call how is = absurd (let e = reached_limited Jog was call how (ap is_limited is) in cc)
-alarm_reached Cancelling was call how is = absurd (let e = reached_limited Cancelling was call how (ap is_limited is) in cc)
+alarm_reached step was call how is = absurd (let e = reached_limited step was call how (ap is_limited is) in cc)
 
 stays_alarm : (now was : Motion) (call : Call) → StaysOrReaches now call was → was ≡ Alarm → now ≡ Alarm
 stays_alarm now was call (inl same) is = same ∙ is
@@ -91,21 +86,15 @@ stays_calm now was call other (inr how) is = reached_calm now was call other how
 
 abbrev pub only_ends : List Task → Bool
 only_ends [] = true
-only_ends (ask a ∷ ts) = false
 only_ends (tell r ∷ ts) = only_ends ts
-only_ends (pause ∷ ts) = false
-only_ends (normal ∷ ts) = false
 only_ends (finish ∷ ts) = only_ends ts
-only_ends (halt ∷ ts) = false
+only_ends (_ ∷ ts) = false
 
 ends_behind : (ts : List Task) → only_ends ts ≡ true → only_ends (drop 1 ts) ≡ true
 ends_behind [] is = refl
-ends_behind (ask a ∷ ts) is = absurd cc
 ends_behind (tell r ∷ ts) is = is
-ends_behind (pause ∷ ts) is = absurd cc
-ends_behind (normal ∷ ts) is = absurd cc
 ends_behind (finish ∷ ts) is = is
-ends_behind (halt ∷ ts) is = absurd cc
+ends_behind (_ ∷ ts) is = absurd cc
 
 -- such a task is not among them
 not_of_end : {A : Type 0} (ts : List Task) (t : Task) → ts ≡ t ∷ drop 1 ts → only_ends (t ∷ drop 1 ts) ≡ false → only_ends ts ≡ true → A
@@ -118,63 +107,63 @@ not_halt ts t next other is = absurd (other (head_is ts t halt _ next is))
 
 -- No line has raised an alarm. One has, and the motion is not stopped for that yet; or it is, and the machine is to be halted.
 -- It was halted, and stands with nothing to run. The end is made.
-pub data Halting (h : Journal) : Type 0 where
-  calm : has_alarmed h ≡ false → is_limited (motion_of h) ≡ false → no_halts (left_of h) ≡ true → limit_pending h ≡ false → Halting h
-  pending : has_alarmed h ≡ true → limit_pending h ≡ true → left_of h ≡ halting_work → whole_of h ≡ false → (motion_of h ≡ Idle) ⊎ (motion_of h ≡ Run) → Halting h
-  to_halt : has_alarmed h ≡ true → limit_pending h ≡ false → left_of h ≡ halting_work → whole_of h ≡ false → is_limited (motion_of h) ≡ true → Halting h
-  to_tell : has_alarmed h ≡ true → limit_pending h ≡ false → only_ends (left_of h) ≡ true → whole_of h ≡ false → motion_of h ≡ Alarm → IsDrained h → Halting h
-  ended : has_alarmed h ≡ true → limit_pending h ≡ false → (left_of h ≡ tell Bye ∷ []) ⊎ ((left_of h ≡ []) × (hand_of h ≡ [])) → whole_of h ≡ false → motion_of h ≡ Alarm
-      → (closed_tells h ≡ [] → ⊥) → Halting h
+pub data Halting (first : Opening) (h : Journal) : Type 0 where
+  calm : has_limited h ≡ false → is_limited (motion_of first h) ≡ false → no_halts (left_of first h) ≡ true → limit_pending h ≡ false → Halting first h
+  pending : has_limited h ≡ true → limit_pending h ≡ true → left_of first h ≡ halting_work → whole_of h ≡ false → (motion_of first h ≡ Idle) ⊎ (motion_of first h ≡ Run) → Halting first h
+  to_halt : has_limited h ≡ true → limit_pending h ≡ false → left_of first h ≡ halting_work → whole_of h ≡ false → is_limited (motion_of first h) ≡ true → Halting first h
+  to_tell : has_limited h ≡ true → limit_pending h ≡ false → only_ends (left_of first h) ≡ true → whole_of h ≡ false → motion_of first h ≡ Alarm → IsDrained h → Halting first h
+  ended : has_limited h ≡ true → limit_pending h ≡ false → (left_of first h ≡ tell Bye ∷ []) ⊎ ((left_of first h ≡ []) × (hand_of h ≡ [])) → whole_of h ≡ false → motion_of first h ≡ Alarm
+      → (closed_tells h ≡ [] → ⊥) → Halting first h
 
 -- a step that changes nothing of that
-record StaysHalting (h next : Journal) : Type 0 where
-  alarmed : has_alarmed next ≡ has_alarmed h
+record StaysHalting (first : Opening) (h next : Journal) : Type 0 where
+  alarmed : has_limited next ≡ has_limited h
   limited : limit_pending next ≡ limit_pending h
-  left : left_of next ≡ left_of h
+  left : left_of first next ≡ left_of first h
   whole : whole_of next ≡ whole_of h
-  motion : motion_of next ≡ motion_of h
+  motion : motion_of first next ≡ motion_of first h
   hand : hand_of next ≡ hand_of h
   closed : closed_tells next ≡ closed_tells h
   drained : IsDrained h → IsDrained next
 
-on_same : (h next : Journal) → StaysHalting h next → Halting h → Halting next
-on_same h next s (calm a m l p) = calm (s.alarmed ∙ a) (ap is_limited s.motion ∙ m) (ap no_halts s.left ∙ l) (s.limited ∙ p)
-on_same h next s (pending a p l w m) = pending (s.alarmed ∙ a) (s.limited ∙ p) (s.left ∙ l) (s.whole ∙ w) (subst (λ (x : Motion). (x ≡ Idle) ⊎ (x ≡ Run)) (sym s.motion) m)
-on_same h next s (to_halt a p l w m) = to_halt (s.alarmed ∙ a) (s.limited ∙ p) (s.left ∙ l) (s.whole ∙ w) (ap is_limited s.motion ∙ m)
-on_same h next s (to_tell a p l w m d) = to_tell (s.alarmed ∙ a) (s.limited ∙ p) (ap only_ends s.left ∙ l) (s.whole ∙ w) (s.motion ∙ m) (s.drained d)
-on_same h next s (ended a p (inl l) w m e) = ended (s.alarmed ∙ a) (s.limited ∙ p) (inl (s.left ∙ l)) (s.whole ∙ w) (s.motion ∙ m) (λ none. e (sym s.closed ∙ none))
-on_same h next s (ended a p (inr (l, d)) w m e) = ended (s.alarmed ∙ a) (s.limited ∙ p) (inr (s.left ∙ l, s.hand ∙ d)) (s.whole ∙ w) (s.motion ∙ m) (λ none. e (sym s.closed ∙ none))
+on_same : (first : Opening) (h next : Journal) → StaysHalting first h next → Halting first h → Halting first next
+on_same first h next s (calm a m l p) = calm (s.alarmed ∙ a) (ap is_limited s.motion ∙ m) (ap no_halts s.left ∙ l) (s.limited ∙ p)
+on_same first h next s (pending a p l w m) = pending (s.alarmed ∙ a) (s.limited ∙ p) (s.left ∙ l) (s.whole ∙ w) (subst (λ (x : Motion). (x ≡ Idle) ⊎ (x ≡ Run)) (sym s.motion) m)
+on_same first h next s (to_halt a p l w m) = to_halt (s.alarmed ∙ a) (s.limited ∙ p) (s.left ∙ l) (s.whole ∙ w) (ap is_limited s.motion ∙ m)
+on_same first h next s (to_tell a p l w m d) = to_tell (s.alarmed ∙ a) (s.limited ∙ p) (ap only_ends s.left ∙ l) (s.whole ∙ w) (s.motion ∙ m) (s.drained d)
+on_same first h next s (ended a p (inl l) w m e) = ended (s.alarmed ∙ a) (s.limited ∙ p) (inl (s.left ∙ l)) (s.whole ∙ w) (s.motion ∙ m) (λ none. e (sym s.closed ∙ none))
+on_same first h next s (ended a p (inr (l, d)) w m e) = ended (s.alarmed ∙ a) (s.limited ∙ p) (inr (s.left ∙ l, s.hand ∙ d)) (s.whole ∙ w) (s.motion ∙ m) (λ none. e (sym s.closed ∙ none))
 
 -- ---- at the port
 
-on_took : (h : Journal) (b : ℕ) → has_alarmed h ≡ false → Halting h → Halting (at_port (took b) ∷ h)
-on_took h b none (calm a m l p) = calm a m l p
-on_took h b none (pending a p l w m) = opposite (has_alarmed h) a none
-on_took h b none (to_halt a p l w m) = opposite (has_alarmed h) a none
-on_took h b none (to_tell a p l w m d) = opposite (has_alarmed h) a none
-on_took h b none (ended a p l w m e) = opposite (has_alarmed h) a none
+on_took : (first : Opening) (h : Journal) (b : ℕ) → has_limited h ≡ false → Halting first h → Halting first (at_port (took b) ∷ h)
+on_took first h b none (calm a m l p) = calm a m l p
+on_took first h b none (pending a p l w m) = opposite (has_limited h) a none
+on_took first h b none (to_halt a p l w m) = opposite (has_limited h) a none
+on_took first h b none (to_tell a p l w m d) = opposite (has_limited h) a none
+on_took first h b none (ended a p l w m e) = opposite (has_limited h) a none
 
 same_reply : (r s : Reply) → tell r ≡ tell s → r ≡ s
 same_reply r s e = cc
 
-on_answer : (h : Journal) (r : Reply) → MayTell r h → Halting h → Halting (at_port (answered r) ∷ h)
-on_answer h r may (calm a m l p) = calm a m (no_halts_behind (left_of h) l) p
-on_answer h r may (pending a p l w m) = not_halt (left_of h) (tell r) may.next (λ e. absurd cc) l
-on_answer h r may (to_halt a p l w m) = not_halt (left_of h) (tell r) may.next (λ e. absurd cc) l
-on_answer h r may (to_tell a p l w m d) = to_tell a p (ends_behind (left_of h) l) w m (record { plan = d.plan; hand = d.hand; done = d.done })
-on_answer h r may (ended a p (inl l) w m e) =
-    ended a p (inr (ap (λ (ts : List Task). drop 1 ts) l, may.empty (same_reply r Bye (head_is (left_of h) (tell r) (tell Bye) [] may.next l)))) w m e
-on_answer h r may (ended a p (inr (l, d)) w m e) = absurd (none_next (left_of h) (tell r) l may.next)
+on_answer : (first : Opening) (h : Journal) (r : Reply) → MayTell first r h → Halting first h → Halting first (at_port (answered r) ∷ h)
+on_answer first h r may (calm a m l p) = calm a m (no_halts_behind (left_of first h) l) p
+on_answer first h r may (pending a p l w m) = not_halt (left_of first h) (tell r) may.next (λ e. absurd cc) l
+on_answer first h r may (to_halt a p l w m) = not_halt (left_of first h) (tell r) may.next (λ e. absurd cc) l
+on_answer first h r may (to_tell a p l w m d) = to_tell a p (ends_behind (left_of first h) l) w m (record { plan = d.plan; hand = d.hand; done = d.done })
+on_answer first h r may (ended a p (inl l) w m e) =
+    ended a p (inr (ap (λ (ts : List Task). drop 1 ts) l, may.empty (same_reply r Bye (head_is (left_of first h) (tell r) (tell Bye) [] may.next l)))) w m e
+on_answer first h r may (ended a p (inr (l, d)) w m e) = absurd (none_next (left_of first h) (tell r) l may.next)
 
-on_publish : (h : Journal) (p : Piece) → hand_of h ≡ p ∷ drop 1 (hand_of h) → Halting h → Halting (at_port (published p) ∷ h)
-on_publish h q next (calm a m l p) = calm a m l p
-on_publish h q next (pending a p l w m) = pending a p l w m
-on_publish h q next (to_halt a p l w m) = to_halt a p l w m
-on_publish h q next (to_tell a p l w m d) = absurd (none_next (hand_of h) q d.hand next)
-on_publish h q next (ended a p (inl l) w m e) = ended a p (inl l) w m e
-on_publish h q next (ended a p (inr (l, d)) w m e) = absurd (none_next (hand_of h) q d next)
+on_publish : (first : Opening) (h : Journal) (p : Piece) → hand_of h ≡ p ∷ drop 1 (hand_of h) → Halting first h → Halting first (at_port (published p) ∷ h)
+on_publish first h q next (calm a m l p) = calm a m l p
+on_publish first h q next (pending a p l w m) = pending a p l w m
+on_publish first h q next (to_halt a p l w m) = to_halt a p l w m
+on_publish first h q next (to_tell a p l w m d) = absurd (none_next (hand_of h) q d.hand next)
+on_publish first h q next (ended a p (inl l) w m e) = ended a p (inl l) w m e
+on_publish first h q next (ended a p (inr (l, d)) w m e) = absurd (none_next (hand_of h) q d next)
 
-on_load : (first : State) (h : Journal) (n : ℕ) → Conducted first h → MayBeDone n (port_log h) → Halting h → Halting (at_port (loaded n) ∷ h)
+on_load : (first : Opening) (h : Journal) (n : ℕ) → Conducted first h → MayBeDone n (port_log h) → Halting first h → Halting first (at_port (loaded n) ∷ h)
 on_load first h n c may (calm a m l p) = calm a m l p
 on_load first h n c may (pending a p l w m) = pending a p l w m
 on_load first h n c may (to_halt a p l w m) = to_halt a p l w m
@@ -190,40 +179,40 @@ not_jog Jog is other = absurd (other refl)
 not_jog m is other = absurd cc
 
 -- a line that raises an alarm finds the machine standing or running
-pub alarm_stands : (first : State) (h : Journal) (o : Outcome) → begins_in (motion_of h) ≡ true → Found (machine_in (motion_of h)) (before_of first h) (open_of h) o → is_alarm o.answer ≡ true → (motion_of h ≡ Idle) ⊎ (motion_of h ≡ Run)
-alarm_stands first h o begins found one = not_jog (motion_of h) begins (λ jog.
-    opposite (is_alarm o.answer) one (calm_in_jog (before_of first h) (open_of h) o (subst (λ (m : Motion). Found (machine_in m) (before_of first h) (open_of h) o) jog found)))
+pub alarm_stands : (first : Opening) (h : Journal) (o : Outcome) → begins_in (motion_of first h) ≡ true → Found (machine_in (motion_of first h)) (before_of first h) (open_of h) o → is_limit o.answer ≡ true → (motion_of first h ≡ Idle) ⊎ (motion_of first h ≡ Run)
+alarm_stands first h o begins found one = not_jog (motion_of first h) begins (λ jog.
+    opposite (is_limit o.answer) one (calm_in_jog (before_of first h) (open_of h) o (subst (λ (m : Motion). Found (machine_in m) (before_of first h) (open_of h) o) jog found)))
 
-on_line : (first : State) (h : Journal) (o : Outcome) → MayBegin first o h → HaltsOrNot o → Halting h → Halting (began o ∷ h)
+on_line : (first : Opening) (h : Journal) (o : Outcome) → MayBegin first o h → HaltsOrNot o → Halting first h → Halting first (began o ∷ h)
 on_line first h o may (inl (one, work)) (calm a m l p) = pending one (ap halts_next work) work refl (alarm_stands first h o may.begins may.becomes one)
 on_line first h o may (inr (none, work)) (calm a m l p) = calm none m work (none_halts_next o.work work)
-on_line first h o may how (pending a p l w m) = opposite (has_alarmed h) a may.calm
-on_line first h o may how (to_halt a p l w m) = opposite (has_alarmed h) a may.calm
-on_line first h o may how (to_tell a p l w m d) = opposite (has_alarmed h) a may.calm
-on_line first h o may how (ended a p l w m e) = opposite (has_alarmed h) a may.calm
+on_line first h o may how (pending a p l w m) = opposite (has_limited h) a may.calm
+on_line first h o may how (to_halt a p l w m) = opposite (has_limited h) a may.calm
+on_line first h o may how (to_tell a p l w m d) = opposite (has_limited h) a may.calm
+on_line first h o may how (ended a p l w m e) = opposite (has_limited h) a may.calm
 
 -- ---- the plan
 
 -- what is asked for comes before an alarm
-on_asked : (h next : Journal) (t : Task) → IsNextTask t h → (t ≡ halt → ⊥) → only_ends (t ∷ drop 1 (left_of h)) ≡ false → (t ≡ tell Bye → ⊥) → has_alarmed next ≡ has_alarmed h → left_of next ≡ drop 1 (left_of h)
-    → (is_limited (motion_of h) ≡ false → is_limited (motion_of next) ≡ false) → limit_pending next ≡ limit_pending h → Halting h → Halting next
-on_asked h next t is other none no_bye alarmed left motion same (calm a m l p) = calm (alarmed ∙ a) (motion m) (ap no_halts left ∙ no_halts_behind (left_of h) l) (same ∙ p)
-on_asked h next t is other none no_bye alarmed left motion same (pending a p l w m) = not_halt (left_of h) t is other l
-on_asked h next t is other none no_bye alarmed left motion same (to_halt a p l w m) = not_halt (left_of h) t is other l
-on_asked h next t is other none no_bye alarmed left motion same (to_tell a p l w m d) = not_of_end (left_of h) t is none l
-on_asked h next t is other none no_bye alarmed left motion same (ended a p (inl l) w m e) = absurd (no_bye (head_is (left_of h) t (tell Bye) [] is l))
-on_asked h next t is other none no_bye alarmed left motion same (ended a p (inr (l, d)) w m e) = absurd (none_next (left_of h) t l is)
+on_asked : (first : Opening) (h next : Journal) (t : Task) → IsNextTask first t h → (t ≡ halt → ⊥) → only_ends (t ∷ drop 1 (left_of first h)) ≡ false → (t ≡ tell Bye → ⊥) → has_limited next ≡ has_limited h → left_of first next ≡ drop 1 (left_of first h)
+    → (is_limited (motion_of first h) ≡ false → is_limited (motion_of first next) ≡ false) → limit_pending next ≡ limit_pending h → Halting first h → Halting first next
+on_asked first h next t is other none no_bye alarmed left motion same (calm a m l p) = calm (alarmed ∙ a) (motion m) (ap no_halts left ∙ no_halts_behind (left_of first h) l) (same ∙ p)
+on_asked first h next t is other none no_bye alarmed left motion same (pending a p l w m) = not_halt (left_of first h) t is other l
+on_asked first h next t is other none no_bye alarmed left motion same (to_halt a p l w m) = not_halt (left_of first h) t is other l
+on_asked first h next t is other none no_bye alarmed left motion same (to_tell a p l w m d) = not_of_end (left_of first h) t is none l
+on_asked first h next t is other none no_bye alarmed left motion same (ended a p (inl l) w m e) = absurd (no_bye (head_is (left_of first h) t (tell Bye) [] is l))
+on_asked first h next t is other none no_bye alarmed left motion same (ended a p (inr (l, d)) w m e) = absurd (none_next (left_of first h) t l is)
 
 -- no segment is taken of a machine that was halted
-on_take : (h next : Journal) → (motion_of h ≡ Alarm → ⊥) → has_alarmed next ≡ has_alarmed h → limit_pending next ≡ limit_pending h → left_of next ≡ left_of h → whole_of next ≡ whole_of h → motion_of next ≡ motion_of h → Halting h → Halting next
-on_take h next other alarmed same left whole motion (calm a m l p) = calm (alarmed ∙ a) (ap is_limited motion ∙ m) (ap no_halts left ∙ l) (same ∙ p)
-on_take h next other alarmed same left whole motion (pending a p l w m) = pending (alarmed ∙ a) (same ∙ p) (left ∙ l) (whole ∙ w) (subst (λ (x : Motion). (x ≡ Idle) ⊎ (x ≡ Run)) (sym motion) m)
-on_take h next other alarmed same left whole motion (to_halt a p l w m) = to_halt (alarmed ∙ a) (same ∙ p) (left ∙ l) (whole ∙ w) (ap is_limited motion ∙ m)
-on_take h next other alarmed same left whole motion (to_tell a p l w m d) = absurd (other m)
-on_take h next other alarmed same left whole motion (ended a p l w m e) = absurd (other m)
+on_take : (first : Opening) (h next : Journal) → (motion_of first h ≡ Alarm → ⊥) → has_limited next ≡ has_limited h → limit_pending next ≡ limit_pending h → left_of first next ≡ left_of first h → whole_of next ≡ whole_of h → motion_of first next ≡ motion_of first h → Halting first h → Halting first next
+on_take first h next other alarmed same left whole motion (calm a m l p) = calm (alarmed ∙ a) (ap is_limited motion ∙ m) (ap no_halts left ∙ l) (same ∙ p)
+on_take first h next other alarmed same left whole motion (pending a p l w m) = pending (alarmed ∙ a) (same ∙ p) (left ∙ l) (whole ∙ w) (subst (λ (x : Motion). (x ≡ Idle) ⊎ (x ≡ Run)) (sym motion) m)
+on_take first h next other alarmed same left whole motion (to_halt a p l w m) = to_halt (alarmed ∙ a) (same ∙ p) (left ∙ l) (whole ∙ w) (ap is_limited motion ∙ m)
+on_take first h next other alarmed same left whole motion (to_tell a p l w m d) = absurd (other m)
+on_take first h next other alarmed same left whole motion (ended a p l w m e) = absurd (other m)
 
-on_override : (h : Journal) (o : Overrides) (ps : List Piece) → ps ≡ [] → Halting h → Halting (did (Override o) ps ∷ h)
-on_override h o ps none = on_same h (did (Override o) ps ∷ h) (record {
+on_override : (first : Opening) (h : Journal) (o : Overrides) (ps : List Piece) → ps ≡ [] → Halting first h → Halting first (did (Override o) ps ∷ h)
+on_override first h o ps none = on_same first h (did (Override o) ps ∷ h) (record {
   alarmed = refl;
   limited = refl;
   left = refl;
@@ -241,23 +230,23 @@ on_override h o ps none = on_same h (did (Override o) ps ∷ h) (record {
     keeps : (qs : List Piece) → qs ++ ps ≡ qs
     keeps qs = ap (λ (rs : List Piece). qs ++ rs) none ∙ append-nil qs
 
-on_did : (h : Journal) (a : Action) (ps : List Piece) → MayDo a h → Gives a ps (plan_of h) → Halting h → Halting (did a ps ∷ h)
-on_did h (Add m) ps may gives = on_asked h (did (Add m) ps ∷ h) (ask (a_move m)) may (λ e. absurd cc) refl (λ e. absurd cc) refl refl (λ e. e) refl
-on_did h (Mark m) ps may gives = on_asked h (did (Mark m) ps ∷ h) (ask (a_mark m)) may.next (λ e. absurd cc) refl (λ e. absurd cc) refl refl (λ e. e) refl
-on_did h Rest ps may gives = on_asked h (did Rest ps ∷ h) (ask a_rest) may.next (λ e. absurd cc) refl (λ e. absurd cc) refl refl (λ e. e) refl
-on_did h (Take Go) ps may gives = on_take h (did (Take Go) ps ∷ h) (λ e. absurd (let f = sym (ap is_going e) ∙ may.goes in cc)) refl refl refl refl refl
-on_did h (Take Hold) ps may gives = on_take h (did (Take Hold) ps ∷ h) (λ e. absurd (let f = sym (ap is_stopping e) ∙ may.slows in cc)) refl refl refl refl refl
-on_did h (Override o) ps may gives = on_override h o ps (none_given most_blocks (behind (Override o) ps (plan_of h)) (behind (Override o) ps (plan_of h)) ps gives.1)
-on_did h Clear ps may gives = absurd may
-on_did h Reset ps may gives = absurd may
+on_did : (first : Opening) (h : Journal) (a : Action) (ps : List Piece) → MayDo first a h → Gives a ps (plan_of h) → Halting first h → Halting first (did a ps ∷ h)
+on_did first h (Add m) ps may gives = on_asked first h (did (Add m) ps ∷ h) (ask (a_move m)) may (λ e. absurd cc) refl (λ e. absurd cc) refl refl (λ e. e) refl
+on_did first h (Mark m) ps may gives = on_asked first h (did (Mark m) ps ∷ h) (ask (a_mark m)) may.next (λ e. absurd cc) refl (λ e. absurd cc) refl refl (λ e. e) refl
+on_did first h Rest ps may gives = on_asked first h (did Rest ps ∷ h) (ask a_rest) may.next (λ e. absurd cc) refl (λ e. absurd cc) refl refl (λ e. e) refl
+on_did first h (Take Go) ps may gives = on_take first h (did (Take Go) ps ∷ h) (λ e. absurd (let f = sym (ap is_going e) ∙ may.goes in cc)) refl refl refl refl refl
+on_did first h (Take Hold) ps may gives = on_take first h (did (Take Hold) ps ∷ h) (λ e. absurd (let f = sym (ap is_stopping e) ∙ may.slows in cc)) refl refl refl refl refl
+on_did first h (Override o) ps may gives = on_override first h o ps (none_given most_blocks (behind (Override o) ps (plan_of h)) (behind (Override o) ps (plan_of h)) ps gives.1)
+on_did first h Clear ps may gives = absurd may
+on_did first h Reset ps may gives = absurd may
 
-on_end : (first : State) (h : Journal) → Conducted first h → IsNextTask finish h → Halting h → Halting (made_end ∷ h)
-on_end first h c next (calm a m l p) = calm a m (no_halts_behind (left_of h) l) p
-on_end first h c next (pending a p l w m) = not_halt (left_of h) finish next (λ e. absurd cc) l
-on_end first h c next (to_halt a p l w m) = not_halt (left_of h) finish next (λ e. absurd cc) l
+on_end : (first : Opening) (h : Journal) → Conducted first h → IsNextTask first finish h → Halting first h → Halting first (made_end ∷ h)
+on_end first h c next (calm a m l p) = calm a m (no_halts_behind (left_of first h) l) p
+on_end first h c next (pending a p l w m) = not_halt (left_of first h) finish next (λ e. absurd cc) l
+on_end first h c next (to_halt a p l w m) = not_halt (left_of first h) finish next (λ e. absurd cc) l
 on_end first h c next (to_tell a p l w m d) = let is = closes_at_end first h c next in ended a p (inl is.later) w m is.closes
-on_end first h c next (ended a p (inl l) w m e) = absurd (let f = head_is (left_of h) finish (tell Bye) [] next l in cc)
-on_end first h c next (ended a p (inr (l, d)) w m e) = absurd (none_next (left_of h) finish l next)
+on_end first h c next (ended a p (inl l) w m e) = absurd (let f = head_is (left_of first h) finish (tell Bye) [] next l in cc)
+on_end first h c next (ended a p (inr (l, d)) w m e) = absurd (none_next (left_of first h) finish l next)
 
 -- ---- the motion
 
@@ -284,55 +273,55 @@ drained_to was now (inl idle) then = let e = sym (ap (after on_drained) idle) �
 drained_to was now (inr run) then = let e = sym (ap (after on_drained) run) ∙ then in cc
 
 -- a call that is no limit
-on_other : (h : Journal) (call : Call) (m : Motion) → (call ≡ on_limit → ⊥) → limit_pending (became call m ∷ h) ≡ limit_pending h → StaysOrReaches m call (motion_of h)
-    → ((motion_of h ≡ Idle) ⊎ (motion_of h ≡ Run) → left_of h ≡ halting_work → (m ≡ Idle) ⊎ (m ≡ Run)) → Halting h → Halting (became call m ∷ h)
-on_other h call m other same how goes (calm a n l p) = calm a (stays_calm m (motion_of h) call other how n) l (same ∙ p)
-on_other h call m other same how goes (pending a p l w n) = pending a (same ∙ p) l w (goes n l)
-on_other h call m other same how goes (to_halt a p l w n) = to_halt a (same ∙ p) l w (stays_limited m (motion_of h) call how n)
-on_other h call m other same how goes (to_tell a p l w n d) = to_tell a (same ∙ p) l w (stays_alarm m (motion_of h) call how n) (record { plan = d.plan; hand = d.hand; done = d.done })
-on_other h call m other same how goes (ended a p l w n e) = ended a (same ∙ p) l w (stays_alarm m (motion_of h) call how n) e
+on_other : (first : Opening) (h : Journal) (call : Call) (m : Motion) → (call ≡ on_limit → ⊥) → limit_pending (became call m ∷ h) ≡ limit_pending h → StaysOrReaches m call (motion_of first h)
+    → ((motion_of first h ≡ Idle) ⊎ (motion_of first h ≡ Run) → left_of first h ≡ halting_work → (m ≡ Idle) ⊎ (m ≡ Run)) → Halting first h → Halting first (became call m ∷ h)
+on_other first h call m other same how goes (calm a n l p) = calm a (stays_calm m (motion_of first h) call other how n) l (same ∙ p)
+on_other first h call m other same how goes (pending a p l w n) = pending a (same ∙ p) l w (goes n l)
+on_other first h call m other same how goes (to_halt a p l w n) = to_halt a (same ∙ p) l w (stays_limited m (motion_of first h) call how n)
+on_other first h call m other same how goes (to_tell a p l w n d) = to_tell a (same ∙ p) l w (stays_alarm m (motion_of first h) call how n) (record { plan = d.plan; hand = d.hand; done = d.done })
+on_other first h call m other same how goes (ended a p l w n e) = ended a (same ∙ p) l w (stays_alarm m (motion_of first h) call how n) e
 
-on_call : (h : Journal) (call : Call) (m : Motion) → after call (motion_of h) ≡ Some m → MayHappen call h → Halting h → Halting (became call m ∷ h)
-on_call h (on_exec word queued) m then may = on_other h (on_exec word queued) m (λ e. absurd cc) refl (reached (on_exec word queued) (motion_of h) m then)
-    (λ n l. either_off (motion_of h) n (may.halts (ap halts_next l)))
-on_call h (on_start jog) m then may = on_other h (on_start jog) m (λ e. absurd cc) refl (reached (on_start jog) (motion_of h) m then)
-    (λ n l. opposite (halts_next (left_of h)) (ap halts_next l) may.goes)
-on_call h on_drained m then may = on_other h on_drained m (λ e. absurd cc) refl (reached on_drained (motion_of h) m then)
-    (λ n l. inl (drained_to (motion_of h) m n then))
-on_call h on_stopped m then may = on_other h on_stopped m (λ e. absurd cc) refl (reached on_stopped (motion_of h) m then)
-    (λ n l. either_moves (motion_of h) n may.stopped.slowed.slows)
-on_call h on_pause m then may = absurd may
-on_call h on_limit m then may = by_stage
+on_call : (first : Opening) (h : Journal) (call : Call) (m : Motion) → after call (motion_of first h) ≡ Some m → MayHappen first call h → Halting first h → Halting first (became call m ∷ h)
+on_call first h (on_exec word queued) m then may = on_other first h (on_exec word queued) m (λ e. absurd cc) refl (reached (on_exec word queued) (motion_of first h) m then)
+    (λ n l. either_off (motion_of first h) n (may.halts (ap halts_next l)))
+on_call first h (on_start jog) m then may = on_other first h (on_start jog) m (λ e. absurd cc) refl (reached (on_start jog) (motion_of first h) m then)
+    (λ n l. opposite (halts_next (left_of first h)) (ap halts_next l) may.goes)
+on_call first h on_drained m then may = on_other first h on_drained m (λ e. absurd cc) refl (reached on_drained (motion_of first h) m then)
+    (λ n l. inl (drained_to (motion_of first h) m n then))
+on_call first h on_stopped m then may = on_other first h on_stopped m (λ e. absurd cc) refl (reached on_stopped (motion_of first h) m then)
+    (λ n l. either_moves (motion_of first h) n may.stopped.slowed.slows)
+on_call first h on_pause m then may = absurd may
+on_call first h on_limit m then may = by_stage
   where
-    by_stage : Halting h → Halting (became on_limit m ∷ h)
-    by_stage (calm a n l p) = opposite (has_alarmed h) may.alarmed a
-    by_stage (pending a p l w n) = to_halt a refl l w (limit_to (motion_of h) m n then)
-    by_stage (to_halt a p l w n) = opposite (is_limited (motion_of h)) n may.unlimited
-    by_stage (to_tell a p l w n d) = opposite (is_limited (motion_of h)) (ap is_limited n) may.unlimited
-    by_stage (ended a p l w n e) = opposite (is_limited (motion_of h)) (ap is_limited n) may.unlimited
+    by_stage : Halting first h → Halting first (became on_limit m ∷ h)
+    by_stage (calm a n l p) = opposite (has_limited h) may.alarmed a
+    by_stage (pending a p l w n) = to_halt a refl l w (limit_to (motion_of first h) m n then)
+    by_stage (to_halt a p l w n) = opposite (is_limited (motion_of first h)) n may.unlimited
+    by_stage (to_tell a p l w n d) = opposite (is_limited (motion_of first h)) (ap is_limited n) may.unlimited
+    by_stage (ended a p l w n e) = opposite (is_limited (motion_of first h)) (ap is_limited n) may.unlimited
 
-on_cut : (h : Journal) (k : ℕ) → has_alarmed h ≡ false → Halting h → Halting (cut k ∷ h)
-on_cut h k none (calm a m l p) = calm a m (no_halts_kept (left_of h) l) p
-on_cut h k none (pending a p l w m) = opposite (has_alarmed h) a none
-on_cut h k none (to_halt a p l w m) = opposite (has_alarmed h) a none
-on_cut h k none (to_tell a p l w m d) = opposite (has_alarmed h) a none
-on_cut h k none (ended a p l w m e) = opposite (has_alarmed h) a none
+on_cut : (first : Opening) (h : Journal) (k : ℕ) → has_limited h ≡ false → Halting first h → Halting first (cut k ∷ h)
+on_cut first h k none (calm a m l p) = calm a m (no_halts_kept (left_of first h) l) p
+on_cut first h k none (pending a p l w m) = opposite (has_limited h) a none
+on_cut first h k none (to_halt a p l w m) = opposite (has_limited h) a none
+on_cut first h k none (to_tell a p l w m d) = opposite (has_limited h) a none
+on_cut first h k none (ended a p l w m e) = opposite (has_limited h) a none
 
-on_halted : (h : Journal) → IsNextTask halt h → motion_of h ≡ Alarm → hand_of h ≡ [] → known_of h ≡ ticks_given h → Halting h → Halting (halted ∷ h)
-on_halted h next alarm empty done (calm a m l p) = opposite (is_limited (motion_of h)) (ap is_limited alarm) m
-on_halted h next alarm empty done (pending a p l w m) = either_off (motion_of h) m (ap is_limited alarm)
-on_halted h next alarm empty done (to_halt a p l w m) =
+on_halted : (first : Opening) (h : Journal) → IsNextTask first halt h → motion_of first h ≡ Alarm → hand_of h ≡ [] → known_of h ≡ ticks_given h → Halting first h → Halting first (halted ∷ h)
+on_halted first h next alarm empty done (calm a m l p) = opposite (is_limited (motion_of first h)) (ap is_limited alarm) m
+on_halted first h next alarm empty done (pending a p l w m) = either_off (motion_of first h) m (ap is_limited alarm)
+on_halted first h next alarm empty done (to_halt a p l w m) =
     to_tell a p (ap (λ (ts : List Task). only_ends (drop 1 ts)) l) w alarm (record { plan = record { blocks = refl; speed = refl }; hand = empty; done = done })
-on_halted h next alarm empty done (to_tell a p l w m d) = not_of_end (left_of h) halt next refl l
-on_halted h next alarm empty done (ended a p (inl l) w m e) = absurd (let f = head_is (left_of h) halt (tell Bye) [] next l in cc)
-on_halted h next alarm empty done (ended a p (inr (l, d)) w m e) = absurd (none_next (left_of h) halt l next)
+on_halted first h next alarm empty done (to_tell a p l w m d) = not_of_end (left_of first h) halt next refl l
+on_halted first h next alarm empty done (ended a p (inl l) w m e) = absurd (let f = head_is (left_of first h) halt (tell Bye) [] next l in cc)
+on_halted first h next alarm empty done (ended a p (inr (l, d)) w m e) = absurd (none_next (left_of first h) halt l next)
 
-on_closing : (h : Journal) → left_of h ≡ [] → closed_tells h ≡ [] → Halting h → Halting (closing ∷ h)
-on_closing h free going (calm a m l p) = calm a m refl p
-on_closing h free going (pending a p l w m) = absurd (let e = sym free ∙ l in cc)
-on_closing h free going (to_halt a p l w m) = absurd (let e = sym free ∙ l in cc)
-on_closing h free going (to_tell a p l w m d) = to_tell a p refl w m (record { plan = d.plan; hand = d.hand; done = d.done })
-on_closing h free going (ended a p l w m e) = absurd (e going)
+on_closing : (first : Opening) (h : Journal) → left_of first h ≡ [] → closed_tells h ≡ [] → Halting first h → Halting first (closing ∷ h)
+on_closing first h free going (calm a m l p) = calm a m refl p
+on_closing first h free going (pending a p l w m) = absurd (let e = sym free ∙ l in cc)
+on_closing first h free going (to_halt a p l w m) = absurd (let e = sym free ∙ l in cc)
+on_closing first h free going (to_tell a p l w m d) = to_tell a p refl w m (record { plan = d.plan; hand = d.hand; done = d.done })
+on_closing first h free going (ended a p l w m e) = absurd (e going)
 
 -- ---- of all that was done
 
@@ -343,9 +332,9 @@ same_drained h next plan hand known given d = record {
   done = known ∙ d.done ∙ sym (ap ticks_together given);
 }
 
-still : (h next : Journal) → has_alarmed next ≡ has_alarmed h → limit_pending next ≡ limit_pending h → left_of next ≡ left_of h → whole_of next ≡ whole_of h → motion_of next ≡ motion_of h → hand_of next ≡ hand_of h
-    → closed_tells next ≡ closed_tells h → plan_of next ≡ plan_of h → known_of next ≡ known_of h → given_of next ≡ given_of h → Halting h → Halting next
-still h next alarmed limited left whole motion hand closed plan known given = on_same h next (record {
+still : (first : Opening) (h next : Journal) → has_limited next ≡ has_limited h → limit_pending next ≡ limit_pending h → left_of first next ≡ left_of first h → whole_of next ≡ whole_of h → motion_of first next ≡ motion_of first h → hand_of next ≡ hand_of h
+    → closed_tells next ≡ closed_tells h → plan_of next ≡ plan_of h → known_of next ≡ known_of h → given_of next ≡ given_of h → Halting first h → Halting first next
+still first h next alarmed limited left whole motion hand closed plan known given = on_same first h next (record {
   alarmed = alarmed;
   limited = limited;
   left = left;
@@ -356,127 +345,120 @@ still h next alarmed limited left whole motion hand closed plan known given = on
   drained = same_drained h next plan hand known given;
 })
 
-pub halting_is : (first : State) (h : Journal) → Conducted first h → Halting h
-halting_is first [] c = calm refl refl refl refl
-halting_is first (at_port (took b) ∷ h) c = on_took h b c.0.polls.calm (halting_is first h c.1)
-halting_is first (at_port found_empty ∷ h) c = still h (at_port found_empty ∷ h) refl refl refl refl refl refl refl refl refl refl (halting_is first h c.1)
-halting_is first (at_port found_closed ∷ h) c = still h (at_port found_closed ∷ h) refl refl refl refl refl refl refl refl refl refl (halting_is first h c.1)
-halting_is first (at_port (found_free n) ∷ h) c = still h (at_port (found_free n) ∷ h) refl refl refl refl refl refl refl refl refl refl (halting_is first h c.1)
-halting_is first (at_port (answered r) ∷ h) c = on_answer h r c.0 (halting_is first h c.1)
-halting_is first (at_port (reported r) ∷ h) c = still h (at_port (reported r) ∷ h) refl refl refl refl refl refl refl refl refl refl (halting_is first h c.1)
-halting_is first (at_port no_reply_room ∷ h) c = still h (at_port no_reply_room ∷ h) refl refl refl refl refl refl refl refl refl refl (halting_is first h c.1)
-halting_is first (at_port (took_exec word) ∷ h) c = still h (at_port (took_exec word) ∷ h) refl refl refl refl refl refl refl refl refl refl (halting_is first h c.1)
-halting_is first (at_port (took_ovr word) ∷ h) c = still h (at_port (took_ovr word) ∷ h) refl refl refl refl refl refl refl refl refl refl (halting_is first h c.1)
-halting_is first (at_port (published p) ∷ h) c = on_publish h p c.0.0 (halting_is first h c.1)
-halting_is first (at_port (no_piece_room done) ∷ h) c = still h (at_port (no_piece_room done) ∷ h) refl refl refl refl refl refl refl refl refl refl (halting_is first h c.1)
-halting_is first (at_port (loaded done) ∷ h) c = on_load first h done c.1 c.0 (halting_is first h c.1)
-halting_is first (began o ∷ h) c = on_line first h o c.0 (line_halts true (caused first h) (open_of h) o (becomes_caused first h o c.0)) (halting_is first h c.1)
-halting_is first (did a ps ∷ h) c = on_did h a ps c.0.0 c.0.1 (halting_is first h c.1)
-halting_is first (made_end ∷ h) c = on_end first h c.1 c.0.next (halting_is first h c.1)
-halting_is first (evened ∷ h) c = on_asked h (evened ∷ h) normal c.0.rests.next (λ e. absurd cc) refl (λ e. absurd cc) refl refl (λ e. e) refl (halting_is first h c.1)
-halting_is first (paused ∷ h) c = on_asked h (paused ∷ h) pause c.0.rests.next (λ e. absurd cc) refl (λ e. absurd cc) refl refl (λ e. refl) refl (halting_is first h c.1)
-halting_is first (became call m ∷ h) c = on_call h call m c.0.0 c.0.1 (halting_is first h c.1)
-halting_is first (cut k ∷ h) c = on_cut h k c.0.calm (halting_is first h c.1)
-halting_is first (halted ∷ h) c = on_halted h c.0.next c.0.alarm c.0.empty c.0.done (halting_is first h c.1)
-halting_is first (closing ∷ h) c = on_closing h c.0.free c.0.going (halting_is first h c.1)
-halting_is first (turned t ∷ h) c = still h (turned t ∷ h) refl refl refl refl refl refl refl refl refl refl (halting_is first h c.1)
+-- what greets is told alone
+no_halts_told : (rs : List Reply) → no_halts (telling rs) ≡ true
+no_halts_told [] = refl
+no_halts_told (r ∷ rs) = no_halts_told rs
+
+-- where the machine is not locked at first
+pub halting_is : (first : Opening) → is_limited first.motion ≡ false → (h : Journal) → Conducted first h → Halting first h
+halting_is first free [] c = calm refl free (no_halts_told first.tells) refl
+halting_is first free (at_port (took b) ∷ h) c = on_took first h b c.0.polls.calm (halting_is first free h c.1)
+halting_is first free (at_port (answered r) ∷ h) c = on_answer first h r c.0 (halting_is first free h c.1)
+halting_is first free (at_port (published p) ∷ h) c = on_publish first h p c.0.0 (halting_is first free h c.1)
+halting_is first free (at_port (loaded done) ∷ h) c = on_load first h done c.1 c.0 (halting_is first free h c.1)
+halting_is first free (began o ∷ h) c = on_line first h o c.0 (line_halts true (caused first h) (open_of h) o (becomes_caused first h o c.0)) (halting_is first free h c.1)
+halting_is first free (did a ps ∷ h) c = on_did first h a ps c.0.0 c.0.1 (halting_is first free h c.1)
+halting_is first free (made_end ∷ h) c = on_end first h c.1 c.0.next (halting_is first free h c.1)
+halting_is first free (evened ∷ h) c = on_asked first h (evened ∷ h) normal c.0.rests.next (λ e. absurd cc) refl (λ e. absurd cc) refl refl (λ e. e) refl (halting_is first free h c.1)
+halting_is first free (paused ∷ h) c = on_asked first h (paused ∷ h) pause c.0.rests.next (λ e. absurd cc) refl (λ e. absurd cc) refl refl (λ e. refl) refl (halting_is first free h c.1)
+halting_is first free (became call m ∷ h) c = on_call first h call m c.0.0 c.0.1 (halting_is first free h c.1)
+halting_is first free (cut k ∷ h) c = on_cut first h k c.0.calm (halting_is first free h c.1)
+halting_is first free (halted ∷ h) c = on_halted first h c.0.next c.0.alarm c.0.empty c.0.done (halting_is first free h c.1)
+halting_is first free (closing ∷ h) c = on_closing first h c.0.free c.0.going (halting_is first free h c.1)
+halting_is first free (e ∷ h) c = still first h (e ∷ h) refl refl refl refl refl refl refl refl refl refl (halting_is first free h c.1)
 
 -- ---- what follows
 
 -- where the motion is stopped for a line that is to halt the machine, and no soft limit stops it, no line has raised an alarm
-calm_at : (h : Journal) → Halting h → limit_pending h ≡ false → is_limited (motion_of h) ≡ false → has_alarmed h ≡ false
-calm_at h (calm a m l p) none off_limit = a
-calm_at h (pending a p l w m) none off_limit = opposite (limit_pending h) p none
-calm_at h (to_halt a p l w m) none off_limit = opposite (is_limited (motion_of h)) m off_limit
-calm_at h (to_tell a p l w m d) none off_limit = opposite (is_limited (motion_of h)) (ap is_limited m) off_limit
-calm_at h (ended a p l w m e) none off_limit = opposite (is_limited (motion_of h)) (ap is_limited m) off_limit
+calm_at : (first : Opening) (h : Journal) → Halting first h → limit_pending h ≡ false → is_limited (motion_of first h) ≡ false → has_limited h ≡ false
+calm_at first h (calm a m l p) none off_limit = a
+calm_at first h (pending a p l w m) none off_limit = opposite (limit_pending h) p none
+calm_at first h (to_halt a p l w m) none off_limit = opposite (is_limited (motion_of first h)) m off_limit
+calm_at first h (to_tell a p l w m d) none off_limit = opposite (is_limited (motion_of first h)) (ap is_limited m) off_limit
+calm_at first h (ended a p l w m e) none off_limit = opposite (is_limited (motion_of first h)) (ap is_limited m) off_limit
 
-pub unalarmed : (first : State) (h : Journal) → Conducted first h → limit_pending h ≡ false → is_limited (motion_of h) ≡ false → has_alarmed h ≡ false
-unalarmed first h c none other = calm_at h (halting_is first h c) none other
+pub unalarmed : (first : Opening) → is_limited first.motion ≡ false → (h : Journal) → Conducted first h → limit_pending h ≡ false → is_limited (motion_of first h) ≡ false → has_limited h ≡ false
+unalarmed first free h c none other = calm_at first h (halting_is first free h c) none other
 
 -- one that stops it has
-alarmed_at : (h : Journal) → Halting h → is_limited (motion_of h) ≡ true → (has_alarmed h ≡ true) × (whole_of h ≡ false)
-alarmed_at h (calm a m l p) is = opposite (is_limited (motion_of h)) is m
-alarmed_at h (pending a p l w m) is = either_off (motion_of h) m is
-alarmed_at h (to_halt a p l w m) is = (a, w)
-alarmed_at h (to_tell a p l w m d) is = (a, w)
-alarmed_at h (ended a p l w m e) is = (a, w)
+alarmed_at : (first : Opening) (h : Journal) → Halting first h → is_limited (motion_of first h) ≡ true → (has_limited h ≡ true) × (whole_of h ≡ false)
+alarmed_at first h (calm a m l p) is = opposite (is_limited (motion_of first h)) is m
+alarmed_at first h (pending a p l w m) is = either_off (motion_of first h) m is
+alarmed_at first h (to_halt a p l w m) is = (a, w)
+alarmed_at first h (to_tell a p l w m d) is = (a, w)
+alarmed_at first h (ended a p l w m e) is = (a, w)
 
-pub limit_alarms : (first : State) (h : Journal) → Conducted first h → is_limited (motion_of h) ≡ true → (has_alarmed h ≡ true) × (whole_of h ≡ false)
-limit_alarms first h c is = alarmed_at h (halting_is first h c) is
+pub limit_alarms : (first : Opening) → is_limited first.motion ≡ false → (h : Journal) → Conducted first h → is_limited (motion_of first h) ≡ true → (has_limited h ≡ true) × (whole_of h ≡ false)
+limit_alarms first free h c is = alarmed_at first h (halting_is first free h c) is
 
 -- a machine that is to be halted slows down, or stands in alarm
-halts_at : (h : Journal) → Halting h → limit_pending h ≡ false → halts_next (left_of h) ≡ true → is_limited (motion_of h) ≡ true
-halts_at h (calm a m l p) none next = opposite (halts_next (left_of h)) next (none_halts_next (left_of h) l)
-halts_at h (pending a p l w m) none next = opposite (limit_pending h) p none
-halts_at h (to_halt a p l w m) none next = m
-halts_at h (to_tell a p l w m d) none next = ap is_limited m
-halts_at h (ended a p l w m e) none next = ap is_limited m
+halts_at : (first : Opening) (h : Journal) → Halting first h → limit_pending h ≡ false → halts_next (left_of first h) ≡ true → is_limited (motion_of first h) ≡ true
+halts_at first h (calm a m l p) none next = opposite (halts_next (left_of first h)) next (none_halts_next (left_of first h) l)
+halts_at first h (pending a p l w m) none next = opposite (limit_pending h) p none
+halts_at first h (to_halt a p l w m) none next = m
+halts_at first h (to_tell a p l w m d) none next = ap is_limited m
+halts_at first h (ended a p l w m e) none next = ap is_limited m
 
-pub halts_limited : (first : State) (h : Journal) → Conducted first h → limit_pending h ≡ false → halts_next (left_of h) ≡ true → is_limited (motion_of h) ≡ true
-halts_limited first h c none next = halts_at h (halting_is first h c) none next
+pub halts_limited : (first : Opening) → is_limited first.motion ≡ false → (h : Journal) → Conducted first h → limit_pending h ≡ false → halts_next (left_of first h) ≡ true → is_limited (motion_of first h) ≡ true
+halts_limited first free h c none next = halts_at first h (halting_is first free h c) none next
 
 -- what is next of such a run is to halt the machine, to tell something, or to make the end
 abbrev pub ends_run : Task → Bool
-ends_run (ask a) = false
 ends_run (tell r) = true
-ends_run pause = false
-ends_run normal = false
 ends_run finish = true
 ends_run halt = true
+ends_run _ = false
 
 first_of_end : (t : Task) (ts : List Task) → only_ends (t ∷ ts) ≡ true → ends_run t ≡ true
-first_of_end (ask a) ts is = absurd cc
 first_of_end (tell r) ts is = refl
-first_of_end pause ts is = absurd cc
-first_of_end normal ts is = absurd cc
 first_of_end finish ts is = refl
-first_of_end halt ts is = absurd cc
+first_of_end _ ts is = absurd cc
 
-next_at : (h : Journal) (t : Task) → Halting h → is_limited (motion_of h) ≡ true → IsNextTask t h → ends_run t ≡ true
-next_at h t (calm a m l p) is next = opposite (is_limited (motion_of h)) is m
-next_at h t (pending a p l w m) is next = either_off (motion_of h) m is
-next_at h t (to_halt a p l w m) is next = ap ends_run (head_is (left_of h) t halt _ next l)
-next_at h t (to_tell a p l w m d) is next = first_of_end t (drop 1 (left_of h)) (sym (ap only_ends next) ∙ l)
-next_at h t (ended a p (inl l) w m e) is next = ap ends_run (head_is (left_of h) t (tell Bye) [] next l)
-next_at h t (ended a p (inr (l, d)) w m e) is next = absurd (none_next (left_of h) t l next)
+next_at : (first : Opening) (h : Journal) (t : Task) → Halting first h → is_limited (motion_of first h) ≡ true → IsNextTask first t h → ends_run t ≡ true
+next_at first h t (calm a m l p) is next = opposite (is_limited (motion_of first h)) is m
+next_at first h t (pending a p l w m) is next = either_off (motion_of first h) m is
+next_at first h t (to_halt a p l w m) is next = ap ends_run (head_is (left_of first h) t halt _ next l)
+next_at first h t (to_tell a p l w m d) is next = first_of_end t (drop 1 (left_of first h)) (sym (ap only_ends next) ∙ l)
+next_at first h t (ended a p (inl l) w m e) is next = ap ends_run (head_is (left_of first h) t (tell Bye) [] next l)
+next_at first h t (ended a p (inr (l, d)) w m e) is next = absurd (none_next (left_of first h) t l next)
 
-pub limited_next : (first : State) (h : Journal) (t : Task) → Conducted first h → is_limited (motion_of h) ≡ true → IsNextTask t h → ends_run t ≡ true
-limited_next first h t c is next = next_at h t (halting_is first h c) is next
+pub limited_next : (first : Opening) → is_limited first.motion ≡ false → (h : Journal) (t : Task) → Conducted first h → is_limited (motion_of first h) ≡ true → IsNextTask first t h → ends_run t ≡ true
+limited_next first free h t c is next = next_at first h t (halting_is first free h c) is next
 
 -- the end comes where nothing is left to run
-finish_at : (h : Journal) → Halting h → is_limited (motion_of h) ≡ true → IsNextTask finish h → MayFinish h
-finish_at h (calm a m l p) is next = opposite (is_limited (motion_of h)) is m
-finish_at h (pending a p l w m) is next = either_off (motion_of h) m is
-finish_at h (to_halt a p l w m) is next = not_halt (left_of h) finish next (λ e. absurd cc) l
-finish_at h (to_tell a p l w m d) is next = record { drained = d; stands = ap stands_still m }
-finish_at h (ended a p (inl l) w m e) is next = absurd (let f = head_is (left_of h) finish (tell Bye) [] next l in cc)
-finish_at h (ended a p (inr (l, d)) w m e) is next = absurd (none_next (left_of h) finish l next)
+finish_at : (first : Opening) (h : Journal) → Halting first h → is_limited (motion_of first h) ≡ true → IsNextTask first finish h → MayFinish first h
+finish_at first h (calm a m l p) is next = opposite (is_limited (motion_of first h)) is m
+finish_at first h (pending a p l w m) is next = either_off (motion_of first h) m is
+finish_at first h (to_halt a p l w m) is next = not_halt (left_of first h) finish next (λ e. absurd cc) l
+finish_at first h (to_tell a p l w m d) is next = record { drained = d; stands = ap stands_still m }
+finish_at first h (ended a p (inl l) w m e) is next = absurd (let f = head_is (left_of first h) finish (tell Bye) [] next l in cc)
+finish_at first h (ended a p (inr (l, d)) w m e) is next = absurd (none_next (left_of first h) finish l next)
 
-pub limited_finish : (first : State) (h : Journal) → Conducted first h → is_limited (motion_of h) ≡ true → IsNextTask finish h → MayFinish h
-limited_finish first h c is next = finish_at h (halting_is first h c) is next
+pub limited_finish : (first : Opening) → is_limited first.motion ≡ false → (h : Journal) → Conducted first h → is_limited (motion_of first h) ≡ true → IsNextTask first finish h → MayFinish first h
+limited_finish first free h c is next = finish_at first h (halting_is first free h c) is next
 
 -- something is left to do where a piece is in hand
-left_at : (h : Journal) → Halting h → has_alarmed h ≡ true → (hand_of h ≡ [] → ⊥) → left_of h ≡ [] → ⊥
-left_at h (calm a m l p) one some none = opposite (has_alarmed h) one a
-left_at h (pending a p l w m) one some none = absurd (let e = sym none ∙ l in cc)
-left_at h (to_halt a p l w m) one some none = absurd (let e = sym none ∙ l in cc)
-left_at h (to_tell a p l w m d) one some none = some d.hand
-left_at h (ended a p (inl l) w m e) one some none = absurd (let f = sym none ∙ l in cc)
-left_at h (ended a p (inr (l, d)) w m e) one some none = some d
+left_at : (first : Opening) (h : Journal) → Halting first h → has_limited h ≡ true → (hand_of h ≡ [] → ⊥) → left_of first h ≡ [] → ⊥
+left_at first h (calm a m l p) one some none = opposite (has_limited h) one a
+left_at first h (pending a p l w m) one some none = absurd (let e = sym none ∙ l in cc)
+left_at first h (to_halt a p l w m) one some none = absurd (let e = sym none ∙ l in cc)
+left_at first h (to_tell a p l w m d) one some none = some d.hand
+left_at first h (ended a p (inl l) w m e) one some none = absurd (let f = sym none ∙ l in cc)
+left_at first h (ended a p (inr (l, d)) w m e) one some none = some d
 
-pub left_alarmed : (first : State) (h : Journal) → Conducted first h → has_alarmed h ≡ true → (hand_of h ≡ [] → ⊥) → left_of h ≡ [] → ⊥
-left_alarmed first h c one some none = left_at h (halting_is first h c) one some none
+pub left_alarmed : (first : Opening) → is_limited first.motion ≡ false → (h : Journal) → Conducted first h → has_limited h ≡ true → (hand_of h ≡ [] → ⊥) → left_of first h ≡ [] → ⊥
+left_alarmed first free h c one some none = left_at first h (halting_is first free h c) one some none
 
 -- ---- what is left where the machine is to be halted
 
-halting_at : (h : Journal) → Halting h → is_limited (motion_of h) ≡ true → IsNextTask halt h → left_of h ≡ halting_work
-halting_at h (calm a m l p) is next = opposite (is_limited (motion_of h)) is m
-halting_at h (pending a p l w m) is next = l
-halting_at h (to_halt a p l w m) is next = l
-halting_at h (to_tell a p l w m d) is next = not_of_end (left_of h) halt next refl l
-halting_at h (ended a p (inl l) w m e) is next = absurd (let f = head_is (left_of h) halt (tell Bye) [] next l in cc)
-halting_at h (ended a p (inr (l, d)) w m e) is next = absurd (none_next (left_of h) halt l next)
+halting_at : (first : Opening) (h : Journal) → Halting first h → is_limited (motion_of first h) ≡ true → IsNextTask first halt h → left_of first h ≡ halting_work
+halting_at first h (calm a m l p) is next = opposite (is_limited (motion_of first h)) is m
+halting_at first h (pending a p l w m) is next = l
+halting_at first h (to_halt a p l w m) is next = l
+halting_at first h (to_tell a p l w m d) is next = not_of_end (left_of first h) halt next refl l
+halting_at first h (ended a p (inl l) w m e) is next = absurd (let f = head_is (left_of first h) halt (tell Bye) [] next l in cc)
+halting_at first h (ended a p (inr (l, d)) w m e) is next = absurd (none_next (left_of first h) halt l next)
 
-pub halting_left : (first : State) (h : Journal) → Conducted first h → is_limited (motion_of h) ≡ true → IsNextTask halt h → left_of h ≡ halting_work
-halting_left first h c is next = halting_at h (halting_is first h c) is next
+pub halting_left : (first : Opening) → is_limited first.motion ≡ false → (h : Journal) → Conducted first h → is_limited (motion_of first h) ≡ true → IsNextTask first halt h → left_of first h ≡ halting_work
+halting_left first free h c is next = halting_at first h (halting_is first free h c) is next

@@ -6,10 +6,10 @@ use Rattle.std.proofs.lemmas.Bool.Decides.{nat_tests}
 use Rattle.feed_hold.specs.declared.Motion.{Motion}
 use Rattle.feed_hold.specs.declared.Motion.TheVariants as motions
 use Rattle.feed_hold.specs.Motions.{Call}
-use Rattle.feed_hold.specs.Motions.Call.{on_exec, on_start, on_limit, on_pause, on_stopped, on_drained}
+use Rattle.feed_hold.specs.Motions.Call.{on_exec}
 use Rattle.code_table.specs.declared.flags.Exec.{Exec}
 use Rattle.run_rules.specs.Work.{Task, pauses}
-use Rattle.run_rules.specs.Work.Task.{ask, tell, pause, normal, finish, halt}
+use Rattle.run_rules.specs.Work.Task.{pause}
 use Rattle.step_line.specs.declared.Piece.{Piece}
 use Rattle.step_line.specs.declared.Piece.TheVariants as pieces
 use Rattle.step_line.specs.declared.Segment.{Segment}
@@ -19,13 +19,15 @@ use Rattle.plan_rules.specs.Plans.{Planned}
 use Rattle.plan_rules.specs.Segments.{moved, advanced}
 use Rattle.plan_rules.specs.declared.Mode.{Mode}
 use Rattle.planner_runs.specs.declared.Action.{Action}
-use Rattle.planner_runs.specs.declared.Action.TheVariants.{Add, Take, Override, Mark, Rest, Clear, Reset}
+use Rattle.planner_runs.specs.declared.Action.TheVariants.{Add, Take, Mark, Rest}
+use Rattle.board_rules.specs.Openings.{Opening}
 use Rattle.board_rules.specs.Ports.PortStep.{published, no_piece_room, loaded}
 use Rattle.board_rules.specs.Steps.{Step, Journal, left_of, left_by, without_asks, hand_of, plan_of, motion_of}
-use Rattle.board_rules.specs.Steps.Step.{at_port, did, made_end, evened, became, cut}
+use Rattle.board_rules.specs.Steps.Step.{at_port, began, did, made_end, evened, became, cut, closing, turned}
 use Rattle.board_rules.specs.Cuts.{has_cut, is_cancelling}
 use Rattle.board_rules.proofs.Dropping.{pauses_kept}
 use Rattle.board_rules.specs.Turns.{this_turn, publishing, moving, obeys, unobeyed_by, unobeyed_of, owes_report, takes_changes, replans, is_full, has_segment, is_due, is_counted, tries_of}
+use Rattle.board_rules.specs.Conduct.{AreWaiting}
 use Rattle.units.specs.Truths.{one_if}
 use Rattle.board_rules.specs.Within.{changes_left, AreWorked, PassesNothing, DidAlone, MayHaveLooked, Tried, HasTried}
 
@@ -60,12 +62,7 @@ worked_behind s h next is plain owed words w = record {
 -- nothing is left of nothing
 none_left : (a : Action) → left_by a [] ≡ []
 none_left (Add m) = refl
-none_left (Take mode) = refl
-none_left (Override o) = refl
-none_left (Mark m) = refl
-none_left Rest = refl
-none_left Clear = refl
-none_left Reset = refl
+none_left _ = refl
 
 no_more : (n : ℕ) → n ≤ n
 no_more n = omega arith
@@ -73,36 +70,42 @@ no_more n = omega arith
 -- no more pauses are left behind the first task
 pub fewer_pauses : (ts : List Task) → pauses (drop 1 ts) ≤ pauses ts
 fewer_pauses [] = omega arith
-fewer_pauses (ask a ∷ ts) = no_more (pauses ts)
-fewer_pauses (tell r ∷ ts) = no_more (pauses ts)
 fewer_pauses (pause ∷ ts) = omega arith
-fewer_pauses (normal ∷ ts) = no_more (pauses ts)
-fewer_pauses (finish ∷ ts) = no_more (pauses ts)
-fewer_pauses (halt ∷ ts) = no_more (pauses ts)
+fewer_pauses (_ ∷ ts) = no_more (pauses ts)
 
 pub pauses_by : (a : Action) (ts : List Task) → pauses (left_by a ts) ≤ pauses ts
 pauses_by (Add m) ts = fewer_pauses ts
-pauses_by (Take mode) ts = no_more (pauses ts)
-pauses_by (Override o) ts = no_more (pauses ts)
 pauses_by (Mark m) ts = fewer_pauses ts
 pauses_by Rest ts = fewer_pauses ts
-pauses_by Clear ts = no_more (pauses ts)
-pauses_by Reset ts = no_more (pauses ts)
+pauses_by _ ts = no_more (pauses ts)
 
 or_true : (a b : Bool) → b ≡ true → (a || b) ≡ true
 or_true true b e = refl
 or_true false b e = e
 
--- something is done to the plan that is not made anew
-pub passes_did : (a : Action) (ps : List Piece) (h : Journal) → replans (did a ps) ≡ false → PassesNothing h (did a ps ∷ h)
-passes_did a ps h same = record {
-  steps = did a ps ∷ [];
+-- a step by itself that no line begins with, and no turn ends with
+abbrev is_quiet : Step → Bool
+is_quiet (at_port e) = false
+is_quiet (began o) = false
+is_quiet closing = false
+is_quiet (turned t) = false
+is_quiet _ = true
+
+-- nothing passes with it if it leaves the words, and the plan is not made anew
+passes_step : (first : Opening) (s : Step) (h : Journal) → is_quiet s ≡ true → unobeyed_of (s ∷ h) ≡ unobeyed_of h → replans s ≡ false → pauses (left_of first (s ∷ h)) ≤ pauses (left_of first h)
+    → changes_left (motion_of first (s ∷ h)) (has_cut (s ∷ h)) ≤ changes_left (motion_of first h) (has_cut h) → ((left_of first (s ∷ h) ≡ [] → ⊥) → left_of first h ≡ [] → ⊥) → PassesNothing first h (s ∷ h)
+passes_step first (at_port e) h quiet words same pauses changes less = absurd cc
+passes_step first (began o) h quiet words same pauses changes less = absurd cc
+passes_step first closing h quiet words same pauses changes less = absurd cc
+passes_step first (turned t) h quiet words same pauses changes less = absurd cc
+passes_step first s h quiet words same pauses changes less = record {
+  steps = s ∷ [];
   are = refl;
   still = refl;
-  quiet = publishes_none (did a ps) (this_turn h) refl;
+  quiet = publishes_none s (this_turn h) refl;
   polled = refl;
   room = refl;
-  moves = λ e. or_true (moving (did a ps)) (list_any moving (this_turn h)) e;
+  moves = λ e. or_true (moving s) (list_any moving (this_turn h)) e;
   loaded = λ e. e;
   waits = refl;
   tries = refl;
@@ -114,149 +117,47 @@ passes_did a ps h same = record {
   flags = refl;
   replies = refl;
   owed = refl;
-  words = refl;
-  worked = worked_behind (did a ps) h (did a ps ∷ h) refl (record { no_changes = refl; none_planned = same }) refl refl;
-  pauses = pauses_by a (left_of h);
-  changes = no_more (changes_left (motion_of h) (has_cut h));
-  less = λ some none. some (ap (left_by a) none ∙ none_left a);
+  words = words;
+  worked = worked_behind s h (s ∷ h) refl (record { no_changes = refl; none_planned = same }) refl words;
+  pauses = pauses;
+  changes = changes;
+  less = less;
 }
+
+-- something is done to the plan that is not made anew
+pub passes_did : (first : Opening) (a : Action) (ps : List Piece) (h : Journal) → replans (did a ps) ≡ false → PassesNothing first h (did a ps ∷ h)
+passes_did first a ps h same = passes_step first (did a ps) h refl refl same (pauses_by a (left_of first h)) (no_more (changes_left (motion_of first h) (has_cut h))) (λ some none. some (ap (left_by a) none ∙ none_left a))
 
 -- the end is made
-pub passes_end : (h : Journal) → PassesNothing h (made_end ∷ h)
-passes_end h = record {
-  steps = made_end ∷ [];
-  are = refl;
-  still = refl;
-  quiet = publishes_none made_end (this_turn h) refl;
-  polled = refl;
-  room = refl;
-  moves = λ e. e;
-  loaded = λ e. e;
-  waits = refl;
-  tries = refl;
-  missed = refl;
-  jogged = refl;
-  raw = refl;
-  whole = refl;
-  closed = refl;
-  flags = refl;
-  replies = refl;
-  owed = refl;
-  words = refl;
-  worked = worked_behind made_end h (made_end ∷ h) refl (record { no_changes = refl; none_planned = refl }) refl refl;
-  pauses = fewer_pauses (left_of h);
-  changes = no_more (changes_left (motion_of h) (has_cut h));
-  less = λ some none. some (ap (λ (ts : List Task). drop 1 ts) none);
-}
+pub passes_end : (first : Opening) (h : Journal) → PassesNothing first h (made_end ∷ h)
+passes_end first h = passes_step first made_end h refl refl refl (fewer_pauses (left_of first h)) (no_more (changes_left (motion_of first h) (has_cut h))) (λ some none. some (ap (λ (ts : List Task). drop 1 ts) none))
 
 -- each override is set to 100 percent
-pub passes_even : (h : Journal) → PassesNothing h (evened ∷ h)
-passes_even h = record {
-  steps = evened ∷ [];
-  are = refl;
-  still = refl;
-  quiet = publishes_none evened (this_turn h) refl;
-  polled = refl;
-  room = refl;
-  moves = λ e. e;
-  loaded = λ e. e;
-  waits = refl;
-  tries = refl;
-  missed = refl;
-  jogged = refl;
-  raw = refl;
-  whole = refl;
-  closed = refl;
-  flags = refl;
-  replies = refl;
-  owed = refl;
-  words = refl;
-  worked = worked_behind evened h (evened ∷ h) refl (record { no_changes = refl; none_planned = refl }) refl refl;
-  pauses = fewer_pauses (left_of h);
-  changes = no_more (changes_left (motion_of h) (has_cut h));
-  less = λ some none. some (ap (λ (ts : List Task). drop 1 ts) none);
-}
+pub passes_even : (first : Opening) (h : Journal) → PassesNothing first h (evened ∷ h)
+passes_even first h = passes_step first evened h refl refl refl (fewer_pauses (left_of first h)) (no_more (changes_left (motion_of first h) (has_cut h))) (λ some none. some (ap (λ (ts : List Task). drop 1 ts) none))
 
 -- a call that is no word leaves the words
 words_stay : (call : Call) (now : Motion) (words : List Exec) → obeys (became call now) ≡ false → unobeyed_by call words ≡ words
 words_stay (on_exec word queued) now words by_itself = absurd cc
-words_stay (on_start jog) now words by_itself = refl
-words_stay on_limit now words by_itself = refl
-words_stay on_pause now words by_itself = refl
-words_stay on_stopped now words by_itself = refl
-words_stay on_drained now words by_itself = refl
+words_stay _ now words by_itself = refl
 
 -- the motion starts, or is over
-pub passes_motion : (call : Call) (now : Motion) (h : Journal) → obeys (became call now) ≡ false → changes_left now (is_cancelling now && has_cut h) ≤ changes_left (motion_of h) (has_cut h) → PassesNothing h (became call now ∷ h)
-passes_motion call now h by_itself fewer = record {
-  steps = became call now ∷ [];
-  are = refl;
-  still = refl;
-  quiet = publishes_none (became call now) (this_turn h) refl;
-  polled = refl;
-  room = refl;
-  moves = λ e. e;
-  loaded = λ e. e;
-  waits = refl;
-  tries = refl;
-  missed = refl;
-  jogged = refl;
-  raw = refl;
-  whole = refl;
-  closed = refl;
-  flags = refl;
-  replies = refl;
-  owed = refl;
-  words = words_stay call now (unobeyed_of h) by_itself;
-  worked = worked_behind (became call now) h (became call now ∷ h) refl (record { no_changes = refl; none_planned = refl }) refl (words_stay call now (unobeyed_of h) by_itself);
-  pauses = no_more (pauses (left_of h));
-  changes = fewer;
-  less = λ some. some;
-}
+pub passes_motion : (first : Opening) (call : Call) (now : Motion) (h : Journal) → obeys (became call now) ≡ false → changes_left now (is_cancelling now && has_cut h) ≤ changes_left (motion_of first h) (has_cut h) → PassesNothing first h (became call now ∷ h)
+passes_motion first call now h by_itself fewer = passes_step first (became call now) h refl (words_stay call now (unobeyed_of h) by_itself) refl (no_more (pauses (left_of first h))) fewer (λ some. some)
 
 -- a cut is a change less
 cut_lowers : (m : Motion) (was : Bool) → changes_left m true ≤ changes_left m was
 cut_lowers motions.Cancelling true = omega arith
 cut_lowers motions.Cancelling false = omega arith
-cut_lowers motions.Idle was = omega arith
-cut_lowers motions.Run was = omega arith
-cut_lowers motions.Holding was = omega arith
-cut_lowers motions.Held was = omega arith
-cut_lowers motions.Jog was = omega arith
-cut_lowers motions.Stopping was = omega arith
-cut_lowers motions.Alarm was = omega arith
+cut_lowers _ was = omega arith
 
 -- jogs are cut
-pub passes_cut : (k : ℕ) (h : Journal) → PassesNothing h (cut k ∷ h)
-passes_cut k h = record {
-  steps = cut k ∷ [];
-  are = refl;
-  still = refl;
-  quiet = publishes_none (cut k) (this_turn h) refl;
-  polled = refl;
-  room = refl;
-  moves = λ e. e;
-  loaded = λ e. e;
-  waits = refl;
-  tries = refl;
-  missed = refl;
-  jogged = refl;
-  raw = refl;
-  whole = refl;
-  closed = refl;
-  flags = refl;
-  replies = refl;
-  owed = refl;
-  words = refl;
-  worked = worked_behind (cut k) h (cut k ∷ h) refl (record { no_changes = refl; none_planned = refl }) refl refl;
-  pauses = (let e = pauses_kept (left_of h) in omega (arith, e));
-  changes = cut_lowers (motion_of h) (has_cut h);
-  less = λ some none. some (ap without_asks none);
-}
+pub passes_cut : (first : Opening) (k : ℕ) (h : Journal) → PassesNothing first h (cut k ∷ h)
+passes_cut first k h = passes_step first (cut k) h refl refl refl (let e = pauses_kept (left_of first h) in omega (arith, e)) (cut_lowers (motion_of first h) (has_cut h)) (λ some none. some (ap without_asks none))
 
 -- it is looked how many ticks are done
-pub passes_load : (done : ℕ) (h : Journal) → PassesNothing h (at_port (loaded done) ∷ h)
-passes_load done h = record {
+pub passes_load : (first : Opening) (done : ℕ) (h : Journal) → PassesNothing first h (at_port (loaded done) ∷ h)
+passes_load first done h = record {
   steps = at_port (loaded done) ∷ [];
   are = refl;
   still = refl;
@@ -277,15 +178,15 @@ passes_load done h = record {
   owed = refl;
   words = refl;
   worked = worked_behind (at_port (loaded done)) h (at_port (loaded done) ∷ h) refl (record { no_changes = refl; none_planned = refl }) refl refl;
-  pauses = no_more (pauses (left_of h));
-  changes = no_more (changes_left (motion_of h) (has_cut h));
+  pauses = no_more (pauses (left_of first h));
+  changes = no_more (changes_left (motion_of first h) (has_cut h));
   less = λ some. some;
 }
 
 -- ---- no step, and some after others
 
-pub passes_none : (h : Journal) → PassesNothing h h
-passes_none h = record {
+pub passes_none : (first : Opening) (h : Journal) → PassesNothing first h h
+passes_none first h = record {
   steps = [];
   are = refl;
   still = refl;
@@ -306,8 +207,8 @@ passes_none h = record {
   owed = refl;
   words = refl;
   worked = λ w. w;
-  pauses = no_more (pauses (left_of h));
-  changes = no_more (changes_left (motion_of h) (has_cut h));
+  pauses = no_more (pauses (left_of first h));
+  changes = no_more (changes_left (motion_of first h) (has_cut h));
   less = λ some. some;
 }
 
@@ -317,8 +218,8 @@ are_both h mid next some more e f = f ∙ ap (λ (j : Journal). more ++ j) e ∙
 at_most : (a b d : ℕ) → a ≤ b → d ≤ a → d ≤ b
 at_most a b d e f = omega (arith, e, f)
 
-pub passes_on : (h mid next : Journal) → PassesNothing h mid → PassesNothing mid next → PassesNothing h next
-passes_on h mid next a b = record {
+pub passes_on : (first : Opening) (h mid next : Journal) → PassesNothing first h mid → PassesNothing first mid next → PassesNothing first h next
+passes_on first h mid next a b = record {
   steps = b.steps ++ a.steps;
   are = are_both h mid next a.steps b.steps a.are b.are;
   still = b.still ∙ a.still;
@@ -344,17 +245,17 @@ passes_on h mid next a b = record {
   less = λ some. a.less (b.less some);
 }
 
-pub alone_on : (h mid next : Journal) → DidAlone h mid → DidAlone mid next → DidAlone h next
-alone_on h mid next a b = record { passes = passes_on h mid next a.passes b.passes; port = b.port ∙ a.port }
+pub alone_on : (first : Opening) (h mid next : Journal) → DidAlone first h mid → DidAlone first mid next → DidAlone first h next
+alone_on first h mid next a b = record { passes = passes_on first h mid next a.passes b.passes; port = b.port ∙ a.port }
 
-pub alone_did : (a : Action) (ps : List Piece) (h : Journal) → replans (did a ps) ≡ false → DidAlone h (did a ps ∷ h)
-alone_did a ps h same = record { passes = passes_did a ps h same; port = refl }
+pub alone_did : (first : Opening) (a : Action) (ps : List Piece) (h : Journal) → replans (did a ps) ≡ false → DidAlone first h (did a ps ∷ h)
+alone_did first a ps h same = record { passes = passes_did first a ps h same; port = refl }
 
-pub alone_even : (h : Journal) → DidAlone h (evened ∷ h)
-alone_even h = record { passes = passes_even h; port = refl }
+pub alone_even : (first : Opening) (h : Journal) → DidAlone first h (evened ∷ h)
+alone_even first h = record { passes = passes_even first h; port = refl }
 
-pub alone_motion : (call : Call) (now : Motion) (h : Journal) → obeys (became call now) ≡ false → changes_left now (is_cancelling now && has_cut h) ≤ changes_left (motion_of h) (has_cut h) → DidAlone h (became call now ∷ h)
-alone_motion call now h by_itself fewer = record { passes = passes_motion call now h by_itself fewer; port = refl }
+pub alone_motion : (first : Opening) (call : Call) (now : Motion) (h : Journal) → obeys (became call now) ≡ false → changes_left now (is_cancelling now && has_cut h) ≤ changes_left (motion_of first h) (has_cut h) → DidAlone first h (became call now ∷ h)
+alone_motion first call now h by_itself fewer = record { passes = passes_motion first call now h by_itself fewer; port = refl }
 
 -- ---- a piece is tried to be published
 
@@ -368,8 +269,8 @@ counts_same true n e = absurd cc
 counts_same false n e = refl
 
 -- the piece in hand is published
-pub tried_sent : (p : Piece) (h : Journal) → drop 1 (hand_of h) ≡ [] → HasTried true h (at_port (published p) ∷ h)
-tried_sent p h one = record {
+pub tried_sent : (first : Opening) (p : Piece) (h : Journal) → drop 1 (hand_of h) ≡ [] → HasTried first true h (at_port (published p) ∷ h)
+tried_sent first p h one = record {
   steps = at_port (published p) ∷ [];
   are = refl;
   still = λ e. absurd cc;
@@ -381,8 +282,8 @@ tried_sent p h one = record {
   waits = refl;
   missed = refl;
   jogged = refl;
-  first = counts_more (is_counted h) (tries_of h);
-  later = λ none. counts_same (is_counted h) (tries_of h) none;
+  once = counts_more (is_counted first h) (tries_of first h);
+  later = λ none. counts_same (is_counted first h) (tries_of first h) none;
   left = refl;
   whole = refl;
   motion = refl;
@@ -398,8 +299,8 @@ tried_sent p h one = record {
 }
 
 -- it is handed back
-pub tried_kept : (done : ℕ) (h : Journal) → HasTried false h (at_port (no_piece_room done) ∷ h)
-tried_kept done h = record {
+pub tried_kept : (first : Opening) (done : ℕ) (h : Journal) → HasTried first false h (at_port (no_piece_room done) ∷ h)
+tried_kept first done h = record {
   steps = at_port (no_piece_room done) ∷ [];
   are = refl;
   still = λ e. refl;
@@ -411,8 +312,8 @@ tried_kept done h = record {
   waits = refl;
   missed = refl;
   jogged = refl;
-  first = counts_more (is_counted h) (tries_of h);
-  later = λ none. counts_same (is_counted h) (tries_of h) none;
+  once = counts_more (is_counted first h) (tries_of first h);
+  later = λ none. counts_same (is_counted first h) (tries_of first h) none;
   left = refl;
   whole = refl;
   motion = refl;
@@ -427,51 +328,55 @@ tried_kept done h = record {
   full = λ e. e;
 }
 
--- it was looked how many ticks are done before
-looked_before : (sent : Bool) (done : ℕ) (h next : Journal) → HasTried sent (at_port (loaded done) ∷ h) next → HasTried sent h next
-looked_before sent done h next t =
-    let p = passes_load done h in
-    record {
-      steps = t.steps ++ at_port (loaded done) ∷ [];
-      are = are_both h (at_port (loaded done) ∷ h) next (at_port (loaded done) ∷ []) t.steps refl t.are;
-      still = λ e. t.still e ∙ p.still;
-      quiet = t.quiet ∙ ap (λ n. n + one_if sent) p.quiet;
-      polled = t.polled ∙ p.polled;
-      room = t.room;
-      moves = t.moves;
-      sent = t.sent;
-      waits = t.waits;
-      missed = t.missed;
-      jogged = t.jogged;
-      first = t.first;
-      later = t.later;
-      left = t.left;
-      whole = t.whole;
-      motion = t.motion;
-      cuts = t.cuts;
-      closed = t.closed;
-      flags = t.flags;
-      replies = t.replies;
-      owed = t.owed;
-      words = t.words;
-      worked = λ w. t.worked (p.worked w);
-      waiting = λ w. (let v = t.waiting w in record { stands = v.stands; blocks = v.blocks });
-      full = t.full;
-    }
+-- steps with which nothing passes come before a try
+tried_on : (first : Opening) (sent : Bool) (h mid next : Journal) → PassesNothing first h mid → is_counted first mid ≡ is_counted first h → left_of first mid ≡ left_of first h → motion_of first mid ≡ motion_of first h
+    → has_cut mid ≡ has_cut h → (AreWaiting first mid → AreWaiting first h) → (is_full (plan_of mid) ≡ true → is_full (plan_of h) ≡ true) → HasTried first sent mid next → HasTried first sent h next
+tried_on first sent h mid next p counted left motion cuts waiting full t = record {
+  steps = t.steps ++ p.steps;
+  are = are_both h mid next p.steps t.steps p.are t.are;
+  still = λ e. t.still e ∙ p.still;
+  quiet = t.quiet ∙ ap (λ n. n + one_if sent) p.quiet;
+  polled = t.polled ∙ p.polled;
+  room = t.room;
+  moves = t.moves;
+  sent = t.sent;
+  waits = t.waits;
+  missed = t.missed;
+  jogged = t.jogged ∙ p.jogged;
+  once = (let same = p.tries in let one = t.once in omega (arith, same, one));
+  later = λ none. t.later (counted ∙ none) ∙ p.tries;
+  left = t.left ∙ left;
+  whole = t.whole ∙ p.whole;
+  motion = t.motion ∙ motion;
+  cuts = t.cuts ∙ cuts;
+  closed = t.closed ∙ p.closed;
+  flags = t.flags ∙ p.flags;
+  replies = t.replies ∙ p.replies;
+  owed = t.owed ∙ p.owed;
+  words = t.words ∙ p.words;
+  worked = λ w. t.worked (p.worked w);
+  waiting = λ w. waiting (t.waiting w);
+  full = λ e. full (t.full e);
+}
 
-tried_now : (sent : Bool) (h mid next : Journal) → MayHaveLooked h mid → HasTried sent mid next → HasTried sent h next
-tried_now sent h mid next (inl same) t = subst (λ (j : Journal). HasTried sent j next) same t
-tried_now sent h mid next (inr looked) t = looked_before sent looked.0 h next (subst (λ (j : Journal). HasTried sent j next) looked.1 t)
+-- it was looked how many ticks are done before
+looked_before : (first : Opening) (sent : Bool) (done : ℕ) (h next : Journal) → HasTried first sent (at_port (loaded done) ∷ h) next → HasTried first sent h next
+looked_before first sent done h next t =
+    tried_on first sent h (at_port (loaded done) ∷ h) next (passes_load first done h) refl refl refl refl (λ w. record { stands = w.stands; blocks = w.blocks }) (λ e. e) t
+
+tried_now : (first : Opening) (sent : Bool) (h mid next : Journal) → MayHaveLooked h mid → HasTried first sent mid next → HasTried first sent h next
+tried_now first sent h mid next (inl same) t = subst (λ (j : Journal). HasTried first sent j next) same t
+tried_now first sent h mid next (inr looked) t = looked_before first sent looked.0 h next (subst (λ (j : Journal). HasTried first sent j next) looked.1 t)
 
 -- the hand is as before
 hand_looked : (h mid : Journal) → MayHaveLooked h mid → hand_of mid ≡ hand_of h
 hand_looked h mid (inl same) = ap hand_of same
 hand_looked h mid (inr looked) = ap hand_of looked.1
 
-pub tried : (sent : Bool) (h next : Journal) → drop 1 (hand_of h) ≡ [] → Tried sent h next → HasTried sent h next
-tried true h next one t =
-    tried_now true h t.1 next t.2 (subst (HasTried true t.1) (sym t.3) (tried_sent t.0 t.1 (ap (λ (ps : List Piece). drop 1 ps) (hand_looked h t.1 t.2) ∙ one)))
-tried false h next one t = tried_now false h t.1 next t.2 (subst (HasTried false t.1) (sym t.3) (tried_kept t.0 t.1))
+pub tried : (first : Opening) (sent : Bool) (h next : Journal) → drop 1 (hand_of h) ≡ [] → Tried sent h next → HasTried first sent h next
+tried first true h next one t =
+    tried_now first true h t.1 next t.2 (subst (HasTried first true t.1) (sym t.3) (tried_sent first t.0 t.1 (ap (λ (ps : List Piece). drop 1 ps) (hand_looked h t.1 t.2) ∙ one)))
+tried first false h next one t = tried_now first false h t.1 next t.2 (subst (HasTried first false t.1) (sym t.3) (tried_kept first t.0 t.1))
 
 pub fewer_moved : (n : ℕ) (bs : List Block) → length (moved n bs) ≤ length bs
 fewer_moved n [] = omega arith
@@ -490,37 +395,8 @@ not_due : (p : Planned) (now : Motion) → has_segment now p ≡ true → now �
 not_due p now due stands = let d = subst (λ m. has_segment m p ≡ true) stands due in cc
 
 -- a segment comes into the hand before
-pub tried_behind : (mode : Mode) (s : Segment) (sent : Bool) (h next : Journal) → is_due h ≡ true → HasTried sent (did (Take mode) (pieces.Segment s ∷ []) ∷ h) next → HasTried sent h next
-tried_behind mode s sent h next due t = record {
-  steps = t.steps ++ did (Take mode) (pieces.Segment s ∷ []) ∷ [];
-  are = are_both h mid next (did (Take mode) (pieces.Segment s ∷ []) ∷ []) t.steps refl t.are;
-  still = λ e. t.still e ∙ p.still;
-  quiet = t.quiet ∙ ap (λ n. n + one_if sent) p.quiet;
-  polled = t.polled ∙ p.polled;
-  room = t.room;
-  moves = t.moves;
-  sent = t.sent;
-  waits = t.waits;
-  missed = t.missed;
-  jogged = t.jogged;
-  first = t.first;
-  later = t.later;
-  left = t.left;
-  whole = t.whole;
-  motion = t.motion;
-  cuts = t.cuts;
-  closed = t.closed;
-  flags = t.flags;
-  replies = t.replies;
-  owed = t.owed;
-  words = t.words;
-  worked = λ w. t.worked (p.worked w);
-  waiting = λ w. absurd (not_due (plan_of h) (motion_of h) due (t.waiting w).stands);
-  full = λ e. full_before (plan_of h) s.n s.w_out (t.full e);
-}
-  where
-    mid : Journal
-    mid = did (Take mode) (pieces.Segment s ∷ []) ∷ h
-
-    p : PassesNothing h (did (Take mode) (pieces.Segment s ∷ []) ∷ h)
-    p = passes_did (Take mode) (pieces.Segment s ∷ []) h refl
+pub tried_behind : (first : Opening) (mode : Mode) (s : Segment) (sent : Bool) (h next : Journal) → is_due first h ≡ true → HasTried first sent (did (Take mode) (pieces.Segment s ∷ []) ∷ h) next → HasTried first sent h next
+tried_behind first mode s sent h next due t =
+    let taken = did (Take mode) (pieces.Segment s ∷ []) in
+    let p = passes_did first (Take mode) (pieces.Segment s ∷ []) h refl in
+    tried_on first sent h (taken ∷ h) next p refl refl refl refl (λ w. absurd (not_due (plan_of h) (motion_of first h) due w.stands)) (full_before (plan_of h) s.n s.w_out) t

@@ -8,8 +8,8 @@ use Rattle.feed_hold.specs.declared.Motion.{Motion}
 use Rattle.feed_hold.specs.Motions.Call.{on_exec, on_start, on_limit, on_pause, on_stopped, on_drained}
 use Rattle.outside.specs.declared.Turn.{Turn}
 use Rattle.outside.specs.declared.Turn.TheVariants.{Did, Wait, Done}
-use Rattle.run_rules.specs.declared.State.{State}
-use Rattle.board_rules.specs.Ports.PortStep.{took, found_empty, found_closed, found_free, answered, reported, no_reply_room, took_exec, took_ovr, published, no_piece_room, loaded}
+use Rattle.board_rules.specs.Openings.{Opening}
+use Rattle.board_rules.specs.Ports.PortStep.{took, found_empty, found_closed, found_free, found_mark, answered, reported, no_reply_room, took_exec, took_ovr, published, no_piece_room, loaded}
 use Rattle.board_rules.specs.Steps.{Step, Journal}
 use Rattle.board_rules.specs.Steps.Step.{at_port, began, did, made_end, evened, paused, became, cut, halted, closing, turned}
 use Rattle.board_rules.specs.Turns.{this_turn, publishing, ends_turn, takes_requests, obeys, unobeyed_of, owes_report, takes_changes, replans, tries_of, most_tries}
@@ -29,53 +29,35 @@ within s h still fits =
     omega arith
 
 -- no more than one thing in a turn that ends
-once : (t : Turn) (h : Journal) → MayTurn t h → count_by publishing (this_turn h) ≤ 1
-once Did h may = may.once
-once (Wait o) h may = may.ends.once
-once Done h may = let e = ap (λ (ss : List Step). count_by publishing ss) may.still in omega arith
+pub once : (first : Opening) (t : Turn) (h : Journal) → MayTurn first t h → count_by publishing (this_turn h) ≤ 1
+once first Did h may = may.once
+once first (Wait o) h may = may.ends.once
+once first Done h may = let e = ap (λ (ss : List Step). count_by publishing ss) may.still in omega arith
 
-on_turned : (t : Turn) (h : Journal) → MayTurn t h → Fits h → count_by publishing (turned t ∷ h) ≤ count_by ends_turn (turned t ∷ h)
-on_turned t h may fits =
+on_turned : (first : Opening) (t : Turn) (h : Journal) → MayTurn first t h → Fits h → count_by publishing (turned t ∷ h) ≤ count_by ends_turn (turned t ∷ h)
+on_turned first t h may fits =
     let a = sum_by-cons (λ x. cond (publishing x) 1 0) (turned t) h in
     let b = sum_by-cons (λ x. cond (ends_turn x) 1 0) (turned t) h in
-    let o = once t h may in
+    let o = once first t h may in
     omega arith
 
-fits_is : (first : State) (h : Journal) → Conducted first h → Fits h
+fits_is : (first : Opening) (h : Journal) → Conducted first h → Fits h
 fits_is first [] c = omega arith
-fits_is first (at_port e ∷ h) c = within (at_port e) h refl (fits_is first h c.1)
-fits_is first (began o ∷ h) c = within (began o) h refl (fits_is first h c.1)
-fits_is first (did a ps ∷ h) c = within (did a ps) h refl (fits_is first h c.1)
-fits_is first (made_end ∷ h) c = within made_end h refl (fits_is first h c.1)
-fits_is first (evened ∷ h) c = within evened h refl (fits_is first h c.1)
-fits_is first (paused ∷ h) c = within paused h refl (fits_is first h c.1)
-fits_is first (became call m ∷ h) c = within (became call m) h refl (fits_is first h c.1)
-fits_is first (cut k ∷ h) c = within (cut k) h refl (fits_is first h c.1)
-fits_is first (halted ∷ h) c = within halted h refl (fits_is first h c.1)
-fits_is first (closing ∷ h) c = within closing h refl (fits_is first h c.1)
-fits_is first (turned t ∷ h) c = let m = on_turned t h c.0 (fits_is first h c.1) in omega arith
+fits_is first (turned t ∷ h) c = let m = on_turned first t h c.0 (fits_is first h c.1) in omega arith
+fits_is first (s ∷ h) c = within s h refl (fits_is first h c.1)
 
-pub one_a_turn : (first : State) (h : Journal) → Conducted first h → this_turn h ≡ [] → count_by publishing h ≤ count_by ends_turn h
+pub one_a_turn : (first : Opening) (h : Journal) → Conducted first h → this_turn h ≡ [] → count_by publishing h ≤ count_by ends_turn h
 one_a_turn first h c between =
     let m = fits_is first h c in
     let e = ap (λ (ss : List Step). count_by publishing ss) between in
     omega arith
 
-pub few_tries : (first : State) (h : Journal) → Conducted first h → this_turn h ≡ [] → tries_of h ≤ most_tries
+pub few_tries : (first : Opening) (h : Journal) → Conducted first h → this_turn h ≡ [] → tries_of first h ≤ most_tries
 few_tries first [] c between = omega arith
-few_tries first (at_port e ∷ h) c between = absurd cc
-few_tries first (began o ∷ h) c between = absurd cc
-few_tries first (did a ps ∷ h) c between = absurd cc
-few_tries first (made_end ∷ h) c between = absurd cc
-few_tries first (evened ∷ h) c between = absurd cc
-few_tries first (paused ∷ h) c between = absurd cc
-few_tries first (became call m ∷ h) c between = absurd cc
-few_tries first (cut k ∷ h) c between = absurd cc
-few_tries first (halted ∷ h) c between = absurd cc
-few_tries first (closing ∷ h) c between = absurd cc
 few_tries first (turned Did ∷ h) c between = c.0.tries
 few_tries first (turned (Wait o) ∷ h) c between = c.0.ends.tries
 few_tries first (turned Done ∷ h) c between = few_tries first h c.1 c.0.still
+few_tries first (_ ∷ h) c between = absurd cc
 
 -- ---- what is asked for and what is done, as often
 
@@ -84,10 +66,10 @@ abbrev Balances : (Step → Bool) → (Step → Bool) → Journal → Type 0
 Balances f g h = count_by f h + count_by g (this_turn h) ≡ count_by g h + count_by f (this_turn h)
 
 -- so they are as many where no end of a turn is of either kind, and in each turn that ends they are
-record Balance (f g : Step → Bool) : Type 0 where
+record Balance (first : Opening) (f g : Step → Bool) : Type 0 where
   left : (t : Turn) → f (turned t) ≡ false
   right : (t : Turn) → g (turned t) ≡ false
-  each : (t : Turn) (h : Journal) → MayTurn t h → count_by f (this_turn h) ≡ count_by g (this_turn h)
+  each : (t : Turn) (h : Journal) → MayTurn first t h → count_by f (this_turn h) ≡ count_by g (this_turn h)
 
 balance_within : (f g : Step → Bool) (s : Step) (h : Journal) → Balances f g h → count_by f (s ∷ h) + count_by g (s ∷ this_turn h) ≡ count_by g (s ∷ h) + count_by f (s ∷ this_turn h)
 balance_within f g s h balances =
@@ -97,8 +79,8 @@ balance_within f g s h balances =
     let e = sum_by-cons (λ x. cond (g x) 1 0) s (this_turn h) in
     omega arith
 
-balance_turned : (f g : Step → Bool) (t : Turn) (h : Journal) → Balance f g → MayTurn t h → Balances f g h → count_by f (turned t ∷ h) ≡ count_by g (turned t ∷ h)
-balance_turned f g t h b may balances =
+balance_turned : (first : Opening) (f g : Step → Bool) (t : Turn) (h : Journal) → Balance first f g → MayTurn first t h → Balances f g h → count_by f (turned t ∷ h) ≡ count_by g (turned t ∷ h)
+balance_turned first f g t h b may balances =
     let a = sum_by-cons (λ x. cond (f x) 1 0) (turned t) h in
     let d = sum_by-cons (λ x. cond (g x) 1 0) (turned t) h in
     let left = ap (λ (is : Bool). cond {A = ℕ} is 1 0) (b.left t) in
@@ -106,23 +88,14 @@ balance_turned f g t h b may balances =
     let each = b.each t h may in
     omega arith
 
-balances_is : (f g : Step → Bool) → Balance f g → (first : State) (h : Journal) → Conducted first h → Balances f g h
-balances_is f g b first [] c = refl
-balances_is f g b first (at_port e ∷ h) c = balance_within f g (at_port e) h (balances_is f g b first h c.1)
-balances_is f g b first (began o ∷ h) c = balance_within f g (began o) h (balances_is f g b first h c.1)
-balances_is f g b first (did a ps ∷ h) c = balance_within f g (did a ps) h (balances_is f g b first h c.1)
-balances_is f g b first (made_end ∷ h) c = balance_within f g made_end h (balances_is f g b first h c.1)
-balances_is f g b first (evened ∷ h) c = balance_within f g evened h (balances_is f g b first h c.1)
-balances_is f g b first (paused ∷ h) c = balance_within f g paused h (balances_is f g b first h c.1)
-balances_is f g b first (became call m ∷ h) c = balance_within f g (became call m) h (balances_is f g b first h c.1)
-balances_is f g b first (cut k ∷ h) c = balance_within f g (cut k) h (balances_is f g b first h c.1)
-balances_is f g b first (halted ∷ h) c = balance_within f g halted h (balances_is f g b first h c.1)
-balances_is f g b first (closing ∷ h) c = balance_within f g closing h (balances_is f g b first h c.1)
-balances_is f g b first (turned t ∷ h) c = let e = balance_turned f g t h b c.0 (balances_is f g b first h c.1) in omega arith
+balances_is : (f g : Step → Bool) (first : Opening) → Balance first f g → (h : Journal) → Conducted first h → Balances f g h
+balances_is f g first b [] c = refl
+balances_is f g first b (turned t ∷ h) c = let e = balance_turned first f g t h b c.0 (balances_is f g first b h c.1) in omega arith
+balances_is f g first b (s ∷ h) c = balance_within f g s h (balances_is f g first b h c.1)
 
-as_often : (f g : Step → Bool) → Balance f g → (first : State) (h : Journal) → Conducted first h → this_turn h ≡ [] → count_by f h ≡ count_by g h
-as_often f g b first h c between =
-    let e = balances_is f g b first h c in
+as_often : (f g : Step → Bool) (first : Opening) → Balance first f g → (h : Journal) → Conducted first h → this_turn h ≡ [] → count_by f h ≡ count_by g h
+as_often f g first b h c between =
+    let e = balances_is f g first b h c in
     let left = ap (λ (ss : List Step). count_by f ss) between in
     let right = ap (λ (ss : List Step). count_by g ss) between in
     omega arith
@@ -156,89 +129,32 @@ on_obeyed word queued m h words next obeyed =
     omega arith
 
 -- each word of requests that was taken is obeyed once, or not yet
-pub obeyed_each : (first : State) (h : Journal) → Conducted first h → count_by obeys h + length (unobeyed_of h) ≡ count_by takes_requests h
+pub obeyed_each : (first : Opening) (h : Journal) → Conducted first h → count_by obeys h + length (unobeyed_of h) ≡ count_by takes_requests h
 obeyed_each first [] c = refl
-obeyed_each first (at_port (took b) ∷ h) c = on_neither (at_port (took b)) h (unobeyed_of h) refl refl (obeyed_each first h c.1)
-obeyed_each first (at_port found_empty ∷ h) c = on_neither (at_port found_empty) h (unobeyed_of h) refl refl (obeyed_each first h c.1)
-obeyed_each first (at_port found_closed ∷ h) c = on_neither (at_port found_closed) h (unobeyed_of h) refl refl (obeyed_each first h c.1)
-obeyed_each first (at_port (found_free n) ∷ h) c = on_neither (at_port (found_free n)) h (unobeyed_of h) refl refl (obeyed_each first h c.1)
-obeyed_each first (at_port (answered r) ∷ h) c = on_neither (at_port (answered r)) h (unobeyed_of h) refl refl (obeyed_each first h c.1)
-obeyed_each first (at_port (reported r) ∷ h) c = on_neither (at_port (reported r)) h (unobeyed_of h) refl refl (obeyed_each first h c.1)
-obeyed_each first (at_port no_reply_room ∷ h) c = on_neither (at_port no_reply_room) h (unobeyed_of h) refl refl (obeyed_each first h c.1)
 obeyed_each first (at_port (took_exec word) ∷ h) c = on_taken word h (unobeyed_of h) (obeyed_each first h c.1)
-obeyed_each first (at_port (took_ovr word) ∷ h) c = on_neither (at_port (took_ovr word)) h (unobeyed_of h) refl refl (obeyed_each first h c.1)
-obeyed_each first (at_port (published p) ∷ h) c = on_neither (at_port (published p)) h (unobeyed_of h) refl refl (obeyed_each first h c.1)
-obeyed_each first (at_port (no_piece_room done) ∷ h) c = on_neither (at_port (no_piece_room done)) h (unobeyed_of h) refl refl (obeyed_each first h c.1)
-obeyed_each first (at_port (loaded done) ∷ h) c = on_neither (at_port (loaded done)) h (unobeyed_of h) refl refl (obeyed_each first h c.1)
-obeyed_each first (began o ∷ h) c = on_neither (began o) h (unobeyed_of h) refl refl (obeyed_each first h c.1)
-obeyed_each first (did a ps ∷ h) c = on_neither (did a ps) h (unobeyed_of h) refl refl (obeyed_each first h c.1)
-obeyed_each first (made_end ∷ h) c = on_neither made_end h (unobeyed_of h) refl refl (obeyed_each first h c.1)
-obeyed_each first (evened ∷ h) c = on_neither evened h (unobeyed_of h) refl refl (obeyed_each first h c.1)
-obeyed_each first (paused ∷ h) c = on_neither paused h (unobeyed_of h) refl refl (obeyed_each first h c.1)
 obeyed_each first (became (on_exec word queued) m ∷ h) c = on_obeyed word queued m h (unobeyed_of h) c.0.1.next (obeyed_each first h c.1)
-obeyed_each first (became (on_start b) m ∷ h) c = on_neither (became (on_start b) m) h (unobeyed_of h) refl refl (obeyed_each first h c.1)
-obeyed_each first (became on_limit m ∷ h) c = on_neither (became on_limit m) h (unobeyed_of h) refl refl (obeyed_each first h c.1)
-obeyed_each first (became on_pause m ∷ h) c = on_neither (became on_pause m) h (unobeyed_of h) refl refl (obeyed_each first h c.1)
-obeyed_each first (became on_stopped m ∷ h) c = on_neither (became on_stopped m) h (unobeyed_of h) refl refl (obeyed_each first h c.1)
-obeyed_each first (became on_drained m ∷ h) c = on_neither (became on_drained m) h (unobeyed_of h) refl refl (obeyed_each first h c.1)
-obeyed_each first (cut k ∷ h) c = on_neither (cut k) h (unobeyed_of h) refl refl (obeyed_each first h c.1)
-obeyed_each first (halted ∷ h) c = on_neither halted h (unobeyed_of h) refl refl (obeyed_each first h c.1)
-obeyed_each first (closing ∷ h) c = on_neither closing h (unobeyed_of h) refl refl (obeyed_each first h c.1)
-obeyed_each first (turned t ∷ h) c = on_neither (turned t) h (unobeyed_of h) refl refl (obeyed_each first h c.1)
+obeyed_each first (s ∷ h) c = on_neither s h (unobeyed_of h) refl refl (obeyed_each first h c.1)
 
 -- one at most is not obeyed
-pub one_unobeyed : (first : State) (h : Journal) → Conducted first h → length (unobeyed_of h) ≤ 1
+pub one_unobeyed : (first : Opening) (h : Journal) → Conducted first h → length (unobeyed_of h) ≤ 1
 one_unobeyed first [] c = omega arith
-one_unobeyed first (at_port (took b) ∷ h) c = one_unobeyed first h c.1
-one_unobeyed first (at_port found_empty ∷ h) c = one_unobeyed first h c.1
-one_unobeyed first (at_port found_closed ∷ h) c = one_unobeyed first h c.1
-one_unobeyed first (at_port (found_free n) ∷ h) c = one_unobeyed first h c.1
-one_unobeyed first (at_port (answered r) ∷ h) c = one_unobeyed first h c.1
-one_unobeyed first (at_port (reported r) ∷ h) c = one_unobeyed first h c.1
-one_unobeyed first (at_port no_reply_room ∷ h) c = one_unobeyed first h c.1
 one_unobeyed first (at_port (took_exec word) ∷ h) c = let e = ap (λ (ws : List Exec). length (ws ++ word ∷ [])) c.0.obeyed in omega arith
-one_unobeyed first (at_port (took_ovr word) ∷ h) c = one_unobeyed first h c.1
-one_unobeyed first (at_port (published p) ∷ h) c = one_unobeyed first h c.1
-one_unobeyed first (at_port (no_piece_room done) ∷ h) c = one_unobeyed first h c.1
-one_unobeyed first (at_port (loaded done) ∷ h) c = one_unobeyed first h c.1
-one_unobeyed first (began o ∷ h) c = one_unobeyed first h c.1
-one_unobeyed first (did a ps ∷ h) c = one_unobeyed first h c.1
-one_unobeyed first (made_end ∷ h) c = one_unobeyed first h c.1
-one_unobeyed first (evened ∷ h) c = one_unobeyed first h c.1
-one_unobeyed first (paused ∷ h) c = one_unobeyed first h c.1
 one_unobeyed first (became (on_exec word queued) m ∷ h) c = let e = ap (λ (ws : List Exec). length (drop 1 ws)) c.0.1.next in omega arith
-one_unobeyed first (became (on_start b) m ∷ h) c = one_unobeyed first h c.1
-one_unobeyed first (became on_limit m ∷ h) c = one_unobeyed first h c.1
-one_unobeyed first (became on_pause m ∷ h) c = one_unobeyed first h c.1
-one_unobeyed first (became on_stopped m ∷ h) c = one_unobeyed first h c.1
-one_unobeyed first (became on_drained m ∷ h) c = one_unobeyed first h c.1
-one_unobeyed first (cut k ∷ h) c = one_unobeyed first h c.1
-one_unobeyed first (halted ∷ h) c = one_unobeyed first h c.1
-one_unobeyed first (closing ∷ h) c = one_unobeyed first h c.1
-one_unobeyed first (turned t ∷ h) c = one_unobeyed first h c.1
+one_unobeyed first (_ ∷ h) c = one_unobeyed first h c.1
 
 -- and between two turns only where a report is owed
-pub obeyed_between : (first : State) (h : Journal) → Conducted first h → this_turn h ≡ [] → owes_report h ≡ false → unobeyed_of h ≡ []
+pub obeyed_between : (first : Opening) (h : Journal) → Conducted first h → this_turn h ≡ [] → owes_report h ≡ false → unobeyed_of h ≡ []
 obeyed_between first [] c between unowed = refl
-obeyed_between first (at_port e ∷ h) c between unowed = absurd cc
-obeyed_between first (began o ∷ h) c between unowed = absurd cc
-obeyed_between first (did a ps ∷ h) c between unowed = absurd cc
-obeyed_between first (made_end ∷ h) c between unowed = absurd cc
-obeyed_between first (evened ∷ h) c between unowed = absurd cc
-obeyed_between first (paused ∷ h) c between unowed = absurd cc
-obeyed_between first (became call m ∷ h) c between unowed = absurd cc
-obeyed_between first (cut k ∷ h) c between unowed = absurd cc
-obeyed_between first (halted ∷ h) c between unowed = absurd cc
-obeyed_between first (closing ∷ h) c between unowed = absurd cc
 obeyed_between first (turned Did ∷ h) c between unowed = c.0.obeyed unowed
 obeyed_between first (turned (Wait o) ∷ h) c between unowed = c.0.obeyed
 obeyed_between first (turned Done ∷ h) c between unowed = obeyed_between first h c.1 c.0.still unowed
+obeyed_between first (_ ∷ h) c between unowed = absurd cc
 
-changed_in : (t : Turn) (h : Journal) → MayTurn t h → count_by replans (this_turn h) ≡ count_by takes_changes (this_turn h)
-changed_in Did h may = may.changed
-changed_in (Wait o) h may = may.ends.changed
-changed_in Done h may = rw may.still refl
+changed_in : (first : Opening) (t : Turn) (h : Journal) → MayTurn first t h → count_by replans (this_turn h) ≡ count_by takes_changes (this_turn h)
+changed_in first Did h may = may.changed
+changed_in first (Wait o) h may = may.ends.changed
+changed_in first Done h may = rw may.still refl
 
 -- for each word that changes overrides the plan is made anew
-pub changed_each : (first : State) (h : Journal) → Conducted first h → this_turn h ≡ [] → count_by replans h ≡ count_by takes_changes h
-changed_each = as_often replans takes_changes (record { left = λ t. refl; right = λ t. refl; each = changed_in })
+pub changed_each : (first : Opening) (h : Journal) → Conducted first h → this_turn h ≡ [] → count_by replans h ≡ count_by takes_changes h
+changed_each first = as_often replans takes_changes first (record { left = λ t. refl; right = λ t. refl; each = changed_in first })

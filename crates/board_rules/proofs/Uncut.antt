@@ -9,9 +9,9 @@ use Rattle.planner_runs.specs.declared.Action.TheVariants.{Add, Take, Override, 
 use Rattle.step_line.specs.Asking.{Asked}
 use Rattle.step_line.specs.Asking.Asked.{a_move, a_mark, a_rest}
 use Rattle.step_line.specs.declared.Piece.{Piece}
-use Rattle.run_rules.specs.declared.State.{State}
+use Rattle.board_rules.specs.Openings.{Opening}
 use Rattle.run_rules.specs.Work.{Task, asks}
-use Rattle.run_rules.specs.Work.Task.{ask, tell, pause, normal, finish, halt}
+use Rattle.run_rules.specs.Work.Task.{ask}
 use Rattle.board_rules.specs.Ports.PortStep.{answered}
 use Rattle.board_rules.specs.Steps.{Journal, left_of, behind, plan_of, motion_of}
 use Rattle.board_rules.specs.Steps.Step.{at_port, began, did, made_end, evened, paused, became, cut, halted, closing, turned}
@@ -28,17 +28,13 @@ none_asked ts a none next = absurd (let e = sym none ∙ ap asks next in cc)
 asks_behind : (ts : List Task) → asks ts ≡ [] → asks (drop 1 ts) ≡ []
 asks_behind [] none = refl
 asks_behind (ask a ∷ ts) none = absurd cc
-asks_behind (tell r ∷ ts) none = none
-asks_behind (pause ∷ ts) none = none
-asks_behind (normal ∷ ts) none = none
-asks_behind (finish ∷ ts) none = none
-asks_behind (halt ∷ ts) none = none
+asks_behind (_ ∷ ts) none = none
 
 -- jogs were cancelled, nothing is planned, and nothing is asked for
-pub record IsCutOff (h : Journal) : Type 0 where
-  pub cancelled : motion_of h ≡ motions.Cancelling
+pub record IsCutOff (first : Opening) (h : Journal) : Type 0 where
+  pub cancelled : motion_of first h ≡ motions.Cancelling
   pub blocks : (plan_of h).blocks ≡ []
-  pub none : asks (left_of h) ≡ []
+  pub none : asks (left_of first h) ≡ []
 
 and_left : (a b : Bool) → (a && b) ≡ true → a ≡ true
 and_left true b is = refl
@@ -52,31 +48,31 @@ cancels : (m : Motion) → is_cancelling m ≡ true → m ≡ motions.Cancelling
 cancels motions.Cancelling is = refl
 cancels m is = absurd cc
 
-did_then : (h : Journal) (a : Action) (ps : List Piece) → MayDo a h → Gives a ps (plan_of h) → IsCutOff h → IsCutOff (did a ps ∷ h)
-did_then h (Add m) ps may gives r = absurd (none_asked (left_of h) (a_move m) r.none may)
-did_then h (Mark m) ps may gives r = absurd (none_asked (left_of h) (a_mark m) r.none may.next)
-did_then h Rest ps may gives r = absurd (none_asked (left_of h) a_rest r.none may.next)
-did_then h (Take mode) ps may gives r = absurd (none_taken (plan_of h) mode ps (behind (Take mode) ps (plan_of h)) r.blocks gives)
-did_then h (Override o) ps may gives r = record { cancelled = r.cancelled; blocks = r.blocks; none = r.none }
-did_then h Clear ps may gives r = absurd may
-did_then h Reset ps may gives r = absurd may
+did_then : (first : Opening) (h : Journal) (a : Action) (ps : List Piece) → MayDo first a h → Gives a ps (plan_of h) → IsCutOff first h → IsCutOff first (did a ps ∷ h)
+did_then first h (Add m) ps may gives r = absurd (none_asked (left_of first h) (a_move m) r.none may)
+did_then first h (Mark m) ps may gives r = absurd (none_asked (left_of first h) (a_mark m) r.none may.next)
+did_then first h Rest ps may gives r = absurd (none_asked (left_of first h) a_rest r.none may.next)
+did_then first h (Take mode) ps may gives r = absurd (none_taken (plan_of h) mode ps (behind (Take mode) ps (plan_of h)) r.blocks gives)
+did_then first h (Override o) ps may gives r = record { cancelled = r.cancelled; blocks = r.blocks; none = r.none }
+did_then first h Clear ps may gives r = absurd may
+did_then first h Reset ps may gives r = absurd may
 
-not_standing : {A : Type 0} (h : Journal) → motion_of h ≡ motions.Idle → IsCutOff h → A
-not_standing h stands r = absurd (let e = sym stands ∙ r.cancelled in cc)
+not_standing : {A : Type 0} (first : Opening) (h : Journal) → motion_of first h ≡ motions.Idle → IsCutOff first h → A
+not_standing first h stands r = absurd (let e = sym stands ∙ r.cancelled in cc)
 
-pub cut_off : (first : State) (h : Journal) → Conducted first h → has_cut h ≡ true → IsCutOff h
+pub cut_off : (first : Opening) (h : Journal) → Conducted first h → has_cut h ≡ true → IsCutOff first h
 cut_off first [] c is = absurd cc
-cut_off first (at_port (answered r) ∷ h) c is = let o = cut_off first h c.1 is in record { cancelled = o.cancelled; blocks = o.blocks; none = asks_behind (left_of h) o.none }
+cut_off first (at_port (answered r) ∷ h) c is = let o = cut_off first h c.1 is in record { cancelled = o.cancelled; blocks = o.blocks; none = asks_behind (left_of first h) o.none }
 cut_off first (at_port e ∷ h) c is = let o = cut_off first h c.1 is in record { cancelled = o.cancelled; blocks = o.blocks; none = o.none }
 cut_off first (began o ∷ h) c is = absurd (let e = sym (ap begins_in (cut_off first h c.1 is).cancelled) ∙ c.0.begins in cc)
-cut_off first (did a ps ∷ h) c is = did_then h a ps c.0.0 c.0.1 (cut_off first h c.1 is)
+cut_off first (did a ps ∷ h) c is = did_then first h a ps c.0.0 c.0.1 (cut_off first h c.1 is)
 cut_off first (made_end ∷ h) c is = absurd (let e = sym (ap stands_still (cut_off first h c.1 is).cancelled) ∙ c.0.stands in cc)
-cut_off first (evened ∷ h) c is = not_standing h c.0.rests.stands (cut_off first h c.1 is)
+cut_off first (evened ∷ h) c is = not_standing first h c.0.rests.stands (cut_off first h c.1 is)
 cut_off first (paused ∷ h) c is = absurd cc
 cut_off first (became call m ∷ h) c is =
     let o = cut_off first h c.1 (and_right (is_cancelling m) (has_cut h) is) in
     record { cancelled = cancels m (and_left (is_cancelling m) (has_cut h) is); blocks = o.blocks; none = o.none }
-cut_off first (cut k ∷ h) c is = record { cancelled = c.0.cancelled; blocks = refl; none = asks_dropped (left_of h) }
+cut_off first (cut k ∷ h) c is = record { cancelled = c.0.cancelled; blocks = refl; none = asks_dropped (left_of first h) }
 cut_off first (halted ∷ h) c is = absurd (let e = sym c.0.alarm ∙ (cut_off first h c.1 is).cancelled in cc)
 cut_off first (closing ∷ h) c is = let o = cut_off first h c.1 is in record { cancelled = o.cancelled; blocks = o.blocks; none = refl }
 cut_off first (turned t ∷ h) c is = let o = cut_off first h c.1 is in record { cancelled = o.cancelled; blocks = o.blocks; none = o.none }
@@ -86,10 +82,10 @@ by_not true other = absurd (other refl)
 by_not false other = refl
 
 -- in another state of the motion they were not
-pub uncut_else : (first : State) (h : Journal) → Conducted first h → (motion_of h ≡ motions.Cancelling → ⊥) → has_cut h ≡ false
+pub uncut_else : (first : Opening) (h : Journal) → Conducted first h → (motion_of first h ≡ motions.Cancelling → ⊥) → has_cut h ≡ false
 uncut_else first h c other = by_not (has_cut h) (λ is. other (cut_off first h c is).cancelled)
 
-pub uncut_idle : (first : State) (h : Journal) → Conducted first h → motion_of h ≡ motions.Idle → has_cut h ≡ false
+pub uncut_idle : (first : Opening) (h : Journal) → Conducted first h → motion_of first h ≡ motions.Idle → has_cut h ≡ false
 uncut_idle first h c stands = uncut_else first h c (λ is. absurd (let e = sym stands ∙ is in cc))
 
 -- a cancel stays one behind a word
@@ -112,13 +108,13 @@ and_false true = refl
 and_false false = refl
 
 -- so a word cuts nothing, and takes no cut back
-pub cut_obeyed : (first : State) (word : Exec) (queued : Bool) (h : Journal) → Conducted first h → has_cut h ≡ (is_cancelling (after_word word queued (motion_of h)) && has_cut h)
+pub cut_obeyed : (first : Opening) (word : Exec) (queued : Bool) (h : Journal) → Conducted first h → has_cut h ≡ (is_cancelling (after_word word queued (motion_of first h)) && has_cut h)
 cut_obeyed first word queued h c = by_cut (has_cut h) refl
   where
-    by_cut : (b : Bool) → has_cut h ≡ b → has_cut h ≡ (is_cancelling (after_word word queued (motion_of h)) && has_cut h)
-    by_cut false e = e ∙ sym (ap (λ (b : Bool). is_cancelling (after_word word queued (motion_of h)) && b) e ∙ and_false (is_cancelling (after_word word queued (motion_of h))))
+    by_cut : (b : Bool) → has_cut h ≡ b → has_cut h ≡ (is_cancelling (after_word word queued (motion_of first h)) && has_cut h)
+    by_cut false e = e ∙ sym (ap (λ (b : Bool). is_cancelling (after_word word queued (motion_of first h)) && b) e ∙ and_false (is_cancelling (after_word word queued (motion_of first h))))
     by_cut true e =
-        let still : is_cancelling (after_word word queued (motion_of h)) ≡ true =
+        let still : is_cancelling (after_word word queued (motion_of first h)) ≡ true =
         ap (λ (m : Motion). is_cancelling (after_word word queued m)) (cut_off first h c e).cancelled
         ∙ still_cancelled (asks_in_word word hold_byte) (asks_in_word word cancel_byte) (asks_in_word word start_byte) queued in
         sym (ap (λ (b : Bool). b && has_cut h) still)

@@ -7,58 +7,45 @@ use Rattle.outside.specs.declared.On.TheVariants as on
 use Rattle.outside.specs.declared.Turn.{Turn}
 use Rattle.outside.specs.declared.Turn.TheVariants.{Did, Wait, Done}
 use Rattle.line_geom.specs.declared.Block.{Block}
-use Rattle.planner_runs.specs.declared.Action.TheVariants.{Add, Take, Override, Mark, Rest, Clear, Reset}
-use Rattle.run_rules.specs.declared.State.{State}
+use Rattle.planner_runs.specs.declared.Action.TheVariants.{Add, Mark, Rest, Clear, Reset}
+use Rattle.board_rules.specs.Openings.{Opening}
 use Rattle.run_rules.specs.Work.{Task}
 use Rattle.run_rules.specs.Work.Task.{ask, pause, normal, finish, halt}
 use Rattle.step_line.specs.Asking.Asked.{a_move, a_mark, a_rest}
 use Rattle.step_line.specs.Finishing.{unfinished, most_unfinished}
 use Rattle.step_line.specs.declared.planned_move.PlannedMove.{PlannedMove}
 use Rattle.board_rules.specs.Ports.{PortStep, asks_report}
-use Rattle.board_rules.specs.Ports.PortStep.{took, found_empty, found_closed, found_free, answered, reported, no_reply_room, took_exec, took_ovr, published, no_piece_room, loaded}
+use Rattle.board_rules.specs.Ports.PortStep.{took, answered, reported, no_reply_room, took_exec, published, no_piece_room}
 use Rattle.board_rules.specs.Steps.{Journal, published_of, left_of, plan_of, motion_of}
-use Rattle.board_rules.specs.Steps.Step.{at_port, began, did, made_end, evened, paused, became, cut, halted, closing, turned}
+use Rattle.board_rules.specs.Steps.Step.{at_port, began, did, made_end, evened, paused, cut, halted, closing, turned}
 use Rattle.board_rules.specs.Turns.{this_turn, passing, found_none, lacks_piece_room, lacks_reply_room, owes_report, tells_next, halts_next, is_limited, has_blocks, is_full, has_segment, is_due, starts_cycle, missed_of, begun_while_due, waits_at, waits_by, waits_of, waits_while_due}
 use Rattle.board_rules.specs.Conduct.{Conducted, MayTurn, Needs, IsNextTask, AreWaiting}
+use Rattle.board_rules.proofs.Opening.{none_asked_told, no_halt_told}
 use Rattle.board_rules.proofs.Dropping.{tell_kept}
 use Rattle.board_rules.proofs.Closing.{spent}
 
 -- ---- why it waits
 
-pub one_cause : (o : On) (h : Journal) → Needs o h → (o ≡ on.Byte) ⊎ ((o ≡ on.ReplyRoom) ⊎ ((o ≡ on.SegmentRoom) ⊎ ((o ≡ on.Motion) ⊎ (o ≡ on.Resume))))
-one_cause on.Byte h needs = inl refl
-one_cause on.ReplyRoom h needs = inr (inl refl)
-one_cause on.SegmentRoom h needs = inr (inr (inl refl))
-one_cause on.Motion h needs = inr (inr (inr (inl refl)))
-one_cause on.Resume h needs = inr (inr (inr (inr refl)))
-one_cause o h needs = absurd needs
+pub one_cause : (first : Opening) (o : On) (h : Journal) → Needs first o h → (o ≡ on.Byte) ⊎ ((o ≡ on.ReplyRoom) ⊎ ((o ≡ on.SegmentRoom) ⊎ ((o ≡ on.Motion) ⊎ (o ≡ on.Resume))))
+one_cause first on.Byte h needs = inl refl
+one_cause first on.ReplyRoom h needs = inr (inl refl)
+one_cause first on.SegmentRoom h needs = inr (inr (inl refl))
+one_cause first on.Motion h needs = inr (inr (inr (inl refl)))
+one_cause first on.Resume h needs = inr (inr (inr (inr refl)))
+one_cause first o h needs = absurd needs
 
 -- where room for a piece lacked in a turn in which nothing went on its way, five of the published pieces are unfinished
-pub pieces_lack_room : (first : State) (h : Journal) → Conducted first h → list_any lacks_piece_room (this_turn h) ≡ true → list_any passing (this_turn h) ≡ false
+pub pieces_lack_room : (first : Opening) (h : Journal) → Conducted first h → list_any lacks_piece_room (this_turn h) ≡ true → list_any passing (this_turn h) ≡ false
     → (done : ℕ) × (unfinished (published_of h) done ≡ most_unfinished)
 pieces_lack_room first [] c lacks still = absurd cc
 pieces_lack_room first (at_port (took b) ∷ h) c lacks still = absurd cc
-pieces_lack_room first (at_port found_empty ∷ h) c lacks still = pieces_lack_room first h c.1 lacks still
-pieces_lack_room first (at_port found_closed ∷ h) c lacks still = pieces_lack_room first h c.1 lacks still
-pieces_lack_room first (at_port (found_free n) ∷ h) c lacks still = pieces_lack_room first h c.1 lacks still
 pieces_lack_room first (at_port (answered r) ∷ h) c lacks still = absurd cc
 pieces_lack_room first (at_port (reported r) ∷ h) c lacks still = absurd cc
-pieces_lack_room first (at_port no_reply_room ∷ h) c lacks still = pieces_lack_room first h c.1 lacks still
-pieces_lack_room first (at_port (took_exec word) ∷ h) c lacks still = pieces_lack_room first h c.1 lacks still
-pieces_lack_room first (at_port (took_ovr word) ∷ h) c lacks still = pieces_lack_room first h c.1 lacks still
 pieces_lack_room first (at_port (published p) ∷ h) c lacks still = absurd cc
 pieces_lack_room first (at_port (no_piece_room done) ∷ h) c lacks still = (done, c.0.full.full)
-pieces_lack_room first (at_port (loaded done) ∷ h) c lacks still = pieces_lack_room first h c.1 lacks still
 pieces_lack_room first (began o ∷ h) c lacks still = absurd cc
-pieces_lack_room first (did a ps ∷ h) c lacks still = pieces_lack_room first h c.1 lacks still
-pieces_lack_room first (made_end ∷ h) c lacks still = pieces_lack_room first h c.1 lacks still
-pieces_lack_room first (evened ∷ h) c lacks still = pieces_lack_room first h c.1 lacks still
-pieces_lack_room first (paused ∷ h) c lacks still = pieces_lack_room first h c.1 lacks still
-pieces_lack_room first (became call m ∷ h) c lacks still = pieces_lack_room first h c.1 lacks still
-pieces_lack_room first (cut k ∷ h) c lacks still = pieces_lack_room first h c.1 lacks still
-pieces_lack_room first (halted ∷ h) c lacks still = pieces_lack_room first h c.1 lacks still
-pieces_lack_room first (closing ∷ h) c lacks still = pieces_lack_room first h c.1 lacks still
 pieces_lack_room first (turned t ∷ h) c lacks still = absurd cc
+pieces_lack_room first (_ ∷ h) c lacks still = pieces_lack_room first h c.1 lacks still
 
 -- no reply is next where another task is
 no_tell : {A : Type 0} (tasks : List Task) (t : Task) (others : List Task) → tells_next (t ∷ others) ≡ false → tasks ≡ t ∷ others → tells_next tasks ≡ true → A
@@ -84,56 +71,39 @@ owed_more false owes true is = refl
 owed_more false owes false is = is
 
 -- where room for a reply lacked in such a turn, a reply is next, or a report is owed
-pub reply_is_next : (first : State) (h : Journal) → Conducted first h → list_any lacks_reply_room (this_turn h) ≡ true → list_any passing (this_turn h) ≡ false
-    → (tells_next (left_of h) || owes_report h) ≡ true
+pub reply_is_next : (first : Opening) (h : Journal) → Conducted first h → list_any lacks_reply_room (this_turn h) ≡ true → list_any passing (this_turn h) ≡ false
+    → (tells_next (left_of first h) || owes_report h) ≡ true
 reply_is_next first [] c lacks still = absurd cc
 reply_is_next first (at_port (took b) ∷ h) c lacks still = absurd cc
-reply_is_next first (at_port found_empty ∷ h) c lacks still = reply_is_next first h c.1 lacks still
-reply_is_next first (at_port found_closed ∷ h) c lacks still = reply_is_next first h c.1 lacks still
-reply_is_next first (at_port (found_free n) ∷ h) c lacks still = reply_is_next first h c.1 lacks still
 reply_is_next first (at_port (answered r) ∷ h) c lacks still = absurd cc
 reply_is_next first (at_port (reported r) ∷ h) c lacks still = absurd cc
 reply_is_next first (at_port no_reply_room ∷ h) c lacks still = c.0
-reply_is_next first (at_port (took_exec word) ∷ h) c lacks still = owed_more (tells_next (left_of h)) (owes_report h) (asks_report word) (reply_is_next first h c.1 lacks still)
-reply_is_next first (at_port (took_ovr word) ∷ h) c lacks still = reply_is_next first h c.1 lacks still
+reply_is_next first (at_port (took_exec word) ∷ h) c lacks still = owed_more (tells_next (left_of first h)) (owes_report h) (asks_report word) (reply_is_next first h c.1 lacks still)
 reply_is_next first (at_port (published p) ∷ h) c lacks still = absurd cc
-reply_is_next first (at_port (no_piece_room done) ∷ h) c lacks still = reply_is_next first h c.1 lacks still
-reply_is_next first (at_port (loaded done) ∷ h) c lacks still = reply_is_next first h c.1 lacks still
 reply_is_next first (began o ∷ h) c lacks still = absurd cc
-reply_is_next first (did (Take m) ps ∷ h) c lacks still = reply_is_next first h c.1 lacks still
-reply_is_next first (did (Add m) ps ∷ h) c lacks still = kept (tells_next (left_of h)) (owes_report h) (tells_next (left_of (did (Add m) ps ∷ h))) (no_tell (left_of h) (ask (a_move m)) _ refl c.0.0) (reply_is_next first h c.1 lacks still)
-reply_is_next first (did (Mark m) ps ∷ h) c lacks still = kept (tells_next (left_of h)) (owes_report h) (tells_next (left_of (did (Mark m) ps ∷ h))) (no_tell (left_of h) (ask (a_mark m)) _ refl c.0.0.next) (reply_is_next first h c.1 lacks still)
-reply_is_next first (did Rest ps ∷ h) c lacks still = kept (tells_next (left_of h)) (owes_report h) (tells_next (left_of (did Rest ps ∷ h))) (no_tell (left_of h) (ask a_rest) _ refl c.0.0.next) (reply_is_next first h c.1 lacks still)
-reply_is_next first (did (Override o) ps ∷ h) c lacks still = reply_is_next first h c.1 lacks still
+reply_is_next first (did (Add m) ps ∷ h) c lacks still = kept (tells_next (left_of first h)) (owes_report h) (tells_next (left_of first (did (Add m) ps ∷ h))) (no_tell (left_of first h) (ask (a_move m)) _ refl c.0.0) (reply_is_next first h c.1 lacks still)
+reply_is_next first (did (Mark m) ps ∷ h) c lacks still = kept (tells_next (left_of first h)) (owes_report h) (tells_next (left_of first (did (Mark m) ps ∷ h))) (no_tell (left_of first h) (ask (a_mark m)) _ refl c.0.0.next) (reply_is_next first h c.1 lacks still)
+reply_is_next first (did Rest ps ∷ h) c lacks still = kept (tells_next (left_of first h)) (owes_report h) (tells_next (left_of first (did Rest ps ∷ h))) (no_tell (left_of first h) (ask a_rest) _ refl c.0.0.next) (reply_is_next first h c.1 lacks still)
 reply_is_next first (did Clear ps ∷ h) c lacks still = absurd c.0.0
 reply_is_next first (did Reset ps ∷ h) c lacks still = absurd c.0.0
-reply_is_next first (made_end ∷ h) c lacks still = kept (tells_next (left_of h)) (owes_report h) (tells_next (left_of (made_end ∷ h))) (no_tell (left_of h) finish _ refl c.0.next) (reply_is_next first h c.1 lacks still)
-reply_is_next first (evened ∷ h) c lacks still = kept (tells_next (left_of h)) (owes_report h) (tells_next (left_of (evened ∷ h))) (no_tell (left_of h) normal _ refl c.0.rests.next) (reply_is_next first h c.1 lacks still)
-reply_is_next first (paused ∷ h) c lacks still = kept (tells_next (left_of h)) (owes_report h) (tells_next (left_of (paused ∷ h))) (no_tell (left_of h) pause _ refl c.0.rests.next) (reply_is_next first h c.1 lacks still)
-reply_is_next first (became call m ∷ h) c lacks still = reply_is_next first h c.1 lacks still
-reply_is_next first (cut k ∷ h) c lacks still = kept (tells_next (left_of h)) (owes_report h) (tells_next (left_of (cut k ∷ h))) (tell_kept (left_of h)) (reply_is_next first h c.1 lacks still)
-reply_is_next first (halted ∷ h) c lacks still = kept (tells_next (left_of h)) (owes_report h) (tells_next (left_of (halted ∷ h))) (no_tell (left_of h) halt _ refl c.0.next) (reply_is_next first h c.1 lacks still)
-reply_is_next first (closing ∷ h) c lacks still = kept (tells_next (left_of h)) (owes_report h) (tells_next (left_of (closing ∷ h))) (none_told (left_of h) c.0.free) (reply_is_next first h c.1 lacks still)
+reply_is_next first (made_end ∷ h) c lacks still = kept (tells_next (left_of first h)) (owes_report h) (tells_next (left_of first (made_end ∷ h))) (no_tell (left_of first h) finish _ refl c.0.next) (reply_is_next first h c.1 lacks still)
+reply_is_next first (evened ∷ h) c lacks still = kept (tells_next (left_of first h)) (owes_report h) (tells_next (left_of first (evened ∷ h))) (no_tell (left_of first h) normal _ refl c.0.rests.next) (reply_is_next first h c.1 lacks still)
+reply_is_next first (paused ∷ h) c lacks still = kept (tells_next (left_of first h)) (owes_report h) (tells_next (left_of first (paused ∷ h))) (no_tell (left_of first h) pause _ refl c.0.rests.next) (reply_is_next first h c.1 lacks still)
+reply_is_next first (cut k ∷ h) c lacks still = kept (tells_next (left_of first h)) (owes_report h) (tells_next (left_of first (cut k ∷ h))) (tell_kept (left_of first h)) (reply_is_next first h c.1 lacks still)
+reply_is_next first (halted ∷ h) c lacks still = kept (tells_next (left_of first h)) (owes_report h) (tells_next (left_of first (halted ∷ h))) (no_tell (left_of first h) halt _ refl c.0.next) (reply_is_next first h c.1 lacks still)
+reply_is_next first (closing ∷ h) c lacks still = kept (tells_next (left_of first h)) (owes_report h) (tells_next (left_of first (closing ∷ h))) (none_told (left_of first h) c.0.free) (reply_is_next first h c.1 lacks still)
 reply_is_next first (turned t ∷ h) c lacks still = absurd cc
+reply_is_next first (_ ∷ h) c lacks still = reply_is_next first h c.1 lacks still
 
 -- ---- what is done between two turns
 
 -- a move that is next is added, unless the plan is full
-pub adds : (first : State) (h : Journal) (m : PlannedMove) → Conducted first h → this_turn h ≡ [] → IsNextTask (ask (a_move m)) h → is_full (plan_of h) ≡ true
-adds first [] m c between next = absurd cc
-adds first (at_port e ∷ h) m c between next = absurd cc
-adds first (began o ∷ h) m c between next = absurd cc
-adds first (did a ps ∷ h) m c between next = absurd cc
-adds first (made_end ∷ h) m c between next = absurd cc
-adds first (evened ∷ h) m c between next = absurd cc
-adds first (paused ∷ h) m c between next = absurd cc
-adds first (became call n ∷ h) m c between next = absurd cc
-adds first (cut k ∷ h) m c between next = absurd cc
-adds first (halted ∷ h) m c between next = absurd cc
-adds first (closing ∷ h) m c between next = absurd cc
+pub adds : (first : Opening) (h : Journal) (m : PlannedMove) → Conducted first h → this_turn h ≡ [] → IsNextTask first (ask (a_move m)) h → is_full (plan_of h) ≡ true
+adds first [] m c between next = none_asked_told first.tells (a_move m) _ next
 adds first (turned Did ∷ h) m c between next = c.0.adds m next
 adds first (turned (Wait o) ∷ h) m c between next = c.0.ends.adds m next
 adds first (turned Done ∷ h) m c between next = absurd (let e = sym c.0.finished.left ∙ next in cc)
+adds first (_ ∷ h) m c between next = absurd cc
 
 no_blocks : {A : Type 0} (blocks : List Block) → blocks ≡ [] → has_blocks blocks ≡ true → A
 no_blocks blocks none some = absurd (let e = sym some ∙ ap has_blocks none in cc)
@@ -143,58 +113,31 @@ or_right true b none = absurd cc
 or_right false b none = none
 
 -- no queued block waits for a start that is called for
-pub starts : (first : State) (h : Journal) → Conducted first h → this_turn h ≡ [] → AreWaiting h → starts_cycle h ≡ false
+pub starts : (first : Opening) (h : Journal) → Conducted first h → this_turn h ≡ [] → AreWaiting first h → starts_cycle first h ≡ false
 starts first [] c between w = no_blocks [] refl w.blocks
-starts first (at_port e ∷ h) c between w = absurd cc
-starts first (began o ∷ h) c between w = absurd cc
-starts first (did a ps ∷ h) c between w = absurd cc
-starts first (made_end ∷ h) c between w = absurd cc
-starts first (evened ∷ h) c between w = absurd cc
-starts first (paused ∷ h) c between w = absurd cc
-starts first (became call n ∷ h) c between w = absurd cc
-starts first (cut k ∷ h) c between w = absurd cc
-starts first (halted ∷ h) c between w = absurd cc
-starts first (closing ∷ h) c between w = absurd cc
 starts first (turned Did ∷ h) c between w = or_right (list_any found_none (this_turn h)) _ (c.0.starts (record { stands = w.stands; blocks = w.blocks }))
 starts first (turned (Wait o) ∷ h) c between w = or_right (list_any found_none (this_turn h)) _ (c.0.ends.starts (record { stands = w.stands; blocks = w.blocks }))
 starts first (turned Done ∷ h) c between w = no_blocks (plan_of h).blocks (spent first h c.1 c.0.finished).plan.blocks w.blocks
+starts first (_ ∷ h) c between w = absurd cc
 
 -- a machine that is to be halted slows down for that, or stands in alarm
-pub halts_between : (first : State) (h : Journal) → Conducted first h → this_turn h ≡ [] → halts_next (left_of h) ≡ true → is_limited (motion_of h) ≡ true
-halts_between first [] c between next = absurd cc
-halts_between first (at_port e ∷ h) c between next = absurd cc
-halts_between first (began o ∷ h) c between next = absurd cc
-halts_between first (did a ps ∷ h) c between next = absurd cc
-halts_between first (made_end ∷ h) c between next = absurd cc
-halts_between first (evened ∷ h) c between next = absurd cc
-halts_between first (paused ∷ h) c between next = absurd cc
-halts_between first (became call n ∷ h) c between next = absurd cc
-halts_between first (cut k ∷ h) c between next = absurd cc
-halts_between first (halted ∷ h) c between next = absurd cc
-halts_between first (closing ∷ h) c between next = absurd cc
+pub halts_between : (first : Opening) (h : Journal) → Conducted first h → this_turn h ≡ [] → halts_next (left_of first h) ≡ true → is_limited (motion_of first h) ≡ true
+halts_between first [] c between next = absurd (let e = sym next ∙ no_halt_told first.tells in cc)
 halts_between first (turned Did ∷ h) c between next = c.0.halts next
 halts_between first (turned (Wait o) ∷ h) c between next = c.0.ends.halts next
 halts_between first (turned Done ∷ h) c between next = absurd (let e = sym (ap halts_next c.0.finished.left) ∙ next in cc)
+halts_between first (_ ∷ h) c between next = absurd cc
 
 -- ---- from try to try
 
 -- where a line was begun since the last try, while a segment was due, a try is missed
-abbrev Missed : Journal → Type 0
-Missed h = (begun_while_due h ≡ 0) ⊎ ((begun_while_due h ≡ 1) × (missed_of h ≡ true))
+abbrev Missed : Opening → Journal → Type 0
+Missed first h = (begun_while_due first h ≡ 0) ⊎ ((begun_while_due first h ≡ 1) × (missed_of first h ≡ true))
 
-missed_at_port : (e : PortStep) (h : Journal) → Missed h → Missed (at_port e ∷ h)
-missed_at_port (took b) h m = m
-missed_at_port found_empty h m = m
-missed_at_port found_closed h m = m
-missed_at_port (found_free n) h m = m
-missed_at_port (answered r) h m = m
-missed_at_port (reported r) h m = m
-missed_at_port no_reply_room h m = m
-missed_at_port (took_exec word) h m = m
-missed_at_port (took_ovr word) h m = m
-missed_at_port (published p) h m = inl refl
-missed_at_port (no_piece_room done) h m = inl refl
-missed_at_port (loaded done) h m = m
+missed_at_port : (first : Opening) (e : PortStep) (h : Journal) → Missed first h → Missed first (at_port e ∷ h)
+missed_at_port first (published p) h m = inl refl
+missed_at_port first (no_piece_room done) h m = inl refl
+missed_at_port first _ h m = m
 
 missed_by : (due : Bool) (n : ℕ) (missed : Bool) → (n ≡ 0) ⊎ ((n ≡ 1) × (missed ≡ true)) → (cond due n 0 ≡ 0) ⊎ ((cond due n 0 ≡ 1) × ((missed && due) ≡ true))
 missed_by true n missed (inl none) = inl none
@@ -206,24 +149,17 @@ first_since true n missed (inl none) tried = rw none refl
 first_since true n missed (inr one) tried = absurd (let e : (true && true) ≡ false = subst (λ (b : Bool). (b && true) ≡ false) one.1 tried in cc)
 first_since false n missed m tried = refl
 
-missed_is : (first : State) (h : Journal) → Conducted first h → Missed h
+missed_is : (first : Opening) (h : Journal) → Conducted first h → Missed first h
 missed_is first [] c = inl refl
-missed_is first (at_port e ∷ h) c = missed_at_port e h (missed_is first h c.1)
-missed_is first (began o ∷ h) c = inr (first_since (is_due h) (begun_while_due h) (missed_of h) (missed_is first h c.1) c.0.tried, refl)
-missed_is first (did a ps ∷ h) c = missed_is first h c.1
-missed_is first (made_end ∷ h) c = missed_is first h c.1
-missed_is first (evened ∷ h) c = missed_is first h c.1
-missed_is first (paused ∷ h) c = missed_is first h c.1
-missed_is first (became call m ∷ h) c = missed_is first h c.1
-missed_is first (cut k ∷ h) c = missed_is first h c.1
-missed_is first (halted ∷ h) c = missed_is first h c.1
-missed_is first (closing ∷ h) c = missed_is first h c.1
-missed_is first (turned t ∷ h) c = missed_by (is_due h) (begun_while_due h) (missed_of h) (missed_is first h c.1)
+missed_is first (at_port e ∷ h) c = missed_at_port first e h (missed_is first h c.1)
+missed_is first (began o ∷ h) c = inr (first_since (is_due first h) (begun_while_due first h) (missed_of first h) (missed_is first h c.1) c.0.tried, refl)
+missed_is first (turned t ∷ h) c = missed_by (is_due first h) (begun_while_due first h) (missed_of first h) (missed_is first h c.1)
+missed_is first (_ ∷ h) c = missed_is first h c.1
 
-pub one_line : (first : State) (h : Journal) → Conducted first h → begun_while_due h ≤ 1
+pub one_line : (first : Opening) (h : Journal) → Conducted first h → begun_while_due first h ≤ 1
 one_line first h c = by_case (missed_is first h c)
   where
-    by_case : Missed h → begun_while_due h ≤ 1
+    by_case : Missed first h → begun_while_due first h ≤ 1
     by_case (inl none) = omega (arith, none)
     by_case (inr one) = let e = one.0 in omega (arith, e)
 
@@ -315,18 +251,9 @@ none_contained o (x ∷ xs) none = ((λ e. none (0, omega arith, e)), none_conta
 
 -- what was waited for while a segment was due is among what was waited for
 none_at : (o : On) (e : PortStep) (all due : List On) → (NoneOf o all → NoneOf o due) → NoneOf o (waits_at e all) → NoneOf o (waits_at e due)
-none_at o (took b) all due few n = few n
-none_at o found_empty all due few n = few n
-none_at o found_closed all due few n = few n
-none_at o (found_free k) all due few n = few n
-none_at o (answered r) all due few n = few n
-none_at o (reported r) all due few n = few n
-none_at o no_reply_room all due few n = few n
-none_at o (took_exec word) all due few n = few n
-none_at o (took_ovr word) all due few n = few n
 none_at o (published p) all due few n = tt
 none_at o (no_piece_room done) all due few n = tt
-none_at o (loaded done) all due few n = few n
+none_at o _ all due few n = few n
 
 none_by : (o : On) (is : Bool) (t : Turn) (all due : List On) → (NoneOf o all → NoneOf o due) → NoneOf o (waits_by t all) → NoneOf o (cond is (waits_by t due) [])
 none_by o false t all due few n = tt
@@ -334,62 +261,37 @@ none_by o true Did all due few n = few n
 none_by o true (Wait x) all due few n = (n.0, few n.1)
 none_by o true Done all due few n = few n
 
-none_while_due : (o : On) (h : Journal) → NoneOf o (waits_of h) → NoneOf o (waits_while_due h)
-none_while_due o [] none = tt
-none_while_due o (at_port e ∷ h) none = none_at o e (waits_of h) (waits_while_due h) (none_while_due o h) none
-none_while_due o (began x ∷ h) none = none_while_due o h none
-none_while_due o (did a ps ∷ h) none = none_while_due o h none
-none_while_due o (made_end ∷ h) none = none_while_due o h none
-none_while_due o (evened ∷ h) none = none_while_due o h none
-none_while_due o (paused ∷ h) none = none_while_due o h none
-none_while_due o (became call m ∷ h) none = none_while_due o h none
-none_while_due o (cut k ∷ h) none = none_while_due o h none
-none_while_due o (halted ∷ h) none = none_while_due o h none
-none_while_due o (closing ∷ h) none = none_while_due o h none
-none_while_due o (turned t ∷ h) none = none_by o (is_due h) t (waits_of h) (waits_while_due h) (none_while_due o h) none
+none_while_due : (first : Opening) (o : On) (h : Journal) → NoneOf o (waits_of h) → NoneOf o (waits_while_due first h)
+none_while_due first o [] none = tt
+none_while_due first o (at_port e ∷ h) none = none_at o e (waits_of h) (waits_while_due first h) (none_while_due first o h) none
+none_while_due first o (turned t ∷ h) none = none_by o (is_due first h) t (waits_of h) (waits_while_due first h) (none_while_due first o h) none
+none_while_due first o (_ ∷ h) none = none_while_due first o h none
 
 -- where a segment is due, the machine is not held, so that it waits for no resume
-a_cause : (o : On) (h : Journal) → is_due h ≡ true → Needs o h → IsCause o
-a_cause on.Byte h due needs = tt
-a_cause on.ReplyRoom h due needs = tt
-a_cause on.SegmentRoom h due needs = tt
-a_cause on.Motion h due needs = tt
-a_cause on.Resume h due needs = absurd (let e = sym due ∙ ap (λ (m : Motion). has_segment m (plan_of h)) needs.held in cc)
-a_cause o h due needs = absurd needs
+a_cause : (first : Opening) (o : On) (h : Journal) → is_due first h ≡ true → Needs first o h → IsCause o
+a_cause first on.Byte h due needs = tt
+a_cause first on.ReplyRoom h due needs = tt
+a_cause first on.SegmentRoom h due needs = tt
+a_cause first on.Motion h due needs = tt
+a_cause first on.Resume h due needs = absurd (let e = sym due ∙ ap (λ (m : Motion). has_segment m (plan_of h)) needs.held in cc)
+a_cause first o h due needs = absurd needs
 
 apart_at : (e : PortStep) (due : List On) → AreApart due → AreApart (waits_at e due)
-apart_at (took b) due apart = apart
-apart_at found_empty due apart = apart
-apart_at found_closed due apart = apart
-apart_at (found_free k) due apart = apart
-apart_at (answered r) due apart = apart
-apart_at (reported r) due apart = apart
-apart_at no_reply_room due apart = apart
-apart_at (took_exec word) due apart = apart
-apart_at (took_ovr word) due apart = apart
 apart_at (published p) due apart = tt
 apart_at (no_piece_room done) due apart = tt
-apart_at (loaded done) due apart = apart
+apart_at _ due apart = apart
 
-apart_by : (is : Bool) (t : Turn) (h : Journal) → is_due h ≡ is → MayTurn t h → AreApart (waits_while_due h) → AreApart (cond is (waits_by t (waits_while_due h)) [])
-apart_by false t h due may apart = tt
-apart_by true Did h due may apart = apart
-apart_by true (Wait o) h due may apart = (a_cause o h due may.cause, none_while_due o h (none_contained o (waits_of h) (may.round due)), apart)
-apart_by true Done h due may apart = apart
+apart_by : (first : Opening) (is : Bool) (t : Turn) (h : Journal) → is_due first h ≡ is → MayTurn first t h → AreApart (waits_while_due first h) → AreApart (cond is (waits_by t (waits_while_due first h)) [])
+apart_by first false t h due may apart = tt
+apart_by first true Did h due may apart = apart
+apart_by first true (Wait o) h due may apart = (a_cause first o h due may.cause, none_while_due first o h (none_contained o (waits_of h) (may.round due)), apart)
+apart_by first true Done h due may apart = apart
 
-waits_apart : (first : State) (h : Journal) → Conducted first h → AreApart (waits_while_due h)
+waits_apart : (first : Opening) (h : Journal) → Conducted first h → AreApart (waits_while_due first h)
 waits_apart first [] c = tt
-waits_apart first (at_port e ∷ h) c = apart_at e (waits_while_due h) (waits_apart first h c.1)
-waits_apart first (began o ∷ h) c = waits_apart first h c.1
-waits_apart first (did a ps ∷ h) c = waits_apart first h c.1
-waits_apart first (made_end ∷ h) c = waits_apart first h c.1
-waits_apart first (evened ∷ h) c = waits_apart first h c.1
-waits_apart first (paused ∷ h) c = waits_apart first h c.1
-waits_apart first (became call m ∷ h) c = waits_apart first h c.1
-waits_apart first (cut k ∷ h) c = waits_apart first h c.1
-waits_apart first (halted ∷ h) c = waits_apart first h c.1
-waits_apart first (closing ∷ h) c = waits_apart first h c.1
-waits_apart first (turned t ∷ h) c = apart_by (is_due h) t h refl c.0 (waits_apart first h c.1)
+waits_apart first (at_port e ∷ h) c = apart_at e (waits_while_due first h) (waits_apart first h c.1)
+waits_apart first (turned t ∷ h) c = apart_by first (is_due first h) t h refl c.0 (waits_apart first h c.1)
+waits_apart first (_ ∷ h) c = waits_apart first h c.1
 
-pub few_waits : (first : State) (h : Journal) → Conducted first h → length (waits_while_due h) ≤ 4
-few_waits first h c = four_at_most (waits_while_due h) (waits_apart first h c)
+pub few_waits : (first : Opening) (h : Journal) → Conducted first h → length (waits_while_due first h) ≤ 4
+few_waits first h c = four_at_most (waits_while_due first h) (waits_apart first h c)

@@ -10,6 +10,7 @@ use Rattle.status_report.specs.declared.Reply.TheVariants.{Bye}
 use Rattle.status_report.specs.Answering.{is_bye}
 use Rattle.step_line.specs.declared.Piece.{Piece}
 use Rattle.step_line.specs.declared.Piece.TheVariants as pieces
+use Rattle.board_rules.specs.Openings.{first_opening}
 use Rattle.board_rules.specs.Ports.{PortStep, PortLog, has_reset_in, LacksPieceRoom, taken_in, has_closed_in, answered_in, published_in, known_in}
 use Rattle.board_rules.specs.Ports.PortStep.{answered, no_reply_room, published, no_piece_room}
 use Rattle.board_rules.specs.Steps.{Step, Journal, port_log, published_of as published_then, answered_of as answered_then}
@@ -88,15 +89,15 @@ pub record MayBreakOff (h : Journal) : Type 0 where
 
 -- ---- all that was done
 
--- a board keeps to its rules
+-- a board keeps to its rules, from the first opening on
 abbrev pub IsConducted : State → Doings → Type 0
-IsConducted first (goes h) = Conducted first h
-IsConducted first (broke since before) = Conducted first before × MayBreakOff before × EndsRun since before
+IsConducted first (goes h) = Conducted (first_opening first) h
+IsConducted first (broke since before) = Conducted (first_opening first) before × MayBreakOff before × EndsRun since before
 
 -- nothing is left to do, and the run is closed or was ended
-abbrev pub HasEnded : Doings → Type 0
-HasEnded (goes h) = IsFinished h
-HasEnded (broke since before) = ending_of since before ≡ over
+abbrev pub HasEnded : State → Doings → Type 0
+HasEnded first (goes h) = IsFinished (first_opening first) h
+HasEnded first (broke since before) = ending_of since before ≡ over
 
 -- what it did at its port
 abbrev pub log_of : Doings → PortLog

@@ -5,7 +5,7 @@ use Rattle.feed_hold.specs.Motions.{asks as asks_in_word, hold_byte, cancel_byte
 use Rattle.code_table.specs.declared.flags.Exec.{Exec}
 use Rattle.feed_hold.specs.declared.Motion.{Motion}
 use Rattle.feed_hold.specs.declared.Motion.TheVariants.{Cancelling}
-use Rattle.flight.specs.Places.{end_of}
+use Rattle.flight.specs.Places.{end_from}
 use Rattle.plan_rules.specs.Plans.{Planned}
 use Rattle.planner_runs.specs.declared.Action.{Action}
 use Rattle.planner_runs.specs.declared.Action.TheVariants.{Override}
@@ -17,10 +17,11 @@ use Rattle.run_rules.specs.Outcomes.Passed.{a_line, a_cut}
 use Rattle.step_line.specs.Finishing.{ticks_together}
 use Rattle.step_line.specs.Logs.{NewestFirst}
 use Rattle.step_line.specs.declared.Piece.{Piece}
+use Rattle.board_rules.specs.Openings.{Opening}
 use Rattle.board_rules.specs.Ports.{PortStep, PortLog}
 use Rattle.board_rules.specs.Ports.PortStep.{took_exec}
 use Rattle.board_rules.specs.Steps.{Step, Journal, behind, plan_of, given_of, left_of, motion_of}
-use Rattle.board_rules.specs.Steps.Step.{at_port, began, did, made_end, evened, paused, became, cut, halted, closing, turned}
+use Rattle.board_rules.specs.Steps.Step.{began, did, evened, paused, became, cut, halted}
 use Rattle.board_rules.specs.Parts.{Part, counts_in}
 
 -- ---- since the last cut
@@ -28,77 +29,38 @@ use Rattle.board_rules.specs.Parts.{Part, counts_in}
 -- what became of the lines that were begun
 abbrev pub part_outcomes : Journal → List Outcome
 part_outcomes [] = []
-part_outcomes (at_port e ∷ h) = part_outcomes h
 part_outcomes (began o ∷ h) = part_outcomes h ++ o ∷ []
-part_outcomes (did a ps ∷ h) = part_outcomes h
-part_outcomes (made_end ∷ h) = part_outcomes h
-part_outcomes (evened ∷ h) = part_outcomes h
-part_outcomes (paused ∷ h) = part_outcomes h
-part_outcomes (became call m ∷ h) = part_outcomes h
 part_outcomes (cut k ∷ h) = []
-part_outcomes (halted ∷ h) = part_outcomes h
-part_outcomes (closing ∷ h) = part_outcomes h
-part_outcomes (turned t ∷ h) = part_outcomes h
+part_outcomes (_ ∷ h) = part_outcomes h
 
 -- what was done to the plan
 abbrev pub part_actions : Journal → List Action
 part_actions [] = []
-part_actions (at_port e ∷ h) = part_actions h
-part_actions (began o ∷ h) = part_actions h
 part_actions (did a ps ∷ h) = part_actions h ++ a ∷ []
-part_actions (made_end ∷ h) = part_actions h
 part_actions (evened ∷ h) = part_actions h ++ Override normal_overrides ∷ []
-part_actions (paused ∷ h) = part_actions h
-part_actions (became call m ∷ h) = part_actions h
 part_actions (cut k ∷ h) = []
-part_actions (halted ∷ h) = part_actions h
-part_actions (closing ∷ h) = part_actions h
-part_actions (turned t ∷ h) = part_actions h
+part_actions (_ ∷ h) = part_actions h
 
 -- the pieces that it gave
 abbrev pub part_given : Journal → List Piece
 part_given [] = []
-part_given (at_port e ∷ h) = part_given h
-part_given (began o ∷ h) = part_given h
 part_given (did a ps ∷ h) = part_given h ++ ps
-part_given (made_end ∷ h) = part_given h
-part_given (evened ∷ h) = part_given h
-part_given (paused ∷ h) = part_given h
-part_given (became call m ∷ h) = part_given h
 part_given (cut k ∷ h) = []
-part_given (halted ∷ h) = part_given h
-part_given (closing ∷ h) = part_given h
-part_given (turned t ∷ h) = part_given h
+part_given (_ ∷ h) = part_given h
 
 -- the plan with which this began
 abbrev pub part_start : Journal → Planned
 part_start [] = fresh_plan
-part_start (at_port e ∷ h) = part_start h
-part_start (began o ∷ h) = part_start h
-part_start (did a ps ∷ h) = part_start h
-part_start (made_end ∷ h) = part_start h
-part_start (evened ∷ h) = part_start h
-part_start (paused ∷ h) = part_start h
-part_start (became call m ∷ h) = part_start h
 part_start (cut k ∷ h) = cleared (plan_of h)
-part_start (halted ∷ h) = part_start h
-part_start (closing ∷ h) = part_start h
-part_start (turned t ∷ h) = part_start h
+part_start (_ ∷ h) = part_start h
 
 -- the plan after what was done to it; nothing is done to it after a halt, which drops what is left of it
 abbrev pub part_plan : Journal → Planned
 part_plan [] = fresh_plan
-part_plan (at_port e ∷ h) = part_plan h
-part_plan (began o ∷ h) = part_plan h
 part_plan (did a ps ∷ h) = behind a ps (part_plan h)
-part_plan (made_end ∷ h) = part_plan h
 part_plan (evened ∷ h) = behind (Override normal_overrides) [] (part_plan h)
-part_plan (paused ∷ h) = part_plan h
-part_plan (became call m ∷ h) = part_plan h
 part_plan (cut k ∷ h) = cleared (part_plan h)
-part_plan (halted ∷ h) = part_plan h
-part_plan (closing ∷ h) = part_plan h
-part_plan (turned t ∷ h) = part_plan h
+part_plan (_ ∷ h) = part_plan h
 
 -- the machine was halted
 abbrev pub is_halt : Step → Bool
@@ -111,54 +73,37 @@ has_halted h = list_any is_halt h
 -- ---- the cuts
 
 -- the part that a cut of this number ends
-abbrev pub part_of : ℕ → Journal → Part
-part_of k h = record {
+abbrev pub part_of : Opening → ℕ → Journal → Part
+part_of first k h = record {
   number = k;
   outcomes = part_outcomes h;
   start = part_start h;
   actions = part_actions h;
   given = part_given h;
   plan = plan_of h;
-  dropped = asks (left_of h);
+  dropped = asks (left_of first h);
 }
 
 -- the parts that cuts have ended, the latest first
-abbrev pub parts_of : Journal → NewestFirst Part
-parts_of [] = []
-parts_of (at_port e ∷ h) = parts_of h
-parts_of (began o ∷ h) = parts_of h
-parts_of (did a ps ∷ h) = parts_of h
-parts_of (made_end ∷ h) = parts_of h
-parts_of (evened ∷ h) = parts_of h
-parts_of (paused ∷ h) = parts_of h
-parts_of (became call m ∷ h) = parts_of h
-parts_of (cut k ∷ h) = part_of k h ∷ parts_of h
-parts_of (halted ∷ h) = parts_of h
-parts_of (closing ∷ h) = parts_of h
-parts_of (turned t ∷ h) = parts_of h
+abbrev pub parts_of : Opening → Journal → NewestFirst Part
+parts_of first [] = []
+parts_of first (cut k ∷ h) = part_of first k h ∷ parts_of first h
+parts_of first (_ ∷ h) = parts_of first h
 
 -- the lines that were begun, and the cuts, in order
-abbrev pub passed_of : Journal → List Passed
-passed_of [] = []
-passed_of (at_port e ∷ h) = passed_of h
-passed_of (began o ∷ h) = passed_of h ++ a_line o ∷ []
-passed_of (did a ps ∷ h) = passed_of h
-passed_of (made_end ∷ h) = passed_of h
-passed_of (evened ∷ h) = passed_of h
-passed_of (paused ∷ h) = passed_of h
-passed_of (became call m ∷ h) = passed_of h
-passed_of (cut k ∷ h) = passed_of h ++ a_cut k (end_of (given_of h)) ∷ []
-passed_of (halted ∷ h) = passed_of h
-passed_of (closing ∷ h) = passed_of h
-passed_of (turned t ∷ h) = passed_of h
+abbrev pub passed_of : Opening → Journal → List Passed
+passed_of first [] = []
+passed_of first (began o ∷ h) = passed_of first h ++ a_line o ∷ []
+passed_of first (cut k ∷ h) = passed_of first h ++ a_cut k (end_from first.place (given_of h)) ∷ []
+passed_of first (_ ∷ h) = passed_of first h
 
 -- how many ticks count of each line of the open part: after a halt those that were given, the first ones
 abbrev pub part_counts : Journal → List ℕ
 part_counts h = cond (has_halted h) (cut_to (ticks_together (part_given h)) (counts_asked (part_outcomes h))) (counts_asked (part_outcomes h))
 
 -- how many ticks count of each line that was begun
-abbrev pub counts_of : Journal → List ℕ
-counts_of h = counts_in (parts_of h) ++ part_counts h
+abbrev pub counts_of : Opening → Journal → List ℕ
+counts_of first h = counts_in (parts_of first h) ++ part_counts h
 
 -- ---- one cut for each cancel
 
@@ -169,36 +114,20 @@ is_cancelling _ = false
 -- jogs are cancelled, and were cut since
 abbrev pub has_cut : Journal → Bool
 has_cut [] = false
-has_cut (at_port e ∷ h) = has_cut h
-has_cut (began o ∷ h) = has_cut h
-has_cut (did a ps ∷ h) = has_cut h
-has_cut (made_end ∷ h) = has_cut h
-has_cut (evened ∷ h) = has_cut h
 has_cut (paused ∷ h) = false
 has_cut (became call m ∷ h) = is_cancelling m && has_cut h
 has_cut (cut k ∷ h) = true
-has_cut (halted ∷ h) = has_cut h
-has_cut (closing ∷ h) = has_cut h
-has_cut (turned t ∷ h) = has_cut h
+has_cut (_ ∷ h) = has_cut h
 
 -- a cancel begins
 abbrev pub begins_cancel : (was now : Motion) → Bool
 begins_cancel was now = is_cancelling now && not (is_cancelling was)
 
 -- how many cancels there were
-abbrev pub cancels_of : Journal → ℕ
-cancels_of [] = 0
-cancels_of (at_port e ∷ h) = cancels_of h
-cancels_of (began o ∷ h) = cancels_of h
-cancels_of (did a ps ∷ h) = cancels_of h
-cancels_of (made_end ∷ h) = cancels_of h
-cancels_of (evened ∷ h) = cancels_of h
-cancels_of (paused ∷ h) = cancels_of h
-cancels_of (became call m ∷ h) = cond (begins_cancel (motion_of h) m) (cancels_of h + 1) (cancels_of h)
-cancels_of (cut k ∷ h) = cancels_of h
-cancels_of (halted ∷ h) = cancels_of h
-cancels_of (closing ∷ h) = cancels_of h
-cancels_of (turned t ∷ h) = cancels_of h
+abbrev pub cancels_of : Opening → Journal → ℕ
+cancels_of first [] = 0
+cancels_of first (became call m ∷ h) = cond (begins_cancel (motion_of first h) m) (cancels_of first h + 1) (cancels_of first h)
+cancels_of first (_ ∷ h) = cancels_of first h
 
 -- how many of them have their cut to come: the last one, or none
 abbrev pub pending : (cancelled has_cut : Bool) → ℕ

@@ -1,4 +1,5 @@
 pub mod Ports
+pub mod Openings
 pub mod Steps
 pub mod Parts
 pub mod Cuts

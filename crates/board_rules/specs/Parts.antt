@@ -1,14 +1,15 @@
 -- The parts of a run in which jogs were cut: each begins where the one before was cut.
-use Rattle.std.specs.Prelude.{◌≡◌, ℕ, ◌≤◌, ◌<◌, Bool, List, [], ◌∷◌, ◌++◌, length, map, take}
+use Rattle.std.specs.Prelude.{◌≡◌, ℕ, ◌+◌, ◌≤◌, ◌<◌, ◌⊎◌, Bool, true, List, [], ◌∷◌, ◌++◌, length, map, take}
 use Rattle.std.specs.List.{flat_map, AllByRecursion}
-use Rattle.flight.specs.Places.{end_of}
+use Rattle.flight.specs.Places.{end_from}
 use Rattle.legal_heads.specs.Speeds.{HasLegalHeads}
 use Rattle.plan_rules.specs.Plans.{Planned}
+use Rattle.units.specs.declared.Steps3.{Steps3}
 use Rattle.planner_runs.specs.declared.Action.{Action}
 use Rattle.planner_runs.specs.declared.Action.TheVariants.{Mark, Clear}
 use Rattle.planner_runs.specs.Halted.{HasHaltedHeads}
 use Rattle.planner_runs.specs.Runs.{Plans, IsStart, DisturbedOnlyBy, fresh_plan, cleared, most_blocks, all_asked, moves_added, ticks_left, all_records}
-use Rattle.run_rules.specs.Work.{Outcome}
+use Rattle.run_rules.specs.Work.{Outcome, asks, is_jog}
 use Rattle.run_rules.specs.Cuts.{LosesJogsAlone, counts_asked, cut_to, with_cut}
 use Rattle.run_rules.specs.Outcomes.{Passed}
 use Rattle.run_rules.specs.Outcomes.Passed.{a_line, a_cut}
@@ -34,15 +35,20 @@ pub record Part : Type 0 where
   pub plan : Planned
   pub dropped : List Asked
 
+-- what is dropped of what lines ask for is nothing, or all of the last line, which is a jog
+abbrev pub DropsLast : List Asked → List Outcome → Type 0
+DropsLast dropped outcomes = (dropped ≡ []) ⊎ ((early : List Outcome) × (o : Outcome) × (outcomes ≡ early ++ o ∷ []) × (asks o.work ≡ dropped) × (is_jog o.kind ≡ true))
+
 -- Such a part is a planner run from where the machine stood to where it has come to a stop, so that its heads are legal
--- and a cut may break a move off. What its lines ask for was done, or was left to ask; so the ticks that were given are
--- the first of those that the lines ask for, and the others are of jogs alone.
+-- and a cut may break a move off. What its lines ask for was done, or was left to ask by the last of them, a jog; so the
+-- ticks that were given are the first of those that the lines ask for, and the others are of jogs alone.
 pub record IsCutPart (p : Part) : Type 0 where
   pub starts : IsStart p.start
   pub run : Plans most_blocks p.start p.actions p.given p.plan
   pub stops : p.plan.speed ≡ 0
   pub heads : HasLegalHeads (moves_added p.actions) (all_records p.given ++ kinds.Mark (marks.Cut p.number) ∷ [])
   pub asks : asked_in p.outcomes ≡ all_asked p.actions ++ p.dropped
+  pub last : DropsLast p.dropped p.outcomes
   pub ticks : ticks_of_all (asked_in p.outcomes) ≡ flat_map ticks_of p.given ++ (ticks_left p.plan ++ ticks_of_all p.dropped)
   pub jogs : LosesJogsAlone (ticks_together p.given) p.outcomes
 
@@ -90,10 +96,10 @@ abbrev pub pieces_in : NewestFirst Part → List Piece
 pieces_in [] = []
 pieces_in (p ∷ ps) = pieces_in ps ++ (p.given ++ pieces.Mark (marks.Cut p.number) ∷ [])
 
--- the lines and the cuts that were passed: each cut where the pieces before it lead
-abbrev pub passed_in : NewestFirst Part → List Passed
-passed_in [] = []
-passed_in (p ∷ ps) = passed_in ps ++ (map a_line p.outcomes ++ a_cut p.number (end_of (pieces_in ps ++ p.given)) ∷ [])
+-- the lines and the cuts that were passed: each cut where the pieces before it lead, from this place on
+abbrev pub passed_in : Steps3 → NewestFirst Part → List Passed
+passed_in place [] = []
+passed_in place (p ∷ ps) = passed_in place ps ++ (map a_line p.outcomes ++ a_cut p.number (end_from place (pieces_in ps ++ p.given)) ∷ [])
 
 -- How many ticks count of each line: of a part's lines those that were given, the first ones, and the cut with the last
 -- line.
@@ -101,11 +107,13 @@ abbrev pub counts_in : NewestFirst Part → List ℕ
 counts_in [] = []
 counts_in (p ∷ ps) = counts_in ps ++ with_cut (cut_to (ticks_together p.given) (counts_asked p.outcomes))
 
-abbrev pub last_number : NewestFirst Part → ℕ
-last_number [] = 0
-last_number (p ∷ ps) = p.number
+-- the number of the last cut, or of the lines before all parts
+abbrev pub last_number : ℕ → NewestFirst Part → ℕ
+last_number before [] = before
+last_number before (p ∷ ps) = p.number
 
--- the number of each cut is that of the lines before it, and is greater than those of the cuts before it
-abbrev pub AreNumbered : NewestFirst Part → Type 0
-AreNumbered [] = Unit {0}
-AreNumbered (p ∷ ps) = (p.number ≡ length (lines_in (p ∷ ps))) × (last_number ps < p.number) × AreNumbered ps
+-- If so many lines were begun before all parts, the number of each cut is that of the lines before it, and is greater
+-- than those of the cuts before it.
+abbrev pub AreNumbered : ℕ → NewestFirst Part → Type 0
+AreNumbered before [] = Unit {0}
+AreNumbered before (p ∷ ps) = (p.number ≡ before + length (lines_in (p ∷ ps))) × (last_number before ps < p.number) × AreNumbered before ps

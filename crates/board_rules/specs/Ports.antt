@@ -8,8 +8,11 @@ use Rattle.code_table.specs.Flags.{ovr_bits}
 use Rattle.status_report.specs.declared.Reply.{Reply}
 use Rattle.status_report.specs.declared.Reply.TheVariants as replies
 use Rattle.status_report.specs.declared.reports.Report.{Report}
-use Rattle.status_report.specs.Answering.{reply_room, lfs_in, is_answer, answers_in}
-use Rattle.status_report.specs.Replies.{IsReply}
+use Rattle.status_report.specs.Answering.{reply_room}
+use Rattle.serial_ring.specs.declared.view.LinkStep.{LinkStep}
+use Rattle.serial_ring.specs.declared.view.LinkStep.TheVariants.{Took, Marked, Answered}
+use Rattle.serial_ring.specs.Marks.{MarkedPast}
+use Rattle.serial_ring.specs.Logs as link
 use Rattle.step_line.specs.declared.Piece.{Piece}
 use Rattle.step_line.specs.Finishing.{tick_count, ticks_together, unfinished, most_unfinished}
 use Rattle.step_line.specs.Logs.{NewestFirst}
@@ -23,6 +26,8 @@ pub data PortStep : Type 0 where
   found_closed : PortStep
   -- the link had room for so many bytes
   found_free : ℕ → PortStep
+  -- the mark of this number was loaded, before which so many bytes were stored
+  found_mark : ℕ → ℕ → PortStep
   -- a reply that is no report was answered; a report was
   answered : Reply → PortStep
   reported : Report → PortStep
@@ -78,6 +83,18 @@ answered_at e rs = rs
 abbrev pub answered_in : PortLog → List Reply
 answered_in [] = []
 answered_in (e ∷ l) = answered_at e (answered_in l)
+
+abbrev pub link_steps_at : PortStep → List LinkStep → List LinkStep
+link_steps_at (took b) steps = Took b ∷ steps
+link_steps_at (found_mark number bytes) steps = Marked number bytes ∷ steps
+link_steps_at (answered r) steps = Answered r ∷ steps
+link_steps_at (reported r) steps = Answered (replies.Report r) ∷ steps
+link_steps_at e steps = steps
+
+-- what the link's bounds speak of, the latest first: the bytes taken, the marks loaded, the replies answered
+abbrev pub link_steps : PortLog → List LinkStep
+link_steps [] = []
+link_steps (e ∷ l) = link_steps_at e (link_steps l)
 
 -- a word of requests asks for a report
 abbrev pub asks_report : Exec → Bool
@@ -170,11 +187,10 @@ known_in (e ∷ l) = known_at e (known_in l)
 
 -- ---- what a board owes
 
--- a reply may be answered: a line only if fewer lines were answered than were taken to their LF
-pub record MayAnswer (l : PortLog) (r : Reply) : Type 0 where
-  pub line : is_answer r ≡ true → answers_in (answered_in l) < lfs_in (taken_in l)
-  pub text : IsReply r
-  pub few : length (answered_in l) < 2 ^ 62
+-- A reply may be answered: a line only if fewer were answered since the last Banner than were taken to their LF since, and a
+-- Banner behind another only for a new mark.
+abbrev pub MayAnswer : PortLog → Reply → Type 0
+MayAnswer l r = link.MayAnswer (link_steps l) r
 
 -- a piece may be published: it may come after those before it, and their ticks and its own are fewer than 2 ^ 62
 pub record MayPublish (l : PortLog) (p : Piece) : Type 0 where
@@ -182,6 +198,10 @@ pub record MayPublish (l : PortLog) (p : Piece) : Type 0 where
   pub few : ticks_together (published_in l) + tick_count p < 2 ^ 62
 
 -- ---- what a port promises
+
+-- fewer bytes are taken than were stored before a mark that was loaded: there is one more
+abbrev pub IsMarkedPast : PortLog → Type 0
+IsMarkedPast l = MarkedPast (length (taken_in l)) (link.marked_in (link_steps l))
 
 -- one more byte is taken: fewer than 2 ^ 31 were
 abbrev pub HasTakenFew : PortLog → Type 0

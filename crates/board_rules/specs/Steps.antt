@@ -9,17 +9,17 @@ use Rattle.plan_rules.specs.Segments.{advanced}
 use Rattle.planner_runs.specs.declared.Action.{Action}
 use Rattle.planner_runs.specs.declared.Action.TheVariants.{Add, Take, Override, Mark, Rest, Clear, Reset}
 use Rattle.planner_runs.specs.Runs.{normal_overrides, fresh_plan, with_move, cleared}
-use Rattle.run_rules.specs.declared.State.{State}
-use Rattle.flight.specs.Places.{end_of}
-use Rattle.run_rules.specs.Work.{Task, Outcome, is_alarm, closing_work}
+use Rattle.flight.specs.Places.{end_from}
+use Rattle.run_rules.specs.Work.{Task, Outcome, is_limit, closing_work, telling}
 use Rattle.run_rules.specs.Work.Task.{ask, tell, pause, normal, finish, halt}
-use Rattle.run_rules.specs.Outcomes.{Before, start, after, at_place}
+use Rattle.run_rules.specs.Outcomes.{Before, after, at_place}
 use Rattle.status_report.specs.declared.Reply.{Reply}
-use Rattle.status_report.specs.declared.Reply.TheVariants.{Banner, Bye}
+use Rattle.status_report.specs.declared.Reply.TheVariants.{Bye}
 use Rattle.step_line.specs.declared.Mark.TheVariants as marks
 use Rattle.step_line.specs.declared.Piece.{Piece}
 use Rattle.step_line.specs.declared.Piece.TheVariants as pieces
 use Rattle.step_line.specs.Logs.{NewestFirst}
+use Rattle.board_rules.specs.Openings.{Opening, before_first}
 use Rattle.board_rules.specs.Ports.{PortStep, PortLog, taken_in, has_closed_in, answered_in, published_in, known_in}
 use Rattle.board_rules.specs.Ports.PortStep.{took, answered, published}
 
@@ -55,16 +55,7 @@ Journal = NewestFirst Step
 abbrev pub port_log : Journal → PortLog
 port_log [] = []
 port_log (at_port e ∷ h) = e ∷ port_log h
-port_log (began o ∷ h) = port_log h
-port_log (did a ps ∷ h) = port_log h
-port_log (made_end ∷ h) = port_log h
-port_log (evened ∷ h) = port_log h
-port_log (paused ∷ h) = port_log h
-port_log (became call m ∷ h) = port_log h
-port_log (cut k ∷ h) = port_log h
-port_log (halted ∷ h) = port_log h
-port_log (closing ∷ h) = port_log h
-port_log (turned t ∷ h) = port_log h
+port_log (_ ∷ h) = port_log h
 
 -- what was done at the port, as `Ports` has it
 abbrev pub taken_of : Journal → List ℕ
@@ -93,15 +84,7 @@ abbrev pub open_of : Journal → List ℕ
 open_of [] = []
 open_of (at_port e ∷ h) = open_at e (open_of h)
 open_of (began o ∷ h) = []
-open_of (did a ps ∷ h) = open_of h
-open_of (made_end ∷ h) = open_of h
-open_of (evened ∷ h) = open_of h
-open_of (paused ∷ h) = open_of h
-open_of (became call m ∷ h) = open_of h
-open_of (cut k ∷ h) = open_of h
-open_of (halted ∷ h) = open_of h
-open_of (closing ∷ h) = open_of h
-open_of (turned t ∷ h) = open_of h
+open_of (_ ∷ h) = open_of h
 
 abbrev pub whole_at : PortStep → Bool → Bool
 whole_at (took b) whole = nat_eq b 10
@@ -112,60 +95,25 @@ abbrev pub whole_of : Journal → Bool
 whole_of [] = false
 whole_of (at_port e ∷ h) = whole_at e (whole_of h)
 whole_of (began o ∷ h) = false
-whole_of (did a ps ∷ h) = whole_of h
-whole_of (made_end ∷ h) = whole_of h
-whole_of (evened ∷ h) = whole_of h
-whole_of (paused ∷ h) = whole_of h
-whole_of (became call m ∷ h) = whole_of h
-whole_of (cut k ∷ h) = whole_of h
-whole_of (halted ∷ h) = whole_of h
-whole_of (closing ∷ h) = whole_of h
-whole_of (turned t ∷ h) = whole_of h
+whole_of (_ ∷ h) = whole_of h
 
 -- the lines that were begun
 abbrev pub lines_of : Journal → List (List ℕ)
 lines_of [] = []
-lines_of (at_port e ∷ h) = lines_of h
 lines_of (began o ∷ h) = lines_of h ++ open_of h ∷ []
-lines_of (did a ps ∷ h) = lines_of h
-lines_of (made_end ∷ h) = lines_of h
-lines_of (evened ∷ h) = lines_of h
-lines_of (paused ∷ h) = lines_of h
-lines_of (became call m ∷ h) = lines_of h
-lines_of (cut k ∷ h) = lines_of h
-lines_of (halted ∷ h) = lines_of h
-lines_of (closing ∷ h) = lines_of h
-lines_of (turned t ∷ h) = lines_of h
+lines_of (_ ∷ h) = lines_of h
 
 -- what became of each
 abbrev pub outcomes_of : Journal → List Outcome
 outcomes_of [] = []
-outcomes_of (at_port e ∷ h) = outcomes_of h
 outcomes_of (began o ∷ h) = outcomes_of h ++ o ∷ []
-outcomes_of (did a ps ∷ h) = outcomes_of h
-outcomes_of (made_end ∷ h) = outcomes_of h
-outcomes_of (evened ∷ h) = outcomes_of h
-outcomes_of (paused ∷ h) = outcomes_of h
-outcomes_of (became call m ∷ h) = outcomes_of h
-outcomes_of (cut k ∷ h) = outcomes_of h
-outcomes_of (halted ∷ h) = outcomes_of h
-outcomes_of (closing ∷ h) = outcomes_of h
-outcomes_of (turned t ∷ h) = outcomes_of h
+outcomes_of (_ ∷ h) = outcomes_of h
 
--- one of them has raised an alarm
-abbrev pub has_alarmed : Journal → Bool
-has_alarmed [] = false
-has_alarmed (at_port e ∷ h) = has_alarmed h
-has_alarmed (began o ∷ h) = is_alarm o.answer
-has_alarmed (did a ps ∷ h) = has_alarmed h
-has_alarmed (made_end ∷ h) = has_alarmed h
-has_alarmed (evened ∷ h) = has_alarmed h
-has_alarmed (paused ∷ h) = has_alarmed h
-has_alarmed (became call m ∷ h) = has_alarmed h
-has_alarmed (cut k ∷ h) = has_alarmed h
-has_alarmed (halted ∷ h) = has_alarmed h
-has_alarmed (closing ∷ h) = has_alarmed h
-has_alarmed (turned t ∷ h) = has_alarmed h
+-- one of them has ended the run with the alarm of a soft limit
+abbrev pub has_limited : Journal → Bool
+has_limited [] = false
+has_limited (began o ∷ h) = is_limit o.answer
+has_limited (_ ∷ h) = has_limited h
 
 -- ---- what there is to do
 
@@ -189,98 +137,57 @@ without_asks (normal ∷ ts) = normal ∷ without_asks ts
 without_asks (finish ∷ ts) = finish ∷ without_asks ts
 without_asks (halt ∷ ts) = halt ∷ without_asks ts
 
--- What is left to do; at first the banner is sent. A cut drops the move of a jog that waits for room.
-abbrev pub left_of : Journal → List Task
-left_of [] = tell Banner ∷ []
-left_of (at_port e ∷ h) = left_at e (left_of h)
-left_of (began o ∷ h) = o.work
-left_of (did a ps ∷ h) = left_by a (left_of h)
-left_of (made_end ∷ h) = drop 1 (left_of h)
-left_of (evened ∷ h) = drop 1 (left_of h)
-left_of (paused ∷ h) = drop 1 (left_of h)
-left_of (became call m ∷ h) = left_of h
-left_of (cut k ∷ h) = without_asks (left_of h)
-left_of (halted ∷ h) = drop 1 (left_of h)
-left_of (closing ∷ h) = closing_work
-left_of (turned t ∷ h) = left_of h
+-- What is left to do; at first it is told what the opening says. A cut drops the move of a jog that waits for room.
+abbrev pub left_of : Opening → Journal → List Task
+left_of first [] = telling first.tells
+left_of first (at_port e ∷ h) = left_at e (left_of first h)
+left_of first (began o ∷ h) = o.work
+left_of first (did a ps ∷ h) = left_by a (left_of first h)
+left_of first (became call m ∷ h) = left_of first h
+left_of first (cut k ∷ h) = without_asks (left_of first h)
+left_of first (closing ∷ h) = closing_work
+left_of first (turned t ∷ h) = left_of first h
+left_of first (_ ∷ h) = drop 1 (left_of first h)
 
 -- what is told by closing the run
 abbrev pub closed_tells : Journal → List Reply
 closed_tells [] = []
-closed_tells (at_port e ∷ h) = closed_tells h
-closed_tells (began o ∷ h) = closed_tells h
-closed_tells (did a ps ∷ h) = closed_tells h
-closed_tells (made_end ∷ h) = closed_tells h
-closed_tells (evened ∷ h) = closed_tells h
-closed_tells (paused ∷ h) = closed_tells h
-closed_tells (became call m ∷ h) = closed_tells h
-closed_tells (cut k ∷ h) = closed_tells h
-closed_tells (halted ∷ h) = closed_tells h
 closed_tells (closing ∷ h) = closed_tells h ++ Bye ∷ []
-closed_tells (turned t ∷ h) = closed_tells h
+closed_tells (_ ∷ h) = closed_tells h
 
 -- ---- the machine
 
 -- what was done to the plan
 abbrev pub actions_of : Journal → List Action
 actions_of [] = []
-actions_of (at_port e ∷ h) = actions_of h
-actions_of (began o ∷ h) = actions_of h
 actions_of (did a ps ∷ h) = actions_of h ++ a ∷ []
-actions_of (made_end ∷ h) = actions_of h
 actions_of (evened ∷ h) = actions_of h ++ Override normal_overrides ∷ []
-actions_of (paused ∷ h) = actions_of h
-actions_of (became call m ∷ h) = actions_of h
 actions_of (cut k ∷ h) = actions_of h ++ Clear ∷ Mark (marks.Cut k) ∷ []
 actions_of (halted ∷ h) = actions_of h ++ Clear ∷ []
-actions_of (closing ∷ h) = actions_of h
-actions_of (turned t ∷ h) = actions_of h
+actions_of (_ ∷ h) = actions_of h
 
 -- the pieces that the plan gave
 abbrev pub planned_of : Journal → List Piece
 planned_of [] = []
-planned_of (at_port e ∷ h) = planned_of h
-planned_of (began o ∷ h) = planned_of h
 planned_of (did a ps ∷ h) = planned_of h ++ ps
-planned_of (made_end ∷ h) = planned_of h
-planned_of (evened ∷ h) = planned_of h
-planned_of (paused ∷ h) = planned_of h
-planned_of (became call m ∷ h) = planned_of h
 planned_of (cut k ∷ h) = planned_of h ++ pieces.Mark (marks.Cut k) ∷ []
-planned_of (halted ∷ h) = planned_of h
-planned_of (closing ∷ h) = planned_of h
-planned_of (turned t ∷ h) = planned_of h
+planned_of (_ ∷ h) = planned_of h
 
 -- all pieces that were given: those, and the end
 abbrev pub given_of : Journal → List Piece
 given_of [] = []
-given_of (at_port e ∷ h) = given_of h
-given_of (began o ∷ h) = given_of h
 given_of (did a ps ∷ h) = given_of h ++ ps
 given_of (made_end ∷ h) = given_of h ++ pieces.End ∷ []
-given_of (evened ∷ h) = given_of h
-given_of (paused ∷ h) = given_of h
-given_of (became call m ∷ h) = given_of h
 given_of (cut k ∷ h) = given_of h ++ pieces.Mark (marks.Cut k) ∷ []
-given_of (halted ∷ h) = given_of h
-given_of (closing ∷ h) = given_of h
-given_of (turned t ∷ h) = given_of h
+given_of (_ ∷ h) = given_of h
 
 -- What the lines that were begun leave for the next. After a cut the position is the place to which all pieces given
 -- lead.
-abbrev pub before_of : State → Journal → Before
-before_of first [] = start first
-before_of first (at_port e ∷ h) = before_of first h
+abbrev pub before_of : Opening → Journal → Before
+before_of first [] = before_first first
 before_of first (began o ∷ h) = after (before_of first h) o
-before_of first (did a ps ∷ h) = before_of first h
-before_of first (made_end ∷ h) = before_of first h
-before_of first (evened ∷ h) = before_of first h
-before_of first (paused ∷ h) = before_of first h
-before_of first (became call m ∷ h) = before_of first h
-before_of first (cut k ∷ h) = at_place (end_of (given_of h)) (before_of first h)
-before_of first (halted ∷ h) = before_of first h
-before_of first (closing ∷ h) = before_of first h
-before_of first (turned t ∷ h) = before_of first h
+before_of first (cut k ∷ h) = at_place (end_from first.place (given_of h)) (before_of first h)
+before_of first (_ ∷ h) = before_of first h
 
 abbrev pub hand_at : PortStep → List Piece → List Piece
 hand_at (published p) ps = drop 1 ps
@@ -290,16 +197,10 @@ hand_at e ps = ps
 abbrev pub hand_of : Journal → List Piece
 hand_of [] = []
 hand_of (at_port e ∷ h) = hand_at e (hand_of h)
-hand_of (began o ∷ h) = hand_of h
 hand_of (did a ps ∷ h) = hand_of h ++ ps
 hand_of (made_end ∷ h) = hand_of h ++ pieces.End ∷ []
-hand_of (evened ∷ h) = hand_of h
-hand_of (paused ∷ h) = hand_of h
-hand_of (became call m ∷ h) = hand_of h
 hand_of (cut k ∷ h) = hand_of h ++ pieces.Mark (marks.Cut k) ∷ []
-hand_of (halted ∷ h) = hand_of h
-hand_of (closing ∷ h) = hand_of h
-hand_of (turned t ∷ h) = hand_of h
+hand_of (_ ∷ h) = hand_of h
 
 -- the plan after an action that gives these pieces
 abbrev pub behind : Action → List Piece → Planned → Planned
@@ -313,29 +214,15 @@ behind a ps p = p
 -- the plan that the actions leave
 abbrev pub plan_of : Journal → Planned
 plan_of [] = fresh_plan
-plan_of (at_port e ∷ h) = plan_of h
-plan_of (began o ∷ h) = plan_of h
 plan_of (did a ps ∷ h) = behind a ps (plan_of h)
-plan_of (made_end ∷ h) = plan_of h
 plan_of (evened ∷ h) = behind (Override normal_overrides) [] (plan_of h)
-plan_of (paused ∷ h) = plan_of h
-plan_of (became call m ∷ h) = plan_of h
 plan_of (cut k ∷ h) = cleared (plan_of h)
 plan_of (halted ∷ h) = cleared (plan_of h)
-plan_of (closing ∷ h) = plan_of h
-plan_of (turned t ∷ h) = plan_of h
+plan_of (_ ∷ h) = plan_of h
 
 -- the state of the motion
-abbrev pub motion_of : Journal → Motion
-motion_of [] = motions.Idle
-motion_of (at_port e ∷ h) = motion_of h
-motion_of (began o ∷ h) = motion_of h
-motion_of (did a ps ∷ h) = motion_of h
-motion_of (made_end ∷ h) = motion_of h
-motion_of (evened ∷ h) = motion_of h
-motion_of (paused ∷ h) = motions.Held
-motion_of (became call m ∷ h) = m
-motion_of (cut k ∷ h) = motion_of h
-motion_of (halted ∷ h) = motion_of h
-motion_of (closing ∷ h) = motion_of h
-motion_of (turned t ∷ h) = motion_of h
+abbrev pub motion_of : Opening → Journal → Motion
+motion_of first [] = first.motion
+motion_of first (paused ∷ h) = motions.Held
+motion_of first (became call m ∷ h) = m
+motion_of first (_ ∷ h) = motion_of first h

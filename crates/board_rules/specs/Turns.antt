@@ -19,6 +19,7 @@ use Rattle.run_rules.specs.Work.{Task, has_moves}
 use Rattle.run_rules.specs.Work.Task.{ask, tell, pause, normal, finish, halt}
 use Rattle.run_rules.specs.Outcomes.{jogged_behind, begins_with_dollar}
 use Rattle.step_line.specs.Asking.Asked.{a_move, a_rest}
+use Rattle.board_rules.specs.Openings.{Opening}
 use Rattle.board_rules.specs.Ports.{PortStep, has_changes, owes_in}
 use Rattle.board_rules.specs.Ports.PortStep.{took, found_empty, found_closed, found_free, answered, reported, no_reply_room, took_exec, took_ovr, published, no_piece_room, loaded}
 use Rattle.board_rules.specs.Steps.{Step, Journal, port_log, open_of, whole_of, left_of, plan_of, motion_of}
@@ -117,16 +118,8 @@ unobeyed_by call words = words
 abbrev pub unobeyed_of : Journal → List Exec
 unobeyed_of [] = []
 unobeyed_of (at_port e ∷ h) = unobeyed_at e (unobeyed_of h)
-unobeyed_of (began o ∷ h) = unobeyed_of h
-unobeyed_of (did a ps ∷ h) = unobeyed_of h
-unobeyed_of (made_end ∷ h) = unobeyed_of h
-unobeyed_of (evened ∷ h) = unobeyed_of h
-unobeyed_of (paused ∷ h) = unobeyed_of h
 unobeyed_of (became call m ∷ h) = unobeyed_by call (unobeyed_of h)
-unobeyed_of (cut k ∷ h) = unobeyed_of h
-unobeyed_of (halted ∷ h) = unobeyed_of h
-unobeyed_of (closing ∷ h) = unobeyed_of h
-unobeyed_of (turned t ∷ h) = unobeyed_of h
+unobeyed_of (_ ∷ h) = unobeyed_of h
 
 -- a report is owed: a word that asks for one was taken, and none was answered since
 abbrev pub owes_report : Journal → Bool
@@ -170,31 +163,15 @@ by_wait t taken = taken
 abbrev pub requests_taken : Journal → Bool
 requests_taken [] = true
 requests_taken (at_port e ∷ h) = requests_at e (requests_taken h)
-requests_taken (began o ∷ h) = requests_taken h
-requests_taken (did a ps ∷ h) = requests_taken h
-requests_taken (made_end ∷ h) = requests_taken h
-requests_taken (evened ∷ h) = requests_taken h
-requests_taken (paused ∷ h) = requests_taken h
-requests_taken (became call m ∷ h) = requests_taken h
-requests_taken (cut k ∷ h) = requests_taken h
-requests_taken (halted ∷ h) = requests_taken h
-requests_taken (closing ∷ h) = requests_taken h
 requests_taken (turned t ∷ h) = by_wait t (requests_taken h)
+requests_taken (_ ∷ h) = requests_taken h
 
 -- so was the word of changes of overrides
 abbrev pub changes_taken : Journal → Bool
 changes_taken [] = true
 changes_taken (at_port e ∷ h) = changes_at e (changes_taken h)
-changes_taken (began o ∷ h) = changes_taken h
-changes_taken (did a ps ∷ h) = changes_taken h
-changes_taken (made_end ∷ h) = changes_taken h
-changes_taken (evened ∷ h) = changes_taken h
-changes_taken (paused ∷ h) = changes_taken h
-changes_taken (became call m ∷ h) = changes_taken h
-changes_taken (cut k ∷ h) = changes_taken h
-changes_taken (halted ∷ h) = changes_taken h
-changes_taken (closing ∷ h) = changes_taken h
 changes_taken (turned t ∷ h) = by_wait t (changes_taken h)
+changes_taken (_ ∷ h) = changes_taken h
 
 -- both were
 abbrev pub flags_taken : Journal → Bool
@@ -231,26 +208,17 @@ needs_motion tasks whole full = awaits_motion tasks
 -- the last that was accepted of G-code and jogs is a jog
 abbrev pub has_jogged : Journal → Bool
 has_jogged [] = false
-has_jogged (at_port e ∷ h) = has_jogged h
 has_jogged (began o ∷ h) = jogged_behind o.kind (has_jogged h)
-has_jogged (did a ps ∷ h) = has_jogged h
-has_jogged (made_end ∷ h) = has_jogged h
-has_jogged (evened ∷ h) = has_jogged h
-has_jogged (paused ∷ h) = has_jogged h
-has_jogged (became call m ∷ h) = has_jogged h
-has_jogged (cut k ∷ h) = has_jogged h
-has_jogged (halted ∷ h) = has_jogged h
-has_jogged (closing ∷ h) = has_jogged h
-has_jogged (turned t ∷ h) = has_jogged h
+has_jogged (_ ∷ h) = has_jogged h
 
 -- Queued blocks start the cycle in this turn: a poll found no byte, or the link closed; the plan is full; what is next
 -- waits for the motion; or they are of a jog, which starts at once.
-abbrev pub starts_cycle : Journal → Bool
-starts_cycle h = list_any found_none (this_turn h) || (is_full (plan_of h) || (awaits_motion (left_of h) || has_jogged h))
+abbrev pub starts_cycle : Opening → Journal → Bool
+starts_cycle first h = list_any found_none (this_turn h) || (is_full (plan_of h) || (awaits_motion (left_of first h) || has_jogged h))
 
 -- they do also if a line is next that begins with `$`, before it is begun
-abbrev pub starts_before_line : Journal → Bool
-starts_before_line h = starts_cycle h || (whole_of h && begins_with_dollar (open_of h))
+abbrev pub starts_before_line : Opening → Journal → Bool
+starts_before_line first h = starts_cycle first h || (whole_of h && begins_with_dollar (open_of h))
 
 -- ---- the motion
 
@@ -278,16 +246,16 @@ abbrev pub waits_to_jog : Motion → Bool → Bool → Bool
 waits_to_jog Idle jogged some = jogged && some
 waits_to_jog m jogged some = false
 
-abbrev pub has_jog_to_start : Journal → Bool
-has_jog_to_start h = waits_to_jog (motion_of h) (has_jogged h) (has_blocks (plan_of h).blocks || has_moves (left_of h))
+abbrev pub has_jog_to_start : Opening → Journal → Bool
+has_jog_to_start first h = waits_to_jog (motion_of first h) (has_jogged h) (has_blocks (plan_of h).blocks || has_moves (left_of first h))
 
 -- a segment is due now
-abbrev pub is_due : Journal → Bool
-is_due h = has_segment (motion_of h) (plan_of h)
+abbrev pub is_due : Opening → Journal → Bool
+is_due first h = has_segment (motion_of first h) (plan_of h)
 
 -- what is next does not go on while the machine is held, or slows down for that
-abbrev pub is_held_up : Journal → Bool
-is_held_up h = needs_motion (left_of h) (whole_of h) (is_full (plan_of h))
+abbrev pub is_held_up : Opening → Journal → Bool
+is_held_up first h = needs_motion (left_of first h) (whole_of h) (is_full (plan_of h))
 
 -- ---- from turn to turn
 
@@ -297,8 +265,8 @@ abbrev pub counts_tries : List Task → (whole : Bool) → Motion → Bool
 counts_tries [] whole m = not (is_halting m && whole)
 counts_tries tasks whole m = false
 
-abbrev pub is_counted : Journal → Bool
-is_counted h = not (owes_report h) && counts_tries (left_of h) (whole_of h) (motion_of h)
+abbrev pub is_counted : Opening → Journal → Bool
+is_counted first h = not (owes_report h) && counts_tries (left_of first h) (whole_of h) (motion_of first h)
 
 abbrev pub tries_at : PortStep → (counted : Bool) → ℕ → ℕ
 tries_at (took b) counted n = 0
@@ -310,19 +278,10 @@ tries_at e counted n = n
 
 -- how many tries to publish a piece there were since the last poll for a byte, while nothing was left to do, no report
 -- was owed, and no line waited for a machine that is held, or slows down for that
-abbrev pub tries_of : Journal → ℕ
-tries_of [] = 0
-tries_of (at_port e ∷ h) = tries_at e (is_counted h) (tries_of h)
-tries_of (began o ∷ h) = tries_of h
-tries_of (did a ps ∷ h) = tries_of h
-tries_of (made_end ∷ h) = tries_of h
-tries_of (evened ∷ h) = tries_of h
-tries_of (paused ∷ h) = tries_of h
-tries_of (became call m ∷ h) = tries_of h
-tries_of (cut k ∷ h) = tries_of h
-tries_of (halted ∷ h) = tries_of h
-tries_of (closing ∷ h) = tries_of h
-tries_of (turned t ∷ h) = tries_of h
+abbrev pub tries_of : Opening → Journal → ℕ
+tries_of first [] = 0
+tries_of first (at_port e ∷ h) = tries_at e (is_counted first h) (tries_of first h)
+tries_of first (_ ∷ h) = tries_of first h
 
 -- so many tries at most come between two polls
 abbrev pub most_tries : ℕ
@@ -334,19 +293,12 @@ missed_at (no_piece_room done) missed = false
 missed_at e missed = missed
 
 -- since the last line was begun, a segment was due at each turn's end, and there was no try to publish one
-abbrev pub missed_of : Journal → Bool
-missed_of [] = false
-missed_of (at_port e ∷ h) = missed_at e (missed_of h)
-missed_of (began o ∷ h) = true
-missed_of (did a ps ∷ h) = missed_of h
-missed_of (made_end ∷ h) = missed_of h
-missed_of (evened ∷ h) = missed_of h
-missed_of (paused ∷ h) = missed_of h
-missed_of (became call m ∷ h) = missed_of h
-missed_of (cut k ∷ h) = missed_of h
-missed_of (halted ∷ h) = missed_of h
-missed_of (closing ∷ h) = missed_of h
-missed_of (turned t ∷ h) = missed_of h && is_due h
+abbrev pub missed_of : Opening → Journal → Bool
+missed_of first [] = false
+missed_of first (at_port e ∷ h) = missed_at e (missed_of first h)
+missed_of first (began o ∷ h) = true
+missed_of first (turned t ∷ h) = missed_of first h && is_due first h
+missed_of first (_ ∷ h) = missed_of first h
 
 abbrev pub waits_at : PortStep → List On → List On
 waits_at (published p) waits = []
@@ -361,16 +313,8 @@ waits_by t waits = waits
 abbrev pub waits_of : Journal → List On
 waits_of [] = []
 waits_of (at_port e ∷ h) = waits_at e (waits_of h)
-waits_of (began o ∷ h) = waits_of h
-waits_of (did a ps ∷ h) = waits_of h
-waits_of (made_end ∷ h) = waits_of h
-waits_of (evened ∷ h) = waits_of h
-waits_of (paused ∷ h) = waits_of h
-waits_of (became call m ∷ h) = waits_of h
-waits_of (cut k ∷ h) = waits_of h
-waits_of (halted ∷ h) = waits_of h
-waits_of (closing ∷ h) = waits_of h
 waits_of (turned t ∷ h) = waits_by t (waits_of h)
+waits_of (_ ∷ h) = waits_of h
 
 abbrev pub begun_at : PortStep → ℕ → ℕ
 begun_at (published p) n = 0
@@ -378,31 +322,16 @@ begun_at (no_piece_room done) n = 0
 begun_at e n = n
 
 -- how many lines were begun since the last try to publish a piece, and since no segment was due last
-abbrev pub begun_while_due : Journal → ℕ
-begun_while_due [] = 0
-begun_while_due (at_port e ∷ h) = begun_at e (begun_while_due h)
-begun_while_due (began o ∷ h) = cond (is_due h) (begun_while_due h) 0 + 1
-begun_while_due (did a ps ∷ h) = begun_while_due h
-begun_while_due (made_end ∷ h) = begun_while_due h
-begun_while_due (evened ∷ h) = begun_while_due h
-begun_while_due (paused ∷ h) = begun_while_due h
-begun_while_due (became call m ∷ h) = begun_while_due h
-begun_while_due (cut k ∷ h) = begun_while_due h
-begun_while_due (halted ∷ h) = begun_while_due h
-begun_while_due (closing ∷ h) = begun_while_due h
-begun_while_due (turned t ∷ h) = cond (is_due h) (begun_while_due h) 0
+abbrev pub begun_while_due : Opening → Journal → ℕ
+begun_while_due first [] = 0
+begun_while_due first (at_port e ∷ h) = begun_at e (begun_while_due first h)
+begun_while_due first (began o ∷ h) = cond (is_due first h) (begun_while_due first h) 0 + 1
+begun_while_due first (turned t ∷ h) = cond (is_due first h) (begun_while_due first h) 0
+begun_while_due first (_ ∷ h) = begun_while_due first h
 
 -- what was waited for since the last try to publish a piece, and since no segment was due last
-abbrev pub waits_while_due : Journal → List On
-waits_while_due [] = []
-waits_while_due (at_port e ∷ h) = waits_at e (waits_while_due h)
-waits_while_due (began o ∷ h) = waits_while_due h
-waits_while_due (did a ps ∷ h) = waits_while_due h
-waits_while_due (made_end ∷ h) = waits_while_due h
-waits_while_due (evened ∷ h) = waits_while_due h
-waits_while_due (paused ∷ h) = waits_while_due h
-waits_while_due (became call m ∷ h) = waits_while_due h
-waits_while_due (cut k ∷ h) = waits_while_due h
-waits_while_due (halted ∷ h) = waits_while_due h
-waits_while_due (closing ∷ h) = waits_while_due h
-waits_while_due (turned t ∷ h) = cond (is_due h) (waits_by t (waits_while_due h)) []
+abbrev pub waits_while_due : Opening → Journal → List On
+waits_while_due first [] = []
+waits_while_due first (at_port e ∷ h) = waits_at e (waits_while_due first h)
+waits_while_due first (turned t ∷ h) = cond (is_due first h) (waits_by t (waits_while_due first h)) []
+waits_while_due first (_ ∷ h) = waits_while_due first h

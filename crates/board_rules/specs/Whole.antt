@@ -1,21 +1,21 @@
 -- What a board that keeps to its rules has taken, when it stands, and what one that is finished leaves.
 use Rattle.std.specs.Prelude.{◌≡◌, ◌≢◌, ℕ, ◌<◌, ◌⊎◌, Bool, true, false, ◌||◌, cond, List, [], ◌∷◌, ◌++◌}
 use Rattle.std.specs.List.{AllByRecursion, flat_map, list_any}
-use Rattle.flight.specs.Places.{end_of}
+use Rattle.flight.specs.Places.{end_from}
 use Rattle.planner_runs.specs.Runs.{IsAtRest}
-use Rattle.run_rules.specs.declared.State.{State}
 use Rattle.run_rules.specs.Lines.{HasNoLf, ended}
 use Rattle.run_rules.specs.Outcomes.{Before}
 use Rattle.run_rules.specs.Reports.{Course}
 use Rattle.run_rules.specs.Work.{Task, Outcome, has_moves}
-use Rattle.run_rules.specs.Work.Task.{ask, tell, pause, normal, finish, halt}
+use Rattle.run_rules.specs.Work.Task.{ask}
 use Rattle.step_line.specs.Asking.Asked.{a_move, a_mark, a_rest}
 use Rattle.step_line.specs.declared.Piece.TheVariants as pieces
 use Rattle.step_line.specs.Pieces.{ticks_of}
+use Rattle.board_rules.specs.Openings.{Opening}
 use Rattle.board_rules.specs.Ports.{has_held_in, has_changed_in}
-use Rattle.board_rules.specs.Steps.{Journal, port_log, has_alarmed, published_of, outcomes_of, known_of, given_of, planned_of, hand_of, plan_of, whole_of, has_closed, left_of, motion_of}
+use Rattle.board_rules.specs.Steps.{Journal, port_log, has_limited, published_of, outcomes_of, known_of, given_of, planned_of, hand_of, plan_of, whole_of, has_closed, left_of, motion_of}
 use Rattle.board_rules.specs.Cuts.{counts_of}
-use Rattle.board_rules.specs.Turns.{this_turn, loads, has_blocks, is_going}
+use Rattle.board_rules.specs.Turns.{this_turn, loads, has_blocks, is_going, is_limited}
 use Rattle.board_rules.specs.Conduct.{IsDrained, ticks_given, ticks_published}
 
 -- bytes that are taken: lines, each ended by LF, and the line that is not begun, with its LF if it was taken whole
@@ -33,7 +33,7 @@ pub record IsSpent (h : Journal) : Type 0 where
   pub given : given_of h ≡ planned_of h ++ pieces.End ∷ []
   pub done : known_of h ≡ ticks_given h
   pub whole : whole_of h ≡ false
-  pub closed : (has_closed h ≡ true) ⊎ (has_alarmed h ≡ true)
+  pub closed : (has_closed h ≡ true) ⊎ (has_limited h ≡ true)
 
 -- ---- while nothing has moved since the machine stood
 
@@ -42,24 +42,13 @@ abbrev pub has_work : List Task → Bool
 has_work [] = false
 has_work (ask (a_move m) ∷ ts) = true
 has_work (ask (a_mark m) ∷ ts) = true
-has_work (ask a_rest ∷ ts) = has_work ts
-has_work (tell r ∷ ts) = has_work ts
-has_work (pause ∷ ts) = has_work ts
-has_work (normal ∷ ts) = has_work ts
-has_work (finish ∷ ts) = has_work ts
-has_work (halt ∷ ts) = has_work ts
+has_work (_ ∷ ts) = has_work ts
 
 -- the machine is waited for, and no move or mark is asked for after that
 abbrev pub comes_to_rest : List Task → Bool
 comes_to_rest [] = false
 comes_to_rest (ask a_rest ∷ ts) = cond (has_work ts) (comes_to_rest ts) true
-comes_to_rest (ask (a_move m) ∷ ts) = comes_to_rest ts
-comes_to_rest (ask (a_mark m) ∷ ts) = comes_to_rest ts
-comes_to_rest (tell r ∷ ts) = comes_to_rest ts
-comes_to_rest (pause ∷ ts) = comes_to_rest ts
-comes_to_rest (normal ∷ ts) = comes_to_rest ts
-comes_to_rest (finish ∷ ts) = comes_to_rest ts
-comes_to_rest (halt ∷ ts) = comes_to_rest ts
+comes_to_rest (_ ∷ ts) = comes_to_rest ts
 
 -- What there is to do of a line brings the machine to rest if the line settles; and if it moves nothing, it does so or
 -- gives the machine nothing to do.
@@ -68,18 +57,18 @@ pub record WorkRests (o : Outcome) : Type 0 where
   pub still : has_moves o.work ≡ false → (comes_to_rest o.work ≡ true) ⊎ (has_work o.work ≡ false)
 
 -- the machine stands, and nothing more is asked of it
-pub record IsQuiet (h : Journal) : Type 0 where
+pub record IsQuiet (first : Opening) (h : Journal) : Type 0 where
   pub drained : IsDrained h
-  pub work : has_work (left_of h) ≡ false
+  pub work : has_work (left_of first h) ≡ false
 
 -- it stands, or will be waited for
-abbrev pub ComesToRest : Journal → Type 0
-ComesToRest h = (comes_to_rest (left_of h) ≡ true) ⊎ IsQuiet h
+abbrev pub ComesToRest : Opening → Journal → Type 0
+ComesToRest first h = (comes_to_rest (left_of first h) ≡ true) ⊎ IsQuiet first h
 
 -- A line is begun when the machine was found moving: it runs or jogs; the done ticks were loaded in this turn, and they
 -- were fewer than those of the published pieces, or an event is left to run: a block is queued, or a piece is in hand.
-pub record IsFoundMoving (h : Journal) : Type 0 where
-  pub goes : is_going (motion_of h) ≡ true
+pub record IsFoundMoving (first : Opening) (h : Journal) : Type 0 where
+  pub goes : is_going (motion_of first h) ≡ true
   pub loaded : list_any loads (this_turn h) ≡ true
   pub left : (known_of h < ticks_published h) ⊎ ((has_blocks (plan_of h).blocks ≡ true) ⊎ (hand_of h ≢ []))
 
@@ -92,11 +81,13 @@ abbrev pub has_any_moved : Before → Bool
 has_any_moved b = b.moved || b.jog_moved
 
 -- what reports are judged by
-abbrev pub course_of : State → Journal → Course
+abbrev pub course_of : Opening → Journal → Course
 course_of first h = record {
-  first = first;
+  first = first.state;
+  place = first.place;
+  locked = is_limited first.motion;
   outcomes = outcomes_of h;
-  counts = counts_of h;
+  counts = counts_of first h;
   ticks = flat_map ticks_of (published_of h);
   given = ticks_given h;
   held = has_held_in (port_log h);
@@ -104,7 +95,7 @@ course_of first h = record {
 }
 
 -- a load in this turn gave all ticks that are published as done, and no piece that was given leads further
-pub record IsKnown (h : Journal) : Type 0 where
+pub record IsKnown (first : Opening) (h : Journal) : Type 0 where
   pub load : list_any loads (this_turn h) ≡ true
   pub known : known_of h ≡ ticks_published h
-  pub place : end_of (given_of h) ≡ end_of (published_of h)
+  pub place : end_from first.place (given_of h) ≡ end_from first.place (published_of h)

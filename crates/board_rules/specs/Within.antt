@@ -6,6 +6,7 @@ use Rattle.feed_hold.specs.declared.Motion.TheVariants.{Holding, Cancelling, Hel
 use Rattle.run_rules.specs.Work.{pauses}
 use Rattle.step_line.specs.declared.Piece.{Piece}
 use Rattle.units.specs.Truths.{one_if}
+use Rattle.board_rules.specs.Openings.{Opening}
 use Rattle.board_rules.specs.Ports.PortStep.{published, no_piece_room, loaded}
 use Rattle.board_rules.specs.Steps.{Step, Journal, port_log, open_of, whole_of, left_of, closed_tells, hand_of, plan_of, motion_of}
 use Rattle.board_rules.specs.Steps.Step.{at_port}
@@ -49,12 +50,12 @@ pub record AreWorked (h : Journal) : Type 0 where
   pub changed : count_by replans (this_turn h) ≡ count_by takes_changes (this_turn h)
 
 -- nothing is left to run, each tick is done, and the machine stands, also in alarm
-pub record MayFinish (h : Journal) : Type 0 where
+pub record MayFinish (first : Opening) (h : Journal) : Type 0 where
   pub drained : IsDrained h
-  pub stands : stands_still (motion_of h) ≡ true
+  pub stands : stands_still (motion_of first h) ≡ true
 
 -- Steps of one turn with which nothing passes, no byte is polled for, and no piece is tried to be published.
-pub record PassesNothing (h next : Journal) : Type 0 where
+pub record PassesNothing (first : Opening) (h next : Journal) : Type 0 where
   pub steps : List Step
   pub are : next ≡ steps ++ h
   pub still : list_any passing (this_turn next) ≡ list_any passing (this_turn h)
@@ -64,8 +65,8 @@ pub record PassesNothing (h next : Journal) : Type 0 where
   pub moves : list_any moving (this_turn h) ≡ true → list_any moving (this_turn next) ≡ true
   pub loaded : list_any loads (this_turn h) ≡ true → list_any loads (this_turn next) ≡ true
   pub waits : waits_of next ≡ waits_of h
-  pub tries : tries_of next ≡ tries_of h
-  pub missed : missed_of next ≡ missed_of h
+  pub tries : tries_of first next ≡ tries_of first h
+  pub missed : missed_of first next ≡ missed_of first h
   pub jogged : has_jogged next ≡ has_jogged h
   pub raw : open_of next ≡ open_of h
   pub whole : whole_of next ≡ whole_of h
@@ -75,13 +76,13 @@ pub record PassesNothing (h next : Journal) : Type 0 where
   pub owed : owes_report next ≡ owes_report h
   pub words : unobeyed_of next ≡ unobeyed_of h
   pub worked : AreWorked h → AreWorked next
-  pub pauses : pauses (left_of next) ≤ pauses (left_of h)
-  pub changes : changes_left (motion_of next) (has_cut next) ≤ changes_left (motion_of h) (has_cut h)
-  pub less : (left_of next ≡ [] → ⊥) → left_of h ≡ [] → ⊥
+  pub pauses : pauses (left_of first next) ≤ pauses (left_of first h)
+  pub changes : changes_left (motion_of first next) (has_cut next) ≤ changes_left (motion_of first h) (has_cut h)
+  pub less : (left_of first next ≡ [] → ⊥) → left_of first h ≡ [] → ⊥
 
 -- what a board did by itself: its port knows nothing of it
-pub record DidAlone (h next : Journal) : Type 0 where
-  pub passes : PassesNothing h next
+pub record DidAlone (first : Opening) (h next : Journal) : Type 0 where
+  pub passes : PassesNothing first h next
   pub port : port_log next ≡ port_log h
 
 -- nothing was done, or it was looked how many ticks are done
@@ -94,7 +95,7 @@ Tried true h next = (p : Piece) × (mid : Journal) × MayHaveLooked h mid × (ne
 Tried false h next = (done : ℕ) × (mid : Journal) × MayHaveLooked h mid × (next ≡ at_port (no_piece_room done) ∷ mid)
 
 -- The piece in hand was tried to be published, or a segment, which came into the hand before.
-pub record HasTried (published : Bool) (h next : Journal) : Type 0 where
+pub record HasTried (first : Opening) (published : Bool) (h next : Journal) : Type 0 where
   pub steps : List Step
   pub are : next ≡ steps ++ h
   pub still : published ≡ false → list_any passing (this_turn next) ≡ list_any passing (this_turn h)
@@ -104,13 +105,13 @@ pub record HasTried (published : Bool) (h next : Journal) : Type 0 where
   pub moves : published ≡ true → list_any moving (this_turn next) ≡ true
   pub sent : published ≡ true → hand_of next ≡ []
   pub waits : waits_of next ≡ []
-  pub missed : missed_of next ≡ false
+  pub missed : missed_of first next ≡ false
   pub jogged : has_jogged next ≡ has_jogged h
-  pub first : tries_of next ≤ tries_of h + 1
-  pub later : is_counted h ≡ false → tries_of next ≡ tries_of h
-  pub left : left_of next ≡ left_of h
+  pub once : tries_of first next ≤ tries_of first h + 1
+  pub later : is_counted first h ≡ false → tries_of first next ≡ tries_of first h
+  pub left : left_of first next ≡ left_of first h
   pub whole : whole_of next ≡ whole_of h
-  pub motion : motion_of next ≡ motion_of h
+  pub motion : motion_of first next ≡ motion_of first h
   pub cuts : has_cut next ≡ has_cut h
   pub closed : closed_tells next ≡ closed_tells h
   pub flags : flags_taken next ≡ flags_taken h
@@ -118,5 +119,5 @@ pub record HasTried (published : Bool) (h next : Journal) : Type 0 where
   pub owed : owes_report next ≡ owes_report h
   pub words : unobeyed_of next ≡ unobeyed_of h
   pub worked : AreWorked h → AreWorked next
-  pub waiting : AreWaiting next → AreWaiting h
+  pub waiting : AreWaiting first next → AreWaiting first h
   pub full : is_full (plan_of next) ≡ true → is_full (plan_of h) ≡ true

@@ -1,6 +1,6 @@
 //! Laws of boards.
 
-ghost use Rattle.std.specs.Prelude.{◌≡◌, ◌↔◌, ℕ, ◌+◌, ◌^◌, ◌≤◌, ◌<◌, ◌⊎◌, Bool, true, false, ◌&&◌, ◌||◌, cond, List, [], ◌∷◌, ◌++◌, length, map, reverse, Some};
+ghost use Rattle.std.specs.Prelude.{◌≡◌, ◌↔◌, ℕ, ◌+◌, ◌*◌, ◌^◌, ◌≤◌, ◌<◌, ◌⊎◌, Bool, true, false, ◌&&◌, ◌||◌, cond, List, [], ◌∷◌, ◌++◌, length, map, reverse, Some};
 ghost use Rattle.std.specs.List.{AllByRecursion, count_by, flat_map, list_any, sum};
 ghost use Rattle.code_table.specs.declared.flags.Exec.{Exec as AnyExec};
 ghost use Rattle.feed_hold.specs.declared.Motion.{Motion as AnyMotion};
@@ -9,20 +9,23 @@ ghost use Rattle.feed_hold.specs.Motions.{after, is_stopping};
 ghost use Rattle.feed_hold.specs.Motions.{Call};
 ghost use Rattle.feed_hold.specs.Motions.Call.{on_exec, on_start, on_stopped};
 ghost use Rattle.flight.specs.Flights.{BeginsAt};
-ghost use Rattle.flight.specs.Places.{machine_at, end_of};
+ghost use Rattle.flight.specs.Places.{machine_from, machine_at, end_from};
 ghost use Rattle.outside.specs.declared.On.{On as AnyOn};
 ghost use Rattle.outside.specs.declared.On.TheVariants as causes;
+ghost use Rattle.outside.specs.declared.Turn.{Turn as AnyTurn};
 ghost use Rattle.outside.specs.declared.Turn.TheVariants.{Wait};
 ghost use Rattle.planner_runs.specs.declared.Action.TheVariants.{Take};
 ghost use Rattle.planner_runs.specs.Runs.{IsPlannerRun, IsAtRest, Plans, IsStart, DisturbedOnlyBy, most_blocks, normal_overrides, all_asked, ticks_left};
+ghost use Rattle.board_rules.specs.Openings.{Opening, IsPlaced, before_first, first_opening};
 ghost use Rattle.run_rules.specs.declared.State.{State};
 ghost use Rattle.run_rules.specs.States.{IsOpening};
-ghost use Rattle.run_rules.specs.Work.{Outcome, is_alarm, tells, asks, has_normal};
+ghost use Rattle.run_rules.specs.Work.{Outcome, is_limit, tells, asks, has_normal};
 ghost use Rattle.run_rules.specs.Work.Task.{ask, tell};
-ghost use Rattle.run_rules.specs.Told.{replies_in, asked_in, alarms_in};
+ghost use Rattle.run_rules.specs.Told.{replies_after, replies_in, asked_in, limits_in};
 ghost use Rattle.run_rules.specs.Outcomes.{Before, Becomes, Passed, Follows, start, became_of};
 ghost use Rattle.run_rules.specs.Outcomes.Passed.{a_line};
 ghost use Rattle.status_report.specs.declared.Reply.{Reply as AnyReply};
+ghost use Rattle.status_report.specs.Replies.{IsReply};
 ghost use Rattle.plan_rules.specs.declared.Mode.TheVariants.{Go, Hold};
 ghost use Rattle.step_line.specs.Asking.{ticks_of_all};
 ghost use Rattle.step_line.specs.Asking.Asked.{a_move};
@@ -54,7 +57,7 @@ ghost use Rattle.board_rules.specs.Cuts.{
   pending,
   cancel_words_in,
 };
-ghost use Rattle.board_rules.specs.Ports.{has_held_in, has_slowed_in, has_changed_in, reports_in};
+ghost use Rattle.board_rules.specs.Ports.{MayAnswer, has_held_in, has_slowed_in, has_changed_in, reports_in};
 ghost use Rattle.board_rules.specs.Whole.{course_of};
 ghost use Rattle.run_rules.specs.Reports.{Reported};
 ghost use Rattle.board_rules.specs.Ports.PortStep.{answered, took_exec, reported, published};
@@ -71,7 +74,7 @@ ghost use Rattle.board_rules.specs.Steps.{
   whole_of,
   lines_of,
   outcomes_of,
-  has_alarmed,
+  has_limited,
   before_of,
   left_of,
   closed_tells,
@@ -82,7 +85,7 @@ ghost use Rattle.board_rules.specs.Steps.{
   plan_of,
   motion_of,
 };
-ghost use Rattle.board_rules.specs.Conduct.{Conducted, AreWaiting, IsDrained, HasSlowedDown, IsStopped, MayStop, MayHalt, IsInHand, IsNextTask, IsFinished, IsRoom, ticks_given, ticks_published};
+ghost use Rattle.board_rules.specs.Conduct.{Conducted, MayOpen, IsLocked, AreWaiting, IsDrained, HasSlowedDown, IsStopped, MayStop, MayHalt, IsInHand, IsNextTask, IsFinished, IsRoom, ticks_given, ticks_published};
 ghost use Rattle.board_rules.specs.Turns.{
   this_turn,
   publishing,
@@ -119,32 +122,38 @@ ghost use Rattle.board_rules.specs.Whole.{AreLines, IsSpent, OneByOne, WorkRests
 /// closed; what was asked of the plan, and has still to be asked, is what they ask. No byte of a line is taken while a
 /// task of the line before is left. If jogs are cut, what is asked is that since the last cut.
 pub fn boards_keep_to_their_lines()
-    ensures bytes { (first : State) (h : Journal) → Conducted first h → AreLines (taken_of h) (lines_of h) (open_of h) (whole_of h) }
-    ensures follow { (first : State) (h : Journal) → Conducted first h → Follows true (start first) (lines_of h) (passed_of h) (before_of first h) }
-    ensures lines { (h : Journal) → became_of (passed_of h) ≡ outcomes_of h }
-    ensures told { (first : State) (h : Journal) → Conducted first h → replies_in (outcomes_of h) ++ closed_tells h ≡ without_reports (answered_of h) ++ tells (left_of h) }
-    ensures bye { (first : State) (h : Journal) → Conducted first h → (closed_tells h ≡ []) ⊎ (closed_tells h ≡ AnyReply.Bye ∷ []) }
-    ensures asked { (first : State) (h : Journal) → Conducted first h → asked_in (part_outcomes h) ≡ all_asked (part_actions h) ++ asks (left_of h) }
-    ensures one_by_one { (first : State) (h : Journal) → Conducted first h → closed_tells h ≡ [] → OneByOne (left_of h) (open_of h) (whole_of h) }
+    ensures bytes { (first : Opening) (h : Journal) → Conducted first h → AreLines (taken_of h) (lines_of h) (open_of h) (whole_of h) }
+    ensures follow { (first : Opening) (h : Journal) → Conducted first h → Follows true (before_first first) (lines_of h) (passed_of first h) (before_of first h) }
+    ensures lines { (first : Opening) (h : Journal) → became_of (passed_of first h) ≡ outcomes_of h }
+    ensures told { (first : Opening) (h : Journal) → Conducted first h → replies_after first.tells (outcomes_of h) ++ closed_tells h ≡ without_reports (answered_of h) ++ tells (left_of first h) }
+    ensures bye { (first : Opening) (h : Journal) → Conducted first h → (closed_tells h ≡ []) ⊎ (closed_tells h ≡ AnyReply.Bye ∷ []) }
+    ensures asked { (first : Opening) (h : Journal) → Conducted first h → asked_in (part_outcomes h) ≡ all_asked (part_actions h) ++ asks (left_of first h) }
+    ensures one_by_one { (first : Opening) (h : Journal) → Conducted first h → closed_tells h ≡ [] → OneByOne (left_of first h) (open_of h) (whole_of h) }
 {}
 
 /// Each line has one answer, but for one that raises an alarm: what was answered, what is still to be answered, the
 /// line that has raised an alarm, and the line that is taken whole and not begun, are the lines taken to their LF. So
-/// an answer that is next may be given.
+/// an answer that is next may be given. A journal is greeted by one Banner, before any byte is taken; so at the port, too,
+/// whose rule counts since the last Banner, the reply that is next may be answered.
 pub fn boards_answer_each_line_once()
-    ensures answers { (first : State) (h : Journal) → Conducted first h →
-        answers_in (answered_of h) + answers_in (tells (left_of h)) + one_if (has_alarmed h) + cond (whole_of h) 1 0 ≡ lfs_in (taken_of h) }
-    ensures due { (first : State) (h : Journal) (r : AnyReply) → Conducted first h → IsNextTask (tell r) h → is_answer r ≡ true →
+    ensures answers { (first : Opening) (h : Journal) → Conducted first h →
+        answers_in (answered_of h) + answers_in (tells (left_of first h)) + one_if (has_limited h) + cond (whole_of h) 1 0 ≡ lfs_in (taken_of h) }
+    ensures due { (first : Opening) (h : Journal) (r : AnyReply) → Conducted first h → IsNextTask first (tell r) h → is_answer r ≡ true →
         answers_in (answered_of h) < lfs_in (taken_of h) }
+    ensures fits { (first : Opening) (h : Journal) (r : AnyReply) → Conducted first h → IsNextTask first (tell r) h → IsReply r → MayAnswer (port_log h) r }
 {}
 
 /// A board begins 2^31 lines at most, since its port gives no more bytes; so it gives fewer than 2^62 ticks, and
-/// answers fewer than 2^62 replies.
+/// answers fewer than 2^62 replies. Each line has a byte, and a bounded number of ticks and replies; so several journals,
+/// whose bytes are 2^31 in all, are bounded together.
 pub fn boards_do_a_bounded_amount()
-    ensures lines { (first : State) (h : Journal) → Conducted first h → length (outcomes_of h) ≤ 2 ^ 31 }
-    ensures ticks { (first : State) (h : Journal) → Conducted first h → ticks_given h < 2 ^ 62 }
-    ensures piece { (first : State) (h : Journal) (p : AnyPiece) → Conducted first h → IsInHand p h → ticks_published h + tick_count p < 2 ^ 62 }
-    ensures replies { (first : State) (h : Journal) → Conducted first h → length (answered_of h) < 2 ^ 62 }
+    ensures lines { (first : Opening) (h : Journal) → Conducted first h → length (outcomes_of h) ≤ 2 ^ 31 }
+    ensures ticks { (first : Opening) (h : Journal) → Conducted first h → ticks_given h < 2 ^ 62 }
+    ensures bytes { (first : Opening) (h : Journal) → Conducted first h → length (outcomes_of h) ≤ length (taken_of h) }
+    ensures ticks_of_lines { (first : Opening) (h : Journal) → Conducted first h → ticks_given h ≤ 400000006 * length (outcomes_of h) }
+    ensures replies_of_lines { (first : Opening) (h : Journal) → Conducted first h → length (answered_of h) ≤ 64 * length (outcomes_of h) + 4 + reports_in (port_log h) }
+    ensures piece { (first : Opening) (h : Journal) (p : AnyPiece) → Conducted first h → IsInHand p h → ticks_published h + tick_count p < 2 ^ 62 }
+    ensures replies { (first : Opening) (h : Journal) → Conducted first h → length (answered_of h) < 2 ^ 62 }
 {}
 
 /// What a board does to its plan is a planner run; and so is what it has done since the last cut, from where nothing
@@ -155,32 +164,33 @@ pub fn boards_do_a_bounded_amount()
 /// plan gave, and the end after it if it was made; it is published, or in hand, and comes in turn, so that the piece in
 /// hand may be published.
 pub fn boards_run_their_plan()
-    ensures run { (first : State) (h : Journal) → Conducted first h → IsPlannerRun (actions_of h) (planned_of h) (plan_of h) }
-    ensures part { (first : State) (h : Journal) → Conducted first h → IsStart (part_start h) × Plans most_blocks (part_start h) (part_actions h) (part_given h) (part_plan h) }
-    ensures disturbed { (first : State) (h : Journal) → Conducted first h →
-        DisturbedOnlyBy (has_slowed_in (port_log h) || has_alarmed h) (has_changed_in (port_log h) || list_any (λ o. has_normal o.work) (outcomes_of h)) (part_actions h) }
-    ensures parts { (first : State) (h : Journal) → Conducted first h →
-        AreDisturbedOnlyBy (has_slowed_in (port_log h)) (has_changed_in (port_log h) || list_any (λ o. has_normal o.work) (outcomes_of h)) (parts_of h) }
-    ensures overrides { (first : State) (h : Journal) → Conducted first h → has_changed_in (port_log h) ≡ false → (plan_of h).overrides ≡ normal_overrides }
-    ensures held { (first : State) (h : Journal) → Conducted first h → motion_of h ≡ Holding → has_held_in (port_log h) ≡ true }
-    ensures cancelled { (first : State) (h : Journal) → Conducted first h → motion_of h ≡ Cancelling → has_slowed_in (port_log h) ≡ true }
-    ensures going { (first : State) (h : Journal) (ps : List AnyPiece) → Conducted first (did (Take Go) ps ∷ h) → is_going (motion_of h) ≡ true }
-    ensures slowing { (first : State) (h : Journal) (ps : List AnyPiece) → Conducted first (did (Take Hold) ps ∷ h) →
-        (motion_of h ≡ Holding) ⊎ ((motion_of h ≡ Cancelling) ⊎ ((motion_of h ≡ Stopping) × (has_alarmed h ≡ true))) }
-    ensures hand { (first : State) (h : Journal) → Conducted first h → given_of h ≡ published_of h ++ hand_of h }
-    ensures end { (first : State) (h : Journal) → Conducted first h → (given_of h ≡ planned_of h) ⊎ (given_of h ≡ planned_of h ++ AnyPiece.End ∷ []) }
-    ensures turns { (first : State) (h : Journal) → Conducted first h → InTurn (reverse (given_of h)) }
-    ensures next { (first : State) (h : Journal) (p : AnyPiece) → Conducted first h → IsInHand p h → ComesNext (reverse (published_of h)) p }
+    ensures run { (first : Opening) (h : Journal) → Conducted first h → IsPlannerRun (actions_of h) (planned_of h) (plan_of h) }
+    ensures part { (first : Opening) (h : Journal) → Conducted first h → IsStart (part_start h) × Plans most_blocks (part_start h) (part_actions h) (part_given h) (part_plan h) }
+    ensures disturbed { (first : Opening) (h : Journal) → Conducted first h →
+        DisturbedOnlyBy (has_slowed_in (port_log h) || has_limited h) (has_changed_in (port_log h) || list_any (λ o. has_normal o.work) (outcomes_of h)) (part_actions h) }
+    ensures parts { (first : Opening) (h : Journal) → Conducted first h →
+        AreDisturbedOnlyBy (has_slowed_in (port_log h)) (has_changed_in (port_log h) || list_any (λ o. has_normal o.work) (outcomes_of h)) (parts_of first h) }
+    ensures overrides { (first : Opening) (h : Journal) → Conducted first h → has_changed_in (port_log h) ≡ false → (plan_of h).overrides ≡ normal_overrides }
+    ensures held { (first : Opening) (h : Journal) → Conducted first h → motion_of first h ≡ Holding → has_held_in (port_log h) ≡ true }
+    ensures cancelled { (first : Opening) (h : Journal) → Conducted first h → motion_of first h ≡ Cancelling → has_slowed_in (port_log h) ≡ true }
+    ensures going { (first : Opening) (h : Journal) (ps : List AnyPiece) → Conducted first (did (Take Go) ps ∷ h) → is_going (motion_of first h) ≡ true }
+    ensures slowing { (first : Opening) (h : Journal) (ps : List AnyPiece) → Conducted first (did (Take Hold) ps ∷ h) →
+        (motion_of first h ≡ Holding) ⊎ ((motion_of first h ≡ Cancelling) ⊎ ((motion_of first h ≡ Stopping) × (has_limited h ≡ true))) }
+    ensures hand { (first : Opening) (h : Journal) → Conducted first h → given_of h ≡ published_of h ++ hand_of h }
+    ensures end { (first : Opening) (h : Journal) → Conducted first h → (given_of h ≡ planned_of h) ⊎ (given_of h ≡ planned_of h ++ AnyPiece.End ∷ []) }
+    ensures turns { (first : Opening) (h : Journal) → Conducted first h → InTurn (reverse (given_of h)) }
+    ensures next { (first : Opening) (h : Journal) (p : AnyPiece) → Conducted first h → IsInHand p h → ComesNext (reverse (published_of h)) p }
 {}
 
-/// Each piece that is to be published begins where the ticks of the pieces before it lead, from the origin on: the
+/// Each piece that is to be published begins where the ticks of the pieces before it lead, from the place of the
+/// opening on, if the position is there: the
 /// moves of the lines join, and so do the blocks of the plan and the segments that it gives; after a cut the next line
 /// begins there. So once some ticks of a published segment are done, and all before it, the machine is at the place to
 /// which so many events of the segment's move lead.
 pub fn boards_lead_the_machine()
-    ensures next { (first : State) (h : Journal) (p : AnyPiece) → IsOpening first → Conducted first h → IsInHand p h → BeginsAt (end_of (published_of h)) p }
-    ensures within { (first : State) (h : Journal) (early late : List AnyPiece) (s : AnySegment) (j : ℕ) → IsOpening first → Conducted first h →
-        published_of h ≡ early ++ AnyPiece.Segment s ∷ late → j ≤ s.n → machine_at (published_of h) (ticks_together early + j) ≡ place_after s.mv (s.first + j) }
+    ensures next { (first : Opening) (h : Journal) (p : AnyPiece) → IsPlaced first → Conducted first h → IsInHand p h → BeginsAt (end_from first.place (published_of h)) p }
+    ensures within { (first : Opening) (h : Journal) (early late : List AnyPiece) (s : AnySegment) (j : ℕ) → IsPlaced first → Conducted first h →
+        published_of h ≡ early ++ AnyPiece.Segment s ∷ late → j ≤ s.n → machine_from first.place (published_of h) (ticks_together early + j) ≡ place_after s.mv (s.first + j) }
 {}
 
 /// If no line, and no jog, has moved since the last line that settles, the machine stands or will be waited for; so if
@@ -188,45 +198,46 @@ pub fn boards_lead_the_machine()
 /// there is to do of a line brings the machine to rest if the line settles, and if it moves nothing it does so or gives
 /// the machine nothing to do.
 pub fn boards_stand_where_nothing_moved()
-    ensures quiet { (first : State) (h : Journal) → Conducted first h → closed_tells h ≡ [] →
-        has_any_moved (before_of first h) ≡ false → ComesToRest h }
-    ensures moved { (first : State) (h : Journal) → Conducted first h → closed_tells h ≡ [] →
-        left_of h ≡ [] → (IsDrained h → ⊥) → has_any_moved (before_of first h) ≡ true }
-    ensures done { (first : State) (h : Journal) → Conducted first h → closed_tells h ≡ [] →
-        left_of h ≡ [] → has_any_moved (before_of first h) ≡ false → known_of h ≡ ticks_given h }
+    ensures quiet { (first : Opening) (h : Journal) → Conducted first h → closed_tells h ≡ [] →
+        has_any_moved (before_of first h) ≡ false → ComesToRest first h }
+    ensures moved { (first : Opening) (h : Journal) → Conducted first h → closed_tells h ≡ [] →
+        left_of first h ≡ [] → (IsDrained h → ⊥) → has_any_moved (before_of first h) ≡ true }
+    ensures done { (first : Opening) (h : Journal) → Conducted first h → closed_tells h ≡ [] →
+        left_of first h ≡ [] → has_any_moved (before_of first h) ≡ false → known_of h ≡ ticks_given h }
     ensures works { (runs : Bool) (before : Before) (kept : List ℕ) (outcome : Outcome) → Becomes runs before kept outcome → WorkRests outcome }
-    ensures motion { (first : State) (h : Journal) → Conducted first h → has_alarmed h ≡ false → (motion_of h ≡ Idle) ⊎ ((motion_of h ≡ Run) ⊎ ((motion_of h ≡ Holding) ⊎ ((motion_of h ≡ Held) ⊎ ((motion_of h ≡ Jog) ⊎ (motion_of h ≡ Cancelling))))) }
+    ensures motion { (first : Opening) (h : Journal) → Conducted first h → has_limited h ≡ false → IsLocked first h ⊎ ((motion_of first h ≡ Idle) ⊎ ((motion_of first h ≡ Run) ⊎ ((motion_of first h ≡ Holding) ⊎ ((motion_of first h ≡ Held) ⊎ ((motion_of first h ≡ Jog) ⊎ (motion_of first h ≡ Cancelling)))))) }
 {}
 
 /// While the machine runs, the last that was accepted of G-code and jogs is no jog, and a line of G-code has moved
 /// since the last line that settles, when a line is begun; in a jog it is one, and something has moved. So what becomes
 /// of a line when the machine is found so has its cause in the lines before.
 pub fn boards_move_by_their_lines()
-    ensures running { (first : State) (h : Journal) → Conducted first h → motion_of h ≡ Run → (before_of first h).jogged ≡ false }
-    ensures jogging { (first : State) (h : Journal) → Conducted first h → motion_of h ≡ Jog → (before_of first h).jogged ≡ true }
-    ensures moved { (first : State) (h : Journal) (o : Outcome) → Conducted first (began o ∷ h) → motion_of h ≡ Run → (before_of first h).moved ≡ true }
-    ensures becomes { (first : State) (h : Journal) (o : Outcome) → Conducted first (began o ∷ h) → Becomes true (before_of first h) (open_of h) o }
+    ensures running { (first : Opening) (h : Journal) → Conducted first h → motion_of first h ≡ Run → (before_of first h).jogged ≡ false }
+    ensures jogging { (first : Opening) (h : Journal) → Conducted first h → motion_of first h ≡ Jog → (before_of first h).jogged ≡ true }
+    ensures moved { (first : Opening) (h : Journal) (o : Outcome) → Conducted first (began o ∷ h) → motion_of first h ≡ Run → (before_of first h).moved ≡ true }
+    ensures becomes { (first : Opening) (h : Journal) (o : Outcome) → Conducted first (began o ∷ h) → Becomes true (before_of first h) (open_of h) o }
 {}
 
 /// A line is refused for the machine's motion, with error 8 or 9, only if the machine was found moving. Unless the line
 /// becomes the same while the machine stands, a load of the done ticks in the turn that begins it found fewer than are
 /// published, or an event was left to run, in the plan or in hand.
 pub fn boards_refuse_only_while_they_move()
-    ensures moving { (first : State) (h : Journal) (o : Outcome) → Conducted first (began o ∷ h) →
-        (Becomes false (before_of first h) (open_of h) o → ⊥) → IsFoundMoving h }
+    ensures moving { (first : Opening) (h : Journal) (o : Outcome) → Conducted first (began o ∷ h) →
+        (Becomes false (before_of first h) (open_of h) o → ⊥) → IsFoundMoving first h }
 {}
 
-/// A board publishes one thing a turn at most, and between two turns no more than five tries to publish come after
+/// A board publishes one thing a turn at most, also in one that ends in a wait, and between two turns no more than five tries to publish come after
 /// its last poll, while nothing was left to do, no report was owed, and no line waited for a machine that is held, or
 /// slows down for that. Each word of requests that was taken is obeyed once, in order, or is the last one: between two
 /// turns it waits only for a report that is owed. For each word that changes overrides the plan is made anew, once.
 pub fn boards_take_turns()
-    ensures once { (first : State) (h : Journal) → Conducted first h → this_turn h ≡ [] → count_by publishing h ≤ count_by ends_turn h }
-    ensures tries { (first : State) (h : Journal) → Conducted first h → this_turn h ≡ [] → tries_of h ≤ most_tries }
-    ensures obeyed { (first : State) (h : Journal) → Conducted first h → count_by obeys h + length (unobeyed_of h) ≡ count_by takes_requests h }
-    ensures one { (first : State) (h : Journal) → Conducted first h → length (unobeyed_of h) ≤ 1 }
-    ensures waits { (first : State) (h : Journal) → Conducted first h → this_turn h ≡ [] → owes_report h ≡ false → unobeyed_of h ≡ [] }
-    ensures changed { (first : State) (h : Journal) → Conducted first h → this_turn h ≡ [] → count_by replans h ≡ count_by takes_changes h }
+    ensures once { (first : Opening) (h : Journal) → Conducted first h → this_turn h ≡ [] → count_by publishing h ≤ count_by ends_turn h }
+    ensures each { (first : Opening) (h : Journal) (t : AnyTurn) → Conducted first (turned t ∷ h) → count_by publishing (this_turn h) ≤ 1 }
+    ensures tries { (first : Opening) (h : Journal) → Conducted first h → this_turn h ≡ [] → tries_of first h ≤ most_tries }
+    ensures obeyed { (first : Opening) (h : Journal) → Conducted first h → count_by obeys h + length (unobeyed_of h) ≡ count_by takes_requests h }
+    ensures one { (first : Opening) (h : Journal) → Conducted first h → length (unobeyed_of h) ≤ 1 }
+    ensures waits { (first : Opening) (h : Journal) → Conducted first h → this_turn h ≡ [] → owes_report h ≡ false → unobeyed_of h ≡ [] }
+    ensures changed { (first : Opening) (h : Journal) → Conducted first h → this_turn h ≡ [] → count_by replans h ≡ count_by takes_changes h }
 {}
 
 /// A line is begun once both words of flags were taken after its LF, what they ask for is done, and no report is owed.
@@ -236,17 +247,17 @@ pub fn boards_take_turns()
 /// looks for that before it obeys a word, so that a machine that has stopped is held by then, or its jogs are cut. A
 /// word is obeyed while a report is owed only if there was no room for it in that turn.
 pub fn boards_take_their_flags()
-    ensures begun { (first : State) (h : Journal) (o : Outcome) → Conducted first (began o ∷ h) → (requests_taken h ≡ true) × (changes_taken h ≡ true) }
-    ensures worked { (first : State) (h : Journal) (o : Outcome) → Conducted first (began o ∷ h) → (unobeyed_of h ≡ []) × (owes_report h ≡ false) }
-    ensures waited { (first : State) (h : Journal) (o : AnyOn) → Conducted first (turned (Wait o) ∷ h) → (requests_taken h ≡ true) × ((changes_taken h ≡ true) × (unobeyed_of h ≡ [])) }
+    ensures begun { (first : Opening) (h : Journal) (o : Outcome) → Conducted first (began o ∷ h) → (requests_taken h ≡ true) × (changes_taken h ≡ true) }
+    ensures worked { (first : Opening) (h : Journal) (o : Outcome) → Conducted first (began o ∷ h) → (unobeyed_of h ≡ []) × (owes_report h ≡ false) }
+    ensures waited { (first : Opening) (h : Journal) (o : AnyOn) → Conducted first (turned (Wait o) ∷ h) → (requests_taken h ≡ true) × ((changes_taken h ≡ true) × (unobeyed_of h ≡ [])) }
     ensures stays { (word : AnyExec) (queued : Bool) → (asks_no_start (at_port (took_exec word)) ≡ true) ↔ (after (on_exec word queued) Held ≡ Some Held) }
-    ensures held { (first : State) (h : Journal) (m : AnyMotion) → Conducted first (became on_stopped m ∷ h) → MayStop h }
-    ensures reported { (first : State) (h : Journal) (word : AnyExec) (queued : Bool) (m : AnyMotion) → Conducted first (became (on_exec word queued) m ∷ h) →
+    ensures held { (first : Opening) (h : Journal) (m : AnyMotion) → Conducted first (became on_stopped m ∷ h) → MayStop first h }
+    ensures reported { (first : Opening) (h : Journal) (word : AnyExec) (queued : Bool) (m : AnyMotion) → Conducted first (became (on_exec word queued) m ∷ h) →
         owes_report h ≡ true → list_any lacks_reply_room (this_turn h) ≡ true }
-    ensures looked { (first : State) (h : Journal) (word : AnyExec) (queued : Bool) (m : AnyMotion) → Conducted first (became (on_exec word queued) m ∷ h) →
-        HasSlowedDown h → list_any loads (this_turn h) ≡ true }
-    ensures stopped { (first : State) (h : Journal) (word : AnyExec) (queued : Bool) (m : AnyMotion) → Conducted first (became (on_exec word queued) m ∷ h) →
-        IsStopped h → ⊥ }
+    ensures looked { (first : Opening) (h : Journal) (word : AnyExec) (queued : Bool) (m : AnyMotion) → Conducted first (became (on_exec word queued) m ∷ h) →
+        HasSlowedDown first h → list_any loads (this_turn h) ≡ true }
+    ensures stopped { (first : Opening) (h : Journal) (word : AnyExec) (queued : Bool) (m : AnyMotion) → Conducted first (became (on_exec word queued) m ∷ h) →
+        IsStopped first h → ⊥ }
 {}
 
 /// Each report fits what was done before it: the place is that after the ticks that were found done in its turn, on all
@@ -255,10 +266,10 @@ pub fn boards_take_their_flags()
 /// of the lines up to the last answered one that settles, and at most those of the next line; and a machine that
 /// nothing moves stands. For each word that asks for a report there is one at most.
 pub fn boards_report_where_they_are()
-    ensures fits { (first : State) (h : Journal) → Conducted first h → Reported (course_of first h) (reverse (answered_of h)) (known_of h) }
-    ensures told { (first : State) (h : Journal) (r : AnyReport) → Conducted first (at_port (reported r) ∷ h) →
-        (list_any loads (this_turn h) ≡ true) × ((IsDrained h → is_going (motion_of h) ≡ false) × ((IsStopped h → ⊥) × IsRoom r.buffer h)) }
-    ensures few { (first : State) (h : Journal) → Conducted first h → reports_among (answered_of h) + cond (owes_report h) 1 0 ≤ reports_in (port_log h) }
+    ensures fits { (first : Opening) (h : Journal) → Conducted first h → Reported (course_of first h) (reverse (answered_of h)) (known_of h) }
+    ensures told { (first : Opening) (h : Journal) (r : AnyReport) → Conducted first (at_port (reported r) ∷ h) →
+        (list_any loads (this_turn h) ≡ true) × ((IsDrained h → is_going (motion_of first h) ≡ false) × ((IsStopped first h → ⊥) × IsRoom r.buffer h)) }
+    ensures few { (first : Opening) (h : Journal) → Conducted first h → reports_among (answered_of h) + cond (owes_report h) 1 0 ≤ reports_in (port_log h) }
 {}
 
 /// A turn that ends in a wait has a cause. For a byte: none was found, nothing is left to do, and no report is owed.
@@ -268,16 +279,16 @@ pub fn boards_report_where_they_are()
 /// being held. For a resume: the machine is held, the word of requests that was taken lets it stay so, and what is next
 /// does not go on before. It waits for nothing else.
 pub fn boards_wait_for_a_cause()
-    ensures byte { (first : State) (h : Journal) → Conducted first (turned (Wait causes.Byte) ∷ h) → (left_of h ≡ []) × (whole_of h ≡ false) × (owes_report h ≡ false) }
-    ensures reply_room { (first : State) (h : Journal) → Conducted first (turned (Wait causes.ReplyRoom) ∷ h) → (tells_next (left_of h) || owes_report h) ≡ true }
-    ensures report { (first : State) (h : Journal) (o : AnyOn) → Conducted first (turned (Wait o) ∷ h) → owes_report h ≡ true → list_any lacks_reply_room (this_turn h) ≡ true }
-    ensures segment_room { (first : State) (h : Journal) → Conducted first (turned (Wait causes.SegmentRoom) ∷ h) →
+    ensures byte { (first : Opening) (h : Journal) → Conducted first (turned (Wait causes.Byte) ∷ h) → (left_of first h ≡ []) × (whole_of h ≡ false) × (owes_report h ≡ false) }
+    ensures reply_room { (first : Opening) (h : Journal) → Conducted first (turned (Wait causes.ReplyRoom) ∷ h) → (tells_next (left_of first h) || owes_report h) ≡ true }
+    ensures report { (first : Opening) (h : Journal) (o : AnyOn) → Conducted first (turned (Wait o) ∷ h) → owes_report h ≡ true → list_any lacks_reply_room (this_turn h) ≡ true }
+    ensures segment_room { (first : Opening) (h : Journal) → Conducted first (turned (Wait causes.SegmentRoom) ∷ h) →
         (done : ℕ) × (unfinished (published_of h) done ≡ most_unfinished) }
-    ensures motion { (first : State) (h : Journal) → Conducted first (turned (Wait causes.Motion) ∷ h) →
-        (known_of h < ticks_published h) × ((awaits_motion (left_of h) || (is_stopping (motion_of h) && is_held_up h)) ≡ true) }
-    ensures resume { (first : State) (h : Journal) → Conducted first (turned (Wait causes.Resume) ∷ h) → (motion_of h ≡ Held) × (is_held_up h ≡ true) }
-    ensures unasked { (first : State) (h : Journal) → Conducted first (turned (Wait causes.Resume) ∷ h) → list_any asks_no_start (this_turn h) ≡ true }
-    ensures causes { (first : State) (h : Journal) (o : AnyOn) → Conducted first (turned (Wait o) ∷ h) →
+    ensures motion { (first : Opening) (h : Journal) → Conducted first (turned (Wait causes.Motion) ∷ h) →
+        (known_of h < ticks_published h) × ((awaits_motion (left_of first h) || (is_stopping (motion_of first h) && is_held_up first h)) ≡ true) }
+    ensures resume { (first : Opening) (h : Journal) → Conducted first (turned (Wait causes.Resume) ∷ h) → (motion_of first h ≡ Held) × (is_held_up first h ≡ true) }
+    ensures unasked { (first : Opening) (h : Journal) → Conducted first (turned (Wait causes.Resume) ∷ h) → list_any asks_no_start (this_turn h) ≡ true }
+    ensures causes { (first : Opening) (h : Journal) (o : AnyOn) → Conducted first (turned (Wait o) ∷ h) →
         (o ≡ causes.Byte) ⊎ ((o ≡ causes.ReplyRoom) ⊎ ((o ≡ causes.SegmentRoom) ⊎ ((o ≡ causes.Motion) ⊎ (o ≡ causes.Resume)))) }
 {}
 
@@ -286,11 +297,11 @@ pub fn boards_wait_for_a_cause()
 /// most is begun, and four turns at most end in a wait, between two tries to publish a piece: so the pulse is not left
 /// without segments by lines and replies.
 pub fn boards_keep_the_pulse_busy()
-    ensures adds { (first : State) (h : Journal) (m : AnyMove) → Conducted first h → this_turn h ≡ [] → IsNextTask (ask (a_move m)) h → is_full (plan_of h) ≡ true }
-    ensures starts { (first : State) (h : Journal) → Conducted first h → this_turn h ≡ [] → AreWaiting h → starts_cycle h ≡ false }
-    ensures jogs { (first : State) (h : Journal) → Conducted first h → this_turn h ≡ [] → has_jog_to_start h ≡ false }
-    ensures lines { (first : State) (h : Journal) → Conducted first h → begun_while_due h ≤ 1 }
-    ensures waits { (first : State) (h : Journal) → Conducted first h → length (waits_while_due h) ≤ 4 }
+    ensures adds { (first : Opening) (h : Journal) (m : AnyMove) → Conducted first h → this_turn h ≡ [] → IsNextTask first (ask (a_move m)) h → is_full (plan_of h) ≡ true }
+    ensures starts { (first : Opening) (h : Journal) → Conducted first h → this_turn h ≡ [] → AreWaiting first h → starts_cycle first h ≡ false }
+    ensures jogs { (first : Opening) (h : Journal) → Conducted first h → this_turn h ≡ [] → has_jog_to_start first h ≡ false }
+    ensures lines { (first : Opening) (h : Journal) → Conducted first h → begun_while_due first h ≤ 1 }
+    ensures waits { (first : Opening) (h : Journal) → Conducted first h → length (waits_while_due first h) ≤ 4 }
 {}
 
 /// Each part that a cut has ended holds the first ticks of its lines, and leaves out those of jogs alone; it is a
@@ -302,34 +313,34 @@ pub fn boards_keep_the_pulse_busy()
 /// ticks count that it asks for, less those that a cut or a halt dropped; a cut counts with the last line before it.
 /// Together they are those that were given, that are left in the plan, and that are to be asked.
 pub fn cuts_lose_jogs_alone()
-    ensures parts { (first : State) (h : Journal) → Conducted first h → AllByRecursion IsCutPart (parts_of h) }
-    ensures starts { (h : Journal) → part_start h ≡ plan_behind (parts_of h) }
-    ensures joined { (h : Journal) → AreJoined (parts_of h) }
-    ensures lines { (first : State) (h : Journal) → Conducted first h → outcomes_of h ≡ lines_in (parts_of h) ++ part_outcomes h }
-    ensures actions { (h : Journal) → has_halted h ≡ false → actions_of h ≡ actions_in (parts_of h) ++ part_actions h }
-    ensures pieces { (first : State) (h : Journal) → Conducted first h → planned_of h ≡ pieces_in (parts_of h) ++ part_given h }
-    ensures numbers { (first : State) (h : Journal) → Conducted first h → AreNumbered (parts_of h) }
-    ensures cancels { (first : State) (h : Journal) → Conducted first h → cancels_of h ≡ length (parts_of h) + pending (is_cancelling (motion_of h)) (has_cut h) }
-    ensures words { (first : State) (h : Journal) → Conducted first h → length (parts_of h) ≤ cancel_words_in (port_log h) }
-    ensures last { (first : State) (h : Journal) → Conducted first h → asks (left_of h) ≡ [] → (part_plan h).blocks ≡ [] →
+    ensures parts { (first : Opening) (h : Journal) → Conducted first h → AllByRecursion IsCutPart (parts_of first h) }
+    ensures starts { (first : Opening) (h : Journal) → part_start h ≡ plan_behind (parts_of first h) }
+    ensures joined { (first : Opening) (h : Journal) → AreJoined (parts_of first h) }
+    ensures lines { (first : Opening) (h : Journal) → Conducted first h → outcomes_of h ≡ lines_in (parts_of first h) ++ part_outcomes h }
+    ensures actions { (first : Opening) (h : Journal) → has_halted h ≡ false → actions_of h ≡ actions_in (parts_of first h) ++ part_actions h }
+    ensures pieces { (first : Opening) (h : Journal) → Conducted first h → planned_of h ≡ pieces_in (parts_of first h) ++ part_given h }
+    ensures numbers { (first : Opening) (h : Journal) → Conducted first h → AreNumbered first.lines (parts_of first h) }
+    ensures cancels { (first : Opening) (h : Journal) → Conducted first h → cancels_of first h ≡ length (parts_of first h) + pending (is_cancelling (motion_of first h)) (has_cut h) }
+    ensures words { (first : Opening) (h : Journal) → Conducted first h → length (parts_of first h) ≤ cancel_words_in (port_log h) }
+    ensures last { (first : Opening) (h : Journal) → Conducted first h → asks (left_of first h) ≡ [] → (part_plan h).blocks ≡ [] →
         ticks_of_all (asked_in (part_outcomes h)) ≡ flat_map ticks_of (part_given h) }
-    ensures counts { (first : State) (h : Journal) → Conducted first h → sum (counts_of h) ≡ ticks_given h + length (ticks_left (plan_of h)) + length (ticks_of_all (asks (left_of h))) }
+    ensures counts { (first : Opening) (h : Journal) → Conducted first h → sum (counts_of first h) ≡ ticks_given h + length (ticks_left (plan_of h)) + length (ticks_of_all (asks (left_of first h))) }
 {}
 
 /// The lines that were begun, and the cuts, are passed part by part: each cut at the place to which all pieces before
 /// it lead.
 pub fn lines_follow_cuts()
-    ensures { (first : State) (h : Journal) → Conducted first h → passed_of h ≡ passed_in (parts_of h) ++ map a_line (part_outcomes h) }
+    ensures { (first : Opening) (h : Journal) → Conducted first h → passed_of first h ≡ passed_in first.place (parts_of first h) ++ map a_line (part_outcomes h) }
 {}
 
 /// A cut is made, or published, and a cancel is over, only in a turn whose load gave all that is published as done; so
 /// the position after a cut is where the machine is.
 pub fn cuts_are_at_known_places()
-    ensures made { (first : State) (h : Journal) (k : ℕ) → Conducted first (cut k ∷ h) → IsKnown h }
-    ensures published { (first : State) (h : Journal) (k : ℕ) → Conducted first (at_port (published (AnyPiece.Mark (Cut k))) ∷ h) →
+    ensures made { (first : Opening) (h : Journal) (k : ℕ) → Conducted first (cut k ∷ h) → IsKnown first h }
+    ensures published { (first : Opening) (h : Journal) (k : ℕ) → Conducted first (at_port (published (AnyPiece.Mark (Cut k))) ∷ h) →
         (list_any loads (this_turn h) ≡ true) × (known_of h ≡ ticks_published h) }
-    ensures over { (first : State) (h : Journal) (call : Call) (m : AnyMotion) → Conducted first (became call m ∷ h) → motion_of h ≡ Cancelling → is_cancelling m ≡ false →
-        (has_cut h ≡ true) × IsKnown h }
+    ensures over { (first : Opening) (h : Journal) (call : Call) (m : AnyMotion) → Conducted first (became call m ∷ h) → motion_of first h ≡ Cancelling → is_cancelling m ≡ false →
+        (has_cut h ≡ true) × IsKnown first h }
 {}
 
 /// A line that raises an alarm is the last that was passed: no line is begun after it, no jog is cut, no queued block
@@ -338,21 +349,21 @@ pub fn cuts_are_at_known_places()
 /// and each tick that was given is done. Nothing is sent before but reports. It is halted once, and never if no line
 /// has raised an alarm.
 pub fn boards_halt_at_alarms()
-    ensures alarms { (first : State) (h : Journal) → Conducted first h → alarms_in (outcomes_of h) ≡ one_if (has_alarmed h) }
-    ensures state { (first : State) (h : Journal) → (before_of first h).alarmed ≡ has_alarmed h }
-    ensures last { (first : State) (h : Journal) → Conducted first h → has_alarmed h ≡ true →
-        (early : List Passed) × (o : Outcome) × (passed_of h ≡ early ++ a_line o ∷ []) × (is_alarm o.answer ≡ true) }
-    ensures begun { (first : State) (h : Journal) (o : Outcome) → Conducted first (began o ∷ h) → has_alarmed h ≡ false }
-    ensures cut { (first : State) (h : Journal) (k : ℕ) → Conducted first (cut k ∷ h) → has_alarmed h ≡ false }
-    ensures asked { (first : State) (h : Journal) → Conducted first h → has_alarmed h ≡ true → asks (left_of h) ≡ [] }
-    ensures limited { (first : State) (h : Journal) → Conducted first h → is_limited (motion_of h) ≡ true → has_alarmed h ≡ true }
-    ensures slows { (first : State) (h : Journal) → Conducted first h → this_turn h ≡ [] → halts_next (left_of h) ≡ true → is_limited (motion_of h) ≡ true }
-    ensures starts { (first : State) (h : Journal) (jog : Bool) (m : AnyMotion) → Conducted first (became (on_start jog) m ∷ h) → has_alarmed h ≡ false }
-    ensures obeys { (first : State) (h : Journal) (word : AnyExec) (queued : Bool) (m : AnyMotion) → Conducted first (became (on_exec word queued) m ∷ h) →
-        has_alarmed h ≡ true → is_limited (motion_of h) ≡ true }
-    ensures halts { (first : State) (h : Journal) → Conducted first (halted ∷ h) → MayHalt h × (has_alarmed h ≡ true) × (has_halted h ≡ false) }
-    ensures told { (first : State) (h : Journal) (r : AnyReply) → Conducted first (at_port (answered r) ∷ h) → has_alarmed h ≡ true → has_halted h ≡ true }
-    ensures calm { (first : State) (h : Journal) → Conducted first h → has_alarmed h ≡ false → (has_halted h ≡ false) × (part_plan h ≡ plan_of h) }
+    ensures alarms { (first : Opening) (h : Journal) → Conducted first h → limits_in (outcomes_of h) ≡ one_if (has_limited h) }
+    ensures state { (first : Opening) (h : Journal) → (before_of first h).alarmed ≡ has_limited h }
+    ensures last { (first : Opening) (h : Journal) → Conducted first h → has_limited h ≡ true →
+        (early : List Passed) × (o : Outcome) × (passed_of first h ≡ early ++ a_line o ∷ []) × (is_limit o.answer ≡ true) }
+    ensures begun { (first : Opening) (h : Journal) (o : Outcome) → Conducted first (began o ∷ h) → has_limited h ≡ false }
+    ensures cut { (first : Opening) (h : Journal) (k : ℕ) → Conducted first (cut k ∷ h) → has_limited h ≡ false }
+    ensures asked { (first : Opening) (h : Journal) → Conducted first h → has_limited h ≡ true → asks (left_of first h) ≡ [] }
+    ensures limited { (first : Opening) (h : Journal) → Conducted first h → is_limited (motion_of first h) ≡ true → (has_limited h ≡ true) ⊎ IsLocked first h }
+    ensures slows { (first : Opening) (h : Journal) → Conducted first h → this_turn h ≡ [] → halts_next (left_of first h) ≡ true → is_limited (motion_of first h) ≡ true }
+    ensures starts { (first : Opening) (h : Journal) (jog : Bool) (m : AnyMotion) → Conducted first (became (on_start jog) m ∷ h) → has_limited h ≡ false }
+    ensures obeys { (first : Opening) (h : Journal) (word : AnyExec) (queued : Bool) (m : AnyMotion) → Conducted first (became (on_exec word queued) m ∷ h) →
+        has_limited h ≡ true → is_limited (motion_of first h) ≡ true }
+    ensures halts { (first : Opening) (h : Journal) → Conducted first (halted ∷ h) → MayHalt first h × (has_limited h ≡ true) × (has_halted h ≡ false) }
+    ensures told { (first : Opening) (h : Journal) (r : AnyReply) → Conducted first (at_port (answered r) ∷ h) → has_limited h ≡ true → has_halted h ≡ true }
+    ensures calm { (first : Opening) (h : Journal) → Conducted first h → has_limited h ≡ false → (has_halted h ≡ false) × (part_plan h ≡ plan_of h) }
 {}
 
 /// If the machine was halted, the part after the last cut is a planner run that has come to a stop, with legal heads;
@@ -361,18 +372,29 @@ pub fn boards_halt_at_alarms()
 /// plan gives nothing more, so that only the end is given. A finished board, one of whose lines has raised an alarm,
 /// was halted.
 pub fn halts_drop_what_is_left()
-    ensures part { (first : State) (h : Journal) → Conducted first h → has_halted h ≡ true →
+    ensures part { (first : Opening) (h : Journal) → Conducted first h → has_halted h ≡ true →
         IsHaltedPart (part_outcomes h) (part_start h) (part_actions h) (part_given h) (part_plan h) }
-    ensures stands { (first : State) (h : Journal) → Conducted first h → has_halted h ≡ true →
-        IsAtRest (plan_of h) × (motion_of h ≡ Alarm) × (known_of h ≡ ticks_given h) }
-    ensures alarmed { (first : State) (h : Journal) → Conducted first h → has_halted h ≡ true → has_alarmed h ≡ true }
-    ensures behind { (first : State) (s : Step) (h : Journal) → Conducted first (s ∷ h) → has_halted h ≡ true →
+    ensures stands { (first : Opening) (h : Journal) → Conducted first h → has_halted h ≡ true →
+        IsAtRest (plan_of h) × (motion_of first h ≡ Alarm) × (known_of h ≡ ticks_given h) }
+    ensures alarmed { (first : Opening) (h : Journal) → Conducted first h → has_halted h ≡ true → has_limited h ≡ true }
+    ensures behind { (first : Opening) (s : Step) (h : Journal) → Conducted first (s ∷ h) → has_halted h ≡ true →
         (outcomes_of (s ∷ h) ≡ outcomes_of h) × (planned_of (s ∷ h) ≡ planned_of h) }
-    ensures over { (first : State) (h : Journal) → Conducted first h → IsFinished h → has_alarmed h ≡ true → has_halted h ≡ true }
+    ensures over { (first : Opening) (h : Journal) → Conducted first h → IsFinished first h → has_limited h ≡ true → has_halted h ≡ true }
 {}
 
 /// When a board is finished, nothing is left in its plan or in hand, all lines that were taken whole are begun, and the
 /// link was found closed, or a line has raised an alarm.
 pub fn boards_end_well()
-    ensures { (first : State) (h : Journal) → Conducted first h → IsFinished h → IsSpent h }
+    ensures { (first : Opening) (h : Journal) → Conducted first h → IsFinished first h → IsSpent h }
+{}
+
+/// A run may begin from its first opening: the next line is the first one, the position is where the machine stands, at
+/// the origin, and it is not locked. So what holds of a journal from any opening holds of a run.
+pub fn runs_begin_from_an_opening()
+    ensures opens { (state : State) → MayOpen (first_opening state) }
+    ensures before { (state : State) → before_first (first_opening state) ≡ start state }
+    ensures placed { (state : State) → IsOpening state → IsPlaced (first_opening state) }
+    ensures machine { (state : State) (ps : List AnyPiece) (done : ℕ) → machine_from (first_opening state).place ps done ≡ machine_at ps done }
+    ensures free { (state : State) (h : Journal) → IsLocked (first_opening state) h → ⊥ }
+    ensures told { (state : State) (outcomes : List Outcome) → replies_after (first_opening state).tells outcomes ≡ replies_in outcomes }
 {}

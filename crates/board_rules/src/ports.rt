@@ -1,9 +1,9 @@
 //! The port of a board.
 
 ghost use Rattle.std.specs.Prelude.{◌≡◌, ℕ, ◌∷◌, ◌≤◌, true, OnOk, OnErr, IfErr};
-ghost use Rattle.board_rules.specs.Ports.{PortLog, MayAnswer, MayPublish, MayBeDone, said, HasTakenFew, HasFewReports, LacksReplyRoom, LacksPieceRoom, asks_report};
+ghost use Rattle.board_rules.specs.Ports.{PortLog, MayAnswer, MayPublish, MayBeDone, said, IsMarkedPast, HasTakenFew, HasFewReports, LacksReplyRoom, LacksPieceRoom, asks_report};
 ghost use Rattle.status_report.specs.Answering.{receive_room};
-ghost use Rattle.board_rules.specs.Ports.PortStep.{took, found_empty, found_closed, found_free, no_reply_room, took_exec, took_ovr, published, no_piece_room, loaded};
+ghost use Rattle.board_rules.specs.Ports.PortStep.{took, found_empty, found_closed, found_free, found_mark, no_reply_room, took_exec, took_ovr, published, no_piece_room, loaded};
 
 use code_table::{Exec, Ovr};
 use serial_ring::ByteIn;
@@ -19,10 +19,12 @@ pub trait BoardPort {
     /// This side of the port has done what the log says, the latest first.
     ghost stands: { Self → Rest → PortLog → Type 0 };
 
-    /// The next byte, if one is there. Fewer than 2^31 bytes were taken before any byte.
+    /// The next byte, if one is there. Fewer than 2^31 bytes were taken before any byte. While fewer are taken than were stored
+    /// before a mark that was loaded, there is one.
     fn byte(&mut self) -> ByteIn
         ensures byte { (b : ℕ) → result ≡ ByteIn.Byte b → (rest : Rest) (l : PortLog) → stands self.old rest l → stands self.new rest (took b ∷ l) }
         ensures few { (b : ℕ) → result ≡ ByteIn.Byte b → (rest : Rest) (l : PortLog) → stands self.old rest l → HasTakenFew l }
+        ensures marked { (rest : Rest) (l : PortLog) → stands self.old rest l → IsMarkedPast l → (b : ℕ) × (result ≡ ByteIn.Byte b) }
         ensures empty { result ≡ ByteIn.Empty → (rest : Rest) (l : PortLog) → stands self.old rest l → stands self.new rest (found_empty ∷ l) }
         ensures closed { result ≡ ByteIn.Closed → (rest : Rest) (l : PortLog) → stands self.old rest l → stands self.new rest (found_closed ∷ l) };
 
@@ -31,8 +33,13 @@ pub trait BoardPort {
         ensures room { result ≤ receive_room }
         ensures free { (rest : Rest) (l : PortLog) → stands self.old rest l → stands self.new rest (found_free result ∷ l) };
 
-    /// Answers, or hands the reply back if 16 may wait. An `ok` or an `error` answers a line: fewer lines must have
-    /// been answered than were taken to their LF. Fewer than 2^62 replies must have been answered.
+    /// The number of the mark that the host has stored, and how many bytes it had stored before; 0 and 0 before the first.
+    fn marked(&mut self) -> (u32, u32)
+        ensures { (rest : Rest) (l : PortLog) → stands self.old rest l → stands self.new rest (found_mark result.0 result.1 ∷ l) };
+
+    /// Answers, or hands the reply back if 16 may wait. An `ok` or an `error` answers a line: since the last Banner fewer lines
+    /// must have been answered than were taken to their LF. A Banner behind another needs a new mark, loaded last, and as many
+    /// bytes taken as were stored before that. Fewer than 2^62 replies must have been answered.
     fn answer(&mut self, r: Reply) -> Result<(), Reply>
         requires { (rest : Rest) × (l : PortLog) × stands self.old rest l × MayAnswer l r }
         ensures ok { OnOk result ((rest : Rest) (l : PortLog) → stands self.old rest l → MayAnswer l r → stands self.new rest (said r ∷ l)) }

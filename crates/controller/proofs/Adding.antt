@@ -8,6 +8,7 @@ use Rattle.run_rules.specs.Work.Task.{ask}
 use Rattle.step_line.specs.Asking.Asked.{a_move}
 use Rattle.step_line.specs.declared.planned_move.PlannedMove.{PlannedMove}
 use Rattle.planner_runs.specs.declared.Action.TheVariants.{Add}
+use Rattle.board_rules.specs.Openings.{Opening}
 use Rattle.board_rules.specs.Steps.{Journal, open_of, whole_of, left_of, hand_of, plan_of, motion_of}
 use Rattle.board_rules.specs.Steps.Step.{did}
 use Rattle.run_rules.specs.Outcomes.{begins_with_dollar}
@@ -27,46 +28,46 @@ use Rattle.controller.proofs.Ends.{same_calls}
 use Rattle.controller.proofs.Steps.{none_halts}
 
 -- some of the moves that are next were added, or none
-pub record Adds (h next : Journal) : Type 0 where
-  pub alone : DidAlone h next
+pub record Adds (first : Opening) (h next : Journal) : Type 0 where
+  pub alone : DidAlone first h next
   pub hand : hand_of next ≡ hand_of h
-  pub motion : motion_of next ≡ motion_of h
-  pub some : (next ≡ h) ⊎ (IsNextMove h × (list_any moving (this_turn next) ≡ true))
+  pub motion : motion_of first next ≡ motion_of first h
+  pub some : (next ≡ h) ⊎ (IsNextMove first h × (list_any moving (this_turn next) ≡ true))
 
-first_is_next : (m : PlannedMove) (h mid : Journal) → (mid ≡ h) ⊎ (IsNextMove h × (list_any moving (this_turn mid) ≡ true)) → IsNextTask (ask (a_move m)) mid → IsNextMove h
-first_is_next m h mid (inl e) next = (m, subst (λ j. IsNextTask (ask (a_move m)) j) e next)
-first_is_next m h mid (inr s) next = s.0
+first_is_next : (first : Opening) (m : PlannedMove) (h mid : Journal) → (mid ≡ h) ⊎ (IsNextMove first h × (list_any moving (this_turn mid) ≡ true)) → IsNextTask first (ask (a_move m)) mid → IsNextMove first h
+first_is_next first m h mid (inl e) next = (m, subst (λ j. (IsNextTask first) (ask (a_move m)) j) e next)
+first_is_next first m h mid (inr s) next = s.0
 
-pub adds_one : (m : PlannedMove) (h mid : Journal) → Adds h mid → IsNextTask (ask (a_move m)) mid → Adds h (did (Add m) [] ∷ mid)
-adds_one m h mid a next = record {
-  alone = alone_on h mid (did (Add m) [] ∷ mid) a.alone (alone_did (Add m) [] mid refl);
+pub adds_one : (first : Opening) (m : PlannedMove) (h mid : Journal) → Adds first h mid → IsNextTask first (ask (a_move m)) mid → Adds first h (did (Add m) [] ∷ mid)
+adds_one first m h mid a next = record {
+  alone = alone_on first h mid (did (Add m) [] ∷ mid) a.alone (alone_did first (Add m) [] mid refl);
   hand = append-nil (hand_of mid) ∙ a.hand;
   motion = a.motion;
-  some = inr (first_is_next m h mid a.some next, refl);
+  some = inr (first_is_next first m h mid a.some next, refl);
 }
 
-moved_by : (h next : Journal) → (next ≡ h) ⊎ (IsNextMove h × (list_any moving (this_turn next) ≡ true)) → NoneFits next → IsNextMove h → is_full (plan_of h) ≡ false → list_any moving (this_turn next) ≡ true
-moved_by h next (inl e) fits move room = absurd (let full = subst NoneFits e fits move.0 move.1 in let x = sym full ∙ room in cc)
-moved_by h next (inr s) fits move room = s.1
+moved_by : (first : Opening) (h next : Journal) → (next ≡ h) ⊎ (IsNextMove first h × (list_any moving (this_turn next) ≡ true)) → NoneFits first next → IsNextMove first h → is_full (plan_of h) ≡ false → list_any moving (this_turn next) ≡ true
+moved_by first h next (inl e) fits move room = absurd (let full = subst (NoneFits first) e fits move.0 move.1 in let x = sym full ∙ room in cc)
+moved_by first h next (inr s) fits move room = s.1
 
-none_by : (h next : Journal) → (next ≡ h) ⊎ (IsNextMove h × (list_any moving (this_turn next) ≡ true)) → (IsNextMove h → ⊥) → next ≡ h
-none_by h next (inl e) none = e
-none_by h next (inr s) none = absurd (none s.0)
+none_by : (first : Opening) (h next : Journal) → (next ≡ h) ⊎ (IsNextMove first h × (list_any moving (this_turn next) ≡ true)) → (IsNextMove first h → ⊥) → next ≡ h
+none_by first h next (inl e) none = e
+none_by first h next (inr s) none = absurd (none s.0)
 
 -- no more of them has room
-pub has_added : (h next : Journal) → Adds h next → NoneFits next → HasAdded h next
-has_added h next a fits = record {
+pub has_added : (first : Opening) (h next : Journal) → Adds first h next → NoneFits first next → HasAdded first h next
+has_added first h next a fits = record {
   alone = a.alone;
   hand = a.hand;
   motion = a.motion;
   adds = fits;
-  moved = moved_by h next a.some fits;
-  none = none_by h next a.some;
+  moved = moved_by first h next a.some fits;
+  none = none_by first h next a.some;
 }
 
 -- a full plan has no room
-pub none_fits_full : (c : Controller) (h : Journal) → Keeps c h → is_full c.machine.plan ≡ true → NoneFits h
-none_fits_full c h k full m next = subst (λ (p : Planned). is_full p ≡ true) k.machine.plan_is full
+pub none_fits_full : (first : Opening) (c : Controller) (h : Journal) → Keeps first c h → is_full c.machine.plan ≡ true → NoneFits first h
+none_fits_full first c h k full m next = subst (λ (p : Planned). is_full p ≡ true) k.machine.plan_is full
 
 no_move : (t : Todo) (tasks : List Task) → IsTodo t tasks → (t ≡ todo.Move → ⊥) → (m : PlannedMove) → IsNextOf (ask (a_move m)) tasks → ⊥
 no_move todo.Nothing tasks is other m next = absurd cc
@@ -80,31 +81,31 @@ no_move todo.Finish tasks is other m next = absurd cc
 no_move todo.Halt tasks is other m next = absurd cc
 
 -- no move is next
-pub none_fits_other : (c : Controller) (h : Journal) (t : Todo) → Keeps c h → IsTodo t c.lines.left → (t ≡ todo.Move → ⊥) → NoneFits h
-none_fits_other c h t k is other m next = absurd (no_move t (left_of h) (subst (IsTodo t) k.lines.left_is is) other m next)
+pub none_fits_other : (first : Opening) (c : Controller) (h : Journal) (t : Todo) → Keeps first c h → IsTodo t c.lines.left → (t ≡ todo.Move → ⊥) → NoneFits first h
+none_fits_other first c h t k is other m next = absurd (no_move t (left_of first h) (subst (IsTodo t) k.lines.left_is is) other m next)
 
-pub has_room_now : (c : Controller) (h : Journal) → Keeps c h → is_full c.machine.plan ≡ false → is_full (plan_of h) ≡ false
-has_room_now c h k room = subst (λ (p : Planned). is_full p ≡ false) k.machine.plan_is room
+pub has_room_now : (first : Opening) (c : Controller) (h : Journal) → Keeps first c h → is_full c.machine.plan ≡ false → is_full (plan_of h) ≡ false
+has_room_now first c h k room = subst (λ (p : Planned). is_full p ≡ false) k.machine.plan_is room
 
 -- ---- queued blocks
 
 -- what calls for a start, by the fields
-calls_now : (c : Controller) (h : Journal) → Keeps c h → (is_full c.machine.plan || (awaits_motion c.lines.left || c.jogged)) ≡ (is_full (plan_of h) || (awaits_motion (left_of h) || has_jogged h))
-calls_now c h k =
-    same_calls (is_full c.machine.plan) (is_full (plan_of h)) c.lines.left (left_of h) c.jogged (has_jogged h) (ap is_full k.machine.plan_is) k.lines.left_is k.jogged_is
+calls_now : (first : Opening) (c : Controller) (h : Journal) → Keeps first c h → (is_full c.machine.plan || (awaits_motion c.lines.left || c.jogged)) ≡ (is_full (plan_of h) || (awaits_motion (left_of first h) || has_jogged h))
+calls_now first c h k =
+    same_calls (is_full c.machine.plan) (is_full (plan_of h)) c.lines.left (left_of first h) c.jogged (has_jogged h) (ap is_full k.machine.plan_is) k.lines.left_is k.jogged_is
 
 -- none waits where nothing calls for a start
-pub none_waits_now : (c : Controller) (h : Journal) → Keeps c h
-    → (c.machine.hold.motion ≡ motions.Idle → has_blocks c.machine.plan.blocks ≡ true → (is_full c.machine.plan || (awaits_motion c.lines.left || c.jogged)) ≡ false) → NoneWaits h
-none_waits_now c h k none w =
-    sym (calls_now c h k) ∙ none (k.machine.motion_is ∙ w.stands) (ap (λ (p : Planned). has_blocks p.blocks) k.machine.plan_is ∙ w.blocks)
+pub none_waits_now : (first : Opening) (c : Controller) (h : Journal) → Keeps first c h
+    → (c.machine.hold.motion ≡ motions.Idle → has_blocks c.machine.plan.blocks ≡ true → (is_full c.machine.plan || (awaits_motion c.lines.left || c.jogged)) ≡ false) → NoneWaits first h
+none_waits_now first c h k none w =
+    sym (calls_now first c h k) ∙ none (k.machine.motion_is ∙ w.stands) (ap (λ (p : Planned). has_blocks p.blocks) k.machine.plan_is ∙ w.blocks)
 
 -- a start that the plan, or what is next, calls for
-pub may_start : (c : Controller) (h : Journal) → Keeps c h → motion_of h ≡ motions.Idle → has_blocks c.machine.plan.blocks ≡ true → (is_full c.machine.plan || (awaits_motion c.lines.left || c.jogged)) ≡ true → MayStart c.jogged h
-may_start c h k stands blocks called = record {
-  goes = none_halts c h k (ap is_limited stands);
+pub may_start : (first : Opening) (c : Controller) (h : Journal) → Keeps first c h → motion_of first h ≡ motions.Idle → has_blocks c.machine.plan.blocks ≡ true → (is_full c.machine.plan || (awaits_motion c.lines.left || c.jogged)) ≡ true → MayStart first c.jogged h
+may_start first c h k stands blocks called = record {
+  goes = none_halts first c h k (ap is_limited stands);
   blocks = subst (λ (p : Planned). has_blocks p.blocks ≡ true) k.machine.plan_is blocks;
-  called = calls (list_any found_none (this_turn h)) (is_full (plan_of h) || (awaits_motion (left_of h) || has_jogged h)) (whole_of h && begins_with_dollar (open_of h)) (sym (calls_now c h k) ∙ called);
+  called = calls (list_any found_none (this_turn h)) (is_full (plan_of h) || (awaits_motion (left_of first h) || has_jogged h)) (whole_of h && begins_with_dollar (open_of h)) (sym (calls_now first c h k) ∙ called);
   jogs = sym k.jogged_is;
 }
   where
@@ -114,20 +115,20 @@ may_start c h k stands blocks called = record {
     calls false false d e = absurd cc
 
 -- behind the moves nothing is to be started
-pub filled_added : (h next : Journal) → HasAdded h next → NoneWaits next → HasFilled h next
-filled_added h next a none = record {
+pub filled_added : (first : Opening) (h next : Journal) → HasAdded first h next → NoneWaits first next → HasFilled first h next
+filled_added first h next a none = record {
   alone = a.alone;
   hand = a.hand;
   adds = a.adds;
   none_waits = none;
   moved = a.moved;
-  waiting = λ no w. subst AreWaiting (a.none no) w;
+  waiting = λ no w. subst (AreWaiting first) (a.none no) w;
 }
 
 -- the cycle starts behind the moves
-pub filled_started : (jog : Bool) (h mid : Journal) → HasAdded h mid → HasFilled h (starting jog mid)
-filled_started jog h mid a = record {
-  alone = alone_on h mid (starting jog mid) a.alone (alone_motion (on_start jog) (start_motion jog) mid refl (none_left_to_change jog mid));
+pub filled_started : (first : Opening) (jog : Bool) (h mid : Journal) → HasAdded first h mid → HasFilled first h (starting jog mid)
+filled_started first jog h mid a = record {
+  alone = alone_on first h mid (starting jog mid) a.alone (alone_motion first (on_start jog) (start_motion jog) mid refl (none_left_to_change first jog mid));
   hand = a.hand;
   adds = a.adds;
   none_waits = λ w. starts_off jog w.stands;

@@ -6,15 +6,15 @@ use Rattle.feed_hold.specs.declared.Motion.TheVariants as motions
 use Rattle.feed_hold.specs.Motions.{after as after_call}
 use Rattle.feed_hold.specs.Motions.Call.{on_start, on_limit}
 use Rattle.outside.specs.declared.Turn.TheVariants.{Did}
-use Rattle.run_rules.specs.declared.State.{State}
-use Rattle.run_rules.specs.Work.{Task, Outcome, is_alarm}
+use Rattle.board_rules.specs.Openings.{Opening}
+use Rattle.run_rules.specs.Work.{Task, Outcome, is_limit}
 use Rattle.run_rules.specs.Outcomes.{after, jogged_behind, begins_with_dollar}
 use Rattle.run_rules.specs.Finding.{Found}
 use Rattle.line_interpreter.specs.Interpreting.{Interpreting}
 use Rattle.line_interpreter.specs.Lefts.{IsTodo}
 use Rattle.line_interpreter.specs.declared.tasks.Todo.{Todo}
 use Rattle.line_interpreter.specs.declared.tasks.Todo.TheVariants as todo
-use Rattle.board_rules.specs.Steps.{Journal, port_log, has_alarmed, open_of, whole_of, before_of, left_of, given_of, hand_of, plan_of, motion_of}
+use Rattle.board_rules.specs.Steps.{Journal, port_log, has_limited, open_of, whole_of, before_of, left_of, given_of, hand_of, plan_of, motion_of}
 use Rattle.board_rules.specs.Ports.PortStep.{answered, no_reply_room}
 use Rattle.board_rules.specs.Steps.{Step}
 use Rattle.board_rules.specs.Steps.Step.{at_port, began, became}
@@ -52,7 +52,7 @@ and_none : (a b : Bool) → a ≡ false → (a && b) ≡ false
 and_none a b e = cc
 
 -- what was found of a line may become of it
-pub may_begin : (first : State) (h : Journal) (o : Outcome) → MayJudge h → has_alarmed h ≡ false → Found (machine_in (motion_of h)) (before_of first h) (open_of h) o → MayBegin first o h
+pub may_begin : (first : Opening) (h : Journal) (o : Outcome) → MayJudge first h → has_limited h ≡ false → Found (machine_in (motion_of first h)) (before_of first h) (open_of h) o → MayBegin first o h
 may_begin first h o may calm found = record {
   calm = calm;
   free = may.looked.free;
@@ -65,24 +65,24 @@ may_begin first h o may calm found = record {
   unowed = may.looked.unowed;
   load = may.looked.load;
   idle = may.looked.idle;
-  starts = λ waiting. or_none (list_any found_none (this_turn h)) (is_full (plan_of h) || (awaits_motion (left_of h) || has_jogged h)) (whole_of h) (begins_with_dollar (open_of h)) may.looked.unpolled (may.looked.none_waits waiting) (may.starts waiting);
-  tried = and_none (missed_of h) (is_due h) may.looked.unmissed;
+  starts = λ waiting. or_none (list_any found_none (this_turn h)) (is_full (plan_of h) || (awaits_motion (left_of first h) || has_jogged h)) (whole_of h) (begins_with_dollar (open_of h)) may.looked.unpolled (may.looked.none_waits waiting) (may.starts waiting);
+  tried = and_none (missed_of first h) (is_due first h) may.looked.unmissed;
 }
 
 -- a line is begun
-begins : (was now : Controller) (h : Journal) (o : Outcome) → (j : IsJudged was now h o) → MayBegin j.keeps.first o h
-begins was now h o j = may_begin j.keeps.first h o j.may (calm_now was h j.keeps (begins_unlimited (motion_of h) j.may.looked.begins)) j.found
+begins : (first : Opening) (was now : Controller) (h : Journal) (o : Outcome) → (j : IsJudged first was now h o) → MayBegin first o h
+begins first was now h o j = may_begin first h o j.may (calm_now first was h j.keeps (begins_unlimited (motion_of first h) j.may.looked.begins)) j.found
 
-works : (was now : Controller) (h : Journal) (o : Outcome) → (j : IsJudged was now h o) → Works now.lines o.work (after (before_of j.keeps.first h) o)
-works was now h o j = record {
+works : (first : Opening) (was now : Controller) (h : Journal) (o : Outcome) → (j : IsJudged first was now h o) → Works now.lines o.work (after (before_of first h) o)
+works first was now h o j = record {
   left_is = ap (λ (i : Interpreting). i.left) j.is;
   state_is = ap (λ (i : Interpreting). i.state) j.is;
   number_is = ap (λ (i : Interpreting). i.number) j.is ∙ ap (λ n. n + 1) j.keeps.lines.number_is;
 }
 
 -- all that is left of it is next
-next_judged : (was now : Controller) (h : Journal) (o : Outcome) (t : Todo) → IsJudged was now h o → IsTodo t now.lines.left → IsTodo t o.work
-next_judged was now h o t j is = subst (IsTodo t) (ap (λ (i : Interpreting). i.left) j.is) is
+next_judged : (first : Opening) (was now : Controller) (h : Journal) (o : Outcome) (t : Todo) → IsJudged first was now h o → IsTodo t now.lines.left → IsTodo t o.work
+next_judged first was now h o t j is = subst (IsTodo t) (ap (λ (i : Interpreting). i.left) j.is) is
 
 not_halting : (t : Todo) (ts : List Task) → IsTodo t ts → (t ≡ todo.Halt → ⊥) → halts_next ts ≡ false
 not_halting todo.Nothing ts is other = ap halts_next is
@@ -96,15 +96,16 @@ not_halting todo.Finish ts is other = ap halts_next is
 not_halting todo.Halt ts is other = absurd (other refl)
 
 -- a line is begun that does not halt the machine
-pub begun : (was now : Controller) (t : Todo) (h : Journal) (o : Outcome) → IsJudged was now h o → IsTodo t now.lines.left → (t ≡ todo.Halt → ⊥) → Keeps now (began o ∷ h)
-begun was now t h o j is other =
+pub begun : (first : Opening) (was now : Controller) (t : Todo) (h : Journal) (o : Outcome) → IsJudged first was now h o → IsTodo t now.lines.left → (t ≡ todo.Halt → ⊥) → Keeps first now (began o ∷ h)
+begun first was now t h o j is other =
     let k = j.keeps in
-    subst (λ (c : Controller). Keeps c (began o ∷ h)) (sym j.same) (record {
-      first = k.first;
-      opening = k.opening;
-      conducted = (begins was now h o j, k.conducted);
+    subst (λ (c : Controller). Keeps first c (began o ∷ h)) (sym j.same) (record {
+      placed = k.placed;
+      free = k.free;
+      short = k.short;
+      conducted = (begins first was now h o j, k.conducted);
       machine = k.machine;
-      lines = works was now h o j;
+      lines = works first was now h o j;
       input = j.reads;
       flight = record { known = k.flight.known; found = k.flight.found; flies = k.flight.flies };
       owes_is = k.owes_is;
@@ -113,7 +114,7 @@ begun was now t h o j is other =
       cut_is = k.cut_is;
       going = k.going;
       closed = k.closed;
-      limited = not_halting t o.work (next_judged was now h o t j is) other;
+      limited = not_halting t o.work (next_judged first was now h o t j is) other;
       tries = λ one. j.may.looked.tries;
     })
 
@@ -124,28 +125,28 @@ limit_to m (inl idle) = ap (after_call on_limit) idle ∙ ap (λ x. Some (limit_
 limit_to m (inr run) = ap (after_call on_limit) run ∙ ap (λ x. Some (limit_motion x)) (sym run)
 
 -- it raises an alarm
-alarms : (was now : Controller) (h : Journal) (o : Outcome) → IsJudged was now h o → halts_next o.work ≡ true → is_alarm o.answer ≡ true
-alarms was now h o j halts = by_line (line_halts true (caused j.keeps.first h) (open_of h) o (becomes_caused j.keeps.first h o (begins was now h o j)))
+alarms : (first : Opening) (was now : Controller) (h : Journal) (o : Outcome) → IsJudged first was now h o → halts_next o.work ≡ true → is_limit o.answer ≡ true
+alarms first was now h o j halts = by_line (line_halts true (caused first h) (open_of h) o (becomes_caused first h o (begins first was now h o j)))
   where
-    by_line : HaltsOrNot o → is_alarm o.answer ≡ true
+    by_line : HaltsOrNot o → is_limit o.answer ≡ true
     by_line (inl (one, work)) = one
     by_line (inr (none, work)) = absurd (let e = sym halts ∙ none_halts_next o.work work in cc)
 
 -- so the machine stands, or runs
-stands_or_runs : (was now : Controller) (h : Journal) (o : Outcome) → IsJudged was now h o → halts_next o.work ≡ true → (motion_of h ≡ motions.Idle) ⊎ (motion_of h ≡ motions.Run)
-stands_or_runs was now h o j halts = alarm_stands j.keeps.first h o j.may.looked.begins j.found (alarms was now h o j halts)
+stands_or_runs : (first : Opening) (was now : Controller) (h : Journal) (o : Outcome) → IsJudged first was now h o → halts_next o.work ≡ true → (motion_of first h ≡ motions.Idle) ⊎ (motion_of first h ≡ motions.Run)
+stands_or_runs first was now h o j halts = alarm_stands first h o j.may.looked.begins j.found (alarms first was now h o j halts)
 
 -- the machine is as it was
-pub machine_judged : (was now : Controller) (h : Journal) (o : Outcome) → IsJudged was now h o → Runs now.machine (plan_of h) (motion_of h) (hand_of h) (given_of h)
-machine_judged was now h o j = subst (λ (c : Controller). Runs c.machine (plan_of h) (motion_of h) (hand_of h) (given_of h)) (sym j.same) j.keeps.machine
+pub machine_judged : (first : Opening) (was now : Controller) (h : Journal) (o : Outcome) → IsJudged first was now h o → Runs now.machine (plan_of h) (motion_of first h) (hand_of h) (given_of h)
+machine_judged first was now h o j = subst (λ (c : Controller). Runs c.machine (plan_of h) (motion_of first h) (hand_of h) (given_of h)) (sym j.same) j.keeps.machine
 
-pub may_limit : (was now : Controller) (h : Journal) (o : Outcome) → IsJudged was now h o → IsTodo todo.Halt now.lines.left → (now.machine.hold.motion ≡ motions.Idle) ⊎ (now.machine.hold.motion ≡ motions.Run)
-may_limit was now h o j is = by_motion (stands_or_runs was now h o j (ap halts_next (next_judged was now h o todo.Halt j is)))
+pub may_limit : (first : Opening) (was now : Controller) (h : Journal) (o : Outcome) → IsJudged first was now h o → IsTodo todo.Halt now.lines.left → (now.machine.hold.motion ≡ motions.Idle) ⊎ (now.machine.hold.motion ≡ motions.Run)
+may_limit first was now h o j is = by_motion (stands_or_runs first was now h o j (ap halts_next (next_judged first was now h o todo.Halt j is)))
   where
-    same : now.machine.hold.motion ≡ motion_of h
-    same = (machine_judged was now h o j).motion_is
+    same : now.machine.hold.motion ≡ motion_of first h
+    same = (machine_judged first was now h o j).motion_is
 
-    by_motion : (motion_of h ≡ motions.Idle) ⊎ (motion_of h ≡ motions.Run) → (now.machine.hold.motion ≡ motions.Idle) ⊎ (now.machine.hold.motion ≡ motions.Run)
+    by_motion : (motion_of first h ≡ motions.Idle) ⊎ (motion_of first h ≡ motions.Run) → (now.machine.hold.motion ≡ motions.Idle) ⊎ (now.machine.hold.motion ≡ motions.Run)
     by_motion (inl idle) = inl (same ∙ idle)
     by_motion (inr run) = inr (same ∙ run)
 
@@ -162,28 +163,29 @@ limits_off motions.Run was none = none
 limits_off m was none = none
 
 -- and is stopped for that at once
-pub begun_limited : (was now : Controller) (m : Machine) (h : Journal) (o : Outcome) → IsJudged was now h o → IsTodo todo.Halt now.lines.left → Runs m (plan_of h) (limit_motion (motion_of h)) (hand_of h) (given_of h)
-    → Keeps (record now { machine = m }) (became on_limit (limit_motion (motion_of h)) ∷ began o ∷ h)
-begun_limited was now m h o j is runs =
+pub begun_limited : (first : Opening) (was now : Controller) (m : Machine) (h : Journal) (o : Outcome) → IsJudged first was now h o → IsTodo todo.Halt now.lines.left → Runs m (plan_of h) (limit_motion (motion_of first h)) (hand_of h) (given_of h)
+    → Keeps first (record now { machine = m }) (became on_limit (limit_motion (motion_of first h)) ∷ began o ∷ h)
+begun_limited first was now m h o j is runs =
     let k = j.keeps in
-    let next = next_judged was now h o todo.Halt j is in
+    let next = next_judged first was now h o todo.Halt j is in
     let halts : halts_next o.work ≡ true = ap halts_next next in
-    let stands = stands_or_runs was now h o j halts in
-    subst (λ (c : Controller). Keeps (record c { machine = m }) (became on_limit (limit_motion (motion_of h)) ∷ began o ∷ h)) (sym j.same) (record {
-      first = k.first;
-      opening = k.opening;
+    let stands = stands_or_runs first was now h o j halts in
+    subst (λ (c : Controller). Keeps first (record c { machine = m }) (became on_limit (limit_motion (motion_of first h)) ∷ began o ∷ h)) (sym j.same) (record {
+      placed = k.placed;
+      free = k.free;
+      short = k.short;
       conducted = (
-        (limit_to (motion_of h) stands, record { alarmed = alarms was now h o j halts; next = next; unlimited = not_limited (motion_of h) stands }),
-        (begins was now h o j, k.conducted),
+        (limit_to (motion_of first h) stands, record { alarmed = alarms first was now h o j halts; next = next; unlimited = not_limited (motion_of first h) stands }),
+        (begins first was now h o j, k.conducted),
       );
       machine = runs;
-      lines = works was now h o j;
+      lines = works first was now h o j;
       input = j.reads;
       flight = record { known = k.flight.known; found = k.flight.found; flies = k.flight.flies };
       owes_is = k.owes_is;
       reset_is = k.reset_is;
       jogged_is = j.jogs ∙ ap (jogged_behind o.kind) k.jogged_is;
-      cut_is = k.cut_is ∙ limits_off (motion_of h) (has_cut h) (uncut_else k.first h k.conducted (λ is. never_cut (motion_of h) stands is));
+      cut_is = k.cut_is ∙ limits_off (motion_of first h) (has_cut h) (uncut_else first h k.conducted (λ is. never_cut (motion_of first h) stands is));
       going = k.going;
       closed = k.closed;
       limited = refl;
@@ -197,8 +199,8 @@ few_where_whole tries true is few = omega (arith, few)
 few_where_whole tries false is few = absurd cc
 
 -- what is known behind the look
-pub looked_whole : (h next : Journal) → IsReady h → IsWholeLine h → HasLooked h next → IsLooked next
-looked_whole h next ready line l =
+pub looked_whole : (first : Opening) (h next : Journal) → IsReady first h → IsWholeLine first h → HasLooked first h next → IsLooked first next
+looked_whole first h next ready line l =
     let p = l.passes in
     record {
       free = l.left ∙ line.free;
@@ -213,15 +215,15 @@ looked_whole h next ready line l =
       none_waits = l.none_waits ready.none_waits;
       unpolled = p.polled ∙ ready.unpolled;
       unmissed = p.missed ∙ ready.unmissed;
-      tries = (let few = few_where_whole (tries_of h) (whole_of h) line.whole ready.tries in let t = p.tries in omega (arith, few, t));
+      tries = (let few = few_where_whole (tries_of first h) (whole_of h) line.whole ready.tries in let t = p.tries in omega (arith, few, t));
     }
 
 -- queued blocks start before a line that begins with `$`
-pub may_start : (board : Controller) (h : Journal) → Keeps board h → IsLooked h → has_blocks (plan_of h).blocks ≡ true → begins_with_dollar (open_of h) ≡ true → MayStart board.jogged h
-may_start board h k l blocks dollar = record {
+pub may_start : (first : Opening) (board : Controller) (h : Journal) → Keeps first board h → IsLooked first h → has_blocks (plan_of h).blocks ≡ true → begins_with_dollar (open_of h) ≡ true → MayStart first board.jogged h
+may_start first board h k l blocks dollar = record {
   goes = ap halts_next l.free;
   blocks = blocks;
-  called = called (starts_cycle h) (whole_of h) (begins_with_dollar (open_of h)) l.whole dollar;
+  called = called (starts_cycle first h) (whole_of h) (begins_with_dollar (open_of h)) l.whole dollar;
   jogs = sym k.jogged_is;
 }
   where
@@ -229,8 +231,8 @@ may_start board h k l blocks dollar = record {
     called true b c eb ec = refl
     called false b c eb ec = cc
 
-pub judges_started : (jog : Bool) (h : Journal) → IsLooked h → has_blocks (plan_of h).blocks ≡ true → MayJudge (starting jog h)
-judges_started jog h l blocks = record {
+pub judges_started : (first : Opening) (jog : Bool) (h : Journal) → IsLooked first h → has_blocks (plan_of h).blocks ≡ true → MayJudge first (starting jog h)
+judges_started first jog h l blocks = record {
   looked = record {
     free = l.free;
     going = l.going;
@@ -252,13 +254,13 @@ judges_started jog h l blocks = record {
 -- ---- the turn
 
 -- A line was begun after these steps, with at most so many things published since, and nothing that bears on words of flags.
-pub record IsBegun (k : ℕ) (o : Outcome) (mid h : Journal) : Type 0 where
+pub record IsBegun (first : Opening) (k : ℕ) (o : Outcome) (mid h : Journal) : Type 0 where
   pub front : List Step
   pub are : h ≡ front ++ began o ∷ mid
   pub worked : AreWorked mid → AreWorked h
   pub once : count_by publishing (this_turn h) ≤ count_by publishing (this_turn mid) + k
   pub unpolled : list_any found_none (this_turn h) ≡ list_any found_none (this_turn mid)
-  pub tries : tries_of h + one_if (whole_of h) ≡ tries_of mid
+  pub tries : tries_of first h + one_if (whole_of h) ≡ tries_of first mid
   pub free : IsFree mid → IsFree h
   pub moved : list_any moving (this_turn h) ≡ true
 
@@ -266,8 +268,8 @@ or_true : (a b : Bool) → b ≡ true → (a || b) ≡ true
 or_true true b e = refl
 or_true false b e = e
 
-line_begun : (o : Outcome) (mid : Journal) → IsBegun 0 o mid (began o ∷ mid)
-line_begun o mid = record {
+line_begun : (first : Opening) (o : Outcome) (mid : Journal) → IsBegun first 0 o mid (began o ∷ mid)
+line_begun first o mid = record {
   front = [];
   are = refl;
   worked = worked_behind (began o) mid (began o ∷ mid) refl (record { no_changes = refl; none_planned = refl }) refl refl;
@@ -279,10 +281,10 @@ line_begun o mid = record {
 }
 
 -- the motion is stopped for it at once
-line_limited : (o : Outcome) (mid : Journal) (m : AnyMotion) → IsBegun 0 o mid (became on_limit m ∷ began o ∷ mid)
-line_limited o mid m =
+line_limited : (first : Opening) (o : Outcome) (mid : Journal) (m : AnyMotion) → IsBegun first 0 o mid (became on_limit m ∷ began o ∷ mid)
+line_limited first o mid m =
     let line : Journal = began o ∷ mid in
-    let b = line_begun o mid in
+    let b = line_begun first o mid in
     record {
       front = became on_limit m ∷ [];
       are = refl;
@@ -294,14 +296,14 @@ line_limited o mid m =
       moved = refl;
     }
 
-has_begun : (o : Outcome) (mid line : Journal) → HasBegun o mid line → IsBegun 0 o mid line
-has_begun o mid line (inl is) = subst (λ (j : Journal). IsBegun 0 o mid j) (sym is) (line_begun o mid)
-has_begun o mid line (inr is) = subst (λ (j : Journal). IsBegun 0 o mid j) (sym is) (line_limited o mid (limit_motion (motion_of mid)))
+has_begun : (first : Opening) (o : Outcome) (mid line : Journal) → HasBegun first o mid line → IsBegun first 0 o mid line
+has_begun first o mid line (inl is) = subst (λ (j : Journal). IsBegun first 0 o mid j) (sym is) (line_begun first o mid)
+has_begun first o mid line (inr is) = subst (λ (j : Journal). IsBegun first 0 o mid j) (sym is) (line_limited first o mid (limit_motion (motion_of first mid)))
 
 -- a step at the port behind it that takes no byte, tries no piece and takes no word of flags
-begun_on : (o : Outcome) (mid h next : Journal) (s : Step) → next ≡ s ∷ h → IsBegun 0 o mid h → IsNoWord s → owes_report next ≡ owes_report h → unobeyed_of next ≡ unobeyed_of h → flags_taken next ≡ flags_taken h
-    → this_turn next ≡ s ∷ this_turn h → found_none s ≡ false → tries_of next ≡ tries_of h → whole_of next ≡ whole_of h → IsBegun 1 o mid next
-begun_on o mid h next s is b plain owed words flags turn none tries whole = record {
+begun_on : (first : Opening) (o : Outcome) (mid h next : Journal) (s : Step) → next ≡ s ∷ h → IsBegun first 0 o mid h → IsNoWord s → owes_report next ≡ owes_report h → unobeyed_of next ≡ unobeyed_of h → flags_taken next ≡ flags_taken h
+    → this_turn next ≡ s ∷ this_turn h → found_none s ≡ false → tries_of first next ≡ tries_of first h → whole_of next ≡ whole_of h → IsBegun first 1 o mid next
+begun_on first o mid h next s is b plain owed words flags turn none tries whole = record {
   front = s ∷ b.front;
   are = is ∙ ap (λ (j : Journal). s ∷ j) b.are;
   worked = λ w. worked_behind s h next turn plain owed words (b.worked w);
@@ -320,41 +322,41 @@ begun_on o mid h next s is b plain owed words flags turn none tries whole = reco
         by_test false e = let c = publishes_none s ss e in omega (arith, c)
 
 -- and its first reply was told, or handed back
-pub has_spoken : (o : Outcome) (mid line next : Journal) → HasBegun o mid line → MayHaveTold line next → IsBegun 1 o mid next
-has_spoken o mid line next begun (untold is) =
-    let b = has_begun o mid line begun in
-    subst (λ (j : Journal). IsBegun 1 o mid j) (sym is) (record { front = b.front; are = b.are; worked = b.worked; once = (let c = b.once in omega (arith, c)); unpolled = b.unpolled; tries = b.tries; free = b.free; moved = b.moved })
-has_spoken o mid line next begun (handed_back is) =
-    subst (λ (j : Journal). IsBegun 1 o mid j) (sym is)
-    (begun_on o mid line (at_port no_reply_room ∷ line) (at_port no_reply_room) refl (has_begun o mid line begun) (record { no_changes = refl; none_planned = refl }) refl refl refl refl refl refl refl)
-has_spoken o mid line next begun (was_told r is) =
-    subst (λ (j : Journal). IsBegun 1 o mid j) (sym is)
-    (begun_on o mid line (at_port (answered r) ∷ line) (at_port (answered r)) refl (has_begun o mid line begun) (record { no_changes = refl; none_planned = refl }) refl refl refl refl refl refl refl)
+pub has_spoken : (first : Opening) (o : Outcome) (mid line next : Journal) → HasBegun first o mid line → MayHaveTold line next → IsBegun first 1 o mid next
+has_spoken first o mid line next begun (untold is) =
+    let b = has_begun first o mid line begun in
+    subst (λ (j : Journal). IsBegun first 1 o mid j) (sym is) (record { front = b.front; are = b.are; worked = b.worked; once = (let c = b.once in omega (arith, c)); unpolled = b.unpolled; tries = b.tries; free = b.free; moved = b.moved })
+has_spoken first o mid line next begun (handed_back is) =
+    subst (λ (j : Journal). IsBegun first 1 o mid j) (sym is)
+    (begun_on first o mid line (at_port no_reply_room ∷ line) (at_port no_reply_room) refl (has_begun first o mid line begun) (record { no_changes = refl; none_planned = refl }) refl refl refl refl refl refl refl)
+has_spoken first o mid line next begun (was_told r is) =
+    subst (λ (j : Journal). IsBegun first 1 o mid j) (sym is)
+    (begun_on first o mid line (at_port (answered r) ∷ line) (at_port (answered r)) refl (has_begun first o mid line begun) (record { no_changes = refl; none_planned = refl }) refl refl refl refl refl refl refl)
 
 -- no report is owed behind a line that was begun
-pub begun_unowed : (o : Outcome) (mid line : Journal) → MayJudge mid → HasBegun o mid line → owes_report line ≡ false
-begun_unowed o mid line may (inl is) = ap owes_report is ∙ may.looked.unowed
-begun_unowed o mid line may (inr is) = ap owes_report is ∙ may.looked.unowed
+pub begun_unowed : (first : Opening) (o : Outcome) (mid line : Journal) → MayJudge first mid → HasBegun first o mid line → owes_report line ≡ false
+begun_unowed first o mid line may (inl is) = ap owes_report is ∙ may.looked.unowed
+begun_unowed first o mid line may (inr is) = ap owes_report is ∙ may.looked.unowed
 
 -- a line is begun, its first reply is told where it has room, and moves are added behind it
-pub did_begin_line : (was : Flags) (board : Controller) (h seen mid spoken next : Journal) (o : Outcome) → IsReady h → IsWholeLine h → PassesNothing h seen → DidAlone seen mid → IsBegun 1 o mid spoken → Keeps board next
-    → board.beat ≡ Motion → board.flags ≡ words.None → HasFilled spoken next → BoardWorked Did was board h next
-did_begin_line was board h seen mid spoken next o ready line look alone b keeps beat no_word filled =
+pub did_begin_line : (first : Opening) (was : Flags) (board : Controller) (h seen mid spoken next : Journal) (o : Outcome) → IsReady first h → IsWholeLine first h → PassesNothing first h seen → DidAlone first seen mid → IsBegun first 1 o mid spoken → Keeps first board next
+    → board.beat ≡ Motion → board.flags ≡ words.None → HasFilled first spoken next → BoardWorked first Did was board h next
+did_begin_line first was board h seen mid spoken next o ready line look alone b keeps beat no_word filled =
     let a = alone.passes in
-    let few = few_where_whole (tries_of h) (whole_of h) line.whole ready.tries in
+    let few = few_where_whole (tries_of first h) (whole_of h) line.whole ready.tries in
     let quiet : count_by publishing (this_turn mid) ≡ 0 = a.quiet ∙ look.quiet ∙ ready.quiet.quiet in
-    let tries : tries_of mid ≡ tries_of h = a.tries ∙ look.tries in
-    let free = free_passed seen mid a (free_passed h seen look (free_of h ready.quiet)) in
-    let taken = takes_none board next no_word (free_passed spoken next filled.alone.passes (b.free free)) in
+    let tries : tries_of first mid ≡ tries_of first h = a.tries ∙ look.tries in
+    let free = free_passed first seen mid a (free_passed first h seen look (free_of h ready.quiet)) in
+    let taken = takes_none board next no_word (free_passed first spoken next filled.alone.passes (b.free free)) in
     let steps = b.front ++ began o ∷ (a.steps ++ look.steps) in
     let before : began o ∷ mid ≡ began o ∷ ((a.steps ++ look.steps) ++ h) = ap (λ (j : Journal). began o ∷ j) (a.are ∙ ap (λ (j : Journal). a.steps ++ j) look.are ∙ sym (append_assoc a.steps look.steps h)) in
     let are : spoken ≡ steps ++ h = b.are ∙ ap (λ (j : Journal). b.front ++ j) before ∙ sym (append_assoc b.front (began o ∷ (a.steps ++ look.steps)) h) in
     let once = b.once in
     let tried = b.tries in
-    did_filled was board h spoken next steps are keeps beat taken filled (b.worked (a.worked (look.worked ready.quiet.worked)))
+    did_filled first was board h spoken next steps are keeps beat taken filled (b.worked (a.worked (look.worked ready.quiet.worked)))
     (omega (arith, once, quiet)) (b.unpolled ∙ a.polled ∙ look.polled ∙ ready.unpolled) (omega (arith, few, tries, tried)) (inl (filled.alone.passes.moves b.moved))
 
 -- the port knows nothing of that
-pub port_begun : (o : Outcome) (mid line : Journal) → HasBegun o mid line → port_log line ≡ port_log mid
-port_begun o mid line (inl is) = ap port_log is
-port_begun o mid line (inr is) = ap port_log is
+pub port_begun : (first : Opening) (o : Outcome) (mid line : Journal) → HasBegun first o mid line → port_log line ≡ port_log mid
+port_begun first o mid line (inl is) = ap port_log is
+port_begun first o mid line (inr is) = ap port_log is

@@ -15,6 +15,10 @@ use Rattle.step_line.specs.declared.Piece.TheVariants as pieces
 use Rattle.line_interpreter.specs.Lefts.{IsNextOf, IsTodo}
 use Rattle.line_interpreter.specs.declared.tasks.Todo.{Todo}
 use Rattle.line_interpreter.specs.declared.tasks.Todo.TheVariants as todos
+use Rattle.run_rules.specs.declared.State.{State}
+use Rattle.run_rules.specs.States.{IsOpening}
+use Rattle.board_rules.specs.Openings.{Opening, first_opening}
+use Rattle.controller.proofs.AnyState.{turned_any}
 use Rattle.board_rules.specs.Ports.{PortLog, LacksPieceRoom}
 use Rattle.board_rules.specs.Ports.PortStep.{answered, no_reply_room, published, no_piece_room}
 use Rattle.board_rules.specs.Steps.{Journal, port_log, published_of, left_of, closed_tells}
@@ -38,16 +42,16 @@ use Rattle.controller.specs.Turning.{BoardWorked}
 -- ---- whether the run is over
 
 -- a run that is being closed
-is_closing : (c : Controller) (h : Journal) → Keeps c h → closed_tells h ≡ Bye ∷ [] → (t : Bool) → c.closing ≡ t → c.closing ≡ true
-is_closing c h k closed true e = e
-is_closing c h k closed false e = not_going (closed_tells h) closed (k.going e)
+is_closing : (first : Opening) (c : Controller) (h : Journal) → Keeps first c h → closed_tells h ≡ Bye ∷ [] → (t : Bool) → c.closing ≡ t → c.closing ≡ true
+is_closing first c h k closed true e = e
+is_closing first c h k closed false e = not_going (closed_tells h) closed (k.going e)
 
-pub rests_by : (c : Controller) (h : Journal) → Keeps c h → IsFinished h → BoardRests c
-rests_by c h k done = record { closing = is_closing c h k done.closed c.closing refl; none = k.lines.left_is ∙ done.left }
+pub rests_by : (first : Opening) (c : Controller) (h : Journal) → Keeps first c h → IsFinished first h → BoardRests c
+rests_by first c h k done = record { closing = is_closing first c h k done.closed c.closing refl; none = k.lines.left_is ∙ done.left }
 
 -- a turn of a run that is over
-pub over_worked : (c : Controller) (h : Journal) → GoingFits c h → GoingBetween h → BoardRests c → BoardWorked Done c.flags c h h
-over_worked c h f between rests = record {
+pub over_worked : (first : Opening) (c : Controller) (h : Journal) → GoingFits first c h → GoingBetween h → BoardRests c → BoardWorked first Done c.flags c h h
+over_worked first c h f between rests = record {
   keeps = f.keeps;
   rounds = f.rounds;
   flags = f.flags;
@@ -62,49 +66,49 @@ over_worked c h f between rests = record {
 -- where the run is not over, and a reset was asked for, a reset has ended it
 pub is_broken : (was : PortLog → Type 0) (c : Controller) (d : Doings) → c.reset ≡ true → (BoardRests c → ⊥) → was (log_of d) → BoardFits c d → IsBetween d
     → (since before : Journal) × was (log_of (broke since before)) × BrokenFits c since before × IsBetween (broke since before)
-is_broken was c (goes h) reset unrested at f between = absurd (unrested (f.1 reset))
+is_broken was c (goes h) reset unrested at f between = absurd (unrested (f.3 reset))
 is_broken was c (broke since before) reset unrested at f between = (since, before, at, f, between)
 
 -- ---- whether the end is published
 
-pub end_is_out : (c : Controller) (h : Journal) (r : Reply) → Keeps c h → (BoardRests c → ⊥) → c.closing ≡ true → c.machine.hand ≡ None → IsNextOf (tell r) c.lines.left
+pub end_is_out : (first : Opening) (c : Controller) (h : Journal) (r : Reply) → Keeps first c h → (BoardRests c → ⊥) → c.closing ≡ true → c.machine.hand ≡ None → IsNextOf (tell r) c.lines.left
     → list_any is_end (published_of h) ≡ true
-end_is_out c h r k unrested closing none next = by_phase (phase_is k.first h k.conducted)
+end_is_out first c h r k unrested closing none next = by_phase (phase_is first h k.conducted)
   where
-    by_phase : At h → list_any is_end (published_of h) ≡ true
+    by_phase : At first h → list_any is_end (published_of h) ≡ true
     by_phase (going e is) = not_going (closed_tells h) (k.closed closing) e
-    by_phase (to_finish e l w is) = absurd (let f = head_is (left_of h) (tell r) finish _ (sym k.lines.left_is ∙ next ∙ ap (λ (ts : List Task). tell r ∷ drop 1 ts) k.lines.left_is) l in cc)
-    by_phase (to_tell e l w p still is d) = all_out k.first h k.conducted is (sym k.machine.hand_is ∙ ap option_to_list none)
+    by_phase (to_finish e l w is) = absurd (let f = head_is (left_of first h) (tell r) finish _ (sym k.lines.left_is ∙ next ∙ ap (λ (ts : List Task). tell r ∷ drop 1 ts) k.lines.left_is) l in cc)
+    by_phase (to_tell e l w p still is d) = all_out first h k.conducted is (sym k.machine.hand_is ∙ ap option_to_list none)
     by_phase (phases.over e l w p still d is n) = absurd (unrested (record { closing = closing; none = k.lines.left_is ∙ l }))
 
-pub end_is_in : (c : Controller) (h : Journal) → Keeps c h → (BoardRests c → ⊥)
+pub end_is_in : (first : Opening) (c : Controller) (h : Journal) → Keeps first c h → (BoardRests c → ⊥)
     → (c.closing ≡ true → c.machine.hand ≡ None → IsNextOf (tell Bye) c.lines.left → ⊥) → list_any is_end (published_of h) ≡ false
-end_is_in c h k unrested other = by_phase (phase_is k.first h k.conducted)
+end_is_in first c h k unrested other = by_phase (phase_is first h k.conducted)
   where
-    held : (e : closed_tells h ≡ Bye ∷ []) → left_of h ≡ tell Bye ∷ [] → (o : Option Piece) → c.machine.hand ≡ o → (published_of h ≡ published_of h)
+    held : (e : closed_tells h ≡ Bye ∷ []) → left_of first h ≡ tell Bye ∷ [] → (o : Option Piece) → c.machine.hand ≡ o → (published_of h ≡ published_of h)
         → ((p : Piece) → option_to_list c.machine.hand ≡ p ∷ [] → list_any is_end (published_of h) ≡ false) → list_any is_end (published_of h) ≡ false
-    held e l None none same some = absurd (other (is_closing c h k e c.closing refl) none (k.lines.left_is ∙ l ∙ ap (λ (ts : List Task). tell Bye ∷ drop 1 ts) (sym (k.lines.left_is ∙ l))))
+    held e l None none same some = absurd (other (is_closing first c h k e c.closing refl) none (k.lines.left_is ∙ l ∙ ap (λ (ts : List Task). tell Bye ∷ drop 1 ts) (sym (k.lines.left_is ∙ l))))
     held e l (Some p) hand same some = some p (ap option_to_list hand)
 
-    by_phase : At h → list_any is_end (published_of h) ≡ false
-    by_phase (going e is) = none_out k.first h k.conducted is
-    by_phase (to_finish e l w is) = none_out k.first h k.conducted is
-    by_phase (to_tell e l w p still is d) = held e l c.machine.hand refl refl (λ q hand. end_held k.first h q k.conducted is (sym k.machine.hand_is ∙ hand))
-    by_phase (phases.over e l w p still d is n) = absurd (unrested (record { closing = is_closing c h k e c.closing refl; none = k.lines.left_is ∙ l }))
+    by_phase : At first h → list_any is_end (published_of h) ≡ false
+    by_phase (going e is) = none_out first h k.conducted is
+    by_phase (to_finish e l w is) = none_out first h k.conducted is
+    by_phase (to_tell e l w p still is d) = held e l c.machine.hand refl refl (λ q hand. end_held first h q k.conducted is (sym k.machine.hand_is ∙ hand))
+    by_phase (phases.over e l w p still d is n) = absurd (unrested (record { closing = is_closing first c h k e c.closing refl; none = k.lines.left_is ∙ l }))
 
 -- ---- the run is broken off
 
-pub broken_off : (c d : Controller) (h : Journal) (out : Bool) → GoingFits c h → GoingBetween h → (BoardRests c → ⊥) → c.reset ≡ true → ending_of [] h ≡ cond out tells_bye publishes_end
+pub broken_off : (state : State) (c d : Controller) (h : Journal) (out : Bool) → IsOpening state → GoingFits (first_opening state) c h → GoingBetween h → (BoardRests c → ⊥) → c.reset ≡ true → ending_of [] h ≡ cond out tells_bye publishes_end
     → d.reset ≡ true → d.closing ≡ true → d.lines.left ≡ cond out (drop 1 closing_work) closing_work → BrokenFits d [] h
-broken_off c d h out f between unrested reset ending still closing left = record {
-  first = f.keeps.first;
-  opening = f.keeps.opening;
+broken_off state c d h out opening f between unrested reset ending still closing left = record {
+  first = state;
+  opening = opening;
   conducted = (
     f.keeps.conducted,
     record {
       reset = sym f.keeps.reset_is ∙ reset;
       between = between;
-      unsaid = unsaid f.keeps.first h f.keeps.conducted (λ done. unrested (rests_by c h f.keeps done));
+      unsaid = unsaid (first_opening state) h f.keeps.conducted (λ done. unrested (rests_by (first_opening state) c h f.keeps done));
     },
     tt,
   );
@@ -242,42 +246,42 @@ GoesOn stands t was is d = (next : Doings) × stands (log_of next) × BoardFits 
 -- a run that is over stays so
 pub over_goes_on : (stands : PortLog → Type 0) (c : Controller) (d : Doings) → stands (log_of d) → BoardFits c d → IsBetween d → BoardRests c → GoesOn stands Done c c d
 over_goes_on stands c (goes h) at f between rests =
-    let r = turned_by Done c c c.flags h h refl (over_worked c h f.0 between rests) in
-    (goes (turned Done ∷ h), at, (r.0, f.1), refl, r.1)
+    let r = turned_by (first_opening f.0) Done c c c.flags h h refl (over_worked (first_opening f.0) c h f.2 between rests) in
+    (goes (turned Done ∷ h), at, (f.0, f.1, r.0, f.3), refl, turned_any Done c c h (turned Done ∷ h) f.0 r.1)
 over_goes_on stands c (broke since before) at f between rests =
     (broke (turned Done ∷ since) before, at, over_ends c since before f between rests, refl, (refl, record { steps = []; are = refl; moves = λ e. absurd cc }))
 
 -- a run that a reset has ended goes on to its end
 pub ended_goes_on : (was stands : PortLog → Type 0) (t : Turn) (c is : Controller) (d : Doings) → c.reset ≡ true → (BoardRests c → ⊥) → was (log_of d) → BoardFits c d → IsBetween d
     → ((since before : Journal) → was (log_of (broke since before)) → BrokenFits c since before → IsBetween (broke since before) → EndsOn stands t is since before) → GoesOn stands t c is d
-ended_goes_on was stands t c is (goes h) reset unrested at f between ends = absurd (unrested (f.1 reset))
+ended_goes_on was stands t c is (goes h) reset unrested at f between ends = absurd (unrested (f.3 reset))
 ended_goes_on was stands t c is (broke since before) reset unrested at f between ends =
     let e = ends since before at f between in (broke e.0 before, e.1, e.2, e.3, (refl, e.4))
 
 -- a run that goes on does so, or is ended behind the turn
-pub turned_goes_on : (stands : PortLog → Type 0) (t : Turn) (c is : Controller) (h next : Journal) → stands (port_log next) → GoingFits is next → GoingBetween next → GoingTurned t c is h next
+pub turned_goes_on : (state : State) (stands : PortLog → Type 0) (t : Turn) (c is : Controller) (h next : Journal) → IsOpening state → stands (port_log next) → GoingFits (first_opening state) is next → GoingBetween next → GoingTurned (first_opening state) t c is h next
     → (is.reset ≡ true → BoardRests is) → GoesOn stands t c is (goes h)
-turned_goes_on stands t c is h next at f between was rests = (goes next, at, (f, rests), between, was)
+turned_goes_on state stands t c is h next opening at f between was rests = (goes next, at, (state, opening, f, rests), between, turned_any t c is h next state was)
 
-pub broken_goes_on : (stands : PortLog → Type 0) (t : Turn) (c mid is : Controller) (h next : Journal) → stands (port_log next) → GoingTurned t c mid h next → BrokenFits is [] next → is.flags ≡ mid.flags
+pub broken_goes_on : (first : State) (stands : PortLog → Type 0) (t : Turn) (c mid is : Controller) (h next : Journal) → stands (port_log next) → GoingTurned (first_opening first) t c mid h next → BrokenFits is [] next → is.flags ≡ mid.flags
     → GoesOn stands t c is (goes h)
-broken_goes_on stands t c mid is h next at was f same = (
+broken_goes_on first stands t c mid is h next at was f same = (
   broke [] next,
   at,
   f,
   refl,
   (
     refl,
-    record {
+    turned_any t c is h next first (record {
       steps = was.steps;
       are = was.are;
-      moves = λ e. subst (λ (x : Flags). (list_any moving (this_turn (was.steps ++ h)) ≡ true) ⊎ (number_of x next < number_of c.flags h)) (sym same) (was.moves e);
-    },
+      moves = λ e. subst (λ (x : Flags). (list_any moving (this_turn (was.steps ++ h)) ≡ true) ⊎ (number_of (first_opening first) x next < number_of (first_opening first) c.flags h)) (sym same) (was.moves e);
+    }),
   ),
 )
 
 -- a board without a reset goes on
 pub unbroken_goes_on : (was stands : PortLog → Type 0) (t : Turn) (c is : Controller) (d : Doings) → c.reset ≡ false → was (log_of d) → BoardFits c d → IsBetween d
-    → ((h : Journal) → was (port_log h) → GoingFits c h → GoingBetween h → GoesOn stands t c is (goes h)) → GoesOn stands t c is d
-unbroken_goes_on was stands t c is (goes h) none at f between on = on h at f.0 between
+    → ((state : State) → IsOpening state → (h : Journal) → was (port_log h) → GoingFits (first_opening state) c h → GoingBetween h → GoesOn stands t c is (goes h)) → GoesOn stands t c is d
+unbroken_goes_on was stands t c is (goes h) none at f between on = on f.0 f.1 h at f.2 between
 unbroken_goes_on was stands t c is (broke since before) none at f between on = absurd (let e = sym none ∙ f.reset in cc)

@@ -7,7 +7,7 @@ use Rattle.outside.specs.declared.On.{On}
 use Rattle.outside.specs.declared.On.TheVariants.{SegmentRoom}
 use Rattle.outside.specs.declared.Turn.{Turn}
 use Rattle.outside.specs.declared.Turn.TheVariants.{Did, Wait, Done}
-use Rattle.run_rules.specs.declared.State.{State}
+use Rattle.board_rules.specs.Openings.{Opening}
 use Rattle.run_rules.specs.Work.{Task, pauses}
 use Rattle.run_rules.specs.Work.Task.{ask, tell, pause, normal, finish, halt}
 use Rattle.status_report.specs.declared.Reply.{Reply}
@@ -59,25 +59,25 @@ use Rattle.controller.proofs.Steps.{other_beat, other_flags, ends, halts_by, non
 -- ---- what follows
 
 -- the board's number is no greater behind steps that pass nothing
-pub no_greater : (was : Flags) (h next : Journal) → pauses (left_of next) ≤ pauses (left_of h) → changes_left (motion_of next) (has_cut next) ≤ changes_left (motion_of h) (has_cut h) → closed_tells next ≡ closed_tells h
-    → number_of was next ≤ number_of was h
-no_greater was h next fewer slower same = let s = ap (λ (rs : List Reply). one_if (nat_eq (length rs) 0)) same in omega (arith, fewer, slower, s)
+pub no_greater : (first : Opening) (was : Flags) (h next : Journal) → pauses (left_of first next) ≤ pauses (left_of first h) → changes_left (motion_of first next) (has_cut next) ≤ changes_left (motion_of first h) (has_cut h) → closed_tells next ≡ closed_tells h
+    → number_of first was next ≤ number_of first was h
+no_greater first was h next fewer slower same = let s = ap (λ (rs : List Reply). one_if (nat_eq (length rs) 0)) same in omega (arith, fewer, slower, s)
 
-pub number_passes : (was : Flags) (h next : Journal) → PassesNothing h next → number_of was next ≤ number_of was h
-number_passes was h next p = no_greater was h next p.pauses p.changes p.closed
+pub number_passes : (first : Opening) (was : Flags) (h next : Journal) → PassesNothing first h next → number_of first was next ≤ number_of first was h
+number_passes first was h next p = no_greater first was h next p.pauses p.changes p.closed
 
 no_more : (n : ℕ) → n ≤ n
 no_more n = omega arith
 
-pub number_tried : (was : Flags) (p : Bool) (h next : Journal) → HasTried p h next → number_of was next ≤ number_of was h
-number_tried was p h next t =
-    no_greater was h next (subst (λ (ts : List Task). pauses ts ≤ pauses (left_of h)) (sym t.left) (no_more (pauses (left_of h))))
-    (let m = ap (λ m. changes_left m (has_cut next)) t.motion in let c = ap (changes_left (motion_of h)) t.cuts in omega (arith, m, c)) t.closed
+pub number_tried : (first : Opening) (was : Flags) (p : Bool) (h next : Journal) → HasTried first p h next → number_of first was next ≤ number_of first was h
+number_tried first was p h next t =
+    no_greater first was h next (subst (λ (ts : List Task). pauses ts ≤ pauses (left_of first h)) (sym t.left) (no_more (pauses (left_of first h))))
+    (let m = ap (λ m. changes_left m (has_cut next)) t.motion in let c = ap (changes_left (motion_of first h)) t.cuts in omega (arith, m, c)) t.closed
 
 -- what a board has worked up to an answer behind further steps
-pub worked_on : (t : Turn) (was : Flags) (board : Controller) (h mid next : Journal) (steps : List Step) → mid ≡ steps ++ h → number_of was mid ≤ number_of was h → BoardWorked t was board mid next
-    → BoardWorked t was board h next
-worked_on t was board h mid next steps is fewer w = record {
+pub worked_on : (first : Opening) (t : Turn) (was : Flags) (board : Controller) (h mid next : Journal) (steps : List Step) → mid ≡ steps ++ h → number_of first was mid ≤ number_of first was h → BoardWorked first t was board mid next
+    → BoardWorked first t was board h next
+worked_on first t was board h mid next steps is fewer w = record {
   keeps = w.keeps;
   rounds = w.rounds;
   flags = w.flags;
@@ -89,17 +89,17 @@ worked_on t was board h mid next steps is fewer w = record {
   moves = λ e. further (w.moves e);
 }
   where
-    further : (list_any moving (this_turn next) ≡ true) ⊎ (number_of board.flags next < number_of was mid) → (list_any moving (this_turn next) ≡ true) ⊎ (number_of board.flags next < number_of was h)
+    further : (list_any moving (this_turn next) ≡ true) ⊎ (number_of first board.flags next < number_of first was mid) → (list_any moving (this_turn next) ≡ true) ⊎ (number_of first board.flags next < number_of first was h)
     further (inl moved) = inl moved
     further (inr falls) = inr (omega (arith, falls, fewer))
 
-pub works_on : (stands : PortLog → Type 0) (t : Turn) (was : Flags) (board : Controller) (h mid : Journal) (steps : List Step) → mid ≡ steps ++ h → number_of was mid ≤ number_of was h
-    → WorksOn stands t was board mid → WorksOn stands t was board h
-works_on stands t was board h mid steps is fewer w = (w.0, w.1, worked_on t was board h mid w.0 steps is fewer w.2)
+pub works_on : (first : Opening) (stands : PortLog → Type 0) (t : Turn) (was : Flags) (board : Controller) (h mid : Journal) (steps : List Step) → mid ≡ steps ++ h → number_of first was mid ≤ number_of first was h
+    → WorksOn first stands t was board mid → WorksOn first stands t was board h
+works_on first stands t was board h mid steps is fewer w = (w.0, w.1, worked_on first t was board h mid w.0 steps is fewer w.2)
 
 -- so it has behind steps that pass nothing
-pub works_passed : (stands : PortLog → Type 0) (t : Turn) (was : Flags) (board : Controller) (h mid : Journal) → PassesNothing h mid → WorksOn stands t was board mid → WorksOn stands t was board h
-works_passed stands t was board h mid p w = works_on stands t was board h mid p.steps p.are (number_passes was h mid p) w
+pub works_passed : (first : Opening) (stands : PortLog → Type 0) (t : Turn) (was : Flags) (board : Controller) (h mid : Journal) → PassesNothing first h mid → WorksOn first stands t was board mid → WorksOn first stands t was board h
+works_passed first stands t was board h mid p w = works_on first stands t was board h mid p.steps p.are (number_passes first was h mid p) w
 
 -- ---- truths
 
@@ -120,8 +120,8 @@ one_at_most false = omega arith
 -- ---- the rules of an end
 
 -- no queued block waits for a start that is called for
-pub none_called : (h : Journal) → list_any found_none (this_turn h) ≡ false → NoneWaits h → AreWaiting h → starts_cycle h ≡ false
-none_called h unpolled none waiting = or_none (list_any found_none (this_turn h)) (is_full (plan_of h) || (awaits_motion (left_of h) || has_jogged h)) unpolled (none waiting)
+pub none_called : (first : Opening) (h : Journal) → list_any found_none (this_turn h) ≡ false → NoneWaits first h → AreWaiting first h → starts_cycle first h ≡ false
+none_called first h unpolled none waiting = or_none (list_any found_none (this_turn h)) (is_full (plan_of h) || (awaits_motion (left_of first h) || has_jogged h)) unpolled (none waiting)
 
 -- what calls for a start is the same with the same plan, the same tasks and the same last line
 pub same_calls : (f g : Bool) (ts us : List Task) (j i : Bool) → f ≡ g → ts ≡ us → j ≡ i → (f || (awaits_motion ts || j)) ≡ (g || (awaits_motion us || i))
@@ -131,8 +131,8 @@ same_calls f g ts us j i full left jogged = ap (λ b. b || (awaits_motion ts || 
 pub none_waited : (h : Journal) (o : On) → waits_of h ≡ [] → Contains (waits_of h) o → ⊥
 none_waited h o none has = let e = ap length none in let within = has.1 in absurd (omega arith)
 
-pub rounds_still : (h : Journal) → NoneWaits h → tries_of h + one_if (whole_of h) ≤ 1 → Rounds Motion h
-rounds_still h none few = record {
+pub rounds_still : (first : Opening) (h : Journal) → NoneWaits first h → tries_of first h + one_if (whole_of h) ≤ 1 → Rounds first Motion h
+rounds_still first h none few = record {
   waits = λ e. absurd cc;
   tried = λ e. absurd cc;
   sent = λ e. absurd cc;
@@ -146,28 +146,28 @@ rounds_still h none few = record {
 -- ---- a piece that was tried to be published
 
 -- what is known before: nothing was published in this turn, and few tries stand behind the last poll
-pub record MayTry (h : Journal) : Type 0 where
+pub record MayTry (first : Opening) (h : Journal) : Type 0 where
   pub quiet : count_by publishing (this_turn h) ≡ 0
   pub worked : AreWorked h
   pub flags : flags_taken h ≡ true
-  pub polled : list_any found_none (this_turn h) ≡ true → (AreWaiting h → ⊥) × (IsNextMove h → ⊥)
-  pub tries : tries_of h + one_if (whole_of h) ≤ 1
+  pub polled : list_any found_none (this_turn h) ≡ true → (AreWaiting first h → ⊥) × (IsNextMove first h → ⊥)
+  pub tries : tries_of first h + one_if (whole_of h) ≤ 1
 
-none_called_behind : (h mid next : Journal) (p : Bool) → MayTry h → HasTried p h mid → HasFilled mid next → AreWaiting next → starts_cycle next ≡ false
-none_called_behind h mid next p may tried filled waiting = by_poll (list_any found_none (this_turn h)) refl
+none_called_behind : (first : Opening) (h mid next : Journal) (p : Bool) → MayTry first h → HasTried first p h mid → HasFilled first mid next → AreWaiting first next → starts_cycle first next ≡ false
+none_called_behind first h mid next p may tried filled waiting = by_poll (list_any found_none (this_turn h)) refl
   where
-    by_poll : (b : Bool) → list_any found_none (this_turn h) ≡ b → starts_cycle next ≡ false
-    by_poll false e = none_called next (filled.alone.passes.polled ∙ tried.polled ∙ e) filled.none_waits waiting
+    by_poll : (b : Bool) → list_any found_none (this_turn h) ≡ b → starts_cycle first next ≡ false
+    by_poll false e = none_called first next (filled.alone.passes.polled ∙ tried.polled ∙ e) filled.none_waits waiting
     by_poll true e =
         let n = may.polled e in
-        let no_move : IsNextMove mid → ⊥ = (λ m. n.1 (m.0, subst (λ (ts : List Task). ts ≡ ask (a_move m.0) ∷ drop 1 ts) tried.left m.1)) in
+        let no_move : IsNextMove first mid → ⊥ = (λ m. n.1 (m.0, subst (λ (ts : List Task). ts ≡ ask (a_move m.0) ∷ drop 1 ts) tried.left m.1)) in
         absurd (n.0 (tried.waiting (filled.waiting no_move waiting)))
 
-few_tries : (h mid next : Journal) (p : Bool) → MayTry h → HasTried p h mid → HasFilled mid next → tries_of next + one_if (whole_of next) ≤ 2
-few_tries h mid next p may tried filled =
+few_tries : (first : Opening) (h mid next : Journal) (p : Bool) → MayTry first h → HasTried first p h mid → HasFilled first mid next → tries_of first next + one_if (whole_of next) ≤ 2
+few_tries first h mid next p may tried filled =
     let t = filled.alone.passes.tries in
     let w = ap one_if (filled.alone.passes.whole ∙ tried.whole) in
-    let f = tried.first in
+    let f = tried.once in
     let m = may.tries in
     omega (arith, t, w, f, m)
 
@@ -186,18 +186,18 @@ some_changes Cancelling cut some = refl
 some_changes m cut some = absurd (omega (arith, some))
 
 -- a machine that is not held, nor slows down to a stop, still is not
-pub halts_before : (h next : Journal) → PassesNothing h next → is_halting (motion_of next) ≡ true → is_halting (motion_of h) ≡ true
-halts_before h next p halts =
-    let some = changes_some (motion_of next) (has_cut next) halts in
-    let fewer = p.changes in some_changes (motion_of h) (has_cut h) (omega (arith, some, fewer))
+pub halts_before : (first : Opening) (h next : Journal) → PassesNothing first h next → is_halting (motion_of first next) ≡ true → is_halting (motion_of first h) ≡ true
+halts_before first h next p halts =
+    let some = changes_some (motion_of first next) (has_cut next) halts in
+    let fewer = p.changes in some_changes (motion_of first h) (has_cut h) (omega (arith, some, fewer))
 
 -- no try is counted for a line that waits for the machine
-none_for_line : (h mid next : Journal) (p : Bool) → MayTry h → HasTried p h mid → HasFilled mid next → is_halting (motion_of next) ≡ true → whole_of next ≡ true → tries_of next ≡ 0
-none_for_line h mid next p may tried filled halts whole =
+none_for_line : (first : Opening) (h mid next : Journal) (p : Bool) → MayTry first h → HasTried first p h mid → HasFilled first mid next → is_halting (motion_of first next) ≡ true → whole_of next ≡ true → tries_of first next ≡ 0
+none_for_line first h mid next p may tried filled halts whole =
     let a = filled.alone.passes in
-    let halted = sym (ap is_halting tried.motion) ∙ halts_before mid next a halts in
+    let halted = sym (ap is_halting tried.motion) ∙ halts_before first mid next a halts in
     let line = sym (a.whole ∙ tried.whole) ∙ whole in
-    let f = tried.later (uncounted_line h halted line) in
+    let f = tried.later (uncounted_line first h halted line) in
     let t = a.tries in
     let m = may.tries in
     let w = ap one_if line in
@@ -205,14 +205,14 @@ none_for_line h mid next p may tried filled halts whole =
 
 -- ---- a piece that is published
 
-pub sent_by : (was : Flags) (board : Controller) (h mid next : Journal) → MayTry h → HasTried true h mid → HasFilled mid next → Keeps board next → takes_no_word board.flags ≡ true → TakesFlags board.flags next
-    → BoardWorked Did was (record board { beat = Main }) h next
-sent_by was board h mid next may tried filled keeps no_word takes =
+pub sent_by : (first : Opening) (was : Flags) (board : Controller) (h mid next : Journal) → MayTry first h → HasTried first true h mid → HasFilled first mid next → Keeps first board next → takes_no_word board.flags ≡ true → TakesFlags board.flags next
+    → BoardWorked first Did was (record board { beat = Main }) h next
+sent_by first was board h mid next may tried filled keeps no_word takes =
     let a = filled.alone.passes in
-    let tries = few_tries h mid next true may tried filled in
+    let tries = few_tries first h mid next true may tried filled in
     let worked = a.worked (tried.worked may.worked) in
     record {
-      keeps = other_beat board Main next keeps;
+      keeps = other_beat first board Main next keeps;
       rounds = record {
         waits = λ e. a.waits ∙ tried.waits;
         tried = λ e. a.missed ∙ tried.missed;
@@ -220,11 +220,11 @@ sent_by was board h mid next may tried filled keeps no_word takes =
         none_waits = filled.none_waits;
         tries = omega arith;
         few = λ some.
-            (let left : left_of h ≡ [] → ⊥ = (λ e. a.less some (tried.left ∙ e)) in
-            let f = tried.later (uncounted h left) in let m = may.tries in let t = a.tries in omega (arith, f, m, t));
-        held = none_for_line h mid next true may tried filled;
+            (let left : left_of first h ≡ [] → ⊥ = (λ e. a.less some (tried.left ∙ e)) in
+            let f = tried.later (uncounted first h left) in let m = may.tries in let t = a.tries in omega (arith, f, m, t));
+        held = none_for_line first h mid next true may tried filled;
         owed = λ owed.
-            (let f = tried.later (uncounted_owing h (sym (a.owed ∙ tried.owed) ∙ owed)) in let m = may.tries in let t = a.tries in let w = ap one_if (a.whole ∙ tried.whole) in
+            (let f = tried.later (uncounted_owing first h (sym (a.owed ∙ tried.owed) ∙ owed)) in let m = may.tries in let t = a.tries in let w = ap one_if (a.whole ∙ tried.whole) in
             omega (arith, f, m, t, w));
       };
       flags = takes;
@@ -235,49 +235,49 @@ sent_by was board h mid next may tried filled keeps no_word takes =
       may = record {
         once = (let q = tried.quiet in let r = a.quiet in let s = may.quiet in omega arith);
         adds = filled.adds;
-        starts = none_called_behind h mid next true may tried filled;
+        starts = none_called_behind first h mid next true may tried filled;
         tries = omega arith;
         obeyed = worked.obeyed;
         changed = worked.changed;
-        halts = halts_by board next keeps;
+        halts = halts_by first board next keeps;
       };
       moves = λ e. inl (a.moves (tried.moves refl));
     }
 
-pub sent : (was : Flags) (board : Controller) (h mid next : Journal) → MayTry h → IsFree h → HasTried true h mid → HasFilled mid next → Keeps board next → board.flags ≡ words.None
-    → BoardWorked Did was (record board { beat = Main }) h next
-sent was board h mid next may free tried filled keeps none =
-    sent_by was board h mid next may tried filled keeps (no_word_left board.flags none) (takes_none board next none (free_passed mid next filled.alone.passes (free_tried true h mid tried free)))
+pub sent : (first : Opening) (was : Flags) (board : Controller) (h mid next : Journal) → MayTry first h → IsFree h → HasTried first true h mid → HasFilled first mid next → Keeps first board next → board.flags ≡ words.None
+    → BoardWorked first Did was (record board { beat = Main }) h next
+sent first was board h mid next may free tried filled keeps none =
+    sent_by first was board h mid next may tried filled keeps (no_word_left board.flags none) (takes_none board next none (free_passed first mid next filled.alone.passes (free_tried first true h mid tried free)))
 
 -- what may be run may be tried to be published
 by_counted : {A : Type 0} (counted : Bool) → (counted ≡ true → A) → (counted ≡ false → A) → A
 by_counted true one more = one refl
 by_counted false one more = more refl
 
-pub may_try : (h : Journal) → MayRun h → MayTry h
-may_try h may = record {
+pub may_try : (first : Opening) (h : Journal) → MayRun first h → MayTry first h
+may_try first h may = record {
   quiet = may.quiet.quiet;
   worked = may.quiet.worked;
   flags = may.quiet.flags;
   polled = may.polled;
-  tries = by_counted (is_counted h) (λ e. let f = may.first e in omega (arith, f)) may.few;
+  tries = by_counted (is_counted first h) (λ e. let f = may.once e in omega (arith, f)) may.few;
 }
 
 -- it was handed back, and room for it is waited for
-pub handed_back : (was : Flags) (board : Controller) (h mid next : Journal) → MayRun h → HasTried false h mid → HasFilled mid next → Keeps board next → board.beat ≡ Motion → board.flags ≡ words.None
-    → BoardWorked (Wait SegmentRoom) was board h next
-handed_back was board h mid next may tried filled keeps beat no_word =
+pub handed_back : (first : Opening) (was : Flags) (board : Controller) (h mid next : Journal) → MayRun first h → HasTried first false h mid → HasFilled first mid next → Keeps first board next → board.beat ≡ Motion → board.flags ≡ words.None
+    → BoardWorked first (Wait SegmentRoom) was board h next
+handed_back first was board h mid next may tried filled keeps beat no_word =
     let a = filled.alone.passes in
-    let try = may_try h may in
+    let try = may_try first h may in
     let w = ap one_if (a.whole ∙ tried.whole) in
     let t = a.tries in
-    let few : tries_of next + one_if (whole_of next) ≤ 1 =
-    by_counted (is_counted h) (λ e. let f = tried.first in let m = may.first e in omega (arith, w, t, f, m)) (λ e. let f = tried.later e in let m = may.few e in omega (arith, w, t, f, m)) in
+    let few : tries_of first next + one_if (whole_of next) ≤ 1 =
+    by_counted (is_counted first h) (λ e. let f = tried.once in let m = may.once e in omega (arith, w, t, f, m)) (λ e. let f = tried.later e in let m = may.few e in omega (arith, w, t, f, m)) in
     let worked = a.worked (tried.worked may.quiet.worked) in
-    let free = free_passed mid next a (free_tried false h mid tried (free_of h may.quiet)) in
+    let free = free_passed first mid next a (free_tried first false h mid tried (free_of h may.quiet)) in
     record {
       keeps = keeps;
-      rounds = subst (λ b. Rounds b next) (sym beat) (rounds_still next filled.none_waits few);
+      rounds = subst (λ b. (Rounds first) b next) (sym beat) (rounds_still first next filled.none_waits few);
       flags = takes_none board next no_word free;
       still = λ e. no_word_left board.flags no_word;
       beat = λ o e. beat;
@@ -287,11 +287,11 @@ handed_back was board h mid next may tried filled keeps beat no_word =
         ends = record {
           once = (let q = tried.quiet in let r = a.quiet in let s = may.quiet.quiet in omega arith);
           adds = filled.adds;
-          starts = none_called_behind h mid next false try tried filled;
+          starts = none_called_behind first h mid next false try tried filled;
           tries = omega arith;
           obeyed = worked.obeyed;
           changed = worked.changed;
-          halts = halts_by board next keeps;
+          halts = halts_by first board next keeps;
         };
         cause = a.room ∙ tried.room refl;
         still = a.still ∙ tried.still refl ∙ may.quiet.still;
@@ -328,8 +328,8 @@ quiet_between h between free = record {
   unowed = free.unowed;
 }
 
-pub may_try_first : (f : Flags) (h : Journal) → Rounds Motion h → GoingBetween h → takes_no_word f ≡ true → TakesFlags f h → MayTry h
-may_try_first f h r between none takes = record {
+pub may_try_first : (first : Opening) (f : Flags) (h : Journal) → Rounds first Motion h → GoingBetween h → takes_no_word f ≡ true → TakesFlags f h → MayTry first h
+may_try_first first f h r between none takes = record {
   quiet = count_between h between;
   worked = none_worked h between (obeyed_by f h none takes);
   flags = taken_by f h none takes;
@@ -337,14 +337,14 @@ may_try_first f h r between none takes = record {
   tries = (let t = r.tries in omega (arith, t));
 }
 
-still_none_waits : (h next : Journal) (p : Bool) → HasTried p h next → NoneWaits h → NoneWaits next
-still_none_waits h next p tried none waiting =
-    same_calls (is_full (plan_of next)) (is_full (plan_of next)) (left_of next) (left_of h) (has_jogged next) (has_jogged h) refl tried.left tried.jogged
-    ∙ less_or (is_full (plan_of next)) (is_full (plan_of h)) (awaits_motion (left_of h) || has_jogged h) tried.full (none (tried.waiting waiting))
+still_none_waits : (first : Opening) (h next : Journal) (p : Bool) → HasTried first p h next → NoneWaits first h → NoneWaits first next
+still_none_waits first h next p tried none waiting =
+    same_calls (is_full (plan_of next)) (is_full (plan_of next)) (left_of first next) (left_of first h) (has_jogged next) (has_jogged h) refl tried.left tried.jogged
+    ∙ less_or (is_full (plan_of next)) (is_full (plan_of h)) (awaits_motion (left_of first h) || has_jogged h) tried.full (none (tried.waiting waiting))
 
 -- what was tried first was handed back
-pub ready_tried : (h next : Journal) → Rounds Motion h → GoingBetween h → IsFree h → HasTried false h next → IsReady next
-ready_tried h next r between free tried =
+pub ready_tried : (first : Opening) (h next : Journal) → Rounds first Motion h → GoingBetween h → IsFree h → HasTried first false h next → IsReady first next
+ready_tried first h next r between free tried =
     let w = ap one_if tried.whole in
     let rt = r.tries in
     record {
@@ -358,17 +358,17 @@ ready_tried h next r between free tried =
       unpolled = tried.polled ∙ none_between h found_none between;
       tried = λ due. tried.waits;
       unmissed = tried.missed;
-      none_waits = still_none_waits h next false tried r.none_waits;
-      tries = (let f = tried.first in omega (arith, f, w, rt));
-      few = λ some. (let left : left_of h ≡ [] → ⊥ = (λ e. some (tried.left ∙ e)) in let f = tried.later (uncounted h left) in omega (arith, f, rt));
+      none_waits = still_none_waits first h next false tried r.none_waits;
+      tries = (let f = tried.once in omega (arith, f, w, rt));
+      few = λ some. (let left : left_of first h ≡ [] → ⊥ = (λ e. some (tried.left ∙ e)) in let f = tried.later (uncounted first h left) in omega (arith, f, rt));
       held = λ halts whole.
           (let halted = sym (ap is_halting tried.motion) ∙ halts in let line = sym tried.whole ∙ whole in
-          let f = tried.later (uncounted_line h halted line) in let o = ap one_if line in omega (arith, f, rt, o));
+          let f = tried.later (uncounted_line first h halted line) in let o = ap one_if line in omega (arith, f, rt, o));
     }
 
 -- the last turn published
-pub ready_sent : (h : Journal) → Rounds Main h → GoingBetween h → IsFree h → IsReady h
-ready_sent h r between taken = record {
+pub ready_sent : (first : Opening) (h : Journal) → Rounds first Main h → GoingBetween h → IsFree h → IsReady first h
+ready_sent first h r between taken = record {
   quiet = quiet_between h between taken;
   unpolled = none_between h found_none between;
   tried = λ due. r.waits refl;
@@ -380,8 +380,8 @@ ready_sent h r between taken = record {
 }
 
 -- nothing is due
-pub ready_idle : (h : Journal) → Rounds Motion h → GoingBetween h → IsFree h → is_due h ≡ false → missed_of h ≡ false → IsReady h
-ready_idle h r between taken idle unmissed = record {
+pub ready_idle : (first : Opening) (h : Journal) → Rounds first Motion h → GoingBetween h → IsFree h → is_due first h ≡ false → missed_of first h ≡ false → IsReady first h
+ready_idle first h r between taken idle unmissed = record {
   quiet = quiet_between h between taken;
   unpolled = none_between h found_none between;
   tried = λ due. absurd (let e = sym idle ∙ due in cc);
@@ -394,33 +394,33 @@ ready_idle h r between taken idle unmissed = record {
 
 -- ---- the motion is waited for
 
-pub may_run : (first : State) (h : Journal) → Conducted first h → IsReady h → (left_of h ≡ [] → ⊥) → MayRun h
+pub may_run : (first : Opening) (h : Journal) → Conducted first h → IsReady first h → (left_of first h ≡ [] → ⊥) → MayRun first h
 may_run first h c ready some = record {
   quiet = ready.quiet;
   polled = λ e. absurd (let n = ready.unpolled in cc);
-  first = λ e. absurd (let n = sym e ∙ uncounted h some in cc);
+  once = λ e. absurd (let n = sym e ∙ uncounted first h some in cc);
   few = λ e. (let f = ready.few some in let w = ap one_if (not_whole first h c some) in omega (arith, f, w));
   held = ready.held;
 }
 
-pub some_awaited : (h : Journal) → awaits_motion (left_of h) ≡ true → left_of h ≡ [] → ⊥
-some_awaited h awaits none = absurd (let e = ap awaits_motion none in cc)
+pub some_awaited : (first : Opening) (h : Journal) → awaits_motion (left_of first h) ≡ true → left_of first h ≡ [] → ⊥
+some_awaited first h awaits none = absurd (let e = ap awaits_motion none in cc)
 
-pub may_await : (first : State) (h : Journal) → Conducted first h → IsReady h → begins_in (motion_of h) ≡ true → awaits_motion (left_of h) ≡ true → MayAwait h
-may_await first h c ready going awaits = record { run = may_run first h c ready (some_awaited h awaits); going = going; awaits = awaits; none_waits = ready.none_waits }
+pub may_await : (first : Opening) (h : Journal) → Conducted first h → IsReady first h → begins_in (motion_of first h) ≡ true → awaits_motion (left_of first h) ≡ true → MayAwait first h
+may_await first h c ready going awaits = record { run = may_run first h c ready (some_awaited first h awaits); going = going; awaits = awaits; none_waits = ready.none_waits }
 
 -- a machine that stands with nothing left to run waits for no start, and has no segment due
-pub no_blocks : (h : Journal) → HasStopped h → has_blocks (plan_of h).blocks ≡ false
-no_blocks h stopped = ap has_blocks stopped.drained.plan.blocks
+pub no_blocks : (first : Opening) (h : Journal) → HasStopped first h → has_blocks (plan_of h).blocks ≡ false
+no_blocks first h stopped = ap has_blocks stopped.drained.plan.blocks
 
-pub not_waiting : (h : Journal) → HasStopped h → AreWaiting h → ⊥
-not_waiting h stopped waiting = absurd (let e = sym waiting.blocks ∙ no_blocks h stopped in cc)
+pub not_waiting : (first : Opening) (h : Journal) → HasStopped first h → AreWaiting first h → ⊥
+not_waiting first h stopped waiting = absurd (let e = sym waiting.blocks ∙ no_blocks first h stopped in cc)
 
-pub not_due : (h : Journal) → HasStopped h → is_due h ≡ false
-not_due h stopped = ap (λ m. has_segment m (plan_of h)) stopped.stands
+pub not_due : (first : Opening) (h : Journal) → HasStopped first h → is_due first h ≡ false
+not_due first h stopped = ap (λ m. has_segment m (plan_of h)) stopped.stands
 
-pub ready_stopped : (h next : Journal) → IsReady h → PassesNothing h next → HasStopped next → IsReady next
-ready_stopped h next ready passes stopped =
+pub ready_stopped : (first : Opening) (h next : Journal) → IsReady first h → PassesNothing first h next → HasStopped first next → IsReady first next
+ready_stopped first h next ready passes stopped =
     let t = passes.tries in
     record {
       quiet = record {
@@ -431,17 +431,17 @@ ready_stopped h next ready passes stopped =
         unowed = passes.owed ∙ ready.quiet.unowed;
       };
       unpolled = passes.polled ∙ ready.unpolled;
-      tried = λ due. absurd (let e = sym due ∙ not_due next stopped in cc);
+      tried = λ due. absurd (let e = sym due ∙ not_due first next stopped in cc);
       unmissed = passes.missed ∙ ready.unmissed;
-      none_waits = λ waiting. absurd (not_waiting next stopped waiting);
+      none_waits = λ waiting. absurd (not_waiting first next stopped waiting);
       tries = (let w = ap one_if passes.whole in let r = ready.tries in omega arith);
       few = λ some. (let m = ready.few (passes.less some) in omega arith);
       held = λ halts whole. absurd (let e = sym halts ∙ ap is_halting stopped.stands in cc);
     }
 
 -- what is next goes on where the machine stands
-pub goes_on_stopped : (h : Journal) → HasStopped h → GoesOn h
-goes_on_stopped h stopped = record {
+pub goes_on_stopped : (first : Opening) (h : Journal) → HasStopped first h → GoesOn first h
+goes_on_stopped first h stopped = record {
   held = λ halts. absurd (let e = sym halts ∙ ap is_halting stopped.stands in cc);
   unlimited = ap is_limited stopped.stands;
 }
@@ -458,10 +458,10 @@ awaited (finish ∷ ts) e none = inr (inr (inr refl))
 awaited (halt ∷ ts) e none = absurd cc
 
 -- where no rest is next, nor overrides that are set, a pause or the end is what waits for the motion
-pub needs_no_wait : (b : Controller) (h : Journal) → Keeps b h → HasStopped h → (IsNextTask (ask a_rest) h → ⊥) → (IsNextTask normal h → ⊥) → NeedsNoWait h
-needs_no_wait b h k stopped no_rest no_normal awaits = by_task (awaited (left_of h) awaits (none_halts b h k (ap is_limited stopped.stands)))
+pub needs_no_wait : (first : Opening) (b : Controller) (h : Journal) → Keeps first b h → HasStopped first h → (IsNextTask first (ask a_rest) h → ⊥) → (IsNextTask first normal h → ⊥) → NeedsNoWait first h
+needs_no_wait first b h k stopped no_rest no_normal awaits = by_task (awaited (left_of first h) awaits (none_halts first b h k (ap is_limited stopped.stands)))
   where
-    by_task : IsNextTask (ask a_rest) h ⊎ (IsNextTask pause h ⊎ (IsNextTask normal h ⊎ IsNextTask finish h)) → HasStopped h × (IsNextTask pause h ⊎ IsNextTask finish h)
+    by_task : IsNextTask first (ask a_rest) h ⊎ (IsNextTask first pause h ⊎ (IsNextTask first normal h ⊎ IsNextTask first finish h)) → HasStopped first h × (IsNextTask first pause h ⊎ IsNextTask first finish h)
     by_task (inl e) = absurd (no_rest e)
     by_task (inr (inl e)) = (stopped, inl e)
     by_task (inr (inr (inl e))) = absurd (no_normal e)
@@ -470,17 +470,17 @@ needs_no_wait b h k stopped no_rest no_normal awaits = by_task (awaited (left_of
 -- ---- what was done moves on
 
 -- something was done up to a journal, behind which moves were added
-pub did_filled : (was : Flags) (board : Controller) (h mid next : Journal) (steps : List Step) → mid ≡ steps ++ h → Keeps board next → board.beat ≡ Motion → TakesFlags board.flags next → HasFilled mid next
-    → AreWorked mid → count_by publishing (this_turn mid) ≤ 1 → list_any found_none (this_turn mid) ≡ false → tries_of mid + one_if (whole_of mid) ≤ 1
-    → (list_any moving (this_turn next) ≡ true) ⊎ (number_of board.flags next < number_of was h) → BoardWorked Did was board h next
-did_filled was board h mid next steps is keeps beat taken filled worked once unpolled few moves =
+pub did_filled : (first : Opening) (was : Flags) (board : Controller) (h mid next : Journal) (steps : List Step) → mid ≡ steps ++ h → Keeps first board next → board.beat ≡ Motion → TakesFlags board.flags next → HasFilled first mid next
+    → AreWorked mid → count_by publishing (this_turn mid) ≤ 1 → list_any found_none (this_turn mid) ≡ false → tries_of first mid + one_if (whole_of mid) ≤ 1
+    → (list_any moving (this_turn next) ≡ true) ⊎ (number_of first board.flags next < number_of first was h) → BoardWorked first Did was board h next
+did_filled first was board h mid next steps is keeps beat taken filled worked once unpolled few moves =
     let a = filled.alone.passes in
     let now = a.worked worked in
     let t = a.tries in
     let w = ap one_if a.whole in
     record {
       keeps = keeps;
-      rounds = subst (λ b. Rounds b next) (sym beat) (rounds_still next filled.none_waits (omega arith));
+      rounds = subst (λ b. (Rounds first) b next) (sym beat) (rounds_still first next filled.none_waits (omega arith));
       flags = taken;
       still = λ e. absurd (let s = ap has_published beat in cc);
       beat = λ o e. beat;
@@ -489,11 +489,11 @@ did_filled was board h mid next steps is keeps beat taken filled worked once unp
       may = record {
         once = (let q = a.quiet in omega arith);
         adds = filled.adds;
-        starts = none_called next (a.polled ∙ unpolled) filled.none_waits;
+        starts = none_called first next (a.polled ∙ unpolled) filled.none_waits;
         tries = omega arith;
         obeyed = now.obeyed;
         changed = now.changed;
-        halts = halts_by board next keeps;
+        halts = halts_by first board next keeps;
       };
       moves = λ e. moves;
     }
@@ -518,10 +518,10 @@ abbrev pub flags_behind : Turn → Flags → Flags
 flags_behind (Wait o) f = words.Both
 flags_behind t f = f
 
-pub rounds_turned : (t : Turn) (was : Flags) (board : Controller) (h next : Journal) → BoardWorked t was board h next → Rounds board.beat (turned t ∷ next)
-rounds_turned t was board h next w = record {
+pub rounds_turned : (first : Opening) (t : Turn) (was : Flags) (board : Controller) (h next : Journal) → BoardWorked first t was board h next → Rounds first board.beat (turned t ∷ next)
+rounds_turned first t was board h next w = record {
   waits = by_turn t w.beat;
-  tried = λ e. ap (λ b. b && is_due next) (w.rounds.tried e);
+  tried = λ e. ap (λ b. b && is_due first next) (w.rounds.tried e);
   sent = w.rounds.sent;
   none_waits = λ waiting. w.rounds.none_waits (record { stands = waiting.stands; blocks = waiting.blocks });
   tries = w.rounds.tries;
@@ -536,52 +536,52 @@ rounds_turned t was board h next w = record {
     by_turn Done still e = w.rounds.waits e
 
 -- the words of flags are to be taken that were before, or both behind a wait
-may_waits : (o : On) (next : Journal) → Waits o next → unobeyed_of next ≡ []
-may_waits o next w = w.obeyed
+may_waits : (first : Opening) (o : On) (next : Journal) → Waits first o next → unobeyed_of next ≡ []
+may_waits first o next w = w.obeyed
 
-flags_turned : (t : Turn) (f : Flags) (next : Journal) → MayTurn t next → TakesFlags f next → TakesFlags (flags_behind t f) (turned t ∷ next)
-flags_turned (Wait o) f next may takes = may_waits o next may
-flags_turned Did words.Both next may takes = takes
-flags_turned Did words.Requests next may takes = record { changes = takes.changes; obeyed = takes.obeyed }
-flags_turned Did (words.Report word) next may takes = record { flags = takes.flags; next = takes.next; owed = takes.owed }
-flags_turned Did words.None next may takes = record { flags = takes.flags; obeyed = takes.obeyed; unowed = takes.unowed }
-flags_turned Done words.Both next may takes = takes
-flags_turned Done words.Requests next may takes = record { changes = takes.changes; obeyed = takes.obeyed }
-flags_turned Done (words.Report word) next may takes = record { flags = takes.flags; next = takes.next; owed = takes.owed }
-flags_turned Done words.None next may takes = record { flags = takes.flags; obeyed = takes.obeyed; unowed = takes.unowed }
+flags_turned : (first : Opening) (t : Turn) (f : Flags) (next : Journal) → MayTurn first t next → TakesFlags f next → TakesFlags (flags_behind t f) (turned t ∷ next)
+flags_turned first (Wait o) f next may takes = may_waits first o next may
+flags_turned first Did words.Both next may takes = takes
+flags_turned first Did words.Requests next may takes = record { changes = takes.changes; obeyed = takes.obeyed }
+flags_turned first Did (words.Report word) next may takes = record { flags = takes.flags; next = takes.next; owed = takes.owed }
+flags_turned first Did words.None next may takes = record { flags = takes.flags; obeyed = takes.obeyed; unowed = takes.unowed }
+flags_turned first Done words.Both next may takes = takes
+flags_turned first Done words.Requests next may takes = record { changes = takes.changes; obeyed = takes.obeyed }
+flags_turned first Done (words.Report word) next may takes = record { flags = takes.flags; next = takes.next; owed = takes.owed }
+flags_turned first Done words.None next may takes = record { flags = takes.flags; obeyed = takes.obeyed; unowed = takes.unowed }
 
-still_turned : (t : Turn) (was : Flags) (board : Controller) (h next : Journal) → BoardWorked t was board h next → has_published board.beat ≡ true → takes_no_word (flags_behind t board.flags) ≡ true
-still_turned Did was board h next w e = w.still e
-still_turned (Wait o) was board h next w e = absurd (let s = ap has_published (w.beat o refl) in cc)
-still_turned Done was board h next w e = w.still e
+still_turned : (first : Opening) (t : Turn) (was : Flags) (board : Controller) (h next : Journal) → BoardWorked first t was board h next → has_published board.beat ≡ true → takes_no_word (flags_behind t board.flags) ≡ true
+still_turned first Did was board h next w e = w.still e
+still_turned first (Wait o) was board h next w e = absurd (let s = ap has_published (w.beat o refl) in cc)
+still_turned first Done was board h next w e = w.still e
 
-pub turned_on : (t : Turn) (was : Flags) (board : Controller) (h next : Journal) → BoardWorked t was board h next → GoingFits (record board { flags = flags_behind t board.flags }) (turned t ∷ next)
-turned_on t was board h next w = record {
-  keeps = other_flags board (flags_behind t board.flags) (turned t ∷ next) (ends board t next w.keeps w.may);
-  rounds = rounds_turned t was board h next w;
-  flags = flags_turned t board.flags next w.may w.flags;
-  still = still_turned t was board h next w;
+pub turned_on : (first : Opening) (t : Turn) (was : Flags) (board : Controller) (h next : Journal) → BoardWorked first t was board h next → GoingFits first (record board { flags = flags_behind t board.flags }) (turned t ∷ next)
+turned_on first t was board h next w = record {
+  keeps = other_flags first board (flags_behind t board.flags) (turned t ∷ next) (ends first board t next w.keeps w.may);
+  rounds = rounds_turned first t was board h next w;
+  flags = flags_turned first t board.flags next w.may w.flags;
+  still = still_turned first t was board h next w;
 }
 
-pub board_turned : (t : Turn) (before board : Controller) (h next : Journal) → BoardWorked t before.flags board h next
-    → GoingTurned t before (record board { flags = flags_behind t board.flags }) h (turned t ∷ next)
-board_turned t before board h next w = record {
+pub board_turned : (first : Opening) (t : Turn) (before board : Controller) (h next : Journal) → BoardWorked first t before.flags board h next
+    → GoingTurned first t before (record board { flags = flags_behind t board.flags }) h (turned t ∷ next)
+board_turned first t before board h next w = record {
   steps = w.steps;
   are = ap (λ (x : Journal). turned t ∷ x) w.are;
   moves = λ e. by_move e (w.moves e);
 }
   where
-    by_move : t ≡ Did → (list_any moving (this_turn next) ≡ true) ⊎ (number_of board.flags next < number_of before.flags h)
-        → (list_any moving (this_turn (w.steps ++ h)) ≡ true) ⊎ (number_of (flags_behind t board.flags) (turned t ∷ next) < number_of before.flags h)
+    by_move : t ≡ Did → (list_any moving (this_turn next) ≡ true) ⊎ (number_of first board.flags next < number_of first before.flags h)
+        → (list_any moving (this_turn (w.steps ++ h)) ≡ true) ⊎ (number_of first (flags_behind t board.flags) (turned t ∷ next) < number_of first before.flags h)
     by_move e (inl moved) = inl (subst (λ (x : Journal). list_any moving (this_turn x) ≡ true) w.are moved)
-    by_move e (inr falls) = inr (subst (λ (x : Turn). number_of (flags_behind x board.flags) (turned t ∷ next) < number_of before.flags h) (sym e) falls)
+    by_move e (inr falls) = inr (subst (λ (x : Turn). number_of first (flags_behind x board.flags) (turned t ∷ next) < number_of first before.flags h) (sym e) falls)
 
 -- a turn has ended, behind which these words of flags are to be taken
-pub turned_by : (t : Turn) (before board : Controller) (f : Flags) (h next : Journal) → flags_behind t board.flags ≡ f → BoardWorked t before.flags board h next
-    → GoingFits (record board { flags = f }) (turned t ∷ next) × GoingTurned t before (record board { flags = f }) h (turned t ∷ next)
-turned_by t before board f h next is w =
-    subst (λ (x : Flags). GoingFits (record board { flags = x }) (turned t ∷ next) × GoingTurned t before (record board { flags = x }) h (turned t ∷ next)) is
-    (turned_on t before.flags board h next w, board_turned t before board h next w)
+pub turned_by : (first : Opening) (t : Turn) (before board : Controller) (f : Flags) (h next : Journal) → flags_behind t board.flags ≡ f → BoardWorked first t before.flags board h next
+    → GoingFits first (record board { flags = f }) (turned t ∷ next) × GoingTurned first t before (record board { flags = f }) h (turned t ∷ next)
+turned_by first t before board f h next is w =
+    subst (λ (x : Flags). GoingFits first (record board { flags = x }) (turned t ∷ next) × GoingTurned first t before (record board { flags = x }) h (turned t ∷ next)) is
+    (turned_on first t before.flags board h next w, board_turned first t before board h next w)
 
 -- where it does not wait the words stay
 pub no_wait_keeps : (t : Turn) (f : Flags) → ((o : On) → t ≡ Wait o → ⊥) → flags_behind t f ≡ f

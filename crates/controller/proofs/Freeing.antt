@@ -1,5 +1,6 @@
 -- What words of flags are to be taken, or obeyed, behind steps that leave them.
 use Rattle.std.proofs.Common.{◌≡◌, Bool, true, false, [], sym, ap, ◌∙◌, subst}
+use Rattle.board_rules.specs.Openings.{Opening}
 use Rattle.board_rules.specs.Steps.{Journal}
 use Rattle.board_rules.specs.Turns.{flags_taken, unobeyed_of, owes_report}
 use Rattle.controller.specs.declared.controller.Controller.{Controller}
@@ -18,24 +19,24 @@ takes_none board h none free = subst (λ f. TakesFlags f h) (sym none) free
 pub no_word_left : (f : Flags) → f ≡ words.None → takes_no_word f ≡ true
 no_word_left f none = ap takes_no_word none
 
-pub free_passed : (h next : Journal) → PassesNothing h next → IsFree h → IsFree next
-free_passed h next p free = record { flags = p.flags ∙ free.flags; obeyed = p.words ∙ free.obeyed; unowed = p.owed ∙ free.unowed }
+pub free_passed : (first : Opening) (h next : Journal) → PassesNothing first h next → IsFree h → IsFree next
+free_passed first h next p free = record { flags = p.flags ∙ free.flags; obeyed = p.words ∙ free.obeyed; unowed = p.owed ∙ free.unowed }
 
-pub free_tried : (p : Bool) (h next : Journal) → HasTried p h next → IsFree h → IsFree next
-free_tried p h next t free = record { flags = t.flags ∙ free.flags; obeyed = t.words ∙ free.obeyed; unowed = t.owed ∙ free.unowed }
+pub free_tried : (first : Opening) (p : Bool) (h next : Journal) → HasTried first p h next → IsFree h → IsFree next
+free_tried first p h next t free = record { flags = t.flags ∙ free.flags; obeyed = t.words ∙ free.obeyed; unowed = t.owed ∙ free.unowed }
 
 -- the words stay what they are behind a try to publish, and behind steps that pass nothing
-pub flags_tried : (p : Bool) (f : Flags) (h next : Journal) → takes_no_word f ≡ true → HasTried p h next → TakesFlags f h → TakesFlags f next
-flags_tried p words.Both h next none t takes = absurd cc
-flags_tried p words.Requests h next none t takes = absurd cc
-flags_tried p (words.Report word) h next none t takes = record { flags = t.flags ∙ takes.flags; next = t.words ∙ takes.next; owed = t.owed ∙ takes.owed }
-flags_tried p words.None h next none t takes = free_tried p h next t takes
+pub flags_tried : (first : Opening) (p : Bool) (f : Flags) (h next : Journal) → takes_no_word f ≡ true → HasTried first p h next → TakesFlags f h → TakesFlags f next
+flags_tried first p words.Both h next none t takes = absurd cc
+flags_tried first p words.Requests h next none t takes = absurd cc
+flags_tried first p (words.Report word) h next none t takes = record { flags = t.flags ∙ takes.flags; next = t.words ∙ takes.next; owed = t.owed ∙ takes.owed }
+flags_tried first p words.None h next none t takes = free_tried first p h next t takes
 
-pub flags_passed : (f : Flags) (h next : Journal) → takes_no_word f ≡ true → PassesNothing h next → TakesFlags f h → TakesFlags f next
-flags_passed words.Both h next none p takes = absurd cc
-flags_passed words.Requests h next none p takes = absurd cc
-flags_passed (words.Report word) h next none p takes = record { flags = p.flags ∙ takes.flags; next = p.words ∙ takes.next; owed = p.owed ∙ takes.owed }
-flags_passed words.None h next none p takes = free_passed h next p takes
+pub flags_passed : (first : Opening) (f : Flags) (h next : Journal) → takes_no_word f ≡ true → PassesNothing first h next → TakesFlags f h → TakesFlags f next
+flags_passed first words.Both h next none p takes = absurd cc
+flags_passed first words.Requests h next none p takes = absurd cc
+flags_passed first (words.Report word) h next none p takes = record { flags = p.flags ∙ takes.flags; next = p.words ∙ takes.next; owed = p.owed ∙ takes.owed }
+flags_passed first words.None h next none p takes = free_passed first h next p takes
 
 -- both were taken, and the last word is obeyed, unless a report is owed
 pub taken_by : (f : Flags) (h : Journal) → takes_no_word f ≡ true → TakesFlags f h → flags_taken h ≡ true

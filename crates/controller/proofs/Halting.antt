@@ -18,6 +18,7 @@ use Rattle.step_line.specs.declared.Piece.{Piece}
 use Rattle.step_line.specs.declared.planned_move.PlannedMove.{PlannedMove}
 use Rattle.run_rules.specs.Work.{Task, has_moves}
 use Rattle.run_rules.specs.Work.Task.{ask}
+use Rattle.board_rules.specs.Openings.{Opening}
 use Rattle.board_rules.specs.Ports.PortStep.{took_exec}
 use Rattle.board_rules.specs.Steps.{Step, Journal, left_of, whole_of, hand_of, plan_of, motion_of}
 use Rattle.board_rules.specs.Steps.Step.{at_port, became}
@@ -42,101 +43,101 @@ use Rattle.controller.proofs.Ends.{rounds_still, takes_none, no_word_left, free_
 
 -- ---- what is held up
 
-some_left : (h : Journal) → is_held_up h ≡ true → whole_of h ≡ false → left_of h ≡ [] → ⊥
-some_left h held_up partial none =
+some_left : (first : Opening) (h : Journal) → is_held_up first h ≡ true → whole_of h ≡ false → left_of first h ≡ [] → ⊥
+some_left first h held_up partial none =
     let same = ap (λ (ts : List Task). needs_motion ts (whole_of h) (is_full (plan_of h))) none in
     absurd (let e = sym partial ∙ sym same ∙ held_up in cc)
 
 -- few tries stand behind the last poll
-pub few_halted : (h : Journal) → IsHalted h → tries_of h + one_if (whole_of h) ≤ 1
-few_halted h halted = by_whole (whole_of h) refl
+pub few_halted : (first : Opening) (h : Journal) → IsHalted first h → tries_of first h + one_if (whole_of h) ≤ 1
+few_halted first h halted = by_whole (whole_of h) refl
   where
-    by_whole : (w : Bool) → whole_of h ≡ w → tries_of h + one_if (whole_of h) ≤ 1
+    by_whole : (w : Bool) → whole_of h ≡ w → tries_of first h + one_if (whole_of h) ≤ 1
     by_whole true e = let none = halted.ready.held halted.halts e in let w = ap one_if e in omega (arith, none, w)
-    by_whole false e = let few = halted.ready.few (some_left h halted.held_up e) in let w = ap one_if e in omega (arith, few, w)
+    by_whole false e = let few = halted.ready.few (some_left first h halted.held_up e) in let w = ap one_if e in omega (arith, few, w)
 
-uncounted_halted : (h : Journal) → IsHalted h → is_counted h ≡ false
-uncounted_halted h halted = by_whole (whole_of h) refl
+uncounted_halted : (first : Opening) (h : Journal) → IsHalted first h → is_counted first h ≡ false
+uncounted_halted first h halted = by_whole (whole_of h) refl
   where
-    by_whole : (w : Bool) → whole_of h ≡ w → is_counted h ≡ false
-    by_whole true e = uncounted_line h halted.halts e
-    by_whole false e = uncounted h (some_left h halted.held_up e)
+    by_whole : (w : Bool) → whole_of h ≡ w → is_counted first h ≡ false
+    by_whole true e = uncounted_line first h halted.halts e
+    by_whole false e = uncounted first h (some_left first h halted.held_up e)
 
 -- what is in hand or due may be tried to be published
-pub may_run_halted : (h : Journal) → IsHalted h → MayRun h
-may_run_halted h halted = record {
+pub may_run_halted : (first : Opening) (h : Journal) → IsHalted first h → MayRun first h
+may_run_halted first h halted = record {
   quiet = halted.ready.quiet;
   polled = λ e. absurd (let f = sym halted.ready.unpolled ∙ e in cc);
-  first = λ counted. absurd (let f = sym (uncounted_halted h halted) ∙ counted in cc);
-  few = λ e. few_halted h halted;
+  once = λ counted. absurd (let f = sym (uncounted_halted first h halted) ∙ counted in cc);
+  few = λ e. (few_halted first) h halted;
   held = halted.ready.held;
 }
 
 -- a move that is held up has no room
-pub full_held_up : (h : Journal) (m : PlannedMove) → is_held_up h ≡ true → IsNextTask (ask (a_move m)) h → is_full (plan_of h) ≡ true
-full_held_up h m held_up next = sym (ap (λ (ts : List Task). needs_motion ts (whole_of h) (is_full (plan_of h))) next) ∙ held_up
+pub full_held_up : (first : Opening) (h : Journal) (m : PlannedMove) → is_held_up first h ≡ true → IsNextTask first (ask (a_move m)) h → is_full (plan_of h) ≡ true
+full_held_up first h m held_up next = sym (ap (λ (ts : List Task). needs_motion ts (whole_of h) (is_full (plan_of h))) next) ∙ held_up
 
-none_wait : (h : Journal) → is_halting (motion_of h) ≡ true → AreWaiting h → ⊥
-none_wait h halts w = absurd (let e = sym halts ∙ ap is_halting w.stands in cc)
+none_wait : (first : Opening) (h : Journal) → is_halting (motion_of first h) ≡ true → AreWaiting first h → ⊥
+none_wait first h halts w = absurd (let e = sym halts ∙ ap is_halting w.stands in cc)
 
 -- ---- behind a stop that was looked for
 
-pub still_held_up : (h next : Journal) → PassesNothing h next → StaysSo h next → is_held_up h ≡ true → is_held_up next ≡ true
-still_held_up h next p s held_up =
-    ap (λ (ts : List Task). needs_motion ts (whole_of next) (is_full (plan_of next))) s.left ∙ ap (λ w. needs_motion (left_of h) w (is_full (plan_of next))) p.whole
-    ∙ ap (λ (p : Planned). needs_motion (left_of h) (whole_of h) (is_full p)) s.plan ∙ held_up
+pub still_held_up : (first : Opening) (h next : Journal) → PassesNothing first h next → StaysSo first h next → is_held_up first h ≡ true → is_held_up first next ≡ true
+still_held_up first h next p s held_up =
+    ap (λ (ts : List Task). needs_motion ts (whole_of next) (is_full (plan_of next))) s.left ∙ ap (λ w. needs_motion (left_of first h) w (is_full (plan_of next))) p.whole
+    ∙ ap (λ (p : Planned). needs_motion (left_of first h) (whole_of h) (is_full p)) s.plan ∙ held_up
 
-few_settled : (h next : Journal) → HasSettled h next → tries_of h + one_if (whole_of h) ≤ 1 → tries_of next + one_if (whole_of next) ≤ 1
-few_settled h next s few = let t = s.passes.tries in let w = ap one_if s.passes.whole in omega (arith, few, t, w)
+few_settled : (first : Opening) (h next : Journal) → HasSettled first h next → tries_of first h + one_if (whole_of h) ≤ 1 → tries_of first next + one_if (whole_of next) ≤ 1
+few_settled first h next s few = let t = s.passes.tries in let w = ap one_if s.passes.whole in omega (arith, few, t, w)
 
 -- where the machine is to be halted, it slows down for that, or stands in alarm
-abbrev pub HaltsInTime : Journal → Type 0
-HaltsInTime h = halts_next (left_of h) ≡ true → is_limited (motion_of h) ≡ true
+abbrev pub HaltsInTime : Opening → Journal → Type 0
+HaltsInTime first h = halts_next (left_of first h) ≡ true → is_limited (motion_of first h) ≡ true
 
-pub ends_settled : (h next : Journal) → IsHalted h → HasSettled h next → HaltsInTime next → EndsTurn next
-ends_settled h next halted s halts =
+pub ends_settled : (first : Opening) (h next : Journal) → IsHalted first h → HasSettled first h next → HaltsInTime first next → EndsTurn first next
+ends_settled first h next halted s halts =
     let quiet = s.passes.quiet in
     let none = halted.ready.quiet.quiet in
-    let few = few_settled h next s (few_halted h halted) in
+    let few = few_settled first h next s (few_halted first h halted) in
     let worked = s.passes.worked halted.ready.quiet.worked in
     record {
       once = omega (arith, quiet, none);
-      adds = none_fits_so h next s.stays (λ m move. full_held_up h m halted.held_up move);
-      starts = λ w. absurd (none_wait h halted.halts (s.waiting w));
+      adds = none_fits_so first h next s.stays (λ m move. (full_held_up first) h m halted.held_up move);
+      starts = λ w. absurd (none_wait first h halted.halts (s.waiting w));
       tries = omega (arith, few);
       obeyed = worked.obeyed;
       changed = worked.changed;
       halts = halts;
     }
 
-pub rounds_settled : (board : Controller) (h next : Journal) → IsHalted h → HasSettled h next → board.beat ≡ Motion → Rounds board.beat next
-rounds_settled board h next halted s beat =
-    subst (λ b. Rounds b next) (sym beat) (rounds_still next (λ w. absurd (none_wait h halted.halts (s.waiting w))) (few_settled h next s (few_halted h halted)))
+pub rounds_settled : (first : Opening) (board : Controller) (h next : Journal) → IsHalted first h → HasSettled first h next → board.beat ≡ Motion → Rounds first board.beat next
+rounds_settled first board h next halted s beat =
+    subst (λ b. (Rounds first) b next) (sym beat) (rounds_still first next (λ w. absurd (none_wait first h halted.halts (s.waiting w))) (few_settled first h next s (few_halted first h halted)))
 
 -- no word is to be taken, none waits, and no report is owed
-pub free_settled : (h next : Journal) → IsHalted h → HasSettled h next → IsFree next
-free_settled h next halted s = free_passed h next s.passes (free_of h halted.ready.quiet)
+pub free_settled : (first : Opening) (h next : Journal) → IsHalted first h → HasSettled first h next → IsFree next
+free_settled first h next halted s = free_passed first h next s.passes (free_of h halted.ready.quiet)
 
 -- a board's number, where no word of flags is to be taken
-pub fewer_words : (f was : Flags) (h next : Journal) → f ≡ words.None → was ≡ words.None → number_of words.None next < number_of words.None h → number_of f next < number_of was h
-fewer_words f was h next e g falls = let a = ap words_left e in let b = ap words_left g in omega (arith, falls, a, b)
+pub fewer_words : (first : Opening) (f was : Flags) (h next : Journal) → f ≡ words.None → was ≡ words.None → number_of first words.None next < number_of first words.None h → number_of first f next < number_of first was h
+fewer_words first f was h next e g falls = let a = ap words_left e in let b = ap words_left g in omega (arith, falls, a, b)
 
 -- something came of a machine that has stopped
-pub did_settle : (board : Controller) (was : Flags) (h next : Journal) → Keeps board next → IsHalted h → HasSettled h next → HasSlowedDown h → (HasSlowedDown next → ⊥)
-    → board.beat ≡ Motion → board.flags ≡ words.None → was ≡ words.None → BoardWorked Did was board h next
-did_settle board was h next k halted s slowed other beat no_word none = record {
+pub did_settle : (first : Opening) (board : Controller) (was : Flags) (h next : Journal) → Keeps first board next → IsHalted first h → HasSettled first h next → HasSlowedDown first h → (HasSlowedDown first next → ⊥)
+    → board.beat ≡ Motion → board.flags ≡ words.None → was ≡ words.None → BoardWorked first Did was board h next
+did_settle first board was h next k halted s slowed other beat no_word none = record {
   keeps = k;
-  rounds = rounds_settled board h next halted s beat;
-  flags = takes_none board next no_word (free_settled h next halted s);
+  rounds = rounds_settled first board h next halted s beat;
+  flags = takes_none board next no_word (free_settled first h next halted s);
   still = λ e. no_word_left board.flags no_word;
   beat = λ o e. beat;
   steps = s.passes.steps;
   are = s.passes.are;
-  may = ends_settled h next halted s (halts_by board next k);
-  moves = λ e. inr (fewer_words board.flags was h next no_word none falls);
+  may = ends_settled first h next halted s (halts_by first board next k);
+  moves = λ e. inr (fewer_words first board.flags was h next no_word none falls);
 }
   where
-    falls : number_of words.None next < number_of words.None h
+    falls : number_of first words.None next < number_of first words.None h
     falls =
         let less = s.falls halted.halts slowed other in
         let p = s.passes.pauses in
@@ -152,15 +153,15 @@ stopping_by motions.Held is other = absurd (other refl)
 stopping_by motions.Cancelling is other = refl
 stopping_by m is other = absurd cc
 
-pub not_due : (h : Journal) → (HasPiece h → ⊥) → is_due h ≡ false
-not_due h none = by_due (is_due h) refl
+pub not_due : (first : Opening) (h : Journal) → (HasPiece first h → ⊥) → is_due first h ≡ false
+not_due first h none = by_due (is_due first h) refl
   where
-    by_due : (d : Bool) → is_due h ≡ d → is_due h ≡ false
+    by_due : (d : Bool) → is_due first h ≡ d → is_due first h ≡ false
     by_due true e = absurd (none (inr e))
     by_due false e = e
 
-pub none_in_hand : (h : Journal) → (HasPiece h → ⊥) → hand_of h ≡ []
-none_in_hand h none = by_hand (hand_of h) (λ some. none (inl some))
+pub none_in_hand : (first : Opening) (h : Journal) → (HasPiece first h → ⊥) → hand_of h ≡ []
+none_in_hand first h none = by_hand (hand_of h) (λ some. none (inl some))
   where
     by_hand : (ps : List Piece) → ((ps ≡ [] → ⊥) → ⊥) → ps ≡ []
     by_hand [] f = refl
@@ -177,20 +178,20 @@ by_speed v goes slows some stops is none = by_test (nat_eq v 0) goes slows some 
     by_test false goes slows false stops is none = absurd cc
 
 -- a machine that slows down, with no segment due, stands still
-pub slow_stands : (board : Controller) (h : Journal) → Keeps board h → is_stopping (motion_of h) ≡ true → is_due h ≡ false → (plan_of h).speed ≡ 0
-slow_stands board h k slows due = by_blocks (plan_of h).blocks refl
+pub slow_stands : (first : Opening) (board : Controller) (h : Journal) → Keeps first board h → is_stopping (motion_of first h) ≡ true → is_due first h ≡ false → (plan_of h).speed ≡ 0
+slow_stands first board h k slows due = by_blocks (plan_of h).blocks refl
   where
     by_blocks : (bs : List Block) → (plan_of h).blocks ≡ bs → (plan_of h).speed ≡ 0
-    by_blocks [] e = (at_rest board h k e).speed
+    by_blocks [] e = (at_rest first board h k e).speed
     by_blocks (b ∷ bs) e =
-        let zero = by_speed (plan_of h).speed (is_going (motion_of h)) (is_stopping (motion_of h)) (has_blocks (plan_of h).blocks) slows (ap has_blocks e) due in
+        let zero = by_speed (plan_of h).speed (is_going (motion_of first h)) (is_stopping (motion_of first h)) (has_blocks (plan_of h).blocks) slows (ap has_blocks e) due in
         grind (arith, nat_tests, zero)
 
 -- where nothing is in hand or due, a machine that halts and is not held has slowed down
-pub slowed_halted : (board : Controller) (h : Journal) → Keeps board h → IsHalted h → (HasPiece h → ⊥) → (motion_of h ≡ motions.Held → ⊥) → HasSlowedDown h
-slowed_halted board h k halted none other =
-    let slows = stopping_by (motion_of h) halted.halts other in
-    record { slows = slows; speed = slow_stands board h k slows (not_due h none); empty = none_in_hand h none }
+pub slowed_halted : (first : Opening) (board : Controller) (h : Journal) → Keeps first board h → IsHalted first h → (HasPiece first h → ⊥) → (motion_of first h ≡ motions.Held → ⊥) → HasSlowedDown first h
+slowed_halted first board h k halted none other =
+    let slows = stopping_by (motion_of first h) halted.halts other in
+    record { slows = slows; speed = slow_stands first board h k slows (not_due first h none); empty = none_in_hand first h none }
 
 -- and has no segment due
 no_more_due : (goes slows some : Bool) (v : ℕ) → (slows ≡ true → goes ≡ false) → slows ≡ true → v ≡ 0 → ((goes || (slows && not (nat_eq v 0))) && some) ≡ false
@@ -206,41 +207,41 @@ not_both motions.Run is = absurd cc
 not_both motions.Jog is = absurd cc
 not_both m is = refl
 
-slowed_undue : (h : Journal) → HasSlowedDown h → is_due h ≡ false
-slowed_undue h s = no_more_due (is_going (motion_of h)) (is_stopping (motion_of h)) (has_blocks (plan_of h).blocks) (plan_of h).speed (not_both (motion_of h)) s.slows s.speed
+slowed_undue : (first : Opening) (h : Journal) → HasSlowedDown first h → is_due first h ≡ false
+slowed_undue first h s = no_more_due (is_going (motion_of first h)) (is_stopping (motion_of first h)) (has_blocks (plan_of h).blocks) (plan_of h).speed (not_both (motion_of first h)) s.slows s.speed
 
 -- the stop is waited for: ticks are found not to be done
-pub waits_for_stop : (board : Controller) (was : Flags) (h next : Journal) → Keeps board next → IsHalted h → HasSettled h next → HasSlowedDown next
-    → board.beat ≡ Motion → board.flags ≡ words.None → BoardWorked (Wait on.Motion) was board h next
-waits_for_stop board was h next k halted s slowed beat no_word = record {
+pub waits_for_stop : (first : Opening) (board : Controller) (was : Flags) (h next : Journal) → Keeps first board next → IsHalted first h → HasSettled first h next → HasSlowedDown first next
+    → board.beat ≡ Motion → board.flags ≡ words.None → BoardWorked first (Wait on.Motion) was board h next
+waits_for_stop first board was h next k halted s slowed beat no_word = record {
   keeps = k;
-  rounds = rounds_settled board h next halted s beat;
+  rounds = rounds_settled first board h next halted s beat;
   flags = takes_none board next no_word free;
   still = λ e. no_word_left board.flags no_word;
   beat = λ o e. beat;
   steps = s.passes.steps;
   are = s.passes.are;
   may = record {
-    ends = ends_settled h next halted s (halts_by board next k);
+    ends = ends_settled first h next halted s (halts_by first board next k);
     cause = record {
       load = s.looked slowed;
-      undone = lt_of_le_of_ne (known_within k.first next k.conducted) (λ e. s.stopped (record { slowed = slowed; done = e ∙ all_published board next k slowed.empty }));
-      awaits = or_true (awaits_motion (left_of next)) (is_stopping (motion_of next) && is_held_up next) (both (is_stopping (motion_of next)) (is_held_up next) slowed.slows (held_up s.stays));
+      undone = lt_of_le_of_ne (known_within first next k.conducted) (λ e. s.stopped (record { slowed = slowed; done = e ∙ all_published first board next k slowed.empty }));
+      awaits = or_true (awaits_motion (left_of first next)) (is_stopping (motion_of first next) && is_held_up first next) (both (is_stopping (motion_of first next)) (is_held_up first next) slowed.slows (held_up s.stays));
     };
     still = s.passes.still ∙ halted.ready.quiet.still;
     flags = free.flags;
     obeyed = free.obeyed;
     unowed = λ e. absurd (let f = sym e ∙ free.unowed in cc);
-    round = λ due has. absurd (let e = sym (slowed_undue next slowed) ∙ due in cc);
+    round = λ due has. absurd (let e = sym (slowed_undue first next slowed) ∙ due in cc);
   };
   moves = λ e. absurd cc;
 }
   where
     free : IsFree next
-    free = free_settled h next halted s
+    free = free_settled first h next halted s
 
-    held_up : StaysSo h next ⊎ IsCutNow h next → is_held_up next ≡ true
-    held_up (inl stays) = still_held_up h next s.passes stays halted.held_up
+    held_up : StaysSo first h next ⊎ IsCutNow first h next → is_held_up first next ≡ true
+    held_up (inl stays) = still_held_up first h next s.passes stays halted.held_up
     held_up (inr cuts) = absurd (cuts.some slowed.empty)
 
     or_true : (a b : Bool) → b ≡ true → (a || b) ≡ true
@@ -293,15 +294,15 @@ idle_before word m e =
     let cancel = asks word cancel_byte in
     hold_idle hold m (cancel_idle cancel (after_hold hold m) (start_idle (asks word start_byte && not hold) (after_cancel cancel (after_hold hold m)) e))
 
-pub waited_before : (word : Exec) (h : Journal) → AreWaiting (obeyed word h) → AreWaiting h
-waited_before word h w = record {
-  stands = idle_before word (motion_of h) (subst (λ queued. after_word word queued (motion_of h) ≡ motions.Idle) w.blocks w.stands);
+pub waited_before : (first : Opening) (word : Exec) (h : Journal) → AreWaiting first (obeyed first word h) → AreWaiting first h
+waited_before first word h w = record {
+  stands = idle_before word (motion_of first h) (subst (λ queued. after_word word queued (motion_of first h) ≡ motions.Idle) w.blocks w.stands);
   blocks = w.blocks;
 }
 
-worked_obeyed : (word : Exec) (h : Journal) → unobeyed_of h ≡ [] → AreWorked h → AreWorked (obeyed word h)
-worked_obeyed word h none w =
-    let call = became (on_exec word (has_blocks (plan_of h).blocks)) (after_word word (has_blocks (plan_of h).blocks) (motion_of h)) in
+worked_obeyed : (first : Opening) (word : Exec) (h : Journal) → unobeyed_of h ≡ [] → AreWorked h → AreWorked (obeyed first word h)
+worked_obeyed first word h none w =
+    let call = became (on_exec word (has_blocks (plan_of h).blocks)) (after_word word (has_blocks (plan_of h).blocks) (motion_of first h)) in
     let took = at_port (took_exec word) in
     let ss = this_turn h in
     let a = counts_none replans call (took ∷ ss) refl in
@@ -313,18 +314,18 @@ worked_obeyed word h none w =
       changed = a ∙ b ∙ w.changed ∙ sym (c ∙ d);
     }
 
-pub ends_obeyed : (word : Exec) (h : Journal) → count_by publishing (this_turn h) ≡ 0 → unobeyed_of h ≡ [] → AreWorked h → ((m : PlannedMove) → IsNextTask (ask (a_move m)) h → is_full (plan_of h) ≡ true)
-    → (AreWaiting h → starts_cycle h ≡ false) → tries_of h ≤ most_tries → HaltsInTime (obeyed word h) → EndsTurn (obeyed word h)
-ends_obeyed word h quiet none w adds starts few halts =
-    let call = became (on_exec word (has_blocks (plan_of h).blocks)) (after_word word (has_blocks (plan_of h).blocks) (motion_of h)) in
+pub ends_obeyed : (first : Opening) (word : Exec) (h : Journal) → count_by publishing (this_turn h) ≡ 0 → unobeyed_of h ≡ [] → AreWorked h → ((m : PlannedMove) → IsNextTask first (ask (a_move m)) h → is_full (plan_of h) ≡ true)
+    → (AreWaiting first h → starts_cycle first h ≡ false) → tries_of first h ≤ most_tries → HaltsInTime first (obeyed first word h) → EndsTurn first (obeyed first word h)
+ends_obeyed first word h quiet none w adds starts few halts =
+    let call = became (on_exec word (has_blocks (plan_of h).blocks)) (after_word word (has_blocks (plan_of h).blocks) (motion_of first h)) in
     let took = at_port (took_exec word) in
     let a = counts_none publishing call (took ∷ this_turn h) refl in
     let b = counts_one publishing took (this_turn h) refl in
-    let worked = worked_obeyed word h none w in
+    let worked = worked_obeyed first word h none w in
     record {
       once = omega (arith, a, b, quiet);
       adds = adds;
-      starts = λ waits. starts (waited_before word h waits);
+      starts = λ waits. starts (waited_before first word h waits);
       tries = few;
       obeyed = worked.obeyed;
       changed = worked.changed;
@@ -335,9 +336,9 @@ ends_obeyed word h quiet none w adds starts few halts =
 abbrev pub taken : Exec → Journal → Journal
 taken word h = at_port (took_exec word) ∷ h
 
-pub ends_taken : (word : Exec) (h : Journal) → owes_report (taken word h) ≡ true → count_by publishing (this_turn h) ≡ 0 → AreWorked h → ((m : PlannedMove) → IsNextTask (ask (a_move m)) h → is_full (plan_of h) ≡ true)
-    → (AreWaiting h → starts_cycle h ≡ false) → tries_of h ≤ most_tries → HaltsInTime (taken word h) → EndsTurn (taken word h)
-ends_taken word h owed quiet w adds starts few halts =
+pub ends_taken : (first : Opening) (word : Exec) (h : Journal) → owes_report (taken word h) ≡ true → count_by publishing (this_turn h) ≡ 0 → AreWorked h → ((m : PlannedMove) → IsNextTask first (ask (a_move m)) h → is_full (plan_of h) ≡ true)
+    → (AreWaiting first h → starts_cycle first h ≡ false) → tries_of first h ≤ most_tries → HaltsInTime first (taken word h) → EndsTurn first (taken word h)
+ends_taken first word h owed quiet w adds starts few halts =
     let took = at_port (took_exec word) in
     let a = counts_one publishing took (this_turn h) refl in
     record {
@@ -354,14 +355,14 @@ ends_taken word h owed quiet w adds starts few halts =
 pub asked_now : (word : Exec) (h : Journal) → flags_taken (taken word h) ≡ true → unobeyed_of h ≡ [] → owes_report (taken word h) ≡ true → IsAsked (Some word) (taken word h)
 asked_now word h flags none owed = record { flags = flags; next = ap (λ (ws : List Exec). ws ++ word ∷ []) none; owed = owed }
 
-pub free_now : (word : Exec) (h : Journal) → flags_taken (obeyed word h) ≡ true → unobeyed_of h ≡ [] → owes_report (taken word h) ≡ false → IsFree (obeyed word h)
-free_now word h flags none unowed = record { flags = flags; obeyed = ap (λ (ws : List Exec). drop 1 (ws ++ word ∷ [])) none; unowed = unowed }
+pub free_now : (first : Opening) (word : Exec) (h : Journal) → flags_taken (obeyed first word h) ≡ true → unobeyed_of h ≡ [] → owes_report (taken word h) ≡ false → IsFree (obeyed first word h)
+free_now first word h flags none unowed = record { flags = flags; obeyed = ap (λ (ws : List Exec). drop 1 (ws ++ word ∷ [])) none; unowed = unowed }
 
 -- ---- the resume
 
 -- no jog waits for its start there
-pub no_jog_held : (h : Journal) → motion_of h ≡ motions.Held → has_jog_to_start h ≡ false
-no_jog_held h held = ap (λ m. waits_to_jog m (has_jogged h) (has_blocks (plan_of h).blocks || has_moves (left_of h))) held
+pub no_jog_held : (first : Opening) (h : Journal) → motion_of first h ≡ motions.Held → has_jog_to_start first h ≡ false
+no_jog_held first h held = ap (λ m. waits_to_jog m (has_jogged h) (has_blocks (plan_of h).blocks || has_moves (left_of first h))) held
 
 resumed_by : (hold cancel start queued cut : Bool) → (after_requests hold cancel start queued motions.Held ≡ motions.Held → ⊥) → changes_left (after_requests hold cancel start queued motions.Held) cut ≡ 0
 resumed_by true true true queued cut f = absurd (f refl)
@@ -375,51 +376,51 @@ resumed_by false false true true cut f = refl
 resumed_by false false true false cut f = refl
 resumed_by false false false queued cut f = absurd (f refl)
 
-ends_awaited : (board : Controller) (word : Exec) (h mid : Journal) → Keeps board (obeyed word mid) → IsHalted h → HasSettled h mid → EndsTurn (obeyed word mid)
-ends_awaited board word h mid k halted s =
-    let ends = ends_settled h mid halted s k.conducted.0.1.halts in
-    ends_obeyed word mid (s.passes.quiet ∙ halted.ready.quiet.quiet) (free_settled h mid halted s).obeyed (s.passes.worked halted.ready.quiet.worked) ends.adds ends.starts ends.tries
-    (halts_by board (obeyed word mid) k)
+ends_awaited : (first : Opening) (board : Controller) (word : Exec) (h mid : Journal) → Keeps first board (obeyed first word mid) → IsHalted first h → HasSettled first h mid → EndsTurn first (obeyed first word mid)
+ends_awaited first board word h mid k halted s =
+    let ends = ends_settled first h mid halted s k.conducted.0.1.halts in
+    ends_obeyed first word mid (s.passes.quiet ∙ halted.ready.quiet.quiet) (free_settled first h mid halted s).obeyed (s.passes.worked halted.ready.quiet.worked) ends.adds ends.starts ends.tries
+    (halts_by first board (obeyed first word mid) k)
 
-rounds_awaited : (word : Exec) (board : Controller) (h mid : Journal) → IsHalted h → HasSettled h mid → board.beat ≡ Motion → Rounds board.beat (obeyed word mid)
-rounds_awaited word board h mid halted s beat =
-    subst (λ b. Rounds b (obeyed word mid)) (sym beat)
-    (rounds_still (obeyed word mid) (λ w. absurd (none_wait h halted.halts (s.waiting (waited_before word mid w)))) (few_settled h mid s (few_halted h halted)))
+rounds_awaited : (first : Opening) (word : Exec) (board : Controller) (h mid : Journal) → IsHalted first h → HasSettled first h mid → board.beat ≡ Motion → Rounds first board.beat (obeyed first word mid)
+rounds_awaited first word board h mid halted s beat =
+    subst (λ b. (Rounds first) b (obeyed first word mid)) (sym beat)
+    (rounds_still first (obeyed first word mid) (λ w. absurd (none_wait first h halted.halts (s.waiting (waited_before first word mid w)))) (few_settled first h mid s (few_halted first h halted)))
 
 -- the steps of a word that is obeyed
-abbrev pub obeying : Exec → Journal → List Step → List Step
-obeying word mid steps =
-    became (on_exec word (has_blocks (plan_of mid).blocks)) (after_word word (has_blocks (plan_of mid).blocks) (motion_of mid)) ∷ (at_port (took_exec word) ∷ steps)
+abbrev pub obeying : Opening → Exec → Journal → List Step → List Step
+obeying first word mid steps =
+    became (on_exec word (has_blocks (plan_of mid).blocks)) (after_word word (has_blocks (plan_of mid).blocks) (motion_of first mid)) ∷ (at_port (took_exec word) ∷ steps)
 
-pub obeying_are : (word : Exec) (h mid : Journal) (steps : List Step) → mid ≡ steps ++ h → obeyed word mid ≡ obeying word mid steps ++ h
-obeying_are word h mid steps are =
-    ap (λ (j : Journal). became (on_exec word (has_blocks (plan_of mid).blocks)) (after_word word (has_blocks (plan_of mid).blocks) (motion_of mid)) ∷ (at_port (took_exec word) ∷ j)) are
+pub obeying_are : (first : Opening) (word : Exec) (h mid : Journal) (steps : List Step) → mid ≡ steps ++ h → obeyed first word mid ≡ obeying first word mid steps ++ h
+obeying_are first word h mid steps are =
+    ap (λ (j : Journal). became (on_exec word (has_blocks (plan_of mid).blocks)) (after_word word (has_blocks (plan_of mid).blocks) (motion_of first mid)) ∷ (at_port (took_exec word) ∷ j)) are
 
 -- the machine is resumed
-pub did_resume : (board : Controller) (was : Flags) (word : Exec) (h mid : Journal) → Keeps board (obeyed word mid) → IsHalted h → HasSettled h mid → motion_of h ≡ motions.Held
-    → (motion_of (obeyed word mid) ≡ motions.Held → ⊥) → owes_report (taken word mid) ≡ false → board.beat ≡ Motion → board.flags ≡ words.None → was ≡ words.None → BoardWorked Did was board h (obeyed word mid)
-did_resume board was word h mid k halted s held resumes unowed beat no_word none = record {
+pub did_resume : (first : Opening) (board : Controller) (was : Flags) (word : Exec) (h mid : Journal) → Keeps first board (obeyed first word mid) → IsHalted first h → HasSettled first h mid → motion_of first h ≡ motions.Held
+    → (motion_of first (obeyed first word mid) ≡ motions.Held → ⊥) → owes_report (taken word mid) ≡ false → board.beat ≡ Motion → board.flags ≡ words.None → was ≡ words.None → BoardWorked first Did was board h (obeyed first word mid)
+did_resume first board was word h mid k halted s held resumes unowed beat no_word none = record {
   keeps = k;
-  rounds = rounds_awaited word board h mid halted s beat;
-  flags = takes_none board (obeyed word mid) no_word (free_now word mid (both_taken mid (s.passes.flags ∙ halted.ready.quiet.flags)).1 (free_settled h mid halted s).obeyed unowed);
+  rounds = rounds_awaited first word board h mid halted s beat;
+  flags = takes_none board (obeyed first word mid) no_word (free_now first word mid (both_taken mid (s.passes.flags ∙ halted.ready.quiet.flags)).1 (free_settled first h mid halted s).obeyed unowed);
   still = λ e. no_word_left board.flags no_word;
   beat = λ o e. beat;
-  steps = obeying word mid s.passes.steps;
-  are = obeying_are word h mid s.passes.steps s.passes.are;
-  may = ends_awaited board word h mid k halted s;
-  moves = λ e. inr (fewer_words board.flags was h (obeyed word mid) no_word none falls);
+  steps = obeying first word mid s.passes.steps;
+  are = obeying_are first word h mid s.passes.steps s.passes.are;
+  may = ends_awaited first board word h mid k halted s;
+  moves = λ e. inr (fewer_words first board.flags was h (obeyed first word mid) no_word none falls);
 }
   where
-    is_held : motion_of mid ≡ motions.Held
+    is_held : motion_of first mid ≡ motions.Held
     is_held = s.held held
 
-    gone : changes_left (motion_of (obeyed word mid)) (has_cut (obeyed word mid)) ≡ 0
+    gone : changes_left (motion_of first (obeyed first word mid)) (has_cut (obeyed first word mid)) ≡ 0
     gone =
-        ap (λ m. changes_left (after_word word (has_blocks (plan_of mid).blocks) m) (has_cut (obeyed word mid))) is_held
-        ∙ resumed_by (asks word hold_byte) (asks word cancel_byte) (asks word start_byte) (has_blocks (plan_of mid).blocks) (has_cut (obeyed word mid))
+        ap (λ m. changes_left (after_word word (has_blocks (plan_of mid).blocks) m) (has_cut (obeyed first word mid))) is_held
+        ∙ resumed_by (asks word hold_byte) (asks word cancel_byte) (asks word start_byte) (has_blocks (plan_of mid).blocks) (has_cut (obeyed first word mid))
         (λ e. resumes (ap (λ m. after_word word (has_blocks (plan_of mid).blocks) m) is_held ∙ e))
 
-    falls : number_of words.None (obeyed word mid) < number_of words.None h
+    falls : number_of first words.None (obeyed first word mid) < number_of first words.None h
     falls =
         let zero = gone in
         let one = ap (λ m. changes_left m (has_cut h)) held in
@@ -428,18 +429,18 @@ did_resume board was word h mid k halted s held resumes unowed beat no_word none
         omega (arith, zero, one, p, e)
 
 -- the resume is waited for
-pub waits_for_resume : (board : Controller) (was : Flags) (word : Exec) (h mid : Journal) → Keeps board (obeyed word mid) → IsHalted h → HasSettled h mid → motion_of h ≡ motions.Held
-    → motion_of (obeyed word mid) ≡ motions.Held → owes_report (taken word mid) ≡ false → board.beat ≡ Motion → board.flags ≡ words.None → BoardWorked (Wait on.Resume) was board h (obeyed word mid)
-waits_for_resume board was word h mid k halted s held stays unowed beat no_word = record {
+pub waits_for_resume : (first : Opening) (board : Controller) (was : Flags) (word : Exec) (h mid : Journal) → Keeps first board (obeyed first word mid) → IsHalted first h → HasSettled first h mid → motion_of first h ≡ motions.Held
+    → motion_of first (obeyed first word mid) ≡ motions.Held → owes_report (taken word mid) ≡ false → board.beat ≡ Motion → board.flags ≡ words.None → BoardWorked first (Wait on.Resume) was board h (obeyed first word mid)
+waits_for_resume first board was word h mid k halted s held stays unowed beat no_word = record {
   keeps = k;
-  rounds = rounds_awaited word board h mid halted s beat;
-  flags = takes_none board (obeyed word mid) no_word free;
+  rounds = rounds_awaited first word board h mid halted s beat;
+  flags = takes_none board (obeyed first word mid) no_word free;
   still = λ e. no_word_left board.flags no_word;
   beat = λ o e. beat;
-  steps = obeying word mid s.passes.steps;
-  are = obeying_are word h mid s.passes.steps s.passes.are;
+  steps = obeying first word mid s.passes.steps;
+  are = obeying_are first word h mid s.passes.steps s.passes.are;
   may = record {
-    ends = ends_awaited board word h mid k halted s;
+    ends = ends_awaited first board word h mid k halted s;
     cause = record { held = stays; unasked = or_first (asks_no_start (at_port (took_exec word))) (list_any asks_no_start (this_turn mid)) unasked; held_up = held_up s.stays };
     still = s.passes.still ∙ halted.ready.quiet.still;
     flags = free.flags;
@@ -450,16 +451,16 @@ waits_for_resume board was word h mid k halted s held stays unowed beat no_word 
   moves = λ e. absurd cc;
 }
   where
-    free : IsFree (obeyed word mid)
-    free = free_now word mid (both_taken mid (s.passes.flags ∙ halted.ready.quiet.flags)).1 (free_settled h mid halted s).obeyed unowed
+    free : IsFree (obeyed first word mid)
+    free = free_now first word mid (both_taken mid (s.passes.flags ∙ halted.ready.quiet.flags)).1 (free_settled first h mid halted s).obeyed unowed
 
     unasked : asks_no_start (at_port (took_exec word)) ≡ true
     unasked =
         (stays_held word (has_blocks (plan_of mid).blocks)).1
         (ap (λ m. Some m) (sym (ap (λ m. after_word word (has_blocks (plan_of mid).blocks) m) (s.held held)) ∙ stays))
 
-    held_up : StaysSo h mid ⊎ IsCutNow h mid → is_held_up mid ≡ true
-    held_up (inl stays) = still_held_up h mid s.passes stays halted.held_up
+    held_up : StaysSo first h mid ⊎ IsCutNow first h mid → is_held_up first mid ≡ true
+    held_up (inl stays) = still_held_up first h mid s.passes stays halted.held_up
     held_up (inr cuts) = absurd (let e = sym held ∙ cuts.uncut.cancelled in cc)
 
     or_first : (a b : Bool) → a ≡ true → (a || b) ≡ true
@@ -467,23 +468,23 @@ waits_for_resume board was word h mid k halted s held stays unowed beat no_word 
     or_first false b e = absurd cc
 
 -- a report is asked for while the resume is waited for
-pub did_ask : (board : Controller) (was : Flags) (word : Exec) (h mid : Journal) → Keeps board (taken word mid) → IsHalted h → HasSettled h mid → owes_report (taken word mid) ≡ true
-    → board.beat ≡ Motion → board.flags ≡ words.Report (Some word) → was ≡ words.None → BoardWorked Did was board h (taken word mid)
-did_ask board was word h mid k halted s owed beat asks none = record {
+pub did_ask : (first : Opening) (board : Controller) (was : Flags) (word : Exec) (h mid : Journal) → Keeps first board (taken word mid) → IsHalted first h → HasSettled first h mid → owes_report (taken word mid) ≡ true
+    → board.beat ≡ Motion → board.flags ≡ words.Report (Some word) → was ≡ words.None → BoardWorked first Did was board h (taken word mid)
+did_ask first board was word h mid k halted s owed beat asks none = record {
   keeps = k;
-  rounds = subst (λ b. Rounds b (taken word mid)) (sym beat)
-      (rounds_still (taken word mid) (λ w. absurd (none_wait h halted.halts (s.waiting (record { stands = w.stands; blocks = w.blocks })))) (few_settled h mid s (few_halted h halted)));
-  flags = subst (λ f. TakesFlags f (taken word mid)) (sym asks) (asked_now word mid (both_taken mid (s.passes.flags ∙ halted.ready.quiet.flags)).1 (free_settled h mid halted s).obeyed owed);
+  rounds = subst (λ b. (Rounds first) b (taken word mid)) (sym beat)
+      (rounds_still first (taken word mid) (λ w. absurd (none_wait first h halted.halts (s.waiting (record { stands = w.stands; blocks = w.blocks })))) (few_settled first h mid s (few_halted first h halted)));
+  flags = subst (λ f. TakesFlags f (taken word mid)) (sym asks) (asked_now word mid (both_taken mid (s.passes.flags ∙ halted.ready.quiet.flags)).1 (free_settled first h mid halted s).obeyed owed);
   still = λ e. ap takes_no_word asks;
   beat = λ o e. beat;
   steps = at_port (took_exec word) ∷ s.passes.steps;
   are = ap (λ (j : Journal). at_port (took_exec word) ∷ j) s.passes.are;
-  may = (let ends = ends_settled h mid halted s (halts_by board (taken word mid) k) in
-      ends_taken word mid owed (s.passes.quiet ∙ halted.ready.quiet.quiet) (s.passes.worked halted.ready.quiet.worked) ends.adds ends.starts ends.tries (halts_by board (taken word mid) k));
+  may = (let ends = ends_settled first h mid halted s (halts_by first board (taken word mid) k) in
+      ends_taken first word mid owed (s.passes.quiet ∙ halted.ready.quiet.quiet) (s.passes.worked halted.ready.quiet.worked) ends.adds ends.starts ends.tries (halts_by first board (taken word mid) k));
   moves = λ e. inr falls;
 }
   where
-    falls : number_of board.flags (taken word mid) < number_of was h
+    falls : number_of first board.flags (taken word mid) < number_of first was h
     falls =
         let zero = ap words_left asks in
         let one = ap words_left none in

@@ -21,4 +21,5 @@ pub mod Owing
 pub mod Owed
 pub mod Nexts
 pub mod Numbers
+pub mod AnyState
 pub mod Kept

@@ -17,6 +17,7 @@ use Rattle.line_interpreter.specs.Interpreting.{Interpreting}
 use Rattle.line_interpreter.specs.Lefts.{IsNextOf, IsTodo}
 use Rattle.line_interpreter.specs.declared.tasks.Todo.{Todo}
 use Rattle.line_interpreter.specs.declared.tasks.Todo.TheVariants as todo
+use Rattle.board_rules.specs.Openings.{Opening}
 use Rattle.board_rules.specs.Ports.{MayBeDone}
 use Rattle.board_rules.specs.Ports.PortStep.{loaded}
 use Rattle.board_rules.specs.Steps.{Journal, port_log, left_of, whole_of, closed_tells, given_of, hand_of, plan_of, motion_of}
@@ -49,8 +50,8 @@ use Rattle.controller.proofs.Nexts.{quiet_on}
 limited_off : {A : Type 0} (m : AnyMotion) → is_limited m ≡ true → m ≡ motions.Idle → A
 limited_off m is stands = absurd (let e = sym is ∙ ap is_limited stands in cc)
 
-pub none_waiting : (h : Journal) → is_limited (motion_of h) ≡ true → AreWaiting h → ⊥
-none_waiting h is w = limited_off (motion_of h) is w.stands
+pub none_waiting : (first : Opening) (h : Journal) → is_limited (motion_of first h) ≡ true → AreWaiting first h → ⊥
+none_waiting first h is w = limited_off (motion_of first h) is w.stands
 
 not_halting : (m : AnyMotion) → is_limited m ≡ true → is_halting m ≡ false
 not_halting motions.Stopping is = refl
@@ -63,50 +64,50 @@ limited_by motions.Alarm is = inr refl
 limited_by m is = absurd cc
 
 -- where nothing is in hand or due, it has no speed
-no_speed_now : (b : Controller) (h : Journal) → Keeps b h → is_limited (motion_of h) ≡ true → is_due h ≡ false → (plan_of h).speed ≡ 0
-no_speed_now b h k is idle = by_motion (limited_by (motion_of h) is)
+no_speed_now : (first : Opening) (b : Controller) (h : Journal) → Keeps first b h → is_limited (motion_of first h) ≡ true → is_due first h ≡ false → (plan_of h).speed ≡ 0
+no_speed_now first b h k is idle = by_motion (limited_by (motion_of first h) is)
   where
-    by_motion : (is_stopping (motion_of h) ≡ true) ⊎ (rests (motion_of h) ≡ true) → (plan_of h).speed ≡ 0
-    by_motion (inl slows) = slow_stands b h k slows idle
-    by_motion (inr stands) = no_speed k.first h k.conducted stands
+    by_motion : (is_stopping (motion_of first h) ≡ true) ⊎ (rests (motion_of first h) ≡ true) → (plan_of h).speed ≡ 0
+    by_motion (inl slows) = slow_stands first b h k slows idle
+    by_motion (inr stands) = no_speed first h k.conducted stands
 
 -- once each tick is done, it may be halted
-pub at_limit : (b : Controller) (h : Journal) (done : ℕ) → Keeps b h → is_limited (motion_of h) ≡ true → IsNextTask halt h → (HasPiece h → ⊥) → done ≡ b.machine.given → IsAtLimit (at_port (loaded done) ∷ h)
-at_limit b h done k is next none all = record {
+pub at_limit : (first : Opening) (b : Controller) (h : Journal) (done : ℕ) → Keeps first b h → is_limited (motion_of first h) ≡ true → IsNextTask first halt h → (HasPiece first h → ⊥) → done ≡ b.machine.given → IsAtLimit first (at_port (loaded done) ∷ h)
+at_limit first b h done k is next none all = record {
   next = next;
   limited = is;
-  speed = no_speed_now b h k is (not_due h none);
-  empty = none_in_hand h none;
+  speed = no_speed_now first b h k is (not_due first h none);
+  empty = none_in_hand first h none;
   done = all ∙ k.machine.given_is;
 }
 
 -- ---- the motion is waited for
 
-some_halt : (h : Journal) → IsNextTask halt h → left_of h ≡ [] → ⊥
-some_halt h next none = none_next (left_of h) halt none next
+some_halt : (first : Opening) (h : Journal) → IsNextTask first halt h → left_of first h ≡ [] → ⊥
+some_halt first h next none = none_next (left_of first h) halt none next
 
-few_ready : (b : Controller) (h : Journal) → Keeps b h → IsReady h → is_limited (motion_of h) ≡ true → tries_of h + one_if (whole_of h) ≤ 1
-few_ready b h k ready is =
-    let one = limit_alarms k.first h k.conducted is in
+few_ready : (first : Opening) (b : Controller) (h : Journal) → Keeps first b h → IsReady first h → is_limited (motion_of first h) ≡ true → tries_of first h + one_if (whole_of h) ≤ 1
+few_ready first b h k ready is =
+    let one = limit_alarms first k.free h k.conducted is in
     let few = k.tries one.0 in
     let w = ap one_if one.1 in
     omega (arith, few, w)
 
 -- ticks are found not to be done
-pub waits_at_limit : (b : Controller) (h : Journal) (done : ℕ) → Keeps b h → IsReady h → is_limited (motion_of h) ≡ true → IsNextTask halt h → (HasPiece h → ⊥) → b.beat ≡ Motion → b.flags ≡ flags.None
-    → MayBeDone done (port_log h) → done < b.machine.given → BoardWorked (Wait on.Motion) b.flags b h (at_port (loaded done) ∷ h)
-waits_at_limit b h done k ready is next none beat no_word found fewer =
+pub waits_at_limit : (first : Opening) (b : Controller) (h : Journal) (done : ℕ) → Keeps first b h → IsReady first h → is_limited (motion_of first h) ≡ true → IsNextTask first halt h → (HasPiece first h → ⊥) → b.beat ≡ Motion → b.flags ≡ flags.None
+    → MayBeDone done (port_log h) → done < b.machine.given → BoardWorked first (Wait on.Motion) b.flags b h (at_port (loaded done) ∷ h)
+waits_at_limit first b h done k ready is next none beat no_word found fewer =
     let mid : Journal = at_port (loaded done) ∷ h in
-    let few = few_ready b h k ready is in
+    let few = few_ready first b h k ready is in
     let quiet = ready.quiet in
-    let worked = (passes_load done h).worked quiet.worked in
-    let free = free_passed h mid (passes_load done h) (free_of h quiet) in
-    let same = all_published b h k (none_in_hand h none) in
+    let worked = (passes_load first done h).worked quiet.worked in
+    let free = free_passed first h mid (passes_load first done h) (free_of h quiet) in
+    let same = all_published first b h k (none_in_hand first h none) in
     let given : b.machine.given ≡ ticks_given h = k.machine.given_is in
-    let awaits : awaits_motion (left_of h) ≡ true = ap awaits_motion next in
+    let awaits : awaits_motion (left_of first h) ≡ true = ap awaits_motion next in
     record {
-      keeps = looked b done h k found;
-      rounds = subst (λ x. Rounds x mid) (sym beat) (rounds_still mid (λ a. absurd (none_waiting h is (record { stands = a.stands; blocks = a.blocks }))) few);
+      keeps = looked first b done h k found;
+      rounds = subst (λ x. (Rounds first) x mid) (sym beat) (rounds_still first mid (λ a. absurd (none_waiting first h is (record { stands = a.stands; blocks = a.blocks }))) few);
       flags = takes_none b mid no_word free;
       still = λ e. no_word_left b.flags no_word;
       beat = λ other e. beat;
@@ -115,19 +116,19 @@ waits_at_limit b h done k ready is next none beat no_word found fewer =
       may = record {
         ends = record {
           once = let q = quiet.quiet in omega (arith, q);
-          adds = λ m move. absurd (awaits_no_move (left_of h) m awaits move);
-          starts = λ a. absurd (none_waiting h is (record { stands = a.stands; blocks = a.blocks }));
+          adds = λ m move. absurd (awaits_no_move (left_of first h) m awaits move);
+          starts = λ a. absurd (none_waiting first h is (record { stands = a.stands; blocks = a.blocks }));
           tries = omega (arith, few);
           obeyed = worked.obeyed;
           changed = worked.changed;
-          halts = halts_by b h k;
+          halts = halts_by first b h k;
         };
-        cause = record { load = refl; undone = omega (arith, fewer, same, given); awaits = ap (λ b. b || (is_stopping (motion_of h) && is_held_up h)) awaits };
+        cause = record { load = refl; undone = omega (arith, fewer, same, given); awaits = ap (λ b. b || (is_stopping (motion_of first h) && is_held_up first h)) awaits };
         still = quiet.still;
         flags = quiet.flags;
         obeyed = free.obeyed;
         unowed = λ e. absurd (let f = sym e ∙ free.unowed in cc);
-        round = λ due already. absurd (let e = sym (not_due h none) ∙ due in cc);
+        round = λ due already. absurd (let e = sym (not_due first h none) ∙ due in cc);
       };
       moves = λ e. absurd cc;
     }
@@ -137,8 +138,8 @@ waits_at_limit b h done k ready is next none beat no_word found fewer =
 no_more : (n : ℕ) → n ≤ n
 no_more n = omega arith
 
-passes_halted : (h : Journal) → PassesNothing h (halted ∷ h)
-passes_halted h = record {
+passes_halted : (first : Opening) (h : Journal) → PassesNothing first h (halted ∷ h)
+passes_halted first h = record {
   steps = halted ∷ [];
   are = refl;
   still = refl;
@@ -159,20 +160,21 @@ passes_halted h = record {
   owed = refl;
   words = refl;
   worked = worked_behind halted h (halted ∷ h) refl (record { no_changes = refl; none_planned = refl }) refl refl;
-  pauses = fewer_pauses (left_of h);
+  pauses = fewer_pauses (left_of first h);
   changes = no_more _;
   less = λ some none. some (ap (λ (ts : List Task). drop 1 ts) none);
 }
 
 -- what was planned is dropped where it stands in alarm
-halts : (c : Controller) (m : Machine) (i : Interpreting) (h : Journal) → Keeps c h → IsAtLimit h → motion_of h ≡ motions.Alarm → Runs m (cleared (plan_of h)) (motion_of h) (hand_of h) (given_of h)
-    → i ≡ record c.lines { left = drop 1 c.lines.left } → Keeps (record c { machine = m; lines = i }) (halted ∷ h)
-halts c m i h k at alarm runs is = record {
-  first = k.first;
-  opening = k.opening;
+halts : (first : Opening) (c : Controller) (m : Machine) (i : Interpreting) (h : Journal) → Keeps first c h → IsAtLimit first h → motion_of first h ≡ motions.Alarm → Runs m (cleared (plan_of h)) (motion_of first h) (hand_of h) (given_of h)
+    → i ≡ record c.lines { left = drop 1 c.lines.left } → Keeps first (record c { machine = m; lines = i }) (halted ∷ h)
+halts first c m i h k at alarm runs is = record {
+  placed = k.placed;
+  free = k.free;
+  short = k.short;
   conducted = (record { next = at.next; alarm = alarm; still = at.speed; empty = at.empty; done = at.done }, k.conducted);
   machine = runs;
-  lines = one_less c i k.first h k.lines is;
+  lines = one_less c i first h k.lines is;
   input = k.input;
   flight = record { known = k.flight.known; found = k.flight.found; flies = k.flight.flies };
   owes_is = k.owes_is;
@@ -189,21 +191,21 @@ idle_off : (a : Bool) → (a && false) ≡ false
 idle_off true = refl
 idle_off false = refl
 
-halted_alone : (h : Journal) → motion_of h ≡ motions.Alarm → HasHalted h (halted ∷ h)
-halted_alone h alarm = record {
-  alone = record { passes = passes_halted h; port = refl };
+halted_alone : (first : Opening) (h : Journal) → motion_of first h ≡ motions.Alarm → HasHalted first h (halted ∷ h)
+halted_alone first h alarm = record {
+  alone = record { passes = passes_halted first h; port = refl };
   left = refl;
   alarm = alarm;
-  undue = idle_off (is_going (motion_of h) || is_slowing (motion_of h) 0);
+  undue = idle_off (is_going (motion_of first h) || is_slowing (motion_of first h) 0);
 }
 
 -- behind a journal it is in alarm
-abbrev pub Locks : Controller → Journal → Type 0
-Locks c h = (next : Journal) × Keeps c next × IsLocked h next
+abbrev pub Locks : Opening → Controller → Journal → Type 0
+Locks first c h = (next : Journal) × Keeps first c next × IsLocked first h next
 
 -- it was in alarm already
-pub locked_before : (c : Controller) (h : Journal) → Keeps c h → IsAtLimit h → c.machine.hold.motion ≡ motions.Alarm → Locks c h
-locked_before c h k at is = (h, k, record { at = at; alarm = sym k.machine.motion_is ∙ is; alone = record { passes = passes_none h; port = refl }; left = refl })
+pub locked_before : (first : Opening) (c : Controller) (h : Journal) → Keeps first c h → IsAtLimit first h → c.machine.hold.motion ≡ motions.Alarm → Locks first c h
+locked_before first c h k at is = (h, k, record { at = at; alarm = sym k.machine.motion_is ∙ is; alone = record { passes = passes_none first h; port = refl }; left = refl })
 
 stopping_by : (m : AnyMotion) → is_limited m ≡ true → (m ≡ motions.Alarm → ⊥) → m ≡ motions.Stopping
 stopping_by motions.Stopping is other = refl
@@ -211,33 +213,33 @@ stopping_by motions.Alarm is other = absurd (other refl)
 stopping_by m is other = absurd cc
 
 -- it has slowed down for that
-pub was_slowing : (c : Controller) (h : Journal) → Keeps c h → IsAtLimit h → (c.machine.hold.motion ≡ motions.Alarm → ⊥) → motion_of h ≡ motions.Stopping
-was_slowing c h k at other = stopping_by (motion_of h) at.limited (λ e. other (k.machine.motion_is ∙ e))
+pub was_slowing : (first : Opening) (c : Controller) (h : Journal) → Keeps first c h → IsAtLimit first h → (c.machine.hold.motion ≡ motions.Alarm → ⊥) → motion_of first h ≡ motions.Stopping
+was_slowing first c h k at other = stopping_by (motion_of first h) at.limited (λ e. other (k.machine.motion_is ∙ e))
 
-has_stopped : (h : Journal) → IsAtLimit h → motion_of h ≡ motions.Stopping → IsStopped h
-has_stopped h at slows = record { slowed = record { slows = ap is_stopping slows; speed = at.speed; empty = at.empty }; done = at.done }
+has_stopped : (first : Opening) (h : Journal) → IsAtLimit first h → motion_of first h ≡ motions.Stopping → IsStopped first h
+has_stopped first h at slows = record { slowed = record { slows = ap is_stopping slows; speed = at.speed; empty = at.empty }; done = at.done }
 
-pub locks_now : (c : Controller) (m : Machine) (h : Journal) → Keeps c h → IsAtLimit h → motion_of h ≡ motions.Stopping → Runs m (plan_of h) motions.Alarm (hand_of h) (given_of h) → Locks (record c { machine = m }) h
-locks_now c m h k at slows runs = (
+pub locks_now : (first : Opening) (c : Controller) (m : Machine) (h : Journal) → Keeps first c h → IsAtLimit first h → motion_of first h ≡ motions.Stopping → Runs m (plan_of h) motions.Alarm (hand_of h) (given_of h) → Locks first (record c { machine = m }) h
+locks_now first c m h k at slows runs = (
   became on_stopped motions.Alarm ∷ h,
-  locks c m h k slows (has_stopped h at slows) runs,
+  locks first c m h k slows (has_stopped first h at slows) runs,
   record {
     at = record { next = at.next; limited = refl; speed = at.speed; empty = at.empty; done = at.done };
     alarm = refl;
-    alone = alone_motion on_stopped motions.Alarm h refl (omega arith);
+    alone = alone_motion first on_stopped motions.Alarm h refl (omega arith);
     left = refl;
   },
 )
 
 -- what was planned is dropped then
-pub halts_now : (c : Controller) (m : Machine) (i : Interpreting) (h mid : Journal) → Keeps c mid → IsLocked h mid → Runs m (cleared (plan_of mid)) (motion_of mid) (hand_of mid) (given_of mid)
-    → i ≡ record c.lines { left = drop 1 c.lines.left } → (next : Journal) × Keeps (record c { machine = m; lines = i }) next × HasHalted h next
-halts_now c m i h mid k locked runs is =
-    let alone = halted_alone mid locked.alarm in (
+pub halts_now : (first : Opening) (c : Controller) (m : Machine) (i : Interpreting) (h mid : Journal) → Keeps first c mid → IsLocked first h mid → Runs m (cleared (plan_of mid)) (motion_of first mid) (hand_of mid) (given_of mid)
+    → i ≡ record c.lines { left = drop 1 c.lines.left } → (next : Journal) × Keeps first (record c { machine = m; lines = i }) next × HasHalted first h next
+halts_now first c m i h mid k locked runs is =
+    let alone = halted_alone first mid locked.alarm in (
       halted ∷ mid,
-      halts c m i mid k locked.at locked.alarm runs is,
+      halts first c m i mid k locked.at locked.alarm runs is,
       record {
-        alone = alone_on h mid (halted ∷ mid) locked.alone alone.alone;
+        alone = alone_on first h mid (halted ∷ mid) locked.alone alone.alone;
         left = ap (λ (ts : List Task). drop 1 ts) locked.left;
         alarm = alone.alarm;
         undue = alone.undue;
@@ -245,45 +247,45 @@ halts_now c m i h mid k locked runs is =
     )
 
 -- a board behind that is ready to tell the alarm
-pub ready_halted : (h mid next : Journal) → IsReady h → IsNextTask halt h → PassesNothing h mid → left_of mid ≡ left_of h → HasHalted mid next → IsReady next
-ready_halted h mid next ready is look left stops =
-    let p = passes_on h mid next look stops.alone.passes in
+pub ready_halted : (first : Opening) (h mid next : Journal) → IsReady first h → IsNextTask first halt h → PassesNothing first h mid → left_of first mid ≡ left_of first h → HasHalted first mid next → IsReady first next
+ready_halted first h mid next ready is look left stops =
+    let p = passes_on first h mid next look stops.alone.passes in
     let t = p.tries in
     record {
-      quiet = quiet_on h next ready.quiet p;
+      quiet = quiet_on first h next ready.quiet p;
       unpolled = p.polled ∙ ready.unpolled;
       tried = λ due. absurd (let e = sym stops.undue ∙ due in cc);
       unmissed = p.missed ∙ ready.unmissed;
       none_waits = λ w. absurd (let e = sym stops.alarm ∙ w.stands in cc);
       tries = (let w = ap one_if p.whole in let r = ready.tries in omega (arith, t, w, r));
-      few = λ some. (let f = ready.few (some_halt h is) in omega (arith, t, f));
+      few = λ some. (let f = ready.few (some_halt first h is) in omega (arith, t, f));
       held = λ e. absurd (let f = sym (ap is_halting stops.alarm) ∙ e in cc);
     }
 
 -- ---- the run is closed
 
-pub may_close : (b : Controller) (h : Journal) → Keeps b h → is_limited (motion_of h) ≡ true → left_of h ≡ [] → b.closing ≡ false → MayClose h
-may_close b h k is none open_yet =
-    let one = limit_alarms k.first h k.conducted is in
+pub may_close : (first : Opening) (b : Controller) (h : Journal) → Keeps first b h → is_limited (motion_of first h) ≡ true → left_of first h ≡ [] → b.closing ≡ false → MayClose first h
+may_close first b h k is none open_yet =
+    let one = limit_alarms first k.free h k.conducted is in
     record { free = none; going = k.going open_yet; begun = one.1; closed = inr one.0 }
 
-closing_falls : (f : Flags) (h : Journal) → left_of h ≡ [] → closed_tells h ≡ [] → number_of f (closing ∷ h) < number_of f h
-closing_falls f h none going =
+closing_falls : (first : Opening) (f : Flags) (h : Journal) → left_of first h ≡ [] → closed_tells h ≡ [] → number_of first f (closing ∷ h) < number_of first f h
+closing_falls first f h none going =
     let p = ap pauses none in
     let c = ap (λ (rs : List Reply). one_if (nat_eq (length rs) 0)) going in
     let d = ap (λ (rs : List Reply). one_if (nat_eq (length (rs ++ Bye ∷ [])) 0)) going in
     omega (arith, p, c, d)
 
-pub closes_limited : (board now : Controller) (h : Journal) → Keeps board h → Keeps now (closing ∷ h) → IsReady h → is_limited (motion_of h) ≡ true → left_of h ≡ [] → board.closing ≡ false → now.beat ≡ Motion
-    → board.flags ≡ flags.None → now.flags ≡ flags.None → BoardWorked Did board.flags now h (closing ∷ h)
-closes_limited board now h k keeps ready is none open_yet beat no_word_was no_word =
-    let few = few_ready board h k ready is in
+pub closes_limited : (first : Opening) (board now : Controller) (h : Journal) → Keeps first board h → Keeps first now (closing ∷ h) → IsReady first h → is_limited (motion_of first h) ≡ true → left_of first h ≡ [] → board.closing ≡ false → now.beat ≡ Motion
+    → board.flags ≡ flags.None → now.flags ≡ flags.None → BoardWorked first Did board.flags now h (closing ∷ h)
+closes_limited first board now h k keeps ready is none open_yet beat no_word_was no_word =
+    let few = few_ready first board h k ready is in
     let free = free_of h ready.quiet in
     let worked = worked_behind closing h (closing ∷ h) refl (record { no_changes = refl; none_planned = refl }) refl refl ready.quiet.worked in
-    let none_now : AreWaiting (closing ∷ h) → ⊥ = (λ w. none_waiting h is (record { stands = w.stands; blocks = w.blocks })) in
+    let none_now : AreWaiting first (closing ∷ h) → ⊥ = (λ w. (none_waiting first) h is (record { stands = w.stands; blocks = w.blocks })) in
     record {
       keeps = keeps;
-      rounds = subst (λ b. Rounds b (closing ∷ h)) (sym beat) (rounds_still (closing ∷ h) (λ w. absurd (none_now w)) few);
+      rounds = subst (λ b. (Rounds first) b (closing ∷ h)) (sym beat) (rounds_still first (closing ∷ h) (λ w. absurd (none_now w)) few);
       flags = takes_none now (closing ∷ h) no_word (record { flags = free.flags; obeyed = free.obeyed; unowed = free.unowed });
       still = λ e. no_word_left now.flags no_word;
       beat = λ o e. beat;
@@ -298,28 +300,28 @@ closes_limited board now h k keeps ready is none open_yet beat no_word_was no_wo
         changed = worked.changed;
         halts = λ e. absurd cc;
       };
-      moves = λ e. inr (subst (λ f. number_of f (closing ∷ h) < number_of board.flags h) (no_word_was ∙ sym no_word) (closing_falls board.flags h none (k.going open_yet)));
+      moves = λ e. inr (subst (λ f. (number_of first) f (closing ∷ h) < number_of first board.flags h) (no_word_was ∙ sym no_word) (closing_falls first board.flags h none (k.going open_yet)));
     }
 
 -- ---- what is next
 
 -- the alarm is told behind the halt
-pub alarm_next : (c : Controller) (h mid next : Journal) → Keeps c next → left_of mid ≡ left_of h → HasHalted mid next → left_of h ≡ halting_work → (r : Reply) × IsNextOf (tell r) c.lines.left
-alarm_next c h mid next k same stops left =
+pub alarm_next : (first : Opening) (c : Controller) (h mid next : Journal) → Keeps first c next → left_of first mid ≡ left_of first h → HasHalted first mid next → left_of first h ≡ halting_work → (r : Reply) × IsNextOf (tell r) c.lines.left
+alarm_next first c h mid next k same stops left =
     let e : c.lines.left ≡ tell (Alarm soft_limit) ∷ tell (Message ResetToContinue) ∷ [] = k.lines.left_is ∙ stops.left ∙ ap (λ (ts : List Task). drop 1 ts) (same ∙ left) in
     (Alarm soft_limit, e ∙ ap (λ (ts : List Task). tell (Alarm soft_limit) ∷ drop 1 ts) (sym e))
 
-not_ending : {A : Type 0} (b : Controller) (h : Journal) (t : Task) → Keeps b h → is_limited (motion_of h) ≡ true → ends_run t ≡ false → IsNextOf t b.lines.left → A
-not_ending b h t k is other next = absurd (let e = sym (limited_next k.first h t k.conducted is (is_next b h t k next)) ∙ other in cc)
+not_ending : {A : Type 0} (first : Opening) (b : Controller) (h : Journal) (t : Task) → Keeps first b h → is_limited (motion_of first h) ≡ true → ends_run t ≡ false → IsNextOf t b.lines.left → A
+not_ending first b h t k is other next = absurd (let e = sym (limited_next first k.free h t k.conducted is (is_next first b h t k next)) ∙ other in cc)
 
 -- nothing else is next of a run that a soft limit ends
-pub nothing_else : (b : Controller) (h : Journal) (t : Todo) → Keeps b h → is_limited (motion_of h) ≡ true → IsTodo t b.lines.left → (t ≡ todo.Halt → ⊥) → (t ≡ todo.Tell → ⊥) → (t ≡ todo.Finish → ⊥) → (t ≡ todo.Nothing → ⊥) → ⊥
-nothing_else b h todo.Nothing k is next stops tells ends none = none refl
-nothing_else b h todo.Rest k is next stops tells ends none = not_ending b h (ask a_rest) k is refl next
-nothing_else b h (todo.Mark m) k is next stops tells ends none = not_ending b h (ask (a_mark m)) k is refl next.0
-nothing_else b h todo.Move k is next stops tells ends none = not_ending b h (ask (a_move next.0)) k is refl next.1
-nothing_else b h todo.Tell k is next stops tells ends none = tells refl
-nothing_else b h todo.Pause k is next stops tells ends none = not_ending b h pause k is refl next
-nothing_else b h todo.Normal k is next stops tells ends none = not_ending b h normal k is refl next
-nothing_else b h todo.Finish k is next stops tells ends none = ends refl
-nothing_else b h todo.Halt k is next stops tells ends none = stops refl
+pub nothing_else : (first : Opening) (b : Controller) (h : Journal) (t : Todo) → Keeps first b h → is_limited (motion_of first h) ≡ true → IsTodo t b.lines.left → (t ≡ todo.Halt → ⊥) → (t ≡ todo.Tell → ⊥) → (t ≡ todo.Finish → ⊥) → (t ≡ todo.Nothing → ⊥) → ⊥
+nothing_else first b h todo.Nothing k is next stops tells ends none = none refl
+nothing_else first b h todo.Rest k is next stops tells ends none = not_ending first b h (ask a_rest) k is refl next
+nothing_else first b h (todo.Mark m) k is next stops tells ends none = not_ending first b h (ask (a_mark m)) k is refl next.0
+nothing_else first b h todo.Move k is next stops tells ends none = not_ending first b h (ask (a_move next.0)) k is refl next.1
+nothing_else first b h todo.Tell k is next stops tells ends none = tells refl
+nothing_else first b h todo.Pause k is next stops tells ends none = not_ending first b h pause k is refl next
+nothing_else first b h todo.Normal k is next stops tells ends none = not_ending first b h normal k is refl next
+nothing_else first b h todo.Finish k is next stops tells ends none = ends refl
+nothing_else first b h todo.Halt k is next stops tells ends none = stops refl

@@ -12,7 +12,7 @@ use Rattle.step_line.specs.declared.Piece.{Piece}
 use Rattle.step_line.specs.declared.planned_move.PlannedMove.{PlannedMove}
 use Rattle.status_report.specs.declared.Reply.{Reply}
 use Rattle.status_report.specs.declared.Reply.TheVariants.{Bye}
-use Rattle.run_rules.specs.declared.State.{State}
+use Rattle.board_rules.specs.Openings.{Opening}
 use Rattle.run_rules.specs.Work.{Task, pauses}
 use Rattle.run_rules.specs.Work.Task.{ask, tell, pause, normal, finish, halt}
 use Rattle.step_line.specs.Asking.Asked.{a_move, a_mark, a_rest}
@@ -43,23 +43,23 @@ use Rattle.controller.proofs.Ends.{none_called, none_waited, rounds_still, one_a
 -- ---- how a turn begins
 
 -- where it does not begin with a piece, what is next may be done
-pub ready_now : (beat : Beat) (h : Journal) → Rounds beat h → GoingBetween h → IsFree h → (beat ≡ Motion → HasPiece h → ⊥) → IsReady h
-ready_now Main h r between taken none = ready_sent h r between taken
-ready_now Motion h r between taken none =
-    let idle : is_due h ≡ false = by_due (is_due h) refl in
-    ready_idle h r between taken idle (unmissed h between idle)
+pub ready_now : (first : Opening) (beat : Beat) (h : Journal) → Rounds first beat h → GoingBetween h → IsFree h → (beat ≡ Motion → HasPiece first h → ⊥) → IsReady first h
+ready_now first Main h r between taken none = ready_sent first h r between taken
+ready_now first Motion h r between taken none =
+    let idle : is_due first h ≡ false = by_due (is_due first h) refl in
+    ready_idle first h r between taken idle (unmissed first h between idle)
   where
-    by_due : (b : Bool) → is_due h ≡ b → is_due h ≡ false
+    by_due : (b : Bool) → is_due first h ≡ b → is_due first h ≡ false
     by_due true e = absurd (none refl (inr e))
     by_due false e = e
 
 -- ---- something is left to do
 
-pub some_next : (h : Journal) (t : Task) → IsNextTask t h → left_of h ≡ [] → ⊥
-some_next h t next none = none_next (left_of h) t none next
+pub some_next : (first : Opening) (h : Journal) (t : Task) → IsNextTask first t h → left_of first h ≡ [] → ⊥
+some_next first h t next none = none_next (left_of first h) t none next
 
 -- few tries stand behind the last poll while something is left to do
-pub few_working : (first : State) (h : Journal) → Conducted first h → IsReady h → (left_of h ≡ [] → ⊥) → tries_of h + one_if (whole_of h) ≤ 1
+pub few_working : (first : Opening) (h : Journal) → Conducted first h → IsReady first h → (left_of first h ≡ [] → ⊥) → tries_of first h + one_if (whole_of h) ≤ 1
 few_working first h c ready some =
     let w = ap one_if (not_whole first h c some) in
     let f = ready.few some in
@@ -79,68 +79,68 @@ held_up_full (normal ∷ ts) n whole full next is = refl
 held_up_full (finish ∷ ts) n whole full next is = refl
 held_up_full (halt ∷ ts) n whole full next is = refl
 
-not_halting : (h : Journal) → GoesOn h → is_held_up h ≡ true → begins_in (motion_of h) ≡ true
-not_halting h goes up = by_halt (is_halting (motion_of h)) refl
+not_halting : (first : Opening) (h : Journal) → GoesOn first h → is_held_up first h ≡ true → begins_in (motion_of first h) ≡ true
+not_halting first h goes up = by_halt (is_halting (motion_of first h)) refl
   where
-    by_halt : (b : Bool) → is_halting (motion_of h) ≡ b → begins_in (motion_of h) ≡ true
+    by_halt : (b : Bool) → is_halting (motion_of first h) ≡ b → begins_in (motion_of first h) ≡ true
     by_halt true e = absurd (let f = sym (goes.held e) ∙ up in cc)
-    by_halt false e = begins_by (motion_of h) e goes.unlimited
+    by_halt false e = begins_by (motion_of first h) e goes.unlimited
 
 -- a full plan is run
-pub full_piece : (first : State) (h : Journal) → Conducted first h → NoneWaits h → GoesOn h → IsNextMove h → is_full (plan_of h) ≡ true → HasPiece h
-full_piece first h c none goes move full = inr (by_motion (goes_or_stands (motion_of h) (not_halting h goes (held_up_full (left_of h) move.0 (whole_of h) (is_full (plan_of h)) move.1 full))))
+pub full_piece : (first : Opening) (h : Journal) → Conducted first h → NoneWaits first h → GoesOn first h → IsNextMove first h → is_full (plan_of h) ≡ true → HasPiece first h
+full_piece first h c none goes move full = inr (by_motion (goes_or_stands (motion_of first h) (not_halting first h goes (held_up_full (left_of first h) move.0 (whole_of h) (is_full (plan_of h)) move.1 full))))
   where
     blocks : has_blocks (plan_of h).blocks ≡ true
     blocks = full_is_queued (plan_of h).blocks full
 
-    full_too : (a b : Bool) → a ≡ true → (a || b) ≡ false → is_due h ≡ true
+    full_too : (a b : Bool) → a ≡ true → (a || b) ≡ false → is_due first h ≡ true
     full_too true b ea e = absurd cc
     full_too false b ea e = absurd cc
 
-    by_motion : StandsOrGoes (motion_of h) → is_due h ≡ true
-    by_motion (inl idle) = full_too (is_full (plan_of h)) (awaits_motion (left_of h) || has_jogged h) full (none (record { stands = idle; blocks = blocks }))
+    by_motion : StandsOrGoes (motion_of first h) → is_due first h ≡ true
+    by_motion (inl idle) = full_too (is_full (plan_of h)) (awaits_motion (left_of first h) || has_jogged h) full (none (record { stands = idle; blocks = blocks }))
     by_motion (inr (inl run)) = ap (λ m. has_segment m (plan_of h)) run ∙ blocks
     by_motion (inr (inr jog)) = ap (λ m. has_segment m (plan_of h)) jog ∙ blocks
 
 -- ---- lines
 
-none_left : (b : Controller) (h : Journal) → Keeps b h → b.lines.left ≡ [] → left_of h ≡ []
-none_left b h k none = sym k.lines.left_is ∙ none
+none_left : (first : Opening) (b : Controller) (h : Journal) → Keeps first b h → b.lines.left ≡ [] → left_of first h ≡ []
+none_left first b h k none = sym k.lines.left_is ∙ none
 
 -- what is next where nothing is left is a line that was taken whole
 held_up_line : (ts : List Task) (whole full : Bool) → ts ≡ [] → whole ≡ true → needs_motion ts whole full ≡ true
 held_up_line [] whole full none is = is
 held_up_line (t ∷ ts) whole full none is = absurd cc
 
-pub whole_line : (b : Controller) (h : Journal) → Keeps b h → GoesOn h → b.lines.left ≡ [] → b.closing ≡ false → b.input.whole ≡ true → IsWholeLine h
-whole_line b h k goes none open_yet whole =
-    let free = none_left b h k none in
+pub whole_line : (first : Opening) (b : Controller) (h : Journal) → Keeps first b h → GoesOn first h → b.lines.left ≡ [] → b.closing ≡ false → b.input.whole ≡ true → IsWholeLine first h
+whole_line first b h k goes none open_yet whole =
+    let free = none_left first b h k none in
     let is = sym k.input.whole_is ∙ whole in
-    record { free = free; going = k.going open_yet; whole = is; goes = not_halting h goes (held_up_line (left_of h) (whole_of h) (is_full (plan_of h)) free is) }
+    record { free = free; going = k.going open_yet; whole = is; goes = not_halting first h goes (held_up_line (left_of first h) (whole_of h) (is_full (plan_of h)) free is) }
 
 -- a byte may be polled for where no line waits to be begun
-pub may_poll : (b : Controller) (h : Journal) → Keeps b h → GoesOn h → b.lines.left ≡ [] → b.closing ≡ false → b.input.whole ≡ false → MayPoll h
-may_poll b h k goes none open_yet partial = record {
-  calm = calm_now b h k goes.unlimited;
-  all_done = none_left b h k none;
+pub may_poll : (first : Opening) (b : Controller) (h : Journal) → Keeps first b h → GoesOn first h → b.lines.left ≡ [] → b.closing ≡ false → b.input.whole ≡ false → MayPoll first h
+may_poll first b h k goes none open_yet partial = record {
+  calm = calm_now first b h k goes.unlimited;
+  all_done = none_left first b h k none;
   partial = sym k.input.whole_is ∙ partial;
   unclosed = k.going open_yet;
 }
 
 -- what is next is held up as the fields tell
-held_up : (b : Controller) (h : Journal) → Keeps b h → is_held_up h ≡ needs_motion b.lines.left b.input.whole (is_full b.machine.plan)
-held_up b h k =
+held_up : (first : Opening) (b : Controller) (h : Journal) → Keeps first b h → is_held_up first h ≡ needs_motion b.lines.left b.input.whole (is_full b.machine.plan)
+held_up first b h k =
     ap (λ (ts : List Task). needs_motion ts (whole_of h) (is_full (plan_of h))) (sym k.lines.left_is) ∙ ap (λ w. needs_motion b.lines.left w (is_full (plan_of h))) (sym k.input.whole_is)
     ∙ ap (λ p. needs_motion b.lines.left b.input.whole (is_full p)) (sym k.machine.plan_is)
 
 -- what is next is held up by a machine that is held, or slows down for that
-pub is_halted : (b : Controller) (h : Journal) → Keeps b h → IsReady h → is_halting b.machine.hold.motion ≡ true → needs_motion b.lines.left b.input.whole (is_full b.machine.plan) ≡ true → IsHalted h
-is_halted b h k ready halts up = record { ready = ready; halts = ap is_halting (sym k.machine.motion_is) ∙ halts; held_up = held_up b h k ∙ up }
+pub is_halted : (first : Opening) (b : Controller) (h : Journal) → Keeps first b h → IsReady first h → is_halting b.machine.hold.motion ≡ true → needs_motion b.lines.left b.input.whole (is_full b.machine.plan) ≡ true → IsHalted first h
+is_halted first b h k ready halts up = record { ready = ready; halts = ap is_halting (sym k.machine.motion_is) ∙ halts; held_up = held_up first b h k ∙ up }
 
 -- what is next goes on, by the fields
-pub goes_on : (b : Controller) (h : Journal) → Keeps b h → (is_halting b.machine.hold.motion ≡ true → needs_motion b.lines.left b.input.whole (is_full b.machine.plan) ≡ false) → is_limited b.machine.hold.motion ≡ false → GoesOn h
-goes_on b h k held other = record {
-  held = λ halts. held_up b h k ∙ held (ap is_halting k.machine.motion_is ∙ halts);
+pub goes_on : (first : Opening) (b : Controller) (h : Journal) → Keeps first b h → (is_halting b.machine.hold.motion ≡ true → needs_motion b.lines.left b.input.whole (is_full b.machine.plan) ≡ false) → is_limited b.machine.hold.motion ≡ false → GoesOn first h
+goes_on first b h k held other = record {
+  held = λ halts. (held_up first) b h k ∙ held (ap is_halting k.machine.motion_is ∙ halts);
   unlimited = ap is_limited (sym k.machine.motion_is) ∙ other;
 }
 
@@ -159,17 +159,17 @@ held_up_awaited (finish ∷ ts) whole full is = refl
 held_up_awaited (halt ∷ ts) whole full is = refl
 
 -- so the motion may be waited for where what is next goes on
-pub may_await_now : (b : Controller) (h : Journal) → Keeps b h → IsReady h → GoesOn h → awaits_motion (left_of h) ≡ true → MayAwait h
-may_await_now b h k ready goes awaits = may_await k.first h k.conducted ready (not_halting h goes (held_up_awaited (left_of h) (whole_of h) (is_full (plan_of h)) awaits)) awaits
+pub may_await_now : (first : Opening) (b : Controller) (h : Journal) → Keeps first b h → IsReady first h → GoesOn first h → awaits_motion (left_of first h) ≡ true → MayAwait first h
+may_await_now first b h k ready goes awaits = may_await first h k.conducted ready (not_halting first h goes (held_up_awaited (left_of first h) (whole_of h) (is_full (plan_of h)) awaits)) awaits
 
 -- ---- what is next, by the fields
 
-pub next_move : (b : Controller) (h : Journal) → Keeps b h → IsTodo todo.Move b.lines.left → IsNextMove h
-next_move b h k is = (is.0, is_next b h (ask (a_move is.0)) k is.1)
+pub next_move : (first : Opening) (b : Controller) (h : Journal) → Keeps first b h → IsTodo todo.Move b.lines.left → IsNextMove first h
+next_move first b h k is = (is.0, is_next first b h (ask (a_move is.0)) k is.1)
 
-pub finish_next : (b : Controller) (h : Journal) → Keeps b h → NeedsNoWait h → IsTodo todo.Finish b.lines.left → MayFinish h × IsNextTask finish h
-finish_next b h k needs is =
-    let next = is_next b h finish k is in
+pub finish_next : (first : Opening) (b : Controller) (h : Journal) → Keeps first b h → NeedsNoWait first h → IsTodo todo.Finish b.lines.left → MayFinish first h × IsNextTask first finish h
+finish_next first b h k needs is =
+    let next = is_next first b h finish k is in
     let stopped = (needs (ap awaits_motion next)).0 in
     (record { drained = stopped.drained; stands = ap stands_still stopped.stands }, next)
 
@@ -179,8 +179,8 @@ pub none_behind : (ps : List Piece) (p : Piece) → ps ++ p ∷ [] ≡ [] → �
 none_behind [] p e = absurd cc
 none_behind (q ∷ ps) p e = absurd cc
 
-pub quiet_on : (h next : Journal) → IsQuiet h → PassesNothing h next → IsQuiet next
-quiet_on h next quiet passes = record {
+pub quiet_on : (first : Opening) (h next : Journal) → IsQuiet h → PassesNothing first h next → IsQuiet next
+quiet_on first h next quiet passes = record {
   still = passes.still ∙ quiet.still;
   quiet = passes.quiet ∙ quiet.quiet;
   worked = passes.worked quiet.worked;
@@ -188,46 +188,46 @@ quiet_on h next quiet passes = record {
   unowed = passes.owed ∙ quiet.unowed;
 }
 
-pub may_run_marked : (first : State) (h : Journal) (m : AnyMark) (ps : List Piece) → Conducted first h → IsReady h → IsNextTask (ask (a_mark m)) h → MayRun (did (Mark m) ps ∷ h)
+pub may_run_marked : (first : Opening) (h : Journal) (m : AnyMark) (ps : List Piece) → Conducted first h → IsReady first h → IsNextTask first (ask (a_mark m)) h → MayRun first (did (Mark m) ps ∷ h)
 may_run_marked first h m ps c ready next =
-    let passes = passes_did (Mark m) ps h refl in
-    let some : left_of (did (Mark m) ps ∷ h) ≡ [] → ⊥ = behind_asked first h (a_mark m) c next in
+    let passes = passes_did first (Mark m) ps h refl in
+    let some : left_of first (did (Mark m) ps ∷ h) ≡ [] → ⊥ = behind_asked first h (a_mark m) c next in
     record {
-      quiet = quiet_on h (did (Mark m) ps ∷ h) ready.quiet passes;
+      quiet = quiet_on first h (did (Mark m) ps ∷ h) ready.quiet passes;
       polled = λ e. absurd (let f = sym e ∙ passes.polled ∙ ready.unpolled in cc);
-      first = λ e. absurd (let n = sym e ∙ uncounted (did (Mark m) ps ∷ h) some in cc);
-      few = λ e. few_working first h c ready (some_next h (ask (a_mark m)) next);
+      once = λ e. absurd (let n = sym e ∙ uncounted first (did (Mark m) ps ∷ h) some in cc);
+      few = λ e. few_working first h c ready (some_next first h (ask (a_mark m)) next);
       held = ready.held;
     }
 
-pub may_run_ended : (h : Journal) → MayRun h → MayFinish h → IsNextTask finish h → IsClosing h → MayRun (made_end ∷ h)
-may_run_ended h may stopped next is =
-    let passes = passes_end h in
-    let some : left_of (made_end ∷ h) ≡ [] → ⊥ = (λ none. let f = sym is.later ∙ none in absurd cc) in
+pub may_run_ended : (first : Opening) (h : Journal) → MayRun first h → MayFinish first h → IsNextTask first finish h → IsClosing first h → MayRun first (made_end ∷ h)
+may_run_ended first h may stopped next is =
+    let passes = passes_end first h in
+    let some : left_of first (made_end ∷ h) ≡ [] → ⊥ = (λ none. let f = sym is.later ∙ none in absurd cc) in
     record {
-      quiet = quiet_on h (made_end ∷ h) may.quiet passes;
+      quiet = quiet_on first h (made_end ∷ h) may.quiet passes;
       polled = λ e. (
         λ waiting. absurd (let f = sym waiting.blocks ∙ ap has_blocks stopped.drained.plan.blocks in cc),
-        λ m. absurd (let f = head_is (drop 1 (left_of h)) (ask (a_move m.0)) (tell Bye) [] m.1 is.later in cc),
+        λ m. absurd (let f = head_is (drop 1 (left_of first h)) (ask (a_move m.0)) (tell Bye) [] m.1 is.later in cc),
       );
-      first = λ e. absurd (let n = sym e ∙ uncounted (made_end ∷ h) some in cc);
-      few = λ e. may.few (uncounted h (some_next h finish next));
+      once = λ e. absurd (let n = sym e ∙ uncounted first (made_end ∷ h) some in cc);
+      few = λ e. may.few (uncounted first h (some_next first h finish next));
       held = may.held;
     }
 
 -- ---- replies
 
 -- a reply was handed back
-pub told_later : (was : Flags) (board : Controller) (h : Journal) (r : Reply) → Keeps board h → IsReady h → IsNextTask (tell r) h → board.beat ≡ Motion → board.flags ≡ words.None
-    → BoardWorked (Wait ReplyRoom) was board h (at_port no_reply_room ∷ h)
-told_later was board h r k ready next beat no_word =
+pub told_later : (first : Opening) (was : Flags) (board : Controller) (h : Journal) (r : Reply) → Keeps first board h → IsReady first h → IsNextTask first (tell r) h → board.beat ≡ Motion → board.flags ≡ words.None
+    → BoardWorked first (Wait ReplyRoom) was board h (at_port no_reply_room ∷ h)
+told_later first was board h r k ready next beat no_word =
     let worked = worked_behind (at_port no_reply_room) h (at_port no_reply_room ∷ h) refl (record { no_changes = refl; none_planned = refl }) refl refl ready.quiet.worked in
-    let few = few_working k.first h k.conducted ready (some_next h (tell r) next) in
+    let few = few_working first h k.conducted ready (some_next first h (tell r) next) in
     let free = free_of h ready.quiet in
-    let none : NoneWaits (at_port no_reply_room ∷ h) = (λ waiting. ready.none_waits (record { stands = waiting.stands; blocks = waiting.blocks })) in
+    let none : NoneWaits first (at_port no_reply_room ∷ h) = (λ waiting. ready.none_waits (record { stands = waiting.stands; blocks = waiting.blocks })) in
     record {
-      keeps = not_told board h k (ap tells_next next);
-      rounds = subst (λ b. Rounds b (at_port no_reply_room ∷ h)) (sym beat) (rounds_still (at_port no_reply_room ∷ h) none few);
+      keeps = not_told first board h k (ap tells_next next);
+      rounds = subst (λ b. (Rounds first) b (at_port no_reply_room ∷ h)) (sym beat) (rounds_still first (at_port no_reply_room ∷ h) none few);
       flags = takes_none board (at_port no_reply_room ∷ h) no_word (record { flags = free.flags; obeyed = free.obeyed; unowed = free.unowed });
       still = λ e. no_word_left board.flags no_word;
       beat = λ o e. beat;
@@ -236,12 +236,12 @@ told_later was board h r k ready next beat no_word =
       may = record {
         ends = record {
           once = (let a = publishes_none (at_port no_reply_room) (this_turn h) refl in let q = ready.quiet.quiet in omega arith);
-          adds = λ m e. absurd (let f = head_is (left_of h) (ask (a_move m)) (tell r) _ e next in cc);
-          starts = none_called (at_port no_reply_room ∷ h) ready.unpolled none;
+          adds = λ m e. absurd (let f = head_is (left_of first h) (ask (a_move m)) (tell r) _ e next in cc);
+          starts = none_called first (at_port no_reply_room ∷ h) ready.unpolled none;
           tries = omega arith;
           obeyed = worked.obeyed;
           changed = worked.changed;
-          halts = halts_by board h k;
+          halts = halts_by first board h k;
         };
         cause = refl;
         still = ready.quiet.still;
@@ -255,15 +255,15 @@ told_later was board h r k ready next beat no_word =
 
 -- ---- bytes
 
-pub took_worked : (was : Flags) (board : Controller) (b : ℕ) (h : Journal) → Keeps board (at_port (took b) ∷ h) → TakesFlags board.flags (at_port (took b) ∷ h) → IsReady h → MayPoll h → board.beat ≡ Motion
-    → BoardWorked Did was board h (at_port (took b) ∷ h)
-took_worked was board b h keeps takes ready may beat =
-    let none : NoneWaits (at_port (took b) ∷ h) = (λ waiting. ready.none_waits (record { stands = waiting.stands; blocks = waiting.blocks })) in
+pub took_worked : (first : Opening) (was : Flags) (board : Controller) (b : ℕ) (h : Journal) → Keeps first board (at_port (took b) ∷ h) → TakesFlags board.flags (at_port (took b) ∷ h) → IsReady first h → MayPoll first h → board.beat ≡ Motion
+    → BoardWorked first Did was board h (at_port (took b) ∷ h)
+took_worked first was board b h keeps takes ready may beat =
+    let none : NoneWaits first (at_port (took b) ∷ h) = (λ waiting. ready.none_waits (record { stands = waiting.stands; blocks = waiting.blocks })) in
     let one = one_at_most (nat_eq b 10) in
     let worked = worked_behind (at_port (took b)) h (at_port (took b) ∷ h) refl (record { no_changes = refl; none_planned = refl }) refl refl ready.quiet.worked in
     record {
       keeps = keeps;
-      rounds = subst (λ t. Rounds t (at_port (took b) ∷ h)) (sym beat) (rounds_still (at_port (took b) ∷ h) none (omega arith));
+      rounds = subst (λ t. (Rounds first) t (at_port (took b) ∷ h)) (sym beat) (rounds_still first (at_port (took b) ∷ h) none (omega arith));
       flags = takes;
       still = λ e. absurd (let s = ap has_published beat in cc);
       beat = λ o e. beat;
@@ -271,18 +271,18 @@ took_worked was board b h keeps takes ready may beat =
       are = refl;
       may = record {
         once = (let a = publishes_one (at_port (took b)) (this_turn h) refl in let q = ready.quiet.quiet in omega arith);
-        adds = λ m e. absurd (none_next (left_of h) (ask (a_move m)) may.all_done e);
-        starts = none_called (at_port (took b) ∷ h) ready.unpolled none;
+        adds = λ m e. absurd (none_next (left_of first h) (ask (a_move m)) may.all_done e);
+        starts = none_called first (at_port (took b) ∷ h) ready.unpolled none;
         tries = omega arith;
         obeyed = worked.obeyed;
         changed = worked.changed;
-        halts = halts_by board (at_port (took b) ∷ h) keeps;
+        halts = halts_by first board (at_port (took b) ∷ h) keeps;
       };
       moves = λ e. inl refl;
     }
 
-pub polled_none : (h : Journal) → IsReady h → MayPoll h → HasPolled (at_port found_empty ∷ h)
-polled_none h ready may = record {
+pub polled_none : (first : Opening) (h : Journal) → IsReady first h → MayPoll first h → HasPolled first (at_port found_empty ∷ h)
+polled_none first h ready may = record {
   quiet = record {
     still = ready.quiet.still;
     quiet = publishes_none (at_port found_empty) (this_turn h) refl ∙ ready.quiet.quiet;
@@ -299,8 +299,8 @@ polled_none h ready may = record {
   tries = refl;
 }
 
-pub polled_end : (h : Journal) → IsReady h → MayPoll h → HasPolled (at_port found_closed ∷ h)
-polled_end h ready may = record {
+pub polled_end : (first : Opening) (h : Journal) → IsReady first h → MayPoll first h → HasPolled first (at_port found_closed ∷ h)
+polled_end first h ready may = record {
   quiet = record {
     still = ready.quiet.still;
     quiet = publishes_none (at_port found_closed) (this_turn h) refl ∙ ready.quiet.quiet;
@@ -318,17 +318,17 @@ polled_end h ready may = record {
 }
 
 -- no queued block waits for a start, by the fields
-pub none_waiting : (board : Controller) (h : Journal) → Keeps board h → (board.machine.hold.motion ≡ Idle → has_blocks board.machine.plan.blocks ≡ true → ⊥) → AreWaiting h → ⊥
-none_waiting board h k none waiting = none (k.machine.motion_is ∙ waiting.stands) (ap (λ p. has_blocks p.blocks) k.machine.plan_is ∙ waiting.blocks)
+pub none_waiting : (first : Opening) (board : Controller) (h : Journal) → Keeps first board h → (board.machine.hold.motion ≡ Idle → has_blocks board.machine.plan.blocks ≡ true → ⊥) → AreWaiting first h → ⊥
+none_waiting first board h k none waiting = none (k.machine.motion_is ∙ waiting.stands) (ap (λ p. has_blocks p.blocks) k.machine.plan_is ∙ waiting.blocks)
 
-pub waits_for_byte : (was : Flags) (board : Controller) (h : Journal) → Keeps board h → HasPolled h → list_any found_nothing (this_turn h) ≡ true → (AreWaiting h → ⊥) → board.beat ≡ Motion → board.flags ≡ words.None
-    → BoardWorked (Wait Byte) was board h h
-waits_for_byte was board h k polled found none beat no_word =
+pub waits_for_byte : (first : Opening) (was : Flags) (board : Controller) (h : Journal) → Keeps first board h → HasPolled first h → list_any found_nothing (this_turn h) ≡ true → (AreWaiting first h → ⊥) → board.beat ≡ Motion → board.flags ≡ words.None
+    → BoardWorked first (Wait Byte) was board h h
+waits_for_byte first was board h k polled found none beat no_word =
     let t = polled.tries in
     let w = ap one_if polled.partial in
     record {
       keeps = k;
-      rounds = subst (λ b. Rounds b h) (sym beat) (rounds_still h (λ waiting. absurd (none waiting)) (omega arith));
+      rounds = subst (λ b. (Rounds first) b h) (sym beat) (rounds_still first h (λ waiting. absurd (none waiting)) (omega arith));
       flags = takes_none board h no_word (free_of h polled.quiet);
       still = λ e. no_word_left board.flags no_word;
       beat = λ o e. beat;
@@ -337,12 +337,12 @@ waits_for_byte was board h k polled found none beat no_word =
       may = record {
         ends = record {
           once = (let q = polled.quiet.quiet in omega arith);
-          adds = λ m e. absurd (none_next (left_of h) (ask (a_move m)) polled.free e);
+          adds = λ m e. absurd (none_next (left_of first h) (ask (a_move m)) polled.free e);
           starts = λ waiting. absurd (none waiting);
           tries = omega arith;
           obeyed = polled.quiet.worked.obeyed;
           changed = polled.quiet.worked.changed;
-          halts = halts_by board h k;
+          halts = halts_by first board h k;
         };
         cause = record { poll = found; free = polled.free; partial = polled.partial; unowed = polled.quiet.unowed };
         still = polled.quiet.still;
@@ -355,64 +355,64 @@ waits_for_byte was board h k polled found none beat no_word =
     }
 
 -- a machine that stands starts
-pub started_passes : (jog : Bool) (h : Journal) → PassesNothing h (starting jog h)
-started_passes jog h = passes_motion (on_start jog) (start_motion jog) h refl (none_left_to_change jog h)
+pub started_passes : (first : Opening) (jog : Bool) (h : Journal) → PassesNothing first h (starting jog h)
+started_passes first jog h = passes_motion first (on_start jog) (start_motion jog) h refl (none_left_to_change first jog h)
 
 called : (a b d : Bool) → a ≡ true → ((a || b) || d) ≡ true
 called true b d e = refl
 called false b d e = absurd cc
 
 -- queued blocks start where a poll found no byte
-pub may_start_polled : (board : Controller) (h : Journal) → Keeps board h → HasPolled h → has_blocks board.machine.plan.blocks ≡ true → MayStart board.jogged h
-may_start_polled board h k polled blocks = record {
+pub may_start_polled : (first : Opening) (board : Controller) (h : Journal) → Keeps first board h → HasPolled first h → has_blocks board.machine.plan.blocks ≡ true → MayStart first board.jogged h
+may_start_polled first board h k polled blocks = record {
   goes = ap halts_next polled.free;
   blocks = sym (ap (λ p. has_blocks p.blocks) k.machine.plan_is) ∙ blocks;
   called = called (list_any found_none (this_turn h)) _ _ polled.found;
   jogs = sym k.jogged_is;
 }
 
-pub may_run_started : (jog : Bool) (h : Journal) → HasPolled h → MayRun (starting jog h)
-may_run_started jog h polled =
-    let passes = started_passes jog h in
+pub may_run_started : (first : Opening) (jog : Bool) (h : Journal) → HasPolled first h → MayRun first (starting jog h)
+may_run_started first jog h polled =
+    let passes = started_passes first jog h in
     let t = polled.tries in
     let w = ap one_if polled.partial in
     record {
-      quiet = quiet_on h (starting jog h) polled.quiet passes;
-      polled = λ e. (λ waiting. starts_off jog waiting.stands, λ m. none_next (left_of h) (ask (a_move m.0)) polled.free m.1);
-      first = λ e. omega (arith, t, w);
+      quiet = quiet_on first h (starting jog h) polled.quiet passes;
+      polled = λ e. (λ waiting. starts_off jog waiting.stands, λ m. none_next (left_of first h) (ask (a_move m.0)) polled.free m.1);
+      once = λ e. omega (arith, t, w);
       few = λ e. omega (arith, t, w);
       held = λ halts. absurd (let e = sym halts ∙ starts_going jog in cc);
     }
 
 -- a segment is due behind a start
-pub started_due : (jog : Bool) (h : Journal) → has_blocks (plan_of h).blocks ≡ true → is_due (starting jog h) ≡ true
-started_due false h some = some
-started_due true h some = some
+pub started_due : (first : Opening) (jog : Bool) (h : Journal) → has_blocks (plan_of h).blocks ≡ true → is_due first (starting jog h) ≡ true
+started_due first false h some = some
+started_due first true h some = some
 
 -- ---- the run is closed
 
-pub may_close : (h : Journal) → HasPolled h → has_closed h ≡ true → MayClose h
-may_close h polled closed = record { free = polled.free; going = polled.going; begun = polled.partial; closed = inl closed }
+pub may_close : (first : Opening) (h : Journal) → HasPolled first h → has_closed h ≡ true → MayClose first h
+may_close first h polled closed = record { free = polled.free; going = polled.going; begun = polled.partial; closed = inl closed }
 
 -- the board's number falls by that
-closing_falls : (f : Flags) (h : Journal) → HasPolled h → number_of f (closing ∷ h) < number_of f h
-closing_falls f h polled =
+closing_falls : (first : Opening) (f : Flags) (h : Journal) → HasPolled first h → number_of first f (closing ∷ h) < number_of first f h
+closing_falls first f h polled =
     let p = ap pauses polled.free in
     let c = ap (λ (rs : List Reply). one_if (nat_eq (length rs) 0)) polled.going in
     let d = ap (λ (rs : List Reply). one_if (nat_eq (length (rs ++ Bye ∷ [])) 0)) polled.going in
     omega (arith, p, c, d)
 
-pub closes_worked : (board is : Controller) (h : Journal) → Keeps is (closing ∷ h) → HasPolled h → (AreWaiting h → ⊥) → is.beat ≡ Motion → board.flags ≡ words.None → is.flags ≡ words.None
-    → BoardWorked Did board.flags is h (closing ∷ h)
-closes_worked board is h keeps polled none beat no_word_was no_word =
-    let none_now : AreWaiting (closing ∷ h) → ⊥ = (λ waiting. none (record { stands = waiting.stands; blocks = waiting.blocks })) in
+pub closes_worked : (first : Opening) (board is : Controller) (h : Journal) → Keeps first is (closing ∷ h) → HasPolled first h → (AreWaiting first h → ⊥) → is.beat ≡ Motion → board.flags ≡ words.None → is.flags ≡ words.None
+    → BoardWorked first Did board.flags is h (closing ∷ h)
+closes_worked first board is h keeps polled none beat no_word_was no_word =
+    let none_now : AreWaiting first (closing ∷ h) → ⊥ = (λ waiting. none (record { stands = waiting.stands; blocks = waiting.blocks })) in
     let t = polled.tries in
     let w = ap one_if polled.partial in
     let free = free_of h polled.quiet in
     let worked = worked_behind closing h (closing ∷ h) refl (record { no_changes = refl; none_planned = refl }) refl refl polled.quiet.worked in
     record {
       keeps = keeps;
-      rounds = subst (λ b. Rounds b (closing ∷ h)) (sym beat) (rounds_still (closing ∷ h) (λ waiting. absurd (none_now waiting)) (omega arith));
+      rounds = subst (λ b. (Rounds first) b (closing ∷ h)) (sym beat) (rounds_still first (closing ∷ h) (λ waiting. absurd (none_now waiting)) (omega arith));
       flags = takes_none is (closing ∷ h) no_word (record { flags = free.flags; obeyed = free.obeyed; unowed = free.unowed });
       still = λ e. no_word_left is.flags no_word;
       beat = λ o e. beat;
@@ -427,5 +427,5 @@ closes_worked board is h keeps polled none beat no_word_was no_word =
         changed = worked.changed;
         halts = λ e. absurd cc;
       };
-      moves = λ e. inr (subst (λ f. number_of f (closing ∷ h) < number_of board.flags h) (no_word_was ∙ sym no_word) (closing_falls board.flags h polled));
+      moves = λ e. inr (subst (λ f. (number_of first) f (closing ∷ h) < number_of first board.flags h) (no_word_was ∙ sym no_word) (closing_falls first board.flags h polled));
     }

@@ -2,10 +2,10 @@
 use Rattle.std.proofs.Common.{ℕ, ◌≤◌, ◌<◌, Bool, true, false, [], ◌∷◌, length, nat_eq, arith}
 use Rattle.feed_hold.specs.declared.Motion.{Motion}
 use Rattle.feed_hold.specs.declared.Motion.TheVariants as motions
-use Rattle.run_rules.specs.declared.State.{State}
+use Rattle.board_rules.specs.Openings.{Opening}
 use Rattle.run_rules.specs.Work.{pauses}
 use Rattle.run_rules.proofs.Pausing.{pauses_once}
-use Rattle.board_rules.specs.Ports.PortStep.{took, found_empty, found_closed, found_free, answered, reported, no_reply_room, took_exec, took_ovr, published, no_piece_room, loaded}
+use Rattle.board_rules.specs.Ports.PortStep.{took, found_empty, found_closed, found_free, found_mark, answered, reported, no_reply_room, took_exec, took_ovr, published, no_piece_room, loaded}
 use Rattle.board_rules.specs.Steps.{Journal, open_of, left_of, closed_tells, motion_of}
 use Rattle.board_rules.specs.Steps.Step.{at_port, began, did, made_end, evened, paused, became, cut, halted, closing, turned}
 use Rattle.board_rules.specs.Cuts.{has_cut}
@@ -13,6 +13,7 @@ use Rattle.board_rules.proofs.Beginning.{caused, becomes_caused}
 use Rattle.board_rules.proofs.Dropping.{pauses_kept}
 use Rattle.board_rules.specs.Conduct.{Conducted}
 use Rattle.units.specs.Truths.{one_if}
+use Rattle.board_rules.proofs.Opening.{no_pauses_told}
 use Rattle.controller.specs.declared.controller.Controller.{Controller}
 use Rattle.controller.specs.declared.controller.Flags.{Flags}
 use Rattle.controller.specs.declared.controller.Flags.TheVariants as words
@@ -23,13 +24,14 @@ less_too : (a b : ℕ) → a ≤ b → b ≤ 1 → a ≤ 1
 less_too a b e f = omega (arith, e, f)
 
 -- one pause at most is left
-pause_once : (first : State) (h : Journal) → Conducted first h → pauses (left_of h) ≤ 1
-pause_once first [] c = omega arith
+pause_once : (first : Opening) (h : Journal) → Conducted first h → pauses (left_of first h) ≤ 1
+pause_once first [] c = let e = no_pauses_told first.tells in omega (arith, e)
 pause_once first (at_port (took b) ∷ h) c = pause_once first h c.1
 pause_once first (at_port found_empty ∷ h) c = pause_once first h c.1
 pause_once first (at_port found_closed ∷ h) c = pause_once first h c.1
 pause_once first (at_port (found_free n) ∷ h) c = pause_once first h c.1
-pause_once first (at_port (answered r) ∷ h) c = less_too _ _ (fewer_pauses (left_of h)) (pause_once first h c.1)
+pause_once first (at_port (found_mark number bytes) ∷ h) c = pause_once first h c.1
+pause_once first (at_port (answered r) ∷ h) c = less_too _ _ (fewer_pauses (left_of first h)) (pause_once first h c.1)
 pause_once first (at_port (reported r) ∷ h) c = pause_once first h c.1
 pause_once first (at_port no_reply_room ∷ h) c = pause_once first h c.1
 pause_once first (at_port (took_exec word) ∷ h) c = pause_once first h c.1
@@ -38,13 +40,13 @@ pause_once first (at_port (published p) ∷ h) c = pause_once first h c.1
 pause_once first (at_port (no_piece_room done) ∷ h) c = pause_once first h c.1
 pause_once first (at_port (loaded done) ∷ h) c = pause_once first h c.1
 pause_once first (began o ∷ h) c = pauses_once true (caused first h) (open_of h) o (becomes_caused first h o c.0)
-pause_once first (did a ps ∷ h) c = less_too _ _ (pauses_by a (left_of h)) (pause_once first h c.1)
-pause_once first (made_end ∷ h) c = less_too _ _ (fewer_pauses (left_of h)) (pause_once first h c.1)
-pause_once first (evened ∷ h) c = less_too _ _ (fewer_pauses (left_of h)) (pause_once first h c.1)
-pause_once first (paused ∷ h) c = less_too _ _ (fewer_pauses (left_of h)) (pause_once first h c.1)
+pause_once first (did a ps ∷ h) c = less_too _ _ (pauses_by a (left_of first h)) (pause_once first h c.1)
+pause_once first (made_end ∷ h) c = less_too _ _ (fewer_pauses (left_of first h)) (pause_once first h c.1)
+pause_once first (evened ∷ h) c = less_too _ _ (fewer_pauses (left_of first h)) (pause_once first h c.1)
+pause_once first (paused ∷ h) c = less_too _ _ (fewer_pauses (left_of first h)) (pause_once first h c.1)
 pause_once first (became call m ∷ h) c = pause_once first h c.1
-pause_once first (cut k ∷ h) c = less_too _ _ (let e = pauses_kept (left_of h) in omega (arith, e)) (pause_once first h c.1)
-pause_once first (halted ∷ h) c = less_too _ _ (fewer_pauses (left_of h)) (pause_once first h c.1)
+pause_once first (cut k ∷ h) c = less_too _ _ (let e = pauses_kept (left_of first h) in omega (arith, e)) (pause_once first h c.1)
+pause_once first (halted ∷ h) c = less_too _ _ (fewer_pauses (left_of first h)) (pause_once first h c.1)
 pause_once first (closing ∷ h) c = omega arith
 pause_once first (turned t ∷ h) c = pause_once first h c.1
 
@@ -65,10 +67,10 @@ one_at_most : (b : Bool) → one_if b ≤ 1
 one_at_most true = omega arith
 one_at_most false = omega arith
 
-pub number_few : (board : Controller) (h : Journal) → GoingFits board h → number_of board.flags h < 64
-number_few board h fits =
-    let p = pause_once fits.keeps.first h fits.keeps.conducted in
+pub number_few : (first : Opening) (board : Controller) (h : Journal) → GoingFits first board h → number_of first board.flags h < 64
+number_few first board h fits =
+    let p = pause_once first h fits.keeps.conducted in
     let w = few_words board.flags in
-    let m = few_changes (motion_of h) (has_cut h) in
+    let m = few_changes (motion_of first h) (has_cut h) in
     let o = one_at_most (nat_eq (length (closed_tells h)) 0) in
     omega (arith, p, w, m, o)

@@ -15,17 +15,18 @@ use Rattle.outside.specs.declared.Turn.TheVariants.{Did, Wait}
 use Rattle.outside.specs.declared.On.TheVariants.{ReplyRoom}
 use Rattle.run_rules.specs.declared.State.{State}
 use Rattle.run_rules.specs.Reports.{Shows}
-use Rattle.flight.specs.Places.{machine_at}
+use Rattle.flight.specs.Places.{machine_from}
 use Rattle.status_report.specs.declared.Reply.{Reply}
 use Rattle.status_report.specs.declared.Reply.TheVariants as replies
 use Rattle.status_report.specs.declared.reports.Report.{Report}
+use Rattle.board_rules.specs.Openings.{Opening}
 use Rattle.board_rules.specs.Ports.{PortLog, MayAnswer, LacksReplyRoom, said}
 use Rattle.board_rules.specs.Ports.PortStep.{found_free, reported, no_reply_room}
 use Rattle.board_rules.specs.Steps.{Step, Journal, port_log, published_of, known_of, whole_of, plan_of, motion_of}
 use Rattle.board_rules.specs.Steps.Step.{at_port, became}
 use Rattle.board_rules.specs.Turns.{this_turn, publishing, passing, moving, found_none, lacks_reply_room, loads, has_blocks, is_going, is_due, flags_taken, unobeyed_of, owes_report, takes_changes, replans, tries_of, waits_of}
 use Rattle.board_rules.specs.Conduct.{IsDrained, IsStopped, IsReportAt}
-use Rattle.board_rules.proofs.Limits.{few_answered}
+use Rattle.board_rules.proofs.Greeting.{may_report}
 use Rattle.units.specs.Truths.{one_if}
 use Rattle.controller.specs.declared.controller.Controller.{Controller}
 use Rattle.controller.specs.declared.controller.Beat.TheVariants.{Motion, Main}
@@ -44,7 +45,7 @@ use Rattle.controller.proofs.Ends.{MayTry, sent_by, rounds_still, none_called, n
 -- ---- before the report
 
 -- what is found before a report is tried to be told
-pub record IsFound (word : Option Exec) (h : Journal) : Type 0 where
+pub record IsFound (first : Opening) (word : Option Exec) (h : Journal) : Type 0 where
   pub still : list_any passing (this_turn h) ≡ false
   pub quiet : count_by publishing (this_turn h) ≡ 0
   pub owed : owes_report h ≡ true
@@ -52,16 +53,16 @@ pub record IsFound (word : Option Exec) (h : Journal) : Type 0 where
   pub flags : flags_taken h ≡ true
   pub changed : count_by replans (this_turn h) ≡ count_by takes_changes (this_turn h)
   pub load : list_any loads (this_turn h) ≡ true
-  pub idle : IsDrained h → is_going (motion_of h) ≡ false
-  pub stopped : IsStopped h → ⊥
+  pub idle : IsDrained h → is_going (motion_of first h) ≡ false
+  pub stopped : IsStopped first h → ⊥
   pub unpolled : list_any found_none (this_turn h) ≡ false
-  pub tried : is_due h ≡ true → waits_of h ≡ []
-  pub none_waits : NoneWaits h
-  pub adds : NoneFits h
-  pub tries : tries_of h + one_if (whole_of h) ≤ 1
+  pub tried : is_due first h ≡ true → waits_of h ≡ []
+  pub none_waits : NoneWaits first h
+  pub adds : NoneFits first h
+  pub tries : tries_of first h + one_if (whole_of h) ≤ 1
 
-pub found : (word : Option Exec) (h next : Journal) → IsToReport word h → HasObserved h next → IsFound word next
-found word h next t o =
+pub found : (first : Opening) (word : Option Exec) (h next : Journal) → IsToReport first word h → HasObserved first h next → IsFound first word next
+found first word h next t o =
     let p = o.passes in
     record {
       still = p.still ∙ t.still;
@@ -75,13 +76,13 @@ found word h next t o =
       stopped = o.stopped;
       unpolled = p.polled ∙ t.unpolled;
       tried = λ due. p.waits ∙ t.tried (o.due due);
-      none_waits = λ w. none_waits_so h next p.jogged o.stays t.none_waits (o.waiting w) w;
-      adds = none_fits_so h next o.stays t.adds;
+      none_waits = λ w. (none_waits_so first) h next p.jogged o.stays t.none_waits (o.waiting w) w;
+      adds = none_fits_so first h next o.stays t.adds;
       tries = (let a = p.tries in let b = ap one_if p.whole in let d = t.tries in omega (arith, a, b, d));
     }
 
-found_room : (word : Option Exec) (bytes : ℕ) (h : Journal) → IsFound word h → IsFound word (at_port (found_free bytes) ∷ h)
-found_room word bytes h f =
+found_room : (first : Opening) (word : Option Exec) (bytes : ℕ) (h : Journal) → IsFound first word h → IsFound first word (at_port (found_free bytes) ∷ h)
+found_room first word bytes h f =
     let s = at_port (found_free bytes) in
     record {
       still = f.still;
@@ -100,22 +101,22 @@ found_room word bytes h f =
       tries = f.tries;
     }
 
-pub found_asked : (word : Option Exec) (buffer : Option (ℕ × ℕ)) (h next : Journal) → IsFound word h → HasAskedRoom buffer h next → IsFound word next
-found_asked word buffer h next f a = by_are a.are
+pub found_asked : (first : Opening) (word : Option Exec) (buffer : Option (ℕ × ℕ)) (h next : Journal) → IsFound first word h → HasAskedRoom buffer h next → IsFound first word next
+found_asked first word buffer h next f a = by_are a.are
   where
-    by_are : (next ≡ h) ⊎ ((bytes : ℕ) × (next ≡ at_port (found_free bytes) ∷ h)) → IsFound word next
-    by_are (inl same) = subst (λ (j : Journal). IsFound word j) (sym same) f
-    by_are (inr asked) = subst (λ (j : Journal). IsFound word j) (sym asked.1) (found_room word asked.0 h f)
+    by_are : (next ≡ h) ⊎ ((bytes : ℕ) × (next ≡ at_port (found_free bytes) ∷ h)) → IsFound first word next
+    by_are (inl same) = subst (λ (j : Journal). IsFound first word j) (sym same) f
+    by_are (inr asked) = subst (λ (j : Journal). IsFound first word j) (sym asked.1) (found_room first word asked.0 h f)
 
-pub flies_asked : (c : Controller) (buffer : Option (ℕ × ℕ)) (h next : Journal) → Flies c.flight (published_of h) (known_of h) → HasAskedRoom buffer h next → Flies c.flight (published_of next) (known_of next)
-flies_asked c buffer h next flies a = by_are a.are
+pub flies_asked : (first : Opening) (c : Controller) (buffer : Option (ℕ × ℕ)) (h next : Journal) → Flies first.place c.flight (published_of h) (known_of h) → HasAskedRoom buffer h next → Flies first.place c.flight (published_of next) (known_of next)
+flies_asked first c buffer h next flies a = by_are a.are
   where
-    by_are : (next ≡ h) ⊎ ((bytes : ℕ) × (next ≡ at_port (found_free bytes) ∷ h)) → Flies c.flight (published_of next) (known_of next)
-    by_are (inl same) = subst (λ (j : Journal). Flies c.flight (published_of j) (known_of j)) (sym same) flies
-    by_are (inr asked) = subst (λ (j : Journal). Flies c.flight (published_of j) (known_of j)) (sym asked.1) flies
+    by_are : (next ≡ h) ⊎ ((bytes : ℕ) × (next ≡ at_port (found_free bytes) ∷ h)) → Flies first.place c.flight (published_of next) (known_of next)
+    by_are (inl same) = subst (λ (j : Journal). Flies first.place c.flight (published_of j) (known_of j)) (sym same) flies
+    by_are (inr asked) = subst (λ (j : Journal). Flies first.place c.flight (published_of j) (known_of j)) (sym asked.1) flies
 
-behind_asked : (buffer : Option (ℕ × ℕ)) (h mid next : Journal) → HasObserved h mid → HasAskedRoom buffer mid next → IsBehind h next
-behind_asked buffer h mid next o a = by_are a.are
+behind_asked : (first : Opening) (buffer : Option (ℕ × ℕ)) (h mid next : Journal) → HasObserved first h mid → HasAskedRoom buffer mid next → IsBehind h next
+behind_asked first buffer h mid next o a = by_are a.are
   where
     by_are : (next ≡ mid) ⊎ ((bytes : ℕ) × (next ≡ at_port (found_free bytes) ∷ mid)) → IsBehind h next
     by_are (inl same) = record { steps = o.passes.steps; are = same ∙ o.passes.are }
@@ -127,24 +128,24 @@ room_known buffer h next a = record { are = inl refl; room = a.room }
 
 -- ---- the report
 
-pub may_tell : (c : Controller) (r : Report) (h : Journal) → Keeps c h → IsTold c r h → MayAnswer (port_log h) (replies.Report r)
-may_tell c r h k told = record { line = λ e. absurd cc; text = told.valid; few = few_answered k.first h k.conducted }
+pub may_tell : (first : Opening) (c : Controller) (r : Report) (h : Journal) → Keeps first c h → IsTold first c r h → MayAnswer (port_log h) (replies.Report r)
+may_tell first c r h k told = may_report first h r k.conducted told.valid
 
-report_at : (c : Controller) (word : Option Exec) (r : Report) (h : Journal) (k : Keeps c h) → IsFound word h → IsTold c r h → IsReportAt k.first r h
-report_at c word r h k f told = record {
+report_at : (first : Opening) (c : Controller) (word : Option Exec) (r : Report) (h : Journal) (k : Keeps first c h) → IsFound first word h → IsTold first c r h → IsReportAt first r h
+report_at first c word r h k f told = record {
   owed = f.owed;
   load = f.load;
   idle = f.idle;
   stopped = f.stopped;
-  shows = subst (λ (s : State). Shows (machine_at (published_of h) (known_of h)) s r) k.lines.state_is told.shows;
+  shows = subst (λ (s : State). Shows (machine_from first.place (published_of h) (known_of h)) s r) k.lines.state_is told.shows;
   room = told.room;
   feed = told.feed;
   overrides = told.overrides;
   state = told.state;
 }
 
-reported_told : (word : Option Exec) (r : Report) (h : Journal) → IsFound word h → IsReported true word (at_port (reported r) ∷ h)
-reported_told word r h f =
+reported_told : (first : Opening) (word : Option Exec) (r : Report) (h : Journal) → IsFound first word h → IsReported first true word (at_port (reported r) ∷ h)
+reported_told first word r h f =
     let s = at_port (reported r) in
     record {
       still = λ e. absurd cc;
@@ -164,8 +165,8 @@ reported_told word r h f =
       tries = f.tries;
     }
 
-reported_kept : (word : Option Exec) (h : Journal) → IsFound word h → IsReported false word (at_port no_reply_room ∷ h)
-reported_kept word h f =
+reported_kept : (first : Opening) (word : Option Exec) (h : Journal) → IsFound first word h → IsReported first false word (at_port no_reply_room ∷ h)
+reported_kept first word h f =
     let s = at_port no_reply_room in
     record {
       still = λ e. f.still;
@@ -186,30 +187,30 @@ reported_kept word h f =
     }
 
 -- behind a journal a report was tried to be told
-abbrev pub Reports : (PortLog → Type 0) → Bool → Controller → Option Exec → Journal → Type 0
-Reports stands told c word h = (next : Journal) × stands (port_log next) × Keeps (record c { owes = not told }) next × IsReported told word next × IsBehind h next
+abbrev pub Reports : Opening → (PortLog → Type 0) → Bool → Controller → Option Exec → Journal → Type 0
+Reports first stands told c word h = (next : Journal) × stands (port_log next) × Keeps first (record c { owes = not told }) next × IsReported first told word next × IsBehind h next
 
-pub reports : (Rest : Type 0) (old new : Rest → PortLog → Type 0) (rest : Rest) (answer : Result (Unit {0}) Reply) (c : Controller) (word : Option Exec) (buffer : Option (ℕ × ℕ)) (r : Report) (h mid next : Journal)
-    → IsToReport word h → HasObserved h mid → HasAskedRoom buffer mid next → Keeps c next → IsTold c r next → old rest (port_log next)
+pub reports : (first : Opening) (Rest : Type 0) (old new : Rest → PortLog → Type 0) (rest : Rest) (answer : Result (Unit {0}) Reply) (c : Controller) (word : Option Exec) (buffer : Option (ℕ × ℕ)) (r : Report) (h mid next : Journal)
+    → IsToReport first word h → HasObserved first h mid → HasAskedRoom buffer mid next → Keeps first c next → IsTold first c r next → old rest (port_log next)
     → OnOk answer ((rest : Rest) (l : PortLog) → old rest l → MayAnswer l (replies.Report r) → new rest (said (replies.Report r) ∷ l))
     → OnErr answer ((rest : Rest) (l : PortLog) → old rest l → new rest (no_reply_room ∷ l) × LacksReplyRoom l)
-    → Reports (new rest) (is_ok answer) c word h
-reports Rest old new rest (Ok x) c word buffer r h mid next t o a k told stood ok full =
-    let f = found_asked word buffer mid next (found word h mid t o) a in
-    let b = behind_asked buffer h mid next o a in (
+    → Reports first (new rest) (is_ok answer) c word h
+reports first Rest old new rest (Ok x) c word buffer r h mid next t o a k told stood ok full =
+    let f = found_asked first word buffer mid next (found first word h mid t o) a in
+    let b = behind_asked first buffer h mid next o a in (
       at_port (reported r) ∷ next,
-      ok rest (port_log next) stood (may_tell c r next k told),
-      report_told c r next k (report_at c word r next k f told),
-      reported_told word r next f,
+      ok rest (port_log next) stood (may_tell first c r next k told),
+      report_told first c r next k (report_at first c word r next k f told),
+      reported_told first word r next f,
       record { steps = at_port (reported r) ∷ b.steps; are = ap (λ (j : Journal). at_port (reported r) ∷ j) b.are },
     )
-reports Rest old new rest (Err e) c word buffer r h mid next t o a k told stood ok full =
-    let f = found_asked word buffer mid next (found word h mid t o) a in
-    let b = behind_asked buffer h mid next o a in (
+reports first Rest old new rest (Err e) c word buffer r h mid next t o a k told stood ok full =
+    let f = found_asked first word buffer mid next (found first word h mid t o) a in
+    let b = behind_asked first buffer h mid next o a in (
       at_port no_reply_room ∷ next,
       (full rest (port_log next) stood).0,
-      report_kept c next k f.owed,
-      reported_kept word next f,
+      report_kept first c next k f.owed,
+      reported_kept first word next f,
       record { steps = at_port no_reply_room ∷ b.steps; are = ap (λ (j : Journal). at_port no_reply_room ∷ j) b.are },
     )
 
@@ -219,11 +220,11 @@ motion_beat : (board : Controller) → board.beat ≡ Motion → has_published b
 motion_beat board beat e = absurd (let s = sym (ap has_published beat) ∙ e in cc)
 
 -- the room is waited for
-waits_for_room : (board : Controller) (was : Flags) (h next : Journal) (steps : List Step) → next ≡ steps ++ h → Keeps board next → LacksRoom next → (is_due next ≡ true → waits_of next ≡ []) → board.beat ≡ Motion
-    → board.flags ≡ words.Both → BoardWorked (Wait ReplyRoom) was board h next
-waits_for_room board was h next steps are keeps l tried beat both = record {
+waits_for_room : (first : Opening) (board : Controller) (was : Flags) (h next : Journal) (steps : List Step) → next ≡ steps ++ h → Keeps first board next → LacksRoom first next → (is_due first next ≡ true → waits_of next ≡ []) → board.beat ≡ Motion
+    → board.flags ≡ words.Both → BoardWorked first (Wait ReplyRoom) was board h next
+waits_for_room first board was h next steps are keeps l tried beat both = record {
   keeps = keeps;
-  rounds = subst (λ b. Rounds b next) (sym beat) (rounds_still next l.none_waits l.tries);
+  rounds = subst (λ b. (Rounds first) b next) (sym beat) (rounds_still first next l.none_waits l.tries);
   flags = subst (λ f. TakesFlags f next) (sym both) l.words;
   still = λ e. absurd (motion_beat board beat e);
   beat = λ o e. beat;
@@ -233,11 +234,11 @@ waits_for_room board was h next steps are keeps l tried beat both = record {
     ends = record {
       once = (let q = l.quiet in omega (arith, q));
       adds = l.adds;
-      starts = none_called next l.unpolled l.none_waits;
+      starts = none_called first next l.unpolled l.none_waits;
       tries = (let t = l.tries in omega (arith, t));
       obeyed = λ e. l.words;
       changed = l.changed;
-      halts = halts_by board next keeps;
+      halts = halts_by first board next keeps;
     };
     cause = l.lacks;
     still = l.still;
@@ -250,9 +251,9 @@ waits_for_room board was h next steps are keeps l tried beat both = record {
 }
 
 -- nothing is in hand, nor due
-pub waits_idle : (board : Controller) (was : Flags) (h : Journal) → Keeps board h → LacksRoom h → (HasPiece h → ⊥) → board.beat ≡ Motion → BoardWorked (Wait ReplyRoom) was (record board { flags = words.Both }) h h
-waits_idle board was h k l none beat =
-    waits_for_room (record board { flags = words.Both }) was h h [] refl (other_flags board words.Both h k) l (λ due. absurd (none (inr due))) beat refl
+pub waits_idle : (first : Opening) (board : Controller) (was : Flags) (h : Journal) → Keeps first board h → LacksRoom first h → (HasPiece first h → ⊥) → board.beat ≡ Motion → BoardWorked first (Wait ReplyRoom) was (record board { flags = words.Both }) h h
+waits_idle first board was h k l none beat =
+    waits_for_room first (record board { flags = words.Both }) was h h [] refl (other_flags first board words.Both h k) l (λ due. absurd (none (inr due))) beat refl
 
 less_or : (a b c : Bool) → (a ≡ true → b ≡ true) → (b || c) ≡ false → (a || c) ≡ false
 less_or false false c then none = none
@@ -261,11 +262,11 @@ less_or true false c then none = absurd (let e = then refl in cc)
 less_or true true c then none = absurd cc
 
 -- a piece was handed back
-pub waits_handed : (board : Controller) (was : Flags) (h mid next : Journal) → Keeps board next → LacksRoom h → HasTried false h mid → HasFilled mid next → board.beat ≡ Motion → board.flags ≡ words.Both
-    → BoardWorked (Wait ReplyRoom) was board h next
-waits_handed board was h mid next k l tried filled beat both =
+pub waits_handed : (first : Opening) (board : Controller) (was : Flags) (h mid next : Journal) → Keeps first board next → LacksRoom first h → HasTried first false h mid → HasFilled first mid next → board.beat ≡ Motion → board.flags ≡ words.Both
+    → BoardWorked first (Wait ReplyRoom) was board h next
+waits_handed first board was h mid next k l tried filled beat both =
     let a = filled.alone.passes in
-    waits_for_room board was h next (a.steps ++ tried.steps) (a.are ∙ ap (λ (x : Journal). a.steps ++ x) tried.are ∙ sym (append_assoc a.steps tried.steps h)) k
+    waits_for_room first board was h next (a.steps ++ tried.steps) (a.are ∙ ap (λ (x : Journal). a.steps ++ x) tried.are ∙ sym (append_assoc a.steps tried.steps h)) k
     (record {
       still = a.still ∙ tried.still refl ∙ l.still;
       quiet = (let q = tried.quiet in let r = a.quiet in let s = l.quiet in omega arith);
@@ -277,22 +278,22 @@ waits_handed board was h mid next k l tried filled beat both =
       unpolled = a.polled ∙ tried.polled ∙ l.unpolled;
       none_waits = filled.none_waits;
       adds = filled.adds;
-      tries = (let f = tried.later (uncounted_owing h l.owed) in let t = a.tries in let w = ap one_if (a.whole ∙ tried.whole) in let m = l.tries in omega (arith, f, t, w, m));
+      tries = (let f = tried.later (uncounted_owing first h l.owed) in let t = a.tries in let w = ap one_if (a.whole ∙ tried.whole) in let m = l.tries in omega (arith, f, t, w, m));
     }) (λ due. a.waits ∙ tried.waits) beat both
 
 -- a piece was published, and the report is still told next
-pub sent_owing : (board : Controller) (was : Flags) (h mid next : Journal) → Keeps board next → LacksRoom h → HasTried true h mid → HasFilled mid next
-    → BoardWorked Did was (record board { flags = words.Report None; beat = Main }) h next × (list_any moving (this_turn next) ≡ true)
-sent_owing board was h mid next k l tried filled =
+pub sent_owing : (first : Opening) (board : Controller) (was : Flags) (h mid next : Journal) → Keeps first board next → LacksRoom first h → HasTried first true h mid → HasFilled first mid next
+    → BoardWorked first Did was (record board { flags = words.Report None; beat = Main }) h next × (list_any moving (this_turn next) ≡ true)
+sent_owing first board was h mid next k l tried filled =
     let a = filled.alone.passes in
-    let may : MayTry h = record {
+    let may : MayTry first h = record {
       quiet = l.quiet;
       worked = record { obeyed = λ e. l.words; changed = l.changed };
       flags = l.flags;
       polled = λ e. absurd (let n = l.unpolled in cc);
       tries = l.tries;
     } in (
-      sent_by was (record board { flags = words.Report None }) h mid next may tried filled (other_flags board (words.Report None) next k) refl
+      sent_by first was (record board { flags = words.Report None }) h mid next may tried filled (other_flags first board (words.Report None) next k) refl
           (record { flags = a.flags ∙ tried.flags ∙ l.flags; next = a.words ∙ tried.words ∙ l.words; owed = a.owed ∙ tried.owed ∙ l.owed }),
       a.moves (tried.moves refl),
     )
@@ -300,7 +301,7 @@ sent_owing board was h mid next k l tried filled =
 -- ---- the word that waits for it
 
 -- what a report leaves behind it holds behind the word too
-pub record IsObeyed (told : Bool) (h : Journal) : Type 0 where
+pub record IsObeyed (first : Opening) (told : Bool) (h : Journal) : Type 0 where
   pub still : told ≡ false → list_any passing (this_turn h) ≡ false
   pub quiet : count_by publishing (this_turn h) ≡ one_if told
   pub moves : told ≡ true → list_any moving (this_turn h) ≡ true
@@ -310,12 +311,12 @@ pub record IsObeyed (told : Bool) (h : Journal) : Type 0 where
   pub flags : flags_taken h ≡ true
   pub changed : count_by replans (this_turn h) ≡ count_by takes_changes (this_turn h)
   pub unpolled : list_any found_none (this_turn h) ≡ false
-  pub none_waits : NoneWaits h
-  pub adds : NoneFits h
-  pub tries : tries_of h + one_if (whole_of h) ≤ 1
+  pub none_waits : NoneWaits first h
+  pub adds : NoneFits first h
+  pub tries : tries_of first h + one_if (whole_of h) ≤ 1
 
-pub obeyed_word : (told : Bool) (waiting : Option Exec) (h : Journal) → IsReported told waiting h → IsObeyed told (obeying waiting h)
-obeyed_word told None h r = record {
+pub obeyed_word : (first : Opening) (told : Bool) (waiting : Option Exec) (h : Journal) → IsReported first told waiting h → IsObeyed first told (obeying first waiting h)
+obeyed_word first told None h r = record {
   still = r.still;
   quiet = r.quiet;
   moves = r.moves;
@@ -329,8 +330,8 @@ obeyed_word told None h r = record {
   adds = r.adds;
   tries = r.tries;
 }
-obeyed_word told (Some word) h r =
-    let s = became (on_exec word (has_blocks (plan_of h).blocks)) (after_word word (has_blocks (plan_of h).blocks) (motion_of h)) in
+obeyed_word first told (Some word) h r =
+    let s = became (on_exec word (has_blocks (plan_of h).blocks)) (after_word word (has_blocks (plan_of h).blocks) (motion_of first h)) in
     record {
       still = r.still;
       quiet = publishes_none s (this_turn h) refl ∙ r.quiet;
@@ -341,14 +342,14 @@ obeyed_word told (Some word) h r =
       flags = r.flags;
       changed = counts_none replans s (this_turn h) refl ∙ r.changed ∙ sym (counts_none takes_changes s (this_turn h) refl);
       unpolled = r.unpolled;
-      none_waits = λ w. r.none_waits (waited_before word h (record { stands = w.stands; blocks = w.blocks }));
+      none_waits = λ w. r.none_waits (waited_before first word h (record { stands = w.stands; blocks = w.blocks }));
       adds = r.adds;
       tries = r.tries;
     }
 
-pub lacks_room : (waiting : Option Exec) (h : Journal) → IsReported false waiting h → LacksRoom (obeying waiting h)
-lacks_room waiting h r =
-    let o = obeyed_word false waiting h r in
+pub lacks_room : (first : Opening) (waiting : Option Exec) (h : Journal) → IsReported first false waiting h → LacksRoom first (obeying first waiting h)
+lacks_room first waiting h r =
+    let o = obeyed_word first false waiting h r in
     record {
       still = o.still refl;
       quiet = o.quiet;
@@ -363,30 +364,30 @@ lacks_room waiting h r =
       tries = o.tries;
     }
 
-pub behind_word : (waiting : Option Exec) (h next : Journal) → IsBehind h next → IsBehind h (obeying waiting next)
-behind_word None h next b = record { steps = b.steps; are = b.are }
-behind_word (Some word) h next b =
-    let s = became (on_exec word (has_blocks (plan_of next).blocks)) (after_word word (has_blocks (plan_of next).blocks) (motion_of next)) in
+pub behind_word : (first : Opening) (waiting : Option Exec) (h next : Journal) → IsBehind h next → IsBehind h (obeying first waiting next)
+behind_word first None h next b = record { steps = b.steps; are = b.are }
+behind_word first (Some word) h next b =
+    let s = became (on_exec word (has_blocks (plan_of next).blocks)) (after_word word (has_blocks (plan_of next).blocks) (motion_of first next)) in
     record { steps = s ∷ b.steps; are = ap (λ (j : Journal). s ∷ j) b.are }
 
-port_behind : (waiting : Option Exec) (h : Journal) → port_log (obeying waiting h) ≡ port_log h
-port_behind None h = refl
-port_behind (Some word) h = refl
+port_behind : (first : Opening) (waiting : Option Exec) (h : Journal) → port_log (obeying first waiting h) ≡ port_log h
+port_behind first None h = refl
+port_behind first (Some word) h = refl
 
-pub stands_behind : (stands : PortLog → Type 0) (waiting : Option Exec) (h : Journal) → stands (port_log h) → stands (port_log (obeying waiting h))
-stands_behind stands waiting h s = subst (λ l. stands l) (sym (port_behind waiting h)) s
+pub stands_behind : (first : Opening) (stands : PortLog → Type 0) (waiting : Option Exec) (h : Journal) → stands (port_log h) → stands (port_log (obeying first waiting h))
+stands_behind first stands waiting h s = subst (λ l. stands l) (sym (port_behind first waiting h)) s
 
 -- ---- the turn
 
 -- it was told
-pub did_report : (board : Controller) (was : Flags) (waiting : Option Exec) (h next : Journal) → Keeps board (obeying waiting next) → IsReported true waiting next → IsBehind h next → board.beat ≡ Motion
-    → BoardWorked Did was (record board { flags = words.None }) h (obeying waiting next)
-did_report board was waiting h next k r b beat =
-    let o = obeyed_word true waiting next r in
-    let on = behind_word waiting h next b in
+pub did_report : (first : Opening) (board : Controller) (was : Flags) (waiting : Option Exec) (h next : Journal) → Keeps first board (obeying first waiting next) → IsReported first true waiting next → IsBehind h next → board.beat ≡ Motion
+    → BoardWorked first Did was (record board { flags = words.None }) h (obeying first waiting next)
+did_report first board was waiting h next k r b beat =
+    let o = obeyed_word first true waiting next r in
+    let on = behind_word first waiting h next b in
     record {
-      keeps = other_flags board words.None (obeying waiting next) k;
-      rounds = subst (λ x. Rounds x (obeying waiting next)) (sym beat) (rounds_still (obeying waiting next) o.none_waits o.tries);
+      keeps = other_flags first board words.None (obeying first waiting next) k;
+      rounds = subst (λ x. (Rounds first) x (obeying first waiting next)) (sym beat) (rounds_still first (obeying first waiting next) o.none_waits o.tries);
       flags = record { flags = o.flags; obeyed = o.words; unowed = o.owed };
       still = λ e. refl;
       beat = λ on e. beat;
@@ -395,18 +396,18 @@ did_report board was waiting h next k r b beat =
       may = record {
         once = (let q = o.quiet in omega (arith, q));
         adds = o.adds;
-        starts = none_called (obeying waiting next) o.unpolled o.none_waits;
+        starts = none_called first (obeying first waiting next) o.unpolled o.none_waits;
         tries = (let t = o.tries in omega (arith, t));
         obeyed = λ e. o.words;
         changed = o.changed;
-        halts = halts_by board (obeying waiting next) k;
+        halts = halts_by first board (obeying first waiting next) k;
       };
       moves = λ e. inl (o.moves refl);
     }
 
 -- it was not, and the board went on
-pub went_on : (t : Turn) (board : Controller) (was : Flags) (h mid next : Journal) → IsBehind h mid → BoardWorked t was board mid next → (t ≡ Did → list_any moving (this_turn next) ≡ true) → BoardWorked t was board h next
-went_on t board was h mid next b w moved = record {
+pub went_on : (first : Opening) (t : Turn) (board : Controller) (was : Flags) (h mid next : Journal) → IsBehind h mid → BoardWorked first t was board mid next → (t ≡ Did → list_any moving (this_turn next) ≡ true) → BoardWorked first t was board h next
+went_on first t board was h mid next b w moved = record {
   keeps = w.keeps;
   rounds = w.rounds;
   flags = w.flags;

@@ -2,7 +2,7 @@
 use Rattle.std.proofs.Common.{◌≡◌, inr, true, false, [], sym, refl, ap, ◌∙◌, arith}
 use Rattle.std.specs.declared.option.Option.{Option}
 use Rattle.code_table.specs.declared.flags.Exec.{Exec}
-use Rattle.run_rules.specs.declared.State.{State}
+use Rattle.board_rules.specs.Openings.{Opening}
 use Rattle.board_rules.specs.Steps.{Journal}
 use Rattle.board_rules.specs.Turns.{passing, found_none, is_due, waits_of}
 use Rattle.board_rules.specs.Conduct.{Conducted}
@@ -30,8 +30,8 @@ none_left words.None none no_report = refl
 -- ---- a report that is owed
 
 -- what was tried first was handed back, and moves were added
-pub owing_tried : (word : Option Exec) (h mid next : Journal) → Rounds Motion h → GoingBetween h → IsAsked word h → HasTried false h mid → HasFilled mid next → IsToReport word next
-owing_tried word h mid next r between asked tried filled =
+pub owing_tried : (first : Opening) (word : Option Exec) (h mid next : Journal) → Rounds first Motion h → GoingBetween h → IsAsked word h → HasTried first false h mid → HasFilled first mid next → IsToReport first word next
+owing_tried first word h mid next r between asked tried filled =
     let a = filled.alone.passes in
     let w = ap one_if (a.whole ∙ tried.whole) in
     record {
@@ -43,11 +43,11 @@ owing_tried word h mid next r between asked tried filled =
       tried = λ due. a.waits ∙ tried.waits;
       none_waits = filled.none_waits;
       adds = filled.adds;
-      tries = (let t = a.tries in let f = tried.later (uncounted_owing h asked.owed) in let o = r.owed asked.owed in omega (arith, t, f, o, w));
+      tries = (let t = a.tries in let f = tried.later (uncounted_owing first h asked.owed) in let o = r.owed asked.owed in omega (arith, t, f, o, w));
     }
 
 -- no piece comes first
-pub owing_now : (first : State) (beat : Beat) (word : Option Exec) (h : Journal) → Conducted first h → Rounds beat h → GoingBetween h → IsAsked word h → (beat ≡ Motion → HasPiece h → ⊥) → IsToReport word h
+pub owing_now : (first : Opening) (beat : Beat) (word : Option Exec) (h : Journal) → Conducted first h → Rounds first beat h → GoingBetween h → IsAsked word h → (beat ≡ Motion → HasPiece first h → ⊥) → IsToReport first word h
 owing_now first beat word h c r between asked none = record {
   still = none_between h passing between;
   quiet = count_between h between;
@@ -60,6 +60,6 @@ owing_now first beat word h c r between asked none = record {
   tries = r.owed asked.owed;
 }
   where
-    by_beat : (b : Beat) → Rounds b h → (b ≡ Motion → HasPiece h → ⊥) → is_due h ≡ true → waits_of h ≡ []
+    by_beat : (b : Beat) → Rounds first b h → (b ≡ Motion → HasPiece first h → ⊥) → is_due first h ≡ true → waits_of h ≡ []
     by_beat Main rounds no_piece due = rounds.waits refl
     by_beat Motion rounds no_piece due = absurd (no_piece refl (inr due))

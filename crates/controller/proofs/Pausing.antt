@@ -4,6 +4,7 @@ use Rattle.outside.specs.declared.Turn.TheVariants.{Did}
 use Rattle.run_rules.specs.Work as work
 use Rattle.run_rules.specs.Work.Task.{pause}
 use Rattle.status_report.specs.declared.Reply.{Reply}
+use Rattle.board_rules.specs.Openings.{Opening}
 use Rattle.board_rules.specs.Steps.{Journal, left_of}
 use Rattle.board_rules.specs.Steps.Step.{paused}
 use Rattle.board_rules.specs.Turns.{this_turn, tries_of}
@@ -21,8 +22,8 @@ use Rattle.board_rules.proofs.Tries.{publishes_none, worked_behind}
 use Rattle.controller.proofs.Ends.{none_called, rounds_still, free_of, free_passed, takes_none, no_word_left}
 
 -- a pause less is left
-falls : (h next : Journal) → IsNextTask pause h → PassesNothing (paused ∷ h) next → number_of flags.None next < number_of flags.None h
-falls h next task passes =
+falls : (first : Opening) (h next : Journal) → IsNextTask first pause h → PassesNothing first (paused ∷ h) next → number_of first flags.None next < number_of first flags.None h
+falls first h next task passes =
     let fewer = passes.pauses in
     let slower = passes.changes in
     let one = ap work.pauses task in
@@ -30,21 +31,21 @@ falls h next task passes =
     omega (arith, fewer, slower, one, same)
 
 -- it is held, and what comes next is added
-pub paused_filled : (board was : Controller) (h next : Journal) → Keeps was h → IsReady h → IsNextTask pause h → HasFilled (paused ∷ h) next → Keeps board next → board.beat ≡ Motion → board.flags ≡ flags.None
-    → BoardWorked Did flags.None board h next
-paused_filled board was h next k ready task filled keeps beat no_word =
+pub paused_filled : (first : Opening) (board was : Controller) (h next : Journal) → Keeps first was h → IsReady first h → IsNextTask first pause h → HasFilled first (paused ∷ h) next → Keeps first board next → board.beat ≡ Motion → board.flags ≡ flags.None
+    → BoardWorked first Did flags.None board h next
+paused_filled first board was h next k ready task filled keeps beat no_word =
     let a = filled.alone.passes in
-    let some : left_of h ≡ [] → ⊥ = (λ none. none_next (left_of h) pause none task) in
-    let none_whole = ap one_if (not_whole k.first h k.conducted some) in
-    let few : tries_of h ≤ 1 = ready.few some in
+    let some : left_of first h ≡ [] → ⊥ = (λ none. none_next (left_of first h) pause none task) in
+    let none_whole = ap one_if (not_whole first h k.conducted some) in
+    let few : tries_of first h ≤ 1 = ready.few some in
     let free = free_of h ready.quiet in
     let t = a.tries in
     let w = ap one_if a.whole in
     let worked = a.worked (worked_behind paused h (paused ∷ h) refl (record { no_changes = refl; none_planned = refl }) refl refl ready.quiet.worked) in
     record {
       keeps = keeps;
-      rounds = subst (λ b. Rounds b next) (sym beat) (rounds_still next filled.none_waits (omega (arith, few, t, w, none_whole)));
-      flags = takes_none board next no_word (free_passed (paused ∷ h) next a (record { flags = free.flags; obeyed = free.obeyed; unowed = free.unowed }));
+      rounds = subst (λ b. (Rounds first) b next) (sym beat) (rounds_still first next filled.none_waits (omega (arith, few, t, w, none_whole)));
+      flags = takes_none board next no_word (free_passed first (paused ∷ h) next a (record { flags = free.flags; obeyed = free.obeyed; unowed = free.unowed }));
       beat = λ o e. beat;
       still = λ e. no_word_left board.flags no_word;
       steps = a.steps ++ paused ∷ [];
@@ -52,11 +53,11 @@ paused_filled board was h next k ready task filled keeps beat no_word =
       may = record {
         once = (let q = a.quiet in let p = publishes_none paused (this_turn h) refl in let r = ready.quiet.quiet in omega (arith, q, p, r));
         adds = filled.adds;
-        starts = none_called next (a.polled ∙ ready.unpolled) filled.none_waits;
+        starts = none_called first next (a.polled ∙ ready.unpolled) filled.none_waits;
         tries = omega (arith, few, t);
         obeyed = worked.obeyed;
         changed = worked.changed;
-        halts = halts_by board next keeps;
+        halts = halts_by first board next keeps;
       };
-      moves = λ e. inr (subst (λ f. number_of f next < number_of flags.None h) (sym no_word) (falls h next task a));
+      moves = λ e. inr (subst (λ f. (number_of first) f next < number_of first flags.None h) (sym no_word) (falls first h next task a));
     }

@@ -12,6 +12,7 @@ use Rattle.line_interpreter.specs.Interpreting.{Interpreting}
 use Rattle.line_interpreter.specs.Lefts.{IsNextOf, IsTodo}
 use Rattle.line_interpreter.specs.declared.tasks.Todo.{Todo}
 use Rattle.line_interpreter.specs.declared.tasks.Todo.TheVariants as todo
+use Rattle.board_rules.specs.Openings.{Opening}
 use Rattle.board_rules.specs.Steps.{Journal, given_of, hand_of, plan_of, motion_of}
 use Rattle.board_rules.specs.Steps.Step.{did, evened}
 use Rattle.board_rules.proofs.Tasks.{none_next, head_is}
@@ -24,8 +25,8 @@ use Rattle.board_rules.proofs.Facts.{no_rest_closing, no_normal_closing}
 use Rattle.controller.proofs.Steps.{is_next, rested, evens}
 use Rattle.board_rules.proofs.Tries.{alone_did, alone_even}
 
-still_stopped : (h : Journal) → HasStopped h → HasStopped (did Rest [] ∷ h)
-still_stopped h s = record {
+still_stopped : (first : Opening) (h : Journal) → HasStopped first h → HasStopped first (did Rest [] ∷ h)
+still_stopped first h s = record {
   drained = record {
     plan = s.drained.plan;
     hand = append-nil (hand_of h) ∙ s.drained.hand;
@@ -34,8 +35,8 @@ still_stopped h s = record {
   stands = s.stands;
 }
 
-still_stopped_even : (h : Journal) → HasStopped h → HasStopped (evened ∷ h)
-still_stopped_even h s = record {
+still_stopped_even : (first : Opening) (h : Journal) → HasStopped first h → HasStopped first (evened ∷ h)
+still_stopped_even first h s = record {
   drained = record {
     plan = record { blocks = s.drained.plan.blocks; speed = s.drained.plan.speed };
     hand = s.drained.hand;
@@ -45,24 +46,24 @@ still_stopped_even h s = record {
 }
 
 -- what was done by itself where the machine has stopped, and still has
-abbrev pub Passed : Controller → Journal → Type 0
-Passed board h = (next : Journal) × Keeps board next × HasStopped next × DidAlone h next
+abbrev pub Passed : Opening → Controller → Journal → Type 0
+Passed first board h = (next : Journal) × Keeps first board next × HasStopped first next × DidAlone first h next
 
 -- a rest that is next is over
-pub rest_over : (c : Controller) (i : Interpreting) (h : Journal) → Keeps c h → HasStopped h → IsNextOf (ask a_rest) c.lines.left → i ≡ record c.lines { left = drop 1 c.lines.left }
-    → Passed (record c { lines = i }) h
-rest_over c i h k stopped is same =
-    (did Rest [] ∷ h, rested c i h k (is_next c h (ask a_rest) k is) stopped.drained stopped.stands same, still_stopped h stopped, alone_did Rest [] h refl)
+pub rest_over : (first : Opening) (c : Controller) (i : Interpreting) (h : Journal) → Keeps first c h → HasStopped first h → IsNextOf (ask a_rest) c.lines.left → i ≡ record c.lines { left = drop 1 c.lines.left }
+    → Passed first (record c { lines = i }) h
+rest_over first c i h k stopped is same =
+    (did Rest [] ∷ h, rested first c i h k (is_next first c h (ask a_rest) k is) stopped.drained stopped.stands same, still_stopped first h stopped, alone_did first Rest [] h refl)
 
 -- each override is set to 100 percent
-pub normal_over : (c : Controller) (m : Machine) (i : Interpreting) (h : Journal) → Keeps c h → HasStopped h → IsNextOf normal c.lines.left
+pub normal_over : (first : Opening) (c : Controller) (m : Machine) (i : Interpreting) (h : Journal) → Keeps first c h → HasStopped first h → IsNextOf normal c.lines.left
     → ((p : Planned) (now : Motion) (hand given : List Piece) → Runs c.machine p now hand given → Runs m (record p { overrides = normal_overrides }) now hand given)
-    → i ≡ record c.lines { left = drop 1 c.lines.left } → Passed (record c { machine = m; lines = i }) h
-normal_over c m i h k stopped is runs same = (
+    → i ≡ record c.lines { left = drop 1 c.lines.left } → Passed first (record c { machine = m; lines = i }) h
+normal_over first c m i h k stopped is runs same = (
   evened ∷ h,
-  evens c m i h k (is_next c h normal k is) stopped.drained stopped.stands (runs (plan_of h) (motion_of h) (hand_of h) (given_of h) k.machine) same,
-  still_stopped_even h stopped,
-  alone_even h,
+  evens first c m i h k (is_next first c h normal k is) stopped.drained stopped.stands (runs (plan_of h) (motion_of first h) (hand_of h) (given_of h) k.machine) same,
+  still_stopped_even first h stopped,
+  alone_even first h,
 )
 
 -- what is next is no rest
@@ -104,18 +105,18 @@ fewer_left [] next = absurd (some_passed [] next refl)
 fewer_left (t ∷ ts) next = omega arith
 
 -- a board that closes its run has neither left
-pub none_passed : (c : Controller) (h : Journal) → Keeps c h → c.closing ≡ true → IsPassed c.lines.left → ⊥
-none_passed c h k closing (inl next) = no_rest_closing k.first h k.conducted (λ none. absurd (let e = sym none ∙ k.closed closing in cc)) (is_next c h (ask a_rest) k next)
-none_passed c h k closing (inr next) = no_normal_closing k.first h k.conducted (λ none. absurd (let e = sym none ∙ k.closed closing in cc)) (is_next c h normal k next)
+pub none_passed : (first : Opening) (c : Controller) (h : Journal) → Keeps first c h → c.closing ≡ true → IsPassed c.lines.left → ⊥
+none_passed first c h k closing (inl next) = no_rest_closing first h k.conducted (λ none. absurd (let e = sym none ∙ k.closed closing in cc)) (is_next first c h (ask a_rest) k next)
+none_passed first c h k closing (inr next) = no_normal_closing first h k.conducted (λ none. absurd (let e = sym none ∙ k.closed closing in cc)) (is_next first c h normal k next)
 
 -- a board whose plan has other overrides, or the same
-pub passed_even : (was b : Controller) (m : Machine) (i : Interpreting) (h : Journal) → Keeps was h → HasStopped h → IsNextOf normal was.lines.left
+pub passed_even : (first : Opening) (was b : Controller) (m : Machine) (i : Interpreting) (h : Journal) → Keeps first was h → HasStopped first h → IsNextOf normal was.lines.left
     → ((p : Planned) (now : Motion) (hand given : List Piece) → Runs was.machine p now hand given → Runs m (record p { overrides = normal_overrides }) now hand given)
-    → b ≡ record was { machine = m } → i ≡ record b.lines { left = drop 1 b.lines.left } → Passed (record b { lines = i }) h
-passed_even was b m i h k stopped is runs e same =
-    subst (λ (x : Controller). i ≡ record x.lines { left = drop 1 x.lines.left } → Passed (record x { lines = i }) h) (sym e) (λ s. normal_over was m i h k stopped is runs s) same
+    → b ≡ record was { machine = m } → i ≡ record b.lines { left = drop 1 b.lines.left } → Passed first (record b { lines = i }) h
+passed_even first was b m i h k stopped is runs e same =
+    subst (λ (x : Controller). i ≡ record x.lines { left = drop 1 x.lines.left } → Passed first (record x { lines = i }) h) (sym e) (λ s. (normal_over first) was m i h k stopped is runs s) same
 
-pub passed_rest : (was b : Controller) (i : Interpreting) (h : Journal) → Keeps was h → HasStopped h → IsNextOf (ask a_rest) was.lines.left
-    → b ≡ was → i ≡ record b.lines { left = drop 1 b.lines.left } → Passed (record b { lines = i }) h
-passed_rest was b i h k stopped is e same =
-    subst (λ (x : Controller). i ≡ record x.lines { left = drop 1 x.lines.left } → Passed (record x { lines = i }) h) (sym e) (λ s. rest_over was i h k stopped is s) same
+pub passed_rest : (first : Opening) (was b : Controller) (i : Interpreting) (h : Journal) → Keeps first was h → HasStopped first h → IsNextOf (ask a_rest) was.lines.left
+    → b ≡ was → i ≡ record b.lines { left = drop 1 b.lines.left } → Passed first (record b { lines = i }) h
+passed_rest first was b i h k stopped is e same =
+    subst (λ (x : Controller). i ≡ record x.lines { left = drop 1 x.lines.left } → Passed first (record x { lines = i }) h) (sym e) (λ s. (rest_over first) was i h k stopped is s) same

@@ -12,7 +12,7 @@ use Rattle.overrides.specs.Percents.{taken}
 use Rattle.line_geom.specs.declared.Block.{Block}
 use Rattle.plan_rules.specs.Plans.{Planned}
 use Rattle.planner_runs.specs.declared.Action.TheVariants.{Override}
-use Rattle.run_rules.specs.declared.State.{State}
+use Rattle.board_rules.specs.Openings.{Opening}
 use Rattle.run_rules.specs.Work.{Task, has_moves}
 use Rattle.run_rules.specs.Work.Task.{ask}
 use Rattle.step_line.specs.Asking.Asked.{a_move}
@@ -49,58 +49,58 @@ none_in (Some p) is = absurd cc
 abbrev pub SlowedDown : Machine → Type 0
 SlowedDown m = (is_stopping m.hold.motion ≡ true) × (m.plan.speed ≡ 0) × (m.hand ≡ None)
 
-pub slowed_now : (b : Controller) (h : Journal) → Keeps b h → HasSlowedDown h → SlowedDown b.machine
-slowed_now b h k s = (
+pub slowed_now : (first : Opening) (b : Controller) (h : Journal) → Keeps first b h → HasSlowedDown first h → SlowedDown b.machine
+slowed_now first b h k s = (
   ap is_stopping k.machine.motion_is ∙ s.slows,
   ap (λ (p : Planned). p.speed) k.machine.plan_is ∙ s.speed,
   none_in b.machine.hand (k.machine.hand_is ∙ s.empty),
 )
 
-pub slowed_is : (b : Controller) (h : Journal) → Keeps b h → SlowedDown b.machine → HasSlowedDown h
-slowed_is b h k s = record {
+pub slowed_is : (first : Opening) (b : Controller) (h : Journal) → Keeps first b h → SlowedDown b.machine → HasSlowedDown first h
+slowed_is first b h k s = record {
   slows = sym (ap is_stopping k.machine.motion_is) ∙ s.0;
   speed = sym (ap (λ (p : Planned). p.speed) k.machine.plan_is) ∙ s.1;
-  empty = hand_empty b h k s.2;
+  empty = hand_empty first b h k s.2;
 }
 
 -- a load finds it as it is
-slowed_looked : (done : ℕ) (h : Journal) → HasSlowedDown h → HasSlowedDown (at_port (loaded done) ∷ h)
-slowed_looked done h s = record { slows = s.slows; speed = s.speed; empty = s.empty }
+slowed_looked : (first : Opening) (done : ℕ) (h : Journal) → HasSlowedDown first h → HasSlowedDown first (at_port (loaded done) ∷ h)
+slowed_looked first done h s = record { slows = s.slows; speed = s.speed; empty = s.empty }
 
 -- each tick is found done
-pub found_stopped : (b : Controller) (f : Flying) (done : ℕ) (h : Journal) → Keeps b h → HasSlowedDown h → MayBeDone done (port_log h) → done ≡ b.machine.given
-    → ((published : List Piece) (known : ℕ) → Flies b.flight published known → Flies f published (max known (min done (ticks_together published)))) → IsFoundStopped f (at_port (loaded done) ∷ h)
-found_stopped b f done h k slowed may all learns = record {
-  stopped = record { slowed = slowed_looked done h slowed; done = all ∙ k.machine.given_is };
+pub found_stopped : (first : Opening) (b : Controller) (f : Flying) (done : ℕ) (h : Journal) → Keeps first b h → HasSlowedDown first h → MayBeDone done (port_log h) → done ≡ b.machine.given
+    → ((published : List Piece) (known : ℕ) → Flies first.place b.flight published known → Flies first.place f published (max known (min done (ticks_together published)))) → IsFoundStopped first f (at_port (loaded done) ∷ h)
+found_stopped first b f done h k slowed may all learns = record {
+  stopped = record { slowed = slowed_looked first done h slowed; done = all ∙ k.machine.given_is };
   load = refl;
-  flies = learned_all b f done h k may learns;
+  flies = learned_all first b f done h k may learns;
 }
 
 -- a board whose flight has learned that
-pub looked_learned : (b : Controller) (f : Flying) (done : ℕ) (h : Journal) → Keeps b h → MayBeDone done (port_log h)
-    → ((published : List Piece) (known : ℕ) → Flies b.flight published known → Flies f published (max known (min done (ticks_together published)))) → Keeps (record b { flight = f }) (at_port (loaded done) ∷ h)
-looked_learned b f done h k may learns = other_flight b f (at_port (loaded done) ∷ h) (looked b done h k may) (learned b f h done k may learns)
+pub looked_learned : (first : Opening) (b : Controller) (f : Flying) (done : ℕ) (h : Journal) → Keeps first b h → MayBeDone done (port_log h)
+    → ((published : List Piece) (known : ℕ) → Flies first.place b.flight published known → Flies first.place f published (max known (min done (ticks_together published)))) → Keeps first (record b { flight = f }) (at_port (loaded done) ∷ h)
+looked_learned first b f done h k may learns = other_flight first b f (at_port (loaded done) ∷ h) (looked first b done h k may) (learned first b f h done k may learns)
 
 -- ---- what is as it was
 
 -- no move that is next has room, where that was so
-pub none_fits_so : (h next : Journal) → StaysSo h next ⊎ IsCutNow h next → NoneFits h → NoneFits next
-none_fits_so h next (inl stays) fits m is = ap is_full stays.plan ∙ fits m (subst (λ (ts : List Task). ts ≡ ask (a_move m) ∷ drop 1 ts) stays.left is)
-none_fits_so h next (inr cuts) fits m is = absurd (none_asked (left_of next) (a_move m) cuts.none is)
+pub none_fits_so : (first : Opening) (h next : Journal) → StaysSo first h next ⊎ IsCutNow first h next → NoneFits first h → NoneFits first next
+none_fits_so first h next (inl stays) fits m is = ap is_full stays.plan ∙ fits m (subst (λ (ts : List Task). ts ≡ ask (a_move m) ∷ drop 1 ts) stays.left is)
+none_fits_so first h next (inr cuts) fits m is = absurd (none_asked (left_of first next) (a_move m) cuts.none is)
 
 -- nor does a queued block wait for a start
-pub none_waits_so : (h next : Journal) → has_jogged next ≡ has_jogged h → StaysSo h next ⊎ IsCutNow h next → NoneWaits h → AreWaiting h → AreWaiting next
-    → (is_full (plan_of next) || (awaits_motion (left_of next) || has_jogged next)) ≡ false
-none_waits_so h next jogged (inl stays) none before waiting =
-    same_calls (is_full (plan_of next)) (is_full (plan_of h)) (left_of next) (left_of h) (has_jogged next) (has_jogged h) (ap is_full stays.plan) stays.left jogged ∙ none before
-none_waits_so h next jogged (inr cuts) none before waiting = absurd (let e = sym waiting.stands ∙ cuts.cancelled in cc)
+pub none_waits_so : (first : Opening) (h next : Journal) → has_jogged next ≡ has_jogged h → StaysSo first h next ⊎ IsCutNow first h next → NoneWaits first h → AreWaiting first h → AreWaiting first next
+    → (is_full (plan_of next) || (awaits_motion (left_of first next) || has_jogged next)) ≡ false
+none_waits_so first h next jogged (inl stays) none before waiting =
+    same_calls (is_full (plan_of next)) (is_full (plan_of h)) (left_of first next) (left_of first h) (has_jogged next) (has_jogged h) (ap is_full stays.plan) stays.left jogged ∙ none before
+none_waits_so first h next jogged (inr cuts) none before waiting = absurd (let e = sym waiting.stands ∙ cuts.cancelled in cc)
 
 -- ---- it was settled
 
 -- it did not slow down
-pub settled_none : (h : Journal) → (HasSlowedDown h → ⊥) → HasSettled h h
-settled_none h moves = record {
-  passes = passes_none h;
+pub settled_none : (first : Opening) (h : Journal) → (HasSlowedDown first h → ⊥) → HasSettled first h h
+settled_none first h moves = record {
+  passes = passes_none first h;
   stays = inl (record { left = refl; hand = refl; plan = refl });
   changes = refl;
   looked = λ s. absurd (moves s);
@@ -112,9 +112,9 @@ settled_none h moves = record {
 }
 
 -- ticks are found not to be done
-pub settled_later : (b : Controller) (h : Journal) (done : ℕ) → Keeps b h → (done ≡ b.machine.given → ⊥) → HasSettled h (at_port (loaded done) ∷ h)
-settled_later b h done k fewer = record {
-  passes = passes_load done h;
+pub settled_later : (first : Opening) (b : Controller) (h : Journal) (done : ℕ) → Keeps first b h → (done ≡ b.machine.given → ⊥) → HasSettled first h (at_port (loaded done) ∷ h)
+settled_later first b h done k fewer = record {
+  passes = passes_load first done h;
   stays = inl (record { left = refl; hand = refl; plan = refl });
   changes = refl;
   looked = λ s. refl;
@@ -122,28 +122,28 @@ settled_later b h done k fewer = record {
   waiting = λ w. record { stands = w.stands; blocks = w.blocks };
   jogs = λ e. e;
   held = λ e. e;
-  falls = λ halts s other. absurd (other (slowed_looked done h s));
+  falls = λ halts s other. absurd (other (slowed_looked first done h s));
 }
 
 -- what came of it in a turn that looked, and is to be known for a report too
-pub record CameOf (h next : Journal) : Type 0 where
-  pub settled : HasSettled h next
+pub record CameOf (first : Opening) (h next : Journal) : Type 0 where
+  pub settled : HasSettled first h next
   pub load : list_any loads (this_turn next) ≡ true
-  pub idle : is_going (motion_of next) ≡ false
-  pub undue : is_due next ≡ false
+  pub idle : is_going (motion_of first next) ≡ false
+  pub undue : is_due first next ≡ false
 
 and_false : (a : Bool) → (a && false) ≡ false
 and_false true = refl
 and_false false = refl
 
 -- it is held
-came_held : (h : Journal) (done : ℕ) → motion_of h ≡ motions.Holding → CameOf h (became on_stopped motions.Held ∷ (at_port (loaded done) ∷ h))
-came_held h done slows =
+came_held : (first : Opening) (h : Journal) (done : ℕ) → motion_of first h ≡ motions.Holding → CameOf first h (became on_stopped motions.Held ∷ (at_port (loaded done) ∷ h))
+came_held first h done slows =
     let mid : Journal = at_port (loaded done) ∷ h in
     let two = ap (λ m. changes_left m (has_cut h)) slows in
     record {
       settled = record {
-        passes = passes_on h mid (became on_stopped motions.Held ∷ mid) (passes_load done h) (passes_motion on_stopped motions.Held mid refl (omega (arith, two)));
+        passes = passes_on first h mid (became on_stopped motions.Held ∷ mid) (passes_load first done h) (passes_motion first on_stopped motions.Held mid refl (omega (arith, two)));
         stays = inl (record { left = refl; hand = refl; plan = refl });
         changes = refl;
         looked = λ s. refl;
@@ -159,12 +159,12 @@ came_held h done slows =
     }
 
 -- it is in alarm at a soft limit
-came_locked : (h : Journal) (done : ℕ) → motion_of h ≡ motions.Stopping → CameOf h (became on_stopped motions.Alarm ∷ (at_port (loaded done) ∷ h))
-came_locked h done slows =
+came_locked : (first : Opening) (h : Journal) (done : ℕ) → motion_of first h ≡ motions.Stopping → CameOf first h (became on_stopped motions.Alarm ∷ (at_port (loaded done) ∷ h))
+came_locked first h done slows =
     let mid : Journal = at_port (loaded done) ∷ h in
     record {
       settled = record {
-        passes = passes_on h mid (became on_stopped motions.Alarm ∷ mid) (passes_load done h) (passes_motion on_stopped motions.Alarm mid refl (omega arith));
+        passes = passes_on first h mid (became on_stopped motions.Alarm ∷ mid) (passes_load first done h) (passes_motion first on_stopped motions.Alarm mid refl (omega arith));
         stays = inl (record { left = refl; hand = refl; plan = refl });
         changes = refl;
         looked = λ s. refl;
@@ -180,44 +180,44 @@ came_locked h done slows =
     }
 
 -- its jogs are cut
-came_cut : (h : Journal) (done k : ℕ) → IsUncut h → hand_of h ≡ [] → CameOf h (cut k ∷ (at_port (loaded done) ∷ h))
-came_cut h done k uncut empty =
+came_cut : (first : Opening) (h : Journal) (done k : ℕ) → IsUncut first h → hand_of h ≡ [] → CameOf first h (cut k ∷ (at_port (loaded done) ∷ h))
+came_cut first h done k uncut empty =
     let mid : Journal = at_port (loaded done) ∷ h in
     let one = ap (λ m. changes_left m true) uncut.cancelled in
     let two = ap (λ m. changes_left m (has_cut h)) uncut.cancelled ∙ ap (changes_left motions.Cancelling) uncut.uncut in
     let some : hand_of (cut k ∷ mid) ≡ [] → ⊥ = (λ e. let f = sym (ap (λ (ps : List Piece). ps ++ pieces.Mark (marks.Cut k) ∷ []) empty) ∙ e in absurd cc) in
     record {
       settled = record {
-        passes = passes_on h mid (cut k ∷ mid) (passes_load done h) (passes_cut k mid);
-        stays = inr (record { uncut = uncut; cancelled = uncut.cancelled; none = asks_dropped (left_of h); some = some });
+        passes = passes_on first h mid (cut k ∷ mid) (passes_load first done h) (passes_cut first k mid);
+        stays = inr (record { uncut = uncut; cancelled = uncut.cancelled; none = asks_dropped (left_of first h); some = some });
         changes = refl;
         looked = λ s. refl;
         stopped = λ s. some s.slowed.empty;
         waiting = λ w. absurd (let e = sym uncut.cancelled ∙ w.stands in cc);
-        jogs = λ e. ap (λ m. waits_to_jog m (has_jogged h) (has_moves (without_asks (left_of h)))) uncut.cancelled;
+        jogs = λ e. ap (λ m. waits_to_jog m (has_jogged h) (has_moves (without_asks (left_of first h)))) uncut.cancelled;
         held = λ e. absurd (let f = sym uncut.cancelled ∙ e in cc);
         falls = λ halts s other. omega (arith, one, two);
       };
       load = refl;
       idle = ap is_going uncut.cancelled;
-      undue = and_false (is_going (motion_of h) || is_slowing (motion_of h) 0);
+      undue = and_false (is_going (motion_of first h) || is_slowing (motion_of first h) 0);
     }
 
 -- they were cut, and it stands
-came_over : (first : State) (h : Journal) (done : ℕ) → Conducted first h → motion_of h ≡ motions.Cancelling → has_cut h ≡ true → CameOf h (became on_stopped motions.Idle ∷ (at_port (loaded done) ∷ h))
+came_over : (first : Opening) (h : Journal) (done : ℕ) → Conducted first h → motion_of first h ≡ motions.Cancelling → has_cut h ≡ true → CameOf first h (became on_stopped motions.Idle ∷ (at_port (loaded done) ∷ h))
 came_over first h done c cancelled was =
     let mid : Journal = at_port (loaded done) ∷ h in
     let off = cut_off first h c was in
     let one = ap (λ m. changes_left m (has_cut h)) cancelled ∙ ap (changes_left motions.Cancelling) was in
     record {
       settled = record {
-        passes = passes_on h mid (became on_stopped motions.Idle ∷ mid) (passes_load done h) (passes_motion on_stopped motions.Idle mid refl (omega arith));
+        passes = passes_on first h mid (became on_stopped motions.Idle ∷ mid) (passes_load first done h) (passes_motion first on_stopped motions.Idle mid refl (omega arith));
         stays = inl (record { left = refl; hand = refl; plan = refl });
         changes = refl;
         looked = λ s. refl;
         stopped = λ s. absurd (let e = s.slowed.slows in cc);
         waiting = λ w. absurd (let e = sym (ap has_blocks off.blocks) ∙ w.blocks in cc);
-        jogs = λ e. ap (λ (bs : List Block). has_jogged h && (has_blocks bs || has_moves (left_of h))) off.blocks ∙ ap (λ b. has_jogged h && b) (none_moves (left_of h) off.none) ∙ and_false (has_jogged h);
+        jogs = λ e. ap (λ (bs : List Block). has_jogged h && (has_blocks bs || has_moves (left_of first h))) off.blocks ∙ ap (λ b. has_jogged h && b) (none_moves (left_of first h) off.none) ∙ and_false (has_jogged h);
         held = λ e. absurd (let f = sym cancelled ∙ e in cc);
         falls = λ halts s other. omega (arith, one);
       };
@@ -226,31 +226,31 @@ came_over first h done c cancelled was =
       undue = refl;
     }
 
-pub came_of : (first : State) (h next : Journal) (done : ℕ) → Conducted first h → HasSlowedDown h → ComesOf (at_port (loaded done) ∷ h) next → CameOf h next
-came_of first h next done c slowed (is_held slows is) = subst (CameOf h) (sym is) (came_held h done slows)
-came_of first h next done c slowed (is_locked slows is) = subst (CameOf h) (sym is) (came_locked h done slows)
-came_of first h next done c slowed (is_cut uncut k is) = subst (CameOf h) (sym is) (came_cut h done k (record { cancelled = uncut.cancelled; uncut = uncut.uncut }) slowed.empty)
-came_of first h next done c slowed (is_over cancelled was is) = subst (CameOf h) (sym is) (came_over first h done c cancelled was)
+pub came_of : (first : Opening) (h next : Journal) (done : ℕ) → Conducted first h → HasSlowedDown first h → ComesOf first (at_port (loaded done) ∷ h) next → CameOf first h next
+came_of first h next done c slowed (is_held slows is) = subst (CameOf first h) (sym is) (came_held first h done slows)
+came_of first h next done c slowed (is_locked slows is) = subst (CameOf first h) (sym is) (came_locked first h done slows)
+came_of first h next done c slowed (is_cut uncut k is) = subst (CameOf first h) (sym is) (came_cut first h done k (record { cancelled = uncut.cancelled; uncut = uncut.uncut }) slowed.empty)
+came_of first h next done c slowed (is_over cancelled was is) = subst (CameOf first h) (sym is) (came_over first h done c cancelled was)
 
 -- the port has seen the look alone
-pub port_came : (h next : Journal) → ComesOf h next → port_log next ≡ port_log h
-port_came h next (is_held slows is) = ap port_log is
-port_came h next (is_locked slows is) = ap port_log is
-port_came h next (is_cut uncut k is) = ap port_log is
-port_came h next (is_over cancelled was is) = ap port_log is
+pub port_came : (first : Opening) (h next : Journal) → ComesOf first h next → port_log next ≡ port_log h
+port_came first h next (is_held slows is) = ap port_log is
+port_came first h next (is_locked slows is) = ap port_log is
+port_came first h next (is_cut uncut k is) = ap port_log is
+port_came first h next (is_over cancelled was is) = ap port_log is
 
 -- and nothing was published, nor found done since
-pub published_came : (h next : Journal) → ComesOf h next → published_of next ≡ published_of h
-published_came h next (is_held slows is) = ap published_of is
-published_came h next (is_locked slows is) = ap published_of is
-published_came h next (is_cut uncut k is) = ap published_of is
-published_came h next (is_over cancelled was is) = ap published_of is
+pub published_came : (first : Opening) (h next : Journal) → ComesOf first h next → published_of next ≡ published_of h
+published_came first h next (is_held slows is) = ap published_of is
+published_came first h next (is_locked slows is) = ap published_of is
+published_came first h next (is_cut uncut k is) = ap published_of is
+published_came first h next (is_over cancelled was is) = ap published_of is
 
-pub known_came : (h next : Journal) → ComesOf h next → known_of next ≡ known_of h
-known_came h next (is_held slows is) = ap known_of is
-known_came h next (is_locked slows is) = ap known_of is
-known_came h next (is_cut uncut k is) = ap known_of is
-known_came h next (is_over cancelled was is) = ap known_of is
+pub known_came : (first : Opening) (h next : Journal) → ComesOf first h next → known_of next ≡ known_of h
+known_came first h next (is_held slows is) = ap known_of is
+known_came first h next (is_locked slows is) = ap known_of is
+known_came first h next (is_cut uncut k is) = ap known_of is
+known_came first h next (is_over cancelled was is) = ap known_of is
 
 -- ---- a word of changes of overrides
 

@@ -16,6 +16,7 @@ use Rattle.step_line.specs.Asking.Asked.{a_move}
 use Rattle.step_line.specs.Finishing.{ticks_together}
 use Rattle.run_rules.specs.Work.{Task}
 use Rattle.run_rules.specs.Work.Task.{ask}
+use Rattle.board_rules.specs.Openings.{Opening}
 use Rattle.board_rules.specs.Ports.{MayBeDone}
 use Rattle.board_rules.specs.Ports.PortStep.{loaded}
 use Rattle.board_rules.specs.Steps.{Journal, port_log, left_of, given_of, published_of, hand_of, plan_of, motion_of}
@@ -52,14 +53,14 @@ full_is_queued [] e = absurd cc
 full_is_queued (b ∷ blocks) e = refl
 
 -- what the fields say of the hand and of the plan
-pub hand_none : (b : Controller) (h : Journal) → Keeps b h → is_some b.machine.hand ≡ false → hand_of h ≡ []
-hand_none b h k is = hand_empty b h k (none_by_test b.machine.hand is)
+pub hand_none : (first : Opening) (b : Controller) (h : Journal) → Keeps first b h → is_some b.machine.hand ≡ false → hand_of h ≡ []
+hand_none first b h k is = hand_empty first b h k (none_by_test b.machine.hand is)
 
-pub hand_some : (b : Controller) (h : Journal) → Keeps b h → is_some b.machine.hand ≡ true → hand_of h ≡ [] → ⊥
-hand_some b h k is none = one_in_hand b.machine.hand is (k.machine.hand_is ∙ none)
+pub hand_some : (first : Opening) (b : Controller) (h : Journal) → Keeps first b h → is_some b.machine.hand ≡ true → hand_of h ≡ [] → ⊥
+hand_some first b h k is none = one_in_hand b.machine.hand is (k.machine.hand_is ∙ none)
 
-pub blocks_are : (b : Controller) (h : Journal) (some : Bool) → Keeps b h → some ≡ has_blocks b.machine.plan.blocks → has_blocks (plan_of h).blocks ≡ some
-blocks_are b h some k is = ap (λ p. has_blocks p.blocks) (sym k.machine.plan_is) ∙ sym is
+pub blocks_are : (first : Opening) (b : Controller) (h : Journal) (some : Bool) → Keeps first b h → some ≡ has_blocks b.machine.plan.blocks → has_blocks (plan_of h).blocks ≡ some
+blocks_are first b h some k is = ap (λ p. has_blocks p.blocks) (sym k.machine.plan_is) ∙ sym is
 
 -- a machine that lets a line be begun stands, runs or jogs
 pub goes_or_stands : (m : Motion) → begins_in m ≡ true → StandsOrGoes m
@@ -69,10 +70,10 @@ goes_or_stands motions.Jog going = inr (inr refl)
 goes_or_stands m going = absurd cc
 
 -- so its cycle may be over
-pub may_drain : (b : Controller) (h : Journal) → Keeps b h → begins_in (motion_of h) ≡ true → (b.machine.hold.motion ≡ motions.Idle) ⊎ (is_going b.machine.hold.motion ≡ true)
-may_drain b h k going = by_motion (goes_or_stands (motion_of h) going)
+pub may_drain : (first : Opening) (b : Controller) (h : Journal) → Keeps first b h → begins_in (motion_of first h) ≡ true → (b.machine.hold.motion ≡ motions.Idle) ⊎ (is_going b.machine.hold.motion ≡ true)
+may_drain first b h k going = by_motion (goes_or_stands (motion_of first h) going)
   where
-    by_motion : StandsOrGoes (motion_of h) → (b.machine.hold.motion ≡ motions.Idle) ⊎ (is_going b.machine.hold.motion ≡ true)
+    by_motion : StandsOrGoes (motion_of first h) → (b.machine.hold.motion ≡ motions.Idle) ⊎ (is_going b.machine.hold.motion ≡ true)
     by_motion (inl idle) = inl (k.machine.motion_is ∙ idle)
     by_motion (inr (inl run)) = inr (ap is_going (k.machine.motion_is ∙ run))
     by_motion (inr (inr jog)) = inr (ap is_going (k.machine.motion_is ∙ jog))
@@ -80,31 +81,31 @@ may_drain b h k going = by_motion (goes_or_stands (motion_of h) going)
 -- ---- where nothing is left to run
 
 -- nothing is left to run, and each tick is found done
-pub all_done : (b : Controller) (h : Journal) (done : ℕ) → Keeps b h → hand_of h ≡ [] → has_blocks (plan_of h).blocks ≡ false → done ≡ b.machine.given
+pub all_done : (first : Opening) (b : Controller) (h : Journal) (done : ℕ) → Keeps first b h → hand_of h ≡ [] → has_blocks (plan_of h).blocks ≡ false → done ≡ b.machine.given
     → IsDrained (at_port (loaded done) ∷ h)
-all_done b h done k hand none all = record {
-  plan = at_rest b h k (no_blocks (plan_of h).blocks none);
+all_done first b h done k hand none all = record {
+  plan = at_rest first b h k (no_blocks (plan_of h).blocks none);
   hand = hand;
   done = all ∙ k.machine.given_is;
 }
 
 -- the cycle is over
-pub over : (b : Controller) (m : Machine) (h : Journal) (done : ℕ) → Keeps b h → begins_in (motion_of h) ≡ true → MayBeDone done (port_log h) → hand_of h ≡ [] → has_blocks (plan_of h).blocks ≡ false → done ≡ b.machine.given
+pub over : (first : Opening) (b : Controller) (m : Machine) (h : Journal) (done : ℕ) → Keeps first b h → begins_in (motion_of first h) ≡ true → MayBeDone done (port_log h) → hand_of h ≡ [] → has_blocks (plan_of h).blocks ≡ false → done ≡ b.machine.given
     → Runs m (plan_of h) motions.Idle (hand_of h) (given_of h)
-    → Keeps (record b { machine = m }) (became on_drained motions.Idle ∷ at_port (loaded done) ∷ h)
-over b m h done k going may hand none all runs =
-    let l = looked b done h k may in
-    drained b m (at_port (loaded done) ∷ h) l (goes_or_stands (motion_of h) going) (all_done b h done k hand none all) runs
+    → Keeps first (record b { machine = m }) (became on_drained motions.Idle ∷ at_port (loaded done) ∷ h)
+over first b m h done k going may hand none all runs =
+    let l = looked first b done h k may in
+    drained first b m (at_port (loaded done) ∷ h) l (goes_or_stands (motion_of first h) going) (all_done first b h done k hand none all) runs
 
 -- a look, and the end of the cycle, pass nothing
-pub over_passes : (h : Journal) (done : ℕ) → PassesNothing h (became on_drained motions.Idle ∷ at_port (loaded done) ∷ h)
-over_passes h done =
+pub over_passes : (first : Opening) (h : Journal) (done : ℕ) → PassesNothing first h (became on_drained motions.Idle ∷ at_port (loaded done) ∷ h)
+over_passes first h done =
     let mid = at_port (loaded done) ∷ h in
-    passes_on h mid (became on_drained motions.Idle ∷ mid) (passes_load done h) (passes_motion on_drained motions.Idle mid refl (omega arith))
+    passes_on first h mid (became on_drained motions.Idle ∷ mid) (passes_load first done h) (passes_motion first on_drained motions.Idle mid refl (omega arith))
 
-pub looked_over : (h : Journal) (done : ℕ) → has_blocks (plan_of h).blocks ≡ false → HasLooked h (became on_drained motions.Idle ∷ at_port (loaded done) ∷ h)
-looked_over h done none = record {
-  passes = over_passes h done;
+pub looked_over : (first : Opening) (h : Journal) (done : ℕ) → has_blocks (plan_of h).blocks ≡ false → HasLooked first h (became on_drained motions.Idle ∷ at_port (loaded done) ∷ h)
+looked_over first h done none = record {
+  passes = over_passes first h done;
   load = refl;
   idle = λ d. refl;
   begins = refl;
@@ -113,9 +114,9 @@ looked_over h done none = record {
 }
 
 -- a look where the machine does not stand
-pub looked_only : (h : Journal) (done : ℕ) → begins_in (motion_of h) ≡ true → (IsDrained (at_port (loaded done) ∷ h) → ⊥) → HasLooked h (at_port (loaded done) ∷ h)
-looked_only h done going undrained = record {
-  passes = passes_load done h;
+pub looked_only : (first : Opening) (h : Journal) (done : ℕ) → begins_in (motion_of first h) ≡ true → (IsDrained (at_port (loaded done) ∷ h) → ⊥) → HasLooked first h (at_port (loaded done) ∷ h)
+looked_only first h done going undrained = record {
+  passes = passes_load first done h;
   load = refl;
   idle = λ d. absurd (undrained d);
   begins = going;
@@ -139,50 +140,50 @@ or_true false true is none = absurd cc
 or_true false false is none = absurd cc
 
 -- no queued block waits where the motion is waited for
-pub none_waits : (h : Journal) → MayAwait h → AreWaiting h → ⊥
-none_waits h may waiting = or_true (is_full (plan_of h)) (awaits_motion (left_of h) || has_jogged h) (ap (λ b. b || has_jogged h) may.awaits) (may.none_waits waiting)
+pub none_waits : (first : Opening) (h : Journal) → MayAwait first h → AreWaiting first h → ⊥
+none_waits first h may waiting = or_true (is_full (plan_of h)) (awaits_motion (left_of first h) || has_jogged h) (ap (λ b. b || has_jogged h) may.awaits) (may.none_waits waiting)
 
 -- so a block there is due
-pub due_where_awaited : (h : Journal) → StandsOrGoes (motion_of h) → MayAwait h → has_blocks (plan_of h).blocks ≡ true → is_due h ≡ true
-due_where_awaited h (inl idle) may some = absurd (none_waits h may (record { stands = idle; blocks = some }))
-due_where_awaited h (inr (inl run)) may some = ap (λ m. has_segment m (plan_of h)) run ∙ some
-due_where_awaited h (inr (inr jog)) may some = ap (λ m. has_segment m (plan_of h)) jog ∙ some
+pub due_where_awaited : (first : Opening) (h : Journal) → StandsOrGoes (motion_of first h) → MayAwait first h → has_blocks (plan_of h).blocks ≡ true → is_due first h ≡ true
+due_where_awaited first h (inl idle) may some = absurd (none_waits first h may (record { stands = idle; blocks = some }))
+due_where_awaited first h (inr (inl run)) may some = ap (λ m. has_segment m (plan_of h)) run ∙ some
+due_where_awaited first h (inr (inr jog)) may some = ap (λ m. has_segment m (plan_of h)) jog ∙ some
 
-pub has_piece_by_hand : (b : Controller) (h : Journal) → Keeps b h → is_some b.machine.hand ≡ true → HasPiece h
-has_piece_by_hand b h k is = inl (hand_some b h k is)
+pub has_piece_by_hand : (first : Opening) (b : Controller) (h : Journal) → Keeps first b h → is_some b.machine.hand ≡ true → HasPiece first h
+has_piece_by_hand first b h k is = inl (hand_some first b h k is)
 
-pub has_piece_by_blocks : (b : Controller) (h : Journal) → Keeps b h → MayAwait h → has_blocks (plan_of h).blocks ≡ true → HasPiece h
-has_piece_by_blocks b h k may some = inr (due_where_awaited h (goes_or_stands (motion_of h) may.going) may some)
+pub has_piece_by_blocks : (first : Opening) (b : Controller) (h : Journal) → Keeps first b h → MayAwait first h → has_blocks (plan_of h).blocks ≡ true → HasPiece first h
+has_piece_by_blocks first b h k may some = inr (due_where_awaited first h (goes_or_stands (motion_of first h) may.going) may some)
 
 -- the ticks that are found done are all, where they aren't fewer than were given
-pub done_all : (b : Controller) (h : Journal) (done : ℕ) → Keeps b h → MayBeDone done (port_log h) → b.machine.given ≤ done → done ≡ b.machine.given
-done_all b h done k may least =
+pub done_all : (first : Opening) (b : Controller) (h : Journal) (done : ℕ) → Keeps first b h → MayBeDone done (port_log h) → b.machine.given ≤ done → done ≡ b.machine.given
+done_all first b h done k may least =
     let high : done ≤ ticks_published h = may.below in
-    let within = published_within k.first h k.conducted in
+    let within = published_within first h k.conducted in
     let given : b.machine.given ≡ ticks_given h = k.machine.given_is in
     omega (arith, least, high, within, given)
 
 -- with nothing in hand, all that was given is published
-pub all_published : (b : Controller) (h : Journal) → Keeps b h → hand_of h ≡ [] → ticks_published h ≡ ticks_given h
-all_published b h k none =
-    ap ticks_together (sym (hand_is k.first h k.conducted ∙ ap (λ (ps : List Piece). published_of h ++ ps) none ∙ append-nil (published_of h)))
+pub all_published : (first : Opening) (b : Controller) (h : Journal) → Keeps first b h → hand_of h ≡ [] → ticks_published h ≡ ticks_given h
+all_published first b h k none =
+    ap ticks_together (sym (hand_is first h k.conducted ∙ ap (λ (ps : List Piece). published_of h ++ ps) none ∙ append-nil (published_of h)))
 
 -- the motion is waited for: ticks are found not to be done
-pub waits_for_motion : (b : Controller) (h : Journal) (done : ℕ) → Keeps b h → MayAwait h → b.beat ≡ MotionBeat → b.flags ≡ flags.None → MayBeDone done (port_log h) → hand_of h ≡ []
-    → has_blocks (plan_of h).blocks ≡ false → done < b.machine.given → BoardWorked (Wait on.Motion) b.flags b h (at_port (loaded done) ∷ h)
-waits_for_motion b h done k may beat no_word found hand none fewer =
-    let some = some_awaited h may.awaits in
-    let few = may.run.few (uncounted h some) in
+pub waits_for_motion : (first : Opening) (b : Controller) (h : Journal) (done : ℕ) → Keeps first b h → MayAwait first h → b.beat ≡ MotionBeat → b.flags ≡ flags.None → MayBeDone done (port_log h) → hand_of h ≡ []
+    → has_blocks (plan_of h).blocks ≡ false → done < b.machine.given → BoardWorked first (Wait on.Motion) b.flags b h (at_port (loaded done) ∷ h)
+waits_for_motion first b h done k may beat no_word found hand none fewer =
+    let some = some_awaited first h may.awaits in
+    let few = may.run.few (uncounted first h some) in
     let next : Journal = at_port (loaded done) ∷ h in
-    let waits_none : AreWaiting next → ⊥ = λ a. none_waits h may (record { stands = a.stands; blocks = a.blocks }) in
+    let waits_none : AreWaiting first next → ⊥ = λ a. (none_waits first) h may (record { stands = a.stands; blocks = a.blocks }) in
     let quiet = may.run.quiet in
-    let worked = (passes_load done h).worked quiet.worked in
-    let free = free_passed h next (passes_load done h) (free_of h quiet) in
-    let same = all_published b h k hand in
+    let worked = (passes_load first done h).worked quiet.worked in
+    let free = free_passed first h next (passes_load first done h) (free_of h quiet) in
+    let same = all_published first b h k hand in
     let given : b.machine.given ≡ ticks_given h = k.machine.given_is in
     record {
-      keeps = looked b done h k found;
-      rounds = subst (λ x. Rounds x next) (sym beat) (rounds_still next (λ a. absurd (waits_none a)) few);
+      keeps = looked first b done h k found;
+      rounds = subst (λ x. (Rounds first) x next) (sym beat) (rounds_still first next (λ a. absurd (waits_none a)) few);
       flags = takes_none b next no_word free;
       still = λ e. no_word_left b.flags no_word;
       beat = λ other e. beat;
@@ -191,19 +192,19 @@ waits_for_motion b h done k may beat no_word found hand none fewer =
       may = record {
         ends = record {
           once = let q = quiet.quiet in omega (arith, q);
-          adds = λ m is. absurd (awaits_no_move (left_of h) m may.awaits is);
+          adds = λ m is. absurd (awaits_no_move (left_of first h) m may.awaits is);
           starts = λ a. absurd (waits_none a);
           tries = omega (arith, few);
           obeyed = worked.obeyed;
           changed = worked.changed;
-          halts = halts_by b h k;
+          halts = halts_by first b h k;
         };
-        cause = record { load = refl; undone = omega (arith, fewer, same, given); awaits = ap (λ b. b || (is_stopping (motion_of h) && is_held_up h)) may.awaits };
+        cause = record { load = refl; undone = omega (arith, fewer, same, given); awaits = ap (λ b. b || (is_stopping (motion_of first h) && is_held_up first h)) may.awaits };
         still = quiet.still;
         flags = quiet.flags;
         obeyed = free.obeyed;
         unowed = λ e. absurd (let f = sym e ∙ free.unowed in cc);
-        round = λ due already. absurd (let e = sym (and_false (is_going (motion_of h) || is_slowing (motion_of h) (plan_of h).speed) (has_blocks (plan_of h).blocks) none) ∙ due in cc);
+        round = λ due already. absurd (let e = sym (and_false (is_going (motion_of first h) || is_slowing (motion_of first h) (plan_of h).speed) (has_blocks (plan_of h).blocks) none) ∙ due in cc);
       };
       moves = λ e. absurd cc;
     }

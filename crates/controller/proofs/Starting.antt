@@ -1,6 +1,7 @@
 -- What queued blocks start: the cycle, or a jog.
 use Rattle.std.proofs.Common.{◌≡◌, ◌≤◌, Bool, true, false, ◌&&◌, refl, arith}
 use Rattle.feed_hold.specs.declared.Motion.TheVariants as motions
+use Rattle.board_rules.specs.Openings.{Opening}
 use Rattle.board_rules.specs.Steps.{Journal, motion_of}
 use Rattle.board_rules.specs.Cuts.{has_cut, is_cancelling}
 use Rattle.board_rules.specs.Turns.{is_halting, begins_in}
@@ -22,9 +23,9 @@ pub starts_to_begin : (jog : Bool) → begins_in (start_motion jog) ≡ true
 starts_to_begin false = refl
 starts_to_begin true = refl
 
-pub none_left_to_change : (jog : Bool) (h : Journal) → changes_left (start_motion jog) (is_cancelling (start_motion jog) && has_cut h) ≤ changes_left (motion_of h) (has_cut h)
-none_left_to_change false h = omega arith
-none_left_to_change true h = omega arith
+pub none_left_to_change : (first : Opening) (jog : Bool) (h : Journal) → changes_left (start_motion jog) (is_cancelling (start_motion jog) && has_cut h) ≤ changes_left (motion_of first h) (has_cut h)
+none_left_to_change first false h = omega arith
+none_left_to_change first true h = omega arith
 
 -- a start cuts nothing
 pub uncut_started : (jog was : Bool) → was ≡ false → was ≡ (is_cancelling (start_motion jog) && was)

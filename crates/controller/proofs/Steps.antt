@@ -6,7 +6,7 @@ use Rattle.feed_hold.specs.declared.Motion.{Motion}
 use Rattle.feed_hold.specs.declared.Motion.TheVariants as motions
 use Rattle.feed_hold.specs.Motions.{after, after_word, is_stopping}
 use Rattle.feed_hold.specs.Motions.Call.{on_exec, on_start, on_pause, on_drained}
-use Rattle.run_rules.specs.declared.State.{State}
+use Rattle.board_rules.specs.Openings.{Opening}
 use Rattle.run_rules.specs.Work.{Task}
 use Rattle.run_rules.specs.Work.Task.{ask, tell, pause, normal, finish}
 use Rattle.status_report.specs.declared.Reply.{Reply}
@@ -51,16 +51,16 @@ pub use Rattle.controller.proofs.Turns.{closes, ends, other_beat, other_flags, o
 pub use Rattle.controller.proofs.Known.{is_next, hand_empty, none_by_test, in_hand, some_in_hand, hand_left, one_in_hand, hand_of_one, due_moves, due_now, at_rest, few_ticks, in_range, same_overrides, may_publish, may_answer, few_tried, begins_unlimited, begins_by, halts_by, none_halts, calm_now}
 
 -- ---- at the port
-
 -- a piece is published
-pub sent : (c : Controller) (m : Machine) (f : Flying) (p : Piece) (h : Journal) → Keeps c h → hand_of h ≡ p ∷ [] → IsTimely p h → Runs m (plan_of h) (motion_of h) [] (given_of h)
-    → ((known : ℕ) → Flies c.flight (published_of h) known → Flies f (published_of h ++ p ∷ []) known)
-    → Keeps (record c { machine = m; flight = f }) (at_port (published p) ∷ h)
-sent c m f p h k is timely runs flies = record {
-  first = k.first;
-  opening = k.opening;
+pub sent : (first : Opening) (c : Controller) (m : Machine) (f : Flying) (p : Piece) (h : Journal) → Keeps first c h → hand_of h ≡ p ∷ [] → IsTimely p h → Runs m (plan_of h) (motion_of first h) [] (given_of h)
+    → ((known : ℕ) → Flies first.place c.flight (published_of h) known → Flies first.place f (published_of h ++ p ∷ []) known)
+    → Keeps first (record c { machine = m; flight = f }) (at_port (published p) ∷ h)
+sent first c m f p h k is timely runs flies = record {
+  placed = k.placed;
+  free = k.free;
+  short = k.short;
   conducted = ((is ∙ ap (λ (ps : List Piece). p ∷ drop 1 ps) (sym is), timely), k.conducted);
-  machine = subst (λ (ps : List Piece). Runs m (plan_of h) (motion_of h) (drop 1 ps) (given_of h)) (sym is) runs;
+  machine = subst (λ (ps : List Piece). Runs m (plan_of h) (motion_of first h) (drop 1 ps) (given_of h)) (sym is) runs;
   lines = k.lines;
   input = k.input;
   flight = record { known = k.flight.known; found = k.flight.found; flies = flies k.flight.known k.flight.flies };
@@ -71,14 +71,15 @@ sent c m f p h k is timely runs flies = record {
   going = k.going;
   closed = k.closed;
   limited = k.limited;
-  tries = few_tried c h k (λ none. absurd (let e = sym is ∙ none in cc));
+  tries = few_tried first c h k (λ none. absurd (let e = sym is ∙ none in cc));
 }
 
 -- it is handed back
-pub not_sent : (c : Controller) (done : ℕ) (h : Journal) → Keeps c h → (hand_of h ≡ [] → ⊥) → LacksPieceRoom done (port_log h) → Keeps c (at_port (no_piece_room done) ∷ h)
-not_sent c done h k some full = record {
-  first = k.first;
-  opening = k.opening;
+pub not_sent : (first : Opening) (c : Controller) (done : ℕ) (h : Journal) → Keeps first c h → (hand_of h ≡ [] → ⊥) → LacksPieceRoom done (port_log h) → Keeps first c (at_port (no_piece_room done) ∷ h)
+not_sent first c done h k some full = record {
+  placed = k.placed;
+  free = k.free;
+  short = k.short;
   conducted = (record { some = some; full = full }, k.conducted);
   machine = k.machine;
   lines = k.lines;
@@ -91,14 +92,15 @@ not_sent c done h k some full = record {
   going = k.going;
   closed = k.closed;
   limited = k.limited;
-  tries = few_tried c h k some;
+  tries = few_tried first c h k some;
 }
 
 -- so many ticks are found done
-pub looked : (c : Controller) (done : ℕ) (h : Journal) → Keeps c h → MayBeDone done (port_log h) → Keeps c (at_port (loaded done) ∷ h)
-looked c done h k may = record {
-  first = k.first;
-  opening = k.opening;
+pub looked : (first : Opening) (c : Controller) (done : ℕ) (h : Journal) → Keeps first c h → MayBeDone done (port_log h) → Keeps first c (at_port (loaded done) ∷ h)
+looked first c done h k may = record {
+  placed = k.placed;
+  free = k.free;
+  short = k.short;
   conducted = (may, k.conducted);
   machine = k.machine;
   lines = k.lines;
@@ -115,8 +117,8 @@ looked c done h k may = record {
 }
 
 -- a task less is left
-pub one_less : (c : Controller) (i : Interpreting) (first : State) (h : Journal) → Works c.lines (left_of h) (before_of first h) → i ≡ record c.lines { left = drop 1 c.lines.left }
-    → Works i (drop 1 (left_of h)) (before_of first h)
+pub one_less : (c : Controller) (i : Interpreting) (first : Opening) (h : Journal) → Works c.lines (left_of first h) (before_of first h) → i ≡ record c.lines { left = drop 1 c.lines.left }
+    → Works i (drop 1 (left_of first h)) (before_of first h)
 one_less c i first h w is = record {
   left_is = ap (λ (j : Interpreting). j.left) is ∙ ap (λ (ts : List Task). drop 1 ts) w.left_is;
   state_is = ap (λ (j : Interpreting). j.state) is ∙ w.state_is;
@@ -124,14 +126,15 @@ one_less c i first h w is = record {
 }
 
 -- a reply is told
-pub told : (c : Controller) (i : Interpreting) (r : Reply) (h : Journal) → Keeps c h → IsNextTask (tell r) h → is_report r ≡ false → owes_report h ≡ false → (r ≡ Bye → hand_of h ≡ []) → i ≡ record c.lines { left = drop 1 c.lines.left }
-    → Keeps (record c { lines = i }) (at_port (answered r) ∷ h)
-told c i r h k next plain unowed empty is = record {
-  first = k.first;
-  opening = k.opening;
+pub told : (first : Opening) (c : Controller) (i : Interpreting) (r : Reply) (h : Journal) → Keeps first c h → IsNextTask first (tell r) h → is_report r ≡ false → owes_report h ≡ false → (r ≡ Bye → hand_of h ≡ []) → i ≡ record c.lines { left = drop 1 c.lines.left }
+    → Keeps first (record c { lines = i }) (at_port (answered r) ∷ h)
+told first c i r h k next plain unowed empty is = record {
+  placed = k.placed;
+  free = k.free;
+  short = k.short;
   conducted = (record { next = next; plain = plain; unowed = unowed; empty = empty }, k.conducted);
   machine = k.machine;
-  lines = one_less c i k.first h k.lines is;
+  lines = one_less c i first h k.lines is;
   input = k.input;
   flight = record { known = k.flight.known; found = k.flight.found; flies = k.flight.flies };
   owes_is = k.owes_is;
@@ -145,10 +148,11 @@ told c i r h k next plain unowed empty is = record {
 }
 
 -- it is handed back
-pub not_told : (c : Controller) (h : Journal) → Keeps c h → tells_next (left_of h) ≡ true → Keeps c (at_port no_reply_room ∷ h)
-not_told c h k next = record {
-  first = k.first;
-  opening = k.opening;
+pub not_told : (first : Opening) (c : Controller) (h : Journal) → Keeps first c h → tells_next (left_of first h) ≡ true → Keeps first c (at_port no_reply_room ∷ h)
+not_told first c h k next = record {
+  placed = k.placed;
+  free = k.free;
+  short = k.short;
   conducted = (ap (λ b. b || owes_report h) next, k.conducted);
   machine = k.machine;
   lines = k.lines;
@@ -165,10 +169,11 @@ not_told c h k next = record {
 }
 
 -- a report is told
-pub report_told : (c : Controller) (r : Report) (h : Journal) (k : Keeps c h) → IsReportAt k.first r h → Keeps (record c { owes = false }) (at_port (reported r) ∷ h)
-report_told c r h k may = record {
-  first = k.first;
-  opening = k.opening;
+pub report_told : (first : Opening) (c : Controller) (r : Report) (h : Journal) (k : Keeps first c h) → IsReportAt first r h → Keeps first (record c { owes = false }) (at_port (reported r) ∷ h)
+report_told first c r h k may = record {
+  placed = k.placed;
+  free = k.free;
+  short = k.short;
   conducted = (may, k.conducted);
   machine = k.machine;
   lines = k.lines;
@@ -189,11 +194,12 @@ or_true true b e = refl
 or_true false b e = e
 
 -- it is handed back
-pub report_kept : (c : Controller) (h : Journal) → Keeps c h → owes_report h ≡ true → Keeps (record c { owes = true }) (at_port no_reply_room ∷ h)
-report_kept c h k owed = record {
-  first = k.first;
-  opening = k.opening;
-  conducted = (or_true (tells_next (left_of h)) (owes_report h) owed, k.conducted);
+pub report_kept : (first : Opening) (c : Controller) (h : Journal) → Keeps first c h → owes_report h ≡ true → Keeps first (record c { owes = true }) (at_port no_reply_room ∷ h)
+report_kept first c h k owed = record {
+  placed = k.placed;
+  free = k.free;
+  short = k.short;
+  conducted = (or_true (tells_next (left_of first h)) (owes_report h) owed, k.conducted);
   machine = k.machine;
   lines = k.lines;
   input = k.input;
@@ -209,10 +215,11 @@ report_kept c h k owed = record {
 }
 
 -- no byte is found
-pub polled_empty : (c : Controller) (h : Journal) → Keeps c h → MayPoll h → Keeps c (at_port found_empty ∷ h)
-polled_empty c h k may = record {
-  first = k.first;
-  opening = k.opening;
+pub polled_empty : (first : Opening) (c : Controller) (h : Journal) → Keeps first c h → MayPoll first h → Keeps first c (at_port found_empty ∷ h)
+polled_empty first c h k may = record {
+  placed = k.placed;
+  free = k.free;
+  short = k.short;
   conducted = (may, k.conducted);
   machine = k.machine;
   lines = k.lines;
@@ -229,10 +236,11 @@ polled_empty c h k may = record {
 }
 
 -- none is found, and the link is closed
-pub polled_closed : (c : Controller) (h : Journal) → Keeps c h → MayPoll h → Keeps c (at_port found_closed ∷ h)
-polled_closed c h k may = record {
-  first = k.first;
-  opening = k.opening;
+pub polled_closed : (first : Opening) (c : Controller) (h : Journal) → Keeps first c h → MayPoll first h → Keeps first c (at_port found_closed ∷ h)
+polled_closed first c h k may = record {
+  placed = k.placed;
+  free = k.free;
+  short = k.short;
   conducted = (may, k.conducted);
   machine = k.machine;
   lines = k.lines;
@@ -249,17 +257,17 @@ polled_closed c h k may = record {
 }
 
 -- ---- the plan
-
 -- a move is added
-pub added_move : (c : Controller) (m : Machine) (i : Interpreting) (mv : PlannedMove) (h : Journal) → Keeps c h → IsNextTask (ask (a_move mv)) h → IsPlannedMove mv → is_full (plan_of h) ≡ false
-    → Runs m (with_move (plan_of h) mv) (motion_of h) (hand_of h) (given_of h) → i ≡ record c.lines { left = drop 1 c.lines.left }
-    → Keeps (record c { machine = m; lines = i }) (did (Add mv) [] ∷ h)
-added_move c m i mv h k next planned room runs is = record {
-  first = k.first;
-  opening = k.opening;
+pub added_move : (first : Opening) (c : Controller) (m : Machine) (i : Interpreting) (mv : PlannedMove) (h : Journal) → Keeps first c h → IsNextTask first (ask (a_move mv)) h → IsPlannedMove mv → is_full (plan_of h) ≡ false
+    → Runs m (with_move (plan_of h) mv) (motion_of first h) (hand_of h) (given_of h) → i ≡ record c.lines { left = drop 1 c.lines.left }
+    → Keeps first (record c { machine = m; lines = i }) (did (Add mv) [] ∷ h)
+added_move first c m i mv h k next planned room runs is = record {
+  placed = k.placed;
+  free = k.free;
+  short = k.short;
   conducted = ((next, (record { move = planned; room = has_room (plan_of h) room }, refl)), k.conducted);
   machine = rw (append-nil (hand_of h), append-nil (given_of h)) runs;
-  lines = one_less c i k.first h k.lines is;
+  lines = one_less c i first h k.lines is;
   input = k.input;
   flight = record { known = k.flight.known; found = k.flight.found; flies = k.flight.flies };
   owes_is = k.owes_is;
@@ -285,18 +293,19 @@ stopping_mode motions.Cancelling slows = refl
 stopping_mode motions.Stopping slows = refl
 stopping_mode m slows = absurd cc
 
-may_take : (h : Journal) → (is_going (motion_of h) ≡ true) ⊎ (is_stopping (motion_of h) ≡ true) → hand_of h ≡ [] → MayDo (Take (mode_in (motion_of h))) h
-may_take h (inl goes) empty = subst (λ (mode : Mode). MayDo (Take mode) h) (sym (going_mode (motion_of h) goes)) (record { goes = goes; empty = empty })
-may_take h (inr slows) empty = subst (λ (mode : Mode). MayDo (Take mode) h) (sym (stopping_mode (motion_of h) slows)) (record { slows = slows; empty = empty })
+may_take : (first : Opening) (h : Journal) → (is_going (motion_of first h) ≡ true) ⊎ (is_stopping (motion_of first h) ≡ true) → hand_of h ≡ [] → MayDo first (Take (mode_in (motion_of first h))) h
+may_take first h (inl goes) empty = subst (λ (mode : Mode). MayDo first (Take mode) h) (sym (going_mode (motion_of first h) goes)) (record { goes = goes; empty = empty })
+may_take first h (inr slows) empty = subst (λ (mode : Mode). MayDo first (Take mode) h) (sym (stopping_mode (motion_of first h) slows)) (record { slows = slows; empty = empty })
 
 -- a segment is taken: to slow down where the machine is to stop
-pub took_segment : (c : Controller) (m : Machine) (s : Segment) (h : Journal) → Keeps c h → (is_going (motion_of h) ≡ true) ⊎ (is_stopping (motion_of h) ≡ true) → hand_of h ≡ []
-    → IsNext (plan_of h) (mode_in (motion_of h)) s → Runs m (advanced (plan_of h) s.n s.w_out) (motion_of h) (pieces.Segment s ∷ []) (given_of h ++ pieces.Segment s ∷ [])
-    → Keeps (record c { machine = m }) (did (Take (mode_in (motion_of h))) (pieces.Segment s ∷ []) ∷ h)
-took_segment c m s h k moves empty next runs = record {
-  first = k.first;
-  opening = k.opening;
-  conducted = ((may_take h moves empty, (next, refl)), k.conducted);
+pub took_segment : (first : Opening) (c : Controller) (m : Machine) (s : Segment) (h : Journal) → Keeps first c h → (is_going (motion_of first h) ≡ true) ⊎ (is_stopping (motion_of first h) ≡ true) → hand_of h ≡ []
+    → IsNext (plan_of h) (mode_in (motion_of first h)) s → Runs m (advanced (plan_of h) s.n s.w_out) (motion_of first h) (pieces.Segment s ∷ []) (given_of h ++ pieces.Segment s ∷ [])
+    → Keeps first (record c { machine = m }) (did (Take (mode_in (motion_of first h))) (pieces.Segment s ∷ []) ∷ h)
+took_segment first c m s h k moves empty next runs = record {
+  placed = k.placed;
+  free = k.free;
+  short = k.short;
+  conducted = ((may_take first h moves empty, (next, refl)), k.conducted);
   machine = rw empty runs;
   lines = k.lines;
   input = k.input;
@@ -312,26 +321,27 @@ took_segment c m s h k moves empty next runs = record {
 }
 
 -- the segment that is due comes into the empty hand
-pub took_next : (c : Controller) (m : Machine) (h : Journal) → Keeps c h → HasPiece h → c.machine.hand ≡ None
+pub took_next : (first : Opening) (c : Controller) (m : Machine) (h : Journal) → Keeps first c h → HasPiece first h → c.machine.hand ≡ None
     → ((p : Planned) (now : Motion) (given : List Piece) → Runs c.machine p now [] given
     → (s : Segment) × IsNext p (mode_in now) s × Runs m (advanced p s.n s.w_out) now (pieces.Segment s ∷ []) (given ++ pieces.Segment s ∷ []))
-    → (s : Segment) × Keeps (record c { machine = m }) (did (Take (mode_in (motion_of h))) (pieces.Segment s ∷ []) ∷ h) × (is_due h ≡ true) × (hand_of h ≡ [])
-took_next c m h k has none takes =
-    let due = due_now c h k has none in
-    let empty = hand_empty c h k none in
-    let t = takes (plan_of h) (motion_of h) (given_of h) (subst (λ (ps : List Piece). Runs c.machine (plan_of h) (motion_of h) ps (given_of h)) empty k.machine) in
-    (t.0, took_segment c m t.0 h k (due_moves c h k due) empty t.1 t.2, due, empty)
+    → (s : Segment) × Keeps first (record c { machine = m }) (did (Take (mode_in (motion_of first h))) (pieces.Segment s ∷ []) ∷ h) × (is_due first h ≡ true) × (hand_of h ≡ [])
+took_next first c m h k has none takes =
+    let due = due_now first c h k has none in
+    let empty = hand_empty first c h k none in
+    let t = takes (plan_of h) (motion_of first h) (given_of h) (subst (λ (ps : List Piece). Runs c.machine (plan_of h) (motion_of first h) ps (given_of h)) empty k.machine) in
+    (t.0, took_segment first c m t.0 h k (due_moves first c h k due) empty t.1 t.2, due, empty)
 
 -- a mark is made
-pub marked : (c : Controller) (m : Machine) (i : Interpreting) (mark : AnyMark) (h : Journal) → Keeps c h → IsNextTask (ask (a_mark mark)) h → IsMark mark → hand_of h ≡ [] → IsAtRest (plan_of h)
-    → Runs m (plan_of h) (motion_of h) (pieces.Mark mark ∷ []) (given_of h ++ pieces.Mark mark ∷ []) → i ≡ record c.lines { left = drop 1 c.lines.left }
-    → Keeps (record c { machine = m; lines = i }) (did (Mark mark) (pieces.Mark mark ∷ []) ∷ h)
-marked c m i mark h k next good empty rest runs is = record {
-  first = k.first;
-  opening = k.opening;
+pub marked : (first : Opening) (c : Controller) (m : Machine) (i : Interpreting) (mark : AnyMark) (h : Journal) → Keeps first c h → IsNextTask first (ask (a_mark mark)) h → IsMark mark → hand_of h ≡ [] → IsAtRest (plan_of h)
+    → Runs m (plan_of h) (motion_of first h) (pieces.Mark mark ∷ []) (given_of h ++ pieces.Mark mark ∷ []) → i ≡ record c.lines { left = drop 1 c.lines.left }
+    → Keeps first (record c { machine = m; lines = i }) (did (Mark mark) (pieces.Mark mark ∷ []) ∷ h)
+marked first c m i mark h k next good empty rest runs is = record {
+  placed = k.placed;
+  free = k.free;
+  short = k.short;
   conducted = ((record { next = next; empty = empty }, (refl, good, rest, refl)), k.conducted);
   machine = rw empty runs;
-  lines = one_less c i k.first h k.lines is;
+  lines = one_less c i first h k.lines is;
   input = k.input;
   flight = record { known = k.flight.known; found = k.flight.found; flies = k.flight.flies };
   owes_is = k.owes_is;
@@ -345,14 +355,15 @@ marked c m i mark h k next good empty rest runs is = record {
 }
 
 -- a rest is over
-pub rested : (c : Controller) (i : Interpreting) (h : Journal) → Keeps c h → IsNextTask (ask a_rest) h → IsDrained h → motion_of h ≡ motions.Idle → i ≡ record c.lines { left = drop 1 c.lines.left }
-    → Keeps (record c { lines = i }) (did Rest [] ∷ h)
-rested c i h k next drained stands is = record {
-  first = k.first;
-  opening = k.opening;
+pub rested : (first : Opening) (c : Controller) (i : Interpreting) (h : Journal) → Keeps first c h → IsNextTask first (ask a_rest) h → IsDrained h → motion_of first h ≡ motions.Idle → i ≡ record c.lines { left = drop 1 c.lines.left }
+    → Keeps first (record c { lines = i }) (did Rest [] ∷ h)
+rested first c i h k next drained stands is = record {
+  placed = k.placed;
+  free = k.free;
+  short = k.short;
   conducted = ((record { next = next; drained = drained; stands = stands }, (drained.plan, refl)), k.conducted);
   machine = rw (append-nil (hand_of h), append-nil (given_of h)) k.machine;
-  lines = one_less c i k.first h k.lines is;
+  lines = one_less c i first h k.lines is;
   input = k.input;
   flight = record { known = k.flight.known; found = k.flight.found; flies = k.flight.flies };
   owes_is = k.owes_is;
@@ -366,15 +377,16 @@ rested c i h k next drained stands is = record {
 }
 
 -- each override is set to 100 percent
-pub evens : (c : Controller) (m : Machine) (i : Interpreting) (h : Journal) → Keeps c h → IsNextTask normal h → IsDrained h → motion_of h ≡ motions.Idle
-    → Runs m (record (plan_of h) { overrides = normal_overrides }) (motion_of h) (hand_of h) (given_of h) → i ≡ record c.lines { left = drop 1 c.lines.left }
-    → Keeps (record c { machine = m; lines = i }) (evened ∷ h)
-evens c m i h k next drained stands runs is = record {
-  first = k.first;
-  opening = k.opening;
+pub evens : (first : Opening) (c : Controller) (m : Machine) (i : Interpreting) (h : Journal) → Keeps first c h → IsNextTask first normal h → IsDrained h → motion_of first h ≡ motions.Idle
+    → Runs m (record (plan_of h) { overrides = normal_overrides }) (motion_of first h) (hand_of h) (given_of h) → i ≡ record c.lines { left = drop 1 c.lines.left }
+    → Keeps first (record c { machine = m; lines = i }) (evened ∷ h)
+evens first c m i h k next drained stands runs is = record {
+  placed = k.placed;
+  free = k.free;
+  short = k.short;
   conducted = (record { rests = record { next = next; drained = drained; stands = stands }; replans = (fresh_starts.overrides, refl) }, k.conducted);
   machine = runs;
-  lines = one_less c i k.first h k.lines is;
+  lines = one_less c i first h k.lines is;
   input = k.input;
   flight = record { known = k.flight.known; found = k.flight.found; flies = k.flight.flies };
   owes_is = k.owes_is;
@@ -388,20 +400,21 @@ evens c m i h k next drained stands runs is = record {
 }
 
 -- the machine is held for a pause
-pub held_for_pause : (c : Controller) (m : Machine) (i : Interpreting) (h : Journal) → Keeps c h → IsNextTask pause h → IsDrained h → motion_of h ≡ motions.Idle
-    → Runs m (plan_of h) motions.Held (hand_of h) (given_of h) → i ≡ record c.lines { left = drop 1 c.lines.left } → Keeps (record c { machine = m; lines = i }) (paused ∷ h)
-held_for_pause c m i h k next drained stands runs is = record {
-  first = k.first;
-  opening = k.opening;
+pub held_for_pause : (first : Opening) (c : Controller) (m : Machine) (i : Interpreting) (h : Journal) → Keeps first c h → IsNextTask first pause h → IsDrained h → motion_of first h ≡ motions.Idle
+    → Runs m (plan_of h) motions.Held (hand_of h) (given_of h) → i ≡ record c.lines { left = drop 1 c.lines.left } → Keeps first (record c { machine = m; lines = i }) (paused ∷ h)
+held_for_pause first c m i h k next drained stands runs is = record {
+  placed = k.placed;
+  free = k.free;
+  short = k.short;
   conducted = (record { rests = record { next = next; drained = drained; stands = stands }; held = ap (λ now. after on_pause now) stands }, k.conducted);
   machine = runs;
-  lines = one_less c i k.first h k.lines is;
+  lines = one_less c i first h k.lines is;
   input = k.input;
   flight = record { known = k.flight.known; found = k.flight.found; flies = k.flight.flies };
   owes_is = k.owes_is;
   reset_is = k.reset_is;
   jogged_is = k.jogged_is;
-  cut_is = k.cut_is ∙ uncut_idle k.first h k.conducted stands;
+  cut_is = k.cut_is ∙ uncut_idle first h k.conducted stands;
   going = k.going;
   closed = k.closed;
   limited = k.limited;
@@ -409,15 +422,16 @@ held_for_pause c m i h k next drained stands runs is = record {
 }
 
 -- the end is made
-pub ended : (c : Controller) (m : Machine) (i : Interpreting) (h : Journal) → Keeps c h → IsNextTask finish h → IsDrained h → stands_still (motion_of h) ≡ true → (closed_tells h ≡ [] → ⊥)
-    → Runs m (plan_of h) (motion_of h) (pieces.End ∷ []) (given_of h ++ pieces.End ∷ []) → i ≡ record c.lines { left = drop 1 c.lines.left }
-    → Keeps (record c { machine = m; lines = i }) (made_end ∷ h)
-ended c m i h k next drained stands closes runs is = record {
-  first = k.first;
-  opening = k.opening;
+pub ended : (first : Opening) (c : Controller) (m : Machine) (i : Interpreting) (h : Journal) → Keeps first c h → IsNextTask first finish h → IsDrained h → stands_still (motion_of first h) ≡ true → (closed_tells h ≡ [] → ⊥)
+    → Runs m (plan_of h) (motion_of first h) (pieces.End ∷ []) (given_of h ++ pieces.End ∷ []) → i ≡ record c.lines { left = drop 1 c.lines.left }
+    → Keeps first (record c { machine = m; lines = i }) (made_end ∷ h)
+ended first c m i h k next drained stands closes runs is = record {
+  placed = k.placed;
+  free = k.free;
+  short = k.short;
   conducted = (record { next = next; drained = drained; stands = stands; closes = closes }, k.conducted);
   machine = rw drained.hand runs;
-  lines = one_less c i k.first h k.lines is;
+  lines = one_less c i first h k.lines is;
   input = k.input;
   flight = record { known = k.flight.known; found = k.flight.found; flies = k.flight.flies };
   owes_is = k.owes_is;
@@ -431,19 +445,19 @@ ended c m i h k next drained stands closes runs is = record {
 }
 
 -- ---- the motion
-
 -- the motion of a start
 starts_to : (jog : Bool) (now : Motion) → now ≡ motions.Idle → after (on_start jog) now ≡ Some (start_motion jog)
 starts_to false now stands = ap (λ m. after (on_start false) m) stands
 starts_to true now stands = ap (λ m. after (on_start true) m) stands
 
 -- queued blocks start the cycle, or a jog
-pub started : (c : Controller) (m : Machine) (jog : Bool) (h : Journal) → Keeps c h → motion_of h ≡ motions.Idle → MayStart jog h → Runs m (plan_of h) (start_motion jog) (hand_of h) (given_of h)
-    → Keeps (record c { machine = m }) (starting jog h)
-started c m jog h k stands may runs = record {
-  first = k.first;
-  opening = k.opening;
-  conducted = ((starts_to jog (motion_of h) stands, may), k.conducted);
+pub started : (first : Opening) (c : Controller) (m : Machine) (jog : Bool) (h : Journal) → Keeps first c h → motion_of first h ≡ motions.Idle → MayStart first jog h → Runs m (plan_of h) (start_motion jog) (hand_of h) (given_of h)
+    → Keeps first (record c { machine = m }) (starting jog h)
+started first c m jog h k stands may runs = record {
+  placed = k.placed;
+  free = k.free;
+  short = k.short;
+  conducted = ((starts_to jog (motion_of first h) stands, may), k.conducted);
   machine = runs;
   lines = k.lines;
   input = k.input;
@@ -451,7 +465,7 @@ started c m jog h k stands may runs = record {
   owes_is = k.owes_is;
   reset_is = k.reset_is;
   jogged_is = k.jogged_is;
-  cut_is = k.cut_is ∙ uncut_started jog (has_cut h) (uncut_idle k.first h k.conducted stands);
+  cut_is = k.cut_is ∙ uncut_started jog (has_cut h) (uncut_idle first h k.conducted stands);
   going = k.going;
   closed = k.closed;
   limited = k.limited;
@@ -469,12 +483,13 @@ not_cancelled now (inr (inl e)) is = absurd (let f = sym e ∙ is in cc)
 not_cancelled now (inr (inr e)) is = absurd (let f = sym e ∙ is in cc)
 
 -- the cycle is over
-pub drained : (c : Controller) (m : Machine) (h : Journal) → Keeps c h → StandsOrGoes (motion_of h) → IsDrained h → Runs m (plan_of h) motions.Idle (hand_of h) (given_of h)
-    → Keeps (record c { machine = m }) (became on_drained motions.Idle ∷ h)
-drained c m h k was may runs = record {
-  first = k.first;
-  opening = k.opening;
-  conducted = ((after_drained (motion_of h) was, may), k.conducted);
+pub drained : (first : Opening) (c : Controller) (m : Machine) (h : Journal) → Keeps first c h → StandsOrGoes (motion_of first h) → IsDrained h → Runs m (plan_of h) motions.Idle (hand_of h) (given_of h)
+    → Keeps first (record c { machine = m }) (became on_drained motions.Idle ∷ h)
+drained first c m h k was may runs = record {
+  placed = k.placed;
+  free = k.free;
+  short = k.short;
+  conducted = ((after_drained (motion_of first h) was, may), k.conducted);
   machine = runs;
   lines = k.lines;
   input = k.input;
@@ -482,7 +497,7 @@ drained c m h k was may runs = record {
   owes_is = k.owes_is;
   reset_is = k.reset_is;
   jogged_is = k.jogged_is;
-  cut_is = k.cut_is ∙ uncut_else k.first h k.conducted (not_cancelled (motion_of h) was);
+  cut_is = k.cut_is ∙ uncut_else first h k.conducted (not_cancelled (motion_of first h) was);
   going = k.going;
   closed = k.closed;
   limited = k.limited;
@@ -490,13 +505,13 @@ drained c m h k was may runs = record {
 }
 
 -- ---- the words of flags
-
 -- a word of requests is taken
-pub takes_word : (c : Controller) (owes reset : Bool) (word : Exec) (h : Journal) → Keeps c h → MayTakeRequests word h → owes ≡ owes_report (at_port (took_exec word) ∷ h)
-    → reset ≡ has_reset_in (port_log (at_port (took_exec word) ∷ h)) → Keeps (record c { owes = owes; reset = reset }) (at_port (took_exec word) ∷ h)
-takes_word c owes reset word h k may is resets = record {
-  first = k.first;
-  opening = k.opening;
+pub takes_word : (first : Opening) (c : Controller) (owes reset : Bool) (word : Exec) (h : Journal) → Keeps first c h → MayTakeRequests word h → owes ≡ owes_report (at_port (took_exec word) ∷ h)
+    → reset ≡ has_reset_in (port_log (at_port (took_exec word) ∷ h)) → Keeps first (record c { owes = owes; reset = reset }) (at_port (took_exec word) ∷ h)
+takes_word first c owes reset word h k may is resets = record {
+  placed = k.placed;
+  free = k.free;
+  short = k.short;
   conducted = (may, k.conducted);
   machine = k.machine;
   lines = k.lines;
@@ -513,12 +528,13 @@ takes_word c owes reset word h k may is resets = record {
 }
 
 -- a word that was taken is obeyed
-pub obeys : (c : Controller) (m : Machine) (word : Exec) (h : Journal) → Keeps c h → MayObey word (has_blocks (plan_of h).blocks) h
-    → Runs m (plan_of h) (after_word word (has_blocks (plan_of h).blocks) (motion_of h)) (hand_of h) (given_of h)
-    → Keeps (record c { machine = m }) (became (on_exec word (has_blocks (plan_of h).blocks)) (after_word word (has_blocks (plan_of h).blocks) (motion_of h)) ∷ h)
-obeys c m word h k may runs = record {
-  first = k.first;
-  opening = k.opening;
+pub obeys : (first : Opening) (c : Controller) (m : Machine) (word : Exec) (h : Journal) → Keeps first c h → MayObey first word (has_blocks (plan_of h).blocks) h
+    → Runs m (plan_of h) (after_word word (has_blocks (plan_of h).blocks) (motion_of first h)) (hand_of h) (given_of h)
+    → Keeps first (record c { machine = m }) (became (on_exec word (has_blocks (plan_of h).blocks)) (after_word word (has_blocks (plan_of h).blocks) (motion_of first h)) ∷ h)
+obeys first c m word h k may runs = record {
+  placed = k.placed;
+  free = k.free;
+  short = k.short;
   conducted = ((refl, may), k.conducted);
   machine = runs;
   lines = k.lines;
@@ -527,7 +543,7 @@ obeys c m word h k may runs = record {
   owes_is = k.owes_is;
   reset_is = k.reset_is;
   jogged_is = k.jogged_is;
-  cut_is = k.cut_is ∙ cut_obeyed k.first word (has_blocks (plan_of h).blocks) h k.conducted;
+  cut_is = k.cut_is ∙ cut_obeyed first word (has_blocks (plan_of h).blocks) h k.conducted;
   going = k.going;
   closed = k.closed;
   limited = k.limited;
@@ -535,10 +551,11 @@ obeys c m word h k may runs = record {
 }
 
 -- a word of changes of overrides is taken
-pub takes_changes : (c : Controller) (word : Ovr) (h : Journal) → Keeps c h → Keeps c (at_port (took_ovr word) ∷ h)
-takes_changes c word h k = record {
-  first = k.first;
-  opening = k.opening;
+pub takes_changes : (first : Opening) (c : Controller) (word : Ovr) (h : Journal) → Keeps first c h → Keeps first c (at_port (took_ovr word) ∷ h)
+takes_changes first c word h k = record {
+  placed = k.placed;
+  free = k.free;
+  short = k.short;
   conducted = (tt, k.conducted);
   machine = k.machine;
   lines = k.lines;
@@ -555,12 +572,13 @@ takes_changes c word h k = record {
 }
 
 -- it is planned for what a word makes of the overrides
-pub changes : (c : Controller) (m : Machine) (word : Ovr) (h : Journal) → Keeps c h → has_changes word ≡ true → IsOverrides m.overrides
-    → Runs m (record (plan_of h) { overrides = taken (plan_of h).overrides word }) (motion_of h) (hand_of h) (given_of h)
-    → Keeps (record c { machine = m }) (did (Override (taken (plan_of h).overrides word)) [] ∷ at_port (took_ovr word) ∷ h)
-changes c m word h k some range runs = record {
-  first = k.first;
-  opening = k.opening;
+pub changes : (first : Opening) (c : Controller) (m : Machine) (word : Ovr) (h : Journal) → Keeps first c h → has_changes word ≡ true → IsOverrides m.overrides
+    → Runs m (record (plan_of h) { overrides = taken (plan_of h).overrides word }) (motion_of first h) (hand_of h) (given_of h)
+    → Keeps first (record c { machine = m }) (did (Override (taken (plan_of h).overrides word)) [] ∷ at_port (took_ovr word) ∷ h)
+changes first c m word h k some range runs = record {
+  placed = k.placed;
+  free = k.free;
+  short = k.short;
   conducted = (
     (record { word = word; earlier = port_log h; last = refl; some = some; taken = refl }, (subst IsOverrides (sym runs.same) range, refl)),
     (tt, k.conducted),

@@ -1,11 +1,15 @@
 -- What comes of a machine that has stopped: it is held, or in alarm, or its jogs are cut, or it stands.
-use Rattle.std.proofs.Common.{◌≡◌, ℕ, ◌+◌, ◌-◌, inl, inr, true, false, List, [], ◌∷◌, ◌++◌, length, drop, refl, sym, ap, ◌∙◌, subst, arith, append-nil}
+use Rattle.std.proofs.Common.{◌≡◌, ℕ, ◌+◌, ◌-◌, inl, inr, true, false, List, [], ◌∷◌, ◌++◌, length, drop, refl, sym, ap, ◌∙◌, subst, arith, append-nil, take}
 use Rattle.feed_hold.specs.declared.Motion.{Motion}
 use Rattle.feed_hold.specs.declared.Motion.TheVariants as motions
 use Rattle.feed_hold.specs.Motions.{after, is_stopping}
 use Rattle.feed_hold.specs.Motions.Call.{on_stopped}
-use Rattle.flight.specs.Places.{end_of, machine_at}
-use Rattle.flight.proofs.Places.{at_end_of}
+use Rattle.std.specs.List.{flat_map}
+use Rattle.std.proofs.Math.Seq.{take-append_seam}
+use Rattle.flight.specs.Places.{moved_by, end_from, machine_from}
+use Rattle.step_line.specs.declared.Record.{Record}
+use Rattle.step_line.specs.Finishing.{ticks_together}
+use Rattle.step_line.specs.Pieces.{ticks_of}
 use Rattle.modal_state.specs.Modes.{rebased}
 use Rattle.planner_runs.specs.Runs.{cleared}
 use Rattle.units.specs.declared.Steps3.{Steps3}
@@ -21,6 +25,7 @@ use Rattle.line_interpreter.specs.Interpreting.{Interpreting}
 use Rattle.line_interpreter.specs.Lefts.{IsTodo}
 use Rattle.line_interpreter.specs.declared.tasks.Todo.{Todo}
 use Rattle.line_interpreter.specs.declared.tasks.Todo.TheVariants as todo
+use Rattle.board_rules.specs.Openings.{Opening}
 use Rattle.board_rules.specs.Steps.{Journal, outcomes_of, given_of, published_of, known_of, before_of, left_of, without_asks, hand_of, plan_of, motion_of}
 use Rattle.board_rules.specs.Steps.Step.{became, cut}
 use Rattle.board_rules.specs.Cuts.{has_cut}
@@ -41,11 +46,12 @@ use Rattle.board_rules.proofs.CutMarks.{known_where_stopped}
 use Rattle.board_rules.proofs.Facts.{number_is}
 
 -- a machine that slowed down is held where each tick is done
-pub stops : (c : Controller) (m : Machine) (h : Journal) → Keeps c h → motion_of h ≡ motions.Holding → IsStopped h → Runs m (plan_of h) motions.Held (hand_of h) (given_of h)
-    → Keeps (record c { machine = m }) (became on_stopped motions.Held ∷ h)
-stops c m h k slows stopped runs = record {
-  first = k.first;
-  opening = k.opening;
+pub stops : (first : Opening) (c : Controller) (m : Machine) (h : Journal) → Keeps first c h → motion_of first h ≡ motions.Holding → IsStopped first h → Runs m (plan_of h) motions.Held (hand_of h) (given_of h)
+    → Keeps first (record c { machine = m }) (became on_stopped motions.Held ∷ h)
+stops first c m h k slows stopped runs = record {
+  placed = k.placed;
+  free = k.free;
+  short = k.short;
   conducted = ((ap (λ now. after on_stopped now) slows, record { stopped = stopped; cut_is = λ e. absurd (other e); load = λ e. absurd (other e) }), k.conducted);
   machine = runs;
   lines = k.lines;
@@ -54,22 +60,23 @@ stops c m h k slows stopped runs = record {
   owes_is = k.owes_is;
   reset_is = k.reset_is;
   jogged_is = k.jogged_is;
-  cut_is = k.cut_is ∙ uncut_else k.first h k.conducted other;
+  cut_is = k.cut_is ∙ uncut_else first h k.conducted other;
   going = k.going;
   closed = k.closed;
   limited = k.limited;
   tries = k.tries;
 }
   where
-    other : motion_of h ≡ motions.Cancelling → ⊥
+    other : motion_of first h ≡ motions.Cancelling → ⊥
     other e = let f = sym slows ∙ e in absurd cc
 
 -- it is in alarm where a soft limit has stopped it
-pub locks : (c : Controller) (m : Machine) (h : Journal) → Keeps c h → motion_of h ≡ motions.Stopping → IsStopped h → Runs m (plan_of h) motions.Alarm (hand_of h) (given_of h)
-    → Keeps (record c { machine = m }) (became on_stopped motions.Alarm ∷ h)
-locks c m h k slows stopped runs = record {
-  first = k.first;
-  opening = k.opening;
+pub locks : (first : Opening) (c : Controller) (m : Machine) (h : Journal) → Keeps first c h → motion_of first h ≡ motions.Stopping → IsStopped first h → Runs m (plan_of h) motions.Alarm (hand_of h) (given_of h)
+    → Keeps first (record c { machine = m }) (became on_stopped motions.Alarm ∷ h)
+locks first c m h k slows stopped runs = record {
+  placed = k.placed;
+  free = k.free;
+  short = k.short;
   conducted = ((ap (λ now. after on_stopped now) slows, record { stopped = stopped; cut_is = λ e. absurd (other e); load = λ e. absurd (other e) }), k.conducted);
   machine = runs;
   lines = k.lines;
@@ -78,22 +85,23 @@ locks c m h k slows stopped runs = record {
   owes_is = k.owes_is;
   reset_is = k.reset_is;
   jogged_is = k.jogged_is;
-  cut_is = k.cut_is ∙ uncut_else k.first h k.conducted other;
+  cut_is = k.cut_is ∙ uncut_else first h k.conducted other;
   going = k.going;
   closed = k.closed;
   limited = k.limited;
   tries = k.tries;
 }
   where
-    other : motion_of h ≡ motions.Cancelling → ⊥
+    other : motion_of first h ≡ motions.Cancelling → ⊥
     other e = let f = sym slows ∙ e in absurd cc
 
 -- jogs that were cancelled were cut, and the machine stands
-pub cancel_over : (c : Controller) (m : Machine) (h : Journal) → Keeps c h → motion_of h ≡ motions.Cancelling → has_cut h ≡ true → IsFoundStopped c.flight h → Runs m (plan_of h) motions.Idle (hand_of h) (given_of h)
-    → Keeps (record c { machine = m; cut = false }) (became on_stopped motions.Idle ∷ h)
-cancel_over c m h k cancelled was found runs = record {
-  first = k.first;
-  opening = k.opening;
+pub cancel_over : (first : Opening) (c : Controller) (m : Machine) (h : Journal) → Keeps first c h → motion_of first h ≡ motions.Cancelling → has_cut h ≡ true → IsFoundStopped first c.flight h → Runs m (plan_of h) motions.Idle (hand_of h) (given_of h)
+    → Keeps first (record c { machine = m; cut = false }) (became on_stopped motions.Idle ∷ h)
+cancel_over first c m h k cancelled was found runs = record {
+  placed = k.placed;
+  free = k.free;
+  short = k.short;
   conducted = ((ap (λ now. after on_stopped now) cancelled, record { stopped = found.stopped; cut_is = λ e. was; load = λ e. found.load }), k.conducted);
   machine = runs;
   lines = k.lines;
@@ -141,47 +149,52 @@ none_dropped : (t : Todo) (ts : List Task) → OneMove ts → (t ≡ todo.Move �
 none_dropped t ts (inl none) other is = sym (nothing_dropped ts none)
 none_dropped t ts (inr (m, next, none)) other is = absurd (not_next t ts m other next is)
 
-one_move_left : (c : Controller) (h : Journal) → Keeps c h → motion_of h ≡ motions.Cancelling → OneMove c.lines.left
-one_move_left c h k cancelled = subst OneMove (sym k.lines.left_is) (one_move k.first h k.conducted (cancel_is_jog k.first h k.conducted cancelled))
+one_move_left : (first : Opening) (c : Controller) (h : Journal) → Keeps first c h → motion_of first h ≡ motions.Cancelling → OneMove c.lines.left
+one_move_left first c h k cancelled = subst OneMove (sym k.lines.left_is) (one_move first h k.conducted (cancel_is_jog first h k.conducted cancelled))
 
-pub dropped_next : (c : Controller) (h : Journal) → Keeps c h → motion_of h ≡ motions.Cancelling → IsTodo todo.Move c.lines.left → drop 1 c.lines.left ≡ without_asks (left_of h)
-dropped_next c h k cancelled is = move_dropped c.lines.left is.0 (one_move_left c h k cancelled) is.1 ∙ ap without_asks k.lines.left_is
+pub dropped_next : (first : Opening) (c : Controller) (h : Journal) → Keeps first c h → motion_of first h ≡ motions.Cancelling → IsTodo todo.Move c.lines.left → drop 1 c.lines.left ≡ without_asks (left_of first h)
+dropped_next first c h k cancelled is = move_dropped c.lines.left is.0 (one_move_left first c h k cancelled) is.1 ∙ ap without_asks k.lines.left_is
 
-pub dropped_none : (c : Controller) (t : Todo) (h : Journal) → Keeps c h → motion_of h ≡ motions.Cancelling → (t ≡ todo.Move → ⊥) → IsTodo t c.lines.left → c.lines.left ≡ without_asks (left_of h)
-dropped_none c t h k cancelled other is = none_dropped t c.lines.left (one_move_left c h k cancelled) other is ∙ ap without_asks k.lines.left_is
+pub dropped_none : (first : Opening) (c : Controller) (t : Todo) (h : Journal) → Keeps first c h → motion_of first h ≡ motions.Cancelling → (t ≡ todo.Move → ⊥) → IsTodo t c.lines.left → c.lines.left ≡ without_asks (left_of first h)
+dropped_none first c t h k cancelled other is = none_dropped t c.lines.left (one_move_left first c h k cancelled) other is ∙ ap without_asks k.lines.left_is
 
 -- ---- the cut
 
+ends_at : (place : Steps3) (ps : List Piece) → machine_from place ps (ticks_together ps) ≡ end_from place ps
+ends_at place ps =
+    ap (λ (rs : List Record). moved_by place (take (ticks_together ps) rs)) (sym (append-nil (flat_map ticks_of ps))) ∙ ap (moved_by place) (take-append_seam (flat_map ticks_of ps) [])
+
 -- the place where the machine has stopped is where all pieces lead that were given
-pub place_is : (c : Controller) (h : Journal) → Keeps c h → IsFoundStopped c.flight h → machine_at (published_of h) (known_of h) ≡ end_of (given_of h)
-place_is c h k found =
-    let all : given_of h ≡ published_of h = hand_is k.first h k.conducted ∙ ap (λ (ps : List Piece). published_of h ++ ps) found.stopped.slowed.empty ∙ append-nil (published_of h) in
-    ap (machine_at (published_of h)) (known_where_stopped k.first h k.conducted found.stopped) ∙ at_end_of (published_of h) ∙ ap end_of (sym all)
+pub place_is : (first : Opening) (c : Controller) (h : Journal) → Keeps first c h → IsFoundStopped first c.flight h → machine_from first.place (published_of h) (known_of h) ≡ end_from first.place (given_of h)
+place_is first c h k found =
+    let all : given_of h ≡ published_of h = hand_is first h k.conducted ∙ ap (λ (ps : List Piece). published_of h ++ ps) found.stopped.slowed.empty ∙ append-nil (published_of h) in
+    ap (machine_from first.place (published_of h)) (known_where_stopped first h k.conducted found.stopped) ∙ ends_at first.place (published_of h) ∙ ap (end_from first.place) (sym all)
 
 -- the interpreter's next number less one
-pub cut_number : (c : Controller) (h : Journal) → Keeps c h → c.lines.number ≡ length (outcomes_of h) + 1
-cut_number c h k = k.lines.number_is ∙ number_is k.first h k.conducted
+pub cut_number : (first : Opening) (c : Controller) (h : Journal) → Keeps first c h → c.lines.number ≡ first.lines + length (outcomes_of h) + 1
+cut_number first c h k = k.lines.number_is ∙ number_is first h k.conducted
 
 pub less_one : (n : ℕ) {m : ℕ} → n ≡ m + 1 → n - 1 ≡ m
 less_one n is = omega (arith, is)
 
-pub cut_made : (c : Controller) (m : Machine) (i : Interpreting) (k : ℕ) (at : Steps3) (h : Journal) (keeps : Keeps c h) → IsUncut h → IsFoundStopped c.flight h → k ≡ length (outcomes_of h)
-    → at ≡ machine_at (published_of h) (known_of h) → i.left ≡ without_asks (left_of h) → i.number ≡ c.lines.number
+pub cut_made : (first : Opening) (c : Controller) (m : Machine) (i : Interpreting) (k : ℕ) (at : Steps3) (h : Journal) (keeps : Keeps first c h) → IsUncut first h → IsFoundStopped first c.flight h → k ≡ first.lines + length (outcomes_of h)
+    → at ≡ machine_from first.place (published_of h) (known_of h) → i.left ≡ without_asks (left_of first h) → i.number ≡ c.lines.number
     → i.state ≡ record c.lines.state { parser = rebased c.lines.state.parser at c.lines.state.settings.limits.per_mm }
-    → Runs m (cleared (plan_of h)) (motion_of h) (pieces.Mark (marks.Cut k) ∷ []) (given_of h ++ pieces.Mark (marks.Cut k) ∷ [])
-    → Keeps (record c { machine = m; lines = i; cut = true }) (cut k ∷ h)
-cut_made c m i k at h keeps uncut found number place left same state runs = record {
-  first = keeps.first;
-  opening = keeps.opening;
+    → Runs m (cleared (plan_of h)) (motion_of first h) (pieces.Mark (marks.Cut k) ∷ []) (given_of h ++ pieces.Mark (marks.Cut k) ∷ [])
+    → Keeps first (record c { machine = m; lines = i; cut = true }) (cut k ∷ h)
+cut_made first c m i k at h keeps uncut found number place left same state runs = record {
+  placed = keeps.placed;
+  free = keeps.free;
+  short = keeps.short;
   conducted = (
     record {
-      calm = calm_now c h keeps (ap is_limited uncut.cancelled);
+      calm = calm_now first c h keeps (ap is_limited uncut.cancelled);
       cancelled = uncut.cancelled;
       uncut = uncut.uncut;
       stopped = found.stopped;
       load = found.load;
       number = number;
-      mark = (let few = few_lines keeps.first h keeps.conducted in omega (arith, few, number));
+      mark = (let few = few_lines first h keeps.conducted in let short = keeps.short in omega (arith, few, short, number));
     },
     keeps.conducted,
   );
@@ -204,22 +217,22 @@ cut_made c m i k at h keeps uncut found number place left same state runs = reco
 }
   where
     b : State
-    b = (before_of keeps.first h).state
+    b = (before_of first h).state
 
-    there : record (before_of keeps.first h).state { parser = rebased (before_of keeps.first h).state.parser at (before_of keeps.first h).state.settings.limits.per_mm }
-        ≡ record (before_of keeps.first h).state { parser = rebased (before_of keeps.first h).state.parser (end_of (given_of h)) (before_of keeps.first h).state.settings.limits.per_mm }
-    there = ap (λ (x : Steps3). record b { parser = rebased b.parser x b.settings.limits.per_mm }) (place ∙ place_is c h keeps found)
+    there : record (before_of first h).state { parser = rebased (before_of first h).state.parser at (before_of first h).state.settings.limits.per_mm }
+        ≡ record (before_of first h).state { parser = rebased (before_of first h).state.parser (end_from first.place (given_of h)) (before_of first h).state.settings.limits.per_mm }
+    there = ap (λ (x : Steps3). record b { parser = rebased b.parser x b.settings.limits.per_mm }) (place ∙ place_is first c h keeps found)
 
 -- a board that has dropped the move that was next
-pub cut_behind : (c d : Controller) (m : Machine) (i : Interpreting) (k : ℕ) (at : Steps3) (h : Journal) → Keeps c h → IsUncut h → IsFoundStopped c.flight h
-    → d ≡ record c { lines = record c.lines { left = d.lines.left } } → k ≡ length (outcomes_of h)
-    → at ≡ machine_at (published_of h) (known_of h) → i.left ≡ without_asks (left_of h) → i.number ≡ c.lines.number
+pub cut_behind : (first : Opening) (c d : Controller) (m : Machine) (i : Interpreting) (k : ℕ) (at : Steps3) (h : Journal) → Keeps first c h → IsUncut first h → IsFoundStopped first c.flight h
+    → d ≡ record c { lines = record c.lines { left = d.lines.left } } → k ≡ first.lines + length (outcomes_of h)
+    → at ≡ machine_from first.place (published_of h) (known_of h) → i.left ≡ without_asks (left_of first h) → i.number ≡ c.lines.number
     → i.state ≡ record c.lines.state { parser = rebased c.lines.state.parser at c.lines.state.settings.limits.per_mm }
-    → Runs m (cleared (plan_of h)) (motion_of h) (pieces.Mark (marks.Cut k) ∷ []) (given_of h ++ pieces.Mark (marks.Cut k) ∷ [])
-    → Keeps (record d { machine = m; lines = i; cut = true }) (cut (length (outcomes_of h)) ∷ h)
-cut_behind c d m i k at h keeps uncut found is number place left same state runs =
-    subst (λ (n : ℕ). Keeps (record d { machine = m; lines = i; cut = true }) (cut n ∷ h)) number
-    (subst (λ (x : Controller). Keeps (record x { machine = m; lines = i; cut = true }) (cut k ∷ h)) (sym is) (cut_made c m i k at h keeps uncut found number place left same state runs))
+    → Runs m (cleared (plan_of h)) (motion_of first h) (pieces.Mark (marks.Cut k) ∷ []) (given_of h ++ pieces.Mark (marks.Cut k) ∷ [])
+    → Keeps first (record d { machine = m; lines = i; cut = true }) (cut (first.lines + length (outcomes_of h)) ∷ h)
+cut_behind first c d m i k at h keeps uncut found is number place left same state runs =
+    subst (λ (n : ℕ). Keeps first (record d { machine = m; lines = i; cut = true }) (cut n ∷ h)) number
+    (subst (λ (x : Controller). Keeps first (record x { machine = m; lines = i; cut = true }) (cut k ∷ h)) (sym is) (cut_made first c m i k at h keeps uncut found number place left same state runs))
 
 -- ---- what comes of it
 
@@ -230,9 +243,9 @@ holding_by motions.Cancelling slows none other = absurd (other refl)
 holding_by motions.Stopping slows none other = absurd cc
 holding_by m slows none other = absurd cc
 
-pub was_holding : (c : Controller) (h : Journal) → Keeps c h → IsStopped h → is_limited c.machine.hold.motion ≡ false → (c.machine.hold.motion ≡ motions.Cancelling → ⊥) → motion_of h ≡ motions.Holding
-was_holding c h k stopped none other =
-    holding_by (motion_of h) stopped.slowed.slows (ap is_limited (sym k.machine.motion_is) ∙ none) (λ cancelled. other (k.machine.motion_is ∙ cancelled))
+pub was_holding : (first : Opening) (c : Controller) (h : Journal) → Keeps first c h → IsStopped first h → is_limited c.machine.hold.motion ≡ false → (c.machine.hold.motion ≡ motions.Cancelling → ⊥) → motion_of first h ≡ motions.Holding
+was_holding first c h k stopped none other =
+    holding_by (motion_of first h) stopped.slowed.slows (ap is_limited (sym k.machine.motion_is) ∙ none) (λ cancelled. other (k.machine.motion_is ∙ cancelled))
 
 -- and one that a soft limit stops slowed down for that
 stopping_by : (m : Motion) → is_stopping m ≡ true → is_limited m ≡ true → m ≡ motions.Stopping
@@ -240,25 +253,25 @@ stopping_by motions.Stopping slows is = refl
 stopping_by motions.Alarm slows is = absurd cc
 stopping_by m slows is = absurd cc
 
-pub was_stopping : (c : Controller) (h : Journal) → Keeps c h → IsStopped h → is_limited c.machine.hold.motion ≡ true → motion_of h ≡ motions.Stopping
-was_stopping c h k stopped is = stopping_by (motion_of h) stopped.slowed.slows (ap is_limited (sym k.machine.motion_is) ∙ is)
+pub was_stopping : (first : Opening) (c : Controller) (h : Journal) → Keeps first c h → IsStopped first h → is_limited c.machine.hold.motion ≡ true → motion_of first h ≡ motions.Stopping
+was_stopping first c h k stopped is = stopping_by (motion_of first h) stopped.slowed.slows (ap is_limited (sym k.machine.motion_is) ∙ is)
 
 -- behind a journal something has come of it
-abbrev pub Comes : Controller → Journal → Type 0
-Comes c h = (next : Journal) × Keeps c next × ComesOf h next
+abbrev pub Comes : Opening → Controller → Journal → Type 0
+Comes first c h = (next : Journal) × Keeps first c next × ComesOf first h next
 
-pub comes_held : (c : Controller) (m : Machine) (h : Journal) → Keeps c h → IsFoundStopped c.flight h → motion_of h ≡ motions.Holding → Runs m (plan_of h) motions.Held (hand_of h) (given_of h) → Comes (record c { machine = m }) h
-comes_held c m h k found slows runs = (became on_stopped motions.Held ∷ h, stops c m h k slows found.stopped runs, is_held slows refl)
+pub comes_held : (first : Opening) (c : Controller) (m : Machine) (h : Journal) → Keeps first c h → IsFoundStopped first c.flight h → motion_of first h ≡ motions.Holding → Runs m (plan_of h) motions.Held (hand_of h) (given_of h) → Comes first (record c { machine = m }) h
+comes_held first c m h k found slows runs = (became on_stopped motions.Held ∷ h, stops first c m h k slows found.stopped runs, is_held slows refl)
 
-pub comes_locked : (c : Controller) (m : Machine) (h : Journal) → Keeps c h → IsFoundStopped c.flight h → motion_of h ≡ motions.Stopping → Runs m (plan_of h) motions.Alarm (hand_of h) (given_of h) → Comes (record c { machine = m }) h
-comes_locked c m h k found slows runs = (became on_stopped motions.Alarm ∷ h, locks c m h k slows found.stopped runs, is_locked slows refl)
+pub comes_locked : (first : Opening) (c : Controller) (m : Machine) (h : Journal) → Keeps first c h → IsFoundStopped first c.flight h → motion_of first h ≡ motions.Stopping → Runs m (plan_of h) motions.Alarm (hand_of h) (given_of h) → Comes first (record c { machine = m }) h
+comes_locked first c m h k found slows runs = (became on_stopped motions.Alarm ∷ h, locks first c m h k slows found.stopped runs, is_locked slows refl)
 
-pub comes_over : (c : Controller) (m : Machine) (h : Journal) → Keeps c h → IsFoundStopped c.flight h → motion_of h ≡ motions.Cancelling → c.cut ≡ true → Runs m (plan_of h) motions.Idle (hand_of h) (given_of h) → Comes (record c { machine = m; cut = false }) h
-comes_over c m h k found cancelled was runs =
-    let e = sym k.cut_is ∙ was in (became on_stopped motions.Idle ∷ h, cancel_over c m h k cancelled e found runs, is_over cancelled e refl)
+pub comes_over : (first : Opening) (c : Controller) (m : Machine) (h : Journal) → Keeps first c h → IsFoundStopped first c.flight h → motion_of first h ≡ motions.Cancelling → c.cut ≡ true → Runs m (plan_of h) motions.Idle (hand_of h) (given_of h) → Comes first (record c { machine = m; cut = false }) h
+comes_over first c m h k found cancelled was runs =
+    let e = sym k.cut_is ∙ was in (became on_stopped motions.Idle ∷ h, cancel_over first c m h k cancelled e found runs, is_over cancelled e refl)
 
-pub is_uncut : (c : Controller) (h : Journal) → Keeps c h → motion_of h ≡ motions.Cancelling → c.cut ≡ false → IsUncut h
-is_uncut c h k cancelled none = record { cancelled = cancelled; uncut = sym k.cut_is ∙ none }
+pub is_uncut : (first : Opening) (c : Controller) (h : Journal) → Keeps first c h → motion_of first h ≡ motions.Cancelling → c.cut ≡ false → IsUncut first h
+is_uncut first c h k cancelled none = record { cancelled = cancelled; uncut = sym k.cut_is ∙ none }
 
-pub comes_cut : (c d : Controller) (h : Journal) → IsUncut h → Keeps d (cut (length (outcomes_of h)) ∷ h) → Comes d h
-comes_cut c d h uncut keeps = (cut (length (outcomes_of h)) ∷ h, keeps, is_cut uncut (length (outcomes_of h)) refl)
+pub comes_cut : (first : Opening) (c d : Controller) (h : Journal) → IsUncut first h → Keeps first d (cut (first.lines + length (outcomes_of h)) ∷ h) → Comes first d h
+comes_cut first c d h uncut keeps = (cut (first.lines + length (outcomes_of h)) ∷ h, keeps, is_cut uncut (first.lines + length (outcomes_of h)) refl)

@@ -18,6 +18,7 @@ use Rattle.planner_runs.specs.declared.Action.TheVariants.{Add, Take, Override, 
 use Rattle.planner_runs.specs.Runs.{Plans, block_of, fresh_plan, most_blocks, with_move, cleared}
 use Rattle.step_line.specs.declared.Piece.{Piece}
 use Rattle.step_line.specs.declared.Piece.TheVariants as pieces
+use Rattle.board_rules.specs.Openings.{Opening}
 use Rattle.board_rules.specs.Ports.{MayBeDone}
 use Rattle.board_rules.specs.Ports.PortStep.{found_free, loaded}
 use Rattle.board_rules.specs.Steps.{Journal, port_log, published_of, known_of, given_of, hand_of, plan_of, motion_of, actions_of, planned_of}
@@ -54,10 +55,11 @@ observed_now m now p [] false none e is = absurd cc
 observed_now m now p (x ∷ xs) all none e is = absurd cc
 
 -- a machine that keeps its plan, its motion and its hand
-pub other_machine : (c : Controller) (m : Machine) (h : Journal) → Keeps c h → Runs m (plan_of h) (motion_of h) (hand_of h) (given_of h) → Keeps (record c { machine = m }) h
-other_machine c m h k runs = record {
-  first = k.first;
-  opening = k.opening;
+pub other_machine : (first : Opening) (c : Controller) (m : Machine) (h : Journal) → Keeps first c h → Runs m (plan_of h) (motion_of first h) (hand_of h) (given_of h) → Keeps first (record c { machine = m }) h
+other_machine first c m h k runs = record {
+  placed = k.placed;
+  free = k.free;
+  short = k.short;
   conducted = k.conducted;
   machine = runs;
   lines = k.lines;
@@ -76,10 +78,10 @@ other_machine c m h k runs = record {
 -- ---- the steps behind a look
 
 -- the machine goes on as it did
-observed_stays : (h : Journal) (done : ℕ) → (IsDrained (at_port (loaded done) ∷ h) → is_going (motion_of h) ≡ false) → (IsStopped (at_port (loaded done) ∷ h) → ⊥)
-    → HasObserved h (at_port (loaded done) ∷ h)
-observed_stays h done idle stopped = record {
-  passes = passes_load done h;
+observed_stays : (first : Opening) (h : Journal) (done : ℕ) → (IsDrained (at_port (loaded done) ∷ h) → is_going (motion_of first h) ≡ false) → (IsStopped first (at_port (loaded done) ∷ h) → ⊥)
+    → HasObserved first h (at_port (loaded done) ∷ h)
+observed_stays first h done idle stopped = record {
+  passes = passes_load first done h;
   load = refl;
   stays = inl (record { left = refl; hand = refl; plan = refl });
   idle = idle;
@@ -89,11 +91,11 @@ observed_stays h done idle stopped = record {
 }
 
 -- the cycle is over, or the jogs are
-observed_over : (h : Journal) (done : ℕ) → has_blocks (plan_of h).blocks ≡ false → HasObserved h (became on_drained motions.Idle ∷ at_port (loaded done) ∷ h)
-observed_over h done none =
+observed_over : (first : Opening) (h : Journal) (done : ℕ) → has_blocks (plan_of h).blocks ≡ false → HasObserved first h (became on_drained motions.Idle ∷ at_port (loaded done) ∷ h)
+observed_over first h done none =
     let mid : Journal = at_port (loaded done) ∷ h in
     record {
-      passes = passes_on h mid (became on_drained motions.Idle ∷ mid) (passes_load done h) (passes_motion on_drained motions.Idle mid refl (omega arith));
+      passes = passes_on first h mid (became on_drained motions.Idle ∷ mid) (passes_load first done h) (passes_motion first on_drained motions.Idle mid refl (omega arith));
       load = refl;
       stays = inl (record { left = refl; hand = refl; plan = refl });
       idle = λ d. refl;
@@ -103,8 +105,8 @@ observed_over h done none =
     }
 
 -- something came of a machine that has stopped
-observed_came : (h next : Journal) → CameOf h next → HasObserved h next
-observed_came h next came = record {
+observed_came : (first : Opening) (h next : Journal) → CameOf first h next → HasObserved first h next
+observed_came first h next came = record {
   passes = came.settled.passes;
   load = came.load;
   stays = came.settled.stays;
@@ -117,9 +119,9 @@ observed_came h next came = record {
 -- ---- a look
 
 -- what a board with another machine and another flight has observed
-abbrev pub Observes : Controller → Machine → Flying → ℕ → Journal → Type 0
-Observes c m f done h =
-    (next : Journal) × (port_log next ≡ loaded done ∷ port_log h) × Keeps (record c { machine = m; flight = f }) next × HasObserved h next × Flies f (published_of next) (known_of next)
+abbrev pub Observes : Opening → Controller → Machine → Flying → ℕ → Journal → Type 0
+Observes first c m f done h =
+    (next : Journal) × (port_log next ≡ loaded done ∷ port_log h) × Keeps first (record c { machine = m; flight = f }) next × HasObserved first h next × Flies first.place f (published_of next) (known_of next)
 
 no_blocks : (bs : List Block) → has_blocks bs ≡ false → bs ≡ []
 no_blocks [] is = refl
@@ -132,49 +134,49 @@ equal_tests : (a b : ℕ) → a ≡ b → nat_eq a b ≡ true
 equal_tests a b e = grind (arith, nat_tests, e)
 
 -- a machine that has not stopped
-pub looks : (c : Controller) (m : Machine) (f : Flying) (done : ℕ) (h : Journal) → Keeps c h → MayBeDone done (port_log h) → Flies f (published_of h) done → (IsStopped (at_port (loaded done) ∷ h) → ⊥)
-    → Runs m (plan_of h) (observed (motion_of h) (plan_of h) (hand_of h) (nat_eq done (ticks_given h))) (hand_of h) (given_of h) → Observes c m f done h
-looks c m f done h k may flies moves runs = by_hand (hand_of h) refl
+pub looks : (first : Opening) (c : Controller) (m : Machine) (f : Flying) (done : ℕ) (h : Journal) → Keeps first c h → MayBeDone done (port_log h) → Flies first.place f (published_of h) done → (IsStopped first (at_port (loaded done) ∷ h) → ⊥)
+    → Runs m (plan_of h) (observed (motion_of first h) (plan_of h) (hand_of h) (nat_eq done (ticks_given h))) (hand_of h) (given_of h) → Observes first c m f done h
+looks first c m f done h k may flies moves runs = by_hand (hand_of h) refl
   where
-    found : Keeps c (at_port (loaded done) ∷ h)
-    found = looked c done h k may
+    found : Keeps first c (at_port (loaded done) ∷ h)
+    found = looked first c done h k may
 
-    runs_as : (now : AnyMotion) → observed (motion_of h) (plan_of h) (hand_of h) (nat_eq done (ticks_given h)) ≡ now → Runs m (plan_of h) now (hand_of h) (given_of h)
+    runs_as : (now : AnyMotion) → observed (motion_of first h) (plan_of h) (hand_of h) (nat_eq done (ticks_given h)) ≡ now → Runs m (plan_of h) now (hand_of h) (given_of h)
     runs_as now is = subst (λ x. Runs m (plan_of h) x (hand_of h) (given_of h)) is runs
 
-    stays : observed (motion_of h) (plan_of h) (hand_of h) (nat_eq done (ticks_given h)) ≡ motion_of h → (IsDrained (at_port (loaded done) ∷ h) → is_going (motion_of h) ≡ false) → Observes c m f done h
+    stays : observed (motion_of first h) (plan_of h) (hand_of h) (nat_eq done (ticks_given h)) ≡ motion_of first h → (IsDrained (at_port (loaded done) ∷ h) → is_going (motion_of first h) ≡ false) → Observes first c m f done h
     stays is idle = (
       at_port (loaded done) ∷ h,
       refl,
-      other_flight (record c { machine = m }) f (at_port (loaded done) ∷ h) (other_machine c m (at_port (loaded done) ∷ h) found (runs_as (motion_of h) is))
+      other_flight first (record c { machine = m }) f (at_port (loaded done) ∷ h) (other_machine first c m (at_port (loaded done) ∷ h) found (runs_as (motion_of first h) is))
           (record { known = done; found = omega arith; flies = flies }),
-      observed_stays h done idle moves,
+      observed_stays first h done idle moves,
       flies,
     )
 
     -- the machine does not go
-    stands : (now : AnyMotion) → hand_of h ≡ [] → nat_eq done (ticks_given h) ≡ true → settled now (plan_of h) ≡ now → is_going now ≡ false → motion_of h ≡ now → Observes c m f done h
+    stands : (now : AnyMotion) → hand_of h ≡ [] → nat_eq done (ticks_given h) ≡ true → settled now (plan_of h) ≡ now → is_going now ≡ false → motion_of first h ≡ now → Observes first c m f done h
     stands now none all rests idle e =
-        stays (observed_now (motion_of h) now (plan_of h) (hand_of h) (nat_eq done (ticks_given h)) none all e ∙ rests ∙ sym e) (λ d. ap is_going e ∙ idle)
+        stays (observed_now (motion_of first h) now (plan_of h) (hand_of h) (nat_eq done (ticks_given h)) none all e ∙ rests ∙ sym e) (λ d. ap is_going e ∙ idle)
 
     -- it goes: where no block is left, that is over
-    going : (now : AnyMotion) → StandsOrGoes (motion_of h) → settled now (plan_of h) ≡ cond (has_blocks (plan_of h).blocks) now motions.Idle
-        → hand_of h ≡ [] → nat_eq done (ticks_given h) ≡ true → motion_of h ≡ now → (some : Bool) → has_blocks (plan_of h).blocks ≡ some → Observes c m f done h
+    going : (now : AnyMotion) → StandsOrGoes (motion_of first h) → settled now (plan_of h) ≡ cond (has_blocks (plan_of h).blocks) now motions.Idle
+        → hand_of h ≡ [] → nat_eq done (ticks_given h) ≡ true → motion_of first h ≡ now → (some : Bool) → has_blocks (plan_of h).blocks ≡ some → Observes first c m f done h
     going now goes rests none all is false e =
-        let runs_idle = runs_as motions.Idle (observed_now (motion_of h) now (plan_of h) (hand_of h) (nat_eq done (ticks_given h)) none all is ∙ rests ∙ ap (λ t. cond t now motions.Idle) e) in
-        let over : IsDrained (at_port (loaded done) ∷ h) = record { plan = at_rest c h k (no_blocks (plan_of h).blocks e); hand = none; done = true_is done (ticks_given h) all } in (
+        let runs_idle = runs_as motions.Idle (observed_now (motion_of first h) now (plan_of h) (hand_of h) (nat_eq done (ticks_given h)) none all is ∙ rests ∙ ap (λ t. cond t now motions.Idle) e) in
+        let over : IsDrained (at_port (loaded done) ∷ h) = record { plan = at_rest first c h k (no_blocks (plan_of h).blocks e); hand = none; done = true_is done (ticks_given h) all } in (
           became on_drained motions.Idle ∷ at_port (loaded done) ∷ h,
           refl,
-          other_flight (record c { machine = m }) f (became on_drained motions.Idle ∷ at_port (loaded done) ∷ h) (drained c m (at_port (loaded done) ∷ h) found goes over runs_idle)
+          other_flight first (record c { machine = m }) f (became on_drained motions.Idle ∷ at_port (loaded done) ∷ h) (drained first c m (at_port (loaded done) ∷ h) found goes over runs_idle)
               (record { known = done; found = omega arith; flies = flies }),
-          observed_over h done e,
+          observed_over first h done e,
           flies,
         )
     going now goes rests none all is true e =
-        stays (observed_now (motion_of h) now (plan_of h) (hand_of h) (nat_eq done (ticks_given h)) none all is ∙ rests ∙ ap (λ t. cond t now motions.Idle) e ∙ sym is)
+        stays (observed_now (motion_of first h) now (plan_of h) (hand_of h) (nat_eq done (ticks_given h)) none all is ∙ rests ∙ ap (λ t. cond t now motions.Idle) e ∙ sym is)
         (λ d. absurd (let t = sym e ∙ ap has_blocks d.plan.blocks in cc))
 
-    by_motion : hand_of h ≡ [] → nat_eq done (ticks_given h) ≡ true → (now : AnyMotion) → motion_of h ≡ now → Observes c m f done h
+    by_motion : hand_of h ≡ [] → nat_eq done (ticks_given h) ≡ true → (now : AnyMotion) → motion_of first h ≡ now → Observes first c m f done h
     by_motion none all motions.Idle e = stands motions.Idle none all refl refl e
     by_motion none all motions.Run e = going motions.Run (inr (inl e)) refl none all e (has_blocks (plan_of h).blocks) refl
     by_motion none all motions.Holding e = stands motions.Holding none all refl refl e
@@ -184,26 +186,26 @@ looks c m f done h k may flies moves runs = by_hand (hand_of h) refl
     by_motion none all motions.Stopping e = stands motions.Stopping none all refl refl e
     by_motion none all motions.Alarm e = stands motions.Alarm none all refl refl e
 
-    by_done : hand_of h ≡ [] → (all : Bool) → nat_eq done (ticks_given h) ≡ all → Observes c m f done h
-    by_done none true e = by_motion none e (motion_of h) refl
+    by_done : hand_of h ≡ [] → (all : Bool) → nat_eq done (ticks_given h) ≡ all → Observes first c m f done h
+    by_done none true e = by_motion none e (motion_of first h) refl
     by_done none false e =
-        stays (observed_later (motion_of h) (plan_of h) (hand_of h) (nat_eq done (ticks_given h)) e)
+        stays (observed_later (motion_of first h) (plan_of h) (hand_of h) (nat_eq done (ticks_given h)) e)
         (λ d. absurd (let t = sym e ∙ equal_tests done (ticks_given h) d.done in cc))
 
-    by_hand : (ps : List Piece) → hand_of h ≡ ps → Observes c m f done h
+    by_hand : (ps : List Piece) → hand_of h ≡ ps → Observes first c m f done h
     by_hand [] e = by_done e (nat_eq done (ticks_given h)) refl
     by_hand (p ∷ ps) e =
         let some : hand_of h ≡ [] → ⊥ = (λ none. let t = sym e ∙ none in absurd cc) in
-        stays (observed_kept (motion_of h) (plan_of h) (hand_of h) (nat_eq done (ticks_given h)) some) (λ d. absurd (some d.hand))
+        stays (observed_kept (motion_of first h) (plan_of h) (hand_of h) (nat_eq done (ticks_given h)) some) (λ d. absurd (some d.hand))
 
 -- a machine that has stopped
-pub looks_stopped : (b : Controller) (f : Flying) (d : Controller) (done : ℕ) (h next : Journal) → Keeps b h → HasSlowedDown h → d.flight ≡ f → Flies f (published_of h) done → ComesOf (at_port (loaded done) ∷ h) next → Keeps d next
-    → (port_log next ≡ loaded done ∷ port_log h) × HasObserved h next × Flies d.flight (published_of next) (known_of next)
-looks_stopped b f d done h next k slowed same flies comes keeps =
+pub looks_stopped : (first : Opening) (b : Controller) (f : Flying) (d : Controller) (done : ℕ) (h next : Journal) → Keeps first b h → HasSlowedDown first h → d.flight ≡ f → Flies first.place f (published_of h) done → ComesOf first (at_port (loaded done) ∷ h) next → Keeps first d next
+    → (port_log next ≡ loaded done ∷ port_log h) × HasObserved first h next × Flies first.place d.flight (published_of next) (known_of next)
+looks_stopped first b f d done h next k slowed same flies comes keeps =
     let mid : Journal = at_port (loaded done) ∷ h in (
-      port_came mid next comes,
-      observed_came h next (came_of k.first h next done k.conducted slowed comes),
-      rw (same, published_came mid next comes, known_came mid next comes) flies,
+      port_came first mid next comes,
+      observed_came first h next (came_of first h next done k.conducted slowed comes),
+      rw (same, published_came first mid next comes, known_came first mid next comes) flies,
     )
 
 -- ---- the room
@@ -230,10 +232,10 @@ few_behind most p last (Take mode ∷ rest) (pieces.Segment s ∷ ps) few run =
 few_behind most p last (Mark m ∷ rest) (pieces.Mark g ∷ ps) few run = few_behind most p last rest ps few run.3
 few_behind most p last rest ps few run = absurd run
 
-pub few_blocks : (c : Controller) (h : Journal) → Keeps c h → length c.machine.plan.blocks ≤ most_blocks
-few_blocks c h k =
+pub few_blocks : (first : Opening) (c : Controller) (h : Journal) → Keeps first c h → length c.machine.plan.blocks ≤ most_blocks
+few_blocks first c h k =
     subst (λ (p : Planned). length p.blocks ≤ most_blocks) (sym k.machine.plan_is)
-    (few_behind most_blocks fresh_plan (plan_of h) (actions_of h) (planned_of h) (omega arith) (run_is k.first h k.conducted))
+    (few_behind most_blocks fresh_plan (plan_of h) (actions_of h) (planned_of h) (omega arith) (run_is first h k.conducted))
 
 same_number : (n : ℕ) → nat_eq n n ≡ true
 same_number n = equal_tests n n refl
@@ -242,8 +244,8 @@ either : (a b : Bool) → a ≡ true → (a || b) ≡ true
 either true b e = refl
 either false b e = absurd cc
 
-pub asked_room : (c : Controller) (free bytes : ℕ) (h : Journal) → Keeps c h → free + length c.machine.plan.blocks ≡ most_blocks → HasAskedRoom (Some (free, bytes)) h (at_port (found_free bytes) ∷ h)
-asked_room c free bytes h k room = record {
+pub asked_room : (first : Opening) (c : Controller) (free bytes : ℕ) (h : Journal) → Keeps first c h → free + length c.machine.plan.blocks ≡ most_blocks → HasAskedRoom (Some (free, bytes)) h (at_port (found_free bytes) ∷ h)
+asked_room first c free bytes h k room = record {
   are = inr (bytes, refl);
   room = (
     subst (λ (p : Planned). free + length p.blocks ≡ most_blocks) k.machine.plan_is room,
@@ -257,19 +259,19 @@ told_or_lacks : (told : Bool) (A : Type 0) → (told ≡ false → A) → not to
 told_or_lacks true A f e = absurd cc
 told_or_lacks false A f e = f refl
 
-pub may_obey : (c : Controller) (told : Bool) (word : Exec) (h : Journal) → Keeps c h → IsReported told (Some word) h → MayObey word (has_blocks (plan_of h).blocks) h
-may_obey c told word h k r = record {
+pub may_obey : (first : Opening) (c : Controller) (told : Bool) (word : Exec) (h : Journal) → Keeps first c h → IsReported first told (Some word) h → MayObey first word (has_blocks (plan_of h).blocks) h
+may_obey first c told word h k r = record {
   next = r.words;
   reported = λ owed. told_or_lacks told _ r.lacks (sym r.owed ∙ owed);
   blocks = refl;
   looked = λ s. r.load;
   stopped = r.stopped;
-  jog = no_jog_to_start k.first h k.conducted (none_called h r.unpolled r.none_waits) r.adds;
-  halts = halts_by c h k;
+  jog = no_jog_to_start first h k.conducted (none_called first h r.unpolled r.none_waits) r.adds;
+  halts = halts_by first c h k;
 }
 
-pub obeys_waiting : (c : Controller) (m : Machine) (waiting : Option Exec) (word : Exec) (told : Bool) (h : Journal) → waiting ≡ Some word → Keeps c h → IsReported told waiting h
-    → Runs m (plan_of h) (after_word word (has_blocks (plan_of h).blocks) (motion_of h)) (hand_of h) (given_of h) → Keeps (record c { machine = m }) (obeying waiting h)
-obeys_waiting c m waiting word told h is k reported runs =
-    let r = subst (λ (w : Option Exec). IsReported told w h) is reported in
-    subst (λ (w : Option Exec). Keeps (record c { machine = m }) (obeying w h)) (sym is) (obeys c m word h k (may_obey c told word h k r) runs)
+pub obeys_waiting : (first : Opening) (c : Controller) (m : Machine) (waiting : Option Exec) (word : Exec) (told : Bool) (h : Journal) → waiting ≡ Some word → Keeps first c h → IsReported first told waiting h
+    → Runs m (plan_of h) (after_word word (has_blocks (plan_of h).blocks) (motion_of first h)) (hand_of h) (given_of h) → Keeps first (record c { machine = m }) (obeying first waiting h)
+obeys_waiting first c m waiting word told h is k reported runs =
+    let r = subst (λ (w : Option Exec). IsReported first told w h) is reported in
+    subst (λ (w : Option Exec). Keeps first (record c { machine = m }) (obeying first w h)) (sym is) (obeys first c m word h k (may_obey first c told word h k r) runs)

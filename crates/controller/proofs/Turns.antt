@@ -6,6 +6,7 @@ use Rattle.status_report.specs.declared.Reply.{Reply}
 use Rattle.status_report.specs.declared.Reply.TheVariants.{Bye}
 use Rattle.flight.specs.Flights.{Flying}
 use Rattle.line_interpreter.specs.Interpreting.{Interpreting}
+use Rattle.board_rules.specs.Openings.{Opening}
 use Rattle.board_rules.specs.Ports.PortStep.{found_free}
 use Rattle.board_rules.specs.Steps.{Journal}
 use Rattle.board_rules.specs.Steps.Step.{at_port, closing, turned}
@@ -18,11 +19,12 @@ use Rattle.controller.specs.Boards.{Keeps, IsFlown}
 -- ---- the run and the turns
 
 -- the run is being closed
-pub closes : (c : Controller) (i : Interpreting) (h : Journal) → Keeps c h → MayClose h → i ≡ record c.lines { left = finish ∷ tell Bye ∷ [] }
-    → Keeps (record c { lines = i; closing = true }) (closing ∷ h)
-closes c i h k may is = record {
-  first = k.first;
-  opening = k.opening;
+pub closes : (first : Opening) (c : Controller) (i : Interpreting) (h : Journal) → Keeps first c h → MayClose first h → i ≡ record c.lines { left = finish ∷ tell Bye ∷ [] }
+    → Keeps first (record c { lines = i; closing = true }) (closing ∷ h)
+closes first c i h k may is = record {
+  placed = k.placed;
+  free = k.free;
+  short = k.short;
   conducted = (may, k.conducted);
   machine = k.machine;
   lines = record {
@@ -43,10 +45,11 @@ closes c i h k may is = record {
 }
 
 -- a turn ends
-pub ends : (c : Controller) (t : Turn) (h : Journal) → Keeps c h → MayTurn t h → Keeps c (turned t ∷ h)
-ends c t h k may = record {
-  first = k.first;
-  opening = k.opening;
+pub ends : (first : Opening) (c : Controller) (t : Turn) (h : Journal) → Keeps first c h → MayTurn first t h → Keeps first c (turned t ∷ h)
+ends first c t h k may = record {
+  placed = k.placed;
+  free = k.free;
+  short = k.short;
   conducted = (may, k.conducted);
   machine = k.machine;
   lines = k.lines;
@@ -63,10 +66,11 @@ ends c t h k may = record {
 }
 
 -- the room on the link is asked for
-pub room_found : (c : Controller) (bytes : ℕ) (h : Journal) → Keeps c h → Keeps c (at_port (found_free bytes) ∷ h)
-room_found c bytes h k = record {
-  first = k.first;
-  opening = k.opening;
+pub room_found : (first : Opening) (c : Controller) (bytes : ℕ) (h : Journal) → Keeps first c h → Keeps first c (at_port (found_free bytes) ∷ h)
+room_found first c bytes h k = record {
+  placed = k.placed;
+  free = k.free;
+  short = k.short;
   conducted = (tt, k.conducted);
   machine = k.machine;
   lines = k.lines;
@@ -83,10 +87,11 @@ room_found c bytes h k = record {
 }
 
 -- what the next turn begins with is no part of it, nor which words of flags it takes
-pub other_beat : (c : Controller) (b : Beat) (h : Journal) → Keeps c h → Keeps (record c { beat = b }) h
-other_beat c b h k = record {
-  first = k.first;
-  opening = k.opening;
+pub other_beat : (first : Opening) (c : Controller) (b : Beat) (h : Journal) → Keeps first c h → Keeps first (record c { beat = b }) h
+other_beat first c b h k = record {
+  placed = k.placed;
+  free = k.free;
+  short = k.short;
   conducted = k.conducted;
   machine = k.machine;
   lines = k.lines;
@@ -102,10 +107,11 @@ other_beat c b h k = record {
   tries = k.tries;
 }
 
-pub other_flags : (c : Controller) (f : Flags) (h : Journal) → Keeps c h → Keeps (record c { flags = f }) h
-other_flags c f h k = record {
-  first = k.first;
-  opening = k.opening;
+pub other_flags : (first : Opening) (c : Controller) (f : Flags) (h : Journal) → Keeps first c h → Keeps first (record c { flags = f }) h
+other_flags first c f h k = record {
+  placed = k.placed;
+  free = k.free;
+  short = k.short;
   conducted = k.conducted;
   machine = k.machine;
   lines = k.lines;
@@ -122,10 +128,11 @@ other_flags c f h k = record {
 }
 
 -- the flight may know of more ticks
-pub other_flight : (c : Controller) (f : Flying) (h : Journal) → Keeps c h → IsFlown f h → Keeps (record c { flight = f }) h
-other_flight c f h k flown = record {
-  first = k.first;
-  opening = k.opening;
+pub other_flight : (first : Opening) (c : Controller) (f : Flying) (h : Journal) → Keeps first c h → IsFlown first f h → Keeps first (record c { flight = f }) h
+other_flight first c f h k flown = record {
+  placed = k.placed;
+  free = k.free;
+  short = k.short;
   conducted = k.conducted;
   machine = k.machine;
   lines = k.lines;

@@ -11,6 +11,7 @@ use Rattle.step_line.specs.Asking.Asked.{a_move}
 use Rattle.step_line.specs.declared.planned_move.PlannedMove.{PlannedMove}
 use Rattle.run_rules.specs.Work.{Task, pauses}
 use Rattle.run_rules.specs.Work.Task.{ask}
+use Rattle.board_rules.specs.Openings.{Opening}
 use Rattle.board_rules.specs.Ports.{has_changes}
 use Rattle.board_rules.specs.Ports.PortStep.{took_exec, took_ovr}
 use Rattle.board_rules.specs.Steps.{Step, Journal, left_of, whole_of, closed_tells, plan_of, motion_of}
@@ -36,21 +37,21 @@ use Rattle.controller.proofs.Halting.{HaltsInTime, waited_before, ends_obeyed, e
 -- ---- between two turns
 
 -- where words of flags are to be taken, the last turn published no piece
-beat_is : (board : Controller) (h : Journal) → GoingFits board h → takes_no_word board.flags ≡ false → board.beat ≡ Motion
-beat_is board h f some = by_beat board.beat f.still
+beat_is : (first : Opening) (board : Controller) (h : Journal) → GoingFits first board h → takes_no_word board.flags ≡ false → board.beat ≡ Motion
+beat_is first board h f some = by_beat board.beat f.still
   where
     by_beat : (b : Beat) → (has_published b ≡ true → takes_no_word board.flags ≡ true) → b ≡ Motion
     by_beat Motion still = refl
     by_beat Main still = absurd (let e = sym some ∙ still refl in cc)
 
-few_between : (board : Controller) (h : Journal) → GoingFits board h → board.beat ≡ Motion → tries_of h + one_if (whole_of h) ≤ 1
-few_between board h f beat = let t = f.rounds.tries in let b = ap (λ x. one_if (has_published x)) beat in omega (arith, t, b)
+few_between : (first : Opening) (board : Controller) (h : Journal) → GoingFits first board h → board.beat ≡ Motion → tries_of first h + one_if (whole_of h) ≤ 1
+few_between first board h f beat = let t = f.rounds.tries in let b = ap (λ x. one_if (has_published x)) beat in omega (arith, t, b)
 
 count_between : (h : Journal) (f : Step → Bool) → GoingBetween h → count_by f (this_turn h) ≡ 0
 count_between h f between = ap (λ (ss : List Step). count_by f ss) between
 
-worked_between : (h : Journal) → GoingBetween h → unobeyed_of h ≡ [] → AreWorked h
-worked_between h between none = record {
+worked_between : (first : Opening) (h : Journal) → GoingBetween h → unobeyed_of h ≡ [] → AreWorked h
+worked_between first h between none = record {
   obeyed = λ e. none;
   changed = count_between h replans between ∙ sym (count_between h takes_changes between);
 }
@@ -58,26 +59,26 @@ worked_between h between none = record {
 -- ---- the word of changes of overrides
 
 -- a word of changes was taken, and where it holds one it is planned anew
-record TakesChanges (h next : Journal) : Type 0 where
+record TakesChanges (first : Opening) (h next : Journal) : Type 0 where
   steps : List Step
   are : next ≡ steps ++ h
   one : count_by publishing (this_turn next) ≡ count_by publishing (this_turn h) + 1
   worked : AreWorked h → AreWorked next
   polled : list_any found_none (this_turn next) ≡ list_any found_none (this_turn h)
-  tries : tries_of next ≡ tries_of h
+  tries : tries_of first next ≡ tries_of first h
   whole : whole_of next ≡ whole_of h
-  left : left_of next ≡ left_of h
+  left : left_of first next ≡ left_of first h
   closed : closed_tells next ≡ closed_tells h
-  motion : motion_of next ≡ motion_of h
+  motion : motion_of first next ≡ motion_of first h
   cuts : has_cut next ≡ has_cut h
-  waiting : AreWaiting next → AreWaiting h
+  waiting : AreWaiting first next → AreWaiting first h
   full : is_full (plan_of next) ≡ is_full (plan_of h)
   taken : changes_taken next ≡ true
   words : unobeyed_of next ≡ unobeyed_of h
   jogged : has_jogged next ≡ has_jogged h
 
-none_changed : (word : Ovr) (h : Journal) → has_changes word ≡ false → TakesChanges h (at_port (took_ovr word) ∷ h)
-none_changed word h none = record {
+none_changed : (first : Opening) (word : Ovr) (h : Journal) → has_changes word ≡ false → TakesChanges first h (at_port (took_ovr word) ∷ h)
+none_changed first word h none = record {
   steps = at_port (took_ovr word) ∷ [];
   are = refl;
   one = counts_one publishing (at_port (took_ovr word)) (this_turn h) refl;
@@ -99,8 +100,8 @@ none_changed word h none = record {
   jogged = refl;
 }
 
-some_changed : (word : Ovr) (h : Journal) → has_changes word ≡ true → TakesChanges h (did (Override (taken (plan_of h).overrides word)) [] ∷ (at_port (took_ovr word) ∷ h))
-some_changed word h some =
+some_changed : (first : Opening) (word : Ovr) (h : Journal) → has_changes word ≡ true → TakesChanges first h (did (Override (taken (plan_of h).overrides word)) [] ∷ (at_port (took_ovr word) ∷ h))
+some_changed first word h some =
     let plans = did (Override (taken (plan_of h).overrides word)) [] in
     let takes = at_port (took_ovr word) in
     let ss = this_turn h in
@@ -127,22 +128,22 @@ some_changed word h some =
       jogged = refl;
     }
 
-takes_changes_of : (word : Ovr) (h : Journal) → TakesChanges h (replanned word h)
-takes_changes_of word h = by_word (has_changes word) refl
+takes_changes_of : (first : Opening) (word : Ovr) (h : Journal) → TakesChanges first h (replanned word h)
+takes_changes_of first word h = by_word (has_changes word) refl
   where
-    by_word : (some : Bool) → has_changes word ≡ some → TakesChanges h (replanned word h)
-    by_word true e = subst (TakesChanges h) (sym (replanned_some word h e)) (some_changed word h e)
-    by_word false e = subst (TakesChanges h) (sym (replanned_none word h e)) (none_changed word h e)
+    by_word : (some : Bool) → has_changes word ≡ some → TakesChanges first h (replanned word h)
+    by_word true e = subst (TakesChanges first h) (sym (replanned_some word h e)) (some_changed first word h e)
+    by_word false e = subst (TakesChanges first h) (sym (replanned_none word h e)) (none_changed first word h e)
 
-none_waits_changed : (h next : Journal) → TakesChanges h next → NoneWaits h → NoneWaits next
-none_waits_changed h next t none w =
-    same_calls (is_full (plan_of next)) (is_full (plan_of h)) (left_of next) (left_of h) (has_jogged next) (has_jogged h) t.full t.left t.jogged ∙ none (t.waiting w)
+none_waits_changed : (first : Opening) (h next : Journal) → TakesChanges first h next → NoneWaits first h → NoneWaits first next
+none_waits_changed first h next t none w =
+    same_calls (is_full (plan_of next)) (is_full (plan_of h)) (left_of first next) (left_of first h) (has_jogged next) (has_jogged h) t.full t.left t.jogged ∙ none (t.waiting w)
 
-changes_worked : (was board : Controller) (h next : Journal) → GoingFits was h → GoingBetween h → was.flags ≡ words.Both → TakesChanges h next → Keeps board next
-    → board.beat ≡ was.beat → board.flags ≡ words.Requests → BoardWorked Did was.flags board h next
-changes_worked was board h next f between both t keeps same_beat flag = record {
+changes_worked : (first : Opening) (was board : Controller) (h next : Journal) → GoingFits first was h → GoingBetween h → was.flags ≡ words.Both → TakesChanges first h next → Keeps first board next
+    → board.beat ≡ was.beat → board.flags ≡ words.Requests → BoardWorked first Did was.flags board h next
+changes_worked first was board h next f between both t keeps same_beat flag = record {
   keeps = keeps;
-  rounds = subst (λ b. Rounds b next) (sym beat) (rounds_still next none few);
+  rounds = subst (λ b. (Rounds first) b next) (sym beat) (rounds_still first next none few);
   flags = subst (λ x. TakesFlags x next) (sym flag) (record { changes = t.taken; obeyed = t.words ∙ none_left });
   still = λ e. absurd (let x = sym (ap has_published beat) ∙ e in cc);
   beat = λ o e. absurd cc;
@@ -150,146 +151,146 @@ changes_worked was board h next f between both t keeps same_beat flag = record {
   are = t.are;
   may = record {
     once = (let one = t.one in let zero = count_between h publishing between in omega (arith, one, zero));
-    adds = λ m move. t.full ∙ adds f.keeps.first h m f.keeps.conducted between (subst (λ (ts : List Task). ts ≡ ask (a_move m) ∷ drop 1 ts) t.left move);
-    starts = none_called next (t.polled ∙ ap (λ (ss : List Step). list_any found_none ss) between) none;
+    adds = λ m move. t.full ∙ adds first h m f.keeps.conducted between (subst (λ (ts : List Task). ts ≡ ask (a_move m) ∷ drop 1 ts) t.left move);
+    starts = none_called first next (t.polled ∙ ap (λ (ss : List Step). list_any found_none ss) between) none;
     tries = omega (arith, few);
-    obeyed = (t.worked (worked_between h between none_left)).obeyed;
-    changed = (t.worked (worked_between h between none_left)).changed;
-    halts = halts_by board next keeps;
+    obeyed = (t.worked (worked_between first h between none_left)).obeyed;
+    changed = (t.worked (worked_between first h between none_left)).changed;
+    halts = halts_by first board next keeps;
   };
   moves = λ e. inr falls;
 }
   where
     beat : board.beat ≡ Motion
-    beat = same_beat ∙ beat_is was h f (ap takes_no_word both)
+    beat = same_beat ∙ beat_is first was h f (ap takes_no_word both)
 
     none_left : unobeyed_of h ≡ []
     none_left = subst (λ x. TakesFlags x h) both f.flags
 
-    none : NoneWaits next
-    none = none_waits_changed h next t f.rounds.none_waits
+    none : NoneWaits first next
+    none = none_waits_changed first h next t f.rounds.none_waits
 
-    few : tries_of next + one_if (whole_of next) ≤ 1
-    few = let b = few_between was h f (sym same_beat ∙ beat) in let n = t.tries in let w = ap one_if t.whole in omega (arith, b, n, w)
+    few : tries_of first next + one_if (whole_of next) ≤ 1
+    few = let b = few_between first was h f (sym same_beat ∙ beat) in let n = t.tries in let w = ap one_if t.whole in omega (arith, b, n, w)
 
-    falls : number_of board.flags next < number_of was.flags h
+    falls : number_of first board.flags next < number_of first was.flags h
     falls =
         let two = ap words_left both in
         let one = ap words_left flag in
         let p = ap (λ (ts : List Task). pauses ts) t.left in
         let m = ap (λ x. changes_left x (has_cut next)) t.motion in
-        let c = ap (changes_left (motion_of h)) t.cuts in
+        let c = ap (changes_left (motion_of first h)) t.cuts in
         let e = ap (λ (rs : List Reply). one_if (nat_eq (length rs) 0)) t.closed in
         omega (arith, two, one, p, m, c, e)
 
 -- the word of changes was taken
-pub took_changes : (was board : Controller) (word : Ovr) (h : Journal) → GoingFits was h → GoingBetween h → was.flags ≡ words.Both → Keeps board (replanned word h)
-    → board.beat ≡ was.beat → board.flags ≡ words.Requests → BoardWorked Did was.flags board h (replanned word h)
-took_changes was board word h f between both keeps same_beat flag = changes_worked was board h (replanned word h) f between both (takes_changes_of word h) keeps same_beat flag
+pub took_changes : (first : Opening) (was board : Controller) (word : Ovr) (h : Journal) → GoingFits first was h → GoingBetween h → was.flags ≡ words.Both → Keeps first board (replanned word h)
+    → board.beat ≡ was.beat → board.flags ≡ words.Requests → BoardWorked first Did was.flags board h (replanned word h)
+took_changes first was board word h f between both keeps same_beat flag = changes_worked first was board h (replanned word h) f between both (takes_changes_of first word h) keeps same_beat flag
 
 -- ---- the word of requests
 
-none_waits_settled : (h next : Journal) → HasSettled h next → NoneWaits h → NoneWaits next
-none_waits_settled h next s none w =
-    none_waits_so h next s.passes.jogged s.stays none (s.waiting w) w
+none_waits_settled : (first : Opening) (h next : Journal) → HasSettled first h next → NoneWaits first h → NoneWaits first next
+none_waits_settled first h next s none w =
+    none_waits_so first h next s.passes.jogged s.stays none (s.waiting w) w
 
 -- what the word of requests is taken behind
-record TakesRequests (was board : Controller) (h mid : Journal) : Type 0 where
-  fits : GoingFits was h
+record TakesRequests (first : Opening) (was board : Controller) (h mid : Journal) : Type 0 where
+  fits : GoingFits first was h
   between : GoingBetween h
   flag : was.flags ≡ words.Requests
-  settled : HasSettled h mid
+  settled : HasSettled first h mid
   same_beat : board.beat ≡ was.beat
 
-has_changes_at : (was : Controller) (h : Journal) → GoingFits was h → was.flags ≡ words.Requests → HasChanges h
-has_changes_at was h f flag = subst (λ x. TakesFlags x h) flag f.flags
+has_changes_at : (first : Opening) (was : Controller) (h : Journal) → GoingFits first was h → was.flags ≡ words.Requests → HasChanges h
+has_changes_at first was h f flag = subst (λ x. TakesFlags x h) flag f.flags
 
-beat_there : (was board : Controller) (h mid : Journal) → TakesRequests was board h mid → board.beat ≡ Motion
-beat_there was board h mid t = t.same_beat ∙ beat_is was h t.fits (ap takes_no_word t.flag)
+beat_there : (first : Opening) (was board : Controller) (h mid : Journal) → TakesRequests first was board h mid → board.beat ≡ Motion
+beat_there first was board h mid t = t.same_beat ∙ beat_is first was h t.fits (ap takes_no_word t.flag)
 
-few_there : (was board : Controller) (h mid : Journal) → TakesRequests was board h mid → tries_of mid + one_if (whole_of mid) ≤ 1
-few_there was board h mid t =
-    let b = few_between was h t.fits (sym t.same_beat ∙ beat_there was board h mid t) in
+few_there : (first : Opening) (was board : Controller) (h mid : Journal) → TakesRequests first was board h mid → tries_of first mid + one_if (whole_of mid) ≤ 1
+few_there first was board h mid t =
+    let b = few_between first was h t.fits (sym t.same_beat ∙ beat_there first was board h mid t) in
     let n = t.settled.passes.tries in let w = ap one_if t.settled.passes.whole in omega (arith, b, n, w)
 
-none_left_there : (was board : Controller) (h mid : Journal) → TakesRequests was board h mid → unobeyed_of mid ≡ []
-none_left_there was board h mid t = t.settled.passes.words ∙ (has_changes_at was h t.fits t.flag).obeyed
+none_left_there : (first : Opening) (was board : Controller) (h mid : Journal) → TakesRequests first was board h mid → unobeyed_of mid ≡ []
+none_left_there first was board h mid t = t.settled.passes.words ∙ (has_changes_at first was h t.fits t.flag).obeyed
 
-may_add_there : (was board : Controller) (h mid : Journal) → TakesRequests was board h mid → (m : PlannedMove) → IsNextTask (ask (a_move m)) mid → is_full (plan_of mid) ≡ true
-may_add_there was board h mid t m move =
-    none_fits_so h mid t.settled.stays (λ n next. adds t.fits.keeps.first h n t.fits.keeps.conducted t.between next) m move
+may_add_there : (first : Opening) (was board : Controller) (h mid : Journal) → TakesRequests first was board h mid → (m : PlannedMove) → IsNextTask first (ask (a_move m)) mid → is_full (plan_of mid) ≡ true
+may_add_there first was board h mid t m move =
+    none_fits_so first h mid t.settled.stays (λ n next. adds first h n t.fits.keeps.conducted t.between next) m move
 
-none_there : (was board : Controller) (h mid : Journal) → TakesRequests was board h mid → NoneWaits mid
-none_there was board h mid t = none_waits_settled h mid t.settled t.fits.rounds.none_waits
+none_there : (first : Opening) (was board : Controller) (h mid : Journal) → TakesRequests first was board h mid → NoneWaits first mid
+none_there first was board h mid t = none_waits_settled first h mid t.settled t.fits.rounds.none_waits
 
-none_called_there : (was board : Controller) (h mid : Journal) → TakesRequests was board h mid → AreWaiting mid → starts_cycle mid ≡ false
-none_called_there was board h mid t =
-    none_called mid (t.settled.passes.polled ∙ ap (λ (ss : List Step). list_any found_none ss) t.between) (none_there was board h mid t)
+none_called_there : (first : Opening) (was board : Controller) (h mid : Journal) → TakesRequests first was board h mid → AreWaiting first mid → starts_cycle first mid ≡ false
+none_called_there first was board h mid t =
+    none_called first mid (t.settled.passes.polled ∙ ap (λ (ss : List Step). list_any found_none ss) t.between) (none_there first was board h mid t)
 
 -- the word of requests was taken, and obeyed
-took_obeyed : (was board : Controller) (word : Exec) (h mid : Journal) → TakesRequests was board h mid → Keeps board (obeyed word mid) → owes_report (taken_word word mid) ≡ false
-    → board.flags ≡ words.None → BoardWorked Did was.flags board h (obeyed word mid)
-took_obeyed was board word h mid t keeps unowed no_word = record {
+took_obeyed : (first : Opening) (was board : Controller) (word : Exec) (h mid : Journal) → TakesRequests first was board h mid → Keeps first board (obeyed first word mid) → owes_report (taken_word word mid) ≡ false
+    → board.flags ≡ words.None → BoardWorked first Did was.flags board h (obeyed first word mid)
+took_obeyed first was board word h mid t keeps unowed no_word = record {
   keeps = keeps;
-  rounds = subst (λ b. Rounds b (obeyed word mid)) (sym beat) (rounds_still (obeyed word mid) (λ w. none_there was board h mid t (waited_before word mid w)) few);
-  flags = takes_none board (obeyed word mid) no_word (free_now word mid (s.changes ∙ (has_changes_at was h t.fits t.flag).changes) none_left unowed);
+  rounds = subst (λ b. (Rounds first) b (obeyed first word mid)) (sym beat) (rounds_still first (obeyed first word mid) (λ w. (none_there first) was board h mid t (waited_before first word mid w)) few);
+  flags = takes_none board (obeyed first word mid) no_word (free_now first word mid (s.changes ∙ (has_changes_at first was h t.fits t.flag).changes) none_left unowed);
   still = λ e. no_word_left board.flags no_word;
   beat = λ o e. absurd cc;
-  steps = obeying word mid s.passes.steps;
-  are = obeying_are word h mid s.passes.steps s.passes.are;
-  may = ends_obeyed word mid (s.passes.quiet ∙ count_between h publishing t.between) none_left (s.passes.worked (worked_between h t.between (has_changes_at was h t.fits t.flag).obeyed))
-      (may_add_there was board h mid t) (none_called_there was board h mid t) (omega (arith, few)) (halts_by board (obeyed word mid) keeps);
+  steps = obeying first word mid s.passes.steps;
+  are = obeying_are first word h mid s.passes.steps s.passes.are;
+  may = ends_obeyed first word mid (s.passes.quiet ∙ count_between h publishing t.between) none_left (s.passes.worked (worked_between first h t.between (has_changes_at first was h t.fits t.flag).obeyed))
+      (may_add_there first was board h mid t) (none_called_there first was board h mid t) (omega (arith, few)) (halts_by first board (obeyed first word mid) keeps);
   moves = λ e. inr falls;
 }
   where
-    s : HasSettled h mid
+    s : HasSettled first h mid
     s = t.settled
 
     beat : board.beat ≡ Motion
-    beat = beat_there was board h mid t
+    beat = beat_there first was board h mid t
 
-    few : tries_of mid + one_if (whole_of mid) ≤ 1
-    few = few_there was board h mid t
+    few : tries_of first mid + one_if (whole_of mid) ≤ 1
+    few = few_there first was board h mid t
 
     none_left : unobeyed_of mid ≡ []
-    none_left = none_left_there was board h mid t
+    none_left = none_left_there first was board h mid t
 
-    falls : number_of board.flags (obeyed word mid) < number_of was.flags h
+    falls : number_of first board.flags (obeyed first word mid) < number_of first was.flags h
     falls =
         let one = ap words_left t.flag in
         let zero = ap words_left no_word in
         let p = s.passes.pauses in
-        let two = few_changes (motion_of (obeyed word mid)) (has_cut (obeyed word mid)) in
+        let two = few_changes (motion_of first (obeyed first word mid)) (has_cut (obeyed first word mid)) in
         let e = ap (λ (rs : List Reply). one_if (nat_eq (length rs) 0)) s.passes.closed in
         omega (arith, one, zero, p, two, e)
 
 -- it was taken, and a report is told first
-took_asked : (was board : Controller) (word : Exec) (h mid : Journal) → TakesRequests was board h mid → Keeps board (taken_word word mid) → owes_report (taken_word word mid) ≡ true
-    → board.flags ≡ words.Report (Some word) → BoardWorked Did was.flags board h (taken_word word mid)
-took_asked was board word h mid t keeps owed asks = record {
+took_asked : (first : Opening) (was board : Controller) (word : Exec) (h mid : Journal) → TakesRequests first was board h mid → Keeps first board (taken_word word mid) → owes_report (taken_word word mid) ≡ true
+    → board.flags ≡ words.Report (Some word) → BoardWorked first Did was.flags board h (taken_word word mid)
+took_asked first was board word h mid t keeps owed asks = record {
   keeps = keeps;
-  rounds = subst (λ b. Rounds b (taken_word word mid)) (sym beat)
-      (rounds_still (taken_word word mid) (λ w. none_there was board h mid t (record { stands = w.stands; blocks = w.blocks })) few);
-  flags = subst (λ f. TakesFlags f (taken_word word mid)) (sym asks) (asked_now word mid (s.changes ∙ (has_changes_at was h t.fits t.flag).changes) (none_left_there was board h mid t) owed);
+  rounds = subst (λ b. (Rounds first) b (taken_word word mid)) (sym beat)
+      (rounds_still first (taken_word word mid) (λ w. (none_there first) was board h mid t (record { stands = w.stands; blocks = w.blocks })) few);
+  flags = subst (λ f. TakesFlags f (taken_word word mid)) (sym asks) (asked_now word mid (s.changes ∙ (has_changes_at first was h t.fits t.flag).changes) (none_left_there first was board h mid t) owed);
   still = λ e. ap takes_no_word asks;
   beat = λ o e. absurd cc;
   steps = at_port (took_exec word) ∷ s.passes.steps;
   are = ap (λ (j : Journal). at_port (took_exec word) ∷ j) s.passes.are;
-  may = ends_taken word mid owed (s.passes.quiet ∙ count_between h publishing t.between) (s.passes.worked (worked_between h t.between (has_changes_at was h t.fits t.flag).obeyed))
-      (may_add_there was board h mid t) (none_called_there was board h mid t) (omega (arith, few)) (halts_by board (taken_word word mid) keeps);
+  may = ends_taken first word mid owed (s.passes.quiet ∙ count_between h publishing t.between) (s.passes.worked (worked_between first h t.between (has_changes_at first was h t.fits t.flag).obeyed))
+      (may_add_there first was board h mid t) (none_called_there first was board h mid t) (omega (arith, few)) (halts_by first board (taken_word word mid) keeps);
   moves = λ e. inr falls;
 }
   where
-    s : HasSettled h mid
+    s : HasSettled first h mid
     s = t.settled
 
     beat : board.beat ≡ Motion
-    beat = beat_there was board h mid t
+    beat = beat_there first was board h mid t
 
-    few : tries_of mid + one_if (whole_of mid) ≤ 1
-    few = few_there was board h mid t
+    few : tries_of first mid + one_if (whole_of mid) ≤ 1
+    few = few_there first was board h mid t
 
-    falls : number_of board.flags (taken_word word mid) < number_of was.flags h
+    falls : number_of first board.flags (taken_word word mid) < number_of first was.flags h
     falls =
         let one = ap words_left t.flag in
         let zero = ap words_left asks in
@@ -299,43 +300,43 @@ took_asked was board word h mid t keeps owed asks = record {
         omega (arith, one, zero, p, m, e)
 
 -- the word of requests was taken, and obeyed unless a report is told first
-pub took_requests : (was board : Controller) (word : Exec) (h mid : Journal) → GoingFits was h → GoingBetween h → was.flags ≡ words.Requests → HasSettled h mid → Keeps board (asked word mid)
-    → board.beat ≡ was.beat → board.flags ≡ flags_behind (owes_report (taken_word word mid)) word → BoardWorked Did was.flags board h (asked word mid)
-took_requests was board word h mid f between flag s keeps same_beat flags = by_owed (owes_report (taken_word word mid)) refl
+pub took_requests : (first : Opening) (was board : Controller) (word : Exec) (h mid : Journal) → GoingFits first was h → GoingBetween h → was.flags ≡ words.Requests → HasSettled first h mid → Keeps first board (asked first word mid)
+    → board.beat ≡ was.beat → board.flags ≡ flags_behind (owes_report (taken_word word mid)) word → BoardWorked first Did was.flags board h (asked first word mid)
+took_requests first was board word h mid f between flag s keeps same_beat flags = by_owed (owes_report (taken_word word mid)) refl
   where
-    t : TakesRequests was board h mid
+    t : TakesRequests first was board h mid
     t = record { fits = f; between = between; flag = flag; settled = s; same_beat = same_beat }
 
-    by_owed : (owed : Bool) → owes_report (taken_word word mid) ≡ owed → BoardWorked Did was.flags board h (asked word mid)
+    by_owed : (owed : Bool) → owes_report (taken_word word mid) ≡ owed → BoardWorked first Did was.flags board h (asked first word mid)
     by_owed true e =
-        let is : asked word mid ≡ taken_word word mid = ap (λ b. cond b (taken_word word mid) (obeyed word mid)) e in
-        subst (λ (j : Journal). BoardWorked Did was.flags board h j) (sym is)
-        (took_asked was board word h mid t (subst (λ (j : Journal). Keeps board j) is keeps) e (flags ∙ ap (λ b. flags_behind b word) e))
+        let is : asked first word mid ≡ taken_word word mid = ap (λ b. cond b (taken_word word mid) (obeyed first word mid)) e in
+        subst (λ (j : Journal). BoardWorked first Did was.flags board h j) (sym is)
+        (took_asked first was board word h mid t (subst (λ (j : Journal). Keeps first board j) is keeps) e (flags ∙ ap (λ b. flags_behind b word) e))
     by_owed false e =
-        let is : asked word mid ≡ obeyed word mid = ap (λ b. cond b (taken_word word mid) (obeyed word mid)) e in
-        subst (λ (j : Journal). BoardWorked Did was.flags board h j) (sym is)
-        (took_obeyed was board word h mid t (subst (λ (j : Journal). Keeps board j) is keeps) e (flags ∙ ap (λ b. flags_behind b word) e))
+        let is : asked first word mid ≡ obeyed first word mid = ap (λ b. cond b (taken_word word mid) (obeyed first word mid)) e in
+        subst (λ (j : Journal). BoardWorked first Did was.flags board h j) (sym is)
+        (took_obeyed first was board word h mid t (subst (λ (j : Journal). Keeps first board j) is keeps) e (flags ∙ ap (λ b. flags_behind b word) e))
 
 -- ---- what a word that was taken leads to
 
-pub asked_owed : (word : Exec) (h : Journal) → owes_report (taken_word word h) ≡ true → asked word h ≡ taken_word word h
-asked_owed word h e = ap (λ b. cond b (taken_word word h) (obeyed word h)) e
+pub asked_owed : (first : Opening) (word : Exec) (h : Journal) → owes_report (taken_word word h) ≡ true → asked first word h ≡ taken_word word h
+asked_owed first word h e = ap (λ b. cond b (taken_word word h) (obeyed first word h)) e
 
-pub asked_free : (word : Exec) (h : Journal) → owes_report (taken_word word h) ≡ false → asked word h ≡ obeyed word h
-asked_free word h e = ap (λ b. cond b (taken_word word h) (obeyed word h)) e
+pub asked_free : (first : Opening) (word : Exec) (h : Journal) → owes_report (taken_word word h) ≡ false → asked first word h ≡ obeyed first word h
+asked_free first word h e = ap (λ b. cond b (taken_word word h) (obeyed first word h)) e
 
 -- whether a report is owed is the same with the word obeyed
-pub asked_owes : (word : Exec) (h : Journal) → owes_report (asked word h) ≡ owes_report (taken_word word h)
-asked_owes word h = by_owed (owes_report (taken_word word h)) refl
+pub asked_owes : (first : Opening) (word : Exec) (h : Journal) → owes_report (asked first word h) ≡ owes_report (taken_word word h)
+asked_owes first word h = by_owed (owes_report (taken_word word h)) refl
   where
-    by_owed : (b : Bool) → owes_report (taken_word word h) ≡ b → owes_report (asked word h) ≡ owes_report (taken_word word h)
-    by_owed true e = ap owes_report (asked_owed word h e)
-    by_owed false e = ap owes_report (asked_free word h e)
+    by_owed : (b : Bool) → owes_report (taken_word word h) ≡ b → owes_report (asked first word h) ≡ owes_report (taken_word word h)
+    by_owed true e = ap owes_report (asked_owed first word h e)
+    by_owed false e = ap owes_report (asked_free first word h e)
 
 -- the word that was taken may be obeyed at once
-pub obeys_at_once : (word : Exec) (h mid : Journal) → HaltsInTime mid → HasSettled h mid → has_jog_to_start h ≡ false → unobeyed_of mid ≡ [] → owes_report (taken_word word mid) ≡ false
-    → MayObey word (has_blocks (plan_of mid).blocks) (taken_word word mid)
-obeys_at_once word h mid halts s no_jog none unowed = record {
+pub obeys_at_once : (first : Opening) (word : Exec) (h mid : Journal) → HaltsInTime first mid → HasSettled first h mid → has_jog_to_start first h ≡ false → unobeyed_of mid ≡ [] → owes_report (taken_word word mid) ≡ false
+    → MayObey first word (has_blocks (plan_of mid).blocks) (taken_word word mid)
+obeys_at_once first word h mid halts s no_jog none unowed = record {
   next = ap (λ (ws : List Exec). ws ++ word ∷ []) none;
   reported = λ e. absurd (let f = sym e ∙ unowed in cc);
   blocks = refl;

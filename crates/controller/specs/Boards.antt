@@ -1,5 +1,5 @@
 -- What the fields of a board say of what it has done.
-use Rattle.std.specs.Prelude.{◌≡◌, ◌⊎◌, ℕ, ◌+◌, ◌*◌, ◌≤◌, ◌<◌, Bool, true, false, ◌||◌, nat_eq, List, [], ◌∷◌, ◌++◌, length}
+use Rattle.std.specs.Prelude.{◌≡◌, ◌⊎◌, ℕ, ◌+◌, ◌*◌, ◌≤◌, ◌<◌, Bool, true, false, ◌||◌, nat_eq, List, [], ◌∷◌, ◌++◌, length, ◌^◌}
 use Rattle.std.specs.List.{list_any}
 use Rattle.outside.specs.declared.Turn.{Turn}
 use Rattle.outside.specs.declared.Turn.TheVariants.{Did}
@@ -15,10 +15,11 @@ use Rattle.flight.specs.Flights.{Flying, Flies}
 use Rattle.code_table.specs.declared.flags.Exec.{Exec}
 use Rattle.std.specs.Option.{option_to_list}
 use Rattle.std.specs.declared.option.Option.{Option}
+use Rattle.board_rules.specs.Openings.{Opening, IsPlaced, first_opening}
 use Rattle.board_rules.specs.Ports.{has_reset_in}
-use Rattle.board_rules.specs.Steps.{Step, Journal, port_log, has_alarmed, published_of, known_of, open_of, whole_of, before_of, left_of, closed_tells, given_of, hand_of, plan_of, motion_of}
+use Rattle.board_rules.specs.Steps.{Step, Journal, port_log, has_limited, published_of, known_of, open_of, whole_of, before_of, left_of, closed_tells, given_of, hand_of, plan_of, motion_of}
 use Rattle.board_rules.specs.Steps.Step.{turned}
-use Rattle.board_rules.specs.Turns.{this_turn, unobeyed_of, owes_report, moving, is_full, is_halting, awaits_motion, has_jogged, changes_taken, flags_taken, tries_of, missed_of, waits_of}
+use Rattle.board_rules.specs.Turns.{this_turn, unobeyed_of, owes_report, moving, is_full, is_halting, is_limited, awaits_motion, has_jogged, changes_taken, flags_taken, tries_of, missed_of, waits_of}
 use Rattle.board_rules.specs.Conduct.{Conducted, AreWaiting}
 use Rattle.board_rules.specs.Cuts.{has_cut}
 pub use Rattle.board_rules.specs.Within.{changes_left}
@@ -50,21 +51,22 @@ pub record Reads (i : Input) (bytes : List ℕ) (whole : Bool) : Type 0 where
   pub dollar_is : i.dollar ≡ begins_with_dollar bytes
 
 -- a flight of the pieces that were published, which knows of some of the ticks that were found done
-pub record IsFlown (f : Flying) (h : Journal) : Type 0 where
+pub record IsFlown (first : Opening) (f : Flying) (h : Journal) : Type 0 where
   pub known : ℕ
   pub found : known ≤ known_of h
-  pub flies : Flies f (published_of h) known
+  pub flies : Flies first.place f (published_of h) known
 
--- What the fields of a board keep of all that it did, which its rules allow, from its opening state on. The motion is stopped
+-- What the fields of a board keep of all that it did since an opening, which its rules allow; the machine is not locked there. The motion is stopped
 -- for a line that a soft limit stops, and few tries to publish stand behind the last poll there.
-pub record Keeps (board : Controller) (h : Journal) : Type 0 where
-  pub first : State
-  pub opening : IsOpening first
+pub record Keeps (first : Opening) (board : Controller) (h : Journal) : Type 0 where
+  pub placed : IsPlaced first
+  pub free : is_limited first.motion ≡ false
+  pub short : first.lines + 2 < 2 ^ 31
   pub conducted : Conducted first h
-  pub machine : Runs board.machine (plan_of h) (motion_of h) (hand_of h) (given_of h)
-  pub lines : Works board.lines (left_of h) (before_of first h)
+  pub machine : Runs board.machine (plan_of h) (motion_of first h) (hand_of h) (given_of h)
+  pub lines : Works board.lines (left_of first h) (before_of first h)
   pub input : Reads board.input (open_of h) (whole_of h)
-  pub flight : IsFlown board.flight h
+  pub flight : IsFlown first board.flight h
   pub owes_is : board.owes ≡ owes_report h
   pub reset_is : board.reset ≡ has_reset_in (port_log h)
   pub jogged_is : board.jogged ≡ has_jogged h
@@ -72,7 +74,7 @@ pub record Keeps (board : Controller) (h : Journal) : Type 0 where
   pub going : board.closing ≡ false → closed_tells h ≡ []
   pub closed : board.closing ≡ true → closed_tells h ≡ Bye ∷ []
   pub limited : limit_pending h ≡ false
-  pub tries : has_alarmed h ≡ true → tries_of h ≤ 1
+  pub tries : has_limited h ≡ true → tries_of first h ≤ 1
 
 -- it was the last turn that published a piece
 abbrev pub has_published : Beat → Bool
@@ -80,19 +82,19 @@ has_published Motion = false
 has_published Main = true
 
 -- no queued block waits where it would be started by what is next, or since no other block has room, or as a jog
-abbrev pub NoneWaits : Journal → Type 0
-NoneWaits h = AreWaiting h → (is_full (plan_of h) || (awaits_motion (left_of h) || has_jogged h)) ≡ false
+abbrev pub NoneWaits : Opening → Journal → Type 0
+NoneWaits first h = AreWaiting first h → (is_full (plan_of h) || (awaits_motion (left_of first h) || has_jogged h)) ≡ false
 
 -- What holds between two turns, of which the last published a piece, or not.
-pub record Rounds (beat : Beat) (h : Journal) : Type 0 where
+pub record Rounds (first : Opening) (beat : Beat) (h : Journal) : Type 0 where
   pub waits : has_published beat ≡ true → waits_of h ≡ []
-  pub tried : has_published beat ≡ true → missed_of h ≡ false
+  pub tried : has_published beat ≡ true → missed_of first h ≡ false
   pub sent : has_published beat ≡ true → hand_of h ≡ []
-  pub none_waits : NoneWaits h
-  pub tries : tries_of h + one_if (whole_of h) ≤ 1 + one_if (has_published beat)
-  pub few : (left_of h ≡ [] → ⊥) → tries_of h ≤ 1
-  pub held : is_halting (motion_of h) ≡ true → whole_of h ≡ true → tries_of h ≡ 0
-  pub owed : owes_report h ≡ true → tries_of h + one_if (whole_of h) ≤ 1
+  pub none_waits : NoneWaits first h
+  pub tries : tries_of first h + one_if (whole_of h) ≤ 1 + one_if (has_published beat)
+  pub few : (left_of first h ≡ [] → ⊥) → tries_of first h ≤ 1
+  pub held : is_halting (motion_of first h) ≡ true → whole_of h ≡ true → tries_of first h ≡ 0
+  pub owed : owes_report h ≡ true → tries_of first h + one_if (whole_of h) ≤ 1
 
 -- both words of flags were taken since the last line feed, and since the last wait; what they ask for is done
 pub record IsFree (h : Journal) : Type 0 where
@@ -130,9 +132,9 @@ abbrev pub GoingBetween : Journal → Type 0
 GoingBetween h = this_turn h ≡ []
 
 -- What the fields of a board say between two turns. The last one published no piece where words of flags are to be taken.
-pub record GoingFits (board : Controller) (h : Journal) : Type 0 where
-  pub keeps : Keeps board h
-  pub rounds : Rounds board.beat h
+pub record GoingFits (first : Opening) (board : Controller) (h : Journal) : Type 0 where
+  pub keeps : Keeps first board h
+  pub rounds : Rounds first board.beat h
   pub flags : TakesFlags board.flags h
   pub still : has_published board.beat ≡ true → takes_no_word board.flags ≡ true
 
@@ -147,14 +149,14 @@ words_left (words.Report word) = 0
 
 -- What a board can do with which nothing moves: words of flags are taken, pauses begin, a hold comes to its end, the
 -- machine is resumed, jogs are cut, a cancel comes to its end, and the run is closed. It falls in each turn that answers Did and moves nothing.
-abbrev pub number_of : Flags → Journal → ℕ
-number_of f h = 3 * (words_left f + pauses (left_of h)) + changes_left (motion_of h) (has_cut h) + one_if (nat_eq (length (closed_tells h)) 0)
+abbrev pub number_of : Opening → Flags → Journal → ℕ
+number_of first f h = 3 * (words_left f + pauses (left_of first h)) + changes_left (motion_of first h) (has_cut h) + one_if (nat_eq (length (closed_tells h)) 0)
 
 -- A turn adds what was done in it, and its answer; where that is Did, something moves, or the board's number falls.
-pub record GoingTurned (t : Turn) (was is : Controller) (h next : Journal) : Type 0 where
+pub record GoingTurned (first : Opening) (t : Turn) (was is : Controller) (h next : Journal) : Type 0 where
   pub steps : List Step
   pub are : next ≡ turned t ∷ (steps ++ h)
-  pub moves : t ≡ Did → (list_any moving (this_turn (steps ++ h)) ≡ true) ⊎ (number_of is.flags next < number_of was.flags h)
+  pub moves : t ≡ Did → (list_any moving (this_turn (steps ++ h)) ≡ true) ⊎ (number_of first is.flags next < number_of first was.flags h)
 
 -- a board that has closed its run, and has nothing left to do
 pub record BoardRests (board : Controller) : Type 0 where
@@ -180,7 +182,7 @@ pub record BrokenFits (board : Controller) (since before : Journal) : Type 0 whe
 
 -- What the fields of a board say of all that it did. Where a word that asks for a reset was taken, its run is ended, or over.
 abbrev pub BoardFits : Controller → Doings → Type 0
-BoardFits board (goes h) = GoingFits board h × (board.reset ≡ true → BoardRests board)
+BoardFits board (goes h) = (state : State) × IsOpening state × GoingFits (first_opening state) board h × (board.reset ≡ true → BoardRests board)
 BoardFits board (broke since before) = BrokenFits board since before
 
 -- between two turns
@@ -195,12 +197,12 @@ pub record EndTurned (t : Turn) (since next : Journal) : Type 0 where
 
 -- A turn adds what was done in it. Where it took a word that asks for a reset, the run is ended behind it.
 abbrev pub BoardTurned : Turn → Controller → Controller → Doings → Doings → Type 0
-BoardTurned t was is (goes h) (goes next) = GoingTurned t was is h next
-BoardTurned t was is (goes h) (broke since next) = (since ≡ []) × GoingTurned t was is h next
+BoardTurned t was is (goes h) (goes next) = (state : State) → GoingTurned (first_opening state) t was is h next
+BoardTurned t was is (goes h) (broke since next) = (since ≡ []) × ((state : State) → GoingTurned (first_opening state) t was is h next)
 BoardTurned t was is (broke since h) (goes next) = ⊥
 BoardTurned t was is (broke since h) (broke next before) = (before ≡ h) × EndTurned t since next
 
--- the number of a board: where a reset has ended its run, each turn that answers Did moves something
-abbrev pub number_in : Flags → Doings → ℕ
-number_in f (goes h) = number_of f h
-number_in f (broke since before) = 0
+-- the number of a board, which no state changes: where a reset has ended its run, each turn that answers Did moves something
+abbrev pub number_in : State → Flags → Doings → ℕ
+number_in state f (goes h) = number_of (first_opening state) f h
+number_in state f (broke since before) = 0

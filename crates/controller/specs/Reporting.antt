@@ -6,11 +6,12 @@ use Rattle.std.specs.declared.option.Option.{Option}
 use Rattle.code_table.specs.declared.flags.Exec.{Exec}
 use Rattle.feed_hold.specs.Motions.{after_word}
 use Rattle.feed_hold.specs.Motions.Call.{on_exec}
-use Rattle.flight.specs.Places.{machine_at}
+use Rattle.flight.specs.Places.{machine_from}
 use Rattle.run_rules.specs.Reports.{Shows}
 use Rattle.status_report.specs.declared.reports.Report.{Report}
 use Rattle.status_report.specs.Reports.{IsReport}
 use Rattle.units.specs.Truths.{one_if}
+use Rattle.board_rules.specs.Openings.{Opening}
 use Rattle.board_rules.specs.Ports.PortStep.{found_free}
 use Rattle.board_rules.specs.Steps.{Step, Journal, published_of, known_of, whole_of, plan_of, motion_of}
 use Rattle.board_rules.specs.Steps.Step.{at_port, became}
@@ -43,35 +44,35 @@ use Rattle.controller.specs.Turning.{AreWorked, PassesNothing, NoneFits, StaysSo
 -- A report is owed and is told next, and then a word is obeyed, if one waits for that. Nothing has passed in this turn,
 -- nothing was published, and no byte was polled for. Where a segment is due one was tried to be published since
 -- anything was waited for, and since a line was begun. No move that is next has room.
-pub record IsToReport (word : Option Exec) (h : Journal) : Type 0 where
+pub record IsToReport (first : Opening) (word : Option Exec) (h : Journal) : Type 0 where
   pub still : list_any passing (this_turn h) ≡ false
   pub quiet : count_by publishing (this_turn h) ≡ 0
   pub worked : AreWorked h
   pub asked : IsAsked word h
   pub unpolled : list_any found_none (this_turn h) ≡ false
-  pub tried : is_due h ≡ true → waits_of h ≡ []
-  pub none_waits : NoneWaits h
-  pub adds : NoneFits h
-  pub tries : tries_of h + one_if (whole_of h) ≤ 1
+  pub tried : is_due first h ≡ true → waits_of h ≡ []
+  pub none_waits : NoneWaits first h
+  pub adds : NoneFits first h
+  pub tries : tries_of first h + one_if (whole_of h) ≤ 1
 
 -- ---- what is added
 
 -- a word that waits is obeyed
-abbrev pub obeying : Option Exec → Journal → Journal
-obeying None h = h
-obeying (Some word) h =
-    became (on_exec word (has_blocks (plan_of h).blocks)) (after_word word (has_blocks (plan_of h).blocks) (motion_of h)) ∷ h
+abbrev pub obeying : Opening → Option Exec → Journal → Journal
+obeying first None h = h
+obeying first (Some word) h =
+    became (on_exec word (has_blocks (plan_of h).blocks)) (after_word word (has_blocks (plan_of h).blocks) (motion_of first h)) ∷ h
 
 -- It was looked how many ticks are done: what comes of a machine that has stopped came where each is, and where nothing is
 -- left to run and each is, the cycle is over.
-pub record HasObserved (h next : Journal) : Type 0 where
-  pub passes : PassesNothing h next
+pub record HasObserved (first : Opening) (h next : Journal) : Type 0 where
+  pub passes : PassesNothing first h next
   pub load : list_any loads (this_turn next) ≡ true
-  pub stays : StaysSo h next ⊎ IsCutNow h next
-  pub idle : IsDrained next → is_going (motion_of next) ≡ false
-  pub stopped : IsStopped next → ⊥
-  pub waiting : AreWaiting next → AreWaiting h
-  pub due : is_due next ≡ true → is_due h ≡ true
+  pub stays : StaysSo first h next ⊎ IsCutNow first h next
+  pub idle : IsDrained next → is_going (motion_of first next) ≡ false
+  pub stopped : IsStopped first next → ⊥
+  pub waiting : AreWaiting first next → AreWaiting first h
+  pub due : is_due first next ≡ true → is_due first h ≡ true
 
 -- The room that a report tells was asked for, where the settings ask for that.
 pub record HasAskedRoom (buffer : Option (ℕ × ℕ)) (h next : Journal) : Type 0 where
@@ -79,12 +80,12 @@ pub record HasAskedRoom (buffer : Option (ℕ × ℕ)) (h next : Journal) : Type
   pub room : IsRoom buffer next
 
 -- a report tells what a board keeps, and what was found in this turn
-pub record IsTold (board : Controller) (r : Report) (h : Journal) : Type 0 where
-  pub shows : Shows (machine_at (published_of h) (known_of h)) board.lines.state r
+pub record IsTold (first : Opening) (board : Controller) (r : Report) (h : Journal) : Type 0 where
+  pub shows : Shows (machine_from first.place (published_of h) (known_of h)) board.lines.state r
   pub room : IsRoom r.buffer h
   pub feed : r.f ≡ cond (nat_lt (known_of h) (ticks_given h)) (feed_of (plan_of h).speed) 0
   pub overrides : r.ov ≡ (plan_of h).overrides
-  pub state : r.state ≡ shown_as (motion_of h)
+  pub state : r.state ≡ shown_as (motion_of first h)
   pub valid : IsReport r
 
 -- a journal goes on
@@ -94,7 +95,7 @@ pub record IsBehind (h next : Journal) : Type 0 where
 
 -- A report was tried to be told in this turn: it was, or there was no room for it, and it is still owed. It was looked
 -- how many ticks are done before. The word that waits for the report may be obeyed.
-pub record IsReported (told : Bool) (word : Option Exec) (h : Journal) : Type 0 where
+pub record IsReported (first : Opening) (told : Bool) (word : Option Exec) (h : Journal) : Type 0 where
   pub still : told ≡ false → list_any passing (this_turn h) ≡ false
   pub quiet : count_by publishing (this_turn h) ≡ one_if told
   pub moves : told ≡ true → list_any moving (this_turn h) ≡ true
@@ -104,15 +105,15 @@ pub record IsReported (told : Bool) (word : Option Exec) (h : Journal) : Type 0 
   pub flags : flags_taken h ≡ true
   pub changed : count_by replans (this_turn h) ≡ count_by takes_changes (this_turn h)
   pub load : list_any loads (this_turn h) ≡ true
-  pub stopped : IsStopped h → ⊥
+  pub stopped : IsStopped first h → ⊥
   pub unpolled : list_any found_none (this_turn h) ≡ false
-  pub tried : is_due h ≡ true → waits_of h ≡ []
-  pub none_waits : NoneWaits h
-  pub adds : NoneFits h
-  pub tries : tries_of h + one_if (whole_of h) ≤ 1
+  pub tried : is_due first h ≡ true → waits_of h ≡ []
+  pub none_waits : NoneWaits first h
+  pub adds : NoneFits first h
+  pub tries : tries_of first h + one_if (whole_of h) ≤ 1
 
 -- There was no room for a report in this turn: it is still owed, and no word waits for it. Nothing was published.
-pub record LacksRoom (h : Journal) : Type 0 where
+pub record LacksRoom (first : Opening) (h : Journal) : Type 0 where
   pub still : list_any passing (this_turn h) ≡ false
   pub quiet : count_by publishing (this_turn h) ≡ 0
   pub lacks : list_any lacks_reply_room (this_turn h) ≡ true
@@ -121,6 +122,6 @@ pub record LacksRoom (h : Journal) : Type 0 where
   pub flags : flags_taken h ≡ true
   pub changed : count_by replans (this_turn h) ≡ count_by takes_changes (this_turn h)
   pub unpolled : list_any found_none (this_turn h) ≡ false
-  pub none_waits : NoneWaits h
-  pub adds : NoneFits h
-  pub tries : tries_of h + one_if (whole_of h) ≤ 1
+  pub none_waits : NoneWaits first h
+  pub adds : NoneFits first h
+  pub tries : tries_of first h + one_if (whole_of h) ≤ 1

@@ -17,6 +17,7 @@ use Rattle.run_rules.specs.Work.Task.{ask, pause, normal, finish, halt}
 use Rattle.line_interpreter.specs.Lefts.{IsNextOf}
 use Rattle.step_line.specs.Asking.Asked.{a_move, a_rest}
 use Rattle.step_line.specs.declared.planned_move.PlannedMove.{PlannedMove}
+use Rattle.board_rules.specs.Openings.{Opening}
 use Rattle.board_rules.specs.Ports.{PortLog}
 use Rattle.board_rules.specs.Ports.{has_changes}
 use Rattle.status_report.specs.declared.Reply.{Reply}
@@ -40,12 +41,12 @@ use Rattle.controller.specs.Boards.{Keeps, Reads, Rounds, NoneWaits, TakesFlags,
 -- ---- what is known
 
 -- a move is next
-abbrev pub IsNextMove : Journal → Type 0
-IsNextMove h = (m : PlannedMove) × IsNextTask (ask (a_move m)) h
+abbrev pub IsNextMove : Opening → Journal → Type 0
+IsNextMove first h = (m : PlannedMove) × IsNextTask first (ask (a_move m)) h
 
 -- a piece is in hand, or a segment is due
-abbrev pub HasPiece : Journal → Type 0
-HasPiece h = (hand_of h ≡ [] → ⊥) ⊎ (is_due h ≡ true)
+abbrev pub HasPiece : Opening → Journal → Type 0
+HasPiece first h = (hand_of h ≡ [] → ⊥) ⊎ (is_due first h ≡ true)
 
 -- Nothing has passed in this turn, and nothing was published. No word of flags is to be taken, and no report is owed.
 pub record IsQuiet (h : Journal) : Type 0 where
@@ -57,114 +58,114 @@ pub record IsQuiet (h : Journal) : Type 0 where
 
 -- Nothing has passed in this turn, and no byte was polled for. Where a segment is due one was tried to be published since
 -- anything was waited for, and since a line was begun.
-pub record IsReady (h : Journal) : Type 0 where
+pub record IsReady (first : Opening) (h : Journal) : Type 0 where
   pub quiet : IsQuiet h
   pub unpolled : list_any found_none (this_turn h) ≡ false
-  pub tried : is_due h ≡ true → waits_of h ≡ []
-  pub unmissed : missed_of h ≡ false
-  pub none_waits : NoneWaits h
-  pub tries : tries_of h + one_if (whole_of h) ≤ 2
-  pub few : (left_of h ≡ [] → ⊥) → tries_of h ≤ 1
-  pub held : is_halting (motion_of h) ≡ true → whole_of h ≡ true → tries_of h ≡ 0
+  pub tried : is_due first h ≡ true → waits_of h ≡ []
+  pub unmissed : missed_of first h ≡ false
+  pub none_waits : NoneWaits first h
+  pub tries : tries_of first h + one_if (whole_of h) ≤ 2
+  pub few : (left_of first h ≡ [] → ⊥) → tries_of first h ≤ 1
+  pub held : is_halting (motion_of first h) ≡ true → whole_of h ≡ true → tries_of first h ≡ 0
 
 -- What is in hand or due may be tried to be published, and the turn answered by that: nothing has passed, and few tries stand
 -- behind the last poll. Where a poll found no byte, no queued block waits, and no move is next.
-pub record MayRun (h : Journal) : Type 0 where
+pub record MayRun (first : Opening) (h : Journal) : Type 0 where
   pub quiet : IsQuiet h
-  pub polled : list_any found_none (this_turn h) ≡ true → (AreWaiting h → ⊥) × (IsNextMove h → ⊥)
-  pub first : is_counted h ≡ true → tries_of h + one_if (whole_of h) ≡ 0
-  pub few : is_counted h ≡ false → tries_of h + one_if (whole_of h) ≤ 1
-  pub held : is_halting (motion_of h) ≡ true → whole_of h ≡ true → tries_of h ≡ 0
+  pub polled : list_any found_none (this_turn h) ≡ true → (AreWaiting first h → ⊥) × (IsNextMove first h → ⊥)
+  pub once : is_counted first h ≡ true → tries_of first h + one_if (whole_of h) ≡ 0
+  pub few : is_counted first h ≡ false → tries_of first h + one_if (whole_of h) ≤ 1
+  pub held : is_halting (motion_of first h) ≡ true → whole_of h ≡ true → tries_of first h ≡ 0
 
 -- The motion may be waited for: what is next waits for it, no queued block waits, and the machine stands, runs or jogs.
-pub record MayAwait (h : Journal) : Type 0 where
-  pub run : MayRun h
-  pub going : begins_in (motion_of h) ≡ true
-  pub awaits : awaits_motion (left_of h) ≡ true
-  pub none_waits : NoneWaits h
+pub record MayAwait (first : Opening) (h : Journal) : Type 0 where
+  pub run : MayRun first h
+  pub going : begins_in (motion_of first h) ≡ true
+  pub awaits : awaits_motion (left_of first h) ≡ true
+  pub none_waits : NoneWaits first h
 
 -- nothing is left to run, each tick is done, and the machine stands
-pub record HasStopped (h : Journal) : Type 0 where
+pub record HasStopped (first : Opening) (h : Journal) : Type 0 where
   pub drained : IsDrained h
-  pub stands : motion_of h ≡ Idle
+  pub stands : motion_of first h ≡ Idle
 
 -- a rest is next, or overrides that are set at the end of a program
 abbrev pub IsPassed : List Task → Type 0
 IsPassed left = IsNextOf (ask a_rest) left ⊎ IsNextOf normal left
 
 -- where what is next waits for the motion, that has stopped, and what is next is a pause or the end
-abbrev pub NeedsNoWait : Journal → Type 0
-NeedsNoWait h = awaits_motion (left_of h) ≡ true → HasStopped h × (IsNextTask pause h ⊎ IsNextTask finish h)
+abbrev pub NeedsNoWait : Opening → Journal → Type 0
+NeedsNoWait first h = awaits_motion (left_of first h) ≡ true → HasStopped first h × (IsNextTask first pause h ⊎ IsNextTask first finish h)
 
 -- What is next is not held up by a machine that is held, or slows down for that, and no soft limit stops the machine.
-pub record GoesOn (h : Journal) : Type 0 where
-  pub held : is_halting (motion_of h) ≡ true → is_held_up h ≡ false
-  pub unlimited : is_limited (motion_of h) ≡ false
+pub record GoesOn (first : Opening) (h : Journal) : Type 0 where
+  pub held : is_halting (motion_of first h) ≡ true → is_held_up first h ≡ false
+  pub unlimited : is_limited (motion_of first h) ≡ false
 
 -- What is next is held up, and it was not tried yet to publish a piece for it.
-pub record IsHalted (h : Journal) : Type 0 where
-  pub ready : IsReady h
-  pub halts : is_halting (motion_of h) ≡ true
-  pub held_up : is_held_up h ≡ true
+pub record IsHalted (first : Opening) (h : Journal) : Type 0 where
+  pub ready : IsReady first h
+  pub halts : is_halting (motion_of first h) ≡ true
+  pub held_up : is_held_up first h ≡ true
 
 -- Nothing is left of the line before, and a line was taken whole. The machine stands, runs or jogs.
-pub record IsWholeLine (h : Journal) : Type 0 where
-  pub free : left_of h ≡ []
+pub record IsWholeLine (first : Opening) (h : Journal) : Type 0 where
+  pub free : left_of first h ≡ []
   pub going : closed_tells h ≡ []
   pub whole : whole_of h ≡ true
-  pub goes : begins_in (motion_of h) ≡ true
+  pub goes : begins_in (motion_of first h) ≡ true
 
 -- A byte was polled for in this turn, and none was found.
-pub record HasPolled (h : Journal) : Type 0 where
+pub record HasPolled (first : Opening) (h : Journal) : Type 0 where
   pub quiet : IsQuiet h
   pub found : list_any found_none (this_turn h) ≡ true
-  pub free : left_of h ≡ []
+  pub free : left_of first h ≡ []
   pub going : closed_tells h ≡ []
   pub partial : whole_of h ≡ false
-  pub tried : is_due h ≡ true → waits_of h ≡ []
-  pub none_waits : NoneWaits h
-  pub tries : tries_of h ≡ 0
+  pub tried : is_due first h ≡ true → waits_of h ≡ []
+  pub none_waits : NoneWaits first h
+  pub tries : tries_of first h ≡ 0
 
 -- A line that was taken whole is next, and it was looked how many ticks are done: where nothing is left to run and each is,
 -- the machine stands.
-pub record IsLooked (h : Journal) : Type 0 where
-  pub free : left_of h ≡ []
+pub record IsLooked (first : Opening) (h : Journal) : Type 0 where
+  pub free : left_of first h ≡ []
   pub going : closed_tells h ≡ []
   pub whole : whole_of h ≡ true
-  pub begins : begins_in (motion_of h) ≡ true
+  pub begins : begins_in (motion_of first h) ≡ true
   pub worked : AreWorked h
   pub flags : flags_taken h ≡ true
   pub unowed : owes_report h ≡ false
   pub load : list_any loads (this_turn h) ≡ true
-  pub idle : IsDrained h → is_going (motion_of h) ≡ false
-  pub none_waits : NoneWaits h
+  pub idle : IsDrained h → is_going (motion_of first h) ≡ false
+  pub none_waits : NoneWaits first h
   pub unpolled : list_any found_none (this_turn h) ≡ false
-  pub unmissed : missed_of h ≡ false
-  pub tries : tries_of h ≤ 1
+  pub unmissed : missed_of first h ≡ false
+  pub tries : tries_of first h ≤ 1
 
 -- It may be begun: no queued block waits where it begins with `$`.
-pub record MayJudge (h : Journal) : Type 0 where
-  pub looked : IsLooked h
-  pub starts : AreWaiting h → begins_with_dollar (open_of h) ≡ false
+pub record MayJudge (first : Opening) (h : Journal) : Type 0 where
+  pub looked : IsLooked first h
+  pub starts : AreWaiting first h → begins_with_dollar (open_of h) ≡ false
 
 -- A line was judged, of which this becomes; it is not begun yet.
-pub record IsJudged (was now : Controller) (h : Journal) (o : Outcome) : Type 0 where
-  pub keeps : Keeps was h
-  pub may : MayJudge h
-  pub found : Found (machine_in (motion_of h)) (before_of keeps.first h) (open_of h) o
+pub record IsJudged (first : Opening) (was now : Controller) (h : Journal) (o : Outcome) : Type 0 where
+  pub keeps : Keeps first was h
+  pub may : MayJudge first h
+  pub found : Found (machine_in (motion_of first h)) (before_of first h) (open_of h) o
   pub is : now.lines ≡ record { state = o.next; number = was.lines.number + 1; left = o.work }
   pub jogs : now.jogged ≡ jogged_behind o.kind was.jogged
   pub reads : Reads now.input [] false
   pub same : now ≡ record was { lines = now.lines; input = now.input; jogged = now.jogged }
 
 -- The line was begun; and where a soft limit stops it, so is the motion.
-abbrev pub HasBegun : Outcome → Journal → Journal → Type 0
-HasBegun o h next = (next ≡ began o ∷ h) ⊎ (next ≡ became on_limit (limit_motion (motion_of h)) ∷ began o ∷ h)
+abbrev pub HasBegun : Opening → Outcome → Journal → Journal → Type 0
+HasBegun first o h next = (next ≡ began o ∷ h) ⊎ (next ≡ became on_limit (limit_motion (motion_of first h)) ∷ began o ∷ h)
 
 -- What is next is to halt the machine, which a soft limit has stopped: each tick that was given is done.
-pub record IsAtLimit (h : Journal) : Type 0 where
-  pub next : IsNextTask halt h
-  pub limited : is_limited (motion_of h) ≡ true
+pub record IsAtLimit (first : Opening) (h : Journal) : Type 0 where
+  pub next : IsNextTask first halt h
+  pub limited : is_limited (motion_of first h) ≡ true
   pub speed : (plan_of h).speed ≡ 0
   pub empty : hand_of h ≡ []
   pub done : known_of h ≡ ticks_given h
@@ -178,62 +179,62 @@ pub data MayHaveTold (h next : Journal) : Type 0 where
   was_told : (r : Reply) → next ≡ at_port (answered r) ∷ h → MayHaveTold h next
 
 -- It was looked how many ticks are done; and where nothing is left to run and each is done, the machine stands.
-pub record HasLooked (h next : Journal) : Type 0 where
-  pub passes : PassesNothing h next
+pub record HasLooked (first : Opening) (h next : Journal) : Type 0 where
+  pub passes : PassesNothing first h next
   pub load : list_any loads (this_turn next) ≡ true
-  pub idle : IsDrained next → is_going (motion_of next) ≡ false
-  pub begins : begins_in (motion_of next) ≡ true
-  pub left : left_of next ≡ left_of h
-  pub none_waits : NoneWaits h → NoneWaits next
+  pub idle : IsDrained next → is_going (motion_of first next) ≡ false
+  pub begins : begins_in (motion_of first next) ≡ true
+  pub left : left_of first next ≡ left_of first h
+  pub none_waits : NoneWaits first h → NoneWaits first next
 
 -- no move that is next has room
-abbrev pub NoneFits : Journal → Type 0
-NoneFits h = (m : PlannedMove) → IsNextTask (ask (a_move m)) h → is_full (plan_of h) ≡ true
+abbrev pub NoneFits : Opening → Journal → Type 0
+NoneFits first h = (m : PlannedMove) → IsNextTask first (ask (a_move m)) h → is_full (plan_of h) ≡ true
 
 -- Moves were added: as many as have room. Where none was next, nothing was done.
-pub record HasAdded (h next : Journal) : Type 0 where
-  pub alone : DidAlone h next
+pub record HasAdded (first : Opening) (h next : Journal) : Type 0 where
+  pub alone : DidAlone first h next
   pub hand : hand_of next ≡ hand_of h
-  pub motion : motion_of next ≡ motion_of h
-  pub adds : NoneFits next
-  pub moved : IsNextMove h → is_full (plan_of h) ≡ false → list_any moving (this_turn next) ≡ true
-  pub none : (IsNextMove h → ⊥) → next ≡ h
+  pub motion : motion_of first next ≡ motion_of first h
+  pub adds : NoneFits first next
+  pub moved : IsNextMove first h → is_full (plan_of h) ≡ false → list_any moving (this_turn next) ≡ true
+  pub none : (IsNextMove first h → ⊥) → next ≡ h
 
 -- Moves were added, and queued blocks started where that is called for.
-pub record HasFilled (h next : Journal) : Type 0 where
-  pub alone : DidAlone h next
+pub record HasFilled (first : Opening) (h next : Journal) : Type 0 where
+  pub alone : DidAlone first h next
   pub hand : hand_of next ≡ hand_of h
-  pub adds : NoneFits next
-  pub none_waits : NoneWaits next
-  pub moved : IsNextMove h → is_full (plan_of h) ≡ false → list_any moving (this_turn next) ≡ true
-  pub waiting : (IsNextMove h → ⊥) → AreWaiting next → AreWaiting h
+  pub adds : NoneFits first next
+  pub none_waits : NoneWaits first next
+  pub moved : IsNextMove first h → is_full (plan_of h) ≡ false → list_any moving (this_turn next) ≡ true
+  pub waiting : (IsNextMove first h → ⊥) → AreWaiting first next → AreWaiting first h
 
 -- queued blocks start, as a jog or not
 abbrev pub starting : Bool → Journal → Journal
 starting jog h = became (on_start jog) (start_motion jog) ∷ h
 
 -- it is in alarm then, if it was not before
-pub record IsLocked (h next : Journal) : Type 0 where
-  pub at : IsAtLimit next
-  pub alarm : motion_of next ≡ Alarm
-  pub alone : DidAlone h next
-  pub left : left_of next ≡ left_of h
+pub record IsLocked (first : Opening) (h next : Journal) : Type 0 where
+  pub at : IsAtLimit first next
+  pub alarm : motion_of first next ≡ Alarm
+  pub alone : DidAlone first h next
+  pub left : left_of first next ≡ left_of first h
 
 -- The machine was halted: it is in alarm, and what was planned is dropped.
-pub record HasHalted (h next : Journal) : Type 0 where
-  pub alone : DidAlone h next
-  pub left : left_of next ≡ drop 1 (left_of h)
-  pub alarm : motion_of next ≡ Alarm
-  pub undue : is_due next ≡ false
+pub record HasHalted (first : Opening) (h next : Journal) : Type 0 where
+  pub alone : DidAlone first h next
+  pub left : left_of first next ≡ drop 1 (left_of first h)
+  pub alarm : motion_of first next ≡ Alarm
+  pub undue : is_due first next ≡ false
 
 -- a word of requests was taken, and what it asks of the motion is done
-abbrev pub obeyed : Exec → Journal → Journal
-obeyed word h =
-    became (on_exec word (has_blocks (plan_of h).blocks)) (after_word word (has_blocks (plan_of h).blocks) (motion_of h)) ∷ (at_port (took_exec word) ∷ h)
+abbrev pub obeyed : Opening → Exec → Journal → Journal
+obeyed first word h =
+    became (on_exec word (has_blocks (plan_of h).blocks)) (after_word word (has_blocks (plan_of h).blocks) (motion_of first h)) ∷ (at_port (took_exec word) ∷ h)
 
 -- a word of requests was taken; where a report is owed then, it is told before the word is obeyed
-abbrev pub asked : Exec → Journal → Journal
-asked word h = cond (owes_report (at_port (took_exec word) ∷ h)) (at_port (took_exec word) ∷ h) (obeyed word h)
+abbrev pub asked : Opening → Exec → Journal → Journal
+asked first word h = cond (owes_report (at_port (took_exec word) ∷ h)) (at_port (took_exec word) ∷ h) (obeyed first word h)
 
 -- so the words of flags go on
 abbrev pub flags_behind : Bool → Exec → Flags
@@ -246,61 +247,61 @@ replanned word h = cond (has_changes word) (did (Override (taken (plan_of h).ove
 -- ---- a machine that has stopped
 
 -- the machine has stopped, as a load in this turn told, and a flight knows where
-pub record IsFoundStopped (f : Flying) (h : Journal) : Type 0 where
-  pub stopped : IsStopped h
+pub record IsFoundStopped (first : Opening) (f : Flying) (h : Journal) : Type 0 where
+  pub stopped : IsStopped first h
   pub load : list_any loads (this_turn h) ≡ true
-  pub flies : Flies f (published_of h) (known_of h)
+  pub flies : Flies first.place f (published_of h) (known_of h)
 
 -- jogs that were cancelled were not cut since
-pub record IsUncut (h : Journal) : Type 0 where
-  pub cancelled : motion_of h ≡ Cancelling
+pub record IsUncut (first : Opening) (h : Journal) : Type 0 where
+  pub cancelled : motion_of first h ≡ Cancelling
   pub uncut : has_cut h ≡ false
 
 -- What comes of that: the machine is held; or its jogs are cut; or they were, and it stands; or it is in alarm at a soft limit.
-pub data ComesOf (h next : Journal) : Type 0 where
-  is_held : motion_of h ≡ Holding → next ≡ became on_stopped Held ∷ h → ComesOf h next
-  is_cut : IsUncut h → (k : ℕ) → next ≡ cut k ∷ h → ComesOf h next
-  is_locked : motion_of h ≡ Stopping → next ≡ became on_stopped Alarm ∷ h → ComesOf h next
-  is_over : motion_of h ≡ Cancelling → has_cut h ≡ true → next ≡ became on_stopped Idle ∷ h → ComesOf h next
+pub data ComesOf (first : Opening) (h next : Journal) : Type 0 where
+  is_held : motion_of first h ≡ Holding → next ≡ became on_stopped Held ∷ h → ComesOf first h next
+  is_cut : IsUncut first h → (k : ℕ) → next ≡ cut k ∷ h → ComesOf first h next
+  is_locked : motion_of first h ≡ Stopping → next ≡ became on_stopped Alarm ∷ h → ComesOf first h next
+  is_over : motion_of first h ≡ Cancelling → has_cut h ≡ true → next ≡ became on_stopped Idle ∷ h → ComesOf first h next
 
 -- the tasks that are left, the hand and the plan are as they were
-pub record StaysSo (h next : Journal) : Type 0 where
-  pub left : left_of next ≡ left_of h
+pub record StaysSo (first : Opening) (h next : Journal) : Type 0 where
+  pub left : left_of first next ≡ left_of first h
   pub hand : hand_of next ≡ hand_of h
   pub plan : plan_of next ≡ plan_of h
 
 -- jogs were cut: nothing is asked for any more, and the cut is in hand
-pub record IsCutNow (h next : Journal) : Type 0 where
-  pub uncut : IsUncut h
-  pub cancelled : motion_of next ≡ Cancelling
-  pub none : asks (left_of next) ≡ []
+pub record IsCutNow (first : Opening) (h next : Journal) : Type 0 where
+  pub uncut : IsUncut first h
+  pub cancelled : motion_of first next ≡ Cancelling
+  pub none : asks (left_of first next) ≡ []
   pub some : hand_of next ≡ [] → ⊥
 
 -- Where the machine slowed down to a stop, it was looked how many ticks are done, and what comes of that came where each is.
-pub record HasSettled (h next : Journal) : Type 0 where
-  pub passes : PassesNothing h next
-  pub stays : StaysSo h next ⊎ IsCutNow h next
+pub record HasSettled (first : Opening) (h next : Journal) : Type 0 where
+  pub passes : PassesNothing first h next
+  pub stays : StaysSo first h next ⊎ IsCutNow first h next
   pub changes : changes_taken next ≡ changes_taken h
-  pub looked : HasSlowedDown next → list_any loads (this_turn next) ≡ true
-  pub stopped : IsStopped next → ⊥
-  pub waiting : AreWaiting next → AreWaiting h
-  pub jogs : has_jog_to_start h ≡ false → has_jog_to_start next ≡ false
-  pub held : motion_of h ≡ Held → motion_of next ≡ Held
-  pub falls : is_halting (motion_of h) ≡ true → HasSlowedDown h → (HasSlowedDown next → ⊥) → changes_left (motion_of next) (has_cut next) < changes_left (motion_of h) (has_cut h)
+  pub looked : HasSlowedDown first next → list_any loads (this_turn next) ≡ true
+  pub stopped : IsStopped first next → ⊥
+  pub waiting : AreWaiting first next → AreWaiting first h
+  pub jogs : has_jog_to_start first h ≡ false → has_jog_to_start first next ≡ false
+  pub held : motion_of first h ≡ Held → motion_of first next ≡ Held
+  pub falls : is_halting (motion_of first h) ≡ true → HasSlowedDown first h → (HasSlowedDown first next → ⊥) → changes_left (motion_of first next) (has_cut next) < changes_left (motion_of first h) (has_cut h)
 
 -- What was done up to the end of a turn, before its answer: the board keeps it, the rules allow the answer, and where it is
 -- Did something moved in the turn, or the board's number fell. It answers a wait only where it did not publish.
-pub record BoardWorked (t : Turn) (was : Flags) (board : Controller) (h next : Journal) : Type 0 where
-  pub keeps : Keeps board next
-  pub rounds : Rounds board.beat next
+pub record BoardWorked (first : Opening) (t : Turn) (was : Flags) (board : Controller) (h next : Journal) : Type 0 where
+  pub keeps : Keeps first board next
+  pub rounds : Rounds first board.beat next
   pub flags : TakesFlags board.flags next
   pub still : has_published board.beat ≡ true → takes_no_word board.flags ≡ true
   pub beat : (on : On) → t ≡ Wait on → board.beat ≡ Motion
   pub steps : List Step
   pub are : next ≡ steps ++ h
-  pub may : MayTurn t next
-  pub moves : t ≡ Did → (list_any moving (this_turn next) ≡ true) ⊎ (number_of board.flags next < number_of was h)
+  pub may : MayTurn first t next
+  pub moves : t ≡ Did → (list_any moving (this_turn next) ≡ true) ⊎ (number_of first board.flags next < number_of first was h)
 
 -- behind a journal a board has worked up to an answer, and its port stands for that
-abbrev pub WorksOn : (PortLog → Type 0) → Turn → Flags → Controller → Journal → Type 0
-WorksOn stands t was board h = (next : Journal) × stands (port_log next) × BoardWorked t was board h next
+abbrev pub WorksOn : Opening → (PortLog → Type 0) → Turn → Flags → Controller → Journal → Type 0
+WorksOn first stands t was board h = (next : Journal) × stands (port_log next) × BoardWorked first t was board h next

@@ -11,6 +11,7 @@ ghost use Rattle.run_rules.specs.Work.Task.{ask, tell, pause, normal, finish};
 ghost use Rattle.step_line.specs.Asking.Asked.{a_rest};
 ghost use Rattle.board_rules.specs.Ports.PortStep.{took};
 ghost use Rattle.board_rules.specs.Steps.{Journal, port_log, left_of, motion_of, has_closed};
+ghost use Rattle.board_rules.specs.Openings.{Opening};
 ghost use Rattle.board_rules.specs.Steps.Step.{at_port};
 ghost use Rattle.board_rules.specs.Breaking.Doings.{goes};
 ghost use Rattle.board_rules.specs.Turns.{this_turn, awaits_motion, begins_in, machine_in, needs_motion, flags_taken, found_nothing, has_blocks, is_full};
@@ -148,13 +149,13 @@ impl Controller {
     /// that is not so yet.
     #[inline(never)]
     fn await_motion<P: BoardPort>(&mut self, port: &mut P) -> Option<Turn>
-        requires stands { (rest : P.Rest) × (h : Journal) × P.stands port.old rest (port_log h) × Keeps self.old h × MayAwait h }
+        requires stands { (rest : P.Rest) × (first : Opening) × (h : Journal) × P.stands port.old rest (port_log h) × Keeps first self.old h × MayAwait first h }
         requires beat { self.old.beat ≡ Beat.Motion }
         requires flags { self.old.flags ≡ Flags.None }
-        ensures waits { IfSome result (λ t. (rest : P.Rest) (h : Journal) → P.stands port.old rest (port_log h) → Keeps self.old h → MayAwait h
-            → WorksOn (P.stands port.new rest) t self.old.flags self.new h) }
-        ensures over { IfNone result ((rest : P.Rest) (h : Journal) → P.stands port.old rest (port_log h) → Keeps self.old h → MayAwait h
-            → (next : Journal) × P.stands port.new rest (port_log next) × Keeps self.new next × HasStopped next × PassesNothing h next × (left_of next ≡ left_of h)) }
+        ensures waits { IfSome result (λ t. (rest : P.Rest) (first : Opening) (h : Journal) → P.stands port.old rest (port_log h) → Keeps first self.old h → MayAwait first h
+            → WorksOn first (P.stands port.new rest) t self.old.flags self.new h) }
+        ensures over { IfNone result ((rest : P.Rest) (first : Opening) (h : Journal) → P.stands port.old rest (port_log h) → Keeps first self.old h → MayAwait first h
+            → (next : Journal) × P.stands port.new rest (port_log next) × Keeps first self.new next × HasStopped first next × PassesNothing first h next × (left_of first next ≡ left_of first h)) }
         ensures same { IfNone result (self.new ≡ record self.old { machine = self.new.machine }) }
         ensures going { IfSome result (λ t. t ≢ Done) }
     {
@@ -170,9 +171,9 @@ impl Controller {
 
     /// A rest that is next is over where the machine has stopped, or each override is set to 100 percent there.
     fn pass_next(&mut self)
-        requires stands { (h : Journal) × Keeps self.old h × HasStopped h }
+        requires stands { (first : Opening) × (h : Journal) × Keeps first self.old h × HasStopped first h }
         requires next { IsPassed self.old.lines.left }
-        ensures passed { (h : Journal) → Keeps self.old h → HasStopped h → (next : Journal) × Keeps self.new next × HasStopped next × DidAlone h next }
+        ensures passed { (first : Opening) (h : Journal) → Keeps first self.old h → HasStopped first h → (next : Journal) × Keeps first self.new next × HasStopped first next × DidAlone first h next }
         ensures same { self.new ≡ record self.old { machine = self.new.machine; lines = self.new.lines } }
         ensures fewer { length self.new.lines.left < length self.old.lines.left }
     {
@@ -184,11 +185,11 @@ impl Controller {
 
     /// What is next of rests, and of overrides to be set at the end of a program, is done where the machine has stopped.
     fn pass(&mut self)
-        requires { (h : Journal) × Keeps self.old h × HasStopped h }
-        ensures passed { (h : Journal) → Keeps self.old h → HasStopped h → (next : Journal) × Keeps self.new next × HasStopped next × DidAlone h next
-            × (IsNextTask (ask a_rest) next → ⊥) × (IsNextTask normal next → ⊥) }
+        requires { (first : Opening) × (h : Journal) × Keeps first self.old h × HasStopped first h }
+        ensures passed { (first : Opening) (h : Journal) → Keeps first self.old h → HasStopped first h → (next : Journal) × Keeps first self.new next × HasStopped first next × DidAlone first h next
+            × (IsNextTask first (ask a_rest) next → ⊥) × (IsNextTask first normal next → ⊥) }
         ensures same { self.new ≡ record self.old { machine = self.new.machine; lines = self.new.lines } }
-        ensures closing { (h : Journal) → Keeps self.old h → self.old.closing ≡ true → self.new ≡ self.old }
+        ensures closing { (first : Opening) (h : Journal) → Keeps first self.old h → self.old.closing ≡ true → self.new ≡ self.old }
     {
         while let Todo::Rest | Todo::Normal = self.lines.todo() {
             self.pass_next();
@@ -197,11 +198,11 @@ impl Controller {
 
     /// The machine, which has stopped, is held for the pause that is next.
     fn pause(&mut self) -> Turn
-        requires stands { (h : Journal) × Keeps self.old h × IsReady h × HasStopped h × IsNextTask pause h }
+        requires stands { (first : Opening) × (h : Journal) × Keeps first self.old h × IsReady first h × HasStopped first h × IsNextTask first pause h }
         requires beat { self.old.beat ≡ Beat.Motion }
         requires flags { self.old.flags ≡ Flags.None }
-        ensures goes_on { (h : Journal) → Keeps self.old h → IsReady h → HasStopped h → IsNextTask pause h
-            → (next : Journal) × (port_log next ≡ port_log h) × BoardWorked result Flags.None self.new h next }
+        ensures goes_on { (first : Opening) (h : Journal) → Keeps first self.old h → IsReady first h → HasStopped first h → IsNextTask first pause h
+            → (next : Journal) × (port_log next ≡ port_log h) × BoardWorked first result Flags.None self.new h next }
         ensures going { result ≢ Done }
     {
         self.machine.pause();
@@ -214,8 +215,8 @@ impl Controller {
     #[inline(always)]
     fn keep(&mut self, byte: u8)
         requires flags { self.old.flags ≡ Flags.None }
-        ensures kept { (h : Journal) → Keeps self.old h → MayTake h → Keeps self.new (at_port (took byte) ∷ h) }
-        ensures flags { (h : Journal) → IsFree h → TakesFlags self.new.flags (at_port (took byte) ∷ h) }
+        ensures kept { (first : Opening) (h : Journal) → Keeps first self.old h → MayTake first h → Keeps first self.new (at_port (took byte) ∷ h) }
+        ensures flags { (first : Opening) (h : Journal) → IsFree h → TakesFlags self.new.flags (at_port (took byte) ∷ h) }
         ensures same { self.new ≡ record self.old { input = self.new.input; flags = self.new.flags } }
     {
         if byte == b'\n' {
@@ -228,13 +229,13 @@ impl Controller {
 
     /// Starts the queued blocks that wait where a poll found no byte, and tries to publish the first segment of them.
     fn run_waiting<P: BoardPort>(&mut self, port: &mut P) -> Turn
-        requires stands { (rest : P.Rest) × (h : Journal) × P.stands port.old rest (port_log h) × Keeps self.old h × HasPolled h }
+        requires stands { (rest : P.Rest) × (first : Opening) × (h : Journal) × P.stands port.old rest (port_log h) × Keeps first self.old h × HasPolled first h }
         requires idle { self.old.machine.hold.motion ≡ Idle }
         requires blocks { has_blocks self.old.machine.plan.blocks ≡ true }
         requires beat { self.old.beat ≡ Beat.Motion }
         requires flags { self.old.flags ≡ Flags.None }
-        ensures goes_on { (rest : P.Rest) (h : Journal) → P.stands port.old rest (port_log h) → Keeps self.old h → HasPolled h
-            → WorksOn (P.stands port.new rest) result self.old.flags self.new h }
+        ensures goes_on { (rest : P.Rest) (first : Opening) (h : Journal) → P.stands port.old rest (port_log h) → Keeps first self.old h → HasPolled first h
+            → WorksOn first (P.stands port.new rest) result self.old.flags self.new h }
         ensures going { result ≢ Done }
     {
         self.machine.start(self.jogged);
@@ -244,11 +245,11 @@ impl Controller {
     /// What is done where a poll found no byte: queued blocks start.
     #[inline(never)]
     fn without_byte<P: BoardPort>(&mut self, port: &mut P) -> Turn
-        requires stands { (rest : P.Rest) × (h : Journal) × P.stands port.old rest (port_log h) × Keeps self.old h × HasPolled h }
+        requires stands { (rest : P.Rest) × (first : Opening) × (h : Journal) × P.stands port.old rest (port_log h) × Keeps first self.old h × HasPolled first h }
         requires beat { self.old.beat ≡ Beat.Motion }
         requires flags { self.old.flags ≡ Flags.None }
-        ensures goes_on { (rest : P.Rest) (h : Journal) → P.stands port.old rest (port_log h) → Keeps self.old h → HasPolled h → list_any found_nothing (this_turn h) ≡ true
-            → WorksOn (P.stands port.new rest) result self.old.flags self.new h }
+        ensures goes_on { (rest : P.Rest) (first : Opening) (h : Journal) → P.stands port.old rest (port_log h) → Keeps first self.old h → HasPolled first h → list_any found_nothing (this_turn h) ≡ true
+            → WorksOn first (P.stands port.new rest) result self.old.flags self.new h }
         ensures going { result ≢ Done }
     {
         if !self.machine.is_waiting() {
@@ -260,11 +261,11 @@ impl Controller {
     /// What is done where a poll found the link closed: queued blocks start, and where none waits the run is closed.
     #[inline(never)]
     fn close<P: BoardPort>(&mut self, port: &mut P) -> Turn
-        requires stands { (rest : P.Rest) × (h : Journal) × P.stands port.old rest (port_log h) × Keeps self.old h × HasPolled h × (has_closed h ≡ true) }
+        requires stands { (rest : P.Rest) × (first : Opening) × (h : Journal) × P.stands port.old rest (port_log h) × Keeps first self.old h × HasPolled first h × (has_closed h ≡ true) }
         requires beat { self.old.beat ≡ Beat.Motion }
         requires flags { self.old.flags ≡ Flags.None }
-        ensures goes_on { (rest : P.Rest) (h : Journal) → P.stands port.old rest (port_log h) → Keeps self.old h → HasPolled h → has_closed h ≡ true
-            → WorksOn (P.stands port.new rest) result self.old.flags self.new h }
+        ensures goes_on { (rest : P.Rest) (first : Opening) (h : Journal) → P.stands port.old rest (port_log h) → Keeps first self.old h → HasPolled first h → has_closed h ≡ true
+            → WorksOn first (P.stands port.new rest) result self.old.flags self.new h }
         ensures going { result ≢ Done }
     {
         if self.machine.is_waiting() {
@@ -278,11 +279,11 @@ impl Controller {
     /// Polls for the next byte.
     #[inline(always)]
     fn poll<P: BoardPort>(&mut self, port: &mut P) -> Turn
-        requires stands { (rest : P.Rest) × (h : Journal) × P.stands port.old rest (port_log h) × Keeps self.old h × IsReady h × MayPoll h }
+        requires stands { (rest : P.Rest) × (first : Opening) × (h : Journal) × P.stands port.old rest (port_log h) × Keeps first self.old h × IsReady first h × MayPoll first h }
         requires beat { self.old.beat ≡ Beat.Motion }
         requires flags { self.old.flags ≡ Flags.None }
-        ensures goes_on { (rest : P.Rest) (h : Journal) → P.stands port.old rest (port_log h) → Keeps self.old h → IsReady h → MayPoll h
-            → WorksOn (P.stands port.new rest) result self.old.flags self.new h }
+        ensures goes_on { (rest : P.Rest) (first : Opening) (h : Journal) → P.stands port.old rest (port_log h) → Keeps first self.old h → IsReady first h → MayPoll first h
+            → WorksOn first (P.stands port.new rest) result self.old.flags self.new h }
         ensures going { result ≢ Done }
     {
         match port.byte() {
@@ -297,9 +298,9 @@ impl Controller {
 
     /// Looks how many ticks are done. Where nothing is left to run, and each is done, the cycle is over.
     fn look<P: BoardPort>(&mut self, port: &mut P)
-        requires stands { (rest : P.Rest) × (h : Journal) × P.stands port.old rest (port_log h) × Keeps self.old h × (begins_in (motion_of h) ≡ true) }
-        ensures goes_on { (rest : P.Rest) (h : Journal) → P.stands port.old rest (port_log h) → Keeps self.old h → begins_in (motion_of h) ≡ true
-            → (next : Journal) × P.stands port.new rest (port_log next) × Keeps self.new next × HasLooked h next }
+        requires stands { (rest : P.Rest) × (first : Opening) × (h : Journal) × P.stands port.old rest (port_log h) × Keeps first self.old h × (begins_in (motion_of first h) ≡ true) }
+        ensures goes_on { (rest : P.Rest) (first : Opening) (h : Journal) → P.stands port.old rest (port_log h) → Keeps first self.old h → begins_in (motion_of first h) ≡ true
+            → (next : Journal) × P.stands port.new rest (port_log next) × Keeps first self.new next × HasLooked first h next }
         ensures same { self.new ≡ record self.old { machine = self.new.machine } }
     {
         let done = port.done();
@@ -310,7 +311,7 @@ impl Controller {
 
     /// Where the line that was taken whole begins with `$`, queued blocks start before it.
     fn start_before_line(&mut self)
-        ensures started { (h : Journal) → Keeps self.old h → IsLooked h → (next : Journal) × Keeps self.new next × MayJudge next × DidAlone h next }
+        ensures started { (first : Opening) (h : Journal) → Keeps first self.old h → IsLooked first h → (next : Journal) × Keeps first self.new next × MayJudge first next × DidAlone first h next }
         ensures same { self.new ≡ record self.old { machine = self.new.machine } }
     {
         if self.input.dollar && self.machine.is_waiting() {
@@ -320,8 +321,8 @@ impl Controller {
 
     /// Judges the line that was taken whole.
     fn judge_line(&mut self)
-        requires { (h : Journal) × Keeps self.old h × MayJudge h }
-        ensures judged { (h : Journal) → Keeps self.old h → MayJudge h → (o : Outcome) × IsJudged self.old self.new h o }
+        requires { (first : Opening) × (h : Journal) × Keeps first self.old h × MayJudge first h }
+        ensures judged { (first : Opening) (h : Journal) → Keeps first self.old h → MayJudge first h → (o : Outcome) × IsJudged first self.old self.new h o }
         ensures same { self.new ≡ record self.old { lines = self.new.lines; input = self.new.input; jogged = self.new.jogged } }
     {
         let accepted = self
@@ -333,8 +334,8 @@ impl Controller {
 
     /// Begins the line that was taken whole. Where a soft limit stops it, so is the motion, at once.
     fn judge(&mut self)
-        requires { (h : Journal) × Keeps self.old h × MayJudge h }
-        ensures begun { (h : Journal) → Keeps self.old h → MayJudge h → (o : Outcome) × (next : Journal) × Keeps self.new next × HasBegun o h next }
+        requires { (first : Opening) × (h : Journal) × Keeps first self.old h × MayJudge first h }
+        ensures begun { (first : Opening) (h : Journal) → Keeps first self.old h → MayJudge first h → (o : Outcome) × (next : Journal) × Keeps first self.new next × HasBegun first o h next }
         ensures same { self.new ≡ record self.old { machine = self.new.machine; lines = self.new.lines; input = self.new.input; jogged = self.new.jogged } }
     {
         self.judge_line();
@@ -347,11 +348,11 @@ impl Controller {
     /// queued blocks start before.
     #[inline(never)]
     fn begin<P: BoardPort>(&mut self, port: &mut P) -> Turn
-        requires stands { (rest : P.Rest) × (h : Journal) × P.stands port.old rest (port_log h) × Keeps self.old h × IsReady h × IsWholeLine h }
+        requires stands { (rest : P.Rest) × (first : Opening) × (h : Journal) × P.stands port.old rest (port_log h) × Keeps first self.old h × IsReady first h × IsWholeLine first h }
         requires beat { self.old.beat ≡ Beat.Motion }
         requires flags { self.old.flags ≡ Flags.None }
-        ensures goes_on { (rest : P.Rest) (h : Journal) → P.stands port.old rest (port_log h) → Keeps self.old h → IsReady h → IsWholeLine h
-            → WorksOn (P.stands port.new rest) result self.old.flags self.new h }
+        ensures goes_on { (rest : P.Rest) (first : Opening) (h : Journal) → P.stands port.old rest (port_log h) → Keeps first self.old h → IsReady first h → IsWholeLine first h
+            → WorksOn first (P.stands port.new rest) result self.old.flags self.new h }
         ensures going { result ≢ Done }
     {
         self.look(port);
@@ -365,13 +366,13 @@ impl Controller {
     /// What is done where nothing is left of the line before.
     #[inline(always)]
     fn next_line<P: BoardPort>(&mut self, port: &mut P) -> Turn
-        requires stands { (rest : P.Rest) × (h : Journal) × P.stands port.old rest (port_log h) × Keeps self.old h × IsReady h × GoesOn h }
+        requires stands { (rest : P.Rest) × (first : Opening) × (h : Journal) × P.stands port.old rest (port_log h) × Keeps first self.old h × IsReady first h × GoesOn first h }
         requires none { self.old.lines.left ≡ [] }
         requires open { self.old.closing ≡ false }
         requires beat { self.old.beat ≡ Beat.Motion }
         requires flags { self.old.flags ≡ Flags.None }
-        ensures goes_on { (rest : P.Rest) (h : Journal) → P.stands port.old rest (port_log h) → Keeps self.old h → IsReady h → GoesOn h
-            → WorksOn (P.stands port.new rest) result self.old.flags self.new h }
+        ensures goes_on { (rest : P.Rest) (first : Opening) (h : Journal) → P.stands port.old rest (port_log h) → Keeps first self.old h → IsReady first h → GoesOn first h
+            → WorksOn first (P.stands port.new rest) result self.old.flags self.new h }
         ensures going { result ≢ Done }
     {
         if self.input.whole {
@@ -383,12 +384,12 @@ impl Controller {
     /// Does what is next, where that is no rest, nor the end before the machine has stopped.
     #[inline(never)]
     fn do_next<P: BoardPort>(&mut self, port: &mut P) -> Turn
-        requires stands { (rest : P.Rest) × (h : Journal) × P.stands port.old rest (port_log h) × Keeps self.old h × IsReady h × GoesOn h × NeedsNoWait h }
+        requires stands { (rest : P.Rest) × (first : Opening) × (h : Journal) × P.stands port.old rest (port_log h) × Keeps first self.old h × IsReady first h × GoesOn first h × NeedsNoWait first h }
         requires open { self.old.lines.left ≡ [] → self.old.closing ≡ false }
         requires beat { self.old.beat ≡ Beat.Motion }
         requires flags { self.old.flags ≡ Flags.None }
-        ensures goes_on { (rest : P.Rest) (h : Journal) → P.stands port.old rest (port_log h) → Keeps self.old h → IsReady h → GoesOn h → NeedsNoWait h
-            → WorksOn (P.stands port.new rest) result self.old.flags self.new h }
+        ensures goes_on { (rest : P.Rest) (first : Opening) (h : Journal) → P.stands port.old rest (port_log h) → Keeps first self.old h → IsReady first h → GoesOn first h → NeedsNoWait first h
+            → WorksOn first (P.stands port.new rest) result self.old.flags self.new h }
         ensures going { result ≢ Done }
     {
         match self.lines.todo() {
@@ -405,12 +406,12 @@ impl Controller {
     /// Does what is next, once the motion has stopped where that is waited for. It is not held up.
     #[inline(always)]
     fn proceed<P: BoardPort>(&mut self, port: &mut P) -> Turn
-        requires stands { (rest : P.Rest) × (h : Journal) × P.stands port.old rest (port_log h) × Keeps self.old h × IsReady h × GoesOn h }
+        requires stands { (rest : P.Rest) × (first : Opening) × (h : Journal) × P.stands port.old rest (port_log h) × Keeps first self.old h × IsReady first h × GoesOn first h }
         requires open { self.old.lines.left ≡ [] → self.old.closing ≡ false }
         requires beat { self.old.beat ≡ Beat.Motion }
         requires flags { self.old.flags ≡ Flags.None }
-        ensures goes_on { (rest : P.Rest) (h : Journal) → P.stands port.old rest (port_log h) → Keeps self.old h → IsReady h → GoesOn h
-            → WorksOn (P.stands port.new rest) result self.old.flags self.new h }
+        ensures goes_on { (rest : P.Rest) (first : Opening) (h : Journal) → P.stands port.old rest (port_log h) → Keeps first self.old h → IsReady first h → GoesOn first h
+            → WorksOn first (P.stands port.new rest) result self.old.flags self.new h }
         ensures going { result ≢ Done }
     {
         if self.lines.is_done() {
@@ -430,12 +431,12 @@ impl Controller {
     /// stopped it, the run is ended.
     #[inline(always)]
     fn main<P: BoardPort>(&mut self, port: &mut P) -> Turn
-        requires stands { (rest : P.Rest) × (h : Journal) × P.stands port.old rest (port_log h) × Keeps self.old h × IsReady h }
+        requires stands { (rest : P.Rest) × (first : Opening) × (h : Journal) × P.stands port.old rest (port_log h) × Keeps first self.old h × IsReady first h }
         requires open { self.old.lines.left ≡ [] → self.old.closing ≡ false }
         requires beat { self.old.beat ≡ Beat.Motion }
         requires flags { self.old.flags ≡ Flags.None }
-        ensures goes_on { (rest : P.Rest) (h : Journal) → P.stands port.old rest (port_log h) → Keeps self.old h → IsReady h
-            → WorksOn (P.stands port.new rest) result self.old.flags self.new h }
+        ensures goes_on { (rest : P.Rest) (first : Opening) (h : Journal) → P.stands port.old rest (port_log h) → Keeps first self.old h → IsReady first h
+            → WorksOn first (P.stands port.new rest) result self.old.flags self.new h }
         ensures going { result ≢ Done }
     {
         if self.machine.is_halting() && self.is_held_up() {
@@ -450,8 +451,8 @@ impl Controller {
     /// Whether the turn begins with a piece: one is in hand, or a segment is due, and the last turn published none.
     #[inline]
     fn begins_with_piece(&self) -> bool
-        ensures yes { (h : Journal) → Keeps self.now h → result ≡ true → (self.now.beat ≡ Beat.Motion) × HasPiece h }
-        ensures no { (h : Journal) → Keeps self.now h → result ≡ false → self.now.beat ≡ Beat.Motion → HasPiece h → ⊥ }
+        ensures yes { (first : Opening) (h : Journal) → Keeps first self.now h → result ≡ true → (self.now.beat ≡ Beat.Motion) × HasPiece first h }
+        ensures no { (first : Opening) (h : Journal) → Keeps first self.now h → result ≡ false → self.now.beat ≡ Beat.Motion → HasPiece first h → ⊥ }
     {
         match self.beat {
             Beat::Motion => self.has_piece(),
@@ -462,12 +463,12 @@ impl Controller {
     /// Publishes what is in hand or due, and where there is no room for it tells the report that is owed, or does what
     /// is next.
     fn publish_first<P: BoardPort>(&mut self, port: &mut P) -> Turn
-        requires stands { (rest : P.Rest) × (h : Journal) × P.stands port.old rest (port_log h) × GoingFits self.old h × GoingBetween h × HasPiece h }
+        requires stands { (rest : P.Rest) × (first : Opening) × (h : Journal) × P.stands port.old rest (port_log h) × GoingFits first self.old h × GoingBetween h × HasPiece first h }
         requires open { self.old.lines.left ≡ [] → self.old.closing ≡ false }
         requires beat { self.old.beat ≡ Beat.Motion }
         requires flags { takes_no_word self.old.flags ≡ true }
-        ensures goes_on { (rest : P.Rest) (h : Journal) → P.stands port.old rest (port_log h) → GoingFits self.old h → GoingBetween h → HasPiece h
-            → WorksOn (P.stands port.new rest) result self.old.flags self.new h }
+        ensures goes_on { (rest : P.Rest) (first : Opening) (h : Journal) → P.stands port.old rest (port_log h) → GoingFits first self.old h → GoingBetween h → HasPiece first h
+            → WorksOn first (P.stands port.new rest) result self.old.flags self.new h }
         ensures going { result ≢ Done }
     {
         let published = self.publish_next(port);
@@ -486,11 +487,11 @@ impl Controller {
     /// Takes no word of flags: publishes a piece, tells a report that is owed, or does what is next.
     #[inline(always)]
     fn go_on<P: BoardPort>(&mut self, port: &mut P) -> Turn
-        requires stands { (rest : P.Rest) × (h : Journal) × P.stands port.old rest (port_log h) × GoingFits self.old h × GoingBetween h }
+        requires stands { (rest : P.Rest) × (first : Opening) × (h : Journal) × P.stands port.old rest (port_log h) × GoingFits first self.old h × GoingBetween h }
         requires open { self.old.lines.left ≡ [] → self.old.closing ≡ false }
         requires flags { takes_no_word self.old.flags ≡ true }
-        ensures goes_on { (rest : P.Rest) (h : Journal) → P.stands port.old rest (port_log h) → GoingFits self.old h → GoingBetween h
-            → WorksOn (P.stands port.new rest) result self.old.flags self.new h }
+        ensures goes_on { (rest : P.Rest) (first : Opening) (h : Journal) → P.stands port.old rest (port_log h) → GoingFits first self.old h → GoingBetween h
+            → WorksOn first (P.stands port.new rest) result self.old.flags self.new h }
         ensures going { result ≢ Done }
     {
         if self.begins_with_piece() {
@@ -506,10 +507,10 @@ impl Controller {
     /// Takes a word of flags where one is to be taken, and else goes on.
     #[inline(always)]
     fn take_or_go_on<P: BoardPort>(&mut self, port: &mut P) -> Turn
-        requires stands { (rest : P.Rest) × (h : Journal) × P.stands port.old rest (port_log h) × GoingFits self.old h × GoingBetween h }
+        requires stands { (rest : P.Rest) × (first : Opening) × (h : Journal) × P.stands port.old rest (port_log h) × GoingFits first self.old h × GoingBetween h }
         requires open { self.old.lines.left ≡ [] → self.old.closing ≡ false }
-        ensures goes_on { (rest : P.Rest) (h : Journal) → P.stands port.old rest (port_log h) → GoingFits self.old h → GoingBetween h
-            → WorksOn (P.stands port.new rest) result self.old.flags self.new h }
+        ensures goes_on { (rest : P.Rest) (first : Opening) (h : Journal) → P.stands port.old rest (port_log h) → GoingFits first self.old h → GoingBetween h
+            → WorksOn first (P.stands port.new rest) result self.old.flags self.new h }
         ensures going { result ≢ Done }
     {
         match self.flags {
@@ -529,9 +530,9 @@ impl Controller {
     /// Does what a turn does.
     #[inline(always)]
     fn work<P: BoardPort>(&mut self, port: &mut P) -> Turn
-        requires stands { (rest : P.Rest) × (h : Journal) × P.stands port.old rest (port_log h) × GoingFits self.old h × GoingBetween h }
-        ensures goes_on { (rest : P.Rest) (h : Journal) → P.stands port.old rest (port_log h) → GoingFits self.old h → GoingBetween h
-            → WorksOn (P.stands port.new rest) result self.old.flags self.new h }
+        requires stands { (rest : P.Rest) × (first : Opening) × (h : Journal) × P.stands port.old rest (port_log h) × GoingFits first self.old h × GoingBetween h }
+        ensures goes_on { (rest : P.Rest) (first : Opening) (h : Journal) → P.stands port.old rest (port_log h) → GoingFits first self.old h → GoingBetween h
+            → WorksOn first (P.stands port.new rest) result self.old.flags self.new h }
         ensures done { (result ≡ Done) ↔ BoardRests self.old }
         ensures still { BoardRests self.old → (self.new ≡ self.old) × (port.new ≡ port.old) }
     {
@@ -544,12 +545,12 @@ impl Controller {
     /// Takes a turn of a run that goes on.
     #[inline(always)]
     pub(crate) fn carry_on<P: BoardPort>(&mut self, port: &mut P) -> Turn
-        requires stands { (rest : P.Rest) × (h : Journal) × P.stands port.old rest (port_log h) × GoingFits self.old h × GoingBetween h }
-        ensures goes_on { (rest : P.Rest) (h : Journal) → P.stands port.old rest (port_log h) → GoingFits self.old h → GoingBetween h
-            → (next : Journal) × P.stands port.new rest (port_log next) × GoingFits self.new next × GoingBetween next × GoingTurned result self.old self.new h next }
+        requires stands { (rest : P.Rest) × (first : Opening) × (h : Journal) × P.stands port.old rest (port_log h) × GoingFits first self.old h × GoingBetween h }
+        ensures goes_on { (rest : P.Rest) (first : Opening) (h : Journal) → P.stands port.old rest (port_log h) → GoingFits first self.old h → GoingBetween h
+            → (next : Journal) × P.stands port.new rest (port_log next) × GoingFits first self.new next × GoingBetween next × GoingTurned first result self.old self.new h next }
         ensures done { (result ≡ Done) ↔ BoardRests self.old }
         ensures still { BoardRests self.old → (self.new ≡ self.old) × (port.new ≡ port.old) }
-        ensures few { (h : Journal) → GoingFits self.old h → number_of self.old.flags h < 64 }
+        ensures few { (first : Opening) (h : Journal) → GoingFits first self.old h → number_of first self.old.flags h < 64 }
     {
         let turn = self.work(port);
         if let Turn::Wait(_) = turn {

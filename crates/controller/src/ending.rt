@@ -3,6 +3,9 @@
 ghost use Rattle.std.specs.Prelude.{◌≡◌, ◌≢◌, ◌↔◌, ◌<◌, cond, [], true, false};
 ghost use Rattle.outside.specs.declared.Turn.TheVariants.{Done};
 ghost use Rattle.board_rules.specs.Steps.{Journal};
+ghost use Rattle.run_rules.specs.declared.State.{State};
+ghost use Rattle.run_rules.specs.States.{IsOpening};
+ghost use Rattle.board_rules.specs.Openings.{Opening, first_opening};
 ghost use Rattle.board_rules.specs.Breaking.{Doings, ending_of, log_of};
 ghost use Rattle.board_rules.specs.Breaking.Doings.{goes, broke};
 ghost use Rattle.board_rules.specs.Breaking.Ending.{publishes_end, tells_bye};
@@ -19,7 +22,7 @@ use step_line::Piece;
 impl Controller {
     /// Whether the end of the run is published: the run was being closed, and only Bye is left to be told.
     fn has_published_end(&self) -> bool
-        ensures { (h : Journal) → GoingFits self.now h → (BoardRests self.now → ⊥) → ending_of [] h ≡ cond result tells_bye publishes_end }
+        ensures { (first : Opening) (h : Journal) → GoingFits first self.now h → (BoardRests self.now → ⊥) → ending_of [] h ≡ cond result tells_bye publishes_end }
     {
         if !self.closing {
             return false;
@@ -47,7 +50,7 @@ impl Controller {
     fn break_off(&mut self)
         requires reset { self.old.reset ≡ true }
         requires going { BoardRests self.old → ⊥ }
-        ensures broken { (h : Journal) → GoingFits self.old h → GoingBetween h → BrokenFits self.new [] h }
+        ensures broken { (state : State) (h : Journal) → IsOpening state → GoingFits (first_opening state) self.old h → GoingBetween h → BrokenFits self.new [] h }
         ensures flags { self.new.flags ≡ self.old.flags }
     {
         let published = self.has_published_end();
@@ -123,7 +126,7 @@ impl Controller {
             → (next : Doings) × P.stands port.new rest (log_of next) × BoardFits self.new next × IsBetween next × BoardTurned result self.old self.new d next }
         ensures done { (result ≡ Done) ↔ BoardRests self.old }
         ensures still { BoardRests self.old → (self.new ≡ self.old) × (port.new ≡ port.old) }
-        ensures few { (d : Doings) → BoardFits self.old d → number_in self.old.flags d < 64 }
+        ensures few { (state : State) (d : Doings) → BoardFits self.old d → number_in state self.old.flags d < 64 }
     {
         if self.is_over() {
             return Turn::Done;

@@ -6,6 +6,7 @@ ghost use Rattle.code_table.specs.declared.flags.Ovr.{Ovr as AnyOvr};
 ghost use Rattle.feed_hold.specs.declared.Motion.TheVariants.{Held};
 ghost use Rattle.outside.specs.declared.Turn.TheVariants.{Done};
 ghost use Rattle.board_rules.specs.Steps.{Journal, port_log};
+ghost use Rattle.board_rules.specs.Openings.{Opening};
 ghost use Rattle.controller.specs.Boards.{Keeps};
 ghost use Rattle.board_rules.specs.Ports.PortStep.{took_exec};
 ghost use Rattle.board_rules.specs.Steps.Step.{at_port};
@@ -21,9 +22,9 @@ use outside::{On, Turn};
 impl Controller {
     /// Where the machine has slowed down to a stop, looks how many ticks are done, and does what comes of that where each is.
     pub(crate) fn settle<P: BoardPort>(&mut self, port: &mut P)
-        requires stands { (rest : P.Rest) × (h : Journal) × P.stands port.old rest (port_log h) × Keeps self.old h }
-        ensures goes_on { (rest : P.Rest) (h : Journal) → P.stands port.old rest (port_log h) → Keeps self.old h
-            → (next : Journal) × P.stands port.new rest (port_log next) × Keeps self.new next × HasSettled h next }
+        requires stands { (rest : P.Rest) × (first : Opening) × (h : Journal) × P.stands port.old rest (port_log h) × Keeps first self.old h }
+        ensures goes_on { (rest : P.Rest) (first : Opening) (h : Journal) → P.stands port.old rest (port_log h) → Keeps first self.old h
+            → (next : Journal) × P.stands port.new rest (port_log next) × Keeps first self.new next × HasSettled first h next }
         ensures same { self.new ≡ record self.old { machine = self.new.machine; flight = self.new.flight; lines = self.new.lines; cut = self.new.cut } }
     {
         if !self.machine.has_slowed_down() {
@@ -41,9 +42,9 @@ impl Controller {
     /// What comes of a machine that has stopped comes before.
     #[inline(never)]
     pub(crate) fn take_requests<P: BoardPort>(&mut self, port: &mut P)
-        requires stands { (rest : P.Rest) × (h : Journal) × P.stands port.old rest (port_log h) × Keeps self.old h × (unobeyed_of h ≡ []) × (has_jog_to_start h ≡ false) }
-        ensures goes_on { (rest : P.Rest) (h : Journal) → P.stands port.old rest (port_log h) → Keeps self.old h → unobeyed_of h ≡ [] → has_jog_to_start h ≡ false
-            → (word : AnyExec) × (mid : Journal) × HasSettled h mid × P.stands port.new rest (port_log (asked word mid)) × Keeps self.new (asked word mid)
+        requires stands { (rest : P.Rest) × (first : Opening) × (h : Journal) × P.stands port.old rest (port_log h) × Keeps first self.old h × (unobeyed_of h ≡ []) × (has_jog_to_start first h ≡ false) }
+        ensures goes_on { (rest : P.Rest) (first : Opening) (h : Journal) → P.stands port.old rest (port_log h) → Keeps first self.old h → unobeyed_of h ≡ [] → has_jog_to_start first h ≡ false
+            → (word : AnyExec) × (mid : Journal) × HasSettled first h mid × P.stands port.new rest (port_log (asked first word mid)) × Keeps first self.new (asked first word mid)
             × (self.new.flags ≡ flags_behind (owes_report (at_port (took_exec word) ∷ mid)) word) }
         ensures same { self.new ≡ record self.old { machine = self.new.machine; flight = self.new.flight; lines = self.new.lines; cut = self.new.cut; flags = self.new.flags; owes = self.new.owes; reset = self.new.reset } }
     {
@@ -61,9 +62,9 @@ impl Controller {
 
     /// Takes the word of changes of overrides, and plans anew where it holds one.
     pub(crate) fn take_changes<P: BoardPort>(&mut self, port: &mut P)
-        requires stands { (rest : P.Rest) × (h : Journal) × P.stands port.old rest (port_log h) × Keeps self.old h }
-        ensures goes_on { (rest : P.Rest) (h : Journal) → P.stands port.old rest (port_log h) → Keeps self.old h
-            → (word : AnyOvr) × P.stands port.new rest (port_log (replanned word h)) × Keeps self.new (replanned word h) }
+        requires stands { (rest : P.Rest) × (first : Opening) × (h : Journal) × P.stands port.old rest (port_log h) × Keeps first self.old h }
+        ensures goes_on { (rest : P.Rest) (first : Opening) (h : Journal) → P.stands port.old rest (port_log h) → Keeps first self.old h
+            → (word : AnyOvr) × P.stands port.new rest (port_log (replanned word h)) × Keeps first self.new (replanned word h) }
         ensures same { self.new ≡ record self.old { machine = self.new.machine } }
     {
         let word = port.take_override();
@@ -74,12 +75,12 @@ impl Controller {
 
     /// Waits for a machine that slows down, and does what comes of it once it has stopped.
     pub(crate) fn await_stop<P: BoardPort>(&mut self, port: &mut P) -> Turn
-        requires stands { (rest : P.Rest) × (h : Journal) × P.stands port.old rest (port_log h) × Keeps self.old h × IsHalted h × (HasPiece h → ⊥) }
+        requires stands { (rest : P.Rest) × (first : Opening) × (h : Journal) × P.stands port.old rest (port_log h) × Keeps first self.old h × IsHalted first h × (HasPiece first h → ⊥) }
         requires slows { self.old.machine.hold.motion ≢ Held }
         requires beat { self.old.beat ≡ Beat.Motion }
         requires flags { self.old.flags ≡ Flags.None }
-        ensures goes_on { (rest : P.Rest) (h : Journal) → P.stands port.old rest (port_log h) → Keeps self.old h → IsHalted h → (HasPiece h → ⊥)
-            → WorksOn (P.stands port.new rest) result self.old.flags self.new h }
+        ensures goes_on { (rest : P.Rest) (first : Opening) (h : Journal) → P.stands port.old rest (port_log h) → Keeps first self.old h → IsHalted first h → (HasPiece first h → ⊥)
+            → WorksOn first (P.stands port.new rest) result self.old.flags self.new h }
         ensures going { result ≢ Done }
     {
         self.settle(port);
@@ -91,12 +92,12 @@ impl Controller {
 
     /// Waits for the resume of a machine that is held, unless a report is asked for.
     pub(crate) fn await_resume<P: BoardPort>(&mut self, port: &mut P) -> Turn
-        requires stands { (rest : P.Rest) × (h : Journal) × P.stands port.old rest (port_log h) × Keeps self.old h × IsHalted h × (HasPiece h → ⊥) }
+        requires stands { (rest : P.Rest) × (first : Opening) × (h : Journal) × P.stands port.old rest (port_log h) × Keeps first self.old h × IsHalted first h × (HasPiece first h → ⊥) }
         requires held { self.old.machine.hold.motion ≡ Held }
         requires beat { self.old.beat ≡ Beat.Motion }
         requires flags { self.old.flags ≡ Flags.None }
-        ensures goes_on { (rest : P.Rest) (h : Journal) → P.stands port.old rest (port_log h) → Keeps self.old h → IsHalted h → (HasPiece h → ⊥)
-            → WorksOn (P.stands port.new rest) result self.old.flags self.new h }
+        ensures goes_on { (rest : P.Rest) (first : Opening) (h : Journal) → P.stands port.old rest (port_log h) → Keeps first self.old h → IsHalted first h → (HasPiece first h → ⊥)
+            → WorksOn first (P.stands port.new rest) result self.old.flags self.new h }
         ensures going { result ≢ Done }
     {
         self.take_requests(port);
@@ -113,11 +114,11 @@ impl Controller {
     /// and the resume.
     #[inline(never)]
     pub(crate) fn halt<P: BoardPort>(&mut self, port: &mut P) -> Turn
-        requires stands { (rest : P.Rest) × (h : Journal) × P.stands port.old rest (port_log h) × Keeps self.old h × IsHalted h }
+        requires stands { (rest : P.Rest) × (first : Opening) × (h : Journal) × P.stands port.old rest (port_log h) × Keeps first self.old h × IsHalted first h }
         requires beat { self.old.beat ≡ Beat.Motion }
         requires flags { self.old.flags ≡ Flags.None }
-        ensures goes_on { (rest : P.Rest) (h : Journal) → P.stands port.old rest (port_log h) → Keeps self.old h → IsHalted h
-            → WorksOn (P.stands port.new rest) result self.old.flags self.new h }
+        ensures goes_on { (rest : P.Rest) (first : Opening) (h : Journal) → P.stands port.old rest (port_log h) → Keeps first self.old h → IsHalted first h
+            → WorksOn first (P.stands port.new rest) result self.old.flags self.new h }
         ensures going { result ≢ Done }
     {
         if self.has_piece() {

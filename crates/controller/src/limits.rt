@@ -3,6 +3,7 @@
 ghost use Rattle.std.specs.Prelude.{◌≡◌, ◌≢◌, ◌∷◌, [], true, false};
 ghost use Rattle.outside.specs.declared.Turn.TheVariants.{Done};
 ghost use Rattle.board_rules.specs.Steps.{Journal, motion_of, left_of, port_log};
+ghost use Rattle.board_rules.specs.Openings.{Opening};
 ghost use Rattle.board_rules.specs.Turns.{is_limited};
 ghost use Rattle.board_rules.specs.Conduct.{IsNextTask};
 ghost use Rattle.run_rules.specs.Work.Task.{halt};
@@ -19,8 +20,8 @@ use outside::{On, Turn};
 impl Controller {
     /// A machine that a soft limit has stopped is in alarm.
     fn lock(&mut self)
-        requires { (h : Journal) × Keeps self.old h × IsAtLimit h }
-        ensures locked { (h : Journal) → Keeps self.old h → IsAtLimit h → (next : Journal) × Keeps self.new next × IsLocked h next }
+        requires { (first : Opening) × (h : Journal) × Keeps first self.old h × IsAtLimit first h }
+        ensures locked { (first : Opening) (h : Journal) → Keeps first self.old h → IsAtLimit first h → (next : Journal) × Keeps first self.new next × IsLocked first h next }
         ensures same { self.new ≡ record self.old { machine = self.new.machine } }
     {
         if !self.machine.is_locked() {
@@ -30,8 +31,8 @@ impl Controller {
 
     /// What is planned is dropped where a soft limit has stopped the machine, which is in alarm from then on.
     fn drop_plan(&mut self)
-        requires { (h : Journal) × Keeps self.old h × IsAtLimit h }
-        ensures halted { (h : Journal) → Keeps self.old h → IsAtLimit h → (next : Journal) × Keeps self.new next × HasHalted h next }
+        requires { (first : Opening) × (h : Journal) × Keeps first self.old h × IsAtLimit first h }
+        ensures halted { (first : Opening) (h : Journal) → Keeps first self.old h → IsAtLimit first h → (next : Journal) × Keeps first self.new next × HasHalted first h next }
         ensures same { self.new ≡ record self.old { machine = self.new.machine; lines = self.new.lines } }
     {
         self.lock();
@@ -42,11 +43,11 @@ impl Controller {
     /// Publishes what is in hand or due until the machine has stopped, and waits until each tick is done. Then what is planned is
     /// dropped, and the alarm is told.
     fn halt_at_limit<P: BoardPort>(&mut self, port: &mut P) -> Turn
-        requires stands { (rest : P.Rest) × (h : Journal) × P.stands port.old rest (port_log h) × Keeps self.old h × IsReady h × (is_limited (motion_of h) ≡ true) × IsNextTask halt h }
+        requires stands { (rest : P.Rest) × (first : Opening) × (h : Journal) × P.stands port.old rest (port_log h) × Keeps first self.old h × IsReady first h × (is_limited (motion_of first h) ≡ true) × IsNextTask first halt h }
         requires beat { self.old.beat ≡ Beat.Motion }
         requires flags { self.old.flags ≡ Flags.None }
-        ensures goes_on { (rest : P.Rest) (h : Journal) → P.stands port.old rest (port_log h) → Keeps self.old h → IsReady h → is_limited (motion_of h) ≡ true → IsNextTask halt h
-            → WorksOn (P.stands port.new rest) result self.old.flags self.new h }
+        ensures goes_on { (rest : P.Rest) (first : Opening) (h : Journal) → P.stands port.old rest (port_log h) → Keeps first self.old h → IsReady first h → is_limited (motion_of first h) ≡ true → IsNextTask first halt h
+            → WorksOn first (P.stands port.new rest) result self.old.flags self.new h }
         ensures going { result ≢ Done }
     {
         if self.has_piece() {
@@ -61,12 +62,12 @@ impl Controller {
 
     /// Closes the run, since the alarm is told, and nothing is left to do.
     fn close_limited(&mut self) -> Turn
-        requires stands { (h : Journal) × Keeps self.old h × IsReady h × (is_limited (motion_of h) ≡ true) × (left_of h ≡ []) }
+        requires stands { (first : Opening) × (h : Journal) × Keeps first self.old h × IsReady first h × (is_limited (motion_of first h) ≡ true) × (left_of first h ≡ []) }
         requires open { self.old.closing ≡ false }
         requires beat { self.old.beat ≡ Beat.Motion }
         requires flags { self.old.flags ≡ Flags.None }
-        ensures goes_on { (h : Journal) → Keeps self.old h → IsReady h → is_limited (motion_of h) ≡ true → left_of h ≡ []
-            → (next : Journal) × (port_log next ≡ port_log h) × BoardWorked result self.old.flags self.new h next }
+        ensures goes_on { (first : Opening) (h : Journal) → Keeps first self.old h → IsReady first h → is_limited (motion_of first h) ≡ true → left_of first h ≡ []
+            → (next : Journal) × (port_log next ≡ port_log h) × BoardWorked first result self.old.flags self.new h next }
         ensures going { result ≢ Done }
     {
         self.lines.close();
@@ -77,12 +78,12 @@ impl Controller {
     /// Does what is next where a soft limit stops the machine, or has stopped it: halts it, tells the alarm, and ends the run.
     #[inline(never)]
     pub(crate) fn end_limited<P: BoardPort>(&mut self, port: &mut P) -> Turn
-        requires stands { (rest : P.Rest) × (h : Journal) × P.stands port.old rest (port_log h) × Keeps self.old h × IsReady h × (is_limited (motion_of h) ≡ true) }
+        requires stands { (rest : P.Rest) × (first : Opening) × (h : Journal) × P.stands port.old rest (port_log h) × Keeps first self.old h × IsReady first h × (is_limited (motion_of first h) ≡ true) }
         requires open { self.old.lines.left ≡ [] → self.old.closing ≡ false }
         requires beat { self.old.beat ≡ Beat.Motion }
         requires flags { self.old.flags ≡ Flags.None }
-        ensures goes_on { (rest : P.Rest) (h : Journal) → P.stands port.old rest (port_log h) → Keeps self.old h → IsReady h → is_limited (motion_of h) ≡ true
-            → WorksOn (P.stands port.new rest) result self.old.flags self.new h }
+        ensures goes_on { (rest : P.Rest) (first : Opening) (h : Journal) → P.stands port.old rest (port_log h) → Keeps first self.old h → IsReady first h → is_limited (motion_of first h) ≡ true
+            → WorksOn first (P.stands port.new rest) result self.old.flags self.new h }
         ensures going { result ≢ Done }
     {
         match self.lines.todo() {

@@ -9,6 +9,7 @@ ghost use Rattle.step_line.specs.Asking.Asked.{a_mark};
 ghost use Rattle.step_line.specs.Records.{IsMark};
 ghost use Rattle.line_interpreter.specs.Lefts.{IsNextOf};
 ghost use Rattle.board_rules.specs.Steps.{Journal, port_log};
+ghost use Rattle.board_rules.specs.Openings.{Opening};
 ghost use Rattle.board_rules.specs.Turns.{awaits_motion, has_blocks, is_full, owes_report};
 ghost use Rattle.board_rules.specs.Conduct.{IsNextTask, IsTimely};
 ghost use Rattle.controller.specs.Boards.{Keeps};
@@ -28,15 +29,15 @@ impl Controller {
     /// Whether a piece is in hand, or a segment is due.
     #[inline]
     pub(crate) fn has_piece(&self) -> bool
-        ensures { (h : Journal) → Keeps self.now h → (result ≡ true) ↔ HasPiece h }
+        ensures { (first : Opening) (h : Journal) → Keeps first self.now h → (result ≡ true) ↔ HasPiece first h }
     {
         self.machine.hand.is_some() || self.machine.is_due()
     }
 
     /// Adds the moves that are next, as far as they have room.
     pub(crate) fn add_moves(&mut self)
-        requires { (h : Journal) × Keeps self.old h }
-        ensures added { (h : Journal) → Keeps self.old h → (next : Journal) × Keeps self.new next × HasAdded h next }
+        requires { (first : Opening) × (h : Journal) × Keeps first self.old h }
+        ensures added { (first : Opening) (h : Journal) → Keeps first self.old h → (next : Journal) × Keeps first self.new next × HasAdded first h next }
         ensures same { self.new ≡ record self.old { machine = self.new.machine; lines = self.new.lines } }
     {
         while let Todo::Move = self.lines.todo() {
@@ -62,8 +63,8 @@ impl Controller {
     /// Adds the moves that are next, as far as they have room, and starts queued blocks where no other has room, what is
     /// next waits for the motion, or they are of a jog.
     pub(crate) fn fill(&mut self)
-        requires { (h : Journal) × Keeps self.old h }
-        ensures filled { (h : Journal) → Keeps self.old h → (next : Journal) × Keeps self.new next × HasFilled h next }
+        requires { (first : Opening) × (h : Journal) × Keeps first self.old h }
+        ensures filled { (first : Opening) (h : Journal) → Keeps first self.old h → (next : Journal) × Keeps first self.new next × HasFilled first h next }
         ensures same { self.new ≡ record self.old { machine = self.new.machine; lines = self.new.lines } }
     {
         self.add_moves();
@@ -82,10 +83,10 @@ impl Controller {
 
     /// Looks how many ticks are done where the flight has no room for a piece more, and before a cut is published.
     fn look_before<P: BoardPort>(&mut self, port: &mut P, piece: Piece)
-        requires stands { (rest : P.Rest) × (h : Journal) × P.stands port.old rest (port_log h) × Keeps self.old h }
+        requires stands { (rest : P.Rest) × (first : Opening) × (h : Journal) × P.stands port.old rest (port_log h) × Keeps first self.old h }
         requires hand { self.old.machine.hand ≡ Some piece }
-        ensures goes_on { (rest : P.Rest) (h : Journal) → P.stands port.old rest (port_log h) → Keeps self.old h
-            → (next : Journal) × P.stands port.new rest (port_log next) × Keeps self.new next × MayHaveLooked h next × IsTimely piece next }
+        ensures goes_on { (rest : P.Rest) (first : Opening) (h : Journal) → P.stands port.old rest (port_log h) → Keeps first self.old h
+            → (next : Journal) × P.stands port.new rest (port_log next) × Keeps first self.new next × MayHaveLooked h next × IsTimely piece next }
         ensures room { length self.new.flight.kept < flight_room }
         ensures same { self.new ≡ record self.old { flight = self.new.flight } }
     {
@@ -97,10 +98,10 @@ impl Controller {
 
     /// Tries to publish the piece in hand. Answers whether it is published.
     pub(crate) fn publish<P: BoardPort>(&mut self, port: &mut P) -> bool
-        requires stands { (rest : P.Rest) × (h : Journal) × P.stands port.old rest (port_log h) × Keeps self.old h }
+        requires stands { (rest : P.Rest) × (first : Opening) × (h : Journal) × P.stands port.old rest (port_log h) × Keeps first self.old h }
         requires some { self.old.machine.hand ≢ None }
-        ensures goes_on { (rest : P.Rest) (h : Journal) → P.stands port.old rest (port_log h) → Keeps self.old h
-            → (next : Journal) × P.stands port.new rest (port_log next) × Keeps self.new next × Tried result h next }
+        ensures goes_on { (rest : P.Rest) (first : Opening) (h : Journal) → P.stands port.old rest (port_log h) → Keeps first self.old h
+            → (next : Journal) × P.stands port.new rest (port_log next) × Keeps first self.new next × Tried result h next }
         ensures same { self.new ≡ record self.old { machine = self.new.machine; flight = self.new.flight } }
     {
         let Some(piece) = self.machine.hand else {
@@ -118,9 +119,9 @@ impl Controller {
     /// Tries to publish the piece in hand, or else the segment that is due, which comes into the hand before. Answers whether
     /// it is published.
     pub(crate) fn publish_next<P: BoardPort>(&mut self, port: &mut P) -> bool
-        requires stands { (rest : P.Rest) × (h : Journal) × P.stands port.old rest (port_log h) × Keeps self.old h × HasPiece h }
-        ensures goes_on { (rest : P.Rest) (h : Journal) → P.stands port.old rest (port_log h) → Keeps self.old h → HasPiece h
-            → (next : Journal) × P.stands port.new rest (port_log next) × Keeps self.new next × HasTried result h next }
+        requires stands { (rest : P.Rest) × (first : Opening) × (h : Journal) × P.stands port.old rest (port_log h) × Keeps first self.old h × HasPiece first h }
+        ensures goes_on { (rest : P.Rest) (first : Opening) (h : Journal) → P.stands port.old rest (port_log h) → Keeps first self.old h → HasPiece first h
+            → (next : Journal) × P.stands port.new rest (port_log next) × Keeps first self.new next × HasTried first result h next }
         ensures same { self.new ≡ record self.old { machine = self.new.machine; flight = self.new.flight } }
     {
         if self.machine.hand.is_some() {
@@ -132,11 +133,11 @@ impl Controller {
 
     /// Tries to publish what is in hand or due, and answers the turn: where there is no room for it, that is waited for.
     pub(crate) fn run<P: BoardPort>(&mut self, port: &mut P) -> Turn
-        requires stands { (rest : P.Rest) × (h : Journal) × P.stands port.old rest (port_log h) × Keeps self.old h × MayRun h × HasPiece h }
+        requires stands { (rest : P.Rest) × (first : Opening) × (h : Journal) × P.stands port.old rest (port_log h) × Keeps first self.old h × MayRun first h × HasPiece first h }
         requires beat { self.old.beat ≡ Beat.Motion }
         requires flags { self.old.flags ≡ Flags.None }
-        ensures goes_on { (rest : P.Rest) (h : Journal) → P.stands port.old rest (port_log h) → Keeps self.old h → MayRun h → HasPiece h
-            → WorksOn (P.stands port.new rest) result self.old.flags self.new h }
+        ensures goes_on { (rest : P.Rest) (first : Opening) (h : Journal) → P.stands port.old rest (port_log h) → Keeps first self.old h → MayRun first h → HasPiece first h
+            → WorksOn first (P.stands port.new rest) result self.old.flags self.new h }
         ensures going { result ≢ Done }
     {
         let published = self.publish_next(port);
@@ -159,12 +160,12 @@ impl Controller {
 
     /// Tells the reply that is next.
     pub(crate) fn tell<P: BoardPort>(&mut self, port: &mut P) -> Turn
-        requires stands { (rest : P.Rest) × (h : Journal) × P.stands port.old rest (port_log h) × Keeps self.old h × IsReady h }
+        requires stands { (rest : P.Rest) × (first : Opening) × (h : Journal) × P.stands port.old rest (port_log h) × Keeps first self.old h × IsReady first h }
         requires next { (reply : AnyReply) × IsNextOf (tell reply) self.old.lines.left }
         requires beat { self.old.beat ≡ Beat.Motion }
         requires flags { self.old.flags ≡ Flags.None }
-        ensures goes_on { (rest : P.Rest) (h : Journal) → P.stands port.old rest (port_log h) → Keeps self.old h → IsReady h
-            → WorksOn (P.stands port.new rest) result self.old.flags self.new h }
+        ensures goes_on { (rest : P.Rest) (first : Opening) (h : Journal) → P.stands port.old rest (port_log h) → Keeps first self.old h → IsReady first h
+            → WorksOn first (P.stands port.new rest) result self.old.flags self.new h }
         ensures going { result ≢ Done }
     {
         let reply = self.lines.reply();
@@ -182,9 +183,9 @@ impl Controller {
     /// Tells the first reply of a line that was begun in this turn, where that is what is next, and has room. Else it has a turn
     /// of its own.
     pub(crate) fn tell_first<P: BoardPort>(&mut self, port: &mut P)
-        requires stands { (rest : P.Rest) × (h : Journal) × P.stands port.old rest (port_log h) × Keeps self.old h × (owes_report h ≡ false) }
-        ensures goes_on { (rest : P.Rest) (h : Journal) → P.stands port.old rest (port_log h) → Keeps self.old h → owes_report h ≡ false
-            → (next : Journal) × P.stands port.new rest (port_log next) × Keeps self.new next × MayHaveTold h next }
+        requires stands { (rest : P.Rest) × (first : Opening) × (h : Journal) × P.stands port.old rest (port_log h) × Keeps first self.old h × (owes_report h ≡ false) }
+        ensures goes_on { (rest : P.Rest) (first : Opening) (h : Journal) → P.stands port.old rest (port_log h) → Keeps first self.old h → owes_report h ≡ false
+            → (next : Journal) × P.stands port.new rest (port_log next) × Keeps first self.new next × MayHaveTold h next }
         ensures same { self.new ≡ record self.old { lines = self.new.lines } }
     {
         if self.lines.todo() != Todo::Tell {
@@ -202,11 +203,11 @@ impl Controller {
 
     /// Adds the moves that are next, or runs what is planned where they have no room.
     pub(crate) fn go<P: BoardPort>(&mut self, port: &mut P) -> Turn
-        requires stands { (rest : P.Rest) × (h : Journal) × P.stands port.old rest (port_log h) × Keeps self.old h × IsReady h × GoesOn h × IsNextMove h }
+        requires stands { (rest : P.Rest) × (first : Opening) × (h : Journal) × P.stands port.old rest (port_log h) × Keeps first self.old h × IsReady first h × GoesOn first h × IsNextMove first h }
         requires beat { self.old.beat ≡ Beat.Motion }
         requires flags { self.old.flags ≡ Flags.None }
-        ensures goes_on { (rest : P.Rest) (h : Journal) → P.stands port.old rest (port_log h) → Keeps self.old h → IsReady h → GoesOn h → IsNextMove h
-            → WorksOn (P.stands port.new rest) result self.old.flags self.new h }
+        ensures goes_on { (rest : P.Rest) (first : Opening) (h : Journal) → P.stands port.old rest (port_log h) → Keeps first self.old h → IsReady first h → GoesOn first h → IsNextMove first h
+            → WorksOn first (P.stands port.new rest) result self.old.flags self.new h }
         ensures going { result ≢ Done }
     {
         if self.machine.is_full() {
@@ -218,13 +219,13 @@ impl Controller {
 
     /// Gives the mark that is next to the machine, which stands, and tries to publish it.
     pub(crate) fn mark<P: BoardPort>(&mut self, port: &mut P, mark: Mark) -> Turn
-        requires stands { (rest : P.Rest) × (h : Journal) × P.stands port.old rest (port_log h) × Keeps self.old h × IsReady h }
+        requires stands { (rest : P.Rest) × (first : Opening) × (h : Journal) × P.stands port.old rest (port_log h) × Keeps first self.old h × IsReady first h }
         requires next { IsNextOf (ask (a_mark mark)) self.old.lines.left }
         requires mark { IsMark mark }
         requires beat { self.old.beat ≡ Beat.Motion }
         requires flags { self.old.flags ≡ Flags.None }
-        ensures goes_on { (rest : P.Rest) (h : Journal) → P.stands port.old rest (port_log h) → Keeps self.old h → IsReady h
-            → WorksOn (P.stands port.new rest) result self.old.flags self.new h }
+        ensures goes_on { (rest : P.Rest) (first : Opening) (h : Journal) → P.stands port.old rest (port_log h) → Keeps first self.old h → IsReady first h
+            → WorksOn first (P.stands port.new rest) result self.old.flags self.new h }
         ensures going { result ≢ Done }
     {
         if self.machine.hand.is_some() {
@@ -237,11 +238,11 @@ impl Controller {
 
     /// Makes the end, and tries to publish it.
     pub(crate) fn finish<P: BoardPort>(&mut self, port: &mut P) -> Turn
-        requires stands { (rest : P.Rest) × (h : Journal) × P.stands port.old rest (port_log h) × Keeps self.old h × MayRun h × MayFinish h × IsNextTask finish h }
+        requires stands { (rest : P.Rest) × (first : Opening) × (h : Journal) × P.stands port.old rest (port_log h) × Keeps first self.old h × MayRun first h × MayFinish first h × IsNextTask first finish h }
         requires beat { self.old.beat ≡ Beat.Motion }
         requires flags { self.old.flags ≡ Flags.None }
-        ensures goes_on { (rest : P.Rest) (h : Journal) → P.stands port.old rest (port_log h) → Keeps self.old h → MayRun h → MayFinish h → IsNextTask finish h
-            → WorksOn (P.stands port.new rest) result self.old.flags self.new h }
+        ensures goes_on { (rest : P.Rest) (first : Opening) (h : Journal) → P.stands port.old rest (port_log h) → Keeps first self.old h → MayRun first h → MayFinish first h → IsNextTask first finish h
+            → WorksOn first (P.stands port.new rest) result self.old.flags self.new h }
         ensures going { result ≢ Done }
     {
         self.machine.put_end();

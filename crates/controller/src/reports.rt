@@ -7,6 +7,7 @@ ghost use Rattle.flight.specs.Flights.{Flies};
 ghost use Rattle.run_rules.specs.Reports.{has_room, shows_room};
 ghost use Rattle.board_rules.specs.Ports.{asks_report, asks_reset};
 ghost use Rattle.board_rules.specs.Steps.{Journal, port_log, published_of, known_of};
+ghost use Rattle.board_rules.specs.Openings.{Opening};
 ghost use Rattle.board_rules.specs.Turns.{this_turn, moving};
 ghost use Rattle.board_rules.specs.Conduct.{feed_of, shown_as};
 ghost use Rattle.controller.specs.declared.controller.Flags.{Flags as AnyFlags};
@@ -69,9 +70,9 @@ impl Controller {
     /// Looks how many ticks are done. Where each is, what comes of a machine that has stopped comes, and where nothing is
     /// left to run the cycle is over, or the jogs are.
     fn observe<P: BoardPort>(&mut self, port: &mut P)
-        requires stands { (rest : P.Rest) × (h : Journal) × P.stands port.old rest (port_log h) × Keeps self.old h }
-        ensures goes_on { (rest : P.Rest) (h : Journal) → P.stands port.old rest (port_log h) → Keeps self.old h
-            → (next : Journal) × P.stands port.new rest (port_log next) × Keeps self.new next × HasObserved h next × Flies self.new.flight (published_of next) (known_of next) }
+        requires stands { (rest : P.Rest) × (first : Opening) × (h : Journal) × P.stands port.old rest (port_log h) × Keeps first self.old h }
+        ensures goes_on { (rest : P.Rest) (first : Opening) (h : Journal) → P.stands port.old rest (port_log h) → Keeps first self.old h
+            → (next : Journal) × P.stands port.new rest (port_log next) × Keeps first self.new next × HasObserved first h next × Flies first.place self.new.flight (published_of next) (known_of next) }
         ensures same { self.new ≡ record self.old { machine = self.new.machine; flight = self.new.flight; lines = self.new.lines; cut = self.new.cut } }
     {
         let done = port.done();
@@ -85,9 +86,9 @@ impl Controller {
 
     /// The free blocks of the plan and the free bytes of the link, where the settings ask for them.
     fn room<P: BoardPort>(&self, port: &mut P) -> Option<(u8, u8)>
-        requires stands { (rest : P.Rest) × (h : Journal) × P.stands port.old rest (port_log h) × Keeps self.now h }
-        ensures goes_on { (rest : P.Rest) (h : Journal) → P.stands port.old rest (port_log h) → Keeps self.now h
-            → (next : Journal) × P.stands port.new rest (port_log next) × Keeps self.now next × HasAskedRoom result h next }
+        requires stands { (rest : P.Rest) × (first : Opening) × (h : Journal) × P.stands port.old rest (port_log h) × Keeps first self.now h }
+        ensures goes_on { (rest : P.Rest) (first : Opening) (h : Journal) → P.stands port.old rest (port_log h) → Keeps first self.now h
+            → (next : Journal) × P.stands port.new rest (port_log next) × Keeps first self.now next × HasAskedRoom result h next }
         ensures shown { has_room result ≡ shows_room self.now.lines.state.settings.report }
     {
         if !self.lines.shows_room() {
@@ -99,9 +100,9 @@ impl Controller {
 
     /// The report of what was found in this turn.
     fn report_now(&self, buffer: Option<(u8, u8)>) -> Report
-        requires stands { (h : Journal) × Keeps self.now h × Flies self.now.flight (published_of h) (known_of h) }
+        requires stands { (first : Opening) × (h : Journal) × Keeps first self.now h × Flies first.place self.now.flight (published_of h) (known_of h) }
         requires room { has_room buffer ≡ shows_room self.now.lines.state.settings.report }
-        ensures told { (h : Journal) → Keeps self.now h → Flies self.now.flight (published_of h) (known_of h) → HasAskedRoom buffer h h → IsTold self.now result h }
+        ensures told { (first : Opening) (h : Journal) → Keeps first self.now h → Flies first.place self.now.flight (published_of h) (known_of h) → HasAskedRoom buffer h h → IsTold first self.now result h }
     {
         self.lines.report(&Seen {
             state: shown(self.machine.hold.motion),
@@ -114,7 +115,7 @@ impl Controller {
 
     /// Does what a word of requests asks of the motion that waited for a report, if one did.
     fn obey_waiting(&mut self, word: Option<Exec>)
-        ensures goes_on { (h : Journal) (told : Bool) → Keeps self.old h → IsReported told word h → Keeps self.new (obeying word h) }
+        ensures goes_on { (first : Opening) (h : Journal) (told : Bool) → Keeps first self.old h → IsReported first told word h → Keeps first self.new (obeying first word h) }
         ensures same { self.new ≡ record self.old { machine = self.new.machine } }
     {
         if let Some(word) = word {
@@ -124,9 +125,9 @@ impl Controller {
 
     /// Tries to tell the report that is owed, of what is found in this turn. Answers whether it is told.
     fn tell_report<P: BoardPort>(&mut self, port: &mut P, word: Option<Exec>) -> bool
-        requires stands { (rest : P.Rest) × (h : Journal) × P.stands port.old rest (port_log h) × Keeps self.old h × IsToReport word h }
-        ensures goes_on { (rest : P.Rest) (h : Journal) → P.stands port.old rest (port_log h) → Keeps self.old h → IsToReport word h
-            → (next : Journal) × P.stands port.new rest (port_log next) × Keeps self.new next × IsReported result word next × IsBehind h next }
+        requires stands { (rest : P.Rest) × (first : Opening) × (h : Journal) × P.stands port.old rest (port_log h) × Keeps first self.old h × IsToReport first word h }
+        ensures goes_on { (rest : P.Rest) (first : Opening) (h : Journal) → P.stands port.old rest (port_log h) → Keeps first self.old h → IsToReport first word h
+            → (next : Journal) × P.stands port.new rest (port_log next) × Keeps first self.new next × IsReported first result word next × IsBehind h next }
         ensures same { self.new ≡ record self.old { machine = self.new.machine; flight = self.new.flight; lines = self.new.lines; cut = self.new.cut; owes = self.new.owes } }
     {
         self.observe(port);
@@ -140,10 +141,10 @@ impl Controller {
     /// Goes on where there was no room for a report: what is in hand or due is tried to be published, and else the room
     /// is waited for. The report is still owed.
     fn go_on_owing<P: BoardPort>(&mut self, port: &mut P) -> Turn
-        requires stands { (rest : P.Rest) × (h : Journal) × P.stands port.old rest (port_log h) × Keeps self.old h × LacksRoom h }
+        requires stands { (rest : P.Rest) × (first : Opening) × (h : Journal) × P.stands port.old rest (port_log h) × Keeps first self.old h × LacksRoom first h }
         requires beat { self.old.beat ≡ Beat.Motion }
-        ensures goes_on { (rest : P.Rest) (h : Journal) (was : AnyFlags) → P.stands port.old rest (port_log h) → Keeps self.old h → LacksRoom h
-            → (next : Journal) × P.stands port.new rest (port_log next) × BoardWorked result was self.new h next × (result ≡ Did → list_any moving (this_turn next) ≡ true) }
+        ensures goes_on { (rest : P.Rest) (first : Opening) (h : Journal) (was : AnyFlags) → P.stands port.old rest (port_log h) → Keeps first self.old h → LacksRoom first h
+            → (next : Journal) × P.stands port.new rest (port_log next) × BoardWorked first result was self.new h next × (result ≡ Did → list_any moving (this_turn next) ≡ true) }
         ensures going { result ≢ Done }
     {
         self.flags = Flags::Both;
@@ -164,10 +165,10 @@ impl Controller {
     /// no room for the report, it is still owed.
     #[inline(never)]
     pub(crate) fn report<P: BoardPort>(&mut self, port: &mut P, word: Option<Exec>) -> Turn
-        requires stands { (rest : P.Rest) × (h : Journal) × P.stands port.old rest (port_log h) × Keeps self.old h × IsToReport word h }
+        requires stands { (rest : P.Rest) × (first : Opening) × (h : Journal) × P.stands port.old rest (port_log h) × Keeps first self.old h × IsToReport first word h }
         requires beat { self.old.beat ≡ Beat.Motion }
-        ensures goes_on { (rest : P.Rest) (h : Journal) (was : AnyFlags) → P.stands port.old rest (port_log h) → Keeps self.old h → IsToReport word h
-            → WorksOn (P.stands port.new rest) result was self.new h }
+        ensures goes_on { (rest : P.Rest) (first : Opening) (h : Journal) (was : AnyFlags) → P.stands port.old rest (port_log h) → Keeps first self.old h → IsToReport first word h
+            → WorksOn first (P.stands port.new rest) result was self.new h }
         ensures going { result ≢ Done }
     {
         let told = self.tell_report(port, word);

@@ -1,8 +1,9 @@
 //! What comes of a machine that has stopped, for a hold, a cancel or a soft limit.
 
-ghost use Rattle.std.specs.Prelude.{◌≡◌, ◌∷◌, length, true};
+ghost use Rattle.std.specs.Prelude.{◌+◌, ◌≡◌, ◌∷◌, length, true};
 ghost use Rattle.feed_hold.specs.declared.Motion.TheVariants.{Cancelling};
 ghost use Rattle.board_rules.specs.Steps.{Journal, left_of, motion_of, outcomes_of, without_asks};
+ghost use Rattle.board_rules.specs.Openings.{Opening};
 ghost use Rattle.board_rules.specs.Steps.Step.{cut};
 ghost use Rattle.controller.specs.Boards.{Keeps};
 ghost use Rattle.controller.specs.Turning.{ComesOf, IsFoundStopped, IsUncut};
@@ -14,8 +15,8 @@ use step_line::Mark;
 impl Controller {
     /// A move that is next is not asked for any more.
     fn drop_move(&mut self)
-        requires { (h : Journal) × Keeps self.old h × (motion_of h ≡ Cancelling) }
-        ensures left { (h : Journal) → Keeps self.old h → motion_of h ≡ Cancelling → self.new.lines.left ≡ without_asks (left_of h) }
+        requires { (first : Opening) × (h : Journal) × Keeps first self.old h × (motion_of first h ≡ Cancelling) }
+        ensures left { (first : Opening) (h : Journal) → Keeps first self.old h → motion_of first h ≡ Cancelling → self.new.lines.left ≡ without_asks (left_of first h) }
         ensures same { self.new ≡ record self.old { lines = record self.old.lines { left = self.new.lines.left } } }
     {
         if let Todo::Move = self.lines.todo() {
@@ -26,8 +27,8 @@ impl Controller {
     /// What is left of jogs that were cancelled is dropped, and the mark of that cut comes into the hand. The place where
     /// the machine has stopped becomes the position from which the next line is judged.
     fn cut_jogs(&mut self)
-        requires { (h : Journal) × Keeps self.old h × IsUncut h × IsFoundStopped self.old.flight h }
-        ensures made { (h : Journal) → Keeps self.old h → IsUncut h → IsFoundStopped self.old.flight h → Keeps self.new (cut (length (outcomes_of h)) ∷ h) }
+        requires { (first : Opening) × (h : Journal) × Keeps first self.old h × IsUncut first h × IsFoundStopped first self.old.flight h }
+        ensures made { (first : Opening) (h : Journal) → Keeps first self.old h → IsUncut first h → IsFoundStopped first self.old.flight h → Keeps first self.new (cut (first.lines + length (outcomes_of h)) ∷ h) }
         ensures same { self.new ≡ record self.old { machine = self.new.machine; lines = self.new.lines; cut = true } }
     {
         self.drop_move();
@@ -40,8 +41,8 @@ impl Controller {
     /// Does what comes of a machine that has stopped: it is in alarm, where a soft limit has stopped it; or it is held; or its
     /// jogs, which were cancelled, are cut; or they are cut already, and it stands.
     pub(crate) fn come_to_rest(&mut self)
-        requires { (h : Journal) × Keeps self.old h × IsFoundStopped self.old.flight h }
-        ensures comes { (h : Journal) → Keeps self.old h → IsFoundStopped self.old.flight h → (next : Journal) × Keeps self.new next × ComesOf h next }
+        requires { (first : Opening) × (h : Journal) × Keeps first self.old h × IsFoundStopped first self.old.flight h }
+        ensures comes { (first : Opening) (h : Journal) → Keeps first self.old h → IsFoundStopped first self.old.flight h → (next : Journal) × Keeps first self.new next × ComesOf first h next }
         ensures same { self.new ≡ record self.old { machine = self.new.machine; lines = self.new.lines; cut = self.new.cut } }
     {
         if self.machine.is_limited() {

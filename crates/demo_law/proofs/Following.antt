@@ -25,7 +25,7 @@ use Rattle.gcode_check.specs.Verdicts.{verdict}
 use Rattle.gcode_check.specs.declared.Accept.{Accept as Accepted}
 use Rattle.gcode_check.specs.declared.Verdict.TheVariants.{Accept}
 use Rattle.run_rules.specs.declared.State.{State}
-use Rattle.run_rules.specs.Work.{Outcome, is_alarm, asks}
+use Rattle.run_rules.specs.Work.{Outcome, is_limit, asks}
 use Rattle.run_rules.specs.Work.Task.{tell}
 use Rattle.run_rules.specs.Asks.{planned, work_of}
 use Rattle.status_report.specs.declared.Reply.TheVariants.{Ok as Done}
@@ -34,7 +34,7 @@ use Rattle.step_line.specs.Asking.Asked.{a_move, a_rest}
 use Rattle.step_line.specs.Counting.{events_of}
 use Rattle.run_rules.specs.Outcomes.{Before, Becomes, ByWords, ByVerdict, Follows, start, after, executed}
 use Rattle.run_rules.specs.Outcomes.Passed.{a_line}
-use Rattle.run_rules.specs.Told.{is_error, errors_in, alarms_in, asked_in}
+use Rattle.run_rules.specs.Told.{is_error, errors_in, limits_in, asked_in}
 use Rattle.demo_job.specs.Jobs.{job_lines, move_line}
 use Rattle.demo_law.specs.Accepted.{IsCode}
 use Rattle.demo_law.specs.Asked.{demo_move, demo_asks}
@@ -46,7 +46,7 @@ pub record AreAccepted (b : Before) (lines : List (List ℕ)) (asked : List Aske
   pub last : Before
   pub follows : Follows false b (map plain lines) (map a_line outcomes) last
   pub none : errors_in outcomes ≡ 0
-  pub within : alarms_in outcomes ≡ 0
+  pub within : limits_in outcomes ≡ 0
   pub asks : asked_in outcomes ≡ asked
   pub kinds : AllByRecursion IsCode outcomes
 
@@ -55,9 +55,9 @@ none_more a b os none =
     let more : errors_in (executed b a ∷ os) ≡ 0 + errors_in os = sum_by-cons (λ (o : Outcome). cond (is_error o.answer) 1 0) (executed b a) os in
     more ∙ omega (arith, none)
 
-within_more : (a : Accepted) (b : Before) (os : List Outcome) → alarms_in os ≡ 0 → alarms_in (executed b a ∷ os) ≡ 0
+within_more : (a : Accepted) (b : Before) (os : List Outcome) → limits_in os ≡ 0 → limits_in (executed b a ∷ os) ≡ 0
 within_more a b os none =
-    let more : alarms_in (executed b a ∷ os) ≡ 0 + alarms_in os = sum_by-cons (λ (o : Outcome). cond (is_alarm o.answer) 1 0) (executed b a) os in
+    let more : limits_in (executed b a ∷ os) ≡ 0 + limits_in os = sum_by-cons (λ (o : Outcome). cond (is_limit o.answer) 1 0) (executed b a) os in
     more ∙ omega (arith, none)
 
 one_more : (b : Before) (a : Accepted) (line : List ℕ) (lines : List (List ℕ)) (here more : List Asked) → b.alarmed ≡ false → Becomes false b (plain line) (executed b a)

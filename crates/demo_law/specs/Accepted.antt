@@ -9,7 +9,7 @@ use Rattle.run_rules.specs.Work.{Outcome}
 use Rattle.run_rules.specs.Work.Kind.{of_code}
 use Rattle.run_rules.specs.Outcomes.{Before, Follows, start}
 use Rattle.run_rules.specs.Outcomes.Passed.{a_line}
-use Rattle.run_rules.specs.Told.{asked_in, errors_in, alarms_in}
+use Rattle.run_rules.specs.Told.{asked_in, errors_in, limits_in}
 use Rattle.step_line.specs.Asking.{Asked}
 
 -- what is kept of a line does not begin with `$`
@@ -34,7 +34,7 @@ pub record IsAccepted (job : List ℕ) (lines : List (List ℕ)) (asked : List A
   pub last : Before
   pub follows : Follows false (start first) (map plain lines) (map a_line outcomes) last
   pub accepted : errors_in outcomes ≡ 0
-  pub within : alarms_in outcomes ≡ 0
+  pub within : limits_in outcomes ≡ 0
   pub asks : asked_in outcomes ≡ asked
   pub kinds : AllByRecursion IsCode outcomes
   pub anywhere : AllByRecursion IsNoSystemLine lines

@@ -21,7 +21,7 @@ use Rattle.step_line.specs.Counting.{events_of}
 use Rattle.step_line.specs.Places.{place_after, stepped, stepped_by}
 use Rattle.step_line.specs.Finishing.{tick_count, ticks_together}
 use Rattle.step_line.proofs.Sums.{at_start, by_sums}
-use Rattle.flight.specs.Places.{moved_by, origin, machine_at, end_of}
+use Rattle.flight.specs.Places.{moved_by, origin, machine_from, end_from, machine_at, end_of}
 use Rattle.flight.specs.Flights.{BeginsAt}
 use Rattle.flight.proofs.Counts.{segment_ticks}
 
@@ -49,8 +49,11 @@ fewer_events mv k (suc n) (suc j) more few = ap (λ (rs : List Record). kinds.Ev
 pub moved_both : (place : Steps3) (ps qs : List Piece) → moved_by place (flat_map ticks_of (ps ++ qs)) ≡ moved_by (moved_by place (flat_map ticks_of ps)) (flat_map ticks_of qs)
 moved_both place ps qs = ap (moved_by place) (flat_map-append ticks_of ps qs) ∙ moved_on place (flat_map ticks_of ps) (flat_map ticks_of qs)
 
+pub end_on_from : (place : Steps3) (ps : List Piece) (p : Piece) → end_from place (ps ++ p ∷ []) ≡ moved_by (end_from place ps) (ticks_of p)
+end_on_from place ps p = moved_both place ps (p ∷ []) ∙ ap (moved_by (end_from place ps)) (append-nil (ticks_of p))
+
 pub end_on : (ps : List Piece) (p : Piece) → end_of (ps ++ p ∷ []) ≡ moved_by (end_of ps) (ticks_of p)
-end_on ps p = moved_both origin ps (p ∷ []) ∙ ap (moved_by (end_of ps)) (append-nil (ticks_of p))
+end_on ps p = end_on_from origin ps p
 
 pub earlier : (ps qs : List Piece) (done : ℕ) → done ≤ ticks_together ps → machine_at (ps ++ qs) done ≡ machine_at ps done
 earlier ps qs done few = ap (λ (rs : List Record). moved_by origin (take done rs)) (flat_map-append ticks_of ps qs) ∙ ap (moved_by origin) (take-append-le done (flat_map ticks_of ps) (flat_map ticks_of qs) few)
@@ -59,23 +62,33 @@ pub at_end_of : (ps : List Piece) → machine_at ps (ticks_together ps) ≡ end_
 at_end_of ps = ap (λ (rs : List Record). moved_by origin (take (ticks_together ps) rs)) (sym (append-nil (flat_map ticks_of ps))) ∙ ap (moved_by origin) (take-append_seam (flat_map ticks_of ps) [])
 
 -- some ticks behind those of some pieces
+pub some_behind_from : (place : Steps3) (ps qs : List Piece) (j : ℕ) → machine_from place (ps ++ qs) (ticks_together ps + j) ≡ moved_by (end_from place ps) (take j (flat_map ticks_of qs))
+some_behind_from place ps qs j =
+    ap (λ (rs : List Record). moved_by place (take (ticks_together ps + j) rs)) (flat_map-append ticks_of ps qs)
+    ∙ ap (moved_by place) (take-append-add (flat_map ticks_of ps) (flat_map ticks_of qs) j)
+    ∙ moved_on place (flat_map ticks_of ps) (take j (flat_map ticks_of qs))
+
 pub some_behind : (ps qs : List Piece) (j : ℕ) → machine_at (ps ++ qs) (ticks_together ps + j) ≡ moved_by (end_of ps) (take j (flat_map ticks_of qs))
-some_behind ps qs j =
-    ap (λ (rs : List Record). moved_by origin (take (ticks_together ps + j) rs)) (flat_map-append ticks_of ps qs)
-    ∙ ap (moved_by origin) (take-append-add (flat_map ticks_of ps) (flat_map ticks_of qs) j)
-    ∙ moved_on origin (flat_map ticks_of ps) (take j (flat_map ticks_of qs))
+some_behind ps qs j = some_behind_from origin ps qs j
 
 pub some_of_segment : (place : Steps3) (s : Segment) (j : ℕ) (more : List Record) → place ≡ place_after s.mv s.first → j ≤ s.n → moved_by place (take j (ticks_of (pieces.Segment s) ++ more)) ≡ place_after s.mv (s.first + j)
 some_of_segment place s j more begins few = ap (moved_by place) (fewer_events s.mv s.first s.n j more few) ∙ goes_by place s.mv s.first j begins
 
+pub in_segment_from : (place : Steps3) (ps qs : List Piece) (s : Segment) (j : ℕ) → BeginsAt (end_from place ps) (pieces.Segment s) → j ≤ s.n
+    → machine_from place (ps ++ pieces.Segment s ∷ qs) (ticks_together ps + j) ≡ place_after s.mv (s.first + j)
+in_segment_from place ps qs s j begins few = some_behind_from place ps (pieces.Segment s ∷ qs) j ∙ some_of_segment (end_from place ps) s j (flat_map ticks_of qs) begins few
+
 pub in_segment : (ps qs : List Piece) (s : Segment) (j : ℕ) → BeginsAt (end_of ps) (pieces.Segment s) → j ≤ s.n → machine_at (ps ++ pieces.Segment s ∷ qs) (ticks_together ps + j) ≡ place_after s.mv (s.first + j)
-in_segment ps qs s j begins few = some_behind ps (pieces.Segment s ∷ qs) j ∙ some_of_segment (end_of ps) s j (flat_map ticks_of qs) begins few
+in_segment ps qs s j begins few = in_segment_from origin ps qs s j begins few
 
 pub begins : (place : Steps3) (s : Segment) → s.first ≡ 0 → s.mv.from ≡ place → BeginsAt place (pieces.Segment s)
 begins place s first is = sym is ∙ sym (at_start s.mv) ∙ ap (place_after s.mv) (sym first)
 
+pub ends_from : (place : Steps3) (ps : List Piece) (s : Segment) → BeginsAt (end_from place ps) (pieces.Segment s) → end_from place (ps ++ pieces.Segment s ∷ []) ≡ place_after s.mv (s.first + s.n)
+ends_from place ps s begins = end_on_from place ps (pieces.Segment s) ∙ goes_by (end_from place ps) s.mv s.first s.n begins
+
 pub ends : (ps : List Piece) (s : Segment) → BeginsAt (end_of ps) (pieces.Segment s) → end_of (ps ++ pieces.Segment s ∷ []) ≡ place_after s.mv (s.first + s.n)
-ends ps s begins = end_on ps (pieces.Segment s) ∙ goes_by (end_of ps) s.mv s.first s.n begins
+ends ps s begins = ends_from origin ps s begins
 
 same_after : (s t : Segment) → GoesOn s t → place_after s.mv (s.first + s.n) ≡ place_after t.mv t.first
 same_after s t on = ap (λ (mv : Move). place_after mv (s.first + s.n)) (sym on.mv) ∙ ap (place_after t.mv) (sym on.first)

@@ -8,7 +8,7 @@ use Rattle.step_line.specs.declared.Piece.TheVariants as pieces
 use Rattle.step_line.specs.Pieces.{ticks_of, IsTraceable}
 use Rattle.step_line.specs.Places.{place_after}
 use Rattle.step_line.specs.Finishing.{tick_count, ticks_together, most_unfinished}
-use Rattle.flight.specs.Places.{moved_by, end_of}
+use Rattle.flight.specs.Places.{moved_by, end_from}
 
 -- ---- pieces
 
@@ -70,14 +70,14 @@ pub record IsFlight (slots : List Piece) (count : ℕ) (from : Steps3) (before k
   pub low : before ≤ known
   pub within : EndsWithin (take count slots) (known - before)
 
--- A flight of all these pieces, with so many ticks known to be done: of the pieces that have ticks it keeps those after
--- the finished ones.
-pub record Flies (f : Flying) (published : List Piece) (known : ℕ) : Type 0 where
+-- A flight of all these pieces from a place on, with so many ticks known to be done: of the pieces that have ticks it
+-- keeps those after the finished ones.
+pub record Flies (start : Steps3) (f : Flying) (published : List Piece) (known : ℕ) : Type 0 where
   pub done : f.known ≡ known
   pub finished : List Piece
   pub order : filter has_ticks published ≡ finished ++ f.kept
   pub before : f.before ≡ ticks_together finished
-  pub from : f.from ≡ end_of finished
+  pub from : f.from ≡ end_from start finished
   pub joined : Join f.from f.kept
   pub low : f.before ≤ known
   pub within : EndsWithin f.kept (known - f.before)

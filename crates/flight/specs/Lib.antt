@@ -1,2 +1,3 @@
 pub mod Places
 pub mod Flights
+pub mod Halts

@@ -20,10 +20,17 @@ moved_by p (kinds.End ∷ rs) = moved_by p rs
 abbrev pub origin : Steps3
 origin = record { x = pos 0; y = pos 0; z = pos 0 }
 
--- where the machine is once the first so many ticks of some pieces are done
-abbrev pub machine_at : List Piece → ℕ → Steps3
-machine_at ps done = moved_by origin (take done (flat_map ticks_of ps))
+-- where a machine that was at a place is once the first so many ticks of some pieces are done
+abbrev pub machine_from : Steps3 → List Piece → ℕ → Steps3
+machine_from place ps done = moved_by place (take done (flat_map ticks_of ps))
 
--- where all ticks of some pieces lead
+-- where all ticks of some pieces lead from a place
+abbrev pub end_from : Steps3 → List Piece → Steps3
+end_from place ps = moved_by place (flat_map ticks_of ps)
+
+-- the same of a machine that begins where machines do
+abbrev pub machine_at : List Piece → ℕ → Steps3
+machine_at ps done = machine_from origin ps done
+
 abbrev pub end_of : List Piece → Steps3
-end_of ps = moved_by origin (flat_map ticks_of ps)
+end_of ps = end_from origin ps

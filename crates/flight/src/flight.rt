@@ -64,36 +64,45 @@ impl Model for Flight {
 impl Flight {
     ghost use Rattle.std.specs.Prelude.{◌≡◌, ◌==◌, ◌≤◌, ◌<◌, ◌+◌, ◌-◌, ◌^◌, ◌↔◌, ◌⊎◌, max, min, ℕ, true, false, List, [], ◌∷◌, ◌++◌, length, drop, IsNone, IfSome};
     ghost use Rattle.units.specs.Lengths.{IsPlace};
+    ghost use Rattle.units.specs.declared.Steps3.{Steps3 as AnyPlace};
     ghost use Rattle.step_line.specs.declared.Piece.{Piece as AnyPiece};
     ghost use Rattle.step_line.specs.Finishing.{tick_count, ticks_together, unfinished};
-    ghost use Rattle.flight.specs.Places.{machine_at, end_of};
+    ghost use Rattle.flight.specs.Places.{machine_from, end_from, origin};
     ghost use Rattle.flight.specs.Flights.{IsFit, IsKept, BeginsAt, EndsWithin, Flies, first_ticks, flight_room};
 
-    /// No piece was published; the machine is at the origin.
-    pub fn new() -> Flight
-        ensures { Flies result [] 0 }
+    /// No piece was published; the machine is at this place.
+    pub fn starting_at(place: Steps3) -> Flight
+        requires { IsPlace place }
+        ensures { Flies place result [] 0 }
     {
         Flight {
             slots: [Piece::End; ROOM],
             count: 0,
-            from: Steps3 { x: 0, y: 0, z: 0 },
+            from: place,
             before: 0,
             known: 0,
         }
+    }
+
+    /// No piece was published; the machine is at the origin.
+    pub fn new() -> Flight
+        ensures { Flies origin result [] 0 }
+    {
+        Flight::starting_at(Steps3 { x: 0, y: 0, z: 0 })
     }
 
     /// Whether there is no room for a piece: as many are kept as may be unfinished at once, and one more.
     pub fn is_full(&self) -> bool
         ensures full { result ≡ (length self.now.kept == flight_room) }
         ensures few { length self.now.kept ≤ flight_room }
-        ensures unfinished { (published : List AnyPiece) (known : ℕ) → Flies self.now published known → length self.now.kept ≡ unfinished published known }
+        ensures unfinished { (start : AnyPlace) (published : List AnyPiece) (known : ℕ) → Flies start self.now published known → length self.now.kept ≡ unfinished published known }
     {
         self.count == ROOM
     }
 
     /// Whether all ticks that were published are known to be done.
     pub fn is_done(&self) -> bool
-        ensures { (published : List AnyPiece) (known : ℕ) → Flies self.now published known → (result ≡ true) ↔ (known ≡ ticks_together published) }
+        ensures { (start : AnyPlace) (published : List AnyPiece) (known : ℕ) → Flies start self.now published known → (result ≡ true) ↔ (known ≡ ticks_together published) }
     {
         self.first().is_none()
     }
@@ -103,7 +112,7 @@ impl Flight {
     pub fn push(&mut self, piece: Piece)
         requires room { length self.old.kept < flight_room }
         requires fits { IsFit piece }
-        ensures { (published : List AnyPiece) (known : ℕ) → Flies self.old published known → BeginsAt (end_of published) piece → Flies self.new (published ++ piece ∷ []) known }
+        ensures { (start : AnyPlace) (published : List AnyPiece) (known : ℕ) → Flies start self.old published known → BeginsAt (end_from start published) piece → Flies start self.new (published ++ piece ∷ []) known }
     {
         if tick_count(&piece) > 0 {
             self.slots[self.count] = piece;
@@ -137,7 +146,7 @@ impl Flight {
     fn drop_first(&mut self)
         requires some { 0 < length self.old.kept }
         requires few { self.old.before + first_ticks self.old.kept < 2 ^ 64 }
-        ensures flies { (published : List AnyPiece) → Flies self.old published self.old.known → Flies self.new published self.new.known }
+        ensures flies { (start : AnyPlace) (published : List AnyPiece) → Flies start self.old published self.old.known → Flies start self.new published self.new.known }
         ensures rest { self.new.kept ≡ drop 1 self.old.kept }
         ensures before { self.new.before ≡ self.old.before + first_ticks self.old.kept }
         ensures known { self.new.known ≡ self.new.before }
@@ -157,7 +166,7 @@ impl Flight {
     /// So many ticks were found done, the last tick of the first piece not among them.
     fn learn_within(&mut self, done: u64)
         requires left { (self.old.kept ≡ []) ⊎ EndsWithin self.old.kept (done - self.old.before) }
-        ensures flies { (published : List AnyPiece) → Flies self.old published self.old.known → Flies self.new published (max self.old.known (min done (ticks_together published))) }
+        ensures flies { (start : AnyPlace) (published : List AnyPiece) → Flies start self.old published self.old.known → Flies start self.new published (max self.old.known (min done (ticks_together published))) }
         ensures kept { self.new.kept ≡ self.old.kept }
     {
         if self.count == 0 {
@@ -169,8 +178,8 @@ impl Flight {
     /// So many ticks were found done, by a load of the done ticks. No fewer than before are known to be done
     /// afterwards, and no more than were published; the pieces that are finished then are dropped.
     pub fn learn(&mut self, done: u64)
-        ensures flies { (published : List AnyPiece) (known : ℕ) → Flies self.old published known → Flies self.new published (max known (min done (ticks_together published))) }
-        ensures room { (published : List AnyPiece) (known : ℕ) → Flies self.old published known → unfinished published done < flight_room → length self.new.kept < flight_room }
+        ensures flies { (start : AnyPlace) (published : List AnyPiece) (known : ℕ) → Flies start self.old published known → Flies start self.new published (max known (min done (ticks_together published))) }
+        ensures room { (start : AnyPlace) (published : List AnyPiece) (known : ℕ) → Flies start self.old published known → unfinished published done < flight_room → length self.new.kept < flight_room }
     {
         while self.is_first_over(done) {
             self.drop_first();
@@ -187,7 +196,7 @@ impl Flight {
 
     /// Where the machine is: after the ticks that are known to be done.
     pub fn place(&self) -> Steps3
-        ensures place { (published : List AnyPiece) (known : ℕ) → Flies self.now published known → result ≡ machine_at published known }
+        ensures place { (start : AnyPlace) (published : List AnyPiece) (known : ℕ) → Flies start self.now published known → result ≡ machine_from start published known }
         ensures within { IsPlace result }
     {
         match self.first() {

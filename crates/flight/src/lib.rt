@@ -7,4 +7,4 @@ mod laws;
 mod tests;
 
 pub use flight::Flight;
-pub use laws::pieces_lead_the_machine;
+pub use laws::{halts_leave_the_machine, pieces_lead_the_machine};

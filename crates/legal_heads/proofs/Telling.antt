@@ -8,7 +8,7 @@ use Rattle.std.proofs.lemmas.List.Elements.{filter-append}
 use Rattle.std.proofs.lemmas.Grind.{flat_map-append}
 use Rattle.units.specs.declared.Move.{Move}
 use Rattle.step_line.specs.declared.Mark.{Mark as AnyMark}
-use Rattle.step_line.specs.declared.Mark.TheVariants.{Dwell, Spindle, Coolant, Cut}
+use Rattle.step_line.specs.declared.Mark.TheVariants.{Dwell, Spindle, Coolant, Cut, Reset}
 use Rattle.step_line.specs.declared.Record.{Record}
 use Rattle.step_line.specs.declared.Record.TheVariants as kinds
 use Rattle.step_line.specs.declared.planned_move.PlannedMove.{PlannedMove}
@@ -69,6 +69,7 @@ mark_done before (Dwell ms) may uncut = may.1
 mark_done before (Spindle code speed) may uncut = may.1
 mark_done before (Coolant on) may uncut = may.1
 mark_done before (Cut line) may uncut = absurd uncut
+mark_done before (Reset line) may uncut = absurd uncut
 
 no_cut_behind : (front back : List Record) → AllByRecursion IsNoCut (front ++ back) → AllByRecursion IsNoCut back
 no_cut_behind [] back all = all

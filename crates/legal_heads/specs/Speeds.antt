@@ -6,7 +6,7 @@ use Rattle.std.specs.Prelude.{◌≡◌, ℕ, ◌+◌, ◌≤◌, ◌⊎◌, nat
 use Rattle.std.specs.List.{flat_map, AllByRecursion}
 use Rattle.std.specs.declared.option.Option.{Option}
 use Rattle.step_line.specs.declared.Mark.{Mark as AnyMark}
-use Rattle.step_line.specs.declared.Mark.TheVariants.{Dwell, Spindle, Coolant, Cut}
+use Rattle.step_line.specs.declared.Mark.TheVariants.{Dwell, Spindle, Coolant, Cut, Reset}
 use Rattle.step_line.specs.declared.Record.{Record}
 use Rattle.step_line.specs.declared.Record.TheVariants as kinds
 use Rattle.step_line.specs.Counting.{events_of}
@@ -58,12 +58,14 @@ abbrev pub IsDone : Option ToldHead → Type 0
 IsDone None = Unit {0}
 IsDone (Some a) = EndsMove a
 
--- a stretch may end with a mark if the machine can stop and the latest move is done; a cut may break a move off
+-- A stretch may end with a mark if the machine can stop and the latest move is done. A cut may break a move off, and a
+-- reset ends a stretch at any speed.
 abbrev pub MayMark : Option ToldHead → AnyMark → Type 0
 MayMark before (Dwell ms) = MayStop before × IsDone before
 MayMark before (Spindle code speed) = MayStop before × IsDone before
 MayMark before (Coolant on) = MayStop before × IsDone before
 MayMark before (Cut line) = MayStop before
+MayMark before (Reset line) = Unit {0}
 
 -- what is told comes next after the latest head of a stretch, or at a stretch's beginning
 abbrev pub ComesNext : Option ToldHead → Told → Type 0

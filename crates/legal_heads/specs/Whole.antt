@@ -1,7 +1,7 @@
 -- The events among records, and those of moves.
 use Rattle.std.specs.Prelude.{Bool, true, false, List, map}
 use Rattle.std.specs.List.{filter, AllByRecursion}
-use Rattle.step_line.specs.declared.Mark.TheVariants.{Cut}
+use Rattle.step_line.specs.declared.Mark.TheVariants.{Cut, Reset}
 use Rattle.step_line.specs.declared.Record.{Record}
 use Rattle.step_line.specs.declared.Record.TheVariants.{Head, Event, Mark, End}
 use Rattle.step_line.specs.declared.planned_move.PlannedMove.{PlannedMove}
@@ -24,6 +24,7 @@ events_among records = filter is_event records
 -- no move is broken off among them
 abbrev pub IsNoCut : Record → Type 0
 IsNoCut (Mark (Cut line)) = ⊥
+IsNoCut (Mark (Reset line)) = ⊥
 IsNoCut r = Unit {0}
 
 abbrev pub HasNoCut : List Record → Type 0

@@ -207,6 +207,7 @@ fn may_mark(before: &Option<ToldHead>, mark: &Mark) -> bool
 {
     match mark {
         Mark::Cut(_) => may_break_off(before),
+        Mark::Reset(_) => true,
         Mark::Dwell(_) | Mark::Spindle(_, _) | Mark::Coolant(_) => may_end(before),
     }
 }

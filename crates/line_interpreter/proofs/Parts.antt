@@ -1,5 +1,5 @@
 -- Lists of tasks of which so many are done.
-use Rattle.std.proofs.Common.{◌≡◌, ℕ, zero, suc, ◌+◌, ◌<◌, ◌≤◌, ◌==◌, Bool, true, false, if◌then◌else◌, List, [], ◌∷◌, ◌++◌, length, drop, get_or, Some, sym, refl, ap, ◌∙◌, subst, arith}
+use Rattle.std.proofs.Common.{◌≡◌, ℕ, zero, suc, ◌+◌, ◌<◌, ◌≤◌, ◌==◌, Bool, true, false, if◌then◌else◌, List, [], ◌∷◌, ◌++◌, length, drop, get_or, Some, sym, refl, ap, ◌∙◌, subst, arith, append-nil}
 use Rattle.std.specs.List.{slice_get}
 use Rattle.std.proofs.lemmas.Bool.Decides.{nat_tests}
 use Rattle.std.proofs.lemmas.List.{drop_all}
@@ -23,6 +23,7 @@ use Rattle.run_rules.specs.declared.State.{State}
 use Rattle.run_rules.specs.Work.{Task, soft_limit, halting_work, telling, asking}
 use Rattle.run_rules.specs.Work.Task.{ask, tell, pause, normal, finish, halt}
 use Rattle.run_rules.specs.Asks.{item_work, planned, move_asked}
+use Rattle.run_rules.proofs.Items.{PassesTasks, holds_of_work}
 use Rattle.line_interpreter.specs.declared.tasks.Line.{Line}
 use Rattle.line_interpreter.specs.declared.tasks.Body.{Body}
 use Rattle.line_interpreter.specs.declared.tasks.Body.TheVariants.{Opening, Closing, Accepted, Refused, Settings as TheSettings, Modes, Offsets as TheOffsets, Limited, Items}
@@ -121,21 +122,10 @@ message_told (suc k) r other e = behind_alarm k r (λ first. other (omega (arith
 
 -- of the items none but a program's end tells something
 item_only : (line : ℕ) (s : Settings) (spindle : SpindleMode) (flood : Bool) (item : Item) → TellsOnly (replies.Message messages.ProgramEnd) (item_work line s spindle flood item)
-item_only line s spindle flood (items.Spindle mode speed) = tt
-item_only line s spindle flood (items.Coolant on) = tt
-item_only line s spindle flood (items.Dwell ms) = tt
-item_only line s spindle flood (items.Move mv rate) = by_moves (events_of mv == 0)
-  where
-    by_moves : (none : Bool) → TellsOnly (replies.Message messages.ProgramEnd) (asking (if none then [] else a_move (planned line s mv rate) ∷ []))
-    by_moves true = tt
-    by_moves false = tt
-item_only line s spindle flood items.Pause = tt
-item_only line s Off true items.ProgramEnd = (refl, tt)
-item_only line s Off false items.ProgramEnd = (refl, tt)
-item_only line s Cw true items.ProgramEnd = (refl, tt)
-item_only line s Cw false items.ProgramEnd = (refl, tt)
-item_only line s Ccw true items.ProgramEnd = (refl, tt)
-item_only line s Ccw false items.ProgramEnd = (refl, tt)
+item_only line s spindle flood item =
+    let work = item_work line s spindle flood item in
+    let each : PassesTasks (TellsOnly (replies.Message messages.ProgramEnd)) = record { asks = λ a ts is only. only; pauses = λ ts only. only; normals = λ ts only. only; ends = λ ts only. (refl, only) } in
+    subst (TellsOnly (replies.Message messages.ProgramEnd)) (append-nil (work ++ []) ∙ append-nil work) (holds_of_work (TellsOnly (replies.Message messages.ProgramEnd)) each line s spindle flood (item ∷ []) [] tt)
 
 pub item_told : (line : ℕ) (s : State) (spindle : SpindleMode) (flood : Bool) (all : List Item) (place k : ℕ) (r : Reply) → place < length all
     → IsNextOf (tell r) (drop k (part Items line s spindle flood (drop place all))) → replies.Message messages.ProgramEnd ≡ r

@@ -1,62 +1,159 @@
 -- What a host's log says through each call.
-use Rattle.std.proofs.Common.{◌≡◌, ℕ, ◌+◌, ◌^◌, ◌≤◌, ◌<◌, Bool, true, false, List, [], ◌∷◌, ◌++◌, length, reverse, Some, None, IfSome, sym, ap, ◌∙◌, arith}
+use Rattle.std.proofs.Common.{◌≡◌, ℕ, ◌+◌, ◌^◌, ◌≤◌, ◌<◌, ◌⊎◌, Bool, true, false, cond, List, [], ◌∷◌, ◌++◌, length, reverse, drop, Some, None, IfSome, refl, sym, ap, ◌∙◌, subst, inr, arith}
 use Rattle.std.specs.declared.option.Option.{Option}
 use Rattle.std.proofs.lemmas.List.{length-reverse}
 use Rattle.status_report.specs.declared.Reply.{Reply}
 use Rattle.realtime_flags.specs.declared.words.Raise.{Raise}
-use Rattle.status_report.specs.Answering.{lfs_in, answers_in}
+use Rattle.std.proofs.lemmas.List.Sums.{sum_by-cons}
+use Rattle.shared_rings.proofs.Placed.{by_bool}
+use Rattle.status_report.specs.Answering.{lfs_in, is_banner}
+use Rattle.serial_ring.specs.Marks.{Mark, Follows, last_of}
+use Rattle.serial_ring.specs.Lists.{answers_behind_mark, with_greeting, AnswersStored}
 use Rattle.serial_ring.specs.Lists as link
 use Rattle.stream_host.specs.Links as host
-use Rattle.stream_host.specs.Ports.{TakesByte, SeemsFull, AnswersLines}
-use Rattle.stream_host.specs.Steps.{PortLog, stored_in, got_in}
-use Rattle.stream_host.specs.Steps.PortStep.{stored, dropped, got, no_reply, shut}
+use Rattle.stream_host.specs.Links.{banners_in, AreGreetings}
+use Rattle.stream_host.specs.Ports.{TakesByte, TakesMark, AreGreeted, SeemsFull, AnswersLines}
+use Rattle.stream_host.specs.Steps.{PortLog, stored_in, got_in, latest_got, marks_in}
+use Rattle.stream_host.specs.Steps.PortStep.{stored, dropped, marked, got, no_reply, shut}
 use Rattle.link_ports.specs.Hosts.{HostDid, LooksForRoom}
-use Rattle.link_ports.proofs.Lists.{reverse_on, same_answers, same_lines, fewer_behind}
+use Rattle.link_ports.proofs.Lists.{reverse_on, fewer_behind, since_drops, same_lines_behind}
 
 -- what holds of a reply, where there is one, by two things that do
 pub both_some : {P Q R : Reply → Type 0} (o : Option Reply) → IfSome o P → IfSome o Q → ((r : Reply) → P r → Q r → R r) → IfSome o R
 both_some None p q both = tt
 both_some (Some r) p q both = both r p q
 
-module _ (bytes bytes' : List ℕ) (closed closed' : Bool) (replies replies' : List Reply) (raises raises' : List Raise) (h : PortLog) (d : HostDid bytes closed replies raises h) where
+pub three_some : {P Q S R : Reply → Type 0} (o : Option Reply) → IfSome o P → IfSome o Q → IfSome o S → ((r : Reply) → P r → Q r → S r → R r) → IfSome o R
+three_some None p q s all = tt
+three_some (Some r) p q s all = all r p q s
+
+more_marked : (bytes : ℕ) (marks : List ℕ) (greeted : List Mark) → AreGreetings marks greeted → AreGreetings (bytes ∷ marks) greeted
+more_marked bytes marks [] are = tt
+more_marked bytes marks (m ∷ []) are = are
+more_marked bytes marks (m ∷ before ∷ earlier) are = ((are.0.0, inr are.0.1), more_marked bytes marks (before ∷ earlier) are.1)
+
+banners_first : (r : Reply) (rs : List Reply) → banners_in (r ∷ rs) ≡ cond (is_banner r) 1 0 + banners_in rs
+banners_first r rs = sum_by-cons (λ (s : Reply). cond (is_banner s) 1 0) r rs
+
+module _ (bytes bytes' marks marks' : List ℕ) (closed closed' : Bool) (replies replies' : List Reply) (greeted greeted' : List Mark) (raises raises' : List Raise) (h : PortLog) (d : HostDid bytes marks closed replies greeted raises h) where
   count : length (stored_in h) ≡ length bytes
   count = ap length d.bytes_are ∙ length-reverse bytes
 
-  pub byte_stored : (b : ℕ) → bytes' ≡ b ∷ bytes → closed' ≡ closed → replies' ≡ replies → raises' ≡ raises → HostDid bytes' closed' replies' raises' (stored b ∷ h)
-  byte_stored b e c g r = record {
+  -- the same marks of the same Banners
+  same_greeted : (h' : PortLog) → latest_got h' ≡ latest_got h → marks_in h' ≡ marks_in h → greeted' ≡ greeted → AreGreeted h' greeted'
+  same_greeted h' l m e = record {
+    each = ap length e ∙ (d.greeted_are.each ∙ ap banners_in (sym l));
+    stored = subst (λ (z : List ℕ × List Mark). AreGreetings z.0 z.1) (λ i. (sym m i, sym e i)) d.greeted_are.stored;
+  }
+
+  pub byte_stored : (b : ℕ) → bytes' ≡ b ∷ bytes → marks' ≡ marks → closed' ≡ closed → (replies' ≡ replies) × (greeted' ≡ greeted) → raises' ≡ raises → HostDid bytes' marks' closed' replies' greeted' raises' (stored b ∷ h)
+  byte_stored b e m c g r = record {
     bytes_are = ap (λ l. l ++ b ∷ []) d.bytes_are ∙ (sym (reverse_on b bytes) ∙ sym (ap reverse e));
+    marks_are = d.marks_are ∙ sym m;
     shut_is = d.shut_is ∙ sym c;
-    replies_are = d.replies_are ∙ sym (ap reverse g);
+    replies_are = d.replies_are ∙ sym (ap reverse g.0);
+    latest_are = d.latest_are ∙ sym g.0;
+    greeted_are = same_greeted (stored b ∷ h) refl refl g.1;
     raises_are = d.raises_are ∙ sym r;
   }
 
-  pub byte_dropped : (b : ℕ) → bytes' ≡ bytes → closed' ≡ closed → replies' ≡ replies → raises' ≡ raises → HostDid bytes' closed' replies' raises' (dropped b ∷ h)
-  byte_dropped b e c g r = record { bytes_are = d.bytes_are ∙ sym (ap reverse e); shut_is = d.shut_is ∙ sym c; replies_are = d.replies_are ∙ sym (ap reverse g); raises_are = d.raises_are ∙ sym r }
-
-  pub reply_got : (x : Reply) → bytes' ≡ bytes → closed' ≡ closed → replies' ≡ x ∷ replies → raises' ≡ raises → HostDid bytes' closed' replies' raises' (got x ∷ h)
-  reply_got x e c g r = record {
+  pub byte_dropped : (b : ℕ) → bytes' ≡ bytes → marks' ≡ marks → closed' ≡ closed → (replies' ≡ replies) × (greeted' ≡ greeted) → raises' ≡ raises → HostDid bytes' marks' closed' replies' greeted' raises' (dropped b ∷ h)
+  byte_dropped b e m c g r = record {
     bytes_are = d.bytes_are ∙ sym (ap reverse e);
+    marks_are = d.marks_are ∙ sym m;
     shut_is = d.shut_is ∙ sym c;
-    replies_are = ap (λ (l : List Reply). l ++ x ∷ []) d.replies_are ∙ (sym (reverse_on x replies) ∙ sym (ap reverse g));
+    replies_are = d.replies_are ∙ sym (ap reverse g.0);
+    latest_are = d.latest_are ∙ sym g.0;
+    greeted_are = same_greeted (dropped b ∷ h) refl refl g.1;
     raises_are = d.raises_are ∙ sym r;
   }
 
-  pub none_found : bytes' ≡ bytes → closed' ≡ closed → replies' ≡ replies → raises' ≡ raises → HostDid bytes' closed' replies' raises' (no_reply ∷ h)
-  none_found e c g r = record { bytes_are = d.bytes_are ∙ sym (ap reverse e); shut_is = d.shut_is ∙ sym c; replies_are = d.replies_are ∙ sym (ap reverse g); raises_are = d.raises_are ∙ sym r }
+  pub mark_stored : bytes' ≡ bytes → marks' ≡ length bytes ∷ marks → closed' ≡ closed → (replies' ≡ replies) × (greeted' ≡ greeted) → raises' ≡ raises → HostDid bytes' marks' closed' replies' greeted' raises' (marked ∷ h)
+  mark_stored e m c g r = record {
+    bytes_are = d.bytes_are ∙ sym (ap reverse e);
+    marks_are = (λ i. count i ∷ d.marks_are i) ∙ sym m;
+    shut_is = d.shut_is ∙ sym c;
+    replies_are = d.replies_are ∙ sym (ap reverse g.0);
+    latest_are = d.latest_are ∙ sym g.0;
+    greeted_are = record { each = ap length g.1 ∙ d.greeted_are.each; stored = subst (λ (z : List Mark). AreGreetings (length (stored_in h) ∷ marks_in h) z) (sym g.1) (more_marked (length (stored_in h)) (marks_in h) greeted d.greeted_are.stored) };
+    raises_are = d.raises_are ∙ sym r;
+  }
 
-  pub link_shut : bytes' ≡ bytes → closed' ≡ true → replies' ≡ replies → raises' ≡ raises → HostDid bytes' closed' replies' raises' (shut ∷ h)
-  link_shut e c g r = record { bytes_are = d.bytes_are ∙ sym (ap reverse e); shut_is = sym c; replies_are = d.replies_are ∙ sym (ap reverse g); raises_are = d.raises_are ∙ sym r }
+  pub none_found : bytes' ≡ bytes → marks' ≡ marks → closed' ≡ closed → (replies' ≡ replies) × (greeted' ≡ greeted) → raises' ≡ raises → HostDid bytes' marks' closed' replies' greeted' raises' (no_reply ∷ h)
+  none_found e m c g r = record {
+    bytes_are = d.bytes_are ∙ sym (ap reverse e);
+    marks_are = d.marks_are ∙ sym m;
+    shut_is = d.shut_is ∙ sym c;
+    replies_are = d.replies_are ∙ sym (ap reverse g.0);
+    latest_are = d.latest_are ∙ sym g.0;
+    greeted_are = same_greeted (no_reply ∷ h) refl refl g.1;
+    raises_are = d.raises_are ∙ sym r;
+  }
+
+  pub link_shut : bytes' ≡ bytes → marks' ≡ marks → closed' ≡ true → (replies' ≡ replies) × (greeted' ≡ greeted) → raises' ≡ raises → HostDid bytes' marks' closed' replies' greeted' raises' (shut ∷ h)
+  link_shut e m c g r = record {
+    bytes_are = d.bytes_are ∙ sym (ap reverse e);
+    marks_are = d.marks_are ∙ sym m;
+    shut_is = sym c;
+    replies_are = d.replies_are ∙ sym (ap reverse g.0);
+    latest_are = d.latest_are ∙ sym g.0;
+    greeted_are = same_greeted (shut ∷ h) refl refl g.1;
+    raises_are = d.raises_are ∙ sym r;
+  }
+
+  -- a reply more, with its mark, if it is a Banner
+  module _ (x : Reply) (k : Mark) (is : greeted' ≡ with_greeting x k greeted) (follows : is_banner x ≡ true → Follows marks greeted k) where
+    greeted_more : AreGreeted (got x ∷ h) greeted'
+    greeted_more = by_bool (is_banner x)
+        (λ b. let e : greeted' ≡ k ∷ greeted = is ∙ rw b refl in record {
+          each = ap length e ∙ (let n = d.greeted_are.each in let f = banners_first x (latest_got h) in let o = ap (λ (t : Bool). cond {A = ℕ} t 1 0) b in omega arith);
+          stored = subst (λ (z : List Mark). AreGreetings (marks_in h) z) (sym e) (subst (λ (m : List ℕ). Follows m greeted k) (sym d.marks_are) (follows b), d.greeted_are.stored);
+        })
+        (λ b. let e : greeted' ≡ greeted = is ∙ rw b refl in record {
+          each = ap length e ∙ (let n = d.greeted_are.each in let f = banners_first x (latest_got h) in let o = ap (λ (t : Bool). cond {A = ℕ} t 1 0) b in omega arith);
+          stored = subst (λ (z : List Mark). AreGreetings (marks_in h) z) (sym e) d.greeted_are.stored;
+        })
+
+    pub reply_got : bytes' ≡ bytes → marks' ≡ marks → closed' ≡ closed → replies' ≡ x ∷ replies → raises' ≡ raises → HostDid bytes' marks' closed' replies' greeted' raises' (got x ∷ h)
+    reply_got e m c g r = record {
+      bytes_are = d.bytes_are ∙ sym (ap reverse e);
+      marks_are = d.marks_are ∙ sym m;
+      shut_is = d.shut_is ∙ sym c;
+      replies_are = ap (λ (l : List Reply). l ++ x ∷ []) d.replies_are ∙ (sym (reverse_on x replies) ∙ sym (ap reverse g));
+      latest_are = ap (λ (l : List Reply). x ∷ l) d.latest_are ∙ sym g;
+      greeted_are = greeted_more;
+      raises_are = d.raises_are ∙ sym r;
+    }
+
+    pub answers_lines : replies' ≡ x ∷ replies → AnswersStored bytes replies' greeted' → AnswersLines (got x ∷ h)
+    answers_lines g few = record {
+      greeted = greeted';
+      are = greeted_more;
+      few =
+          let a : answers_behind_mark (x ∷ latest_got h) ≡ answers_behind_mark replies' = ap answers_behind_mark (ap (λ (l : List Reply). x ∷ l) d.latest_are ∙ sym g) in
+          let l = same_lines_behind (last_of greeted').1 bytes in
+          let e = ap (λ z. lfs_in (drop (last_of greeted').1 z)) d.bytes_are in omega arith;
+    }
 
   -- what a byte needs
   pub may_store : TakesByte h → (closed ≡ false) × (length bytes < 2 ^ 31)
   may_store t = (sym d.shut_is ∙ t.going, (let l = length-reverse bytes in let e = ap length d.bytes_are in let f = t.few in omega arith))
 
+  pub may_mark : TakesMark h → length marks + 1 < 2 ^ 32
+  may_mark t = let e = ap length d.marks_are in omega arith
+
   -- where the link had no room
-  pub seems_full : (room tail : ℕ) → 128 ≤ room → length bytes ≡ tail + room → length bytes ≤ tail + length (link.behind (answers_in replies) bytes) → SeemsFull h
-  seems_full room tail wide full unread =
-      let f = fewer_behind (answers_in replies) bytes in
-      let k : answers_in (got_in h) ≡ answers_in replies = ap answers_in d.replies_are ∙ same_answers replies in
-      let e : length (host.behind (answers_in (got_in h)) (stored_in h)) ≡ length (host.behind (answers_in replies) (reverse bytes)) = ap (λ n. length (host.behind n (stored_in h))) k ∙ ap (λ l. length (host.behind (answers_in replies) l)) d.bytes_are in omega arith
+  pub seems_full : (room tail : ℕ) → 128 ≤ room → length bytes ≡ tail + room → length bytes ≤ tail + length (link.maybe_unread bytes replies greeted) → SeemsFull h
+  seems_full room tail wide full unread = record {
+    greeted = greeted;
+    are = d.greeted_are;
+    full =
+        let n : ℕ = (last_of greeted).1 in
+        let k : ℕ = answers_behind_mark replies in
+        let f = fewer_behind k (link.since n bytes) in
+        let s = ap (λ z. length (host.behind k z)) (since_drops n bytes) in
+        let e : length (host.behind (answers_behind_mark (latest_got h)) (drop n (stored_in h))) ≡ length (host.behind k (drop n (reverse bytes))) = (λ i. length (host.behind (answers_behind_mark (d.latest_are i)) (drop n (d.bytes_are i)))) in omega arith;
+  }
 
   -- how often the link was looked at for room
   module _ (room k s loads shown : ℕ) (looks : LooksForRoom room h k s) (anew : length bytes ≡ s + room → loads ≡ k + 1) where
@@ -66,11 +163,14 @@ module _ (bytes bytes' : List ℕ) (closed closed' : Bool) (replies replies' : L
     pub looks_and_drops : (b : ℕ) → length bytes ≡ s + room → length bytes ≡ shown + room → LooksForRoom room (dropped b ∷ h) loads shown
     looks_and_drops b before none = (k, s, looks, record { before = count ∙ before; look = anew before; none = count ∙ none })
 
-  pub answers_lines : (x : Reply) → replies' ≡ x ∷ replies → answers_in replies' ≤ lfs_in bytes → AnswersLines (got x ∷ h)
-  answers_lines x g few =
-      let a : answers_in (got_in h ++ x ∷ []) ≡ answers_in replies' = ap (λ (l : List Reply). answers_in (l ++ x ∷ [])) d.replies_are ∙ (ap answers_in (sym (reverse_on x replies)) ∙ (same_answers (x ∷ replies) ∙ sym (ap answers_in g))) in
-      let l : lfs_in (stored_in h) ≡ lfs_in bytes = ap lfs_in d.bytes_are ∙ same_lines bytes in omega arith
-
 -- the ends of fresh tables
-pub fresh_host : (bytes : List ℕ) (closed : Bool) (replies : List Reply) (raises : List Raise) → bytes ≡ [] → closed ≡ false → replies ≡ [] → raises ≡ [] → HostDid bytes closed replies raises []
-fresh_host bytes closed replies raises b c r f = record { bytes_are = ap reverse (sym b); shut_is = sym c; replies_are = ap reverse (sym r); raises_are = sym f }
+pub fresh_host : (bytes marks : List ℕ) (closed : Bool) (replies : List Reply) (greeted : List Mark) (raises : List Raise) → bytes ≡ [] → marks ≡ [] → closed ≡ false → replies ≡ [] → greeted ≡ [] → raises ≡ [] → HostDid bytes marks closed replies greeted raises []
+fresh_host bytes marks closed replies greeted raises b m c r g f = record {
+  bytes_are = ap reverse (sym b);
+  marks_are = sym m;
+  shut_is = sym c;
+  replies_are = ap reverse (sym r);
+  latest_are = sym r;
+  greeted_are = record { each = ap length g; stored = subst (λ (z : List Mark). AreGreetings [] z) (sym g) tt };
+  raises_are = sym f;
+}

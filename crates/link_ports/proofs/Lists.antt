@@ -1,8 +1,9 @@
 -- Logs of which the newest stands first, beside lists in the order in which things were done.
-use Rattle.std.proofs.Common.{◌≡◌, ℕ, zero, suc, ◌+◌, ◌-◌, ◌≤◌, Bool, true, false, cond, nat_eq, nat_le, List, [], ◌∷◌, ◌++◌, length, reverse, refl, sym, ap, ◌∙◌, arith, length-append}
+use Rattle.std.proofs.Common.{◌≡◌, ℕ, zero, suc, ◌+◌, ◌-◌, ◌≤◌, ◌<◌, Bool, true, false, cond, nat_eq, nat_le, List, [], ◌∷◌, ◌++◌, length, reverse, drop, refl, sym, ap, ◌∙◌, arith, length-append}
 use Rattle.std.proofs.lemmas.List.Sorted.{sum_by-IsPermutation, IsPermutation-reverse}
 use Rattle.std.proofs.lemmas.Bool.Decides.{nat_tests}
 use Rattle.std.proofs.lemmas.Grind.{reverse_onto}
+use Rattle.std.proofs.lemmas.List.{length-reverse, drop_all}
 use Rattle.status_report.specs.declared.Reply.{Reply}
 use Rattle.status_report.specs.declared.Reply.TheVariants as replies
 use Rattle.status_report.specs.declared.reports.Report.{Report}
@@ -71,3 +72,28 @@ fewer_behind k (b ∷ bytes) = behind_by (nat_le k (lfs_in bytes)) k (lfs_in byt
     (λ le. let m = fewer_behind k bytes in
     let o = one_longer (reverse bytes) k b (let s = same_lines bytes in omega arith) in
     let e = ap (λ l. length (host.behind k l)) (reverse_on b bytes) in omega arith)
+
+-- ---- bytes behind a mark
+
+-- one byte more behind a mark that is reached
+drop_more : (n : ℕ) (bytes : List ℕ) (b : ℕ) → n ≤ length bytes → drop n (bytes ++ b ∷ []) ≡ drop n bytes ++ b ∷ []
+drop_more zero bytes b le = refl
+drop_more (suc n) [] b le = absurd (let z : suc n ≤ 0 = le in omega arith)
+drop_more (suc n) (y ∷ bytes) b le = drop_more n bytes b (omega arith)
+
+since_by : (is : Bool) (n : ℕ) (b : ℕ) (bytes : List ℕ) → nat_le n (length bytes) ≡ is → (n ≤ length bytes → reverse (link.since n bytes) ≡ drop n (reverse bytes)) → reverse (cond is (b ∷ link.since n bytes) []) ≡ drop n (reverse bytes ++ b ∷ [])
+since_by true n b bytes e same =
+    let le : n ≤ length bytes = grind (arith, nat_tests) in
+    let r = length-reverse bytes in
+    reverse_on b (link.since n bytes) ∙ ap (λ (z : List ℕ). z ++ b ∷ []) (same le) ∙ sym (drop_more n (reverse bytes) b (omega arith))
+since_by false n b bytes e same =
+    let lt : length bytes < n = grind (arith, nat_tests) in
+    let r = length-reverse bytes in let l = length-append (reverse bytes) (b ∷ []) in
+    sym (drop_all n (reverse bytes ++ b ∷ []) (omega arith))
+
+pub since_drops : (n : ℕ) (bytes : List ℕ) → reverse (link.since n bytes) ≡ drop n (reverse bytes)
+since_drops n [] = sym (drop_all n [] (omega arith))
+since_drops n (b ∷ bytes) = since_by (nat_le n (length bytes)) n b bytes refl (λ le. since_drops n bytes) ∙ ap (drop n) (sym (reverse_on b bytes))
+
+pub same_lines_behind : (n : ℕ) (bytes : List ℕ) → lfs_in (drop n (reverse bytes)) ≡ lfs_in (link.since n bytes)
+same_lines_behind n bytes = ap lfs_in (sym (since_drops n bytes)) ∙ same_lines (link.since n bytes)

@@ -8,7 +8,7 @@ use Rattle.realtime_flags.specs.Bits.{report_flag, is_flag, counted, raises_of}
 use Rattle.realtime_flags.specs.Bytes.{flag_of_bit, flag_of_row, flag_of_byte}
 use Rattle.stream_host.specs.Ports.{queries_in, TakesRaise}
 use Rattle.stream_host.specs.Steps.{PortLog}
-use Rattle.stream_host.specs.Steps.PortStep.{stored, dropped, raised, got, no_reply, shut}
+use Rattle.stream_host.specs.Steps.PortStep.{stored, dropped, marked, raised, got, no_reply, shut}
 use Rattle.link_ports.specs.Hosts.{raise_at, raises_in}
 
 by_bool : {Q : Type 0} (b : Bool) → (b ≡ true → Q) → (b ≡ false → Q) → Q
@@ -68,6 +68,7 @@ pub queries_raised : (h : PortLog) → raises_of report_flag (raises_in h) ≡ q
 queries_raised [] = refl
 queries_raised (stored b ∷ h) = queries_raised h
 queries_raised (dropped b ∷ h) = queries_raised h
+queries_raised (marked ∷ h) = queries_raised h
 queries_raised (raised b down ∷ h) = one_step b down (raises_in h) (queries_in h) (queries_raised h)
 queries_raised (got r ∷ h) = queries_raised h
 queries_raised (no_reply ∷ h) = queries_raised h

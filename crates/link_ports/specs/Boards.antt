@@ -1,17 +1,17 @@
 -- What a board's log says of its ends of a link, of the flags and of the ring of pieces.
 use Rattle.std.specs.Prelude.{◌≡◌, ℕ, ◌+◌, ◌-◌, ◌≤◌, Bool, true, false, List, [], ◌∷◌, length, reverse}
-use Rattle.status_report.specs.declared.Reply.{Reply}
 use Rattle.status_report.specs.Answering.{receive_room, reply_room}
-use Rattle.step_line.specs.declared.Piece.{Piece}
-use Rattle.step_line.specs.Logs.{NewestFirst}
 use Rattle.realtime_flags.specs.declared.words.Take.{Take}
 use Rattle.realtime_flags.specs.declared.words.Take.TheVariants.{Exec, Override}
 use Rattle.serial_ring.specs.declared.ends.BoardEnd.{BoardEnd}
-use Rattle.serial_ring.specs.Ends.{taken_by, found_closed as closed_for, bytes_shown, head_loads_of, answered_by, replies_taken, room_loads_of}
+use Rattle.serial_ring.specs.declared.view.LinkStep.{LinkStep}
+use Rattle.serial_ring.specs.Ends.{found_closed as closed_for, bytes_shown, head_loads_of, answered_by, replies_taken, room_loads_of}
+use Rattle.step_line.specs.Ordering.{InTurn}
+use Rattle.motion_ring.specs.declared.lists.Sent.{Sent}
 use Rattle.motion_ring.specs.declared.ends.SegOut.{SegOut}
 use Rattle.motion_ring.specs.Ends.{known_by, done_loads_of}
 use Rattle.link_ports.specs.Loads.{TookByte, FoundNoByte}
-use Rattle.board_rules.specs.Ports.{PortStep, PortLog, taken_in, has_closed_in, answered_in, published_in, known_in}
+use Rattle.board_rules.specs.Ports.{PortStep, PortLog, taken_in, link_steps, has_closed_in, published_in, known_in}
 use Rattle.board_rules.specs.Ports.PortStep.{took, found_empty, found_closed, found_free, answered, reported, no_reply_room, took_exec, took_ovr, published, no_piece_room, loaded}
 
 -- the words that were taken, the latest first
@@ -24,14 +24,19 @@ abbrev pub takes_in : PortLog → List Take
 takes_in [] = []
 takes_in (e ∷ l) = takes_at e (takes_in l)
 
--- what the ends took, answered and published, the latest first, is what the log says; where it was found closed, the link is
--- known to be; and the done count that was loaded last is no less than the log says
-pub record BoardDid (bytes : List ℕ) (over : Bool) (replies : List Reply) (takes : List Take) (pieces : NewestFirst Piece) (known : ℕ) (l : PortLog) : Type 0 where
-  pub bytes_are : taken_in l ≡ reverse bytes
+-- the pieces published, the latest first; no stop is stored
+abbrev pub sent_in : PortLog → Sent
+sent_in l = record { older = []; since = reverse (published_in l); stops = []; halts = []; waits = false }
+
+-- what the end of the link took, loaded of marks and answered, the latest first, is what the log says, and so is what was taken
+-- of the flags, and published, each piece in turn; where it was found closed, the link is known to be; and the done count that
+-- was loaded last is no less than the log says
+pub record BoardDid (steps : List LinkStep) (over : Bool) (takes : List Take) (sent : Sent) (known : ℕ) (l : PortLog) : Type 0 where
+  pub steps_are : link_steps l ≡ steps
   pub over_is : has_closed_in l ≡ true → over ≡ true
-  pub replies_are : answered_in l ≡ reverse replies
   pub takes_are : takes_in l ≡ takes
-  pub pieces_are : published_in l ≡ reverse pieces
+  pub pieces_are : sent ≡ sent_in l
+  pub turns : InTurn (reverse (published_in l))
   pub known_is : known_in l ≤ known
 
 -- How often the head of the bytes was loaded, and how many bytes it showed stored at last: a call that finds no byte, or that

@@ -8,8 +8,10 @@ use Rattle.realtime_flags.specs.Bytes.{flag_of_byte}
 use Rattle.serial_ring.specs.declared.ends.HostEnd.{HostEnd}
 use Rattle.serial_ring.specs.Ends.{stored_by, tail_shown, tail_loads_of, got_by, replies_shown, reply_loads_of}
 use Rattle.link_ports.specs.Loads.{StoredByte, FoundNoRoom}
-use Rattle.stream_host.specs.Steps.{PortLog, stored_in, got_in, is_shut_in}
-use Rattle.stream_host.specs.Steps.PortStep.{stored, dropped, raised, got, no_reply, shut}
+use Rattle.stream_host.specs.Steps.{PortLog, stored_in, got_in, latest_got, marks_in, is_shut_in}
+use Rattle.stream_host.specs.Ports.{AreGreeted}
+use Rattle.serial_ring.specs.Marks.{Mark}
+use Rattle.stream_host.specs.Steps.PortStep.{stored, dropped, marked, raised, got, no_reply, shut}
 
 -- a byte with no row raises no flag
 abbrev pub raise_at : Option Flag → Bool → List Raise → List Raise
@@ -21,16 +23,20 @@ abbrev pub raises_in : PortLog → List Raise
 raises_in [] = []
 raises_in (stored b ∷ h) = raises_in h
 raises_in (dropped b ∷ h) = raises_in h
+raises_in (marked ∷ h) = raises_in h
 raises_in (raised b down ∷ h) = raise_at (flag_of_byte b) down (raises_in h)
 raises_in (got r ∷ h) = raises_in h
 raises_in (no_reply ∷ h) = raises_in h
 raises_in (shut ∷ h) = raises_in h
 
--- what the ends stored, got and raised, the latest first, is what the log says
-pub record HostDid (bytes : List ℕ) (closed : Bool) (replies : List Reply) (raises : List Raise) (h : PortLog) : Type 0 where
+-- what the ends stored, marked, got and raised, the latest first, is what the log says, and these are marks of the Banners got
+pub record HostDid (bytes marks : List ℕ) (closed : Bool) (replies : List Reply) (greeted : List Mark) (raises : List Raise) (h : PortLog) : Type 0 where
   pub bytes_are : stored_in h ≡ reverse bytes
+  pub marks_are : marks_in h ≡ marks
   pub shut_is : is_shut_in h ≡ closed
   pub replies_are : got_in h ≡ reverse replies
+  pub latest_are : latest_got h ≡ replies
+  pub greeted_are : AreGreeted h greeted
   pub raises_are : raises_in h ≡ raises
 
 -- How often the tail of the bytes was loaded, and how many bytes it showed taken at last: a call that stores a byte, or drops it,
@@ -39,6 +45,7 @@ abbrev pub LooksForRoom : (room : ℕ) → PortLog → (loads shown : ℕ) → T
 LooksForRoom room [] loads shown = (loads ≡ 0) × (shown ≡ 0)
 LooksForRoom room (stored b ∷ h) loads shown = (k s : ℕ) × LooksForRoom room h k s × StoredByte room (length (stored_in h)) k s loads shown
 LooksForRoom room (dropped b ∷ h) loads shown = (k s : ℕ) × LooksForRoom room h k s × FoundNoRoom room (length (stored_in h)) k s loads shown
+LooksForRoom room (marked ∷ h) loads shown = LooksForRoom room h loads shown
 LooksForRoom room (raised b down ∷ h) loads shown = LooksForRoom room h loads shown
 LooksForRoom room (got r ∷ h) loads shown = LooksForRoom room h loads shown
 LooksForRoom room (no_reply ∷ h) loads shown = LooksForRoom room h loads shown
@@ -49,6 +56,7 @@ abbrev pub reply_looks_in : PortLog → ℕ
 reply_looks_in [] = 0
 reply_looks_in (stored b ∷ h) = reply_looks_in h
 reply_looks_in (dropped b ∷ h) = reply_looks_in h
+reply_looks_in (marked ∷ h) = reply_looks_in h
 reply_looks_in (raised b down ∷ h) = reply_looks_in h
 reply_looks_in (got r ∷ h) = reply_looks_in h + 1
 reply_looks_in (no_reply ∷ h) = reply_looks_in h + 1
@@ -59,6 +67,7 @@ abbrev pub HostSaw : PortLog → (replies obtained : ℕ) → Type 0
 HostSaw [] replies obtained = Unit {0}
 HostSaw (stored b ∷ h) replies obtained = Unit {0}
 HostSaw (dropped b ∷ h) replies obtained = Unit {0}
+HostSaw (marked ∷ h) replies obtained = Unit {0}
 HostSaw (raised b down ∷ h) replies obtained = Unit {0}
 HostSaw (got r ∷ h) replies obtained = Unit {0}
 HostSaw (no_reply ∷ h) replies obtained = replies ≡ obtained

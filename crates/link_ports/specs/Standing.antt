@@ -1,11 +1,11 @@
 -- What is said of a port in few words: how much it stored, owes, or published.
-use Rattle.std.specs.Prelude.{◌≡◌, ℕ, ◌+◌, ◌≤◌, false, length, reverse}
-use Rattle.status_report.specs.Answering.{lfs_in, answers_in}
+use Rattle.std.specs.Prelude.{◌≡◌, ℕ, ◌+◌, ◌≤◌, false, [], length, reverse}
+use Rattle.serial_ring.specs.Logs.{answers_since, lfs_since}
 use Rattle.step_line.specs.Finishing.{ticks_together}
 use Rattle.step_line.specs.Ordering.{has_ended}
-use Rattle.serial_ring.specs.Ends.{stored_by, closed_by, got_by, taken_by, found_closed, answered_by}
+use Rattle.serial_ring.specs.Ends.{stored_by, closed_by, marks_by, got_by, greeted_by, log_by, found_closed}
 use Rattle.realtime_flags.specs.Ends.{raises_by, takes_by}
-use Rattle.motion_ring.specs.Ends.{published_by, known_by}
+use Rattle.motion_ring.specs.Ends.{sent_by, known_by}
 use Rattle.stream_host.specs.Steps as host
 use Rattle.stream_host.specs.Ports.{IsOpen}
 use Rattle.board_rules.specs.Ports as board
@@ -16,7 +16,7 @@ use Rattle.link_ports.specs.Boards.{BoardDid, BoardLooked}
 
 -- what a host's port did
 abbrev pub HostLogs : {room : ℕ} → HostLink room → host.PortLog → Type 0
-HostLogs port h = HostDid (stored_by port.end) (closed_by port.end) (got_by port.end) (raises_by port.flags) h
+HostLogs port h = HostDid (stored_by port.end) (marks_by port.end) (closed_by port.end) (got_by port.end) (greeted_by port.end) (raises_by port.flags) h
 
 -- how often it looked, and what it saw
 abbrev pub HostSees : {room : ℕ} → HostLink room → host.PortLog → Type 0
@@ -24,26 +24,27 @@ HostSees port h = HostLooked port.end h
 
 -- what a board's port did
 abbrev pub BoardLogs : BoardLink → board.PortLog → Type 0
-BoardLogs port l = BoardDid (taken_by port.end) (found_closed port.end) (answered_by port.end) (takes_by port.flags) (published_by port.pieces) (known_by port.pieces) l
+BoardLogs port l = BoardDid (log_by port.end) (found_closed port.end) (takes_by port.flags) (sent_by port.pieces) (known_by port.pieces) l
 
 -- how often it looked, and what it saw
 abbrev pub BoardSees : BoardLink → board.PortLog → Type 0
 BoardSees port l = BoardLooked port.end port.pieces l
 
--- the link is open, and at most so many bytes were stored
+-- the link is open, at most so many bytes were stored, and no mark
 pub record IsOpenBehind {room : ℕ} (n : ℕ) (port : HostLink room) : Type 0 where
   pub log : host.PortLog
   pub did : HostLogs port log
   pub sees : HostSees port log
   pub going : IsOpen log
   pub few : length (host.stored_in log) ≤ n
+  pub unmarked : host.marks_in log ≡ []
 
--- so many lines or more wait for an answer, and at most so many replies were answered
+-- since the last Banner so many lines or more wait for an answer, and at most so many replies were answered
 pub record OwesAnswers (owed n : ℕ) (port : BoardLink) : Type 0 where
   pub log : board.PortLog
   pub did : BoardLogs port log
   pub sees : BoardSees port log
-  pub owes : answers_in (board.answered_in log) + owed ≤ lfs_in (board.taken_in log)
+  pub owes : answers_since (board.link_steps log) + owed ≤ lfs_since (board.link_steps log)
   pub few : length (board.answered_in log) ≤ n
 
 -- no end was published, and pieces of at most so many ticks

@@ -20,15 +20,15 @@ pub struct BoardLink {
 impl BoardPort for BoardLink {
     ghost use Rattle.std.specs.Prelude.{◌≡◌};
     ghost use Rattle.atomic_table.specs.Seated.{TableId};
-    ghost use Rattle.serial_ring.specs.Ends.{link_of_board, taken_by, found_closed, answered_by};
+    ghost use Rattle.serial_ring.specs.Ends.{link_of_board, log_by, found_closed};
     ghost use Rattle.realtime_flags.specs.Ends.{taken_in, takes_by};
-    ghost use Rattle.motion_ring.specs.Ends.{ring_of_out, published_by, known_by};
+    ghost use Rattle.motion_ring.specs.Ends.{ring_of_out, sent_by, known_by};
     ghost use Rattle.link_ports.specs.Boards.{BoardDid, BoardLooked};
 
     ghost Rest = { TableId × TableId × TableId };
 
     ghost stands = { λ port tables log. (link_of_board port.end ≡ tables.0) × (taken_in port.flags ≡ tables.1) × (ring_of_out port.pieces ≡ tables.2)
-        × BoardDid (taken_by port.end) (found_closed port.end) (answered_by port.end) (takes_by port.flags) (published_by port.pieces) (known_by port.pieces) log
+        × BoardDid (log_by port.end) (found_closed port.end) (takes_by port.flags) (sent_by port.pieces) (known_by port.pieces) log
         × BoardLooked port.end port.pieces log };
 
     #[inline]
@@ -39,6 +39,11 @@ impl BoardPort for BoardLink {
     #[inline]
     fn free(&mut self) -> u8 {
         self.end.free()
+    }
+
+    #[inline]
+    fn marked(&mut self) -> (u32, u32) {
+        self.end.marked()
     }
 
     #[inline]

@@ -1,7 +1,7 @@
 //! What fresh ports take, and a host and a board in two threads.
 
 ghost use Rattle.std.specs.Prelude.{◌≡◌, ◌+◌, ◌<◌, ◌≤◌, true, false, OnOk, OnErr, IfOk, ℕ};
-ghost use Rattle.status_report.specs.Answering.{is_answer};
+ghost use Rattle.status_report.specs.Answering.{is_answer, is_banner};
 ghost use Rattle.status_report.specs.Replies.{IsReply};
 ghost use Rattle.link_ports.specs.Standing.{IsOpenBehind, OwesAnswers, HasPublished};
 
@@ -57,6 +57,13 @@ fn hold(host: &mut HostLink<128>, stored: u32)
     host.raise(b'!');
 }
 
+/// Stores a mark behind so many bytes.
+fn mark(host: &mut HostLink<128>, stored: u32)
+    requires { IsOpenBehind stored host.old }
+{
+    host.mark();
+}
+
 /// Closes the link behind so many bytes.
 fn close(host: &mut HostLink<128>, stored: u32)
     requires { IsOpenBehind stored host.old }
@@ -98,7 +105,7 @@ fn answer_line(board: &mut BoardLink, answered: u32) -> Result<(), Reply>
 /// Tells something else behind so many replies.
 fn tell(board: &mut BoardLink, answered: u32, reply: Reply) -> Result<(), Reply>
     requires owes { OwesAnswers 0 answered board.old }
-    requires other { IsReply reply × (is_answer reply ≡ false) }
+    requires other { IsReply reply × (is_answer reply ≡ false) × (is_banner reply ≡ false) }
     ensures ok { OnOk result (OwesAnswers 0 (answered + 1) board.new) }
     ensures full { OnErr result (OwesAnswers 0 answered board.new) }
 {
@@ -129,13 +136,13 @@ fn fill(host: &mut HostLink<128>) -> u32
     stored
 }
 
-/// Greets until a greeting is handed back, and counts those that were not.
+/// Tells alarms until one is handed back, and counts those that were not.
 fn fill_replies(board: &mut BoardLink) -> u32
     requires { OwesAnswers 0 0 board.old }
 {
     let mut answered = 0_u32;
     for _ in 0..1000_u32 {
-        match tell(board, answered, Reply::Banner) {
+        match tell(board, answered, Reply::Alarm(1)) {
             Ok(()) => answered += 1,
             Err(_) => break,
         }
@@ -170,11 +177,22 @@ fn fresh_link_has_room_for_128_bytes(rt: HostRuntime) {
 }
 
 #[test]
+fn mark_tells_how_many_bytes_are_before_it(rt: HostRuntime) {
+    let (mut host, mut board, _into) = fresh_ports(rt.alloc()).expect(&rt, "memory");
+    assert_eq!(rt; board.marked(), (0, 0));
+    let stored = fill(&mut host);
+    mark(&mut host, stored);
+    assert_eq!(rt; board.marked(), (1, 128));
+    assert_eq!(rt; board.byte(), ByteIn::Byte(b'G'));
+    assert_eq!(rt; board.marked(), (1, 128));
+}
+
+#[test]
 fn fresh_link_has_room_for_16_replies(rt: HostRuntime) {
     let (mut host, mut board, _into) = fresh_ports(rt.alloc()).expect(&rt, "memory");
     assert_eq!(rt; host.reply(), None);
     assert_eq!(rt; fill_replies(&mut board), 16);
-    assert_eq!(rt; host.reply(), Some(Reply::Banner));
+    assert_eq!(rt; host.reply(), Some(Reply::Alarm(1)));
 }
 
 #[test]

@@ -9,15 +9,16 @@ use Rattle.status_report.specs.declared.Reply.TheVariants as replies
 use Rattle.status_report.specs.Answering.{is_answer, answers_in, is_report}
 use Rattle.status_report.proofs.Answered.{answers_first}
 use Rattle.planner_runs.specs.declared.Action.{Action}
-use Rattle.planner_runs.specs.declared.Action.TheVariants.{Add, Take, Override, Mark, Rest, Clear, Reset}
+use Rattle.planner_runs.specs.declared.Action.TheVariants.{Add, Mark, Rest}
 use Rattle.run_rules.specs.declared.State.{State}
 use Rattle.run_rules.specs.Work.{Task, tells}
-use Rattle.run_rules.specs.Work.Task.{ask, tell, pause, normal, finish, halt}
+use Rattle.run_rules.specs.Work.Task.{tell}
 use Rattle.run_rules.specs.Reports.{reports_behind}
+use Rattle.board_rules.specs.Openings.{first_opening}
 use Rattle.board_rules.specs.Ports.{asks_report}
-use Rattle.board_rules.specs.Ports.PortStep.{took, found_empty, found_closed, found_free, answered, reported, no_reply_room, took_exec, took_ovr, published, no_piece_room, loaded}
+use Rattle.board_rules.specs.Ports.PortStep.{took, answered, reported, no_reply_room, took_exec, published, no_piece_room}
 use Rattle.board_rules.specs.Steps.{Journal, port_log, answered_of, left_of, left_by}
-use Rattle.board_rules.specs.Steps.Step.{at_port, began, did, made_end, evened, paused, became, cut, halted, closing, turned}
+use Rattle.board_rules.specs.Steps.Step.{at_port, began, did, made_end, evened, paused, cut, halted, closing, turned}
 use Rattle.board_rules.specs.Turns.{owes_report, requests_taken, changes_taken, by_wait}
 use Rattle.board_rules.specs.Conduct.{Conducted, IsNextTask}
 use Rattle.board_rules.proofs.Dropping.{tells_kept}
@@ -48,113 +49,58 @@ no_wait Done taken e = e
 taken_looked : (h : Journal) → requests_taken h ≡ true → has_looked (port_log h) ≡ true
 taken_looked [] e = refl
 taken_looked (at_port (took b) ∷ h) e = both_and (not (nat_eq b 10)) (has_looked (port_log h)) (left_and (not (nat_eq b 10)) (requests_taken h) e) (taken_looked h (right_and (not (nat_eq b 10)) (requests_taken h) e))
-taken_looked (at_port found_empty ∷ h) e = taken_looked h e
-taken_looked (at_port found_closed ∷ h) e = taken_looked h e
-taken_looked (at_port (found_free n) ∷ h) e = taken_looked h e
-taken_looked (at_port (answered r) ∷ h) e = taken_looked h e
-taken_looked (at_port (reported r) ∷ h) e = taken_looked h e
-taken_looked (at_port no_reply_room ∷ h) e = taken_looked h e
 taken_looked (at_port (took_exec word) ∷ h) e = refl
-taken_looked (at_port (took_ovr word) ∷ h) e = taken_looked h e
-taken_looked (at_port (published p) ∷ h) e = taken_looked h e
-taken_looked (at_port (no_piece_room done) ∷ h) e = taken_looked h e
-taken_looked (at_port (loaded done) ∷ h) e = taken_looked h e
-taken_looked (began o ∷ h) e = taken_looked h e
-taken_looked (did a ps ∷ h) e = taken_looked h e
-taken_looked (made_end ∷ h) e = taken_looked h e
-taken_looked (evened ∷ h) e = taken_looked h e
-taken_looked (paused ∷ h) e = taken_looked h e
-taken_looked (became call m ∷ h) e = taken_looked h e
-taken_looked (cut k ∷ h) e = taken_looked h e
-taken_looked (halted ∷ h) e = taken_looked h e
-taken_looked (closing ∷ h) e = taken_looked h e
 taken_looked (turned t ∷ h) e = taken_looked h (no_wait t (requests_taken h) e)
+taken_looked (_ ∷ h) e = taken_looked h e
 
 abbrev AreAnswered : List Task → Type 0
 AreAnswered tasks = answers_in (tells tasks) ≡ 0
 
-abbrev Looks : Journal → Type 0
-Looks h = has_looked (port_log h) ≡ false → AreAnswered (left_of h)
+abbrev Looks : State → Journal → Type 0
+Looks first h = has_looked (port_log h) ≡ false → AreAnswered (left_of (first_opening first) h)
 
 fewer : (tasks : List Task) → AreAnswered tasks → AreAnswered (drop 1 tasks)
 fewer [] none = none
-fewer (ask a ∷ tasks) none = none
 fewer (tell r ∷ tasks) none = let e = answers_first r (tells tasks) in omega arith
-fewer (pause ∷ tasks) none = none
-fewer (normal ∷ tasks) none = none
-fewer (finish ∷ tasks) none = none
-fewer (halt ∷ tasks) none = none
+fewer (_ ∷ tasks) none = none
 
 fewer_by : (a : Action) (tasks : List Task) → AreAnswered tasks → AreAnswered (left_by a tasks)
 fewer_by (Add m) tasks none = fewer tasks none
 fewer_by (Mark m) tasks none = fewer tasks none
 fewer_by Rest tasks none = fewer tasks none
-fewer_by (Take mode) tasks none = none
-fewer_by (Override o) tasks none = none
-fewer_by Clear tasks none = none
-fewer_by Reset tasks none = none
+fewer_by _ tasks none = none
 
-looks_is : (first : State) (h : Journal) → Conducted first h → Looks h
+looks_is : (first : State) (h : Journal) → Conducted (first_opening first) h → Looks first h
 looks_is first [] c e = absurd cc
 looks_is first (at_port (took b) ∷ h) c e = ap (λ (tasks : List Task). answers_in (tells tasks)) c.0.polls.all_done
-looks_is first (at_port found_empty ∷ h) c e = looks_is first h c.1 e
-looks_is first (at_port found_closed ∷ h) c e = looks_is first h c.1 e
-looks_is first (at_port (found_free n) ∷ h) c e = looks_is first h c.1 e
-looks_is first (at_port (answered r) ∷ h) c e = fewer (left_of h) (looks_is first h c.1 e)
-looks_is first (at_port (reported r) ∷ h) c e = looks_is first h c.1 e
-looks_is first (at_port no_reply_room ∷ h) c e = looks_is first h c.1 e
+looks_is first (at_port (answered r) ∷ h) c e = fewer (left_of (first_opening first) h) (looks_is first h c.1 e)
 looks_is first (at_port (took_exec word) ∷ h) c e = absurd cc
-looks_is first (at_port (took_ovr word) ∷ h) c e = looks_is first h c.1 e
-looks_is first (at_port (published p) ∷ h) c e = looks_is first h c.1 e
-looks_is first (at_port (no_piece_room done) ∷ h) c e = looks_is first h c.1 e
-looks_is first (at_port (loaded done) ∷ h) c e = looks_is first h c.1 e
 looks_is first (began o ∷ h) c e = absurd (let t = taken_looked h (left_and (requests_taken h) (changes_taken h) c.0.flags) in let f = sym e ∙ t in cc)
-looks_is first (did a ps ∷ h) c e = fewer_by a (left_of h) (looks_is first h c.1 e)
-looks_is first (made_end ∷ h) c e = fewer (left_of h) (looks_is first h c.1 e)
-looks_is first (evened ∷ h) c e = fewer (left_of h) (looks_is first h c.1 e)
-looks_is first (paused ∷ h) c e = fewer (left_of h) (looks_is first h c.1 e)
-looks_is first (became call m ∷ h) c e = looks_is first h c.1 e
-looks_is first (cut k ∷ h) c e = ap answers_in (tells_kept (left_of h)) ∙ looks_is first h c.1 e
-looks_is first (halted ∷ h) c e = fewer (left_of h) (looks_is first h c.1 e)
+looks_is first (did a ps ∷ h) c e = fewer_by a (left_of (first_opening first) h) (looks_is first h c.1 e)
+looks_is first (made_end ∷ h) c e = fewer (left_of (first_opening first) h) (looks_is first h c.1 e)
+looks_is first (evened ∷ h) c e = fewer (left_of (first_opening first) h) (looks_is first h c.1 e)
+looks_is first (paused ∷ h) c e = fewer (left_of (first_opening first) h) (looks_is first h c.1 e)
+looks_is first (cut k ∷ h) c e = ap answers_in (tells_kept (left_of (first_opening first) h)) ∙ looks_is first h c.1 e
+looks_is first (halted ∷ h) c e = fewer (left_of (first_opening first) h) (looks_is first h c.1 e)
 looks_is first (closing ∷ h) c e = refl
-looks_is first (turned t ∷ h) c e = looks_is first h c.1 e
+looks_is first (_ ∷ h) c e = looks_is first h c.1 e
 
-on_answer : (h : Journal) (r : Reply) → IsNextTask (tell r) h → Looks h → is_answer r ≡ true → has_looked (port_log h) ≡ true
-on_answer h r next looks is = by_test (has_looked (port_log h)) looks
+on_answer : (first : State) (h : Journal) (r : Reply) → IsNextTask (first_opening first) (tell r) h → Looks first h → is_answer r ≡ true → has_looked (port_log h) ≡ true
+on_answer first h r next looks is = by_test (has_looked (port_log h)) looks
   where
-    by_test : (t : Bool) → (t ≡ false → AreAnswered (left_of h)) → t ≡ true
+    by_test : (t : Bool) → (t ≡ false → AreAnswered (left_of (first_opening first) h)) → t ≡ true
     by_test true none = refl
     by_test false none =
         let n = none refl in
         let e = ap (λ (tasks : List Task). answers_in (tells tasks)) next in
-        let f = answers_first r (tells (drop 1 (left_of h))) in
+        let f = answers_first r (tells (drop 1 (left_of (first_opening first) h))) in
         let one = ap (λ (t : Bool). cond {A = ℕ} t 1 0) is in
         absurd (omega arith)
 
-looks_first : (first : State) (h : Journal) → Conducted first h → LooksFirst (port_log h)
+looks_first : (first : State) (h : Journal) → Conducted (first_opening first) h → LooksFirst (port_log h)
 looks_first first [] c = tt
-looks_first first (at_port (took b) ∷ h) c = looks_first first h c.1
-looks_first first (at_port found_empty ∷ h) c = looks_first first h c.1
-looks_first first (at_port found_closed ∷ h) c = looks_first first h c.1
-looks_first first (at_port (found_free n) ∷ h) c = looks_first first h c.1
-looks_first first (at_port (answered r) ∷ h) c = (on_answer h r c.0.next (looks_is first h c.1), looks_first first h c.1)
-looks_first first (at_port (reported r) ∷ h) c = looks_first first h c.1
-looks_first first (at_port no_reply_room ∷ h) c = looks_first first h c.1
-looks_first first (at_port (took_exec word) ∷ h) c = looks_first first h c.1
-looks_first first (at_port (took_ovr word) ∷ h) c = looks_first first h c.1
-looks_first first (at_port (published p) ∷ h) c = looks_first first h c.1
-looks_first first (at_port (no_piece_room done) ∷ h) c = looks_first first h c.1
-looks_first first (at_port (loaded done) ∷ h) c = looks_first first h c.1
-looks_first first (began o ∷ h) c = looks_first first h c.1
-looks_first first (did a ps ∷ h) c = looks_first first h c.1
-looks_first first (made_end ∷ h) c = looks_first first h c.1
-looks_first first (evened ∷ h) c = looks_first first h c.1
-looks_first first (paused ∷ h) c = looks_first first h c.1
-looks_first first (became call m ∷ h) c = looks_first first h c.1
-looks_first first (cut n ∷ h) c = looks_first first h c.1
-looks_first first (halted ∷ h) c = looks_first first h c.1
-looks_first first (closing ∷ h) c = looks_first first h c.1
-looks_first first (turned t ∷ h) c = looks_first first h c.1
+looks_first first (at_port (answered r) ∷ h) c = (on_answer first h r c.0.next (looks_is first h c.1), looks_first first h c.1)
+looks_first first (_ ∷ h) c = looks_first first h c.1
 
 -- ---- behind k answers there are no more reports than words that ask for one were taken there
 
@@ -188,35 +134,17 @@ word_taken words reports true false true le = omega arith
 word_taken words reports true false false le = omega arith
 word_taken words reports false owes here le = omega arith
 
-tells_few : (k : ℕ) (first : State) (h : Journal) → Conducted first h → Tells k h
+tells_few : (k : ℕ) (first : State) (h : Journal) → Conducted (first_opening first) h → Tells k h
 tells_few k first [] c = omega arith
-tells_few k first (at_port (took b) ∷ h) c = tells_few k first h c.1
-tells_few k first (at_port found_empty ∷ h) c = tells_few k first h c.1
-tells_few k first (at_port found_closed ∷ h) c = tells_few k first h c.1
-tells_few k first (at_port (found_free n) ∷ h) c = tells_few k first h c.1
 tells_few k first (at_port (answered r) ∷ h) c =
     other_told k (words_behind k (port_log h)) (reports_in k (answered_of h)) _ (owes_report h) (nat_eq (answers_in (answered_of h)) k) c.0.unowed
     (no_report k (answered_of h) r c.0.plain) (tells_few k first h c.1) _
 tells_few k first (at_port (reported r) ∷ h) c =
     report_told (words_behind k (port_log h)) (reports_in k (answered_of h)) _ (owes_report h) (nat_eq (answers_in (answered_of h)) k) c.0.owed
     (reports_push k (answered_of h) (replies.Report r)) (tells_few k first h c.1) (nat_eq (answers_in (answered_of h ++ replies.Report r ∷ [])) k)
-tells_few k first (at_port no_reply_room ∷ h) c = tells_few k first h c.1
 tells_few k first (at_port (took_exec word) ∷ h) c =
     word_taken (words_behind k (port_log h)) (reports_in k (answered_of h)) (asks_report word) (owes_report h) (nat_eq (answers_in (answered_of h)) k) (tells_few k first h c.1)
-tells_few k first (at_port (took_ovr word) ∷ h) c = tells_few k first h c.1
-tells_few k first (at_port (published p) ∷ h) c = tells_few k first h c.1
-tells_few k first (at_port (no_piece_room done) ∷ h) c = tells_few k first h c.1
-tells_few k first (at_port (loaded done) ∷ h) c = tells_few k first h c.1
-tells_few k first (began o ∷ h) c = tells_few k first h c.1
-tells_few k first (did a ps ∷ h) c = tells_few k first h c.1
-tells_few k first (made_end ∷ h) c = tells_few k first h c.1
-tells_few k first (evened ∷ h) c = tells_few k first h c.1
-tells_few k first (paused ∷ h) c = tells_few k first h c.1
-tells_few k first (became call m ∷ h) c = tells_few k first h c.1
-tells_few k first (cut n ∷ h) c = tells_few k first h c.1
-tells_few k first (halted ∷ h) c = tells_few k first h c.1
-tells_few k first (closing ∷ h) c = tells_few k first h c.1
-tells_few k first (turned t ∷ h) c = tells_few k first h c.1
+tells_few k first (_ ∷ h) c = tells_few k first h c.1
 
 -- ---- with its end by a reset
 
@@ -225,7 +153,7 @@ record OfLog (first : State) (before : Journal) (since : Journal) (k : ℕ) : Ty
   pub looks : LooksFirst (port_log since ++ port_log before)
   pub few : reports_in k (all_answered (broke since before)) ≤ words_behind k (port_log since ++ port_log before)
 
-ends_so : (first : State) (before : Journal) (k : ℕ) (since : Journal) → Conducted first before → EndsRun since before → OfLog first before since k
+ends_so : (first : State) (before : Journal) (k : ℕ) (since : Journal) → Conducted (first_opening first) before → EndsRun since before → OfLog first before since k
 ends_so first before k [] c ends = record { looks = looks_first first before c; few = (let t = tells_few k first before c in omega arith) }
 ends_so first before k (at_port (answered r) ∷ since) c ends =
     let m = ends_so first before k since c ends.1 in
@@ -238,23 +166,7 @@ ends_so first before k (at_port no_reply_room ∷ since) c ends = let m = ends_s
 ends_so first before k (at_port (published p) ∷ since) c ends = let m = ends_so first before k since c ends.1 in record { looks = m.looks; few = m.few }
 ends_so first before k (at_port (no_piece_room done) ∷ since) c ends = let m = ends_so first before k since c ends.1 in record { looks = m.looks; few = m.few }
 ends_so first before k (turned t ∷ since) c ends = let m = ends_so first before k since c ends.1 in record { looks = m.looks; few = m.few }
-ends_so first before k (at_port (took b) ∷ since) c ends = absurd ends.0
-ends_so first before k (at_port found_empty ∷ since) c ends = absurd ends.0
-ends_so first before k (at_port found_closed ∷ since) c ends = absurd ends.0
-ends_so first before k (at_port (found_free n) ∷ since) c ends = absurd ends.0
-ends_so first before k (at_port (reported r) ∷ since) c ends = absurd ends.0
-ends_so first before k (at_port (took_exec word) ∷ since) c ends = absurd ends.0
-ends_so first before k (at_port (took_ovr word) ∷ since) c ends = absurd ends.0
-ends_so first before k (at_port (loaded done) ∷ since) c ends = absurd ends.0
-ends_so first before k (began o ∷ since) c ends = absurd ends.0
-ends_so first before k (did a ps ∷ since) c ends = absurd ends.0
-ends_so first before k (made_end ∷ since) c ends = absurd ends.0
-ends_so first before k (evened ∷ since) c ends = absurd ends.0
-ends_so first before k (paused ∷ since) c ends = absurd ends.0
-ends_so first before k (became call m ∷ since) c ends = absurd ends.0
-ends_so first before k (cut n ∷ since) c ends = absurd ends.0
-ends_so first before k (halted ∷ since) c ends = absurd ends.0
-ends_so first before k (closing ∷ since) c ends = absurd ends.0
+ends_so first before k (_ ∷ since) c ends = absurd ends.0
 
 pub boards_look_first : (first : State) (d : Doings) → IsConducted first d → LooksFirst (log_of d)
 boards_look_first first (goes h) c = looks_first first h c

@@ -1,6 +1,7 @@
 -- The first of a queue, and a queue without room.
-use Rattle.std.proofs.Common.{◌≡◌, ℕ, ◌<◌, ◌≤◌, true, false, List, [], ◌∷◌, ◌++◌, drop, refl, rules, Some, Ok, Err, lt_of_not-le}
+use Rattle.std.proofs.Common.{◌≡◌, ℕ, ◌<◌, ◌≤◌, true, false, List, [], ◌∷◌, ◌++◌, length, drop, refl, rules, arith, Some, None, IfSome, Ok, Err, lt_of_not-le}
 use native.Mathlib.Decide.{dec_le}
+use Rattle.std.specs.declared.option.Option.{Option}
 use Rattle.std.specs.declared.result.Result.{Result}
 use Rattle.std.specs.Result.{is_ok, IsOk, OnOk, IfErr}
 use Rattle.std.specs.List.{All, slice_get}
@@ -11,6 +12,16 @@ use Rattle.circular_buffer.specs.Buffer.{Buffer, buffer}
 pub first_is : {X : Type 0} (xs : List X) (x : X) → Some x ≡ slice_get xs 0 → xs ≡ x ∷ drop 1 xs
 first_is [] x e = absurd cc
 first_is (y ∷ ys) x e = let f : Some x ≡ Some y = e in cc
+
+-- a queue that has an item gives one
+pub some_first : {X : Type 0} (xs : List X) → 0 < length xs → None ≡ slice_get xs 0 → ⊥
+some_first [] some e = omega arith
+some_first (y ∷ ys) some e = let f : None ≡ Some y = e in cc
+
+-- what holds of an item that is given
+pub by_some : {X : Type 0} {Q : X → Type 0} (o : Option X) → ((x : X) → o ≡ Some x → Q x) → IfSome o Q
+by_some None q = tt
+by_some (Some x) q = q x refl
 
 at_least : (n cap : ℕ) → (n < cap → ⊥) → Dec (cap ≤ n) → cap ≤ n
 at_least n cap full (yes le) = le

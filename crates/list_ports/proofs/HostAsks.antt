@@ -12,8 +12,8 @@ use Rattle.run_rules.specs.Reports.{is_query}
 use Rattle.run_rules.proofs.Cutting.{lines_are, some_bytes}
 use Rattle.stream_host.specs.Jobs.{resume, served}
 use Rattle.stream_host.specs.Steps.{Journal, port_log, stored_of, answered_of, scanned_of, raw_of, cut_of, to_store, due_of, more_served, polls_of, empty_polls}
-use Rattle.stream_host.specs.Steps.PortStep.{stored, dropped, raised, got, no_reply, shut}
-use Rattle.stream_host.specs.Steps.Step.{at_port, read_some, read_end, read_failed, scanned, line_over, wrote, gave_up, turned}
+use Rattle.stream_host.specs.Steps.PortStep.{stored, dropped, marked, raised, got}
+use Rattle.stream_host.specs.Steps.Step.{at_port, scanned, line_over}
 use Rattle.stream_host.specs.Conduct.{Conducted, MayRaise, MayScanNext, waits_for_lines}
 use Rattle.stream_host.proofs.Keeping.{IsCut, cut_is, stored_is}
 use Rattle.stream_host.proofs.Raising.{served_on, none_at_lf, few_polls, is_enough, is_fewer}
@@ -30,21 +30,13 @@ pub asks_between : (h : Journal) → Conducted h → AsksBetween (port_log h)
 asks_between [] c = tt
 asks_between (at_port (stored b) ∷ h) c = asks_between h c.1
 asks_between (at_port (dropped b) ∷ h) c = absurd c.0
+asks_between (at_port marked ∷ h) c = absurd c.0
 asks_between (at_port (raised b down) ∷ h) c = (
   (λ q. let a = c.0.after (ap waits_for_lines q) in let l = lfs_cut h c.1 in let f = answers_are_few h c.1 in omega arith),
   asks_between h c.1,
 )
 asks_between (at_port (got r) ∷ h) c = asks_between h c.1
-asks_between (at_port no_reply ∷ h) c = asks_between h c.1
-asks_between (at_port shut ∷ h) c = asks_between h c.1
-asks_between (read_some bytes ∷ h) c = asks_between h c.1
-asks_between (read_end ∷ h) c = asks_between h c.1
-asks_between (read_failed ∷ h) c = asks_between h c.1
-asks_between (scanned b ∷ h) c = asks_between h c.1
-asks_between (line_over ∷ h) c = asks_between h c.1
-asks_between (wrote n ∷ h) c = asks_between h c.1
-asks_between (gave_up ∷ h) c = asks_between h c.1
-asks_between (turned t ∷ h) c = asks_between h c.1
+asks_between (_ ∷ h) c = asks_between h c.1
 
 -- ---- each stands in its line
 
@@ -151,20 +143,12 @@ scanned_in k b h false e may was = byte_in k (raised_behind k (port_log h)) b (d
 
 in_lines : (k : ℕ) (h : Journal) → Conducted h → InLines k h
 in_lines k [] c = let n = no_due (nat_eq k 0) [] refl in omega arith
-in_lines k (at_port (stored b) ∷ h) c = in_lines k h c.1
 in_lines k (at_port (dropped b) ∷ h) c = absurd c.0
+in_lines k (at_port marked ∷ h) c = absurd c.0
 in_lines k (at_port (raised b down) ∷ h) c = raised_in k b down h c.1 c.0 (in_lines k h c.1)
-in_lines k (at_port (got r) ∷ h) c = in_lines k h c.1
-in_lines k (at_port no_reply ∷ h) c = in_lines k h c.1
-in_lines k (at_port shut ∷ h) c = in_lines k h c.1
-in_lines k (read_some bytes ∷ h) c = in_lines k h c.1
-in_lines k (read_end ∷ h) c = in_lines k h c.1
-in_lines k (read_failed ∷ h) c = in_lines k h c.1
 in_lines k (scanned b ∷ h) c = scanned_in k b h (nat_eq b 10) refl c.0 (in_lines k h c.1)
 in_lines k (line_over ∷ h) c = line_over_in k (raised_behind k (port_log h)) (due_of h) (due_of h) (cut_of h) (raw_of h) c.0.none_due c.0.none_due (in_lines k h c.1)
-in_lines k (wrote n ∷ h) c = in_lines k h c.1
-in_lines k (gave_up ∷ h) c = in_lines k h c.1
-in_lines k (turned t ∷ h) c = in_lines k h c.1
+in_lines k (_ ∷ h) c = in_lines k h c.1
 
 -- ---- by what was scanned
 

@@ -1,6 +1,8 @@
+pub mod Marking
 pub mod Fronts
 pub mod Links
 pub mod Pieces
+pub mod Stops
 pub mod Raising
 pub mod Steps
 pub mod Asks

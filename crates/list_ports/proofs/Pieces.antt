@@ -61,7 +61,7 @@ all_wait (p ∷ later) before turns going =
 
 module _ (ws : List Piece) (left done : ℕ) (published : List Piece) (known : ℕ) (got : NewestFirst Piece) (c u : ℕ) (f : PiecesPass ws left done published known got c u) where
   -- the pieces, the latest first
-  latest_first : reverse published ≡ reverse ws ++ got
+  pub latest_first : reverse published ≡ reverse ws ++ got
   latest_first = ap reverse f.fifo ∙ reverse-append (reverse got) ws ∙ ap (λ (l : List Piece). reverse ws ++ l) (reverse-reverse got)
 
   -- the unfinished pieces are the one that was got last, where ticks of it are left, and those of the others

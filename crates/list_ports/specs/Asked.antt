@@ -5,7 +5,7 @@ use Rattle.status_report.specs.Answering.{is_answer, answers_in, lfs_in}
 use Rattle.realtime_flags.specs.Bits.{is_up, report_flag}
 use Rattle.stream_host.specs.Steps.{stored_in, got_in}
 use Rattle.stream_host.specs.Steps.{PortLog as HostLog}
-use Rattle.stream_host.specs.Steps.PortStep.{stored, dropped, raised, got, no_reply, shut}
+use Rattle.stream_host.specs.Steps.PortStep.{raised}
 use Rattle.board_rules.specs.Ports.{asks_report, answered_in}
 use Rattle.board_rules.specs.Ports.{PortStep as BoardStep, PortLog as BoardLog}
 use Rattle.board_rules.specs.Ports.PortStep.{took, answered, took_exec}
@@ -15,22 +15,14 @@ use Rattle.board_rules.specs.Ports.PortStep.{took, answered, took_exec}
 -- `?` is raised only while each line that was stored to its end has its answer
 abbrev pub AsksBetween : HostLog → Type 0
 AsksBetween [] = Unit {0}
-AsksBetween (stored b ∷ h) = AsksBetween h
-AsksBetween (dropped b ∷ h) = AsksBetween h
 AsksBetween (raised b down ∷ h) = (b ≡ query → answers_in (got_in h) ≡ lfs_in (stored_in h)) × AsksBetween h
-AsksBetween (got r ∷ h) = AsksBetween h
-AsksBetween (no_reply ∷ h) = AsksBetween h
-AsksBetween (shut ∷ h) = AsksBetween h
+AsksBetween (_ ∷ h) = AsksBetween h
 
 -- how often `?` was raised behind k answers, and found its flag down
 abbrev pub raised_behind : ℕ → HostLog → ℕ
 raised_behind k [] = 0
-raised_behind k (stored b ∷ h) = raised_behind k h
-raised_behind k (dropped b ∷ h) = raised_behind k h
 raised_behind k (raised b down ∷ h) = cond (down && (nat_eq b query && nat_eq (answers_in (got_in h)) k)) 1 0 + raised_behind k h
-raised_behind k (got r ∷ h) = raised_behind k h
-raised_behind k (no_reply ∷ h) = raised_behind k h
-raised_behind k (shut ∷ h) = raised_behind k h
+raised_behind k (_ ∷ h) = raised_behind k h
 
 -- ---- the board
 

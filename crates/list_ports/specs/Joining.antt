@@ -1,5 +1,5 @@
 -- The lists between a host, a board and a pulse, and what the three have done with them.
-use Rattle.std.specs.Prelude.{◌≡◌, ℕ, ◌+◌, ◌^◌, ◌<◌, ◌≤◌, Bool, true, cond, nat_lt, List, [], ◌∷◌, ◌++◌, length, drop, reverse}
+use Rattle.std.specs.Prelude.{◌≡◌, ℕ, ◌+◌, ◌^◌, ◌<◌, ◌≤◌, Bool, true, false, cond, nat_lt, List, [], ◌∷◌, ◌++◌, length, map, drop, reverse}
 use Rattle.std.specs.List.{All}
 use Rattle.std.specs.Int.Bits.{bit_or}
 use Rattle.status_report.specs.declared.Reply.{Reply}
@@ -16,25 +16,32 @@ use Rattle.step_line.specs.Logs.{NewestFirst}
 use Rattle.step_line.specs.Ordering.{InTurn}
 use Rattle.step_line.specs.Finishing.{ticks_together, unfinished, most_unfinished}
 use Rattle.motion_ring.specs.Ticks.{slots}
-use Rattle.board_rules.specs.Ports.{taken_in, has_closed_in, answered_in, published_in, known_in}
+use Rattle.board_rules.specs.Ports.{taken_in, link_steps, has_closed_in, answered_in, published_in, known_in}
 use Rattle.status_report.specs.Answering.{reply_room, receive_room, lfs_in, answers_in}
 use Rattle.board_rules.specs.Ports.{PortLog as BoardLog}
-use Rattle.pulse_engine.specs.Logs.{PieceLog, pieces_of, counted, uncounted}
-use Rattle.stream_host.specs.Steps.{stored_in, got_in, is_shut_in}
+use Rattle.pulse_engine.specs.Logs.{PieceLog, pieces_of, got_since, counted, uncounted, saw_stop, halts_of}
+use Rattle.serial_ring.specs.declared.view.LinkStep.{LinkStep}
+use Rattle.serial_ring.specs.Marks.{Mark, AreMarks, AreRising, latest}
+use Rattle.serial_ring.specs.Logs.{marked_in, AnswersWell}
+use Rattle.stream_host.specs.Steps.{stored_in, got_in, marks_in, is_shut_in}
 use Rattle.stream_host.specs.Steps.{PortLog as HostLog}
 use Rattle.list_ports.specs.Asked.{AsksBetween, LooksFirst, AsksPass, report_is_up, raised_behind, words_behind, has_looked}
 
--- what the lists hold: bytes and replies on their way, and whether the link is closed; the two words of flags; pieces on
--- their way, how many ticks of the piece that was got last are left, and how many ticks are done
+-- what the lists hold: bytes and replies on their way, whether the link is closed, how many bytes were stored, and the last mark;
+-- the two words of flags; pieces on their way, how many ticks of the piece that was got last are left, and how many ticks are
+-- done; whether a stop waits for its halt
 pub record Listed : Type 0 where
   pub bytes : List ℕ
   pub closed : Bool
+  pub stored : ℕ
+  pub mark : Mark
   pub replies : List Reply
   pub exec : ℕ
   pub override : ℕ
   pub pieces : List Piece
   pub left : ℕ
   pub done : ℕ
+  pub stop : Bool
 
 -- there is room for 128 bytes, 16 replies and six pieces, and the replies that wait have a text each
 pub record AreSized (bytes replies pieces : ℕ) (waiting : List Reply) : Type 0 where
@@ -66,6 +73,17 @@ pub record RepliesPass (waiting answered got_replies : List Reply) (taken : List
   pub fifo : answered ≡ got_replies ++ waiting
   pub fewer : answers_in answered ≤ lfs_in taken
 
+-- Marks on their way: the last one stored is there. Each that was loaded is one that was stored, or the start, and each reply was
+-- answered where it might be
+pub record MarksPass (stored_count : ℕ) (mark : Mark) (stored_bytes marks : List ℕ) (steps : List LinkStep) : Type 0 where
+  pub count_is : stored_count ≡ length stored_bytes
+  pub number_is : mark.0 ≡ length marks
+  pub bytes_is : mark.1 ≡ latest marks
+  pub within : latest marks ≤ length stored_bytes
+  pub rising : AreRising marks
+  pub loads : AreMarks marks (marked_in steps)
+  pub well : AnswersWell steps
+
 -- flags that were raised and not taken
 pub record FlagsPass (exec override : ℕ) (raises : List Raise) (takes : List Take) : Type 0 where
   pub balance : IsBalanced (exec ∷ override ∷ []) raises takes
@@ -86,11 +104,40 @@ pub record PiecesPass (waiting : List Piece) (left done : ℕ) (published : List
   pub past : ticks_together (drop 1 got_pieces) ≤ done
   pub known_is : known ≤ done
 
--- The lists between the three: each passes on what its two sides have done. Where the host asks for reports only between lines,
--- and the board takes its requests behind each line before it answers, each report that is asked for is asked for in its line.
-pub record Joined (l : Listed) (host : HostLog) (board : BoardLog) (pulse : PieceLog) : Type 0 where
+-- Pieces on their way where a stop was stored: what was published is what was got or dropped and what waits, in order. Those that
+-- were got since the last halt and those that wait came in turn. The ticks that are left are those of the piece that was got last,
+-- if no halt has cut it
+pub record EpochPass (waiting : List Piece) (left done : ℕ) (published : List Piece) (got_pieces since_halt : NewestFirst Piece) (ticked unticked : ℕ) : Type 0 where
+  pub fifo : published ≡ reverse got_pieces ++ waiting
+  pub turns : InTurn (reverse waiting ++ since_halt)
+  pub short : done + left + ticks_together waiting < 2 ^ 62
+  pub done_is : done ≡ ticked
+  pub left_is : left ≡ unticked
+
+-- pieces on their way, by the stops that were stored
+abbrev pub AnyPass : NewestFirst ℕ → (waiting : List Piece) (left done : ℕ) (published : List Piece) (known : ℕ) (got_pieces since_halt : NewestFirst Piece) (ticked unticked : ℕ) → Type 0
+AnyPass [] waiting left done published known got_pieces since_halt ticked unticked = PiecesPass waiting left done published known got_pieces ticked unticked
+AnyPass (stop ∷ earlier) waiting left done published known got_pieces since_halt ticked unticked = EpochPass waiting left done published got_pieces since_halt ticked unticked
+
+-- The pulse has halted at each stop that was stored, behind as many pieces as were published before it; but if one waits for its
+-- halt, it is the last, behind all pieces
+abbrev pub AreHalted : Bool → NewestFirst ℕ → (all_pieces : ℕ) → NewestFirst (ℕ × ℕ) → Type 0
+AreHalted false stops all_pieces halts = stops ≡ map (λ (halt : ℕ × ℕ). halt.0) halts
+AreHalted true stops all_pieces halts = stops ≡ all_pieces ∷ map (λ (halt : ℕ × ℕ). halt.0) halts
+
+-- stops on their way; what the pulse has seen waits
+pub record StopsPass (waits : Bool) (stops : NewestFirst ℕ) (all_pieces : ℕ) (seen : Bool) (halts : NewestFirst (ℕ × ℕ)) : Type 0 where
+  pub each : AreHalted waits stops all_pieces halts
+  pub known : seen ≡ true → waits ≡ true
+
+-- The lists between the three: each passes on what its two sides have done. A stop is known by how many pieces were published
+-- before it. Where the host asks for reports only between lines, and the board takes its requests behind each line before it
+-- answers, each report that is asked for is asked for in its line.
+pub record Joined (l : Listed) (host : HostLog) (board : BoardLog) (stops_stored : NewestFirst ℕ) (pulse : PieceLog) : Type 0 where
   pub bytes : BytesPass l.bytes l.closed (stored_in host) (is_shut_in host) (taken_in board) (has_closed_in board)
   pub replies : RepliesPass l.replies (answered_in board) (got_in host) (taken_in board)
+  pub marks : MarksPass l.stored l.mark (stored_in host) (marks_in host) (link_steps board)
   pub flags : FlagsPass l.exec l.override (raises_in host) (takes_in board)
-  pub pieces : PiecesPass l.pieces l.left l.done (published_in board) (known_in board) (pieces_of pulse) (counted pulse) (uncounted pulse)
+  pub pieces : AnyPass stops_stored l.pieces l.left l.done (published_in board) (known_in board) (pieces_of pulse) (got_since pulse) (counted pulse) (uncounted pulse)
+  pub stops : StopsPass l.stop stops_stored (length l.pieces + length (pieces_of pulse)) (saw_stop pulse) (halts_of pulse)
   pub asks : AsksBetween host → LooksFirst board → AsksPass (report_is_up l.exec) (λ k. raised_behind k host) (λ k. words_behind k board) (answers_in (answered_in board)) (lfs_in (taken_in board)) (has_looked board)

@@ -1,6 +1,6 @@
 //! The lists as the port of a host.
 
-ghost use Rattle.std.specs.Prelude.{◌≡◌, ◌∷◌, IfSome, IfNone};
+ghost use Rattle.std.specs.Prelude.{◌≡◌, [], ◌∷◌, IfSome, IfNone};
 ghost use Rattle.std.specs.List.{slice_get};
 ghost use Rattle.status_report.specs.Replies.{IsReply};
 ghost use Rattle.board_rules.specs.Ports.{PortLog as BoardLog};
@@ -20,14 +20,19 @@ impl HostPort for Lists {
     /// What the board and the pulse have done.
     ghost Rest = { BoardLog × PieceLog };
 
-    ghost stands = { λ lists far h. Joined lists h far.0 far.1 };
+    ghost stands = { λ lists far h. Joined lists h far.0 [] far.1 };
 
     /// Stores a byte, or drops it where 128 wait.
     fn store(&mut self, byte: u8) -> Stored {
         if self.bytes.try_push_back(byte).is_err() {
             return Stored::Dropped;
         }
+        self.stored += 1;
         Stored::Stored
+    }
+
+    fn mark(&mut self) {
+        self.mark = (self.mark.0 + 1, self.stored);
     }
 
     fn raise(&mut self, byte: u8) -> Raised {
@@ -48,9 +53,9 @@ impl HostPort for Lists {
     /// The reply that has waited longest, where one waits.
     fn reply(&mut self) -> Option<Reply>
         ensures valid { IfSome result (λ r. IsReply r) }
-        ensures some { IfSome result (λ r. (far : BoardLog × PieceLog) (h : HostLog) → Joined self.old h far.0 far.1 → Joined self.new (got r ∷ h) far.0 far.1) }
-        ensures lines { IfSome result (λ r. (far : BoardLog × PieceLog) (h : HostLog) → Joined self.old h far.0 far.1 → AnswersLines (got r ∷ h)) }
-        ensures none { IfNone result ((far : BoardLog × PieceLog) (h : HostLog) → Joined self.old h far.0 far.1 → Joined self.new (no_reply ∷ h) far.0 far.1) }
+        ensures some { IfSome result (λ r. (far : BoardLog × PieceLog) (h : HostLog) → Joined self.old h far.0 [] far.1 → Joined self.new (got r ∷ h) far.0 [] far.1) }
+        ensures lines { IfSome result (λ r. (far : BoardLog × PieceLog) (h : HostLog) → Joined self.old h far.0 [] far.1 → AnswersLines (got r ∷ h)) }
+        ensures none { IfNone result ((far : BoardLog × PieceLog) (h : HostLog) → Joined self.old h far.0 [] far.1 → Joined self.new (no_reply ∷ h) far.0 [] far.1) }
         ensures found { result ≡ slice_get self.old.replies 0 }
     {
         self.replies.pop_front()

@@ -1,6 +1,6 @@
 //! The lists between a host, a board and a pulse.
 
-ghost use Rattle.std.specs.Prelude.{◌≡◌, ◌≤◌, ◌+◌, ◌↔◌, true, [], length, IfOk};
+ghost use Rattle.std.specs.Prelude.{◌≡◌, ◌≤◌, ◌+◌, ◌↔◌, true, false, [], length, IfOk};
 ghost use Rattle.status_report.specs.Answering.{receive_room, reply_room};
 ghost use Rattle.step_line.specs.Finishing.{tick_count};
 ghost use Rattle.list_ports.specs.Joining.{Joined, one_if_some};
@@ -25,12 +25,16 @@ const PIECE_ROOM: usize = 6;
 /// How many pieces may be unfinished.
 pub(crate) const MOST_UNFINISHED: usize = 5;
 
-/// What is on its way between a host, a board and a pulse: bytes, replies, flags and pieces, and how many ticks are
-/// done. Each of the three has them as its port. All room is taken once, by `new`.
+/// What is on its way between a host, a board and a pulse: bytes, replies, flags and pieces, how many ticks are done, and
+/// whether a stop waits for its halt. Each of the three has them as its port. All room is taken once, by `new`.
 #[derive(Drop)]
 pub struct Lists {
     pub(crate) bytes: HeapCircularBuffer<u8>,
     pub(crate) closed: bool,
+    /// How many bytes were stored.
+    pub(crate) stored: u32,
+    /// The mark that was stored last: its number, and how many bytes were stored before.
+    pub(crate) mark: (u32, u32),
     pub(crate) replies: HeapCircularBuffer<Reply>,
     pub(crate) exec: Exec,
     pub(crate) overrides: Ovr,
@@ -38,6 +42,8 @@ pub struct Lists {
     /// How many ticks of the piece that was got last are not done.
     pub(crate) left: u32,
     pub(crate) done: u64,
+    /// A stop waits for its halt.
+    pub(crate) stop: bool,
 }
 
 impl Model for Lists {
@@ -45,7 +51,7 @@ impl Model for Lists {
 
     ghost Value = { Listed };
 
-    ghost view = { λ l. record { bytes = l.bytes.items; closed = l.closed; replies = l.replies.items; exec = l.exec.0; override = l.overrides.0; pieces = l.pieces.items; left = l.left; done = l.done } };
+    ghost view = { λ l. record { bytes = l.bytes.items; closed = l.closed; stored = l.stored; mark = l.mark; replies = l.replies.items; exec = l.exec.0; override = l.overrides.0; pieces = l.pieces.items; left = l.left; done = l.done; stop = l.stop } };
 
     ghost invariant = { λ l. AreSized l.bytes.capacity l.replies.capacity l.pieces.capacity l.replies.items };
 }
@@ -64,17 +70,20 @@ pub(crate) fn ticks(piece: &Piece) -> u32
 impl Lists {
     /// Lists in which nothing is on its way, and the link is open.
     pub fn new(alloc: Global) -> Result<Lists, AllocError>
-        ensures { IfOk result (λ lists. Joined lists [] [] []) }
+        ensures { IfOk result (λ lists. Joined lists [] [] [] []) }
     {
         Ok(Lists {
             bytes: HeapCircularBuffer::with_capacity(alloc, RECEIVE_ROOM)?,
             closed: false,
+            stored: 0,
+            mark: (0, 0),
             replies: HeapCircularBuffer::with_capacity(alloc, REPLY_ROOM)?,
             exec: Exec::from_bits_retain(0),
             overrides: Ovr::from_bits_retain(0),
             pieces: HeapCircularBuffer::with_capacity(alloc, PIECE_ROOM)?,
             left: 0,
             done: 0,
+            stop: false,
         })
     }
 
@@ -93,6 +102,14 @@ impl Lists {
         ensures { (result ≡ true) ↔ (self.now.pieces ≡ []) }
     {
         self.pieces.is_empty()
+    }
+
+    /// Whether no stop waits for its halt.
+    #[inline]
+    pub fn has_no_stop(&self) -> bool
+        ensures { (result ≡ true) ↔ (self.now.stop ≡ false) }
+    {
+        !self.stop
     }
 
     /// How many pieces are unfinished, where the end does not wait: those that wait, and the one that was got last

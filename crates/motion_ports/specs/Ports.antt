@@ -1,16 +1,17 @@
 -- What the ports of pulse and recorder stand for.
-use Rattle.std.specs.Prelude.{◌≡◌, ℕ, ◌+◌, [], ◌∷◌, length}
+use Rattle.std.specs.Prelude.{◌≡◌, ℕ, ◌+◌, ◌<◌, ◌↔◌, true, [], ◌∷◌, length, map}
 use Rattle.atomic_table.specs.Seated.{TableId}
 use Rattle.rtrb.specs.declared.producer.Producer.{Producer}
 use Rattle.rtrb.specs.declared.consumer.Consumer.{Consumer}
 use Rattle.rtrb.specs.Ring.{sent, received, known_free, known_items, SameProducer, SameConsumer}
 use Rattle.step_line.specs.declared.Record.{Record}
 use Rattle.motion_ring.specs.declared.ends.SegIn.{SegIn}
-use Rattle.motion_ring.specs.Ends.{ring_of_in, got_by, shown_to, head_loads_of, counted_by, left_in}
+use Rattle.motion_ring.specs.declared.lists.Halt.{Halt}
+use Rattle.motion_ring.specs.Ends.{ring_of_in, taken_by, passed_by, halted_by, shown_to, head_loads_of, asked_by, stop_loads_of, counted_by, left_in}
 use Rattle.pulse_engine.specs.Steps.{Pulsing}
 use Rattle.pulse_engine.specs.Turns.{PulseFits}
-use Rattle.pulse_engine.specs.Logs.{PieceLog, RecordLog, pieces_of, counted, uncounted, records_put}
-use Rattle.pulse_engine.specs.Logs.PieceEvent.{got as got_piece, none as no_piece, ticked}
+use Rattle.pulse_engine.specs.Logs.{PieceLog, RecordLog, pieces_of, got_since, counted, uncounted, halts_of, saw_stop, records_put}
+use Rattle.pulse_engine.specs.Logs.PieceEvent.{asked, got as got_piece, none as no_piece, ticked, halted}
 use Rattle.pulse_engine.specs.Logs.RecordEvent.{put as put_record, full}
 use Rattle.step_record.specs.Taking as taking
 use Rattle.step_record.specs.Taking.Event.{took, none as no_record}
@@ -18,21 +19,48 @@ use Rattle.step_record.specs.Taking.Event.{took, none as no_record}
 -- how often it was looked for a piece
 abbrev pub looks_in : PieceLog → ℕ
 looks_in [] = 0
+looks_in (asked b ∷ h) = looks_in h
 looks_in (got_piece p ∷ h) = looks_in h + 1
 looks_in (no_piece ∷ h) = looks_in h + 1
 looks_in (ticked ∷ h) = looks_in h
+looks_in (halted ps ∷ h) = looks_in h
+
+-- how often it was asked for a stop
+abbrev pub asks_in : PieceLog → ℕ
+asks_in [] = 0
+asks_in (asked b ∷ h) = asks_in h + 1
+asks_in (got_piece p ∷ h) = asks_in h
+asks_in (no_piece ∷ h) = asks_in h
+asks_in (ticked ∷ h) = asks_in h
+asks_in (halted ps ∷ h) = asks_in h
 
 -- none is got only where the head, as it was loaded last, showed that all are got
-abbrev pub SawPieces : PieceLog → (shown got : ℕ) → Type 0
-SawPieces [] shown got = Unit {0}
-SawPieces (got_piece p ∷ h) shown got = Unit {0}
-SawPieces (no_piece ∷ h) shown got = shown ≡ got
-SawPieces (ticked ∷ h) shown got = Unit {0}
+abbrev pub SawPieces : PieceLog → (shown passed : ℕ) → Type 0
+SawPieces [] shown passed = Unit {0}
+SawPieces (asked b ∷ h) shown passed = Unit {0}
+SawPieces (got_piece p ∷ h) shown passed = Unit {0}
+SawPieces (no_piece ∷ h) shown passed = shown ≡ passed
+SawPieces (ticked ∷ h) shown passed = Unit {0}
+SawPieces (halted ps ∷ h) shown passed = Unit {0}
 
--- an end of this ring got these pieces, and counted their ticks; it has loaded the head once each time that it looked for one
-abbrev pub HasGot : SegIn → TableId → PieceLog → Type 0
-HasGot end ring log = (ring_of_in end ≡ ring) × (got_by end ≡ pieces_of log) × (counted_by end ≡ counted log) × (left_in end ≡ uncounted log)
-    × (head_loads_of end ≡ looks_in log) × SawPieces log (shown_to end) (length (got_by end))
+-- a halt, by its numbers
+abbrev pub numbers_of : Halt → ℕ × ℕ
+numbers_of h = (h.pieces, h.done)
+
+-- An end of this ring got or dropped these pieces, counted their ticks, and halted there. It has loaded the head once each time that
+-- it looked for a piece, and the stop word once each time that it asked for a stop; a stop waits exactly where that, as it was loaded
+-- last, is above the halt that was stored last.
+pub record HasGot (end : SegIn) (ring : TableId) (log : PieceLog) : Type 0 where
+  pub ring_is : ring_of_in end ≡ ring
+  pub passed_are : passed_by end ≡ pieces_of log
+  pub fresh_are : (taken_by end).fresh ≡ got_since log
+  pub counted_are : counted_by end ≡ counted log
+  pub left_are : left_in end ≡ uncounted log
+  pub halts_are : map numbers_of (taken_by end).halts ≡ halts_of log
+  pub looks : head_loads_of end ≡ looks_in log
+  pub saw_pieces : SawPieces log (shown_to end) (length (passed_by end))
+  pub asks : stop_loads_of end ≡ asks_in log
+  pub saw_stop_is : (saw_stop log ≡ true) ↔ (halted_by end < asked_by end)
 
 -- a record is handed back only where the ring showed no room
 abbrev pub SawRoom : RecordLog → (free : ℕ) → Type 0

@@ -10,7 +10,7 @@ pub struct PiecePort {
     pub end: SegIn,
 }
 
-/// The port stands for the pieces that its end got and the ticks that it counted, and its far side for the ring.
+/// The port stands for the pieces that its end got or dropped, the ticks that it counted and its halts, and its far side for the ring.
 impl PulsePort for PiecePort {
     ghost use Rattle.atomic_table.specs.Seated.{TableId};
     ghost use Rattle.motion_ports.specs.Ports.{HasGot};
@@ -18,6 +18,15 @@ impl PulsePort for PiecePort {
     ghost Rest = { TableId };
 
     ghost stands = { λ port ring log. HasGot port.end ring log };
+
+    #[inline]
+    fn stopped(&mut self) -> bool {
+        self.end.stopped()
+    }
+
+    fn halt(&mut self) {
+        self.end.halt();
+    }
 
     #[inline]
     fn piece(&mut self) -> Option<Piece> {

@@ -1,11 +1,12 @@
 //! The ring of records, in one thread and in two, and a pulse between both rings.
 
-ghost use Rattle.std.specs.Prelude.{◌≡◌, ◌≤◌, false, []};
+ghost use Rattle.std.specs.Prelude.{◌≡◌, ◌≤◌, false, [], length};
 ghost use Rattle.rtrb.specs.Ring.{sent};
-ghost use Rattle.step_line.specs.Finishing.{ticks_together};
 ghost use Rattle.step_line.specs.Ordering.{has_ended};
 ghost use Rattle.step_line.specs.Records.{IsMark};
-ghost use Rattle.motion_ring.specs.Ends.{published_by, got_by, head_loads_of, counted_by, left_in};
+ghost use Rattle.motion_ring.specs.Sides.{ticks_published};
+ghost use Rattle.motion_ring.specs.Rule.{none_sent, none_taken};
+ghost use Rattle.motion_ring.specs.Ends.{sent_by, published_by, taken_by, head_loads_of, stop_loads_of, asked_by};
 
 use super::*;
 use motion_ring::{SegIn, SegOut, motion};
@@ -113,7 +114,7 @@ impl Model for Line {
 
 impl Line {
     fn new(end: SegIn, records: RecordOut) -> Line
-        requires idle { (got_by end ≡ []) × (counted_by end ≡ 0) × (left_in end ≡ 0) × (head_loads_of end ≡ 0) }
+        requires idle { (taken_by end ≡ none_taken) × (head_loads_of end ≡ 0) × (stop_loads_of end ≡ 0) × (asked_by end ≡ 0) }
         requires fresh { sent records.end ≡ [] }
     {
         Line {
@@ -150,8 +151,9 @@ fn mark(k: u32) -> Mark
 
 /// Publishes fifty thousand marks, and counts the records that come in their order meanwhile.
 fn publish_all<R: Wait>(rt: &R, out: &mut SegOut, taken: &mut RecordPort) -> u32
-    requires { published_by out.old ≡ [] }
-    ensures { (has_ended (published_by out.new) ≡ false) × (ticks_together (published_by out.new) ≤ 50000) }
+    requires { sent_by out.old ≡ none_sent }
+    ensures open { ((sent_by out.new).waits ≡ false) × (has_ended (published_by out.new) ≡ false) }
+    ensures few { (ticks_published (sent_by out.new) ≤ 50000) × (length (published_by out.new) ≤ 50000) }
 {
     let mut published = 0_u32;
     let mut recorded = 0_u32;
@@ -173,7 +175,8 @@ fn publish_all<R: Wait>(rt: &R, out: &mut SegOut, taken: &mut RecordPort) -> u32
 
 /// Publishes the end, and counts on until its record comes.
 fn take_rest<R: Wait>(rt: &R, out: &mut SegOut, taken: &mut RecordPort, before: u32) -> u32
-    requires { (has_ended (published_by out.old) ≡ false) × (ticks_together (published_by out.old) ≤ 50000) }
+    requires open { ((sent_by out.old).waits ≡ false) × (has_ended (published_by out.old) ≡ false) }
+    requires few { (ticks_published (sent_by out.old) ≤ 50000) × (length (published_by out.old) ≤ 50000) }
 {
     let mut recorded = before;
     let mut ended = false;
@@ -195,7 +198,7 @@ fn take_rest<R: Wait>(rt: &R, out: &mut SegOut, taken: &mut RecordPort, before: 
 
 /// A board that publishes, and a recorder that counts.
 fn send_all<R: Wait>(rt: &R, mut out: SegOut, mut taken: RecordPort) -> (SegOut, u32)
-    requires { published_by out ≡ [] }
+    requires { sent_by out ≡ none_sent }
 {
     let before = publish_all(rt, &mut out, &mut taken);
     let recorded = take_rest(rt, &mut out, &mut taken, before);
@@ -211,7 +214,7 @@ fn pieces_through_a_pulse_are_recorded_in_order(rt: HostRuntime) {
         &rt,
         || trace_all(&rt, line),
         || -> (SegOut, u32)
-            requires { published_by out ≡ [] }
+            requires { sent_by out ≡ none_sent }
         { send_all(&rt, out, taken) },
     );
     assert_eq!(rt; recorded, 50_000);

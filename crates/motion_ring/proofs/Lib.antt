@@ -1,4 +1,9 @@
 pub mod Ticks
+pub mod Sides
+pub mod Words
 pub mod Flows
-pub mod Steps
+pub mod Frame
+pub mod Publishing
+pub mod Getting
+pub mod Seats
 mod Tried

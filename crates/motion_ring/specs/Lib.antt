@@ -1,3 +1,4 @@
 pub mod Ticks
+pub mod Sides
 pub mod Rule
 pub mod Ends

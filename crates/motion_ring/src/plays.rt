@@ -1,5 +1,5 @@
 //! What each step tells.
-ghost use Rattle.motion_ring.specs.Rule.{reached, seen, published, grasped, ticked, finished, tied, without_getting, without_publishing, both_of, spent};
+ghost use Rattle.motion_ring.specs.Rule.{reached, seen, published, stopped, heeded, grasped, ticked, finished, asked, recalled, skipped, halted, tied, without_getting, without_publishing, both_of, spent};
 
 use crate::view::Sight;
 use atomic_table::{Join, Play, Split};
@@ -26,6 +26,20 @@ impl Play<Option<Piece>, Sight> for Publish {
     ghost then = { published };
 }
 
+/// A stop is stored.
+pub(crate) struct Stop;
+
+impl Play<Option<Piece>, Sight> for Stop {
+    ghost then = { stopped };
+}
+
+/// The halted word is loaded, and all slots taken back where it shows the halt.
+pub(crate) struct Heed;
+
+impl Play<Option<Piece>, Sight> for Heed {
+    ghost then = { heeded };
+}
+
 /// The head is loaded, and the slot of the next piece taken.
 pub(crate) struct Grasp;
 
@@ -45,6 +59,34 @@ pub(crate) struct Finish;
 
 impl Play<Option<Piece>, Sight> for Finish {
     ghost then = { finished };
+}
+
+/// The stop word is loaded.
+pub(crate) struct Ask;
+
+impl Play<Option<Piece>, Sight> for Ask {
+    ghost then = { asked };
+}
+
+/// The stop word is loaded again, once it showed a stop.
+pub(crate) struct Recall;
+
+impl Play<Option<Piece>, Sight> for Recall {
+    ghost then = { recalled };
+}
+
+/// The slot of the next piece is taken, which is not traced.
+pub(crate) struct Skip;
+
+impl Play<Option<Piece>, Sight> for Skip {
+    ghost then = { skipped };
+}
+
+/// A halt is stored, and all slots given back.
+pub(crate) struct Halting;
+
+impl Play<Option<Piece>, Sight> for Halting {
+    ghost then = { halted };
 }
 
 /// Both lists are brought together.

@@ -1,27 +1,34 @@
 //! The table of the ring.
-use atomic_table::{Seat, Table, TableRule};
+use crate::lists::{Sent, Taken};
+use atomic_table::{Seat, Shared, Table, TableRule};
 use std::alloc::Global;
 use std::collections::LinkedList;
 use step_line::Piece;
 
-/// What a seat of the table knows, the latest piece first. No value of it is made.
+/// What a seat of the table knows. No value of it is made.
 pub struct Sight {
     pub may_publish: bool,
     pub may_get: bool,
-    pub published: LinkedList<Piece>,
-    pub got: LinkedList<Piece>,
+    pub sent: Sent,
     /// The done count, as it was loaded last.
     pub known: u64,
     /// How many times the done count was loaded.
     pub done_loads: u64,
+    /// The halted word, as it was loaded last.
+    pub heard: u64,
+    /// How many times the halted word was loaded.
+    pub halt_loads: u64,
+    pub taken: Taken,
     /// The head, as it was loaded last.
     pub shown: u64,
     /// How many times the head was loaded.
     pub head_loads: u64,
-    /// How many ticks were counted.
-    pub counted: u64,
-    /// How many ticks of the piece that was got last are not counted.
-    pub left: u64,
+    /// The stop word, as it was loaded last.
+    pub asked: u64,
+    /// How many times it was asked for a stop.
+    pub stop_loads: u64,
+    /// The pieces that were taken untraced for a halt that is not stored.
+    pub dropping: LinkedList<Piece>,
     /// The next slot is out, to be filled.
     pub filling: bool,
     /// The slot of the piece that was got last is out.
@@ -42,3 +49,6 @@ impl TableRule<Option<Piece>, Sight, ()> for Motion {
 pub(crate) type Ring = Table<Option<Piece>, Sight, (), Motion, Global>;
 
 pub(crate) type Place = Seat<Option<Piece>, Sight>;
+
+/// What the ends have of the table.
+pub(crate) type Common = Shared<Option<Piece>, Sight, (), Motion>;

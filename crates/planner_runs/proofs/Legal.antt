@@ -23,7 +23,7 @@ use Rattle.plan_rules.specs.Plans.{Planned, IsReached, entered}
 use Rattle.plan_rules.specs.Segments.{advanced, IsLegal, IsLegalEnd}
 use Rattle.plan_rules.proofs.Reached.{plan_of, reached_replanned, reached_cleared}
 use Rattle.step_line.specs.declared.Mark.{Mark as AnyMark}
-use Rattle.step_line.specs.declared.Mark.TheVariants.{Dwell, Spindle, Coolant, Cut}
+use Rattle.step_line.specs.declared.Mark.TheVariants as marks
 use Rattle.plan_rules.specs.Taking.{IsNext}
 use Rattle.plan_rules.specs.declared.Mode.{Mode}
 use Rattle.step_line.specs.declared.planned_move.PlannedMove.{PlannedMove}
@@ -235,10 +235,11 @@ is_done None w bs ms on none = tt
 is_done (Some a) w bs ms on none = subst (λ (left : List Block). TailGoesOn a w left ms) none on.1
 
 may_mark : (before : Option ToldHead) (m : AnyMark) → MayStop before → IsDone before → MayMark before m
-may_mark before (Dwell ms) stop done = (stop, done)
-may_mark before (Spindle code speed) stop done = (stop, done)
-may_mark before (Coolant on) stop done = (stop, done)
-may_mark before (Cut line) stop done = stop
+may_mark before (marks.Dwell ms) stop done = (stop, done)
+may_mark before (marks.Spindle code speed) stop done = (stop, done)
+may_mark before (marks.Coolant on) stop done = (stop, done)
+may_mark before (marks.Cut line) stop done = stop
+may_mark before (marks.Reset line) stop done = tt
 
 -- a mark is told
 after_mark : (before : Option ToldHead) (p : Planned) (ms : List PlannedMove) → IsAfter before p ms → IsAtRest p → IsAfter None p ms
@@ -387,10 +388,10 @@ closed_heads_are_legal most p last actions given is never run none =
 
 -- a cut may come where the machine stands
 pub cut_heads_are_legal : (most : ℕ) (p last : Planned) (actions : List Action) (given : List Piece) (line : ℕ) → IsStart p → NeverClears actions
-    → Plans most p actions given last → last.speed ≡ 0 → HasLegalHeads (moves_added actions) (all_records given ++ kinds.Mark (Cut line) ∷ [])
+    → Plans most p actions given last → last.speed ≡ 0 → HasLegalHeads (moves_added actions) (all_records given ++ kinds.Mark (marks.Cut line) ∷ [])
 cut_heads_are_legal most p last actions given line is never run stands =
     let t = tells_from most p last actions given is never run in
-    told_behind (moves_added actions) given last t (told.Mark (Cut line)) refl tt (may_stop t.behind last.speed last.blocks t.left t.after.goes_on stands)
+    told_behind (moves_added actions) given last t (told.Mark (marks.Cut line)) refl tt (may_stop t.behind last.speed last.blocks t.left t.after.goes_on stands)
 
 -- so may the end, where an alarm has stopped the machine
 pub halted_heads_are_legal : (most : ℕ) (p last : Planned) (actions : List Action) (given : List Piece) → IsStart p → NeverClears actions

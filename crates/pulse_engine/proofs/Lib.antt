@@ -1,3 +1,4 @@
+pub mod Ends
 pub mod Ticks
 pub mod Moves
 pub mod Whole

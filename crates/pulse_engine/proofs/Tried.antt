@@ -45,6 +45,13 @@ both_of_two : IsTraceable (some_events 2 0 0 2)
 unfolding events_of
 both_of_two = record { mv = search rules; head = record { line = (lit≤ tt, lit< tt); n = (lit≤ tt, lit< tt); w = lit< tt; cycles = lit< tt }; within = lit≤ tt }
 
+all_of_three : IsTraceable (some_events 3 2 0 3)
+unfolding events_of
+all_of_three = record { mv = search rules; head = record { line = (lit≤ tt, lit< tt); n = (lit≤ tt, lit< tt); w = lit< tt; cycles = lit< tt }; within = lit≤ tt }
+
+pub three_in_turn : InTurn (pieces.Segment (some_events 3 2 0 3) ∷ [])
+three_in_turn = (record { going = refl; follows = (all_of_three, refl) }, tt)
+
 pub four_in_turn : InTurn (pieces.End ∷ (pieces.Mark (Spindle M3 1000) ∷ (pieces.Segment (some_events 3 2 2 1) ∷ (pieces.Segment (some_events 3 2 0 2) ∷ []))))
 four_in_turn = (
   record { going = refl; follows = tt },

@@ -1,5 +1,5 @@
 -- What is recorded of all pieces, and what is put of it.
-use Rattle.std.proofs.Common.{◌≡◌, ℕ, zero, suc, ◌+◌, ◌≤◌, ◌⊎◌, inl, inr, Bool, true, false, List, [], ◌∷◌, ◌++◌, map, reverse, refl, ap, sym, ◌∙◌, arith, All}
+use Rattle.std.proofs.Common.{◌≡◌, ℕ, zero, suc, ◌+◌, ◌≤◌, ◌⊎◌, inl, inr, Bool, true, false, List, [], ◌∷◌, ◌++◌, map, reverse, refl, ap, sym, subst, ◌∙◌, arith, All}
 use Rattle.std.specs.List.{flat_map}
 use Rattle.std.proofs.lemmas.List.{append-nil, map-append, reverse-append}
 use Rattle.std.proofs.lemmas.List.Concat.{flat_map-cons}
@@ -13,12 +13,13 @@ use Rattle.step_line.specs.declared.Piece.TheVariants as pieces
 use Rattle.step_line.specs.declared.Record.{Record}
 use Rattle.step_line.specs.declared.Record.TheVariants as kinds
 use Rattle.step_line.specs.Counting.{events_of}
-use Rattle.step_line.specs.Events.{event_of, events_after}
-use Rattle.step_line.specs.Pieces.{GoesOn, records_of, ticks_of, head_of, ComesBehind}
-use Rattle.step_line.specs.Records.{IsRecord, is_end}
+use Rattle.step_line.specs.Events.{events_after}
+use Rattle.step_line.specs.Pieces.{GoesOn, records_of, ticks_of, ComesBehind}
+use Rattle.step_line.specs.Records.{IsRecord}
 use Rattle.step_line.proofs.Order.{in_parts, is_event}
 use Rattle.step_line.specs.Ordering.{InTurn, recorded}
-use Rattle.pulse_engine.specs.Logs.{PieceLog, RecordLog, pieces_of, records_put, ticks_in, counted, uncounted, end_is_put}
+use Rattle.pulse_engine.specs.Logs.{PieceLog, RecordLog, pieces_of, got_since, halts_of, records_put, ticks_in, counted, uncounted, end_is_put, IsEndOf, IsRecorded}
+use Rattle.pulse_engine.specs.Logs.PieceEvent.{asked, got, none as no_piece, ticked, halted}
 use Rattle.pulse_engine.specs.Logs.RecordEvent.{put, full}
 use Rattle.pulse_engine.specs.Steps.{Pulsing}
 use Rattle.pulse_engine.specs.Turns.{PulseFits}
@@ -53,30 +54,23 @@ goes_on s u g =
     let joined = ap (map kinds.Event) (in_parts s.mv s.first s.n u.n) ∙ map-append kinds.Event (events_after s.mv s.first s.n) (events_after s.mv (s.first + s.n) u.n) in
     rw (g.mv, g.first) (sym joined)
 
--- whether the last of some records is the end
-abbrev ends : List Record → Bool
-ends [] = false
-ends (r ∷ []) = is_end r
-ends (r ∷ (s ∷ rs)) = ends (s ∷ rs)
+-- where it never halted, what is recorded is that of all pieces
+pub never_halted : (h : PieceLog) (rs : List Record) → halts_of h ≡ [] → IsRecorded h rs → rs ≡ recorded (pieces_of h)
+never_halted [] rs empty i = i
+never_halted (asked b ∷ h) rs empty i = never_halted h rs empty i
+never_halted (got p ∷ h) rs empty i = i.2 ∙ ap (λ qs. qs ++ records_of p) (never_halted h i.0 empty i.1)
+never_halted (no_piece ∷ h) rs empty i = never_halted h rs empty i
+never_halted (ticked ∷ h) rs empty i = never_halted h rs empty i
+never_halted (halted ps ∷ h) rs empty i = absurd cc
 
-ends-append : (rs : List Record) (s : Record) (ss : List Record) → ends (rs ++ s ∷ ss) ≡ ends (s ∷ ss)
-ends-append [] s ss = refl
-ends-append (r ∷ []) s ss = refl
-ends-append (r ∷ (q ∷ rs)) s ss = ends-append (q ∷ rs) s ss
-
-events_do_not_end : (m : Move) (k n : ℕ) (r : Record) → is_end r ≡ false → ends (r ∷ map kinds.Event (events_after m k n)) ≡ false
-events_do_not_end m k zero r e = e
-events_do_not_end m k (suc n) r e = events_do_not_end m (k + 1) n (kinds.Event (event_of m (k + 1))) refl
-
-end_is_last : (ps : List Piece) (rest : List Record) → recorded ps ≡ rest ++ kinds.End ∷ [] → (before : List Piece) × (ps ≡ pieces.End ∷ before)
-end_is_last [] rest e = let f : false ≡ true = ap ends e ∙ ends-append rest kinds.End [] in absurd cc
-end_is_last (pieces.Segment s ∷ ps) rest e =
-    let a = ends-append (recorded ps) (kinds.Head (head_of s)) (map kinds.Event (events_after s.mv s.first s.n)) in
-    let b = events_do_not_end s.mv s.first s.n (kinds.Head (head_of s)) refl in
-    let f : false ≡ true = sym (a ∙ b) ∙ ap ends e ∙ ends-append rest kinds.End [] in absurd cc
-end_is_last (pieces.Mark m ∷ ps) rest e =
-    let f : false ≡ true = sym (ends-append (recorded ps) (kinds.Mark m) []) ∙ ap ends e ∙ ends-append rest kinds.End [] in absurd cc
-end_is_last (pieces.End ∷ ps) rest e = (ps, refl)
+-- and all pieces were got since then
+pub all_since : (h : PieceLog) → halts_of h ≡ [] → got_since h ≡ pieces_of h
+all_since [] empty = refl
+all_since (asked b ∷ h) empty = all_since h empty
+all_since (got p ∷ h) empty = ap (λ ps. p ∷ ps) (all_since h empty)
+all_since (no_piece ∷ h) empty = all_since h empty
+all_since (ticked ∷ h) empty = all_since h empty
+all_since (halted ps ∷ h) empty = absurd cc
 
 put_last : (k : RecordLog) → end_is_put k ≡ true → (rest : List Record) × (records_put k ≡ rest ++ kinds.End ∷ [])
 put_last [] e = absurd cc
@@ -86,8 +80,11 @@ put_last (put (kinds.Mark m) ∷ k) e = absurd cc
 put_last (put kinds.End ∷ k) e = (records_put k, refl)
 put_last (full r ∷ k) e = put_last k e
 
-pub whole_put : (p : Pulsing) (h : PieceLog) (k : RecordLog) → PulseFits p h k → p.waiting ≡ [] → records_put k ≡ recorded (pieces_of h)
-whole_put p h k f w = sym (f.records ∙ ap (λ rs. records_put k ++ rs) w ∙ append-nil (records_put k))
+pub whole_put : (p : Pulsing) (h : PieceLog) (k : RecordLog) → PulseFits p h k → p.waiting ≡ [] → IsRecorded h (records_put k)
+whole_put p h k f w = subst (IsRecorded h) (ap (λ rs. records_put k ++ rs) w ∙ append-nil (records_put k)) f.records
+
+pub front_put : (p : Pulsing) (h : PieceLog) (k : RecordLog) → PulseFits p h k → (rest : List Record) × IsEndOf (got_since h) rest × IsRecorded h (records_put k ++ rest)
+front_put p h k f = (p.waiting, f.waits, f.records)
 
 one_more : (b : Bool) (m n : ℕ) → m ≡ n + one_if b → (m ≡ n) ⊎ (m ≡ n + 1)
 one_more true m n e = inr e
@@ -96,13 +93,11 @@ one_more false m n e = inl (omega arith)
 pub ticks_put : (p : Pulsing) (h : PieceLog) (k : RecordLog) → PulseFits p h k → (ticks_in (records_put k) ≡ counted h) ⊎ (ticks_in (records_put k) ≡ counted h + 1)
 ticks_put p h k f = one_more p.owes (ticks_in (records_put k)) (counted h) f.ticks
 
-pub all_counts : (p : Pulsing) (h : PieceLog) (k : RecordLog) → PulseFits p h k → counted h + uncounted h ≡ ticks_in (recorded (pieces_of h))
-all_counts p h k f = omega (arith, f.ticks, f.left, ap ticks_in f.records, ticks-append (records_put k) p.waiting)
+pub all_counts : (p : Pulsing) (h : PieceLog) (k : RecordLog) → PulseFits p h k → (rest : List Record) × IsRecorded h (records_put k ++ rest) × (counted h + uncounted h ≡ ticks_in (records_put k ++ rest))
+all_counts p h k f = (p.waiting, f.records, omega (arith, f.ticks, f.left, ticks-append (records_put k) p.waiting))
 
 pub done_put : (p : Pulsing) (h : PieceLog) (k : RecordLog) → PulseFits p h k → end_is_put k ≡ true
-    → (records_put k ≡ recorded (pieces_of h)) × ((before : List Piece) × (pieces_of h ≡ pieces.End ∷ before)) × ((rest : List Record) × (records_put k ≡ rest ++ kinds.End ∷ [])) × (ticks_in (records_put k) ≡ counted h)
+    → IsRecorded h (records_put k) × ((before : List Piece) × (got_since h ≡ pieces.End ∷ before)) × ((rest : List Record) × (records_put k ≡ rest ++ kinds.End ∷ [])) × (ticks_in (records_put k) ≡ counted h)
 done_put p h k f e =
     let last = f.last (f.end ∙ e) in
-    let whole = whole_put p h k f last.0 in
-    let put_is = put_last k e in
-    (whole, end_is_last (pieces_of h) put_is.0 (sym whole ∙ put_is.1), put_is, omega (arith, f.ticks, ap one_if last.1))
+    (whole_put p h k f last.0, last.2, put_last k e, omega (arith, f.ticks, ap one_if last.1))

@@ -1,41 +1,77 @@
 -- What one side of a port has done.
-use Rattle.std.specs.Prelude.{◌≡◌, ℕ, ◌+◌, ◌-◌, ◌<◌, Bool, false, List, [], ◌∷◌, ◌++◌, length}
+use Rattle.std.specs.Prelude.{◌≡◌, ℕ, ◌+◌, ◌-◌, ◌<◌, Bool, true, false, List, [], ◌∷◌, ◌++◌, length}
 use Rattle.units.specs.Truths.{one_if}
 use Rattle.step_line.specs.declared.Piece.{Piece}
 use Rattle.step_line.specs.declared.Record.{Record}
 use Rattle.step_line.specs.Logs.{NewestFirst}
 use Rattle.step_line.specs.Records.{is_tick, is_end}
-use Rattle.step_line.specs.Pieces.{ticks_of}
+use Rattle.step_line.specs.Pieces.{ticks_of, records_of}
 
--- a piece was got; there was none; a tick was counted
+-- it was asked for a stop, and whether one waited; a piece was got; there was none; a tick was counted; it halted, and some pieces
+-- that were not got were dropped
 pub data PieceEvent : Type 0 where
+  asked : Bool → PieceEvent
   got : Piece → PieceEvent
   none : PieceEvent
   ticked : PieceEvent
+  halted : NewestFirst Piece → PieceEvent
 
 abbrev pub PieceLog : Type 0
 PieceLog = NewestFirst PieceEvent
 
--- the pieces that were got
+-- the pieces that were got or dropped
 abbrev pub pieces_of : PieceLog → NewestFirst Piece
 pieces_of [] = []
+pieces_of (asked b ∷ h) = pieces_of h
 pieces_of (got p ∷ h) = p ∷ pieces_of h
 pieces_of (none ∷ h) = pieces_of h
 pieces_of (ticked ∷ h) = pieces_of h
+pieces_of (halted ps ∷ h) = ps ++ pieces_of h
+
+-- the pieces that were got since the last halt
+abbrev pub got_since : PieceLog → NewestFirst Piece
+got_since [] = []
+got_since (asked b ∷ h) = got_since h
+got_since (got p ∷ h) = p ∷ got_since h
+got_since (none ∷ h) = got_since h
+got_since (ticked ∷ h) = got_since h
+got_since (halted ps ∷ h) = []
 
 -- how many ticks were counted
 abbrev pub counted : PieceLog → ℕ
 counted [] = 0
+counted (asked b ∷ h) = counted h
 counted (got p ∷ h) = counted h
 counted (none ∷ h) = counted h
 counted (ticked ∷ h) = counted h + 1
+counted (halted ps ∷ h) = counted h
 
--- how many ticks of the piece that was got last are not counted
+-- how many ticks of the piece that was got last are not counted; a piece that a halt cut has no further tick to count
 abbrev pub uncounted : PieceLog → ℕ
 uncounted [] = 0
+uncounted (asked b ∷ h) = uncounted h
 uncounted (got p ∷ h) = length (ticks_of p)
 uncounted (none ∷ h) = uncounted h
 uncounted (ticked ∷ h) = uncounted h - 1
+uncounted (halted ps ∷ h) = 0
+
+-- the halts: how many pieces were got or dropped up to each, and how many ticks were counted
+abbrev pub halts_of : PieceLog → NewestFirst (ℕ × ℕ)
+halts_of [] = []
+halts_of (asked b ∷ h) = halts_of h
+halts_of (got p ∷ h) = halts_of h
+halts_of (none ∷ h) = halts_of h
+halts_of (ticked ∷ h) = halts_of h
+halts_of (halted ps ∷ h) = (length (ps ++ pieces_of h), counted h) ∷ halts_of h
+
+-- whether a stop waited when it was asked last, and it has not halted since
+abbrev pub saw_stop : PieceLog → Bool
+saw_stop [] = false
+saw_stop (asked b ∷ h) = b
+saw_stop (got p ∷ h) = saw_stop h
+saw_stop (none ∷ h) = saw_stop h
+saw_stop (ticked ∷ h) = saw_stop h
+saw_stop (halted ps ∷ h) = false
 
 -- each tick of the pieces that were got is counted
 abbrev pub IsCounted : PieceLog → Type 0
@@ -44,6 +80,25 @@ IsCounted h = uncounted h ≡ 0
 -- the piece that was got last has a tick that is not counted
 abbrev pub HasTick : PieceLog → Type 0
 HasTick h = 0 < uncounted h
+
+-- a stop waits for its halt
+abbrev pub SawStop : PieceLog → Type 0
+SawStop h = saw_stop h ≡ true
+
+-- what is left of the records of the last of some pieces
+abbrev pub IsEndOf : NewestFirst Piece → List Record → Type 0
+IsEndOf [] end = end ≡ []
+IsEndOf (p ∷ before) end = (front : List Record) × (records_of p ≡ front ++ end)
+
+-- What is recorded of the pieces got: the records of each, in order. A halt cuts the records of the piece that was got last: what
+-- is left of them is lost, and all before it stands.
+abbrev pub IsRecorded : PieceLog → List Record → Type 0
+IsRecorded [] rs = rs ≡ []
+IsRecorded (asked b ∷ h) rs = IsRecorded h rs
+IsRecorded (got p ∷ h) rs = (before : List Record) × IsRecorded h before × (rs ≡ before ++ records_of p)
+IsRecorded (none ∷ h) rs = IsRecorded h rs
+IsRecorded (ticked ∷ h) rs = IsRecorded h rs
+IsRecorded (halted ps ∷ h) rs = (lost : List Record) × IsEndOf (got_since h) lost × IsRecorded h (rs ++ lost)
 
 -- a record was put; there was no room for it
 pub data RecordEvent : Type 0 where

@@ -42,7 +42,7 @@ abbrev pub IsHand : Option Record → ℕ → Type 0
 IsHand None n = Unit {0}
 IsHand (Some r) n = IsFirst r n
 
--- between two pieces: the next turn gets one, or finds none
+-- between two pieces: the next turn gets one, or finds none, or halts
 pub record AwaitsPiece (p : Pulsing) : Type 0 where
   pub nothing_left : p.waiting ≡ []
   pub counted : p.owes ≡ false

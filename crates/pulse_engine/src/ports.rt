@@ -1,10 +1,11 @@
 //! The two ports of a pulse.
 
-ghost use Rattle.std.specs.Prelude.{◌≡◌, ◌∷◌, IfSome, IfNone, OnOk, OnErr, IfErr};
+ghost use Rattle.std.specs.Prelude.{◌≡◌, List, ◌∷◌, true, false, IfSome, IfNone, OnOk, OnErr, IfErr};
+ghost use Rattle.step_line.specs.declared.Piece.{Piece};
 ghost use Rattle.step_line.specs.Records.{IsRecord};
 ghost use Rattle.step_line.specs.Ordering.{ComesNext};
-ghost use Rattle.pulse_engine.specs.Logs.{PieceLog, RecordLog, IsCounted, HasTick, pieces_of};
-ghost use Rattle.pulse_engine.specs.Logs.PieceEvent.{got, none, ticked};
+ghost use Rattle.pulse_engine.specs.Logs.{PieceLog, RecordLog, IsCounted, HasTick, SawStop, got_since};
+ghost use Rattle.pulse_engine.specs.Logs.PieceEvent.{asked, got, none, ticked, halted};
 ghost use Rattle.pulse_engine.specs.Logs.RecordEvent.{put, full};
 
 use step_line::{Piece, Record};
@@ -17,12 +18,22 @@ pub trait PulsePort {
     /// This side of the port has done what the log says.
     ghost stands: { Self → Rest → PieceLog → Type 0 };
 
-    /// The next piece, if one is there. It may come after those before it; after the end none comes. Each tick of the
-    /// pieces got before has to be counted.
+    /// Whether a stop waits for its halt.
+    fn stopped(&mut self) -> bool
+        ensures waits { result ≡ true → (rest : Rest) (h : PieceLog) → stands self.old rest h → stands self.new rest (asked true ∷ h) }
+        ensures none { result ≡ false → (rest : Rest) (h : PieceLog) → stands self.old rest h → stands self.new rest (asked false ∷ h) };
+
+    /// Halts where the stop is that was seen: the piece that was got last is cut, and those behind it are dropped.
+    fn halt(&mut self)
+        requires { (rest : Rest) × (h : PieceLog) × stands self.old rest h × SawStop h }
+        ensures { (rest : Rest) (h : PieceLog) → stands self.old rest h → SawStop h → (dropped : List Piece) × stands self.new rest (halted dropped ∷ h) };
+
+    /// The next piece, if one is there. It may come after those got since the last halt; after the end none comes. Each
+    /// tick of the pieces got before has to be counted, but for those that a halt cut.
     fn piece(&mut self) -> Option<Piece>
         requires { (rest : Rest) × (h : PieceLog) × stands self.old rest h × IsCounted h }
         ensures some { IfSome result (λ p. (rest : Rest) (h : PieceLog) → stands self.old rest h → IsCounted h → stands self.new rest (got p ∷ h)) }
-        ensures next { IfSome result (λ p. (rest : Rest) (h : PieceLog) → stands self.old rest h → IsCounted h → ComesNext (pieces_of h) p) }
+        ensures next { IfSome result (λ p. (rest : Rest) (h : PieceLog) → stands self.old rest h → IsCounted h → ComesNext (got_since h) p) }
         ensures none { IfNone result ((rest : Rest) (h : PieceLog) → stands self.old rest h → IsCounted h → stands self.new rest (none ∷ h)) };
 
     /// Counts a tick of the piece that was got last. One has to be left.

@@ -90,10 +90,12 @@ fn begin(piece: &Piece, tracer: &mut Tracer, left: &mut u32) -> Record
 }
 
 impl Pulse {
-    ghost use Rattle.std.specs.Prelude.{◌≡◌, ◌↔◌, true, false, []};
-    ghost use Rattle.pulse_engine.specs.Logs.{PieceLog, RecordLog};
+    ghost use Rattle.std.specs.Prelude.{◌≡◌, ◌↔◌, true, false, List, [], ◌∷◌};
+    ghost use Rattle.pulse_engine.specs.Logs.{PieceLog, RecordLog, SawStop};
+    ghost use Rattle.pulse_engine.specs.Logs.PieceEvent.{halted};
     ghost use Rattle.pulse_engine.specs.Steps.{AwaitsPiece};
-    ghost use Rattle.pulse_engine.specs.Turns.{PulseFits, PulseTurned};
+    ghost use Rattle.pulse_engine.specs.Turns.{PulseFits, PulseTurned, PulseWorked};
+    ghost use Rattle.step_line.specs.declared.Piece.{Piece};
     ghost use Rattle.outside.specs.declared.On.{On};
 
     /// A pulse that has done nothing.
@@ -113,7 +115,7 @@ impl Pulse {
         }
     }
 
-    /// Whether the next turn gets a piece, or finds none: no record is left to be put, no count is owed, and the end was
+    /// Whether the next turn gets a piece, or finds none, or halts: no record is left to be put, no count is owed, and the end was
     /// not put.
     pub fn awaits_piece(&self) -> bool
         ensures { (result ≡ true) ↔ AwaitsPiece self.now }
@@ -126,16 +128,12 @@ impl Pulse {
     #[inline(never)]
     fn turn_between<P: PulsePort>(&mut self, pieces: &mut P) -> Turn
         requires stands { (rest : P.Rest) × (h : PieceLog) × (k : RecordLog) × P.stands pieces.old rest h × PulseFits self.old h k }
-        requires between { (self.old.waiting ≡ []) × (self.old.owes ≡ false) }
+        requires between { (self.old.waiting ≡ []) × (self.old.owes ≡ false) × (self.old.over ≡ false) }
         ensures logs { (rest : P.Rest) (h : PieceLog) (k : RecordLog) → P.stands pieces.old rest h → PulseFits self.old h k
-            → (h' : PieceLog) × P.stands pieces.new rest h' × PulseFits self.new h' k × PulseTurned result h k h' k }
+            → (h' : PieceLog) × P.stands pieces.new rest h' × PulseFits self.new h' k × PulseWorked result h k h' k }
         ensures waits { (on : On) → result ≡ Turn.Wait on → self.new ≡ self.old }
-        ensures done { (result ≡ Turn.Done) ↔ (self.old.over ≡ true) }
-        ensures still { self.old.over ≡ true → (self.new ≡ self.old) × (pieces.new ≡ pieces.old) }
+        ensures going { result ≡ Turn.Done → ⊥ }
     {
-        if self.over {
-            return Turn::Done;
-        }
         let Some(piece) = pieces.piece() else {
             return Turn::Wait(On::Piece);
         };
@@ -144,9 +142,9 @@ impl Pulse {
     }
 
     /// Does one step of work: gets a piece, puts a record or counts a tick, and then answers Did. If there is no piece,
-    /// or no room for the record, it waits for that and is as before; the next turn tries again. From the turn after
-    /// the one that put the end it answers Done, and nothing changes. Each turn that answers Did moves: it does one of
-    /// the three.
+    /// or no room for the record, it waits for that and is as before; the next turn tries again. First it asks for a stop:
+    /// where one waits, it counts a tick that was put, or halts, and answers Did. From the turn after the one that put the
+    /// end it answers Done, and nothing changes. Each turn that answers Did moves: it does one of the four.
     #[inline]
     pub fn turn<P: PulsePort, T: TickOut>(&mut self, pieces: &mut P, records: &mut T) -> Turn
         requires { (rest : P.Rest) × (back : T.Rest) × (h : PieceLog) × (k : RecordLog) × P.stands pieces.old rest h × T.stands records.old back k × PulseFits self.old h k }
@@ -157,26 +155,47 @@ impl Pulse {
         ensures done { (result ≡ Turn.Done) ↔ (self.old.over ≡ true) }
         ensures still { self.old.over ≡ true → (self.new ≡ self.old) × (pieces.new ≡ pieces.old) × (records.new ≡ records.old) }
     {
+        if self.over {
+            return Turn::Done;
+        }
+        let stopped = pieces.stopped();
         if self.owes {
             pieces.tick_done();
             self.owes = false;
             return Turn::Did;
         }
+        if stopped {
+            return self.halt(pieces);
+        }
         self.work(pieces, records)
     }
 
-    /// A turn that owes no count: it puts a record or gets a piece. It is a function of its own so that a count doesn't
-    /// pay for the memory of a record.
+    /// Halts, and forgets the records that are left of the piece in hand.
+    #[inline(never)]
+    fn halt<P: PulsePort>(&mut self, pieces: &mut P) -> Turn
+        requires stands { (rest : P.Rest) × (h : PieceLog) × (k : RecordLog) × P.stands pieces.old rest h × PulseFits self.old h k × SawStop h }
+        requires between { (self.old.owes ≡ false) × (self.old.over ≡ false) }
+        ensures did { result ≡ Turn.Did }
+        ensures logs { (rest : P.Rest) (h : PieceLog) (k : RecordLog) → P.stands pieces.old rest h → PulseFits self.old h k → SawStop h
+            → (dropped : List Piece) × P.stands pieces.new rest (halted dropped ∷ h) × PulseFits self.new (halted dropped ∷ h) k }
+    {
+        pieces.halt();
+        self.hand = None;
+        self.left = 0;
+        Turn::Did
+    }
+
+    /// A turn that owes no count and was shown no stop: it puts a record or gets a piece. It is a function of its own so that
+    /// a count doesn't pay for the memory of a record.
     #[inline(always)]
     fn work<P: PulsePort, T: TickOut>(&mut self, pieces: &mut P, records: &mut T) -> Turn
         requires stands { (rest : P.Rest) × (back : T.Rest) × (h : PieceLog) × (k : RecordLog) × P.stands pieces.old rest h × T.stands records.old back k × PulseFits self.old h k }
-        requires counted { self.old.owes ≡ false }
+        requires counted { (self.old.owes ≡ false) × (self.old.over ≡ false) }
         ensures logs { (rest : P.Rest) (back : T.Rest) (h : PieceLog) (k : RecordLog) → P.stands pieces.old rest h → T.stands records.old back k → PulseFits self.old h k
-            → (h' : PieceLog) × (k' : RecordLog) × P.stands pieces.new rest h' × T.stands records.new back k' × PulseFits self.new h' k' × PulseTurned result h k h' k' }
+            → (h' : PieceLog) × (k' : RecordLog) × P.stands pieces.new rest h' × T.stands records.new back k' × PulseFits self.new h' k' × PulseWorked result h k h' k' }
         ensures waits { (on : On) → result ≡ Turn.Wait on → self.new ≡ self.old }
         ensures between { result ≡ Turn.Wait On.Piece → self.old.waiting ≡ [] }
-        ensures done { (result ≡ Turn.Done) ↔ (self.old.over ≡ true) }
-        ensures still { self.old.over ≡ true → (self.new ≡ self.old) × (pieces.new ≡ pieces.old) × (records.new ≡ records.old) }
+        ensures going { result ≡ Turn.Done → ⊥ }
     {
         if let Some(record) = self.hand {
             let Ok(()) = records.put(record) else {

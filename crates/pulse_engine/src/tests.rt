@@ -8,21 +8,31 @@ use std::marker::Model;
 use step_line::{Bits, Head, Mark, Piece, Record, Segment, SpindleCode};
 use units::{Move, Steps3};
 
-/// Pieces that are still to be got, in order.
+/// Pieces that are still to be got, in order, and whether a stop waits. A halt drops all of them.
 #[derive(Drop)]
 struct Tape<'a> {
     rest: &'a [Piece],
+    stops: bool,
 }
 
 impl PulsePort for Tape<'_> {
     ghost use Rattle.std.specs.Prelude.{◌++◌, reverse};
     ghost use Rattle.step_line.specs.Ordering.{InTurn};
-    ghost use Rattle.pulse_engine.specs.Logs.{pieces_of};
+    ghost use Rattle.pulse_engine.specs.Logs.{got_since};
 
     ghost Rest = { Unit {0} };
 
     /// All pieces come in turn.
-    ghost stands = { λ tape _ h. InTurn (reverse tape.rest.now ++ pieces_of h) };
+    ghost stands = { λ tape _ h. InTurn (reverse tape.rest.now ++ got_since h) };
+
+    fn stopped(&mut self) -> bool {
+        self.stops
+    }
+
+    fn halt(&mut self) {
+        self.stops = false;
+        self.rest = &self.rest[self.rest.len()..];
+    }
 
     #[tactic(auto, using(crate::proofs::Tried::got_next))]
     fn piece(&mut self) -> Option<Piece> {
@@ -69,14 +79,14 @@ struct Line<'a> {
 impl<'a> Model for Line<'a> {
     ghost use Rattle.std.specs.Prelude.{◌++◌, reverse};
     ghost use Rattle.step_line.specs.Ordering.{InTurn};
-    ghost use Rattle.pulse_engine.specs.Logs.{PieceLog, RecordLog, pieces_of};
+    ghost use Rattle.pulse_engine.specs.Logs.{PieceLog, RecordLog, got_since};
     ghost use Rattle.pulse_engine.specs.Turns.{PulseFits};
 
     ghost Value = { Unit {0} };
 
     ghost view = { λ _. tt };
 
-    ghost invariant = { λ l. (h : PieceLog) × (k : RecordLog) × InTurn (reverse l.tape.rest.now ++ pieces_of h) × PulseFits l.pulse h k };
+    ghost invariant = { λ l. (h : PieceLog) × (k : RecordLog) × InTurn (reverse l.tape.rest.now ++ got_since h) × PulseFits l.pulse h k };
 }
 
 impl<'a> Line<'a> {
@@ -85,9 +95,17 @@ impl<'a> Line<'a> {
     {
         Line {
             pulse: Pulse::new(),
-            tape: Tape { rest: pieces },
+            tape: Tape {
+                rest: pieces,
+                stops: false,
+            },
             room: Room { held: None },
         }
+    }
+
+    /// Asks for a halt.
+    fn stop(&mut self) {
+        self.tape.stops = true;
     }
 
     /// Turns once, and takes what waits then, if it is to.
@@ -182,5 +200,26 @@ fn a_turn_does_one_thing_and_loses_nothing(rt: HostRuntime) {
         (Turn::Wait(On::Piece), true, None),
     ] {
         assert_eq!(rt; line.step(takes), (answer, want));
+    }
+}
+
+#[test]
+fn halt_waits_for_the_count_and_drops_what_is_left(rt: HostRuntime) {
+    let pieces = [segment(3, 2, 0, 3)];
+    let mut line = Line::new(&pieces);
+    for want in [
+        (Turn::Did, None),
+        (Turn::Did, Some(head(3))),
+        (Turn::Did, Some(event(1, 1))),
+    ] {
+        assert_eq!(rt; line.step(true), want);
+    }
+    line.stop();
+    for want in [
+        (Turn::Did, None),
+        (Turn::Did, None),
+        (Turn::Wait(On::Piece), None),
+    ] {
+        assert_eq!(rt; line.step(true), want);
     }
 }

@@ -1,5 +1,5 @@
 -- Pieces of 20 ticks, one behind another.
-use Rattle.std.proofs.Common.{◌≡◌, ℕ, ◌+◌, ◌*◌, ◌^◌, ◌<◌, List, [], ◌∷◌, false, refl, ◌∙◌, inl, rules, lit≤, lit<, arith}
+use Rattle.std.proofs.Common.{◌≡◌, ℕ, ◌+◌, ◌*◌, ◌^◌, ◌<◌, List, [], ◌∷◌, length, false, refl, ◌∙◌, inl, rules, lit≤, lit<, arith}
 use Rattle.step_line.specs.declared.Piece.{Piece}
 use Rattle.step_line.specs.declared.Piece.TheVariants as pieces
 use Rattle.step_line.specs.Counting.{events_of}
@@ -7,7 +7,8 @@ use Rattle.step_line.specs.Pieces.{IsTraceable, JoinsOn}
 use Rattle.step_line.specs.Ordering.{has_ended}
 use Rattle.step_line.specs.Finishing.{tick_count, ticks_together}
 use Rattle.step_line.proofs.Finished.{together}
-use Rattle.motion_ring.specs.Ticks.{MayPublish}
+use Rattle.motion_ring.specs.declared.lists.Sent.{Sent}
+use Rattle.motion_ring.specs.Sides.{MayPublish, published_in, ticks_at, ticks_published, with_piece}
 use Rattle.motion_ring.proofs.Ticks.{segment_ticks}
 use Rattle.ring_speed.specs.Moves.{twenty_events}
 
@@ -24,8 +25,22 @@ joins_on (pieces.End ∷ before) = refl
 pub twenty_ticks : tick_count (pieces.Segment twenty_events) ≡ 20
 twenty_ticks = segment_ticks twenty_events
 
-pub may_publish : (before : List Piece) (n : ℕ) → has_ended before ≡ false → ticks_together before ≡ 20 * n → n < 2 ^ 32 → MayPublish before (pieces.Segment twenty_events)
-may_publish before n going ticks few = record { next = record { going = going; follows = (is_traceable, joins_on before) }; few = (let t = twenty_ticks in omega arith) }
+-- so many of them were published, and no stop waits
+pub record HasSent (s : Sent) (n : ℕ) : Type 0 where
+  pub running : s.waits ≡ false
+  pub going : has_ended (published_in s) ≡ false
+  pub ticks : ticks_published s ≡ 20 * n
+  pub pieces : length (published_in s) ≡ n
 
-pub one_more : (before : List Piece) (n : ℕ) → ticks_together before ≡ 20 * n → ticks_together (pieces.Segment twenty_events ∷ before) ≡ 20 * (n + 1)
-one_more before n ticks = together (pieces.Segment twenty_events) before ∙ (let t = twenty_ticks in omega arith)
+pub may_publish : (s : Sent) (n : ℕ) → HasSent s n → n < 2 ^ 32 → MayPublish s (pieces.Segment twenty_events)
+may_publish s n has few =
+    let ticks = has.ticks in
+    let count = has.pieces in
+    record { running = has.running; going = has.going; follows = (is_traceable, joins_on s.since); few = (let t = twenty_ticks in omega (arith, t, ticks, few)); room = omega (arith, count, few) }
+
+pub one_more : (s : Sent) (n : ℕ) → HasSent s n → HasSent (with_piece s (pieces.Segment twenty_events)) (n + 1)
+one_more s n has =
+    let ticks = has.ticks in
+    let count = has.pieces in
+    let e = together (pieces.Segment twenty_events) s.since in
+    record { running = has.running; going = refl; ticks = (let t = twenty_ticks in omega (arith, t, ticks, e)); pieces = omega (arith, count) }

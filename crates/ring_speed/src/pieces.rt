@@ -1,8 +1,9 @@
 //! Pieces of 20 ticks from a board to a pulse.
 
-ghost use Rattle.std.specs.Prelude.{◌≡◌, []};
+ghost use Rattle.std.specs.Prelude.{◌≡◌};
 ghost use Rattle.step_line.specs.declared.Piece.{Piece};
-ghost use Rattle.motion_ring.specs.Ends.{published_by, left_in};
+ghost use Rattle.motion_ring.specs.Rule.{none_sent};
+ghost use Rattle.motion_ring.specs.Ends.{sent_by, left_in};
 ghost use Rattle.ring_speed.specs.Moves.{twenty_events};
 
 use crate::places::Apart;
@@ -33,7 +34,7 @@ fn twenty_events() -> Piece
 
 /// Publishes so many pieces.
 fn publish_all<R: Wait>(rt: &R, out: &mut SegOut, count: u32)
-    requires { published_by out.old ≡ [] }
+    requires { sent_by out.old ≡ none_sent }
 {
     let piece = twenty_events();
     let mut published = 0_u32;
@@ -93,7 +94,7 @@ pub(crate) fn send_apart<R: Threads + Wait + Sync>(
     let ((), got) = join_mut(
         rt,
         &mut ||
-            requires { published_by out.end ≡ [] }
+            requires { sent_by out.end ≡ none_sent }
         { publish_all(rt, &mut out.end, count) },
         &mut || -> u32
             requires { left_in into.end ≡ 0 }
@@ -112,7 +113,7 @@ pub(crate) fn send_beside<R: Threads + Wait + Sync>(
     let ((), got) = join_mut(
         rt,
         &mut ||
-            requires { published_by out ≡ [] }
+            requires { sent_by out ≡ none_sent }
         { publish_all(rt, &mut out, count) },
         &mut || -> u32
             requires { left_in into ≡ 0 }

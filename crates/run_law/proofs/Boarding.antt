@@ -20,10 +20,11 @@ use Rattle.run_rules.specs.Outcomes.{Passed, Follows, start}
 use Rattle.run_rules.specs.Told.{replies_in, asked_in}
 use Rattle.stream_host.proofs.Pieces.{wholes_on, no_whole}
 use Rattle.run_rules.specs.Reports.{Course, Reported, settled_to, fewest}
+use Rattle.board_rules.specs.Openings.{first_opening}
 use Rattle.board_rules.specs.Cuts.{part_outcomes, part_actions, part_given, part_plan, has_halted, parts_of, counts_of, cancel_words_at, cancel_words_in}
 use Rattle.board_rules.specs.Parts.{IsHaltedPart, plan_behind}
 use Rattle.board_rules.specs.Turns.{owes_report}
-use Rattle.board_rules.specs.Steps.{Journal, port_log, taken_of, has_closed, has_alarmed, plan_of, answered_of, published_of, known_of, open_of, whole_of, lines_of, outcomes_of, before_of, left_of, closed_tells, planned_of, given_of, hand_of}
+use Rattle.board_rules.specs.Steps.{Journal, port_log, taken_of, has_closed, has_limited, plan_of, answered_of, published_of, known_of, open_of, whole_of, lines_of, outcomes_of, before_of, left_of, closed_tells, planned_of, given_of, hand_of}
 use Rattle.board_rules.specs.Ports.{has_held_in, has_slowed_in, has_changed_in, reports_in}
 use Rattle.board_rules.specs.Ports.{PortStep, PortLog, answered_in, changes_at, closed_at, has_cancelled_in, has_closed_in, has_reset_in, cancels_at, holds_at, published_in, reports_at, resets_at, taken_at, taken_in}
 use Rattle.board_rules.specs.Ports.PortStep.{answered, no_reply_room, no_piece_room, published}
@@ -77,88 +78,88 @@ by_doings P going ended (goes h) = going h
 by_doings P going ended (broke since before) = ended since before
 
 -- it has halted, and its open part is one that an alarm has ended
-abbrev Halted : Journal → Type 0
-Halted h = (has_halted h ≡ true) × IsHaltedPart (part_outcomes h) (plan_behind (parts_of h)) (part_actions h) (part_given h) (part_plan h)
+abbrev Halted : State → Journal → Type 0
+Halted first h = (has_halted h ≡ true) × IsHaltedPart (part_outcomes h) (plan_behind (parts_of (first_opening first) h)) (part_actions h) (part_given h) (part_plan h)
 
 -- what the laws of boards say of one that keeps to its rules
 pub record Kept (first : State) (h : Journal) : Type 0 where
   pub bytes : AreLines (taken_of h) (lines_of h) (open_of h) (whole_of h)
-  pub lines : outcomes_of h ≡ all_outcomes (drive_of h)
-  pub pieces_are : planned_of h ≡ all_given (drive_of h)
-  pub follow : Follows true (start first) (lines_of h) (all_passed (drive_of h)) (before_of first h)
-  pub told : replies_in (all_outcomes (drive_of h)) ++ closed_tells h ≡ without_reports (answered_of h) ++ tells (left_of h)
+  pub lines : outcomes_of h ≡ all_outcomes (drive_of first h)
+  pub pieces_are : planned_of h ≡ all_given (drive_of first h)
+  pub follow : Follows true (start first) (lines_of h) (all_passed (drive_of first h)) (before_of (first_opening first) h)
+  pub told : replies_in (all_outcomes (drive_of first h)) ++ closed_tells h ≡ without_reports (answered_of h) ++ tells (left_of (first_opening first) h)
   pub bye : (closed_tells h ≡ []) ⊎ (closed_tells h ≡ Bye ∷ [])
-  pub asked : asked_in (part_outcomes h) ≡ all_asked (part_actions h) ++ asks (left_of h)
-  pub drives : IsDrive (has_slowed_in (port_log h)) (before_of first h).alarmed (has_changed_in (port_log h) || ends_program (all_outcomes (drive_of h))) (cancel_words_in (port_log h)) (drive_of h)
-  pub alarmed : (before_of first h).alarmed ≡ has_alarmed h
-  pub open_plan : has_alarmed h ≡ false → part_plan h ≡ plan_of h
-  pub halt : has_alarmed h ≡ true → left_of h ≡ [] → Halted h
+  pub asked : asked_in (part_outcomes h) ≡ all_asked (part_actions h) ++ asks (left_of (first_opening first) h)
+  pub drives : IsDrive (has_slowed_in (port_log h)) (before_of (first_opening first) h).alarmed (has_changed_in (port_log h) || ends_program (all_outcomes (drive_of first h))) (cancel_words_in (port_log h)) (drive_of first h)
+  pub alarmed : (before_of (first_opening first) h).alarmed ≡ has_limited h
+  pub open_plan : has_limited h ≡ false → part_plan h ≡ plan_of h
+  pub halt : has_limited h ≡ true → left_of (first_opening first) h ≡ [] → Halted first h
   pub hand : given_of h ≡ published_of h ++ hand_of h
-  pub end : (given_of h ≡ all_given (drive_of h)) ⊎ (given_of h ≡ all_given (drive_of h) ++ pieces.End ∷ [])
-  pub fits : Reported (course_of first h) (reverse (answered_of h)) (known_of h)
+  pub end : (given_of h ≡ all_given (drive_of first h)) ⊎ (given_of h ≡ all_given (drive_of first h) ++ pieces.End ∷ [])
+  pub fits : Reported (course_of (first_opening first) h) (reverse (answered_of h)) (known_of h)
   pub within : ticks_published h ≤ ticks_given h
-  pub least : fewest (answers_in (answered_of h)) (all_outcomes (drive_of h)) (all_counts (drive_of h)) ≤ ticks_published h
-  pub one : length (all_outcomes (drive_of h)) ≤ answers_in (answered_of h) + 1
+  pub least : fewest (answers_in (answered_of h)) (all_outcomes (drive_of first h)) (all_counts (drive_of first h)) ≤ ticks_published h
+  pub one : length (all_outcomes (drive_of first h)) ≤ answers_in (answered_of h) + 1
   pub few : reports_among (answered_of h) + cond (owes_report h) 1 0 ≤ reports_in (port_log h)
 
 -- behind an alarm nothing is left to do only where the machine was halted
-halted_so : (first : State) (h : Journal) → Conducted first h → has_alarmed h ≡ true → left_of h ≡ [] → Halted h
+halted_so : (first : State) (h : Journal) → Conducted (first_opening first) h → has_limited h ≡ true → left_of (first_opening first) h ≡ [] → Halted first h
 halted_so first h conducted one free =
-    let was = free_halted first h conducted one free in
-    (was, subst (λ (start : Planned). IsHaltedPart (part_outcomes h) start (part_actions h) (part_given h) (part_plan h)) (starts_are h) (halted_part first h conducted was))
+    let was = free_halted (first_opening first) h conducted one free in
+    (was, subst (λ (start : Planned). IsHaltedPart (part_outcomes h) start (part_actions h) (part_given h) (part_plan h)) (starts_are (first_opening first) h) (halted_part (first_opening first) h conducted was))
 
 -- all lines but the last one that was begun are answered
-one_begun : (first : State) (h : Journal) → Conducted first h → length (outcomes_of h) ≤ answers_in (answered_of h) + 1
-one_begun first h conducted = by_phase (phase_is first h conducted) (count_is first h conducted)
+one_begun : (first : State) (h : Journal) → Conducted (first_opening first) h → length (outcomes_of h) ≤ answers_in (answered_of h) + 1
+one_begun first h conducted = by_phase (phase_is (first_opening first) h conducted) (count_is (first_opening first) h conducted)
   where
-    by_phase : Phase first h → length (done_of h) ≡ answers_in (answered_of h) → length (outcomes_of h) ≤ answers_in (answered_of h) + 1
+    by_phase : Phase (first_opening first) h → length (done_of h) ≡ answers_in (answered_of h) → length (outcomes_of h) ≤ answers_in (answered_of h) + 1
     by_phase (in_line p) count = let e = ap length p.begun in let l = length-append (done_of h) (p.o ∷ []) in omega (arith, e, l, count)
     by_phase (between p) count = let e = ap length p.all in omega (arith, e, count)
     by_phase (unanswered p) count = let e = ap length p.begun in let l = length-append (done_of h) (p.o ∷ []) in omega (arith, e, l, count)
 
 -- the ticks of the lines up to the last answered one that settles are published, since they were found done
-least_published : (first : State) (h : Journal) → Conducted first h → fewest (answers_in (answered_of h)) (outcomes_of h) (counts_of h) ≤ ticks_published h
+least_published : (first : State) (h : Journal) → Conducted (first_opening first) h → fewest (answers_in (answered_of h)) (outcomes_of h) (counts_of (first_opening first) h) ≤ ticks_published h
 least_published first h conducted =
-    let x = standing first h (phase_is first h conducted) in
+    let x = standing (first_opening first) h (phase_is (first_opening first) h conducted) in
     let k = length (done_of h) in
     let front : take k (outcomes_of h) ≡ done_of h =
     ap (take k) x.begun ∙ take-append-le k (done_of h) x.more (omega arith) ∙ take_all k (done_of h) (omega arith) in
-    let settled : fewest k (outcomes_of h) (counts_of h) ≡ settled_ticks h = ap (λ (os : List Outcome). sum (take (settled_to os) (counts_of h))) front in
-    let answered = ap (λ (n : ℕ). fewest n (outcomes_of h) (counts_of h)) (count_is first h conducted) in
-    let known = settled_is_known first h conducted in
-    let within = known_within first h conducted in
+    let settled : fewest k (outcomes_of h) (counts_of (first_opening first) h) ≡ settled_ticks (first_opening first) h = ap (λ (os : List Outcome). sum (take (settled_to os) (counts_of (first_opening first) h))) front in
+    let answered = ap (λ (n : ℕ). fewest n (outcomes_of h) (counts_of (first_opening first) h)) (count_is (first_opening first) h conducted) in
+    let known = settled_is_known (first_opening first) h conducted in
+    let within = known_within (first_opening first) h conducted in
     omega (arith, settled, answered, known, within)
 
 -- they hold of it
-pub keeps : (first : State) (h : Journal) → Conducted first h → Kept first h
+pub keeps : (first : State) (h : Journal) → Conducted (first_opening first) h → Kept first h
 keeps first h conducted =
-    let lines = lines_are first h conducted in
-    let pieces_same = pieces_are first h conducted in
+    let lines = lines_are (first_opening first) h conducted in
+    let pieces_same = pieces_are (first_opening first) h conducted in
     record {
-      bytes = bytes_are first h conducted;
+      bytes = bytes_are (first_opening first) h conducted;
       lines = lines;
       pieces_are = pieces_same;
-      follow = subst (λ (ps : List Passed). Follows true (start first) (lines_of h) ps (before_of first h)) (passed_are first h conducted) (lines_follow first h conducted);
-      told = ap (λ (os : List Outcome). replies_in os ++ closed_tells h) (sym lines) ∙ told_is first h conducted;
-      bye = one_bye first h conducted;
-      asked = asked_is first h conducted;
-      drives = subst (λ (t : Bool). IsDrive (has_slowed_in (port_log h)) t (has_changed_in (port_log h) || ends_program (all_outcomes (drive_of h))) (cancel_words_in (port_log h)) (drive_of h))
-          (sym (alarmed_is first h)) (drives first h conducted);
-      alarmed = alarmed_is first h;
-      open_plan = calm_plan first h conducted;
+      follow = subst (λ (ps : List Passed). Follows true (start first) (lines_of h) ps (before_of (first_opening first) h)) (passed_are (first_opening first) h conducted) (lines_follow (first_opening first) h conducted);
+      told = ap (λ (os : List Outcome). replies_in os ++ closed_tells h) (sym lines) ∙ told_is (first_opening first) h conducted;
+      bye = one_bye (first_opening first) h conducted;
+      asked = asked_is (first_opening first) h conducted;
+      drives = subst (λ (t : Bool). IsDrive (has_slowed_in (port_log h)) t (has_changed_in (port_log h) || ends_program (all_outcomes (drive_of first h))) (cancel_words_in (port_log h)) (drive_of first h))
+          (sym (alarmed_is (first_opening first) h)) (drives first h conducted);
+      alarmed = alarmed_is (first_opening first) h;
+      open_plan = calm_plan (first_opening first) h conducted;
       halt = halted_so first h conducted;
-      hand = hand_is first h conducted;
-      end = subst (λ (ps : List Piece). (given_of h ≡ ps) ⊎ (given_of h ≡ ps ++ pieces.End ∷ [])) pieces_same (one_end first h conducted);
-      fits = reported_is first h conducted;
-      within = published_within first h conducted;
-      least = subst (λ (os : List Outcome). fewest (answers_in (answered_of h)) os (counts_of h) ≤ ticks_published h) lines (least_published first h conducted);
+      hand = hand_is (first_opening first) h conducted;
+      end = subst (λ (ps : List Piece). (given_of h ≡ ps) ⊎ (given_of h ≡ ps ++ pieces.End ∷ [])) pieces_same (one_end (first_opening first) h conducted);
+      fits = reported_is (first_opening first) h conducted;
+      within = published_within (first_opening first) h conducted;
+      least = subst (λ (os : List Outcome). fewest (answers_in (answered_of h)) os (counts_of (first_opening first) h) ≤ ticks_published h) lines (least_published first h conducted);
       one = subst (λ (os : List Outcome). length os ≤ answers_in (answered_of h) + 1) lines (one_begun first h conducted);
-      few = owes_few first h conducted;
+      few = owes_few (first_opening first) h conducted;
     }
 
 -- what its reports are judged by, where all that the plan gave is counted
 abbrev course_so : State → Journal → Course
-course_so first h = course first (drive_of h) (flat_map ticks_of (all_given (drive_of h))) (has_held_in (port_log h)) (has_changed_in (port_log h))
+course_so first h = course first (drive_of first h) (flat_map ticks_of (all_given (drive_of first h))) (has_held_in (port_log h)) (has_changed_in (port_log h))
 
 -- the end has no ticks
 given_few : (given planned : List Piece) → (given ≡ planned) ⊎ (given ≡ planned ++ pieces.End ∷ []) → ticks_together given ≤ length (flat_map ticks_of planned)
@@ -166,24 +167,26 @@ given_few given planned (inl same) = let e = ap ticks_together same in omega (ar
 given_few given planned (inr whole) = let e = ap ticks_together whole in let n = no_more_ticks planned in omega (arith, e, n)
 
 -- what the plan gave has the ticks of the lines up to the last answered one that settles
-least_given : (first : State) (h : Journal) → Kept first h → fewest (answers_in (answered_of h)) (all_outcomes (drive_of h)) (all_counts (drive_of h)) ≤ length (flat_map ticks_of (all_given (drive_of h)))
-least_given first h c = let least = c.least in let within = c.within in let few = given_few (given_of h) (all_given (drive_of h)) c.end in omega (arith, least, within, few)
+least_given : (first : State) (h : Journal) → Kept first h → fewest (answers_in (answered_of h)) (all_outcomes (drive_of first h)) (all_counts (drive_of first h)) ≤ length (flat_map ticks_of (all_given (drive_of first h)))
+least_given first h c = let least = c.least in let within = c.within in let few = given_few (given_of h) (all_given (drive_of first h)) c.end in omega (arith, least, within, few)
 
 -- the reports fit what was given of the lines
-kept_reported : (first : State) (h : Journal) → Kept first h → HasReported first (drive_of h) (has_held_in (port_log h)) (has_changed_in (port_log h)) (answered_of h)
+kept_reported : (first : State) (h : Journal) → Kept first h → HasReported first (drive_of first h) (has_held_in (port_log h)) (has_changed_in (port_log h)) (answered_of h)
 kept_reported first h c =
-    let ticks = planned_ticks (given_of h) (all_given (drive_of h)) (published_of h) (hand_of h) c.end c.hand in (
+    let ticks = planned_ticks (given_of h) (all_given (drive_of first h)) (published_of h) (hand_of h) c.end c.hand in (
       known_of h,
-      reported_still (course_of first h) (course_so first h) (reverse (answered_of h)) (known_of h) c.within
+      reported_still (course_of (first_opening first) h) (course_so first h) (reverse (answered_of h)) (known_of h) c.within
           (record {
             first = refl;
+            place = refl;
+            locked = refl;
             more = [];
             outcomes = sym c.lines ∙ sym (append-nil (outcomes_of h));
-            low = λ k short. same_low k (outcomes_of h) (all_outcomes (drive_of h)) (counts_of h) c.lines;
+            low = λ k short. same_low k (outcomes_of h) (all_outcomes (drive_of first h)) (counts_of (first_opening first) h) c.lines;
             high = λ k n given asked. asked;
             later = flat_map ticks_of (hand_of h);
             ticks = ticks;
-            given = given_few (given_of h) (all_given (drive_of h)) c.end;
+            given = given_few (given_of h) (all_given (drive_of first h)) c.end;
             held = λ is. is;
             changed = λ none. none;
           }) c.fits,
@@ -204,28 +207,28 @@ begun_so : (first : State) (h : Journal) → Kept first h → BeginsWith (whole_
 begun_so first h c = record { rest = whole_lines (open_of h ++ cond (whole_of h) (10 ∷ []) []); is = lines_begun (taken_of h) (lines_of h) (open_of h) (whole_of h) c.bytes }
 
 -- where no line raised an alarm, the link was found closed
-closed_calmly : (h : Journal) → (has_closed h ≡ true) ⊎ (has_alarmed h ≡ true) → has_alarmed h ≡ false → has_closed h ≡ true
+closed_calmly : (h : Journal) → (has_closed h ≡ true) ⊎ (has_limited h ≡ true) → has_limited h ≡ false → has_closed h ≡ true
 closed_calmly h (inl closed) calm = closed
 closed_calmly h (inr one) calm = absurd (let e = sym one ∙ calm in cc)
 
-pub board_ran : (first : State) (h : Journal) → IsOpening first → Kept first h → IsFinished h → IsSpent h
+pub board_ran : (first : State) (h : Journal) → IsOpening first → Kept first h → IsFinished (first_opening first) h → IsSpent h
     → BoardRan (taken_of h) (has_closed h) (has_held_in (port_log h)) (has_slowed_in (port_log h)) (has_changed_in (port_log h)) (has_reset_in (port_log h)) (reports_in (port_log h)) (cancel_words_in (port_log h)) (answered_of h) (published_of h)
 board_ran first h opening c f s = record {
   first = first;
   lines = lines_of h;
-  drive = drive_of h;
-  last = before_of first h;
+  drive = drive_of first h;
+  last = before_of (first_opening first) h;
   opening = opening;
   begun = begun_so first h c;
   follows = c.follow;
-  said = replies_in (all_outcomes (drive_of h));
-  front = nothing_more (replies_in (all_outcomes (drive_of h)));
+  said = replies_in (all_outcomes (drive_of first h));
+  front = nothing_more (replies_in (all_outcomes (drive_of first h)));
   told = sym (append-nil (without_reports (answered_of h))) ∙ ap (λ (ts : List Task). without_reports (answered_of h) ++ tells ts) (sym f.left)
-      ∙ sym c.told ∙ ap (λ (rs : List Reply). replies_in (all_outcomes (drive_of h)) ++ rs) f.closed;
+      ∙ sym c.told ∙ ap (λ (rs : List Reply). replies_in (all_outcomes (drive_of first h)) ++ rs) f.closed;
   one = c.one;
   drives = c.drives;
-  made = (all_given (drive_of h));
-  kept = nothing_more (all_given (drive_of h));
+  made = (all_given (drive_of first h));
+  kept = nothing_more (all_given (drive_of first h));
   gave = sym (append-nil (published_of h)) ∙ ap (λ (ps : List Piece). published_of h ++ ps) (sym s.hand) ∙ sym c.hand ∙ s.given ∙ ap (λ (ps : List Piece). ps ++ pieces.End ∷ []) c.pieces_are;
   least = least_given first h c;
   reported = kept_reported first h c;
@@ -261,18 +264,18 @@ pub board_runs : (first : State) (h : Journal) → IsOpening first → Kept firs
 board_runs first h opening c = record {
   first = first;
   lines = lines_of h;
-  drive = drive_of h;
-  last = before_of first h;
+  drive = drive_of first h;
+  last = before_of (first_opening first) h;
   opening = opening;
   begun = begun_so first h c;
   follows = c.follow;
-  said = replies_in (all_outcomes (drive_of h));
-  front = nothing_more (replies_in (all_outcomes (drive_of h)));
-  told = bye_last (replies_in (all_outcomes (drive_of h))) (closed_tells h) (without_reports (answered_of h)) (tells (left_of h)) c.bye c.told;
+  said = replies_in (all_outcomes (drive_of first h));
+  front = nothing_more (replies_in (all_outcomes (drive_of first h)));
+  told = bye_last (replies_in (all_outcomes (drive_of first h))) (closed_tells h) (without_reports (answered_of h)) (tells (left_of (first_opening first) h)) c.bye c.told;
   drives = c.drives;
-  made = (all_given (drive_of h));
-  kept = nothing_more (all_given (drive_of h));
-  gave = end_last (given_of h) (all_given (drive_of h)) (published_of h) (hand_of h) c.end c.hand;
+  made = (all_given (drive_of first h));
+  kept = nothing_more (all_given (drive_of first h));
+  gave = end_last (given_of h) (all_given (drive_of first h)) (published_of h) (hand_of h) c.end c.hand;
   reported = kept_reported first h c;
   reports = kept_few h first c;
   whole = λ none. (refl, refl);
@@ -281,8 +284,8 @@ board_runs first h opening c = record {
 -- ---- a board whose run a reset has ended
 
 -- the pieces of its run: all that the plan gave, where the end is published, and else those that are published
-abbrev made_of : Journal → List Piece
-made_of h = cond (list_any is_end (published_of h)) (all_given (drive_of h)) (published_of h)
+abbrev made_of : State → Journal → List Piece
+made_of first h = cond (list_any is_end (published_of h)) (all_given (drive_of first h)) (published_of h)
 
 made_by : (given planned out hand : List Piece) (t : Bool) → list_any is_end out ≡ t → Others pieces.End planned → (given ≡ planned) ⊎ (given ≡ planned ++ pieces.End ∷ []) → given ≡ out ++ hand
     → BeginsWith planned (cond t planned out) × (out ++ cond t [] (pieces.End ∷ []) ≡ cond t planned out ++ pieces.End ∷ [])
@@ -296,14 +299,14 @@ made_by given planned out hand false none_out none end is =
     by_end (inr whole) = front_before pieces.End planned out hand (none_end out none_out) (sym whole ∙ is)
 
 -- no end is among what the plan gave
-pub none_given : (first : State) (h : Journal) → Conducted first h → Others pieces.End (all_given (drive_of h))
-none_given first h conducted = subst (λ (ps : List Piece). Others pieces.End ps) (pieces_are first h conducted) (planned_none first h conducted)
+pub none_given : (first : State) (h : Journal) → Conducted (first_opening first) h → Others pieces.End (all_given (drive_of first h))
+none_given first h conducted = subst (λ (ps : List Piece). Others pieces.End ps) (pieces_are (first_opening first) h conducted) (planned_none (first_opening first) h conducted)
 
 -- a board that kept to its rules until a reset ended its run
 pub record IsBroken (first : State) (since before : Journal) : Type 0 where
   pub opening : IsOpening first
   pub kept : Kept first before
-  pub none : Others pieces.End (all_given (drive_of before))
+  pub none : Others pieces.End (all_given (drive_of first before))
   pub broke_off : MayBreakOff before
   pub ends : EndsRun since before
 
@@ -348,33 +351,33 @@ words_same since before ends = same_log cancel_words_at cancel_words_in since be
 abbrev said_so : Journal → List Reply
 said_so before = without_reports (answered_of before)
 
-front_said : (first : State) (since before : Journal) → IsBroken first since before → BeginsWith (replies_in (all_outcomes (drive_of before))) (said_so before)
+front_said : (first : State) (since before : Journal) → IsBroken first since before → BeginsWith (replies_in (all_outcomes (drive_of first before))) (said_so before)
 front_said first since before k =
-    front_of Bye (replies_in (all_outcomes (drive_of before))) (closed_tells before) (said_so before) (tells (left_of before)) (no_bye (answered_of before) k.broke_off.unsaid) k.kept.bye k.kept.told
+    front_of Bye (replies_in (all_outcomes (drive_of first before))) (closed_tells before) (said_so before) (tells (left_of (first_opening first) before)) (no_bye (answered_of before) k.broke_off.unsaid) k.kept.bye k.kept.told
 
-abbrev IsMade : Journal → Type 0
-IsMade before = BeginsWith (all_given (drive_of before)) (made_of before) × (published_of before ++ cond (list_any is_end (published_of before)) [] (pieces.End ∷ []) ≡ made_of before ++ pieces.End ∷ [])
+abbrev IsMade : State → Journal → Type 0
+IsMade first before = BeginsWith (all_given (drive_of first before)) (made_of first before) × (published_of before ++ cond (list_any is_end (published_of before)) [] (pieces.End ∷ []) ≡ made_of first before ++ pieces.End ∷ [])
 
-made_is : (first : State) (since before : Journal) → IsBroken first since before → IsMade before
+made_is : (first : State) (since before : Journal) → IsBroken first since before → IsMade first before
 made_is first since before k =
-    made_by (given_of before) (all_given (drive_of before)) (published_of before) (hand_of before) (list_any is_end (published_of before)) refl k.none k.kept.end k.kept.hand
+    made_by (given_of before) (all_given (drive_of first before)) (published_of before) (hand_of before) (list_any is_end (published_of before)) refl k.none k.kept.end k.kept.hand
 
 -- they have the ticks of the lines up to the last answered one that settles
-least_made : (first : State) (before : Journal) → Kept first before → fewest (answers_in (answered_of before)) (all_outcomes (drive_of before)) (all_counts (drive_of before)) ≤ length (flat_map ticks_of (made_of before))
+least_made : (first : State) (before : Journal) → Kept first before → fewest (answers_in (answered_of before)) (all_outcomes (drive_of first before)) (all_counts (drive_of first before)) ≤ length (flat_map ticks_of (made_of first before))
 least_made first before kept = by_end (list_any is_end (published_of before))
   where
-    by_end : (t : Bool) → fewest (answers_in (answered_of before)) (all_outcomes (drive_of before)) (all_counts (drive_of before)) ≤ length (flat_map ticks_of (cond t (all_given (drive_of before)) (published_of before)))
+    by_end : (t : Bool) → fewest (answers_in (answered_of before)) (all_outcomes (drive_of first before)) (all_counts (drive_of first before)) ≤ length (flat_map ticks_of (cond t (all_given (drive_of first before)) (published_of before)))
     by_end true = least_given first before kept
     by_end false = kept.least
 
 -- its reports fit what it had done
 abbrev FitsSo : State → Journal → List Reply → Type 0
-FitsSo first before replies = HasReported first (drive_of before) (has_held_in (port_log before)) (has_changed_in (port_log before)) replies
+FitsSo first before replies = HasReported first (drive_of first before) (has_held_in (port_log before)) (has_changed_in (port_log before)) replies
 
 -- how far its end is, by what it has answered and published
 record Stage (first : State) (before : Journal) (replies : List Reply) (pieces_out : List Piece) : Type 0 where
   told : BeginsWith (said_so before ++ Bye ∷ []) (without_reports replies)
-  gave : BeginsWith (made_of before ++ pieces.End ∷ []) pieces_out
+  gave : BeginsWith (made_of first before ++ pieces.End ∷ []) pieces_out
   fits : FitsSo first before replies
   few : reports_among replies ≤ reports_in (port_log before)
 
@@ -389,11 +392,11 @@ bye_fits first before replies kept is =
 bye_few : (first : State) (before : Journal) (replies : List Reply) → Kept first before → replies ≡ answered_of before ++ Bye ∷ [] → reports_among replies ≤ reports_in (port_log before)
 bye_few first before replies kept is = let e = ap reports_among is in let s = reports_on (answered_of before) (Bye ∷ []) in let f = kept_few before first kept in omega (arith, e, s, f)
 
-whole_pieces : (first : State) (since before : Journal) → IsBroken first since before → (ending_of since before ≡ publishes_end → ⊥) → published_in (log_behind since before) ≡ made_of before ++ pieces.End ∷ []
+whole_pieces : (first : State) (since before : Journal) → IsBroken first since before → (ending_of since before ≡ publishes_end → ⊥) → published_in (log_behind since before) ≡ made_of first before ++ pieces.End ∷ []
 whole_pieces first since before k other = ended_pieces since before k.ends other ∙ (made_is first since before k).1
 
 -- where nothing was answered since
-unanswered_stage : (first : State) (before : Journal) (replies : List Reply) (pieces_out : List Piece) → Kept first before → replies ≡ answered_of before → BeginsWith (made_of before ++ pieces.End ∷ []) pieces_out
+unanswered_stage : (first : State) (before : Journal) (replies : List Reply) (pieces_out : List Piece) → Kept first before → replies ≡ answered_of before → BeginsWith (made_of first before ++ pieces.End ∷ []) pieces_out
     → Stage first before replies pieces_out
 unanswered_stage first before replies pieces_out kept same gave = record {
   told = record { rest = Bye ∷ []; is = ap (λ (rs : List Reply). without_reports rs ++ Bye ∷ []) (sym same) };
@@ -412,16 +415,16 @@ stage first since before publishes_end k e =
     unanswered_stage first before (answered_in (log_behind since before)) (published_in (log_behind since before)) k.kept (none_answered since before k.ends (λ o. absurd (let s = sym e ∙ o in cc)))
     (record {
       rest = pieces.End ∷ [];
-      is = ap (λ t. cond t (all_given (drive_of before)) (published_of before) ++ pieces.End ∷ []) none_out ∙ ap (λ (ps : List Piece). ps ++ pieces.End ∷ []) (sym un.0);
+      is = ap (λ t. cond t (all_given (drive_of first before)) (published_of before) ++ pieces.End ∷ []) none_out ∙ ap (λ (ps : List Piece). ps ++ pieces.End ∷ []) (sym un.0);
     })
 stage first since before tells_bye k e =
     unanswered_stage first before (answered_in (log_behind since before)) (published_in (log_behind since before)) k.kept (none_answered since before k.ends (λ o. absurd (let s = sym e ∙ o in cc)))
-    (all_pieces (made_of before ++ pieces.End ∷ []) (published_in (log_behind since before)) (whole_pieces first since before k (λ p. absurd (let s = sym e ∙ p in cc))))
+    (all_pieces (made_of first before ++ pieces.End ∷ []) (published_in (log_behind since before)) (whole_pieces first since before k (λ p. absurd (let s = sym e ∙ p in cc))))
 stage first since before over k e =
     let is = ended_answers since before k.ends e in
     record {
       told = record { rest = []; is = sym (with_bye before (answered_in (log_behind since before)) is) ∙ sym (append-nil (without_reports (answered_in (log_behind since before)))) };
-      gave = all_pieces (made_of before ++ pieces.End ∷ []) (published_in (log_behind since before)) (whole_pieces first since before k (λ p. absurd (let s = sym e ∙ p in cc)));
+      gave = all_pieces (made_of first before ++ pieces.End ∷ []) (published_in (log_behind since before)) (whole_pieces first since before k (λ p. absurd (let s = sym e ∙ p in cc)));
       fits = bye_fits first before (answered_in (log_behind since before)) k.kept is;
       few = bye_few first before (answered_in (log_behind since before)) k.kept is;
     }
@@ -431,8 +434,8 @@ runs_then : (first : State) (since before : Journal) (replies : List Reply) (pie
 runs_then first since before replies pieces_out k s = record {
   first = first;
   lines = lines_of before;
-  drive = drive_of before;
-  last = before_of first before;
+  drive = drive_of first before;
+  last = before_of (first_opening first) before;
   opening = k.opening;
   begun = begun_so first before k.kept;
   follows = k.kept.follow;
@@ -440,7 +443,7 @@ runs_then first since before replies pieces_out k s = record {
   front = front_said first since before k;
   told = s.told;
   drives = k.kept.drives;
-  made = made_of before;
+  made = made_of first before;
   kept = (made_is first since before k).0;
   gave = s.gave;
   reported = s.fits;
@@ -462,13 +465,13 @@ answers_still before replies told =
     let e = ap answers_in told in let l = answers_on (said_so before) (Bye ∷ []) in omega (arith, all, was, e, l)
 
 ran_then : (first : State) (since before : Journal) (replies : List Reply) (pieces_out : List Piece) → IsBroken first since before → without_reports replies ≡ said_so before ++ Bye ∷ []
-    → pieces_out ≡ made_of before ++ pieces.End ∷ [] → Stage first before replies pieces_out
+    → pieces_out ≡ made_of first before ++ pieces.End ∷ [] → Stage first before replies pieces_out
     → BoardRan (taken_of before) (has_closed before) (has_held_in (port_log before)) (has_slowed_in (port_log before)) (has_changed_in (port_log before)) true (reports_in (port_log before)) (cancel_words_in (port_log before)) replies pieces_out
 ran_then first since before replies pieces_out k told gave s = record {
   first = first;
   lines = lines_of before;
-  drive = drive_of before;
-  last = before_of first before;
+  drive = drive_of first before;
+  last = before_of (first_opening first) before;
   opening = k.opening;
   begun = begun_so first before k.kept;
   follows = k.kept.follow;
@@ -477,10 +480,10 @@ ran_then first since before replies pieces_out k told gave s = record {
   told = told;
   one = (let e = answers_still before replies told in let o = k.kept.one in omega (arith, e, o));
   drives = k.kept.drives;
-  made = made_of before;
+  made = made_of first before;
   kept = (made_is first since before k).0;
   gave = gave;
-  least = subst (λ (n : ℕ). fewest n (all_outcomes (drive_of before)) (all_counts (drive_of before)) ≤ length (flat_map ticks_of (made_of before))) (sym (answers_still before replies told)) (least_made first before k.kept);
+  least = subst (λ (n : ℕ). fewest n (all_outcomes (drive_of first before)) (all_counts (drive_of first before)) ≤ length (flat_map ticks_of (made_of first before))) (sym (answers_still before replies told)) (least_made first before k.kept);
   reported = s.fits;
   reports = s.few;
   whole = λ e. absurd cc;

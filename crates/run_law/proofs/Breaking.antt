@@ -37,14 +37,7 @@ pub no_bye : (rs : List Reply) → list_any is_bye rs ≡ false → Others repli
 no_bye [] none = tt
 no_bye (replies.Bye ∷ rs) none = absurd cc
 no_bye (replies.Report r ∷ rs) none = no_bye rs none
-no_bye (replies.Banner ∷ rs) none = ((λ e. absurd cc), no_bye rs none)
-no_bye (replies.Ok ∷ rs) none = ((λ e. absurd cc), no_bye rs none)
-no_bye (replies.Error n ∷ rs) none = ((λ e. absurd cc), no_bye rs none)
-no_bye (replies.Alarm n ∷ rs) none = ((λ e. absurd cc), no_bye rs none)
-no_bye (replies.Message m ∷ rs) none = ((λ e. absurd cc), no_bye rs none)
-no_bye (replies.Setting n v ∷ rs) none = ((λ e. absurd cc), no_bye rs none)
-no_bye (replies.Modes m ∷ rs) none = ((λ e. absurd cc), no_bye rs none)
-no_bye (replies.Offset row at ∷ rs) none = ((λ e. absurd cc), no_bye rs none)
+no_bye (_ ∷ rs) none = ((λ e. absurd cc), no_bye rs none)
 
 pub bye_behind : (rs : List Reply) → without_reports (rs ++ replies.Bye ∷ []) ≡ without_reports rs ++ replies.Bye ∷ []
 bye_behind rs = filter-append is_plain rs (replies.Bye ∷ [])

@@ -13,7 +13,7 @@ use Rattle.realtime_flags.specs.Bytes.{flag_of_row, flag_of_byte}
 use Rattle.stream_host.specs.Steps.{PortLog as HostLog}
 use Rattle.stream_host.specs.Steps as hosts
 use Rattle.board_rules.specs.Ports.{PortLog as BoardLog, has_held_in, has_cancelled_in, has_slowed_in}
-use Rattle.board_rules.specs.Ports.PortStep.{took, found_empty, found_closed, found_free, answered, reported, no_reply_room, took_exec, took_ovr, published, no_piece_room, loaded}
+use Rattle.board_rules.specs.Ports.PortStep.{took_exec}
 use Rattle.run_law.specs.Flags.{is_hold, is_cancel, is_slow}
 use Rattle.run_law.specs.Taking.{raises_in, takes_in}
 use Rattle.run_law.proofs.Taking.{IsByteOf, flag_was_raised, held_by_word, hold_bytes, hold_flag, hold_taken, taken_was_down}
@@ -38,18 +38,8 @@ asks_cancel_bit word e = cancel_bit word.0 e
 -- where a word that asks for a cancel was taken, its flag was
 pub cancel_taken : (l : BoardLog) → has_cancelled_in l ≡ true → 0 < takes_with cancel_flag (takes_in l)
 cancel_taken [] e = absurd cc
-cancel_taken (took b ∷ l) e = cancel_taken l e
-cancel_taken (found_empty ∷ l) e = cancel_taken l e
-cancel_taken (found_closed ∷ l) e = cancel_taken l e
-cancel_taken (found_free n ∷ l) e = cancel_taken l e
-cancel_taken (answered r ∷ l) e = cancel_taken l e
-cancel_taken (reported r ∷ l) e = cancel_taken l e
-cancel_taken (no_reply_room ∷ l) e = cancel_taken l e
 cancel_taken (took_exec word ∷ l) e = held_by_word (asks_cancel word) (has_cancelled_in l) (nat_eq (bit_at word.0 4) 1) (takes_with cancel_flag (takes_in l)) (asks_cancel_bit word) (cancel_taken l) e
-cancel_taken (took_ovr word ∷ l) e = cancel_taken l e
-cancel_taken (published p ∷ l) e = cancel_taken l e
-cancel_taken (no_piece_room n ∷ l) e = cancel_taken l e
-cancel_taken (loaded n ∷ l) e = cancel_taken l e
+cancel_taken (_ ∷ l) e = cancel_taken l e
 
 is_cancel_flag : Option Flag → Bool
 is_cancel_flag None = false

@@ -14,13 +14,13 @@ use Rattle.system_lines.specs.Commands.{kind_of}
 use Rattle.run_rules.specs.declared.State.{State}
 use Rattle.run_rules.specs.Lines.{lines_of, whole_lines, onto_first, onto_line}
 use Rattle.run_rules.specs.Readings.{largest_job, job_of}
-use Rattle.run_rules.specs.Work.{Outcome, is_alarm}
+use Rattle.run_rules.specs.Work.{Outcome, is_limit}
 use Rattle.run_rules.specs.Outcomes.{Before, Becomes, ByKept, ByDollar, ByCode, Passed, Follows, start, after, refused, at_place, has_cause, either, most_kept, became_of}
 use Rattle.run_rules.specs.Outcomes.Passed.{a_line, a_cut}
 use Rattle.run_rules.proofs.Going.{as_many}
 use Rattle.run_law.specs.Drives.{all_outcomes, all_passed}
 use Rattle.run_law.proofs.Driving.{became_all}
-use Rattle.run_rules.specs.Told.{is_error, errors_in, alarms_in}
+use Rattle.run_rules.specs.Told.{is_error, errors_in, limits_in}
 use Rattle.run_rules.proofs.Determined.{one_outcome, one_opening}
 use Rattle.stream_host.specs.declared.Reading.{Reading}
 use Rattle.stream_host.specs.declared.Reading.TheVariants.{Ended, Failed, Large, Stopped}
@@ -86,7 +86,7 @@ none_alarmed b u [] g = ap (λ (x : Before). x.alarmed) g
 none_alarmed b u (a_line p ∷ ps) g = absurd g
 none_alarmed b u (a_cut k at ∷ ps) g = none_alarmed (at_place at b) u ps g.1
 
-calm_front : (b t u : Before) (ks rest : List (List ℕ)) (os : List Outcome) (ps : List Passed) → Follows false b (ks ++ rest) (map a_line os) t → AreServed b (ks ++ rest) os → alarms_in os ≡ 0
+calm_front : (b t u : Before) (ks rest : List (List ℕ)) (os : List Outcome) (ps : List Passed) → Follows false b (ks ++ rest) (map a_line os) t → AreServed b (ks ++ rest) os → limits_in os ≡ 0
     → b.alarmed ≡ false → Follows true b ks ps u → u.alarmed ≡ false
 calm_front b t u [] rest os ps f served none free g = none_alarmed b u ps g ∙ free
 calm_front b t u (l ∷ ks) rest [] ps f served none free g = absurd f
@@ -94,7 +94,7 @@ calm_front b t u (l ∷ ks) rest (o ∷ os) (a_cut k at ∷ ps) f served none fr
 calm_front b t u (l ∷ ks) rest (o ∷ os) [] f served none free g = absurd g
 calm_front b t u (l ∷ ks) rest (o ∷ os) (a_line p ∷ ps) f served none free g =
     let one : p ≡ o = one_outcome b l p o (still b l p served.0 served.1 g.0.becomes) f.0.becomes in
-    let parts = first_none (is_alarm o.answer) (alarms_in (o ∷ os)) (alarms_in os) (sum_by-cons (λ (x : Outcome). cond (is_alarm x.answer) 1 0) o os) none in
+    let parts = first_none (is_limit o.answer) (limits_in (o ∷ os)) (limits_in os) (sum_by-cons (λ (x : Outcome). cond (is_limit x.answer) 1 0) o os) none in
     calm_front (after b o) t u ks rest os ps f.1 served.2 parts.1 parts.0 (subst (λ q. Follows true (after b q) ks ps u) one g.1)
 
 -- a line with too many bytes is an error
@@ -223,9 +223,7 @@ whole_front (c ∷ cs) = by_test (nat_eq c 10) (lines_of cs) (whole_lines cs) (w
 -- so the lines of what was read of a job begin those of the job
 read_lines : (r : Reading) (bytes read : List ℕ) → BeginsWith bytes read → (r ≡ Ended → bytes ≡ read) → BeginsWith (lines_of bytes) (lines_read r read)
 read_lines Ended bytes read begins all = record { rest = []; is = ap lines_of (all refl) ∙ sym (append-nil (lines_of read)) }
-read_lines Failed bytes read begins all = begins_on (lines_of bytes) (whole_lines bytes) (whole_lines read) (whole_front bytes) (lines_begin bytes read begins)
-read_lines Large bytes read begins all = begins_on (lines_of bytes) (whole_lines bytes) (whole_lines read) (whole_front bytes) (lines_begin bytes read begins)
-read_lines Stopped bytes read begins all = begins_on (lines_of bytes) (whole_lines bytes) (whole_lines read) (whole_front bytes) (lines_begin bytes read begins)
+read_lines _ bytes read begins all = begins_on (lines_of bytes) (whole_lines bytes) (whole_lines read) (whole_front bytes) (lines_begin bytes read begins)
 
 while_front : (p : List ℕ → Bool) (lines : List (List ℕ)) → BeginsWith lines (take_while p lines)
 while_front p lines = record { rest = drop (prefix_len p lines) lines; is = sym (take-append-drop (prefix_len p lines) lines) }
@@ -242,36 +240,36 @@ sent_front r bytes read lines later begins all sent =
 pub complete : (job_was job_is : SourceState) (was is : Sinks) (end : RunEnd) (run : IsRun job_was job_is was is end) (job : IsAcceptedJob job_was)
     → end.source_failed ≡ false → IsComplete job.bytes run.read run.lines job.outcomes (all_outcomes run.drive) end
 complete job_was job_is was is end run job well =
-    let front = read_front job_was.left job_is.left job.bytes run.read job.told run.taken in
+    let front = read_front job_was.left job_is.left job.bytes run.read job.told run.sending.taken in
     let few : length run.read ≤ largest_job =
     (let e = ap length front.0.is in let a = length-append run.read front.0.rest in let f = job.few in omega arith) in
-    let so_far = run.so_far in
+    let so_far = run.sending.so_far in
     let short = none_ends (lines_of job.bytes) (short_lines (start job.first) job.last (lines_of job.bytes) job.outcomes job.follows job.accepted) job.going in
     let scanned : job.bytes ≡ run.scanned ++ (so_far.scans.left ++ front.0.rest) =
     front.0.is ∙ ap (λ (x : List ℕ). x ++ front.0.rest) (sym (whole_job run.read few) ∙ so_far.scans.front)
     ∙ append_assoc run.scanned so_far.scans.left front.0.rest in
     let none : ends_in run.scanned ≡ false = none_ends_in job.bytes run.scanned (so_far.scans.left ++ front.0.rest) scanned short in
     let unreset = none_served (lines_of run.scanned) (either_none (lines_of run.scanned) none).1 in
-    let first : run.first ≡ job.first = one_opening run.first job.first run.opening job.opening in
+    let first : run.first ≡ job.first = one_opening run.first job.first run.telling.opening job.opening in
     let begun : BeginsWith (map plain (lines_of job.bytes)) run.begun =
     begins_on (map plain (lines_of job.bytes)) (map plain run.lines) run.begun
     (plain_front (lines_of job.bytes) run.lines
-    (sent_front run.reading job.bytes run.read run.lines so_far.later front.0 (λ over. front.1 (run.at_end over)) (ap (lines_to_send run.reading) (sym (whole_job run.read few)) ∙ so_far.sent)))
-    run.begins in
+    (sent_front run.reading job.bytes run.read run.lines so_far.later front.0 (λ over. front.1 (run.sending.at_end over)) (ap (lines_to_send run.reading) (sym (whole_job run.read few)) ∙ so_far.sent)))
+    run.telling.begins in
     let calm : run.last.alarmed ≡ false =
     calm_front (start job.first) job.last run.last run.begun begun.rest job.outcomes (all_passed run.drive)
     (subst (λ (ls : List (List ℕ)). Follows false (start job.first) ls (map a_line job.outcomes) job.last) begun.is job.follows)
     (subst (λ (ls : List (List ℕ)). AreServed (start job.first) ls job.outcomes) begun.is job.served) job.calm refl
-    (subst (λ (s : State). Follows true (start s) run.begun (all_passed run.drive) run.last) first run.follows) in
-    let sent = run.sent (run.alarm unreset ∙ calm) in
-    let over : run.reading ≡ Ended = ended run.reading (length run.read) run.scanned sent.scans.scans.left sent.fits few (sym run.failed ∙ well) sent.scans.whole none in
-    let all : run.read ≡ job.bytes = sym (front.1 (run.at_end over)) in
+    (subst (λ (s : State). Follows true (start s) run.begun (all_passed run.drive) run.last) first run.telling.follows) in
+    let sent = run.sending.sent (run.telling.alarm unreset ∙ calm) in
+    let over : run.reading ≡ Ended = ended run.reading (length run.read) run.scanned sent.scans.scans.left sent.fits few (sym run.ending.failed ∙ well) sent.scans.whole none in
+    let all : run.read ≡ job.bytes = sym (front.1 (run.sending.at_end over)) in
     let lines : run.lines ≡ lines_of job.bytes =
     sent.sent ∙ ap (λ r. lines_to_send r (job_of run.read)) over ∙ ap (lines_to_send Ended) (whole_job run.read few ∙ all) ∙ all_are_sent Ended job.bytes short in
-    let carried = run.whole unreset calm in
+    let carried = run.ending.whole unreset calm in
     let follows : Follows true (start job.first) (map plain (lines_of job.bytes)) (all_passed run.drive) run.last =
     subst (λ (s : State). Follows true (start s) (map plain (lines_of job.bytes)) (all_passed run.drive) run.last) first
-    (subst (λ (ls : List (List ℕ)). Follows true (start run.first) ls (all_passed run.drive) run.last) (carried.begun_are ∙ ap (map plain) lines) run.follows) in
+    (subst (λ (ls : List (List ℕ)). Follows true (start run.first) ls (all_passed run.drive) run.last) (carried.begun_are ∙ ap (map plain) lines) run.telling.follows) in
     let same : all_outcomes run.drive ≡ job.outcomes =
     sym (became_all run.drive) ∙ same_outcomes (start job.first) job.last run.last (map plain (lines_of job.bytes)) job.outcomes (all_passed run.drive) job.follows job.served follows in
     record {

@@ -3,9 +3,10 @@ use Rattle.std.proofs.Common.{◌≡◌, ℕ, ◌||◌, Bool, true, false, List,
 use Rattle.std.specs.List.{flat_map}
 use Rattle.std.proofs.lemmas.Grind.{flat_map-append}
 use Rattle.std.proofs.lemmas.List.Elements.{filter-append}
+use Rattle.board_rules.specs.Openings.{first_opening}
 use Rattle.board_rules.specs.Ports.{has_slowed_in, has_changed_in}
-use Rattle.board_rules.specs.Steps.{Journal, port_log, has_alarmed, plan_of, left_of}
-use Rattle.board_rules.specs.Steps.Step.{at_port, began, did, made_end, evened, paused, became, cut, halted, closing, turned}
+use Rattle.board_rules.specs.Steps.{Journal, port_log, has_limited, plan_of, left_of}
+use Rattle.board_rules.specs.Steps.Step.{cut}
 use Rattle.board_rules.specs.Parts.{Part, AreDisturbedOnlyBy, plan_behind, lines_in, actions_in, pieces_in, passed_in}
 use Rattle.board_rules.specs.Cuts.{part_outcomes, part_actions, part_given, part_start, part_plan, has_halted, parts_of, cancel_words_in}
 use Rattle.board_rules.specs.Conduct.{Conducted}
@@ -28,7 +29,7 @@ use Rattle.run_rules.specs.Outcomes.Passed.{a_line, a_cut}
 use Rattle.run_rules.specs.Told.{asked_in}
 use Rattle.run_rules.specs.Work.{Outcome, asks}
 use Rattle.run_rules.proofs.Going.{became_lines, became_on}
-use Rattle.flight.specs.Places.{end_of}
+use Rattle.flight.specs.Places.{end_of, origin}
 use Rattle.step_line.specs.Asking.{Asked, moves_of, ticks_among, ticks_of_all, ticks_of_one}
 use Rattle.step_line.specs.Pieces.{ticks_of}
 use Rattle.step_line.specs.Records.{is_tick, IsMark}
@@ -50,14 +51,14 @@ abbrev IsDisturbed : (slowed alarmed changed : Bool) → Drive → Type 0
 IsDisturbed slowed alarmed changed d = DisturbedOnlyBy (slowed || alarmed) changed d.actions × AreDisturbedOnlyBy slowed changed d.parts
 
 -- its open part is that of the journal, whose plan is kept as it was where the machine was halted
-abbrev pub drive_of : Journal → Drive
-drive_of h = record { parts = parts_of h; since = part_outcomes h; actions = part_actions h; given = part_given h; plan = part_plan h; halted = has_halted h }
+abbrev pub drive_of : State → Journal → Drive
+drive_of first h = record { parts = parts_of (first_opening first) h; since = part_outcomes h; actions = part_actions h; given = part_given h; plan = part_plan h; halted = has_halted h }
 
 -- the plan with which the open part began is the one that the last cut has cleared
-part_run : (first : State) (h : Journal) → Conducted first h → IsStart (plan_behind (parts_of h)) × Plans most_blocks (plan_behind (parts_of h)) (part_actions h) (part_given h) (part_plan h)
+part_run : (first : State) (h : Journal) → Conducted (first_opening first) h → IsStart (plan_behind (parts_of (first_opening first) h)) × Plans most_blocks (plan_behind (parts_of (first_opening first) h)) (part_actions h) (part_given h) (part_plan h)
 part_run first h c =
-    let p = open_part first h c in
-    subst (λ (start : Planned). IsStart start × Plans most_blocks start (part_actions h) (part_given h) (part_plan h)) (starts_are h) (p.starts, p.run)
+    let p = open_part (first_opening first) h c in
+    subst (λ (start : Planned). IsStart start × Plans most_blocks start (part_actions h) (part_given h) (part_plan h)) (starts_are (first_opening first) h) (p.starts, p.run)
 
 parts_never : (slowed changed : Bool) (ps : List Part) → AreDisturbedOnlyBy slowed changed ps → NeverResets (actions_in ps)
 parts_never slowed changed [] is = tt
@@ -65,78 +66,69 @@ parts_never slowed changed (p ∷ ps) is =
     resets_on (actions_in ps) (p.actions ++ Clear ∷ Mark (marks.Cut p.number) ∷ []) (parts_never slowed changed ps is.1)
     (resets_on p.actions (Clear ∷ Mark (marks.Cut p.number) ∷ []) (keeps_on p.actions (disturbed_keeps slowed changed p.actions is.0)) (tt, (tt, tt)))
 
-unreset : (first : State) (h : Journal) → Conducted first h → NeverResets (actions_in (parts_of h))
-unreset first h c = parts_never (has_slowed_in (port_log h)) _ (parts_of h) (disturbed_is first h c).1
+unreset : (first : State) (h : Journal) → Conducted (first_opening first) h → NeverResets (actions_in (parts_of (first_opening first) h))
+unreset first h c = parts_never (has_slowed_in (port_log h)) _ (parts_of (first_opening first) h) (disturbed_is (first_opening first) h c).1
 
 -- a plan that stands still is cleared, and the cut is marked
 cut_gives : (p : Planned) (k : ℕ) → p.speed ≡ 0 → IsMark (marks.Cut k) → Plans most_blocks p (Clear ∷ Mark (marks.Cut k) ∷ []) (pieces.Mark (marks.Cut k) ∷ []) (cleared p)
 cut_gives p k still mark = (still, (refl, mark, record { blocks = refl; speed = refl }, refl))
 
 -- the parts that cuts have ended are one run, up to where the open part begins
-closed_run : (first : State) (h : Journal) → Conducted first h → IsPlannerRun (actions_in (parts_of h)) (pieces_in (parts_of h)) (part_start h)
+closed_run : (first : State) (h : Journal) → Conducted (first_opening first) h → IsPlannerRun (actions_in (parts_of (first_opening first) h)) (pieces_in (parts_of (first_opening first) h)) (part_start h)
 closed_run first [] c = refl
-closed_run first (at_port e ∷ h) c = closed_run first h c.1
-closed_run first (began o ∷ h) c = closed_run first h c.1
-closed_run first (did a ps ∷ h) c = closed_run first h c.1
-closed_run first (made_end ∷ h) c = closed_run first h c.1
-closed_run first (evened ∷ h) c = closed_run first h c.1
-closed_run first (paused ∷ h) c = closed_run first h c.1
-closed_run first (became call m ∷ h) c = closed_run first h c.1
 closed_run first (cut k ∷ h) c =
-    let part = subst (λ (q : Planned). Plans most_blocks (part_start h) (part_actions h) (part_given h) q) (calm_plan first h c.1 c.0.calm) (open_part first h c.1).run in
-    goes_on most_blocks fresh_plan (part_start h) (cleared (plan_of h)) (actions_in (parts_of h)) (part_actions h ++ Clear ∷ Mark (marks.Cut k) ∷ [])
-    (pieces_in (parts_of h)) (part_given h ++ pieces.Mark (marks.Cut k) ∷ []) (unreset first h c.1) (closed_run first h c.1)
+    let part = subst (λ (q : Planned). Plans most_blocks (part_start h) (part_actions h) (part_given h) q) (calm_plan (first_opening first) h c.1 c.0.calm) (open_part (first_opening first) h c.1).run in
+    goes_on most_blocks fresh_plan (part_start h) (cleared (plan_of h)) (actions_in (parts_of (first_opening first) h)) (part_actions h ++ Clear ∷ Mark (marks.Cut k) ∷ [])
+    (pieces_in (parts_of (first_opening first) h)) (part_given h ++ pieces.Mark (marks.Cut k) ∷ []) (unreset first h c.1) (closed_run first h c.1)
     (goes_on most_blocks (part_start h) (plan_of h) (cleared (plan_of h)) (part_actions h) (Clear ∷ Mark (marks.Cut k) ∷ []) (part_given h) (pieces.Mark (marks.Cut k) ∷ [])
-    (keeps_on (part_actions h) (never_clears first h c.1)) part (cut_gives (plan_of h) k c.0.stopped.slowed.speed c.0.mark))
-closed_run first (halted ∷ h) c = closed_run first h c.1
-closed_run first (closing ∷ h) c = closed_run first h c.1
-closed_run first (turned t ∷ h) c = closed_run first h c.1
+    (keeps_on (part_actions h) (never_clears (first_opening first) h c.1)) part (cut_gives (plan_of h) k c.0.stopped.slowed.speed c.0.mark))
+closed_run first (_ ∷ h) c = closed_run first h c.1
 
 -- all of it is one run
-all_run : (first : State) (h : Journal) → Conducted first h → IsPlannerRun (all_actions (drive_of h)) (all_given (drive_of h)) (part_plan h)
+all_run : (first : State) (h : Journal) → Conducted (first_opening first) h → IsPlannerRun (all_actions (drive_of first h)) (all_given (drive_of first h)) (part_plan h)
 all_run first h c =
-    goes_on most_blocks fresh_plan (part_start h) (part_plan h) (actions_in (parts_of h)) (part_actions h) (pieces_in (parts_of h)) (part_given h) (unreset first h c) (closed_run first h c) (open_part first h c).run
+    goes_on most_blocks fresh_plan (part_start h) (part_plan h) (actions_in (parts_of (first_opening first) h)) (part_actions h) (pieces_in (parts_of (first_opening first) h)) (part_given h) (unreset first h c) (closed_run first h c) (open_part (first_opening first) h c).run
 
-pub drives : (first : State) (h : Journal) → Conducted first h
-    → IsDrive (has_slowed_in (port_log h)) (has_alarmed h) (has_changed_in (port_log h) || ends_program (all_outcomes (drive_of h))) (cancel_words_in (port_log h)) (drive_of h)
+pub drives : (first : State) (h : Journal) → Conducted (first_opening first) h
+    → IsDrive (has_slowed_in (port_log h)) (has_limited h) (has_changed_in (port_log h) || ends_program (all_outcomes (drive_of first h))) (cancel_words_in (port_log h)) (drive_of first h)
 drives first h c =
     let part = part_run first h c in
-    let was = disturbed_is first h c in
-    let lines = lines_are first h c in
+    let was = disturbed_is (first_opening first) h c in
+    let lines = lines_are (first_opening first) h c in
     let slowed = has_slowed_in (port_log h) in
-    let alarmed = has_alarmed h in
+    let alarmed = has_limited h in
     let changed = has_changed_in (port_log h) in
-    let disturbed = subst (λ (os : List Outcome). IsDisturbed slowed alarmed (changed || ends_program os) (drive_of h)) lines was in
+    let disturbed = subst (λ (os : List Outcome). IsDisturbed slowed alarmed (changed || ends_program os) (drive_of first h)) lines was in
     record {
-      closed = parts_are first h c;
-      joined = joined_are h;
-      numbered = numbers_are first h c;
-      few = few_cuts first h c;
+      closed = parts_are (first_opening first) h c;
+      joined = joined_are (first_opening first) h;
+      numbered = numbers_are (first_opening first) h c;
+      few = few_cuts (first_opening first) h c;
       starts = part.0;
       part = part.1;
       run = all_run first h c;
       before = disturbed.1;
       disturbed = disturbed.0;
-      halts = halted_alarmed first h c;
-      asks = record { rest = asks (left_of h); is = asked_is first h c };
+      halts = halted_alarmed (first_opening first) h c;
+      asks = record { rest = asks (left_of (first_opening first) h); is = asked_is (first_opening first) h c };
     }
 
 -- ---- of every drive
 
-became_part : (p : Part) (ps : List Part) → became_of (passed_in (p ∷ ps)) ≡ became_of (passed_in ps) ++ p.outcomes
+became_part : (p : Part) (ps : List Part) → became_of (passed_in origin (p ∷ ps)) ≡ became_of (passed_in origin ps) ++ p.outcomes
 became_part p ps =
-    became_on (passed_in ps) (map a_line p.outcomes ++ a_cut p.number (end_of (pieces_in ps ++ p.given)) ∷ [])
-    ∙ ap (λ (os : List Outcome). became_of (passed_in ps) ++ os)
+    became_on (passed_in origin ps) (map a_line p.outcomes ++ a_cut p.number (end_of (pieces_in ps ++ p.given)) ∷ [])
+    ∙ ap (λ (os : List Outcome). became_of (passed_in origin ps) ++ os)
     (became_on (map a_line p.outcomes) (a_cut p.number (end_of (pieces_in ps ++ p.given)) ∷ []) ∙ append-nil (became_of (map a_line p.outcomes)) ∙ became_lines p.outcomes)
 
-became_parts : (ps : List Part) → became_of (passed_in ps) ≡ lines_in ps
+became_parts : (ps : List Part) → became_of (passed_in origin ps) ≡ lines_in ps
 became_parts [] = refl
 became_parts (p ∷ ps) = became_part p ps ∙ ap (λ (os : List Outcome). os ++ p.outcomes) (became_parts ps)
 
 -- the lines that were passed are all lines
 pub became_all : (d : Drive) → became_of (all_passed d) ≡ all_outcomes d
 became_all d =
-    became_on (passed_in d.parts) (map a_line d.since)
+    became_on (passed_in origin d.parts) (map a_line d.since)
     ∙ ap (λ (os : List Outcome). os ++ became_of (map a_line d.since)) (became_parts d.parts)
     ∙ ap (λ (os : List Outcome). lines_in d.parts ++ os) (became_lines d.since)
 

@@ -1,14 +1,14 @@
 -- A pulse and a recorder that have done their work have run.
-use Rattle.std.proofs.Common.{◌≡◌, ℕ, Bool, true, false, ◌&&◌, ◌||◌, [], ◌∷◌, length, reverse, nat_eq, refl, sym, ap, ◌∙◌, subst, arith}
+use Rattle.std.proofs.Common.{◌≡◌, ℕ, Bool, true, false, ◌&&◌, ◌||◌, [], ◌∷◌, ◌++◌, length, reverse, nat_eq, refl, sym, ap, ◌∙◌, subst, arith}
 use Rattle.std.proofs.lemmas.Bool.Decides.{nat_tests}
 use Rattle.std.proofs.lemmas.List.{nil_from_length, reverse-append, reverse-reverse}
 use Rattle.outside.specs.Causes.{SinkState}
 use Rattle.step_line.specs.declared.Piece.TheVariants as pieces
 use Rattle.step_line.specs.Ordering.{InTurn}
-use Rattle.pulse_engine.specs.Logs.{PieceLog, RecordLog, pieces_of, counted, records_put, end_is_put}
+use Rattle.pulse_engine.specs.Logs.{PieceLog, RecordLog, pieces_of, got_since, halts_of, counted, records_put, end_is_put}
 use Rattle.pulse_engine.specs.Steps.{Pulsing}
 use Rattle.pulse_engine.specs.Turns.{PulseFits}
-use Rattle.pulse_engine.proofs.Whole.{recorded_each, done_put}
+use Rattle.pulse_engine.proofs.Whole.{recorded_each, never_halted, all_since, done_put}
 use Rattle.text_writer.specs.Writers.{Writing}
 use Rattle.step_record.specs.Taking.{Log, records}
 use Rattle.step_record.specs.Recording.{RecorderFits, Rests}
@@ -18,24 +18,24 @@ use Rattle.run_law.specs.SoFar.{PulseRuns, RecorderRuns}
 
 -- ---- the pulse
 
-turns_on : (h : PieceLog) → InTurn (pieces_of h) → InTurn (reverse (reverse (pieces_of h)))
-turns_on h turns = subst InTurn (sym (reverse-reverse (pieces_of h))) turns
+turns_on : (h : PieceLog) → halts_of h ≡ [] → InTurn (got_since h) → InTurn (reverse (reverse (pieces_of h)))
+turns_on h unhalted turns = subst InTurn (all_since h unhalted ∙ sym (reverse-reverse (pieces_of h))) turns
 
-pub pulse_ran : (p : Pulsing) (h : PieceLog) (k : RecordLog) → PulseFits p h k → end_is_put k ≡ true → PulseRan (reverse (pieces_of h)) (counted h) (records_put k)
-pulse_ran p h k f ended =
+pub pulse_ran : (p : Pulsing) (h : PieceLog) (k : RecordLog) → PulseFits p h k → halts_of h ≡ [] → end_is_put k ≡ true → PulseRan (reverse (pieces_of h)) (counted h) (records_put k)
+pulse_ran p h k f unhalted ended =
     let d = done_put p h k f ended in
     record {
-      turns = turns_on h f.turns;
+      turns = turns_on h unhalted f.turns;
       before = reverse d.1.0;
-      ends = ap reverse d.1.1 ∙ reverse-append (pieces.End ∷ []) d.1.0;
-      records = d.0 ∙ recorded_each (pieces_of h);
+      ends = ap reverse (sym (all_since h unhalted) ∙ d.1.1) ∙ reverse-append (pieces.End ∷ []) d.1.0;
+      records = never_halted h (records_put k) unhalted d.0 ∙ recorded_each (pieces_of h);
       ticks = d.3;
     }
 
-pub pulse_runs : (p : Pulsing) (h : PieceLog) (k : RecordLog) → PulseFits p h k → PulseRuns (reverse (pieces_of h)) (records_put k)
-pulse_runs p h k f = record {
-  turns = turns_on h f.turns;
-  records = record { rest = p.waiting; is = sym (recorded_each (pieces_of h)) ∙ f.records };
+pub pulse_runs : (p : Pulsing) (h : PieceLog) (k : RecordLog) → PulseFits p h k → halts_of h ≡ [] → PulseRuns (reverse (pieces_of h)) (records_put k)
+pulse_runs p h k f unhalted = record {
+  turns = turns_on h unhalted f.turns;
+  records = record { rest = p.waiting; is = sym (recorded_each (pieces_of h)) ∙ sym (never_halted h (records_put k ++ p.waiting) unhalted f.records) };
 }
 
 -- ---- the recorder

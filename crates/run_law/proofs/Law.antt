@@ -19,10 +19,11 @@ use Rattle.run_rules.specs.declared.State.{State}
 use Rattle.run_rules.specs.Reports.{Reported, AreReported, fewest}
 use Rattle.run_rules.specs.Outcomes.{Before, Follows, start, became_of}
 use Rattle.run_rules.specs.Told.{replies_in, records_text, errors_among, errors_in}
-use Rattle.run_rules.specs.Work.{is_alarm}
+use Rattle.run_rules.specs.Work.{is_limit}
 use Rattle.status_report.specs.Answering.{answers_in, without_reports, reports_among}
 use Rattle.board_rules.proofs.Growing.{reported_still}
 use Rattle.board_rules.proofs.Plain.{answers_without}
+use Rattle.serial_ring.specs.Marks.{Mark}
 use Rattle.stream_host.specs.Jobs.{is_reset}
 use Rattle.stream_host.specs.Links.{on_link}
 use Rattle.stream_host.specs.Ran.{AreRaised, HostEnd, HostRan, is_sent_out}
@@ -42,8 +43,8 @@ use Rattle.run_rules.proofs.Alarms.{alarms_from_start}
 use Rattle.run_law.proofs.Alarming.{alarm_told}
 
 -- where the link was found closed, all that was stored is taken
-pub link_taken : (stored taken : List ℕ) (shut closed : Bool) → IsLinked stored shut taken closed → closed ≡ true → stored ≡ taken
-link_taken stored taken shut closed link is = link.front ∙ ap (λ (x : List ℕ). taken ++ x) (link.all is) ∙ append-nil taken
+pub link_taken : (stored taken : List ℕ) (shut closed : Bool) (marks : List ℕ) (loaded : List Mark) → IsLinked stored shut taken closed marks loaded → closed ≡ true → stored ≡ taken
+link_taken stored taken shut closed marks loaded link is = link.front ∙ ap (λ (x : List ℕ). taken ++ x) (link.all is) ∙ append-nil taken
 
 -- the reports that were got fit the run
 pub reports_are : (first : State) (drive : Drive) (scanned raised due : List ℕ) (resumes : ℕ) (held slowed changed reset : Bool) (asked cancels : ℕ) (lines : List (List ℕ)) (ticks : List Record) (answered got : List Reply)
@@ -64,15 +65,15 @@ reports_are first drive scanned raised due resumes held slowed changed reset ask
     }
 
 -- all that was sent is stored and raised, where a reset was taken, or the link was found closed and no alarm was told
-all_out : (shut : Bool) (raised : List ℕ) (got : List Reply) (closed reset : Bool) → (closed ≡ true → shut ≡ true) → (reset ≡ true → list_any is_reset raised ≡ true) → list_any is_alarm got ≡ false
+all_out : (shut : Bool) (raised : List ℕ) (got : List Reply) (closed reset : Bool) → (closed ≡ true → shut ≡ true) → (reset ≡ true → list_any is_reset raised ≡ true) → list_any is_limit got ≡ false
     → (reset ≡ false → closed ≡ true) → is_sent_out shut raised got ≡ true
-all_out shut raised got closed true closes raises calm found = or_last (shut && not (list_any is_alarm got)) (list_any is_reset raised) (raises refl)
+all_out shut raised got closed true closes raises calm found = or_last (shut && not (list_any is_limit got)) (list_any is_reset raised) (raises refl)
   where
     or_last : (a b : Bool) → b ≡ true → (a || b) ≡ true
     or_last true b e = refl
     or_last false b e = e
 all_out shut raised got closed false closes raises calm found =
-    ap (λ t. (t && not (list_any is_alarm got)) || list_any is_reset raised) (closes (found refl)) ∙ ap (λ t. not t || list_any is_reset raised) calm
+    ap (λ t. (t && not (list_any is_limit got)) || list_any is_reset raised) (closes (found refl)) ∙ ap (λ t. not t || list_any is_reset raised) calm
 
 -- unless a reset was taken, a board has told all that is to be told of its lines
 said_all : (taken : List ℕ) (closed held slowed changed reset : Bool) (asked cancels : ℕ) (answered : List Reply) (published : List Piece) → (board : BoardRan taken closed held slowed changed reset asked cancels answered published)
@@ -95,12 +96,12 @@ all_answered first drive lines last got follows told =
 
 -- where a front of what was answered is got, which has all but reports
 pub runs_by : (job_was job_is : SourceState) (was is : Sinks) (end : HostEnd) (steps_failed : Bool)
-    (stored raised taken : List ℕ) (shut closed held slowed changed reset : Bool) (asked cancels : ℕ) (got answered : List Reply) (got_pieces published : List Piece) (ticks : ℕ) (got_records put : List Record)
+    (stored raised taken : List ℕ) (shut closed held slowed changed reset : Bool) (asked cancels : ℕ) (got answered : List Reply) (got_pieces published : List Piece) (ticks : ℕ) (got_records put : List Record) (marks : List ℕ) (loaded : List Mark)
     → HostRan job_was job_is was.console is.console stored shut raised got end → BoardRan taken closed held slowed changed reset asked cancels answered published → PulseRan got_pieces ticks put
     → RecorderRan was.steps is.steps got_records steps_failed
-    → IsLinked stored shut taken closed → AreTaken raised held slowed changed reset asked cancels → without_reports got ≡ without_reports answered → BeginsWith answered got → got_pieces ≡ published → got_records ≡ put
+    → IsLinked stored shut taken closed marks loaded → AreTaken raised held slowed changed reset asked cancels → without_reports got ≡ without_reports answered → BeginsWith answered got → got_pieces ≡ published → got_records ≡ put
     → IsRun job_was job_is was is (ended end steps_failed)
-runs_by job_was job_is was is end steps_failed stored raised taken shut closed held slowed changed reset asked cancels got answered got_pieces published ticks got_records put host board pulse recorder link flags same_replies begins same_pieces same_records =
+runs_by job_was job_is was is end steps_failed stored raised taken shut closed held slowed changed reset asked cancels got answered got_pieces published ticks got_records put marks loaded host board pulse recorder link flags same_replies begins same_pieces same_records =
     let raises = host.raises_so_far in
     let on_the_link : BeginsWith (on_link host.lines) taken =
     begins_on (on_link host.lines) stored taken (record { rest = host.left; is = sym host.front }) (record { rest = link.rest; is = link.front }) in
@@ -112,8 +113,8 @@ runs_by job_was job_is was is end steps_failed stored raised taken shut closed h
     let unreset : asks_reset host.scanned ≡ false → reset ≡ false = λ none. no_reset host.scanned raised host.due host.resumes held slowed changed reset asked cancels raises flags none in
     let all_told : reset ≡ false → without_reports got ≡ replies_in (became_of (all_passed board.drive)) ++ replies.Bye ∷ [] =
     λ none. told ∙ ap (λ (rs : List Reply). rs ++ replies.Bye ∷ []) (said_all taken closed held slowed changed reset asked cancels answered published board none ∙ ap replies_in (sym (became_all board.drive))) in
-    let alarm : reset ≡ false → list_any is_alarm got ≡ board.last.alarmed = λ none. alarm_told board.first board.lines (all_passed board.drive) board.last got board.follows (all_told none) in
-    let out : list_any is_alarm got ≡ false → is_sent_out shut raised got ≡ true =
+    let alarm : reset ≡ false → list_any is_limit got ≡ board.last.alarmed = λ none. alarm_told board.first board.lines (all_passed board.drive) board.last got board.follows (all_told none) in
+    let out : list_any is_limit got ≡ false → is_sent_out shut raised got ≡ true =
     λ calm. all_out shut raised got closed reset link.closes flags.reset_by calm (λ none. (board.whole none (sym (alarm none) ∙ calm)).found) in
     let answered_all : reset ≡ false → answers_in got + one_if board.last.alarmed ≡ length board.lines = λ none. all_answered board.first board.drive board.lines board.last got board.follows (all_told none) in
     let all_errors : reset ≡ false → end.errors ≡ errors_in (all_outcomes board.drive) =
@@ -125,78 +126,86 @@ runs_by job_was job_is was is end steps_failed stored raised taken shut closed h
       reading = host.reading;
       scanned = host.scanned;
       lines = host.lines;
-      taken = host.taken;
-      at_end = host.at_end;
-      so_far = host.so_far;
       first = board.first;
       begun = board.lines;
       drive = board.drive;
       last = board.last;
-      opening = board.opening;
-      begins = lines;
-      follows = board.follows;
       replies = got;
       said = board.said;
-      front = board.front;
-      told = told;
-      stop = host.stop;
-      sent = λ calm. host.sent (out calm);
-      alarm = λ none. alarm (unreset none);
-      one = (let a = host.answered in let g = answers_without got in let r = answers_without answered in let e = ap answers_in same_replies in let o = board.one in omega (arith, a, g, r, e, o));
-      console = host.console;
-      drives = drives;
       made = board.made;
-      kept = board.kept;
       records = put;
-      recorded = put_is;
-      ticks = subst (λ (rs : List Record). BeginsWith (ticks_due board.drive) rs) (sym (ap ticks_among put_is ∙ ended_ticks board.made))
-          (made_ticks slowed board.last.alarmed (changed || ends_program (all_outcomes board.drive)) cancels board.drive board.made board.drives board.kept);
-      least = (let answered : end.answered ≡ answers_in answered = host.answered ∙ sym (answers_without got) ∙ ap answers_in same_replies ∙ answers_without answered in
-          let ticks : ticks_among put ≡ flat_map ticks_of board.made = ap ticks_among put_is ∙ ended_ticks board.made in
-          let as_many = ap (λ (n : ℕ). fewest n (all_outcomes board.drive) (all_counts board.drive)) answered in
-          let as_long = ap (λ (rs : List Record). length rs) ticks in
-          let least = board.least in
-          omega (arith, as_many, as_long, least));
-      steps = subst (λ (rs : List Record). Took was.steps is.steps steps_failed (records_text rs)) same_records recorder.steps;
+      sending = record {
+        taken = host.taken;
+        at_end = host.at_end;
+        so_far = host.so_far;
+        sent = λ calm. host.sent (out calm);
+        few = λ calm. host.few (out calm);
+      };
+      telling = record {
+        opening = board.opening;
+        begins = lines;
+        follows = board.follows;
+        front = board.front;
+        told = told;
+        alarm = λ none. alarm (unreset none);
+        one = (let a = host.answered in let g = answers_without got in let r = answers_without answered in let e = ap answers_in same_replies in let o = board.one in omega (arith, a, g, r, e, o));
+        answered = host.answered;
+        errors = host.errors;
+        console = host.console;
+      };
+      recording = record {
+        drives = drives;
+        kept = board.kept;
+        recorded = put_is;
+        ticks = subst (λ (rs : List Record). BeginsWith (ticks_due board.drive) rs) (sym (ap ticks_among put_is ∙ ended_ticks board.made))
+            (made_ticks slowed board.last.alarmed (changed || ends_program (all_outcomes board.drive)) cancels board.drive board.made board.drives board.kept);
+        least = (let answered : end.answered ≡ answers_in answered = host.answered ∙ sym (answers_without got) ∙ ap answers_in same_replies ∙ answers_without answered in
+            let ticks : ticks_among put ≡ flat_map ticks_of board.made = ap ticks_among put_is ∙ ended_ticks board.made in
+            let as_many = ap (λ (n : ℕ). fewest n (all_outcomes board.drive) (all_counts board.drive)) answered in
+            let as_long = ap (λ (rs : List Record). length rs) ticks in
+            let least = board.least in
+            omega (arith, as_many, as_long, least));
+        steps = subst (λ (rs : List Record). Took was.steps is.steps steps_failed (records_text rs)) same_records recorder.steps;
+      };
       reports = reports_are board.first board.drive host.scanned raised host.due host.resumes held slowed changed reset asked cancels host.lines (ticks_among (all_records (all_given board.drive))) answered got raises flags board.reported board.reports begins
           (ticks_of_pieces (all_given board.drive)) host.reported;
-      whole = λ none calm. (let w = board.whole (unreset none) calm in
-          let sent_lines : whole_lines stored ≡ map plain host.lines = ap whole_lines (host.link (out (alarm (unreset none) ∙ calm))) ∙ lines_back host.lines in
-          let all_lines : board.lines ≡ map plain host.lines = w.begun ∙ ap whole_lines (sym (link_taken stored taken shut closed link w.found)) ∙ sent_lines in
-          record {
-            begun_are = all_lines;
-            said_are = w.told;
-            driven = whole_drive (asks_slow host.scanned) board.last.alarmed (asks_change host.scanned || ends_program (all_outcomes board.drive)) (slows_in host.scanned) board.drive put calm drives w.asks w.rests
-                (put_is ∙ ap (λ (ps : List Piece). all_records ps ++ kinds.End ∷ []) w.whole);
-            ticks_are = ticks_of_pieces (all_given board.drive) ∙ ap (flat_map ticks_of) (sym w.whole) ∙ sym (ap ticks_among put_is ∙ ended_ticks board.made);
-            answered = (let a = host.answered in let n = answered_all (unreset none) in let z = ap one_if calm in
-                let l = ap (λ (ls : List (List ℕ)). length ls) all_lines in let m = length-map host.lines plain in omega (arith, a, n, z, l, m));
-            errors = all_errors (unreset none);
-          });
-      halted = λ none one. (let h = board.halted (unreset none) one in
-          record {
-            said_are = h.told;
-            halted = h.halted;
-            part = h.part;
-            recorded = put_is ∙ ap (λ (ps : List Piece). all_records ps ++ kinds.End ∷ []) h.whole;
-            ticks_are = ticks_of_pieces (all_given board.drive) ∙ ap (flat_map ticks_of) (sym h.whole) ∙ sym (ap ticks_among put_is ∙ ended_ticks board.made);
-            answered = (let a = host.answered in let n = answered_all (unreset none) in let z = ap one_if one in omega (arith, a, n, z));
-            errors = all_errors (unreset none);
-          });
-      few = λ calm. host.few (out calm);
-      answered = host.answered;
-      errors = host.errors;
-      failed = host.failed;
-      source = host.source;
-      source_same = host.source_same;
+      ending = record {
+        stop = host.stop;
+        whole = λ none calm. (let w = board.whole (unreset none) calm in
+            let sent_lines : whole_lines stored ≡ map plain host.lines = ap whole_lines (host.link (out (alarm (unreset none) ∙ calm))) ∙ lines_back host.lines in
+            let all_lines : board.lines ≡ map plain host.lines = w.begun ∙ ap whole_lines (sym (link_taken stored taken shut closed marks loaded link w.found)) ∙ sent_lines in
+            record {
+              begun_are = all_lines;
+              said_are = w.told;
+              driven = whole_drive (asks_slow host.scanned) board.last.alarmed (asks_change host.scanned || ends_program (all_outcomes board.drive)) (slows_in host.scanned) board.drive put calm drives w.asks w.rests
+                  (put_is ∙ ap (λ (ps : List Piece). all_records ps ++ kinds.End ∷ []) w.whole);
+              ticks_are = ticks_of_pieces (all_given board.drive) ∙ ap (flat_map ticks_of) (sym w.whole) ∙ sym (ap ticks_among put_is ∙ ended_ticks board.made);
+              answered = (let a = host.answered in let n = answered_all (unreset none) in let z = ap one_if calm in
+                  let l = ap (λ (ls : List (List ℕ)). length ls) all_lines in let m = length-map host.lines plain in omega (arith, a, n, z, l, m));
+              errors = all_errors (unreset none);
+            });
+        halted = λ none one. (let h = board.halted (unreset none) one in
+            record {
+              said_are = h.told;
+              halted = h.halted;
+              part = h.part;
+              recorded = put_is ∙ ap (λ (ps : List Piece). all_records ps ++ kinds.End ∷ []) h.whole;
+              ticks_are = ticks_of_pieces (all_given board.drive) ∙ ap (flat_map ticks_of) (sym h.whole) ∙ sym (ap ticks_among put_is ∙ ended_ticks board.made);
+              answered = (let a = host.answered in let n = answered_all (unreset none) in let z = ap one_if one in omega (arith, a, n, z));
+              errors = all_errors (unreset none);
+            });
+        failed = host.failed;
+        source = host.source;
+        source_same = host.source_same;
+      };
     }
 
 pub runs : (job_was job_is : SourceState) (was is : Sinks) (end : HostEnd) (steps_failed : Bool)
-    (stored raised taken : List ℕ) (shut closed held slowed changed reset : Bool) (asked cancels : ℕ) (got answered : List Reply) (got_pieces published : List Piece) (ticks : ℕ) (got_records put : List Record)
+    (stored raised taken : List ℕ) (shut closed held slowed changed reset : Bool) (asked cancels : ℕ) (got answered : List Reply) (got_pieces published : List Piece) (ticks : ℕ) (got_records put : List Record) (marks : List ℕ) (loaded : List Mark)
     → HostRan job_was job_is was.console is.console stored shut raised got end → BoardRan taken closed held slowed changed reset asked cancels answered published → PulseRan got_pieces ticks put
     → RecorderRan was.steps is.steps got_records steps_failed
-    → IsLinked stored shut taken closed → AreTaken raised held slowed changed reset asked cancels → got ≡ answered → got_pieces ≡ published → got_records ≡ put
+    → IsLinked stored shut taken closed marks loaded → AreTaken raised held slowed changed reset asked cancels → got ≡ answered → got_pieces ≡ published → got_records ≡ put
     → IsRun job_was job_is was is (ended end steps_failed)
-runs job_was job_is was is end steps_failed stored raised taken shut closed held slowed changed reset asked cancels got answered got_pieces published ticks got_records put host board pulse recorder link flags same_replies same_pieces same_records =
-    runs_by job_was job_is was is end steps_failed stored raised taken shut closed held slowed changed reset asked cancels got answered got_pieces published ticks got_records put host board pulse recorder link flags
+runs job_was job_is was is end steps_failed stored raised taken shut closed held slowed changed reset asked cancels got answered got_pieces published ticks got_records put marks loaded host board pulse recorder link flags same_replies same_pieces same_records =
+    runs_by job_was job_is was is end steps_failed stored raised taken shut closed held slowed changed reset asked cancels got answered got_pieces published ticks got_records put marks loaded host board pulse recorder link flags
     (ap without_reports same_replies) (record { rest = []; is = sym same_replies ∙ sym (append-nil got) }) same_pieces same_records

@@ -42,6 +42,8 @@ pub scanned_grows : (first : State) (drive : Drive) (ticks : List Record) (scann
     → AreRaised scanned raised due resumes → AreTaken raised held slowed changed reset asked cancels → Grows (course first drive ticks held changed) (course first drive ticks (asks_hold scanned) (asks_change scanned))
 scanned_grows first drive ticks scanned raised due resumes held slowed changed reset asked cancels are taken = record {
   first = refl;
+  place = refl;
+  locked = refl;
   more = [];
   outcomes = sym (append-nil (all_outcomes drive));
   low = λ k short. omega arith;

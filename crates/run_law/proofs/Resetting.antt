@@ -13,7 +13,7 @@ use Rattle.stream_host.specs.Jobs.{is_reset}
 use Rattle.stream_host.specs.Steps.{PortLog as HostLog}
 use Rattle.stream_host.specs.Steps as hosts
 use Rattle.board_rules.specs.Ports.{PortLog as BoardLog, asks_reset, has_held_in, has_slowed_in, has_changed_in, has_reset_in, reports_in}
-use Rattle.board_rules.specs.Ports.PortStep.{took, found_empty, found_closed, found_free, answered, reported, no_reply_room, took_exec, took_ovr, published, no_piece_room, loaded}
+use Rattle.board_rules.specs.Ports.PortStep.{took_exec}
 use Rattle.run_law.specs.Flags.{is_hold, is_change, AreTaken}
 use Rattle.run_law.specs.Taking.{raises_in, takes_in}
 use Rattle.run_law.proofs.Querying.{asked_few}
@@ -38,18 +38,8 @@ asks_reset_bit word e = reset_bit word.0 e
 -- where a word that asks for a reset was taken, its flag was
 reset_taken : (l : BoardLog) → has_reset_in l ≡ true → 0 < takes_with reset_flag (takes_in l)
 reset_taken [] e = absurd cc
-reset_taken (took b ∷ l) e = reset_taken l e
-reset_taken (found_empty ∷ l) e = reset_taken l e
-reset_taken (found_closed ∷ l) e = reset_taken l e
-reset_taken (found_free n ∷ l) e = reset_taken l e
-reset_taken (answered r ∷ l) e = reset_taken l e
-reset_taken (reported r ∷ l) e = reset_taken l e
-reset_taken (no_reply_room ∷ l) e = reset_taken l e
 reset_taken (took_exec word ∷ l) e = held_by_word (asks_reset word) (has_reset_in l) (nat_eq (bit_at word.0 3) 1) (takes_with reset_flag (takes_in l)) (asks_reset_bit word) (reset_taken l) e
-reset_taken (took_ovr word ∷ l) e = reset_taken l e
-reset_taken (published p ∷ l) e = reset_taken l e
-reset_taken (no_piece_room n ∷ l) e = reset_taken l e
-reset_taken (loaded n ∷ l) e = reset_taken l e
+reset_taken (_ ∷ l) e = reset_taken l e
 
 is_reset_flag : Option Flag → Bool
 is_reset_flag None = false

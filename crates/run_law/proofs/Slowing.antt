@@ -13,9 +13,9 @@ use Rattle.realtime_flags.specs.Bytes.{flag_of_byte}
 use Rattle.realtime_flags.proofs.Bits.{same_flag}
 use Rattle.stream_host.specs.Steps.{PortLog as HostLog}
 use Rattle.stream_host.specs.Steps as hosts
-use Rattle.stream_host.specs.Steps.PortStep.{stored, dropped, raised, got, no_reply, shut}
+use Rattle.stream_host.specs.Steps.PortStep.{stored, dropped, marked, raised, got, no_reply, shut}
 use Rattle.board_rules.specs.Ports.{PortLog as BoardLog}
-use Rattle.board_rules.specs.Ports.PortStep.{took, found_empty, found_closed, found_free, answered, reported, no_reply_room, took_exec, took_ovr, published, no_piece_room, loaded}
+use Rattle.board_rules.specs.Ports.PortStep.{took_exec}
 use Rattle.board_rules.specs.Cuts.{cancel_words_in}
 use Rattle.run_law.specs.Flags.{is_hold, is_cancel, is_slow}
 use Rattle.run_law.specs.Taking.{raised_to, raises_in, takes_in}
@@ -45,15 +45,11 @@ by_byte f p b down rs m (Some g) byte is few =
 -- a flag is raised no more often than its byte
 flag_count : (f : Flag) (p : ℕ → Bool) → IsByteOf f p → (h : HostLog) → raised_down f (raises_in h) ≤ count_by p (hosts.raises_in h)
 flag_count f p byte [] = omega arith
-flag_count f p byte (stored b ∷ h) = flag_count f p byte h
-flag_count f p byte (dropped b ∷ h) = flag_count f p byte h
 flag_count f p byte (raised b down ∷ h) =
     let few = by_byte f p b down (raises_in h) (count_by p (hosts.raises_in h)) (flag_of_byte b) byte refl (flag_count f p byte h) in
     let push = push_count p (hosts.raises_in h) b in
     omega (arith, few, push)
-flag_count f p byte (got r ∷ h) = flag_count f p byte h
-flag_count f p byte (no_reply ∷ h) = flag_count f p byte h
-flag_count f p byte (shut ∷ h) = flag_count f p byte h
+flag_count f p byte (_ ∷ h) = flag_count f p byte h
 
 -- ---- what was taken
 
@@ -70,20 +66,10 @@ one_word false false held cancelled n h c here there few = let m = up_more held 
 
 words_taken : (l : BoardLog) → cancel_words_in l ≤ takes_with hold_flag (takes_in l) + takes_with cancel_flag (takes_in l)
 words_taken [] = omega arith
-words_taken (took b ∷ l) = words_taken l
-words_taken (found_empty ∷ l) = words_taken l
-words_taken (found_closed ∷ l) = words_taken l
-words_taken (found_free n ∷ l) = words_taken l
-words_taken (answered r ∷ l) = words_taken l
-words_taken (reported r ∷ l) = words_taken l
-words_taken (no_reply_room ∷ l) = words_taken l
 words_taken (took_exec word ∷ l) =
     one_word (asks word hold_byte) (asks word cancel_byte) (nat_eq (bit_at word.0 1) 1) (nat_eq (bit_at word.0 4) 1) (cancel_words_in l) (takes_with hold_flag (takes_in l)) (takes_with cancel_flag (takes_in l))
     (asks_hold_bit word) (asks_cancel_bit word) (words_taken l)
-words_taken (took_ovr word ∷ l) = words_taken l
-words_taken (published p ∷ l) = words_taken l
-words_taken (no_piece_room n ∷ l) = words_taken l
-words_taken (loaded n ∷ l) = words_taken l
+words_taken (_ ∷ l) = words_taken l
 
 -- ---- the bytes
 

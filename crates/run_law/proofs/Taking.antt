@@ -22,9 +22,9 @@ use Rattle.realtime_flags.specs.Bytes.{flag_of_row, flag_of_byte}
 use Rattle.realtime_flags.proofs.Bits.{same_flag}
 use Rattle.stream_host.specs.Steps.{PortLog as HostLog}
 use Rattle.stream_host.specs.Steps as hosts
-use Rattle.stream_host.specs.Steps.PortStep.{stored, dropped, raised, got, no_reply, shut}
+use Rattle.stream_host.specs.Steps.PortStep.{stored, dropped, marked, raised, got, no_reply, shut}
 use Rattle.board_rules.specs.Ports.{PortLog as BoardLog, has_changes, has_held_in, has_changed_in}
-use Rattle.board_rules.specs.Ports.PortStep.{took, found_empty, found_closed, found_free, answered, reported, no_reply_room, took_exec, took_ovr, published, no_piece_room, loaded}
+use Rattle.board_rules.specs.Ports.PortStep.{took_exec, took_ovr}
 use Rattle.run_law.specs.Flags.{is_hold, is_override, is_change}
 use Rattle.run_law.specs.Taking.{raised_to, raises_in, takes_in}
 
@@ -55,18 +55,8 @@ held_by_word false held bit n same rest e = more_counted bit n (rest e)
 -- where a word that asks for a hold was taken, its flag was
 pub hold_taken : (l : BoardLog) → has_held_in l ≡ true → 0 < takes_with hold_flag (takes_in l)
 hold_taken [] e = absurd cc
-hold_taken (took b ∷ l) e = hold_taken l e
-hold_taken (found_empty ∷ l) e = hold_taken l e
-hold_taken (found_closed ∷ l) e = hold_taken l e
-hold_taken (found_free n ∷ l) e = hold_taken l e
-hold_taken (answered r ∷ l) e = hold_taken l e
-hold_taken (reported r ∷ l) e = hold_taken l e
-hold_taken (no_reply_room ∷ l) e = hold_taken l e
 hold_taken (took_exec word ∷ l) e = held_by_word (holds.asks word hold_byte) (has_held_in l) (nat_eq (bit_at word.0 1) 1) (takes_with hold_flag (takes_in l)) (asks_hold_bit word) (hold_taken l) e
-hold_taken (took_ovr word ∷ l) e = hold_taken l e
-hold_taken (published p ∷ l) e = hold_taken l e
-hold_taken (no_piece_room n ∷ l) e = hold_taken l e
-hold_taken (loaded n ∷ l) e = hold_taken l e
+hold_taken (_ ∷ l) e = hold_taken l e
 
 -- a number that is not 0 has a bit
 abbrev HasBit : ℕ → Type 0
@@ -98,18 +88,8 @@ changed_by_word word ts false changed is rest e = let r = rest e in (r.0, more_c
 -- where a word with a change was taken, a flag of one was
 pub change_taken : (l : BoardLog) → has_changed_in l ≡ true → HasChange (takes_in l)
 change_taken [] e = absurd cc
-change_taken (took b ∷ l) e = change_taken l e
-change_taken (found_empty ∷ l) e = change_taken l e
-change_taken (found_closed ∷ l) e = change_taken l e
-change_taken (found_free n ∷ l) e = change_taken l e
-change_taken (answered r ∷ l) e = change_taken l e
-change_taken (reported r ∷ l) e = change_taken l e
-change_taken (no_reply_room ∷ l) e = change_taken l e
-change_taken (took_exec word ∷ l) e = change_taken l e
 change_taken (took_ovr word ∷ l) e = changed_by_word word (takes_in l) (has_changes word) (has_changed_in l) refl (change_taken l) e
-change_taken (published p ∷ l) e = change_taken l e
-change_taken (no_piece_room n ∷ l) e = change_taken l e
-change_taken (loaded n ∷ l) e = change_taken l e
+change_taken (_ ∷ l) e = change_taken l e
 
 -- ---- what was raised
 
@@ -139,12 +119,8 @@ raised_by_byte f p b down rs bytes (Some g) byte is rest some = by_flag down (is
 -- a flag that was raised and found down was raised by one of its bytes
 pub flag_was_raised : (f : Flag) (p : ℕ → Bool) → IsByteOf f p → (h : HostLog) → 0 < raised_down f (raises_in h) → list_any p (hosts.raises_in h) ≡ true
 flag_was_raised f p byte [] some = absurd (let s : 0 < 0 = some in omega arith)
-flag_was_raised f p byte (stored b ∷ h) some = flag_was_raised f p byte h some
-flag_was_raised f p byte (dropped b ∷ h) some = flag_was_raised f p byte h some
 flag_was_raised f p byte (raised b down ∷ h) some = raised_by_byte f p b down (raises_in h) (hosts.raises_in h) (flag_of_byte b) byte refl (flag_was_raised f p byte h) some
-flag_was_raised f p byte (got r ∷ h) some = flag_was_raised f p byte h some
-flag_was_raised f p byte (no_reply ∷ h) some = flag_was_raised f p byte h some
-flag_was_raised f p byte (shut ∷ h) some = flag_was_raised f p byte h some
+flag_was_raised f p byte (_ ∷ h) some = flag_was_raised f p byte h some
 
 -- ---- the bytes of the flags
 

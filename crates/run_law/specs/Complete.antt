@@ -11,7 +11,7 @@ use Rattle.run_rules.specs.States.{IsOpening}
 use Rattle.run_rules.specs.Work.{Outcome}
 use Rattle.run_rules.specs.Outcomes.{Before, Follows, start, after, has_cause}
 use Rattle.run_rules.specs.Outcomes.Passed.{a_line}
-use Rattle.run_rules.specs.Told.{errors_in, alarms_in}
+use Rattle.run_rules.specs.Told.{errors_in, limits_in}
 use Rattle.stream_host.specs.Jobs.{holds_reset}
 use Rattle.stream_host.specs.declared.Stop.TheVariants.{End}
 use Rattle.run_law.specs.declared.RunEnd.{RunEnd}
@@ -37,7 +37,7 @@ pub record IsAcceptedJob (job : SourceState) : Type 0 where
   pub follows : Follows false (start first) (map plain (lines_of bytes)) (map a_line outcomes) last
   pub served : AreServed (start first) (map plain (lines_of bytes)) outcomes
   pub accepted : errors_in outcomes ≡ 0
-  pub calm : alarms_in outcomes ≡ 0
+  pub calm : limits_in outcomes ≡ 0
 
 -- What a run of such a job does: all of it is read and sent, and each line is accepted, as when the machine is never
 -- found in motion.

@@ -1,5 +1,6 @@
 -- What was done of lines, part by part: in the parts that cuts have ended, and after the last cut.
 use Rattle.std.specs.Prelude.{◌≡◌, ℕ, ◌≤◌, Bool, true, ◌||◌, cond, List, [], ◌∷◌, ◌++◌, length, map}
+use Rattle.flight.specs.Places.{origin}
 use Rattle.std.specs.List.{flat_map, AllByRecursion}
 use Rattle.board_rules.specs.Parts.{Part, IsCutPart, AreJoined, AreNumbered, AreDisturbedOnlyBy, plan_behind, lines_in, actions_in, pieces_in, passed_in, counts_in}
 use Rattle.legal_heads.specs.Speeds.{HasLegalHeads}
@@ -41,7 +42,7 @@ all_outcomes d = lines_in d.parts ++ d.since
 
 -- the lines and the cuts that were passed
 abbrev pub all_passed : Drive → List Passed
-all_passed d = passed_in d.parts ++ map a_line d.since
+all_passed d = passed_in origin d.parts ++ map a_line d.since
 
 -- what was done to the plan
 abbrev pub all_actions : Drive → List Action
@@ -75,7 +76,7 @@ ticks_due d = flat_map ticks_of (pieces_in d.parts) ++ ticks_of_all (asked_in d.
 pub record IsDrive (slowed alarmed changed : Bool) (cancels : ℕ) (d : Drive) : Type 0 where
   pub closed : AllByRecursion IsCutPart d.parts
   pub joined : AreJoined d.parts
-  pub numbered : AreNumbered d.parts
+  pub numbered : AreNumbered 0 d.parts
   pub few : length d.parts ≤ cancels
   pub starts : IsStart (plan_behind d.parts)
   pub part : Plans most_blocks (plan_behind d.parts) d.actions d.given d.plan

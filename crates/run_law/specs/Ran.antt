@@ -21,6 +21,7 @@ use Rattle.run_rules.specs.Outcomes.{Before, Follows, start}
 use Rattle.run_rules.specs.Reports.{Reported, fewest}
 use Rattle.run_rules.specs.Told.{replies_in, asked_in, records_text}
 use Rattle.status_report.specs.Answering.{answers_in, without_reports, reports_among}
+use Rattle.serial_ring.specs.Marks.{Mark, AreMarks}
 use Rattle.board_rules.specs.Parts.{IsHaltedPart, plan_behind}
 use Rattle.run_law.specs.Fronts.{BeginsWith}
 use Rattle.run_law.specs.Drives.{Drive, all_outcomes, all_passed, all_given, all_counts, IsDrive}
@@ -93,10 +94,11 @@ pub record RecorderRan (was is : SinkState) (taken : List Record) (failed : Bool
   pub ended : IsEnded taken
   pub steps : Took was is failed (records_text taken)
 
--- The bytes of a link: those taken are a front of those stored. If it was found closed, it is closed, and all are
--- taken.
-pub record IsLinked (stored : List ℕ) (shut : Bool) (taken : List ℕ) (closed : Bool) : Type 0 where
+-- The bytes of a link: those taken are a front of those stored. If it was found closed, it is closed, and all are taken. Each mark
+-- that was loaded is one that was stored, or the start.
+pub record IsLinked (stored : List ℕ) (shut : Bool) (taken : List ℕ) (closed : Bool) (marks : List ℕ) (loaded : List Mark) : Type 0 where
   pub rest : List ℕ
   pub front : stored ≡ taken ++ rest
   pub closes : closed ≡ true → shut ≡ true
   pub all : closed ≡ true → rest ≡ []
+  pub loads : AreMarks marks loaded

@@ -8,9 +8,10 @@ use Rattle.gcode_words.specs.Stripping.{plain}
 use Rattle.status_report.specs.declared.Reply.{Reply}
 use Rattle.status_report.specs.declared.Reply.TheVariants.{Bye}
 use Rattle.step_line.specs.declared.Record.{Record}
+use Rattle.flight.specs.Places.{origin}
 use Rattle.run_rules.specs.declared.State.{State}
 use Rattle.run_rules.specs.States.{IsOpening}
-use Rattle.run_rules.specs.Work.{Outcome, has_normal, is_alarm}
+use Rattle.run_rules.specs.Work.{Outcome, has_normal, is_limit}
 use Rattle.run_rules.specs.Outcomes.{Before, Follows, start}
 use Rattle.run_rules.specs.Reports.{Course, Reported, AreReported, fewest, is_query}
 use Rattle.status_report.specs.Answering.{receive_room, answers_in, without_reports, reports_among}
@@ -75,6 +76,8 @@ ends_program outcomes = list_any (λ o. has_normal o.work) outcomes
 abbrev pub course : State → Drive → List Record → Bool → Bool → Course
 course first drive ticks held changed = record {
   first = first;
+  place = origin;
+  locked = false;
   outcomes = all_outcomes drive;
   counts = all_counts drive;
   ticks = ticks;
@@ -117,60 +120,76 @@ pub record IsHaltedWhole (begun : List (List ℕ)) (drive : Drive) (said : List 
   pub answered : end.answered + 1 ≡ length begun
   pub errors : end.errors ≡ errors_in (all_outcomes drive)
 
--- A run of a job, whatever failed. Some of the job was read, and some lines of it were sent: all that is to be sent, if
--- no alarm was told. Why no more was sent is what the job says, or else an alarm, at the first line that has no answer.
--- A front of the lines was begun; all but the last have their answers, and each became what the rules say, once and in
--- order, in a run whose machine may be found running, or in a jog. The console takes the banner, a front of what is
--- told of these lines, and Bye, which has no text, and status reports among that. What is driven of the lines goes part
--- by part: a cut ends a part, and drops what is left of jogs alone; there are as many cuts at most as `!` and 0x85 were
--- scanned. After the last cut the plan was asked for a front of the moves, marks and rests of the lines. The steps take
--- the records of a front of the pieces that it gave, and the end: so their ticks are the first of those that are due.
--- However the run ended, the ticks of the lines up to the last answered one that settles are there: of each line those
--- that count, all that it asks for but for what a cut or a halt dropped. Holds, resumes and overrides change no event.
--- A segment slows down only if a `!` or a 0x85 was scanned, or a line raised an alarm, and it is planned for other
--- overrides only if a byte that changes them was scanned, or a program ended. Unless a reset was scanned, all of it was
--- carried out, or a line raised an alarm: then nothing is begun after that line, the motion came to a stop, and what
--- was left of the plan was dropped; and an alarm is told exactly then. The lines that have no answer take at most 128
--- bytes on the link, each with its LF, if no alarm was told. Each text is whole if its sink did not fail. Of each of
--- the three devices, the count of faults rose if a call failed, and is as before if none did.
+-- What was scanned and sent of the job: some of it was read, and some lines of it were sent, all that are to be sent if no
+-- alarm was told. The lines that have no answer take at most 128 bytes on the link then, each with its LF.
+pub record IsScannedAndSent (job_was job_is : SourceState) (end : RunEnd) (read : List ℕ) (reading : Reading) (scanned : List ℕ) (lines : List (List ℕ)) (replies : List Reply) : Type 0 where
+  pub taken : Consumes job_was.left job_is.left read
+  pub at_end : reading ≡ Ended → IsAtEnd job_is.left
+  pub so_far : IsSentSoFar read reading scanned lines (stop_by reading scanned)
+  pub sent : list_any is_limit replies ≡ false → IsSent read reading scanned lines end.stop
+  pub few : list_any is_limit replies ≡ false → length (on_link (drop end.answered lines)) ≤ receive_room
+
+-- What was told, and which lines were answered. A front of the lines was begun; all but the last have their answers, and
+-- each became what the rules say, once and in order, in a run whose machine may be found running, or in a jog. The console
+-- takes the banner, a front of what is told of these lines, and Bye, which has no text, and status reports among that. The
+-- text is whole if no write failed. An alarm is told, unless a reset was scanned, exactly if a line raised one.
+pub record IsToldAndAnswered (was is : Sinks) (end : RunEnd) (scanned : List ℕ) (lines begun : List (List ℕ)) (first : State) (drive : Drive) (last : Before) (replies said : List Reply) : Type 0 where
+  pub opening : IsOpening first
+  pub begins : BeginsWith (map plain lines) begun
+  pub follows : Follows true (start first) begun (all_passed drive) last
+  pub front : BeginsWith (replies_in (all_outcomes drive)) said
+  pub told : without_reports replies ≡ said ++ Bye ∷ []
+  pub alarm : asks_reset scanned ≡ false → list_any is_limit replies ≡ last.alarmed
+  pub one : length (all_outcomes drive) ≤ end.answered + 1
+  pub answered : end.answered ≡ answers_in replies
+  pub errors : end.errors ≡ errors_among replies
+  pub console : Took was.console is.console end.console_failed (replies_text replies)
+
+-- What was recorded. What is driven of the lines goes part by part: a cut ends a part, and drops what is left of jogs
+-- alone; there are as many cuts at most as `!` and 0x85 were scanned. After the last cut the plan was asked for a front of
+-- the moves, marks and rests of the lines. The steps take the records of a front of the pieces that it gave, and the end:
+-- so their ticks are the first of those that are due. However the run ended, the ticks of the lines up to the last answered
+-- one that settles are there: of each line those that count, all that it asks for but for what a cut or a halt dropped.
+-- Holds, resumes and overrides change no event. A segment slows down only if a `!` or a 0x85 was scanned, or a line raised
+-- an alarm, and it is planned for other overrides only if a byte that changes them was scanned, or a program ended. The text
+-- is whole if no write failed.
+pub record IsRecorded (was is : Sinks) (end : RunEnd) (scanned : List ℕ) (drive : Drive) (last : Before) (made : List Piece) (records : List Record) : Type 0 where
+  pub drives : IsDrive (asks_slow scanned) last.alarmed (asks_change scanned || ends_program (all_outcomes drive)) (slows_in scanned) drive
+  pub kept : BeginsWith (all_given drive) made
+  pub recorded : records ≡ all_records made ++ kinds.End ∷ []
+  pub ticks : BeginsWith (ticks_due drive) (ticks_among records)
+  pub least : fewest end.answered (all_outcomes drive) (all_counts drive) ≤ length (ticks_among records)
+  pub steps : Took was.steps is.steps end.steps_failed (records_text records)
+
+-- How the run ended. Why no more was sent is what the job says, or else an alarm, at the first line that has no answer.
+-- Unless a reset was scanned, all of it was carried out, or a line raised an alarm: then nothing is begun after that line,
+-- the motion came to a stop, and what was left of the plan was dropped. Of the source, the count of faults rose if a call
+-- failed, and is as before if none did.
+pub record HasEnded (job_was job_is : SourceState) (end : RunEnd) (reading : Reading) (scanned : List ℕ) (lines begun : List (List ℕ)) (drive : Drive) (last : Before) (replies said : List Reply) (records : List Record) : Type 0 where
+  pub stop : end.stop ≡ or_alarm (list_any is_limit replies) end.answered (stop_by reading scanned)
+  pub whole : asks_reset scanned ≡ false → last.alarmed ≡ false → IsCarriedOutWhole scanned lines begun drive said records end
+  pub halted : asks_reset scanned ≡ false → last.alarmed ≡ true → IsHaltedWhole begun drive said records end
+  pub failed : end.source_failed ≡ is_failed reading
+  pub source : end.source_failed ≡ true → Rose job_was.faults job_is.faults
+  pub source_same : end.source_failed ≡ false → job_is.faults ≡ job_was.faults
+
+-- A run of a job, whatever failed: what was read, scanned and sent of it; what was begun and driven of its lines; the
+-- replies, and what they tell but for reports; the pieces and records that were made; and that these fit.
 pub record IsRun (job_was job_is : SourceState) (was is : Sinks) (end : RunEnd) : Type 0 where
   pub read : List ℕ
   pub reading : Reading
   pub scanned : List ℕ
   pub lines : List (List ℕ)
-  pub taken : Consumes job_was.left job_is.left read
-  pub at_end : reading ≡ Ended → IsAtEnd job_is.left
-  pub so_far : IsSentSoFar read reading scanned lines (stop_by reading scanned)
   pub first : State
   pub begun : List (List ℕ)
   pub drive : Drive
   pub last : Before
-  pub opening : IsOpening first
-  pub begins : BeginsWith (map plain lines) begun
-  pub follows : Follows true (start first) begun (all_passed drive) last
   pub replies : List Reply
   pub said : List Reply
-  pub front : BeginsWith (replies_in (all_outcomes drive)) said
-  pub told : without_reports replies ≡ said ++ Bye ∷ []
-  pub stop : end.stop ≡ or_alarm (list_any is_alarm replies) end.answered (stop_by reading scanned)
-  pub sent : list_any is_alarm replies ≡ false → IsSent read reading scanned lines end.stop
-  pub alarm : asks_reset scanned ≡ false → list_any is_alarm replies ≡ last.alarmed
-  pub one : length (all_outcomes drive) ≤ end.answered + 1
-  pub console : Took was.console is.console end.console_failed (replies_text replies)
-  pub drives : IsDrive (asks_slow scanned) last.alarmed (asks_change scanned || ends_program (all_outcomes drive)) (slows_in scanned) drive
   pub made : List Piece
-  pub kept : BeginsWith (all_given drive) made
   pub records : List Record
-  pub recorded : records ≡ all_records made ++ kinds.End ∷ []
-  pub ticks : BeginsWith (ticks_due drive) (ticks_among records)
-  pub least : fewest end.answered (all_outcomes drive) (all_counts drive) ≤ length (ticks_among records)
-  pub steps : Took was.steps is.steps end.steps_failed (records_text records)
+  pub sending : IsScannedAndSent job_was job_is end read reading scanned lines replies
+  pub telling : IsToldAndAnswered was is end scanned lines begun first drive last replies said
+  pub recording : IsRecorded was is end scanned drive last made records
   pub reports : AreReports first drive (ticks_among (all_records (all_given drive))) lines scanned replies
-  pub whole : asks_reset scanned ≡ false → last.alarmed ≡ false → IsCarriedOutWhole scanned lines begun drive said records end
-  pub halted : asks_reset scanned ≡ false → last.alarmed ≡ true → IsHaltedWhole begun drive said records end
-  pub few : list_any is_alarm replies ≡ false → length (on_link (drop end.answered lines)) ≤ receive_room
-  pub answered : end.answered ≡ answers_in replies
-  pub errors : end.errors ≡ errors_among replies
-  pub failed : end.source_failed ≡ is_failed reading
-  pub source : end.source_failed ≡ true → Rose job_was.faults job_is.faults
-  pub source_same : end.source_failed ≡ false → job_is.faults ≡ job_was.faults
+  pub ending : HasEnded job_was job_is end reading scanned lines begun drive last replies said records

@@ -2,13 +2,13 @@
 //! rules, is together a run of the job.
 #![tactic(auto)]
 
-ghost use Rattle.std.specs.Prelude.{◌≡◌, ℕ, Bool, true, false, List, reverse};
+ghost use Rattle.std.specs.Prelude.{◌≡◌, ℕ, Bool, true, false, List, [], reverse};
 ghost use Rattle.outside.specs.Causes.{SourceState, SinkState};
 ghost use Rattle.status_report.specs.declared.Reply.{Reply};
 ghost use Rattle.step_line.specs.declared.Piece.{Piece};
 ghost use Rattle.step_line.specs.declared.Record.{Record};
 ghost use Rattle.text_writer.specs.Writers.{Writing};
-ghost use Rattle.pulse_engine.specs.Logs.{PieceLog, RecordLog, pieces_of, counted, records_put, end_is_put};
+ghost use Rattle.pulse_engine.specs.Logs.{PieceLog, RecordLog, pieces_of, halts_of, counted, records_put, end_is_put};
 ghost use Rattle.pulse_engine.specs.Steps.{Pulsing};
 ghost use Rattle.pulse_engine.specs.Turns.{PulseFits};
 ghost use Rattle.step_record.specs.Taking.{Log, records};
@@ -19,6 +19,7 @@ ghost use Rattle.board_rules.specs.Breaking.{Doings, HasEnded, IsConducted, log_
 ghost use Rattle.board_rules.specs.Ports.{has_held_in, has_slowed_in, has_changed_in, has_reset_in, reports_in};
 ghost use Rattle.stream_host.specs.Ran.{HostEnd, HostRan, HostRuns};
 ghost use Rattle.realtime_flags.specs.Bits.{IsBalanced};
+ghost use Rattle.serial_ring.specs.Marks.{Mark};
 ghost use Rattle.stream_host.specs.Steps.{PortLog as HostLog, raises_in as bytes_raised_in};
 ghost use Rattle.board_rules.specs.Ports.{PortLog as BoardLog};
 ghost use Rattle.run_law.specs.Flags.{AreTaken};
@@ -51,10 +52,10 @@ pub struct RunEnd {
 /// steps take the records of a drive of what they ask for.
 pub fn actors_make_a_run()
     ensures { (job_was job_is : SourceState) (was is : Sinks) (end : HostEnd) (steps_failed : Bool)
-        (stored raised taken : List ℕ) (shut closed held slowed changed reset : Bool) (asked cancels : ℕ) (got answered : List Reply) (got_pieces published : List Piece) (ticks : ℕ) (got_records put : List Record) →
+        (stored raised taken : List ℕ) (shut closed held slowed changed reset : Bool) (asked cancels : ℕ) (got answered : List Reply) (got_pieces published : List Piece) (ticks : ℕ) (got_records put : List Record) (marks : List ℕ) (loaded : List Mark) →
         HostRan job_was job_is was.console is.console stored shut raised got end → BoardRan taken closed held slowed changed reset asked cancels answered published → PulseRan got_pieces ticks put →
         RecorderRan was.steps is.steps got_records steps_failed →
-        IsLinked stored shut taken closed → AreTaken raised held slowed changed reset asked cancels → got ≡ answered → got_pieces ≡ published → got_records ≡ put →
+        IsLinked stored shut taken closed marks loaded → AreTaken raised held slowed changed reset asked cancels → got ≡ answered → got_pieces ≡ published → got_records ≡ put →
         IsRun job_was job_is was is (ended end steps_failed) }
 {}
 
@@ -62,10 +63,10 @@ pub fn actors_make_a_run()
 /// nothing waits after Bye, nor after the end.
 pub fn actors_that_end_make_a_run()
     ensures { (job_was job_is : SourceState) (was is : Sinks) (end : HostEnd) (steps_failed : Bool)
-        (stored raised taken : List ℕ) (shut closed held slowed changed reset : Bool) (asked cancels : ℕ) (got answered : List Reply) (got_pieces published : List Piece) (ticks : ℕ) (got_records put : List Record) →
+        (stored raised taken : List ℕ) (shut closed held slowed changed reset : Bool) (asked cancels : ℕ) (got answered : List Reply) (got_pieces published : List Piece) (ticks : ℕ) (got_records put : List Record) (marks : List ℕ) (loaded : List Mark) →
         HostRan job_was job_is was.console is.console stored shut raised got end → BoardRan taken closed held slowed changed reset asked cancels answered published → PulseRan got_pieces ticks put →
         RecorderRan was.steps is.steps got_records steps_failed →
-        IsLinked stored shut taken closed → AreTaken raised held slowed changed reset asked cancels → BeginsWith answered got → BeginsWith published got_pieces → BeginsWith put got_records →
+        IsLinked stored shut taken closed marks loaded → AreTaken raised held slowed changed reset asked cancels → BeginsWith answered got → BeginsWith published got_pieces → BeginsWith put got_records →
         IsRun job_was job_is was is (ended end steps_failed) }
 {}
 
@@ -87,7 +88,7 @@ pub fn accepted_jobs_are_complete()
 /// A board that keeps to its rules, and has closed its run or ended it at a reset, and has nothing left to do, has run;
 /// before, it runs.
 pub fn boards_have_run()
-    ensures whole { (first : State) (d : Doings) → IsOpening first → IsConducted first d → HasEnded d →
+    ensures whole { (first : State) (d : Doings) → IsOpening first → IsConducted first d → HasEnded first d →
         BoardRan (taken_of d) (has_closed d) (has_held_in (log_of d)) (has_slowed_in (log_of d)) (has_changed_in (log_of d)) (has_reset_in (log_of d)) (reports_in (log_of d)) (cancel_words_in (log_of d)) (answered_of d) (published_of d) }
     ensures so_far { (first : State) (d : Doings) → IsOpening first → IsConducted first d →
         BoardRuns (taken_of d) (has_held_in (log_of d)) (has_slowed_in (log_of d)) (has_changed_in (log_of d)) (has_reset_in (log_of d)) (reports_in (log_of d)) (cancel_words_in (log_of d)) (answered_of d) (published_of d) }
@@ -102,11 +103,12 @@ pub fn flags_that_are_taken_were_raised()
         AreTaken (bytes_raised_in host) (has_held_in board) (has_slowed_in board) (has_changed_in board) (has_reset_in board) (reports_in board) (cancel_words_in board) }
 {}
 
-/// A pulse that has put the end has run, and every pulse runs.
+/// A pulse that never halted and has put the end has run, and every pulse that never halted runs.
 pub fn pulses_have_run()
-    ensures whole { (pulse : Pulsing) (h : PieceLog) (k : RecordLog) → PulseFits pulse h k → end_is_put k ≡ true →
+    ensures whole { (pulse : Pulsing) (h : PieceLog) (k : RecordLog) → PulseFits pulse h k → halts_of h ≡ [] → end_is_put k ≡ true →
         PulseRan (reverse (pieces_of h)) (counted h) (records_put k) }
-    ensures so_far { (pulse : Pulsing) (h : PieceLog) (k : RecordLog) → PulseFits pulse h k → PulseRuns (reverse (pieces_of h)) (records_put k) }
+    ensures so_far { (pulse : Pulsing) (h : PieceLog) (k : RecordLog) → PulseFits pulse h k → halts_of h ≡ [] →
+        PulseRuns (reverse (pieces_of h)) (records_put k) }
 {}
 
 /// A recorder that is done has run, and every recorder runs.

@@ -19,7 +19,7 @@ use stream_host::HostPort;
 
 /// Lists in which nothing is on its way.
 fn fresh<R: Abort>(rt: &R, alloc: Global) -> Lists
-    ensures { Joined result [] [] [] }
+    ensures { Joined result [] [] [] [] }
 {
     Lists::new(alloc).expect(rt, "memory")
 }
@@ -47,6 +47,13 @@ fn greeting_goes_from_board_to_host(rt: HostRuntime) {
     assert_eq!(rt; lists.answer(Reply::Banner), Ok(()));
     assert_eq!(rt; lists.reply(), Some(Reply::Banner));
     assert_eq!(rt; lists.reply(), None);
+}
+
+#[test]
+fn mark_goes_from_host_to_board(rt: HostRuntime) {
+    let mut lists = fresh(&rt, rt.alloc());
+    lists.mark();
+    assert_eq!(rt; lists.marked(), (1, 0));
 }
 
 /// A byte, what it raises, and the flags of both words that are up then.

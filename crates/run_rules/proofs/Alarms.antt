@@ -1,60 +1,33 @@
 -- Lines that raise an alarm: what causes it, and that nothing is passed behind them.
-use Rattle.std.proofs.Common.{◌≡◌, ◌≢◌, ℕ, ◌+◌, ◌≤◌, ◌⊎◌, inl, inr, Bool, true, false, cond, List, [], ◌∷◌, ◌++◌, length, nat_eq, nat_lt, refl, sym, ap, ◌∙◌, subst, arith, Ok, Err}
+use Rattle.std.proofs.Common.{◌≡◌, ℕ, ◌+◌, ◌≤◌, ◌⊎◌, inl, inr, Bool, true, false, cond, List, [], ◌∷◌, ◌++◌, length, nat_eq, nat_lt, refl, sym, ap, ◌∙◌, subst, arith}
 use Rattle.std.specs.declared.result.Result.{Result}
 use Rattle.std.proofs.lemmas.Bool.Decides.{nat_tests}
 use Rattle.std.proofs.lemmas.List.Sums.{sum_by-cons}
 use Rattle.units.specs.Truths.{one_if}
 use Rattle.gcode_check.specs.Verdicts.{verdict}
 use Rattle.gcode_check.specs.declared.Verdict.{Verdict}
-use Rattle.gcode_check.specs.declared.Verdict.TheVariants.{Accept, Refuse, Limit}
-use Rattle.gcode_words.specs.Words.{words_of}
 use Rattle.gcode_words.specs.declared.Word.{Word}
 use Rattle.gcode_words.specs.declared.WordFault.{WordFault}
-use Rattle.run_rules.specs.Work.{Outcome, is_alarm}
-use Rattle.run_rules.specs.Outcomes.{Before, IsLocked, ByVerdict, ByWords, ByDollar, ByCode, ByKept, Becomes, Passed, Follows, after, at_place, became_of, limited, begins_with_dollar, most_kept}
+use Rattle.run_rules.specs.Work.{Outcome, is_limit}
+use Rattle.run_rules.specs.Outcomes.{Before, IsLocked, ByVerdict, ByWords, ByCode, ByKept, Becomes, Passed, Follows, after, at_place, became_of, limited, most_kept}
 use Rattle.run_rules.specs.Outcomes.Passed.{a_line, a_cut}
 use Rattle.run_rules.specs.Limits.{IsBeyond}
-use Rattle.run_rules.specs.Told.{alarms_in}
-use Rattle.run_rules.proofs.Answering.{no_alarm, by_dollar}
-use Rattle.run_rules.proofs.Codes.{by_either, few_of}
-
-calm : {A : Type 0} (x o : Outcome) → is_alarm x.answer ≡ false → o ≡ x → is_alarm o.answer ≡ true → A
-calm x o none is one = absurd (let e = sym one ∙ ap (λ (y : Outcome). is_alarm y.answer) is ∙ none in cc)
-
-verdict_limits : (b : Before) (v : Verdict) (o : Outcome) → ByVerdict b v o → is_alarm o.answer ≡ true → v ≡ Limit
-verdict_limits b (Accept a) o is one = calm _ o refl is one
-verdict_limits b (Refuse code) o is one = calm _ o refl is one
-verdict_limits b Limit o is one = refl
-
--- the words of a line that raises an alarm
-record Limits (b : Before) (r : Result (List Word) WordFault) : Type 0 where
-  pub words : List Word
-  pub read : r ≡ Ok words
-  pub limit : verdict b.state.parser b.state.settings words ≡ Limit
-
-words_limit : (b : Before) (r : Result (List Word) WordFault) (o : Outcome) → ByWords b r o → is_alarm o.answer ≡ true → Limits b r
-words_limit b (Err fault) o is one = calm _ o refl is one
-words_limit b (Ok ws) o is one = record { words = ws; read = refl; limit = verdict_limits b (verdict b.state.parser b.state.settings ws) o is one }
-
-code_limits : (runs : Bool) (b : Before) (kept : List ℕ) (o : Outcome) → ByCode runs b kept o → is_alarm o.answer ≡ true → Limits b (words_of kept)
-code_limits runs b kept o (inl locked) one = calm _ o refl locked.outcome one
-code_limits runs b kept o (inr is) one = words_limit b (words_of kept) o is one
-
-dollar_calm : {A : Type 0} (runs : Bool) (b : Before) (kept : List ℕ) (o : Outcome) → ByDollar runs b kept o → is_alarm o.answer ≡ true → A
-dollar_calm runs b kept o is one = absurd (let e = sym (no_alarm o.answer (by_dollar runs b kept o is).one) ∙ one in cc)
-
-kept_beyond : (runs : Bool) (b : Before) (kept : List ℕ) (o : Outcome) → length kept ≤ most_kept → ByKept runs b kept o → is_alarm o.answer ≡ true → IsBeyond b kept
-kept_beyond runs b [] o few is one = calm _ o refl is one
-kept_beyond runs b (c ∷ cs) o few is one = by_either (nat_eq c 36) _ _ _
-    (λ dollar here. dollar_calm runs b (c ∷ cs) o here one)
-    (λ other here.
-    let limits : Limits b (words_of (c ∷ cs)) = code_limits runs b (c ∷ cs) o here one in
-    record { some = λ e. absurd cc; few = few; code = other; words = limits.words; read = limits.read; limit = limits.limit }) is
+use Rattle.run_rules.specs.Told.{limits_in}
+use Rattle.run_rules.proofs.Each.{by_either, HoldsByCause, holds_by_cause}
 
 -- what raises an alarm
-pub beyond : (runs : Bool) (b : Before) (kept : List ℕ) (o : Outcome) → Becomes runs b kept o → is_alarm o.answer ≡ true → IsBeyond b kept
-beyond runs b kept o is one = by_either (nat_lt most_kept (length kept)) _ _ _
-    (λ long here. calm _ o refl here one) (λ short here. kept_beyond runs b kept o (few_of kept short) here one) is
+pub beyond : (runs : Bool) (b : Before) (kept : List ℕ) (o : Outcome) → Becomes runs b kept o → is_limit o.answer ≡ true → IsBeyond b kept
+beyond runs b kept o is =
+    let each : HoldsByCause runs b kept (λ (o : Outcome). is_limit o.answer ≡ true → IsBeyond b kept) = record {
+      refuses = λ n other e. absurd cc;
+      busy = λ cause e. absurd cc;
+      locked = λ cause e. absurd cc;
+      tells = λ next body same kind e. absurd cc;
+      executes = λ ws a found e. absurd cc;
+      jogs = λ ws jog found e. absurd cc;
+      limits = λ beyond e. beyond;
+    } in
+    holds_by_cause runs b kept (λ (o : Outcome). is_limit o.answer ≡ true → IsBeyond b kept) each o is
 
 -- ---- and such a line does, if it is not refused with 9
 
@@ -92,7 +65,7 @@ none_behind runs b last [] (a_line o ∷ ps) run alarmed = absurd run
 none_behind runs b last (l ∷ ls) [] run alarmed = absurd run
 
 pub alarm_is_last : (runs : Bool) (b last : Before) (ls : List (List ℕ)) (ps : List Passed) (o : Outcome) (more : List Passed)
-    → Follows runs b ls (ps ++ a_line o ∷ more) last → is_alarm o.answer ≡ true → more ≡ []
+    → Follows runs b ls (ps ++ a_line o ∷ more) last → is_limit o.answer ≡ true → more ≡ []
 alarm_is_last runs b last [] [] o more run one = absurd run
 alarm_is_last runs b last (l ∷ ls) [] o more run one = (none_behind runs (after b o) last ls more run.1 one).1
 alarm_is_last runs b last [] (a_line x ∷ ps) o more run one = absurd run
@@ -100,18 +73,18 @@ alarm_is_last runs b last (l ∷ ls) (a_line x ∷ ps) o more run one = alarm_is
 alarm_is_last runs b last ls (a_cut k at ∷ ps) o more run one = alarm_is_last runs (at_place at b) last ls ps o more run.1 one
 
 -- as many alarms as the state behind tells, which is one or none
-alarms_are : (runs : Bool) (b last : Before) (ls : List (List ℕ)) (ps : List Passed) → Follows runs b ls ps last → alarms_in (became_of ps) + one_if b.alarmed ≡ one_if last.alarmed
+alarms_are : (runs : Bool) (b last : Before) (ls : List (List ℕ)) (ps : List Passed) → Follows runs b ls ps last → limits_in (became_of ps) + one_if b.alarmed ≡ one_if last.alarmed
 alarms_are runs b last [] [] run = let same : one_if last.alarmed ≡ one_if b.alarmed = ap (λ (u : Before). one_if u.alarmed) run in omega (arith, same)
 alarms_are runs b last (l ∷ ls) (a_line o ∷ ps) run =
-    let rest : alarms_in (became_of ps) + one_if (is_alarm o.answer) ≡ one_if last.alarmed = alarms_are runs (after b o) last ls ps run.1 in
-    let all : alarms_in (o ∷ became_of ps) ≡ one_if (is_alarm o.answer) + alarms_in (became_of ps) = sum_by-cons (λ (x : Outcome). cond (is_alarm x.answer) 1 0) o (became_of ps) in
+    let rest : limits_in (became_of ps) + one_if (is_limit o.answer) ≡ one_if last.alarmed = alarms_are runs (after b o) last ls ps run.1 in
+    let all : limits_in (o ∷ became_of ps) ≡ one_if (is_limit o.answer) + limits_in (became_of ps) = sum_by-cons (λ (x : Outcome). cond (is_limit x.answer) 1 0) o (became_of ps) in
     let none : one_if b.alarmed ≡ 0 = ap one_if run.0.free in
     omega (arith, rest, all, none)
 alarms_are runs b last ls (a_cut k at ∷ ps) run = alarms_are runs (at_place at b) last ls ps run.1
 alarms_are runs b last [] (a_line o ∷ ps) run = absurd run
 alarms_are runs b last (l ∷ ls) [] run = absurd run
 
-pub alarms_from_start : (runs : Bool) (b last : Before) (ls : List (List ℕ)) (ps : List Passed) → b.alarmed ≡ false → Follows runs b ls ps last → alarms_in (became_of ps) ≡ one_if last.alarmed
+pub alarms_from_start : (runs : Bool) (b last : Before) (ls : List (List ℕ)) (ps : List Passed) → b.alarmed ≡ false → Follows runs b ls ps last → limits_in (became_of ps) ≡ one_if last.alarmed
 alarms_from_start runs b last ls ps free run =
     let all = alarms_are runs b last ls ps run in
     let none : one_if b.alarmed ≡ 0 = ap one_if free in

@@ -1,90 +1,60 @@
 -- Each line is answered once: what is told of it ends with its answer, and holds no other.
-use Rattle.std.proofs.Common.{◌≡◌, ℕ, ◌+◌, ◌⊎◌, inl, inr, List, [], ◌∷◌, ◌++◌, length, map, nat_eq, nat_lt, true, false, Bool, cond, sym, refl, ap, ◌∙◌, subst, arith, Ok, Err, Some, None}
+use Rattle.std.proofs.Common.{◌≡◌, ℕ, ◌+◌, ◌⊎◌, inl, inr, List, [], ◌∷◌, ◌++◌, length, map, true, false, Bool, cond, sym, refl, ap, ◌∙◌, subst, arith, append-nil}
 use Rattle.std.specs.List.{AllByRecursion, flat_map, enumerate_from, count_by}
 use Rattle.std.proofs.lemmas.Grind.{flat_map-append}
 use Rattle.std.proofs.lemmas.List.Sums.{sum_by-append, sum_by-cons}
-use Rattle.std.specs.declared.option.Option.{Option}
 use Rattle.std.specs.declared.result.Result.{Result}
-use Rattle.units.specs.declared.Decimal.{Decimal}
 use Rattle.units.specs.declared.Nm3.{Nm3}
-use Rattle.gcode_words.specs.declared.Word.{Word}
-use Rattle.gcode_words.specs.declared.WordFault.{WordFault}
-use Rattle.gcode_words.specs.Words.{words_of}
 use Rattle.code_table.specs.declared.Code.{Code}
-use Rattle.gcode_check.specs.Verdicts.{verdict}
 use Rattle.gcode_check.specs.declared.Accept.{Accept as Accepted}
 use Rattle.gcode_check.specs.declared.Item.{Item}
-use Rattle.gcode_check.specs.declared.Item.TheVariants as items
-use Rattle.gcode_check.specs.declared.Verdict.{Verdict}
-use Rattle.gcode_check.specs.declared.Verdict.TheVariants.{Accept, Refuse, Limit}
 use Rattle.modal_state.specs.declared.SpindleMode.{SpindleMode}
 use Rattle.modal_state.specs.declared.Offsets.{Offsets}
 use Rattle.settings.specs.declared.Settings.{Settings}
-use Rattle.settings.specs.Numbers.{values, set_refusal}
+use Rattle.settings.specs.Numbers.{values}
 use Rattle.jog.specs.declared.JogMove.{JogMove}
-use Rattle.jog.specs.Jogs.{jog_of}
-use Rattle.system_lines.specs.Commands.{command_of, kind_of, jog_words, is_jog as begins_jog}
 use Rattle.system_lines.specs.declared.Command.{Command}
-use Rattle.system_lines.specs.declared.Command.TheVariants.{ListSettings, ListModes, ListOffsets, Unlock, Set}
-use Rattle.status_report.specs.Answering.{is_answer, is_bye, answers_in}
+use Rattle.status_report.specs.Answering.{is_answer, is_bye, is_banner, answers_in}
 use Rattle.status_report.proofs.Answered.{answers_first, answers_on}
-use Rattle.status_report.specs.Lists.{setting_replies, modes_replies, offset_replies, row_places}
+use Rattle.status_report.specs.Lists.{setting_replies, offset_replies, row_places}
 use Rattle.status_report.specs.declared.Reply.{Reply}
 use Rattle.status_report.specs.declared.Reply.TheVariants as replies
 use Rattle.status_report.specs.declared.Message.TheVariants as messages
 use Rattle.step_line.specs.Asking.{Asked}
-use Rattle.step_line.specs.Asking.Asked.{a_rest}
 use Rattle.run_rules.specs.declared.State.{State}
-use Rattle.run_rules.specs.Outcomes.{Before, Becomes, ByKept, ByDollar, ByCode, ByServed, ByJog, ByJogMove, ByCommand, BySetting, ByWords, ByVerdict, Passed, Follows, after, at_place, became_of, executed, jogging, told, limited, refused, either, fault_number, most_kept}
+use Rattle.run_rules.specs.Outcomes.{Before, Becomes, ByCommand, Passed, Follows, after, at_place, became_of, executed, jogging, told, limited, refused}
 use Rattle.run_rules.specs.Outcomes.Passed.{a_line, a_cut}
-use Rattle.run_rules.specs.Asks.{at_rest, item_work, work_of, move_asked, planned, spindle_after, flood_after, spindle_off, coolant_off}
-use Rattle.run_rules.specs.Told.{is_error, replies_in, errors_in, errors_among, alarms_in}
-use Rattle.run_rules.specs.Work.{Task, Outcome, is_alarm, soft_limit, tells, told_by, telling, asking}
+use Rattle.run_rules.specs.Asks.{work_of, move_asked, planned}
+use Rattle.run_rules.specs.Told.{is_error, replies_in, errors_in, errors_among, limits_in}
+use Rattle.run_rules.specs.Work.{Task, Outcome, is_limit, soft_limit, tells, told_by, telling, asking}
 use Rattle.run_rules.specs.Work.Kind.{of_none}
-use Rattle.run_rules.specs.Work.Task.{ask, tell, normal}
+use Rattle.run_rules.specs.Work.Task.{tell}
+use Rattle.run_rules.proofs.Each.{IsListing, HoldsOfEach, holds_of_bodies, holds_of_commands, holds_of_each}
+use Rattle.run_rules.proofs.Items.{PassesTasks, holds_of_work}
 
--- told before the answer of a line
-abbrev IsBody : Reply → Type 0
-IsBody r = (is_answer r ≡ false) × (is_bye r ≡ false)
+-- told before the answer of a line: no answer, not Bye and no Banner
+abbrev pub IsBody : Reply → Type 0
+IsBody r = (is_answer r ≡ false) × (is_bye r ≡ false) × (is_banner r ≡ false)
 
-abbrev NoAnswers : List Reply → Type 0
+abbrev pub NoAnswers : List Reply → Type 0
 NoAnswers [] = Unit {0}
 NoAnswers (r ∷ rs) = IsBody r × NoAnswers rs
 
-none_on : (xs ys : List Reply) → NoAnswers xs → NoAnswers ys → NoAnswers (xs ++ ys)
-none_on [] ys a b = b
-none_on (x ∷ xs) ys a b = (a.0, none_on xs ys a.1 b)
-
 tells_on : (xs ys : List Task) → tells (xs ++ ys) ≡ tells xs ++ tells ys
 tells_on xs ys = flat_map-append told_by xs ys
-
-silent_on : (xs ys : List Task) → NoAnswers (tells xs) → NoAnswers (tells ys) → NoAnswers (tells (xs ++ ys))
-silent_on xs ys a b = subst NoAnswers (sym (tells_on xs ys)) (none_on (tells xs) (tells ys) a b)
 
 -- what only asks tells nothing
 pub asking_tells : (asked : List Asked) → tells (asking asked) ≡ []
 asking_tells [] = refl
 asking_tells (a ∷ asked) = asking_tells asked
 
-silent_asking : (xs : List Asked) → NoAnswers (tells (asking xs))
-silent_asking xs = rw (asking_tells xs) tt
+abbrev Silent : List Task → Type 0
+Silent ts = NoAnswers (tells ts)
 
-silent_at_rest : (xs : List Asked) → NoAnswers (tells (at_rest xs))
-silent_at_rest xs = silent_on (asking xs) (ask a_rest ∷ []) (silent_asking xs) tt
-
-silent_item : (line : ℕ) (s : Settings) (spindle : SpindleMode) (flood : Bool) (item : Item) → NoAnswers (tells (item_work line s spindle flood item))
-silent_item line s spindle flood (items.Spindle mode speed) = tt
-silent_item line s spindle flood (items.Coolant on) = tt
-silent_item line s spindle flood (items.Dwell ms) = tt
-silent_item line s spindle flood (items.Move mv rate) = silent_asking (move_asked (planned line s mv rate))
-silent_item line s spindle flood items.Pause = tt
-silent_item line s spindle flood items.ProgramEnd =
-    silent_on (at_rest (spindle_off spindle ++ coolant_off flood)) (normal ∷ tell (replies.Message messages.ProgramEnd) ∷ []) (silent_at_rest (spindle_off spindle ++ coolant_off flood)) ((refl, refl), tt)
-
-silent_work : (line : ℕ) (s : Settings) (spindle : SpindleMode) (flood : Bool) (all : List Item) → NoAnswers (tells (work_of line s spindle flood all))
-silent_work line s spindle flood [] = tt
-silent_work line s spindle flood (item ∷ more) =
-    silent_on (item_work line s spindle flood item) (work_of line s (spindle_after spindle item) (flood_after flood item) more) (silent_item line s spindle flood item) (silent_work line s (spindle_after spindle item) (flood_after flood item) more)
+silent_work : (line : ℕ) (s : Settings) (spindle : SpindleMode) (flood : Bool) (all : List Item) → Silent (work_of line s spindle flood all)
+silent_work line s spindle flood all =
+    let each : PassesTasks Silent = record { asks = λ a ts is none. none; pauses = λ ts none. none; normals = λ ts none. none; ends = λ ts none. ((refl, refl, refl), none) } in
+    subst Silent (append-nil (work_of line s spindle flood all)) (holds_of_work Silent each line s spindle flood all [] tt)
 
 -- ---- lines that only tell something
 
@@ -95,19 +65,22 @@ telling_tells (r ∷ rs) = ap (λ (xs : List Reply). r ∷ xs) (telling_tells rs
 
 settings_told : (rows : List (ℕ × ℕ)) → NoAnswers (map (λ row. replies.Setting row.0 row.1) rows)
 settings_told [] = tt
-settings_told (row ∷ rows) = ((refl, refl), settings_told rows)
+settings_told (row ∷ rows) = ((refl, refl, refl), settings_told rows)
 
 offsets_told : (rows : List (ℕ × Nm3)) → NoAnswers (map (λ row. replies.Offset row.0 row.1) rows)
 offsets_told [] = tt
-offsets_told (row ∷ rows) = ((refl, refl), offsets_told rows)
+offsets_told (row ∷ rows) = ((refl, refl, refl), offsets_told rows)
 
 settings_silent : (s : Settings) → NoAnswers (setting_replies s)
 unfolding setting_replies
 settings_silent s = settings_told (values s)
 
-offsets_silent : (offsets : Offsets) → NoAnswers (offset_replies offsets)
+offsets_silent : (at : Offsets) → NoAnswers (offset_replies at)
 unfolding offset_replies
-offsets_silent offsets = offsets_told (enumerate_from 0 (row_places offsets))
+offsets_silent at = offsets_told (enumerate_from 0 (row_places at))
+
+silent_listing : (body : List Reply) → IsListing body → NoAnswers body
+silent_listing body is = holds_of_bodies NoAnswers tt settings_silent (λ p. ((refl, refl, refl), tt)) offsets_silent body is
 
 -- ---- outcomes
 
@@ -121,10 +94,10 @@ pub record AnswersOnce (o : Outcome) : Type 0 where
 telling_once : (body : List Reply) (r : Reply) (next : State) → NoAnswers body → is_answer r ≡ true → AnswersOnce (record { work = telling (body ++ r ∷ []); answer = r; settles = false; kind = of_none; next = next })
 telling_once body r next none one = record { body = body; told = telling_tells (body ++ r ∷ []); none = none; one = one }
 
-refused_once : (b : Before) (n : ℕ) (o : Outcome) → o ≡ refused b n → AnswersOnce o
+pub refused_once : (b : Before) (n : ℕ) (o : Outcome) → o ≡ refused b n → AnswersOnce o
 refused_once b n o is = subst AnswersOnce (sym is) (telling_once [] (replies.Error n) b.state tt refl)
 
-told_once : (next : State) (body : List Reply) (o : Outcome) → NoAnswers body → o ≡ told next body → AnswersOnce o
+pub told_once : (next : State) (body : List Reply) (o : Outcome) → NoAnswers body → o ≡ told next body → AnswersOnce o
 told_once next body o none is = subst AnswersOnce (sym is) (telling_once body replies.Ok next none refl)
 
 executed_once : (b : Before) (a : Accepted) → AnswersOnce (executed b a)
@@ -142,96 +115,49 @@ executed_once b a =
 abbrev pub AnswersOrHalts : Before → Outcome → Type 0
 AnswersOrHalts b o = AnswersOnce o ⊎ (o ≡ limited b)
 
-by_verdict : (b : Before) (v : Verdict) (o : Outcome) → ByVerdict b v o → AnswersOrHalts b o
-by_verdict b (Accept a) o is = inl (subst AnswersOnce (sym is) (executed_once b a))
-by_verdict b (Refuse code) o is = inl (refused_once b code.0 o is)
-by_verdict b Limit o is = inr is
-
-by_words : (b : Before) (ws : Result (List Word) WordFault) (o : Outcome) → ByWords b ws o → AnswersOrHalts b o
-by_words b (Err fault) o is = inl (refused_once b (fault_number fault) o is)
-by_words b (Ok ws) o is = by_verdict b (verdict b.state.parser b.state.settings ws) o is
-
-by_setting : (b : Before) (n : ℕ) (value : Decimal) (code : Option Code) (o : Outcome) → BySetting b n value code o → AnswersOnce o
-by_setting b n value (Some code) o is = refused_once b code.0 o is
-by_setting b n value None o is = told_once (record { parser = b.state.parser; settings = o.next.settings }) [] o tt is.outcome
-
-by_command : (b : Before) (c : Result Command Code) (o : Outcome) → ByCommand b c o → AnswersOnce o
-by_command b (Err code) o is = refused_once b code.0 o is
-by_command b (Ok ListSettings) o is = told_once b.state (setting_replies b.state.settings) o (settings_silent b.state.settings) is
-by_command b (Ok ListModes) o is = told_once b.state (modes_replies b.state.parser) o ((refl, refl), tt) is
-by_command b (Ok ListOffsets) o is = told_once b.state (offset_replies b.state.parser.offsets) o (offsets_silent b.state.parser.offsets) is
-by_command b (Ok Unlock) o is = told_once b.state [] o tt is
-by_command b (Ok (Set n value)) o is = by_setting b n value (set_refusal n value) o is
-
 jogging_once : (b : Before) (jog : JogMove) → AnswersOnce (jogging b jog)
 jogging_once b jog =
     let asked = move_asked (planned b.number b.state.settings jog.mv jog.rate) in
-    record { body = tells (asking asked); told = tells_on (asking asked) (tell replies.Ok ∷ []); none = silent_asking asked; one = refl }
-
-by_jog_move : (b : Before) (r : Result JogMove Code) (o : Outcome) → ByJogMove b r o → AnswersOnce o
-by_jog_move b (Err code) o is = refused_once b code.0 o is
-by_jog_move b (Ok jog) o is = subst AnswersOnce (sym is) (jogging_once b jog)
-
-by_jog : (b : Before) (ws : Result (List Word) WordFault) (o : Outcome) → ByJog b ws o → AnswersOnce o
-by_jog b (Err fault) o is = refused_once b (fault_number fault) o is
-by_jog b (Ok ws) o is = by_jog_move b (jog_of b.state.parser b.state.settings ws) o is
-
-by_either : (c : Bool) (A B C : Type 0) → (A → C) → (B → C) → either c A B → C
-by_either true A B C first second is = first is
-by_either false A B C first second is = second is
-
-by_served : (b : Before) (kept : List ℕ) (o : Outcome) → ByServed b kept o → AnswersOnce o
-by_served b kept o is =
-    by_either (begins_jog (kind_of kept)) (ByJog b (words_of (jog_words kept)) o) (ByCommand b (command_of kept) o) (AnswersOnce o)
-    (by_jog b (words_of (jog_words kept)) o) (by_command b (command_of kept) o) is
-
-pub by_dollar : (runs : Bool) (b : Before) (kept : List ℕ) (o : Outcome) → ByDollar runs b kept o → AnswersOnce o
-by_dollar runs b kept o (inl busy) = refused_once b 8 o busy.outcome
-by_dollar runs b kept o (inr is) = by_served b kept o is
-
-by_code : (runs : Bool) (b : Before) (kept : List ℕ) (o : Outcome) → ByCode runs b kept o → AnswersOrHalts b o
-by_code runs b kept o (inl locked) = inl (refused_once b 9 o locked.outcome)
-by_code runs b kept o (inr is) = by_words b (words_of kept) o is
-
-by_kept : (runs : Bool) (b : Before) (kept : List ℕ) (o : Outcome) → ByKept runs b kept o → AnswersOrHalts b o
-by_kept runs b [] o is = inl (told_once b.state [] o tt is)
-by_kept runs b (c ∷ cs) o is =
-    by_either (nat_eq c 36) (ByDollar runs b (c ∷ cs) o) (ByCode runs b (c ∷ cs) o) (AnswersOrHalts b o) (λ x. inl (by_dollar runs b (c ∷ cs) o x)) (by_code runs b (c ∷ cs) o) is
+    record { body = tells (asking asked); told = tells_on (asking asked) (tell replies.Ok ∷ []); none = rw (asking_tells asked) tt; one = refl }
 
 pub answers_or_halts : (runs : Bool) (b : Before) (kept : List ℕ) (o : Outcome) → Becomes runs b kept o → AnswersOrHalts b o
 answers_or_halts runs b kept o is =
-    by_either (nat_lt most_kept (length kept)) (o ≡ refused b 11) (ByKept runs b kept o) (AnswersOrHalts b o) (λ x. inl (refused_once b 11 o x)) (by_kept runs b kept o) is
+    let each : HoldsOfEach b (AnswersOrHalts b) = record {
+      refuses = λ n. inl (refused_once b n (refused b n) refl);
+      tells = λ next body kind. inl (told_once next body (told next body) (silent_listing body kind) refl);
+      executes = λ a. inl (executed_once b a);
+      jogs = λ jog. inl (jogging_once b jog);
+      limits = inr refl;
+    } in
+    holds_of_each runs b (AnswersOrHalts b) each kept o is
+
+-- a line that begins with `$`, and is no jog, has one answer
+pub by_command : (b : Before) (r : Result Command Code) (o : Outcome) → ByCommand b r o → AnswersOnce o
+by_command b r o is = holds_of_commands b AnswersOnce r o (λ code e. refused_once b code.0 (refused b code.0) refl) (λ n value code e. refused_once b code.0 (refused b code.0) refl)
+    (λ next body same kind. told_once next body (told next body) (silent_listing body kind) refl) is
 
 -- an alarm is no answer
-pub no_alarm : (r : Reply) → is_answer r ≡ true → is_alarm r ≡ false
-no_alarm replies.Ok e = refl
-no_alarm (replies.Error n) e = refl
+pub no_alarm : (r : Reply) → is_answer r ≡ true → is_limit r ≡ false
 no_alarm (replies.Alarm n) e = absurd cc
-no_alarm replies.Banner e = refl
-no_alarm (replies.Message m) e = refl
-no_alarm (replies.Report t) e = refl
-no_alarm (replies.Setting n v) e = refl
-no_alarm (replies.Modes m) e = refl
-no_alarm (replies.Offset r a) e = refl
-no_alarm replies.Bye e = refl
+no_alarm _ e = refl
 
-halted_alarm : (b : Before) (o : Outcome) → o ≡ limited b → is_alarm o.answer ≡ true
-halted_alarm b o is = ap (λ (x : Outcome). is_alarm x.answer) is
+halted_alarm : (b : Before) (o : Outcome) → o ≡ limited b → is_limit o.answer ≡ true
+halted_alarm b o is = ap (λ (x : Outcome). is_limit x.answer) is
 
-if_no_alarm : (b : Before) (o : Outcome) → AnswersOrHalts b o → is_alarm o.answer ≡ false → AnswersOnce o
+if_no_alarm : (b : Before) (o : Outcome) → AnswersOrHalts b o → is_limit o.answer ≡ false → AnswersOnce o
 if_no_alarm b o (inl once) none = once
 if_no_alarm b o (inr is) none = absurd (let e = sym (halted_alarm b o is) ∙ none in cc)
 
-if_alarm : (b : Before) (o : Outcome) → AnswersOrHalts b o → is_alarm o.answer ≡ true → o ≡ limited b
+if_alarm : (b : Before) (o : Outcome) → AnswersOrHalts b o → is_limit o.answer ≡ true → o ≡ limited b
 if_alarm b o (inl once) one = absurd (let e = sym (no_alarm o.answer once.one) ∙ one in cc)
 if_alarm b o (inr is) one = is
 
 -- a line that raises no alarm has one answer
-pub answers_once : (runs : Bool) (b : Before) (kept : List ℕ) (o : Outcome) → Becomes runs b kept o → is_alarm o.answer ≡ false → AnswersOnce o
+pub answers_once : (runs : Bool) (b : Before) (kept : List ℕ) (o : Outcome) → Becomes runs b kept o → is_limit o.answer ≡ false → AnswersOnce o
 answers_once runs b kept o is none = if_no_alarm b o (answers_or_halts runs b kept o is) none
 
 -- and one that raises an alarm is stopped by a soft limit
-pub halts : (runs : Bool) (b : Before) (kept : List ℕ) (o : Outcome) → Becomes runs b kept o → is_alarm o.answer ≡ true → o ≡ limited b
+pub halts : (runs : Bool) (b : Before) (kept : List ℕ) (o : Outcome) → Becomes runs b kept o → is_limit o.answer ≡ true → o ≡ limited b
 halts runs b kept o is one = if_alarm b o (answers_or_halts runs b kept o is) one
 
 -- ---- counts
@@ -249,7 +175,7 @@ none_counted p only [] none = refl
 none_counted p only (r ∷ rs) none =
     let a = sum_by-cons (λ x. cond (p x) 1 0) r rs in let m = none_counted p only rs none.1 in let z = one_none (p r) (only r none.0.0) in omega arith
 
-pub one_answer : (runs : Bool) (b : Before) (kept : List ℕ) (o : Outcome) → Becomes runs b kept o → is_alarm o.answer ≡ false
+pub one_answer : (runs : Bool) (b : Before) (kept : List ℕ) (o : Outcome) → Becomes runs b kept o → is_limit o.answer ≡ false
     → (body : List Reply) × (tells o.work ≡ body ++ o.answer ∷ []) × (answers_in body ≡ 0) × (is_answer o.answer ≡ true)
 one_answer runs b kept o is none = let once = answers_once runs b kept o is none in (once.body, once.told, none_counted is_answer (λ r e. e) once.body once.none, once.one)
 
@@ -259,7 +185,7 @@ once_counted p only o once =
 
 halted_counted : (p : Reply → Bool) → CountsAnswers p → (b : Before) → count_by p (tells (limited b).work) ≡ cond (p (limited b).answer) 1 0
 halted_counted p only b =
-    none_counted p only (replies.Alarm soft_limit ∷ replies.Message messages.ResetToContinue ∷ []) ((refl, refl), ((refl, refl), tt))
+    none_counted p only (replies.Alarm soft_limit ∷ replies.Message messages.ResetToContinue ∷ []) ((refl, refl, refl), ((refl, refl, refl), tt))
     ∙ sym (one_none (p (replies.Alarm soft_limit)) (only (replies.Alarm soft_limit) refl))
 
 one_counted : (p : Reply → Bool) → CountsAnswers p → (b : Before) (o : Outcome) → AnswersOrHalts b o → count_by p (tells o.work) ≡ cond (p o.answer) 1 0
@@ -286,12 +212,12 @@ one_of_two true true e f = absurd cc
 one_of_two false y e f = absurd cc
 
 -- a line is answered, or raises an alarm
-one_each : (b : Before) (o : Outcome) → AnswersOrHalts b o → cond (is_answer o.answer) 1 0 + cond (is_alarm o.answer) 1 0 ≡ 1
-one_each b o (inl once) = one_of_two (is_answer o.answer) (is_alarm o.answer) once.one (no_alarm o.answer once.one)
-one_each b o (inr is) = subst (λ (x : Outcome). cond (is_answer x.answer) 1 0 + cond (is_alarm x.answer) 1 0 ≡ 1) (sym is) refl
+one_each : (b : Before) (o : Outcome) → AnswersOrHalts b o → cond (is_answer o.answer) 1 0 + cond (is_limit o.answer) 1 0 ≡ 1
+one_each b o (inl once) = one_of_two (is_answer o.answer) (is_limit o.answer) once.one (no_alarm o.answer once.one)
+one_each b o (inr is) = subst (λ (x : Outcome). cond (is_answer x.answer) 1 0 + cond (is_limit x.answer) 1 0 ≡ 1) (sym is) refl
 
 each_answered : (runs : Bool) (b : Before) (lines : List (List ℕ)) (ps : List Passed) (last : Before) → Follows runs b lines ps last
-    → count_by (λ (o : Outcome). is_answer o.answer) (became_of ps) + alarms_in (became_of ps) ≡ length lines
+    → count_by (λ (o : Outcome). is_answer o.answer) (became_of ps) + limits_in (became_of ps) ≡ length lines
 each_answered runs b [] [] last f = refl
 each_answered runs b (l ∷ ls) [] last f = absurd f
 each_answered runs b [] (a_line o ∷ ps) last f = absurd f
@@ -299,14 +225,14 @@ each_answered runs b ls (a_cut k at ∷ ps) last f = each_answered runs (at_plac
 each_answered runs b (l ∷ ls) (a_line o ∷ ps) last f =
     let os = became_of ps in
     let c = sum_by-cons (λ (o : Outcome). cond (is_answer o.answer) 1 0) o os in
-    let a = sum_by-cons (λ (o : Outcome). cond (is_alarm o.answer) 1 0) o os in
+    let a = sum_by-cons (λ (o : Outcome). cond (is_limit o.answer) 1 0) o os in
     let m = each_answered runs (after b o) ls ps last f.1 in
     let r = one_each b o (answers_or_halts runs b l o f.0.becomes) in
     omega (arith, c, a, m, r)
 
 -- each line has one answer but for one that raises an alarm, and the banner is none
 pub lines_answered : (runs : Bool) (b : Before) (lines : List (List ℕ)) (ps : List Passed) (last : Before) → Follows runs b lines ps last
-    → answers_in (replies_in (became_of ps)) + alarms_in (became_of ps) ≡ length lines
+    → answers_in (replies_in (became_of ps)) + limits_in (became_of ps) ≡ length lines
 lines_answered runs b lines ps last f =
     let first = answers_first replies.Banner (flat_map (λ (o : Outcome). tells o.work) (became_of ps)) in
     let counted = all_counted is_answer (λ r e. e) runs b lines ps last f in
@@ -324,18 +250,10 @@ whole_counted p only os =
 
 errors_are_answers : CountsAnswers is_error
 errors_are_answers (replies.Error n) e = absurd cc
-errors_are_answers replies.Ok e = refl
-errors_are_answers replies.Banner e = refl
-errors_are_answers (replies.Alarm n) e = refl
-errors_are_answers (replies.Message m) e = refl
-errors_are_answers (replies.Report t) e = refl
-errors_are_answers (replies.Setting n v) e = refl
-errors_are_answers (replies.Modes m) e = refl
-errors_are_answers (replies.Offset r a) e = refl
-errors_are_answers replies.Bye e = refl
+errors_are_answers _ e = refl
 
 -- and Bye is none
-pub answers_are : (runs : Bool) (b : Before) (lines : List (List ℕ)) (ps : List Passed) (last : Before) → Follows runs b lines ps last → answers_in (replies_in (became_of ps) ++ replies.Bye ∷ []) + alarms_in (became_of ps) ≡ length lines
+pub answers_are : (runs : Bool) (b : Before) (lines : List (List ℕ)) (ps : List Passed) (last : Before) → Follows runs b lines ps last → answers_in (replies_in (became_of ps) ++ replies.Bye ∷ []) + limits_in (became_of ps) ≡ length lines
 answers_are runs b lines ps last f =
     let on = answers_on (replies_in (became_of ps)) (replies.Bye ∷ []) in
     let e = lines_answered runs b lines ps last f in
@@ -381,3 +299,37 @@ lines_no_bye runs b (l ∷ ls) (a_line o ∷ ps) last f =
 
 pub none_is_bye : (runs : Bool) (b : Before) (lines : List (List ℕ)) (ps : List Passed) (last : Before) → Follows runs b lines ps last → NoByes (replies_in (became_of ps))
 none_is_bye runs b lines ps last f = ((λ e. absurd cc), lines_no_bye runs b lines ps last f)
+
+-- ---- the Banner
+
+no_answer_greets : (r : Reply) → is_answer r ≡ true → is_banner r ≡ false
+no_answer_greets replies.Banner e = absurd cc
+no_answer_greets r e = refl
+
+body_greets_none : (rs : List Reply) → NoAnswers rs → count_by is_banner rs ≡ 0
+body_greets_none [] none = refl
+body_greets_none (r ∷ rs) none =
+    let a = sum_by-cons (λ x. cond (is_banner x) 1 0) r rs in let m = body_greets_none rs none.1 in let z = one_none (is_banner r) none.0.2 in omega arith
+
+begun_greets_none : (b : Before) (o : Outcome) → AnswersOrHalts b o → count_by is_banner (tells o.work) ≡ 0
+begun_greets_none b o (inl once) =
+    let e = ap (count_by is_banner) once.told in
+    let a = sum_by-append (λ x. cond (is_banner x) 1 0) once.body (o.answer ∷ []) in
+    let m = body_greets_none once.body once.none in let z = one_none (is_banner o.answer) (no_answer_greets o.answer once.one) in omega arith
+begun_greets_none b o (inr is) = subst (λ (x : Outcome). count_by is_banner (tells x.work) ≡ 0) (sym is) refl
+
+-- no line tells a Banner
+pub line_greets_none : (runs : Bool) (b : Before) (kept : List ℕ) (o : Outcome) → Becomes runs b kept o → count_by is_banner (tells o.work) ≡ 0
+line_greets_none runs b kept o is = begun_greets_none b o (answers_or_halts runs b kept o is)
+
+pub lines_greet_none : (runs : Bool) (b : Before) (lines : List (List ℕ)) (ps : List Passed) (last : Before) → Follows runs b lines ps last
+    → count_by is_banner (flat_map (λ (o : Outcome). tells o.work) (became_of ps)) ≡ 0
+lines_greet_none runs b [] [] last f = refl
+lines_greet_none runs b (l ∷ ls) [] last f = refl
+lines_greet_none runs b [] (a_line o ∷ ps) last f = absurd f
+lines_greet_none runs b ls (a_cut k at ∷ ps) last f = lines_greet_none runs (at_place at b) ls ps last f.1
+lines_greet_none runs b (l ∷ ls) (a_line o ∷ ps) last f =
+    let a = sum_by-append (λ x. cond (is_banner x) 1 0) (tells o.work) (flat_map (λ (o : Outcome). tells o.work) (became_of ps)) in
+    let one = line_greets_none runs b l o f.0.becomes in
+    let m = lines_greet_none runs (after b o) ls ps last f.1 in
+    omega arith

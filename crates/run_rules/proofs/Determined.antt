@@ -11,7 +11,7 @@ use Rattle.gcode_words.specs.Words.{words_of}
 use Rattle.code_table.specs.declared.Code.{Code}
 use Rattle.gcode_check.specs.Verdicts.{verdict}
 use Rattle.gcode_check.specs.declared.Verdict.{Verdict}
-use Rattle.gcode_check.specs.declared.Verdict.TheVariants.{Accept, Refuse, Limit}
+use Rattle.gcode_check.specs.declared.Verdict.TheVariants.{Accept}
 use Rattle.settings.specs.declared.Settings.{Settings}
 use Rattle.code_table.specs.Tables.{Row}
 use Rattle.settings.specs.Numbers.{values, set_refusal}
@@ -19,7 +19,7 @@ use Rattle.jog.specs.declared.JogMove.{JogMove}
 use Rattle.jog.specs.Jogs.{jog_of}
 use Rattle.system_lines.specs.Commands.{command_of, kind_of, jog_words, is_jog as begins_jog}
 use Rattle.system_lines.specs.declared.Command.{Command}
-use Rattle.system_lines.specs.declared.Command.TheVariants.{ListSettings, ListModes, ListOffsets, Unlock, Set}
+use Rattle.system_lines.specs.declared.Command.TheVariants.{Set}
 use Rattle.run_rules.specs.declared.State.{State}
 use Rattle.run_rules.specs.States.{IsOpening}
 use Rattle.run_rules.specs.Work.{Outcome}
@@ -58,13 +58,12 @@ values_determine s t e =
     ∙ ap (λ l. record t { travel = l }) travel
 
 -- two outcomes that are the same third one
-both : {A : Type 0} {a b c : A} → a ≡ c → b ≡ c → a ≡ b
+pub both : {A : Type 0} {a b c : A} → a ≡ c → b ≡ c → a ≡ b
 both e f = e ∙ sym f
 
 by_verdict : (s : Before) (v : Verdict) (a b : Outcome) → ByVerdict s v a → ByVerdict s v b → a ≡ b
 by_verdict s (Accept x) a b e f = both e f
-by_verdict s (Refuse code) a b e f = both e f
-by_verdict s Limit a b e f = both e f
+by_verdict s _ a b e f = both e f
 
 by_words : (s : Before) (r : Result (List Word) WordFault) (a b : Outcome) → ByWords s r a → ByWords s r b → a ≡ b
 by_words s (Err fault) a b e f = both e f
@@ -79,13 +78,9 @@ by_setting : (s : Before) (n : ℕ) (value : Decimal) (r : Option Code) (a b : O
 by_setting s n value (Some code) a b e f = both e f
 by_setting s n value None a b e f = by_set s.state n value a b e f
 
-by_command : (s : Before) (r : Result Command Code) (a b : Outcome) → ByCommand s r a → ByCommand s r b → a ≡ b
-by_command s (Err code) a b e f = both e f
-by_command s (Ok ListSettings) a b e f = both e f
-by_command s (Ok ListModes) a b e f = both e f
-by_command s (Ok ListOffsets) a b e f = both e f
-by_command s (Ok Unlock) a b e f = both e f
+pub by_command : (s : Before) (r : Result Command Code) (a b : Outcome) → ByCommand s r a → ByCommand s r b → a ≡ b
 by_command s (Ok (Set n value)) a b e f = by_setting s n value (set_refusal n value) a b e f
+by_command s _ a b e f = both e f
 
 by_jog_move : (s : Before) (r : Result JogMove Code) (a b : Outcome) → ByJogMove s r a → ByJogMove s r b → a ≡ b
 by_jog_move s (Err code) a b e f = both e f

@@ -30,9 +30,10 @@ use Rattle.run_rules.specs.declared.machine.Machine.TheVariants.{Runs, Jogs}
 use Rattle.run_rules.specs.Work.{Outcome, telling, asking, asks}
 use Rattle.run_rules.specs.Work.Task.{tell}
 use Rattle.run_rules.specs.Asks.{planned}
-use Rattle.run_rules.specs.Outcomes.{Before, refused, told, jogging, fault_number, ByVerdict, ByWords, BySetting, ByCommand, ByJogMove, ByJog, ByServed, either, most_kept, begins_with_dollar}
+use Rattle.run_rules.specs.Outcomes.{Before, refused, told, jogging, fault_number, ByVerdict, ByWords, BySetting, ByCommand, ByJogMove, ByJog, ByServed, most_kept, begins_with_dollar}
 use Rattle.run_rules.specs.Finding.{refuses, locks, ByDollarFound, ByCodeFound, ByKeptFound, Found, IsJogWork, Fate}
 use Rattle.run_rules.specs.Finding.Fate.{coded, a_jog, halted, neither}
+use Rattle.run_rules.proofs.Each.{by_either}
 
 telling_asks : (rs : List Reply) → asks (telling rs) ≡ []
 telling_asks [] = refl
@@ -86,20 +87,10 @@ jog_fate m b (Ok ws) kept o other dollar is = move_fate m b (jog_of b.state.pars
 -- a jog that is served is not begun while the machine runs
 jogs_yield : (kind : DollarKind) → is_jog kind ≡ true → refused_in_run kind ≡ true
 jogs_yield kinds.Jog is = refl
-jogs_yield kinds.ListSettings is = absurd cc
-jogs_yield kinds.ListModes is = absurd cc
-jogs_yield kinds.Unlock is = absurd cc
-jogs_yield kinds.ListOffsets is = absurd cc
-jogs_yield kinds.Setting is = absurd cc
-jogs_yield kinds.BareJog is = absurd cc
-jogs_yield kinds.Other is = absurd cc
+jogs_yield _ is = absurd cc
 
 not_running : (m : Machine) (kind : DollarKind) → refuses m kind ≡ false → is_jog kind ≡ true → m ≡ Runs → ⊥
 not_running m kind served jogs runs = absurd (let e = sym (jogs_yield kind jogs) ∙ sym (ap (λ (n : Machine). refuses n kind) runs) ∙ served in cc)
-
-by_either : (t : Bool) (A B C : Type 0) → (t ≡ true → A → C) → (t ≡ false → B → C) → either t A B → C
-by_either true A B C first second is = first refl is
-by_either false A B C first second is = second refl is
 
 served_fate : (m : Machine) (b : Before) (kept : List ℕ) (o : Outcome) → refuses m (kind_of kept) ≡ false → begins_with_dollar kept ≡ true → ByServed b kept o → Fate m kept o
 served_fate m b kept o served dollar is = by_either (is_jog (kind_of kept)) _ _ _

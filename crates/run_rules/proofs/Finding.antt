@@ -6,14 +6,14 @@ use Rattle.units.specs.declared.Decimal.{Decimal}
 use Rattle.code_table.specs.declared.Code.{Code}
 use Rattle.gcode_check.specs.Verdicts.{verdict}
 use Rattle.gcode_check.specs.declared.Verdict.{Verdict}
-use Rattle.gcode_check.specs.declared.Verdict.TheVariants.{Accept, Refuse, Limit}
+use Rattle.gcode_check.specs.declared.Verdict.TheVariants.{Accept}
 use Rattle.gcode_words.specs.declared.Word.{Word}
 use Rattle.gcode_words.specs.declared.WordFault.{WordFault}
 use Rattle.jog.specs.declared.JogMove.{JogMove}
 use Rattle.jog.specs.Jogs.{jog_of}
 use Rattle.settings.specs.Numbers.{set_refusal}
 use Rattle.system_lines.specs.declared.Command.{Command}
-use Rattle.system_lines.specs.declared.Command.TheVariants.{ListSettings, ListModes, ListOffsets, Unlock, Set}
+use Rattle.system_lines.specs.declared.Command.TheVariants.{Set}
 use Rattle.gcode_words.specs.Words.{words_of}
 use Rattle.system_lines.specs.Commands.{command_of, kind_of, jog_words, is_jog}
 use Rattle.system_lines.specs.declared.Kind.{Kind}
@@ -29,24 +29,17 @@ abbrev HasCauses : Machine → Before → Type 0
 HasCauses m b = (kind : Kind) → refuses m kind ≡ true → has_cause b kind ≡ true
 
 runs_cause : (b : Before) → b.moved ≡ true → b.jogged ≡ false → HasCauses Runs b
-runs_cause b moved other kinds.ListSettings e = rw moved (rw other refl)
-runs_cause b moved other kinds.Jog e = rw moved (rw other refl)
-runs_cause b moved other kinds.BareJog e = rw moved (rw other refl)
 runs_cause b moved other kinds.ListOffsets e = rw moved refl
 runs_cause b moved other kinds.Setting e = rw moved refl
 runs_cause b moved other kinds.ListModes e = absurd cc
 runs_cause b moved other kinds.Unlock e = absurd cc
 runs_cause b moved other kinds.Other e = absurd cc
+runs_cause b moved other _ e = rw moved (rw other refl)
 
 jogs_cause : (b : Before) → (b.moved || b.jog_moved) ≡ true → HasCauses Jogs b
-jogs_cause b moved kinds.ListSettings e = absurd cc
-jogs_cause b moved kinds.Jog e = absurd cc
-jogs_cause b moved kinds.BareJog e = absurd cc
 jogs_cause b moved kinds.ListOffsets e = moved
 jogs_cause b moved kinds.Setting e = moved
-jogs_cause b moved kinds.ListModes e = absurd cc
-jogs_cause b moved kinds.Unlock e = absurd cc
-jogs_cause b moved kinds.Other e = absurd cc
+jogs_cause b moved _ e = absurd cc
 
 both_on : (t : Bool) (A B C D : Type 0) → (A → C) → (B → D) → either t A B → either t C D
 both_on true A B C D f g x = f x
@@ -89,8 +82,7 @@ with_cause m b = record b { moved = true; jog_moved = true; jogged = locks m }
 
 verdict_too : (m : Machine) (b : Before) (v : Verdict) (o : Outcome) → ByVerdict b v o → ByVerdict (with_cause m b) v o
 verdict_too m b (Accept a) o by = by
-verdict_too m b (Refuse code) o by = by
-verdict_too m b Limit o by = by
+verdict_too m b _ o by = by
 
 words_too : (m : Machine) (b : Before) (r : Result (List Word) WordFault) (o : Outcome) → ByWords b r o → ByWords (with_cause m b) r o
 words_too m b (Err fault) o by = by
@@ -101,12 +93,8 @@ setting_too m b n value (Some code) o by = by
 setting_too m b n value None o by = by
 
 command_too : (m : Machine) (b : Before) (r : Result Command Code) (o : Outcome) → ByCommand b r o → ByCommand (with_cause m b) r o
-command_too m b (Err code) o by = by
-command_too m b (Ok ListSettings) o by = by
-command_too m b (Ok ListModes) o by = by
-command_too m b (Ok ListOffsets) o by = by
-command_too m b (Ok Unlock) o by = by
 command_too m b (Ok (Set n value)) o by = setting_too m b n value (set_refusal n value) o by
+command_too m b _ o by = by
 
 jog_move_too : (m : Machine) (b : Before) (r : Result JogMove Code) (o : Outcome) → ByJogMove b r o → ByJogMove (with_cause m b) r o
 jog_move_too m b (Err code) o by = by

@@ -12,7 +12,7 @@ use Rattle.run_rules.specs.Work.Task.{tell}
 use Rattle.run_rules.specs.Asks.{planned, move_asked}
 use Rattle.run_rules.specs.Outcomes.{Before, ByDollar, ByCode, ByKept, Becomes, jogging, has_cause, either, most_kept}
 
-asking_asks : (asked : List Asked) → asks (asking asked) ≡ asked
+pub asking_asks : (asked : List Asked) → asks (asking asked) ≡ asked
 asking_asks [] = refl
 asking_asks (a ∷ asked) = ap (λ (xs : List Asked). a ∷ xs) (asking_asks asked)
 
@@ -36,14 +36,12 @@ not_both true b e = absurd cc
 not_both false b e = refl
 
 no_cause : (b : Before) (kind : DollarKind) → b.moved ≡ false → b.jog_moved ≡ false → has_cause b kind ≡ false
-no_cause b kinds.ListSettings m j = not_both b.moved (not b.jogged) m
-no_cause b kinds.Jog m j = not_both b.moved (not b.jogged) m
-no_cause b kinds.BareJog m j = not_both b.moved (not b.jogged) m
 no_cause b kinds.ListOffsets m j = neither b.moved b.jog_moved m j
 no_cause b kinds.Setting m j = neither b.moved b.jog_moved m j
 no_cause b kinds.ListModes m j = refl
 no_cause b kinds.Unlock m j = refl
 no_cause b kinds.Other m j = refl
+no_cause b _ m j = not_both b.moved (not b.jogged) m
 
 no_false : {A : Type 0} {t : Bool} → t ≡ false → t ≡ true → A
 no_false e f = absurd (let g = sym e ∙ f in cc)

@@ -2,10 +2,13 @@ pub mod Going
 pub mod Cutting
 pub mod Determined
 pub mod Settling
+pub mod Codes
+pub mod Each
+pub mod Items
 pub mod Pausing
 pub mod Answering
 pub mod Jogging
 pub mod Finding
 pub mod Fates
-pub mod Codes
+pub mod Causes
 pub mod Alarms

@@ -27,14 +27,15 @@ use Rattle.status_report.specs.Lists.{setting_replies, modes_replies, offset_rep
 use Rattle.status_report.specs.declared.Reply.{Reply}
 use Rattle.status_report.specs.declared.Reply.TheVariants.{Ok as Done, Error, Alarm}
 use Rattle.run_rules.specs.declared.State.{State}
-use Rattle.run_rules.specs.Work.{Outcome, Kind, is_code, is_jog, is_alarm, soft_limit, halting_work, telling, asking, has_moves}
+use Rattle.run_rules.specs.Work.{Outcome, Kind, is_code, is_jog, is_limit, soft_limit, halting_work, telling, asking, has_moves}
 use Rattle.run_rules.specs.Work.Kind.{of_code, of_jog, of_none}
 use Rattle.run_rules.specs.Work.Task.{tell}
 use Rattle.run_rules.specs.Asks.{work_of, planned, move_asked}
 
 -- what the lines before leave for a line: its number, and the state; whether a line of G-code with a move of some
 -- events was accepted since the last accepted line that settles, and whether a jog with some was; whether the last that
--- was accepted of G-code and jogs is a jog; and whether a line has raised an alarm, after which none is begun
+-- was accepted of G-code and jogs is a jog; and whether a line has ended the run with the alarm of a soft limit, after which
+-- none is begun
 pub record Before : Type 0 where
   pub number : ℕ
   pub state : State
@@ -138,14 +139,12 @@ ByServed b kept o = either (begins_jog (kind_of kept)) (ByJog b (words_of (jog_w
 -- accepted of G-code and jogs is no jog. `$#` and setting lines are refused in a jog too: such a line was accepted, or
 -- a jog that moves.
 abbrev pub has_cause : Before → DollarKind → Bool
-has_cause b kinds.ListSettings = b.moved && not b.jogged
-has_cause b kinds.Jog = b.moved && not b.jogged
-has_cause b kinds.BareJog = b.moved && not b.jogged
 has_cause b kinds.ListOffsets = b.moved || b.jog_moved
 has_cause b kinds.Setting = b.moved || b.jog_moved
 has_cause b kinds.ListModes = false
 has_cause b kinds.Unlock = false
 has_cause b kinds.Other = false
+has_cause b _ = b.moved && not b.jogged
 
 -- a line that begins with `$` is refused with 8
 pub record IsBusy (runs : Bool) (b : Before) (kept : List ℕ) (o : Outcome) : Type 0 where
@@ -202,7 +201,7 @@ after b o = record {
   moved = cond o.settles false (is_code o.kind && has_moves o.work || b.moved);
   jog_moved = cond o.settles false (is_jog o.kind && has_moves o.work || b.jog_moved);
   jogged = jogged_behind o.kind b.jogged;
-  alarmed = is_alarm o.answer;
+  alarmed = is_limit o.answer;
 }
 
 -- A cut leaves the machine at a place: the position is there, and all else stays.

@@ -3,7 +3,7 @@ use Rattle.std.specs.Prelude.{◌≡◌, ℕ, ◌+◌, ◌*◌, ◌/◌, ◌%◌
 use Rattle.std.specs.List.{list_any, sum}
 use Rattle.std.specs.declared.option.Option.{Option}
 use Rattle.code_table.specs.Tables.{query}
-use Rattle.flight.specs.Places.{moved_by, origin}
+use Rattle.flight.specs.Places.{moved_by}
 use Rattle.gcode_words.specs.Stripping.{realtime}
 use Rattle.modal_state.specs.declared.SpindleMode.{SpindleMode}
 use Rattle.modal_state.specs.declared.SpindleMode.TheVariants.{Off, Cw, Ccw}
@@ -22,7 +22,7 @@ use Rattle.units.specs.declared.Per3.{Per3}
 use Rattle.units.specs.declared.Steps3.{Steps3}
 use Rattle.units.specs.Lengths.{thousandths_of}
 use Rattle.run_rules.specs.declared.State.{State}
-use Rattle.run_rules.specs.Work.{Outcome, is_alarm, has_moves, pauses}
+use Rattle.run_rules.specs.Work.{Outcome, is_limit, has_moves, pauses}
 
 -- ---- of lines that were begun, in order
 
@@ -44,7 +44,7 @@ abbrev pub has_pause : Outcome → Bool
 has_pause o = nat_lt 0 (pauses o.work)
 
 abbrev pub raises_alarm : Outcome → Bool
-raises_alarm o = is_alarm o.answer
+raises_alarm o = is_limit o.answer
 
 -- What they leave; a cut after them changes no more of it than the position, which reports do not show.
 abbrev pub state_behind : State → List Outcome → State
@@ -67,9 +67,9 @@ may_move k os = list_any moves (drop (settled_to (take k os)) (take (k + 1) os))
 
 -- ---- what is shown
 
--- where the machine is after the first d of these ticks
-abbrev pub place_at : List Record → ℕ → Steps3
-place_at ticks d = moved_by origin (take d ticks)
+-- where a machine that was at a place is after the first d of these ticks
+abbrev pub place_at : Steps3 → List Record → ℕ → Steps3
+place_at place ticks d = moved_by place (take d ticks)
 
 -- a place in steps, in thousandths of a mm
 abbrev pub steps_in_thousandths : Steps3 → Per3 → Nm3
@@ -113,12 +113,14 @@ hundreds = record { feed = 100; rapid = 100; spindle = 100 }
 
 -- ---- one report
 
--- What a run has done: the state before it, what became of the lines that were begun, and how many ticks count of each;
--- the ticks that were published, and how many were given; and whether a hold was asked for, and a change of overrides.
--- Of a line those ticks count that it asks for, less those that a cut or a halt dropped; a cut is a tick, and counts
--- with the last line before it.
+-- What a run has done: the state before it, where the machine stood then, and whether it was locked; what became of the
+-- lines that were begun, and how many ticks count of each; the ticks that were published, and how many were given; and
+-- whether a hold was asked for, and a change of overrides. Of a line those ticks count that it asks for, less those
+-- that a cut or a halt dropped; a cut is a tick, and counts with the last line before it.
 pub record Course : Type 0 where
   pub first : State
+  pub place : Steps3
+  pub locked : Bool
   pub outcomes : List Outcome
   pub counts : List ℕ
   pub ticks : List Record
@@ -139,8 +141,8 @@ MayAlarm c k = list_any raises_alarm (take (k + 1) c.outcomes) ≡ true
 
 -- A report after k answers, which shows the place after d ticks. It shows what line k left, or line k + 1. The feed is
 -- 0 if all ticks up to line k + 1 are done. If no line moves after the last that settles, the machine stands. It is
--- held, or slows down, only by a hold, a pause or an alarm, stands in alarm only by one, and its overrides are 100
--- percent if none was changed.
+-- held, or slows down, only by a hold, a pause or an alarm, stands in alarm only by one, or because it was locked, and
+-- its overrides are 100 percent if none was changed.
 pub record FitsReport (c : Course) (k d : ℕ) (r : Report) : Type 0 where
   pub lines : ℕ
   pub of_lines : (lines ≡ k) ⊎ (lines ≡ k + 1)
@@ -149,12 +151,12 @@ pub record FitsReport (c : Course) (k d : ℕ) (r : Report) : Type 0 where
   pub made : d ≤ length c.ticks
   pub low : fewest k c.outcomes c.counts ≤ d
   pub high : d ≤ most k c.counts
-  pub shows : Shows (place_at c.ticks d) (state_behind c.first (take lines c.outcomes)) r
+  pub shows : Shows (place_at c.place c.ticks d) (state_behind c.first (take lines c.outcomes)) r
   pub speed : d ≡ most k c.counts → r.f ≡ 0
   pub ahead : (r.f ≡ 0) ⊎ IsAhead c k d
   pub state : may_move k c.outcomes ≡ false → (r.state ≡ told.Idle) ⊎ ((r.state ≡ told.Hold0) ⊎ (r.state ≡ told.Alarm))
   pub holds : is_held r.state ≡ true → (c.held ≡ true) ⊎ ((list_any has_pause (take (k + 1) c.outcomes) ≡ true) ⊎ MayAlarm c k)
-  pub alarm : r.state ≡ told.Alarm → MayAlarm c k
+  pub alarm : r.state ≡ told.Alarm → (c.locked ≡ true) ⊎ MayAlarm c k
   pub overrides : c.changed ≡ false → r.ov ≡ hundreds
 
 -- ---- all of them

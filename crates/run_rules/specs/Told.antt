@@ -1,5 +1,5 @@
 -- What a run tells, and what it asks of the machine.
-use Rattle.std.specs.Prelude.{ℕ, Bool, true, false, List, ◌∷◌}
+use Rattle.std.specs.Prelude.{ℕ, Bool, true, false, List, [], ◌∷◌, ◌++◌}
 use Rattle.std.specs.List.{flat_map, count_by}
 use Rattle.step_line.specs.declared.Record.{Record}
 use Rattle.step_line.specs.Asking.{Asked}
@@ -7,11 +7,15 @@ use Rattle.step_record.specs.Texts.{record_text}
 use Rattle.status_report.specs.Replies.{reply_text}
 use Rattle.status_report.specs.declared.Reply.{Reply}
 use Rattle.status_report.specs.declared.Reply.TheVariants.{Banner, Error}
-use Rattle.run_rules.specs.Work.{Outcome, is_alarm, tells, asks}
+use Rattle.run_rules.specs.Work.{Outcome, is_limit, tells, asks}
 
--- all that is told: the banner, and then line by line
+-- all that is told: what greets, and then line by line
+abbrev pub replies_after : List Reply → List Outcome → List Reply
+replies_after greeting outcomes = greeting ++ flat_map (λ o. tells o.work) outcomes
+
+-- a run is greeted by the banner
 abbrev pub replies_in : List Outcome → List Reply
-replies_in outcomes = Banner ∷ flat_map (λ o. tells o.work) outcomes
+replies_in outcomes = replies_after (Banner ∷ []) outcomes
 
 -- what the lines ask of the machine, in order: their moves and marks, and where it comes to rest
 abbrev pub asked_in : List Outcome → List Asked
@@ -35,6 +39,6 @@ errors_among replies = count_by is_error replies
 abbrev pub errors_in : List Outcome → ℕ
 errors_in outcomes = count_by (λ o. is_error o.answer) outcomes
 
--- how many lines raise an alarm
-abbrev pub alarms_in : List Outcome → ℕ
-alarms_in outcomes = count_by (λ o. is_alarm o.answer) outcomes
+-- how many lines end the run with the alarm of a soft limit
+abbrev pub limits_in : List Outcome → ℕ
+limits_in outcomes = count_by (λ o. is_limit o.answer) outcomes

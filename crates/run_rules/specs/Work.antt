@@ -1,8 +1,8 @@
 -- What there is to do of a line, in order.
-use Rattle.std.specs.Prelude.{ℕ, ◌+◌, Bool, true, false, ◌||◌, List, [], ◌∷◌}
+use Rattle.std.specs.Prelude.{ℕ, ◌+◌, Bool, true, false, ◌||◌, nat_eq, List, [], ◌∷◌}
 use Rattle.std.specs.List.{flat_map}
 use Rattle.step_line.specs.Asking.{Asked}
-use Rattle.step_line.specs.Asking.Asked.{a_move, a_mark, a_rest}
+use Rattle.step_line.specs.Asking.Asked.{a_move}
 use Rattle.status_report.specs.declared.Reply.{Reply}
 use Rattle.status_report.specs.declared.Message.TheVariants.{ResetToContinue}
 use Rattle.status_report.specs.declared.Reply.TheVariants.{Alarm, Message, Bye}
@@ -32,10 +32,10 @@ pub data Kind : Type 0 where
 abbrev pub soft_limit : ℕ
 soft_limit = 2
 
--- a reply is an alarm, after which no line is begun
-abbrev pub is_alarm : Reply → Bool
-is_alarm (Alarm n) = true
-is_alarm _ = false
+-- a reply is the alarm of a soft limit, which ends the run: no line is begun after it; no other alarm does
+abbrev pub is_limit : Reply → Bool
+is_limit (Alarm n) = nat_eq n soft_limit
+is_limit _ = false
 
 abbrev pub is_code : Kind → Bool
 is_code of_code = true
@@ -67,12 +67,8 @@ closing_work = finish ∷ tell Bye ∷ []
 
 -- what a task tells
 abbrev pub told_by : Task → List Reply
-told_by (ask a) = []
 told_by (tell r) = r ∷ []
-told_by pause = []
-told_by normal = []
-told_by finish = []
-told_by halt = []
+told_by _ = []
 
 abbrev pub tells : List Task → List Reply
 tells work = flat_map told_by work
@@ -80,11 +76,7 @@ tells work = flat_map told_by work
 -- what a task asks of the machine
 abbrev pub asked_by_task : Task → List Asked
 asked_by_task (ask a) = a ∷ []
-asked_by_task (tell r) = []
-asked_by_task pause = []
-asked_by_task normal = []
-asked_by_task finish = []
-asked_by_task halt = []
+asked_by_task _ = []
 
 abbrev pub asks : List Task → List Asked
 asks work = flat_map asked_by_task work
@@ -99,33 +91,19 @@ telling replies = flat_map (λ r. tell r ∷ []) replies
 -- how often the machine is held
 abbrev pub pauses : List Task → ℕ
 pauses [] = 0
-pauses (ask a ∷ ts) = pauses ts
-pauses (tell r ∷ ts) = pauses ts
 pauses (pause ∷ ts) = pauses ts + 1
-pauses (normal ∷ ts) = pauses ts
-pauses (finish ∷ ts) = pauses ts
-pauses (halt ∷ ts) = pauses ts
+pauses (_ ∷ ts) = pauses ts
 
 -- whether each override is set to 100 percent
 abbrev pub has_normal : List Task → Bool
 has_normal [] = false
-has_normal (ask a ∷ ts) = has_normal ts
-has_normal (tell r ∷ ts) = has_normal ts
-has_normal (pause ∷ ts) = has_normal ts
 has_normal (normal ∷ ts) = true
-has_normal (finish ∷ ts) = has_normal ts
-has_normal (halt ∷ ts) = has_normal ts
+has_normal (_ ∷ ts) = has_normal ts
 
 -- whether a move is asked for
 abbrev pub asks_move : Task → Bool
 asks_move (ask (a_move m)) = true
-asks_move (ask (a_mark m)) = false
-asks_move (ask a_rest) = false
-asks_move (tell r) = false
-asks_move pause = false
-asks_move normal = false
-asks_move finish = false
-asks_move halt = false
+asks_move _ = false
 
 abbrev pub has_moves : List Task → Bool
 has_moves [] = false

@@ -14,9 +14,9 @@ ghost use Rattle.run_rules.specs.States.{IsOpening};
 ghost use Rattle.status_report.specs.declared.Reply.{Reply as AnyReply};
 ghost use Rattle.system_lines.specs.Commands.{kind_of};
 ghost use Rattle.status_report.specs.Answering.{is_answer, answers_in};
-ghost use Rattle.run_rules.specs.Work.{Outcome, is_alarm, soft_limit, tells, asks, pauses, closing_work};
+ghost use Rattle.run_rules.specs.Work.{Outcome, is_limit, soft_limit, tells, asks, pauses, closing_work};
 ghost use Rattle.run_rules.specs.Asks.{planned, move_asked};
-ghost use Rattle.run_rules.specs.Told.{replies_in, alarms_in};
+ghost use Rattle.run_rules.specs.Told.{replies_in, limits_in};
 ghost use Rattle.run_rules.specs.Outcomes.{Before, Becomes, IsCut, IsLocked, limited, Passed, Follows, NeverFall, start, at_place, became_of, cuts_of, refused, executed, jogging, motion_error, begins_with_dollar, has_cause, most_kept, after};
 ghost use Rattle.run_rules.specs.Outcomes.Passed.{a_line, a_cut};
 ghost use Rattle.run_rules.specs.Finding.{Found, Fate};
@@ -52,10 +52,10 @@ pub fn run_goes_on()
 /// Each line has one answer, which is told last, unless it raises an alarm: an outcome of a line tells a body with no
 /// answer, and then its answer. So as many lines are answered as were passed, less those that raised an alarm.
 pub fn lines_have_one_answer()
-    ensures last { (runs : Bool) (before : Before) (line : List ℕ) (outcome : Outcome) → Becomes runs before line outcome → is_alarm outcome.answer ≡ false →
+    ensures last { (runs : Bool) (before : Before) (line : List ℕ) (outcome : Outcome) → Becomes runs before line outcome → is_limit outcome.answer ≡ false →
         (body : List AnyReply) × (tells outcome.work ≡ body ++ outcome.answer ∷ []) × (answers_in body ≡ 0) × (is_answer outcome.answer ≡ true) }
     ensures all { (runs : Bool) (first last : Before) (lines : List (List ℕ)) (passed : List Passed) →
-        Follows runs first lines passed last → answers_in (replies_in (became_of passed)) + alarms_in (became_of passed) ≡ length lines }
+        Follows runs first lines passed last → answers_in (replies_in (became_of passed)) + limits_in (became_of passed) ≡ length lines }
 {}
 
 /// A line raises an alarm exactly if it is G-code that can be read and is not refused, with a target outside the travel
@@ -63,7 +63,7 @@ pub fn lines_have_one_answer()
 /// message, nothing is asked of the machine, and the state stays. After it nothing is passed, neither a line nor a cut,
 /// so a run has one such line at most, its last.
 pub fn alarms_end_the_run()
-    ensures cause { (runs : Bool) (before : Before) (line : List ℕ) (outcome : Outcome) → Becomes runs before line outcome → is_alarm outcome.answer ≡ true →
+    ensures cause { (runs : Bool) (before : Before) (line : List ℕ) (outcome : Outcome) → Becomes runs before line outcome → is_limit outcome.answer ≡ true →
         IsBeyond before line × (outcome ≡ limited before) }
     ensures comes { (runs : Bool) (before : Before) (line : List ℕ) (outcome : Outcome) → IsBeyond before line → Becomes runs before line outcome →
         (outcome ≡ limited before) ⊎ IsLocked runs before outcome }
@@ -72,9 +72,9 @@ pub fn alarms_end_the_run()
     ensures behind { (runs : Bool) (first last : Before) (lines : List (List ℕ)) (passed : List Passed) →
         Follows runs first lines passed last → first.alarmed ≡ true → (lines ≡ []) × (passed ≡ []) }
     ensures last { (runs : Bool) (first last : Before) (lines : List (List ℕ)) (passed : List Passed) (outcome : Outcome) (more : List Passed) →
-        Follows runs first lines (passed ++ a_line outcome ∷ more) last → is_alarm outcome.answer ≡ true → more ≡ [] }
+        Follows runs first lines (passed ++ a_line outcome ∷ more) last → is_limit outcome.answer ≡ true → more ≡ [] }
     ensures one { (runs : Bool) (first : State) (last : Before) (lines : List (List ℕ)) (passed : List Passed) →
-        Follows runs (start first) lines passed last → alarms_in (became_of passed) ≡ one_if last.alarmed }
+        Follows runs (start first) lines passed last → limits_in (became_of passed) ≡ one_if last.alarmed }
 {}
 
 /// The machine is held at most once in the work of a line, and not after the last line.

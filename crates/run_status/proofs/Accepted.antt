@@ -68,7 +68,7 @@ never_failed true rose = absurd (let low = rose refl in omega arith)
 pub runs_whole : (n : ℕ) (left : List ℕ) (was is : Sinks) (end : RunEnd) → 1 ≤ n → n ≤ 100000 → (run : IsRun (generated (job_text n)) (generated left) was is end)
     → RunsWhole n (generated (job_text n)) (generated left) was is end run
 runs_whole n left was is end some most run =
-    let of = accepted n run.first some most run.opening in
+    let of = accepted n run.first some most run.telling.opening in
     let follows = subst (λ ls. Follows false (start run.first) (map plain ls) (map a_line of.outcomes) of.last) (sym of.cut) of.follows in
     let served = subst (λ ls. AreServed (start run.first) (map plain ls) of.outcomes) (sym of.cut)
     (all_served (job_lines n) (start run.first) of.outcomes refl of.anywhere of.kinds) in
@@ -80,13 +80,13 @@ runs_whole n left was is end some most run =
       first = run.first;
       outcomes = of.outcomes;
       last = of.last;
-      opening = run.opening;
+      opening = run.telling.opening;
       follows = follows;
       served = served;
       accepted = of.accepted;
       calm = of.within;
     } in
-    let read : end.source_failed ≡ false = never_failed end.source_failed run.source in
+    let read : end.source_failed ≡ false = never_failed end.source_failed run.ending.source in
     let done = complete (generated (job_text n)) (generated left) was is end run job read in
     let sent : run.lines ≡ job_lines n = done.sent ∙ of.cut in
     let all = sent_all (generated (job_text n)) (generated left) was is end run read done.stop in
@@ -98,6 +98,6 @@ runs_whole n left was is end some most run =
       answered = done.answered ∙ ap length sent ∙ as_many n;
       read = read;
       sent = sent;
-      uncut = no_part run.drive.parts (slows_in run.scanned) run.drives.few none;
+      uncut = no_part run.drive.parts (slows_in run.scanned) run.recording.drives.few none;
       asks = ap asked_in done.same ∙ of.asks;
     }

@@ -19,9 +19,9 @@ pub record DemoCauses (console_was console_is steps_was steps_is : SinkState) (s
 by_faults : (n : ℕ) (console_was console_is steps_was steps_is : SinkState) (status : Status) (demo : IsDemo n console_was console_is steps_was steps_is status) (sf cf : Bool)
     → demo.end.steps_failed ≡ sf → demo.console_failed ≡ cf
     → DemoCauses console_was console_is steps_was steps_is (cond sf StepsFault (cond cf ConsoleFault Done))
-by_faults n a b c d status demo true cf es ec = record { has_run = tt; console = λ e. absurd cc; steps = λ e. demo.run.steps.cause es; faultless = λ w. absurd w }
+by_faults n a b c d status demo true cf es ec = record { has_run = tt; console = λ e. absurd cc; steps = λ e. demo.run.recording.steps.cause es; faultless = λ w. absurd w }
 by_faults n a b c d status demo false true es ec = record { has_run = tt; console = λ e. demo.console.cause ec; steps = λ e. absurd cc; faultless = λ w. absurd w }
-by_faults n a b c d status demo false false es ec = record { has_run = tt; console = λ e. absurd cc; steps = λ e. absurd cc; faultless = λ w. (demo.console.same ec, demo.run.steps.same es) }
+by_faults n a b c d status demo false false es ec = record { has_run = tt; console = λ e. absurd cc; steps = λ e. absurd cc; faultless = λ w. (demo.console.same ec, demo.run.recording.steps.same es) }
 
 pub demo_causes : (n : ℕ) (console_was console_is steps_was steps_is : SinkState) (status : Status) → IsDemo n console_was console_is steps_was steps_is status
     → DemoCauses console_was console_is steps_was steps_is status

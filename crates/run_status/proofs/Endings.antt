@@ -57,11 +57,11 @@ pub sent_all : (job_was job_is : SourceState) (was is : Sinks) (end : RunEnd) (r
     → SentAll job_was job_is was is end run
 sent_all job_was job_is was is end run well stop =
     let by = by_end job_was job_is was is end run stop in
-    let sent = run.sent by.none in
+    let sent = run.sending.sent by.none in
     let why = end_means run.reading run.scanned by.end in
     let none_over = none_ends (lines_of run.scanned) why.short.0 why.short.1 in
     let leaves = sent.scans.whole none_over.0 in
-    let over : run.reading ≡ Ended = read_to_end run.reading run.scanned sent.scans.scans.left (sym run.failed ∙ well) why.small leaves in
+    let over : run.reading ≡ Ended = read_to_end run.reading run.scanned sent.scans.scans.left (sym run.ending.failed ∙ well) why.small leaves in
     let few : length run.read ≤ largest_job = subst (λ r. MayHaveRead r (length run.read)) over sent.fits in
     let whole : job_of run.read ≡ run.read = take_all largest_job run.read few in
     let none : sent.scans.scans.left ≡ [] = subst (λ r. MayLeave r sent.scans.scans.left) over leaves in
@@ -93,19 +93,19 @@ by_cases job_was job_is was is end run true cf nf stop es ec en et = record {
   has_run = tt;
   source = λ e. absurd cc;
   console = λ e. absurd cc;
-  steps = λ e. run.steps.cause es;
+  steps = λ e. run.recording.steps.cause es;
   large = λ e. absurd cc;
   long = λ k e. absurd cc;
   reset = λ e. absurd cc;
   alarm = λ k e. absurd cc;
   whole = λ w. absurd w;
   faultless = λ w. absurd w;
-  complete = λ job source console steps. absurd (steps (run.steps.cause es));
+  complete = λ job source console steps. absurd (steps (run.recording.steps.cause es));
 }
 by_cases job_was job_is was is end run false true nf stop es ec en et = record {
   has_run = tt;
   source = λ e. absurd cc;
-  console = λ e. run.console.cause ec;
+  console = λ e. run.telling.console.cause ec;
   steps = λ e. absurd cc;
   large = λ e. absurd cc;
   long = λ k e. absurd cc;
@@ -113,11 +113,11 @@ by_cases job_was job_is was is end run false true nf stop es ec en et = record {
   alarm = λ k e. absurd cc;
   whole = λ w. absurd w;
   faultless = λ w. absurd w;
-  complete = λ job source console steps. absurd (console (run.console.cause ec));
+  complete = λ job source console steps. absurd (console (run.telling.console.cause ec));
 }
 by_cases job_was job_is was is end run false false true stop es ec en et = record {
   has_run = tt;
-  source = λ e. run.source en;
+  source = λ e. run.ending.source en;
   console = λ e. absurd cc;
   steps = λ e. absurd cc;
   large = λ e. absurd cc;
@@ -126,7 +126,7 @@ by_cases job_was job_is was is end run false false true stop es ec en et = recor
   alarm = λ k e. absurd cc;
   whole = λ w. absurd w;
   faultless = λ w. absurd w;
-  complete = λ job source console steps. absurd (source (run.source en));
+  complete = λ job source console steps. absurd (source (run.ending.source en));
 }
 by_cases job_was job_is was is end run false false false stops.TooLarge es ec en et = record {
   has_run = tt;
@@ -135,8 +135,8 @@ by_cases job_was job_is was is end run false false false stops.TooLarge es ec en
   steps = λ e. absurd cc;
   large = λ e. record {
     read = run.read;
-    taken = run.taken;
-    more = subst (λ r. MayHaveRead r (length run.read)) (large_means run.reading run.scanned (by_job job_was job_is was is end run stops.TooLarge (λ e. cc) (λ j e. cc) et)) run.so_far.fits;
+    taken = run.sending.taken;
+    more = subst (λ r. MayHaveRead r (length run.read)) (large_means run.reading run.scanned (by_job job_was job_is was is end run stops.TooLarge (λ e. cc) (λ j e. cc) et)) run.sending.so_far.fits;
   };
   long = λ k e. absurd cc;
   reset = λ e. absurd cc;
@@ -156,7 +156,7 @@ by_cases job_was job_is was is end run false false false (stops.LongLine k) es e
         read = run.read;
         reading = run.reading;
         scanned = run.scanned;
-        taken = run.taken;
+        taken = run.sending.taken;
         scans = by.scans;
         some = why.0;
         first = same ∙ why.1;
@@ -179,7 +179,7 @@ by_cases job_was job_is was is end run false false false stops.Reset es ec en et
         read = run.read;
         reading = run.reading;
         scanned = run.scanned;
-        taken = run.taken;
+        taken = run.sending.taken;
         scans = by.scans;
         some = why.0;
         none = why.1;
@@ -204,8 +204,8 @@ by_cases job_was job_is was is end run false false false (stops.Alarm k) es ec e
 }
 by_cases job_was job_is was is end run false false false stops.End es ec en et =
     let none = by_errors_not end.errors in let all = sent_all job_was job_is was is end run en et in let by = by_end job_was job_is was is end run et in
-    let going : asks_reset run.scanned ≡ false = not_reset run.reading run.scanned by.end in let calm : run.last.alarmed ≡ false = sym (run.alarm going) ∙ by.none in
-    let carried = run.whole going calm in record {
+    let going : asks_reset run.scanned ≡ false = not_reset run.reading run.scanned by.end in let calm : run.last.alarmed ≡ false = sym (run.telling.alarm going) ∙ by.none in
+    let carried = run.ending.whole going calm in record {
       has_run = errors_have_run end.errors;
       source = λ e. absurd (none.0 e);
       console = λ e. absurd (none.1 e);
@@ -219,26 +219,26 @@ by_cases job_was job_is was is end run false false false stops.End es ec en et =
         first = run.first;
         drive = run.drive;
         last = run.last;
-        taken = run.taken;
-        whole = run.at_end all.over;
+        taken = run.sending.taken;
+        whole = run.sending.at_end all.over;
         few = all.few;
-        opening = run.opening;
-        answered = subst (λ (ls : List (List ℕ)). Follows true (start run.first) ls (all_passed run.drive) run.last) (carried.begun_are ∙ ap (map plain) all.lines) run.follows;
+        opening = run.telling.opening;
+        answered = subst (λ (ls : List (List ℕ)). Follows true (start run.first) ls (all_passed run.drive) run.last) (carried.begun_are ∙ ap (map plain) all.lines) run.telling.follows;
         calm = calm;
         replies = run.replies;
-        told = run.told ∙ ap (λ (rs : List Reply). rs ++ Bye ∷ []) carried.said_are;
-        console = whole_text was.console is.console end.console_failed (replies_text run.replies) ec run.console;
+        told = run.telling.told ∙ ap (λ (rs : List Reply). rs ++ Bye ∷ []) carried.said_are;
+        console = whole_text was.console is.console end.console_failed (replies_text run.replies) ec run.telling.console;
         reports = subst (λ (text : List ℕ). AreReports run.first run.drive (ticks_among run.records) (lines_of run.read) text run.replies) (sym all.all)
             (subst (λ (ls : List (List ℕ)). AreReports run.first run.drive (ticks_among run.records) ls run.scanned run.replies) all.lines
             (subst (λ (ticks : List Record). AreReports run.first run.drive ticks run.lines run.scanned run.replies) carried.ticks_are run.reports));
         records = run.records;
         drives = subst (λ (text : List ℕ). IsDrive (asks_slow text) false (asks_change text || ends_program (all_outcomes run.drive)) (slows_in text) run.drive) (sym all.all)
-            (subst (λ (alarm : Bool). IsDrive (asks_slow run.scanned) alarm (asks_change run.scanned || ends_program (all_outcomes run.drive)) (slows_in run.scanned) run.drive) calm run.drives);
+            (subst (λ (alarm : Bool). IsDrive (asks_slow run.scanned) alarm (asks_change run.scanned || ends_program (all_outcomes run.drive)) (slows_in run.scanned) run.drive) calm run.recording.drives);
         driven = subst (λ (text : List ℕ). IsWholeDrive (asks_slow text) (asks_change text || ends_program (all_outcomes run.drive)) run.drive run.records) (sym all.all) carried.driven;
-        steps = whole_text was.steps is.steps end.steps_failed _ es run.steps;
+        steps = whole_text was.steps is.steps end.steps_failed _ es run.recording.steps;
         status_is = ap by_errors carried.errors;
       };
-      faultless = λ w. record { source = run.source_same en; console = run.console.same ec; steps = run.steps.same es };
+      faultless = λ w. record { source = run.ending.source_same en; console = run.telling.console.same ec; steps = run.recording.steps.same es };
       complete = λ job source console steps. ap by_errors (complete job_was job_is was is end run job en).errors;
     }
 

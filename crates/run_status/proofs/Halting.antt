@@ -11,7 +11,7 @@ use Rattle.status_report.specs.declared.Reply.TheVariants.{Banner, Bye}
 use Rattle.status_report.specs.declared.Reply.TheVariants as answers
 use Rattle.step_line.specs.declared.Record.{Record}
 use Rattle.units.specs.declared.Steps3.{Steps3}
-use Rattle.run_rules.specs.Work.{Outcome, is_alarm, soft_limit, tells}
+use Rattle.run_rules.specs.Work.{Outcome, is_limit, soft_limit, tells}
 use Rattle.run_rules.specs.Outcomes.{Before, IsBegun, IsCut, Passed, Follows, start, after, at_place, limited, became_of}
 use Rattle.run_rules.specs.Outcomes.Passed.{a_line, a_cut}
 use Rattle.run_rules.specs.Limits.{IsBeyond}
@@ -49,7 +49,7 @@ record Halts (b : Before) (ls : List (List ℕ)) (ps : List Passed) : Type 0 whe
   pub beyond : IsBeyond before line
 
 -- it is the first of these
-halts_here : (b last : Before) (l : List ℕ) (ls : List (List ℕ)) (o : Outcome) (ps : List Passed) → IsBegun true b l o → Follows true (after b o) ls ps last → is_alarm o.answer ≡ true
+halts_here : (b last : Before) (l : List ℕ) (ls : List (List ℕ)) (o : Outcome) (ps : List Passed) → IsBegun true b l o → Follows true (after b o) ls ps last → is_limit o.answer ≡ true
     → Halts b (l ∷ ls) (a_line o ∷ ps)
 halts_here b last l ls o ps begun run one =
     let none = none_behind true (after b o) last ls ps run one in
@@ -81,7 +81,7 @@ halts_later b l ls o ps begun rest = record {
 }
 
 by_answer : (b last : Before) (l : List ℕ) (ls : List (List ℕ)) (o : Outcome) (ps : List Passed) → IsBegun true b l o → Follows true (after b o) ls ps last
-    → (is_alarm o.answer ≡ false → Halts (after b o) ls ps) → (t : Bool) → is_alarm o.answer ≡ t → Halts b (l ∷ ls) (a_line o ∷ ps)
+    → (is_limit o.answer ≡ false → Halts (after b o) ls ps) → (t : Bool) → is_limit o.answer ≡ t → Halts b (l ∷ ls) (a_line o ∷ ps)
 by_answer b last l ls o ps begun run later true e = halts_here b last l ls o ps begun run e
 by_answer b last l ls o ps begun run later false e = halts_later b l ls o ps begun (later e)
 
@@ -101,7 +101,7 @@ behind_cut b ls k at ps cut rest = record {
 halts_at : (b last : Before) (ls : List (List ℕ)) (ps : List Passed) → Follows true b ls ps last → b.alarmed ≡ false → last.alarmed ≡ true → Halts b ls ps
 halts_at b last [] [] run free alarmed = absurd (let e = sym alarmed ∙ ap (λ (u : Before). u.alarmed) run ∙ free in cc)
 halts_at b last (l ∷ ls) (a_line o ∷ ps) run free alarmed =
-    by_answer b last l ls o ps run.0 run.1 (λ calm. halts_at (after b o) last ls ps run.1 calm alarmed) (is_alarm o.answer) refl
+    by_answer b last l ls o ps run.0 run.1 (λ calm. halts_at (after b o) last ls ps run.1 calm alarmed) (is_limit o.answer) refl
 halts_at b last ls (a_cut k at ∷ ps) run free alarmed = behind_cut b ls k at ps run.0 (halts_at (at_place at b) last ls ps run.1 free alarmed)
 halts_at b last [] (a_line o ∷ ps) run free alarmed = absurd run
 halts_at b last (l ∷ ls) [] run free alarmed = absurd run
@@ -120,9 +120,9 @@ pub halted_run : (job_was job_is : SourceState) (was is : Sinks) (end : RunEnd) 
 halted_run job_was job_is was is end run k es ec et =
     let why = by_alarm job_was job_is was is end run k et in
     let going : asks_reset run.scanned ≡ false = not_reset run.reading run.scanned why.end in
-    let alarmed : run.last.alarmed ≡ true = sym (run.alarm going) ∙ why.got in
-    let carried = run.halted going alarmed in
-    let at = halts_at (start run.first) run.last run.begun (all_passed run.drive) run.follows refl alarmed in
+    let alarmed : run.last.alarmed ≡ true = sym (run.telling.alarm going) ∙ why.got in
+    let carried = run.ending.halted going alarmed in
+    let at = halts_at (start run.first) run.last run.begun (all_passed run.drive) run.telling.follows refl alarmed in
     let begun : length run.begun ≡ length at.earlier + 1 = ap length at.begun_are ∙ length-append at.earlier (at.line ∷ []) in
     let outcomes : all_outcomes run.drive ≡ became_of at.passed ++ limited at.before ∷ [] =
     sym (became_all run.drive) ∙ ap became_of at.passed_are ∙ became_on at.passed (a_line (limited at.before) ∷ []) in
@@ -131,31 +131,31 @@ halted_run job_was job_is was is end run k es ec et =
       reading = run.reading;
       scanned = run.scanned;
       lines = run.lines;
-      taken = run.taken;
-      sent = subst (IsSentSoFar run.read run.reading run.scanned run.lines) (sym why.end) run.so_far;
+      taken = run.sending.taken;
+      sent = subst (IsSentSoFar run.read run.reading run.scanned run.lines) (sym why.end) run.sending.so_far;
       first = run.first;
       earlier = at.earlier;
       passed = at.passed;
       before = at.before;
       line = at.line;
-      begins = subst (λ (ls : List (List ℕ)). BeginsWith (map plain run.lines) ls) at.begun_are run.begins;
+      begins = subst (λ (ls : List (List ℕ)). BeginsWith (map plain run.lines) ls) at.begun_are run.telling.begins;
       number = why.line ∙ carried.answered ∙ begun;
-      opening = run.opening;
+      opening = run.telling.opening;
       answered = at.answered;
       calm = at.calm;
       beyond = at.beyond;
       replies = run.replies;
-      told = run.told ∙ ap (λ (rs : List Reply). rs ++ Bye ∷ []) carried.said_are ∙ ap (λ (os : List Outcome). replies_in os ++ Bye ∷ []) outcomes
+      told = run.telling.told ∙ ap (λ (rs : List Reply). rs ++ Bye ∷ []) carried.said_are ∙ ap (λ (os : List Outcome). replies_in os ++ Bye ∷ []) outcomes
           ∙ told_last (became_of at.passed) at.before;
-      console = whole_text was.console is.console end.console_failed (replies_text run.replies) ec run.console;
+      console = whole_text was.console is.console end.console_failed (replies_text run.replies) ec run.telling.console;
       drive = run.drive;
       driven = at.passed_are;
       records = run.records;
       reports = subst (λ (ticks : List Record). AreReports run.first run.drive ticks run.lines run.scanned run.replies) carried.ticks_are run.reports;
-      drives = subst (λ (alarm : Bool). IsDrive (asks_slow run.scanned) alarm (asks_change run.scanned || ends_program (all_outcomes run.drive)) (slows_in run.scanned) run.drive) alarmed run.drives;
+      drives = subst (λ (alarm : Bool). IsDrive (asks_slow run.scanned) alarm (asks_change run.scanned || ends_program (all_outcomes run.drive)) (slows_in run.scanned) run.drive) alarmed run.recording.drives;
       halted = carried.halted;
       part = carried.part;
       recorded = carried.recorded;
-      ticks = run.ticks;
-      steps = whole_text was.steps is.steps end.steps_failed (records_text run.records) es run.steps;
+      ticks = run.recording.ticks;
+      steps = whole_text was.steps is.steps end.steps_failed (records_text run.records) es run.recording.steps;
     }

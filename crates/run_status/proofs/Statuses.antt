@@ -46,19 +46,19 @@ as_ended Stopped text small = refl
 sends : (job_was job_is : SourceState) (was is : Sinks) (end : RunEnd) (run : IsRun job_was job_is was is end) → IsScanned job_was job_is was is end run → end.source_failed ≡ false → (run.reading ≡ Large → ⊥)
     → SendsUpTo job_was job_is end.stop
 sends job_was job_is was is end run by well small =
-    let few : length run.read ≤ largest_job = not_over run.reading (length run.read) small run.so_far.fits in
+    let few : length run.read ≤ largest_job = not_over run.reading (length run.read) small run.sending.so_far.fits in
     let all : job_of run.read ≡ run.read = whole_job run.read few in
     let ends : ends_in run.scanned ≡ false → (by.scans.scans.left ≡ []) × (run.reading ≡ Ended) =
-    λ none. to_its_end run.reading by.scans.scans.left (sym run.failed ∙ well) small (by.scans.whole none) in
+    λ none. to_its_end run.reading by.scans.scans.left (sym run.ending.failed ∙ well) small (by.scans.whole none) in
     record {
       read = run.read;
       scanned = run.scanned;
-      taken = run.taken;
+      taken = run.sending.taken;
       few = few;
       scans = subst (λ (bytes : List ℕ). ScansFront bytes run.scanned) all by.scans.scans;
       whole = λ none. (
         sym all ∙ by.scans.scans.front ∙ ap (λ (left : List ℕ). run.scanned ++ left) (ends none).0 ∙ append-nil run.scanned,
-        run.at_end (ends none).1,
+        run.sending.at_end (ends none).1,
       );
       cause = by.cause ∙ as_ended run.reading run.scanned small;
     }
@@ -98,11 +98,11 @@ by_faults : (job_was job_is : SourceState) (was is : Sinks) (end : RunEnd) (run 
     → end.steps_failed ≡ sf → end.console_failed ≡ cf → end.source_failed ≡ rf → end.stop ≡ stop
     → HasCauses job_was job_is was is (cond sf StepsFault (cond cf ConsoleFault (cond rf SourceFault (by_stop stop end.errors))))
     → HasItsCause job_was job_is was is (cond sf StepsFault (cond cf ConsoleFault (cond rf SourceFault (by_stop stop end.errors))))
-by_faults job_was job_is was is end run true cf rf stop es ec en et causes = run.steps.cause es
-by_faults job_was job_is was is end run false true rf stop es ec en et causes = (run.steps.same es, run.console.cause ec)
-by_faults job_was job_is was is end run false false true stop es ec en et causes = (run.steps.same es, run.console.same ec, run.source en)
+by_faults job_was job_is was is end run true cf rf stop es ec en et causes = run.recording.steps.cause es
+by_faults job_was job_is was is end run false true rf stop es ec en et causes = (run.recording.steps.same es, run.telling.console.cause ec)
+by_faults job_was job_is was is end run false false true stop es ec en et causes = (run.recording.steps.same es, run.telling.console.same ec, run.ending.source en)
 by_faults job_was job_is was is end run false false false stop es ec en et causes =
-    by_why job_was job_is was is end run stop en et (record { source = run.source_same en; console = run.console.same ec; steps = run.steps.same es }) causes
+    by_why job_was job_is was is end run stop en et (record { source = run.ending.source_same en; console = run.telling.console.same ec; steps = run.recording.steps.same es }) causes
 
 pub has_its_cause : (job_was job_is : SourceState) (was is : Sinks) (status : Status) → EndsWith job_was job_is was is status → HasItsCause job_was job_is was is status
 has_its_cause job_was job_is was is status ends =
@@ -154,7 +154,7 @@ record ReadsWithin (job_was job_is : SourceState) : Type 0 where
 
 within : (job_was job_is : SourceState) (was is : Sinks) (status : Status) → Rest job_was job_is was is status → ReadsWithin job_was job_is
 within job_was job_is was is status (sent stop by sends) = record { read = sends.read; taken = sends.taken; few = sends.few }
-within job_was job_is was is status (halted k is_alarm run) =
+within job_was job_is was is status (halted k is_limit run) =
     let small = (end_means run.reading run.scanned run.sent.cause).small in
     record { read = run.read; taken = run.taken; few = not_over run.reading (length run.read) small run.sent.fits }
 
@@ -268,16 +268,16 @@ demo_by : (n : ℕ) (job : SourceState) (was is : Sinks) (status : Status) → C
     → demo.end.steps_failed ≡ sf → demo.console_failed ≡ cf → TellsFaults job job was is (cond sf StepsFault (cond cf ConsoleFault Done))
 demo_by n job was is status can demo true cf es ec = record {
   steps = λ r. refl;
-  console = λ same r. not_both _ _ can.steps same (demo.run.steps.cause es);
+  console = λ same r. not_both _ _ can.steps same (demo.run.recording.steps.cause es);
   source = λ same same_too r. not_both _ _ can.source refl r;
 }
 demo_by n job was is status can demo false true es ec = record {
-  steps = λ r. not_both _ _ can.steps (demo.run.steps.same es) r;
+  steps = λ r. not_both _ _ can.steps (demo.run.recording.steps.same es) r;
   console = λ same r. refl;
   source = λ same same_too r. not_both _ _ can.source refl r;
 }
 demo_by n job was is status can demo false false es ec = record {
-  steps = λ r. not_both _ _ can.steps (demo.run.steps.same es) r;
+  steps = λ r. not_both _ _ can.steps (demo.run.recording.steps.same es) r;
   console = λ same r. not_both _ _ can.console (demo.console.same ec) r;
   source = λ same same_too r. not_both _ _ can.source refl r;
 }

@@ -4,7 +4,7 @@ use Rattle.std.specs.List.{list_any, take_while}
 use Rattle.outside.specs.Causes.{SourceState}
 use Rattle.run_rules.specs.Lines.{lines_of}
 use Rattle.run_rules.specs.Readings.{job_of}
-use Rattle.run_rules.specs.Work.{is_alarm}
+use Rattle.run_rules.specs.Work.{is_limit}
 use Rattle.stream_host.specs.declared.Reading.{Reading}
 use Rattle.stream_host.specs.declared.Reading.TheVariants.{Ended, Failed, Large, Stopped}
 use Rattle.stream_host.specs.declared.Stop.{Stop}
@@ -136,18 +136,18 @@ other_is false n (stops.Alarm k) told some other e = e
 -- ---- of a run
 
 pub by_end : (job_was job_is : SourceState) (was is : Sinks) (end : RunEnd) (run : IsRun job_was job_is was is end) → end.stop ≡ stops.End
-    → IsByEnd (list_any is_alarm run.replies) (stop_by run.reading run.scanned)
-by_end job_was job_is was is end run et = end_is (list_any is_alarm run.replies) end.answered (stop_by run.reading run.scanned) (sym et ∙ run.stop)
+    → IsByEnd (list_any is_limit run.replies) (stop_by run.reading run.scanned)
+by_end job_was job_is was is end run et = end_is (list_any is_limit run.replies) end.answered (stop_by run.reading run.scanned) (sym et ∙ run.ending.stop)
 
 pub by_alarm : (job_was job_is : SourceState) (was is : Sinks) (end : RunEnd) (run : IsRun job_was job_is was is end) (k : ℕ) → end.stop ≡ stops.Alarm k
-    → IsByAlarm (list_any is_alarm run.replies) end.answered k (stop_by run.reading run.scanned)
+    → IsByAlarm (list_any is_limit run.replies) end.answered k (stop_by run.reading run.scanned)
 by_alarm job_was job_is was is end run k et =
-    alarm_is (list_any is_alarm run.replies) end.answered k (stop_by run.reading run.scanned) (λ j e. never_alarm j run.reading run.scanned e) (sym et ∙ run.stop)
+    alarm_is (list_any is_limit run.replies) end.answered k (stop_by run.reading run.scanned) (λ j e. never_alarm j run.reading run.scanned e) (sym et ∙ run.ending.stop)
 
 pub by_job : (job_was job_is : SourceState) (was is : Sinks) (end : RunEnd) (run : IsRun job_was job_is was is end) (told : Stop)
     → (told ≡ stops.End → ⊥) → ((k : ℕ) → told ≡ stops.Alarm k → ⊥) → end.stop ≡ told → told ≡ stop_by run.reading run.scanned
 by_job job_was job_is was is end run told some other et =
-    other_is (list_any is_alarm run.replies) end.answered (stop_by run.reading run.scanned) told some other (sym et ∙ run.stop)
+    other_is (list_any is_limit run.replies) end.answered (stop_by run.reading run.scanned) told some other (sym et ∙ run.ending.stop)
 
 -- The job was scanned up to where the sending ends, and that is why no more of it was sent.
 pub record IsScanned (job_was job_is : SourceState) (was is : Sinks) (end : RunEnd) (run : IsRun job_was job_is was is end) : Type 0 where
@@ -157,7 +157,7 @@ pub record IsScanned (job_was job_is : SourceState) (was is : Sinks) (end : RunE
 -- at its end
 pub scanned_to_end : (job_was job_is : SourceState) (was is : Sinks) (end : RunEnd) (run : IsRun job_was job_is was is end) → end.stop ≡ stops.End → IsScanned job_was job_is was is end run
 scanned_to_end job_was job_is was is end run et =
-    let sent = run.sent (by_end job_was job_is was is end run et).none in
+    let sent = run.sending.sent (by_end job_was job_is was is end run et).none in
     record { scans = sent.scans; cause = sent.cause }
 
 -- in a line that is too long
@@ -169,7 +169,7 @@ pub scanned_to_long : (job_was job_is : SourceState) (was is : Sinks) (end : Run
 scanned_to_long job_was job_is was is end run k et =
     let cause = by_job job_was job_is was is end run (stops.LongLine k) (λ e. cc) (λ j e. cc) et in
     let why = long_means k run.reading run.scanned cause in
-    record { scans = long_is_whole run.reading (job_of run.read) run.scanned run.so_far.scans why.0; cause = et ∙ cause }
+    record { scans = long_is_whole run.reading (job_of run.read) run.scanned run.sending.so_far.scans why.0; cause = et ∙ cause }
 
 -- at a reset
 reset_is_whole : (r : Reading) (job text : List ℕ) → ScansFront job text → list_any holds_reset (lines_of text) ≡ true → MayScan r job text
@@ -179,4 +179,4 @@ pub scanned_to_reset : (job_was job_is : SourceState) (was is : Sinks) (end : Ru
 scanned_to_reset job_was job_is was is end run et =
     let cause = by_job job_was job_is was is end run stops.Reset (λ e. cc) (λ j e. cc) et in
     let why = reset_means run.reading run.scanned cause in
-    record { scans = reset_is_whole run.reading (job_of run.read) run.scanned run.so_far.scans why.0; cause = et ∙ cause }
+    record { scans = reset_is_whole run.reading (job_of run.read) run.scanned run.sending.so_far.scans why.0; cause = et ∙ cause }

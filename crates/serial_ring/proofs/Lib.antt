@@ -1,6 +1,10 @@
 pub mod Lists
+pub mod Marking
+pub mod Logs
 pub mod Bytes
 pub mod Replies
 pub mod Frames
+pub mod HostSteps
+pub mod BoardSteps
 pub mod Steps
 pub mod Turned

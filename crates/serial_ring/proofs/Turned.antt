@@ -1,10 +1,12 @@
 -- What several steps of a side come to.
-use Rattle.std.proofs.Common.{◌≡◌, ℕ, [], ◌∷◌, Some, None, ap, ◌∙◌}
+use Rattle.std.proofs.Common.{◌≡◌, ◌≢◌, ℕ, ◌%◌, ◌^◌, false, [], ◌∷◌, Some, None, ap, ◌∙◌}
+use native.Mathlib.Decide.{ℕ_discrete}
 use Rattle.std.specs.declared.option.Option.{Option}
 use Rattle.atomic_table.specs.Table.{Me, rest}
 use Rattle.status_report.specs.declared.Reply.{Reply}
 use Rattle.serial_ring.specs.declared.view.Sight.{Sight}
-use Rattle.serial_ring.specs.Rule.{with_cell, with_stored, with_read, with_taken, with_slot, with_answered, with_got, with_back, beginning, without_taking, without_storing}
+use Rattle.serial_ring.specs.Marks.{Mark}
+use Rattle.serial_ring.specs.Rule.{with_cell, with_stored, with_read, with_taken, with_slot, with_answered, with_got, with_back, with_head, with_over, beginning, without_taking, without_storing}
 
 -- a cell was written and the head stored
 pub byte_stored : (a b d : Me (Option Reply) Sight) (byte : ℕ) → b ≡ (with_cell a.0 byte, a.1) → ((k : ℕ) → b.0.cell ≡ Some k → d ≡ (with_stored b.0 k, b.1)) → d ≡ (with_stored a.0 byte, a.1)
@@ -24,10 +26,10 @@ reply_answered a b d e taken at slot r bare reached wrote gave =
     ∙ (ap (λ m. (with_answered m.0 r, [])) wrote ∙ ap (λ m. (with_answered m.0 r, [])) reached)
 
 -- the head of the replies was loaded and a slot taken, which was emptied and given back
-pub reply_got : (a b d e : Me (Option Reply) Sight) (shown at slot : ℕ) (r : Reply) → a.1 ≡ [] → b ≡ (with_got a.0 shown r, (at, Some r) ∷ a.1)
-    → d ≡ (b.0, (slot, None) ∷ rest b.1) → e ≡ (with_back d.0, []) → e ≡ (with_back (with_got a.0 shown r), [])
-reply_got a b d e shown at slot r bare grasped wrote gave =
-    gave ∙ (ap (λ m. (with_back m.0, [])) wrote ∙ ap (λ m. (with_back m.0, [])) grasped)
+pub reply_got : (a b d e : Me (Option Reply) Sight) (shown at slot : ℕ) (r : Reply) (m : Mark) → a.1 ≡ [] → b ≡ (with_got a.0 shown r m, (at, Some r) ∷ a.1)
+    → d ≡ (b.0, (slot, None) ∷ rest b.1) → e ≡ (with_back d.0, []) → e ≡ (with_back (with_got a.0 shown r m), [])
+reply_got a b d e shown at slot r m bare grasped wrote gave =
+    gave ∙ (ap (λ x. (with_back x.0, [])) wrote ∙ ap (λ x. (with_back x.0, [])) grasped)
 
 -- what the two seats of a new link know
 pub host_begins : (made host : Me (Option Reply) Sight) → made ≡ (beginning, []) → host ≡ (without_taking made.0, made.1) → host ≡ (without_taking beginning, [])
@@ -35,3 +37,11 @@ host_begins made host is left = left ∙ ap (λ m. (without_taking m.0, m.1)) is
 
 pub board_begins : (made board : Me (Option Reply) Sight) → made ≡ (beginning, []) → board ≡ (without_storing made.0, []) → board ≡ (without_storing beginning, [])
 board_begins made board is right = right ∙ ap (λ m. (without_storing m.0, [])) is
+
+-- what the head shows that was loaded
+pub head_shown : (a b : Me (Option Reply) Sight) (n full : ℕ) → (n ≡ full → b ≡ (with_over a.0 (n % 2 ^ 63), a.1)) → (n ≢ full → (b ≡ (with_head a.0 (n % 2 ^ 63), a.1)) × (a.0.over ≡ false)) → b.0.head ≡ n % 2 ^ 63
+head_shown a b n full closed still = go (ℕ_discrete n full)
+  where
+    go : Dec (n ≡ full) → b.0.head ≡ n % 2 ^ 63
+    go (yes d) = ap (λ m. m.0.head) (closed d)
+    go (no d) = ap (λ m. m.0.head) (still d).0

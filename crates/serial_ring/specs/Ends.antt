@@ -4,6 +4,10 @@ use Rattle.atomic_table.specs.Seated.{TableId}
 use Rattle.status_report.specs.declared.Reply.{Reply}
 use Rattle.serial_ring.specs.declared.ends.HostEnd.{HostEnd}
 use Rattle.serial_ring.specs.declared.ends.BoardEnd.{BoardEnd}
+use Rattle.serial_ring.specs.declared.view.LinkStep.{LinkStep}
+use Rattle.serial_ring.specs.Marks.{Mark}
+use Rattle.serial_ring.specs.Lists as lists
+use Rattle.serial_ring.specs.Logs.{taken_in, marked_in, answered_in}
 
 -- the host's end of a link with so much room
 module _ {room : ℕ} (h : HostEnd room) where
@@ -18,6 +22,10 @@ module _ {room : ℕ} (h : HostEnd room) where
   abbrev pub closed_by : Bool
   closed_by = h.seat.me.0.closed
 
+  -- the marks stored, by how many bytes were stored before each
+  abbrev pub marks_by : List ℕ
+  marks_by = h.seat.me.0.marks
+
   -- how many bytes are taken, as it loaded it last, and how many times it did
   abbrev pub tail_shown : ℕ
   tail_shown = h.seat.me.0.tail
@@ -29,9 +37,16 @@ module _ {room : ℕ} (h : HostEnd room) where
   abbrev pub IsFull : Type 0
   IsFull = length stored_by ≡ tail_shown + room
 
-  -- the replies got
+  -- the replies got, and the marks of the Banners among them
   abbrev pub got_by : List Reply
   got_by = h.seat.me.0.got
+
+  abbrev pub greeted_by : List Mark
+  greeted_by = h.seat.me.0.greeted
+
+  -- the bytes that may be unread, by the replies got
+  abbrev pub maybe_unread_by : List ℕ
+  maybe_unread_by = lists.maybe_unread stored_by got_by greeted_by
 
   -- how many replies are answered, as it loaded it last, and how many times it did
   abbrev pub replies_shown : ℕ
@@ -45,10 +60,20 @@ module _ {room : ℕ} (b : BoardEnd room) where
   abbrev pub link_of_board : TableId
   link_of_board = b.seat.table_id
 
-  -- the bytes taken, and whether the link was found closed with every byte taken
-  abbrev pub taken_by : List ℕ
-  taken_by = b.seat.me.0.taken
+  -- what it has done: the bytes taken, the marks loaded, the replies answered
+  abbrev pub log_by : List LinkStep
+  log_by = b.seat.me.0.log
 
+  abbrev pub taken_by : List ℕ
+  taken_by = taken_in log_by
+
+  abbrev pub marked_by : List Mark
+  marked_by = marked_in log_by
+
+  abbrev pub answered_by : List Reply
+  answered_by = answered_in log_by
+
+  -- whether the link was found closed with every byte taken
   abbrev pub found_closed : Bool
   found_closed = b.seat.me.0.over
 
@@ -62,10 +87,6 @@ module _ {room : ℕ} (b : BoardEnd room) where
   -- all bytes that the head shows that it loaded last are taken
   abbrev pub HasTakenAll : Type 0
   HasTakenAll = length taken_by ≡ bytes_shown
-
-  -- the replies answered
-  abbrev pub answered_by : List Reply
-  answered_by = b.seat.me.0.answered
 
   -- how many replies are taken, as it loaded it last, and how many times it did
   abbrev pub replies_taken : ℕ

@@ -12,8 +12,12 @@ use Rattle.shared_rings.specs.Shelf.{Shelf}
 use Rattle.status_report.specs.declared.Reply.{Reply}
 use Rattle.status_report.specs.Replies.{IsReply}
 use Rattle.serial_ring.specs.declared.view.Sight.{Sight}
-use Rattle.serial_ring.specs.Lists.{IsRoom, behind, AreReplies}
-use Rattle.status_report.specs.Answering.{reply_room, lfs_in, answers_in}
+use Rattle.serial_ring.specs.declared.view.LinkStep.{LinkStep}
+use Rattle.serial_ring.specs.declared.view.LinkStep.TheVariants.{Took, Marked, Answered}
+use Rattle.serial_ring.specs.Marks.{Mark, Follows, MarkedPast, AreMarks, AreRising, latest, last_of, packed, number_in, bytes_in}
+use Rattle.serial_ring.specs.Lists.{IsRoom, AreReplies, AnswersStored, maybe_unread, with_greeting}
+use Rattle.serial_ring.specs.Logs.{AnswersWell, taken_in, marked_in, answered_in, greeted_in, answers_since, lfs_since}
+use Rattle.status_report.specs.Answering.{reply_room, is_banner}
 
 -- the words that the host writes, and 256 bytes after them those that the board writes; each 128 bytes from the next
 abbrev pub head_word : ℕ
@@ -22,18 +26,21 @@ head_word = 0
 abbrev pub reply_tail_word : ℕ
 reply_tail_word = 16
 
+abbrev pub mark_word : ℕ
+mark_word = 32
+
 abbrev pub tail_word : ℕ
-tail_word = 48
+tail_word = 64
 
 abbrev pub reply_head_word : ℕ
-reply_head_word = 64
+reply_head_word = 80
 
 -- 256 bytes after them the cells, which the host writes, as many as the greatest link has
 abbrev pub first_cell : ℕ
-first_cell = 96
+first_cell = 112
 
 abbrev pub all_words : ℕ
-all_words = 352
+all_words = 368
 
 abbrev pub cell_of : ℕ → ℕ → ℕ
 cell_of room k = first_cell + k % room
@@ -53,6 +60,13 @@ pub record Bytes (room : ℕ) (words : List ℕ) (stored taken : List ℕ) (clos
   pub small : (k x : ℕ) → placed stored k ≡ some x → x < 256
   pub cells : (k x : ℕ) → placed stored k ≡ some x → length taken ≤ k → slice_index words (cell_of room k) ≡ x
 
+-- the marks, of which the latest is in its word
+pub record Marks (words : List ℕ) (stored marks : List ℕ) : Type 0 where
+  pub within : latest marks ≤ length stored
+  pub rising : AreRising marks
+  pub few : length marks < 2 ^ 32
+  pub word : slice_index words mark_word ≡ packed (length marks) (latest marks)
+
 -- the replies, in their slots
 pub record Replies (words : List ℕ) (homes : List (maybe.Option (Option Reply))) (answered got : List Reply) (given : ℕ) (filling emptying : Bool) : Type 0 where
   pub rest : List Reply
@@ -64,30 +78,33 @@ pub record Replies (words : List ℕ) (homes : List (maybe.Option (Option Reply)
   pub head : slice_index words reply_head_word ≡ length answered
   pub tail : slice_index words reply_tail_word ≡ given
 
--- what the seat of the host knows
-pub record Hosts (room : ℕ) (words : List ℕ) (stored taken : List ℕ) (closed : Bool) (got : List Reply) (emptying : Bool) (v : Sight) : Type 0 where
+-- what the seat of the host knows, by what the board had done when it answered the reply that was got last
+pub record Hosts (room : ℕ) (words : List ℕ) (stored marks taken : List ℕ) (closed : Bool) (seen : List LinkStep) (emptying : Bool) (v : Sight) : Type 0 where
   pub stored_are : v.stored ≡ stored
+  pub marks_are : v.marks ≡ marks
   pub closed_is : v.closed ≡ closed
   pub tail_is : v.tail ≤ length taken
   pub cell_is : (b : ℕ) → v.cell ≡ Some b → (slice_index words (cell_of room (length stored)) ≡ b) × (b < 256)
-  pub got_are : v.got ≡ got
+  pub got_are : v.got ≡ answered_in seen
+  pub greeted_are : v.greeted ≡ greeted_in seen
   pub emptying_is : v.emptying ≡ emptying
 
 -- what the seat of the board knows
-pub record Boards (stored taken : List ℕ) (closed : Bool) (answered : List Reply) (filling : Bool) (v : Sight) : Type 0 where
-  pub taken_are : v.taken ≡ taken
+pub record Boards (stored : List ℕ) (closed : Bool) (log : List LinkStep) (filling : Bool) (v : Sight) : Type 0 where
+  pub log_is : v.log ≡ log
   pub head_is : v.head ≤ length stored
-  pub read_is : (b : ℕ) → v.read ≡ Some b → placed stored (length taken) ≡ some b
-  pub over_is : v.over ≡ true → (closed ≡ true) × (stored ≡ taken)
-  pub answered_are : v.answered ≡ answered
+  pub read_is : (b : ℕ) → v.read ≡ Some b → placed stored (length (taken_in log)) ≡ some b
+  pub over_is : v.over ≡ true → (closed ≡ true) × (stored ≡ taken_in log)
   pub filling_is : v.filling ≡ filling
 
+-- Of what the board has done, `seen` is what it had when it answered the reply that was got last.
 pub record Kept (room : ℕ) (s : State (Option Reply) Sight) : Type 0 where
   pub stored : List ℕ
-  pub taken : List ℕ
+  pub marks : List ℕ
   pub closed : Bool
-  pub answered : List Reply
-  pub got : List Reply
+  pub log : List LinkStep
+  pub later : List LinkStep
+  pub seen : List LinkStep
   pub given : ℕ
   pub filling : Bool
   pub emptying : Bool
@@ -95,12 +112,15 @@ pub record Kept (room : ℕ) (s : State (Option Reply) Sight) : Type 0 where
   pub board : ℕ
   pub sized : IsRoom room
   pub wide : length s.words ≡ all_words
-  pub bytes : Bytes room s.words stored taken closed
-  pub replies : Replies s.words s.homes answered got given filling emptying
-  -- the lines answered are at most those whose end was taken
-  pub fewer : answers_in answered ≤ lfs_in taken
-  pub hosting : Sole s.views (λ v. v.may_store) host (Hosts room s.words stored taken closed got emptying)
-  pub boarding : Sole s.views (λ v. v.may_take) board (Boards stored taken closed answered filling)
+  pub bytes : Bytes room s.words stored (taken_in log) closed
+  pub marked : Marks s.words stored marks
+  pub replies : Replies s.words s.homes (answered_in log) (answered_in seen) given filling emptying
+  pub parts : log ≡ later ++ seen
+  -- each mark that was loaded was stored, and each reply was answered where it might be
+  pub loads : AreMarks marks (marked_in log)
+  pub well : AnswersWell log
+  pub hosting : Sole s.views (λ v. v.may_store) host (Hosts room s.words stored marks (taken_in log) closed seen emptying)
+  pub boarding : Sole s.views (λ v. v.may_take) board (Boards stored closed log filling)
 
 abbrev pub beginning : Sight
 beginning = record {
@@ -108,19 +128,20 @@ beginning = record {
   may_take = true;
   stored = [];
   closed = false;
+  marks = [];
   tail = 0;
   tail_loads = 0;
   cell = None;
   got = [];
+  greeted = [];
   reply_head = 0;
   reply_head_loads = 0;
   emptying = false;
-  taken = [];
+  log = [];
   head = 0;
   head_loads = 0;
   read = None;
   over = false;
-  answered = [];
   reply_tail = 0;
   reply_tail_loads = 0;
   filling = false;
@@ -139,19 +160,20 @@ both_of v w = record {
   may_take = w.may_take;
   stored = v.stored;
   closed = v.closed;
+  marks = v.marks;
   tail = v.tail;
   tail_loads = v.tail_loads;
   cell = v.cell;
   got = v.got;
+  greeted = v.greeted;
   reply_head = v.reply_head;
   reply_head_loads = v.reply_head_loads;
   emptying = v.emptying;
-  taken = w.taken;
+  log = w.log;
   head = w.head;
   head_loads = w.head_loads;
   read = w.read;
   over = w.over;
-  answered = w.answered;
   reply_tail = w.reply_tail;
   reply_tail_loads = w.reply_tail_loads;
   filling = w.filling;
@@ -173,11 +195,15 @@ with_stored v b = record v { stored = b ∷ v.stored; cell = None }
 abbrev pub with_closed : Sight → Sight
 with_closed v = record v { closed = true }
 
+abbrev pub with_mark : Sight → Sight
+with_mark v = record v { marks = length v.stored ∷ v.marks }
+
 abbrev pub with_reply_head : Sight → ℕ → Sight
 with_reply_head v n = record v { reply_head = n; reply_head_loads = v.reply_head_loads + 1 }
 
-abbrev pub with_got : Sight → ℕ → Reply → Sight
-with_got v n r = record v { reply_head = n; reply_head_loads = v.reply_head_loads + 1; got = r ∷ v.got; emptying = true }
+-- a reply is got; if it is a Banner, it has this mark
+abbrev pub with_got : Sight → ℕ → Reply → Mark → Sight
+with_got v n r m = record v { reply_head = n; reply_head_loads = v.reply_head_loads + 1; got = r ∷ v.got; greeted = with_greeting r m v.greeted; emptying = true }
 
 abbrev pub with_back : Sight → Sight
 with_back v = record v { emptying = false }
@@ -192,7 +218,10 @@ abbrev pub with_read : Sight → ℕ → Sight
 with_read v b = record v { read = Some b }
 
 abbrev pub with_taken : Sight → ℕ → Sight
-with_taken v b = record v { taken = b ∷ v.taken; read = None }
+with_taken v b = record v { log = Took b ∷ v.log; read = None }
+
+abbrev pub with_marked : Sight → ℕ → ℕ → Sight
+with_marked v number bytes = record v { log = Marked number bytes ∷ v.log }
 
 abbrev pub with_reply_tail : Sight → ℕ → Sight
 with_reply_tail v n = record v { reply_tail = n; reply_tail_loads = v.reply_tail_loads + 1 }
@@ -201,7 +230,7 @@ abbrev pub with_slot : Sight → ℕ → Sight
 with_slot v n = record v { reply_tail = n; reply_tail_loads = v.reply_tail_loads + 1; filling = true }
 
 abbrev pub with_answered : Sight → Reply → Sight
-with_answered v r = record v { answered = r ∷ v.answered; filling = false }
+with_answered v r = record v { log = Answered r ∷ v.log; filling = false }
 
 abbrev Sat : Type 0
 Sat = Me (Option Reply) Sight
@@ -209,9 +238,9 @@ Sat = Me (Option Reply) Sight
 abbrev At : Type 0
 At = Step (Option Reply)
 
--- the bytes unread, as the load shows, are at most those after the last line that was answered
+-- the bytes unread, as the load shows, are at most those that may be by the replies
 abbrev pub saw_tail : ℕ → At → Sat → ℕ → Sat → Type 0
-saw_tail room st m n m' = (m' ≡ (with_tail m.0 n, m.1)) × (n ≤ length m.0.stored) × (length m.0.stored ≤ n + room) × (length m.0.stored ≤ n + length (behind (answers_in m.0.got) m.0.stored))
+saw_tail room st m n m' = (m' ≡ (with_tail m.0 n, m.1)) × (n ≤ length m.0.stored) × (length m.0.stored ≤ n + room) × (length m.0.stored ≤ n + length (maybe_unread m.0.stored m.0.got m.0.greeted))
 
 abbrev pub wrote : At → Sat → ℕ → Sat → Type 0
 wrote st m n m' = m' ≡ (with_cell m.0 n, m.1)
@@ -222,20 +251,30 @@ stored_byte st m n m' = (b : ℕ) → m.0.cell ≡ Some b → m' ≡ (with_store
 abbrev pub shut : At → Sat → ℕ → Sat → Type 0
 shut st m n m' = m' ≡ (with_closed m.0, m.1)
 
--- if a reply is there, its slot is taken
+abbrev pub set_mark : At → Sat → ℕ → Sat → Type 0
+set_mark st m n m' = m' ≡ (with_mark m.0, m.1)
+
+-- if a reply is there, its slot is taken; a Banner has the mark that it was answered for
 abbrev pub grasped : At → Sat → ℕ → Sat → Type 0
 grasped st m n m' = (length m.0.got ≤ n) × (n ≤ 2 ^ 62)
-    × (length m.0.got < n → (r : Reply) × (m' ≡ (with_got m.0 n r, (length m.0.got % reply_room, Some r) ∷ m.1)) × IsReply r × (answers_in (r ∷ m.0.got) ≤ lfs_in m.0.stored))
+    × (length m.0.got < n → (r : Reply) × (k : Mark) × (m' ≡ (with_got m.0 n r k, (length m.0.got % reply_room, Some r) ∷ m.1)) × IsReply r
+    × AnswersStored m.0.stored (r ∷ m.0.got) (with_greeting r k m.0.greeted) × (is_banner r ≡ true → Follows m.0.marks m.0.greeted k))
     × (n ≤ length m.0.got → m' ≡ (with_reply_head m.0 n, m.1))
 
 abbrev pub gave_back : At → Sat → ℕ → Sat → Type 0
 gave_back st m n m' = m' ≡ (with_back m.0, [])
 
--- if all bytes are taken and the link is closed, no more will come; once it was seen so it is seen so again
+-- If all bytes are taken and the link is closed, no more will come; once it was seen so it is seen so again. No fewer bytes are
+-- stored than were before any mark that was loaded.
 abbrev pub saw_head : ℕ → At → Sat → ℕ → Sat → Type 0
-saw_head room st m n m' = (length m.0.taken ≤ n % 2 ^ 63) × (n % 2 ^ 63 ≤ length m.0.taken + room) × (n % 2 ^ 63 ≤ 2 ^ 31) × (n < 2 ^ 64)
-    × (n ≡ length m.0.taken + 2 ^ 63 → m' ≡ (with_over m.0 (n % 2 ^ 63), m.1))
-    × (n ≢ length m.0.taken + 2 ^ 63 → (m' ≡ (with_head m.0 (n % 2 ^ 63), m.1)) × (m.0.over ≡ false))
+saw_head room st m n m' = (length (taken_in m.0.log) ≤ n % 2 ^ 63) × (n % 2 ^ 63 ≤ length (taken_in m.0.log) + room) × (n % 2 ^ 63 ≤ 2 ^ 31) × (n < 2 ^ 64)
+    × (n ≡ length (taken_in m.0.log) + 2 ^ 63 → m' ≡ (with_over m.0 (n % 2 ^ 63), m.1))
+    × (n ≢ length (taken_in m.0.log) + 2 ^ 63 → (m' ≡ (with_head m.0 (n % 2 ^ 63), m.1)) × (m.0.over ≡ false))
+    × ((k : ℕ) → MarkedPast k (marked_in m.0.log) → k < n % 2 ^ 63)
+
+-- before the first mark is stored, the mark is that of the start
+abbrev pub saw_mark : At → Sat → ℕ → Sat → Type 0
+saw_mark st m n m' = (m' ≡ (with_marked m.0 (number_in n) (bytes_in n), m.1)) × ((last_of (marked_in m.0.log)).0 ≤ number_in n) × (number_in n ≡ 0 → bytes_in n ≡ 0)
 
 abbrev pub looked : At → Sat → ℕ → Sat → Type 0
 looked st m n m' = (m' ≡ (with_read m.0 n, m.1)) × (n < 256)
@@ -245,27 +284,39 @@ took st m n m' = (b : ℕ) → m.0.read ≡ Some b → m' ≡ (with_taken m.0 b,
 
 -- if there is room, the next slot is taken
 abbrev pub reached : At → Sat → ℕ → Sat → Type 0
-reached st m n m' = (n ≤ length m.0.answered) × (length m.0.answered ≤ n + reply_room)
-    × (length m.0.answered < n + reply_room → m' ≡ (with_slot m.0 n, (length m.0.answered % reply_room, None) ∷ m.1))
-    × (n + reply_room ≤ length m.0.answered → m' ≡ (with_reply_tail m.0 n, m.1))
+reached st m n m' = (n ≤ length (answered_in m.0.log)) × (length (answered_in m.0.log) ≤ n + reply_room)
+    × (length (answered_in m.0.log) < n + reply_room → m' ≡ (with_slot m.0 n, (length (answered_in m.0.log) % reply_room, None) ∷ m.1))
+    × (n + reply_room ≤ length (answered_in m.0.log) → m' ≡ (with_reply_tail m.0 n, m.1))
 
 abbrev pub gave : At → Sat → ℕ → Sat → Type 0
 gave st m n m' = (k : ℕ) (r : Reply) → m.1 ≡ (k, Some r) ∷ [] → m' ≡ (with_answered m.0 r, [])
 
--- how the lists of the two ends agree
-pub record AreTied (room : ℕ) (stored : List ℕ) (closed : Bool) (taken : List ℕ) (over : Bool) (answered got : List Reply) : Type 0 where
+-- How the lists of the two ends agree: the bytes and marks stored, what the board has done, and the replies got with the marks of
+-- their Banners.
+pub record AreTied (room : ℕ) (stored marks : List ℕ) (closed : Bool) (log : List LinkStep) (over : Bool) (got : List Reply) (greeted : List Mark) : Type 0 where
   -- the bytes taken are the first of those stored, and at most so many fewer
   pub unread : List ℕ
-  pub bytes : stored ≡ unread ++ taken
+  pub bytes : stored ≡ unread ++ taken_in log
   pub few_bytes : length unread ≤ room
   -- if the board found the link closed, it is closed, and they are all of them
   pub closes : over ≡ true → closed ≡ true
-  pub all_bytes : over ≡ true → stored ≡ taken
+  pub all_bytes : over ≡ true → stored ≡ taken_in log
   -- the replies got are the first of those answered
   pub untaken : List Reply
-  pub replies : answered ≡ untaken ++ got
+  pub replies : answered_in log ≡ untaken ++ got
   pub few_replies : length untaken ≤ reply_room
-  pub fewer : answers_in answered ≤ lfs_in taken
+  -- the bytes of a mark are at most those stored, and no fewer than those of the mark before it
+  pub within : latest marks ≤ length stored
+  pub rising : AreRising marks
+  -- each mark that was loaded is one that was stored, but for the number 0
+  pub loads : AreMarks marks (marked_in log)
+  -- the marks of the Banners got are those of the first Banners
+  pub ungreeted : List Mark
+  pub banners : greeted_in log ≡ ungreeted ++ greeted
+  -- each reply was answered where it might be: a Banner behind another for a new mark
+  pub well : AnswersWell log
+  -- since the last Banner no more lines were answered than had their end taken
+  pub fewer : answers_since log ≤ lfs_since log
 
 abbrev pub tied : ℕ → At → Sat → ℕ → Sat → Type 0
-tied room st m n m' = (m' ≡ m) × AreTied room m.0.stored m.0.closed m.0.taken m.0.over m.0.answered m.0.got
+tied room st m n m' = (m' ≡ m) × AreTied room m.0.stored m.0.marks m.0.closed m.0.log m.0.over m.0.got m.0.greeted

@@ -1,23 +1,25 @@
 //! What the board does.
-ghost use Rattle.std.specs.Prelude.{◌≡◌, ◌+◌, ◌-◌, ◌^◌, ◌<◌, ◌≤◌, true, false, ◌∷◌, length, OnOk, OnErr, IfErr, ℕ};
-ghost use Rattle.serial_ring.specs.Lists.{MayAnswer};
+ghost use Rattle.std.specs.Prelude.{◌≡◌, ℕ, ◌+◌, ◌-◌, ◌^◌, ◌<◌, ◌≤◌, true, false, ◌∷◌, length, OnOk, OnErr, IfErr};
+ghost use Rattle.serial_ring.specs.Logs.{MayAnswer};
+ghost use Rattle.serial_ring.specs.Marks.{MarkedPast, last_of};
 ghost use Rattle.status_report.specs.Answering.{reply_room};
-ghost use Rattle.serial_ring.specs.Ends.{link_of_board, taken_by, found_closed, bytes_shown, head_loads_of, HasTakenAll, answered_by, replies_taken, room_loads_of};
+ghost use Rattle.serial_ring.specs.Ends.{link_of_board, log_by, taken_by, marked_by, found_closed, bytes_shown, head_loads_of, HasTakenAll, answered_by, replies_taken, room_loads_of};
 
 use crate::ends::BoardEnd;
-use crate::joined::{CLOSED, FIRST_CELL, HEAD, REPLY_HEAD, REPLY_ROOM, REPLY_TAIL, TAIL};
-use crate::plays::{Answer, Look, Reach, SeeHead, TakeByte};
-use crate::view::ByteIn;
+use crate::joined::{CLOSED, FIRST_CELL, HEAD, MARK, REPLY_HEAD, REPLY_ROOM, REPLY_TAIL, TAIL};
+use crate::marks::{bytes_in, number_in};
+use crate::plays::{Answer, Look, Reach, SeeHead, SeeMark, TakeByte};
+use crate::view::{ByteIn, LinkStep};
 use shared_rings::place_behind;
 use status_report::Reply;
 
 impl<const RX: usize> BoardEnd<RX> {
-    /// Loads the head of the bytes.
+    /// Loads the head of the bytes. It shows no fewer bytes than were stored before any mark that was loaded.
     fn look(&mut self)
         ensures load { head_loads_of self.new ≡ head_loads_of self.old + 1 }
-        ensures taken { taken_by self.new ≡ taken_by self.old }
+        ensures log { log_by self.new ≡ log_by self.old }
+        ensures marked { (n : ℕ) → MarkedPast n (marked_by self.old) → n < bytes_shown self.new }
         ensures over { found_closed self.old ≡ true → found_closed self.new ≡ true }
-        ensures answered { answered_by self.new ≡ answered_by self.old }
         ensures loads { room_loads_of self.new ≡ room_loads_of self.old }
         ensures link { link_of_board self.new ≡ link_of_board self.old }
     {
@@ -28,17 +30,18 @@ impl<const RX: usize> BoardEnd<RX> {
     }
 
     /// The next byte, of at most 2^31. If all bytes that the head showed that it loaded last are taken, it loads it once, and
-    /// if that shows no more, the answer is Closed if it is closed, and else Empty.
+    /// if that shows no more, the answer is Closed if it is closed, and else Empty. While fewer bytes are taken than were stored
+    /// before a mark that was loaded, there is one.
     #[inline]
     pub fn byte(&mut self) -> ByteIn
         ensures load { HasTakenAll self.old → head_loads_of self.new ≡ head_loads_of self.old + 1 }
         ensures kept { ¬ HasTakenAll self.old → (head_loads_of self.new ≡ head_loads_of self.old) × (bytes_shown self.new ≡ bytes_shown self.old) }
-        ensures byte { (b : ℕ) → result ≡ ByteIn.Byte b → (taken_by self.new ≡ b ∷ taken_by self.old) × (length (taken_by self.old) < bytes_shown self.new) }
+        ensures byte { (b : ℕ) → result ≡ ByteIn.Byte b → (log_by self.new ≡ LinkStep.Took b ∷ log_by self.old) × (length (taken_by self.old) < bytes_shown self.new) }
         ensures few { (b : ℕ) → result ≡ ByteIn.Byte b → length (taken_by self.old) < 2 ^ 31 }
-        ensures empty { result ≡ ByteIn.Empty → (taken_by self.new ≡ taken_by self.old) × HasTakenAll self.old × HasTakenAll self.new × (found_closed self.new ≡ false) }
+        ensures marked { MarkedPast (length (taken_by self.old)) (marked_by self.old) → (b : ℕ) × (result ≡ ByteIn.Byte b) }
+        ensures empty { result ≡ ByteIn.Empty → (log_by self.new ≡ log_by self.old) × HasTakenAll self.old × HasTakenAll self.new × (found_closed self.new ≡ false) }
         ensures over { found_closed self.old ≡ true → found_closed self.new ≡ true }
-        ensures closed { result ≡ ByteIn.Closed → (taken_by self.new ≡ taken_by self.old) × HasTakenAll self.old × HasTakenAll self.new × (found_closed self.new ≡ true) }
-        ensures answered { answered_by self.new ≡ answered_by self.old }
+        ensures closed { result ≡ ByteIn.Closed → (log_by self.new ≡ log_by self.old) × HasTakenAll self.old × HasTakenAll self.new × (found_closed self.new ≡ true) }
         ensures loads { room_loads_of self.new ≡ room_loads_of self.old }
         ensures link { link_of_board self.new ≡ link_of_board self.old }
     {
@@ -67,8 +70,7 @@ impl<const RX: usize> BoardEnd<RX> {
         ensures free { result + (bytes_shown self.new - length (taken_by self.old)) ≡ RX }
         ensures shown { length (taken_by self.old) ≤ bytes_shown self.new }
         ensures over { found_closed self.old ≡ true → found_closed self.new ≡ true }
-        ensures taken { taken_by self.new ≡ taken_by self.old }
-        ensures answered { answered_by self.new ≡ answered_by self.old }
+        ensures log { log_by self.new ≡ log_by self.old }
         ensures loads { room_loads_of self.new ≡ room_loads_of self.old }
         ensures link { link_of_board self.new ≡ link_of_board self.old }
     {
@@ -76,17 +78,33 @@ impl<const RX: usize> BoardEnd<RX> {
         (RX as u64 - (self.stored - self.taken)) as u8
     }
 
+    /// The number of the mark that it loads, once, and how many bytes were stored before it; 0 and 0 before the first. The number
+    /// is no less than that of the mark that was loaded before.
+    #[inline]
+    pub fn marked(&mut self) -> (u32, u32)
+        ensures log { log_by self.new ≡ LinkStep.Marked result.0 result.1 ∷ log_by self.old }
+        ensures later { (last_of (marked_by self.old)).0 ≤ result.0 }
+        ensures none { result.0 ≡ 0 → result.1 ≡ 0 }
+        ensures over { found_closed self.new ≡ found_closed self.old }
+        ensures polls { (head_loads_of self.new ≡ head_loads_of self.old) × (bytes_shown self.new ≡ bytes_shown self.old) }
+        ensures loads { room_loads_of self.new ≡ room_loads_of self.old }
+        ensures link { link_of_board self.new ≡ link_of_board self.old }
+    {
+        let word = self.table.shared.load::<SeeMark>(&mut self.seat, MARK);
+        (number_in(word), bytes_in(word))
+    }
+
     /// Answers, or hands the reply back exactly if the tail of the replies that it loads, once, shows 16 untaken ones.
     /// Then nothing was answered.
     #[inline]
     pub fn answer(&mut self, r: Reply) -> Result<(), Reply>
-        requires { MayAnswer (taken_by self.old) (answered_by self.old) r }
+        requires { MayAnswer (log_by self.old) r }
         ensures load { room_loads_of self.new ≡ room_loads_of self.old + 1 }
-        ensures ok { OnOk result (answered_by self.new ≡ r ∷ answered_by self.old) }
+        ensures ok { OnOk result (log_by self.new ≡ LinkStep.Answered r ∷ log_by self.old) }
         ensures room { OnOk result (length (answered_by self.old) < replies_taken self.new + reply_room) }
-        ensures full { OnErr result ((answered_by self.new ≡ answered_by self.old) × (length (answered_by self.old) ≡ replies_taken self.new + reply_room)) }
+        ensures full { OnErr result ((log_by self.new ≡ log_by self.old) × (length (answered_by self.old) ≡ replies_taken self.new + reply_room)) }
         ensures back { IfErr result (λ handed. handed ≡ r) }
-        ensures taken { (taken_by self.new ≡ taken_by self.old) × (found_closed self.new ≡ found_closed self.old) }
+        ensures over { found_closed self.new ≡ found_closed self.old }
         ensures polls { (head_loads_of self.new ≡ head_loads_of self.old) × (bytes_shown self.new ≡ bytes_shown self.old) }
         ensures link { link_of_board self.new ≡ link_of_board self.old }
     {

@@ -3,6 +3,7 @@ ghost use Rattle.std.specs.Prelude.{◌≡◌, ◌+◌, ◌%◌, ◌^◌, ◌<�
 ghost use Rattle.std.specs.Arc.{arc_value};
 ghost use Rattle.serial_ring.specs.Lists.{IsRoom};
 ghost use Rattle.status_report.specs.Answering.{reply_room};
+ghost use Rattle.serial_ring.specs.Logs.{taken_in, answered_in};
 ghost use Rattle.serial_ring.specs.Rule.{all_words};
 
 use crate::view::{LinkTable, Place};
@@ -18,6 +19,8 @@ pub struct HostEnd<const RX: usize> {
     pub(crate) taken: u64,
     // where the next byte stands among the cells
     pub(crate) cell: usize,
+    // how many marks are stored
+    pub(crate) marks: u32,
     pub(crate) got: u64,
     // where the next reply stands
     pub(crate) slot: usize,
@@ -29,6 +32,7 @@ pub struct HostEnd<const RX: usize> {
     ghost bytes: { (stored ≡ length seat.me.0.stored) × (stored ≤ 2 ^ 31) },
     ghost shown: { (taken ≡ seat.me.0.tail) × (taken ≤ stored) × (stored ≤ taken + RX) },
     ghost celled: { (cell ≡ stored % RX) × (cell < RX) },
+    ghost marked: { marks ≡ length seat.me.0.marks },
     ghost replies: { got ≡ length seat.me.0.got },
     ghost slotted: { slot ≡ got % reply_room },
 }
@@ -53,10 +57,10 @@ pub struct BoardEnd<const RX: usize> {
     ghost roomy: { IsRoom RX },
     ghost bare: { seat.me.1 ≡ [] },
     ghost mine: { (seat.me.0.may_take ≡ true) × (seat.me.0.filling ≡ false) },
-    ghost bytes: { taken ≡ length seat.me.0.taken },
+    ghost bytes: { taken ≡ length (taken_in seat.me.0.log) },
     ghost shown: { (stored ≡ seat.me.0.head) × (taken ≤ stored) × (stored ≤ taken + RX) × (stored ≤ 2 ^ 31) },
     ghost ended: { over ≡ seat.me.0.over },
     ghost celled: { (cell ≡ taken % RX) × (cell < RX) },
-    ghost replies: { answered ≡ length seat.me.0.answered },
+    ghost replies: { answered ≡ length (answered_in seat.me.0.log) },
     ghost slotted: { slot ≡ answered % reply_room },
 }

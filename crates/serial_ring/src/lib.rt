@@ -4,15 +4,21 @@
 //! head of the bytes once a byte is in its cell, and the top bit of the head closes the link; the board stores their
 //! tail once a byte is read. The board answers a line only after it has taken the line's end, so that the host knows
 //! from the answers that it got how many of its bytes are taken.
+//!
+//! The host stores a mark behind the bytes so far, and the board loads it. A board greets again only behind a new mark, once all
+//! bytes before that are taken: so the Banner tells the host that these are, and what is said of the answers goes by that mark
+//! and its Banner in place of the start.
 #![tactic(auto)]
 
 mod board;
 mod ends;
 mod host;
 mod joined;
+mod marks;
 mod plays;
 mod view;
 
 pub use ends::{BoardEnd, HostEnd};
 pub use joined::{join_link, link};
-pub use view::{ByteIn, Link, Sight, Stored};
+pub use marks::mark_is_read_back;
+pub use view::{ByteIn, Link, LinkStep, Sight, Stored};

@@ -1,5 +1,5 @@
 //! What each step says.
-ghost use Rattle.serial_ring.specs.Rule.{saw_tail, wrote, stored_byte, shut, grasped, gave_back, saw_head, looked, took, reached, gave, tied, without_taking, without_storing, both_of, spent};
+ghost use Rattle.serial_ring.specs.Rule.{saw_tail, wrote, stored_byte, shut, set_mark, grasped, gave_back, saw_head, saw_mark, looked, took, reached, gave, tied, without_taking, without_storing, both_of, spent};
 
 use crate::view::Sight;
 use atomic_table::{Join, Play, Split};
@@ -33,6 +33,13 @@ impl Play<Option<Reply>, Sight> for Shut {
     ghost then = { shut };
 }
 
+/// The host stores the mark.
+pub(crate) struct SetMark;
+
+impl Play<Option<Reply>, Sight> for SetMark {
+    ghost then = { set_mark };
+}
+
 /// The host loads the head of the replies, and takes the slot of the next.
 pub(crate) struct Grasp;
 
@@ -52,6 +59,13 @@ pub(crate) struct SeeHead<const RX: usize>;
 
 impl<const RX: usize> Play<Option<Reply>, Sight> for SeeHead<RX> {
     ghost then = { saw_head RX };
+}
+
+/// The board loads the mark.
+pub(crate) struct SeeMark;
+
+impl Play<Option<Reply>, Sight> for SeeMark {
+    ghost then = { saw_mark };
 }
 
 /// The board loads a cell.

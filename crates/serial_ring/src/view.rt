@@ -23,24 +23,37 @@ pub enum ByteIn {
     Closed,
 }
 
+/// What the board has done at the link, of which its bounds speak. No value of it is made.
+pub enum LinkStep {
+    Took(u8),
+    /// The mark was loaded: its number, and how many bytes were stored before it.
+    Marked(u32, u32),
+    Answered(Reply),
+}
+
 /// What a seat of the table knows, the latest first. No value of it is made.
 pub struct Sight {
     pub may_store: bool,
     pub may_take: bool,
     pub stored: LinkedList<u8>,
     pub closed: bool,
+    /// The marks that were stored: how many bytes were before each.
+    pub marks: LinkedList<u32>,
     /// How many bytes are taken, as it was loaded last, and how many times it was.
     pub tail: u64,
     pub tail_loads: u64,
     /// The byte that was written for the next place.
     pub cell: Option<u8>,
     pub got: LinkedList<Reply>,
+    /// The marks of the Banners among them.
+    pub greeted: LinkedList<(u32, u32)>,
     /// How many replies are answered, as it was loaded last, and how many times it was.
     pub reply_head: u64,
     pub reply_head_loads: u64,
     /// The slot of the reply that was got last is not given back yet.
     pub emptying: bool,
-    pub taken: LinkedList<u8>,
+    /// The bytes taken, the marks loaded and the replies answered.
+    pub log: LinkedList<LinkStep>,
     /// How many bytes are stored, as it was loaded last, and how many times it was.
     pub head: u64,
     pub head_loads: u64,
@@ -48,7 +61,6 @@ pub struct Sight {
     pub read: Option<u8>,
     /// The link was found closed, with every byte taken.
     pub over: bool,
-    pub answered: LinkedList<Reply>,
     /// How many replies are taken, as it was loaded last, and how many times it was.
     pub reply_tail: u64,
     pub reply_tail_loads: u64,

@@ -12,8 +12,14 @@ use std::thread;
 fn yields(on: On) -> u32 {
     match on {
         On::Records => 8,
-        On::SegmentRoom | On::Motion => 3,
-        On::Byte | On::Answer | On::ReplyRoom | On::Resume | On::Piece | On::RecordRoom => 1,
+        On::SegmentRoom | On::Motion | On::Halt => 3,
+        On::Byte
+        | On::Answer
+        | On::ReplyRoom
+        | On::Resume
+        | On::Piece
+        | On::RecordRoom
+        | On::Reset => 1,
     }
 }
 

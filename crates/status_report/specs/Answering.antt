@@ -2,7 +2,7 @@
 use Rattle.std.specs.Prelude.{ℕ, Bool, true, false, not, List, nat_eq}
 use Rattle.std.specs.List.{count_by, filter}
 use Rattle.status_report.specs.declared.Reply.{Reply}
-use Rattle.status_report.specs.declared.Reply.TheVariants.{Ok, Error, Report, Bye}
+use Rattle.status_report.specs.declared.Reply.TheVariants.{Banner, Ok, Error, Report, Bye}
 
 -- so many bytes may be on the link at once
 abbrev pub receive_room : ℕ
@@ -21,6 +21,11 @@ abbrev pub is_answer : Reply → Bool
 is_answer Ok = true
 is_answer (Error n) = true
 is_answer _ = false
+
+-- a reply is a Banner
+abbrev pub is_banner : Reply → Bool
+is_banner Banner = true
+is_banner _ = false
 
 -- a reply is Bye
 abbrev pub is_bye : Reply → Bool

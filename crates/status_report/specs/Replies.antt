@@ -13,7 +13,7 @@ use Rattle.modal_state.specs.declared.Modal.{Modal}
 use Rattle.status_report.specs.Places.{place_text, in_thousandths}
 use Rattle.status_report.specs.Reports.{report_text, IsReport}
 use Rattle.status_report.specs.declared.Message.{Message}
-use Rattle.status_report.specs.declared.Message.TheVariants.{Unlocked, ProgramEnd, ResetToContinue}
+use Rattle.status_report.specs.declared.Message.TheVariants.{Unlocked, ProgramEnd, ResetToContinue, Locked}
 use Rattle.status_report.specs.declared.Modes.{Modes as ParserModes}
 use Rattle.status_report.specs.declared.Reply.{Reply}
 use Rattle.status_report.specs.declared.Reply.TheVariants.{Banner, Ok as Accepted, Error, Alarm, Message as Telling, Report as Reporting, Setting, Modes, Offset, Bye}
@@ -22,6 +22,7 @@ abbrev pub message_text : Message → List ℕ
 message_text Unlocked = codes "[MSG:Caution: Unlocked]"
 message_text ProgramEnd = codes "[MSG:Pgm End]"
 message_text ResetToContinue = codes "[MSG:Reset to continue]"
+message_text Locked = codes "[MSG:'$H'|'$X' to unlock]"
 
 -- settings 10 and 20 are whole numbers, the others have three decimals
 abbrev pub setting_value : ℕ → ℕ → List ℕ

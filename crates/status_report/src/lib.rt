@@ -24,6 +24,8 @@ pub enum Message {
     ProgramEnd,
     /// A reset is needed to go on.
     ResetToContinue,
+    /// The machine is locked, until it is unlocked.
+    Locked,
 }
 
 /// The modes of a parser with its tool, its feed in nm per minute, and its spindle speed in turns per minute.

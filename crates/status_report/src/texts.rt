@@ -37,12 +37,13 @@ pub(crate) fn put_numbered(text: &[u8], number: u64, out: &mut Text)
 
 fn message_text(message: Message) -> &'static [u8]
     ensures text { result.now ≡ message_text message }
-    ensures short { length result.now ≤ 24 }
+    ensures short { length result.now ≤ 25 }
 {
     match message {
         Message::Unlocked => b"[MSG:Caution: Unlocked]",
         Message::ProgramEnd => b"[MSG:Pgm End]",
         Message::ResetToContinue => b"[MSG:Reset to continue]",
+        Message::Locked => b"[MSG:'$H'|'$X' to unlock]",
     }
 }
 

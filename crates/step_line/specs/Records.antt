@@ -2,7 +2,7 @@
 use Rattle.std.specs.Prelude.{◌≡◌, ◌^◌, ◌<◌, ◌≤◌, Bool, true, false}
 use Rattle.step_line.specs.declared.Head.{Head}
 use Rattle.step_line.specs.declared.Mark.{Mark}
-use Rattle.step_line.specs.declared.Mark.TheVariants.{Dwell, Spindle, Coolant, Cut}
+use Rattle.step_line.specs.declared.Mark.TheVariants.{Dwell, Spindle, Coolant, Cut, Reset}
 use Rattle.step_line.specs.declared.SpindleCode.TheVariants.{M3, M4, M5}
 use Rattle.step_line.specs.declared.Record.{Record}
 use Rattle.step_line.specs.declared.Record.TheVariants as kinds
@@ -36,6 +36,7 @@ IsMark (Spindle M4 speed) = speed < 2 ^ 32
 IsMark (Spindle M5 speed) = speed ≡ 0
 IsMark (Coolant on) = Unit {0}
 IsMark (Cut line) = line < 2 ^ 32
+IsMark (Reset line) = line < 2 ^ 32
 
 -- a record that has a line
 abbrev pub IsRecord : Record → Type 0

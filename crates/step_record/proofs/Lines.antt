@@ -5,14 +5,14 @@ use Rattle.std.proofs.lemmas.Bool.{ltb-true, lt-ltb}
 use Rattle.std.proofs.lemmas.Option.{cond_some, some_pair_parts}
 use Rattle.step_line.specs.declared.Head.{Head}
 use Rattle.step_line.specs.declared.Mark.{Mark}
-use Rattle.step_line.specs.declared.Mark.TheVariants.{Dwell, Spindle, Coolant, Cut}
+use Rattle.step_line.specs.declared.Mark.TheVariants.{Dwell, Spindle, Coolant, Cut, Reset}
 use Rattle.step_line.specs.declared.SpindleCode.{SpindleCode}
 use Rattle.step_line.specs.declared.SpindleCode.TheVariants.{M3, M4, M5}
 use Rattle.step_line.specs.declared.Record.{Record}
 use Rattle.step_line.specs.declared.Record.TheVariants as kinds
 use Rattle.step_line.specs.Records.{IsHead, IsMark, IsRecord}
 use Rattle.step_record.specs.Texts.{head_text, mark_text, record_text}
-use Rattle.step_record.specs.Reading.{Read, ◌>>=◌, ◌or◌, behind_name, number_at, short_number_at, head_at, event_at, axis_at, dwell_at, turn_at, plain_at, cut_at, mark_at, as_record, end_at, record_at}
+use Rattle.step_record.specs.Reading.{Read, ◌>>=◌, ◌or◌, behind_name, number_at, short_number_at, head_at, event_at, axis_at, dwell_at, turn_at, plain_at, cut_at, reset_at, mark_at, as_record, end_at, record_at}
 use Rattle.step_record.proofs.Fields.{bound, after_takes, number_takes, number_again, short_takes, short_again}
 use Rattle.step_record.proofs.Events.{event_takes, event_again}
 
@@ -104,6 +104,16 @@ cut_takes text m rest e =
     let whole = named text (codes "X ") name.0 line.0.1 line.0.0 (after_takes (codes "X ") text name.0 name.1) takes.0 in
     subst (λ (r : List ℕ). IsMarkAt text m r) parts.1 (subst (λ (x : Mark). IsMarkAt text x line.0.1) parts.0 (whole, takes.1))
 
+reset_takes : (text : List ℕ) (m : Mark) (rest : List ℕ) → reset_at text ≡ Some (m, rest) → IsMarkAt text m rest
+unfolding reset_at mark_text
+reset_takes text m rest e =
+    let name = bound (behind_name (codes "Z ") text) (λ t. short_number_at t 10 >>= λ line. Some (Reset line.0, line.1)) (m, rest) e in
+    let line = bound (short_number_at name.0 10) (λ line. Some (Reset line.0, line.1)) (m, rest) name.2 in
+    let takes = short_takes name.0 10 line.0.0 line.0.1 line.1 in
+    let parts = some_pair_parts (Reset line.0.0) m line.0.1 rest line.2 in
+    let whole = named text (codes "Z ") name.0 line.0.1 line.0.0 (after_takes (codes "Z ") text name.0 name.1) takes.0 in
+    subst (λ (r : List ℕ). IsMarkAt text m r) parts.1 (subst (λ (x : Mark). IsMarkAt text x line.0.1) parts.0 (whole, takes.1))
+
 turn_takes : (name : List ℕ) (code : SpindleCode) (text : List ℕ) (m : Mark) (rest : List ℕ) → turn_at name code text ≡ Some (m, rest)
     → ((speed : ℕ) → speed < 2 ^ 32 → IsMark (Spindle code speed) × (mark_text (Spindle code speed) ≡ name ++ decimal speed ++ 10 ∷ [])) → IsMarkAt text m rest
 unfolding turn_at
@@ -132,15 +142,17 @@ mark_takes text m rest =
     (either _ _ (m, rest)
     (either _ _ (m, rest)
     (either _ _ (m, rest)
+    (either _ _ (m, rest)
     (either _ _ (m, rest) (dwell_takes text m rest) (λ e. turn_takes (codes "M3 ") M3 text m rest e (λ speed h. (h, refl))))
     (λ e. turn_takes (codes "M4 ") M4 text m rest e (λ speed h. (h, refl))))
     (λ e. plain_takes (codes "M5 0\n") (Spindle M5 0) text m rest e refl refl))
     (λ e. plain_takes (codes "M8 0\n") (Coolant true) text m rest e tt refl))
     (λ e. plain_takes (codes "M9 0\n") (Coolant false) text m rest e tt refl))
-    (cut_takes text m rest)
+    (cut_takes text m rest))
+    (reset_takes text m rest)
 
 mark_again : (m : Mark) (rest : List ℕ) → IsMark m → mark_at (mark_text m ++ rest) ≡ Some (m, rest)
-unfolding mark_at mark_text dwell_at turn_at plain_at cut_at
+unfolding mark_at mark_text dwell_at turn_at plain_at cut_at reset_at
 mark_again (Dwell ms) rest is = ap mark_at (sym (named _ (codes "D ") _ rest ms refl refl)) ∙ rw (number_again ms 10 rest is refl) refl
 mark_again (Spindle M3 speed) rest is = ap mark_at (sym (named _ (codes "M3 ") _ rest speed refl refl)) ∙ rw (short_again speed 10 rest is refl) refl
 mark_again (Spindle M4 speed) rest is = ap mark_at (sym (named _ (codes "M4 ") _ rest speed refl refl)) ∙ rw (short_again speed 10 rest is refl) refl
@@ -148,6 +160,7 @@ mark_again (Spindle M5 speed) rest is = ap (λ (s : ℕ). Some (Spindle M5 s, re
 mark_again (Coolant true) rest is = refl
 mark_again (Coolant false) rest is = refl
 mark_again (Cut line) rest is = ap mark_at (sym (named _ (codes "X ") _ rest line refl refl)) ∙ rw (short_again line 10 rest is refl) refl
+mark_again (Reset line) rest is = ap mark_at (sym (named _ (codes "Z ") _ rest line refl refl)) ∙ rw (short_again line 10 rest is refl) refl
 
 -- ---- records
 
@@ -192,6 +205,7 @@ no_event_mark (Spindle M5 speed) rest = refl
 no_event_mark (Coolant true) rest = refl
 no_event_mark (Coolant false) rest = refl
 no_event_mark (Cut line) rest = refl
+no_event_mark (Reset line) rest = refl
 
 no_head_mark : (m : Mark) (rest : List ℕ) → head_at (mark_text m ++ rest) ≡ None
 unfolding head_at mark_text
@@ -202,9 +216,10 @@ no_head_mark (Spindle M5 speed) rest = refl
 no_head_mark (Coolant true) rest = refl
 no_head_mark (Coolant false) rest = refl
 no_head_mark (Cut line) rest = refl
+no_head_mark (Reset line) rest = refl
 
 end_again : (rest : List ℕ) → record_at (codes "E\n" ++ rest) ≡ Some (kinds.End, rest)
-unfolding record_at event_at axis_at head_at mark_at dwell_at turn_at plain_at cut_at
+unfolding record_at event_at axis_at head_at mark_at dwell_at turn_at plain_at cut_at reset_at
 end_again rest = refl
 
 pub record_again : (r : Record) (rest : List ℕ) → IsRecord r → record_at (record_text r ++ rest) ≡ Some (r, rest)

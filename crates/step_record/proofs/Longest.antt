@@ -4,7 +4,7 @@ use Rattle.itoa.proofs.Decimal.{length_two, length_pair, length_four}
 use Rattle.step_line.specs.declared.Bits.{Bits}
 use Rattle.step_line.specs.declared.Head.{Head}
 use Rattle.step_line.specs.declared.Mark.{Mark}
-use Rattle.step_line.specs.declared.Mark.TheVariants.{Dwell, Spindle, Coolant, Cut}
+use Rattle.step_line.specs.declared.Mark.TheVariants.{Dwell, Spindle, Coolant, Cut, Reset}
 use Rattle.step_line.specs.declared.SpindleCode.TheVariants.{M3, M4, M5}
 use Rattle.step_line.specs.declared.Record.{Record}
 use Rattle.step_line.specs.declared.Record.TheVariants as kinds
@@ -38,6 +38,7 @@ mark_within (Spindle M5 speed) is = lit≤ tt
 mark_within (Coolant true) is = lit≤ tt
 mark_within (Coolant false) is = lit≤ tt
 mark_within (Cut line) is = simp length-append (omega (arith, short32 line is))
+mark_within (Reset line) is = simp length-append (omega (arith, short32 line is))
 
 pub line_within : (r : Record) → IsRecord r → length (record_text r) ≤ 66
 line_within (kinds.Head h) is = head_within h is

@@ -9,11 +9,11 @@ use Rattle.std.proofs.lemmas.Option.{some_pair_parts, none-some}
 use Rattle.step_line.specs.declared.Record.{Record}
 use Rattle.step_line.specs.Records.{IsRecord}
 use Rattle.step_record.specs.Texts.{IsLineOf, record_text}
-use Rattle.step_record.specs.Reading.{record_at, event_at, axis_at, head_at, mark_at, dwell_at, turn_at, plain_at, cut_at}
+use Rattle.step_record.specs.Reading.{record_at, event_at, axis_at, head_at, mark_at, dwell_at, turn_at, plain_at, cut_at, reset_at}
 use Rattle.step_record.proofs.Lines.{record_takes, record_again}
 
 none_at_end : record_at [] ≡ None
-unfolding record_at event_at axis_at head_at mark_at dwell_at turn_at plain_at cut_at
+unfolding record_at event_at axis_at head_at mark_at dwell_at turn_at plain_at cut_at reset_at
 none_at_end = refl
 
 pub one_line : (r s : Record) (x y : List ℕ) → IsRecord r → IsRecord s → record_text r ++ x ≡ record_text s ++ y → (r ≡ s) × (x ≡ y)

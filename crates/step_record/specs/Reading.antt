@@ -9,7 +9,7 @@ use Rattle.std.specs.Str.Parse.{digits_value}
 use Rattle.step_line.specs.declared.Bits.{Bits}
 use Rattle.step_line.specs.declared.Head.{Head}
 use Rattle.step_line.specs.declared.Mark.{Mark}
-use Rattle.step_line.specs.declared.Mark.TheVariants.{Dwell, Spindle, Coolant, Cut}
+use Rattle.step_line.specs.declared.Mark.TheVariants.{Dwell, Spindle, Coolant, Cut, Reset}
 use Rattle.step_line.specs.declared.SpindleCode.{SpindleCode}
 use Rattle.step_line.specs.declared.SpindleCode.TheVariants.{M3, M4, M5}
 use Rattle.step_line.specs.declared.Record.{Record}
@@ -106,6 +106,12 @@ cut_at text = do
   line ← short_number_at rest 10
   Some (Cut line.0, line.1)
 
+unfoldable pub reset_at : List ℕ → Read Mark
+reset_at text = do
+  rest ← behind_name (codes "Z ") text
+  line ← short_number_at rest 10
+  Some (Reset line.0, line.1)
+
 infixl 9 ◌or◌
 abbrev pub ◌or◌ : {A : Type 0} → Option A → Option A → Option A
 o or p = option_or o p
@@ -119,6 +125,7 @@ mark_at text =
     or plain_at (codes "M8 0\n") (Coolant true) text
     or plain_at (codes "M9 0\n") (Coolant false) text
     or cut_at text
+    or reset_at text
 
 -- what is read, as a record
 abbrev pub as_record : {A : Type 0} → (A → Record) → Read A → Read Record

@@ -3,7 +3,7 @@ use Rattle.std.specs.Prelude.{◌≡◌, ℕ, ◌+◌, true, false, cond, nat_eq
 use Rattle.step_line.specs.declared.Bits.{Bits}
 use Rattle.step_line.specs.declared.Head.{Head}
 use Rattle.step_line.specs.declared.Mark.{Mark}
-use Rattle.step_line.specs.declared.Mark.TheVariants.{Dwell, Spindle, Coolant, Cut}
+use Rattle.step_line.specs.declared.Mark.TheVariants.{Dwell, Spindle, Coolant, Cut, Reset}
 use Rattle.step_line.specs.declared.SpindleCode.TheVariants.{M3, M4, M5}
 use Rattle.step_line.specs.declared.Record.{Record}
 use Rattle.step_line.specs.declared.Record.TheVariants as kinds
@@ -29,6 +29,7 @@ mark_text (Spindle M5 speed) = codes "M5 0\n"
 mark_text (Coolant true) = codes "M8 0\n"
 mark_text (Coolant false) = codes "M9 0\n"
 mark_text (Cut line) = codes "X " ++ decimal line ++ codes "\n"
+mark_text (Reset line) = codes "Z " ++ decimal line ++ codes "\n"
 
 -- the line of a record, ended by LF
 abbrev pub record_text : Record → List ℕ

@@ -6,7 +6,7 @@
 //!   least 1, the squared speed at which it begins, and its cycles.
 //! - An event has for each axis that steps, in the order X, Y, Z, its letter and `+` or `-`. Some axis steps.
 //! - A dwell is `D ms`, a spindle that turns `M3 speed` or `M4 speed`, one that stands `M5 0`, the coolant `M8 0` and
-//!   `M9 0`, and a cut `X line`, with a blank that no event has.
+//!   `M9 0`, a cut `X line`, with a blank that no event has, and a reset `Z line`.
 //! - The end is `E`.
 //!
 //! A `Recorder` takes records, one a turn, and writes their lines to a sink.

@@ -4,7 +4,7 @@ ghost use Rattle.std.specs.Prelude.{◌≡◌, ◌≢◌, ℕ, ◌+◌, ◌<◌,
 ghost use Rattle.step_line.specs.declared.Record.{Record};
 ghost use Rattle.step_line.specs.Records.{IsRecord};
 ghost use Rattle.step_record.specs.Texts.{IsLineOf, record_text};
-ghost use Rattle.step_record.specs.Reading.{seen, head_at, axis_at, event_at, dwell_at, turn_at, plain_at, cut_at, mark_at, record_at};
+ghost use Rattle.step_record.specs.Reading.{seen, head_at, axis_at, event_at, dwell_at, turn_at, plain_at, cut_at, reset_at, mark_at, record_at};
 
 use crate::BadRecord;
 use crate::numbers::{after, number_at, short_number_at};
@@ -93,6 +93,16 @@ fn cut_at(text: &[u8]) -> Option<(Mark, &[u8])>
     Some((Mark::Cut(line), rest))
 }
 
+/// A reset.
+#[tactic(auto, unfolding(crate::specs::Reading::reset_at))]
+fn reset_at(text: &[u8]) -> Option<(Mark, &[u8])>
+    ensures { seen result ≡ reset_at text.now }
+{
+    let rest = after(b"Z ", text)?;
+    let (line, rest) = short_number_at(rest, b'\n')?;
+    Some((Mark::Reset(line), rest))
+}
+
 /// A mark.
 #[tactic(auto, unfolding(crate::specs::Reading::mark_at))]
 fn mark_at(text: &[u8]) -> Option<(Mark, &[u8])>
@@ -105,6 +115,7 @@ fn mark_at(text: &[u8]) -> Option<(Mark, &[u8])>
         .or_else(|| plain_at(b"M8 0\n", Mark::Coolant(true), text))
         .or_else(|| plain_at(b"M9 0\n", Mark::Coolant(false), text))
         .or_else(|| cut_at(text))
+        .or_else(|| reset_at(text))
 }
 
 /// A record.

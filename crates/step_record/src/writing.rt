@@ -121,6 +121,7 @@ fn push_mark<const N: usize>(mark: &Mark, out: &mut ArrayVec<u8, N>)
         Mark::Coolant(true) => append(b"M8 0\n", out),
         Mark::Coolant(false) => append(b"M9 0\n", out),
         Mark::Cut(line) => push_named(b"X ", *line as u64, out),
+        Mark::Reset(line) => push_named(b"Z ", *line as u64, out),
     }
 }
 

@@ -14,7 +14,7 @@ use Rattle.stream_host.specs.declared.host.Host.{Host}
 use Rattle.stream_host.specs.Links.{on_link}
 use Rattle.stream_host.specs.Jobs.{resume, is_long, holds_reset, ends_sending, MayHaveRead}
 use Rattle.stream_host.specs.Holding.{held_after, has_pause, pauses}
-use Rattle.stream_host.specs.Steps.{Step, Journal, port_log, got_of, has_alarm, answered_of, read_of, reading_of, scanned_of, unscanned_of, raw_of, cut_of, to_store, begun_of, due_of, asking_of, pause_of, asked_more, more_served, PortLog, polls_of, empty_polls, text_of, this_turn}
+use Rattle.stream_host.specs.Steps.{Step, Journal, port_log, got_of, has_limit, answered_of, read_of, reading_of, scanned_of, unscanned_of, raw_of, cut_of, to_store, begun_of, due_of, asking_of, pause_of, asked_more, more_served, PortLog, polls_of, empty_polls, text_of, this_turn}
 use Rattle.stream_host.specs.Steps.PortStep.{raised, no_reply, shut}
 use Rattle.stream_host.specs.Steps.Step.{at_port, scanned, wrote, gave_up}
 use Rattle.code_table.specs.Tables.{query}
@@ -44,10 +44,10 @@ use Rattle.stream_host.specs.Hosts.{DidAlone, HostTellsOn, TellsJob}
 
 -- ---- an alarm
 
-pub calm_now : (s : Host) (h : Journal) → HostFits s h → s.alarm ≡ false → has_alarm h ≡ false
+pub calm_now : (s : Host) (h : Journal) → HostFits s h → s.alarm ≡ false → has_limit h ≡ false
 calm_now s h f calm = sym f.alarm_is ∙ calm
 
-pub alarm_now : (s : Host) (h : Journal) → HostFits s h → s.alarm ≡ true → has_alarm h ≡ true
+pub alarm_now : (s : Host) (h : Journal) → HostFits s h → s.alarm ≡ true → has_limit h ≡ true
 alarm_now s h f alarm = sym f.alarm_is ∙ alarm
 
 -- ---- the line in hand

@@ -1,3 +1,5 @@
+pub mod Greeting
+pub mod Unmarked
 pub mod Counting
 pub mod Hosting
 pub mod Storing

@@ -11,7 +11,7 @@ use Rattle.gcode_words.proofs.Fed.{kept_of, plain-append, realtime-append}
 use Rattle.run_rules.specs.Lines.{CutsInto, HasNoLf, ended, lines_of, whole_lines, onto_line, onto_first}
 use Rattle.run_rules.proofs.Cutting.{lines_are, some_bytes}
 use Rattle.stream_host.specs.declared.Reading.{Reading}
-use Rattle.stream_host.specs.declared.Reading.TheVariants.{Ended, Failed, Large, Stopped}
+use Rattle.stream_host.specs.declared.Reading.TheVariants.{Ended}
 use Rattle.stream_host.specs.Links.{on_link}
 use Rattle.stream_host.specs.Jobs.{is_long, is_reset, holds_reset, ends_sending, is_sent, lines_read, lines_to_send}
 use Rattle.stream_host.proofs.Links.{plain_nil, realtime_nil, plains_no_lf, few_plain}
@@ -108,9 +108,7 @@ wholes_on (l ∷ ls) xs h =
 
 read_on : (r : Reading) (lines : List (List ℕ)) (xs : List ℕ) → AllByRecursion HasNoLf lines → lines_read r (ended lines ++ xs) ≡ lines ++ lines_read r xs
 read_on Ended lines xs h = lines_on lines xs h
-read_on Failed lines xs h = wholes_on lines xs h
-read_on Large lines xs h = wholes_on lines xs h
-read_on Stopped lines xs h = wholes_on lines xs h
+read_on _ lines xs h = wholes_on lines xs h
 
 -- what is sent of a text whose front is cut into lines that are sent
 pub sends_on : (r : Reading) (text : List ℕ) (lines : List (List ℕ)) (raw left : List ℕ) → CutsInto text lines raw → AllByRecursion IsSendable lines
@@ -177,9 +175,7 @@ none_behind raw lines h (a_line more rest e) = ap sent_front e ∙ front_ends (r
 
 read_starts : (r : Reading) (raw left : List ℕ) → HasNoLf raw → Starts raw (lines_read r (raw ++ left))
 read_starts Ended raw left h = lines_start raw left h
-read_starts Failed raw left h = whole_starts raw left h
-read_starts Large raw left h = whole_starts raw left h
-read_starts Stopped raw left h = whole_starts raw left h
+read_starts _ raw left h = whole_starts raw left h
 
 pub sends_none : (r : Reading) (raw left : List ℕ) → HasNoLf raw → ends_sending raw ≡ true → lines_to_send r (raw ++ left) ≡ []
 sends_none r raw left none h = none_behind raw (lines_read r (raw ++ left)) h (read_starts r raw left none)

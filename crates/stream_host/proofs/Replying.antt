@@ -14,6 +14,7 @@ use Rattle.stream_host.specs.declared.counts.Counts.{Counts}
 use Rattle.status_report.specs.declared.Reply.{Reply}
 use Rattle.status_report.specs.Answering.{answers_in, is_answer, is_bye, is_report}
 use Rattle.stream_host.specs.Ports.{AnswersLines}
+use Rattle.stream_host.proofs.Unmarked.{none_marked, answers_all}
 use Rattle.stream_host.proofs.Sending as sending
 use Rattle.std.proofs.lemmas.List.{drop-drop}
 use Rattle.outside.specs.Causes.{SourceState, SinkState}
@@ -27,7 +28,7 @@ use Rattle.outside.proofs.Written.{more_waits}
 use Rattle.status_report.specs.declared.Reply.TheVariants as replies
 use Rattle.status_report.specs.Replies.{reply_text}
 use Rattle.run_rules.specs.Told.{replies_text, is_error, errors_among}
-use Rattle.run_rules.specs.Work.{is_alarm}
+use Rattle.run_rules.specs.Work.{is_limit}
 use Rattle.text_writer.specs.Writers.{with_text, with_all_asked}
 use Rattle.stream_host.specs.Steps.{has_given_up}
 use Rattle.stream_host.specs.Hosts.{shown}
@@ -36,16 +37,9 @@ use Rattle.stream_host.proofs.Hosting.{same_job}
 -- ---- a reply
 
 pub is_no_answer : (r : Reply) → (r ≡ replies.Ok → ⊥) → ((n : ℕ) → r ≡ replies.Error n → ⊥) → (is_answer r ≡ false) × (is_error r ≡ false)
-is_no_answer replies.Banner o e = (refl, refl)
 is_no_answer replies.Ok o e = absurd (o refl)
 is_no_answer (replies.Error n) o e = absurd (e n refl)
-is_no_answer (replies.Alarm n) o e = (refl, refl)
-is_no_answer (replies.Message m) o e = (refl, refl)
-is_no_answer (replies.Report t) o e = (refl, refl)
-is_no_answer (replies.Setting n v) o e = (refl, refl)
-is_no_answer (replies.Modes m) o e = (refl, refl)
-is_no_answer (replies.Offset row at) o e = (refl, refl)
-is_no_answer replies.Bye o e = (refl, refl)
+is_no_answer _ o e = (refl, refl)
 
 errors_push : (rs : List Reply) (r : Reply) → errors_among (rs ++ r ∷ []) ≡ errors_among rs + cond {A = ℕ} (is_error r) 1 0
 errors_push rs r = let e = sum_by-append (λ x. cond {A = ℕ} (is_error x) 1 0) rs (r ∷ []) in omega arith
@@ -136,10 +130,10 @@ got_text s w r h f going is = record {
 some_got : (rs : List Reply) (r : Reply) → true ≡ nat_lt 0 (length (rs ++ r ∷ []))
 some_got rs r = let l = length-append rs (r ∷ []) in grind (arith, nat_tests, l)
 
-pub got_reply : (s : Host) (w : Writing) (c : Counts) (a : Asking) (bye alarm : Bool) (r : Reply) (h : Journal) → HostFits s h → s.bye ≡ false → AnswersLines (got r ∷ port_log h) → w ≡ shown s.text r → bye ≡ (s.bye || is_bye r) → alarm ≡ (s.alarm || is_alarm r)
+pub got_reply : (s : Host) (w : Writing) (c : Counts) (a : Asking) (bye alarm : Bool) (r : Reply) (h : Journal) → HostFits s h → s.bye ≡ false → AnswersLines (got r ∷ port_log h) → w ≡ shown s.text r → bye ≡ (s.bye || is_bye r) → alarm ≡ (s.alarm || is_limit r)
     → KeepsCounts c (cut_of h) (got_of h ++ r ∷ []) → c.pause_at ≡ s.counts.pause_at → a ≡ cond (is_report r) (got_one s.asking) s.asking → HostFits (record s { text = w; counts = c; asking = a; polls = 0; bye = bye; greeted = true; alarm = alarm }) (at_port (got r) ∷ h)
 got_reply s w c a bye alarm r h f going lines text is alarms counts pause asks = record {
-  conducted = (record { poll = record { going = sym f.bye_is ∙ going; rested = f.polls_are.few }; few = lines }, f.conducted);
+  conducted = (record { poll = record { going = sym f.bye_is ∙ going; rested = f.polls_are.few }; few = answers_all (got r ∷ port_log h) (none_marked h f.conducted) lines }, f.conducted);
   job_is = f.job_is;
   line_is = f.line_is;
   due_is = f.due_is;
@@ -148,7 +142,7 @@ got_reply s w c a bye alarm r h f going lines text is alarms counts pause asks =
   polls_are = record { polls_are = refl; few = omega arith };
   held_is = f.held_is;
   greeted_is = some_got (got_of h) r;
-  alarm_is = alarms ∙ ap (λ b. b || is_alarm r) f.alarm_is ∙ sym (any_push is_alarm (got_of h) r);
+  alarm_is = alarms ∙ ap (λ b. b || is_limit r) f.alarm_is ∙ sym (any_push is_limit (got_of h) r);
   pause_is = pause ∙ f.pause_is;
   text_is = got_text s w r h f going text;
   shut_is = f.shut_is;

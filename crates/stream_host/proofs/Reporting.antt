@@ -13,8 +13,8 @@ use Rattle.stream_host.specs.declared.line.Asking.{Asking}
 use Rattle.stream_host.specs.declared.line.Asking.TheVariants.{Nothing, Awaits, HasOne}
 use Rattle.stream_host.specs.Jobs.{resume, served}
 use Rattle.stream_host.specs.Steps.{asked_more, got_one, is_waiting, awaits_report, more_served, Journal, got_of, answered_of, raw_of, cut_of, to_store, begun_of, due_of, asking_of, polls_of, empty_polls}
-use Rattle.stream_host.specs.Steps.PortStep.{stored, dropped, raised, got, no_reply, shut}
-use Rattle.stream_host.specs.Steps.Step.{at_port, read_some, read_end, read_failed, scanned, line_over, wrote, gave_up, turned}
+use Rattle.stream_host.specs.Steps.PortStep.{stored, dropped, marked, raised, got}
+use Rattle.stream_host.specs.Steps.Step.{at_port, scanned, line_over}
 use Rattle.stream_host.specs.Conduct.{Conducted, MayRaise, MayScanNext, MayEndLine, waits_for_lines}
 use Rattle.stream_host.proofs.Sending.{counts_are, answers_push}
 use Rattle.stream_host.proofs.Raising.{served_nil, served_on, none_at_lf, few_polls, is_enough, is_fewer}
@@ -240,18 +240,12 @@ asked_is : (h : Journal) → Conducted h → AreAsked h
 asked_is [] c = ((λ some. absurd (let s : 0 < 0 = some in omega arith)), (λ f. absurd (let l = ap length f.one in omega arith)))
 asked_is (at_port (stored b) ∷ h) c = ((asked_is h c.1).0, (λ f. absurd (let l = ap length f.one in let m = length-append (cut_of h) (f.line ∷ []) in omega arith)))
 asked_is (at_port (dropped b) ∷ h) c = absurd c.0
+asked_is (at_port marked ∷ h) c = absurd c.0
 asked_is (at_port (raised b down) ∷ h) c = raised_asked b down h c.1 c.0 (asked_is h c.1)
 asked_is (at_port (got r) ∷ h) c = got_asked r h c.1 (asked_is h c.1)
-asked_is (at_port no_reply ∷ h) c = asked_is h c.1
-asked_is (at_port shut ∷ h) c = asked_is h c.1
-asked_is (read_some bytes ∷ h) c = asked_is h c.1
-asked_is (read_end ∷ h) c = asked_is h c.1
-asked_is (read_failed ∷ h) c = asked_is h c.1
 asked_is (scanned b ∷ h) c = scan_asked b h c.1 c.0 (asked_is h c.1)
 asked_is (line_over ∷ h) c = end_asked h c.1 c.0 (asked_is h c.1)
-asked_is (wrote n ∷ h) c = asked_is h c.1
-asked_is (gave_up ∷ h) c = asked_is h c.1
-asked_is (turned t ∷ h) c = asked_is h c.1
+asked_is (_ ∷ h) c = asked_is h c.1
 
 -- ---- each line that is begun has its report
 
@@ -299,18 +293,9 @@ unfolding HaveReports
 begun_have [] c = λ k inside asked. absurd (let s : k < 0 = inside in omega arith)
 begun_have (at_port (stored b) ∷ h) c = begun_reported h (begun_is h c.1) (asked_is h c.1) c.0.reported (begun_have h c.1)
 begun_have (at_port (dropped b) ∷ h) c = absurd c.0
-begun_have (at_port (raised b down) ∷ h) c = begun_have h c.1
+begun_have (at_port marked ∷ h) c = absurd c.0
 begun_have (at_port (got r) ∷ h) c = more_reports (begun_of h) r (got_of h) (begun_have h c.1)
-begun_have (at_port no_reply ∷ h) c = begun_have h c.1
-begun_have (at_port shut ∷ h) c = begun_have h c.1
-begun_have (read_some bytes ∷ h) c = begun_have h c.1
-begun_have (read_end ∷ h) c = begun_have h c.1
-begun_have (read_failed ∷ h) c = begun_have h c.1
-begun_have (scanned b ∷ h) c = begun_have h c.1
-begun_have (line_over ∷ h) c = begun_have h c.1
-begun_have (wrote n ∷ h) c = begun_have h c.1
-begun_have (gave_up ∷ h) c = begun_have h c.1
-begun_have (turned t ∷ h) c = begun_have h c.1
+begun_have (_ ∷ h) c = begun_have h c.1
 
 -- a `?` outside comments is raised
 asks_is : (line : List ℕ) → asks line ≡ asks_report line

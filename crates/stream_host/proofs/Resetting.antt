@@ -4,9 +4,9 @@ use Rattle.std.specs.List.{list_any}
 use Rattle.std.proofs.lemmas.Bool.Decides.{nat_tests}
 use Rattle.std.proofs.lemmas.List.Folds.{list_any-append}
 use Rattle.stream_host.specs.Jobs.{is_reset, is_long, holds_reset, ends_sending, served}
-use Rattle.stream_host.specs.Steps.{Journal, port_log, got_of, answered_of, has_alarm, job_stop_of, or_alarm, stop_of, is_shut, reading_of, raw_of, cut_of, to_store, due_of, more_served, empty_polls, polls_of, raises_of, resumes_next}
-use Rattle.stream_host.specs.Steps.PortStep.{stored, dropped, raised, got, no_reply, shut}
-use Rattle.stream_host.specs.Steps.Step.{at_port, read_some, read_end, read_failed, scanned, line_over, wrote, gave_up, turned}
+use Rattle.stream_host.specs.Steps.{Journal, port_log, got_of, answered_of, has_limit, job_stop_of, or_alarm, stop_of, is_shut, reading_of, raw_of, cut_of, to_store, due_of, more_served, empty_polls, polls_of, raises_of, resumes_next}
+use Rattle.stream_host.specs.Steps.PortStep.{stored, dropped, marked, raised}
+use Rattle.stream_host.specs.Steps.Step.{at_port, read_some, read_end, read_failed, scanned, line_over}
 use Rattle.stream_host.specs.Conduct.{Conducted, HasSentAll, MayRaise}
 use Rattle.stream_host.specs.Ran.{is_sent_out}
 use Rattle.stream_host.proofs.Alarming.{other_cause}
@@ -47,20 +47,12 @@ raise_due raw due false (inr some) = inl (ap (drop 1) some.1)
 
 due_is : (h : Journal) → Conducted h → IsDue (raw_of h) (due_of h)
 due_is [] c = inl refl
-due_is (at_port (stored b) ∷ h) c = due_is h c.1
 due_is (at_port (dropped b) ∷ h) c = absurd c.0
+due_is (at_port marked ∷ h) c = absurd c.0
 due_is (at_port (raised b down) ∷ h) c = raise_due (raw_of h) (due_of h) (resumes_next (port_log h)) (due_is h c.1)
-due_is (at_port (got r) ∷ h) c = due_is h c.1
-due_is (at_port no_reply ∷ h) c = due_is h c.1
-due_is (at_port shut ∷ h) c = due_is h c.1
-due_is (read_some bytes ∷ h) c = due_is h c.1
-due_is (read_end ∷ h) c = due_is h c.1
-due_is (read_failed ∷ h) c = due_is h c.1
 due_is (scanned b ∷ h) c = scan_due (raw_of h) (due_of h) b (nat_eq b 10) refl c.0.none_due
 due_is (line_over ∷ h) c = inl c.0.none_due
-due_is (wrote n ∷ h) c = due_is h c.1
-due_is (gave_up ∷ h) c = due_is h c.1
-due_is (turned t ∷ h) c = due_is h c.1
+due_is (_ ∷ h) c = due_is h c.1
 
 -- ---- a reset
 
@@ -115,19 +107,15 @@ pub reset_is : (h : Journal) → Conducted h → list_any is_reset (raises_of h)
 reset_is [] c e = absurd cc
 reset_is (at_port (stored b) ∷ h) c e = let s = reset_is h c.1 e in absurd (let f = sym s.free ∙ c.0.next in cc)
 reset_is (at_port (dropped b) ∷ h) c e = absurd c.0
+reset_is (at_port marked ∷ h) c e = absurd c.0
 reset_is (at_port (raised b down) ∷ h) c e =
     raise_reset b down h c.1 c.0 (reset_is h c.1) (list_any is_reset (raises_of h)) refl (sym (list_any-append is_reset (raises_of h) (b ∷ [])) ∙ e)
-reset_is (at_port (got r) ∷ h) c e = let s = reset_is h c.1 e in record { free = s.free; ends = s.ends; none_due = s.none_due }
-reset_is (at_port no_reply ∷ h) c e = let s = reset_is h c.1 e in record { free = s.free; ends = s.ends; none_due = s.none_due }
-reset_is (at_port shut ∷ h) c e = let s = reset_is h c.1 e in record { free = s.free; ends = s.ends; none_due = s.none_due }
 reset_is (read_some bytes ∷ h) c e = let s = reset_is h c.1 e in absurd (let f = sym s.ends ∙ c.0.0.sends in cc)
 reset_is (read_end ∷ h) c e = let s = reset_is h c.1 e in absurd (let f = sym s.ends ∙ c.0.sends in cc)
 reset_is (read_failed ∷ h) c e = let s = reset_is h c.1 e in absurd (let f = sym s.ends ∙ c.0.sends in cc)
 reset_is (scanned b ∷ h) c e = let s = reset_is h c.1 e in absurd (let f = sym s.ends ∙ c.0.sends in cc)
 reset_is (line_over ∷ h) c e = let s = reset_is h c.1 e in absurd (let f = sym s.ends ∙ c.0.sends in cc)
-reset_is (wrote n ∷ h) c e = let s = reset_is h c.1 e in record { free = s.free; ends = s.ends; none_due = s.none_due }
-reset_is (gave_up ∷ h) c e = let s = reset_is h c.1 e in record { free = s.free; ends = s.ends; none_due = s.none_due }
-reset_is (turned t ∷ h) c e = let s = reset_is h c.1 e in record { free = s.free; ends = s.ends; none_due = s.none_due }
+reset_is (_ ∷ h) c e = let s = reset_is h c.1 e in record { free = s.free; ends = s.ends; none_due = s.none_due }
 
 pub reset_sent : (h : Journal) → Conducted h → list_any is_reset (raises_of h) ≡ true → HasSentAll h
 reset_sent h c e = let s = reset_is h c e in record { free = s.free; all = inl s.ends }
@@ -139,14 +127,14 @@ pub record IsSentOut (h : Journal) : Type 0 where
   pub stop : stop_of h ≡ job_stop_of h
 
 pub sent_out : (h : Journal) → Conducted h → is_sent_out (is_shut h) (raises_of h) (got_of h) ≡ true → IsSentOut h
-sent_out h c out = by_shut (is_shut h) (has_alarm h) refl refl out
+sent_out h c out = by_shut (is_shut h) (has_limit h) refl refl out
   where
     by_reset : list_any is_reset (raises_of h) ≡ true → IsSentOut h
     by_reset e =
         let s = reset_is h c e in
-        record { all = reset_sent h c e; none_due = s.none_due; stop = other_cause (has_alarm h) (answered_of h) (reading_of h) (raw_of h) (length (cut_of h)) s.ends }
+        record { all = reset_sent h c e; none_due = s.none_due; stop = other_cause (has_limit h) (answered_of h) (reading_of h) (raw_of h) (length (cut_of h)) s.ends }
 
-    by_shut : (t u : Bool) → is_shut h ≡ t → has_alarm h ≡ u → ((t && not u) || list_any is_reset (raises_of h)) ≡ true → IsSentOut h
+    by_shut : (t u : Bool) → is_shut h ≡ t → has_limit h ≡ u → ((t && not u) || list_any is_reset (raises_of h)) ≡ true → IsSentOut h
     by_shut true false e calm out = record { all = shut_is h c e calm; none_due = none_due_shut h c e calm; stop = ap (λ b. or_alarm b (answered_of h) (job_stop_of h)) calm }
     by_shut true true e calm out = by_reset out
     by_shut false u e calm out = by_reset out

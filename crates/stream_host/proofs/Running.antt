@@ -7,7 +7,7 @@ use Rattle.std.specs.Io.KnownBytes.{Consumes}
 use Rattle.outside.specs.Causes.{SourceState, SinkState}
 use Rattle.outside.specs.Writing.{Wrote, Took}
 use Rattle.stream_host.specs.declared.Reading.{Reading}
-use Rattle.stream_host.specs.declared.Reading.TheVariants.{Ended, Failed, Large, Stopped}
+use Rattle.stream_host.specs.declared.Reading.TheVariants.{Failed}
 use Rattle.stream_host.specs.declared.host.Host.{Host}
 use Rattle.stream_host.specs.Steps.{Journal, stored_of, got_of, is_shut, read_of, reading_of, scanned_of, cut_of, to_store, due_of, raises_of, resumes_of, job_stop_of, text_of, written_of, has_given_up, has_bye}
 use Rattle.stream_host.specs.Conduct.{Conducted, HasWritten}
@@ -43,9 +43,7 @@ took_of was is failed waiting text wrote none = record {
 
 failed_is : (r : Reading) → is_failed r ≡ true → r ≡ Failed
 failed_is Failed e = refl
-failed_is Ended e = absurd cc
-failed_is Large e = absurd cc
-failed_is Stopped e = absurd cc
+failed_is _ e = absurd cc
 
 not_failed : (r : Reading) → is_failed r ≡ false → r ≢ Failed
 not_failed r well bad = absurd (let e = sym (ap is_failed bad) ∙ well in cc)

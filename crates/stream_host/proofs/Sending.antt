@@ -17,9 +17,9 @@ use Rattle.stream_host.specs.declared.Stop.TheVariants.{End, LongLine, Reset}
 use Rattle.stream_host.specs.Links.{behind, on_link}
 use Rattle.status_report.specs.Answering.{receive_room, lfs_in, is_answer, answers_in}
 use Rattle.stream_host.specs.Jobs.{is_long, holds_reset, ends_sending, lines_to_send, ScansFront, MayLeave, MayScan, long_line, stop_by, IsSentSoFar, IsSent}
-use Rattle.stream_host.specs.Steps.{Journal, stored_of, got_of, answered_of, errors_of, read_of, reading_of, scanned_of, unscanned_of, raw_of, cut_of, to_store, begun_of, has_alarm, stop_at, job_stop_of, or_alarm, stop_of}
-use Rattle.stream_host.specs.Steps.PortStep.{stored, dropped, raised, got, no_reply, shut}
-use Rattle.stream_host.specs.Steps.Step.{at_port, read_some, read_end, read_failed, scanned, line_over, wrote, gave_up, turned}
+use Rattle.stream_host.specs.Steps.{Journal, stored_of, got_of, answered_of, errors_of, read_of, reading_of, scanned_of, unscanned_of, raw_of, cut_of, to_store, begun_of, has_limit, stop_at, job_stop_of, or_alarm, stop_of}
+use Rattle.stream_host.specs.Steps.PortStep.{stored, dropped, marked, got}
+use Rattle.stream_host.specs.Steps.Step.{at_port}
 use Rattle.stream_host.specs.Conduct.{Conducted, HasSentAll, HasNoMore, MayStore}
 use Rattle.stream_host.proofs.Links.{lfs_push, behind_append, behind_ended, plain_no_lf, plains_no_lf}
 use Rattle.stream_host.proofs.Pieces.{none_ends, sent_front, front_on, front_ends, sends_on, sends_none, no_whole, few_cut, few_whole, none_long, none_reset, not_long, no_reset}
@@ -155,13 +155,11 @@ stop_is h c = by_reading (reading_of h)
 
     by_reading : (r : Reading) → stop_at r (raw_of h) (length (cut_of h)) ≡ stop_by r (scanned_of h)
     by_reading Large = refl
-    by_reading Ended = else_by
-    by_reading Failed = else_by
-    by_reading Stopped = else_by
+    by_reading _ = else_by
 
 -- an alarm is a cause where the job gives none
-pub stop_behind : (h : Journal) → Conducted h → stop_of h ≡ or_alarm (has_alarm h) (answered_of h) (stop_by (reading_of h) (scanned_of h))
-stop_behind h c = ap (or_alarm (has_alarm h) (answered_of h)) (stop_is h c)
+pub stop_behind : (h : Journal) → Conducted h → stop_of h ≡ or_alarm (has_limit h) (answered_of h) (stop_by (reading_of h) (scanned_of h))
+stop_behind h c = ap (or_alarm (has_limit h) (answered_of h)) (stop_is h c)
 
 -- ---- how much
 
@@ -214,36 +212,18 @@ pub sum_is : (h : Journal) → Conducted h → length (on_link (drop (answered_o
 sum_is [] c = omega arith
 sum_is (at_port (stored b) ∷ h) c = c.0.room
 sum_is (at_port (dropped b) ∷ h) c = absurd c.0
-sum_is (at_port (raised b down) ∷ h) c = sum_is h c.1
+sum_is (at_port marked ∷ h) c = absurd c.0
 sum_is (at_port (got r) ∷ h) c = fewer_left (got_of h) r (begun_of h) (sum_is h c.1)
-sum_is (at_port no_reply ∷ h) c = sum_is h c.1
-sum_is (at_port shut ∷ h) c = sum_is h c.1
-sum_is (read_some bytes ∷ h) c = sum_is h c.1
-sum_is (read_end ∷ h) c = sum_is h c.1
-sum_is (read_failed ∷ h) c = sum_is h c.1
-sum_is (scanned b ∷ h) c = sum_is h c.1
-sum_is (line_over ∷ h) c = sum_is h c.1
-sum_is (wrote n ∷ h) c = sum_is h c.1
-sum_is (gave_up ∷ h) c = sum_is h c.1
-sum_is (turned t ∷ h) c = sum_is h c.1
+sum_is (_ ∷ h) c = sum_is h c.1
 
 -- no more answers than lines were stored
 pub answers_are_few : (h : Journal) → Conducted h → answered_of h ≤ lfs_in (stored_of h)
 answers_are_few [] c = omega arith
 answers_are_few (at_port (stored b) ∷ h) c = let m = answers_are_few h c.1 in let p = lfs_push (stored_of h) b in omega arith
 answers_are_few (at_port (dropped b) ∷ h) c = absurd c.0
-answers_are_few (at_port (raised b down) ∷ h) c = answers_are_few h c.1
+answers_are_few (at_port marked ∷ h) c = absurd c.0
 answers_are_few (at_port (got r) ∷ h) c = c.0.few
-answers_are_few (at_port no_reply ∷ h) c = answers_are_few h c.1
-answers_are_few (at_port shut ∷ h) c = answers_are_few h c.1
-answers_are_few (read_some bytes ∷ h) c = answers_are_few h c.1
-answers_are_few (read_end ∷ h) c = answers_are_few h c.1
-answers_are_few (read_failed ∷ h) c = answers_are_few h c.1
-answers_are_few (scanned b ∷ h) c = answers_are_few h c.1
-answers_are_few (line_over ∷ h) c = answers_are_few h c.1
-answers_are_few (wrote n ∷ h) c = answers_are_few h c.1
-answers_are_few (gave_up ∷ h) c = answers_are_few h c.1
-answers_are_few (turned t ∷ h) c = answers_are_few h c.1
+answers_are_few (_ ∷ h) c = answers_are_few h c.1
 
 -- what stands on the link behind the answers that were got, with what is still to be stored, is the lines without an answer
 pub behind_is : (h : Journal) → Conducted h → behind (answered_of h) (stored_of h) ++ to_store h ≡ on_link (drop (answered_of h) (cut_of h))
@@ -269,15 +249,7 @@ errors_below (r ∷ rs) =
   where
     one : (r : Reply) → cond (is_error r) 1 0 ≤ cond (is_answer r) 1 0
     one (replies.Error n) = omega arith
-    one replies.Ok = omega arith
-    one replies.Banner = omega arith
-    one (replies.Alarm n) = omega arith
-    one (replies.Message m) = omega arith
-    one (replies.Report t) = omega arith
-    one (replies.Setting n v) = omega arith
-    one (replies.Modes m) = omega arith
-    one (replies.Offset r a) = omega arith
-    one replies.Bye = omega arith
+    one _ = omega arith
 
 -- as many line feeds as lines
 pub lfs_linked : (lines : List (List ℕ)) → lfs_in (on_link lines) ≡ length lines

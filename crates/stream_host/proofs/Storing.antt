@@ -14,6 +14,7 @@ use Rattle.stream_host.specs.Hosts.{HostFits, HasLine, IsStoring, KeepsLine, Kee
 use Rattle.stream_host.specs.Ports.{TakesByte, SeemsFull}
 use Rattle.stream_host.proofs.Keeping.{open_is}
 use Rattle.stream_host.proofs.Sending as sending
+use Rattle.stream_host.proofs.Unmarked.{none_marked, seems_all}
 use Rattle.stream_host.proofs.Hosting.{calm_now, total_is}
 
 pub not_waiting : (a b : Asking) → a ≡ b → (a ≡ Awaits → ⊥) → is_waiting b ≡ false
@@ -35,7 +36,7 @@ pub takes_byte : (s : Host) (b : ℕ) (h : Journal) → HostFits s h → MayStor
 takes_byte s b h f may = record { going = open_is b h f.conducted may.calm may.next; few = (let n = sending.few_stored h f.conducted in omega arith) }
 
 pub not_dropped : (s : Host) (b : ℕ) (h : Journal) → HostFits s h → MayStore b h → SeemsFull (port_log h) → ⊥
-not_dropped s b h f may full = let l = sending.room_is b h f.conducted may in absurd (omega arith)
+not_dropped s b h f may full = let l = sending.room_is b h f.conducted may in let n = seems_all (port_log h) (none_marked h f.conducted) full in absurd (omega arith)
 
 -- the line after the byte
 pub record Advances (l m : SentLine) : Type 0 where

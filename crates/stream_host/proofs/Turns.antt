@@ -12,7 +12,7 @@ use Rattle.outside.specs.declared.Turn.TheVariants.{Did, Wait, Done}
 use Rattle.status_report.specs.declared.Reply.{Reply}
 use Rattle.text_writer.specs.Writers.{Writing, is_due, with_all_asked}
 use Rattle.stream_host.specs.declared.host.Host.{Host}
-use Rattle.stream_host.specs.Steps.{Step, Journal, has_alarm, is_shut, has_bye, to_store, due_of, awaits_report, text_of, written_of, this_turn}
+use Rattle.stream_host.specs.Steps.{Step, Journal, has_limit, is_shut, has_bye, to_store, due_of, awaits_report, text_of, written_of, this_turn}
 use Rattle.stream_host.specs.Steps.PortStep.{stored, raised, got, no_reply, shut}
 use Rattle.stream_host.specs.Steps.Step.{at_port, turned}
 use Rattle.stream_host.specs.Conduct.{AreAnswered, waits_for_lines, HasWritten, publishing, moving}
@@ -189,7 +189,7 @@ waits_shut s h f polled shown none whole closed =
 pub waits_at_alarm : (s : Host) (h : Journal) → HostFits s h → HasPolled h → HasShown s.text → s.alarm ≡ true → s.shut ≡ true → HostWorked (Wait Answer) s s h h
 waits_at_alarm s h f polled shown alarm closed =
     let over : is_shut h ≡ false → ⊥ = (λ e. absurd (let g = sym closed ∙ f.shut_is ∙ e in cc)) in
-    let loud : has_alarm h ≡ false → ⊥ = (λ e. absurd (let g = sym alarm ∙ f.alarm_is ∙ e in cc)) in
+    let loud : has_limit h ≡ false → ⊥ = (λ e. absurd (let g = sym alarm ∙ f.alarm_is ∙ e in cc)) in
     record {
       fits = f;
       steps = [];

@@ -9,9 +9,9 @@ use Rattle.stream_host.specs.declared.Reading.TheVariants.{Ended, Failed, Large,
 use Rattle.stream_host.specs.Links.{on_link}
 use Rattle.status_report.specs.Answering.{receive_room, lfs_in}
 use Rattle.stream_host.specs.Jobs.{ends_sending, MayHaveRead}
-use Rattle.stream_host.specs.Steps.{Journal, stored_of, has_alarm, is_shut, is_greeted, answered_of, read_of, reading_of, scanned_of, unscanned_of, raw_of, cut_of, to_store, begun_of, due_of, awaits_report}
-use Rattle.stream_host.specs.Steps.PortStep.{stored, dropped, raised, got, no_reply, shut}
-use Rattle.stream_host.specs.Steps.Step.{at_port, read_some, read_end, read_failed, scanned, line_over, wrote, gave_up, turned}
+use Rattle.stream_host.specs.Steps.{Journal, stored_of, has_limit, is_shut, is_greeted, answered_of, read_of, reading_of, scanned_of, unscanned_of, raw_of, cut_of, to_store, begun_of, due_of, awaits_report}
+use Rattle.stream_host.specs.Steps.PortStep.{stored, dropped, marked}
+use Rattle.stream_host.specs.Steps.Step.{at_port, scanned, line_over}
 use Rattle.stream_host.specs.Conduct.{AwaitsSome, Conducted, HasNoMore, IsSettled, Waits}
 use Rattle.stream_host.proofs.Pieces.{IsSendable}
 use Rattle.stream_host.proofs.Keeping.{read_is, stored_is, linked_push, few_scanned, reading_fits}
@@ -51,18 +51,10 @@ pub begun_is : (h : Journal) → Conducted h → IsBegun h
 begun_is [] c = inl refl
 begun_is (at_port (stored b) ∷ h) c = inl refl
 begun_is (at_port (dropped b) ∷ h) c = absurd c.0
-begun_is (at_port (raised b down) ∷ h) c = begun_is h c.1
-begun_is (at_port (got r) ∷ h) c = begun_is h c.1
-begun_is (at_port no_reply ∷ h) c = begun_is h c.1
-begun_is (at_port shut ∷ h) c = begun_is h c.1
-begun_is (read_some bytes ∷ h) c = begun_is h c.1
-begun_is (read_end ∷ h) c = begun_is h c.1
-begun_is (read_failed ∷ h) c = begun_is h c.1
+begun_is (at_port marked ∷ h) c = absurd c.0
 begun_is (scanned b ∷ h) c = begin_by (cut_of h) (begun_of h) (raw_of h) (to_store h) (nat_eq b 10) c.0.sends (all_begun h c.0.free (begun_is h c.1))
 begun_is (line_over ∷ h) c = begin_by (cut_of h) (begun_of h) (raw_of h) (to_store h) true c.0.sends (all_begun h c.0.free (begun_is h c.1))
-begun_is (wrote n ∷ h) c = begun_is h c.1
-begun_is (gave_up ∷ h) c = begun_is h c.1
-begun_is (turned t ∷ h) c = begun_is h c.1
+begun_is (_ ∷ h) c = begun_is h c.1
 
 -- ---- a line that may not be stored yet
 
@@ -99,7 +91,7 @@ shuts : (h : Journal) → is_shut h ≡ false → to_store h ≡ [] → due_of h
 shuts h going free none w all = w.no_close (record { going = going; sent = inr (record { free = free; all = all }); all_raised = inr none })
 
 -- all that was read is scanned
-all_scanned : (h : Journal) → Conducted h → is_shut h ≡ false → has_alarm h ≡ false → to_store h ≡ [] → due_of h ≡ [] → IsSettled h → ends_sending (raw_of h) ≡ false → unscanned_of h ≡ [] → Waits h → (r : Reading) → reading_of h ≡ r → (raw : List ℕ) → raw_of h ≡ raw → ⊥
+all_scanned : (h : Journal) → Conducted h → is_shut h ≡ false → has_limit h ≡ false → to_store h ≡ [] → due_of h ≡ [] → IsSettled h → ends_sending (raw_of h) ≡ false → unscanned_of h ≡ [] → Waits h → (r : Reading) → reading_of h ≡ r → (raw : List ℕ) → raw_of h ≡ raw → ⊥
 all_scanned h c going calm free none settled short used w Stopped at raw is = w.no_read (record { going = going; calm = calm; on = at; sends = short; used = used; free = free; none_due = none; settled = settled; shown = w.written })
 all_scanned h c going calm free none settled short used w Failed at raw is =
     shuts h going free none w (inr (subst (λ (r : Reading). HasNoMore r (unscanned_of h) (raw_of h) (length (scanned_of h))) (sym at) used))
@@ -114,26 +106,14 @@ all_scanned h c going calm free none settled short used w Ended at (b ∷ raw) i
 
 pub over_full : (h : Journal) → Conducted h → (b : ℕ) (bytes : List ℕ) → unscanned_of h ≡ b ∷ bytes → largest_job ≤ length (scanned_of h) → (r : Reading) → reading_of h ≡ r → HasNoMore r (unscanned_of h) (raw_of h) (length (scanned_of h))
 over_full h c b bytes next full Large at = (let s = few_scanned h c in omega arith)
-over_full h c b bytes next full Ended at = absurd (too_long Ended at (λ f. f))
-  where
-    too_long : (r : Reading) → reading_of h ≡ r → (MayHaveRead r (length (read_of h)) → length (read_of h) ≤ largest_job) → ⊥
-    too_long r at few =
-        let f = few (subst (λ (q : Reading). MayHaveRead q (length (read_of h))) at (reading_fits h c)) in
-        let l = ap length (read_is h c) in let m = length-append (scanned_of h) (unscanned_of h) in let n = ap length next in absurd (omega arith)
-over_full h c b bytes next full Failed at = absurd (too_long Failed at (λ f. f))
-  where
-    too_long : (r : Reading) → reading_of h ≡ r → (MayHaveRead r (length (read_of h)) → length (read_of h) ≤ largest_job) → ⊥
-    too_long r at few =
-        let f = few (subst (λ (q : Reading). MayHaveRead q (length (read_of h))) at (reading_fits h c)) in
-        let l = ap length (read_is h c) in let m = length-append (scanned_of h) (unscanned_of h) in let n = ap length next in absurd (omega arith)
-over_full h c b bytes next full Stopped at = absurd (too_long Stopped at (λ f. f))
+over_full h c b bytes next full r at = absurd (too_long r at (λ f. f))
   where
     too_long : (r : Reading) → reading_of h ≡ r → (MayHaveRead r (length (read_of h)) → length (read_of h) ≤ largest_job) → ⊥
     too_long r at few =
         let f = few (subst (λ (q : Reading). MayHaveRead q (length (read_of h))) at (reading_fits h c)) in
         let l = ap length (read_is h c) in let m = length-append (scanned_of h) (unscanned_of h) in let n = ap length next in absurd (omega arith)
 
-goes_on : (h : Journal) → Conducted h → is_shut h ≡ false → has_alarm h ≡ false → to_store h ≡ [] → due_of h ≡ [] → IsSettled h → Waits h → (t : Bool) → ends_sending (raw_of h) ≡ t → (left : List ℕ) → unscanned_of h ≡ left → ⊥
+goes_on : (h : Journal) → Conducted h → is_shut h ≡ false → has_limit h ≡ false → to_store h ≡ [] → due_of h ≡ [] → IsSettled h → Waits h → (t : Bool) → ends_sending (raw_of h) ≡ t → (left : List ℕ) → unscanned_of h ≡ left → ⊥
 goes_on h c going calm free none settled w true long left is = shuts h going free none w (inl long)
 goes_on h c going calm free none settled w false short [] is = all_scanned h c going calm free none settled short is w (reading_of h) refl (raw_of h) refl
 goes_on h c going calm free none settled w false short (b ∷ bytes) is = by_room (nat_lt (length (scanned_of h)) largest_job) refl
@@ -153,7 +133,7 @@ goes_on h c going calm free none settled w false short (b ∷ bytes) is = by_roo
 
 -- ---- a byte that may not be raised yet
 
-early : (h : Journal) → Conducted h → has_alarm h ≡ false → to_store h ≡ [] → (b : ℕ) → due_of h ≡ b ∷ drop 1 (due_of h) → Waits h → 0 < length (drop (answered_of h) (begun_of h))
+early : (h : Journal) → Conducted h → has_limit h ≡ false → to_store h ≡ [] → (b : ℕ) → due_of h ≡ b ∷ drop 1 (due_of h) → Waits h → 0 < length (drop (answered_of h) (begun_of h))
 early h c calm free b next w =
     let begun = ap (λ (ls : List (List ℕ)). length (drop (answered_of h) ls)) (all_begun h free (begun_is h c)) in
     let l = length-drop (answered_of h) (cut_of h) in
@@ -172,7 +152,7 @@ unanswered h c free e =
     let more : answered_of h < length (cut_of h) = grind (arith, nat_tests) in
     omega arith
 
-calm_waits : (h : Journal) → Conducted h → Waits h → is_shut h ≡ false → has_alarm h ≡ false → AwaitsSome h
+calm_waits : (h : Journal) → Conducted h → Waits h → is_shut h ≡ false → has_limit h ≡ false → AwaitsSome h
 calm_waits h c w going calm = by_left (to_store h) refl
   where
     no_room : (n : ℕ) → (n ≤ receive_room → ⊥) → receive_room < n
@@ -211,9 +191,9 @@ calm_waits h c w going calm = by_left (to_store h) refl
 
 -- behind an alarm the link is closed
 pub waits_are_for_answers : (h : Journal) → Conducted h → Waits h → is_shut h ≡ false → AwaitsSome h
-waits_are_for_answers h c w going = by_alarm (has_alarm h) refl
+waits_are_for_answers h c w going = by_alarm (has_limit h) refl
   where
-    by_alarm : (t : Bool) → has_alarm h ≡ t → AwaitsSome h
+    by_alarm : (t : Bool) → has_limit h ≡ t → AwaitsSome h
     by_alarm true e = absurd (w.no_close (record { going = going; sent = inl e; all_raised = inl e }))
     by_alarm false e = calm_waits h c w going e
 

@@ -12,8 +12,8 @@ use Rattle.stream_host.specs.declared.Reading.TheVariants.{Ended, Failed, Large,
 use Rattle.stream_host.specs.Links.{on_link}
 use Rattle.status_report.specs.Answering.{receive_room, lfs_in, answers_in}
 use Rattle.stream_host.specs.Jobs.{resume, cancel, ends_sending}
-use Rattle.stream_host.specs.Steps.{PortStep, Step, Journal, stored_of, got_of, has_alarm, is_shut, has_bye, is_greeted, answered_of, reading_of, scanned_of, unscanned_of, raw_of, cut_of, begun_of, to_store, due_of, awaits_report, polls_of, empty_polls, held_polls, holds_of, pause_of, text_of, written_of, has_given_up, this_turn}
-use Rattle.stream_host.specs.Steps.PortStep.{stored, dropped, raised, got, no_reply, shut}
+use Rattle.stream_host.specs.Steps.{PortStep, Step, Journal, stored_of, got_of, has_limit, is_shut, has_bye, is_greeted, answered_of, reading_of, scanned_of, unscanned_of, raw_of, cut_of, begun_of, to_store, due_of, awaits_report, polls_of, empty_polls, held_polls, holds_of, pause_of, text_of, written_of, has_given_up, this_turn}
+use Rattle.stream_host.specs.Steps.PortStep.{stored, dropped, marked, raised, got, no_reply, shut}
 use Rattle.stream_host.specs.Steps.Step.{at_port, read_some, read_end, read_failed, scanned, line_over, wrote, gave_up, turned}
 
 -- all that was got is written, but behind a write that failed
@@ -59,7 +59,7 @@ pub record IsSettled (h : Journal) : Type 0 where
 -- alarm was got.
 pub record MayRead (h : Journal) : Type 0 where
   pub going : is_shut h ≡ false
-  pub calm : has_alarm h ≡ false
+  pub calm : has_limit h ≡ false
   pub on : reading_of h ≡ Stopped
   pub sends : ends_sending (raw_of h) ≡ false
   pub used : unscanned_of h ≡ []
@@ -72,7 +72,7 @@ pub record MayRead (h : Journal) : Type 0 where
 -- have so many bytes, the sending has not ended in its line, and no alarm was got.
 pub record MayScanNext (b : ℕ) (h : Journal) : Type 0 where
   pub going : is_shut h ≡ false
-  pub calm : has_alarm h ≡ false
+  pub calm : has_limit h ≡ false
   pub next : unscanned_of h ≡ b ∷ drop 1 (unscanned_of h)
   pub few : length (scanned_of h) < largest_job
   pub sends : ends_sending (raw_of h) ≡ false
@@ -82,7 +82,7 @@ pub record MayScanNext (b : ℕ) (h : Journal) : Type 0 where
 -- The last line is over: the source's end was read, bytes stand behind the last LF, none is to be raised, and no alarm was got.
 pub record MayEndLine (h : Journal) : Type 0 where
   pub going : is_shut h ≡ false
-  pub calm : has_alarm h ≡ false
+  pub calm : has_limit h ≡ false
   pub at_end : reading_of h ≡ Ended
   pub used : unscanned_of h ≡ []
   pub some : 0 < length (raw_of h)
@@ -94,14 +94,14 @@ pub record MayEndLine (h : Journal) : Type 0 where
 -- cancel of a jog only once each line before its own is answered. Behind an alarm no byte of the job is raised.
 pub record MayRaise (b : ℕ) (h : Journal) : Type 0 where
   pub resumes : polls_of h ≡ empty_polls → b ≡ resume
-  pub calm : polls_of h < empty_polls → has_alarm h ≡ false
+  pub calm : polls_of h < empty_polls → has_limit h ≡ false
   pub next : polls_of h < empty_polls → due_of h ≡ b ∷ drop 1 (due_of h)
   pub after : waits_for_lines b ≡ true → AreAnswered h
 
 -- The next byte of the line in hand is stored: the lines that have no answer, this one among them, take at most 128
 -- bytes, and where the line asked for a report, one was got since. No alarm was got.
 pub record MayStore (b : ℕ) (h : Journal) : Type 0 where
-  pub calm : has_alarm h ≡ false
+  pub calm : has_limit h ≡ false
   pub next : to_store h ≡ b ∷ drop 1 (to_store h)
   pub reported : awaits_report h ≡ false
   pub room : length (on_link (drop (answered_of h) (cut_of h))) ≤ receive_room
@@ -122,8 +122,8 @@ pub record HasSentAll (h : Journal) : Type 0 where
 -- the link is closed: all that is sent of the job is stored and raised, or an alarm was got
 pub record MayShut (h : Journal) : Type 0 where
   pub going : is_shut h ≡ false
-  pub sent : (has_alarm h ≡ true) ⊎ HasSentAll h
-  pub all_raised : (has_alarm h ≡ true) ⊎ (due_of h ≡ [])
+  pub sent : (has_limit h ≡ true) ⊎ HasSentAll h
+  pub all_raised : (has_limit h ≡ true) ⊎ (due_of h ≡ [])
 
 -- a reply is looked for: Bye was not got, and no resume is to be raised
 pub record MayPoll (h : Journal) : Type 0 where
@@ -135,10 +135,11 @@ pub record MayGet (r : Reply) (h : Journal) : Type 0 where
   pub poll : MayPoll h
   pub few : answers_in (got_of h ++ r ∷ []) ≤ lfs_in (stored_of h)
 
--- no byte is ever dropped
+-- no byte is ever dropped, and no mark stored yet
 abbrev pub MayAtPort : PortStep → Journal → Type 0
 MayAtPort (stored b) h = MayStore b h
 MayAtPort (dropped b) h = ⊥
+MayAtPort marked h = ⊥
 MayAtPort (raised b down) h = MayRaise b h
 MayAtPort (got r) h = MayGet r h
 MayAtPort no_reply h = MayPoll h
@@ -162,20 +163,17 @@ abbrev pub publishing : Step → Bool
 publishing (at_port (stored b)) = true
 publishing (at_port (raised b down)) = true
 publishing (at_port (got r)) = true
+publishing (at_port marked) = true
 publishing (at_port shut) = true
 publishing _ = false
 
 -- a step with which the turn moves
 abbrev pub moving : Step → Bool
 moving (at_port e) = publishing (at_port e)
-moving (read_some bytes) = true
-moving read_end = true
-moving read_failed = true
-moving (scanned b) = true
 moving line_over = false
-moving (wrote n) = true
 moving gave_up = false
 moving (turned t) = false
+moving _ = true
 
 -- a poll found nothing
 abbrev pub found_none : Step → Bool

@@ -23,7 +23,7 @@ use Rattle.run_rules.specs.Told.{errors_among}
 use Rattle.status_report.specs.Answering.{answers_in, is_bye}
 use Rattle.std.specs.declared.option.Option.{Option}
 use Rattle.stream_host.specs.Jobs.{holds_reset}
-use Rattle.stream_host.specs.Steps.{Step, Journal, port_log, got_of, has_alarm, is_shut, has_bye, read_of, reading_of, scanned_of, unscanned_of, raw_of, cut_of, to_store, due_of, asking_of, polls_of, empty_polls, holds_of, pause_of, is_greeted, text_of, written_of, has_given_up, this_turn}
+use Rattle.stream_host.specs.Steps.{Step, Journal, port_log, got_of, has_limit, is_shut, has_bye, read_of, reading_of, scanned_of, unscanned_of, raw_of, cut_of, to_store, due_of, asking_of, polls_of, empty_polls, holds_of, pause_of, is_greeted, text_of, written_of, has_given_up, this_turn}
 use Rattle.stream_host.specs.Steps.Step.{turned}
 use Rattle.stream_host.specs.Conduct.{Conducted, MayTurn, publishing, moving, found_none}
 
@@ -158,7 +158,7 @@ pub record HostFits (host : Host) (h : Journal) : Type 0 where
   pub held_is : host.held ≡ holds_of h
   pub pause_is : host.counts.pause_at ≡ pause_of h
   pub greeted_is : host.greeted ≡ is_greeted h
-  pub alarm_is : host.alarm ≡ has_alarm h
+  pub alarm_is : host.alarm ≡ has_limit h
   pub text_is : KeepsText host.text (text_of h) (written_of h) (has_given_up h) (has_bye h)
   pub shut_is : host.shut ≡ is_shut h
   pub bye_is : host.bye ≡ has_bye h

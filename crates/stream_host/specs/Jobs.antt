@@ -68,10 +68,8 @@ lines_to_send reading job = take_while is_sent (lines_read reading job)
 -- How many bytes were read, by how the reading goes: at most as many as a job may have, or a byte more and the rest of its
 -- piece.
 abbrev pub MayHaveRead : Reading → ℕ → Type 0
-MayHaveRead Ended n = n ≤ largest_job
-MayHaveRead Failed n = n ≤ largest_job
 MayHaveRead Large n = (largest_job < n) × (n ≤ largest_job + largest_piece)
-MayHaveRead Stopped n = n ≤ largest_job
+MayHaveRead _ n = n ≤ largest_job
 
 abbrev pub but_last : List ℕ → List ℕ
 but_last text = take (length text - 1) text

@@ -1,20 +1,18 @@
 -- What a host owes its port, and what the port promises.
-use Rattle.std.specs.Prelude.{◌≡◌, ℕ, ◌+◌, ◌^◌, ◌≤◌, ◌<◌, false, cond, nat_eq, [], ◌∷◌, length}
+use Rattle.std.specs.Prelude.{◌≡◌, ℕ, ◌+◌, ◌^◌, ◌≤◌, ◌<◌, false, cond, nat_eq, List, [], ◌∷◌, length}
 use Rattle.code_table.specs.Tables.{query}
-use Rattle.stream_host.specs.Links.{behind}
-use Rattle.status_report.specs.Answering.{receive_room, lfs_in, answers_in}
-use Rattle.stream_host.specs.Steps.{PortLog, stored_in, got_in, is_shut_in}
-use Rattle.stream_host.specs.Steps.PortStep.{stored, dropped, raised, got, no_reply, shut}
+use Rattle.status_report.specs.Answering.{receive_room, lfs_in}
+use Rattle.serial_ring.specs.Marks.{Mark}
+use Rattle.serial_ring.specs.Lists.{answers_behind_mark}
+use Rattle.stream_host.specs.Links.{behind, behind_mark, banners_in, AreGreetings}
+use Rattle.stream_host.specs.Steps.{PortLog, stored_in, latest_got, marks_in, is_shut_in}
+use Rattle.stream_host.specs.Steps.PortStep.{raised}
 
 -- how often a report was asked for
 abbrev pub queries_in : PortLog → ℕ
 queries_in [] = 0
-queries_in (stored b ∷ h) = queries_in h
-queries_in (dropped b ∷ h) = queries_in h
 queries_in (raised b down ∷ h) = cond (nat_eq b query) (queries_in h + 1) (queries_in h)
-queries_in (got r ∷ h) = queries_in h
-queries_in (no_reply ∷ h) = queries_in h
-queries_in (shut ∷ h) = queries_in h
+queries_in (_ ∷ h) = queries_in h
 
 -- the link was not closed
 abbrev pub IsOpen : PortLog → Type 0
@@ -29,11 +27,24 @@ pub record TakesByte (h : PortLog) : Type 0 where
 abbrev pub TakesRaise : ℕ → PortLog → Type 0
 TakesRaise b h = b ≡ query → queries_in h < 2 ^ 31
 
--- So many bytes may not be taken yet: those behind the lines that are answered. A byte is dropped only where they leave
--- no room.
-abbrev pub SeemsFull : PortLog → Type 0
-SeemsFull h = receive_room ≤ length (behind (answers_in (got_in h)) (stored_in h))
+-- a mark may be stored: fewer than 2 ^ 32 - 1 were
+abbrev pub TakesMark : PortLog → Type 0
+TakesMark h = length (marks_in h) + 1 < 2 ^ 32
 
--- each answer is to a line that was stored
-abbrev pub AnswersLines : PortLog → Type 0
-AnswersLines h = answers_in (got_in h) ≤ lfs_in (stored_in h)
+-- these may be the marks of the Banners got, the latest first
+pub record AreGreeted (h : PortLog) (greeted : List Mark) : Type 0 where
+  pub each : length greeted ≡ banners_in (latest_got h)
+  pub stored : AreGreetings (marks_in h) greeted
+
+-- So many bytes may not be taken yet: those stored behind the last mark whose Banner was got, after the last line that was
+-- answered since. A byte is dropped only where they leave no room.
+pub record SeemsFull (h : PortLog) : Type 0 where
+  pub greeted : List Mark
+  pub are : AreGreeted h greeted
+  pub full : receive_room ≤ length (behind (answers_behind_mark (latest_got h)) (behind_mark greeted (stored_in h)))
+
+-- since the last Banner of a mark each answer is to a line that was stored behind that mark
+pub record AnswersLines (h : PortLog) : Type 0 where
+  pub greeted : List Mark
+  pub are : AreGreeted h greeted
+  pub few : answers_behind_mark (latest_got h) ≤ lfs_in (behind_mark greeted (stored_in h))

@@ -5,7 +5,7 @@ use Rattle.realtime_flags.specs.declared.words.Flag.{Flag}
 use Rattle.realtime_flags.specs.declared.words.Raise.{Raise}
 use Rattle.realtime_flags.specs.Bytes.{flag_of_byte}
 use Rattle.stream_host.specs.Steps.{PortLog}
-use Rattle.stream_host.specs.Steps.PortStep.{stored, dropped, raised, got, no_reply, shut}
+use Rattle.stream_host.specs.Steps.PortStep.{raised}
 
 -- the flag that a byte raises goes to those that were raised before, the latest first
 abbrev pub raised_to : Option Flag → Bool → List Raise → List Raise
@@ -15,9 +15,5 @@ raised_to None found_down rs = rs
 -- the flags that a host raised, the latest first
 abbrev pub raises_in : PortLog → List Raise
 raises_in [] = []
-raises_in (stored b ∷ h) = raises_in h
-raises_in (dropped b ∷ h) = raises_in h
 raises_in (raised b found_down ∷ h) = raised_to (flag_of_byte b) found_down (raises_in h)
-raises_in (got r ∷ h) = raises_in h
-raises_in (no_reply ∷ h) = raises_in h
-raises_in (shut ∷ h) = raises_in h
+raises_in (_ ∷ h) = raises_in h

@@ -6,10 +6,10 @@ use Rattle.outside.specs.Causes.{Rose, SourceState, SinkState}
 use Rattle.outside.specs.Writing.{Wrote, Took}
 use Rattle.run_rules.specs.Reports.{AreReported}
 use Rattle.run_rules.specs.Told.{replies_text, errors_among}
-use Rattle.run_rules.specs.Work.{is_alarm}
+use Rattle.run_rules.specs.Work.{is_limit}
 use Rattle.status_report.specs.declared.Reply.{Reply}
 use Rattle.stream_host.specs.declared.Reading.{Reading}
-use Rattle.stream_host.specs.declared.Reading.TheVariants.{Ended, Failed, Large, Stopped}
+use Rattle.stream_host.specs.declared.Reading.TheVariants.{Ended, Failed}
 use Rattle.stream_host.specs.declared.Stop.{Stop}
 use Rattle.stream_host.specs.Links.{on_link}
 use Rattle.status_report.specs.Answering.{receive_room, answers_in, is_bye}
@@ -27,10 +27,8 @@ pub record HostEnd : Type 0 where
   pub console_failed : Bool
 
 abbrev pub is_failed : Reading → Bool
-is_failed Ended = false
 is_failed Failed = true
-is_failed Large = false
-is_failed Stopped = false
+is_failed _ = false
 
 -- The realtime bytes that were raised, and those that still are to be, are those of what was scanned, and so many resumes
 -- of the host's own.
@@ -40,7 +38,7 @@ AreRaised scanned raised due resumes =
 
 -- all that is sent of the job is raised and stored: the link is closed and no alarm was got, or a reset was raised
 abbrev pub is_sent_out : Bool → List ℕ → List Reply → Bool
-is_sent_out shut raised got = (shut && not (list_any is_alarm got)) || list_any is_reset raised
+is_sent_out shut raised got = (shut && not (list_any is_limit got)) || list_any is_reset raised
 
 -- A host has run: it read a job so far, raised its realtime bytes but for those that are due, stored a front of its lines,
 -- closed the link or not, and got replies up to Bye. Why it sent no more is what the job says, or else an alarm, at the first
@@ -56,7 +54,7 @@ pub record HostRan (job_was job_is : SourceState) (console_was console_is : Sink
   pub taken : Consumes job_was.left job_is.left read
   pub at_end : reading ≡ Ended → IsAtEnd job_is.left
   pub so_far : IsSentSoFar read reading scanned lines (stop_by reading scanned)
-  pub stop : end.stop ≡ or_alarm (list_any is_alarm got) end.answered (stop_by reading scanned)
+  pub stop : end.stop ≡ or_alarm (list_any is_limit got) end.answered (stop_by reading scanned)
   pub left : List ℕ
   pub front : stored ++ left ≡ on_link lines
   pub due : List ℕ

@@ -4,7 +4,7 @@ use Rattle.std.specs.List.{list_any}
 use Rattle.gcode_words.specs.Stripping.{plain}
 use Rattle.run_rules.specs.Readings.{largest_job}
 use Rattle.run_rules.specs.Told.{replies_text, errors_among}
-use Rattle.run_rules.specs.Work.{is_alarm}
+use Rattle.run_rules.specs.Work.{is_limit}
 use Rattle.status_report.specs.declared.Reply.{Reply}
 use Rattle.outside.specs.declared.Turn.{Turn}
 use Rattle.stream_host.specs.declared.Reading.{Reading}
@@ -26,6 +26,8 @@ pub data PortStep : Type 0 where
   raised : ℕ → Bool → PortStep
   got : Reply → PortStep
   no_reply : PortStep
+  -- a mark was stored behind the bytes so far
+  marked : PortStep
   shut : PortStep
 
 -- all steps at the port, the latest first
@@ -57,14 +59,7 @@ Journal = List Step
 abbrev pub port_log : Journal → PortLog
 port_log [] = []
 port_log (at_port e ∷ h) = e ∷ port_log h
-port_log (read_some bytes ∷ h) = port_log h
-port_log (read_end ∷ h) = port_log h
-port_log (read_failed ∷ h) = port_log h
-port_log (scanned b ∷ h) = port_log h
-port_log (line_over ∷ h) = port_log h
-port_log (wrote n ∷ h) = port_log h
-port_log (gave_up ∷ h) = port_log h
-port_log (turned t ∷ h) = port_log h
+port_log (_ ∷ h) = port_log h
 
 -- ---- projections of the port's log
 
@@ -72,31 +67,31 @@ port_log (turned t ∷ h) = port_log h
 abbrev pub stored_in : PortLog → List ℕ
 stored_in [] = []
 stored_in (stored b ∷ h) = stored_in h ++ b ∷ []
-stored_in (dropped b ∷ h) = stored_in h
-stored_in (raised b down ∷ h) = stored_in h
-stored_in (got r ∷ h) = stored_in h
-stored_in (no_reply ∷ h) = stored_in h
-stored_in (shut ∷ h) = stored_in h
+stored_in (_ ∷ h) = stored_in h
 
 -- the replies got
 abbrev pub got_in : PortLog → List Reply
 got_in [] = []
-got_in (stored b ∷ h) = got_in h
-got_in (dropped b ∷ h) = got_in h
-got_in (raised b down ∷ h) = got_in h
 got_in (got r ∷ h) = got_in h ++ r ∷ []
-got_in (no_reply ∷ h) = got_in h
-got_in (shut ∷ h) = got_in h
+got_in (_ ∷ h) = got_in h
 
 -- the link was closed
 abbrev pub is_shut_in : PortLog → Bool
 is_shut_in [] = false
-is_shut_in (stored b ∷ h) = is_shut_in h
-is_shut_in (dropped b ∷ h) = is_shut_in h
-is_shut_in (raised b down ∷ h) = is_shut_in h
-is_shut_in (got r ∷ h) = is_shut_in h
-is_shut_in (no_reply ∷ h) = is_shut_in h
 is_shut_in (shut ∷ h) = true
+is_shut_in (_ ∷ h) = is_shut_in h
+
+-- the replies got, the latest first
+abbrev pub latest_got : PortLog → List Reply
+latest_got [] = []
+latest_got (got r ∷ h) = r ∷ latest_got h
+latest_got (_ ∷ h) = latest_got h
+
+-- the marks stored, by how many bytes were stored before each, the latest first
+abbrev pub marks_in : PortLog → List ℕ
+marks_in [] = []
+marks_in (marked ∷ h) = length (stored_in h) ∷ marks_in h
+marks_in (_ ∷ h) = marks_in h
 
 -- the same as of the port's log
 abbrev pub stored_of : Journal → List ℕ
@@ -137,12 +132,10 @@ held_polls = 2048
 -- the polls that found no reply since the last that found one, or that the host answered with a resume
 abbrev pub polls_in : PortLog → ℕ
 polls_in [] = 0
-polls_in (stored b ∷ h) = polls_in h
-polls_in (dropped b ∷ h) = polls_in h
 polls_in (raised b down ∷ h) = cond (nat_eq (polls_in h) empty_polls) 0 (polls_in h)
 polls_in (got r ∷ h) = 0
 polls_in (no_reply ∷ h) = polls_in h + 1
-polls_in (shut ∷ h) = polls_in h
+polls_in (_ ∷ h) = polls_in h
 
 -- what is raised next is a resume of the host's own
 abbrev pub resumes_next : PortLog → Bool
@@ -151,52 +144,32 @@ resumes_next h = nat_eq (polls_in h) empty_polls
 -- the bytes that were raised
 abbrev pub raises_in : PortLog → List ℕ
 raises_in [] = []
-raises_in (stored b ∷ h) = raises_in h
-raises_in (dropped b ∷ h) = raises_in h
 raises_in (raised b down ∷ h) = raises_in h ++ b ∷ []
-raises_in (got r ∷ h) = raises_in h
-raises_in (no_reply ∷ h) = raises_in h
-raises_in (shut ∷ h) = raises_in h
+raises_in (_ ∷ h) = raises_in h
 
 -- those among them that stood in a line
 abbrev pub line_raises_in : PortLog → List ℕ
 line_raises_in [] = []
-line_raises_in (stored b ∷ h) = line_raises_in h
-line_raises_in (dropped b ∷ h) = line_raises_in h
 line_raises_in (raised b down ∷ h) = cond (resumes_next h) (line_raises_in h) (line_raises_in h ++ b ∷ [])
-line_raises_in (got r ∷ h) = line_raises_in h
-line_raises_in (no_reply ∷ h) = line_raises_in h
-line_raises_in (shut ∷ h) = line_raises_in h
+line_raises_in (_ ∷ h) = line_raises_in h
 
 -- the number of the others
 abbrev pub resumes_in : PortLog → ℕ
 resumes_in [] = 0
-resumes_in (stored b ∷ h) = resumes_in h
-resumes_in (dropped b ∷ h) = resumes_in h
 resumes_in (raised b down ∷ h) = cond (resumes_next h) (resumes_in h + 1) (resumes_in h)
-resumes_in (got r ∷ h) = resumes_in h
-resumes_in (no_reply ∷ h) = resumes_in h
-resumes_in (shut ∷ h) = resumes_in h
+resumes_in (_ ∷ h) = resumes_in h
 
 -- a `!` was raised, and no `~` since
 abbrev pub holds_in : PortLog → Bool
 holds_in [] = false
-holds_in (stored b ∷ h) = holds_in h
-holds_in (dropped b ∷ h) = holds_in h
 holds_in (raised b down ∷ h) = held_after b (holds_in h)
-holds_in (got r ∷ h) = holds_in h
-holds_in (no_reply ∷ h) = holds_in h
-holds_in (shut ∷ h) = holds_in h
+holds_in (_ ∷ h) = holds_in h
 
 -- all polls that found no reply
 abbrev pub all_empty_in : PortLog → ℕ
 all_empty_in [] = 0
-all_empty_in (stored b ∷ h) = all_empty_in h
-all_empty_in (dropped b ∷ h) = all_empty_in h
-all_empty_in (raised b down ∷ h) = all_empty_in h
-all_empty_in (got r ∷ h) = all_empty_in h
 all_empty_in (no_reply ∷ h) = all_empty_in h + 1
-all_empty_in (shut ∷ h) = all_empty_in h
+all_empty_in (_ ∷ h) = all_empty_in h
 
 abbrev pub polls_of : Journal → ℕ
 polls_of h = polls_in (port_log h)
@@ -218,82 +191,45 @@ resumes_of h = resumes_in (port_log h)
 -- the bytes read
 abbrev pub read_of : Journal → List ℕ
 read_of [] = []
-read_of (at_port e ∷ h) = read_of h
 read_of (read_some bytes ∷ h) = read_of h ++ bytes
-read_of (read_end ∷ h) = read_of h
-read_of (read_failed ∷ h) = read_of h
-read_of (scanned b ∷ h) = read_of h
-read_of (line_over ∷ h) = read_of h
-read_of (wrote n ∷ h) = read_of h
-read_of (gave_up ∷ h) = read_of h
-read_of (turned t ∷ h) = read_of h
+read_of (_ ∷ h) = read_of h
 
 -- how the reading goes; Stopped while it may go on
 abbrev pub reading_of : Journal → Reading
 reading_of [] = Stopped
-reading_of (at_port e ∷ h) = reading_of h
 reading_of (read_some bytes ∷ h) = cond (nat_lt largest_job (length (read_of h ++ bytes))) Large Stopped
 reading_of (read_end ∷ h) = Ended
 reading_of (read_failed ∷ h) = Failed
-reading_of (scanned b ∷ h) = reading_of h
-reading_of (line_over ∷ h) = reading_of h
-reading_of (wrote n ∷ h) = reading_of h
-reading_of (gave_up ∷ h) = reading_of h
-reading_of (turned t ∷ h) = reading_of h
+reading_of (_ ∷ h) = reading_of h
 
 -- the bytes scanned
 abbrev pub scanned_of : Journal → List ℕ
 scanned_of [] = []
-scanned_of (at_port e ∷ h) = scanned_of h
-scanned_of (read_some bytes ∷ h) = scanned_of h
-scanned_of (read_end ∷ h) = scanned_of h
-scanned_of (read_failed ∷ h) = scanned_of h
 scanned_of (scanned b ∷ h) = scanned_of h ++ b ∷ []
-scanned_of (line_over ∷ h) = scanned_of h
-scanned_of (wrote n ∷ h) = scanned_of h
-scanned_of (gave_up ∷ h) = scanned_of h
-scanned_of (turned t ∷ h) = scanned_of h
+scanned_of (_ ∷ h) = scanned_of h
 
 -- read, and not scanned
 abbrev pub unscanned_of : Journal → List ℕ
 unscanned_of [] = []
-unscanned_of (at_port e ∷ h) = unscanned_of h
 unscanned_of (read_some bytes ∷ h) = unscanned_of h ++ bytes
-unscanned_of (read_end ∷ h) = unscanned_of h
-unscanned_of (read_failed ∷ h) = unscanned_of h
 unscanned_of (scanned b ∷ h) = drop 1 (unscanned_of h)
-unscanned_of (line_over ∷ h) = unscanned_of h
-unscanned_of (wrote n ∷ h) = unscanned_of h
-unscanned_of (gave_up ∷ h) = unscanned_of h
-unscanned_of (turned t ∷ h) = unscanned_of h
+unscanned_of (_ ∷ h) = unscanned_of h
 
 -- ---- the lines
 
 -- the bytes of the line that is being scanned
 abbrev pub raw_of : Journal → List ℕ
 raw_of [] = []
-raw_of (at_port e ∷ h) = raw_of h
-raw_of (read_some bytes ∷ h) = raw_of h
-raw_of (read_end ∷ h) = raw_of h
-raw_of (read_failed ∷ h) = raw_of h
 raw_of (scanned b ∷ h) = cond (nat_eq b 10) [] (raw_of h ++ b ∷ [])
 raw_of (line_over ∷ h) = []
-raw_of (wrote n ∷ h) = raw_of h
-raw_of (gave_up ∷ h) = raw_of h
-raw_of (turned t ∷ h) = raw_of h
+raw_of (_ ∷ h) = raw_of h
 
 -- the lines that were scanned whole
 abbrev pub cut_of : Journal → List (List ℕ)
 cut_of [] = []
-cut_of (at_port e ∷ h) = cut_of h
-cut_of (read_some bytes ∷ h) = cut_of h
-cut_of (read_end ∷ h) = cut_of h
-cut_of (read_failed ∷ h) = cut_of h
 cut_of (scanned b ∷ h) = cond (nat_eq b 10) (cut_of h ++ raw_of h ∷ []) (cut_of h)
 cut_of (line_over ∷ h) = cut_of h ++ raw_of h ∷ []
-cut_of (wrote n ∷ h) = cut_of h
-cut_of (gave_up ∷ h) = cut_of h
-cut_of (turned t ∷ h) = cut_of h
+cut_of (_ ∷ h) = cut_of h
 
 abbrev pub left_at : PortStep → List ℕ → List ℕ
 left_at (stored b) bytes = drop 1 bytes
@@ -303,14 +239,9 @@ left_at e bytes = bytes
 abbrev pub to_store : Journal → List ℕ
 to_store [] = []
 to_store (at_port e ∷ h) = left_at e (to_store h)
-to_store (read_some bytes ∷ h) = to_store h
-to_store (read_end ∷ h) = to_store h
-to_store (read_failed ∷ h) = to_store h
 to_store (scanned b ∷ h) = cond (nat_eq b 10) (plain (raw_of h) ++ 10 ∷ []) (to_store h)
 to_store (line_over ∷ h) = plain (raw_of h) ++ 10 ∷ []
-to_store (wrote n ∷ h) = to_store h
-to_store (gave_up ∷ h) = to_store h
-to_store (turned t ∷ h) = to_store h
+to_store (_ ∷ h) = to_store h
 
 abbrev pub begun_at : PortStep → List (List ℕ) → List (List ℕ) → List (List ℕ)
 begun_at (stored b) cuts begun = cuts
@@ -320,14 +251,7 @@ begun_at e cuts begun = begun
 abbrev pub begun_of : Journal → List (List ℕ)
 begun_of [] = []
 begun_of (at_port e ∷ h) = begun_at e (cut_of h) (begun_of h)
-begun_of (read_some bytes ∷ h) = begun_of h
-begun_of (read_end ∷ h) = begun_of h
-begun_of (read_failed ∷ h) = begun_of h
-begun_of (scanned b ∷ h) = begun_of h
-begun_of (line_over ∷ h) = begun_of h
-begun_of (wrote n ∷ h) = begun_of h
-begun_of (gave_up ∷ h) = begun_of h
-begun_of (turned t ∷ h) = begun_of h
+begun_of (_ ∷ h) = begun_of h
 
 -- ---- pauses
 
@@ -339,14 +263,9 @@ pause_behind e n = n
 abbrev pub pause_of : Journal → ℕ
 pause_of [] = 0
 pause_of (at_port e ∷ h) = pause_behind e (pause_of h)
-pause_of (read_some bytes ∷ h) = pause_of h
-pause_of (read_end ∷ h) = pause_of h
-pause_of (read_failed ∷ h) = pause_of h
 pause_of (scanned b ∷ h) = cond (nat_eq b 10) (cond (pauses (raw_of h)) (length (cut_of h) + 1) (pause_of h)) (pause_of h)
 pause_of (line_over ∷ h) = cond (pauses (raw_of h)) (length (cut_of h) + 1) (pause_of h)
-pause_of (wrote n ∷ h) = pause_of h
-pause_of (gave_up ∷ h) = pause_of h
-pause_of (turned t ∷ h) = pause_of h
+pause_of (_ ∷ h) = pause_of h
 
 -- ---- realtime bytes
 
@@ -362,14 +281,8 @@ due_at e resumes bytes = bytes
 abbrev pub due_of : Journal → List ℕ
 due_of [] = []
 due_of (at_port e ∷ h) = due_at e (resumes_next (port_log h)) (due_of h)
-due_of (read_some bytes ∷ h) = due_of h
-due_of (read_end ∷ h) = due_of h
-due_of (read_failed ∷ h) = due_of h
 due_of (scanned b ∷ h) = due_of h ++ more_served (raw_of h) b
-due_of (line_over ∷ h) = due_of h
-due_of (wrote n ∷ h) = due_of h
-due_of (gave_up ∷ h) = due_of h
-due_of (turned t ∷ h) = due_of h
+due_of (_ ∷ h) = due_of h
 
 -- ---- reports
 
@@ -392,14 +305,8 @@ asking_at e a = a
 abbrev pub asking_of : Journal → Asking
 asking_of [] = Nothing
 asking_of (at_port e ∷ h) = asking_at e (asking_of h)
-asking_of (read_some bytes ∷ h) = asking_of h
-asking_of (read_end ∷ h) = asking_of h
-asking_of (read_failed ∷ h) = asking_of h
 asking_of (scanned b ∷ h) = cond (nat_eq (length (raw_of h)) 0) Nothing (asking_of h)
-asking_of (line_over ∷ h) = asking_of h
-asking_of (wrote n ∷ h) = asking_of h
-asking_of (gave_up ∷ h) = asking_of h
-asking_of (turned t ∷ h) = asking_of h
+asking_of (_ ∷ h) = asking_of h
 
 -- a report was asked for, and none was got since
 abbrev pub is_waiting : Asking → Bool
@@ -413,8 +320,8 @@ awaits_report h = is_waiting (asking_of h)
 -- ---- the end
 
 -- an alarm was got
-abbrev pub has_alarm : Journal → Bool
-has_alarm h = list_any is_alarm (got_of h)
+abbrev pub has_limit : Journal → Bool
+has_limit h = list_any is_limit (got_of h)
 
 -- why it sends no more of the job: by how the reading goes, the line that is being scanned, and the number of those before it
 abbrev pub stop_at : Reading → List ℕ → ℕ → Stop
@@ -431,7 +338,7 @@ or_alarm alarm answered stop = stop
 
 -- why it sends no more: what the job says, or else an alarm, at the first line without an answer
 abbrev pub stop_of : Journal → Stop
-stop_of h = or_alarm (has_alarm h) (answered_of h) (job_stop_of h)
+stop_of h = or_alarm (has_limit h) (answered_of h) (job_stop_of h)
 
 -- ---- the console
 
@@ -442,28 +349,14 @@ text_of h = replies_text (got_of h)
 -- so many bytes of it were written
 abbrev pub written_of : Journal → ℕ
 written_of [] = 0
-written_of (at_port e ∷ h) = written_of h
-written_of (read_some bytes ∷ h) = written_of h
-written_of (read_end ∷ h) = written_of h
-written_of (read_failed ∷ h) = written_of h
-written_of (scanned b ∷ h) = written_of h
-written_of (line_over ∷ h) = written_of h
 written_of (wrote n ∷ h) = written_of h + n
-written_of (gave_up ∷ h) = written_of h
-written_of (turned t ∷ h) = written_of h
+written_of (_ ∷ h) = written_of h
 
 -- a write failed
 abbrev pub has_given_up : Journal → Bool
 has_given_up [] = false
-has_given_up (at_port e ∷ h) = has_given_up h
-has_given_up (read_some bytes ∷ h) = has_given_up h
-has_given_up (read_end ∷ h) = has_given_up h
-has_given_up (read_failed ∷ h) = has_given_up h
-has_given_up (scanned b ∷ h) = has_given_up h
-has_given_up (line_over ∷ h) = has_given_up h
-has_given_up (wrote n ∷ h) = has_given_up h
 has_given_up (gave_up ∷ h) = true
-has_given_up (turned t ∷ h) = has_given_up h
+has_given_up (_ ∷ h) = has_given_up h
 
 -- ---- the turn
 

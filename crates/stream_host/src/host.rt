@@ -5,8 +5,8 @@ ghost use Rattle.status_report.specs.Replies.{IsReply};
 ghost use Rattle.outside.specs.declared.Turn.TheVariants.{Did};
 ghost use Rattle.text_writer.specs.Writers.{is_due};
 ghost use Rattle.stream_host.specs.Ports.{AnswersLines};
-ghost use Rattle.run_rules.specs.Work.{is_alarm};
-ghost use Rattle.stream_host.specs.Steps.{Journal, port_log, got_of, has_alarm, job_stop_of, or_alarm, stop_of, stop_at, raw_of, cut_of, reading_of, has_given_up, answered_of, errors_of, awaits_report};
+ghost use Rattle.run_rules.specs.Work.{is_limit};
+ghost use Rattle.stream_host.specs.Steps.{Journal, port_log, got_of, has_limit, job_stop_of, or_alarm, stop_of, stop_at, raw_of, cut_of, reading_of, has_given_up, answered_of, errors_of, awaits_report};
 ghost use Rattle.stream_host.specs.Holding.{pauses};
 ghost use Rattle.stream_host.specs.Steps.PortStep.{stored, raised, got, no_reply, shut};
 ghost use Rattle.stream_host.specs.Steps.Step.{at_port, scanned, turned};
@@ -116,7 +116,7 @@ impl Host {
 
     /// The same where the job gives no cause.
     fn stop_at_alarm(&self) -> Stop
-        ensures { (h : Journal) → HostFits self.now h → result ≡ or_alarm (has_alarm h) (answered_of h) Stop.End }
+        ensures { (h : Journal) → HostFits self.now h → result ≡ or_alarm (has_limit h) (answered_of h) Stop.End }
     {
         if !self.alarm {
             return Stop::End;
@@ -565,11 +565,17 @@ impl Host {
     }
 }
 
-/// Whether an alarm was got, with a reply more.
+/// The alarm of a soft limit.
+const SOFT_LIMIT: u8 = 2;
+
+/// Whether the alarm of a soft limit was got, with a reply more.
 fn is_alarmed_after(reply: &Reply, alarm: bool) -> bool
-    ensures { result ≡ (alarm || is_alarm reply.now) }
+    ensures { result ≡ (alarm || is_limit reply.now) }
 {
-    alarm || matches!(reply, Reply::Alarm(_))
+    match reply {
+        Reply::Alarm(number) => alarm || *number == SOFT_LIMIT,
+        _ => alarm,
+    }
 }
 
 /// The line in hand is over, and is to be stored.

@@ -9,7 +9,7 @@ ghost use Rattle.status_report.specs.Answering.{receive_room, lfs_in};
 ghost use Rattle.stream_host.specs.Jobs.{served_in, ends_sending, lines_read, lines_to_send, stop_by, IsSent, IsSentSoFar};
 ghost use Rattle.stream_host.specs.declared.Reading.{Reading};
 ghost use Rattle.std.specs.List.{AllByRecursion};
-ghost use Rattle.stream_host.specs.Steps.{Journal, stored_of, got_of, is_shut, answered_of, errors_of, read_of, reading_of, scanned_of, cut_of, to_store, begun_of, due_of, has_alarm, job_stop_of, or_alarm, stop_of, port_log, raises_of, line_raises_of, resumes_of, polls_of, awaits_report, all_empty_in, empty_polls};
+ghost use Rattle.stream_host.specs.Steps.{Journal, stored_of, got_of, is_shut, answered_of, errors_of, read_of, reading_of, scanned_of, cut_of, to_store, begun_of, due_of, has_limit, job_stop_of, or_alarm, stop_of, port_log, raises_of, line_raises_of, resumes_of, polls_of, awaits_report, all_empty_in, empty_polls};
 ghost use Rattle.stream_host.specs.Steps.Step.{at_port};
 ghost use Rattle.stream_host.specs.Steps.PortStep.{raised};
 ghost use Rattle.run_rules.specs.Reports.{AreReported};
@@ -25,8 +25,8 @@ ghost use Rattle.stream_host.specs.Ran.{AreRaised, HostRan, HostRuns, SentNoMore
 pub fn hosts_send_their_lines()
     ensures stored { (h : Journal) → Conducted h → stored_of h ++ to_store h ≡ on_link (cut_of h) }
     ensures so_far { (h : Journal) → Conducted h → IsSentSoFar (read_of h) (reading_of h) (scanned_of h) (cut_of h) (job_stop_of h) }
-    ensures stop { (h : Journal) → Conducted h → stop_of h ≡ or_alarm (has_alarm h) (answered_of h) (stop_by (reading_of h) (scanned_of h)) }
-    ensures whole { (h : Journal) → Conducted h → is_shut h ≡ true → has_alarm h ≡ false →
+    ensures stop { (h : Journal) → Conducted h → stop_of h ≡ or_alarm (has_limit h) (answered_of h) (stop_by (reading_of h) (scanned_of h)) }
+    ensures whole { (h : Journal) → Conducted h → is_shut h ≡ true → has_limit h ≡ false →
         IsSent (read_of h) (reading_of h) (scanned_of h) (cut_of h) (stop_of h) × (stored_of h ≡ on_link (cut_of h)) }
 {}
 
@@ -48,7 +48,7 @@ pub fn hosts_raise_what_they_scan()
     ensures raised { (h : Journal) → Conducted h → AreRaised (scanned_of h) (raises_of h) (due_of h) (resumes_of h) }
     ensures in_order { (h : Journal) → Conducted h → line_raises_of h ++ due_of h ≡ served_in (scanned_of h) }
     ensures first { (b : ℕ) (h : Journal) → Conducted h → MayStore b h → due_of h ≡ [] }
-    ensures closed { (h : Journal) → Conducted h → is_shut h ≡ true → has_alarm h ≡ false → due_of h ≡ [] }
+    ensures closed { (h : Journal) → Conducted h → is_shut h ≡ true → has_limit h ≡ false → due_of h ≡ [] }
     ensures after { (b : ℕ) (h : Journal) (down : Bool) → waits_for_lines b ≡ true → Conducted (at_port (raised b down) ∷ h) → answered_of h ≡ length (cut_of h) }
     ensures reported { (h : Journal) → Conducted h → AreReported (cut_of h) (got_of h) }
     ensures tired { (h : Journal) → Conducted h → polls_of h ≤ empty_polls }
@@ -57,8 +57,8 @@ pub fn hosts_raise_what_they_scan()
 
 /// Behind an alarm nothing more of the job is read, scanned, stored or raised, whatever is done later.
 pub fn hosts_stop_at_an_alarm()
-    ensures stays { (later h : Journal) → has_alarm h ≡ true → has_alarm (later ++ h) ≡ true }
-    ensures no_more { (later h : Journal) → Conducted (later ++ h) → has_alarm h ≡ true → SentNoMore h (later ++ h) }
+    ensures stays { (later h : Journal) → has_limit h ≡ true → has_limit (later ++ h) ≡ true }
+    ensures no_more { (later h : Journal) → Conducted (later ++ h) → has_limit h ≡ true → SentNoMore h (later ++ h) }
 {}
 
 /// A host whose link is open waits only where it awaits something: the banner, the answer to a line that it has sent, or a

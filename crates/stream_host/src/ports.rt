@@ -3,9 +3,9 @@
 ghost use Rattle.std.specs.Prelude.{◌≡◌, ◌∷◌, Bool, IfSome, IfNone};
 ghost use Rattle.status_report.specs.Replies.{IsReply};
 ghost use Rattle.realtime_flags.specs.Bytes.{raised_by};
-ghost use Rattle.stream_host.specs.Ports.{IsOpen, TakesByte, TakesRaise, SeemsFull, AnswersLines};
+ghost use Rattle.stream_host.specs.Ports.{IsOpen, TakesByte, TakesMark, TakesRaise, SeemsFull, AnswersLines};
 ghost use Rattle.stream_host.specs.Steps.{PortLog};
-ghost use Rattle.stream_host.specs.Steps.PortStep.{stored, dropped, raised, got, no_reply, shut};
+ghost use Rattle.stream_host.specs.Steps.PortStep.{stored, dropped, marked, raised, got, no_reply, shut};
 
 use realtime_flags::Raised;
 use serial_ring::Stored;
@@ -21,11 +21,18 @@ pub trait HostPort {
     ghost stands: { Self → Rest → PortLog → Type 0 };
 
     /// Stores a byte, or drops it where the link may have no room. The link must be open, and fewer than 2^31 bytes
-    /// stored. What may not be taken yet is at most what stands behind the lines that are answered.
+    /// stored. What may not be taken yet is at most what stands behind the last mark whose Banner was got, after the lines that
+    /// are answered since.
     fn store(&mut self, byte: u8) -> Stored
         requires { (rest : Rest) × (h : PortLog) × stands self.old rest h × TakesByte h }
         ensures stored { result ≡ Stored.Stored → (rest : Rest) (h : PortLog) → stands self.old rest h → TakesByte h → stands self.new rest (stored byte ∷ h) }
         ensures dropped { result ≡ Stored.Dropped → (rest : Rest) (h : PortLog) → stands self.old rest h → TakesByte h → stands self.new rest (dropped byte ∷ h) × SeemsFull h };
+
+    /// Stores a mark behind the bytes so far: its number, counted from 1, and how many these are. Fewer than 2^32 - 1 marks must
+    /// have been stored.
+    fn mark(&mut self)
+        requires { (rest : Rest) × (h : PortLog) × stands self.old rest h × TakesMark h }
+        ensures { (rest : Rest) (h : PortLog) → stands self.old rest h → TakesMark h → stands self.new rest (marked ∷ h) };
 
     /// Raises a realtime byte, and answers what that is. Fewer than 2^31 `?` must have been raised before one more is.
     fn raise(&mut self, byte: u8) -> Raised
@@ -33,7 +40,8 @@ pub trait HostPort {
         ensures answer { result ≡ raised_by byte }
         ensures raised { (rest : Rest) (h : PortLog) → stands self.old rest h → TakesRaise byte h → (down : Bool) × stands self.new rest (raised byte down ∷ h) };
 
-    /// The next reply, where one is there. Each `ok` and `error` is the answer to a line that was stored.
+    /// The next reply, where one is there. Since the last Banner of a mark each `ok` and `error` is the answer to a line that was
+    /// stored behind that mark.
     fn reply(&mut self) -> Option<Reply>
         ensures valid { IfSome result (λ r. IsReply r) }
         ensures some { IfSome result (λ r. (rest : Rest) (h : PortLog) → stands self.old rest h → stands self.new rest (got r ∷ h)) }

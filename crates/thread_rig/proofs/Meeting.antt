@@ -1,18 +1,33 @@
 -- What the ends of a rig have to do with each other, by the journals of its actors.
-use Rattle.std.proofs.Common.{◌≡◌, ℕ, Bool, true, List, [], ◌∷◌, ◌++◌, length, reverse, refl, sym, ap, ◌∙◌, Some, None, arith, length-append}
+use Rattle.std.proofs.Common.{◌≡◌, ℕ, Bool, true, List, [], ◌∷◌, ◌++◌, length, map, reverse, refl, sym, ap, ◌∙◌, Some, None, arith, length-append, append-nil}
 use Rattle.std.specs.declared.option.Option.{Option}
-use Rattle.std.proofs.lemmas.List.{reverse-append}
+use Rattle.std.proofs.lemmas.List.{reverse-append, reverse-reverse}
+use Rattle.atomic_table.specs.Seated.{TableId}
 use Rattle.status_report.specs.declared.Reply.{Reply}
 use Rattle.realtime_flags.specs.declared.words.Flag.{Flag}
 use Rattle.realtime_flags.specs.declared.words.Raise.{Raise}
 use Rattle.realtime_flags.specs.declared.words.Take.{Take}
 use Rattle.realtime_flags.specs.declared.words.Take.TheVariants as takes
 use Rattle.realtime_flags.specs.Bytes.{flag_of_byte}
+use Rattle.serial_ring.specs.declared.view.LinkStep.{LinkStep}
+use Rattle.serial_ring.specs.Logs.{taken_in, marked_in, answered_in}
+use Rattle.serial_ring.specs.Marks.{Mark}
 use Rattle.serial_ring.specs.Rule.{AreTied}
+use Rattle.motion_ring.specs.declared.lists.Halt.{Halt}
+use Rattle.motion_ring.specs.declared.lists.Sent.{Sent}
+use Rattle.motion_ring.specs.declared.ends.SegIn.{SegIn}
+use Rattle.motion_ring.specs.Ends.{passed_by}
+use Rattle.motion_ring.specs.Ends.{taken_by as pieces_taken_by}
+use Rattle.motion_ring.specs.Rule.{AreTied as PiecesAreTied}
+use Rattle.motion_ring.specs.Sides.{published_in, some_stops, pieces_at}
+use Rattle.pulse_engine.specs.Logs.{PieceLog, pieces_of, halts_of}
+use Rattle.motion_ports.specs.Ports.{HasGot, numbers_of}
 use Rattle.stream_host.specs.Steps.{PortLog as HostLog}
-use Rattle.stream_host.specs.Steps.PortStep.{stored, dropped, raised, got, no_reply, shut}
-use Rattle.board_rules.specs.Ports.{PortLog as BoardLog}
-use Rattle.board_rules.specs.Ports.PortStep.{took, found_empty, found_closed, found_free, answered, reported, no_reply_room, took_exec, took_ovr, published, no_piece_room, loaded}
+use Rattle.stream_host.specs.Steps.PortStep.{stored, dropped, marked, raised, got, no_reply, shut}
+use Rattle.board_rules.specs.Ports.{PortLog as BoardLog, link_steps}
+use Rattle.board_rules.specs.Ports.{taken_in as board_bytes, answered_in as board_replies, published_in as board_pieces}
+use Rattle.board_rules.proofs.LinkSteps.{taken_back, answered_back}
+use Rattle.board_rules.specs.Ports.PortStep.{took, found_empty, found_closed, found_free, found_mark, answered, reported, no_reply_room, took_exec, took_ovr, published, no_piece_room, loaded}
 use Rattle.link_ports.specs.Hosts as host
 use Rattle.link_ports.specs.Boards as board
 use Rattle.run_law.specs.Ran.{IsLinked}
@@ -29,6 +44,7 @@ pub same_raises : (h : HostLog) → host.raises_in h ≡ law.raises_in h
 same_raises [] = refl
 same_raises (stored b ∷ h) = same_raises h
 same_raises (dropped b ∷ h) = same_raises h
+same_raises (marked ∷ h) = same_raises h
 same_raises (raised b down ∷ h) = same_raised (flag_of_byte b) down _ _ (same_raises h)
 same_raises (got r ∷ h) = same_raises h
 same_raises (no_reply ∷ h) = same_raises h
@@ -40,6 +56,7 @@ same_takes (took b ∷ l) = same_takes l
 same_takes (found_empty ∷ l) = same_takes l
 same_takes (found_closed ∷ l) = same_takes l
 same_takes (found_free n ∷ l) = same_takes l
+same_takes (found_mark number bytes ∷ l) = same_takes l
 same_takes (answered r ∷ l) = same_takes l
 same_takes (reported r ∷ l) = same_takes l
 same_takes (no_reply_room ∷ l) = same_takes l
@@ -62,13 +79,43 @@ none_before : {A : Type 0} (xs ys : List A) → ys ≡ xs ++ ys → xs ≡ []
 none_before [] ys e = refl
 none_before (x ∷ xs) ys e = absurd (let n = ap length e ∙ length-append (x ∷ xs) ys in omega arith)
 
-pub are_linked : (bytes bytes_taken : List ℕ) (is_shut is_over : Bool) (stored_by : List ℕ) (closed_by : Bool) (taken_by : List ℕ) (over : Bool) (answered_by got_by : List Reply) (room : ℕ)
-    → AreTied room stored_by closed_by taken_by over answered_by got_by
-    → bytes ≡ reverse stored_by → bytes_taken ≡ reverse taken_by → is_shut ≡ closed_by → (is_over ≡ true → over ≡ true)
-    → IsLinked bytes is_shut bytes_taken is_over
-are_linked bytes bytes_taken is_shut is_over stored_by closed_by taken_by over answered_by got_by room t s k closed known = record {
+pub are_linked : (bytes bytes_taken : List ℕ) (is_shut is_over : Bool) (stored_by marks : List ℕ) (closed_by : Bool) (log : List LinkStep) (over : Bool) (got_by : List Reply) (greeted : List Mark) (room : ℕ)
+    → AreTied room stored_by marks closed_by log over got_by greeted
+    → bytes ≡ reverse stored_by → bytes_taken ≡ reverse (taken_in log) → is_shut ≡ closed_by → (is_over ≡ true → over ≡ true)
+    → IsLinked bytes is_shut bytes_taken is_over marks (marked_in log)
+are_linked bytes bytes_taken is_shut is_over stored_by marks closed_by log over got_by greeted room t s k closed known = record {
   rest = reverse t.unread;
-  front = goes_on bytes bytes_taken stored_by taken_by t.unread s k t.bytes;
+  front = goes_on bytes bytes_taken stored_by (taken_in log) t.unread s k t.bytes;
   closes = λ o. closed ∙ t.closes (known o);
-  all = λ o. ap reverse (none_before t.unread taken_by (sym (t.all_bytes (known o)) ∙ t.bytes));
+  all = λ o. ap reverse (none_before t.unread (taken_in log) (sym (t.all_bytes (known o)) ∙ t.bytes));
+  loads = t.loads;
 }
+
+-- ---- what a board took and answered, by what its end did
+
+pub bytes_back : (l : BoardLog) (log : List LinkStep) → link_steps l ≡ log → board_bytes l ≡ reverse (taken_in log)
+bytes_back l log e = taken_back l ∙ ap (λ steps. reverse (taken_in steps)) e
+
+pub replies_back : (l : BoardLog) (log : List LinkStep) → link_steps l ≡ log → board_replies l ≡ reverse (answered_in log)
+replies_back l log e = answered_back l ∙ ap (λ steps. reverse (answered_in steps)) e
+
+-- ---- the pieces, of a board that stores no stop
+
+no_halts : (waiting : List ℕ) (halts : List Halt) → [] ≡ waiting ++ map pieces_at halts → halts ≡ []
+no_halts [] [] e = refl
+no_halts [] (h ∷ halts) e = absurd (let n = ap length e in omega (arith, n))
+no_halts (w ∷ waiting) halts e = absurd (let n = ap length e in omega (arith, n))
+
+module _ (l : BoardLog) (h : PieceLog) (sent : Sent) (known : ℕ) (end : SegIn) (ring : TableId)
+    (sent_is : sent ≡ board.sent_in l) (got : HasGot end ring h) (t : PiecesAreTied sent known (pieces_taken_by end)) where
+  -- it published what its log says
+  pieces_back : board_pieces l ≡ reverse (published_in sent)
+  pieces_back =
+      sym (reverse-reverse (board_pieces l)) ∙ ap reverse (sym (append-nil (reverse (board_pieces l)))) ∙ sym (ap (λ s. reverse (published_in s)) sent_is)
+
+  pub pieces_begin : BeginsWith (board_pieces l) (reverse (pieces_of h))
+  pieces_begin = begins_with (board_pieces l) (reverse (pieces_of h)) (published_in sent) (passed_by end) t.rest pieces_back (ap reverse (sym got.passed_are)) t.pieces
+
+  -- so the pulse never halted
+  pub never_halted : halts_of h ≡ []
+  never_halted = sym got.halts_are ∙ ap (λ hs. map numbers_of hs) (no_halts t.waiting (pieces_taken_by end).halts (sym (ap (λ s. some_stops s.stops) sent_is) ∙ t.stops))

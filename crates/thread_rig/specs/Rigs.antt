@@ -2,12 +2,12 @@
 use Rattle.std.specs.Prelude.{◌≡◌, ℕ, List, ◌++◌}
 use Rattle.rtrb.specs.Ring.{sent, received, IsPair}
 use Rattle.step_line.specs.declared.Record.{Record as AnyRecord}
-use Rattle.serial_ring.specs.Ends.{link_of_host, link_of_board, stored_by, closed_by, got_by, taken_by, found_closed, answered_by}
+use Rattle.serial_ring.specs.Ends.{link_of_host, link_of_board, stored_by, marks_by, closed_by, got_by, greeted_by, log_by, found_closed}
 use Rattle.serial_ring.specs.Rule.{AreTied}
 use Rattle.realtime_flags.specs.Ends.{raised_in, taken_in, raises_by, takes_by}
 use Rattle.realtime_flags.specs.Bits.{IsBalanced}
-use Rattle.motion_ring.specs.Ends.{ring_of_out, ring_of_in, published_by, known_by, counted_by, left_in}
-use Rattle.motion_ring.specs.Ends.{got_by as pieces_got_by}
+use Rattle.motion_ring.specs.Ends.{ring_of_out, ring_of_in, sent_by, known_by}
+use Rattle.motion_ring.specs.Ends.{taken_by as pieces_taken_by}
 use Rattle.motion_ring.specs.Rule.{AreTied as PiecesAreTied}
 use Rattle.status_report.specs.Answering.{receive_room}
 use Rattle.stream_host.specs.Steps.{Journal as HostJournal}
@@ -45,14 +45,13 @@ pub record RigRan (before after : Devices) (was is : Rig) (end : RunEnd) : Type 
   pub recorder : RecorderRanAt before.steps after.steps was.recorder.side is.recorder.side
   pub tells : (h : HostJournal) → HostFits is.host.side.host h → end ≡ ended (end_of h) is.recorder.side.recorder.failed
 
--- What one side has got is a front of what the other gave, and each flag that was raised is taken once or is up. (The lists of
--- bytes, replies, flags and pieces have the latest first.)
+-- What one side has got is a front of what the other gave, each mark that was loaded was stored, and each flag that was raised is
+-- taken once or is up. (The lists of bytes, marks, replies, flags and pieces have the latest first.)
 pub record EndsAgree (rig : Rig) : Type 0 where
-  pub link : AreTied receive_room (stored_by rig.host.side.link.end) (closed_by rig.host.side.link.end) (taken_by rig.board.side.link.end) (found_closed rig.board.side.link.end)
-      (answered_by rig.board.side.link.end) (got_by rig.host.side.link.end)
+  pub link : AreTied receive_room (stored_by rig.host.side.link.end) (marks_by rig.host.side.link.end) (closed_by rig.host.side.link.end) (log_by rig.board.side.link.end)
+      (found_closed rig.board.side.link.end) (got_by rig.host.side.link.end) (greeted_by rig.host.side.link.end)
   pub words : List ℕ
   pub flags : IsBalanced words (raises_by rig.host.side.link.flags) (takes_by rig.board.side.link.flags)
-  pub pieces : PiecesAreTied (published_by rig.board.side.link.pieces) (known_by rig.board.side.link.pieces) (pieces_got_by rig.pulse.side.pieces.end) (counted_by rig.pulse.side.pieces.end)
-      (left_in rig.pulse.side.pieces.end)
+  pub pieces : PiecesAreTied (sent_by rig.board.side.link.pieces) (known_by rig.board.side.link.pieces) (pieces_taken_by rig.pulse.side.pieces.end)
   pub untaken : List AnyRecord
   pub records : sent rig.pulse.side.records.end ≡ received rig.recorder.side.records.end ++ untaken

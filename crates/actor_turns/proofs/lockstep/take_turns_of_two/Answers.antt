@@ -13,7 +13,7 @@ loop-number-preserved g c =
           turn_on _ _ _ _ _ _ _ _ _ _ _ _ _ c.loop-number-test.true i.left i.rests c.sender-actor.ensures (turn.goes_on steps) (i.so_far seed before w steps was);
       ended = λ was.
           learned _ _ _ _ _ _ c.learn.ensures.done c.learn.ensures.same turn.done turn.alone turn.still (i.ended was);
-      rests = rests_on _ _ _ (rw c.sender-actor.ensures low) turn.alone (c.has_no_piece.ensures.0 c.if-not-has_no_piece.false) i.rests;
+      rests = rests_on _ _ _ (rw c.sender-actor.ensures low) turn.alone (c.offers_nothing.ensures.0 c.if-not-offers_nothing.false) i.rests;
       left = left_on _ _ _ _ c.loop-number-test.true i.left;
     }
 
@@ -22,8 +22,8 @@ returns-then-learn-clause-goes_on g c = λ seed before w steps was.
     let i = c.loop-number.invariant in
     turn_on _ _ _ _ _ _ _ _ _ _ _ _ _ c.loop-number-test.true i.left i.rests c.sender-actor.ensures (c.turn_sender-turn.ensures.goes_on steps) (i.so_far seed before w steps was)
 
-pub returns-then-not-has_no_piece-clause-goes_on : goal.returns-then-not-has_no_piece-clause-goes_on
-returns-then-not-has_no_piece-clause-goes_on g c = λ seed before w steps was.
+pub returns-then-not-offers_nothing-clause-goes_on : goal.returns-then-not-offers_nothing-clause-goes_on
+returns-then-not-offers_nothing-clause-goes_on g c = λ seed before w steps was.
     let i = c.loop-number.invariant in
     turn_on _ _ _ _ _ _ _ _ _ _ _ _ _ c.loop-number-test.true i.left i.rests c.sender-actor.ensures (c.turn_sender-turn.ensures.goes_on steps) (i.so_far seed before w steps was)
 

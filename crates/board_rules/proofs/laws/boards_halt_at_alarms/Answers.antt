@@ -1,9 +1,7 @@
-use Rattle.board_rules.proofs.Alarms.{alarmed_is, limited_alarmed, unhalted, halted_once, none_asked, none_starts, obeys_late, told_halted, calm_plan}
+use Rattle.board_rules.proofs.Alarms.{alarmed_is, limited_alarmed, halting_alarmed, unhalted, halted_once, none_asked, none_starts, obeys_late, told_halted, calm_plan}
 use Rattle.board_rules.proofs.Answering.{alarms_are}
 use Rattle.board_rules.proofs.Halts.{alarm_last}
 use Rattle.board_rules.proofs.Waiting.{halts_between}
-use Rattle.std.proofs.Common.{ap}
-use Rattle.board_rules.specs.Turns.{is_limited}
 use Rattle.board_rules.proofs.laws.boards_halt_at_alarms.Goals as goal
 
 pub returns-clause-alarms : goal.returns-clause-alarms
@@ -38,7 +36,7 @@ returns-clause-obeys c = obeys_late
 
 pub returns-clause-halts : goal.returns-clause-halts
 returns-clause-halts c = λ first h conducted.
-    (conducted.0, limited_alarmed first h conducted.1 (ap is_limited conducted.0.alarm), halted_once first h conducted)
+    (conducted.0, halting_alarmed first h conducted, halted_once first h conducted)
 
 pub returns-clause-told : goal.returns-clause-told
 returns-clause-told c = λ first h r conducted one. told_halted first h r conducted.1 one conducted.0.next

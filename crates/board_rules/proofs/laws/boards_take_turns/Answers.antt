@@ -1,8 +1,11 @@
-use Rattle.board_rules.proofs.Turning.{one_a_turn, few_tries, obeyed_each, one_unobeyed, obeyed_between, changed_each}
+use Rattle.board_rules.proofs.Turning.{one_a_turn, once, few_tries, obeyed_each, one_unobeyed, obeyed_between, changed_each}
 use Rattle.board_rules.proofs.laws.boards_take_turns.Goals as goal
 
 pub returns-clause-once : goal.returns-clause-once
 returns-clause-once c = one_a_turn
+
+pub returns-clause-each : goal.returns-clause-each
+returns-clause-each c = λ first h t conducted. once first t h conducted.0
 
 pub returns-clause-tries : goal.returns-clause-tries
 returns-clause-tries c = few_tries

@@ -23,4 +23,4 @@ pub returns-clause-unasked : goal.returns-clause-unasked
 returns-clause-unasked c = λ first h conducted. conducted.0.cause.unasked
 
 pub returns-clause-causes : goal.returns-clause-causes
-returns-clause-causes c = λ first h o conducted. one_cause o h conducted.0.cause
+returns-clause-causes c = λ first h o conducted. one_cause first o h conducted.0.cause

@@ -9,4 +9,4 @@ pub returns : goal.returns
 returns c =
     let q = c.requires in
     let s = c.raise.ensures.raised (_, _) q.log (refl, refl, q.did, q.sees) (λ e. absurd cc) in
-    record { log = raised 33 s.0 ∷ q.log; did = s.1.2; sees = s.1.3; going = q.going; few = q.few }
+    record { log = raised 33 s.0 ∷ q.log; did = s.1.2; sees = s.1.3; going = q.going; few = q.few; unmarked = q.unmarked }

@@ -1,6 +1,6 @@
 use Rattle.std.proofs.Common.{◌≡◌, ◌+◌, [], ◌∷◌, length, refl, rules, arith, length-append}
 use Rattle.stream_host.specs.Steps.{stored_in}
-use Rattle.stream_host.specs.Steps.PortStep.{stored, dropped}
+use Rattle.stream_host.specs.Steps.PortStep.{stored, dropped, marked}
 use Rattle.link_ports.proofs.tests.store.Goals as goal
 
 pub store-requires : goal.store-requires
@@ -11,10 +11,10 @@ pub returns-clause-stored : goal.returns-clause-stored
 returns-clause-stored c is =
     let q = c.requires.open in let n = c.requires.few in
     let s = c.store.ensures.stored is (_, _) q.log (refl, refl, q.did, q.sees) (record { going = q.going; few = (let f = q.few in omega arith) }) in
-    record { log = stored c.args.byte ∷ q.log; did = s.2; sees = s.3; going = q.going; few = (let f = q.few in let e = length-append (stored_in q.log) (c.args.byte ∷ []) in omega arith) }
+    record { log = stored c.args.byte ∷ q.log; did = s.2; sees = s.3; going = q.going; few = (let f = q.few in let e = length-append (stored_in q.log) (c.args.byte ∷ []) in omega arith); unmarked = q.unmarked }
 
 pub returns-clause-dropped : goal.returns-clause-dropped
 returns-clause-dropped c is =
     let q = c.requires.open in let n = c.requires.few in
     let s = c.store.ensures.dropped is (_, _) q.log (refl, refl, q.did, q.sees) (record { going = q.going; few = (let f = q.few in omega arith) }) in
-    record { log = dropped c.args.byte ∷ q.log; did = s.0.2; sees = s.0.3; going = q.going; few = q.few }
+    record { log = dropped c.args.byte ∷ q.log; did = s.0.2; sees = s.0.3; going = q.going; few = q.few; unmarked = q.unmarked }

@@ -1,5 +1,5 @@
 use Rattle.std.proofs.Common.{rules, ap}
-use Rattle.motion_ring.proofs.Steps.{starts, splits}
+use Rattle.motion_ring.proofs.Seats.{starts, splits}
 use Rattle.motion_ring.proofs.calls.motion.Goals as goal
 
 pub vacant-requires : goal.vacant-requires

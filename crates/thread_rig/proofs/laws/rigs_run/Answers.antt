@@ -1,4 +1,4 @@
-use Rattle.std.proofs.Common.{◌++◌, reverse, sym, ap, ◌∙◌, subst}
+use Rattle.std.proofs.Common.{◌++◌, sym, ap, ◌∙◌, subst}
 use Rattle.realtime_flags.specs.Bits.{IsBalanced}
 use Rattle.realtime_flags.specs.Ends.{raises_by}
 use Rattle.run_law.specs.Taking.{takes_in}
@@ -7,8 +7,8 @@ use Rattle.stream_host.specs.Ran.{end_of}
 use Rattle.stream_host.specs.Steps.{port_log as host_log}
 use Rattle.board_rules.specs.Breaking.{log_of as board_log}
 use Rattle.run_law.specs.Devices.{sinks, HasRun}
-use Rattle.controller.proofs.Kept.{board_finished, kept_by}
-use Rattle.thread_rig.proofs.Meeting.{same_raises, same_takes, begins_with, are_linked}
+use Rattle.controller.proofs.Kept.{kept_by}
+use Rattle.thread_rig.proofs.Meeting.{same_raises, same_takes, begins_with, are_linked, bytes_back, replies_back, pieces_begin, never_halted}
 use Rattle.thread_rig.proofs.laws.rigs_run.Goals as goal
 
 pub returns : goal.returns
@@ -20,19 +20,21 @@ returns c before after was is end ran agree =
     let law = c.hosts_have_run.ensures in
     let kept = kept_by is.board.side.board board.journal board.fits in
     let link = agree.link in
+    let log = board_log board.journal in
     let raises = sym host.did.raises_are ∙ same_raises (host_log host.journal) in
-    let takes = sym board.did.takes_are ∙ same_takes (board_log board.journal) in
-    let balance = subst (λ rs. IsBalanced agree.words rs (takes_in (board_log board.journal))) raises
+    let takes = sym board.did.takes_are ∙ same_takes log in
+    let balance = subst (λ rs. IsBalanced agree.words rs (takes_in log)) raises
     (subst (λ ts. IsBalanced agree.words (raises_by is.host.side.link.flags) ts) takes agree.flags) in
-    let run = c.actors_that_end_make_a_run.ensures before.job after.job (sinks before) (sinks after) (end_of host.journal) is.recorder.side.recorder.failed _ _ _ _ _ _ _ _ _ _ _ _ _ _ _ _ _ _
+    let run = c.actors_that_end_make_a_run.ensures before.job after.job (sinks before) (sinks after) (end_of host.journal) is.recorder.side.recorder.failed _ _ _ _ _ _ _ _ _ _ _ _ _ _ _ _ _ _ _ _
     (law.whole host.journal before.job after.job before.console after.console host.fits.conducted (law.finished is.host.side.host host.journal host.fits ran.host.done) host.job
     (law.console is.host.side.host host.journal before.console after.console host.fits host.console))
-    (c.boards_have_run.ensures.whole kept.first board.journal kept.opening kept.conducted (board_finished is.board.side.board board.journal board.fits ran.board.done))
-    (c.pulses_have_run.ensures.whole is.pulse.side.pulse pulse.got pulse.put pulse.fits (sym pulse.fits.end ∙ ran.pulse.done))
+    (c.boards_have_run.ensures.whole kept.first board.journal kept.opening kept.conducted (kept.ended ran.board.done))
+    (c.pulses_have_run.ensures.whole is.pulse.side.pulse pulse.got pulse.put pulse.fits
+    (never_halted log pulse.got _ _ _ _ board.did.pieces_are pulse.pieces agree.pieces) (sym pulse.fits.end ∙ ran.pulse.done))
     (c.recorders_have_run.ensures.whole is.recorder.side.recorder recorder.log before.steps after.steps recorder.fits ran.recorder.done)
-    (are_linked _ _ _ _ _ _ _ _ _ _ receive_room link host.did.bytes_are board.did.bytes_are host.did.shut_is board.did.over_is)
-    (c.flags_that_are_taken_were_raised.ensures agree.words (host_log host.journal) (board_log board.journal) balance)
-    (begins_with _ _ _ _ link.untaken board.did.replies_are host.did.replies_are link.replies)
-    (begins_with _ _ _ _ agree.pieces.rest board.did.pieces_are (ap reverse (sym pulse.pieces.1)) agree.pieces.pieces)
+    (are_linked _ _ _ _ _ _ _ _ _ _ _ receive_room link host.did.bytes_are (bytes_back log _ board.did.steps_are) host.did.shut_is board.did.over_is)
+    (c.flags_that_are_taken_were_raised.ensures agree.words (host_log host.journal) log balance)
+    (begins_with _ _ _ _ link.untaken (replies_back log _ board.did.steps_are) host.did.replies_are link.replies)
+    (pieces_begin log pulse.got _ _ _ _ board.did.pieces_are pulse.pieces agree.pieces)
     (record { rest = agree.untaken; is = sym pulse.records.1 ∙ (agree.records ∙ ap (λ z. z ++ agree.untaken) recorder.records.1) }) in
     subst (λ e. HasRun before after e) (sym (ran.tells host.journal host.fits)) run

@@ -8,31 +8,31 @@ use Rattle.controller.proofs.Adding.{adds_one, has_added, none_fits_full, none_f
 use Rattle.controller.proofs.controller.Controller.add_moves.Goals as goal
 
 pub returns-then-is_full-clause-added : goal.returns-then-is_full-clause-added
-returns-then-is_full-clause-added c h k =
-    let n = c.loop-self.invariant.0 h k in
-    (n.0, n.1, has_added h n.0 n.2 (none_fits_full c.loop-self.self n.0 n.1 (sym c.is_full.ensures ∙ c.if-is_full.true)))
+returns-then-is_full-clause-added c first h k =
+    let n = c.loop-self.invariant.0 first h k in
+    (n.0, n.1, has_added first h n.0 n.2 (none_fits_full first c.loop-self.self n.0 n.1 (sym c.is_full.ensures ∙ c.if-is_full.true)))
 
 pub add-requires-clause-range : goal.add-requires-clause-range
-add-requires-clause-range c = let r = c.requires in let n = c.loop-self.invariant.0 r.0 r.1 in in_range c.loop-self.self n.0 n.1
+add-requires-clause-range c = let r = c.requires in let first = r.0 in let n = c.loop-self.invariant.0 first r.1 r.2 in in_range first c.loop-self.self n.0 n.1
 
 pub add-requires-clause-same : goal.add-requires-clause-same
-add-requires-clause-same c = let r = c.requires in let n = c.loop-self.invariant.0 r.0 r.1 in same_overrides c.loop-self.self n.0 n.1
+add-requires-clause-same c = let r = c.requires in let first = r.0 in let n = c.loop-self.invariant.0 first r.1 r.2 in same_overrides first c.loop-self.self n.0 n.1
 
 pub loop-self-preserved : goal.loop-self-preserved
 loop-self-preserved c = (
-  λ h k.
-      let n = c.loop-self.invariant.0 h k in let m = c.planned_move.result in let s = c.loop-self.self in
-      let next = is_next s n.0 _ n.1 c.planned_move.ensures.next in (
+  λ first h k.
+      let n = c.loop-self.invariant.0 first h k in let m = c.planned_move.result in let s = c.loop-self.self in
+      let next = is_next first s n.0 _ n.1 c.planned_move.ensures.next in (
         did (Add m) [] ∷ n.0,
-        added_move s _ _ m n.0 n.1 next c.planned_move.ensures.planned (has_room_now s n.0 n.1 (sym c.is_full.ensures ∙ c.if-is_full.false))
-            (c.add.ensures (plan_of n.0) (motion_of n.0) (hand_of n.0) (given_of n.0) n.1.machine) c.done.ensures,
-        adds_one m h n.0 n.2 next,
+        added_move first s _ _ m n.0 n.1 next c.planned_move.ensures.planned (has_room_now first s n.0 n.1 (sym c.is_full.ensures ∙ c.if-is_full.false))
+            (c.add.ensures (plan_of n.0) (motion_of first n.0) (hand_of n.0) (given_of n.0) n.1.machine) c.done.ensures,
+        adds_one first m h n.0 n.2 next,
       ),
   ap (λ (x : Controller). record x { machine = c.add.new.self; lines = c.done.new.self }) c.loop-self.invariant.1,
 )
 
 pub returns : goal.returns
 returns c = record {
-  added = λ h k. let n = c.loop-self.invariant.0 h k in (n.0, n.1, has_added h n.0 n.2 (none_fits_other c.loop-self.self n.0 c.todo.result n.1 c.todo.ensures c.in_default.not-Move));
+  added = λ first h k. let n = c.loop-self.invariant.0 first h k in (n.0, n.1, has_added first h n.0 n.2 (none_fits_other first c.loop-self.self n.0 c.todo.result n.1 c.todo.ensures c.in_default.not-Move));
   same = c.loop-self.invariant.1;
 }

@@ -1,4 +1,5 @@
 use Rattle.std.proofs.Common.{◌≡◌, length}
+use Rattle.board_rules.specs.Openings.{Opening}
 use Rattle.board_rules.specs.Steps.{Journal}
 use Rattle.controller.specs.Boards.{Keeps}
 use Rattle.controller.proofs.Adding.{Adds}
@@ -6,7 +7,7 @@ use Rattle.controller.proofs.controller.Controller.add_moves.Given as goal
 
 abbrev pub invariant-loop-self : goal.invariant-loop-self
 invariant-loop-self l =
-    ((h : Journal) → Keeps l.fn.self h → (mid : Journal) × Keeps l.self mid × Adds h mid) × (l.self ≡ record l.fn.self { machine = l.self.machine; lines = l.self.lines })
+    ((first : Opening) (h : Journal) → Keeps first l.fn.self h → (mid : Journal) × Keeps first l.self mid × Adds first h mid) × (l.self ≡ record l.fn.self { machine = l.self.machine; lines = l.self.lines })
 
 abbrev pub decreases-loop-self : goal.decreases-loop-self
 decreases-loop-self l = length l.self.lines.left

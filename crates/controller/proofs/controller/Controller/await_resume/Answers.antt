@@ -9,43 +9,43 @@ use Rattle.controller.proofs.Words.{asked_owed, asked_free, asked_owes}
 use Rattle.controller.proofs.controller.Controller.await_resume.Goals as goal
 
 pub take_requests-requires : goal.take_requests-requires
-take_requests-requires g c = let r = c.requires.stands in record { stands = (r.0, r.1, r.2, r.3, (free_of r.1 r.4.ready.quiet).obeyed, no_jog_held r.1 (sym r.3.machine.motion_is ∙ c.requires.held)) }
+take_requests-requires g c = let r = c.requires.stands in let first = r.1 in record { stands = (r.0, first, r.2, r.3, r.4, (free_of r.2 r.5.ready.quiet).obeyed, no_jog_held first r.2 (sym r.4.machine.motion_is ∙ c.requires.held)) }
 
 pub returns-then-self-clause-goes_on : goal.returns-then-self-clause-goes_on
-returns-then-self-clause-goes_on g c = λ rest h stands k halted none.
-    let n = c.take_requests.ensures.goes_on rest h stands k (free_of h halted.ready.quiet).obeyed (no_jog_held h (sym k.machine.motion_is ∙ c.requires.held)) in
+returns-then-self-clause-goes_on g c = λ rest first h stands k halted none.
+    let n = c.take_requests.ensures.goes_on rest first h stands k (free_of h halted.ready.quiet).obeyed (no_jog_held first h (sym k.machine.motion_is ∙ c.requires.held)) in
     let same = c.take_requests.ensures.same in
-    let owed = sym (n.4.owes_is ∙ asked_owes n.0 n.1) ∙ c.if-self.true in
-    let is = asked_owed n.0 n.1 owed in (
+    let owed = sym (n.4.owes_is ∙ asked_owes first n.0 n.1) ∙ c.if-self.true in
+    let is = asked_owed first n.0 n.1 owed in (
       taken n.0 n.1,
       subst (λ (x : Journal). g.P.BoardPort.stands c.take_requests.new.port rest (port_log x)) is n.3,
-      did_ask c.take_requests.new.self c.args.self.now.flags n.0 h n.1 (subst (λ (x : Journal). Keeps c.take_requests.new.self x) is n.4) halted n.2 owed
+      did_ask first c.take_requests.new.self c.args.self.now.flags n.0 h n.1 (subst (λ (x : Journal). Keeps first c.take_requests.new.self x) is n.4) halted n.2 owed
           (ap (λ (b : Controller). b.beat) same ∙ c.requires.beat) (n.5 ∙ ap (λ b. flags_behind b n.0) owed) c.requires.flags,
     )
 
 pub returns-then-is_held-clause-goes_on : goal.returns-then-is_held-clause-goes_on
-returns-then-is_held-clause-goes_on g c = λ rest h stands k halted none.
-    let n = c.take_requests.ensures.goes_on rest h stands k (free_of h halted.ready.quiet).obeyed (no_jog_held h (sym k.machine.motion_is ∙ c.requires.held)) in
+returns-then-is_held-clause-goes_on g c = λ rest first h stands k halted none.
+    let n = c.take_requests.ensures.goes_on rest first h stands k (free_of h halted.ready.quiet).obeyed (no_jog_held first h (sym k.machine.motion_is ∙ c.requires.held)) in
     let same = c.take_requests.ensures.same in
-    let unowed = sym (n.4.owes_is ∙ asked_owes n.0 n.1) ∙ c.if-self.false in
-    let is = asked_free n.0 n.1 unowed in
-    let keeps = subst (λ (x : Journal). Keeps c.take_requests.new.self x) is n.4 in (
-      obeyed n.0 n.1,
+    let unowed = sym (n.4.owes_is ∙ asked_owes first n.0 n.1) ∙ c.if-self.false in
+    let is = asked_free first n.0 n.1 unowed in
+    let keeps = subst (λ (x : Journal). Keeps first c.take_requests.new.self x) is n.4 in (
+      obeyed first n.0 n.1,
       subst (λ (x : Journal). g.P.BoardPort.stands c.take_requests.new.port rest (port_log x)) is n.3,
-      waits_for_resume c.take_requests.new.self c.args.self.now.flags n.0 h n.1 keeps halted n.2 (sym k.machine.motion_is ∙ c.requires.held)
+      waits_for_resume first c.take_requests.new.self c.args.self.now.flags n.0 h n.1 keeps halted n.2 (sym k.machine.motion_is ∙ c.requires.held)
           (sym keeps.machine.motion_is ∙ c.is_held.ensures.0 c.if-is_held.true) unowed (ap (λ (b : Controller). b.beat) same ∙ c.requires.beat) (n.5 ∙ ap (λ b. flags_behind b n.0) unowed),
     )
 
 pub returns-clause-goes_on : goal.returns-clause-goes_on
-returns-clause-goes_on g c = λ rest h stands k halted none.
-    let n = c.take_requests.ensures.goes_on rest h stands k (free_of h halted.ready.quiet).obeyed (no_jog_held h (sym k.machine.motion_is ∙ c.requires.held)) in
+returns-clause-goes_on g c = λ rest first h stands k halted none.
+    let n = c.take_requests.ensures.goes_on rest first h stands k (free_of h halted.ready.quiet).obeyed (no_jog_held first h (sym k.machine.motion_is ∙ c.requires.held)) in
     let same = c.take_requests.ensures.same in
-    let unowed = sym (n.4.owes_is ∙ asked_owes n.0 n.1) ∙ c.if-self.false in
-    let is = asked_free n.0 n.1 unowed in
-    let keeps = subst (λ (x : Journal). Keeps c.take_requests.new.self x) is n.4 in (
-      obeyed n.0 n.1,
+    let unowed = sym (n.4.owes_is ∙ asked_owes first n.0 n.1) ∙ c.if-self.false in
+    let is = asked_free first n.0 n.1 unowed in
+    let keeps = subst (λ (x : Journal). Keeps first c.take_requests.new.self x) is n.4 in (
+      obeyed first n.0 n.1,
       subst (λ (x : Journal). g.P.BoardPort.stands c.take_requests.new.port rest (port_log x)) is n.3,
-      did_resume c.take_requests.new.self c.args.self.now.flags n.0 h n.1 keeps halted n.2 (sym k.machine.motion_is ∙ c.requires.held)
+      did_resume first c.take_requests.new.self c.args.self.now.flags n.0 h n.1 keeps halted n.2 (sym k.machine.motion_is ∙ c.requires.held)
           (λ held. absurd (let e = sym c.if-is_held.false ∙ c.is_held.ensures.1 (keeps.machine.motion_is ∙ held) in cc))
           unowed (ap (λ (b : Controller). b.beat) same ∙ c.requires.beat) (n.5 ∙ ap (λ b. flags_behind b n.0) unowed) c.requires.flags,
     )

@@ -7,25 +7,25 @@ use Rattle.controller.proofs.Numbers.{number_few}
 use Rattle.controller.proofs.controller.Controller.carry_on.Goals as goal
 
 pub returns-in-Wait-clause-goes_on : goal.returns-in-Wait-clause-goes_on
-returns-in-Wait-clause-goes_on g c = λ rest h stands f between.
-    let n = c.work-turn.ensures.goes_on rest h stands f between in
+returns-in-Wait-clause-goes_on g c = λ rest first h stands f between.
+    let n = c.work-turn.ensures.goes_on rest first h stands f between in
     let t = c.work-turn.result in
     let board = c.work-turn.new.self in
-    let r = turned_by t c.args.self.now board words.Both h n.0 (ap (λ (x : Turn). flags_behind x board.flags) c.in-Wait.is) n.2 in
+    let r = turned_by first t c.args.self.now board words.Both h n.0 (ap (λ (x : Turn). flags_behind x board.flags) c.in-Wait.is) n.2 in
     (turned t ∷ n.0, n.1, r.0, refl, r.1)
 
 pub returns-in_default : goal.returns-in_default
 returns-in_default g c = record {
-  goes_on = λ rest h stands f between.
-      (let n = c.work-turn.ensures.goes_on rest h stands f between in
+  goes_on = λ rest first h stands f between.
+      (let n = c.work-turn.ensures.goes_on rest first h stands f between in
       let t = c.work-turn.result in
       let board = c.work-turn.new.self in
-      let r = turned_by t c.args.self.now board board.flags h n.0 (no_wait_keeps t board.flags c.in_default.not-Wait) n.2 in
+      let r = turned_by first t c.args.self.now board board.flags h n.0 (no_wait_keeps t board.flags c.in_default.not-Wait) n.2 in
       (turned t ∷ n.0, n.1, r.0, refl, r.1));
   done = c.work-turn.ensures.done;
   still = c.work-turn.ensures.still;
-  few = number_few c.args.self.now;
+  few = λ first. number_few first c.args.self.now;
 }
 
 pub returns-in-Wait-clause-few : goal.returns-in-Wait-clause-few
-returns-in-Wait-clause-few g c = number_few c.args.self.now
+returns-in-Wait-clause-few g c = λ first. number_few first c.args.self.now

@@ -5,16 +5,16 @@ use Rattle.controller.proofs.Nexts.{none_waiting, may_close, closes_worked}
 use Rattle.controller.proofs.controller.Controller.close.Goals as goal
 
 pub returns-clause-goes_on : goal.returns-clause-goes_on
-returns-clause-goes_on g c = λ rest h stands keeps polled closed.
+returns-clause-goes_on g c = λ rest first h stands keeps polled closed.
     let s = c.args.self.now in
-    let none = none_waiting s h keeps (c.is_waiting.ensures.no c.if-is_waiting.false) in
-    (closing ∷ h, stands, closes_worked s _ h (closes s _ h keeps (may_close h polled closed) c.close.ensures) polled none c.requires.beat c.requires.flags c.requires.flags)
+    let none = none_waiting first s h keeps (c.is_waiting.ensures.no c.if-is_waiting.false) in
+    (closing ∷ h, stands, closes_worked first s _ h (closes first s _ h keeps (may_close first h polled closed) c.close.ensures) polled none c.requires.beat c.requires.flags c.requires.flags)
 
 pub run_waiting-requires : goal.run_waiting-requires
 run_waiting-requires g c =
-    let r = c.requires.stands in
+    let r = c.requires.stands in let first = r.1 in
     let waits = c.is_waiting.ensures.yes c.if-is_waiting.true in
-    record { stands = (r.0, r.1, r.2, r.3, r.4); idle = waits.0; blocks = waits.1; beat = c.requires.beat; flags = c.requires.flags }
+    record { stands = (r.0, first, r.2, r.3, r.4, r.5); idle = waits.0; blocks = waits.1; beat = c.requires.beat; flags = c.requires.flags }
 
 pub returns-then-is_waiting-clause-goes_on : goal.returns-then-is_waiting-clause-goes_on
-returns-then-is_waiting-clause-goes_on g c = λ rest h stands keeps polled closed. c.run_waiting.ensures.goes_on rest h stands keeps polled
+returns-then-is_waiting-clause-goes_on g c = λ rest first h stands keeps polled closed. c.run_waiting.ensures.goes_on rest first h stands keeps polled

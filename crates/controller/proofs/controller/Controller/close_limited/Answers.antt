@@ -5,7 +5,7 @@ use Rattle.controller.proofs.Steps.{closes}
 use Rattle.controller.proofs.controller.Controller.close_limited.Goals as goal
 
 pub returns-clause-goes_on : goal.returns-clause-goes_on
-returns-clause-goes_on c = λ h k ready is none.
+returns-clause-goes_on c = λ first h k ready is none.
     let s = c.args.self.now in
-    let now = closes s _ h k (may_close s h k is none c.requires.«open») c.close.ensures in
-    (closing ∷ h, refl, closes_limited s _ h k now ready is none c.requires.«open» c.requires.beat c.requires.flags c.requires.flags)
+    let now = closes first s _ h k (may_close first s h k is none c.requires.«open») c.close.ensures in
+    (closing ∷ h, refl, closes_limited first s _ h k now ready is none c.requires.«open» c.requires.beat c.requires.flags c.requires.flags)

@@ -10,35 +10,35 @@ use Rattle.controller.proofs.Stopping.{cut_number, less_one, cut_behind}
 use Rattle.controller.proofs.controller.Controller.cut_jogs.Goals as goal
 
 pub drop_move-requires : goal.drop_move-requires
-drop_move-requires c = let r = c.requires in (r.0, r.1, r.2.cancelled)
+drop_move-requires c = let r = c.requires in let first = r.0 in (first, r.1, r.2, r.3.cancelled)
 
 pub overflow_sub-mark : goal.overflow_sub-mark
 overflow_sub-mark c =
-    let r = c.requires in
-    let number = c.number.ensures ∙ ap (λ (x : Controller). x.lines.number) c.drop_move.ensures.same ∙ cut_number c.args.self.now r.0 r.1 in omega (arith, number)
+    let r = c.requires in let first = r.0 in
+    let number = c.number.ensures ∙ ap (λ (x : Controller). x.lines.number) c.drop_move.ensures.same ∙ cut_number first c.args.self.now r.1 r.2 in omega (arith, number)
 
 pub cut-requires : goal.cut-requires
 cut-requires c =
-    let r = c.requires in
-    let few = few_ticks c.args.self.now r.0 r.1 in
+    let r = c.requires in let first = r.0 in
+    let few = few_ticks first c.args.self.now r.1 r.2 in
     let same = ap (λ (x : Controller). x.machine.given) c.drop_move.ensures.same in
     record { few = omega (arith, few, same) }
 
 pub returns-clause-made : goal.returns-clause-made
-returns-clause-made c h k uncut found =
+returns-clause-made c first h k uncut found =
     let s = c.args.self.now in
     let d = c.drop_move.new.self in
     let same = c.drop_move.ensures.same in
     let at = c.place.result in
     let i = c.rebase.new.self in
-    let flies = subst (λ (x : Controller). Flies x.flight (published_of h) (known_of h)) (sym same) found.flies in
-    let place = c.place.ensures.place (published_of h) (known_of h) flies in
-    let machine = subst (λ (x : Controller). Runs x.machine (plan_of h) (motion_of h) [] (given_of h)) (sym same)
-    (subst (λ ps. Runs s.machine (plan_of h) (motion_of h) ps (given_of h)) found.stopped.slowed.empty k.machine) in
+    let flies = subst (λ (x : Controller). Flies first.place x.flight (published_of h) (known_of h)) (sym same) found.flies in
+    let place = c.place.ensures.place first.place (published_of h) (known_of h) flies in
+    let machine = subst (λ (x : Controller). Runs x.machine (plan_of h) (motion_of first h) [] (given_of h)) (sym same)
+    (subst (λ ps. Runs s.machine (plan_of h) (motion_of first h) ps (given_of h)) found.stopped.slowed.empty k.machine) in
     let lines = ap (λ (x : Controller). x.lines) same in
-    let number = less_one c.number.result (c.number.ensures ∙ ap (λ (x : Interpreting). x.number) lines ∙ cut_number s h k) in
-    cut_behind s d c.cut.new.self i (c.number.result - 1) at h k uncut found same number place
-    (ap (λ (x : Interpreting). x.left) c.rebase.ensures ∙ c.drop_move.ensures.left h k uncut.cancelled)
+    let number = less_one c.number.result (c.number.ensures ∙ ap (λ (x : Interpreting). x.number) lines ∙ cut_number first s h k) in
+    cut_behind first s d c.cut.new.self i (c.number.result - 1) at h k uncut found same number place
+    (ap (λ (x : Interpreting). x.left) c.rebase.ensures ∙ c.drop_move.ensures.left first h k uncut.cancelled)
     (ap (λ (x : Interpreting). x.number) c.rebase.ensures ∙ ap (λ (x : Interpreting). x.number) lines)
     (ap (λ (x : Interpreting). x.state) c.rebase.ensures ∙ ap (λ (x : Interpreting). record x.state { parser = rebased x.state.parser at x.state.settings.limits.per_mm }) lines)
-    (c.cut.ensures (plan_of h) (motion_of h) (given_of h) machine)
+    (c.cut.ensures (plan_of h) (motion_of first h) (given_of h) machine)

@@ -11,52 +11,52 @@ use Rattle.controller.proofs.controller.Controller.do_next.Goals as goal
 
 pub finish-requires-clause-stands : goal.finish-requires-clause-stands
 finish-requires-clause-stands g c =
-    let r = c.requires.stands in
-    let next = finish_next c.args.self.now r.1 r.3 r.6 c.in-Finish.ensures in
-    (r.0, r.1, r.2, r.3, may_run r.3.first r.1 r.3.conducted r.4 (some_next r.1 finish next.1), next.0, next.1)
+    let r = c.requires.stands in let first = r.1 in
+    let next = finish_next first c.args.self.now r.2 r.4 r.7 c.in-Finish.ensures in
+    (r.0, first, r.2, r.3, r.4, may_run first r.2 r.4.conducted r.5 (some_next first r.2 finish next.1), next.0, next.1)
 
 pub returns-in-Finish-clause-goes_on : goal.returns-in-Finish-clause-goes_on
-returns-in-Finish-clause-goes_on g c = λ rest h stands keeps ready goes needs.
-    let next = finish_next c.args.self.now h keeps needs c.in-Finish.ensures in
-    c.finish.ensures.goes_on rest h stands keeps (may_run keeps.first h keeps.conducted ready (some_next h finish next.1)) next.0 next.1
+returns-in-Finish-clause-goes_on g c = λ rest first h stands keeps ready goes needs.
+    let next = finish_next first c.args.self.now h keeps needs c.in-Finish.ensures in
+    c.finish.ensures.goes_on rest first h stands keeps (may_run first h keeps.conducted ready (some_next first h finish next.1)) next.0 next.1
 
 pub next_line-requires-clause-stands : goal.next_line-requires-clause-stands
-next_line-requires-clause-stands g c = let r = c.requires.stands in (r.0, r.1, r.2, r.3, r.4, r.5)
+next_line-requires-clause-stands g c = let r = c.requires.stands in let first = r.1 in (r.0, first, r.2, r.3, r.4, r.5, r.6)
 
 pub tell-requires-clause-stands : goal.tell-requires-clause-stands
-tell-requires-clause-stands g c = let r = c.requires.stands in (r.0, r.1, r.2, r.3, r.4)
+tell-requires-clause-stands g c = let r = c.requires.stands in let first = r.1 in (r.0, first, r.2, r.3, r.4, r.5)
 
 pub mark-requires-clause-stands : goal.mark-requires-clause-stands
-mark-requires-clause-stands g c = let r = c.requires.stands in (r.0, r.1, r.2, r.3, r.4)
+mark-requires-clause-stands g c = let r = c.requires.stands in let first = r.1 in (r.0, first, r.2, r.3, r.4, r.5)
 
 pub returns-in-Nothing-clause-goes_on : goal.returns-in-Nothing-clause-goes_on
-returns-in-Nothing-clause-goes_on g c = λ rest h stands keeps ready goes needs. c.next_line.ensures.goes_on rest h stands keeps ready goes
+returns-in-Nothing-clause-goes_on g c = λ rest first h stands keeps ready goes needs. c.next_line.ensures.goes_on rest first h stands keeps ready goes
 
 pub returns-in-Tell-clause-goes_on : goal.returns-in-Tell-clause-goes_on
-returns-in-Tell-clause-goes_on g c = λ rest h stands keeps ready goes needs. c.tell.ensures.goes_on rest h stands keeps ready
+returns-in-Tell-clause-goes_on g c = λ rest first h stands keeps ready goes needs. c.tell.ensures.goes_on rest first h stands keeps ready
 
 pub returns-in-Mark-clause-goes_on : goal.returns-in-Mark-clause-goes_on
-returns-in-Mark-clause-goes_on g c = λ rest h stands keeps ready goes needs. c.mark.ensures.goes_on rest h stands keeps ready
+returns-in-Mark-clause-goes_on g c = λ rest first h stands keeps ready goes needs. c.mark.ensures.goes_on rest first h stands keeps ready
 
 pub go-requires-clause-stands : goal.go-requires-clause-stands
 go-requires-clause-stands g c =
-    let r = c.requires.stands in
+    let r = c.requires.stands in let first = r.1 in
     let m = c.in-Move.ensures in
-    (r.0, r.1, r.2, r.3, r.4, r.5, (m.0, is_next c.args.self.now r.1 (ask (a_move m.0)) r.3 m.1))
+    (r.0, first, r.2, r.3, r.4, r.5, r.6, (m.0, is_next first c.args.self.now r.2 (ask (a_move m.0)) r.4 m.1))
 
 pub returns-in-Move-clause-goes_on : goal.returns-in-Move-clause-goes_on
-returns-in-Move-clause-goes_on g c = λ rest h stands keeps ready goes needs.
+returns-in-Move-clause-goes_on g c = λ rest first h stands keeps ready goes needs.
     let m = c.in-Move.ensures in
-    c.go.ensures.goes_on rest h stands keeps ready goes (m.0, is_next c.args.self.now h (ask (a_move m.0)) keeps m.1)
+    c.go.ensures.goes_on rest first h stands keeps ready goes (m.0, is_next first c.args.self.now h (ask (a_move m.0)) keeps m.1)
 
 pub pause-requires-clause-stands : goal.pause-requires-clause-stands
 pause-requires-clause-stands g c =
-    let r = c.requires.stands in
-    let next = is_next c.args.self.now r.1 pause r.3 c.in-Pause.ensures in
-    (r.1, r.3, r.4, (r.6 (ap awaits_motion next)).0, next)
+    let r = c.requires.stands in let first = r.1 in
+    let next = is_next first c.args.self.now r.2 pause r.4 c.in-Pause.ensures in
+    (first, r.2, r.4, r.5, (r.7 (ap awaits_motion next)).0, next)
 
 pub returns-in-Pause-clause-goes_on : goal.returns-in-Pause-clause-goes_on
-returns-in-Pause-clause-goes_on g c = λ rest h stands keeps ready goes needs.
-    let next = is_next c.args.self.now h pause keeps c.in-Pause.ensures in
-    let n = c.pause.ensures.goes_on h keeps ready (needs (ap awaits_motion next)).0 next in
-    (n.0, rw n.1 stands, subst (λ (f : Flags). BoardWorked c.pause.result f c.pause.new.self h n.0) (sym c.requires.flags) n.2)
+returns-in-Pause-clause-goes_on g c = λ rest first h stands keeps ready goes needs.
+    let next = is_next first c.args.self.now h pause keeps c.in-Pause.ensures in
+    let n = c.pause.ensures.goes_on first h keeps ready (needs (ap awaits_motion next)).0 next in
+    (n.0, rw n.1 stands, subst (λ (f : Flags). BoardWorked first c.pause.result f c.pause.new.self h n.0) (sym c.requires.flags) n.2)

@@ -6,14 +6,14 @@ use Rattle.controller.proofs.Adding.{none_waits_now, may_start, filled_added, fi
 use Rattle.controller.proofs.controller.Controller.fill.Goals as goal
 
 pub returns-then-needs_start-clause-filled : goal.returns-then-needs_start-clause-filled
-returns-then-needs_start-clause-filled c h k =
-    let n = c.add_moves.ensures.added h k in let s = c.add_moves.new.self in let need = c.needs_start.ensures.yes c.if-needs_start.true in (
+returns-then-needs_start-clause-filled c first h k =
+    let n = c.add_moves.ensures.added first h k in let s = c.add_moves.new.self in let need = c.needs_start.ensures.yes c.if-needs_start.true in (
       starting s.jogged n.0,
-      started s _ s.jogged n.0 n.1 (sym n.1.machine.motion_is ∙ need.0) (may_start s n.0 n.1 (sym n.1.machine.motion_is ∙ need.0) need.1 need.2) (c.start.ensures.runs (plan_of n.0) (motion_of n.0) (hand_of n.0) (given_of n.0) n.1.machine),
-      filled_started s.jogged h n.0 n.2,
+      started first s _ s.jogged n.0 n.1 (sym n.1.machine.motion_is ∙ need.0) (may_start first s n.0 n.1 (sym n.1.machine.motion_is ∙ need.0) need.1 need.2) (c.start.ensures.runs (plan_of n.0) (motion_of first n.0) (hand_of n.0) (given_of n.0) n.1.machine),
+      filled_started first s.jogged h n.0 n.2,
     )
 
 pub returns-else-needs_start-clause-filled : goal.returns-else-needs_start-clause-filled
-returns-else-needs_start-clause-filled c h k =
-    let n = c.add_moves.ensures.added h k in let s = c.add_moves.new.self in
-    (n.0, n.1, filled_added h n.0 n.2 (none_waits_now s n.0 n.1 (c.needs_start.ensures.no c.if-needs_start.false)))
+returns-else-needs_start-clause-filled c first h k =
+    let n = c.add_moves.ensures.added first h k in let s = c.add_moves.new.self in
+    (n.0, n.1, filled_added first h n.0 n.2 (none_waits_now first s n.0 n.1 (c.needs_start.ensures.no c.if-needs_start.false)))

@@ -12,18 +12,18 @@ use Rattle.controller.proofs.controller.Controller.finish.Goals as goal
 
 pub run-requires-clause-stands : goal.run-requires-clause-stands
 run-requires-clause-stands g c =
-    let r = c.requires.stands in
+    let r = c.requires.stands in let first = r.1 in
     let s = c.args.self.now in
-    let is = closes_at_end r.3.first r.1 r.3.conducted r.6 in
-    let stopped = r.5 in
-    let runs = c.put_end.ensures (plan_of r.1) (motion_of r.1) (given_of r.1) (subst (λ hand. Runs s.machine (plan_of r.1) (motion_of r.1) hand (given_of r.1)) stopped.drained.hand r.3.machine) in
-    (r.0, made_end ∷ r.1, r.2, ended s _ _ r.1 r.3 r.6 stopped.drained stopped.stands is.closes runs c.done.ensures, may_run_ended r.1 r.4 stopped r.6 is, inl (none_behind (hand_of r.1) pieces.End))
+    let is = closes_at_end first r.2 r.4.conducted r.7 in
+    let stopped = r.6 in
+    let runs = c.put_end.ensures (plan_of r.2) (motion_of first r.2) (given_of r.2) (subst (λ hand. Runs s.machine (plan_of r.2) (motion_of first r.2) hand (given_of r.2)) stopped.drained.hand r.4.machine) in
+    (r.0, first, made_end ∷ r.2, r.3, ended first s _ _ r.2 r.4 r.7 stopped.drained stopped.stands is.closes runs c.done.ensures, may_run_ended first r.2 r.5 stopped r.7 is, inl (none_behind (hand_of r.2) pieces.End))
 
 pub returns-clause-goes_on : goal.returns-clause-goes_on
-returns-clause-goes_on g c = λ rest h stands keeps may stopped next.
+returns-clause-goes_on g c = λ rest first h stands keeps may stopped next.
     let s = c.args.self.now in
-    let is = closes_at_end keeps.first h keeps.conducted next in
-    let runs = c.put_end.ensures (plan_of h) (motion_of h) (given_of h) (subst (λ hand. Runs s.machine (plan_of h) (motion_of h) hand (given_of h)) stopped.drained.hand keeps.machine) in
-    let now = ended s _ _ h keeps next stopped.drained stopped.stands is.closes runs c.done.ensures in
-    works_passed (g.P.BoardPort.stands c.run.new.port rest) c.run.result _ _ h (made_end ∷ h) (passes_end h)
-    (c.run.ensures.goes_on rest (made_end ∷ h) stands now (may_run_ended h may stopped next is) (inl (none_behind (hand_of h) pieces.End)))
+    let is = closes_at_end first h keeps.conducted next in
+    let runs = c.put_end.ensures (plan_of h) (motion_of first h) (given_of h) (subst (λ hand. Runs s.machine (plan_of h) (motion_of first h) hand (given_of h)) stopped.drained.hand keeps.machine) in
+    let now = ended first s _ _ h keeps next stopped.drained stopped.stands is.closes runs c.done.ensures in
+    works_passed first (g.P.BoardPort.stands c.run.new.port rest) c.run.result _ _ h (made_end ∷ h) (passes_end first h)
+    (c.run.ensures.goes_on rest first (made_end ∷ h) stands now (may_run_ended first h may stopped next is) (inl (none_behind (hand_of h) pieces.End)))

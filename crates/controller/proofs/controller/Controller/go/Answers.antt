@@ -9,29 +9,30 @@ use Rattle.controller.proofs.controller.Controller.go.Goals as goal
 
 pub run-requires-clause-stands : goal.run-requires-clause-stands
 run-requires-clause-stands g c =
-    let r = c.requires.stands in
-    let full = sym (c.if-is_full.ensures ∙ ap is_full r.3.machine.plan_is) in (
+    let r = c.requires.stands in let first = r.1 in
+    let full = sym (c.if-is_full.ensures ∙ ap is_full r.4.machine.plan_is) in (
       r.0,
-      r.1,
+      first,
       r.2,
       r.3,
-      may_run r.3.first r.1 r.3.conducted r.4 (some_next r.1 (ask (a_move r.6.0)) r.6.1),
-      full_piece r.3.first r.1 r.3.conducted r.4.none_waits r.5 r.6 full,
+      r.4,
+      may_run first r.2 r.4.conducted r.5 (some_next first r.2 (ask (a_move r.7.0)) r.7.1),
+      full_piece first r.2 r.4.conducted r.5.none_waits r.6 r.7 full,
     )
 
 pub returns-then-is_full-clause-goes_on : goal.returns-then-is_full-clause-goes_on
-returns-then-is_full-clause-goes_on g c = λ rest h stands keeps ready goes move.
+returns-then-is_full-clause-goes_on g c = λ rest first h stands keeps ready goes move.
     let full = sym (c.if-is_full.ensures ∙ ap is_full keeps.machine.plan_is) in
-    c.run.ensures.goes_on rest h stands keeps (may_run keeps.first h keeps.conducted ready (some_next h (ask (a_move move.0)) move.1))
-    (full_piece keeps.first h keeps.conducted ready.none_waits goes move full)
+    c.run.ensures.goes_on rest first h stands keeps (may_run first h keeps.conducted ready (some_next first h (ask (a_move move.0)) move.1))
+    (full_piece first h keeps.conducted ready.none_waits goes move full)
 
 pub returns-clause-goes_on : goal.returns-clause-goes_on
-returns-clause-goes_on g c = λ rest h stands keeps ready goes move.
-    let n = c.fill.ensures.filled h keeps in
-    let few = few_working keeps.first h keeps.conducted ready (some_next h (ask (a_move move.0)) move.1) in
+returns-clause-goes_on g c = λ rest first h stands keeps ready goes move.
+    let n = c.fill.ensures.filled first h keeps in
+    let few = few_working first h keeps.conducted ready (some_next first h (ask (a_move move.0)) move.1) in
     let quiet = ready.quiet.quiet in
     let room = sym (c.if-is_full.ensures ∙ ap is_full keeps.machine.plan_is) in
     let beat = ap (λ (b : Controller). b.beat) c.fill.ensures.same ∙ c.requires.beat in
     let none = ap (λ (b : Controller). b.flags) c.fill.ensures.same ∙ c.requires.flags in
-    let taken = takes_none c.fill.new.self n.0 none (free_passed h n.0 n.2.alone.passes (free_of h ready.quiet)) in
-    (n.0, rw n.2.alone.port stands, did_filled _ _ h h n.0 [] refl n.1 beat taken n.2 ready.quiet.worked (omega arith) ready.unpolled few (inl (n.2.moved move room)))
+    let taken = takes_none c.fill.new.self n.0 none (free_passed first h n.0 n.2.alone.passes (free_of h ready.quiet)) in
+    (n.0, rw n.2.alone.port stands, did_filled first _ _ h h n.0 [] refl n.1 beat taken n.2 ready.quiet.worked (omega arith) ready.unpolled few (inl (n.2.moved move room)))

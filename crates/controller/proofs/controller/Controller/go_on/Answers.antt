@@ -8,53 +8,53 @@ use Rattle.controller.proofs.controller.Controller.go_on.Goals as goal
 
 pub publish_first-requires-clause-stands : goal.publish_first-requires-clause-stands
 publish_first-requires-clause-stands g c =
-    let r = c.requires.stands in
-    (r.0, r.1, r.2, r.3, r.4, (c.begins_with_piece.ensures.yes r.1 r.3.keeps c.if-begins_with_piece.true).1)
+    let r = c.requires.stands in let first = r.1 in
+    (r.0, first, r.2, r.3, r.4, r.5, (c.begins_with_piece.ensures.yes first r.2 r.4.keeps c.if-begins_with_piece.true).1)
 
 pub publish_first-requires-clause-beat : goal.publish_first-requires-clause-beat
 publish_first-requires-clause-beat g c =
-    let r = c.requires.stands in
-    (c.begins_with_piece.ensures.yes r.1 r.3.keeps c.if-begins_with_piece.true).0
+    let r = c.requires.stands in let first = r.1 in
+    (c.begins_with_piece.ensures.yes first r.2 r.4.keeps c.if-begins_with_piece.true).0
 
 pub returns-then-begins_with_piece-clause-goes_on : goal.returns-then-begins_with_piece-clause-goes_on
-returns-then-begins_with_piece-clause-goes_on g c = λ rest h stands f between.
-    c.publish_first.ensures.goes_on rest h stands f between (c.begins_with_piece.ensures.yes h f.keeps c.if-begins_with_piece.true).1
+returns-then-begins_with_piece-clause-goes_on g c = λ rest first h stands f between.
+    c.publish_first.ensures.goes_on rest first h stands f between (c.begins_with_piece.ensures.yes first h f.keeps c.if-begins_with_piece.true).1
 
 pub report-requires-clause-stands : goal.report-requires-clause-stands
 report-requires-clause-stands g c =
-    let r = c.requires.stands in
+    let r = c.requires.stands in let first = r.1 in
     let s = c.args.self.now in
-    let asked = subst (λ x. TakesFlags x r.1) c.in-Report.is r.3.flags in
-    let none = c.begins_with_piece.ensures.no r.1 r.3.keeps c.if-begins_with_piece.false in
-    (r.0, r.1, r.2, other_beat s Motion r.1 r.3.keeps, owing_now r.3.keeps.first s.beat c.in-Report.word r.1 r.3.keeps.conducted r.3.rounds r.4 asked none)
+    let asked = subst (λ x. TakesFlags x r.2) c.in-Report.is r.4.flags in
+    let none = c.begins_with_piece.ensures.no first r.2 r.4.keeps c.if-begins_with_piece.false in
+    (r.0, first, r.2, r.3, other_beat first s Motion r.2 r.4.keeps, owing_now first s.beat c.in-Report.word r.2 r.4.keeps.conducted r.4.rounds r.5 asked none)
 
 pub main-requires : goal.main-requires
 main-requires g c =
-    let r = c.requires.stands in
+    let r = c.requires.stands in let first = r.1 in
     let s = c.args.self.now in
     let none = none_left s.flags c.requires.flags c.in_default.not-Report in
-    let free = subst (λ x. TakesFlags x r.1) none r.3.flags in
+    let free = subst (λ x. TakesFlags x r.2) none r.4.flags in
     record {
-      stands = (r.0, r.1, r.2, other_beat s Motion r.1 r.3.keeps, ready_now s.beat r.1 r.3.rounds r.4 free (c.begins_with_piece.ensures.no r.1 r.3.keeps c.if-begins_with_piece.false));
+      stands = (r.0, first, r.2, r.3, other_beat first s Motion r.2 r.4.keeps, ready_now first s.beat r.2 r.4.rounds r.5 free (c.begins_with_piece.ensures.no first r.2 r.4.keeps c.if-begins_with_piece.false));
       «open» = c.requires.open;
       beat = refl;
       flags = none;
     }
 
 pub returns-in-Report-clause-goes_on : goal.returns-in-Report-clause-goes_on
-returns-in-Report-clause-goes_on g c = λ rest h stands f between.
+returns-in-Report-clause-goes_on g c = λ rest first h stands f between.
     let s = c.args.self.now in
     let asked = subst (λ x. TakesFlags x h) c.in-Report.is f.flags in
-    let none = c.begins_with_piece.ensures.no h f.keeps c.if-begins_with_piece.false in
-    c.report.ensures.goes_on rest h s.flags stands (other_beat s Motion h f.keeps) (owing_now f.keeps.first s.beat c.in-Report.word h f.keeps.conducted f.rounds between asked none)
+    let none = c.begins_with_piece.ensures.no first h f.keeps c.if-begins_with_piece.false in
+    c.report.ensures.goes_on rest first h s.flags stands (other_beat first s Motion h f.keeps) (owing_now first s.beat c.in-Report.word h f.keeps.conducted f.rounds between asked none)
 
 pub returns : goal.returns
 returns g c =
     let s = c.args.self.now in
     let none = none_left s.flags c.requires.flags c.in_default.not-Report in
     record {
-      goes_on = λ rest h stands f between.
+      goes_on = λ rest first h stands f between.
           (let free = subst (λ x. TakesFlags x h) none f.flags in
-          c.main.ensures.goes_on rest h stands (other_beat s Motion h f.keeps) (ready_now s.beat h f.rounds between free (c.begins_with_piece.ensures.no h f.keeps c.if-begins_with_piece.false)));
+          c.main.ensures.goes_on rest first h stands (other_beat first s Motion h f.keeps) (ready_now first s.beat h f.rounds between free (c.begins_with_piece.ensures.no first h f.keeps c.if-begins_with_piece.false)));
       going = c.main.ensures.going;
     }

@@ -8,45 +8,45 @@ use Rattle.controller.proofs.controller.Controller.go_on_owing.Goals as goal
 
 -- src/reports.rt:108:13
 pub returns-then-not-has_piece-clause-goes_on : goal.returns-then-not-has_piece-clause-goes_on
-returns-then-not-has_piece-clause-goes_on g c rest h was stands k l =
+returns-then-not-has_piece-clause-goes_on g c rest first h was stands k l =
     let s = c.args.self.now in (
       h,
       stands,
-      waits_idle s was h k l (λ has. absurd (let e = sym c.if-not-has_piece.true ∙ (c.has_piece.ensures h (other_flags s Both h k)).1 has in cc)) c.requires.beat,
+      waits_idle first s was h k l (λ has. absurd (let e = sym c.if-not-has_piece.true ∙ (c.has_piece.ensures first h (other_flags first s Both h k)).1 has in cc)) c.requires.beat,
       λ e. absurd cc,
     )
 
 pub publish_next-published-requires : goal.publish_next-published-requires
 publish_next-published-requires g c =
-    let r = c.requires.stands in
-    let k = other_flags c.args.self.now Both r.1 r.3 in
-    record { stands = (r.0, r.1, r.2, k, (c.has_piece.ensures r.1 k).0 c.if-not-has_piece.false) }
+    let r = c.requires.stands in let first = r.1 in
+    let k = other_flags first c.args.self.now Both r.2 r.4 in
+    record { stands = (r.0, first, r.2, r.3, k, (c.has_piece.ensures first r.2 k).0 c.if-not-has_piece.false) }
 
 -- src/reports.rt:111:9
 pub fill-requires : goal.fill-requires
 fill-requires g c =
-    let r = c.requires.stands in
-    let k = other_flags c.args.self.now Both r.1 r.3 in
-    let n = c.publish_next-published.ensures.goes_on r.0 r.1 r.2 k ((c.has_piece.ensures r.1 k).0 c.if-not-has_piece.false) in
-    (n.0, n.2)
+    let r = c.requires.stands in let first = r.1 in
+    let k = other_flags first c.args.self.now Both r.2 r.4 in
+    let n = c.publish_next-published.ensures.goes_on r.0 first r.2 r.3 k ((c.has_piece.ensures first r.2 k).0 c.if-not-has_piece.false) in
+    (first, n.0, n.2)
 
 -- src/reports.rt:113:13
 pub returns-then-not-published-clause-goes_on : goal.returns-then-not-published-clause-goes_on
-returns-then-not-published-clause-goes_on g c rest h was stands k l =
-    let both = other_flags c.args.self.now Both h k in
-    let n = c.publish_next-published.ensures.goes_on rest h stands both ((c.has_piece.ensures h both).0 c.if-not-has_piece.false) in
-    let f = c.fill.ensures.filled n.0 n.2 in
+returns-then-not-published-clause-goes_on g c rest first h was stands k l =
+    let both = other_flags first c.args.self.now Both h k in
+    let n = c.publish_next-published.ensures.goes_on rest first h stands both ((c.has_piece.ensures first h both).0 c.if-not-has_piece.false) in
+    let f = c.fill.ensures.filled first n.0 n.2 in
     let beat = ap (λ (b : Controller). b.beat) c.fill.ensures.same ∙ (ap (λ (b : Controller). b.beat) c.publish_next-published.ensures.same ∙ c.requires.beat) in
     let flags = ap (λ (b : Controller). b.flags) c.fill.ensures.same ∙ ap (λ (b : Controller). b.flags) c.publish_next-published.ensures.same in
-    let tried = subst (λ b. HasTried b h n.0) c.if-not-published.true n.3 in
-    (f.0, rw f.2.alone.port n.1, waits_handed c.fill.new.self was h n.0 f.0 f.1 l tried f.2 beat flags, λ e. absurd cc)
+    let tried = subst (λ b. (HasTried first) b h n.0) c.if-not-published.true n.3 in
+    (f.0, rw f.2.alone.port n.1, waits_handed first c.fill.new.self was h n.0 f.0 f.1 l tried f.2 beat flags, λ e. absurd cc)
 
 -- src/reports.rt:99:5
 pub returns-clause-goes_on : goal.returns-clause-goes_on
-returns-clause-goes_on g c rest h was stands k l =
-    let both = other_flags c.args.self.now Both h k in
-    let n = c.publish_next-published.ensures.goes_on rest h stands both ((c.has_piece.ensures h both).0 c.if-not-has_piece.false) in
-    let f = c.fill.ensures.filled n.0 n.2 in
-    let tried = subst (λ b. HasTried b h n.0) c.if-not-published.false n.3 in
-    let w = sent_owing c.fill.new.self was h n.0 f.0 f.1 l tried f.2 in
+returns-clause-goes_on g c rest first h was stands k l =
+    let both = other_flags first c.args.self.now Both h k in
+    let n = c.publish_next-published.ensures.goes_on rest first h stands both ((c.has_piece.ensures first h both).0 c.if-not-has_piece.false) in
+    let f = c.fill.ensures.filled first n.0 n.2 in
+    let tried = subst (λ b. (HasTried first) b h n.0) c.if-not-published.false n.3 in
+    let w = sent_owing first c.fill.new.self was h n.0 f.0 f.1 l tried f.2 in
     (f.0, rw f.2.alone.port n.1, w.0, λ e. w.1)

@@ -4,28 +4,28 @@ use Rattle.controller.proofs.controller.Controller.halt.Goals as goal
 
 pub run-requires-clause-stands : goal.run-requires-clause-stands
 run-requires-clause-stands g c =
-    let r = c.requires.stands in (r.0, r.1, r.2, r.3, may_run_halted r.1 r.4, (c.has_piece.ensures r.1 r.3).0 c.if-has_piece.true)
+    let r = c.requires.stands in let first = r.1 in (r.0, first, r.2, r.3, r.4, may_run_halted first r.2 r.5, (c.has_piece.ensures first r.2 r.4).0 c.if-has_piece.true)
 
 pub returns-then-has_piece-clause-goes_on : goal.returns-then-has_piece-clause-goes_on
-returns-then-has_piece-clause-goes_on g c rest h stands k halted = c.run.ensures.goes_on rest h stands k (may_run_halted h halted) ((c.has_piece.ensures h k).0 c.if-has_piece.true)
+returns-then-has_piece-clause-goes_on g c rest first h stands k halted = c.run.ensures.goes_on rest first h stands k (may_run_halted first h halted) ((c.has_piece.ensures first h k).0 c.if-has_piece.true)
 
 pub await_resume-requires-clause-stands : goal.await_resume-requires-clause-stands
 await_resume-requires-clause-stands g c =
-    let r = c.requires.stands in
-    (r.0, r.1, r.2, r.3, r.4, λ piece. absurd (let e = sym c.if-has_piece.false ∙ (c.has_piece.ensures r.1 r.3).1 piece in cc))
+    let r = c.requires.stands in let first = r.1 in
+    (r.0, first, r.2, r.3, r.4, r.5, λ piece. absurd (let e = sym c.if-has_piece.false ∙ (c.has_piece.ensures first r.2 r.4).1 piece in cc))
 
 pub returns-then-is_held-clause-goes_on : goal.returns-then-is_held-clause-goes_on
-returns-then-is_held-clause-goes_on g c rest h stands k halted =
-    c.await_resume.ensures.goes_on rest h stands k halted (λ piece. absurd (let e = sym c.if-has_piece.false ∙ (c.has_piece.ensures h k).1 piece in cc))
+returns-then-is_held-clause-goes_on g c rest first h stands k halted =
+    c.await_resume.ensures.goes_on rest first h stands k halted (λ piece. absurd (let e = sym c.if-has_piece.false ∙ (c.has_piece.ensures first h k).1 piece in cc))
 
 pub await_stop-requires-clause-stands : goal.await_stop-requires-clause-stands
 await_stop-requires-clause-stands g c =
-    let r = c.requires.stands in
-    (r.0, r.1, r.2, r.3, r.4, λ piece. absurd (let e = sym c.if-has_piece.false ∙ (c.has_piece.ensures r.1 r.3).1 piece in cc))
+    let r = c.requires.stands in let first = r.1 in
+    (r.0, first, r.2, r.3, r.4, r.5, λ piece. absurd (let e = sym c.if-has_piece.false ∙ (c.has_piece.ensures first r.2 r.4).1 piece in cc))
 
 pub returns-clause-goes_on : goal.returns-clause-goes_on
-returns-clause-goes_on g c rest h stands k halted =
-    c.await_stop.ensures.goes_on rest h stands k halted (λ piece. absurd (let e = sym c.if-has_piece.false ∙ (c.has_piece.ensures h k).1 piece in cc))
+returns-clause-goes_on g c rest first h stands k halted =
+    c.await_stop.ensures.goes_on rest first h stands k halted (λ piece. absurd (let e = sym c.if-has_piece.false ∙ (c.has_piece.ensures first h k).1 piece in cc))
 
 pub await_resume-requires-clause-held : goal.await_resume-requires-clause-held
 await_resume-requires-clause-held g c = c.is_held.ensures.0 c.if-is_held.true

@@ -11,28 +11,28 @@ use Rattle.controller.proofs.controller.Controller.judge.Goals as goal
 
 pub limit-requires : goal.limit-requires
 limit-requires c =
-    let r = c.requires in
-    let o = c.judge_line.ensures.judged r.0 r.1 r.2 in
+    let r = c.requires in let first = r.0 in
+    let o = c.judge_line.ensures.judged first r.1 r.2 r.3 in
     let e : c.todo.result ≡ todo.Halt = search rules in
-    may_limit c.args.self.now c.judge_line.new.self r.0 o.0 o.1 (subst (λ (t : Todo). IsTodo t c.judge_line.new.self.lines.left) e c.todo.ensures)
+    may_limit first c.args.self.now c.judge_line.new.self r.1 o.0 o.1 (subst (λ (t : Todo). IsTodo t c.judge_line.new.self.lines.left) e c.todo.ensures)
 
 pub returns-then-eq-clause-begun : goal.returns-then-eq-clause-begun
-returns-then-eq-clause-begun c = λ h k may.
+returns-then-eq-clause-begun c = λ first h k may.
     let s = c.args.self.now in
     let d = c.judge_line.new.self in
-    let o = c.judge_line.ensures.judged h k may in
+    let o = c.judge_line.ensures.judged first h k may in
     let e : c.todo.result ≡ todo.Halt = search rules in
     let next = subst (λ (t : Todo). IsTodo t d.lines.left) e c.todo.ensures in (
       o.0,
-      became on_limit (limit_motion (motion_of h)) ∷ began o.0 ∷ h,
-      begun_limited s d c.limit.new.self h o.0 o.1 next (c.limit.ensures (plan_of h) (motion_of h) (hand_of h) (given_of h) (machine_judged s d h o.0 o.1)),
+      became on_limit (limit_motion (motion_of first h)) ∷ began o.0 ∷ h,
+      begun_limited first s d c.limit.new.self h o.0 o.1 next (c.limit.ensures (plan_of h) (motion_of first h) (hand_of h) (given_of h) (machine_judged first s d h o.0 o.1)),
       inr refl,
     )
 
 pub returns-else-eq-clause-begun : goal.returns-else-eq-clause-begun
-returns-else-eq-clause-begun c = λ h k may.
+returns-else-eq-clause-begun c = λ first h k may.
     let s = c.args.self.now in
     let d = c.judge_line.new.self in
-    let o = c.judge_line.ensures.judged h k may in
+    let o = c.judge_line.ensures.judged first h k may in
     let other : c.todo.result ≡ todo.Halt → ⊥ = search rules in
-    (o.0, began o.0 ∷ h, begun s d c.todo.result h o.0 o.1 c.todo.ensures other, inl refl)
+    (o.0, began o.0 ∷ h, begun first s d c.todo.result h o.0 o.1 c.todo.ensures other, inl refl)

@@ -14,21 +14,23 @@ use Rattle.controller.proofs.controller.Controller.judge_line.Goals as goal
 
 pub judge-accepted-requires : goal.judge-accepted-requires
 judge-accepted-requires c =
-    let h = c.requires.0 in
-    let k = c.requires.1 in
+    let first = c.requires.0 in
+    let h = c.requires.1 in
+    let k = c.requires.2 in
+    let short = k.short in
     let l = k.lines.number_is in
-    let n = number_is k.first h k.conducted in
-    let few = few_lines k.first h k.conducted in
-    record { few = omega (arith, l, n, few) }
+    let n = number_is first h k.conducted in
+    let few = few_lines first h k.conducted in
+    record { few = omega (arith, l, n, few, short) }
 
 pub returns-clause-judged : goal.returns-clause-judged
-returns-clause-judged c = λ h k may.
-    let b = before_of k.first h in
+returns-clause-judged c = λ first h k may.
+    let b = before_of first h in
     let since : Since = record { moved = b.moved; jog_moved = b.jog_moved; jogged = b.jogged; alarmed = b.alarmed } in
     let j = c.judge-accepted.ensures.becomes since (open_of h) k.input.kept_is in
-    let found_so : c.found.result ≡ machine_in (motion_of h) = c.found.ensures ∙ ap machine_in k.machine.motion_is in
+    let found_so : c.found.result ≡ machine_in (motion_of first h) = c.found.ensures ∙ ap machine_in k.machine.motion_is in
     let before : stands_before c.args.self.now.lines since ≡ b = ap (λ (s : State). before_line c.args.self.now.lines.number s since) k.lines.state_is ∙ ap (λ (n : ℕ). before_line n b.state since) k.lines.number_is in
-    let found = subst (λ (x : Before). Found (machine_in (motion_of h)) x (open_of h) j.0) before
+    let found = subst (λ (x : Before). Found (machine_in (motion_of first h)) x (open_of h) j.0) before
     (subst (λ (m : AnyMachine). Found m (stands_before c.args.self.now.lines since) (open_of h) j.0) found_so j.1) in
     let jogs = c.jogs_behind-self.ensures ∙ ap (λ (x : Kind). jogged_behind x c.args.self.now.jogged) j.3 in
     (j.0, record { keeps = k; may = may; found = found; is = j.2; jogs = jogs; reads = c.clear.ensures; same = refl })

@@ -8,18 +8,18 @@ use Rattle.board_rules.proofs.CutMarks.{other_timely, timely_looked}
 use Rattle.controller.proofs.controller.Controller.look_before.Goals as goal
 
 pub returns-then-needs_look-clause-goes_on : goal.returns-then-needs_look-clause-goes_on
-returns-then-needs_look-clause-goes_on g c = λ rest h stands k.
+returns-then-needs_look-clause-goes_on g c = λ rest first h stands k.
     let s = c.args.self.now in
     let p = c.args.piece in
     let done = c.done-done.result in
     let may = c.done-done.ensures.known rest (port_log h) stands in
-    let keeps = looked_learned s c.learn.new.self done h k may c.learn.ensures.flies in (
+    let keeps = looked_learned first s c.learn.new.self done h k may (c.learn.ensures.flies first.place) in (
       at_port (loaded done) ∷ h,
       c.done-done.ensures.done rest (port_log h) stands,
       keeps,
       inr (done, refl),
-      timely_looked k.first p done h (may, k.conducted) (in_hand s h p k c.requires.hand),
+      timely_looked first p done h (may, k.conducted) (in_hand first s h p k c.requires.hand),
     )
 
 pub returns-else-needs_look-clause-goes_on : goal.returns-else-needs_look-clause-goes_on
-returns-else-needs_look-clause-goes_on g c = λ rest h stands k. (h, stands, k, inl refl, other_timely c.args.piece h (c.needs_look.ensures c.if-needs_look.false).1)
+returns-else-needs_look-clause-goes_on g c = λ rest first h stands k. (h, stands, k, inl refl, other_timely c.args.piece h (c.needs_look.ensures c.if-needs_look.false).1)

@@ -16,45 +16,46 @@ use Rattle.controller.proofs.controller.Controller.mark.Goals as goal
 
 pub run-requires-clause-stands : goal.run-requires-clause-stands
 run-requires-clause-stands g c =
-    let r = c.requires.stands in
+    let r = c.requires.stands in let first = r.1 in
     let s = c.args.self.now in
-    let next = is_next s r.1 (ask (a_mark c.args.mark)) r.3 c.requires.next in
-    (r.0, r.1, r.2, r.3, may_run r.3.first r.1 r.3.conducted r.4 (some_next r.1 (ask (a_mark c.args.mark)) next), inl (hand_some s r.1 r.3 (sym c.if-is_some.ensures)))
+    let next = is_next first s r.2 (ask (a_mark c.args.mark)) r.4 c.requires.next in
+    (r.0, first, r.2, r.3, r.4, may_run first r.2 r.4.conducted r.5 (some_next first r.2 (ask (a_mark c.args.mark)) next), inl (hand_some first s r.2 r.4 (sym c.if-is_some.ensures)))
 
 pub returns-then-is_some-clause-goes_on : goal.returns-then-is_some-clause-goes_on
-returns-then-is_some-clause-goes_on g c = λ rest h stands keeps ready.
+returns-then-is_some-clause-goes_on g c = λ rest first h stands keeps ready.
     let s = c.args.self.now in
-    let next = is_next s h (ask (a_mark c.args.mark)) keeps c.requires.next in
-    c.run.ensures.goes_on rest h stands keeps (may_run keeps.first h keeps.conducted ready (some_next h (ask (a_mark c.args.mark)) next)) (inl (hand_some s h keeps (sym c.if-is_some.ensures)))
+    let next = is_next first s h (ask (a_mark c.args.mark)) keeps c.requires.next in
+    c.run.ensures.goes_on rest first h stands keeps (may_run first h keeps.conducted ready (some_next first h (ask (a_mark c.args.mark)) next)) (inl (hand_some first s h keeps (sym c.if-is_some.ensures)))
 
 pub put_mark-requires : goal.put_mark-requires
-put_mark-requires g c = let r = c.requires.stands in record { few = few_ticks c.args.self.now r.1 r.3 }
+put_mark-requires g c = let r = c.requires.stands in let first = r.1 in record { few = few_ticks first c.args.self.now r.2 r.4 }
 
 pub run-requires-2-clause-stands : goal.run-requires-2-clause-stands
 run-requires-2-clause-stands g c =
-    let r = c.requires.stands in
+    let r = c.requires.stands in let first = r.1 in
     let s = c.args.self.now in
     let m = c.args.mark in
-    let next = is_next s r.1 (ask (a_mark m)) r.3 c.requires.next in
-    let empty = hand_none s r.1 r.3 (sym c.if-is_some.ensures) in
-    let runs = c.put_mark.ensures (plan_of r.1) (motion_of r.1) (given_of r.1) (subst (λ hand. Runs s.machine (plan_of r.1) (motion_of r.1) hand (given_of r.1)) empty r.3.machine) in (
+    let next = is_next first s r.2 (ask (a_mark m)) r.4 c.requires.next in
+    let empty = hand_none first s r.2 r.4 (sym c.if-is_some.ensures) in
+    let runs = c.put_mark.ensures (plan_of r.2) (motion_of first r.2) (given_of r.2) (subst (λ hand. Runs s.machine (plan_of r.2) (motion_of first r.2) hand (given_of r.2)) empty r.4.machine) in (
       r.0,
-      did (Mark m) (pieces.Mark m ∷ []) ∷ r.1,
-      r.2,
-      marked s _ _ m r.1 r.3 next c.requires.mark empty (mark_at_rest r.3.first r.1 m r.3.conducted next) runs c.done.ensures,
-      may_run_marked r.3.first r.1 m (pieces.Mark m ∷ []) r.3.conducted r.4 next,
-      inl (none_behind (hand_of r.1) (pieces.Mark m)),
+      first,
+      did (Mark m) (pieces.Mark m ∷ []) ∷ r.2,
+      r.3,
+      marked first s _ _ m r.2 r.4 next c.requires.mark empty (mark_at_rest first r.2 m r.4.conducted next) runs c.done.ensures,
+      may_run_marked first r.2 m (pieces.Mark m ∷ []) r.4.conducted r.5 next,
+      inl (none_behind (hand_of r.2) (pieces.Mark m)),
     )
 
 pub returns-clause-goes_on : goal.returns-clause-goes_on
-returns-clause-goes_on g c = λ rest h stands keeps ready.
+returns-clause-goes_on g c = λ rest first h stands keeps ready.
     let s = c.args.self.now in
     let m = c.args.mark in
-    let next = is_next s h (ask (a_mark m)) keeps c.requires.next in
-    let empty = hand_none s h keeps (sym c.if-is_some.ensures) in
-    let runs = c.put_mark.ensures (plan_of h) (motion_of h) (given_of h) (subst (λ hand. Runs s.machine (plan_of h) (motion_of h) hand (given_of h)) empty keeps.machine) in
+    let next = is_next first s h (ask (a_mark m)) keeps c.requires.next in
+    let empty = hand_none first s h keeps (sym c.if-is_some.ensures) in
+    let runs = c.put_mark.ensures (plan_of h) (motion_of first h) (given_of h) (subst (λ hand. Runs s.machine (plan_of h) (motion_of first h) hand (given_of h)) empty keeps.machine) in
     let mid = did (Mark m) (pieces.Mark m ∷ []) ∷ h in
-    let now = marked s _ _ m h keeps next c.requires.mark empty (mark_at_rest keeps.first h m keeps.conducted next) runs c.done.ensures in
-    let may = may_run_marked keeps.first h m (pieces.Mark m ∷ []) keeps.conducted ready next in
-    works_passed (g.P.BoardPort.stands c.run-2.new.port rest) c.run-2.result _ _ h mid (passes_did (Mark m) (pieces.Mark m ∷ []) h refl)
-    (c.run-2.ensures.goes_on rest mid stands now may (inl (none_behind (hand_of h) (pieces.Mark m))))
+    let now = marked first s _ _ m h keeps next c.requires.mark empty (mark_at_rest first h m keeps.conducted next) runs c.done.ensures in
+    let may = may_run_marked first h m (pieces.Mark m ∷ []) keeps.conducted ready next in
+    works_passed first (g.P.BoardPort.stands c.run-2.new.port rest) c.run-2.result _ _ h mid (passes_did first (Mark m) (pieces.Mark m ∷ []) h refl)
+    (c.run-2.ensures.goes_on rest first mid stands now may (inl (none_behind (hand_of h) (pieces.Mark m))))

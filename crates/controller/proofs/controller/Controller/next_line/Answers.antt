@@ -3,18 +3,18 @@ use Rattle.controller.proofs.controller.Controller.next_line.Goals as goal
 
 pub poll-requires-clause-stands : goal.poll-requires-clause-stands
 poll-requires-clause-stands g c =
-    let r = c.requires.stands in
-    (r.0, r.1, r.2, r.3, r.4, may_poll c.args.self.now r.1 r.3 r.5 c.requires.none c.requires.«open» c.if-self.false)
+    let r = c.requires.stands in let first = r.1 in
+    (r.0, first, r.2, r.3, r.4, r.5, may_poll first c.args.self.now r.2 r.4 r.6 c.requires.none c.requires.«open» c.if-self.false)
 
 pub returns-clause-goes_on : goal.returns-clause-goes_on
-returns-clause-goes_on g c = λ rest h stands k ready goes.
-    c.poll.ensures.goes_on rest h stands k ready (may_poll c.args.self.now h k goes c.requires.none c.requires.«open» c.if-self.false)
+returns-clause-goes_on g c = λ rest first h stands k ready goes.
+    c.poll.ensures.goes_on rest first h stands k ready (may_poll first c.args.self.now h k goes c.requires.none c.requires.«open» c.if-self.false)
 
 pub begin-requires-clause-stands : goal.begin-requires-clause-stands
 begin-requires-clause-stands g c =
-    let r = c.requires.stands in
-    (r.0, r.1, r.2, r.3, r.4, whole_line c.args.self.now r.1 r.3 r.5 c.requires.none c.requires.«open» c.if-self.true)
+    let r = c.requires.stands in let first = r.1 in
+    (r.0, first, r.2, r.3, r.4, r.5, whole_line first c.args.self.now r.2 r.4 r.6 c.requires.none c.requires.«open» c.if-self.true)
 
 pub returns-then-self-clause-goes_on : goal.returns-then-self-clause-goes_on
-returns-then-self-clause-goes_on g c = λ rest h stands k ready goes.
-    c.begin.ensures.goes_on rest h stands k ready (whole_line c.args.self.now h k goes c.requires.none c.requires.«open» c.if-self.true)
+returns-then-self-clause-goes_on g c = λ rest first h stands k ready goes.
+    c.begin.ensures.goes_on rest first h stands k ready (whole_line first c.args.self.now h k goes c.requires.none c.requires.«open» c.if-self.true)

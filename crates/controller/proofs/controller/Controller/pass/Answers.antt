@@ -10,24 +10,24 @@ use Rattle.controller.proofs.Resting.{no_rest, no_normal, none_passed}
 use Rattle.controller.proofs.controller.Controller.pass.Goals as goal
 
 pub pass_next-requires-clause-stands : goal.pass_next-requires-clause-stands
-pass_next-requires-clause-stands c = let r = c.requires in let n = c.loop-self.invariant.passed r.0 r.1 r.2 in (n.0, n.1, n.2)
+pass_next-requires-clause-stands c = let r = c.requires in let first = r.0 in let n = c.loop-self.invariant.passed first r.1 r.2 r.3 in (first, n.0, n.1, n.2)
 
 pub loop-self-preserved : goal.loop-self-preserved
 loop-self-preserved c =
     let i = c.loop-self.invariant in
     let next : IsPassed c.loop-self.self.lines.left = search rules in
     record {
-      passed = λ h k stopped. let n = i.passed h k stopped in let m = c.pass_next.ensures.passed n.0 n.1 n.2 in (m.0, m.1, m.2, alone_on h n.0 m.0 n.3 m.3);
+      passed = λ first h k stopped. let n = i.passed first h k stopped in let m = c.pass_next.ensures.passed first n.0 n.1 n.2 in (m.0, m.1, m.2, alone_on first h n.0 m.0 n.3 m.3);
       same = c.pass_next.ensures.same ∙ ap (λ (b : Controller). record b { machine = c.pass_next.new.self.machine; lines = c.pass_next.new.self.lines }) i.same;
-      closing = λ h k closing. absurd (none_passed c.args.self.now h k closing (subst (λ (b : Controller). IsPassed b.lines.left) (i.closing h k closing) next));
+      closing = λ first h k closing. absurd (none_passed first c.args.self.now h k closing (subst (λ (b : Controller). IsPassed b.lines.left) (i.closing first h k closing) next));
     }
 
 pub returns : goal.returns
 returns c =
     let i = c.loop-self.invariant in
     record {
-      passed = λ h k stopped.
-          let n = i.passed h k stopped in (
+      passed = λ first h k stopped.
+          let n = i.passed first h k stopped in (
             n.0,
             n.1,
             n.2,

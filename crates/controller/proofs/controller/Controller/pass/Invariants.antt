@@ -1,4 +1,5 @@
 use Rattle.std.proofs.Common.{◌≡◌, true, length}
+use Rattle.board_rules.specs.Openings.{Opening}
 use Rattle.board_rules.specs.Steps.{Journal}
 use Rattle.controller.specs.Boards.{Keeps}
 use Rattle.controller.specs.Turning.{HasStopped, DidAlone}
@@ -6,9 +7,9 @@ use Rattle.controller.proofs.controller.Controller.pass.Given as goal
 
 abbrev pub invariant-loop-self : goal.invariant-loop-self
 invariant-loop-self l = record {
-  passed : (h : Journal) → Keeps l.fn.self h → HasStopped h → (next : Journal) × Keeps l.self next × HasStopped next × DidAlone h next;
+  passed : (first : Opening) (h : Journal) → Keeps first l.fn.self h → HasStopped first h → (next : Journal) × Keeps first l.self next × HasStopped first next × DidAlone first h next;
   same : l.self ≡ record l.fn.self { machine = l.self.machine; lines = l.self.lines };
-  closing : (h : Journal) → Keeps l.fn.self h → l.fn.self.closing ≡ true → l.self ≡ l.fn.self;
+  closing : (first : Opening) (h : Journal) → Keeps first l.fn.self h → l.fn.self.closing ≡ true → l.self ≡ l.fn.self;
 }
 
 abbrev pub decreases-loop-self : goal.decreases-loop-self

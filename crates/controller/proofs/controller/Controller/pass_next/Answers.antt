@@ -7,12 +7,12 @@ use Rattle.controller.proofs.controller.Controller.pass_next.Goals.{then-eq, els
 use Rattle.controller.proofs.controller.Controller.pass_next.Goals as goal
 
 pub returns-clause-passed : goal.returns-clause-passed
-returns-clause-passed c h k stopped =
+returns-clause-passed c first h k stopped =
     let s = c.args.self.now in elim c.if-eq.branch [
       | then-eq w ↦
           let e : c.todo.result ≡ todo.Normal = search rules in
-          passed_even s c.if-eq.self _ c.done.new.self h k stopped (subst (λ (t : Todo). IsTodo t s.lines.left) e c.todo.ensures) w.even.ensures.runs w.self-is c.done.ensures
+          passed_even first s c.if-eq.self _ c.done.new.self h k stopped (subst (λ (t : Todo). IsTodo t s.lines.left) e c.todo.ensures) w.even.ensures.runs w.self-is c.done.ensures
       | else-eq w ↦
           let other : c.todo.result ≡ todo.Normal → ⊥ = search rules in
-          passed_rest s c.if-eq.self c.done.new.self h k stopped (rest_next c.todo.result s.lines.left c.todo.ensures other c.requires.next) w.self-is c.done.ensures
+          passed_rest first s c.if-eq.self c.done.new.self h k stopped (rest_next c.todo.result s.lines.left c.todo.ensures other c.requires.next) w.self-is c.done.ensures
     ]

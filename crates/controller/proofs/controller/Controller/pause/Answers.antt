@@ -8,18 +8,18 @@ use Rattle.controller.proofs.controller.Controller.pause.Goals as goal
 
 pub fill-requires : goal.fill-requires
 fill-requires c =
-    let r = c.requires.stands in
-    let h = r.0 in
-    let k = r.1 in
-    let stopped = r.3 in
-    (paused ∷ h, held_for_pause c.args.self.now _ _ h k r.4 stopped.drained stopped.stands (c.pause.ensures (plan_of h) (motion_of h) (hand_of h) (given_of h) k.machine) c.done.ensures)
+    let r = c.requires.stands in let first = r.0 in
+    let h = r.1 in
+    let k = r.2 in
+    let stopped = r.4 in
+    (first, paused ∷ h, held_for_pause first c.args.self.now _ _ h k r.5 stopped.drained stopped.stands (c.pause.ensures (plan_of h) (motion_of first h) (hand_of h) (given_of h) k.machine) c.done.ensures)
 
 pub returns-clause-goes_on : goal.returns-clause-goes_on
-returns-clause-goes_on c h k ready stopped task =
+returns-clause-goes_on c first h k ready stopped task =
     let s = c.args.self.now in
-    let keeps = held_for_pause s _ _ h k task stopped.drained stopped.stands (c.pause.ensures (plan_of h) (motion_of h) (hand_of h) (given_of h) k.machine) c.done.ensures in
-    let n = c.fill.ensures.filled (paused ∷ h) keeps in (
+    let keeps = held_for_pause first s _ _ h k task stopped.drained stopped.stands (c.pause.ensures (plan_of h) (motion_of first h) (hand_of h) (given_of h) k.machine) c.done.ensures in
+    let n = c.fill.ensures.filled first (paused ∷ h) keeps in (
       n.0,
       n.2.alone.port,
-      paused_filled _ s h n.0 k ready task n.2 n.1 (ap (λ (b : Controller). b.beat) c.fill.ensures.same ∙ c.requires.beat) (ap (λ (b : Controller). b.flags) c.fill.ensures.same ∙ c.requires.flags),
+      paused_filled first _ s h n.0 k ready task n.2 n.1 (ap (λ (b : Controller). b.beat) c.fill.ensures.same ∙ c.requires.beat) (ap (λ (b : Controller). b.flags) c.fill.ensures.same ∙ c.requires.flags),
     )

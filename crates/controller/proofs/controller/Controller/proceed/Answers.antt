@@ -9,60 +9,60 @@ use Rattle.controller.proofs.controller.Controller.proceed.Goals as goal
 
 pub await_motion-requires-clause-stands : goal.await_motion-requires-clause-stands
 await_motion-requires-clause-stands g c =
-    let r = c.requires.stands in
-    let awaits = subst (λ ts. awaits_motion ts ≡ true) r.3.lines.left_is (sym c.if-not-awaits_motion.ensures) in
-    (r.0, r.1, r.2, r.3, may_await_now c.args.self.now r.1 r.3 r.4 r.5 awaits)
+    let r = c.requires.stands in let first = r.1 in
+    let awaits = subst (λ ts. awaits_motion ts ≡ true) r.4.lines.left_is (sym c.if-not-awaits_motion.ensures) in
+    (r.0, first, r.2, r.3, r.4, may_await_now first c.args.self.now r.2 r.4 r.5 r.6 awaits)
 
 pub do_next-requires-2-clause-stands : goal.do_next-requires-2-clause-stands
 do_next-requires-2-clause-stands g c =
-    let r = c.requires.stands in
-    let awaits = subst (λ ts. awaits_motion ts ≡ true) r.3.lines.left_is (sym c.if-not-awaits_motion.ensures) in
-    let n = c.in_default.ensures.over r.0 r.1 r.2 r.3 (may_await_now c.args.self.now r.1 r.3 r.4 r.5 awaits) in
-    let m = c.pass.ensures.passed n.0 n.2 n.3 in
-    (r.0, m.0, rw m.3.port n.1, m.1, ready_stopped n.0 m.0 (ready_stopped r.1 n.0 r.4 n.4 n.3) m.3.passes m.2, goes_on_stopped m.0 m.2, needs_no_wait c.pass.new.self m.0 m.1 m.2 m.4 m.5)
+    let r = c.requires.stands in let first = r.1 in
+    let awaits = subst (λ ts. awaits_motion ts ≡ true) r.4.lines.left_is (sym c.if-not-awaits_motion.ensures) in
+    let n = c.in_default.ensures.over r.0 first r.2 r.3 r.4 (may_await_now first c.args.self.now r.2 r.4 r.5 r.6 awaits) in
+    let m = c.pass.ensures.passed first n.0 n.2 n.3 in
+    (r.0, first, m.0, rw m.3.port n.1, m.1, ready_stopped first n.0 m.0 (ready_stopped first r.2 n.0 r.5 n.4 n.3) m.3.passes m.2, goes_on_stopped first m.0 m.2, needs_no_wait first c.pass.new.self m.0 m.1 m.2 m.4 m.5)
 
 pub do_next-requires-2-clause-open : goal.do_next-requires-2-clause-open
 do_next-requires-2-clause-open g c =
-    let r = c.requires.stands in
-    let awaits = subst (λ ts. awaits_motion ts ≡ true) r.3.lines.left_is (sym c.if-not-awaits_motion.ensures) in
-    let n = c.in_default.ensures.over r.0 r.1 r.2 r.3 (may_await_now c.args.self.now r.1 r.3 r.4 r.5 awaits) in
+    let r = c.requires.stands in let first = r.1 in
+    let awaits = subst (λ ts. awaits_motion ts ≡ true) r.4.lines.left_is (sym c.if-not-awaits_motion.ensures) in
+    let n = c.in_default.ensures.over r.0 first r.2 r.3 r.4 (may_await_now first c.args.self.now r.2 r.4 r.5 r.6 awaits) in
     still_open c.args.self.now c.await_motion.new.self c.pass.new.self (sym c.if-not-awaits_motion.ensures) (ap (λ (b : Controller). b.lines) c.in_default.ensures.same)
-    (ap (λ (b : Controller). b.closing) c.pass.ensures.same) (c.pass.ensures.closing n.0 n.2)
+    (ap (λ (b : Controller). b.closing) c.pass.ensures.same) (c.pass.ensures.closing first n.0 n.2)
 
 pub returns-clause-goes_on : goal.returns-clause-goes_on
-returns-clause-goes_on g c = λ rest h stands keeps ready goes.
+returns-clause-goes_on g c = λ rest first h stands keeps ready goes.
     let awaits = subst (λ ts. awaits_motion ts ≡ true) keeps.lines.left_is (sym c.if-not-awaits_motion.ensures) in
-    let n = c.in_default.ensures.over rest h stands keeps (may_await_now c.args.self.now h keeps ready goes awaits) in
-    let m = c.pass.ensures.passed n.0 n.2 n.3 in
-    let d = c.do_next-2.ensures.goes_on rest m.0 (rw m.3.port n.1) m.1 (ready_stopped n.0 m.0 (ready_stopped h n.0 ready n.4 n.3) m.3.passes m.2) (goes_on_stopped m.0 m.2) (needs_no_wait c.pass.new.self m.0 m.1 m.2 m.4 m.5) in
+    let n = c.in_default.ensures.over rest first h stands keeps (may_await_now first c.args.self.now h keeps ready goes awaits) in
+    let m = c.pass.ensures.passed first n.0 n.2 n.3 in
+    let d = c.do_next-2.ensures.goes_on rest first m.0 (rw m.3.port n.1) m.1 (ready_stopped first n.0 m.0 (ready_stopped first h n.0 ready n.4 n.3) m.3.passes m.2) (goes_on_stopped first m.0 m.2) (needs_no_wait first c.pass.new.self m.0 m.1 m.2 m.4 m.5) in
     let s = g.P.BoardPort.stands c.do_next-2.new.port rest in
     let same = ap (λ (b : Controller). b.flags) c.pass.ensures.same ∙ ap (λ (b : Controller). b.flags) c.in_default.ensures.same in
-    subst (λ (f : Flags). WorksOn s c.do_next-2.result f c.do_next-2.new.self h) same
-    (works_passed s c.do_next-2.result c.pass.new.self.flags c.do_next-2.new.self h n.0 n.4 (works_passed s c.do_next-2.result c.pass.new.self.flags c.do_next-2.new.self n.0 m.0 m.3.passes d))
+    subst (λ (f : Flags). WorksOn first s c.do_next-2.result f c.do_next-2.new.self h) same
+    (works_passed first s c.do_next-2.result c.pass.new.self.flags c.do_next-2.new.self h n.0 n.4 (works_passed first s c.do_next-2.result c.pass.new.self.flags c.do_next-2.new.self n.0 m.0 m.3.passes d))
 
 pub returns-in-Some-clause-goes_on : goal.returns-in-Some-clause-goes_on
-returns-in-Some-clause-goes_on g c = λ rest h stands keeps ready goes.
+returns-in-Some-clause-goes_on g c = λ rest first h stands keeps ready goes.
     let awaits = subst (λ ts. awaits_motion ts ≡ true) keeps.lines.left_is (sym c.if-not-awaits_motion.ensures) in
-    c.in-Some.ensures.waits rest h stands keeps (may_await_now c.args.self.now h keeps ready goes awaits)
+    c.in-Some.ensures.waits rest first h stands keeps (may_await_now first c.args.self.now h keeps ready goes awaits)
 
 pub pass-requires : goal.pass-requires
 pass-requires g c =
-    let r = c.requires.stands in
-    let awaits = subst (λ ts. awaits_motion ts ≡ true) r.3.lines.left_is (sym c.if-not-awaits_motion.ensures) in
-    let n = c.in_default.ensures.over r.0 r.1 r.2 r.3 (may_await_now c.args.self.now r.1 r.3 r.4 r.5 awaits) in
-    (n.0, n.2, n.3)
+    let r = c.requires.stands in let first = r.1 in
+    let awaits = subst (λ ts. awaits_motion ts ≡ true) r.4.lines.left_is (sym c.if-not-awaits_motion.ensures) in
+    let n = c.in_default.ensures.over r.0 first r.2 r.3 r.4 (may_await_now first c.args.self.now r.2 r.4 r.5 r.6 awaits) in
+    (first, n.0, n.2, n.3)
 
 pub next_line-requires-clause-stands : goal.next_line-requires-clause-stands
-next_line-requires-clause-stands g c = let r = c.requires.stands in (r.0, r.1, r.2, r.3, r.4, r.5)
+next_line-requires-clause-stands g c = let r = c.requires.stands in let first = r.1 in (r.0, first, r.2, r.3, r.4, r.5, r.6)
 
 pub returns-then-is_done-clause-goes_on : goal.returns-then-is_done-clause-goes_on
-returns-then-is_done-clause-goes_on g c = λ rest h stands keeps ready goes. c.next_line.ensures.goes_on rest h stands keeps ready goes
+returns-then-is_done-clause-goes_on g c = λ rest first h stands keeps ready goes. c.next_line.ensures.goes_on rest first h stands keeps ready goes
 
 pub do_next-requires-clause-stands : goal.do_next-requires-clause-stands
 do_next-requires-clause-stands g c =
-    let r = c.requires.stands in
-    (r.0, r.1, r.2, r.3, r.4, r.5, λ awaits. absurd (let e = c.if-not-awaits_motion.ensures ∙ ap awaits_motion r.3.lines.left_is ∙ awaits in cc))
+    let r = c.requires.stands in let first = r.1 in
+    (r.0, first, r.2, r.3, r.4, r.5, r.6, λ awaits. absurd (let e = c.if-not-awaits_motion.ensures ∙ ap awaits_motion r.4.lines.left_is ∙ awaits in cc))
 
 pub returns-then-not-awaits_motion-clause-goes_on : goal.returns-then-not-awaits_motion-clause-goes_on
-returns-then-not-awaits_motion-clause-goes_on g c = λ rest h stands keeps ready goes.
-    c.do_next.ensures.goes_on rest h stands keeps ready goes (λ awaits. absurd (let e = c.if-not-awaits_motion.ensures ∙ ap awaits_motion keeps.lines.left_is ∙ awaits in cc))
+returns-then-not-awaits_motion-clause-goes_on g c = λ rest first h stands keeps ready goes.
+    c.do_next.ensures.goes_on rest first h stands keeps ready goes (λ awaits. absurd (let e = c.if-not-awaits_motion.ensures ∙ ap awaits_motion keeps.lines.left_is ∙ awaits in cc))

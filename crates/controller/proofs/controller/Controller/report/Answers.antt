@@ -7,33 +7,34 @@ use Rattle.controller.proofs.controller.Controller.report.Goals as goal
 -- src/reports.rt:132:13
 pub go_on_owing-requires-clause-stands : goal.go_on_owing-requires-clause-stands
 go_on_owing-requires-clause-stands g c =
-    let r = c.requires.stands in
+    let r = c.requires.stands in let first = r.1 in
     let word = c.args.word in
-    let t = c.tell_report-told.ensures.goes_on r.0 r.1 r.2 r.3 r.4 in (
+    let t = c.tell_report-told.ensures.goes_on r.0 first r.2 r.3 r.4 r.5 in (
       r.0,
-      obeying word t.0,
-      stands_behind (λ l. g.P.BoardPort.stands c.tell_report-told.new.port r.0 l) word t.0 t.1,
-      c.obey_waiting.ensures.goes_on t.0 c.tell_report-told.result t.2 t.3,
-      lacks_room word t.0 (subst (λ b. IsReported b word t.0) c.if-not-told.true t.3),
+      first,
+      obeying first word t.0,
+      stands_behind first (λ l. g.P.BoardPort.stands c.tell_report-told.new.port r.0 l) word t.0 t.1,
+      c.obey_waiting.ensures.goes_on first t.0 c.tell_report-told.result t.2 t.3,
+      lacks_room first word t.0 (subst (λ b. (IsReported first) b word t.0) c.if-not-told.true t.3),
     )
 
 -- src/reports.rt:132:13
 pub returns-then-not-told-clause-goes_on : goal.returns-then-not-told-clause-goes_on
-returns-then-not-told-clause-goes_on g c rest h was stands k to =
+returns-then-not-told-clause-goes_on g c rest first h was stands k to =
     let word = c.args.word in
-    let t = c.tell_report-told.ensures.goes_on rest h stands k to in
-    let mid = obeying word t.0 in
-    let n = c.go_on_owing.ensures.goes_on rest mid was (stands_behind (λ l. g.P.BoardPort.stands c.tell_report-told.new.port rest l) word t.0 t.1)
-    (c.obey_waiting.ensures.goes_on t.0 c.tell_report-told.result t.2 t.3) (lacks_room word t.0 (subst (λ b. IsReported b word t.0) c.if-not-told.true t.3)) in
-    (n.0, n.1, went_on c.go_on_owing.result c.go_on_owing.new.self was h mid n.0 (behind_word word h t.0 t.4) n.2 n.3)
+    let t = c.tell_report-told.ensures.goes_on rest first h stands k to in
+    let mid = obeying first word t.0 in
+    let n = c.go_on_owing.ensures.goes_on rest first mid was (stands_behind first (λ l. g.P.BoardPort.stands c.tell_report-told.new.port rest l) word t.0 t.1)
+    (c.obey_waiting.ensures.goes_on first t.0 c.tell_report-told.result t.2 t.3) (lacks_room first word t.0 (subst (λ b. (IsReported first) b word t.0) c.if-not-told.true t.3)) in
+    (n.0, n.1, went_on first c.go_on_owing.result c.go_on_owing.new.self was h mid n.0 (behind_word first word h t.0 t.4) n.2 n.3)
 
 -- src/reports.rt:122:5
 pub returns-clause-goes_on : goal.returns-clause-goes_on
-returns-clause-goes_on g c rest h was stands k to =
+returns-clause-goes_on g c rest first h was stands k to =
     let word = c.args.word in
-    let t = c.tell_report-told.ensures.goes_on rest h stands k to in
+    let t = c.tell_report-told.ensures.goes_on rest first h stands k to in
     let beat = ap (λ (b : Controller). b.beat) c.obey_waiting.ensures.same ∙ (ap (λ (b : Controller). b.beat) c.tell_report-told.ensures.same ∙ c.requires.beat) in (
-      obeying word t.0,
-      stands_behind (λ l. g.P.BoardPort.stands c.tell_report-told.new.port rest l) word t.0 t.1,
-      did_report c.obey_waiting.new.self was word h t.0 (c.obey_waiting.ensures.goes_on t.0 c.tell_report-told.result t.2 t.3) (subst (λ b. IsReported b word t.0) c.if-not-told.false t.3) t.4 beat,
+      obeying first word t.0,
+      stands_behind first (λ l. g.P.BoardPort.stands c.tell_report-told.new.port rest l) word t.0 t.1,
+      did_report first c.obey_waiting.new.self was word h t.0 (c.obey_waiting.ensures.goes_on first t.0 c.tell_report-told.result t.2 t.3) (subst (λ b. (IsReported first) b word t.0) c.if-not-told.false t.3) t.4 beat,
     )

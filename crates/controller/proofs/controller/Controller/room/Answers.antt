@@ -7,10 +7,10 @@ use Rattle.controller.proofs.Telling.{few_blocks, asked_room}
 use Rattle.controller.proofs.controller.Controller.room.Goals as goal
 
 pub free_blocks-requires : goal.free_blocks-requires
-free_blocks-requires g c = let r = c.requires.stands in few_blocks c.args.self.now r.1 r.3
+free_blocks-requires g c = let r = c.requires.stands in let first = r.1 in few_blocks first c.args.self.now r.2 r.4
 
 pub returns-clause-goes_on : goal.returns-clause-goes_on
-returns-clause-goes_on g c rest h stands k =
+returns-clause-goes_on g c rest first h stands k =
     let s = c.args.self.now in
     let bytes = c.free-bytes.result in
-    (at_port (found_free bytes) ∷ h, c.free-bytes.ensures.free rest (port_log h) stands, room_found s bytes h k, asked_room s c.free_blocks.result bytes h k c.free_blocks.ensures)
+    (at_port (found_free bytes) ∷ h, c.free-bytes.ensures.free rest (port_log h) stands, room_found first s bytes h k, asked_room first s c.free_blocks.result bytes h k c.free_blocks.ensures)

@@ -8,19 +8,19 @@ use Rattle.controller.proofs.controller.Controller.run_waiting.Goals as goal
 
 pub run-requires-clause-stands : goal.run-requires-clause-stands
 run-requires-clause-stands g c =
-    let r = c.requires.stands in
+    let r = c.requires.stands in let first = r.1 in
     let s = c.args.self.now in
-    let may = may_start_polled s r.1 r.3 r.4 c.requires.blocks in
-    let idle = sym r.3.machine.motion_is ∙ c.requires.idle in
-    let runs = c.start.ensures.runs (plan_of r.1) (motion_of r.1) (hand_of r.1) (given_of r.1) r.3.machine in
-    (r.0, starting s.jogged r.1, r.2, started s _ s.jogged r.1 r.3 idle may runs, may_run_started s.jogged r.1 r.4, inr (started_due s.jogged r.1 may.blocks))
+    let may = may_start_polled first s r.2 r.4 r.5 c.requires.blocks in
+    let idle = sym r.4.machine.motion_is ∙ c.requires.idle in
+    let runs = c.start.ensures.runs (plan_of r.2) (motion_of first r.2) (hand_of r.2) (given_of r.2) r.4.machine in
+    (r.0, first, starting s.jogged r.2, r.3, started first s _ s.jogged r.2 r.4 idle may runs, may_run_started first s.jogged r.2 r.5, inr (started_due first s.jogged r.2 may.blocks))
 
 pub returns-clause-goes_on : goal.returns-clause-goes_on
-returns-clause-goes_on g c = λ rest h stands keeps polled.
+returns-clause-goes_on g c = λ rest first h stands keeps polled.
     let s = c.args.self.now in
-    let may = may_start_polled s h keeps polled c.requires.blocks in
+    let may = may_start_polled first s h keeps polled c.requires.blocks in
     let idle = sym keeps.machine.motion_is ∙ c.requires.idle in
-    let runs = c.start.ensures.runs (plan_of h) (motion_of h) (hand_of h) (given_of h) keeps.machine in
+    let runs = c.start.ensures.runs (plan_of h) (motion_of first h) (hand_of h) (given_of h) keeps.machine in
     let mid = starting s.jogged h in
-    works_passed (g.P.BoardPort.stands c.run.new.port rest) c.run.result s.flags _ h mid (started_passes s.jogged h)
-    (c.run.ensures.goes_on rest mid stands (started s _ s.jogged h keeps idle may runs) (may_run_started s.jogged h polled) (inr (started_due s.jogged h may.blocks)))
+    works_passed first (g.P.BoardPort.stands c.run.new.port rest) c.run.result s.flags _ h mid (started_passes first s.jogged h)
+    (c.run.ensures.goes_on rest first mid stands (started first s _ s.jogged h keeps idle may runs) (may_run_started first s.jogged h polled) (inr (started_due first s.jogged h may.blocks)))

@@ -12,12 +12,12 @@ use Rattle.controller.proofs.controller.Controller.start_before_line.Goals as go
 
 -- src/controller.rt:384:5
 pub returns-then-is_waiting-clause-started : goal.returns-then-is_waiting-clause-started
-returns-then-is_waiting-clause-started c = λ h k looked.
+returns-then-is_waiting-clause-started c = λ first h k looked.
     let waiting = c.is_waiting.ensures.yes c.if-is_waiting.true in
     let blocks = ap (λ p. has_blocks p.blocks) (sym k.machine.plan_is) ∙ waiting.1 in (
       starting c.args.self.now.jogged h,
-      started c.args.self.now c.start.new.self c.args.self.now.jogged h k (sym k.machine.motion_is ∙ waiting.0) (may_start c.args.self.now h k looked blocks (sym k.input.dollar_is ∙ c.if-self.true))
-          (c.start.ensures.runs (plan_of h) (motion_of h) (hand_of h) (given_of h) k.machine),
-      judges_started c.args.self.now.jogged h looked blocks,
-      alone_motion (on_start c.args.self.now.jogged) (start_motion c.args.self.now.jogged) h refl (none_left_to_change c.args.self.now.jogged h),
+      started first c.args.self.now c.start.new.self c.args.self.now.jogged h k (sym k.machine.motion_is ∙ waiting.0) (may_start first c.args.self.now h k looked blocks (sym k.input.dollar_is ∙ c.if-self.true))
+          (c.start.ensures.runs (plan_of h) (motion_of first h) (hand_of h) (given_of h) k.machine),
+      judges_started first c.args.self.now.jogged h looked blocks,
+      alone_motion first (on_start c.args.self.now.jogged) (start_motion c.args.self.now.jogged) h refl (none_left_to_change first c.args.self.now.jogged h),
     )

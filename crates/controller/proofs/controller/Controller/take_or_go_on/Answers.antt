@@ -9,33 +9,33 @@ use Rattle.controller.proofs.Words.{took_changes, took_requests}
 use Rattle.controller.proofs.controller.Controller.take_or_go_on.Goals as goal
 
 pub returns-in-Both-clause-goes_on : goal.returns-in-Both-clause-goes_on
-returns-in-Both-clause-goes_on g c rest h stands f between =
-    let n = c.take_changes.ensures.goes_on rest h stands f.keeps in
+returns-in-Both-clause-goes_on g c rest first h stands f between =
+    let n = c.take_changes.ensures.goes_on rest first h stands f.keeps in
     let next = replanned n.0 h in (
       next,
       n.1,
-      took_changes c.args.self.now (record c.take_changes.new.self { flags = words.Requests }) n.0 h f between c.in-Both.is (other_flags c.take_changes.new.self words.Requests next n.2)
+      took_changes first c.args.self.now (record c.take_changes.new.self { flags = words.Requests }) n.0 h f between c.in-Both.is (other_flags first c.take_changes.new.self words.Requests next n.2)
           (ap (λ (b : Controller). b.beat) c.take_changes.ensures.same) refl,
     )
 
 pub take_requests-requires : goal.take_requests-requires
 take_requests-requires g c =
-    let r = c.requires.stands in
-    record { stands = (r.0, r.1, r.2, r.3.keeps, (subst (λ x. TakesFlags x r.1) c.in-Requests.is r.3.flags).obeyed, no_jog_waits r.3.keeps.first r.1 r.3.keeps.conducted r.4) }
+    let r = c.requires.stands in let first = r.1 in
+    record { stands = (r.0, first, r.2, r.3, r.4.keeps, (subst (λ x. TakesFlags x r.2) c.in-Requests.is r.4.flags).obeyed, no_jog_waits first r.2 r.4.keeps.conducted r.5) }
 
 pub returns-in-Requests-clause-goes_on : goal.returns-in-Requests-clause-goes_on
-returns-in-Requests-clause-goes_on g c rest h stands f between =
-    let n = c.take_requests.ensures.goes_on rest h stands f.keeps (subst (λ x. TakesFlags x h) c.in-Requests.is f.flags).obeyed (no_jog_waits f.keeps.first h f.keeps.conducted between) in (
-      asked n.0 n.1,
+returns-in-Requests-clause-goes_on g c rest first h stands f between =
+    let n = c.take_requests.ensures.goes_on rest first h stands f.keeps (subst (λ x. TakesFlags x h) c.in-Requests.is f.flags).obeyed (no_jog_waits first h f.keeps.conducted between) in (
+      asked first n.0 n.1,
       n.3,
-      took_requests c.args.self.now c.take_requests.new.self n.0 h n.1 f between c.in-Requests.is n.2 n.4 (ap (λ (b : Controller). b.beat) c.take_requests.ensures.same) n.5,
+      took_requests first c.args.self.now c.take_requests.new.self n.0 h n.1 f between c.in-Requests.is n.2 n.4 (ap (λ (b : Controller). b.beat) c.take_requests.ensures.same) n.5,
     )
 
 pub take_changes-requires : goal.take_changes-requires
-take_changes-requires g c = let r = c.requires.stands in record { stands = (r.0, r.1, r.2, r.3.keeps) }
+take_changes-requires g c = let r = c.requires.stands in let first = r.1 in record { stands = (r.0, first, r.2, r.3, r.4.keeps) }
 
 pub go_on-requires-clause-stands : goal.go_on-requires-clause-stands
 go_on-requires-clause-stands g c = c.requires.stands
 
 pub returns-in-Report-clause-goes_on : goal.returns-in-Report-clause-goes_on
-returns-in-Report-clause-goes_on g c = λ rest h stands f between. c.go_on.ensures.goes_on rest h stands f between
+returns-in-Report-clause-goes_on g c = λ rest first h stands f between. c.go_on.ensures.goes_on rest first h stands f between

@@ -12,27 +12,27 @@ use Rattle.controller.proofs.Words.{asked_owed, asked_free, obeys_at_once}
 use Rattle.controller.proofs.controller.Controller.take_requests.Goals as goal
 
 pub returns-then-self-clause-goes_on : goal.returns-then-self-clause-goes_on
-returns-then-self-clause-goes_on g c = λ rest h stands k none no_jog.
-    let n = c.settle.ensures.goes_on rest h stands k in
+returns-then-self-clause-goes_on g c = λ rest first h stands k none no_jog.
+    let n = c.settle.ensures.goes_on rest first h stands k in
     let j = n.0 in
     let word = c.take_exec-word.result in
     let may : MayTakeRequests word j = record { obeyed = n.3.passes.words ∙ none; few = λ e. c.take_exec-word.ensures.few e rest (port_log j) n.1 } in
     let owes_is = ap (λ b. b || c.settle.new.self.owes) c.asks_report.ensures ∙ ap (λ b. asks_report word || b) n.2.owes_is in
     let reset_is = ap (λ b. b || c.settle.new.self.reset) c.asks_reset.ensures ∙ ap (λ b. asks_reset word || b) n.2.reset_is in
     let owed : owes_report (taken word j) ≡ _ = sym owes_is ∙ c.if-self.true in
-    let is = asked_owed word j owed in
+    let is = asked_owed first word j owed in
     let board = record c.settle.new.self { reset = c.asks_reset.result || c.settle.new.self.reset; owes = c.asks_report.result || c.settle.new.self.owes } in (
       word,
       j,
       n.3,
       subst (λ (x : Journal). g.P.BoardPort.stands c.take_exec-word.new.self rest (port_log x)) (sym is) (c.take_exec-word.ensures.taken rest (port_log j) n.1),
-      subst (λ (x : Journal). Keeps (record board { flags = words.Report (Some word) }) x) (sym is) (other_flags board (words.Report (Some word)) (taken word j) (takes_word c.settle.new.self (c.asks_report.result || c.settle.new.self.owes) (c.asks_reset.result || c.settle.new.self.reset) word j n.2 may owes_is reset_is)),
+      subst (λ (x : Journal). Keeps first (record board { flags = words.Report (Some word) }) x) (sym is) (other_flags first board (words.Report (Some word)) (taken word j) (takes_word first c.settle.new.self (c.asks_report.result || c.settle.new.self.owes) (c.asks_reset.result || c.settle.new.self.reset) word j n.2 may owes_is reset_is)),
       sym (ap (λ b. flags_behind b word) owed),
     )
 
 pub returns-clause-goes_on : goal.returns-clause-goes_on
-returns-clause-goes_on g c = λ rest h stands k none no_jog.
-    let n = c.settle.ensures.goes_on rest h stands k in
+returns-clause-goes_on g c = λ rest first h stands k none no_jog.
+    let n = c.settle.ensures.goes_on rest first h stands k in
     let j = n.0 in
     let word = c.take_exec-word.result in
     let left = n.3.passes.words ∙ none in
@@ -40,14 +40,14 @@ returns-clause-goes_on g c = λ rest h stands k none no_jog.
     let owes_is = ap (λ b. b || c.settle.new.self.owes) c.asks_report.ensures ∙ ap (λ b. asks_report word || b) n.2.owes_is in
     let reset_is = ap (λ b. b || c.settle.new.self.reset) c.asks_reset.ensures ∙ ap (λ b. asks_reset word || b) n.2.reset_is in
     let unowed : owes_report (taken word j) ≡ _ = sym owes_is ∙ c.if-self.false in
-    let is = asked_free word j unowed in
+    let is = asked_free first word j unowed in
     let board = record c.settle.new.self { reset = c.asks_reset.result || c.settle.new.self.reset; owes = c.asks_report.result || c.settle.new.self.owes; flags = words.None } in
-    let kept = other_flags (record c.settle.new.self { reset = c.asks_reset.result || c.settle.new.self.reset; owes = c.asks_report.result || c.settle.new.self.owes }) words.None (taken word j) (takes_word c.settle.new.self (c.asks_report.result || c.settle.new.self.owes) (c.asks_reset.result || c.settle.new.self.reset) word j n.2 may owes_is reset_is) in
-    let runs = c.obey.ensures (plan_of j) (motion_of j) (hand_of j) (given_of j) n.2.machine in (
+    let kept = other_flags first (record c.settle.new.self { reset = c.asks_reset.result || c.settle.new.self.reset; owes = c.asks_report.result || c.settle.new.self.owes }) words.None (taken word j) (takes_word first c.settle.new.self (c.asks_report.result || c.settle.new.self.owes) (c.asks_reset.result || c.settle.new.self.reset) word j n.2 may owes_is reset_is) in
+    let runs = c.obey.ensures (plan_of j) (motion_of first j) (hand_of j) (given_of j) n.2.machine in (
       word,
       j,
       n.3,
       subst (λ (x : Journal). g.P.BoardPort.stands c.take_exec-word.new.self rest (port_log x)) (sym is) (c.take_exec-word.ensures.taken rest (port_log j) n.1),
-      subst (λ (x : Journal). Keeps (record board { machine = c.obey.new.self }) x) (sym is) (obeys board c.obey.new.self word (taken word j) kept (obeys_at_once word h j (halts_by c.settle.new.self j n.2) n.3 no_jog left unowed) runs),
+      subst (λ (x : Journal). Keeps first (record board { machine = c.obey.new.self }) x) (sym is) (obeys first board c.obey.new.self word (taken word j) kept (obeys_at_once first word h j (halts_by first c.settle.new.self j n.2) n.3 no_jog left unowed) runs),
       sym (ap (λ b. flags_behind b word) unowed),
     )

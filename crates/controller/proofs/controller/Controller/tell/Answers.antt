@@ -15,63 +15,64 @@ use Rattle.controller.proofs.controller.Controller.tell.Goals as goal
 
 pub run-requires-clause-stands : goal.run-requires-clause-stands
 run-requires-clause-stands g c =
-    let r = c.requires.stands in
+    let r = c.requires.stands in let first = r.1 in
     let s = c.args.self.now in
-    let next = is_next s r.1 (tell c.reply-reply.result) r.3 c.reply-reply.ensures.next in (
+    let next = is_next first s r.2 (tell c.reply-reply.result) r.4 c.reply-reply.ensures.next in (
       r.0,
-      r.1,
+      first,
       r.2,
       r.3,
-      may_run r.3.first r.1 r.3.conducted r.4 (some_next r.1 (tell c.reply-reply.result) next),
-      inl (hand_left s r.1 r.3 (c.holds_back.ensures.yes c.if-holds_back.true)),
+      r.4,
+      may_run first r.2 r.4.conducted r.5 (some_next first r.2 (tell c.reply-reply.result) next),
+      inl (hand_left first s r.2 r.4 (c.holds_back.ensures.yes c.if-holds_back.true)),
     )
 
 pub returns-then-holds_back-clause-goes_on : goal.returns-then-holds_back-clause-goes_on
-returns-then-holds_back-clause-goes_on g c = λ rest h stands keeps ready.
+returns-then-holds_back-clause-goes_on g c = λ rest first h stands keeps ready.
     let s = c.args.self.now in
-    let next = is_next s h (tell c.reply-reply.result) keeps c.reply-reply.ensures.next in
-    c.run.ensures.goes_on rest h stands keeps (may_run keeps.first h keeps.conducted ready (some_next h (tell c.reply-reply.result) next))
-    (inl (hand_left s h keeps (c.holds_back.ensures.yes c.if-holds_back.true)))
+    let next = is_next first s h (tell c.reply-reply.result) keeps c.reply-reply.ensures.next in
+    c.run.ensures.goes_on rest first h stands keeps (may_run first h keeps.conducted ready (some_next first h (tell c.reply-reply.result) next))
+    (inl (hand_left first s h keeps (c.holds_back.ensures.yes c.if-holds_back.true)))
 
 pub answer-requires : goal.answer-requires
 answer-requires g c =
-    let r = c.requires.stands in
+    let r = c.requires.stands in let first = r.1 in
     let s = c.args.self.now in
     let reply = c.reply-reply.result in
-    (r.0, port_log r.1, r.2, may_answer s r.1 reply r.3 (is_next s r.1 (tell reply) r.3 c.reply-reply.ensures.next) c.reply-reply.ensures.valid)
+    (r.0, port_log r.2, r.3, may_answer first s r.2 reply r.4 (is_next first s r.2 (tell reply) r.4 c.reply-reply.ensures.next) c.reply-reply.ensures.valid)
 
 pub returns-in_default-clause-goes_on : goal.returns-in_default-clause-goes_on
-returns-in_default-clause-goes_on g c = λ rest h stands keeps ready.
+returns-in_default-clause-goes_on g c = λ rest first h stands keeps ready.
     let s = c.args.self.now in
     let reply = c.reply-reply.result in
     let back = c.in_default.ensures.full rest (port_log h) stands in
-    (at_port no_reply_room ∷ h, back.0, told_later _ s h reply keeps ready (is_next s h (tell reply) keeps c.reply-reply.ensures.next) c.requires.beat c.requires.flags)
+    (at_port no_reply_room ∷ h, back.0, told_later first _ s h reply keeps ready (is_next first s h (tell reply) keeps c.reply-reply.ensures.next) c.requires.beat c.requires.flags)
 
 pub fill-requires : goal.fill-requires
 fill-requires g c =
-    let r = c.requires.stands in
+    let r = c.requires.stands in let first = r.1 in
     let s = c.args.self.now in
     let reply = c.reply-reply.result in
-    let next = is_next s r.1 (tell reply) r.3 c.reply-reply.ensures.next in
-    (at_port (answered reply) ∷ r.1, told s _ reply r.1 r.3 next c.reply-reply.ensures.plain r.4.quiet.unowed (λ bye. hand_empty s r.1 r.3 (c.if-holds_back.ensures.no refl bye)) c.done.ensures)
+    let next = is_next first s r.2 (tell reply) r.4 c.reply-reply.ensures.next in
+    (first, at_port (answered reply) ∷ r.2, told first s _ reply r.2 r.4 next c.reply-reply.ensures.plain r.5.quiet.unowed (λ bye. (hand_empty first) s r.2 r.4 (c.if-holds_back.ensures.no refl bye)) c.done.ensures)
 
 pub returns-clause-goes_on : goal.returns-clause-goes_on
-returns-clause-goes_on g c = λ rest h stands keeps ready.
+returns-clause-goes_on g c = λ rest first h stands keeps ready.
     let s = c.args.self.now in
     let r = c.reply-reply.result in
-    let next = is_next s h (tell r) keeps c.reply-reply.ensures.next in
+    let next = is_next first s h (tell r) keeps c.reply-reply.ensures.next in
     let mid = at_port (answered r) ∷ h in
-    let now = told s _ r h keeps next c.reply-reply.ensures.plain ready.quiet.unowed (λ bye. hand_empty s h keeps (c.if-holds_back.ensures.no refl bye)) c.done.ensures in
+    let now = told first s _ r h keeps next c.reply-reply.ensures.plain ready.quiet.unowed (λ bye. (hand_empty first) s h keeps (c.if-holds_back.ensures.no refl bye)) c.done.ensures in
     let said_is = said_plain r c.reply-reply.ensures.plain in
-    let stood = c.in-Ok.ensures.ok rest (port_log h) stands (may_answer s h r keeps next c.reply-reply.ensures.valid) in
+    let stood = c.in-Ok.ensures.ok rest (port_log h) stands (may_answer first s h r keeps next c.reply-reply.ensures.valid) in
     let free = free_of h ready.quiet in
     let freed : IsFree mid = record { flags = free.flags; obeyed = free.obeyed; unowed = free.unowed } in
-    let n = c.fill.ensures.filled mid now in
-    let few = few_working keeps.first h keeps.conducted ready (some_next h (tell r) next) in
+    let n = c.fill.ensures.filled first mid now in
+    let few = few_working first h keeps.conducted ready (some_next first h (tell r) next) in
     let one = publishes_one (at_port (answered r)) (this_turn h) refl in
     let quiet = ready.quiet.quiet in
     let worked = worked_behind (at_port (answered r)) h mid refl (record { no_changes = refl; none_planned = refl }) refl refl ready.quiet.worked in
     let beat = ap (λ (b : Controller). b.beat) c.fill.ensures.same ∙ c.requires.beat in
     let none = ap (λ (b : Controller). b.flags) c.fill.ensures.same ∙ c.requires.flags in
-    let taken = takes_none c.fill.new.self n.0 none (free_passed mid n.0 n.2.alone.passes freed) in
-    (n.0, rw (n.2.alone.port, sym said_is) stood, did_filled _ _ h mid n.0 (at_port (answered r) ∷ []) refl n.1 beat taken n.2 worked (omega (arith, one, quiet)) ready.unpolled few (inl (n.2.alone.passes.moves refl)))
+    let taken = takes_none c.fill.new.self n.0 none (free_passed first mid n.0 n.2.alone.passes freed) in
+    (n.0, rw (n.2.alone.port, sym said_is) stood, did_filled first _ _ h mid n.0 (at_port (answered r) ∷ []) refl n.1 beat taken n.2 worked (omega (arith, one, quiet)) ready.unpolled few (inl (n.2.alone.passes.moves refl)))

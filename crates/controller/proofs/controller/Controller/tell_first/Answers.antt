@@ -11,23 +11,23 @@ use Rattle.controller.proofs.controller.Controller.tell_first.Goals as goal
 
 pub answer-requires : goal.answer-requires
 answer-requires g c =
-    let r = c.requires.stands in
+    let r = c.requires.stands in let first = r.1 in
     let s = c.args.self.now in
     let reply = c.reply-reply.result in
-    (r.0, port_log r.1, r.2, may_answer s r.1 reply r.3 (is_next s r.1 (tell reply) r.3 c.reply-reply.ensures.next) c.reply-reply.ensures.valid)
+    (r.0, port_log r.2, r.3, may_answer first s r.2 reply r.4 (is_next first s r.2 (tell reply) r.4 c.reply-reply.ensures.next) c.reply-reply.ensures.valid)
 
 pub returns-in_default-clause-goes_on : goal.returns-in_default-clause-goes_on
-returns-in_default-clause-goes_on g c = λ rest h stands keeps unowed.
+returns-in_default-clause-goes_on g c = λ rest first h stands keeps unowed.
     let s = c.args.self.now in
-    let next = is_next s h (tell c.reply-reply.result) keeps c.reply-reply.ensures.next in
+    let next = is_next first s h (tell c.reply-reply.result) keeps c.reply-reply.ensures.next in
     let back = c.in_default.ensures.full rest (port_log h) stands in
-    (at_port no_reply_room ∷ h, back.0, not_told s h keeps (ap tells_next next), handed_back refl)
+    (at_port no_reply_room ∷ h, back.0, not_told first s h keeps (ap tells_next next), handed_back refl)
 
 pub returns-clause-goes_on : goal.returns-clause-goes_on
-returns-clause-goes_on g c = λ rest h stands keeps unowed.
+returns-clause-goes_on g c = λ rest first h stands keeps unowed.
     let s = c.args.self.now in
     let r = c.reply-reply.result in
-    let next = is_next s h (tell r) keeps c.reply-reply.ensures.next in
-    let now = told s _ r h keeps next c.reply-reply.ensures.plain unowed (λ bye. hand_empty s h keeps (c.if-holds_back.ensures.no refl bye)) c.done.ensures in
-    let stood = c.in-Ok.ensures.ok rest (port_log h) stands (may_answer s h r keeps next c.reply-reply.ensures.valid) in
+    let next = is_next first s h (tell r) keeps c.reply-reply.ensures.next in
+    let now = told first s _ r h keeps next c.reply-reply.ensures.plain unowed (λ bye. (hand_empty first) s h keeps (c.if-holds_back.ensures.no refl bye)) c.done.ensures in
+    let stood = c.in-Ok.ensures.ok rest (port_log h) stands (may_answer first s h r keeps next c.reply-reply.ensures.valid) in
     (at_port (answered r) ∷ h, rw (sym (said_plain r c.reply-reply.ensures.plain)) stood, now, was_told r refl)

@@ -1,4 +1,5 @@
 use Rattle.std.proofs.Common.{◌∙◌, sym}
+use Rattle.board_rules.specs.Openings.{first_opening}
 use Rattle.controller.proofs.Breaking.{over_goes_on, ended_goes_on, turned_goes_on, broken_goes_on, unbroken_goes_on, is_broken}
 use Rattle.controller.proofs.controller.Controller.turn.Goals as goal
 
@@ -15,14 +16,14 @@ returns-then-self-clause-goes_on g c = λ rest d stands f between.
 pub returns-then-breaks_off-clause-goes_on : goal.returns-then-breaks_off-clause-goes_on
 returns-then-breaks_off-clause-goes_on g c = λ rest d stands f between.
     unbroken_goes_on (g.P.BoardPort.stands c.args.port.now rest) (g.P.BoardPort.stands c.carry_on-turn.new.port rest) c.carry_on-turn.result c.args.self.now c.break_off.new.self d c.if-self.false stands f between
-    (λ h at fits still. (let n = c.carry_on-turn.ensures.goes_on rest h at fits still in
-    broken_goes_on (g.P.BoardPort.stands c.carry_on-turn.new.port rest) c.carry_on-turn.result c.args.self.now c.carry_on-turn.new.self c.break_off.new.self h n.0 n.1 n.4 (c.break_off.ensures.broken n.0 n.2 n.3) c.break_off.ensures.flags))
+    (λ state opening h at fits still. (let n = c.carry_on-turn.ensures.goes_on rest (first_opening state) h at fits still in
+    broken_goes_on state (g.P.BoardPort.stands c.carry_on-turn.new.port rest) c.carry_on-turn.result c.args.self.now c.carry_on-turn.new.self c.break_off.new.self h n.0 n.1 n.4 (c.break_off.ensures.broken state n.0 opening n.2 n.3) c.break_off.ensures.flags))
 
 pub returns-else-breaks_off-clause-goes_on : goal.returns-else-breaks_off-clause-goes_on
 returns-else-breaks_off-clause-goes_on g c = λ rest d stands f between.
     unbroken_goes_on (g.P.BoardPort.stands c.args.port.now rest) (g.P.BoardPort.stands c.carry_on-turn.new.port rest) c.carry_on-turn.result c.args.self.now c.carry_on-turn.new.self d c.if-self.false stands f between
-    (λ h at fits still. (let n = c.carry_on-turn.ensures.goes_on rest h at fits still in
-    turned_goes_on (g.P.BoardPort.stands c.carry_on-turn.new.port rest) c.carry_on-turn.result c.args.self.now c.carry_on-turn.new.self h n.0 n.1 n.2 n.3 n.4 (c.breaks_off.ensures.no c.if-breaks_off.false)))
+    (λ state opening h at fits still. (let n = c.carry_on-turn.ensures.goes_on rest (first_opening state) h at fits still in
+    turned_goes_on state (g.P.BoardPort.stands c.carry_on-turn.new.port rest) c.carry_on-turn.result c.args.self.now c.carry_on-turn.new.self h n.0 opening n.1 n.2 n.3 n.4 (c.breaks_off.ensures.no c.if-breaks_off.false)))
 
 pub end_run-requires-clause-going : goal.end_run-requires-clause-going
 end_run-requires-clause-going g c = λ rests. absurd (let e = sym c.if-is_over.false ∙ c.is_over.ensures.1 rests in cc)

@@ -2,9 +2,9 @@ use Rattle.controller.proofs.Nexts.{none_waiting, waits_for_byte}
 use Rattle.controller.proofs.controller.Controller.without_byte.Goals as goal
 
 pub returns-then-not-is_waiting-clause-goes_on : goal.returns-then-not-is_waiting-clause-goes_on
-returns-then-not-is_waiting-clause-goes_on g c = λ rest h stands keeps polled found.
+returns-then-not-is_waiting-clause-goes_on g c = λ rest first h stands keeps polled found.
     let s = c.args.self.now in
-    (h, stands, waits_for_byte s.flags s h keeps polled found (none_waiting s h keeps (c.is_waiting.ensures.no c.if-not-is_waiting.true)) c.requires.beat c.requires.flags)
+    (h, stands, waits_for_byte first s.flags s h keeps polled found (none_waiting first s h keeps (c.is_waiting.ensures.no c.if-not-is_waiting.true)) c.requires.beat c.requires.flags)
 
 pub run_waiting-requires : goal.run_waiting-requires
 run_waiting-requires g c =
@@ -12,4 +12,4 @@ run_waiting-requires g c =
     record { stands = c.requires.stands; idle = waits.0; blocks = waits.1; beat = c.requires.beat; flags = c.requires.flags }
 
 pub returns-clause-goes_on : goal.returns-clause-goes_on
-returns-clause-goes_on g c = λ rest h stands keeps polled found. c.run_waiting.ensures.goes_on rest h stands keeps polled
+returns-clause-goes_on g c = λ rest first h stands keeps polled found. c.run_waiting.ensures.goes_on rest first h stands keeps polled

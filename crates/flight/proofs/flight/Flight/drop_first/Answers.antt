@@ -22,7 +22,7 @@ invariant_of-self c =
     dropped_flight i.slots c.rotate_left.new.self i.count i.from c.place_within-self-inside.result i.before i.known (i.before + c.tick_count-ticks.result) c.self.invariant (some c) c.rotate_left.ensures.after c.rotate_left.ensures.len c.place_within-self-inside.ensures.within
 
 pub returns-clause-flies : goal.returns-clause-flies
-returns-clause-flies c = λ published is.
+returns-clause-flies c = λ start published is.
     let i = c.self.inside in
     let f = c.args.self.now in
     let p = c.in-Some.field-0.now in
@@ -37,6 +37,6 @@ returns-clause-flies c = λ published is.
     c.place_within-self-inside.ensures.place (subst (λ (at : Steps3). BeginsAt at p) (sym from) begins)
     ∙ ap (λ n. moved_by i.from (take n (ticks_of p))) c.tick_count-ticks.ensures ∙ ap (moved_by i.from) all ∙ ap (λ (at : Steps3). moved_by at (ticks_of p)) from in
     let sum : done ≡ f.before + tick_count p = let e = c.tick_count-ticks.ensures in omega arith in
-    subst (λ (qs : List Piece). Flies (record { kept = qs; from = place; before = done; known = done }) published done)
+    subst (λ (qs : List Piece). Flies start (record { kept = qs; from = place; before = done; known = done }) published done)
     (sym (dropped_slots i.slots c.rotate_left.new.self i.count c.self.invariant.long (some c) c.self.invariant.few c.rotate_left.ensures.after ∙ ap (drop 1) kept))
-    (dropped f published p ps place done is c.in-Some.ensures.some.0 leads sum)
+    (dropped start f published p ps place done is c.in-Some.ensures.some.0 leads sum)

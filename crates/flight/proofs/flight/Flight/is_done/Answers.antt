@@ -8,8 +8,8 @@ turned a true is = (λ none. refl, λ all. is)
 turned a false is = (λ none. sym none ∙ is, λ all. is ∙ sym all)
 
 pub returns : goal.returns
-returns c = λ published known is.
+returns c = λ start published known is.
     let both = turned (is_some c.first.result) c.is_none.result c.is_none.ensures in (
-      λ none. all_there c.args.self.now published known is (c.first.ensures.none.0 (both.1 none)),
-      λ all. both.0 (c.first.ensures.none.1 (none_left c.args.self.now published known is all)),
+      λ none. all_there start c.args.self.now published known is (c.first.ensures.none.0 (both.1 none)),
+      λ all. both.0 (c.first.ensures.none.1 (none_left start c.args.self.now published known is all)),
     )

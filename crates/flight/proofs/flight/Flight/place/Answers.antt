@@ -20,7 +20,7 @@ overflow_cast-self-inside c =
     omega (arith, within, few, known, before)
 
 pub returns-in-Some-clause-place : goal.returns-in-Some-clause-place
-returns-in-Some-clause-place c = λ published known is.
+returns-in-Some-clause-place c = λ start published known is.
     let f = c.args.self.now in
     let p = c.in-Some.first.now in
     let kept_is = c.in-Some.ensures.some.0 in
@@ -29,10 +29,10 @@ returns-in-Some-clause-place c = λ published known is.
     let known_is : c.self.inside.known ≡ f.known = ap (λ (f : Flying). f.known) c.self.view_is in
     let before_is : c.self.inside.before ≡ f.before = ap (λ (f : Flying). f.before) c.self.view_is in
     let within = subst (λ (ps : List Piece). EndsWithin ps (f.known - f.before)) kept_is c.in-Some.ensures.within in
-    c.place_within.ensures.place (subst (λ (at : Steps3). BeginsAt at p) (sym from) (first_begins f published known p (drop 1 f.kept) is kept_is))
+    c.place_within.ensures.place (subst (λ (at : Steps3). BeginsAt at p) (sym from) (first_begins start f published known p (drop 1 f.kept) is kept_is))
     ∙ ap (λ (at : Steps3). moved_by at (take j (ticks_of p))) from
-    ∙ place_in f published known p (drop 1 f.kept) j is kept_is (omega arith) (omega (arith, within))
+    ∙ place_in start f published known p (drop 1 f.kept) j is kept_is (omega arith) (omega (arith, within))
 
 pub returns-in-None-clause-place : goal.returns-in-None-clause-place
-returns-in-None-clause-place c = λ published known is.
-    ap (λ (f : Flying). f.from) c.self.view_is ∙ place_behind c.args.self.now published known is (c.in-None.ensures.none.0 refl)
+returns-in-None-clause-place c = λ start published known is.
+    ap (λ (f : Flying). f.from) c.self.view_is ∙ place_behind start c.args.self.now published known is (c.in-None.ensures.none.0 refl)

@@ -21,8 +21,8 @@ invariant_of-self c =
     pushed_flight c.self.inside.slots c.self.inside.count c.self.inside.from c.self.inside.before c.self.inside.known c.args.piece c.self.invariant (few c) (record { fits = c.requires.fits; ticks = some c })
 
 pub returns-then-tick_count-gt0 : goal.returns-then-tick_count-gt0
-returns-then-tick_count-gt0 c = rw (← c.self.view_is) (λ published known is begins.
+returns-then-tick_count-gt0 c = rw (← c.self.view_is) (λ start published known is begins.
     let i = c.self.inside in
     let f : Flying = record { kept = take i.count i.slots; from = i.from; before = i.before; known = i.known } in
-    subst (λ (ps : List Piece). Flies (record { kept = ps; from = i.from; before = i.before; known = i.known }) (published ++ c.args.piece ∷ []) known)
-    (sym (pushed_slots i.slots i.count c.args.piece c.self.invariant.long (few c))) (pushed f published known c.args.piece (some c) is begins))
+    subst (λ (ps : List Piece). Flies start (record { kept = ps; from = i.from; before = i.before; known = i.known }) (published ++ c.args.piece ∷ []) known)
+    (sym (pushed_slots i.slots i.count c.args.piece c.self.invariant.long (few c))) (pushed start f published known c.args.piece (some c) is begins))

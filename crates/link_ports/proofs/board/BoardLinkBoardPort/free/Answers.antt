@@ -7,9 +7,9 @@ returns-clause-free c rest l s = (
   c.free.ensures.link ∙ s.0,
   s.1,
   s.2,
-  room_found _ _ _ _ _ _ _ _ _ l s.3 c.free.result c.free.ensures.taken c.free.ensures.over c.free.ensures.answered,
+  room_found _ _ _ _ _ _ _ l s.3 c.free.result c.free.ensures.log c.free.ensures.over,
   record {
-    byte_looks = looks_at_room _ [] _ false _ [] _ _ _ l s.3 _ _ _ _ s.4.byte_looks c.free.result c.free.ensures.load c.free.ensures.free;
+    byte_looks = looks_at_room _ [] _ false _ _ _ l s.3 _ _ _ _ s.4.byte_looks c.free.result c.free.ensures.load c.free.ensures.free;
     room_looks = c.free.ensures.loads ∙ s.4.room_looks;
     done_looks = s.4.done_looks;
     saw = tt;

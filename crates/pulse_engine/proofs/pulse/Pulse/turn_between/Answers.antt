@@ -11,11 +11,12 @@ returns-clause-logs g c rest h k stands fits =
     let was = seen i.hand i.tracer i.left i.owes i.over p c.self.view_is in
     let waits = c.requires.between.0 in
     let owes = c.requires.between.1 in
+    let over = c.requires.between.2 in
     let empty = hand_is_empty i.hand i.tracer i.left (sym was.0 ∙ waits) in
     let now = c.begin.ensures in (
       got x ∷ h,
       c.in-Some.ensures.some rest h stands (may_get p h k waits owes fits),
-      fits_got p _ i.tracer h k x waits owes (was.2 ∙ c.if-self.false) (was.3 ∙ gone_none i.tracer i.left empty.1)
-          now.waiting (sym was.1 ∙ owes) c.if-self.false now.reached (c.in-Some.ensures.next rest h stands (may_get p h k waits owes fits)) fits,
+      fits_got p _ i.tracer h k x waits owes over (was.3 ∙ gone_none i.tracer i.left empty.1)
+          now.waiting (sym was.1 ∙ owes) (sym was.2 ∙ over) now.reached (c.in-Some.ensures.next rest h stands (may_get p h k waits owes fits)) fits,
       inl (x, refl, refl),
     )

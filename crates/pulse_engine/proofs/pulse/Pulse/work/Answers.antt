@@ -17,9 +17,9 @@ returns-in-Some-clause-logs g c rest back h k stands out fits =
       put r ∷ k,
       stands,
       c.in-Ok.ensures.ok back k out,
-      fits_put p _ (gone i.tracer i.left) h k r (coming i.tracer i.left) (was.0 ∙ ap (λ o. option_to_list o ++ coming i.tracer i.left) c.in-Some.is) (c.requires.counted) was.3
+      fits_put p _ (gone i.tracer i.left) h k r (coming i.tracer i.left) (was.0 ∙ ap (λ o. option_to_list o ++ coming i.tracer i.left) c.in-Some.is) (c.requires.counted.0) was.3
           refl c.is_tick-self-inside.ensures c.is_end-self-inside.ensures refl (none_after r i.tracer i.left first) fits,
-      inr (inl (r, refl, refl)),
+      inr (r, refl, refl),
     )
 
 pub turn_between-requires-clause-between : goal.turn_between-requires-clause-between
@@ -27,7 +27,8 @@ turn_between-requires-clause-between g c =
     let i = c.self.inside in
     let was = seen i.hand i.tracer i.left i.owes i.over c.args.self.now c.self.view_is in (
       was.0 ∙ nothing_waits i.hand i.tracer i.left c.in_default.is c.if-self-eq0.true,
-      c.requires.counted,
+      c.requires.counted.0,
+      c.requires.counted.1,
     )
 
 pub returns-then-self-eq0-clause-logs : goal.returns-then-self-eq0-clause-logs
@@ -49,7 +50,7 @@ returns-in-Ok-put-clause-logs g c rest back h k stands out fits =
       put r ∷ k,
       stands,
       c.in-Ok-put.ensures.ok back k out,
-      fits_put p _ (gone i.tracer i.left) h k r (coming t n) (was.0 ∙ empty ∙ sym now.waiting) (c.requires.counted) was.3
+      fits_put p _ (gone i.tracer i.left) h k r (coming t n) (was.0 ∙ empty ∙ sym now.waiting) (c.requires.counted.0) was.3
           (ap (λ o. option_to_list o ++ coming t n) c.in_default.is) refl (not_over i.over c.self.invariant.last c.if-self-eq0.false) now.reached (λ e. absurd cc) fits,
-      inr (inl (r, refl, refl)),
+      inr (r, refl, refl),
     )

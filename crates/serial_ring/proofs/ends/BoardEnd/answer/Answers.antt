@@ -4,9 +4,10 @@ use mathlib.Core.Option.{none}
 use Rattle.atomic_table.specs.Table.{Me, rest, step, Allows}
 use Rattle.status_report.specs.declared.Reply.{Reply}
 use Rattle.serial_ring.specs.declared.view.Sight.{Sight}
+use Rattle.serial_ring.specs.Logs.{taken_in, answered_in}
 use Rattle.serial_ring.specs.Rule.{Kept, reply_head_word, with_slot, gave}
 use Rattle.shared_rings.proofs.Places.{next_place}
-use Rattle.serial_ring.proofs.Steps.{reaches, answers}
+use Rattle.serial_ring.proofs.BoardSteps.{reaches, answers}
 use Rattle.serial_ring.proofs.Turned.{reply_answered}
 use Rattle.serial_ring.proofs.ends.BoardEnd.answer.Goals as goal
 
@@ -35,19 +36,16 @@ invariant_of-self g c =
       roomy = o.roomy;
       bare = ap (λ m. m.1) saw ∙ o.bare;
       mine = (ap (λ m. m.0.may_take) saw ∙ o.mine.0, ap (λ m. m.0.filling) saw ∙ o.mine.1);
-      bytes = o.bytes ∙ sym (ap (λ m. length m.0.taken) saw);
+      bytes = o.bytes ∙ sym (ap (λ m. length (taken_in m.0.log)) saw);
       shown = (o.shown.0 ∙ sym (ap (λ m. m.0.head) saw), o.shown.1, o.shown.2, o.shown.3);
       ended = o.ended ∙ sym (ap (λ m. m.0.over) saw);
       celled = o.celled;
-      replies = o.replies ∙ sym (ap (λ m. length m.0.answered) saw);
+      replies = o.replies ∙ sym (ap (λ m. length (answered_in m.0.log)) saw);
       slotted = o.slotted;
     }
 
 pub returns-then-self-taken-clause-load : goal.returns-then-self-taken-clause-load
 returns-then-self-taken-clause-load g c = ap (λ m. m.0.reply_tail_loads) (c.load-taken.ensures.2.3 (omega arith))
-
-pub returns-then-self-taken-clause-taken : goal.returns-then-self-taken-clause-taken
-returns-then-self-taken-clause-taken g c = let full = c.load-taken.ensures.2.3 (omega arith) in (ap (λ m. m.0.taken) full, ap (λ m. m.0.over) full)
 
 pub returns-then-self-taken-clause-polls : goal.returns-then-self-taken-clause-polls
 returns-then-self-taken-clause-polls g c = let full = c.load-taken.ensures.2.3 (omega arith) in (ap (λ m. m.0.head_loads) full, ap (λ m. m.0.head) full)
@@ -60,7 +58,7 @@ invariant_of-self-2 g c =
     let o = c.args.self.now in
     let at = c.store.ensures.0 ∙ (c.exchange.ensures.0 ∙ c.load-taken.ensures.0) in
     let all = reply_answered c.args.self.now.seat.me c.load-taken.new.seat.me c.exchange.new.seat.me _ c.load-taken.result _ c.args.self.now.slot c.args.r c.args.self.now.bare (c.load-taken.ensures.2.2 (omega arith)) c.exchange.ensures.3 c.store.ensures.2 in
-    let more : length c.store.new.seat.me.0.answered ≡ length (c.args.r ∷ o.seat.me.0.answered) = ap (λ m. length m.0.answered) all in
+    let more : length (answered_in c.store.new.seat.me.0.log) ≡ length (c.args.r ∷ answered_in o.seat.me.0.log) = ap (λ m. length (answered_in m.0.log)) all in
     let was = o.replies in
     record {
       seated = at ∙ o.seated;
@@ -68,7 +66,7 @@ invariant_of-self-2 g c =
       roomy = o.roomy;
       bare = ap (λ m. m.1) all;
       mine = (ap (λ m. m.0.may_take) all ∙ o.mine.0, ap (λ m. m.0.filling) all);
-      bytes = o.bytes ∙ sym (ap (λ m. length m.0.taken) all);
+      bytes = o.bytes ∙ sym (ap (λ m. length (taken_in m.0.log)) all);
       shown = (o.shown.0 ∙ sym (ap (λ m. m.0.head) all), o.shown.1, o.shown.2, o.shown.3);
       ended = o.ended ∙ sym (ap (λ m. m.0.over) all);
       celled = o.celled;
@@ -80,12 +78,7 @@ pub returns-clause-load : goal.returns-clause-load
 returns-clause-load g c = ap (λ m. m.0.reply_tail_loads) (reply_answered c.args.self.now.seat.me c.load-taken.new.seat.me c.exchange.new.seat.me _ c.load-taken.result _ c.args.self.now.slot c.args.r c.args.self.now.bare (c.load-taken.ensures.2.2 (omega arith)) c.exchange.ensures.3 c.store.ensures.2)
 
 pub returns-clause-ok : goal.returns-clause-ok
-returns-clause-ok g c = ap (λ m. m.0.answered) (reply_answered c.args.self.now.seat.me c.load-taken.new.seat.me c.exchange.new.seat.me _ c.load-taken.result _ c.args.self.now.slot c.args.r c.args.self.now.bare (c.load-taken.ensures.2.2 (omega arith)) c.exchange.ensures.3 c.store.ensures.2)
-
-pub returns-clause-taken : goal.returns-clause-taken
-returns-clause-taken g c =
-    let all = reply_answered c.args.self.now.seat.me c.load-taken.new.seat.me c.exchange.new.seat.me _ c.load-taken.result _ c.args.self.now.slot c.args.r c.args.self.now.bare (c.load-taken.ensures.2.2 (omega arith)) c.exchange.ensures.3 c.store.ensures.2 in
-    (ap (λ m. m.0.taken) all, ap (λ m. m.0.over) all)
+returns-clause-ok g c = ap (λ m. m.0.log) (reply_answered c.args.self.now.seat.me c.load-taken.new.seat.me c.exchange.new.seat.me _ c.load-taken.result _ c.args.self.now.slot c.args.r c.args.self.now.bare (c.load-taken.ensures.2.2 (omega arith)) c.exchange.ensures.3 c.store.ensures.2)
 
 pub returns-clause-polls : goal.returns-clause-polls
 returns-clause-polls g c =

@@ -1,5 +1,5 @@
 use Rattle.std.proofs.Common.{rules, arith}
-use Rattle.serial_ring.proofs.Steps.{shuts}
+use Rattle.serial_ring.proofs.HostSteps.{shuts}
 use Rattle.serial_ring.proofs.ends.HostEnd.close.Goals as goal
 
 pub store-requires : goal.store-requires

@@ -1,5 +1,5 @@
 use Rattle.std.proofs.Common.{rules}
-use Rattle.serial_ring.proofs.Steps.{sees_tail}
+use Rattle.serial_ring.proofs.HostSteps.{sees_tail}
 use Rattle.serial_ring.proofs.ends.HostEnd.look.Goals as goal
 
 pub load-self-requires : goal.load-self-requires

@@ -2,7 +2,7 @@ use Rattle.std.proofs.Common.{◌≡◌, ◌+◌, ◌∷◌, length, false, sym,
 use Rattle.serial_ring.specs.Rule.{first_cell, cell_of}
 use Rattle.shared_rings.proofs.Shelf.{below_size}
 use Rattle.shared_rings.proofs.Places.{next_place}
-use Rattle.serial_ring.proofs.Steps.{writes, stores}
+use Rattle.serial_ring.proofs.HostSteps.{writes, stores}
 use Rattle.serial_ring.proofs.Turned.{byte_stored}
 use Rattle.serial_ring.proofs.ends.HostEnd.store.Goals as goal
 
@@ -53,6 +53,7 @@ invariant_of-self g c =
       bytes = (omega arith, omega arith);
       shown = (o.shown.0 ∙ sym (ap (λ m. m.0.tail) all), omega arith, omega arith);
       celled = (is ∙ next_place o.cell o.stored g.row.RX o.celled.0, omega arith);
+      marked = o.marked ∙ sym (ap (λ m. length m.0.marks) all);
       replies = o.replies ∙ sym (ap (λ m. length m.0.got) all);
       slotted = o.slotted;
     }

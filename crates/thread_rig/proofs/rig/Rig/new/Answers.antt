@@ -1,4 +1,4 @@
-use Rattle.std.proofs.Common.{reverse, refl, sym, ap, ◌∙◌, subst, arith}
+use Rattle.std.proofs.Common.{[], reverse, refl, sym, ap, ◌∙◌, subst, arith}
 use Rattle.rtrb.specs.Ring.{IsPair}
 use Rattle.serial_ring.specs.Ends.{link_of_host, link_of_board}
 use Rattle.realtime_flags.specs.Ends.{raised_in, taken_in}
@@ -9,6 +9,8 @@ use Rattle.motion_ports.specs.declared.threads.PulseSide.{PulseSide}
 use Rattle.motion_ports.specs.declared.threads.RecorderSide.{RecorderSide}
 use Rattle.link_ports.specs.HostSides.{HostIsNew}
 use Rattle.motion_ports.specs.MotionSides.{PulseIsNew, RecorderIsNew}
+use Rattle.motion_ports.proofs.Fresh.{nothing_got}
+use Rattle.stream_host.specs.Ports.{AreGreeted}
 use Rattle.thread_rig.specs.BoardSides.{BoardIsNew}
 use Rattle.thread_rig.proofs.rig.Rig.new.Goals as goal
 
@@ -30,22 +32,30 @@ returns c =
             (subst (λ (s : RecorderSide). IsPair c.in_ok-records_out.records_out.end s.records.end) (sym recorder) records.pair);
       };
       host = subst HostIsNew (sym host) (record {
-        did = record { bytes_are = sym (ap reverse link.fresh_host.0); shut_is = sym link.fresh_host.1; replies_are = sym (ap reverse link.fresh_host.2); raises_are = sym flags.fresh.0 };
+        did = record {
+          bytes_are = sym (ap reverse link.fresh_host.0);
+          marks_are = sym link.fresh_host.2;
+          shut_is = sym link.fresh_host.1;
+          replies_are = sym (ap reverse link.fresh_host.3);
+          latest_are = sym link.fresh_host.3;
+          greeted_are = subst (λ g. AreGreeted [] g) (sym link.fresh_host.4) (record { each = refl; stored = tt });
+          raises_are = sym flags.fresh.0;
+        };
         sees = record { room_looks = (link.idle_host.0, link.idle_host.1); reply_looks = link.idle_host.2; saw = tt };
         fits = c.new.ensures;
       });
       board = subst BoardIsNew (sym board) (record {
         did = record {
-          bytes_are = sym (ap reverse link.fresh_board.0);
+          steps_are = sym link.fresh_board.0;
           over_is = λ e. absurd cc;
-          replies_are = sym (ap reverse link.fresh_board.2);
           takes_are = sym flags.fresh.1;
-          pieces_are = sym (ap reverse pieces.fresh.0);
+          pieces_are = pieces.fresh.0;
+          turns = tt;
           known_is = omega arith;
         };
         sees = record { byte_looks = (link.idle_board.0, link.idle_board.1); room_looks = link.idle_board.2; done_looks = pieces.fresh.2; saw = tt };
         fits = c.new-3.ensures;
       });
-      pulse = subst PulseIsNew (sym pulse) (record { got = (refl, pieces.idle.0, pieces.idle.1, pieces.idle.2, pieces.idle.3, tt); put = records.fresh.0; fits = c.new-5.ensures });
+      pulse = subst PulseIsNew (sym pulse) (record { got = nothing_got _ pieces.idle.0 pieces.idle.1 pieces.idle.2 pieces.idle.3; put = records.fresh.0; fits = c.new-5.ensures });
       recorder = subst RecorderIsNew (sym recorder) (record { taken = records.fresh.1; fits = c.new-7.ensures.fits });
     }

@@ -1,0 +1,48 @@
+use Rattle.std.proofs.Common.{◌≡◌, ℕ, Bool, false, nat_eq, arith, subst}
+use Rattle.std.proofs.lemmas.Bool.Decides.{nat_tests}
+use Rattle.board_rules.specs.Steps.{open_of, whole_of}
+use Rattle.controller.specs.Boards.{Reads}
+use Rattle.controller.proofs.controller.Controller.keep.Goals as goal
+
+other : (b : ℕ) → (b ≡ 10 → ⊥) → nat_eq b 10 ≡ false
+other b differs = grind (arith, nat_tests, differs)
+
+pub returns-then-byte-eq10-clause-kept : goal.returns-then-byte-eq10-clause-kept
+returns-then-byte-eq10-clause-kept c = λ first h k may. record {
+  placed = k.placed;
+  free = k.free;
+  short = k.short;
+  conducted = (may, k.conducted);
+  machine = k.machine;
+  lines = k.lines;
+  input = rw c.if-byte-eq10.true (c.finish.ensures (open_of h) (whole_of h) k.input);
+  flight = record { known = k.flight.known; found = k.flight.found; flies = k.flight.flies };
+  owes_is = k.owes_is;
+  reset_is = k.reset_is;
+  jogged_is = k.jogged_is;
+  cut_is = k.cut_is;
+  going = k.going;
+  closed = k.closed;
+  limited = k.limited;
+  tries = λ one. omega arith;
+}
+
+pub returns-else-byte-eq10-clause-kept : goal.returns-else-byte-eq10-clause-kept
+returns-else-byte-eq10-clause-kept c = λ first h k may. record {
+  placed = k.placed;
+  free = k.free;
+  short = k.short;
+  conducted = (may, k.conducted);
+  machine = k.machine;
+  lines = k.lines;
+  input = rw (other c.args.byte c.if-byte-eq10.false) (c.push.ensures (open_of h) false (subst (λ (whole : Bool). Reads c.args.self.now.input (open_of h) whole) may.polls.partial k.input));
+  flight = record { known = k.flight.known; found = k.flight.found; flies = k.flight.flies };
+  owes_is = k.owes_is;
+  reset_is = k.reset_is;
+  jogged_is = k.jogged_is;
+  cut_is = k.cut_is;
+  going = k.going;
+  closed = k.closed;
+  limited = k.limited;
+  tries = λ one. omega arith;
+}

@@ -1,0 +1,43 @@
+use Rattle.std.proofs.Common.{sym, ap, refl, arith}
+use Rattle.modal_state.specs.declared.Parser.{Parser}
+use Rattle.board_rules.proofs.Example.{opens}
+use Rattle.controller.proofs.controller.Controller.new.Goals as goal
+
+pub returns : goal.returns
+returns c = (
+  c.new-3.result.state,
+  c.new-3.ensures.opening,
+  record {
+    keeps = record {
+      placed = sym (ap (λ (p : Parser). p.pos_steps) c.new-3.ensures.opening.parser);
+      free = refl;
+      short = omega arith;
+      conducted = opens c.new-3.result.state;
+      machine = c.new.ensures;
+      lines = record { left_is = c.new-3.ensures.left; state_is = refl; number_is = c.new-3.ensures.number };
+      input = c.new-4.ensures;
+      flight = record { known = 0; found = omega arith; flies = c.new-2.ensures };
+      owes_is = refl;
+      reset_is = refl;
+      jogged_is = refl;
+      cut_is = refl;
+      going = λ e. refl;
+      closed = λ e. absurd cc;
+      limited = refl;
+      tries = λ e. absurd cc;
+    };
+    rounds = record {
+      waits = λ e. refl;
+      tried = λ e. refl;
+      sent = λ e. refl;
+      none_waits = λ w. absurd (let e = w.blocks in cc);
+      tries = omega arith;
+      few = λ some. omega arith;
+      held = λ halts whole. refl;
+      owed = λ e. absurd cc;
+    };
+    flags = record { flags = refl; obeyed = refl; unowed = refl };
+    still = λ e. absurd cc;
+  },
+  λ e. absurd cc,
+)

@@ -1,0 +1,217 @@
+-- Marks and Banners through the calls, and what the host knows by the replies that it got.
+use Rattle.std.proofs.Common.{◌≡◌, ℕ, zero, suc, ◌+◌, ◌<◌, ◌≤◌, Bool, true, false, cond, nat_eq, nat_le, List, [], ◌∷◌, ◌++◌, length, reverse, drop, refl, sym, ap, ◌∙◌, subst, arith, length-append}
+use Rattle.std.proofs.lemmas.List.{length-reverse, reverse-reverse, reverse-append, drop_all}
+use Rattle.std.proofs.lemmas.List.Sorted.{sum_by-IsPermutation, IsPermutation-reverse}
+use Rattle.std.proofs.lemmas.List.Sums.{sum_by-append, sum_by-cons}
+use Rattle.std.proofs.lemmas.Bool.Decides.{nat_tests}
+use Rattle.std.proofs.lemmas.Grind.{reverse_onto}
+use Rattle.shared_rings.proofs.Placed.{by_bool}
+use Rattle.status_report.specs.declared.Reply.{Reply}
+use Rattle.status_report.specs.declared.Reply.TheVariants as replies
+use Rattle.status_report.specs.Answering.{lfs_in, is_answer, answers_in, is_banner}
+use Rattle.serial_ring.specs.declared.view.LinkStep.{LinkStep}
+use Rattle.serial_ring.specs.declared.view.LinkStep.TheVariants.{Took, Marked, Answered}
+use Rattle.serial_ring.specs.Marks.{Mark, IsMark, AreMarks, last_of}
+use Rattle.serial_ring.specs.Lists.{since, answers_behind_mark}
+use Rattle.serial_ring.specs.Logs as link
+use Rattle.serial_ring.specs.Logs.{AnswersWell, MayAnswer, greeted_in, next_mark, answers_since, lfs_since}
+use Rattle.serial_ring.proofs.Marking.{latest_is, more_marks, past_below}
+use Rattle.serial_ring.proofs.Logs.{counts, well_on, marks_on, taken_on, next_follows, answers_stored}
+use Rattle.stream_host.specs.Links.{behind, banners_in, AreGreetings}
+use Rattle.stream_host.specs.Ports.{AreGreeted, SeemsFull, AnswersLines}
+use Rattle.stream_host.specs.Steps.{PortLog, stored_in, got_in, latest_got, marks_in}
+use Rattle.stream_host.specs.Steps.PortStep.{got}
+use Rattle.stream_host.proofs.Links.{behind_taken}
+use Rattle.board_rules.specs.Ports as board
+use Rattle.board_rules.proofs.LinkSteps.{taken_back, answered_back, same_taken}
+use Rattle.list_ports.specs.Joining.{BytesPass, RepliesPass, MarksPass}
+
+reverse_on : {X : Type 0} (x : X) (xs : List X) → reverse (x ∷ xs) ≡ reverse xs ++ x ∷ []
+reverse_on x xs = reverse_onto xs x []
+
+-- ---- a log, cut where some replies were answered
+
+record Cut (log : List LinkStep) (replies : List Reply) : Type 0 where
+  later : List LinkStep
+  seen : List LinkStep
+  parts : log ≡ later ++ seen
+  answered : link.answered_in seen ≡ replies
+
+behind_one : (e : LinkStep) (log : List LinkStep) (replies : List Reply) → Cut log replies → Cut (e ∷ log) replies
+behind_one e log replies c = record { later = e ∷ c.later; seen = c.seen; parts = ap (λ (z : List LinkStep). e ∷ z) c.parts; answered = c.answered }
+
+cut : (log : List LinkStep) (rest replies : List Reply) → link.answered_in log ≡ rest ++ replies → Cut log replies
+cut log [] replies e = record { later = []; seen = log; parts = refl; answered = e }
+cut [] (y ∷ rest) replies e = absurd (let n = ap length e in omega arith)
+cut (Took b ∷ l) (y ∷ rest) replies e = behind_one (Took b) l replies (cut l (y ∷ rest) replies e)
+cut (Marked n bytes ∷ l) (y ∷ rest) replies e = behind_one (Marked n bytes) l replies (cut l (y ∷ rest) replies e)
+cut (Answered x ∷ l) (y ∷ rest) replies e = behind_one (Answered x) l replies (cut l rest replies (let same : link.answered_in l ≡ rest ++ replies = cc in same))
+
+-- ---- the marks of Banners
+
+banners_first : (r : Reply) (rs : List Reply) → banners_in (r ∷ rs) ≡ cond (is_banner r) 1 0 + banners_in rs
+banners_first r rs = sum_by-cons (λ (s : Reply). cond (is_banner s) 1 0) r rs
+
+one_greeting : (r : Reply) (m : Mark) (greeted : List Mark) → length (cond (is_banner r) (m ∷ greeted) greeted) ≡ cond (is_banner r) 1 0 + length greeted
+one_greeting r m greeted = by_bool (is_banner r) (λ b. rw b (omega arith)) (λ b. rw b (omega arith))
+
+greeted_count : (l : List LinkStep) → length (greeted_in l) ≡ banners_in (link.answered_in l)
+greeted_count [] = refl
+greeted_count (Took b ∷ l) = greeted_count l
+greeted_count (Marked n bytes ∷ l) = greeted_count l
+greeted_count (Answered r ∷ l) = let i = greeted_count l in let f = banners_first r (link.answered_in l) in let o = one_greeting r (next_mark l) (greeted_in l) in omega arith
+
+greetings : (marks : List ℕ) (l : List LinkStep) → AreMarks marks (link.marked_in l) → AnswersWell l → AreGreetings marks (greeted_in l)
+greetings marks [] are well = tt
+greetings marks (Took b ∷ l) are well = greetings marks l are well
+greetings marks (Marked n bytes ∷ l) are well = greetings marks l are.1 well
+greetings marks (Answered r ∷ l) are well = by_bool (is_banner r)
+    (λ b. rw b (next_follows marks l r are well.0 b, greetings marks l are well.1))
+    (λ b. rw b (greetings marks l are well.1))
+
+-- ---- bytes behind a mark, in the order in which they were stored
+
+drop_on : (n : ℕ) (bytes more : List ℕ) → n ≤ length bytes → drop n (bytes ++ more) ≡ drop n bytes ++ more
+drop_on zero bytes more le = refl
+drop_on (suc n) [] more le = absurd (let z : suc n ≤ 0 = le in omega arith)
+drop_on (suc n) (y ∷ bytes) more le = drop_on n bytes more (omega arith)
+
+since_by : (is : Bool) (n : ℕ) (b : ℕ) (bytes : List ℕ) → nat_le n (length bytes) ≡ is → (n ≤ length bytes → reverse (since n bytes) ≡ drop n (reverse bytes)) → reverse (cond is (b ∷ since n bytes) []) ≡ drop n (reverse bytes ++ b ∷ [])
+since_by true n b bytes e same =
+    let le : n ≤ length bytes = grind (arith, nat_tests) in
+    let r = length-reverse bytes in
+    reverse_on b (since n bytes) ∙ ap (λ (z : List ℕ). z ++ b ∷ []) (same le) ∙ sym (drop_on n (reverse bytes) (b ∷ []) (omega arith))
+since_by false n b bytes e same =
+    let lt : length bytes < n = grind (arith, nat_tests) in
+    let r = length-reverse bytes in
+    let l = length-append (reverse bytes) (b ∷ []) in
+    sym (drop_all n (reverse bytes ++ b ∷ []) (omega arith))
+
+since_drops : (n : ℕ) (bytes : List ℕ) → reverse (since n bytes) ≡ drop n (reverse bytes)
+since_drops n [] = sym (drop_all n [] (omega arith))
+since_drops n (b ∷ bytes) = since_by (nat_le n (length bytes)) n b bytes refl (λ le. since_drops n bytes) ∙ ap (drop n) (sym (reverse_on b bytes))
+
+same_lines : (bytes : List ℕ) → lfs_in (reverse bytes) ≡ lfs_in bytes
+same_lines bytes = sum_by-IsPermutation (λ (b : ℕ). cond (nat_eq b 10) 1 0) bytes (reverse bytes) (IsPermutation-reverse bytes)
+
+-- ---- what the host knows
+
+latest_back : (h : PortLog) → latest_got h ≡ reverse (got_in h)
+latest_back [] = refl
+latest_back (got r ∷ h) = ap (λ (z : List Reply). r ∷ z) (latest_back h) ∙ sym (reverse-append (got_in h) (r ∷ []))
+latest_back (_ ∷ h) = latest_back h
+
+module _ (ws : List ℕ) (closed shut_is over : Bool) (waiting : List Reply) (count : ℕ) (mark : Mark) (host : PortLog) (l : board.PortLog)
+    (p : BytesPass ws closed (stored_in host) shut_is (board.taken_in l) over) (q : RepliesPass waiting (board.answered_in l) (got_in host) (board.taken_in l)) (m : MarksPass count mark (stored_in host) (marks_in host) (board.link_steps l)) where
+  at_got : Cut (board.link_steps l) (latest_got host)
+  at_got = cut (board.link_steps l) (reverse waiting) (latest_got host)
+      (sym (reverse-reverse (link.answered_in (board.link_steps l))) ∙ (ap reverse (sym (answered_back l) ∙ q.fifo) ∙ (reverse-append (got_in host) waiting ∙ ap (λ (z : List Reply). reverse waiting ++ z) (sym (latest_back host)))))
+
+  seen_well : AnswersWell at_got.seen
+  seen_well = well_on at_got.later at_got.seen (subst AnswersWell at_got.parts m.well)
+
+  are_greeted : AreGreeted host (greeted_in at_got.seen)
+  are_greeted = record {
+    each = greeted_count at_got.seen ∙ ap banners_in at_got.answered;
+    stored = greetings (marks_in host) at_got.seen (marks_on at_got.later at_got.seen (marks_in host) (subst (λ (z : List LinkStep). AreMarks (marks_in host) (link.marked_in z)) at_got.parts m.loads)) seen_well;
+  }
+
+  abbrev mark_bytes : ℕ
+  mark_bytes = (last_of (greeted_in at_got.seen)).1
+
+  reached : mark_bytes ≤ length (board.taken_in l)
+  reached =
+      let c = (counts at_got.seen seen_well).reached in
+      let e = same_taken l ∙ ap (λ (z : List LinkStep). length (link.taken_in z)) at_got.parts in
+      let o = ap length (taken_on at_got.later at_got.seen) in
+      let a = length-append (link.taken_in at_got.later) (link.taken_in at_got.seen) in omega arith
+
+  -- since that Banner no more answers were got than lines taken behind its mark
+  few_behind : answers_behind_mark (latest_got host) ≤ lfs_in (drop mark_bytes (board.taken_in l))
+  few_behind =
+      let a = answers_stored at_got.later at_got.seen [] seen_well in
+      let k = ap answers_behind_mark at_got.answered in
+      let s = ap (λ (z : List LinkStep). lfs_in (since mark_bytes (link.taken_in z))) (sym at_got.parts) in
+      let r = same_lines (since mark_bytes (link.taken_in (board.link_steps l))) in
+      let d = ap lfs_in (since_drops mark_bytes (link.taken_in (board.link_steps l)) ∙ ap (drop mark_bytes) (sym (taken_back l))) in omega arith
+
+  whole : drop mark_bytes (stored_in host) ≡ drop mark_bytes (board.taken_in l) ++ ws
+  whole = ap (drop mark_bytes) p.fifo ∙ drop_on mark_bytes (board.taken_in l) ws reached
+
+  pub seems_full : 128 ≤ length ws → SeemsFull host
+  seems_full many = record {
+    greeted = greeted_in at_got.seen;
+    are = are_greeted;
+    full = (let b = behind_taken (answers_behind_mark (latest_got host)) (drop mark_bytes (board.taken_in l)) ws few_behind in let e = ap (λ z. length (behind (answers_behind_mark (latest_got host)) z)) whole in omega arith);
+  }
+
+  pub answers_lines : AnswersLines host
+  answers_lines = record {
+    greeted = greeted_in at_got.seen;
+    are = are_greeted;
+    few = (let b = few_behind in let e = ap lfs_in whole in let s = sum_by-append (λ (c : ℕ). cond (nat_eq c 10) 1 0) (drop mark_bytes (board.taken_in l)) ws in omega arith);
+  }
+
+  -- while fewer bytes are taken than a mark has, some wait
+  pub some_wait : board.IsMarkedPast l → 0 < length ws
+  some_wait past =
+      let n = past_below (length (board.taken_in l)) (marks_in host) (link.marked_in (board.link_steps l)) m.rising m.loads past in
+      let w = m.within in let f = ap length p.fifo in let a = length-append (board.taken_in l) ws in omega arith
+
+-- ---- through the calls
+
+module _ (count : ℕ) (mark : Mark) (bytes marks : List ℕ) (steps : List LinkStep) (m : MarksPass count mark bytes marks steps) where
+  pub byte_stored : (b : ℕ) → MarksPass (count + 1) mark (bytes ++ b ∷ []) marks steps
+  byte_stored b = let l = length-append bytes (b ∷ []) in let c = m.count_is in let w = m.within in
+      record { count_is = omega arith; number_is = m.number_is; bytes_is = m.bytes_is; within = omega arith; rising = m.rising; loads = m.loads; well = m.well }
+
+  pub mark_stored : MarksPass count (mark.0 + 1, count) bytes (length bytes ∷ marks) steps
+  mark_stored = let n = m.number_is in
+      record { count_is = m.count_is; number_is = omega arith; bytes_is = m.count_is; within = omega arith; rising = (m.within, m.rising); loads = more_marks (length bytes) marks (link.marked_in steps) m.loads; well = m.well }
+
+  pub mark_loaded : MarksPass count mark bytes marks (Marked mark.0 mark.1 ∷ steps)
+  mark_loaded = record { count_is = m.count_is; number_is = m.number_is; bytes_is = m.bytes_is; within = m.within; rising = m.rising; loads = (is, m.loads); well = m.well }
+    where
+      is : IsMark marks mark
+      is = subst (λ (z : Mark). IsMark marks z) (λ i. (sym m.number_is i, sym m.bytes_is i)) (latest_is marks)
+
+  pub byte_taken : (b : ℕ) → MarksPass count mark bytes marks (Took b ∷ steps)
+  byte_taken b = record { count_is = m.count_is; number_is = m.number_is; bytes_is = m.bytes_is; within = m.within; rising = m.rising; loads = m.loads; well = m.well }
+
+  pub reply_answered : (r : Reply) → MayAnswer steps r → MarksPass count mark bytes marks (Answered r ∷ steps)
+  reply_answered r may = record { count_is = m.count_is; number_is = m.number_is; bytes_is = m.bytes_is; within = m.within; rising = m.rising; loads = m.loads; well = (may, m.well) }
+
+-- in all no more lines were answered than had their end taken
+answers_first : (r : Reply) (rs : List Reply) → answers_in (r ∷ rs) ≡ cond (is_answer r) 1 0 + answers_in rs
+answers_first r rs = sum_by-cons (λ (s : Reply). cond (is_answer s) 1 0) r rs
+
+lfs_first : (b : ℕ) (bytes : List ℕ) → lfs_in (b ∷ bytes) ≡ cond (nat_eq b 10) 1 0 + lfs_in bytes
+lfs_first b bytes = sum_by-cons (λ (c : ℕ). cond (nat_eq c 10) 1 0) b bytes
+
+banner_is_none : (r : Reply) → is_banner r ≡ true → is_answer r ≡ false
+banner_is_none replies.Ok e = absurd cc
+banner_is_none (replies.Error n) e = absurd cc
+banner_is_none _ e = refl
+
+total : (l : List LinkStep) → AnswersWell l → answers_in (link.answered_in l) + lfs_since l ≤ lfs_in (link.taken_in l) + answers_since l
+total [] w = omega arith
+total (Took b ∷ l) w = let t = total l w in let f = lfs_first b (link.taken_in l) in omega arith
+total (Marked n bytes ∷ l) w = total l w
+total (Answered r ∷ l) w =
+    let t = total l w.1 in
+    let f = answers_first r (link.answered_in l) in
+    let c = (counts l w.1).fewer in
+    by_bool (is_banner r)
+    (λ b. let no = banner_is_none r b in let g = ap (λ (x : Bool). cond {A = ℕ} x 1 0) no in rw b (omega arith))
+    (λ b. rw b (omega arith))
+
+same_answers : (l : board.PortLog) → answers_in (board.answered_in l) ≡ answers_in (link.answered_in (board.link_steps l))
+same_answers l = ap answers_in (answered_back l) ∙ sum_by-IsPermutation (λ (r : Reply). cond (is_answer r) 1 0) (link.answered_in (board.link_steps l)) (reverse (link.answered_in (board.link_steps l))) (IsPermutation-reverse (link.answered_in (board.link_steps l)))
+
+-- a line that may be answered is one of those whose end was taken
+pub may_line : (l : board.PortLog) (r : Reply) → AnswersWell (board.link_steps l) → board.MayAnswer l r → is_answer r ≡ true → answers_in (board.answered_in l) < lfs_in (board.taken_in l)
+may_line l r well may is =
+    let t = total (board.link_steps l) well in
+    let n = may.line is in
+    let a = same_answers l in
+    let b = ap lfs_in (taken_back l) ∙ same_lines (link.taken_in (board.link_steps l)) in omega arith
