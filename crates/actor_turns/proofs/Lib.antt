@@ -6,3 +6,4 @@ pub mod Resting
 pub mod Sifting
 pub mod Running
 pub mod Reports
+pub mod Paces

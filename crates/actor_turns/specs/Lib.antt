@@ -1,2 +1,4 @@
 pub mod Worlds
 pub mod Lockstep
+pub mod Pacing
+pub mod Orders

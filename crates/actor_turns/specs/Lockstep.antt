@@ -1,5 +1,5 @@
 -- The order of turns in lockstep.
-use Rattle.std.specs.Prelude.{◌≡◌, ℕ, zero, suc, ◌+◌, ◌*◌, ◌/◌, ◌%◌, ◌^◌, ◌≤◌, ◌<◌, true, cond, nat_eq, List, [], ◌∷◌, ◌++◌}
+use Rattle.std.specs.Prelude.{◌≡◌, ℕ, zero, suc, ◌+◌, ◌*◌, ◌/◌, ◌%◌, ◌^◌, ◌≤◌, ◌<◌, true, false, cond, nat_eq, List, [], ◌∷◌, ◌++◌}
 use Rattle.outside.specs.declared.Actor.{Actor}
 use Rattle.outside.specs.declared.Actor.TheVariants as actors
 use Rattle.actor_turns.specs.Worlds.{Seen, Devices, IsDone, RunsOn}
@@ -56,6 +56,10 @@ with_end actors.Host e = record e { host = true }
 with_end actors.Board e = record e { board = true }
 with_end actors.Pulse e = record e { pulse = true }
 with_end actors.Record e = record e { recorder = true }
+
+-- none has
+abbrev pub none_ended : Ended
+none_ended = record { host = false; board = false; pulse = false; recorder = false }
 
 -- those that have answered Done are done
 pub record AreEnded (e : Ended) (w : Seen) : Type 0 where

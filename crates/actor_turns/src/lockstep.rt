@@ -3,7 +3,7 @@
 ghost use Rattle.std.specs.Prelude.{◌≡◌, ◌≢◌, ◌↔◌, ◌≤◌, ◌<◌, ◌/◌, ◌^◌, ℕ, true, take};
 ghost use Rattle.outside.specs.Causes.{SinkState};
 ghost use Rattle.actor_turns.specs.Worlds.{devices, Devices, Seen, HasRunOn, AreDone, MotionRests};
-ghost use Rattle.actor_turns.specs.Lockstep.{state_after, number_of, RunsInOrder, IsInOrder, Sifts, with_end, AreEnded, HaveAllEnded};
+ghost use Rattle.actor_turns.specs.Lockstep.{state_after, number_of, RunsInOrder, IsInOrder, Sifts, with_end, none_ended, AreEnded, HaveAllEnded};
 
 use crate::World;
 use outside::{Actor, Sink, Source, Turn};
@@ -84,6 +84,18 @@ pub(crate) struct Ended {
 }
 
 impl Ended {
+    /// None has.
+    pub(crate) fn none() -> Ended
+        ensures { result ≡ none_ended }
+    {
+        Ended {
+            host: false,
+            board: false,
+            pulse: false,
+            recorder: false,
+        }
+    }
+
     /// An actor has answered Done.
     fn add(&mut self, actor: Actor)
         ensures { self.new ≡ with_end actor self.old }
@@ -105,7 +117,7 @@ impl Ended {
 
     /// An actor has answered so. Answers whether it is the last that has answered Done.
     #[inline(always)]
-    fn learn(&mut self, actor: Actor, turn: Turn) -> bool
+    pub(crate) fn learn(&mut self, actor: Actor, turn: Turn) -> bool
         ensures done { turn ≡ Turn.Done → self.new ≡ with_end actor self.old }
         ensures same { turn ≢ Turn.Done → self.new ≡ self.old }
         ensures all { result ≡ true → HaveAllEnded self.new }
@@ -217,12 +229,7 @@ pub fn run_lockstep<R: Wait, J: Source, C: Sink, S: Sink>(
     ensures done { AreDone world.new }
 {
     let mut order = Order { state: seed };
-    let mut ended = Ended {
-        host: false,
-        board: false,
-        pulse: false,
-        recorder: false,
-    };
+    let mut ended = Ended::none();
     for _ in rt.forever() {
         if take_next_turns(world, &mut order, &mut ended, job, console, steps) {
             return;

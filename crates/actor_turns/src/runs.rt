@@ -1,9 +1,10 @@
-//! A run of a job by four actors in lockstep.
+//! A run of a job by four actors that take turns: in lockstep, or at a pace.
 
 ghost use Rattle.std.specs.Prelude.{◌≡◌, IfOk, OnErr};
-ghost use Rattle.actor_turns.specs.Worlds.{History, Stands, AreDone, Devices, devices, HasRun};
+ghost use Rattle.actor_turns.specs.Worlds.{History, Holds, Stands, AreDone, Devices, devices, HasRun, end_after};
+ghost use Rattle.actor_turns.specs.Orders.{IsLockstepRun, IsPacedRun};
 
-use crate::{World, run_lockstep};
+use crate::{World, run_lockstep, run_paced};
 use outside::{OutOfMemory, Sink, Source};
 use run_law::RunEnd;
 use std::alloc::Global;
@@ -11,7 +12,8 @@ use std::sync::Wait;
 
 /// How the run of a world ends. The world is dropped here, so that the caller's proof need not follow its fields.
 fn end_of(world: World) -> RunEnd
-    ensures { (was now : Devices) (hist : History) → Stands was now world hist → AreDone world → HasRun was now result }
+    ensures tells { (hist : History) → Holds world hist → result ≡ end_after world hist }
+    ensures whole { (was now : Devices) (hist : History) → Stands was now world hist → AreDone world → HasRun was now result }
 {
     world.end()
 }
@@ -27,9 +29,28 @@ pub fn run_in_lockstep<R: Wait, So: Source, Co: Sink, St: Sink>(
     steps: &mut St,
 ) -> Result<RunEnd, OutOfMemory>
     ensures run { IfOk result (λ end. HasRun (devices (So.state job.old) (Co.state console.old) (St.state steps.old)) (devices (So.state job.new) (Co.state console.new) (St.state steps.new)) end) }
+    ensures order { IfOk result (λ end. IsLockstepRun seed (devices (So.state job.old) (Co.state console.old) (St.state steps.old)) (devices (So.state job.new) (Co.state console.new) (St.state steps.new)) end) }
     ensures untouched { OnErr result ((job.new ≡ job.old) × (console.new ≡ console.old) × (steps.new ≡ steps.old)) }
 {
     let mut world = World::new(alloc)?;
     run_lockstep(rt, &mut world, seed, job, console, steps);
+    Ok(end_of(world))
+}
+
+/// Runs a job on this thread at its pace: host and board first, the motion where both wait. Answers how the run ends. All room is
+/// taken before the first turn; where there is none, no device is touched.
+pub fn run_at_a_pace<R: Wait, So: Source, Co: Sink, St: Sink>(
+    rt: &R,
+    alloc: Global,
+    job: &mut So,
+    console: &mut Co,
+    steps: &mut St,
+) -> Result<RunEnd, OutOfMemory>
+    ensures run { IfOk result (λ end. HasRun (devices (So.state job.old) (Co.state console.old) (St.state steps.old)) (devices (So.state job.new) (Co.state console.new) (St.state steps.new)) end) }
+    ensures order { IfOk result (λ end. IsPacedRun (devices (So.state job.old) (Co.state console.old) (St.state steps.old)) (devices (So.state job.new) (Co.state console.new) (St.state steps.new)) end) }
+    ensures untouched { OnErr result ((job.new ≡ job.old) × (console.new ≡ console.old) × (steps.new ≡ steps.old)) }
+{
+    let mut world = World::new(alloc)?;
+    run_paced(rt, &mut world, job, console, steps);
     Ok(end_of(world))
 }

@@ -5,6 +5,7 @@ ghost use Rattle.outside.specs.Causes.{SourceState, SinkState};
 ghost use Rattle.stream_host.specs.Hosts.{HostRests};
 ghost use Rattle.controller.specs.Boards.{BoardRests};
 ghost use Rattle.step_record.specs.Recording.{Rests};
+ghost use Rattle.pulse_engine.specs.Steps.{AwaitsPiece};
 ghost use Rattle.actor_turns.specs.Worlds.{Devices, devices, History, no_history, Holds, Stands, LinkIsKept, FlagsAreKept, MotionIsKept, TurnsOn, ActsAlone, IsDone, AreDone, OffersNothing, MotionRests, end_after, HasRun};
 ghost use Rattle.actor_turns.specs.Lockstep.{number_of};
 
@@ -146,6 +147,14 @@ impl World {
         ensures { (result ≡ true) ↔ OffersNothing self.now }
     {
         self.lists.has_no_stop() && self.lists.has_no_piece()
+    }
+
+    /// Whether the pulse is between two pieces: its next turn gets one, or finds none.
+    #[inline]
+    pub(crate) fn awaits_piece(&self) -> bool
+        ensures { (result ≡ true) ↔ AwaitsPiece self.now.pulse }
+    {
+        self.pulse.awaits_piece()
     }
 
     /// Whether nothing moves: the pulse has nothing to put, and finds no stop and no piece, and the recorder has nothing to write,

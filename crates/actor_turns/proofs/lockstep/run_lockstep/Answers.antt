@@ -4,7 +4,7 @@ use Rattle.actor_turns.proofs.Ending.{none_ended}
 use Rattle.actor_turns.proofs.lockstep.run_lockstep.Goals as goal
 
 pub loop-init : goal.loop-init
-loop-init g c = (order_nothing _ _ _, none_ended _)
+loop-init g c = (order_nothing _ _ _, rw c.none-ended.ensures (none_ended _))
 
 pub loop-preserved : goal.loop-preserved
 loop-preserved g c = (c.take_next_turns.ensures.goes_on _ _ _ c.loop.invariant.0, c.take_next_turns.ensures.ended c.loop.invariant.1)
