@@ -1,25 +1,25 @@
 -- What the words ask for.
-use Rattle.std.proofs.Common.{◌≡◌, ◌≢◌, ◌⊎◌, ◌↔◌, ◌∙◌, ◌||◌, ◌==◌, ◌≤◌, ℕ, Bool, true, false, cond, List, [], ◌∷◌, length, Option, Some, None, refl, sym, ap, ap₂, subst, inl, inr, codes, get_or}
+use Rattle.std.proofs.Common.{◌≡◌, ◌≢◌, ◌∙◌, ◌||◌, ◌&&◌, ◌==◌, ◌≤◌, ℕ, Bool, true, false, cond, List, [], ◌∷◌, length, Option, Some, None, refl, sym, ap, ap₂, subst, inl, inr, map, codes, get_or, Bor, arith}
 use Rattle.std.specs.Prelude.{Box, slice_get, find, option_map, IsSomeAnd}
 use Rattle.std.specs.Str.{bytes_eq, chars}
 use Rattle.std.specs.Box.{box_value}
 use Rattle.std.specs.Option.{option_map_or}
 use Rattle.std.specs.Cmp.Lexicographic.{same_text}
 use Rattle.clap.specs.Lexer.{long_of, short_of}
-use Rattle.clap.specs.Walk.{Held, Names, Row, Rule, Step, Text, Walk, arg_by_long, arg_by_short, bundle, bundle_met, long_or_other, after_flag, bundle_step, nothing_held, rows_after, short_or_plain, short_word, subcommand_or_other, walk, walk_from, walked}
+use Rattle.clap.specs.Walk.{Held, Names, Row, Rule, Step, Text, Walk, arg_by_long, arg_by_short, bundle, bundle_met, long_or_other, after_flag, bundle_step, nothing_held, short_or_plain, short_word, subcommand_or_other, walk, walk_from, walked}
 use Rattle.clap.specs.Walk.Outcome.{plain}
 use Rattle.clap.specs.Walk.Waiting.{idle}
 use Rattle.clap.specs.Walk.Step.{trailing, value}
-use Rattle.clap.specs.Simple.{App, HasMatchesOf, Shape, built, entered, names_of, rows_at, subcommand_of, subcommand_rows}
+use Rattle.clap.specs.Simple.{App, Shape, built, entered, names_of, subcommand_of}
 use Rattle.clap.specs.Kinds.{Kinds, or_else}
 use Rattle.clap.specs.ValueTests.{accepts}
-use Rattle.clap.specs.Faults.{is_simple_and_free, bundle_fault, entered_fault, fault_of, flag_word_fault, flags_fault, bundle_step_fault, level_fault, long_fault, other_fault, short_fault, step_fault, stray_fault, turn_fault, walk_fault}
+use Rattle.clap.specs.Faults.{bundle_fault, entered_fault, fault_of, flag_word_fault, flags_fault, bundle_step_fault, long_fault, other_fault, short_fault, step_fault, turn_fault, walk_fault}
 use Rattle.clap.proofs.OnLiterals.{clap_on_literals}
 use Rattle.clap.proofs.WalkLemmas.{walk_stopped}
 use Rattle.clap.specs.declared.builder.value_parser.ValueParser.{ValueParser}
 use Rattle.clap.specs.declared.builder.value_parser.ValueParser.TheVariants.{Signed, Unsigned}
-use Rattle.command_line.specs.Command.{Refuses, IsNamed, command_line}
-use Rattle.command_line.proofs.Levels.{none_first, none_second, stray, IsGood, both, finds, finds_one, given, level}
+use Rattle.command_line.specs.Command.{Refuses, IsNamed, command_line, is_paced}
+use Rattle.command_line.proofs.Levels.{none_first, none_second, stray, IsGood, finds, finds_one, given}
 
 -- the command line as clap builds it: the top, with the flag `--help`, and the three subcommands
 abbrev whole : App
@@ -38,11 +38,15 @@ seeds = Unsigned 0 18446744073709551615
 abbrev pub numbers : ValueParser
 numbers = Signed (Rattle.std.specs.Prelude.pos 1) (Rattle.std.specs.Prelude.pos 100000)
 
-nothing_fails : Refuses []
+-- clap has a fault for the words
+abbrev HasFault : List Text → Type 0
+HasFault words = fault_of command_line words ≢ []
+
+nothing_fails : HasFault []
 unfolding clap_on_literals
 nothing_fails h = cc
 
-dashes_fail : Refuses (codes "--" ∷ [])
+dashes_fail : HasFault (codes "--" ∷ [])
 unfolding clap_on_literals
 dashes_fail h = cc
 
@@ -206,8 +210,52 @@ named_words _ dashes e = absurd (dashes_fail e)
 named_words _ (to_stream rest) e = (rest, inl refl)
 named_words _ (to_demo rest) e = (rest, inr refl)
 
-pub begins : (words : List Text) → ¬ Refuses words → IsNamed words
+-- ---- the words of a paced run
+
+both_are : (a b : Bool) → (a && b) ≡ true → (a ≡ true) × (b ≡ true)
+both_are true b h = (refl, h)
+both_are false b h = absurd (cc)
+
+pub paced_words : (words : List Text) → is_paced words ≡ true → words ≡ codes "stream" ∷ codes "--paced" ∷ []
+paced_words [] h = absurd (cc)
+paced_words (first ∷ []) h = absurd (cc)
+paced_words (first ∷ second ∷ []) h =
+    let are = both_are (bytes_eq first (codes "stream")) (bytes_eq second (codes "--paced")) h in
+    ap₂ (λ (a b : Text). a ∷ b ∷ []) (same_text first (codes "stream") (sym are.0)) (same_text second (codes "--paced") (sym are.1))
+paced_words (first ∷ second ∷ third ∷ rest) h = absurd (cc)
+
+-- accepted words that are not paced have no fault
+pub has_none : (words : List Text) → is_paced words ≡ false → ¬ Refuses words → fault_of command_line words ≡ []
+has_none words unpaced h = not_refused (fault_of command_line words) (λ fault. h (unpaced, fault))
+
+named_by_clap : (words : List Text) → fault_of command_line words ≡ [] → IsNamed words
 unfolding clap_on_literals
-begins words h =
-    let none_found = not_refused (fault_of command_line words) h in
-    named_words words (top_words words (none_first _ _ none_found)) none_found
+named_by_clap words none_found = named_words words (top_words words (none_first _ _ none_found)) none_found
+
+pub begins : (words : List Text) → ¬ Refuses words → IsNamed words
+begins words h = go (is_paced words) refl
+  where
+    go : (b : Bool) → is_paced words ≡ b → IsNamed words
+    go true paced = (codes "--paced" ∷ [], inl (paced_words words paced))
+    go false unpaced = named_by_clap words (has_none words unpaced h)
+
+-- words that name no command are refused
+pub refused_words : (words : List Text) → is_paced words ≡ false → ¬ IsNamed words → Refuses words
+refused_words words unpaced unnamed = (unpaced, λ none. unnamed (named_by_clap words none))
+
+-- ---- the first word
+
+abbrev texts : List (Bor Text) → List Text
+texts words = map (λ w. w.now) words
+
+pub first_is : (words : List (Bor Text)) (other : Bor Text) (name : Text) → 1 ≤ length words → bytes_eq (get_or words 0 other).now name ≡ true → (rest : List Text) × (texts words ≡ name ∷ rest)
+first_is [] other name some is = absurd (omega (arith, some))
+first_is (word ∷ rest) other name some is = (texts rest, ap (λ (w : Text). w ∷ texts rest) (same_text word.now name (sym is)))
+
+pub demo_is : (words : List (Bor Text)) (other : Bor Text) → 1 ≤ length words → bytes_eq (get_or words 0 other).now (codes "stream") ≡ false → IsNamed (texts words)
+    → bytes_eq (get_or words 0 other).now (codes "demo") ≡ true
+demo_is [] other some not_stream named = absurd (omega (arith, some))
+demo_is (word ∷ rest) other some not_stream (more, inl stream) =
+    let is : bytes_eq word.now (codes "stream") ≡ true = ap (λ (ws : List Text). bytes_eq (get_or ws 0 word.now) (codes "stream")) stream in
+    let both : false ≡ true = sym not_stream ∙ is in absurd (cc)
+demo_is (word ∷ rest) other some not_stream (more, inr demo) = ap (λ (ws : List Text). bytes_eq (get_or ws 0 word.now) (codes "demo")) demo

@@ -1,23 +1,29 @@
 //! Words, and what they ask for.
 
-use super::{Task, WordsFault, read_words};
+use super::{Order, Task, WordsFault, read_words};
 
 #[test]
 fn words_ask_for_a_task_or_are_refused(rt: HostRuntime) {
-    let stream = Ok(Task::Stream(None));
+    let stream = Ok(Task::Stream(Order::Threads));
     let refused = Err(WordsFault::Refused);
-    let rows: [(&[&str], Result<Task, WordsFault>); 30] = [
+    let rows: [(&[&str], Result<Task, WordsFault>); 37] = [
         (&[], refused),
         (&["stream"], stream),
         (&["stream", "--"], stream),
         (&["stream", "x"], refused),
         (&["stream", "stream"], refused),
         (&["stream", "--help"], refused),
-        (&["stream", "--lockstep", "0"], Ok(Task::Stream(Some(0)))),
-        (&["stream", "--lockstep=+7"], Ok(Task::Stream(Some(7)))),
+        (
+            &["stream", "--lockstep", "0"],
+            Ok(Task::Stream(Order::Lockstep(0))),
+        ),
+        (
+            &["stream", "--lockstep=+7"],
+            Ok(Task::Stream(Order::Lockstep(7))),
+        ),
         (
             &["stream", "--lockstep", "18446744073709551615", "--"],
-            Ok(Task::Stream(Some(u64::MAX))),
+            Ok(Task::Stream(Order::Lockstep(u64::MAX))),
         ),
         (&["stream", "--lockstep", "18446744073709551616"], refused),
         (&["stream", "--lockstep", "-1"], refused),
@@ -26,6 +32,13 @@ fn words_ask_for_a_task_or_are_refused(rt: HostRuntime) {
         (&["stream", "--lockstep"], refused),
         (&["stream", "--lockstep=1", "--lockstep=1"], refused),
         (&["--lockstep", "1", "stream"], refused),
+        (&["stream", "--paced"], Ok(Task::Stream(Order::Paced))),
+        (&["stream", "--paced", "--"], refused),
+        (&["stream", "--paced", "--paced"], refused),
+        (&["stream", "--paced", "--lockstep", "1"], refused),
+        (&["stream", "--lockstep=1", "--paced"], refused),
+        (&["--paced"], refused),
+        (&["demo", "--paced"], refused),
         (&["demo", "1"], Ok(Task::Demo(1))),
         (&["demo", "--", "100000"], Ok(Task::Demo(100_000))),
         (&["demo", "0"], refused),

@@ -2,6 +2,7 @@
 
 ghost use Rattle.std.specs.Prelude.{◌≡◌, ◌≤◌, IfOk, OnErr};
 ghost use Rattle.run_status.specs.Demos.{IsDemo};
+ghost use Rattle.grbl_app.specs.Orders.{IsOrderedDemo};
 
 use actor_turns::run_in_lockstep;
 use demo_job::{Answers, DemoJob, NoConsole, tell_summary};
@@ -22,6 +23,7 @@ pub(crate) fn run_demo<R: Wait, Co: Sink, St: Sink>(
 ) -> Result<Status, OutOfMemory>
     requires moves { (1 ≤ moves) × (moves ≤ 100000) }
     ensures run { IfOk result (λ status. IsDemo moves (Co.state console.old) (Co.state console.new) (St.state steps.old) (St.state steps.new) status) }
+    ensures order { IfOk result (λ status. IsOrderedDemo moves (St.state steps.old) (St.state steps.new) status) }
     ensures untouched { OnErr result ((console.new ≡ console.old) × (steps.new ≡ steps.old)) }
 {
     let mut job = DemoJob::new(moves);

@@ -4,9 +4,11 @@
 ghost use Rattle.std.specs.Prelude.{◌≡◌, ◌⊎◌, ℕ, List, Some, IfOk, OnErr, map};
 ghost use Rattle.outside.specs.Causes.{Rose};
 ghost use Rattle.run_law.specs.Complete.{IsAcceptedJob};
-ghost use Rattle.command_line.specs.Command.{Asks, Refuses};
+ghost use Rattle.command_line.specs.Command.{Asks, IsNamed, Refuses};
 ghost use Rattle.command_line.specs.declared.Task.TheVariants as tasks;
+ghost use Rattle.run_law.specs.Devices.{devices};
 ghost use Rattle.run_status.specs.Demos.{IsDemo};
+ghost use Rattle.grbl_app.specs.Orders.{EndsInOrder, IsOrderedDemo};
 ghost use Rattle.run_status.specs.Statuses.{HasItsCause, CanFail, AreOne, TellsFaults};
 ghost use Rattle.run_status.specs.Ends.{EndsWith, IsWhole, IsWholeRun, IsHaltedRun, IsFaultless, TookMore, HasLongLine, HasReset, HasNotBegun, HasRun, HasCauses};
 
@@ -14,7 +16,7 @@ mod demo;
 mod runs;
 
 pub use command_line::accepted_words;
-use command_line::{Task, WordsFault, read_words};
+use command_line::{Order, Task, WordsFault, read_words};
 use demo::run_demo;
 pub use demo_job::demo_line;
 use outside::{Gate, OutOfMemory, Sink, Source};
@@ -25,8 +27,8 @@ use std::alloc::Global;
 use std::sync::Wait;
 use std::thread::Threads;
 
-/// Streams a job: in lockstep where a seed gives the order of the turns, else in four threads. Where there is no room, no device
-/// is touched.
+/// Streams a job: in lockstep where a seed gives the order of the turns, at a pace, or in four threads. Where there is no room, no
+/// device is touched.
 fn stream<
     R: Threads + Wait + Sync,
     So: Source + Send,
@@ -36,7 +38,7 @@ fn stream<
 >(
     rt: &R,
     alloc: Global,
-    seed: Option<u64>,
+    order: Order,
     job: &mut So,
     console: &mut Co,
     steps: &mut St,
@@ -51,9 +53,10 @@ fn stream<
     ensures its_cause { IfOk result (λ status. HasItsCause (So.state job.old) (So.state job.new)
         (record { console = Co.state console.old; steps = St.state steps.old })
         (record { console = Co.state console.new; steps = St.state steps.new }) status) }
+    ensures order { IfOk result (λ status. EndsInOrder order (devices (So.state job.old) (Co.state console.old) (St.state steps.old)) (devices (So.state job.new) (Co.state console.new) (St.state steps.new)) status) }
     ensures untouched { OnErr result ((job.new ≡ job.old) × (console.new ≡ console.old) × (steps.new ≡ steps.old)) }
 {
-    let end = run_job(rt, alloc, seed, job, console, steps, gate)?;
+    let end = run_job(rt, alloc, order, job, console, steps, gate)?;
     Ok(status_of(&end))
 }
 
@@ -65,7 +68,8 @@ fn stream<
 /// of it is done, the machine comes to a stop, and the run ends. A sink that fails is given nothing more, and the run goes on
 /// to its end. Each of the four actors has a thread of its own, and passes the gate before each turn. Where a thread can't be
 /// started, its actor goes before or behind another one, and such a run may wait for ever. With `--lockstep SEED` the four
-/// take turns on this thread, in an order that the seed gives, and pass no gate.
+/// take turns on this thread, in an order that the seed gives, and pass no gate. With `--paced` they do so too, the host and the
+/// board first, and the motion where these two wait, so that its plan is kept full.
 ///
 /// `demo N`: the generated job of N moves is run in lockstep, with N as the seed. The console takes one line on the run, and the
 /// job is left as it is.
@@ -88,6 +92,7 @@ pub fn run_grbl<
     // memory.
     ensures refused { Refuses (map (λ w. w.now) words.now) → HasNotBegun result }
     ensures usage { result ≡ Status.Usage → Refuses (map (λ w. w.now) words.now) }
+    ensures told { ¬ IsNamed (map (λ w. w.now) words.now) → result ≡ Status.Usage }
     ensures untouched { HasNotBegun result →
         (So.state job.new ≡ So.state job.old) × (Co.state console.new ≡ Co.state console.old) × (St.state steps.new ≡ St.state steps.old) }
 
@@ -145,9 +150,16 @@ pub fn run_grbl<
         ¬ Rose (St.state steps.old).faults (St.state steps.new).faults →
         (result ≡ Status.Done) ⊎ (result ≡ Status.OutOfMemory) }
 
-    // The demo runs the generated job, all of whose lines are accepted, and leaves the source as it is.
+    // The turns are those of the order that the words name: of the seed, or at a pace.
+    ensures order { (order : _) → Asks (tasks.Stream order) (map (λ w. w.now) words.now) → HasRun result →
+        EndsInOrder order (devices (So.state job.old) (Co.state console.old) (St.state steps.old)) (devices (So.state job.new) (Co.state console.new) (St.state steps.new)) result }
+
+    // The demo runs the generated job, all of whose lines are accepted, in the order of its number, and leaves the source as it
+    // is.
     ensures demo { (n : ℕ) → Asks (tasks.Demo n) (map (λ w. w.now) words.now) → HasRun result →
         IsDemo n (Co.state console.old) (Co.state console.new) (St.state steps.old) (St.state steps.new) result × (So.state job.new ≡ So.state job.old) }
+    ensures demo_order { (n : ℕ) → Asks (tasks.Demo n) (map (λ w. w.now) words.now) → HasRun result →
+        IsOrderedDemo n (St.state steps.old) (St.state steps.new) result }
 {
     let task = match read_words(alloc, words) {
         Ok(task) => task,
@@ -155,7 +167,7 @@ pub fn run_grbl<
         Err(WordsFault::OutOfMemory) => return Status::OutOfMemory,
     };
     match task {
-        Task::Stream(seed) => match stream(rt, alloc, seed, job, console, steps, gate) {
+        Task::Stream(order) => match stream(rt, alloc, order, job, console, steps, gate) {
             Ok(status) => status,
             Err(OutOfMemory) => Status::OutOfMemory,
         },

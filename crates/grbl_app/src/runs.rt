@@ -2,8 +2,10 @@
 
 ghost use Rattle.std.specs.Prelude.{◌≡◌, IfOk, OnErr};
 ghost use Rattle.run_law.specs.Devices.{devices, HasRun};
+ghost use Rattle.grbl_app.specs.Orders.{GoesBy};
 
-use actor_turns::run_in_lockstep;
+use actor_turns::{run_at_a_pace, run_in_lockstep};
+use command_line::Order;
 use outside::{Gate, OutOfMemory, Sink, Source};
 use run_law::RunEnd;
 use std::alloc::Global;
@@ -11,7 +13,7 @@ use std::sync::Wait;
 use std::thread::Threads;
 use thread_rig::run_in_threads;
 
-/// Runs a job: in lockstep where a seed gives the order of the turns, else in four threads.
+/// Runs a job: in lockstep where a seed gives the order of the turns, at a pace, or in four threads.
 pub(crate) fn run_job<
     R: Threads + Wait + Sync,
     So: Source + Send,
@@ -21,17 +23,19 @@ pub(crate) fn run_job<
 >(
     rt: &R,
     alloc: Global,
-    seed: Option<u64>,
+    order: Order,
     job: &mut So,
     console: &mut Co,
     steps: &mut St,
     gate: &G,
 ) -> Result<RunEnd, OutOfMemory>
     ensures run { IfOk result (λ end. HasRun (devices (So.state job.old) (Co.state console.old) (St.state steps.old)) (devices (So.state job.new) (Co.state console.new) (St.state steps.new)) end) }
+    ensures order { IfOk result (λ end. GoesBy order (devices (So.state job.old) (Co.state console.old) (St.state steps.old)) (devices (So.state job.new) (Co.state console.new) (St.state steps.new)) end) }
     ensures untouched { OnErr result ((job.new ≡ job.old) × (console.new ≡ console.old) × (steps.new ≡ steps.old)) }
 {
-    match seed {
-        Some(seed) => run_in_lockstep(rt, alloc, seed, job, console, steps),
-        None => run_in_threads(rt, alloc, job, console, steps, gate),
+    match order {
+        Order::Lockstep(seed) => run_in_lockstep(rt, alloc, seed, job, console, steps),
+        Order::Paced => run_at_a_pace(rt, alloc, job, console, steps),
+        Order::Threads => run_in_threads(rt, alloc, job, console, steps, gate),
     }
 }

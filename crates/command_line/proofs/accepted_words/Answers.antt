@@ -1,7 +1,7 @@
 use Rattle.std.proofs.Common.{refl, arith}
 use Rattle.clap.proofs.OnLiterals.{clap_on_literals}
 use Rattle.command_line.proofs.CommandLine.{begins}
-use Rattle.command_line.proofs.Numbers.{one_task}
+use Rattle.command_line.proofs.Numbers.{one_task, some_asked}
 use Rattle.command_line.proofs.accepted_words.Goals as goal
 
 pub returns-clause-begins : goal.returns-clause-begins
@@ -9,6 +9,21 @@ returns-clause-begins c = begins
 
 pub returns-clause-one : goal.returns-clause-one
 returns-clause-one c = one_task
+
+pub returns-clause-some : goal.returns-clause-some
+returns-clause-some c = some_asked
+
+pub returns-clause-paced : goal.returns-clause-paced
+unfolding clap_on_literals
+returns-clause-paced c = ((refl, refl), λ refused. absurd (cc))
+
+pub returns-clause-paced_by_seed : goal.returns-clause-paced_by_seed
+unfolding clap_on_literals
+returns-clause-paced_by_seed c = (refl, λ none. cc)
+
+pub returns-clause-seed_and_paced : goal.returns-clause-seed_and_paced
+unfolding clap_on_literals
+returns-clause-seed_and_paced c = (refl, λ none. cc)
 
 pub returns-clause-stream : goal.returns-clause-stream
 unfolding clap_on_literals

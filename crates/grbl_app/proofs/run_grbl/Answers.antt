@@ -1,8 +1,10 @@
 use Rattle.std.proofs.Common.{◌≡◌, ap, inl, inr, map, refl, subst, sym}
 use Rattle.command_line.specs.Command.{Asks}
 use Rattle.command_line.specs.declared.Task.TheVariants as tasks
+use Rattle.run_law.specs.Devices.{devices}
 use Rattle.run_status.specs.Demos.{IsDemo}
-use Rattle.grbl_app.proofs.Tasks.{no_stream, same_moves}
+use Rattle.grbl_app.specs.Orders.{EndsInOrder, IsOrderedDemo}
+use Rattle.grbl_app.proofs.Tasks.{no_stream, same_moves, same_order}
 use Rattle.run_status.specs.Ends.{HasRun}
 use Rattle.run_status.proofs.Demos.{demo_causes, has_begun}
 use Rattle.run_status.proofs.Statuses.{one_cause, tells_faults, demo_tells_faults}
@@ -302,7 +304,7 @@ pub returns-in-Ok-stream-clause-faultless : goal.returns-in-Ok-stream-clause-fau
 returns-in-Ok-stream-clause-faultless g c = c.in-Ok-stream.ensures.causes.faultless
 
 pub returns-in-Ok-stream-clause-demo : goal.returns-in-Ok-stream-clause-demo
-returns-in-Ok-stream-clause-demo g c = λ n asks run. absurd (no_stream (map (λ w. w.now) c.args.words.now) c.in-Stream.seed n asks (subst (λ task. Asks task (map (λ w. w.now) c.args.words.now)) c.in-Stream.is c.in-Ok.ensures.asked))
+returns-in-Ok-stream-clause-demo g c = λ n asks run. absurd (no_stream (map (λ w. w.now) c.args.words.now) c.in-Stream.order n asks (subst (λ task. Asks task (map (λ w. w.now) c.args.words.now)) c.in-Stream.is c.in-Ok.ensures.asked))
 
 pub returns-in-Ok-run_demo-clause-refused : goal.returns-in-Ok-run_demo-clause-refused
 returns-in-Ok-run_demo-clause-refused g c = λ r. absurd (c.in-Ok.ensures.accepted refl r)
@@ -336,3 +338,66 @@ returns-in-Ok-run_demo-clause-alarm g c = λ seed k asks. absurd (no_stream (map
 
 pub returns-in-Ok-run_demo-clause-no_other : goal.returns-in-Ok-run_demo-clause-no_other
 returns-in-Ok-run_demo-clause-no_other g c = λ seed bytes status asks. absurd (no_stream (map (λ w. w.now) c.args.words.now) seed c.in-Demo.moves (subst (λ task. Asks task (map (λ w. w.now) c.args.words.now)) c.in-Demo.is c.in-Ok.ensures.asked) asks)
+
+pub returns-in-Err-Refused-clause-order : goal.returns-in-Err-Refused-clause-order
+returns-in-Err-Refused-clause-order g c = λ order asks run. absurd run
+
+pub returns-in-Err-Refused-clause-demo_order : goal.returns-in-Err-Refused-clause-demo_order
+returns-in-Err-Refused-clause-demo_order g c = λ n asks run. absurd run
+
+pub returns-in-Err-OutOfMemory-clause-order : goal.returns-in-Err-OutOfMemory-clause-order
+returns-in-Err-OutOfMemory-clause-order g c = λ order asks run. absurd run
+
+pub returns-in-Err-OutOfMemory-clause-demo_order : goal.returns-in-Err-OutOfMemory-clause-demo_order
+returns-in-Err-OutOfMemory-clause-demo_order g c = λ n asks run. absurd run
+
+pub returns-in-Err-clause-order : goal.returns-in-Err-clause-order
+returns-in-Err-clause-order g c = λ order asks run. absurd run
+
+pub returns-in-Err-clause-demo_order : goal.returns-in-Err-clause-demo_order
+returns-in-Err-clause-demo_order g c = λ n asks run. absurd run
+
+pub returns-in-Err-run_demo-clause-order : goal.returns-in-Err-run_demo-clause-order
+returns-in-Err-run_demo-clause-order g c = λ order asks run. absurd run
+
+pub returns-in-Err-run_demo-clause-demo_order : goal.returns-in-Err-run_demo-clause-demo_order
+returns-in-Err-run_demo-clause-demo_order g c = λ n asks run. absurd run
+
+pub returns-in-Err-Refused-clause-told : goal.returns-in-Err-Refused-clause-told
+returns-in-Err-Refused-clause-told g c = λ unnamed. refl
+
+pub returns-in-Err-OutOfMemory-clause-told : goal.returns-in-Err-OutOfMemory-clause-told
+returns-in-Err-OutOfMemory-clause-told g c = λ unnamed. let none = c.in-Err-OutOfMemory.ensures.unnamed unnamed in let is = c.in-Err-OutOfMemory.field-0-is in absurd (cc)
+
+pub returns-in-Err-clause-told : goal.returns-in-Err-clause-told
+returns-in-Err-clause-told g c = λ unnamed. let none = c.in-Ok.ensures.unnamed unnamed in absurd (cc)
+
+pub returns-in-Err-run_demo-clause-told : goal.returns-in-Err-run_demo-clause-told
+returns-in-Err-run_demo-clause-told g c = λ unnamed. let none = c.in-Ok.ensures.unnamed unnamed in absurd (cc)
+
+pub returns-in-Ok-stream-clause-told : goal.returns-in-Ok-stream-clause-told
+returns-in-Ok-stream-clause-told g c = λ unnamed. let none = c.in-Ok.ensures.unnamed unnamed in absurd (cc)
+
+pub returns-in-Ok-run_demo-clause-told : goal.returns-in-Ok-run_demo-clause-told
+returns-in-Ok-run_demo-clause-told g c = λ unnamed. let none = c.in-Ok.ensures.unnamed unnamed in absurd (cc)
+
+pub returns-in-Ok-stream-clause-order : goal.returns-in-Ok-stream-clause-order
+returns-in-Ok-stream-clause-order g c = λ order asks run.
+    let words = map (λ w. w.now) c.args.words.now in
+    let its : Asks (tasks.Stream c.in-Stream.order) words = subst (λ task. Asks task words) c.in-Stream.is c.in-Ok.ensures.asked in
+    let same : c.in-Stream.order ≡ order = same_order words c.in-Stream.order order its asks in
+    subst (λ o. EndsInOrder o (devices (g.So.Source.state c.args.job.now) (g.Co.Sink.state c.args.console.now) (g.St.Sink.state c.args.steps.now))
+    (devices (g.So.Source.state c.stream.new.job) (g.Co.Sink.state c.stream.new.console) (g.St.Sink.state c.stream.new.steps)) c.in-Ok-stream.status) same c.in-Ok-stream.ensures.order
+
+pub returns-in-Ok-run_demo-clause-order : goal.returns-in-Ok-run_demo-clause-order
+returns-in-Ok-run_demo-clause-order g c = λ order asks. absurd (no_stream (map (λ w. w.now) c.args.words.now) order c.in-Demo.moves (subst (λ task. Asks task (map (λ w. w.now) c.args.words.now)) c.in-Demo.is c.in-Ok.ensures.asked) asks)
+
+pub returns-in-Ok-stream-clause-demo_order : goal.returns-in-Ok-stream-clause-demo_order
+returns-in-Ok-stream-clause-demo_order g c = λ n asks run. absurd (no_stream (map (λ w. w.now) c.args.words.now) c.in-Stream.order n asks (subst (λ task. Asks task (map (λ w. w.now) c.args.words.now)) c.in-Stream.is c.in-Ok.ensures.asked))
+
+pub returns-in-Ok-run_demo-clause-demo_order : goal.returns-in-Ok-run_demo-clause-demo_order
+returns-in-Ok-run_demo-clause-demo_order g c = λ n asks run.
+    let words = map (λ w. w.now) c.args.words.now in
+    let its : Asks (tasks.Demo c.in-Demo.moves) words = subst (λ task. Asks task words) c.in-Demo.is c.in-Ok.ensures.asked in
+    let same : c.in-Demo.moves ≡ n = same_moves words c.in-Demo.moves n its asks in
+    subst (λ moves. IsOrderedDemo moves (g.St.Sink.state c.args.steps.now) (g.St.Sink.state c.run_demo.new.steps) c.in-Ok-run_demo.status) same c.in-Ok-run_demo.ensures.order

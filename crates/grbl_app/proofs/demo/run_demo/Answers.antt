@@ -4,6 +4,8 @@ use Rattle.std.specs.Result.{is_ok, is_err}
 use Rattle.std.proofs.Common.{List, ℕ}
 use Rattle.outside.specs.Writing.{Took}
 use Rattle.run_law.specs.Runs.{IsRun}
+use Rattle.run_law.specs.Devices.{devices}
+use Rattle.actor_turns.specs.Orders.{IsLockstepRun}
 use Rattle.run_status.specs.Demos.{generated, keeps_nothing}
 use Rattle.run_status.proofs.Accepted.{runs_whole}
 use Rattle.run_status.proofs.Demos.{well_ended, told_whole}
@@ -37,3 +39,13 @@ returns-clause-run g c =
           (subst (Took (g.Co.Sink.state c.args.console.now) (g.Co.Sink.state c.tell_summary.new.console) (not (is_ok c.tell_summary.result))) told c.tell_summary.ensures);
       status_is = c.status_of.ensures ∙ well_ended end c.is_err-console_failed.result whole.read whole.stop whole.errors;
     }
+
+pub returns-clause-order : goal.returns-clause-order
+returns-clause-order g c = record {
+  end = c.in_ok-end.end;
+  left = c.run_in_lockstep.new.job;
+  goes = subst (λ (text : List ℕ). IsLockstepRun c.args.moves (devices (generated text) keeps_nothing (g.St.Sink.state c.args.steps.now))
+      (devices (generated c.run_in_lockstep.new.job) keeps_nothing (g.St.Sink.state c.run_in_lockstep.new.steps)) c.in_ok-end.end) c.new-job.ensures c.in_ok-end.ensures.order;
+  console_failed = c.is_err-console_failed.result;
+  status_is = c.status_of.ensures;
+}
