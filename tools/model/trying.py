@@ -20,7 +20,9 @@ from model.motion import TooLong, Wrong, heads_of
 from model.reports import Way, fault_in, fault_in_front, part
 
 PROGRAM = Path(__file__).resolve().parent.parent.parent / "crates/grbl/out/grbl"
-SECONDS = 10  # of processor time, in lockstep
+SECONDS = 10  # of processor time, on one thread
+ONE_THREAD = {"--lockstep", "--paced"}  # the words of such runs
+PACED_EVERY = 4  # each job of such a number by this is paced too
 THREAD_SECONDS = 120  # the same of four threads, which take it while they wait too
 STACK_KILOBYTES = 1024  # of each of the four threads
 KILOBYTES = 14 * 1024  # less than the largest job has, for the code, the stacks and all else
@@ -43,7 +45,7 @@ def bound(seconds):
 
 def start(words, stdin, folder):
     """Starts the program. Its console and errors go to files."""
-    seconds = SECONDS if "--lockstep" in words else THREAD_SECONDS
+    seconds = SECONDS if ONE_THREAD.intersection(words) else THREAD_SECONDS
     with stdin, (folder / "console").open("wb") as stdout, (folder / "errors").open("wb") as stderr:
         return subprocess.Popen(
             [PROGRAM, *words], stdin=stdin, stdout=stdout, stderr=stderr, cwd=folder, preexec_fn=lambda: bound(seconds)
@@ -167,7 +169,7 @@ class Tally:
 
     def __str__(self):
         rest = f"; {self.left_out} are left out, since they have too many steps" if self.left_out else ""
-        return (f"{self.jobs} jobs, each as a stream and in lockstep, {self.alike} of them by {SEEDS} more seeds, in all "
+        return (f"{self.jobs} jobs, each as a stream and in lockstep, one in {PACED_EVERY} paced too, {self.alike} of them by {SEEDS} more seeds, in all "
                 f"{self.lines} lines with {self.heads} heads and {self.reports} reports, {self.cuts} cuts of jogs, {self.resets} "
                 f"runs that a reset ended, {self.broken_off} of them early, and {self.alarms} that a soft limit ended, {self.stopped} of them before all was done{rest}")
 
@@ -192,14 +194,18 @@ class Trial:
     most_events: int
 
     def try_job(self, number, folder, tally):
-        """Tries the job of a number, as a stream, of a file or a pipe, and in lockstep, and answers a failure or None."""
+        """Tries the job of a number, as a stream, of a file or a pipe, in lockstep, and, one job in some, paced, and answers a
+        failure or None."""
         chance = random.Random(self.seed * 1_000_003 + number)
         job = self.make(chance, number)
         tally.jobs += 1
         lockstep = ["--lockstep", str(chance.choice((number, chance.getrandbits(64))))]
         is_piped = len(job) < LARGEST_JOB // 2 and chance.random() < 0.5
         first = start_on_pipe if is_piped else start_on_file
-        for start_it, words in ((first, ["stream"]), (start_on_file, ["stream", *lockstep])):
+        tries = [(first, ["stream"]), (start_on_file, ["stream", *lockstep])]
+        if number % PACED_EVERY == 0:
+            tries.append((first, ["stream", "--paced"]))
+        for start_it, words in tries:
             told = run_program(start_it, words, job, folder)
             if isinstance(told, str):
                 return Failure(number, job, f"{' '.join(words)}: {told}")

@@ -22,6 +22,8 @@ mod limits;
 #[cfg(test)]
 mod offsets;
 #[cfg(test)]
+mod paced;
+#[cfg(test)]
 mod realtime;
 #[cfg(test)]
 mod reports;

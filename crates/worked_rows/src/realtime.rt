@@ -8,12 +8,13 @@ use std::process::Abort;
 use std::sync::Wait;
 use std::thread::Threads;
 
-/// The words of a run in threads, and of runs in lockstep.
-pub(crate) const WORDS: [&[&str]; 4] = [
+/// The words of a run in threads, of runs in lockstep, and of a paced one.
+pub(crate) const WORDS: [&[&str]; 5] = [
     &["stream"],
     &["stream", "--lockstep", "0"],
     &["stream", "--lockstep", "7"],
     &["stream", "--lockstep", "18446744073709551615"],
+    &["stream", "--paced"],
 ];
 
 /// How many heads a steps text has that begin at rest.
