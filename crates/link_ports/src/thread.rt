@@ -28,7 +28,11 @@ pub fn run_host<R: Wait, J: Source, C: Sink, G: Gate>(
 {
     for _ in rt.forever() {
         gate.pass(Actor::Host);
-        if is_last(side.host.turn(&mut side.link, job, console)) {
+        if is_last(
+            side.host.turn(&mut side.link, job, console),
+            Actor::Host,
+            gate,
+        ) {
             return;
         }
     }

@@ -33,7 +33,11 @@ fn run_pulse<R: Wait, G: Gate>(rt: &R, side: &mut PulseSide, gate: &G)
 {
     for _ in rt.forever() {
         gate.pass(Actor::Pulse);
-        if is_last(side.pulse.turn(&mut side.pieces, &mut side.records)) {
+        if is_last(
+            side.pulse.turn(&mut side.pieces, &mut side.records),
+            Actor::Pulse,
+            gate,
+        ) {
             return;
         }
     }
@@ -47,7 +51,11 @@ fn run_recorder<R: Wait, S: Sink, G: Gate>(rt: &R, side: &mut RecorderSide, step
 {
     for _ in rt.forever() {
         gate.pass(Actor::Record);
-        if is_last(side.recorder.turn(&mut side.records, steps)) {
+        if is_last(
+            side.recorder.turn(&mut side.records, steps),
+            Actor::Record,
+            gate,
+        ) {
             return;
         }
     }

@@ -2,7 +2,7 @@
 
 ghost use Rattle.std.specs.Prelude.{◌≡◌, ◌↔◌, true};
 
-use outside::{On, Turn};
+use outside::{Actor, Gate, On, Turn};
 use std::thread;
 
 /// How many times a thread lets others run before its actor tries again, by what it waits for: once, if more times gain
@@ -30,14 +30,15 @@ fn yield_for(on: On) {
     }
 }
 
-/// Whether a turn is its actor's last. If the turn has to wait, other threads run first.
+/// Whether a turn is its actor's last. If the turn has to wait, the gate hears of it, and other threads run first.
 #[inline]
-pub fn is_last(turn: Turn) -> bool
+pub fn is_last<G: Gate>(turn: Turn, actor: Actor, gate: &G) -> bool
     ensures { (result ≡ true) ↔ (turn ≡ Turn.Done) }
 {
     match turn {
         Turn::Did => false,
         Turn::Wait(on) => {
+            gate.wait(actor, on);
             yield_for(on);
             false
         }

@@ -32,7 +32,7 @@ pub(crate) fn run_board<R: Wait, G: Gate>(rt: &R, side: &mut BoardSide, gate: &G
 {
     for _ in rt.forever() {
         gate.pass(Actor::Board);
-        if is_last(side.board.turn(&mut side.link)) {
+        if is_last(side.board.turn(&mut side.link), Actor::Board, gate) {
             return;
         }
     }
