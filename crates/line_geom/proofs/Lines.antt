@@ -8,9 +8,9 @@ use Rattle.std.proofs.lemmas.Bool.{cases_lt}
 use Rattle.std.proofs.lemmas.Bool.Decides.{nat_tests}
 use Rattle.units.specs.declared.Per3.{Per3}
 use Rattle.units.specs.Roots.{root_of}
-use Rattle.units.specs.Limits.{OnEachAxis}
+use Rattle.units.specs.Limits.{IsAxisCap, OnEachAxis}
 use Rattle.units.proofs.Places.{root_is}
-use Rattle.line_geom.specs.Geometry.{axis_length, line_length, axis_cap, axis_caps, least, IsShare, IsAxisCap, IsDirection}
+use Rattle.line_geom.specs.Geometry.{axis_length, line_length, axis_cap, axis_caps, least, IsShare, IsDirection}
 use Rattle.line_geom.proofs.Squares.{root_above, root_below}
 
 -- an axis goes at least 100 nm and at most 1,000,000 nm a step

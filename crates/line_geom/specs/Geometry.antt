@@ -27,10 +27,6 @@ length_of mv p = line_length (axis_length (nat_abs (way mv).x) p.x) (axis_length
 abbrev pub unit_of : ℤ → ℕ → ℕ → ℤ
 unit_of d p length = with_sign_of d (axis_length (nat_abs d) p * 1000000 / length)
 
--- a rate in µm per minute, or an acceleration in µm/s², that an axis may have
-abbrev pub IsAxisCap : ℕ → Type 0
-IsAxisCap cap = (1000 ≤ cap) × (cap ≤ 1000000000)
-
 -- what an axis's cap allows along a line if the axis goes u millionths of it; no cap if the axis doesn't move
 abbrev pub axis_cap : ℕ → ℕ → List ℕ
 axis_cap cap u = cond (nat_eq u 0) [] (cap * 1000000 / u ∷ [])

@@ -3,9 +3,9 @@
 ghost use Rattle.std.specs.Prelude.{◌≡◌, ◌+◌, ◌-◌, ◌*◌, ◌/◌, ◌<◌, ◌≤◌, ◌↔◌, max, min, nat_abs, ◌-ℤ◌, Some, IsNone, IfSome};
 ghost use Rattle.units.specs.Rounding.{with_sign_of};
 ghost use Rattle.units.specs.Lengths.{IsCoordinate, IsMove, IsScale};
-ghost use Rattle.units.specs.Limits.{IsLimits, OnEachAxis};
+ghost use Rattle.units.specs.Limits.{IsAxisCap, IsLimits, OnEachAxis};
 ghost use Rattle.units.specs.Counting.{way, events_of};
-ghost use Rattle.line_geom.specs.Geometry.{axis_length, line_length, length_of, unit_of, IsAxisCap, axis_cap, axis_caps, least, IsShare, geom_of, IsGeom, IsDirection, IsBounded};
+ghost use Rattle.line_geom.specs.Geometry.{axis_length, line_length, length_of, unit_of, axis_cap, axis_caps, least, IsShare, geom_of, IsGeom, IsDirection, IsBounded};
 
 use crate::Geom;
 use units::{Counts, Limits, Move, Per3, events, isqrt};

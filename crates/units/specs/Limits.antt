@@ -6,13 +6,9 @@ use Rattle.units.specs.declared.Limits.{Limits}
 use Rattle.units.specs.declared.Rate.{Rate}
 use Rattle.units.specs.declared.Rate.TheVariants.{Rapid, Feed, Jog}
 
--- the greatest rate of an axis, in µm per minute
-abbrev pub IsAxisRate : ℕ → Type 0
-IsAxisRate rate = (1000 ≤ rate) × (rate ≤ 1000000000)
-
--- the acceleration of an axis, in µm/s²
-abbrev pub IsAcceleration : ℕ → Type 0
-IsAcceleration accel = (1000 ≤ accel) × (accel ≤ 1000000000)
+-- the greatest rate of an axis, in µm per minute, or its acceleration, in µm/s²
+abbrev pub IsAxisCap : ℕ → Type 0
+IsAxisCap cap = (1000 ≤ cap) × (cap ≤ 1000000000)
 
 -- a fact of the number of each axis
 pub record OnEachAxis (P : ℕ → Type 0) (p : Per3) : Type 0 where
@@ -22,8 +18,8 @@ pub record OnEachAxis (P : ℕ → Type 0) (p : Per3) : Type 0 where
 
 pub record IsLimits (l : Limits) : Type 0 where
   pub per_mm : OnEachAxis IsScale l.per_mm
-  pub rate : OnEachAxis IsAxisRate l.rate
-  pub accel : OnEachAxis IsAcceleration l.accel
+  pub rate : OnEachAxis IsAxisCap l.rate
+  pub accel : OnEachAxis IsAxisCap l.accel
 
 -- a feed in nm per minute
 abbrev pub IsFeed : ℤ → Type 0
