@@ -7,11 +7,10 @@ use Rattle.std.proofs.lemmas.List.{drop-take, get_or-map}
 use Rattle.std.proofs.lemmas.List.Elements.{All-head}
 use Rattle.line_geom.specs.declared.Block.{Block}
 use Rattle.overrides.specs.declared.Overrides.{Overrides}
-use Rattle.plan_rules.specs.Blocks.{IsBlock, squared, left_of, top_of, hard_of, hards_of, soft_of, softs_of}
+use Rattle.plan_rules.specs.Blocks.{IsBlock, nominal_speed, squared, left_of, top_of, hard_of, hards_of, soft_of, softs_of}
 use Rattle.plan_rules.specs.Plans.{Planned, IsReached, IsTail}
 use Rattle.plan_rules.specs.Segments.{IsSegment, moved}
-use Rattle.plan_rules.specs.Taking.{nominal}
-use Rattle.plan_passes.specs.Tables.{IsMovedUp, nominal_speed, nominals_of}
+use Rattle.plan_passes.specs.Tables.{IsMovedUp, nominals_of}
 use Rattle.overrides.specs.Percents.{IsOverrides}
 use Rattle.plan_rules.proofs.Bounds.{bounds_of, nominal_below}
 use Rattle.plan_rules.proofs.Reached.{plan_of, segment_steps, left_gap}
@@ -56,7 +55,7 @@ nominal_at o bs row i b h at is =
     sym (get_or-take (length bs) row i 0 h) ∙ ap (λ l. get_or l i 0) is ∙ sym (number_at (nominal_speed o) bs i b h at)
 
 pub nominal_of_tail : (p : Planned) (b : Block) (row : List ℕ) → IsTail p b → take (length p.blocks) row ≡ nominals_of p.overrides p.blocks
-    → get_or row 0 0 ≡ nominal p b
+    → get_or row 0 0 ≡ nominal_speed p.overrides b
 nominal_of_tail p b row tail is =
     let bs = b ∷ drop 1 p.blocks in
     nominal_at p.overrides bs row 0 b (omega arith) (λ d. refl)

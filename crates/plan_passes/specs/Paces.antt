@@ -3,15 +3,14 @@ use Rattle.std.specs.Prelude.{◌≡◌, ℕ, ◌+◌, ◌*◌, ◌/◌, ◌<◌
 use Rattle.units.specs.Roots.{root_of}
 use Rattle.line_geom.specs.declared.Block.{Block}
 use Rattle.overrides.specs.declared.Overrides.{Overrides}
-use Rattle.overrides.specs.Percents.{nominal_of}
 use Rattle.plan_passes.specs.declared.Pace.{Pace}
-use Rattle.plan_rules.specs.Blocks.{top_of, left_of}
+use Rattle.plan_rules.specs.Blocks.{nominal_speed, top_of, left_of}
 use Rattle.plan_rules.specs.Plans.{Planned}
 use Rattle.plan_rules.specs.Segments.{IsGoing, pace_of, cycles_of}
 
 -- the cycles from one event to the next, where n events of a block keep the speed w
 abbrev pub cycles_at : Overrides → Block → ℕ → ℕ → ℕ
-cycles_at o b w n = cycles_of b (pace_of b (nominal_of o b.rate b.geom.rapid) w w n)
+cycles_at o b w n = cycles_of b (pace_of b (nominal_speed o b) w w n)
 
 -- a segment at the nominal speed, of a block of which more events are left
 pub record IsPaceOf (o : Overrides) (b : Block) (s : Pace) : Type 0 where

@@ -2,20 +2,15 @@
 use Rattle.std.specs.Prelude.{◌≡◌, ℕ, ◌-◌, ◌≤◌, ◌<◌, List, length, get_or, take, drop, map}
 use Rattle.line_geom.specs.declared.Block.{Block}
 use Rattle.overrides.specs.declared.Overrides.{Overrides}
-use Rattle.overrides.specs.Percents.{nominal_of}
 use Rattle.profile.specs.Caps.{caps, planned}
 use Rattle.profile.specs.Settled.{IsSettled}
-use Rattle.plan_rules.specs.Blocks.{gaps_of, softs_of}
+use Rattle.plan_rules.specs.Blocks.{gaps_of, nominal_speed, softs_of}
 use Rattle.plan_rules.specs.Plans.{Planned, planned_at, IsReached, IsPointer}
 
 -- the gap of each block, and the soft cap of each junction
 pub record IsTabled (bs : List Block) (o : Overrides) (gap_row soft_row : List ℕ) : Type 0 where
   pub gaps : take (length bs) gap_row ≡ gaps_of bs
   pub softs : take (length bs - 1) soft_row ≡ softs_of o bs
-
--- how fast a block is to go under overrides, in µm/s
-abbrev pub nominal_speed : Overrides → Block → ℕ
-nominal_speed o b = nominal_of o b.rate b.geom.rapid
 
 -- the nominal speed of each block
 abbrev pub nominals_of : Overrides → List Block → List ℕ

@@ -2,8 +2,7 @@
 
 ghost use Rattle.std.specs.Prelude.{◌≡◌, ◌≤◌, ◌<◌, ◌^◌, min};
 ghost use Rattle.overrides.specs.Percents.{IsOverrides};
-ghost use Rattle.plan_rules.specs.Blocks.{IsBlock, squared, left_of, gap_of, hard_of};
-ghost use Rattle.plan_passes.specs.Tables.{nominal_speed};
+ghost use Rattle.plan_rules.specs.Blocks.{IsBlock, nominal_speed, squared, left_of, gap_of, hard_of};
 
 use line_geom::Cap;
 use overrides::Overrides;

@@ -144,7 +144,7 @@ impl<const N: usize> Plan<N> {
     ghost use Rattle.overrides.specs.Percents.{IsOverrides};
     ghost use Rattle.plan_rules.specs.Plans.{IsReached, IsTail, IsGreatest, IsLastPoint, exit_of, profile_of, added};
     ghost use Rattle.plan_rules.specs.Segments.{IsSegment, advanced, IsLegalStep};
-    ghost use Rattle.plan_rules.specs.Taking.{nominal};
+    ghost use Rattle.plan_rules.specs.Blocks.{nominal_speed};
     ghost use Rattle.plan_passes.specs.Paces.{IsPaceOfTail, IsSteadyOf};
 
     /// A plan of at most N - 1 blocks, at rest. N is from 2 to 64.
@@ -207,7 +207,7 @@ impl<const N: usize> Plan<N> {
     /// How fast the tail is to go under the plan's overrides, in µm/s.
     pub fn nominal_of_tail(&self) -> u64
         requires { 0 < length self.now.blocks }
-        ensures nominal { (b : Block) → IsTail self.now b → result ≡ nominal self.now b }
+        ensures nominal { (b : Block) → IsTail self.now b → result ≡ nominal_speed self.now.overrides b }
         ensures reached { IsReached self.now }
     {
         self.nominals.at(0)

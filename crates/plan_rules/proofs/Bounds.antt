@@ -10,7 +10,7 @@ use Rattle.line_geom.proofs.Geometries.{bounded}
 use Rattle.line_geom.specs.declared.Block.{Block}
 use Rattle.overrides.specs.declared.Overrides.{Overrides}
 use Rattle.overrides.specs.Percents.{IsOverrides, nominal_of}
-use Rattle.plan_rules.specs.Blocks.{IsBlock, squared, top_of, left_of}
+use Rattle.plan_rules.specs.Blocks.{IsBlock, nominal_speed, squared, top_of, left_of}
 
 pub bounds_of : (b : Block) → IsBlock b → IsBounded b.geom
 bounds_of b is = bounded b.mv is.geom.limits b.geom is.geom.places is.geom.in_range is.geom.geom
@@ -28,7 +28,7 @@ nominal_le o Rapid n is low =
 nominal_le o (Feed feed) n is low = omega arith
 nominal_le o (Jog feed) n is low = omega arith
 
-pub nominal_below : (o : Overrides) (b : Block) → IsOverrides o → IsBlock b → nominal_of o b.rate b.geom.rapid ≤ b.geom.rapid
+pub nominal_below : (o : Overrides) (b : Block) → IsOverrides o → IsBlock b → nominal_speed o b ≤ b.geom.rapid
 nominal_below o b is block = nominal_le o b.rate b.geom.rapid is (bounds_of b block).rapid_low
 
 -- no block goes faster than its axes allow

@@ -21,9 +21,13 @@ left_of b = b.geom.n - b.prepared
 unfoldable pub gap_of : Block → ℕ
 gap_of b = b.geom.q * left_of b
 
--- the squared nominal speed
+-- how fast a block is to go under overrides, in µm/s
+abbrev pub nominal_speed : Overrides → Block → ℕ
+nominal_speed o b = nominal_of o b.rate b.geom.rapid
+
+-- the square of that
 unfoldable pub top_of : Overrides → Block → ℕ
-top_of o b = squared (nominal_of o b.rate b.geom.rapid)
+top_of o b = squared (nominal_speed o b)
 
 -- the hard cap of the junction of two blocks: what the junction and the axes allow
 unfoldable pub hard_of : Block → Block → ℕ

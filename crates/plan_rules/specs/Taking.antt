@@ -2,7 +2,7 @@
 use Rattle.std.specs.Prelude.{◌≡◌, ℕ, List, [], ◌∷◌}
 use Rattle.step_line.specs.declared.Segment.{Segment}
 use Rattle.line_geom.specs.declared.Block.{Block}
-use Rattle.overrides.specs.Percents.{nominal_of}
+use Rattle.plan_rules.specs.Blocks.{nominal_speed}
 use Rattle.plan_rules.specs.Plans.{Planned}
 use Rattle.plan_rules.specs.Segments.{IsGoing, IsHolding, pace_of, cycles_of}
 use Rattle.plan_rules.specs.declared.Mode.{Mode}
@@ -13,10 +13,6 @@ abbrev pub ByMode : Planned → Block → Mode → ℕ → ℕ → Type 0
 ByMode p b Go n v = IsGoing p b n v
 ByMode p b Hold n v = IsHolding p b n v
 
--- how fast a block is to go under a plan's overrides, in µm/s
-abbrev pub nominal : Planned → Block → ℕ
-nominal p b = nominal_of p.overrides b.rate b.geom.rapid
-
 -- s is the segment that a plan with the tail b gives in a mode
 pub record IsTaken (p : Planned) (b : Block) (mode : Mode) (s : Segment) : Type 0 where
   pub line : s.line ≡ b.line
@@ -24,7 +20,7 @@ pub record IsTaken (p : Planned) (b : Block) (mode : Mode) (s : Segment) : Type 
   pub first : s.first ≡ b.prepared
   pub rule : ByMode p b mode s.n s.w_out
   pub w_in : s.w_in ≡ p.speed
-  pub cycles : s.cycles ≡ cycles_of b (pace_of b (nominal p b) s.w_in s.w_out s.n)
+  pub cycles : s.cycles ≡ cycles_of b (pace_of b (nominal_speed p.overrides b) s.w_in s.w_out s.n)
 
 abbrev pub IsTakenOf : Planned → List Block → Mode → Segment → Type 0
 IsTakenOf p [] mode s = ⊥

@@ -6,9 +6,8 @@ use Rattle.std.proofs.Math.Nat.{le_of_mul-le-mul_right, div-mul-le_self}
 use Rattle.units.specs.Roots.{IsRoot, root_of}
 use Rattle.units.proofs.Places.{root_is, one_root}
 use Rattle.line_geom.specs.declared.Block.{Block}
-use Rattle.overrides.specs.Percents.{nominal_of}
 use Rattle.profile.specs.Slowing.{speed_after}
-use Rattle.plan_rules.specs.Blocks.{IsBlock, left_of, squared, top_of}
+use Rattle.plan_rules.specs.Blocks.{IsBlock, left_of, nominal_speed, squared, top_of}
 use Rattle.plan_rules.specs.Segments.{count_of, stop_of, IsGoing, IsHolding}
 use Rattle.plan_rules.specs.Plans.{Planned, IsReached, IsTail, exit_of}
 use Rattle.plan_rules.proofs.Bounds.{bounds_of, rapid_small, nominal_below}
@@ -59,12 +58,12 @@ pub product_some : (v : ℕ) (b : Block) → IsBlock b → 0 < v → 0 < b.geom.
 product_some v b is some = let n_low = (bounds_of b is).n_low in mul-le 1 1 b.geom.n v n_low some
 
 -- the nominal speed of a tail
-pub tail_nominal : (p : Planned) (b : Block) (top : ℕ) → IsReached p → IsTail p b → top ≡ nominal_of p.overrides b.rate b.geom.rapid → top ≤ b.geom.rapid
+pub tail_nominal : (p : Planned) (b : Block) (top : ℕ) → IsReached p → IsTail p b → top ≡ nominal_speed p.overrides b → top ≤ b.geom.rapid
 tail_nominal p b top is tail nominal = let below = nominal_below p.overrides b is.overrides tail.block in omega (arith, below, nominal)
 
 -- what the segment rule takes in mode Go, from the plan's speed, its speed at the tail's end and the nominal speed
 pub is_going : (p : Planned) (b : Block) (w exit nominal n v : ℕ) → w ≡ p.speed → exit ≡ exit_of p
-    → nominal ≡ nominal_of p.overrides b.rate b.geom.rapid → n ≡ count_of b w
+    → nominal ≡ nominal_speed p.overrides b → n ≡ count_of b w
     → v ≡ speed_after w b.geom.q n (left_of b - n) exit (squared nominal) → IsGoing p b n v
 unfolding top_of
 is_going p b w exit nominal n v at_speed at_exit at_top events speed =

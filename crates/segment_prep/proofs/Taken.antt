@@ -6,7 +6,7 @@ use Rattle.step_line.specs.declared.Segment.{Segment}
 use Rattle.step_line.specs.Counting.{events_of}
 use Rattle.step_line.specs.Pieces.{IsTraceable}
 use Rattle.line_geom.specs.declared.Block.{Block}
-use Rattle.plan_rules.specs.Blocks.{IsBlock, left_of, squared, top_of}
+use Rattle.plan_rules.specs.Blocks.{IsBlock, left_of, nominal_speed, squared, top_of}
 use Rattle.plan_rules.specs.Plans.{Planned, IsTail}
 use Rattle.plan_rules.specs.Segments.{IsGoing, IsSegment, IsSegmentOf, count_of, pace_of, cycles_of}
 use Rattle.plan_passes.specs.declared.Pace.{Pace}
@@ -14,7 +14,7 @@ use Rattle.plan_passes.specs.Paces.{IsPaceOf, IsPaceOfTail, IsSteady, IsSteadyOf
 use Rattle.plan_rules.proofs.Bounds.{bounds_of, rapid_small}
 use Rattle.plan_rules.specs.declared.Mode.{Mode}
 use Rattle.plan_rules.specs.declared.Mode.TheVariants.{Go, Hold}
-use Rattle.plan_rules.specs.Taking.{ByMode, IsTaken, IsTakenOf, IsNext, nominal}
+use Rattle.plan_rules.specs.Taking.{ByMode, IsTaken, IsTakenOf, IsNext}
 
 by_mode : (p : Planned) (b : Block) (mode : Mode) (n v : ℕ) → ByMode p b mode n v → IsSegmentOf p (b ∷ drop 1 p.blocks) n v
 by_mode p b Go n v rule = inl rule
@@ -49,8 +49,8 @@ is_next p b mode s tail taken = subst (λ bs. IsTakenOf p bs mode s) (sym tail.s
 
 -- the pace of a segment at the nominal speed
 pub pace_kept : (p : Planned) (b : Block) (mode : Mode) (s : Segment) → IsTail p b → mode ≡ Go → ByMode p b mode s.n s.w_out
-    → s.w_in ≡ p.speed → s.w_in ≡ squared (nominal p b) → s.w_out ≡ squared (nominal p b) → s.n < left_of b
-    → s.cycles ≡ cycles_of b (pace_of b (nominal p b) s.w_in s.w_out s.n) → 1 ≤ s.cycles
+    → s.w_in ≡ p.speed → s.w_in ≡ squared (nominal_speed p.overrides b) → s.w_out ≡ squared (nominal_speed p.overrides b) → s.n < left_of b
+    → s.cycles ≡ cycles_of b (pace_of b (nominal_speed p.overrides b) s.w_in s.w_out s.n) → 1 ≤ s.cycles
     → IsPaceOfTail p.overrides p.blocks (record { n = s.n; w = s.w_out; cycles = s.cycles })
 unfolding top_of
 pace_kept p b mode s tail go rule begins top_in top_out left cycles some =
@@ -61,7 +61,7 @@ pace_kept p b mode s tail go rule begins top_in top_out left cycles some =
     let is : IsPaceOf p.overrides b (record { n = s.n; w = s.w_out; cycles = s.cycles }) = record {
       top = top_out;
       events = omega (arith, count, left);
-      cycles = subst (λ w. s.cycles ≡ cycles_of b (pace_of b (nominal p b) w s.w_out s.n)) same cycles;
+      cycles = subst (λ w. s.cycles ≡ cycles_of b (pace_of b (nominal_speed p.overrides b) w s.w_out s.n)) same cycles;
       some = some;
     } in
     subst (λ bs. IsPaceOfTail p.overrides bs (record { n = s.n; w = s.w_out; cycles = s.cycles })) (sym tail.stands) (λ more. is)

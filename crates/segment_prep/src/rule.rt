@@ -1,9 +1,8 @@
 //! The segment rule: how many events are taken, and the speed behind them.
 
 ghost use Rattle.std.specs.Prelude.{◌≡◌, ◌≤◌, ◌<◌, ◌+◌, ◌-◌, ◌*◌, ◌↔◌, ◌^◌, min, max, IsNone, IfSome};
-ghost use Rattle.overrides.specs.Percents.{nominal_of};
 ghost use Rattle.profile.specs.Slowing.{speed_after};
-ghost use Rattle.plan_rules.specs.Blocks.{IsBlock, left_of, squared};
+ghost use Rattle.plan_rules.specs.Blocks.{IsBlock, left_of, nominal_speed, squared};
 ghost use Rattle.plan_rules.specs.Plans.{Planned, exit_of};
 ghost use Rattle.plan_rules.specs.Segments.{count_of, stop_of};
 ghost use Rattle.plan_rules.specs.Taking.{ByMode};
@@ -144,7 +143,7 @@ pub(crate) fn next_stretch(
     requires speed { w ≤ squared b.now.geom.rapid }
     requires nominal { nominal ≤ b.now.geom.rapid }
     ensures none { IsNone result ↔ ((mode ≡ Mode.Hold) × (w ≡ 0)) }
-    ensures rule { (p : Planned) → w ≡ p.speed → exit ≡ exit_of p → nominal ≡ nominal_of p.overrides b.now.rate b.now.geom.rapid
+    ensures rule { (p : Planned) → w ≡ p.speed → exit ≡ exit_of p → nominal ≡ nominal_speed p.overrides b.now
         → IfSome result (λ s. ByMode p b.now mode s.n s.w_out) }
     ensures some { IfSome result (λ s. 0 < s.n) }
     ensures within { IfSome result (λ s. s.n ≤ left_of b.now) }

@@ -2,12 +2,11 @@
 
 ghost use Rattle.std.specs.Prelude.{◌≡◌, ◌≤◌, ◌<◌, ◌⊎◌, ◌↔◌, [], length, IsNone, IfNone, IfSome, IsTrue};
 ghost use Rattle.step_line.specs.Pieces.{IsTraceable};
-ghost use Rattle.plan_rules.specs.Blocks.{IsBlock, left_of, squared};
-ghost use Rattle.overrides.specs.Percents.{nominal_of};
+ghost use Rattle.plan_rules.specs.Blocks.{IsBlock, left_of, nominal_speed, squared};
 ghost use Rattle.plan_rules.specs.Plans.{Planned, IsReached, IsTail, exit_of};
 ghost use Rattle.plan_passes.specs.Paces.{IsSteadyOf};
 ghost use Rattle.plan_rules.specs.Segments.{IsSegment, advanced, IsLegalStep, count_of, pace_of, cycles_of};
-ghost use Rattle.plan_rules.specs.Taking.{IsTaken, IsNext, nominal};
+ghost use Rattle.plan_rules.specs.Taking.{IsTaken, IsNext};
 
 use crate::Mode;
 use crate::pace::cycles;
@@ -137,7 +136,7 @@ fn worked_out(b: &Block, w_in: u64, exit: u64, nominal: u64, mode: Mode) -> Opti
     requires speed { w_in ≤ squared b.now.geom.rapid }
     requires nominal { nominal ≤ b.now.geom.rapid }
     ensures none { IsNone result ↔ ((mode ≡ Mode.Hold) × (w_in ≡ 0)) }
-    ensures taken { (p : Planned) → w_in ≡ p.speed → exit ≡ exit_of p → nominal ≡ nominal_of p.overrides b.now.rate b.now.geom.rapid
+    ensures taken { (p : Planned) → w_in ≡ p.speed → exit ≡ exit_of p → nominal ≡ nominal_speed p.overrides b.now
         → IfSome result (λ s. IsTaken p b.now mode s) }
     ensures traceable { IfSome result (λ s. 1 ≤ s.line → IsTraceable s) }
     ensures takes_time { IfSome result (λ s. 1 ≤ s.cycles) }

@@ -1,7 +1,7 @@
 use Rattle.std.proofs.Common.{◌≡◌, ◌+◌, ◌-◌, length, get_or, take, get_or-take, refl, arith, ap, sym, ◌∙◌}
 use Rattle.plan_rules.specs.Blocks.{soft_of, softs_of}
 use Rattle.plan_rules.proofs.Junctions.{length-joints}
-use Rattle.plan_passes.specs.Tables.{nominal_speed}
+use Rattle.plan_rules.specs.Blocks.{nominal_speed}
 use Rattle.plan_passes.proofs.Filling.{standing, filled_more, number_at, number_filled, number_all, number_none, joint_none, joint_all}
 use Rattle.plan_passes.proofs.Nominals.{soft_next}
 use Rattle.plan_passes.proofs.tables.fill_softs.Goals as goal

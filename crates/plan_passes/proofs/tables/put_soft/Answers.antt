@@ -1,7 +1,7 @@
 use Rattle.std.proofs.Common.{◌≡◌, ◌+◌, ◌-◌, length, get_or, take, arith, ap, ◌∙◌}
 use Rattle.line_geom.specs.declared.Block.{Block}
 use Rattle.plan_rules.specs.Blocks.{hard_of, soft_of}
-use Rattle.plan_passes.specs.Tables.{nominal_speed}
+use Rattle.plan_rules.specs.Blocks.{nominal_speed}
 use Rattle.plan_passes.proofs.Filling.{standing, number_last, joint_none, joint_last}
 use Rattle.plan_passes.proofs.Nominals.{nominal_at, nominal_small, soft_is}
 use Rattle.plan_passes.proofs.tables.put_soft.Goals as goal

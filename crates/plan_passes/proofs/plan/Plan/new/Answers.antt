@@ -1,6 +1,6 @@
 use Rattle.std.proofs.Common.{refl, rules, ap, length, arith}
 use Rattle.plan_rules.specs.Blocks.{hard_of}
-use Rattle.plan_passes.specs.Tables.{nominal_speed}
+use Rattle.plan_rules.specs.Blocks.{nominal_speed}
 use Rattle.plan_passes.proofs.Filling.{number_none, joints_none}
 use Rattle.plan_passes.proofs.Kept.{kept_none}
 use Rattle.plan_passes.proofs.Paces.{no_pace}
