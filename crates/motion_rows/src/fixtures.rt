@@ -4,7 +4,7 @@ ghost use Rattle.std.specs.Prelude.{◌≡◌, ◌<◌, length, IfSome};
 ghost use Rattle.units.specs.Lengths.{IsCoordinate};
 ghost use Rattle.units.specs.Limits.{IsRate, IsLimits};
 ghost use Rattle.line_geom.specs.Geometry.{IsGeomOf};
-ghost use Rattle.motion_rows.specs.Rows.{normal};
+ghost use Rattle.overrides.specs.Percents.{normal_overrides};
 
 use line_geom::Cap;
 use line_geom::measure::geom;
@@ -55,9 +55,9 @@ pub(crate) fn add(rt: &impl Abort, plan: &mut Plan<16>, rate: Rate, x: i64, y: i
     requires rate { IsRate rate }
     requires x { IsCoordinate x }
     requires y { IsCoordinate y }
-    requires normal { plan.old.overrides ≡ normal }
+    requires normal { plan.old.overrides ≡ normal_overrides }
     ensures some { 0 < length plan.new.blocks }
-    ensures normal { plan.new.overrides ≡ normal }
+    ensures normal { plan.new.overrides ≡ normal_overrides }
 {
     let Some(block) = block(rate, x, y) else {
         panic!(rt; "no steps");

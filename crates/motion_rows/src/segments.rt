@@ -3,7 +3,7 @@
 ghost use Rattle.std.specs.Prelude.{◌≡◌};
 ghost use Rattle.units.specs.Lengths.{IsCoordinate};
 ghost use Rattle.units.specs.Limits.{IsRate};
-ghost use Rattle.motion_rows.specs.Rows.{normal};
+ghost use Rattle.overrides.specs.Percents.{normal_overrides};
 
 use crate::fixtures::add;
 use overrides::Overrides;
@@ -39,8 +39,8 @@ fn part(x: i64, numbers: Option<Numbers>) -> Option<Segment> {
 /// Takes segments in a mode until none is given, but no more than so many. Each goes on where the one before it ended;
 /// how many events there are up to the last one's end is answered.
 fn run(rt: &impl Abort, plan: &mut Plan<16>, mode: Mode, first: u32, most: u32) -> u32
-    requires { plan.old.overrides ≡ normal }
-    ensures { plan.new.overrides ≡ normal }
+    requires { plan.old.overrides ≡ normal_overrides }
+    ensures { plan.new.overrides ≡ normal_overrides }
 {
     let overrides = Overrides::normal();
     let mut done = first;
@@ -59,7 +59,7 @@ fn run(rt: &impl Abort, plan: &mut Plan<16>, mode: Mode, first: u32, most: u32) 
 
 /// Takes segments of a move of so many steps along X in these modes, and expects these.
 fn expect_segments(rt: &impl Abort, plan: &mut Plan<16>, x: i64, wanted: &[(Mode, Option<Numbers>)])
-    requires { plan.old.overrides ≡ normal }
+    requires { plan.old.overrides ≡ normal_overrides }
 {
     let overrides = Overrides::normal();
     for (mode, numbers) in wanted {

@@ -15,6 +15,10 @@ pub record IsOverrides (o : Overrides) : Type 0 where
   pub spindle_low : 10 ≤ o.spindle
   pub spindle_high : o.spindle ≤ 200
 
+-- each override at 100 percent
+abbrev pub normal_overrides : Overrides
+normal_overrides = record { feed = 100; rapid = 100; spindle = 100 }
+
 -- a percentage after those of five flags that are set: 100, ten more, ten less, one more, one less, in that order, and
 -- then at most 200 and at least 10. A difference stops at 0, which is below 10 too
 abbrev pub percent_after : ℕ → Bool → Bool → Bool → Bool → Bool → ℕ

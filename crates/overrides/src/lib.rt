@@ -105,11 +105,11 @@ fn rapid_of(flags: Ovr, present: u8) -> u8
 impl Overrides {
     ghost use Rattle.std.specs.Prelude.{◌≡◌, ◌≤◌};
     ghost use Rattle.units.specs.Limits.{IsRate};
-    ghost use Rattle.overrides.specs.Percents.{IsOverrides, taken, nominal_of};
+    ghost use Rattle.overrides.specs.Percents.{IsOverrides, normal_overrides, taken, nominal_of};
 
     /// Everything as programmed.
     pub fn normal() -> Overrides
-        ensures whole { result ≡ record { feed = 100; rapid = 100; spindle = 100 } }
+        ensures whole { result ≡ normal_overrides }
         ensures range { IsOverrides result }
     {
         Overrides {

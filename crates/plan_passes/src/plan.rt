@@ -141,7 +141,7 @@ impl<const N: usize> Plan<N> {
     ghost use Rattle.std.specs.Prelude.{IsOk, OnOk, OnErr, IfErr, IfSome, IsNone};
     ghost use Rattle.units.specs.Limits.{IsRate};
     ghost use Rattle.line_geom.specs.Geometry.{IsGeomOf};
-    ghost use Rattle.overrides.specs.Percents.{IsOverrides};
+    ghost use Rattle.overrides.specs.Percents.{IsOverrides, normal_overrides};
     ghost use Rattle.plan_rules.specs.Plans.{IsReached, IsTail, IsGreatest, IsLastPoint, exit_of, profile_of, added};
     ghost use Rattle.plan_rules.specs.Segments.{IsSegment, advanced, IsLegalStep};
     ghost use Rattle.plan_rules.specs.Blocks.{nominal_speed};
@@ -152,7 +152,7 @@ impl<const N: usize> Plan<N> {
         requires { (2 ≤ N) × (N ≤ 64) }
         ensures blocks { result.blocks ≡ [] }
         ensures speed { result.speed ≡ 0 }
-        ensures overrides { result.overrides ≡ record { feed = 100; rapid = 100; spindle = 100 } }
+        ensures overrides { result.overrides ≡ normal_overrides }
     {
         Plan {
             ring: Ring::new(),

@@ -13,8 +13,8 @@ use Rattle.step_line.specs.Asking.{Asked, moves_of, ticks_of_all}
 use Rattle.step_line.specs.Asking.Asked.{a_move, a_mark, a_rest}
 use Rattle.line_geom.specs.declared.Cap.TheVariants.{Free}
 use Rattle.line_geom.specs.declared.Block.{Block}
-use Rattle.overrides.specs.declared.Overrides.{Overrides}
 use Rattle.overrides.specs.Percents.{IsOverrides}
+pub use Rattle.overrides.specs.Percents.{normal_overrides}
 use Rattle.plan_rules.specs.Blocks.{left_of}
 use Rattle.plan_rules.specs.Plans.{Planned, added}
 use Rattle.plan_rules.specs.Segments.{advanced}
@@ -25,10 +25,6 @@ use Rattle.planner_runs.specs.declared.Action.{Action}
 use Rattle.planner_runs.specs.declared.Action.TheVariants.{Add, Take, Override, Mark, Rest, Clear, Reset}
 use Rattle.legal_heads.specs.Moves.{geometry_of}
 use Rattle.step_line.specs.Asking.{IsPlannedMove}
-
--- each override at 100 percent
-abbrev pub normal_overrides : Overrides
-normal_overrides = record { feed = 100; rapid = 100; spindle = 100 }
 
 -- an empty plan at rest, with these
 abbrev pub fresh_plan : Planned

@@ -8,7 +8,7 @@ use Rattle.gcode_words.specs.Stripping.{realtime}
 use Rattle.modal_state.specs.declared.SpindleMode.{SpindleMode}
 use Rattle.modal_state.specs.declared.SpindleMode.TheVariants.{Off, Cw, Ccw}
 use Rattle.modal_state.specs.Modes.{wco_of}
-use Rattle.overrides.specs.declared.Overrides.{Overrides}
+use Rattle.overrides.specs.Percents.{normal_overrides}
 use Rattle.status_report.specs.Answering.{answers_in, is_report}
 use Rattle.status_report.specs.Places.{in_thousandths}
 use Rattle.status_report.specs.declared.Reply.{Reply}
@@ -107,10 +107,6 @@ is_held told.Hold0 = true
 is_held told.Hold1 = true
 is_held state = false
 
--- each override at 100 percent
-abbrev pub hundreds : Overrides
-hundreds = record { feed = 100; rapid = 100; spindle = 100 }
-
 -- ---- one report
 
 -- What a run has done: the state before it, where the machine stood then, and whether it was locked; what became of the
@@ -157,7 +153,7 @@ pub record FitsReport (c : Course) (k d : ℕ) (r : Report) : Type 0 where
   pub state : may_move k c.outcomes ≡ false → (r.state ≡ told.Idle) ⊎ ((r.state ≡ told.Hold0) ⊎ (r.state ≡ told.Alarm))
   pub holds : is_held r.state ≡ true → (c.held ≡ true) ⊎ ((list_any has_pause (take (k + 1) c.outcomes) ≡ true) ⊎ MayAlarm c k)
   pub alarm : r.state ≡ told.Alarm → (c.locked ≡ true) ⊎ MayAlarm c k
-  pub overrides : c.changed ≡ false → r.ov ≡ hundreds
+  pub overrides : c.changed ≡ false → r.ov ≡ normal_overrides
 
 -- ---- all of them
 

@@ -1,6 +1,6 @@
 use Rattle.std.proofs.Common.{◌≡◌}
-use Rattle.motion_rows.specs.Rows.{normal}
+use Rattle.overrides.specs.Percents.{normal_overrides}
 use Rattle.motion_rows.proofs.plans.takes_fifteen_blocks.Given as goal
 
 abbrev pub invariant-loop : goal.invariant-loop
-invariant-loop g l = l.plan.overrides ≡ normal
+invariant-loop g l = l.plan.overrides ≡ normal_overrides
