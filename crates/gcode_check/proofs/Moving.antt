@@ -12,7 +12,7 @@ use Rattle.code_table.specs.Tables.{code}
 use Rattle.modal_state.specs.declared.Modal.{Modal}
 use Rattle.modal_state.specs.declared.Offsets.{Offsets}
 use Rattle.modal_state.specs.declared.Parser.{Parser}
-use Rattle.modal_state.specs.Modes.{IsParser, IsOffsets, IsWithin, farthest, origin}
+use Rattle.modal_state.specs.Modes.{IsParser, IsOffsets, IsWithin, farthest, origin_nm}
 use Rattle.line_words.specs.Codes.{has_g}
 use Rattle.line_words.specs.LineModes.{feed_of, rpm_of, tool_of}
 use Rattle.travel_limits.specs.Reach.{IsNear, steps3}
@@ -30,7 +30,7 @@ pub with_g92 : (p : Parser) (ws : List Word) (at : Nm3) → has_g (code 10 0) ws
 unfolding offsets_after
 with_g92 p ws at no10 sets e = rw (e, no10, sets) refl
 
-pub with_none : (p : Parser) (ws : List Word) → has_g (code 10 0) ws ≡ false → has_g (code 92 0) ws ≡ false → has_g (code 92 1) ws ≡ true → record p.offsets { g92 = origin } ≡ offsets_after p ws
+pub with_none : (p : Parser) (ws : List Word) → has_g (code 10 0) ws ≡ false → has_g (code 92 0) ws ≡ false → has_g (code 92 1) ws ≡ true → record p.offsets { g92 = origin_nm } ≡ offsets_after p ws
 unfolding offsets_after
 with_none p ws no10 no92 clears = rw (no10, no92, clears) refl
 
@@ -73,7 +73,7 @@ home28_valid o at is near = record { s1 = is.s1; s2 = is.s2; s3 = is.s3; s4 = is
 pub home30_valid : (o : Offsets) (at : Nm3) → IsOffsets o → IsWithin farthest at → IsOffsets (record o { home30 = at })
 home30_valid o at is near = record { s1 = is.s1; s2 = is.s2; s3 = is.s3; s4 = is.s4; s5 = is.s5; s6 = is.s6; home28 = is.home28; home30 = near; g92 = is.g92 }
 
-pub origin_within : IsWithin farthest origin
+pub origin_within : IsWithin farthest origin_nm
 origin_within = record { x = omega arith; y = omega arith; z = omega arith }
 
 -- ---- the places in steps

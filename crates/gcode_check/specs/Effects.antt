@@ -7,7 +7,7 @@ use Rattle.code_table.specs.Tables.{code}
 use Rattle.modal_state.specs.declared.Modal.{Modal}
 use Rattle.modal_state.specs.declared.Offsets.{Offsets}
 use Rattle.modal_state.specs.declared.Parser.{Parser}
-use Rattle.modal_state.specs.Modes.{origin, program_ended}
+use Rattle.modal_state.specs.Modes.{origin_nm, program_ended}
 use Rattle.settings.specs.declared.Settings.{Settings}
 use Rattle.line_words.specs.Codes.{has_g, has_m}
 use Rattle.line_words.specs.LineModes.{motion_of, plane_of, inch_of, relative_of, system_of, spindle_of, flood_of, feed_of, rpm_of, tool_of}
@@ -42,7 +42,7 @@ unfoldable pub offsets_after : Parser → List Word → Offsets
 offsets_after p ws =
     if has_g (code 10 0) ws then with_offset p.offsets (set_system p ws) (new_system_offset p ws) else
     if has_g (code 92 0) ws then record p.offsets { g92 = new_g92 p ws } else
-    if has_g (code 92 1) ws then record p.offsets { g92 = origin } else
+    if has_g (code 92 1) ws then record p.offsets { g92 = origin_nm } else
     if has_g (code 28 1) ws then record p.offsets { home28 = p.pos_nm } else
     if has_g (code 30 1) ws then record p.offsets { home30 = p.pos_nm } else
     p.offsets

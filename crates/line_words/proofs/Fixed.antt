@@ -6,7 +6,7 @@ use Rattle.units.specs.declared.Decimal.{Decimal}
 use Rattle.gcode_words.specs.declared.Word.{Word}
 use Rattle.code_table.specs.Tables.{code}
 use Rattle.modal_state.specs.declared.Parser.{Parser}
-use Rattle.modal_state.specs.Modes.{plus, origin}
+use Rattle.modal_state.specs.Modes.{plus, origin_nm}
 use Rattle.line_words.specs.Letters.{X, Y, Z}
 use Rattle.line_words.specs.Codes.{has_g}
 use Rattle.line_words.specs.Given.{stands, given, names_axis}
@@ -21,7 +21,7 @@ chosen false true a b c d e = absurd cc
 chosen false false a b c d e = refl
 
 pub same_datum : (p : Parser) (point : Nm3) (ws : List Word) → is_absolute p ws ≡ true → datum (at p point) ws ≡ datum p ws
-same_datum p point ws e = chosen (has_g (code 53 0) ws) (relative_of p ws) origin point p.pos_nm (plus (line_offset p ws) p.offsets.g92) e
+same_datum p point ws e = chosen (has_g (code 53 0) ws) (relative_of p ws) origin_nm point p.pos_nm (plus (line_offset p ws) p.offsets.g92) e
 
 -- a coordinate of the target: the value from the datum, or else the position
 abbrev coordinate : Bool → Option Decimal → ℤ → ℤ → ℤ

@@ -4,7 +4,7 @@ use Rattle.units.specs.declared.Nm3.{Nm3}
 use Rattle.gcode_words.specs.declared.Word.{Word}
 use Rattle.code_table.specs.Tables.{code}
 use Rattle.modal_state.specs.declared.Parser.{Parser}
-use Rattle.modal_state.specs.Modes.{offset_of, plus, origin}
+use Rattle.modal_state.specs.Modes.{offset_of, plus, origin_nm}
 use Rattle.line_words.specs.Letters.{X, Y, Z}
 use Rattle.line_words.specs.Codes.{has_g}
 use Rattle.line_words.specs.Given.{given, names_axis}
@@ -39,7 +39,7 @@ line_offset p ws = offset_of p.offsets (system_of p ws)
 -- G90 from the offsets
 abbrev pub datum : Parser → List Word → Nm3
 datum p ws =
-    if has_g (code 53 0) ws then origin else
+    if has_g (code 53 0) ws then origin_nm else
     if relative_of p ws then p.pos_nm else
     plus (line_offset p ws) p.offsets.g92
 

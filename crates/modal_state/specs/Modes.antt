@@ -11,8 +11,9 @@ use Rattle.modal_state.specs.declared.Modal.{Modal}
 use Rattle.modal_state.specs.declared.Offsets.{Offsets}
 use Rattle.modal_state.specs.declared.Parser.{Parser}
 
-abbrev pub origin : Nm3
-origin = record { x = pos 0; y = pos 0; z = pos 0 }
+-- the origin of the machine, in nm
+abbrev pub origin_nm : Nm3
+origin_nm = record { x = pos 0; y = pos 0; z = pos 0 }
 
 abbrev pub plus : Nm3 → Nm3 → Nm3
 plus a b = record { x = a.x +ℤ b.x; y = a.y +ℤ b.y; z = a.z +ℤ b.z }
@@ -21,8 +22,8 @@ plus a b = record { x = a.x +ℤ b.x; y = a.y +ℤ b.y; z = a.z +ℤ b.z }
 abbrev pub opening_parser : Parser
 opening_parser = record {
   modal = record { motion = G0; plane = 17; inch = false; relative = false; system = 1; spindle = Off; flood = false };
-  offsets = record { s1 = origin; s2 = origin; s3 = origin; s4 = origin; s5 = origin; s6 = origin; home28 = origin; home30 = origin; g92 = origin };
-  pos_nm = origin;
+  offsets = record { s1 = origin_nm; s2 = origin_nm; s3 = origin_nm; s4 = origin_nm; s5 = origin_nm; s6 = origin_nm; home28 = origin_nm; home30 = origin_nm; g92 = origin_nm };
+  pos_nm = origin_nm;
   pos_steps = record { x = pos 0; y = pos 0; z = pos 0 };
   feed = pos 0;
   rpm = 0;
@@ -35,7 +36,7 @@ systems offsets = offsets.s1 ∷ offsets.s2 ∷ offsets.s3 ∷ offsets.s4 ∷ of
 
 -- the offset of a system, counted from 1
 abbrev pub offset_of : Offsets → ℕ → Nm3
-offset_of offsets system = get_or (systems offsets) (system - 1) origin
+offset_of offsets system = get_or (systems offsets) (system - 1) origin_nm
 
 -- the selected system's offset and the G92 offset together
 abbrev pub wco_of : Parser → Nm3

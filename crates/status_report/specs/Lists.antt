@@ -3,7 +3,7 @@ use Rattle.std.specs.Prelude.{List, [], ◌∷◌, ◌++◌, map}
 use Rattle.std.specs.List.{enumerate_from}
 use Rattle.modal_state.specs.declared.Offsets.{Offsets}
 use Rattle.modal_state.specs.declared.Parser.{Parser}
-use Rattle.modal_state.specs.Modes.{origin, systems}
+use Rattle.modal_state.specs.Modes.{origin_nm, systems}
 use Rattle.settings.specs.declared.Settings.{Settings}
 use Rattle.settings.specs.Numbers.{values}
 use Rattle.units.specs.declared.Nm3.{Nm3}
@@ -24,7 +24,7 @@ modes_replies p = Modes (modes_of p) ∷ []
 
 -- the places of the eleven rows; the tool length and the probe have none
 abbrev pub row_places : Offsets → List Nm3
-row_places offsets = systems offsets ++ offsets.home28 ∷ offsets.home30 ∷ offsets.g92 ∷ origin ∷ origin ∷ []
+row_places offsets = systems offsets ++ offsets.home28 ∷ offsets.home30 ∷ offsets.g92 ∷ origin_nm ∷ origin_nm ∷ []
 
 -- `$#`: each row, in order
 unfoldable pub offset_replies : Offsets → List Reply

@@ -1,5 +1,5 @@
 use Rattle.std.proofs.Common.{sym}
-use Rattle.modal_state.specs.Modes.{origin}
+use Rattle.modal_state.specs.Modes.{origin_nm}
 use Rattle.gcode_check.proofs.Moving.{with_system, with_g92, with_none, with_home28, with_home30, with_same, set_in, system_within, g92_within, set_valid, g92_valid, home28_valid, home30_valid, origin_within}
 use Rattle.gcode_check.proofs.effects.set_offsets.Goals as goal
 
@@ -33,8 +33,8 @@ pub returns-then-has-3 : goal.returns-then-has-3
 returns-then-has-3 c =
     let p = c.args.p.now in
     record {
-      offsets = set_in p (record p.offsets { g92 = origin }) _ (with_none p c.args.line.now (sym c.if-has.ensures.value) (sym c.if-has-2.ensures.value) (sym c.if-has-3.ensures.value));
-      valid = set_valid p (record p.offsets { g92 = origin }) c.requires.valid (g92_valid p.offsets origin c.requires.valid.offsets origin_within);
+      offsets = set_in p (record p.offsets { g92 = origin_nm }) _ (with_none p c.args.line.now (sym c.if-has.ensures.value) (sym c.if-has-2.ensures.value) (sym c.if-has-3.ensures.value));
+      valid = set_valid p (record p.offsets { g92 = origin_nm }) c.requires.valid (g92_valid p.offsets origin_nm c.requires.valid.offsets origin_within);
     }
 
 pub returns-then-has-4 : goal.returns-then-has-4
