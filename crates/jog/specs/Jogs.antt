@@ -30,8 +30,8 @@ abbrev pub has_no_feed : List Word → Bool
 has_no_feed ws = option_map_or (λ v. nat_abs v.micro == 0) (given F ws) true
 
 -- words that no jog takes
-abbrev pub unused_words : List Word → Bool
-unused_words ws =
+abbrev pub unused_in_jog : List Word → Bool
+unused_in_jog ws =
     stands I ws || stands J ws || stands K ws || stands L ws || stands P ws || stands R ws || stands S ws || stands T ws
 
 -- the codes that a jog may have: inches or millimetres, machine coordinates, absolute or relative
@@ -49,7 +49,7 @@ jog_rows s ws at =
     (27, line_number_out_of_range ws)
     ∷ (22, has_no_feed ws)
     ∷ (26, not (names_axis ws))
-    ∷ (36, unused_words ws)
+    ∷ (36, unused_in_jog ws)
     ∷ (16, list_any is_other_code ws)
     ∷ (33, is_far at)
     ∷ (15, leave_travel s (at ∷ []))

@@ -8,7 +8,7 @@ ghost use Rattle.gcode_words.specs.Words.{IsSmallWord};
 ghost use Rattle.modal_state.specs.Modes.{IsParser};
 ghost use Rattle.settings.specs.Numbers.{IsSettings};
 ghost use Rattle.travel_limits.specs.Reach.{IsNear};
-ghost use Rattle.jog.specs.Jogs.{has_no_feed, unused_words, is_other_code, jog_error, feed_said, jog_of, jogged, IsJog};
+ghost use Rattle.jog.specs.Jogs.{has_no_feed, unused_in_jog, is_other_code, jog_error, feed_said, jog_of, jogged, IsJog};
 
 mod laws;
 #[cfg(test)]
@@ -59,8 +59,8 @@ fn has_no_feed(line: &Line<'_>) -> bool
 }
 
 /// Whether there is a word that no jog takes.
-fn unused_words(line: &Line<'_>) -> bool
-    ensures { result ≡ unused_words line.now }
+fn unused_in_jog(line: &Line<'_>) -> bool
+    ensures { result ≡ unused_in_jog line.now }
 {
     line.stands(b'I')
         || line.stands(b'J')
@@ -105,7 +105,7 @@ fn first_error(s: &Settings, line: &Line<'_>, at: &Nm3) -> Option<Code>
     if !names_axis(line) {
         return Some(Code(26));
     }
-    if unused_words(line) {
+    if unused_in_jog(line) {
         return Some(Code(36));
     }
     if has_other_code(line) {
