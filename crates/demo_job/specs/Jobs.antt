@@ -55,8 +55,9 @@ scale = 250000
 unfoldable pub axis_text : List ℕ → ℤ → List ℕ
 axis_text before steps = before ++ fixed3 (thousandths_of steps scale)
 
-abbrev pub place_text : Steps3 → List ℕ
-place_text at = axis_text (codes " at ") at.x ++ axis_text (codes ",") at.y ++ axis_text (codes ",") at.z
+-- a text that says where a move goes
+abbrev pub stop_text : Steps3 → List ℕ
+stop_text at = axis_text (codes " at ") at.x ++ axis_text (codes ",") at.y ++ axis_text (codes ",") at.z
 
 -- a text, and after it a number
 unfoldable pub count_text : List ℕ → ℕ → List ℕ
@@ -71,7 +72,7 @@ answers_text ok error = count_text (codes " ok ") ok ++ count_text (codes " erro
 -- The line on a run of n moves: its lines, those answered `ok`, those refused, the events, and the last place.
 abbrev pub summary_of : ℕ → ℕ → ℕ → ℕ → ℕ → Steps3 → List ℕ
 summary_of n lines ok error events at =
-    lines_text n lines ++ answers_text ok error ++ count_text (codes " events ") events ++ place_text at ++ codes "\n"
+    lines_text n lines ++ answers_text ok error ++ count_text (codes " events ") events ++ stop_text at ++ codes "\n"
 
 -- the line on the whole job of n moves: all its n + 3 lines are answered `ok`, and its moves are made
 abbrev pub summary : ℕ → List ℕ

@@ -3,7 +3,7 @@
 ghost use Rattle.std.specs.Prelude.{◌≡◌, ◌≤◌, ◌<◌, ◌+◌, ◌*◌, ◌++◌, length, codes, pos};
 ghost use Rattle.arrayvec.specs.ArrayVec.{array_vec_len};
 ghost use Rattle.step_line.specs.Counting.{events_of};
-ghost use Rattle.demo_job.specs.Jobs.{answers_text, axis_text, count_text, job_events, job_move, lines_text, place_text, stop, summary_of};
+ghost use Rattle.demo_job.specs.Jobs.{answers_text, axis_text, count_text, job_events, job_move, lines_text, stop_text, stop, summary_of};
 
 use crate::lines::target;
 use itoa::Buffer;
@@ -80,7 +80,7 @@ fn put_axis(before: &[u8], tenths: u32, out: &mut Text)
 fn put_place(n: u32, out: &mut Text)
     requires room { array_vec_len out.old + 75 ≤ 192 }
     requires moves { n ≤ 100000 }
-    ensures text { out.new.items ≡ out.old.items ++ place_text (stop n) }
+    ensures text { out.new.items ≡ out.old.items ++ stop_text (stop n) }
     ensures room { array_vec_len out.new ≤ array_vec_len out.old + 69 }
 {
     let to = target(n);
@@ -123,7 +123,7 @@ fn put_answers(answers: Answers, out: &mut Text)
 fn put_motion(n: u32, out: &mut Text)
     requires room { array_vec_len out.old + 94 ≤ 192 }
     requires moves { (1 ≤ n) × (n ≤ 100000) }
-    ensures text { out.new.items ≡ out.old.items ++ count_text (codes " events ") (job_events n) ++ place_text (stop n) }
+    ensures text { out.new.items ≡ out.old.items ++ count_text (codes " events ") (job_events n) ++ stop_text (stop n) }
     ensures room { array_vec_len out.new ≤ array_vec_len out.old + 87 }
 {
     put_count(b" events ", job_events(n), out);
