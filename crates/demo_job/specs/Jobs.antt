@@ -1,9 +1,10 @@
 -- The generated job: its lines, and what it makes.
 use Rattle.std.specs.Prelude.{ℕ, ◌+◌, ◌-◌, ◌*◌, ◌/◌, ◌%◌, List, [], ◌∷◌, ◌++◌, map, codes, decimal, ℤ, pos}
-use Rattle.std.specs.List.{flat_map, range_with_len, sum_by}
+use Rattle.std.specs.List.{range_with_len, sum_by}
 use Rattle.units.specs.declared.Steps3.{Steps3}
 use Rattle.units.specs.declared.Move.{Move}
 use Rattle.units.specs.Fixed.{fixed3}
+pub use Rattle.gcode_words.specs.Stripping.{ended}
 use Rattle.units.specs.Lengths.{thousandths_of}
 use Rattle.step_line.specs.Counting.{events_of}
 
@@ -24,10 +25,6 @@ move_line i = codes "G1X" ++ tenths_text (x_tenths i) ++ codes "Y" ++ tenths_tex
 -- the lines of the job of n moves: modes, feed, the moves from 1 to n, the end
 abbrev pub job_lines : ℕ → List (List ℕ)
 job_lines n = codes "G21G90G94" ∷ codes "F600" ∷ map move_line (range_with_len 1 n) ++ codes "M2" ∷ []
-
--- lines, each ended by LF
-abbrev pub ended : List (List ℕ) → List ℕ
-ended lines = flat_map (λ l. l ++ 10 ∷ []) lines
 
 abbrev pub job_text : ℕ → List ℕ
 job_text n = ended (job_lines n)

@@ -1,5 +1,6 @@
 -- What is kept of a line, and what is taken off it.
 use Rattle.std.specs.Prelude.{◌≡◌, ◌≢◌, ◌↔◌, ℕ, ◌-◌, Bool, cond, not, ◌&&◌, ◌||◌, List, [], ◌∷◌, ◌++◌, map, filter, nat_eq, nat_le, nat_lt}
+use Rattle.std.specs.List.{flat_map}
 use Rattle.gcode_words.specs.Comments.{cut, comment_after}
 use Rattle.gcode_words.specs.declared.stripping.Comment.{Comment}
 use Rattle.gcode_words.specs.declared.stripping.Comment.TheVariants.{Outside}
@@ -25,6 +26,10 @@ plain line = map capital (filter is_plain (cut line).outside)
 -- the realtime bytes of a line: those outside its comments
 abbrev pub realtime : List ℕ → List ℕ
 realtime line = filter is_realtime (cut line).outside
+
+-- lines, each ended by LF
+abbrev pub ended : List (List ℕ) → List ℕ
+ended lines = flat_map (λ l. l ++ 10 ∷ []) lines
 
 -- what an answer keeps, and what it takes off the line as a realtime byte
 abbrev pub kept_by : Stripped → List ℕ
