@@ -28,15 +28,6 @@ pub struct State {
     pub settings: Settings,
 }
 
-/// How the reading of a job ended: at the source's end, at a read that failed, or with a byte more than a job
-/// may have.
-#[derive(Clone, Copy, Debug, PartialEq, Eq)]
-pub enum Reading {
-    Ended,
-    Failed,
-    Large,
-}
-
 impl State {
     /// The state before the first line: the parser's opening state, and the settings of the generic machine.
     pub fn opening() -> State

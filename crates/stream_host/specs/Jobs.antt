@@ -3,8 +3,8 @@ use Rattle.std.specs.Prelude.{◌≡◌, ℕ, ◌+◌, ◌-◌, ◌≤◌, ◌<�
 use Rattle.std.specs.List.{flat_map, list_any, take_while}
 use Rattle.gcode_words.specs.Stripping.{plain, realtime}
 use Rattle.run_rules.specs.Lines.{HasNoLf, lines_of}
-use Rattle.run_rules.specs.Readings.{largest_job, largest_piece, job_of, sent_lines}
-use Rattle.run_rules.specs.declared.Reading.TheVariants as runs
+use Rattle.run_rules.specs.Readings.{largest_job, largest_piece, job_of}
+use Rattle.run_rules.specs.Lines.{whole_lines}
 use Rattle.stream_host.specs.declared.Reading.{Reading}
 use Rattle.stream_host.specs.declared.Reading.TheVariants.{Ended, Failed, Large, Stopped}
 use Rattle.stream_host.specs.declared.Stop.{Stop}
@@ -56,10 +56,8 @@ ends_in text = list_any ends_sending (lines_of text)
 
 -- the lines of what was read: a last one without LF counts where the source's end was read
 abbrev pub lines_read : Reading → List ℕ → List (List ℕ)
-lines_read Ended job = sent_lines runs.Ended job
-lines_read Failed job = sent_lines runs.Failed job
-lines_read Large job = sent_lines runs.Large job
-lines_read Stopped job = sent_lines runs.Failed job
+lines_read Ended job = lines_of job
+lines_read _ job = whole_lines job
 
 -- the lines that are sent: those before the first in which the sending ends
 abbrev pub lines_to_send : Reading → List ℕ → List (List ℕ)
