@@ -26,7 +26,8 @@ use Rattle.motion_ring.proofs.Ticks.{together_reversed, few_pieces}
 use Rattle.board_rules.specs.Ports.{PortLog, said, taken_in, link_steps, asks_report, reports_in, published_in, MayAnswer, IsMarkedPast, MayPublish, HasTakenFew, HasFewReports, LacksReplyRoom, LacksPieceRoom, MayBeDone}
 use Rattle.board_rules.specs.Ports.PortStep.{took, found_empty, found_closed, found_free, found_mark, answered, reported, no_reply_room, took_exec, took_ovr, published, no_piece_room, loaded}
 use Rattle.link_ports.specs.Loads.{FoundNoByte}
-use Rattle.link_ports.specs.Boards.{BoardDid, takes_in, LooksForBytes}
+use Rattle.board_rules.specs.Takes.{takes_in}
+use Rattle.link_ports.specs.Boards.{BoardDid, LooksForBytes}
 use Rattle.link_ports.proofs.Lists.{by_said}
 
 -- these pieces, and no stop

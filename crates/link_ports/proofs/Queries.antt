@@ -7,9 +7,9 @@ use Rattle.realtime_flags.specs.declared.words.Raise.{Raise}
 use Rattle.realtime_flags.specs.Bits.{report_flag, is_flag, counted, raises_of}
 use Rattle.realtime_flags.specs.Bytes.{flag_of_bit, flag_of_row, flag_of_byte}
 use Rattle.stream_host.specs.Ports.{queries_in, TakesRaise}
+use Rattle.stream_host.specs.Raises.{raised_to, raises_in}
 use Rattle.stream_host.specs.Steps.{PortLog}
 use Rattle.stream_host.specs.Steps.PortStep.{stored, dropped, marked, raised, got, no_reply, shut}
-use Rattle.link_ports.specs.Hosts.{raise_at, raises_in}
 
 by_bool : {Q : Type 0} (b : Bool) → (b ≡ true → Q) → (b ≡ false → Q) → Q
 by_bool true holds fails = holds refl
@@ -53,15 +53,15 @@ report_bit bit e = by_bool (nat_lt bit 16)
     (λ t. grind (arith, nat_tests))
     (λ f. grind (arith, nat_tests))
 
-counts : (b : ℕ) (found : Option ℕ) (down : Bool) (rs : List Raise) → value_of b rows_of_bytes ≡ found → (b ≡ 63 → ⊥) → raises_of report_flag (raise_at (flag_of_row found) down rs) ≡ raises_of report_flag rs
+counts : (b : ℕ) (found : Option ℕ) (down : Bool) (rs : List Raise) → value_of b rows_of_bytes ≡ found → (b ≡ 63 → ⊥) → raises_of report_flag (raised_to (flag_of_row found) down rs) ≡ raises_of report_flag rs
 counts b None down rs e ne = refl
 counts b (Some bit) down rs e ne = by_bool (is_flag report_flag (flag_of_bit bit))
     (λ t. absurd (ne (query_alone b (e ∙ ap (λ n. Some n) (report_bit bit t)))))
     (λ f. ap (λ c. counted c (raises_of report_flag rs)) f)
 
-one_step : (b : ℕ) (down : Bool) (rs : List Raise) (n : ℕ) → raises_of report_flag rs ≡ n → raises_of report_flag (raise_at (flag_of_byte b) down rs) ≡ cond (nat_eq b query) (n + 1) n
+one_step : (b : ℕ) (down : Bool) (rs : List Raise) (n : ℕ) → raises_of report_flag rs ≡ n → raises_of report_flag (raised_to (flag_of_byte b) down rs) ≡ cond (nat_eq b query) (n + 1) n
 one_step b down rs n e = by_bool (nat_eq b 63)
-    (λ t. ap (λ m. raises_of report_flag (raise_at (flag_of_byte m) down rs)) (same b 63 t) ∙ (ap (λ m. m + 1) e ∙ sym (ap (λ c. cond c (n + 1) n) t)))
+    (λ t. ap (λ m. raises_of report_flag (raised_to (flag_of_byte m) down rs)) (same b 63 t) ∙ (ap (λ m. m + 1) e ∙ sym (ap (λ c. cond c (n + 1) n) t)))
     (λ f. counts b (value_of b rows_of_bytes) down rs refl (λ is. let x : true ≡ false = sym (ap (λ m. nat_eq m 63) is) ∙ f in cc) ∙ (e ∙ sym (ap (λ c. cond c (n + 1) n) f)))
 
 pub queries_raised : (h : PortLog) → raises_of report_flag (raises_in h) ≡ queries_in h

@@ -2,7 +2,6 @@
 use Rattle.std.specs.Prelude.{◌≡◌, ℕ, ◌+◌, ◌-◌, ◌≤◌, Bool, true, false, List, [], ◌∷◌, length, reverse}
 use Rattle.status_report.specs.Answering.{receive_room, reply_room}
 use Rattle.realtime_flags.specs.declared.words.Take.{Take}
-use Rattle.realtime_flags.specs.declared.words.Take.TheVariants.{Exec, Override}
 use Rattle.serial_ring.specs.declared.ends.BoardEnd.{BoardEnd}
 use Rattle.serial_ring.specs.declared.view.LinkStep.{LinkStep}
 use Rattle.serial_ring.specs.Ends.{found_closed as closed_for, bytes_shown, head_loads_of, answered_by, replies_taken, room_loads_of}
@@ -12,17 +11,8 @@ use Rattle.motion_ring.specs.declared.ends.SegOut.{SegOut}
 use Rattle.motion_ring.specs.Ends.{known_by, done_loads_of}
 use Rattle.link_ports.specs.Loads.{TookByte, FoundNoByte}
 use Rattle.board_rules.specs.Ports.{PortStep, PortLog, taken_in, link_steps, has_closed_in, published_in, known_in}
-use Rattle.board_rules.specs.Ports.PortStep.{took, found_empty, found_closed, found_free, answered, reported, no_reply_room, took_exec, took_ovr, published, no_piece_room, loaded}
-
--- the words that were taken, the latest first
-abbrev pub takes_at : PortStep → List Take → List Take
-takes_at (took_exec word) before = Exec word ∷ before
-takes_at (took_ovr word) before = Override word ∷ before
-takes_at e before = before
-
-abbrev pub takes_in : PortLog → List Take
-takes_in [] = []
-takes_in (e ∷ l) = takes_at e (takes_in l)
+use Rattle.board_rules.specs.Ports.PortStep.{took, found_empty, found_closed, found_free, answered, reported, no_reply_room, published, no_piece_room, loaded}
+use Rattle.board_rules.specs.Takes.{takes_in}
 
 -- the pieces published, the latest first; no stop is stored
 abbrev pub sent_in : PortLog → Sent

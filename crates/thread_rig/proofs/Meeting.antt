@@ -1,14 +1,8 @@
 -- What the ends of a rig have to do with each other, by the journals of its actors.
-use Rattle.std.proofs.Common.{◌≡◌, ℕ, Bool, true, List, [], ◌∷◌, ◌++◌, length, map, reverse, refl, sym, ap, ◌∙◌, Some, None, arith, length-append, append-nil}
-use Rattle.std.specs.declared.option.Option.{Option}
+use Rattle.std.proofs.Common.{◌≡◌, ℕ, Bool, true, List, [], ◌∷◌, ◌++◌, length, map, reverse, refl, sym, ap, ◌∙◌, arith, length-append, append-nil}
 use Rattle.std.proofs.lemmas.List.{reverse-append, reverse-reverse}
 use Rattle.atomic_table.specs.Seated.{TableId}
 use Rattle.status_report.specs.declared.Reply.{Reply}
-use Rattle.realtime_flags.specs.declared.words.Flag.{Flag}
-use Rattle.realtime_flags.specs.declared.words.Raise.{Raise}
-use Rattle.realtime_flags.specs.declared.words.Take.{Take}
-use Rattle.realtime_flags.specs.declared.words.Take.TheVariants as takes
-use Rattle.realtime_flags.specs.Bytes.{flag_of_byte}
 use Rattle.serial_ring.specs.declared.view.LinkStep.{LinkStep}
 use Rattle.serial_ring.specs.Logs.{taken_in, marked_in, answered_in}
 use Rattle.serial_ring.specs.Marks.{Mark}
@@ -22,49 +16,12 @@ use Rattle.motion_ring.specs.Rule.{AreTied as PiecesAreTied}
 use Rattle.motion_ring.specs.Sides.{published_in, some_stops, pieces_at}
 use Rattle.pulse_engine.specs.Logs.{PieceLog, pieces_of, halts_of}
 use Rattle.motion_ports.specs.Ports.{HasGot, numbers_of}
-use Rattle.stream_host.specs.Steps.{PortLog as HostLog}
-use Rattle.stream_host.specs.Steps.PortStep.{stored, dropped, marked, raised, got, no_reply, shut}
 use Rattle.board_rules.specs.Ports.{PortLog as BoardLog, link_steps}
 use Rattle.board_rules.specs.Ports.{taken_in as board_bytes, answered_in as board_replies, published_in as board_pieces}
 use Rattle.board_rules.proofs.LinkSteps.{taken_back, answered_back}
-use Rattle.board_rules.specs.Ports.PortStep.{took, found_empty, found_closed, found_free, found_mark, answered, reported, no_reply_room, took_exec, took_ovr, published, no_piece_room, loaded}
-use Rattle.link_ports.specs.Hosts as host
 use Rattle.link_ports.specs.Boards as board
 use Rattle.run_law.specs.Ran.{IsLinked}
 use Rattle.run_law.specs.Fronts.{BeginsWith}
-use Rattle.run_law.specs.Taking as law
-
--- ---- the flags that a host raised, and the words that a board took
-
-same_raised : (o : Option Flag) (down : Bool) (xs ys : List Raise) → xs ≡ ys → host.raise_at o down xs ≡ law.raised_to o down ys
-same_raised None down xs ys e = e
-same_raised (Some f) down xs ys e = ap (λ (z : List Raise). record { flag = f; down = down } ∷ z) e
-
-pub same_raises : (h : HostLog) → host.raises_in h ≡ law.raises_in h
-same_raises [] = refl
-same_raises (stored b ∷ h) = same_raises h
-same_raises (dropped b ∷ h) = same_raises h
-same_raises (marked ∷ h) = same_raises h
-same_raises (raised b down ∷ h) = same_raised (flag_of_byte b) down _ _ (same_raises h)
-same_raises (got r ∷ h) = same_raises h
-same_raises (no_reply ∷ h) = same_raises h
-same_raises (shut ∷ h) = same_raises h
-
-pub same_takes : (l : BoardLog) → board.takes_in l ≡ law.takes_in l
-same_takes [] = refl
-same_takes (took b ∷ l) = same_takes l
-same_takes (found_empty ∷ l) = same_takes l
-same_takes (found_closed ∷ l) = same_takes l
-same_takes (found_free n ∷ l) = same_takes l
-same_takes (found_mark number bytes ∷ l) = same_takes l
-same_takes (answered r ∷ l) = same_takes l
-same_takes (reported r ∷ l) = same_takes l
-same_takes (no_reply_room ∷ l) = same_takes l
-same_takes (took_exec word ∷ l) = ap (λ (z : List Take). takes.Exec word ∷ z) (same_takes l)
-same_takes (took_ovr word ∷ l) = ap (λ (z : List Take). takes.Override word ∷ z) (same_takes l)
-same_takes (published p ∷ l) = same_takes l
-same_takes (no_piece_room n ∷ l) = same_takes l
-same_takes (loaded n ∷ l) = same_takes l
 
 -- ---- lists with the latest first
 

@@ -8,7 +8,7 @@ use Rattle.stream_host.specs.Steps.{port_log as host_log}
 use Rattle.board_rules.specs.Breaking.{log_of as board_log}
 use Rattle.run_law.specs.Devices.{sinks, HasRun}
 use Rattle.controller.proofs.Kept.{kept_by}
-use Rattle.thread_rig.proofs.Meeting.{same_raises, same_takes, begins_with, are_linked, bytes_back, replies_back, pieces_begin, never_halted}
+use Rattle.thread_rig.proofs.Meeting.{begins_with, are_linked, bytes_back, replies_back, pieces_begin, never_halted}
 use Rattle.thread_rig.proofs.laws.rigs_run.Goals as goal
 
 pub returns : goal.returns
@@ -21,8 +21,8 @@ returns c before after was is end ran agree =
     let kept = kept_by is.board.side.board board.journal board.fits in
     let link = agree.link in
     let log = board_log board.journal in
-    let raises = sym host.did.raises_are ∙ same_raises (host_log host.journal) in
-    let takes = sym board.did.takes_are ∙ same_takes log in
+    let raises = sym host.did.raises_are in
+    let takes = sym board.did.takes_are in
     let balance = subst (λ rs. IsBalanced agree.words rs (takes_in log)) raises
     (subst (λ ts. IsBalanced agree.words (raises_by is.host.side.link.flags) ts) takes agree.flags) in
     let run = c.actors_that_end_make_a_run.ensures before.job after.job (sinks before) (sinks after) (end_of host.journal) is.recorder.side.recorder.failed _ _ _ _ _ _ _ _ _ _ _ _ _ _ _ _ _ _ _ _
