@@ -23,7 +23,7 @@ use Rattle.run_texts.specs.Points.{Point, behind_line, behind_broken, opening}
 use Rattle.run_texts.specs.Recorded.{AreRecorded, ticks_for_all}
 use Rattle.run_texts.specs.Sent.{Sent, has_reset, behind_reset}
 use Rattle.run_texts.specs.Sent.Sent.{a_text, a_stop}
-use Rattle.run_texts.specs.Told.{told_at_reset, told_in, ends_run, has_alarm}
+use Rattle.run_texts.specs.Told.{told_at_reset, told_in, has_alarm}
 use Rattle.run_texts.proofs.Determined.{line_answers, agree, same_told}
 use Rattle.run_texts.proofs.Events.{whole_ticks}
 use Rattle.run_texts.proofs.Stops.{Stop, stops_of}
@@ -44,20 +44,20 @@ or_both false b e f = f
 
 pub any_first : (xs ys : List Reply) → has_alarm (xs ++ ys) ≡ false → has_alarm xs ≡ false
 any_first [] ys e = refl
-any_first (x ∷ xs) ys e = or_both (ends_run x) (has_alarm xs) (or_first (ends_run x) (has_alarm (xs ++ ys)) e) (any_first xs ys (or_second (ends_run x) (has_alarm (xs ++ ys)) e))
+any_first (x ∷ xs) ys e = or_both (is_limit x) (has_alarm xs) (or_first (is_limit x) (has_alarm (xs ++ ys)) e) (any_first xs ys (or_second (is_limit x) (has_alarm (xs ++ ys)) e))
 
 pub any_second : (xs ys : List Reply) → has_alarm (xs ++ ys) ≡ false → has_alarm ys ≡ false
 any_second [] ys e = e
-any_second (x ∷ xs) ys e = any_second xs ys (or_second (ends_run x) (has_alarm (xs ++ ys)) e)
+any_second (x ∷ xs) ys e = any_second xs ys (or_second (is_limit x) (has_alarm (xs ++ ys)) e)
 
-kept_none : (keeps : Bool) (x : Reply) (xs rest : List Reply) → filter is_plain (x ∷ xs) ≡ rest → is_plain x ≡ keeps → has_alarm (filter is_plain xs) ≡ false → ends_run x ≡ false → has_alarm (filter is_plain (x ∷ xs)) ≡ false
-kept_none true x xs rest e is none one = rw is (or_both (ends_run x) (has_alarm (filter is_plain xs)) one none)
+kept_none : (keeps : Bool) (x : Reply) (xs rest : List Reply) → filter is_plain (x ∷ xs) ≡ rest → is_plain x ≡ keeps → has_alarm (filter is_plain xs) ≡ false → is_limit x ≡ false → has_alarm (filter is_plain (x ∷ xs)) ≡ false
+kept_none true x xs rest e is none one = rw is (or_both (is_limit x) (has_alarm (filter is_plain xs)) one none)
 kept_none false x xs rest e is none one = rw is none
 
 pub none_without_reports : (xs : List Reply) → has_alarm xs ≡ false → has_alarm (without_reports xs) ≡ false
 none_without_reports [] e = refl
 none_without_reports (x ∷ xs) e =
-    kept_none (is_plain x) x xs (filter is_plain (x ∷ xs)) refl refl (none_without_reports xs (or_second (ends_run x) (has_alarm xs) e)) (or_first (ends_run x) (has_alarm xs) e)
+    kept_none (is_plain x) x xs (filter is_plain (x ∷ xs)) refl refl (none_without_reports xs (or_second (is_limit x) (has_alarm xs) e)) (or_first (is_limit x) (has_alarm xs) e)
 
 pub line_calm : (b : Before) (o : Outcome) → AnswersOrHalts b o → has_alarm (tells o.work) ≡ false → is_limit o.answer ≡ false
 line_calm b o (inl once) none = no_alarm o.answer once.one
