@@ -7,7 +7,7 @@ use Rattle.status_report.specs.Answering.{is_bye, without_reports}
 use Rattle.step_line.specs.declared.Piece.{Piece}
 use Rattle.step_line.specs.declared.Piece.TheVariants as pieces
 use Rattle.step_line.specs.Finishing.{ticks_together, tick_count}
-use Rattle.step_line.specs.Ordering.{ComesNext}
+use Rattle.step_line.specs.Ordering.{ComesNext, InTurn}
 use Rattle.step_line.proofs.Finished.{together_both}
 use Rattle.planner_runs.specs.Runs.{fresh_plan, most_blocks}
 use Rattle.run_rules.specs.Told.{replies_after}
@@ -28,8 +28,9 @@ use Rattle.board_rules.proofs.Keeping.{run_is, hand_is, told_is}
 use Rattle.board_rules.proofs.Lines.{lines_follow, became_is}
 use Rattle.board_rules.proofs.Closing.{At, going, to_finish, to_tell, phase_is}
 use Rattle.board_rules.proofs.Closing as phases
-use Rattle.board_rules.proofs.Ending.{NoEnds, no_ends_back, planned_no_end, not_ended}
+use Rattle.board_rules.proofs.Ending.{NoEnds, no_ends_back, planned_no_end, not_ended, published_in_turn}
 use Rattle.board_rules.proofs.Limits.{few_given, few_answered}
+use Rattle.board_rules.proofs.Unstopped.{ended_never_stop, may_publish_alone}
 
 -- ---- how far the end is
 
@@ -118,11 +119,11 @@ pub may_publish_end : (first : Opening) (since before : Journal) → Conducted f
 may_publish_end first since before c ends e =
     let un = unended since before ends e in
     let none = none_end (published_of before) (opening_ends before un.1) in
-    record {
-      next = subst (λ (ps : List Piece). ComesNext (reverse ps) pieces.End) (sym un.0) (record { going = not_ended (reverse (published_of before)) (no_ends_back (published_of before) none); follows = tt });
-      few = subst (λ (ps : List Piece). ticks_together ps + tick_count pieces.End < 2 ^ 62) (sym un.0)
-          (let g = few_given first before c in let h = ap ticks_together (hand_is first before c) in let t = together_both (published_of before) (hand_of before) in omega arith);
-    }
+    may_publish_alone (port_log since ++ port_log before) pieces.End (ended_never_stop first since before c ends)
+    (subst (λ (ps : List Piece). InTurn (reverse ps)) (sym un.0) (published_in_turn first before c))
+    (subst (λ (ps : List Piece). ComesNext (reverse ps) pieces.End) (sym un.0) (record { going = not_ended (reverse (published_of before)) (no_ends_back (published_of before) none); follows = tt }))
+    (subst (λ (ps : List Piece). ticks_together ps + tick_count pieces.End < 2 ^ 62) (sym un.0)
+    (let g = few_given first before c in let h = ap ticks_together (hand_is first before c) in let t = together_both (published_of before) (hand_of before) in omega arith))
 
 -- Bye may be told
 pub may_tell_bye : (first : Opening) (since before : Journal) → Conducted first before → EndsRun since before → ending_of since before ≡ tells_bye → MayAnswer (port_log since ++ port_log before) replies.Bye

@@ -15,7 +15,7 @@ use Rattle.run_rules.specs.Work.{Task, Outcome, asks, has_moves}
 use Rattle.run_rules.specs.Work.Task.{tell}
 use Rattle.run_rules.specs.Cuts.{ticks_asked_for}
 use Rattle.run_rules.specs.Reports.{settled_to, moves, fewest}
-use Rattle.board_rules.specs.Ports.PortStep.{answered, loaded}
+use Rattle.board_rules.specs.Ports.PortStep.{answered, loaded, found_halt}
 use Rattle.board_rules.specs.Steps.{Journal, has_limited, outcomes_of, known_of, plan_of, left_of, before_of, closed_tells}
 use Rattle.board_rules.specs.Cuts.{counts_of}
 use Rattle.board_rules.specs.Steps.Step.{at_port, began, did, made_end, evened, paused, became, cut, halted, closing, turned}
@@ -144,6 +144,7 @@ pub settled_is_known : (first : Opening) (h : Journal) → Conducted first h →
 settled_is_known first [] c = omega arith
 settled_is_known first (at_port (answered r) ∷ h) c = known_at_answer first h r c.1 c.0.next (is_answer r) refl (settled_is_known first h c.1)
 settled_is_known first (at_port (loaded done) ∷ h) c = let low = settled_is_known first h c.1 in let more = c.0.later in omega (arith, low, more)
+settled_is_known first (at_port (found_halt done) ∷ h) c = absurd c.0
 settled_is_known first (began o ∷ h) c = known_began first h o c.1 c.0.calm (settled_is_known first h c.1)
 settled_is_known first (did a ps ∷ h) c =
     subst (λ (ns : List ℕ). low_at (done_of h) ns ≤ known_of h) (sym (counts_did first h a ps c)) (settled_is_known first h c.1)

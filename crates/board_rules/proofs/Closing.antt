@@ -22,7 +22,7 @@ use Rattle.board_rules.specs.Openings.{Opening}
 use Rattle.run_rules.specs.Work.{Task, closing_work}
 use Rattle.run_rules.specs.Work.Task.{ask, tell, pause, normal, finish, halt}
 use Rattle.board_rules.specs.Ports.{MayBeDone}
-use Rattle.board_rules.specs.Ports.PortStep.{took, found_closed, answered, published, loaded}
+use Rattle.board_rules.specs.Ports.PortStep.{took, found_closed, answered, published, loaded, found_halt}
 use Rattle.board_rules.specs.Turns.{stands_still}
 use Rattle.board_rules.specs.Steps.{Journal, port_log, has_limited, motion_of, without_asks, known_of, given_of, planned_of, hand_of, plan_of, left_of, behind, whole_of, has_closed, closed_tells}
 use Rattle.board_rules.specs.Steps.Step.{at_port, began, did, made_end, evened, paused, became, cut, halted, closing}
@@ -181,6 +181,7 @@ phase_is first (at_port (took b) ∷ h) c = going c.0.polls.unclosed (unended fi
 phase_is first (at_port (answered r) ∷ h) c = on_answer first h r c.0 (phase_is first h c.1)
 phase_is first (at_port (published p) ∷ h) c = on_publish first h p c.0.0 (phase_is first h c.1)
 phase_is first (at_port (loaded done) ∷ h) c = on_load first h done c.1 c.0 (phase_is first h c.1)
+phase_is first (at_port (found_halt done) ∷ h) c = absurd c.0
 phase_is first (began o ∷ h) c = going c.0.going (unended first h c.0.going (phase_is first h c.1))
 phase_is first (did a ps ∷ h) c = on_did first h a ps c.0.0 c.0.1 (phase_is first h c.1)
 phase_is first (made_end ∷ h) c = on_end first h c.0 (phase_is first h c.1)

@@ -132,7 +132,7 @@ abbrev k15 : State → State → PlannedMove → PlannedMove → Segment → Jou
 k15 next last m n s = at_port (loaded (all_ticks s)) ∷ k14 next last m n s
 
 d15 : (first next last : State) (m n : PlannedMove) (s : Segment) → AreTwoJogs first next last m n s → Conducted (first_opening first) (k15 next last m n s)
-d15 first next last m n s p = (record { later = omega arith; below = omega arith; few = one_unfinished (nat_lt (all_ticks s) (tick_count (pieces.Segment s))) }, d14 first next last m n s p)
+d15 first next last m n s p = (record { later = omega arith; below = omega arith; few = one_unfinished _ }, d14 first next last m n s p)
 
 abbrev k16 : State → State → PlannedMove → PlannedMove → Segment → Journal
 k16 next last m n s = cut 2 ∷ k15 next last m n s
@@ -150,7 +150,7 @@ abbrev k18 : State → State → PlannedMove → PlannedMove → Segment → Jou
 k18 next last m n s = turned Did ∷ at_port (published (pieces.Mark (marks.Cut 2))) ∷ at_port (loaded (all_ticks s)) ∷ k17 next last m n s
 
 d18 : (first next last : State) (m n : PlannedMove) (s : Segment) → AreTwoJogs first next last m n s → Conducted (first_opening first) (k18 next last m n s)
-d18 first next last m n s p = (ends _ _ (λ w. elsewhere _ w.stands refl) refl refl refl refl refl refl, ((refl, (refl, refl)), (record { later = omega arith; below = omega arith; few = one_unfinished (nat_lt (all_ticks s) (tick_count (pieces.Segment s))) }, d17 first next last m n s p)))
+d18 first next last m n s p = (ends _ _ (λ w. elsewhere _ w.stands refl) refl refl refl refl refl refl, ((refl, (refl, refl)), (record { later = omega arith; below = omega arith; few = one_unfinished _ }, d17 first next last m n s p)))
 
 abbrev k19 : State → State → PlannedMove → PlannedMove → Segment → Journal
 k19 next last m n s = turned Did ∷ at_port (answered Ok) ∷ k18 next last m n s
@@ -162,7 +162,7 @@ abbrev k20 : State → State → PlannedMove → PlannedMove → Segment → Jou
 k20 next last m n s = at_port (loaded (all_ticks s + 1)) ∷ k19 next last m n s
 
 d20 : (first next last : State) (m n : PlannedMove) (s : Segment) → AreTwoJogs first next last m n s → Conducted (first_opening first) (k20 next last m n s)
-d20 first next last m n s p = (record { later = omega arith; below = (let e = both_ticks s in omega (arith, e)); few = two_unfinished (nat_lt (all_ticks s + 1) (tick_count (pieces.Segment s))) (nat_lt (all_ticks s + 1 - tick_count (pieces.Segment s)) 1) }, d19 first next last m n s p)
+d20 first next last m n s p = (record { later = omega arith; below = (let e = both_ticks s in omega (arith, e)); few = two_unfinished _ _ }, d19 first next last m n s p)
 
 abbrev pub k21 : State → State → PlannedMove → PlannedMove → Segment → Journal
 k21 next last m n s = turned Did ∷ became on_stopped motions.Idle ∷ k20 next last m n s

@@ -16,12 +16,13 @@ use Rattle.board_rules.specs.Openings.{Opening}
 use Rattle.run_rules.specs.Work.{Task, Outcome, telling}
 use Rattle.run_rules.specs.Work.Task.{ask}
 use Rattle.run_rules.specs.Outcomes.{Before, Becomes}
-use Rattle.board_rules.specs.Ports.PortStep.{answered, published, loaded}
+use Rattle.board_rules.specs.Ports.PortStep.{answered, published, loaded, found_halt}
 use Rattle.board_rules.specs.Steps.{Journal, published_of, known_of, open_of, left_of, left_by, without_asks, hand_of, plan_of}
 use Rattle.board_rules.specs.Steps.Step.{at_port, began, did, made_end, evened, paused, became, cut, halted, closing, turned}
 use Rattle.board_rules.specs.Conduct.{Conducted, Gives, MayDo, IsStopped, IsTimely, ticks_published}
 use Rattle.board_rules.proofs.Beginning.{caused, becomes_caused}
 use Rattle.board_rules.proofs.Keeping.{hand_is}
+use Rattle.board_rules.proofs.Unstopped.{done_within}
 use Rattle.planner_runs.specs.Runs.{marks_cut}
 use Rattle.run_rules.proofs.Items.{IsOfItem, PassesTasks, holds_of_lines}
 
@@ -134,7 +135,8 @@ known_where_stopped first h c stopped =
 one_in_hand : (first : Opening) (h : Journal) → Conducted first h → OneInHand h
 one_in_hand first [] c = inl refl
 one_in_hand first (at_port (published q) ∷ h) c = goes_out h q (one_in_hand first h c.1)
-one_in_hand first (at_port (loaded done) ∷ h) c = more_known h done c.0.later c.0.below (one_in_hand first h c.1)
+one_in_hand first (at_port (loaded done) ∷ h) c = more_known h done c.0.later (done_within first h done c.1 c.0) (one_in_hand first h c.1)
+one_in_hand first (at_port (found_halt done) ∷ h) c = absurd c.0
 one_in_hand first (did a ps ∷ h) c = did_hand first h a ps c.1 c.0.0 c.0.1 (one_in_hand first h c.1)
 one_in_hand first (made_end ∷ h) c = inr (pieces.End, ap (λ (qs : List Piece). qs ++ pieces.End ∷ []) c.0.drained.hand, λ cuts. absurd cc)
 one_in_hand first (cut k ∷ h) c =

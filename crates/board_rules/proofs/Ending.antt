@@ -80,6 +80,11 @@ turns_back [] ys turns = turns
 turns_back (x ∷ xs) ys turns = turns_back xs ys turns.1
 
 -- the piece in hand may be published
+-- those published, too
+pub published_in_turn : (first : Opening) (h : Journal) → Conducted first h → InTurn (reverse (published_of h))
+published_in_turn first h c =
+    turns_back (reverse (hand_of h)) (reverse (published_of h)) (subst InTurn (ap reverse (hand_is first h c) ∙ reverse-append (published_of h) (hand_of h)) (turns_are first h c))
+
 pub next_turns : (first : Opening) (h : Journal) (p : Piece) → Conducted first h → IsInHand p h → ComesNext (reverse (published_of h)) p
 next_turns first h p c next =
     let qs : List Piece = drop 1 (hand_of h) in

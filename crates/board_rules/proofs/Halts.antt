@@ -20,7 +20,7 @@ use Rattle.step_line.specs.Asking.{Asked, ticks_of_all}
 use Rattle.step_line.specs.Finishing.{ticks_together}
 use Rattle.step_line.specs.Pieces.{ticks_of}
 use Rattle.step_line.specs.declared.Piece.{Piece}
-use Rattle.board_rules.specs.Ports.PortStep.{loaded}
+use Rattle.board_rules.specs.Ports.PortStep.{loaded, found_halt}
 use Rattle.board_rules.specs.Parts.{IsHaltedPart, lines_in, counts_in}
 use Rattle.board_rules.specs.Steps.{Step, Journal, has_limited, outcomes_of, known_of, given_of, planned_of, left_of, behind}
 use Rattle.board_rules.specs.Steps.Step.{at_port, began, did, made_end, evened, paused, became, cut, halted, closing, turned}
@@ -77,6 +77,7 @@ frozen first _ h c was = (refl, refl)
 pub halted_known : (first : Opening) (h : Journal) → Conducted first h → has_halted h ≡ true → known_of h ≡ ticks_given h
 halted_known first [] c was = absurd cc
 halted_known first (at_port (loaded n) ∷ h) c was = all_known first h n c.1 c.0 (halted_known first h c.1 was)
+halted_known first (at_port (found_halt n) ∷ h) c was = absurd c.0
 halted_known first (began o ∷ h) c was = not_calm first h c.1 was c.0.calm
 halted_known first (did a ps ∷ h) c was = halted_known first h c.1 was ∙ ap ticks_together (sym (and_none (given_of h) ps (none_given first h a ps c was).2))
 halted_known first (made_end ∷ h) c was = halted_known first h c.1 was ∙ sym (no_more_ticks (given_of h))

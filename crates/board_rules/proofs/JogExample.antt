@@ -163,7 +163,7 @@ abbrev j10 : State → PlannedMove → Segment → Journal
 j10 last m s = became on_drained motions.Idle ∷ at_port (loaded (ticks_together (pieces.Segment s ∷ []))) ∷ j9 last m s
 
 c10 : (first last : State) (m : PlannedMove) (s : Segment) → IsOneJog first last m s → Conducted (first_opening first) (j10 last m s)
-c10 first last m s p = ((refl, record { plan = p.rests; hand = refl; done = refl }), (record { later = omega arith; below = omega arith; few = one_unfinished (nat_lt (ticks_together (pieces.Segment s ∷ [])) (tick_count (pieces.Segment s))) }, c9 first last m s p))
+c10 first last m s p = ((refl, record { plan = p.rests; hand = refl; done = refl }), (record { later = omega arith; below = omega arith; few = one_unfinished _ }, c9 first last m s p))
 
 abbrev j11 : State → PlannedMove → Segment → Journal
 j11 last m s = turned (Wait on.Byte) ∷ j10 last m s

@@ -12,6 +12,7 @@ pub mod Numbers
 pub mod Cancels
 pub mod Counting
 pub mod Halts
+pub mod Unstopped
 pub mod Given
 pub mod Lines
 pub mod Answering

@@ -32,7 +32,7 @@ use Rattle.run_rules.specs.Outcomes.{Before, Passed, Follows, after, at_place, b
 use Rattle.run_rules.specs.Outcomes.Passed.{a_line, a_cut}
 use Rattle.run_rules.specs.Told.{asked_in, replies_after}
 use Rattle.board_rules.specs.Openings.{Opening, before_first}
-use Rattle.board_rules.specs.Ports.{reports_in}
+use Rattle.board_rules.specs.Ports.{reports_in, MayPublish}
 use Rattle.board_rules.specs.Ports.PortStep.{took}
 use Rattle.board_rules.specs.Steps.{Journal, port_log, taken_of, answered_of, published_of, lines_of, outcomes_of, before_of, left_of, closed_tells, hand_of, open_of, whole_of}
 use Rattle.board_rules.specs.Steps.Step.{at_port}
@@ -46,6 +46,8 @@ use Rattle.board_rules.proofs.Keeping.{never_clears, told_is, hand_is}
 use Rattle.board_rules.proofs.Parting.{open_part, asked_is}
 use Rattle.board_rules.proofs.Numbers.{lines_are, count_is, numbers_are, parts_are}
 use Rattle.board_rules.proofs.Counting.{given_sum}
+use Rattle.board_rules.proofs.Ending.{published_in_turn, next_turns}
+use Rattle.board_rules.proofs.Unstopped.{journals_never_stop, may_publish_alone}
 use Rattle.board_rules.proofs.Lines.{bytes_are, lines_follow, became_is}
 use Rattle.step_line.proofs.Finished.{together_both}
 use Rattle.run_rules.proofs.Going.{as_many}
@@ -193,7 +195,6 @@ given_by_lines first h c =
 pub few_given : (first : Opening) (h : Journal) → Conducted first h → ticks_given h < 2 ^ 62
 few_given first h c = let few = given_by_lines first h c in let lines = few_lines first h c in omega (arith, few, lines)
 
--- so the piece in hand may be published
 pub few_next : (first : Opening) (h : Journal) (p : Piece) → Conducted first h → IsInHand p h → ticks_published h + tick_count p < 2 ^ 62
 few_next first h p c next =
     let few = few_given first h c in
@@ -202,6 +203,11 @@ few_next first h p c next =
     let f = together_both (p ∷ []) (drop 1 (hand_of h)) in
     let g = length-append (ticks_of p) [] in
     omega arith
+
+-- so the piece in hand may be published
+pub may_publish_next : (first : Opening) (h : Journal) (p : Piece) → Conducted first h → IsInHand p h → MayPublish (port_log h) p
+may_publish_next first h p c next =
+    may_publish_alone (port_log h) p (journals_never_stop first h c) (published_in_turn first h c) (next_turns first h p c next) (few_next first h p c next)
 
 -- ---- replies
 

@@ -137,7 +137,7 @@ abbrev j13 : State → PlannedMove → Segment → Journal
 j13 last m s = became on_drained motions.Idle ∷ at_port (loaded (ticks_together (pieces.Segment s ∷ []))) ∷ j12 last m s
 
 c13 : (first last : State) (m : PlannedMove) (s : Segment) → IsOneSegment first last m s → Conducted (first_opening first) (j13 last m s)
-c13 first last m s p = ((refl, record { plan = p.rests; hand = refl; done = refl }), (record { later = omega arith; below = omega arith; few = one_unfinished (nat_lt (ticks_together (pieces.Segment s ∷ [])) (tick_count (pieces.Segment s))) }, c12 first last m s p))
+c13 first last m s p = ((refl, record { plan = p.rests; hand = refl; done = refl }), (record { later = omega arith; below = omega arith; few = one_unfinished _ }, c12 first last m s p))
 
 abbrev j14 : State → PlannedMove → Segment → Journal
 j14 last m s = turned (Wait on.Byte) ∷ j13 last m s

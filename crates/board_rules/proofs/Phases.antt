@@ -20,7 +20,7 @@ use Rattle.run_rules.proofs.Each.{HoldsOfEach, holds_of_each}
 use Rattle.board_rules.specs.Openings.{Opening, IsGreeting}
 use Rattle.std.specs.List.{AllByRecursion}
 use Rattle.board_rules.specs.Ports.{PortStep}
-use Rattle.board_rules.specs.Ports.PortStep.{took, found_empty, found_closed, found_free, found_mark, answered, reported, no_reply_room, took_exec, took_ovr, published, no_piece_room, loaded}
+use Rattle.board_rules.specs.Ports.PortStep.{took, found_empty, found_closed, found_free, found_mark, answered, reported, no_reply_room, took_exec, took_ovr, published, no_piece_room, loaded, stored_stop, found_no_halt, found_halt}
 use Rattle.board_rules.specs.Steps.{Step, Journal, has_limited, outcomes_of, answered_of, left_of, without_asks, before_of, open_of, closed_tells}
 use Rattle.board_rules.specs.Steps.Step.{at_port, began, did, made_end, evened, paused, became, cut, halted, closing, turned}
 use Rattle.board_rules.specs.Whole.{has_any_moved}
@@ -293,6 +293,9 @@ phase_is first (at_port found_empty ∷ h) c = polls first h found_empty refl re
 phase_is first (at_port found_closed ∷ h) c = polls first h found_closed refl refl (phase_is first h c.1)
 phase_is first (at_port (found_free n) ∷ h) c = polls first h (found_free n) refl refl (phase_is first h c.1)
 phase_is first (at_port (found_mark number bytes) ∷ h) c = polls first h (found_mark number bytes) refl refl (phase_is first h c.1)
+phase_is first (at_port stored_stop ∷ h) c = absurd c.0
+phase_is first (at_port found_no_halt ∷ h) c = absurd c.0
+phase_is first (at_port (found_halt done) ∷ h) c = absurd c.0
 phase_is first (at_port (answered r) ∷ h) c = on_answer first h r c.0.next (is_answer r) refl (phase_is first h c.1)
 phase_is first (at_port (reported r) ∷ h) c = polls first h (reported r) refl refl (phase_is first h c.1)
 phase_is first (at_port no_reply_room ∷ h) c = polls first h no_reply_room refl refl (phase_is first h c.1)

@@ -13,7 +13,7 @@ use Rattle.board_rules.specs.Openings.{Opening}
 use Rattle.run_rules.specs.Work.{Task, Outcome, has_moves}
 use Rattle.run_rules.specs.Work.Task.{ask, tell, pause, normal, halt}
 use Rattle.board_rules.specs.Ports.{MayBeDone}
-use Rattle.board_rules.specs.Ports.PortStep.{took, found_empty, found_closed, found_free, found_mark, answered, reported, no_reply_room, took_exec, took_ovr, published, no_piece_room, loaded}
+use Rattle.board_rules.specs.Ports.PortStep.{took, found_empty, found_closed, found_free, found_mark, answered, reported, no_reply_room, took_exec, took_ovr, published, no_piece_room, loaded, found_halt}
 use Rattle.board_rules.specs.Steps.{Step, Journal, port_log, given_of, hand_of, known_of, plan_of, left_of, left_by, behind, before_of, closed_tells, open_of}
 use Rattle.board_rules.specs.Steps.Step.{at_port, began, did, made_end, evened, paused, became, cut, halted, closing, turned}
 use Rattle.board_rules.specs.Conduct.{Conducted, Gives, MayDo, MayRest, MayPause, MayEven, MayHalt, IsDrained, ticks_given}
@@ -150,6 +150,7 @@ quiet first [] c going still = inr (record { drained = record { plan = record { 
 quiet first (at_port (answered r) ∷ h) c going still = on_answer first h r c.0.next (quiet first h c.1 going still)
 quiet first (at_port (published p) ∷ h) c going still = on_publish first h p c.0.0 (quiet first h c.1 going still)
 quiet first (at_port (loaded done) ∷ h) c going still = on_load first h done c.1 c.0 (quiet first h c.1 going still)
+quiet first (at_port (found_halt done) ∷ h) c going still = absurd c.0
 quiet first (began o ∷ h) c going still =
     on_begun first h o (has_any_moved (before_of first h)) c.0.free (works true (caused first h) (open_of h) o (becomes_caused first h o c.0)) o.settles (has_moves o.work) refl refl
     (all_counted first h o c.0 still) (λ m. quiet first h c.1 going m)

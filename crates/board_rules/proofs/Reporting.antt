@@ -39,7 +39,7 @@ use Rattle.run_rules.specs.Outcomes.{Before, at_place}
 use Rattle.run_rules.specs.Reports.{settled_to, moves, has_pause, raises_alarm, state_behind, steps_in_thousandths, shows_machine, shows_room, turns_shown, fewest, most, may_move, is_held, Shows, Course, IsAhead, FitsReport, Reported}
 use Rattle.board_rules.specs.Openings.{Opening}
 use Rattle.board_rules.specs.Ports.{PortStep, PortLog, published_in, has_held_in, has_changed_in}
-use Rattle.board_rules.specs.Ports.PortStep.{answered, reported, published, loaded}
+use Rattle.board_rules.specs.Ports.PortStep.{answered, reported, published, loaded, found_halt}
 use Rattle.board_rules.specs.Turns.{is_limited, stands_still}
 use Rattle.board_rules.specs.Steps.{Step, Journal, port_log, has_limited, outcomes_of, answered_of, given_of, published_of, known_of, plan_of, motion_of, left_of, left_by, before_of}
 use Rattle.board_rules.specs.Steps.Step.{at_port, began, did, made_end, evened, paused, became, cut, halted, closing, turned}
@@ -425,6 +425,7 @@ reported_is first (at_port (answered r) ∷ h) c =
     (reply_first (course_of first (s ∷ h)) r (said h) (known_of h) c.0.plain is)
 reported_is first (at_port (loaded n) ∷ h) c =
     reported_below (course_of first (at_port (loaded n) ∷ h)) (said h) (known_of h) n c.0.later (goes_on first h (at_port (loaded n)) c.1 (by_port first h (loaded n) refl) (reported_is first h c.1))
+reported_is first (at_port (found_halt n) ∷ h) c = absurd c.0
 reported_is first (at_port (published p) ∷ h) c = goes_on first h (at_port (published p)) c.1 (by_piece first h p) (reported_is first h c.1)
 reported_is first (at_port e ∷ h) c = goes_on first h (at_port e) c.1 (by_port first h e refl) (reported_is first h c.1)
 reported_is first (began o ∷ h) c = goes_on first h (began o) c.1 (by_line first h o c.1 c.0.calm) (reported_is first h c.1)

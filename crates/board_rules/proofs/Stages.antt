@@ -20,7 +20,7 @@ use Rattle.run_rules.specs.Work.{Task, Outcome, is_limit, halting_work, telling}
 use Rattle.run_rules.specs.Work.Task.{ask, tell, pause, normal, finish, halt}
 use Rattle.run_rules.specs.Finding.{Found}
 use Rattle.board_rules.specs.Ports.{MayBeDone}
-use Rattle.board_rules.specs.Ports.PortStep.{took, answered, published, loaded}
+use Rattle.board_rules.specs.Ports.PortStep.{took, answered, published, loaded, found_halt}
 use Rattle.board_rules.specs.Steps.{Journal, port_log, has_limited, open_of, before_of, left_of, whole_of, closed_tells, known_of, given_of, hand_of, plan_of, motion_of, behind}
 use Rattle.board_rules.specs.Steps.Step.{at_port, began, did, made_end, evened, paused, became, cut, halted, closing}
 use Rattle.board_rules.specs.Turns.{begins_in, machine_in, is_going, is_limited, halts_next, stands_still}
@@ -357,6 +357,7 @@ halting_is first free (at_port (took b) ∷ h) c = on_took first h b c.0.polls.c
 halting_is first free (at_port (answered r) ∷ h) c = on_answer first h r c.0 (halting_is first free h c.1)
 halting_is first free (at_port (published p) ∷ h) c = on_publish first h p c.0.0 (halting_is first free h c.1)
 halting_is first free (at_port (loaded done) ∷ h) c = on_load first h done c.1 c.0 (halting_is first free h c.1)
+halting_is first free (at_port (found_halt done) ∷ h) c = absurd c.0
 halting_is first free (began o ∷ h) c = on_line first h o c.0 (line_halts true (caused first h) (open_of h) o (becomes_caused first h o c.0)) (halting_is first free h c.1)
 halting_is first free (did a ps ∷ h) c = on_did first h a ps c.0.0 c.0.1 (halting_is first free h c.1)
 halting_is first free (made_end ∷ h) c = on_end first h c.1 c.0.next (halting_is first free h c.1)

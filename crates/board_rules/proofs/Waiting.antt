@@ -23,6 +23,7 @@ use Rattle.board_rules.specs.Conduct.{Conducted, MayTurn, Needs, IsNextTask, Are
 use Rattle.board_rules.proofs.Opening.{none_asked_told, no_halt_told}
 use Rattle.board_rules.proofs.Dropping.{tell_kept}
 use Rattle.board_rules.proofs.Closing.{spent}
+use Rattle.board_rules.proofs.Unstopped.{unfinished_there}
 
 -- ---- why it waits
 
@@ -42,7 +43,7 @@ pieces_lack_room first (at_port (took b) ∷ h) c lacks still = absurd cc
 pieces_lack_room first (at_port (answered r) ∷ h) c lacks still = absurd cc
 pieces_lack_room first (at_port (reported r) ∷ h) c lacks still = absurd cc
 pieces_lack_room first (at_port (published p) ∷ h) c lacks still = absurd cc
-pieces_lack_room first (at_port (no_piece_room done) ∷ h) c lacks still = (done, c.0.full.full)
+pieces_lack_room first (at_port (no_piece_room done) ∷ h) c lacks still = (done, unfinished_there first h done c.1 c.0.full.full)
 pieces_lack_room first (began o ∷ h) c lacks still = absurd cc
 pieces_lack_room first (turned t ∷ h) c lacks still = absurd cc
 pieces_lack_room first (_ ∷ h) c lacks still = pieces_lack_room first h c.1 lacks still

@@ -40,7 +40,7 @@ use Rattle.step_line.specs.declared.planned_move.PlannedMove.{PlannedMove}
 use Rattle.step_line.specs.Finishing.{ticks_together}
 use Rattle.board_rules.specs.Openings.{Opening, IsGreeting, most_greetings}
 use Rattle.board_rules.specs.Ports.{PortStep, PortLog, asks_report, has_changes, MayBeDone, HasTakenFew, HasFewReports, LacksPieceRoom}
-use Rattle.board_rules.specs.Ports.PortStep.{took, found_empty, found_closed, answered, reported, no_reply_room, took_exec, took_ovr, published, no_piece_room, loaded}
+use Rattle.board_rules.specs.Ports.PortStep.{took, found_empty, found_closed, answered, reported, no_reply_room, took_exec, took_ovr, published, no_piece_room, loaded, stored_stop, found_no_halt, found_halt}
 use Rattle.board_rules.specs.Cuts.{has_cut}
 use Rattle.board_rules.specs.Steps.{Step, Journal, port_log, has_closed, has_limited, published_of, outcomes_of, known_of, open_of, whole_of, before_of, left_of, closed_tells, given_of, hand_of, plan_of, motion_of, behind}
 use Rattle.board_rules.specs.Steps.Step.{at_port, began, did, made_end, evened, paused, became, cut, halted, closing, turned}
@@ -328,7 +328,8 @@ pub record IsReportAt (first : Opening) (r : Report) (h : Journal) : Type 0 wher
 
 -- ---- at the port
 
--- Pieces are published in the order in which they were given.
+-- Pieces are published in the order in which they were given. A journal tells the pulse of no stop, and looks for no halt: these are
+-- the work of a reset, which is no part of it.
 abbrev pub MayAtPort : Opening → PortStep → Journal → Type 0
 MayAtPort first (took b) h = MayTake first h
 MayAtPort first found_empty h = MayPoll first h
@@ -340,6 +341,9 @@ MayAtPort first (took_exec word) h = MayTakeRequests word h
 MayAtPort first (published p) h = IsInHand p h × IsTimely p h
 MayAtPort first (no_piece_room done) h = MayKeep done h
 MayAtPort first (loaded done) h = MayBeDone done (port_log h)
+MayAtPort first stored_stop h = ⊥
+MayAtPort first found_no_halt h = ⊥
+MayAtPort first (found_halt done) h = ⊥
 MayAtPort first _ h = Unit {0}
 
 -- ---- the lines

@@ -1,5 +1,5 @@
 -- What a board does at its port, what it owes the port, and what the port promises.
-use Rattle.std.specs.Prelude.{◌≡◌, ℕ, ◌+◌, ◌^◌, ◌≤◌, ◌<◌, Bool, true, false, not, ◌||◌, cond, nat_eq, List, [], ◌∷◌, ◌++◌, length, reverse}
+use Rattle.std.specs.Prelude.{◌≡◌, ℕ, ◌+◌, ◌^◌, ◌≤◌, ◌<◌, Bool, true, false, not, ◌||◌, cond, nat_eq, List, [], ◌∷◌, ◌++◌, length}
 use Rattle.code_table.specs.declared.flags.Exec.{Exec}
 use Rattle.code_table.specs.declared.flags.Ovr.{Ovr}
 use Rattle.code_table.specs.Tables.{query}
@@ -14,9 +14,11 @@ use Rattle.serial_ring.specs.declared.view.LinkStep.TheVariants.{Took, Marked, A
 use Rattle.serial_ring.specs.Marks.{MarkedPast}
 use Rattle.serial_ring.specs.Logs as link
 use Rattle.step_line.specs.declared.Piece.{Piece}
-use Rattle.step_line.specs.Finishing.{tick_count, ticks_together, unfinished, most_unfinished}
+use Rattle.step_line.specs.Finishing.{most_unfinished}
 use Rattle.step_line.specs.Logs.{NewestFirst}
-use Rattle.step_line.specs.Ordering.{ComesNext}
+use Rattle.motion_ring.specs.declared.lists.Sent.{Sent}
+use Rattle.motion_ring.specs.Sides as ring
+use Rattle.motion_ring.specs.Rule.{none_sent}
 
 -- what a board does at its port
 pub data PortStep : Type 0 where
@@ -40,6 +42,11 @@ pub data PortStep : Type 0 where
   no_piece_room : ℕ → PortStep
   -- so many ticks were found done
   loaded : ℕ → PortStep
+  -- the pulse was told to stop behind all that was published
+  stored_stop : PortStep
+  -- a stop waits for its halt; the pulse has halted, and so many ticks are done
+  found_no_halt : PortStep
+  found_halt : ℕ → PortStep
 
 -- all steps at the port, the latest first
 abbrev pub PortLog : Type 0
@@ -178,12 +185,30 @@ published_in (e ∷ l) = published_at e (published_in l)
 
 abbrev pub known_at : PortStep → ℕ → ℕ
 known_at (loaded n) known = n
+known_at (found_halt n) known = n
 known_at e known = known
 
--- how many ticks were found done when that was loaded last
+-- how many ticks were found done when that was loaded last, or when a halt was found
 abbrev pub known_in : PortLog → ℕ
 known_in [] = 0
 known_in (e ∷ l) = known_at e (known_in l)
+
+abbrev pub sent_at : PortStep → Sent → Sent
+sent_at (published p) s = ring.with_piece s p
+sent_at stored_stop s = ring.with_stop s
+sent_at (found_halt n) s = ring.with_halt s n
+sent_at e s = s
+
+-- What went to the pulse, as the ring of pieces has it: the pieces published up to the last halt that was found, and those since;
+-- the stops, the halts, and whether a stop waits for its halt. The ticks published are those done at that halt, and those of the
+-- pieces published since: of the pieces before it, which the halt may have cut, no further tick is counted.
+abbrev pub sent_in : PortLog → Sent
+sent_in [] = none_sent
+sent_in (e ∷ l) = sent_at e (sent_in l)
+
+-- these pieces alone went to it, the latest first
+abbrev pub unstopped : List Piece → Sent
+unstopped ps = record { older = []; since = ps; stops = []; halts = []; waits = false }
 
 -- ---- what a board owes
 
@@ -192,10 +217,19 @@ known_in (e ∷ l) = known_at e (known_in l)
 abbrev pub MayAnswer : PortLog → Reply → Type 0
 MayAnswer l r = link.MayAnswer (link_steps l) r
 
--- a piece may be published: it may come after those before it, and their ticks and its own are fewer than 2 ^ 62
-pub record MayPublish (l : PortLog) (p : Piece) : Type 0 where
-  pub next : ComesNext (reverse (published_in l)) p
-  pub few : ticks_together (published_in l) + tick_count p < 2 ^ 62
+-- A piece may be published: no stop waits for its halt, and no end was published; it may come behind the pieces published since the
+-- last halt, so that the first segment behind a stop begins its move; the ticks published and its own are fewer than 2 ^ 62, and so
+-- were the pieces.
+abbrev pub MayPublish : PortLog → Piece → Type 0
+MayPublish l p = ring.MayPublish (sent_in l) p
+
+-- the pulse may be told to stop: no stop waits for its halt, and where there was one before, a piece was published since
+abbrev pub MayStop : PortLog → Type 0
+MayStop l = ring.MayStop (sent_in l)
+
+-- it may be looked for a halt: a stop waits for it
+abbrev pub MayAskHalt : PortLog → Type 0
+MayAskHalt l = (sent_in l).waits ≡ true
 
 -- ---- what a port promises
 
@@ -218,11 +252,11 @@ LacksReplyRoom l = reply_room ≤ length (answered_in l)
 -- a piece is handed back, while so many ticks are done, only if five pieces are unfinished
 pub record LacksPieceRoom (done : ℕ) (l : PortLog) : Type 0 where
   pub later : known_in l ≤ done
-  pub full : unfinished (published_in l) done ≡ most_unfinished
+  pub full : ring.unfinished_in (sent_in l) done ≡ most_unfinished
 
--- So many ticks may be found done: no fewer than before, and no more than those of the published pieces, so that
--- nothing is done before it is published. At most five pieces are unfinished then.
+-- So many ticks may be found done: no fewer than before, and no more than the ticks published, so that nothing is done before it is
+-- published. At most five pieces are unfinished then. It is so at a halt, too, from which on all pieces are finished.
 pub record MayBeDone (done : ℕ) (l : PortLog) : Type 0 where
   pub later : known_in l ≤ done
-  pub below : done ≤ ticks_together (published_in l)
-  pub few : unfinished (published_in l) done ≤ most_unfinished
+  pub below : done ≤ ring.ticks_published (sent_in l)
+  pub few : ring.unfinished_in (sent_in l) done ≤ most_unfinished

@@ -57,7 +57,7 @@ ghost use Rattle.board_rules.specs.Cuts.{
   pending,
   cancel_words_in,
 };
-ghost use Rattle.board_rules.specs.Ports.{MayAnswer, has_held_in, has_slowed_in, has_changed_in, reports_in};
+ghost use Rattle.board_rules.specs.Ports.{MayAnswer, MayPublish, MayBeDone, sent_in, unstopped, has_held_in, has_slowed_in, has_changed_in, reports_in};
 ghost use Rattle.board_rules.specs.Whole.{course_of};
 ghost use Rattle.run_rules.specs.Reports.{Reported};
 ghost use Rattle.board_rules.specs.Ports.PortStep.{answered, took_exec, reported, published};
@@ -397,4 +397,13 @@ pub fn runs_begin_from_an_opening()
     ensures machine { (state : State) (ps : List AnyPiece) (done : ℕ) → machine_from (first_opening state).place ps done ≡ machine_at ps done }
     ensures free { (state : State) (h : Journal) → IsLocked (first_opening state) h → ⊥ }
     ensures told { (state : State) (outcomes : List Outcome) → replies_after (first_opening state).tells outcomes ≡ replies_in outcomes }
+{}
+
+/// A journal tells the pulse of no stop and finds no halt: what went to it are the pieces that were published, and the ticks
+/// published are those of these. So more may be published, and done, as long as their ticks allow it; a reset's work, behind a
+/// journal, has stops and halts of its own.
+pub fn journals_tell_of_no_stop()
+    ensures sent { (first : Opening) (h : Journal) → Conducted first h → sent_in (port_log h) ≡ unstopped (reverse (published_of h)) }
+    ensures piece { (first : Opening) (h : Journal) (p : AnyPiece) → Conducted first h → IsInHand p h → MayPublish (port_log h) p }
+    ensures done { (first : Opening) (h : Journal) (n : ℕ) → Conducted first h → MayBeDone n (port_log h) → n ≤ ticks_published h }
 {}

@@ -1,9 +1,9 @@
 //! The port of a board.
 
-ghost use Rattle.std.specs.Prelude.{◌≡◌, ℕ, ◌∷◌, ◌≤◌, true, OnOk, OnErr, IfErr};
-ghost use Rattle.board_rules.specs.Ports.{PortLog, MayAnswer, MayPublish, MayBeDone, said, IsMarkedPast, HasTakenFew, HasFewReports, LacksReplyRoom, LacksPieceRoom, asks_report};
+ghost use Rattle.std.specs.Prelude.{◌≡◌, ℕ, ◌∷◌, ◌≤◌, true, OnOk, OnErr, IfErr, IfSome, IfNone};
+ghost use Rattle.board_rules.specs.Ports.{PortLog, MayAnswer, MayPublish, MayStop, MayAskHalt, MayBeDone, said, IsMarkedPast, HasTakenFew, HasFewReports, LacksReplyRoom, LacksPieceRoom, asks_report};
 ghost use Rattle.status_report.specs.Answering.{receive_room};
-ghost use Rattle.board_rules.specs.Ports.PortStep.{took, found_empty, found_closed, found_free, found_mark, no_reply_room, took_exec, took_ovr, published, no_piece_room, loaded};
+ghost use Rattle.board_rules.specs.Ports.PortStep.{took, found_empty, found_closed, found_free, found_mark, no_reply_room, took_exec, took_ovr, published, no_piece_room, loaded, stored_stop, found_no_halt, found_halt};
 
 use code_table::{Exec, Ovr};
 use serial_ring::ByteIn;
@@ -56,8 +56,9 @@ pub trait BoardPort {
     fn take_override(&mut self) -> Ovr
         ensures { (rest : Rest) (l : PortLog) → stands self.old rest l → stands self.new rest (took_ovr result ∷ l) };
 
-    /// Publishes a piece, or hands it back if five pieces are unfinished. It must come next after the published
-    /// ones, with fewer than 2^62 ticks in all.
+    /// Publishes a piece, or hands it back if five pieces are unfinished. It must come next after those published since the last
+    /// halt, with fewer than 2^62 ticks published in all, and fewer than 2^62 pieces before it; no stop waits for its halt, and
+    /// no end was published.
     fn publish(&mut self, p: Piece) -> Result<(), Piece>
         requires { (rest : Rest) × (l : PortLog) × stands self.old rest l × MayPublish l p }
         ensures ok { OnOk result ((rest : Rest) (l : PortLog) → stands self.old rest l → MayPublish l p → stands self.new rest (published p ∷ l)) }
@@ -69,4 +70,17 @@ pub trait BoardPort {
     fn done(&mut self) -> u64
         ensures done { (rest : Rest) (l : PortLog) → stands self.old rest l → stands self.new rest (loaded result ∷ l) }
         ensures known { (rest : Rest) (l : PortLog) → stands self.old rest l → MayBeDone result l };
+
+    /// Tells the pulse to stop behind all that was published. No stop waits for its halt, and where there was one before, a piece
+    /// was published since.
+    fn stop(&mut self)
+        requires { (rest : Rest) × (l : PortLog) × stands self.old rest l × MayStop l }
+        ensures { (rest : Rest) (l : PortLog) → stands self.old rest l → MayStop l → stands self.new rest (stored_stop ∷ l) };
+
+    /// How many ticks are done, once the pulse has halted at the stop that waits: no fewer than were known, and no more than were
+    /// published. All pieces are finished from then on, and the ticks published are those that are done.
+    fn halted(&mut self) -> Option<u64>
+        requires { (rest : Rest) × (l : PortLog) × stands self.old rest l × MayAskHalt l }
+        ensures some { IfSome result (λ done. (rest : Rest) (l : PortLog) → stands self.old rest l → MayAskHalt l → stands self.new rest (found_halt done ∷ l) × MayBeDone done l) }
+        ensures none { IfNone result ((rest : Rest) (l : PortLog) → stands self.old rest l → MayAskHalt l → stands self.new rest (found_no_halt ∷ l)) };
 }

@@ -26,8 +26,7 @@ use Rattle.board_rules.specs.Steps.{Journal, port_log, has_limited, left_of, han
 use Rattle.board_rules.specs.Turns.{is_due, has_segment, is_going, begins_in, halts_next, is_counted, is_halting, is_limited, tries_of}
 use Rattle.board_rules.specs.Conduct.{IsNextTask, IsInHand}
 use Rattle.board_rules.proofs.Keeping.{run_is}
-use Rattle.board_rules.proofs.Ending.{next_turns}
-use Rattle.board_rules.proofs.Limits.{few_given, few_next}
+use Rattle.board_rules.proofs.Limits.{few_given, may_publish_next}
 use Rattle.board_rules.proofs.Greeting.{may_answer as may_answer_next}
 use Rattle.controller.specs.declared.controller.Controller.{Controller}
 use Rattle.controller.specs.Boards.{Keeps}
@@ -144,7 +143,7 @@ same_overrides first c h k = ap (λ (p : Planned). p.overrides) k.machine.plan_i
 pub may_publish : (first : Opening) (c : Controller) (h : Journal) (p : Piece) → Keeps first c h → hand_of h ≡ p ∷ [] → MayPublish (port_log h) p
 may_publish first c h p k is =
     let next : IsInHand p h = is ∙ ap (λ (ps : List Piece). p ∷ drop 1 ps) (sym is) in
-    record { next = next_turns first h p k.conducted next; few = few_next first h p k.conducted next }
+    may_publish_next first h p k.conducted next
 
 -- the reply that is next may be answered
 pub may_answer : (first : Opening) (c : Controller) (h : Journal) (r : Reply) → Keeps first c h → IsNextTask first (tell r) h → IsReply r → MayAnswer (port_log h) r

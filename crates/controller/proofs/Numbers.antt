@@ -5,7 +5,7 @@ use Rattle.feed_hold.specs.declared.Motion.TheVariants as motions
 use Rattle.board_rules.specs.Openings.{Opening}
 use Rattle.run_rules.specs.Work.{pauses}
 use Rattle.run_rules.proofs.Pausing.{pauses_once}
-use Rattle.board_rules.specs.Ports.PortStep.{took, found_empty, found_closed, found_free, found_mark, answered, reported, no_reply_room, took_exec, took_ovr, published, no_piece_room, loaded}
+use Rattle.board_rules.specs.Ports.PortStep.{took, found_empty, found_closed, found_free, found_mark, answered, reported, no_reply_room, took_exec, took_ovr, published, no_piece_room, loaded, stored_stop, found_no_halt, found_halt}
 use Rattle.board_rules.specs.Steps.{Journal, open_of, left_of, closed_tells, motion_of}
 use Rattle.board_rules.specs.Steps.Step.{at_port, began, did, made_end, evened, paused, became, cut, halted, closing, turned}
 use Rattle.board_rules.specs.Cuts.{has_cut}
@@ -31,6 +31,9 @@ pause_once first (at_port found_empty ∷ h) c = pause_once first h c.1
 pause_once first (at_port found_closed ∷ h) c = pause_once first h c.1
 pause_once first (at_port (found_free n) ∷ h) c = pause_once first h c.1
 pause_once first (at_port (found_mark number bytes) ∷ h) c = pause_once first h c.1
+pause_once first (at_port stored_stop ∷ h) c = absurd c.0
+pause_once first (at_port found_no_halt ∷ h) c = absurd c.0
+pause_once first (at_port (found_halt done) ∷ h) c = absurd c.0
 pause_once first (at_port (answered r) ∷ h) c = less_too _ _ (fewer_pauses (left_of first h)) (pause_once first h c.1)
 pause_once first (at_port (reported r) ∷ h) c = pause_once first h c.1
 pause_once first (at_port no_reply_room ∷ h) c = pause_once first h c.1

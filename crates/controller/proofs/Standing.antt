@@ -25,6 +25,7 @@ use Rattle.board_rules.specs.Turns.{has_blocks, has_segment, is_full, is_due, is
 use Rattle.board_rules.specs.Conduct.{IsDrained, AreWaiting, ticks_given, ticks_published}
 use Rattle.board_rules.proofs.Given.{published_within}
 use Rattle.board_rules.proofs.Keeping.{hand_is}
+use Rattle.board_rules.proofs.Unstopped.{done_within}
 use Rattle.controller.specs.declared.controller.Controller.{Controller}
 use Rattle.controller.specs.declared.controller.Beat.TheVariants.{Motion as MotionBeat}
 use Rattle.controller.specs.declared.controller.Flags.TheVariants as flags
@@ -158,7 +159,7 @@ has_piece_by_blocks first b h k may some = inr (due_where_awaited first h (goes_
 -- the ticks that are found done are all, where they aren't fewer than were given
 pub done_all : (first : Opening) (b : Controller) (h : Journal) (done : ℕ) → Keeps first b h → MayBeDone done (port_log h) → b.machine.given ≤ done → done ≡ b.machine.given
 done_all first b h done k may least =
-    let high : done ≤ ticks_published h = may.below in
+    let high : done ≤ ticks_published h = done_within first h done k.conducted may in
     let within = published_within first h k.conducted in
     let given : b.machine.given ≡ ticks_given h = k.machine.given_is in
     omega (arith, least, high, within, given)

@@ -3,6 +3,7 @@ use Rattle.board_rules.specs.Ports.PortStep.{loaded}
 use Rattle.board_rules.specs.Steps.{port_log}
 use Rattle.board_rules.specs.Steps.Step.{at_port}
 use Rattle.controller.proofs.Known.{in_hand}
+use Rattle.controller.proofs.Flying.{room_learned}
 use Rattle.controller.proofs.Settling.{looked_learned}
 use Rattle.board_rules.proofs.CutMarks.{other_timely, timely_looked}
 use Rattle.controller.proofs.controller.Controller.look_before.Goals as goal
@@ -20,6 +21,11 @@ returns-then-needs_look-clause-goes_on g c = λ rest first h stands k.
       inr (done, refl),
       timely_looked first p done h (may, k.conducted) (in_hand first s h p k c.requires.hand),
     )
+
+pub returns-then-needs_look-clause-room : goal.returns-then-needs_look-clause-room
+returns-then-needs_look-clause-room g c =
+    let q = c.requires.stands in
+    room_learned q.1 c.args.self.now c.learn.new.self q.2 c.done-done.result q.4 (c.done-done.ensures.known q.0 (port_log q.2) q.3) c.learn.ensures.room
 
 pub returns-else-needs_look-clause-goes_on : goal.returns-else-needs_look-clause-goes_on
 returns-else-needs_look-clause-goes_on g c = λ rest first h stands k. (h, stands, k, inl refl, other_timely c.args.piece h (c.needs_look.ensures c.if-needs_look.false).1)

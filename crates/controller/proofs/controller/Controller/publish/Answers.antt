@@ -28,7 +28,7 @@ push-requires-clause-fits g c =
     let r = c.requires.stands in let first = r.1 in let s = c.look_before.new.self in let p = c.in-Some.piece in
     let m = c.look_before.ensures.goes_on r.0 first r.2 r.3 r.4 in
     let hand = ap (λ (b : Controller). b.machine.hand) c.look_before.ensures.same ∙ c.in-Some.is in
-    fits_next p m.0 (may_publish first s m.0 p m.2 (in_hand first s m.0 p m.2 hand)).next
+    fits_next p m.0 (may_publish first s m.0 p m.2 (in_hand first s m.0 p m.2 hand))
 
 pub returns-clause-goes_on : goal.returns-clause-goes_on
 returns-clause-goes_on g c = λ rest first h stands k.

@@ -1,0 +1,107 @@
+-- What went to the pulse, by a board's log: all pieces that were published; and since the beginning where the log has no stop, as a
+-- journal's has none.
+use Rattle.std.proofs.Common.{◌≡◌, ℕ, ◌+◌, ◌-◌, ◌^◌, ◌<◌, ◌≤◌, List, [], ◌∷◌, ◌++◌, length, reverse, refl, sym, ap, ◌∙◌, subst, arith, append-nil}
+use Rattle.std.proofs.lemmas.Grind.{reverse_onto}
+use Rattle.std.proofs.lemmas.List.{reverse-append, reverse-reverse}
+use Rattle.step_line.specs.declared.Piece.{Piece}
+use Rattle.step_line.specs.Finishing.{tick_count, ticks_together, unfinished, most_unfinished}
+use Rattle.step_line.specs.Ordering.{ComesNext, InTurn, has_ended}
+use Rattle.motion_ring.specs.declared.lists.Sent.{Sent}
+use Rattle.motion_ring.specs.Sides as ring
+use Rattle.motion_ring.proofs.Ticks.{together_reversed, few_pieces}
+use Rattle.run_rules.specs.declared.State.{State}
+use Rattle.board_rules.specs.Openings.{Opening, first_opening}
+use Rattle.board_rules.specs.Ports.{PortLog, published_in, sent_in, unstopped, MayPublish, MayBeDone}
+use Rattle.board_rules.specs.Ports.PortStep.{answered, no_reply_room, published, no_piece_room, stored_stop, found_halt}
+use Rattle.board_rules.specs.Steps.{Journal, port_log, published_of}
+use Rattle.board_rules.specs.Steps.Step.{at_port, turned}
+use Rattle.board_rules.specs.Conduct.{Conducted, ticks_published}
+use Rattle.board_rules.specs.Breaking.{Doings, EndsRun, IsConducted, log_of}
+use Rattle.board_rules.specs.Breaking.Doings.{goes, broke}
+
+-- what was published is what went to the pulse, up to a halt and since
+pub published_back : (l : PortLog) → published_in l ≡ reverse (ring.published_in (sent_in l))
+published_back [] = refl
+published_back (published p ∷ l) = ap (λ (ps : List Piece). ps ++ p ∷ []) (published_back l) ∙ sym (reverse_onto (ring.published_in (sent_in l)) p [])
+published_back (_ ∷ l) = published_back l
+
+-- no stop was stored, and no halt found
+abbrev pub NeverStops : PortLog → Type 0
+NeverStops [] = Unit {0}
+NeverStops (stored_stop ∷ l) = ⊥
+NeverStops (found_halt n ∷ l) = ⊥
+NeverStops (_ ∷ l) = NeverStops l
+
+pub journals_never_stop : (first : Opening) (h : Journal) → Conducted first h → NeverStops (port_log h)
+journals_never_stop first [] c = tt
+journals_never_stop first (at_port stored_stop ∷ h) c = c.0
+journals_never_stop first (at_port (found_halt n) ∷ h) c = c.0
+journals_never_stop first (_ ∷ h) c = journals_never_stop first h c.1
+
+-- nor after a reset that ends the run
+ends_never_stop : (since before : Journal) → EndsRun since before → NeverStops (port_log before) → NeverStops (port_log since ++ port_log before)
+ends_never_stop [] before c n = n
+ends_never_stop (at_port (published p) ∷ since) before c n = ends_never_stop since before c.1 n
+ends_never_stop (at_port (no_piece_room done) ∷ since) before c n = ends_never_stop since before c.1 n
+ends_never_stop (at_port (answered r) ∷ since) before c n = ends_never_stop since before c.1 n
+ends_never_stop (at_port no_reply_room ∷ since) before c n = ends_never_stop since before c.1 n
+ends_never_stop (turned t ∷ since) before c n = ends_never_stop since before c.1 n
+ends_never_stop (_ ∷ since) before c n = absurd c.0
+
+pub ended_never_stop : (first : Opening) (since before : Journal) → Conducted first before → EndsRun since before → NeverStops (port_log since ++ port_log before)
+ended_never_stop first since before c ends = ends_never_stop since before ends (journals_never_stop first before c)
+
+pub boards_never_stop : (first : State) (d : Doings) → IsConducted first d → NeverStops (log_of d)
+boards_never_stop first (goes h) c = journals_never_stop (first_opening first) h c
+boards_never_stop first (broke since before) c = ended_never_stop (first_opening first) since before c.0 c.2
+
+-- ---- what went to the pulse then
+
+pub sent_alone : (l : PortLog) → NeverStops l → sent_in l ≡ unstopped (reverse (published_in l))
+sent_alone [] n = refl
+sent_alone (published p ∷ l) n = ap (λ (s : Sent). ring.with_piece s p) (sent_alone l n) ∙ ap unstopped (sym (reverse-append (published_in l) (p ∷ [])))
+sent_alone (stored_stop ∷ l) n = absurd n
+sent_alone (found_halt done ∷ l) n = absurd n
+sent_alone (_ ∷ l) n = sent_alone l n
+
+same_ticks : (l : PortLog) → NeverStops l → ring.ticks_published (sent_in l) ≡ ticks_together (published_in l)
+same_ticks l n = let e = ap ring.ticks_published (sent_alone l n) in let t = together_reversed (published_in l) in omega arith
+
+same_unfinished : (l : PortLog) (done : ℕ) → NeverStops l → ring.unfinished_in (sent_in l) done ≡ unfinished (published_in l) done
+same_unfinished l done n =
+    let all : done - 0 ≡ done = omega arith in
+    ap (λ (s : Sent). ring.unfinished_in s done) (sent_alone l n) ∙ (λ i. unfinished (reverse-reverse (published_in l) i) (all i))
+
+-- pieces behind what went to it before
+abbrev pub onward : List Piece → Sent → Sent
+onward ps s = record s { since = ps ++ s.since }
+
+-- what is done behind a log, with no stop, only adds pieces to those that were published since its last halt
+pub sent_onward : (l before : PortLog) → NeverStops l → sent_in (l ++ before) ≡ onward (reverse (published_in l)) (sent_in before)
+sent_onward [] before n = refl
+sent_onward (published p ∷ l) before n =
+    ap (λ (s : Sent). ring.with_piece s p) (sent_onward l before n) ∙ ap (λ (ps : List Piece). onward ps (sent_in before)) (sym (reverse-append (published_in l) (p ∷ [])))
+sent_onward (stored_stop ∷ l) before n = absurd n
+sent_onward (found_halt done ∷ l) before n = absurd n
+sent_onward (_ ∷ l) before n = sent_onward l before n
+
+-- a piece may be published that comes next of all pieces
+pub may_publish_alone : (l : PortLog) (p : Piece) → NeverStops l → InTurn (reverse (published_in l)) → ComesNext (reverse (published_in l)) p → ticks_together (published_in l) + tick_count p < 2 ^ 62 → MayPublish l p
+may_publish_alone l p n turns next few =
+    let all = append-nil (reverse (published_in l)) in
+    let t = together_reversed (published_in l) in
+    subst (λ (s : Sent). ring.MayPublish s p) (sym (sent_alone l n)) (record {
+      running = refl;
+      going = ap has_ended all ∙ next.going;
+      follows = next.follows;
+      few = omega arith;
+      room = (let m = few_pieces (reverse (published_in l)) turns next.going in let e = ap length all in omega arith);
+    })
+
+-- no more is found done than is published
+pub done_within : (first : Opening) (h : Journal) (n : ℕ) → Conducted first h → MayBeDone n (port_log h) → n ≤ ticks_published h
+done_within first h n c may = let b = may.below in let s = same_ticks (port_log h) (journals_never_stop first h c) in omega arith
+
+-- five pieces are unfinished where that is found
+pub unfinished_there : (first : Opening) (h : Journal) (done : ℕ) → Conducted first h → ring.unfinished_in (sent_in (port_log h)) done ≡ most_unfinished → unfinished (published_of h) done ≡ most_unfinished
+unfinished_there first h done c full = sym (same_unfinished (port_log h) done (journals_never_stop first h c)) ∙ full
