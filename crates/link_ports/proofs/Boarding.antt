@@ -1,15 +1,12 @@
 -- What a board's log says through each call.
-use Rattle.std.proofs.Common.{◌≡◌, ℕ, ◌+◌, ◌-◌, ◌/◌, ◌^◌, ◌≤◌, ◌<◌, Bool, true, false, cond, nat_eq, List, [], ◌∷◌, length, reverse, refl, sym, ap, ◌∙◌, subst, arith}
+use Rattle.std.proofs.Common.{◌≡◌, ℕ, ◌+◌, ◌-◌, ◌/◌, ◌^◌, ◌≤◌, ◌<◌, Bool, true, false, cond, nat_eq, List, [], ◌∷◌, length, refl, sym, ap, ◌∙◌, subst, arith}
 use Rattle.std.specs.Int.Bits.{bit_and}
-use Rattle.std.proofs.lemmas.List.{append-nil, reverse-append, reverse-reverse}
 use Rattle.std.proofs.lemmas.Nat.Bits.{shr_and_one}
 use Rattle.code_table.specs.declared.flags.Exec.{Exec}
 use Rattle.code_table.specs.declared.flags.Ovr.{Ovr}
 use Rattle.code_table.specs.Flags.{exec_bits}
 use Rattle.status_report.specs.declared.Reply.{Reply}
 use Rattle.step_line.specs.declared.Piece.{Piece}
-use Rattle.step_line.specs.Ordering.{ComesNext, InTurn, has_ended}
-use Rattle.step_line.specs.Finishing.{ticks_together, unfinished}
 use Rattle.realtime_flags.specs.declared.words.Take.{Take}
 use Rattle.realtime_flags.specs.declared.words.Take.TheVariants as words
 use Rattle.realtime_flags.specs.Bits.{report_flag, stood_in, counted, takes_with}
@@ -20,29 +17,21 @@ use Rattle.serial_ring.specs.Logs as link
 use Rattle.board_rules.proofs.LinkSteps.{same_taken, same_answered}
 use Rattle.motion_ring.specs.declared.lists.Sent.{Sent}
 use Rattle.motion_ring.specs.Sides as ring
-use Rattle.motion_ring.specs.Sides.{ticks_published, unfinished_in, with_piece}
+use Rattle.motion_ring.specs.Sides.{ticks_published, unfinished_in, with_piece, with_stop, with_halt}
 use Rattle.motion_ring.specs.Rule.{none_sent}
-use Rattle.motion_ring.proofs.Ticks.{together_reversed, few_pieces}
-use Rattle.board_rules.specs.Ports.{PortLog, said, taken_in, link_steps, asks_report, reports_in, published_in, MayAnswer, IsMarkedPast, MayPublish, HasTakenFew, HasFewReports, LacksReplyRoom, LacksPieceRoom, MayBeDone}
-use Rattle.board_rules.specs.Ports.PortStep.{took, found_empty, found_closed, found_free, found_mark, answered, reported, no_reply_room, took_exec, took_ovr, published, no_piece_room, loaded}
+use Rattle.board_rules.specs.Ports.{PortLog, said, taken_in, link_steps, asks_report, reports_in, MayAnswer, IsMarkedPast, MayPublish, MayStop, MayAskHalt, HasTakenFew, HasFewReports, LacksReplyRoom, LacksPieceRoom, MayBeDone}
+use Rattle.board_rules.specs.Ports.PortStep.{took, found_empty, found_closed, found_free, found_mark, answered, no_reply_room, took_exec, took_ovr, published, no_piece_room, loaded, stored_stop, found_no_halt, found_halt}
 use Rattle.link_ports.specs.Loads.{FoundNoByte}
 use Rattle.board_rules.specs.Takes.{takes_in}
 use Rattle.link_ports.specs.Boards.{BoardDid, LooksForBytes}
 use Rattle.link_ports.proofs.Lists.{by_said}
-
--- these pieces, and no stop
-abbrev since_alone : List Piece → Sent
-since_alone ps = record { older = []; since = ps; stops = []; halts = []; waits = false }
-
-newest_first : (l : PortLog) (p : Piece) → reverse (published_in (published p ∷ l)) ≡ p ∷ reverse (published_in l)
-newest_first l p = reverse-append (published_in l) (p ∷ [])
 
 -- a port that stands for a reply stands for what it is to answer with it
 as_said : (steps : List LinkStep) (over : Bool) (takes : List Take) (sent : Sent) (known : ℕ) (l : PortLog) (r : Reply)
     → BoardDid steps over takes sent known (answered r ∷ l) → BoardDid steps over takes sent known (said r ∷ l)
 as_said steps over takes sent known l = by_said (λ r e. BoardDid steps over takes sent known (answered r ∷ l) → BoardDid steps over takes sent known (e ∷ l))
     (λ r d. d)
-    (λ p d. record { steps_are = d.steps_are; over_is = d.over_is; takes_are = d.takes_are; pieces_are = d.pieces_are; turns = d.turns; known_is = d.known_is })
+    (λ p d. record { steps_are = d.steps_are; over_is = d.over_is; takes_are = d.takes_are; pieces_are = d.pieces_are; known_is = d.known_is })
 
 module _ (steps steps' : List LinkStep) (over over' : Bool) (takes : List Take) (sent : Sent) (known : ℕ) (l : PortLog) (d : BoardDid steps over takes sent known l) where
   count : length (taken_in l) ≡ length (link.taken_in steps)
@@ -66,26 +55,26 @@ module _ (steps steps' : List LinkStep) (over over' : Bool) (takes : List Take) 
     looks_at_room n anew free = (k, s, looks, anew, (let c = count in omega arith))
 
   pub byte_taken : (b : ℕ) → steps' ≡ Took b ∷ steps → (over ≡ true → over' ≡ true) → BoardDid steps' over' takes sent known (took b ∷ l)
-  byte_taken b e o = record { steps_are = ap (λ (z : List LinkStep). Took b ∷ z) d.steps_are ∙ sym e; over_is = λ c. o (d.over_is c); takes_are = d.takes_are; pieces_are = d.pieces_are; turns = d.turns; known_is = d.known_is }
+  byte_taken b e o = record { steps_are = ap (λ (z : List LinkStep). Took b ∷ z) d.steps_are ∙ sym e; over_is = λ c. o (d.over_is c); takes_are = d.takes_are; pieces_are = d.pieces_are; known_is = d.known_is }
 
   pub nothing_found : steps' ≡ steps → (over ≡ true → over' ≡ true) → BoardDid steps' over' takes sent known (found_empty ∷ l)
-  nothing_found e o = record { steps_are = d.steps_are ∙ sym e; over_is = λ c. o (d.over_is c); takes_are = d.takes_are; pieces_are = d.pieces_are; turns = d.turns; known_is = d.known_is }
+  nothing_found e o = record { steps_are = d.steps_are ∙ sym e; over_is = λ c. o (d.over_is c); takes_are = d.takes_are; pieces_are = d.pieces_are; known_is = d.known_is }
 
   pub end_found : steps' ≡ steps → over' ≡ true → BoardDid steps' over' takes sent known (found_closed ∷ l)
-  end_found e o = record { steps_are = d.steps_are ∙ sym e; over_is = λ c. o; takes_are = d.takes_are; pieces_are = d.pieces_are; turns = d.turns; known_is = d.known_is }
+  end_found e o = record { steps_are = d.steps_are ∙ sym e; over_is = λ c. o; takes_are = d.takes_are; pieces_are = d.pieces_are; known_is = d.known_is }
 
   pub room_found : (n : ℕ) → steps' ≡ steps → (over ≡ true → over' ≡ true) → BoardDid steps' over' takes sent known (found_free n ∷ l)
-  room_found n e o = record { steps_are = d.steps_are ∙ sym e; over_is = λ c. o (d.over_is c); takes_are = d.takes_are; pieces_are = d.pieces_are; turns = d.turns; known_is = d.known_is }
+  room_found n e o = record { steps_are = d.steps_are ∙ sym e; over_is = λ c. o (d.over_is c); takes_are = d.takes_are; pieces_are = d.pieces_are; known_is = d.known_is }
 
   pub mark_found : (number before : ℕ) → steps' ≡ Marked number before ∷ steps → over' ≡ over → BoardDid steps' over' takes sent known (found_mark number before ∷ l)
-  mark_found number before e o = record { steps_are = ap (λ (z : List LinkStep). Marked number before ∷ z) d.steps_are ∙ sym e; over_is = λ c. o ∙ d.over_is c; takes_are = d.takes_are; pieces_are = d.pieces_are; turns = d.turns; known_is = d.known_is }
+  mark_found number before e o = record { steps_are = ap (λ (z : List LinkStep). Marked number before ∷ z) d.steps_are ∙ sym e; over_is = λ c. o ∙ d.over_is c; takes_are = d.takes_are; pieces_are = d.pieces_are; known_is = d.known_is }
 
   pub reply_answered : (r : Reply) → steps' ≡ Answered r ∷ steps → over' ≡ over → BoardDid steps' over' takes sent known (said r ∷ l)
   reply_answered r e o = as_said steps' over' takes sent known l r
-      (record { steps_are = ap (λ (z : List LinkStep). Answered r ∷ z) d.steps_are ∙ sym e; over_is = λ c. o ∙ d.over_is c; takes_are = d.takes_are; pieces_are = d.pieces_are; turns = d.turns; known_is = d.known_is })
+      (record { steps_are = ap (λ (z : List LinkStep). Answered r ∷ z) d.steps_are ∙ sym e; over_is = λ c. o ∙ d.over_is c; takes_are = d.takes_are; pieces_are = d.pieces_are; known_is = d.known_is })
 
   pub reply_refused : steps' ≡ steps → over' ≡ over → BoardDid steps' over' takes sent known (no_reply_room ∷ l)
-  reply_refused e o = record { steps_are = d.steps_are ∙ sym e; over_is = λ c. o ∙ d.over_is c; takes_are = d.takes_are; pieces_are = d.pieces_are; turns = d.turns; known_is = d.known_is }
+  reply_refused e o = record { steps_are = d.steps_are ∙ sym e; over_is = λ c. o ∙ d.over_is c; takes_are = d.takes_are; pieces_are = d.pieces_are; known_is = d.known_is }
 
 -- whether a word asks for a report is whether the flag stands in it
 asked : (word : Exec) → asks_report word ≡ stood_in report_flag (words.Exec word)
@@ -93,19 +82,8 @@ asked word = ap (λ n. nat_eq n 1) (ap (λ n. bit_and n 1) (let e : exec_bits wo
 
 pub reports_taken : (l : PortLog) → takes_with report_flag (takes_in l) ≡ reports_in l
 reports_taken [] = refl
-reports_taken (took b ∷ l) = reports_taken l
-reports_taken (found_empty ∷ l) = reports_taken l
-reports_taken (found_closed ∷ l) = reports_taken l
-reports_taken (found_free n ∷ l) = reports_taken l
-reports_taken (found_mark number bytes ∷ l) = reports_taken l
-reports_taken (answered r ∷ l) = reports_taken l
-reports_taken (reported p ∷ l) = reports_taken l
-reports_taken (no_reply_room ∷ l) = reports_taken l
 reports_taken (took_exec word ∷ l) = ap (λ n. counted (stood_in report_flag (words.Exec word)) n) (reports_taken l) ∙ ap (λ b. cond b (reports_in l + 1) (reports_in l)) (sym (asked word))
-reports_taken (took_ovr word ∷ l) = reports_taken l
-reports_taken (published p ∷ l) = reports_taken l
-reports_taken (no_piece_room n ∷ l) = reports_taken l
-reports_taken (loaded n ∷ l) = reports_taken l
+reports_taken (_ ∷ l) = reports_taken l
 
 counts_it : (b : Bool) (n m : ℕ) → b ≡ true → counted b n ≤ m → n < m
 counts_it true n m is le = omega arith
@@ -113,26 +91,34 @@ counts_it false n m is le = absurd cc
 
 module _ (steps : List LinkStep) (over : Bool) (takes takes' : List Take) (sent sent' : Sent) (known known' : ℕ) (l : PortLog) (d : BoardDid steps over takes sent known l) where
   pub exec_taken : (word : Exec) → takes' ≡ words.Exec word ∷ takes → BoardDid steps over takes' sent known (took_exec word ∷ l)
-  exec_taken word e = record { steps_are = d.steps_are; over_is = d.over_is; takes_are = ap (λ (z : List Take). words.Exec word ∷ z) d.takes_are ∙ sym e; pieces_are = d.pieces_are; turns = d.turns; known_is = d.known_is }
+  exec_taken word e = record { steps_are = d.steps_are; over_is = d.over_is; takes_are = ap (λ (z : List Take). words.Exec word ∷ z) d.takes_are ∙ sym e; pieces_are = d.pieces_are; known_is = d.known_is }
 
   pub override_taken : (word : Ovr) → takes' ≡ words.Override word ∷ takes → BoardDid steps over takes' sent known (took_ovr word ∷ l)
-  override_taken word e = record { steps_are = d.steps_are; over_is = d.over_is; takes_are = ap (λ (z : List Take). words.Override word ∷ z) d.takes_are ∙ sym e; pieces_are = d.pieces_are; turns = d.turns; known_is = d.known_is }
+  override_taken word e = record { steps_are = d.steps_are; over_is = d.over_is; takes_are = ap (λ (z : List Take). words.Override word ∷ z) d.takes_are ∙ sym e; pieces_are = d.pieces_are; known_is = d.known_is }
 
-  pub piece_published : (p : Piece) → ComesNext (reverse (published_in l)) p → sent' ≡ with_piece sent p → known ≤ known' → BoardDid steps over takes sent' known' (published p ∷ l)
-  piece_published p next e more = record {
+  pub piece_published : (p : Piece) → sent' ≡ with_piece sent p → known ≤ known' → BoardDid steps over takes sent' known' (published p ∷ l)
+  piece_published p e more = record {
     steps_are = d.steps_are;
     over_is = d.over_is;
     takes_are = d.takes_are;
-    pieces_are = e ∙ (ap (λ (s : Sent). with_piece s p) d.pieces_are ∙ ap since_alone (sym (newest_first l p)));
-    turns = subst InTurn (sym (newest_first l p)) (next, d.turns);
+    pieces_are = e ∙ ap (λ (s : Sent). with_piece s p) d.pieces_are;
     known_is = (let k = d.known_is in omega arith);
   }
 
+  pub stop_told : sent' ≡ with_stop sent → known' ≡ known → BoardDid steps over takes sent' known' (stored_stop ∷ l)
+  stop_told e same = record { steps_are = d.steps_are; over_is = d.over_is; takes_are = d.takes_are; pieces_are = e ∙ ap with_stop d.pieces_are; known_is = (let k = d.known_is in omega arith) }
+
+  pub none_halted : sent' ≡ sent → known' ≡ known → BoardDid steps over takes sent' known' (found_no_halt ∷ l)
+  none_halted e same = record { steps_are = d.steps_are; over_is = d.over_is; takes_are = d.takes_are; pieces_are = e ∙ d.pieces_are; known_is = (let k = d.known_is in omega arith) }
+
+  pub halt_found : (n : ℕ) → sent' ≡ with_halt sent n → known' ≡ n → BoardDid steps over takes sent' known' (found_halt n ∷ l)
+  halt_found n e is = record { steps_are = d.steps_are; over_is = d.over_is; takes_are = d.takes_are; pieces_are = e ∙ ap (λ (s : Sent). with_halt s n) d.pieces_are; known_is = omega arith }
+
   pub piece_refused : (n : ℕ) → sent' ≡ sent → known ≤ known' → BoardDid steps over takes sent' known' (no_piece_room n ∷ l)
-  piece_refused n e more = record { steps_are = d.steps_are; over_is = d.over_is; takes_are = d.takes_are; pieces_are = e ∙ d.pieces_are; turns = d.turns; known_is = (let k = d.known_is in omega arith) }
+  piece_refused n e more = record { steps_are = d.steps_are; over_is = d.over_is; takes_are = d.takes_are; pieces_are = e ∙ d.pieces_are; known_is = (let k = d.known_is in omega arith) }
 
   pub done_loaded : (n : ℕ) → sent' ≡ sent → n ≡ known' → BoardDid steps over takes sent' known' (loaded n ∷ l)
-  done_loaded n e is = record { steps_are = d.steps_are; over_is = d.over_is; takes_are = d.takes_are; pieces_are = e ∙ d.pieces_are; turns = d.turns; known_is = omega arith }
+  done_loaded n e is = record { steps_are = d.steps_are; over_is = d.over_is; takes_are = d.takes_are; pieces_are = e ∙ d.pieces_are; known_is = omega arith }
 
   -- what is known of a moment
   pub has_taken_few : length (link.taken_in steps) < 2 ^ 31 → HasTakenFew l
@@ -152,31 +138,23 @@ module _ (steps : List LinkStep) (over : Bool) (takes takes' : List Take) (sent 
       let lt = counts_it (stood_in report_flag (words.Exec word)) (takes_with report_flag takes) (2 ^ 31) (sym (asked word) ∙ asks) (subst (λ n. n ≤ 2 ^ 31) (ap (takes_with report_flag) e) few) in
       let r = reports_taken l in let t = ap (takes_with report_flag) d.takes_are in omega arith
 
-  same_ticks : ticks_published sent ≡ ticks_together (published_in l)
-  same_ticks = let e = ap ticks_published d.pieces_are in let t = together_reversed (published_in l) in omega arith
-
-  same_unfinished : (n : ℕ) → unfinished_in sent n ≡ unfinished (published_in l) n
-  same_unfinished n = let all : n - 0 ≡ n = omega arith in ap (λ (s : Sent). unfinished_in s n) d.pieces_are ∙ (λ i. unfinished (reverse-reverse (published_in l) i) (all i))
-
   pub may_publish : (p : Piece) → MayPublish l p → ring.MayPublish sent p
-  may_publish p m =
-      let all = append-nil (reverse (published_in l)) in
-      subst (λ (s : Sent). ring.MayPublish s p) (sym d.pieces_are) (record {
-        running = refl;
-        going = ap has_ended all ∙ m.next.going;
-        follows = m.next.follows;
-        few = (let f = m.few in let t = together_reversed (published_in l) in omega arith);
-        room = (let f = m.few in let t = together_reversed (published_in l) in let n = few_pieces (reverse (published_in l)) d.turns m.next.going in let e = ap length all in omega arith);
-      })
+  may_publish p m = subst (λ (s : Sent). ring.MayPublish s p) (sym d.pieces_are) m
+
+  pub may_stop : MayStop l → ring.MayStop sent
+  may_stop m = subst ring.MayStop (sym d.pieces_are) m
+
+  pub a_stop_waits : MayAskHalt l → sent.waits ≡ true
+  a_stop_waits m = ap (λ (s : Sent). s.waits) d.pieces_are ∙ m
 
   pub lacks_piece_room : known ≤ known' → unfinished_in sent known' ≡ 5 → LacksPieceRoom known' l
-  lacks_piece_room more full = record { later = (let k = d.known_is in omega arith); full = sym (same_unfinished known') ∙ full }
+  lacks_piece_room more full = record { later = (let k = d.known_is in omega arith); full = ap (λ (s : Sent). unfinished_in s known') (sym d.pieces_are) ∙ full }
 
   pub may_be_done : (n : ℕ) → known ≤ n → n ≤ ticks_published sent → unfinished_in sent n ≤ 5 → MayBeDone n l
   may_be_done n more most few = record {
     later = (let k = d.known_is in omega arith);
-    below = (let s = same_ticks in omega arith);
-    few = (let u = same_unfinished n in omega arith);
+    below = subst (λ (s : Sent). n ≤ ticks_published s) d.pieces_are most;
+    few = subst (λ (s : Sent). unfinished_in s n ≤ 5) d.pieces_are few;
   }
 
 -- the ends of fresh tables
@@ -187,6 +165,5 @@ fresh_board steps over takes sent known s t p = record {
   over_is = λ e. absurd cc;
   takes_are = sym t;
   pieces_are = p;
-  turns = tt;
   known_is = omega arith;
 }

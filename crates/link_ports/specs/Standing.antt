@@ -1,11 +1,11 @@
 -- What is said of a port in few words: how much it stored, owes, or published.
-use Rattle.std.specs.Prelude.{◌≡◌, ℕ, ◌+◌, ◌≤◌, false, [], length, reverse}
+use Rattle.std.specs.Prelude.{◌≡◌, ℕ, ◌+◌, ◌≤◌, false, [], length}
 use Rattle.serial_ring.specs.Logs.{answers_since, lfs_since}
-use Rattle.step_line.specs.Finishing.{ticks_together}
 use Rattle.step_line.specs.Ordering.{has_ended}
 use Rattle.serial_ring.specs.Ends.{stored_by, closed_by, marks_by, got_by, greeted_by, log_by, found_closed}
 use Rattle.realtime_flags.specs.Ends.{raises_by, takes_by}
 use Rattle.motion_ring.specs.Ends.{sent_by, known_by}
+use Rattle.motion_ring.specs.Sides.{published_in, ticks_published}
 use Rattle.stream_host.specs.Steps as host
 use Rattle.stream_host.specs.Ports.{IsOpen}
 use Rattle.board_rules.specs.Ports as board
@@ -47,10 +47,12 @@ pub record OwesAnswers (owed n : ℕ) (port : BoardLink) : Type 0 where
   pub owes : answers_since (board.link_steps log) + owed ≤ lfs_since (board.link_steps log)
   pub few : length (board.answered_in log) ≤ n
 
--- no end was published, and pieces of at most so many ticks
+-- no stop waits, no end was published, and at most so many ticks and pieces
 pub record HasPublished (n : ℕ) (port : BoardLink) : Type 0 where
   pub log : board.PortLog
   pub did : BoardLogs port log
   pub sees : BoardSees port log
-  pub going : has_ended (reverse (board.published_in log)) ≡ false
-  pub few : ticks_together (board.published_in log) ≤ n
+  pub running : (board.sent_in log).waits ≡ false
+  pub going : has_ended (published_in (board.sent_in log)) ≡ false
+  pub few : ticks_published (board.sent_in log) ≤ n
+  pub many : length (published_in (board.sent_in log)) ≤ n

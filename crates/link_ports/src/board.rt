@@ -70,4 +70,14 @@ impl BoardPort for BoardLink {
     fn done(&mut self) -> u64 {
         self.pieces.done()
     }
+
+    #[inline]
+    fn stop(&mut self) {
+        self.pieces.stop()
+    }
+
+    #[inline]
+    fn halted(&mut self) -> Option<u64> {
+        self.pieces.halted()
+    }
 }

@@ -1,5 +1,5 @@
 -- On one thread each line has at most as many reports as it has `?`.
-use Rattle.std.proofs.Common.{[], ap, arith}
+use Rattle.std.proofs.Common.{ap, arith}
 use Rattle.run_rules.specs.declared.State.{State}
 use Rattle.run_rules.specs.Lines.{lines_of}
 use Rattle.stream_host.specs.Steps.{Journal, port_log, got_of, scanned_of}
@@ -11,7 +11,7 @@ use Rattle.list_ports.specs.PerLine.{ReportsPerLine}
 use Rattle.list_ports.proofs.BoardAsks.{reports_in, boards_look_first, boards_tell_few, front_fewer}
 use Rattle.list_ports.proofs.HostAsks.{asks_between, raised_in_lines}
 
-pub reports_per_line : (lists : Listed) (host : Journal) (first : State) (board : Doings) (pulse : PieceLog) → Joined lists (port_log host) (log_of board) [] pulse → Conducted host → IsConducted first board
+pub reports_per_line : (lists : Listed) (host : Journal) (first : State) (board : Doings) (pulse : PieceLog) → Joined lists (port_log host) (log_of board) pulse → Conducted host → IsConducted first board
     → ReportsPerLine (lines_of (scanned_of host)) (got_of host)
 reports_per_line lists host first board pulse joined host_kept board_kept k =
     let pass = joined.asks (asks_between host host_kept) (boards_look_first first board board_kept) in

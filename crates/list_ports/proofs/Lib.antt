@@ -2,7 +2,6 @@ pub mod Marking
 pub mod Fronts
 pub mod Links
 pub mod Pieces
-pub mod Stops
 pub mod Raising
 pub mod Steps
 pub mod Asks

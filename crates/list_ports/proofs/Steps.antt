@@ -1,14 +1,17 @@
 -- What calls of a port make of the lists and the logs, where a search does not find it.
-use Rattle.std.proofs.Common.{◌≡◌, ℕ, ◌+◌, ◌-◌, ◌<◌, ◌≤◌, ◌^◌, ◌⊎◌, inl, Bool, true, false, not, nat_eq, List, [], ◌∷◌, ◌++◌, length, reverse, refl, sym, ap, ◌∙◌, subst, arith, append_assoc, Some}
+use Rattle.std.proofs.Common.{◌≡◌, ℕ, ◌+◌, ◌-◌, ◌<◌, ◌≤◌, ◌^◌, ◌⊎◌, inl, Bool, true, false, not, nat_eq, List, [], ◌∷◌, ◌++◌, length, map, reverse, refl, sym, ap, ◌∙◌, subst, arith, append_assoc, Some}
 use Rattle.std.proofs.lemmas.Bool.Decides.{nat_tests}
+use Rattle.std.proofs.lemmas.List.{reverse-append, reverse-reverse}
 use Rattle.std.specs.declared.option.Option.{Option}
 use Rattle.step_line.specs.declared.Piece.{Piece}
-use Rattle.step_line.specs.Logs.{NewestFirst}
 use Rattle.step_line.specs.Ordering.{ComesNext}
-use Rattle.step_line.specs.Finishing.{tick_count, unfinished, most_unfinished}
-use Rattle.board_rules.specs.Ports.{taken_in, link_steps, has_closed_in, answered_in, published_in, known_in, asks_report, said, IsMarkedPast, MayAnswer, MayPublish, MayBeDone, HasFewReports, LacksPieceRoom}
+use Rattle.step_line.specs.Finishing.{tick_count, ticks_together, unfinished, most_unfinished}
+use Rattle.motion_ring.specs.declared.lists.Sent.{Sent}
+use Rattle.motion_ring.specs.Sides.{ticks_at, unfinished_in}
+use Rattle.board_rules.specs.Ports.{taken_in, link_steps, has_closed_in, answered_in, published_in, known_in, sent_in, unstopped, asks_report, said, IsMarkedPast, MayAnswer, MayPublish, MayStop, MayAskHalt, MayBeDone, HasFewReports, LacksPieceRoom}
 use Rattle.board_rules.specs.Ports.{PortLog as BoardLog}
-use Rattle.board_rules.specs.Ports.PortStep.{took_exec, published, no_piece_room, loaded}
+use Rattle.board_rules.specs.Ports.PortStep.{took_exec, published, no_piece_room, loaded, stored_stop, found_halt}
+use Rattle.board_rules.proofs.Unstopped.{NeverStops, sent_alone, published_back}
 use Rattle.realtime_flags.specs.declared.words.Flag.{Flag}
 use Rattle.realtime_flags.specs.declared.words.Flag.TheVariants as flags
 use Rattle.realtime_flags.specs.Bits.{is_flag, is_up, report_flag, raises_of, IsNamed}
@@ -25,26 +28,26 @@ use Rattle.stream_host.specs.Steps.{stored_in, got_in, marks_in, is_shut_in}
 use Rattle.stream_host.specs.Steps.{PortLog as HostLog}
 use Rattle.stream_host.specs.Steps.PortStep.{dropped, marked, raised, got}
 use Rattle.list_ports.specs.Asked.{AsksBetween, LooksFirst, AsksPass, report_is_up, raised_behind, words_behind, has_looked}
-use Rattle.list_ports.specs.Joining.{Listed, FlagsPass, Joined, with_flag, one_if_some}
+use Rattle.pulse_engine.proofs.Whole.{all_since}
+use Rattle.list_ports.specs.Joining.{Listed, FlagsPass, IsGoing, Joined, with_flag, numbers_of, one_if_some}
 use Rattle.stream_host.specs.Raises.{raised_to, raises_in}
 use Rattle.board_rules.specs.Takes.{takes_in}
 use Rattle.list_ports.proofs.Asks as reports
 use Rattle.list_ports.proofs.Links as links
 use Rattle.list_ports.proofs.Marking as marks
 use Rattle.list_ports.proofs.Pieces as pieces
-use Rattle.list_ports.proofs.Stops as stops
 use Rattle.list_ports.proofs.Raising as words
 
-module _ (l : Listed) (host : HostLog) (board : BoardLog) (pulse : PieceLog) (j : Joined l host board [] pulse) where
+module _ (l : Listed) (host : HostLog) (board : BoardLog) (pulse : PieceLog) (j : Joined l host board pulse) where
   -- ---- the host
 
-  pub byte_dropped : (b : ℕ) → receive_room ≤ length l.bytes → Joined l (dropped b ∷ host) board [] pulse × SeemsFull host
+  pub byte_dropped : (b : ℕ) → receive_room ≤ length l.bytes → Joined l (dropped b ∷ host) board pulse × SeemsFull host
   byte_dropped b many = (
     record { bytes = j.bytes; replies = j.replies; marks = j.marks; flags = j.flags; pieces = j.pieces; stops = j.stops; asks = j.asks },
     marks.seems_full l.bytes l.closed (is_shut_in host) (has_closed_in board) l.replies l.stored l.mark host board j.bytes j.replies j.marks many,
   )
 
-  pub mark_stored : Joined (record l { mark = (l.mark.0 + 1, l.stored) }) (marked ∷ host) board [] pulse
+  pub mark_stored : Joined (record l { mark = (l.mark.0 + 1, l.stored) }) (marked ∷ host) board pulse
   mark_stored = record { bytes = j.bytes; replies = j.replies; marks = marks.mark_stored l.stored l.mark (stored_in host) (marks_in host) (link_steps board) j.marks; flags = j.flags; pieces = j.pieces; stops = j.stops; asks = j.asks }
 
   -- each line that the next reply answers was stored
@@ -73,7 +76,7 @@ module _ (l : Listed) (host : HostLog) (board : BoardLog) (pulse : PieceLog) (j 
       (λ t. reports.quiet_lists l.bytes (stored_in host) (taken_in board) l.closed (is_shut_in host) (has_closed_in board) l.replies (answered_in board) (got_in host) j.bytes j.replies
       (between.0 (grind (arith, nat_tests, t)))) (j.asks between.1 looks)
 
-  pub flag_raised : (b : ℕ) (f : Flag) → flag_of_byte b ≡ Some f → IsNamed f → TakesRaise b host → (found_down : Bool) × Joined (with_flag f l) (raised b found_down ∷ host) board [] pulse
+  pub flag_raised : (b : ℕ) (f : Flag) → flag_of_byte b ≡ Some f → IsNamed f → TakesRaise b host → (found_down : Bool) × Joined (with_flag f l) (raised b found_down ∷ host) board pulse
   flag_raised b (flags.Exec place) is named may = (
     flag_down (flags.Exec place),
     record {
@@ -111,7 +114,7 @@ module _ (l : Listed) (host : HostLog) (board : BoardLog) (pulse : PieceLog) (j 
       let r = words.reports_are (took_exec (record { 0 = l.exec }) ∷ board) in
       let n = words.report_more l.exec board asked in omega arith
 
-  pub reply_answered : (r : Reply) → MayAnswer board r → Joined (record l { replies = l.replies ++ r ∷ [] }) host (said r ∷ board) [] pulse
+  pub reply_answered : (r : Reply) → MayAnswer board r → Joined (record l { replies = l.replies ++ r ∷ [] }) host (said r ∷ board) pulse
   reply_answered (replies.Report r) may = record {
     bytes = j.bytes;
     replies = links.reply_told l.replies (answered_in board) (got_in host) (taken_in board) (replies.Report r) (λ e. absurd cc) j.replies;
@@ -131,121 +134,160 @@ module _ (l : Listed) (host : HostLog) (board : BoardLog) (pulse : PieceLog) (j 
     asks = λ between looks. reports.asks_answered _ _ _ (answered_in board) r _ _ (λ e. (marks.may_line board r j.marks.well may e, looks.0 e)) (j.asks between looks.1);
   }
 
-  pub piece_published : (p : Piece) → MayPublish board p → length l.pieces + one_if_some l.left < most_unfinished → Joined (record l { pieces = l.pieces ++ p ∷ [] }) host (published p ∷ board) [] pulse
+  pub piece_published : (p : Piece) → MayPublish board p → length l.pieces + one_if_some l.left < most_unfinished → Joined (record l { pieces = l.pieces ++ p ∷ [] }) host (published p ∷ board) pulse
   piece_published p may room = record {
     bytes = j.bytes;
     replies = j.replies;
     marks = j.marks;
     flags = j.flags;
-    pieces = pieces.piece_published l.pieces l.left l.done (published_in board) (known_in board) (pieces_of pulse) (counted pulse) (uncounted pulse) j.pieces p may.next may.few room;
-    stops = record { each = stops.none_stored l.stop (length l.pieces + length (pieces_of pulse)) (length (l.pieces ++ p ∷ []) + length (pieces_of pulse)) (halts_of pulse) j.stops.each; known = j.stops.known };
+    pieces = pieces.piece_published l.pieces l.left l.done l.stop (sent_in board) (known_in board) (pieces_of pulse) (got_since pulse) (counted pulse) (uncounted pulse) (halts_of pulse) j.pieces p may room;
+    stops = j.stops;
     asks = j.asks;
   }
 
   -- all pieces that wait are unfinished, where one more may be published
   pub all_unfinished : (p : Piece) → MayPublish board p → unfinished l.pieces 0 ≡ length l.pieces
-  all_unfinished p may = pieces.waiting_unfinished l.pieces l.left l.done (published_in board) (known_in board) (pieces_of pulse) (counted pulse) (uncounted pulse) j.pieces may.next.going
+  all_unfinished p may =
+      pieces.waiting_unfinished l.pieces l.left l.done l.stop (sent_in board) (got_since pulse) (halts_of pulse)
+      (pieces.runs_on l.pieces l.left l.done l.stop (sent_in board) (got_since pulse) (halts_of pulse) may.running j.pieces.phase) j.pieces.turns may.going
 
-  pub piece_handed_back : unfinished l.pieces 0 ≡ length l.pieces → most_unfinished ≤ length l.pieces + one_if_some l.left → Joined l host (no_piece_room l.done ∷ board) [] pulse × LacksPieceRoom l.done board
+  pub piece_handed_back : unfinished l.pieces 0 ≡ length l.pieces → most_unfinished ≤ length l.pieces + one_if_some l.left → Joined l host (no_piece_room l.done ∷ board) pulse × LacksPieceRoom l.done board
   piece_handed_back all many = (
     record { bytes = j.bytes; replies = j.replies; marks = j.marks; flags = j.flags; pieces = j.pieces; stops = j.stops; asks = j.asks },
     record {
       later = j.pieces.known_is;
-      full = pieces.five_unfinished l.pieces l.left l.done (published_in board) (known_in board) (pieces_of pulse) (counted pulse) (uncounted pulse) j.pieces all many;
+      full = pieces.five_unfinished l.pieces l.left l.done l.stop (sent_in board) (got_since pulse) (halts_of pulse)
+          (pieces.many_wait l.pieces l.left l.done l.stop (sent_in board) (got_since pulse) (halts_of pulse) many j.pieces.phase) j.pieces.few all many;
     },
   )
 
-  pub done_loaded : Joined l host (loaded l.done ∷ board) [] pulse × MayBeDone l.done board
+  may_be_done : MayBeDone l.done board
+  may_be_done = record { later = j.pieces.known_is; below = j.pieces.within; few = j.pieces.few }
+
+  pub done_loaded : Joined l host (loaded l.done ∷ board) pulse × MayBeDone l.done board
   done_loaded = (
     record {
       bytes = j.bytes;
       replies = j.replies;
       marks = j.marks;
       flags = j.flags;
-      pieces = pieces.done_loaded l.pieces l.left l.done (published_in board) (known_in board) (pieces_of pulse) (counted pulse) (uncounted pulse) j.pieces;
+      pieces = pieces.done_loaded l.pieces l.left l.done l.stop (sent_in board) (known_in board) (pieces_of pulse) (got_since pulse) (counted pulse) (uncounted pulse) (halts_of pulse) j.pieces;
       stops = j.stops;
       asks = j.asks;
     },
+    may_be_done,
+  )
+
+  -- a stop that is stored behind the pieces so far waits for its halt
+  pub stop_stored : MayStop board → Joined (record l { stop = true }) host (stored_stop ∷ board) pulse
+  stop_stored may = record {
+    bytes = j.bytes;
+    replies = j.replies;
+    marks = j.marks;
+    flags = j.flags;
+    pieces = pieces.stop_stored l.pieces l.left l.done l.stop (sent_in board) (known_in board) (pieces_of pulse) (got_since pulse) (counted pulse) (uncounted pulse) (halts_of pulse) j.pieces may.running;
+    stops = λ shown. refl;
+    asks = j.asks;
+  }
+
+  pub halt_found : MayAskHalt board → l.stop ≡ false → Joined l host (found_halt l.done ∷ board) pulse × MayBeDone l.done board
+  halt_found waits none = (
     record {
-      later = j.pieces.known_is;
-      below = pieces.done_within l.pieces l.left l.done (published_in board) (known_in board) (pieces_of pulse) (counted pulse) (uncounted pulse) j.pieces;
-      few = j.pieces.few;
+      bytes = j.bytes;
+      replies = j.replies;
+      marks = j.marks;
+      flags = j.flags;
+      pieces = pieces.halt_found l.pieces l.left l.done l.stop (sent_in board) (known_in board) (pieces_of pulse) (got_since pulse) (counted pulse) (uncounted pulse) (halts_of pulse) j.pieces waits none;
+      stops = j.stops;
+      asks = j.asks;
     },
+    may_be_done,
   )
 
 -- ---- the pulse
 
--- where no stop was stored it never halted
-pub never_halts : (l : Listed) (host : HostLog) (board : BoardLog) (pulse : PieceLog) → Joined l host board [] pulse → halts_of pulse ≡ []
-never_halts l host board pulse j = stops.none_halted l.stop (length l.pieces + length (pieces_of pulse)) (halts_of pulse) j.stops.each
-
-module _ (l : Listed) (host : HostLog) (board : BoardLog) (stored_stops : NewestFirst ℕ) (pulse : PieceLog) (j : Joined l host board stored_stops pulse) where
-  pub stop_shown : (b : Bool) → b ≡ l.stop → Joined l host board stored_stops (stop_asked b ∷ pulse)
+module _ (l : Listed) (host : HostLog) (board : BoardLog) (pulse : PieceLog) (j : Joined l host board pulse) where
+  pub stop_shown : (b : Bool) → b ≡ l.stop → Joined l host board (stop_asked b ∷ pulse)
   stop_shown b is = record {
     bytes = j.bytes;
     replies = j.replies;
     marks = j.marks;
     flags = j.flags;
     pieces = j.pieces;
-    stops = record { each = j.stops.each; known = λ shown. sym is ∙ shown };
+    stops = λ shown. sym is ∙ shown;
     asks = j.asks;
   }
 
   -- it has halted: all pieces that waited are dropped, the latest first
-  pub pulse_halted : SawStop pulse → Joined (record l { pieces = []; left = 0; stop = false }) host board stored_stops (halted (reverse l.pieces) ∷ pulse)
+  pub pulse_halted : SawStop pulse → Joined (record l { pieces = []; left = 0; stop = false }) host board (halted (reverse l.pieces) ∷ pulse)
   pulse_halted saw = record {
     bytes = j.bytes;
     replies = j.replies;
     marks = j.marks;
     flags = j.flags;
-    pieces = stops.pieces_dropped stored_stops l.stop l.pieces l.left l.done (published_in board) (known_in board) (pieces_of pulse) (got_since pulse) (counted pulse) (uncounted pulse) (halts_of pulse)
-        (j.stops.known saw) j.stops.each j.pieces;
-    stops = record { each = stops.halt_stored stored_stops l.stop l.pieces (pieces_of pulse) (halts_of pulse) (counted pulse) (j.stops.known saw) j.stops.each; known = λ shown. absurd cc };
+    pieces = pieces.pieces_dropped l.pieces l.left l.done l.stop (sent_in board) (known_in board) (pieces_of pulse) (got_since pulse) (counted pulse) (uncounted pulse) (halts_of pulse) j.pieces (j.stops saw);
+    stops = λ shown. absurd cc;
     asks = j.asks;
   }
 
-  pub piece_got : (p : Piece) (ws : List Piece) → l.pieces ≡ p ∷ ws → IsCounted pulse → Joined (record l { pieces = ws; left = tick_count p }) host board stored_stops (piece_came p ∷ pulse) × ComesNext (got_since pulse) p
+  pub piece_got : (p : Piece) (ws : List Piece) → l.pieces ≡ p ∷ ws → IsCounted pulse → Joined (record l { pieces = ws; left = tick_count p }) host board (piece_came p ∷ pulse) × ComesNext (got_since pulse) p
   piece_got p ws are all =
-      let q = rw are at j.pieces in
-      let h = rw are at j.stops.each in (
+      let q = rw are at j.pieces in (
         record {
           bytes = j.bytes;
           replies = j.replies;
           marks = j.marks;
           flags = j.flags;
-          pieces = stops.any_got stored_stops p ws l.left l.done (published_in board) (known_in board) (pieces_of pulse) (got_since pulse) (counted pulse) (uncounted pulse) q all;
-          stops = record { each = stops.all_with l.stop stored_stops (length (p ∷ ws) + length (pieces_of pulse)) (length ws + length (p ∷ pieces_of pulse)) (halts_of pulse) (omega arith) h; known = j.stops.known };
+          pieces = pieces.piece_got p ws l.left l.done l.stop (sent_in board) (known_in board) (pieces_of pulse) (got_since pulse) (counted pulse) (uncounted pulse) (halts_of pulse) q all;
+          stops = j.stops;
           asks = j.asks;
         },
-        stops.any_comes stored_stops p ws l.left l.done (published_in board) (known_in board) (counted pulse) (uncounted pulse) pulse l.stop (length (p ∷ ws) + length (pieces_of pulse)) h q,
+        pieces.piece_comes p ws l.left l.done l.stop (sent_in board) (known_in board) (pieces_of pulse) (got_since pulse) (counted pulse) (uncounted pulse) (halts_of pulse) q,
       )
 
-  pub tick_counted : HasTick pulse → Joined (record l { left = l.left - 1; done = l.done + 1 }) host board stored_stops (ticked ∷ pulse)
+  pub tick_counted : HasTick pulse → Joined (record l { left = l.left - 1; done = l.done + 1 }) host board (ticked ∷ pulse)
   tick_counted more = record {
     bytes = j.bytes;
     replies = j.replies;
     marks = j.marks;
     flags = j.flags;
-    pieces = stops.any_counted stored_stops l.pieces l.left l.done (published_in board) (known_in board) (pieces_of pulse) (got_since pulse) (counted pulse) (uncounted pulse) j.pieces more;
-    stops = record { each = j.stops.each; known = j.stops.known };
+    pieces = pieces.tick_counted l.pieces l.left l.done l.stop (sent_in board) (known_in board) (pieces_of pulse) (got_since pulse) (counted pulse) (uncounted pulse) (halts_of pulse) j.pieces more;
+    stops = j.stops;
     asks = j.asks;
   }
 
   pub few_done : l.done < 2 ^ 62
-  few_done = stops.any_few stored_stops l.pieces l.left l.done (published_in board) (known_in board) (pieces_of pulse) (got_since pulse) (counted pulse) (uncounted pulse) j.pieces
+  few_done = let q = j.pieces.short in omega arith
 
   pub some_left : HasTick pulse → 0 < l.left
-  some_left more = stops.any_left stored_stops l.pieces l.left l.done (published_in board) (known_in board) (pieces_of pulse) (got_since pulse) (counted pulse) (uncounted pulse) j.pieces more
+  some_left more = let e = j.pieces.left_is in omega arith
 
-  -- a stop that is stored behind the pieces so far waits for its halt, where none waits
-  pub stop_stored : l.stop ≡ false → Joined (record l { stop = true }) host board ((length l.pieces + length (pieces_of pulse)) ∷ stored_stops) pulse
-  stop_stored none = record {
-    bytes = j.bytes;
-    replies = j.replies;
-    marks = j.marks;
-    flags = j.flags;
-    pieces = stops.any_stopped stored_stops (length l.pieces + length (pieces_of pulse)) l.stop (length l.pieces + length (pieces_of pulse)) l.pieces l.left l.done (published_in board) (known_in board) (counted pulse) (uncounted pulse) pulse
-        j.stops.each j.pieces;
-    stops = record { each = ap (λ (earlier : NewestFirst ℕ). (length l.pieces + length (pieces_of pulse)) ∷ earlier) (rw none at j.stops.each); known = λ shown. refl };
-    asks = j.asks;
-  }
+  -- ---- both
+
+  -- what was published is what was got or dropped and what waits
+  pub pieces_front : published_in board ≡ reverse (pieces_of pulse) ++ l.pieces
+  pieces_front =
+      published_back board ∙ ap reverse j.pieces.fifo ∙ reverse-append (reverse l.pieces) (pieces_of pulse) ∙ ap (λ (ps : List Piece). reverse (pieces_of pulse) ++ ps) (reverse-reverse l.pieces)
+
+  -- where no stop was stored the pulse never halted, and all that it got is counted since the beginning
+  module _ (none : NeverStops board) where
+    alone : sent_in board ≡ unstopped (reverse (published_in board))
+    alone = sent_alone board none
+
+    going : IsGoing l.pieces l.left l.done l.stop (sent_in board) (got_since pulse) (halts_of pulse)
+    going = pieces.runs_on l.pieces l.left l.done l.stop (sent_in board) (got_since pulse) (halts_of pulse) (ap (λ (s : Sent). s.waits) alone) j.pieces.phase
+
+    pub never_halts : halts_of pulse ≡ []
+    never_halts = sym going.halts_are ∙ ap (λ (s : Sent). map numbers_of s.halts) alone
+
+    pub all_counted : counted pulse + uncounted pulse ≡ ticks_together (pieces_of pulse)
+    all_counted =
+        let t = going.ticks in let d = j.pieces.done_is in let u = j.pieces.left_is in
+        let b = ap (λ (s : Sent). ticks_at s.halts) alone in
+        let a = ap ticks_together (all_since pulse never_halts) in omega arith
+
+    pub few_unfinished : unfinished (published_in board) (counted pulse) ≤ most_unfinished
+    few_unfinished =
+        let all : l.done - 0 ≡ counted pulse = (let d = j.pieces.done_is in omega arith) in
+        let e = ap (λ (s : Sent). unfinished_in s l.done) alone ∙ (λ i. unfinished (reverse-reverse (published_in board) i) (all i)) in
+        let f = j.pieces.few in omega arith

@@ -1,5 +1,5 @@
 -- The lists between a host, a board and a pulse, and what the three have done with them.
-use Rattle.std.specs.Prelude.{◌≡◌, ℕ, ◌+◌, ◌^◌, ◌<◌, ◌≤◌, Bool, true, false, cond, nat_lt, List, [], ◌∷◌, ◌++◌, length, map, drop, reverse}
+use Rattle.std.specs.Prelude.{◌≡◌, ℕ, ◌+◌, ◌^◌, ◌<◌, ◌≤◌, ◌⊎◌, Bool, true, false, cond, nat_lt, List, [], ◌∷◌, ◌++◌, length, map, drop, reverse}
 use Rattle.std.specs.List.{All}
 use Rattle.std.specs.Int.Bits.{bit_or}
 use Rattle.status_report.specs.declared.Reply.{Reply}
@@ -14,9 +14,13 @@ use Rattle.board_rules.specs.Takes.{takes_in}
 use Rattle.step_line.specs.declared.Piece.{Piece}
 use Rattle.step_line.specs.Logs.{NewestFirst}
 use Rattle.step_line.specs.Ordering.{InTurn}
-use Rattle.step_line.specs.Finishing.{ticks_together, unfinished, most_unfinished}
+use Rattle.step_line.specs.Finishing.{ticks_together, most_unfinished}
+use Rattle.motion_ring.specs.declared.lists.Halt.{Halt}
+use Rattle.motion_ring.specs.declared.lists.Sent.{Sent}
+use Rattle.motion_ring.specs.Sides.{ticks_at, ticks_published, unfinished_in}
+use Rattle.motion_ring.specs.Sides.{published_in as pieces_sent}
 use Rattle.motion_ring.specs.Ticks.{slots}
-use Rattle.board_rules.specs.Ports.{taken_in, link_steps, has_closed_in, answered_in, published_in, known_in}
+use Rattle.board_rules.specs.Ports.{taken_in, link_steps, has_closed_in, answered_in, sent_in, known_in}
 use Rattle.status_report.specs.Answering.{reply_room, receive_room, lfs_in, answers_in}
 use Rattle.board_rules.specs.Ports.{PortLog as BoardLog}
 use Rattle.pulse_engine.specs.Logs.{PieceLog, pieces_of, got_since, counted, uncounted, saw_stop, halts_of}
@@ -91,53 +95,52 @@ pub record FlagsPass (exec override : ℕ) (raises : List Raise) (takes : List T
   pub override_small : override < 2 ^ 13
   pub few : raises_of report_flag raises ≤ 2 ^ 31
 
--- pieces on their way from a board to a pulse, in the order in which they were published, and the ticks that are done:
--- those of the pieces that the pulse got, but for those of the last that are left. At most five pieces are unfinished
-pub record PiecesPass (waiting : List Piece) (left done : ℕ) (published : List Piece) (known : ℕ) (got_pieces : NewestFirst Piece) (ticked unticked : ℕ) : Type 0 where
-  pub fifo : published ≡ reverse got_pieces ++ waiting
-  pub turns : InTurn (reverse published)
-  pub short : ticks_together published < 2 ^ 62
-  pub few : unfinished published done ≤ most_unfinished
-  pub done_is : done ≡ ticked
-  pub left_is : left ≡ unticked
-  pub ticks : done + left ≡ ticks_together got_pieces
-  pub past : ticks_together (drop 1 got_pieces) ≤ done
-  pub known_is : known ≤ done
+-- a halt, by how many pieces were passed up to it, and how many ticks were done
+abbrev pub numbers_of : Halt → ℕ × ℕ
+numbers_of halt = (halt.pieces, halt.done)
 
--- Pieces on their way where a stop was stored: what was published is what was got or dropped and what waits, in order. Those that
--- were got since the last halt and those that wait came in turn. The ticks that are left are those of the piece that was got last,
--- if no halt has cut it
-pub record EpochPass (waiting : List Piece) (left done : ℕ) (published : List Piece) (got_pieces since_halt : NewestFirst Piece) (ticked unticked : ℕ) : Type 0 where
-  pub fifo : published ≡ reverse got_pieces ++ waiting
+-- The pulse has stored no halt that the board has not found: what was published since the last one is what was got since and what
+-- waits, the ticks that are done are those up to it and those of the pieces got since, but for those of the last that are left, and a
+-- stop waits where the board knows of one
+pub record IsGoing (waiting : List Piece) (left done : ℕ) (stop : Bool) (sent : Sent) (since_halt : NewestFirst Piece) (halts : NewestFirst (ℕ × ℕ)) : Type 0 where
+  pub waits_is : sent.waits ≡ stop
+  pub since_is : sent.since ≡ reverse waiting ++ since_halt
+  pub ticks : done + left ≡ ticks_at sent.halts + ticks_together since_halt
+  pub past : ticks_at sent.halts + ticks_together (drop 1 since_halt) ≤ done
+  pub halts_are : map numbers_of sent.halts ≡ halts
+
+-- The pulse has halted, and the board has not found it: nothing waits, no tick is left, and the halt is behind all that was published
+pub record HasHalted (waiting : List Piece) (left done : ℕ) (stop : Bool) (sent : Sent) (since_halt : NewestFirst Piece) (halts : NewestFirst (ℕ × ℕ)) : Type 0 where
+  pub waits_is : sent.waits ≡ true
+  pub stop_is : stop ≡ false
+  pub none_waits : waiting ≡ []
+  pub none_left : left ≡ 0
+  pub none_since : since_halt ≡ []
+  pub halts_are : (length (pieces_sent sent), done) ∷ map numbers_of sent.halts ≡ halts
+
+-- Pieces, stops and halts on their way between a board and a pulse: what was published is what was got or dropped and what waits, in
+-- order; those that were got since the last halt and those that wait came in turn. The ticks that are done are those that were
+-- counted; no more are done than were published, and at most five pieces are unfinished. Each halt that the board has found is one
+-- of the pulse, with as many ticks, and at most one of the pulse was not found.
+pub record PiecesPass (waiting : List Piece) (left done : ℕ) (stop : Bool) (sent : Sent) (known : ℕ) (passed since_halt : NewestFirst Piece) (ticked unticked : ℕ) (halts : NewestFirst (ℕ × ℕ)) : Type 0 where
+  pub fifo : pieces_sent sent ≡ reverse waiting ++ passed
   pub turns : InTurn (reverse waiting ++ since_halt)
   pub short : done + left + ticks_together waiting < 2 ^ 62
+  pub within : done ≤ ticks_published sent
+  pub few : unfinished_in sent done ≤ most_unfinished
   pub done_is : done ≡ ticked
   pub left_is : left ≡ unticked
+  pub known_is : known ≤ done
+  pub phase : IsGoing waiting left done stop sent since_halt halts ⊎ HasHalted waiting left done stop sent since_halt halts
 
--- pieces on their way, by the stops that were stored
-abbrev pub AnyPass : NewestFirst ℕ → (waiting : List Piece) (left done : ℕ) (published : List Piece) (known : ℕ) (got_pieces since_halt : NewestFirst Piece) (ticked unticked : ℕ) → Type 0
-AnyPass [] waiting left done published known got_pieces since_halt ticked unticked = PiecesPass waiting left done published known got_pieces ticked unticked
-AnyPass (stop ∷ earlier) waiting left done published known got_pieces since_halt ticked unticked = EpochPass waiting left done published got_pieces since_halt ticked unticked
-
--- The pulse has halted at each stop that was stored, behind as many pieces as were published before it; but if one waits for its
--- halt, it is the last, behind all pieces
-abbrev pub AreHalted : Bool → NewestFirst ℕ → (all_pieces : ℕ) → NewestFirst (ℕ × ℕ) → Type 0
-AreHalted false stops all_pieces halts = stops ≡ map (λ (halt : ℕ × ℕ). halt.0) halts
-AreHalted true stops all_pieces halts = stops ≡ all_pieces ∷ map (λ (halt : ℕ × ℕ). halt.0) halts
-
--- stops on their way; what the pulse has seen waits
-pub record StopsPass (waits : Bool) (stops : NewestFirst ℕ) (all_pieces : ℕ) (seen : Bool) (halts : NewestFirst (ℕ × ℕ)) : Type 0 where
-  pub each : AreHalted waits stops all_pieces halts
-  pub known : seen ≡ true → waits ≡ true
-
--- The lists between the three: each passes on what its two sides have done. A stop is known by how many pieces were published
--- before it. Where the host asks for reports only between lines, and the board takes its requests behind each line before it
--- answers, each report that is asked for is asked for in its line.
-pub record Joined (l : Listed) (host : HostLog) (board : BoardLog) (stops_stored : NewestFirst ℕ) (pulse : PieceLog) : Type 0 where
+-- The lists between the three: each passes on what its two sides have done. A stop that the pulse has seen waits. Where the host asks
+-- for reports only between lines, and the board takes its requests behind each line before it answers, each report that is asked for
+-- is asked for in its line.
+pub record Joined (l : Listed) (host : HostLog) (board : BoardLog) (pulse : PieceLog) : Type 0 where
   pub bytes : BytesPass l.bytes l.closed (stored_in host) (is_shut_in host) (taken_in board) (has_closed_in board)
   pub replies : RepliesPass l.replies (answered_in board) (got_in host) (taken_in board)
   pub marks : MarksPass l.stored l.mark (stored_in host) (marks_in host) (link_steps board)
   pub flags : FlagsPass l.exec l.override (raises_in host) (takes_in board)
-  pub pieces : AnyPass stops_stored l.pieces l.left l.done (published_in board) (known_in board) (pieces_of pulse) (got_since pulse) (counted pulse) (uncounted pulse)
-  pub stops : StopsPass l.stop stops_stored (length l.pieces + length (pieces_of pulse)) (saw_stop pulse) (halts_of pulse)
+  pub pieces : PiecesPass l.pieces l.left l.done l.stop (sent_in board) (known_in board) (pieces_of pulse) (got_since pulse) (counted pulse) (uncounted pulse) (halts_of pulse)
+  pub stops : saw_stop pulse ≡ true → l.stop ≡ true
   pub asks : AsksBetween host → LooksFirst board → AsksPass (report_is_up l.exec) (λ k. raised_behind k host) (λ k. words_behind k board) (answers_in (answered_in board)) (lfs_in (taken_in board)) (has_looked board)

@@ -23,17 +23,17 @@ impl BoardPort for Lists {
     /// What the host and the pulse have done.
     ghost Rest = { HostLog × PieceLog };
 
-    ghost stands = { λ lists far l. Joined lists far.0 l [] far.1 };
+    ghost stands = { λ lists far l. Joined lists far.0 l far.1 };
 
     /// The byte that has waited longest, where one waits; else Closed where the link is closed, and Empty where it is
     /// open.
     #[inline(always)]
     fn byte(&mut self) -> ByteIn
-        ensures byte { (b : ℕ) → result ≡ ByteIn.Byte b → (far : HostLog × PieceLog) (l : BoardLog) → Joined self.old far.0 l [] far.1 → Joined self.new far.0 (took b ∷ l) [] far.1 }
-        ensures few { (b : ℕ) → result ≡ ByteIn.Byte b → (far : HostLog × PieceLog) (l : BoardLog) → Joined self.old far.0 l [] far.1 → HasTakenFew l }
-        ensures marked { (far : HostLog × PieceLog) (l : BoardLog) → Joined self.old far.0 l [] far.1 → IsMarkedPast l → (b : ℕ) × (result ≡ ByteIn.Byte b) }
-        ensures empty { result ≡ ByteIn.Empty → (far : HostLog × PieceLog) (l : BoardLog) → Joined self.old far.0 l [] far.1 → Joined self.new far.0 (found_empty ∷ l) [] far.1 }
-        ensures closed { result ≡ ByteIn.Closed → (far : HostLog × PieceLog) (l : BoardLog) → Joined self.old far.0 l [] far.1 → Joined self.new far.0 (found_closed ∷ l) [] far.1 }
+        ensures byte { (b : ℕ) → result ≡ ByteIn.Byte b → (far : HostLog × PieceLog) (l : BoardLog) → Joined self.old far.0 l far.1 → Joined self.new far.0 (took b ∷ l) far.1 }
+        ensures few { (b : ℕ) → result ≡ ByteIn.Byte b → (far : HostLog × PieceLog) (l : BoardLog) → Joined self.old far.0 l far.1 → HasTakenFew l }
+        ensures marked { (far : HostLog × PieceLog) (l : BoardLog) → Joined self.old far.0 l far.1 → IsMarkedPast l → (b : ℕ) × (result ≡ ByteIn.Byte b) }
+        ensures empty { result ≡ ByteIn.Empty → (far : HostLog × PieceLog) (l : BoardLog) → Joined self.old far.0 l far.1 → Joined self.new far.0 (found_empty ∷ l) far.1 }
+        ensures closed { result ≡ ByteIn.Closed → (far : HostLog × PieceLog) (l : BoardLog) → Joined self.old far.0 l far.1 → Joined self.new far.0 (found_closed ∷ l) far.1 }
         ensures found { result ≡ byte_found (slice_get self.old.bytes 0) self.old.closed }
     {
         match self.bytes.pop_front() {
@@ -50,7 +50,7 @@ impl BoardPort for Lists {
     /// All the room there is: what waits and it are 128 bytes.
     fn free(&mut self) -> u8
         ensures room { result ≤ receive_room }
-        ensures free { (far : HostLog × PieceLog) (l : BoardLog) → Joined self.old far.0 l [] far.1 → Joined self.new far.0 (found_free result ∷ l) [] far.1 }
+        ensures free { (far : HostLog × PieceLog) (l : BoardLog) → Joined self.old far.0 l far.1 → Joined self.new far.0 (found_free result ∷ l) far.1 }
         ensures whole { result + length self.old.bytes ≡ receive_room }
     {
         (RECEIVE_ROOM - self.bytes.len()) as u8
@@ -58,9 +58,9 @@ impl BoardPort for Lists {
 
     /// Answers, or hands the reply back where 16 wait.
     fn answer(&mut self, r: Reply) -> Result<(), Reply>
-        requires { (far : HostLog × PieceLog) × (l : BoardLog) × Joined self.old far.0 l [] far.1 × MayAnswer l r }
-        ensures ok { OnOk result ((far : HostLog × PieceLog) (l : BoardLog) → Joined self.old far.0 l [] far.1 → MayAnswer l r → Joined self.new far.0 (said r ∷ l) [] far.1) }
-        ensures full { OnErr result ((far : HostLog × PieceLog) (l : BoardLog) → Joined self.old far.0 l [] far.1 → Joined self.new far.0 (no_reply_room ∷ l) [] far.1 × LacksReplyRoom l) }
+        requires { (far : HostLog × PieceLog) × (l : BoardLog) × Joined self.old far.0 l far.1 × MayAnswer l r }
+        ensures ok { OnOk result ((far : HostLog × PieceLog) (l : BoardLog) → Joined self.old far.0 l far.1 → MayAnswer l r → Joined self.new far.0 (said r ∷ l) far.1) }
+        ensures full { OnErr result ((far : HostLog × PieceLog) (l : BoardLog) → Joined self.old far.0 l far.1 → Joined self.new far.0 (no_reply_room ∷ l) far.1 × LacksReplyRoom l) }
         ensures back { IfErr result (λ handed. handed ≡ r) }
         ensures cause { OnErr result (reply_room ≤ length self.old.replies) }
     {
@@ -69,8 +69,8 @@ impl BoardPort for Lists {
 
     /// Takes the whole word of requests.
     fn take_exec(&mut self) -> Exec
-        ensures taken { (far : HostLog × PieceLog) (l : BoardLog) → Joined self.old far.0 l [] far.1 → Joined self.new far.0 (took_exec result ∷ l) [] far.1 }
-        ensures few { asks_report result ≡ true → (far : HostLog × PieceLog) (l : BoardLog) → Joined self.old far.0 l [] far.1 → HasFewReports l }
+        ensures taken { (far : HostLog × PieceLog) (l : BoardLog) → Joined self.old far.0 l far.1 → Joined self.new far.0 (took_exec result ∷ l) far.1 }
+        ensures few { asks_report result ≡ true → (far : HostLog × PieceLog) (l : BoardLog) → Joined self.old far.0 l far.1 → HasFewReports l }
         ensures word { result.0 ≡ self.old.exec }
     {
         let word = self.exec;
@@ -80,7 +80,7 @@ impl BoardPort for Lists {
 
     /// Takes the whole word of changes of overrides.
     fn take_override(&mut self) -> Ovr
-        ensures taken { (far : HostLog × PieceLog) (l : BoardLog) → Joined self.old far.0 l [] far.1 → Joined self.new far.0 (took_ovr result ∷ l) [] far.1 }
+        ensures taken { (far : HostLog × PieceLog) (l : BoardLog) → Joined self.old far.0 l far.1 → Joined self.new far.0 (took_ovr result ∷ l) far.1 }
         ensures word { result.0 ≡ self.old.override }
     {
         let word = self.overrides;
@@ -99,5 +99,18 @@ impl BoardPort for Lists {
 
     fn done(&mut self) -> u64 {
         self.done
+    }
+
+    /// The stop waits until the pulse has halted.
+    fn stop(&mut self) {
+        self.stop = true;
+    }
+
+    /// The ticks that are done, once the stop waits no longer.
+    fn halted(&mut self) -> Option<u64> {
+        if self.stop {
+            return None;
+        }
+        Some(self.done)
     }
 }

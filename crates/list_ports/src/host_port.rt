@@ -20,7 +20,7 @@ impl HostPort for Lists {
     /// What the board and the pulse have done.
     ghost Rest = { BoardLog × PieceLog };
 
-    ghost stands = { λ lists far h. Joined lists h far.0 [] far.1 };
+    ghost stands = { λ lists far h. Joined lists h far.0 far.1 };
 
     /// Stores a byte, or drops it where 128 wait.
     fn store(&mut self, byte: u8) -> Stored {
@@ -53,9 +53,9 @@ impl HostPort for Lists {
     /// The reply that has waited longest, where one waits.
     fn reply(&mut self) -> Option<Reply>
         ensures valid { IfSome result (λ r. IsReply r) }
-        ensures some { IfSome result (λ r. (far : BoardLog × PieceLog) (h : HostLog) → Joined self.old h far.0 [] far.1 → Joined self.new (got r ∷ h) far.0 [] far.1) }
-        ensures lines { IfSome result (λ r. (far : BoardLog × PieceLog) (h : HostLog) → Joined self.old h far.0 [] far.1 → AnswersLines (got r ∷ h)) }
-        ensures none { IfNone result ((far : BoardLog × PieceLog) (h : HostLog) → Joined self.old h far.0 [] far.1 → Joined self.new (no_reply ∷ h) far.0 [] far.1) }
+        ensures some { IfSome result (λ r. (far : BoardLog × PieceLog) (h : HostLog) → Joined self.old h far.0 far.1 → Joined self.new (got r ∷ h) far.0 far.1) }
+        ensures lines { IfSome result (λ r. (far : BoardLog × PieceLog) (h : HostLog) → Joined self.old h far.0 far.1 → AnswersLines (got r ∷ h)) }
+        ensures none { IfNone result ((far : BoardLog × PieceLog) (h : HostLog) → Joined self.old h far.0 far.1 → Joined self.new (no_reply ∷ h) far.0 far.1) }
         ensures found { result ≡ slice_get self.old.replies 0 }
     {
         self.replies.pop_front()

@@ -70,7 +70,7 @@ pub(crate) fn ticks(piece: &Piece) -> u32
 impl Lists {
     /// Lists in which nothing is on its way, and the link is open.
     pub fn new(alloc: Global) -> Result<Lists, AllocError>
-        ensures { IfOk result (λ lists. Joined lists [] [] [] []) }
+        ensures { IfOk result (λ lists. Joined lists [] [] []) }
     {
         Ok(Lists {
             bytes: HeapCircularBuffer::with_capacity(alloc, RECEIVE_ROOM)?,

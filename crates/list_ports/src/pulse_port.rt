@@ -17,15 +17,15 @@ use pulse_engine::PulsePort;
 use step_line::Piece;
 
 impl PulsePort for Lists {
-    /// What the host and the board have done, and how many pieces were published before each stop.
-    ghost Rest = { HostLog × BoardLog × NewestFirst ℕ };
+    /// What the host and the board have done.
+    ghost Rest = { HostLog × BoardLog };
 
-    ghost stands = { λ lists far h. Joined lists far.0 far.1 far.2 h };
+    ghost stands = { λ lists far h. Joined lists far.0 far.1 h };
 
     #[inline]
     fn stopped(&mut self) -> bool
-        ensures waits { result ≡ true → (far : HostLog × BoardLog × NewestFirst ℕ) (h : PieceLog) → Joined self.old far.0 far.1 far.2 h → Joined self.new far.0 far.1 far.2 (asked true ∷ h) }
-        ensures none { result ≡ false → (far : HostLog × BoardLog × NewestFirst ℕ) (h : PieceLog) → Joined self.old far.0 far.1 far.2 h → Joined self.new far.0 far.1 far.2 (asked false ∷ h) }
+        ensures waits { result ≡ true → (far : HostLog × BoardLog) (h : PieceLog) → Joined self.old far.0 far.1 h → Joined self.new far.0 far.1 (asked true ∷ h) }
+        ensures none { result ≡ false → (far : HostLog × BoardLog) (h : PieceLog) → Joined self.old far.0 far.1 h → Joined self.new far.0 far.1 (asked false ∷ h) }
         ensures found { result ≡ self.old.stop }
     {
         self.stop
@@ -33,8 +33,8 @@ impl PulsePort for Lists {
 
     /// Takes out all pieces that wait, and leaves no tick to count.
     fn halt(&mut self)
-        requires { (far : HostLog × BoardLog × NewestFirst ℕ) × (h : PieceLog) × Joined self.old far.0 far.1 far.2 h × SawStop h }
-        ensures joined { (far : HostLog × BoardLog × NewestFirst ℕ) (h : PieceLog) → Joined self.old far.0 far.1 far.2 h → SawStop h → (dropped : NewestFirst AnyPiece) × Joined self.new far.0 far.1 far.2 (halted dropped ∷ h) }
+        requires { (far : HostLog × BoardLog) × (h : PieceLog) × Joined self.old far.0 far.1 h × SawStop h }
+        ensures joined { (far : HostLog × BoardLog) (h : PieceLog) → Joined self.old far.0 far.1 h → SawStop h → (dropped : NewestFirst AnyPiece) × Joined self.new far.0 far.1 (halted dropped ∷ h) }
         ensures empties { self.new ≡ record self.old { pieces = []; left = 0; stop = false } }
     {
         self.pieces.clear();
@@ -44,10 +44,10 @@ impl PulsePort for Lists {
 
     /// The piece that has waited longest, where one waits.
     fn piece(&mut self) -> Option<Piece>
-        requires { (far : HostLog × BoardLog × NewestFirst ℕ) × (h : PieceLog) × Joined self.old far.0 far.1 far.2 h × IsCounted h }
-        ensures some { IfSome result (λ p. (far : HostLog × BoardLog × NewestFirst ℕ) (h : PieceLog) → Joined self.old far.0 far.1 far.2 h → IsCounted h → Joined self.new far.0 far.1 far.2 (got p ∷ h)) }
-        ensures next { IfSome result (λ p. (far : HostLog × BoardLog × NewestFirst ℕ) (h : PieceLog) → Joined self.old far.0 far.1 far.2 h → IsCounted h → ComesNext (got_since h) p) }
-        ensures none { IfNone result ((far : HostLog × BoardLog × NewestFirst ℕ) (h : PieceLog) → Joined self.old far.0 far.1 far.2 h → IsCounted h → Joined self.new far.0 far.1 far.2 (none ∷ h)) }
+        requires { (far : HostLog × BoardLog) × (h : PieceLog) × Joined self.old far.0 far.1 h × IsCounted h }
+        ensures some { IfSome result (λ p. (far : HostLog × BoardLog) (h : PieceLog) → Joined self.old far.0 far.1 h → IsCounted h → Joined self.new far.0 far.1 (got p ∷ h)) }
+        ensures next { IfSome result (λ p. (far : HostLog × BoardLog) (h : PieceLog) → Joined self.old far.0 far.1 h → IsCounted h → ComesNext (got_since h) p) }
+        ensures none { IfNone result ((far : HostLog × BoardLog) (h : PieceLog) → Joined self.old far.0 far.1 h → IsCounted h → Joined self.new far.0 far.1 (none ∷ h)) }
         ensures found { result ≡ slice_get self.old.pieces 0 }
     {
         let piece = self.pieces.pop_front()?;

@@ -21,6 +21,7 @@ returns-clause-full c = let e = c.answer.ensures in on_err_weaker c.answer.resul
           byte_looks = subst (λ (z : ℕ × ℕ). LooksForBytes l z.0 z.1) (λ i. (sym e.polls.0 i, sym e.polls.1 i)) s.4.byte_looks;
           room_looks = search rules;
           done_looks = s.4.done_looks;
+          halt_looks = s.4.halt_looks;
           saw = ap (λ z. length (answered_in z)) told.0 ∙ told.1;
         },
       ),

@@ -15,6 +15,7 @@ returns-clause-byte c b is rest l s =
         byte_looks = looks_and_takes _ [] _ false _ _ _ l s.3 _ _ _ _ s.4.byte_looks b c.byte.ensures.load c.byte.ensures.kept told.1;
         room_looks = c.byte.ensures.loads ∙ s.4.room_looks;
         done_looks = s.4.done_looks;
+        halt_looks = s.4.halt_looks;
         saw = tt;
       },
     )
@@ -30,6 +31,7 @@ returns-clause-empty c is rest l s =
         byte_looks = looks_in_vain _ [] _ false _ _ _ l s.3 _ _ _ _ s.4.byte_looks told.1 (c.byte.ensures.load told.1) (sym (ap (λ z. length (taken_in z)) told.0) ∙ told.2);
         room_looks = c.byte.ensures.loads ∙ s.4.room_looks;
         done_looks = s.4.done_looks;
+        halt_looks = s.4.halt_looks;
         saw = told.3;
       },
     )
@@ -45,6 +47,7 @@ returns-clause-closed c is rest l s =
         byte_looks = looks_and_ends _ [] _ false _ _ _ l s.3 _ _ _ _ s.4.byte_looks told.1 (c.byte.ensures.load told.1) (sym (ap (λ z. length (taken_in z)) told.0) ∙ told.2);
         room_looks = c.byte.ensures.loads ∙ s.4.room_looks;
         done_looks = s.4.done_looks;
+        halt_looks = s.4.halt_looks;
         saw = told.3;
       },
     )

@@ -12,6 +12,7 @@ returns-clause-free c rest l s = (
     byte_looks = looks_at_room _ [] _ false _ _ _ l s.3 _ _ _ _ s.4.byte_looks c.free.result c.free.ensures.load c.free.ensures.free;
     room_looks = c.free.ensures.loads ∙ s.4.room_looks;
     done_looks = s.4.done_looks;
+    halt_looks = s.4.halt_looks;
     saw = tt;
   },
 )

@@ -21,6 +21,7 @@ returns-clause-full c = let e = c.publish.ensures in on_err_weaker c.publish.res
           byte_looks = s.4.byte_looks;
           room_looks = s.4.room_looks;
           done_looks = e.load ∙ ap (λ (n : ℕ). n + 1) s.4.done_looks;
+          halt_looks = e.halts ∙ s.4.halt_looks;
           saw = refl;
         },
       ),
