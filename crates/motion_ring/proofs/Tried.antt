@@ -40,7 +40,7 @@ joins (pieces.Segment s ∷ h) = inl refl
 joins (pieces.Mark m ∷ h) = refl
 joins (pieces.End ∷ h) = refl
 
-pub may_go_on : (s : Sent) → s.waits ≡ false → has_ended (published_in s) ≡ false → ticks_published s ≤ 600000 → length (published_in s) ≤ 200000
+pub may_go_on : (s : Sent) → s.waits ≡ false → has_ended (published_in s) ≡ false → ticks_published s ≤ 3000000 → length (published_in s) ≤ 1000000
     → MayPublish s (pieces.Segment three_events)
 may_go_on s running going ticks count =
     record { running = running; going = going; follows = (three_of_three, joins s.since); few = (let t = three_ticks in omega (arith, t, ticks)); room = omega (arith, count) }

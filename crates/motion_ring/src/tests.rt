@@ -191,7 +191,7 @@ fn million_pieces_in_two_threads(rt: HostRuntime) {
 }
 
 /// How many times one thread stops the other.
-const STOPS: u32 = 2_000;
+const STOPS: u32 = 10_000;
 
 /// Publishes segments of three ticks, and stops the other end behind a number of tries that is drawn, up to 64.
 #[derive(Drop)]
@@ -209,7 +209,7 @@ struct Stopper {
     ghost open: { ((sent_by out).waits ≡ waits) × (has_ended (published_by out) ≡ false) },
     ghost ticks: { ticks_published (sent_by out) ≤ 3 * published },
     ghost pieces: { (length (published_by out) ≡ published) × (length (sent_by out).since ≡ since) },
-    ghost few: { (since ≤ published) × (published ≤ 200000) },
+    ghost few: { (since ≤ published) × (published ≤ 1000000) },
 }
 
 impl Stopper {
@@ -227,11 +227,12 @@ impl Stopper {
         }
     }
 
-    /// Looks for the halt.
-    fn look(&mut self)
+    /// Looks for the halt. Whether it is there.
+    fn look(&mut self) -> bool
         requires { self.old.waits ≡ true }
     {
-        if self.out.halted().is_some() {
+        let halted = self.out.halted().is_some();
+        if halted {
             self.waits = false;
             self.since = 0;
             self.halts = self.halts.saturating_add(1);
@@ -241,28 +242,34 @@ impl Stopper {
                 .wrapping_add(1_013_904_223);
             self.tries = self.seed >> 26;
         }
+        halted
     }
 
-    /// Tries to publish a segment.
-    fn publish(&mut self)
-        requires { (self.old.waits ≡ false) × (self.old.published < 200000) }
+    /// Tries to publish a segment. Whether there was room.
+    fn publish(&mut self) -> bool
+        requires { (self.old.waits ≡ false) × (self.old.published < 1000000) }
     {
         self.tries = self.tries.saturating_sub(1);
-        if self.out.publish(three_events()).is_ok() {
+        let room = self.out.publish(three_events()).is_ok();
+        if room {
             self.published += 1;
             self.since += 1;
         }
+        room
     }
 
-    /// Looks for the halt that it waits for, or stops, or tries to publish.
-    fn turn(&mut self) {
+    /// Looks for the halt that it waits for, or stops, or tries to publish. Whether that did something.
+    fn turn(&mut self) -> bool {
         if self.waits {
-            self.look();
+            self.look()
         } else if self.tries == 0 && self.since > 0 {
             self.out.stop();
             self.waits = true;
-        } else if self.published < 200_000 {
-            self.publish();
+            true
+        } else if self.published < 1_000_000 {
+            self.publish()
+        } else {
+            false
         }
     }
 }
@@ -277,8 +284,7 @@ fn stop_often<R: Wait>(rt: &R, out: SegOut) -> (u64, u32)
         if stopper.halts >= STOPS {
             break;
         }
-        stopper.turn();
-        polls = poll(polls);
+        polls = if stopper.turn() { 1 } else { poll(polls) };
     }
     (stopper.out.done(), stopper.published)
 }
@@ -299,13 +305,17 @@ fn halt_often<R: Wait>(rt: &R, mut into: SegIn) -> u64
             into.halt();
             left = 0;
             halts = halts.saturating_add(1);
+            polls = 1;
         } else if left > 0 {
             into.tick_done();
             left -= 1;
             counted = counted.saturating_add(1);
         } else {
             match into.piece() {
-                Some(Piece::Segment(segment)) => left = segment.n,
+                Some(Piece::Segment(segment)) => {
+                    left = segment.n;
+                    polls = 1;
+                }
                 Some(_) => break,
                 None => polls = poll(polls),
             }
