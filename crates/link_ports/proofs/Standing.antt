@@ -1,5 +1,5 @@
 -- What a call leaves of a port that stands for a log.
-use Rattle.std.proofs.Common.{◌≡◌, ℕ, ◌+◌, ◌≤◌, List, [], ◌∷◌, ◌++◌, false, length, Some, None, IfSome, IfNone, refl, sym, ap, ◌∙◌, subst, arith, length-append}
+use Rattle.std.proofs.Common.{◌≡◌, ℕ, ◌+◌, ◌≤◌, List, [], ◌∷◌, ◌++◌, false, length, Some, None, IfSome, IfNone, OnSome, refl, sym, ap, ◌∙◌, subst, arith, length-append}
 use Rattle.std.specs.declared.option.Option.{Option}
 use Rattle.serial_ring.specs.declared.view.ByteIn.{ByteIn}
 use Rattle.serial_ring.specs.declared.view.ByteIn.TheVariants as found
@@ -15,6 +15,15 @@ use Rattle.link_ports.proofs.Lists.{by_said}
 pub by_option : {A R Q : Type 0} {P : A → Type 0} (o : Option A) → IfSome o P → IfNone o R → ((a : A) → P a → Q) → (R → Q) → Q
 by_option None p r there none = none r
 by_option (Some a) p r there none = there a p
+
+-- what follows from an answer, where there is one, and where there is none
+pub some_then : {A Q : Type 0} {P : A → Type 0} (o : Option A) → IfSome o P → ((a : A) → P a → Q) → OnSome o Q
+some_then None p there = tt
+some_then (Some a) p there = there a p
+
+pub none_then : {A R Q : Type 0} (o : Option A) → IfNone o R → (R → Q) → IfNone o Q
+none_then None r there = there r
+none_then (Some a) r there = tt
 
 pub by_byte : {Q : Type 0} (r : ByteIn) → ((b : ℕ) → r ≡ found.Byte b → Q) → (r ≡ found.Empty → Q) → (r ≡ found.Closed → Q) → Q
 by_byte (found.Byte b) byte empty closed = byte b refl

@@ -56,3 +56,13 @@ pub record HasPublished (n : ℕ) (port : BoardLink) : Type 0 where
   pub going : has_ended (published_in (board.sent_in log)) ≡ false
   pub few : ticks_published (board.sent_in log) ≤ n
   pub many : length (published_in (board.sent_in log)) ≤ n
+
+-- a stop waits for its halt, behind no end and at most so many ticks and pieces
+pub record AwaitsHalt (n : ℕ) (port : BoardLink) : Type 0 where
+  pub log : board.PortLog
+  pub did : BoardLogs port log
+  pub sees : BoardSees port log
+  pub waits : board.MayAskHalt log
+  pub going : has_ended (published_in (board.sent_in log)) ≡ false
+  pub few : ticks_published (board.sent_in log) ≤ n
+  pub many : length (published_in (board.sent_in log)) ≤ n

@@ -1,9 +1,10 @@
 //! What fresh ports take, and a host and a board in two threads.
 
-ghost use Rattle.std.specs.Prelude.{◌≡◌, ◌+◌, ◌<◌, ◌≤◌, true, false, OnOk, OnErr, IfOk, ℕ};
+ghost use Rattle.std.specs.Prelude.{◌≡◌, ◌+◌, ◌<◌, ◌≤◌, true, false, OnOk, OnErr, IfOk, OnSome, IfNone, ℕ};
+ghost use Rattle.motion_ring.specs.Ends.{left_in};
 ghost use Rattle.status_report.specs.Answering.{is_answer, is_banner};
 ghost use Rattle.status_report.specs.Replies.{IsReply};
-ghost use Rattle.link_ports.specs.Standing.{IsOpenBehind, OwesAnswers, HasPublished};
+ghost use Rattle.link_ports.specs.Standing.{IsOpenBehind, OwesAnswers, HasPublished, AwaitsHalt};
 
 use super::*;
 use bitflags::Flags;
@@ -26,6 +27,7 @@ fn fresh_ports(alloc: Global) -> Result<(HostLink<128>, BoardLink, SegIn), OutOf
     ensures host { IfOk result (λ r. IsOpenBehind 0 r.0) }
     ensures board { IfOk result (λ r. OwesAnswers 0 0 r.1) }
     ensures pieces { IfOk result (λ r. HasPublished 0 r.1) }
+    ensures idle { IfOk result (λ r. left_in r.2 ≡ 0) }
 {
     let (end, other) = link::<128>(alloc)?;
     let (flags, taker) = flag_table(alloc)?;
@@ -150,13 +152,37 @@ fn fill_replies(board: &mut BoardLink) -> u32
     answered
 }
 
-/// Publishes marks until one is handed back, and counts those that were not.
-fn fill_pieces(board: &mut BoardLink) -> u32
-    requires { HasPublished 0 board.old }
+/// Publishes a mark behind so many ticks, and tells the pulse to stop behind it. Whether there was room.
+fn publish_and_stop(board: &mut BoardLink, ticks: u32) -> bool
+    requires { HasPublished ticks board.old }
+    ensures { result ≡ true → AwaitsHalt (ticks + 1) board.new }
+{
+    match board.publish(Piece::Mark(Mark::Dwell(1))) {
+        Ok(()) => {
+            board.stop();
+            true
+        }
+        Err(_) => false,
+    }
+}
+
+/// Looks for the halt of the stop that waits.
+fn look(board: &mut BoardLink, ticks: u32) -> Option<u64>
+    requires { AwaitsHalt ticks board.old }
+    ensures some { OnSome result (HasPublished ticks board.new) }
+    ensures none { IfNone result (AwaitsHalt ticks board.new) }
+{
+    board.halted()
+}
+
+/// Publishes marks behind so many ticks until one is handed back, and counts those that were not.
+fn fill_pieces(board: &mut BoardLink, ticks: u32) -> u32
+    requires few { ticks < 1000 }
+    requires published { HasPublished ticks board.old }
 {
     let mut published = 0_u32;
     for _ in 0..1000_u32 {
-        match publish(board, published) {
+        match publish(board, ticks + published) {
             Ok(()) => published += 1,
             Err(_) => break,
         }
@@ -198,8 +224,41 @@ fn fresh_link_has_room_for_16_replies(rt: HostRuntime) {
 #[test]
 fn fresh_ring_has_room_for_five_marks(rt: HostRuntime) {
     let (_host, mut board, _into) = fresh_ports(rt.alloc()).expect(&rt, "memory");
-    assert_eq!(rt; fill_pieces(&mut board), 5);
+    assert_eq!(rt; fill_pieces(&mut board, 0), 5);
     assert_eq!(rt; board.done(), 0);
+}
+
+/// Of two marks one is traced before a stop, and the other dropped by its halt; then there is room for five more.
+#[test]
+fn board_that_was_halted_publishes_again(rt: HostRuntime) {
+    let (_host, mut board, mut into) = fresh_ports(rt.alloc()).expect(&rt, "memory");
+    let Ok(()) = publish(&mut board, 0) else {
+        panic!(rt; "no room for a piece");
+    };
+    if !publish_and_stop(&mut board, 1) {
+        panic!(rt; "no room for a second piece");
+    }
+    let None = look(&mut board, 2) else {
+        panic!(rt; "a halt that was not stored");
+    };
+    let Some(Piece::Mark(_)) = into.piece() else {
+        panic!(rt; "no mark");
+    };
+    into.tick_done();
+    let None = look(&mut board, 2) else {
+        panic!(rt; "a halt before all was dropped");
+    };
+    if !into.stopped() {
+        panic!(rt; "no stop");
+    }
+    into.halt();
+    let Some(done) = look(&mut board, 2) else {
+        panic!(rt; "no halt");
+    };
+    assert_eq!(rt; done, 1);
+    assert!(rt; !into.stopped());
+    assert_eq!(rt; fill_pieces(&mut board, 2), 5);
+    assert_eq!(rt; board.done(), 1);
 }
 
 /// Makes the ports where memory suffices.

@@ -9,11 +9,11 @@ use Rattle.link_ports.proofs.tests.publish.Goals as goal
 
 pub publish-requires : goal.publish-requires
 publish-requires c = let q = c.requires in let w = c.ranges.ticks.fits in
-    ((_, _, _), q.log, (refl, refl, refl, q.did, q.sees), record { running = q.running; going = q.going; follows = tt; few = (let f = q.few in omega arith); room = (let m = q.many in omega arith) })
+    ((_, _, _), q.log, (refl, refl, refl, q.did, q.sees), record { running = q.running; going = q.going; follows = omega arith; few = (let f = q.few in omega arith); room = (let m = q.many in omega arith) })
 
 pub returns-clause-ok : goal.returns-clause-ok
 returns-clause-ok c = let q = c.requires in let w = c.ranges.ticks.fits in on_ok_weaker c.publish.result
-    (λ s. let t = s (_, _, _) q.log (refl, refl, refl, q.did, q.sees) (record { running = q.running; going = q.going; follows = tt; few = (let f = q.few in omega arith); room = (let m = q.many in omega arith) }) in record {
+    (λ s. let t = s (_, _, _) q.log (refl, refl, refl, q.did, q.sees) (record { running = q.running; going = q.going; follows = omega arith; few = (let f = q.few in omega arith); room = (let m = q.many in omega arith) }) in record {
       log = published (Mark (Dwell 1)) ∷ q.log;
       did = t.3;
       sees = t.4;
