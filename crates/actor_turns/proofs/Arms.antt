@@ -5,7 +5,6 @@ use Rattle.outside.specs.declared.Actor.{Actor}
 use Rattle.outside.specs.declared.Actor.TheVariants as actors
 use Rattle.outside.specs.declared.Turn.{Turn}
 use Rattle.step_line.specs.declared.Record.{Record}
-use Rattle.step_line.specs.Logs.{NewestFirst}
 use Rattle.text_writer.specs.Writers.{Writing}
 use Rattle.stream_host.specs.declared.host.Host.{Host}
 use Rattle.stream_host.specs.Steps.{Journal as HostJournal, port_log as host_log, PortLog as HostLog}
@@ -52,8 +51,8 @@ turns_on actor t before after w w' m = record {
 }
 
 pub host_moves : (w : Seen) (host' : Host) (lists' : Listed) (t : Turn) (job job' : SourceState) (console console' steps : SinkState)
-    → ((far : BoardLog × PieceLog) (h : HostJournal) → Joined w.lists (host_log h) far.0 [] far.1 → HostFits w.host h → IsBetweenOfHost h
-    → (next : HostJournal) × Joined lists' (host_log next) far.0 [] far.1 × HostFits host' next × IsBetweenOfHost next × HostTurned t w.host host' h next × HostTellsOn w.host host' h next job job' console console')
+    → ((far : BoardLog × PieceLog) (h : HostJournal) → Joined w.lists (host_log h) far.0 far.1 → HostFits w.host h → IsBetweenOfHost h
+    → (next : HostJournal) × Joined lists' (host_log next) far.0 far.1 × HostFits host' next × IsBetweenOfHost next × HostTurned t w.host host' h next × HostTellsOn w.host host' h next job job' console console')
     → Moves actors.Host t (devices job console steps) (devices job' console' steps) w (record w { host = host'; lists = lists' })
 host_moves w host' lists' t job job' console console' steps turns = record {
   on = λ hist h. let n = turns (board_log hist.board, hist.pulse) hist.host h.joined h.host h.host_between in (
@@ -65,8 +64,8 @@ host_moves w host' lists' t job job' console console' steps turns = record {
 }
 
 pub board_moves : (w : Seen) (board' : Controller) (lists' : Listed) (t : Turn) (now : Devices)
-    → ((far : HostLog × PieceLog) (h : BoardJournal) → Joined w.lists far.0 (board_log h) [] far.1 → BoardFits w.board h → IsBetweenOfBoard h
-    → (next : BoardJournal) × Joined lists' far.0 (board_log next) [] far.1 × BoardFits board' next × IsBetweenOfBoard next × BoardTurned t w.board board' h next)
+    → ((far : HostLog × PieceLog) (h : BoardJournal) → Joined w.lists far.0 (board_log h) far.1 → BoardFits w.board h → IsBetweenOfBoard h
+    → (next : BoardJournal) × Joined lists' far.0 (board_log next) far.1 × BoardFits board' next × IsBetweenOfBoard next × BoardTurned t w.board board' h next)
     → Moves actors.Board t now now w (record w { board = board'; lists = lists' })
 board_moves w board' lists' t now turns = record {
   on = λ hist h. let n = turns (host_log hist.host, hist.pulse) hist.board h.joined h.board h.board_between in (
@@ -78,11 +77,11 @@ board_moves w board' lists' t now turns = record {
 }
 
 pub pulse_moves : (w : Seen) (pulse' : Pulsing) (lists' : Listed) (waiting' : List Record) (t : Turn) (now : Devices)
-    → ((far : HostLog × BoardLog × NewestFirst ℕ) (back : Log) (h : PieceLog) (k : RecordLog) → Joined w.lists far.0 far.1 far.2 h → HandsOn w.waiting k back → PulseFits w.pulse h k
-    → (h' : PieceLog) × (k' : RecordLog) × Joined lists' far.0 far.1 far.2 h' × HandsOn waiting' k' back × PulseFits pulse' h' k' × PulseTurned t h k h' k')
+    → ((far : HostLog × BoardLog) (back : Log) (h : PieceLog) (k : RecordLog) → Joined w.lists far.0 far.1 h → HandsOn w.waiting k back → PulseFits w.pulse h k
+    → (h' : PieceLog) × (k' : RecordLog) × Joined lists' far.0 far.1 h' × HandsOn waiting' k' back × PulseFits pulse' h' k' × PulseTurned t h k h' k')
     → Moves actors.Pulse t now now w (record w { pulse = pulse'; lists = lists'; waiting = waiting' })
 pulse_moves w pulse' lists' waiting' t now turns = record {
-  on = λ hist h. let n = turns (host_log hist.host, board_log hist.board, []) hist.takes hist.pulse hist.puts h.joined h.passed h.pulse in (
+  on = λ hist h. let n = turns (host_log hist.host, board_log hist.board) hist.takes hist.pulse hist.puts h.joined h.passed h.pulse in (
     record hist { pulse = n.0; puts = n.1 },
     record { joined = n.2; passed = n.3; host = h.host; host_between = h.host_between; board = h.board; board_between = h.board_between; pulse = n.4 },
     record { host = record { job = λ was x. x; console = λ was x. x }; recorder = record { on = λ was r. r } },

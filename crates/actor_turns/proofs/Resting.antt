@@ -7,7 +7,6 @@ use Rattle.outside.specs.declared.Turn.{Turn}
 use Rattle.outside.specs.declared.Turn.TheVariants.{Wait}
 use Rattle.outside.specs.declared.On.TheVariants as on
 use Rattle.outside.specs.Causes.{SinkState}
-use Rattle.step_line.specs.Logs.{NewestFirst}
 use Rattle.text_writer.specs.Writers.{Writing}
 use Rattle.stream_host.specs.Steps.{PortLog as HostLog}
 use Rattle.board_rules.specs.Ports.{PortLog as BoardLog}
@@ -26,14 +25,14 @@ use Rattle.actor_turns.proofs.Schedules.{order_more}
 
 -- ---- one turn
 
-joined_none : (l : Listed) (host : HostLog) (board : BoardLog) (stops : NewestFirst ℕ) (h : PieceLog) → Joined l host board stops h → Joined l host board stops (none ∷ (asked false ∷ h))
-joined_none l host board stops h j = record {
+joined_none : (l : Listed) (host : HostLog) (board : BoardLog) (h : PieceLog) → Joined l host board h → Joined l host board (none ∷ (asked false ∷ h))
+joined_none l host board h j = record {
   bytes = j.bytes;
   replies = j.replies;
   marks = j.marks;
   flags = j.flags;
   pieces = j.pieces;
-  stops = record { each = j.stops.each; known = λ shown. absurd cc };
+  stops = λ shown. absurd cc;
   asks = j.asks;
 }
 
@@ -45,7 +44,7 @@ recorder_fits v log was now f = record { each = f.each; going = f.going; over = 
 
 pulse_rests : (w : Seen) (now : Devices) → TurnsOn actors.Pulse (Wait on.Piece) now now w w
 pulse_rests w now = turns_on _ _ _ _ _ _ (pulse_moves w w.pulse w.lists w.waiting (Wait on.Piece) now (λ far back h k joined passed fits.
-    (none ∷ (asked false ∷ h), k, joined_none _ _ _ _ _ joined, passed, pulse_fits _ _ _ fits, (refl, refl))))
+    (none ∷ (asked false ∷ h), k, joined_none _ _ _ _ joined, passed, pulse_fits _ _ _ fits, (refl, refl))))
 
 recorder_rests : (w : Seen) (now : Devices) → MotionRests w → TurnsOn actors.Record (Wait on.Records) now now w w
 recorder_rests w now r = turns_on _ _ _ _ _ _ (recorder_moves w w.recorder w.waiting (Wait on.Records) now.job now.console now.steps now.steps (λ far log passed.

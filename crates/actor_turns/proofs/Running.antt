@@ -1,5 +1,5 @@
 -- What the actors of a world have done is a run of the job.
-use Rattle.std.proofs.Common.{◌≡◌, ℕ, ◌≤◌, Bool, true, false, ◌↔◌, [], ◌∷◌, length, reverse, refl, sym, ◌∙◌, subst, arith}
+use Rattle.std.proofs.Common.{◌≡◌, ℕ, ◌≤◌, Bool, true, false, ◌↔◌, [], ◌∷◌, length, reverse, refl, sym, ◌∙◌, arith}
 use Rattle.stream_host.specs.declared.Reading.{Reading}
 use Rattle.stream_host.specs.declared.Reading.TheVariants.{Ended, Failed, Large, Stopped}
 use Rattle.stream_host.specs.Steps.{is_shut, marks_in}
@@ -12,8 +12,11 @@ use Rattle.serial_ring.specs.Logs.{marked_in}
 use Rattle.run_law.specs.Ran.{IsLinked}
 use Rattle.run_law.specs.Fronts.{BeginsWith}
 use Rattle.status_report.specs.Answering.{receive_room, reply_room}
-use Rattle.step_line.specs.Finishing.{unfinished, most_unfinished}
 use Rattle.list_ports.specs.Passing.{record_room}
+use Rattle.list_ports.proofs.Steps.{all_counted, few_unfinished}
+use Rattle.list_ports.proofs.Steps.{pieces_front as fifo_of}
+use Rattle.controller.proofs.Kept.{kept_by}
+use Rattle.board_rules.proofs.Unstopped.{boards_never_stop}
 use Rattle.actor_turns.specs.Worlds.{Seen, History, Holds, LinkIsKept, FlagsAreKept, MotionIsKept}
 use Rattle.run_law.proofs.Resetting.{taken_were_raised}
 use Rattle.run_law.specs.Flags.{AreTaken}
@@ -29,7 +32,7 @@ pub replies_front : (w : Seen) (hist : History) → Holds w hist → BeginsWith 
 replies_front w hist h = record { rest = w.lists.replies; is = h.joined.replies.fifo }
 
 pub pieces_front : (w : Seen) (hist : History) → Holds w hist → BeginsWith (published_of hist.board) (reverse (pieces_of hist.pulse))
-pieces_front w hist h = record { rest = w.lists.pieces; is = h.joined.pieces.fifo }
+pieces_front w hist h = record { rest = w.lists.pieces; is = fifo_of w.lists (host_log hist.host) (board_log hist.board) hist.pulse h.joined }
 
 pub records_front : (w : Seen) (hist : History) → Holds w hist → BeginsWith (records_put hist.puts) (records hist.takes)
 records_front w hist h = record { rest = w.waiting; is = h.passed }
@@ -66,13 +69,13 @@ flags_are_kept w hist h = record { balance = h.joined.flags.balance }
 
 pub motion_is_kept : (w : Seen) (hist : History) → Holds w hist → length w.waiting ≤ record_room → MotionIsKept w hist
 motion_is_kept w hist h room =
-    let p = h.joined.pieces in
-    let is = p.done_is in
-    let all = p.ticks in
+    let kept = kept_by w.board hist.board h.board in
+    let none = boards_never_stop kept.first hist.board kept.conducted in
+    let all = all_counted w.lists (host_log hist.host) (board_log hist.board) hist.pulse h.joined none in
     record {
-      got = p.fifo;
+      got = fifo_of w.lists (host_log hist.host) (board_log hist.board) hist.pulse h.joined;
       done = omega arith;
-      few = subst (λ (n : ℕ). unfinished (published_of hist.board) n ≤ most_unfinished) is p.few;
+      few = few_unfinished w.lists (host_log hist.host) (board_log hist.board) hist.pulse h.joined none;
       taken = h.passed;
       room = room;
     }

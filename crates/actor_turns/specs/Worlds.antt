@@ -62,7 +62,7 @@ no_history = record { host = []; board = goes []; pulse = []; puts = []; takes =
 
 -- what a world says of what was done, with no word of a device
 pub record Holds (w : Seen) (hist : History) : Type 0 where
-  pub joined : Joined w.lists (host_log hist.host) (board_log hist.board) [] hist.pulse
+  pub joined : Joined w.lists (host_log hist.host) (board_log hist.board) hist.pulse
   pub passed : HandsOn w.waiting hist.puts hist.takes
   pub host : HostFits w.host hist.host
   pub host_between : IsBetweenOfHost hist.host

@@ -19,7 +19,7 @@ use stream_host::HostPort;
 
 /// Lists in which nothing is on its way.
 fn fresh<R: Abort>(rt: &R, alloc: Global) -> Lists
-    ensures { Joined result [] [] [] [] }
+    ensures { Joined result [] [] [] }
 {
     Lists::new(alloc).expect(rt, "memory")
 }

@@ -1,6 +1,6 @@
 -- What the ends of a rig have to do with each other, by the journals of its actors.
-use Rattle.std.proofs.Common.{◌≡◌, ℕ, Bool, true, List, [], ◌∷◌, ◌++◌, length, map, reverse, refl, sym, ap, ◌∙◌, arith, length-append, append-nil}
-use Rattle.std.proofs.lemmas.List.{reverse-append, reverse-reverse}
+use Rattle.std.proofs.Common.{◌≡◌, ℕ, Bool, true, List, [], ◌∷◌, ◌++◌, length, map, reverse, refl, sym, ap, ◌∙◌, arith, length-append}
+use Rattle.std.proofs.lemmas.List.{reverse-append}
 use Rattle.atomic_table.specs.Seated.{TableId}
 use Rattle.status_report.specs.declared.Reply.{Reply}
 use Rattle.serial_ring.specs.declared.view.LinkStep.{LinkStep}
@@ -16,10 +16,10 @@ use Rattle.motion_ring.specs.Rule.{AreTied as PiecesAreTied}
 use Rattle.motion_ring.specs.Sides.{published_in, some_stops, pieces_at}
 use Rattle.pulse_engine.specs.Logs.{PieceLog, pieces_of, halts_of}
 use Rattle.motion_ports.specs.Ports.{HasGot, numbers_of}
-use Rattle.board_rules.specs.Ports.{PortLog as BoardLog, link_steps}
+use Rattle.board_rules.specs.Ports.{PortLog as BoardLog, link_steps, sent_in}
 use Rattle.board_rules.specs.Ports.{taken_in as board_bytes, answered_in as board_replies, published_in as board_pieces}
 use Rattle.board_rules.proofs.LinkSteps.{taken_back, answered_back}
-use Rattle.link_ports.specs.Boards as board
+use Rattle.board_rules.proofs.Unstopped.{NeverStops, sent_alone, published_back}
 use Rattle.run_law.specs.Ran.{IsLinked}
 use Rattle.run_law.specs.Fronts.{BeginsWith}
 
@@ -64,15 +64,14 @@ no_halts [] (h ∷ halts) e = absurd (let n = ap length e in omega (arith, n))
 no_halts (w ∷ waiting) halts e = absurd (let n = ap length e in omega (arith, n))
 
 module _ (l : BoardLog) (h : PieceLog) (sent : Sent) (known : ℕ) (end : SegIn) (ring : TableId)
-    (sent_is : sent ≡ board.sent_in l) (got : HasGot end ring h) (t : PiecesAreTied sent known (pieces_taken_by end)) where
+    (sent_is : sent ≡ sent_in l) (got : HasGot end ring h) (t : PiecesAreTied sent known (pieces_taken_by end)) where
   -- it published what its log says
   pieces_back : board_pieces l ≡ reverse (published_in sent)
-  pieces_back =
-      sym (reverse-reverse (board_pieces l)) ∙ ap reverse (sym (append-nil (reverse (board_pieces l)))) ∙ sym (ap (λ s. reverse (published_in s)) sent_is)
+  pieces_back = published_back l ∙ sym (ap (λ s. reverse (published_in s)) sent_is)
 
   pub pieces_begin : BeginsWith (board_pieces l) (reverse (pieces_of h))
   pieces_begin = begins_with (board_pieces l) (reverse (pieces_of h)) (published_in sent) (passed_by end) t.rest pieces_back (ap reverse (sym got.passed_are)) t.pieces
 
   -- so the pulse never halted
-  pub never_halted : halts_of h ≡ []
-  never_halted = sym got.halts_are ∙ ap (λ hs. map numbers_of hs) (no_halts t.waiting (pieces_taken_by end).halts (sym (ap (λ s. some_stops s.stops) sent_is) ∙ t.stops))
+  pub never_halted : NeverStops l → halts_of h ≡ []
+  never_halted none = sym got.halts_are ∙ ap (λ hs. map numbers_of hs) (no_halts t.waiting (pieces_taken_by end).halts (sym (ap (λ s. some_stops s.stops) (sent_is ∙ sent_alone l none)) ∙ t.stops))

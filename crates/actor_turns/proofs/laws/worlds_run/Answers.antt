@@ -2,6 +2,7 @@ use Rattle.std.proofs.Common.{sym, ◌∙◌}
 use Rattle.stream_host.specs.Ran.{end_of}
 use Rattle.actor_turns.specs.Worlds.{sinks}
 use Rattle.controller.proofs.Kept.{kept_by}
+use Rattle.board_rules.proofs.Unstopped.{boards_never_stop}
 use Rattle.list_ports.proofs.Steps.{never_halts}
 use Rattle.actor_turns.proofs.Running.{bytes_front, replies_front, pieces_front, records_front, flags_taken, link}
 use Rattle.actor_turns.proofs.laws.worlds_run.Goals as goal
@@ -14,7 +15,7 @@ returns-clause-so_far c was now w hist st =
     c.actors_make_a_run_so_far.ensures was.job now.job (sinks was) (sinks now) _ _ _ _ _ _ _ _ _ _ _ _ _ _ _
     (host.so_far hist.host was.job now.job was.console now.console h.host.conducted st.job (host.console w.host hist.host was.console now.console h.host st.console))
     (c.boards_have_run.ensures.so_far kept.first hist.board kept.opening kept.conducted)
-    (c.pulses_have_run.ensures.so_far w.pulse hist.pulse hist.puts h.pulse (never_halts _ _ _ _ h.joined))
+    (c.pulses_have_run.ensures.so_far w.pulse hist.pulse hist.puts h.pulse (never_halts _ _ _ _ h.joined (boards_never_stop kept.first hist.board kept.conducted)))
     (c.recorders_have_run.ensures.so_far w.recorder hist.takes was.steps now.steps st.wrote)
     (bytes_front w hist h) (flags_taken w hist h) (replies_front w hist h) (pieces_front w hist h) (records_front w hist h)
 
@@ -27,6 +28,6 @@ returns-clause-whole c was now w hist st done =
     (host.whole hist.host was.job now.job was.console now.console h.host.conducted (host.finished w.host hist.host h.host done.host) st.job
     (host.console w.host hist.host was.console now.console h.host st.console))
     (c.boards_have_run.ensures.whole kept.first hist.board kept.opening kept.conducted (kept.ended done.board))
-    (c.pulses_have_run.ensures.whole w.pulse hist.pulse hist.puts h.pulse (never_halts _ _ _ _ h.joined) (sym h.pulse.end ∙ done.pulse))
+    (c.pulses_have_run.ensures.whole w.pulse hist.pulse hist.puts h.pulse (never_halts _ _ _ _ h.joined (boards_never_stop kept.first hist.board kept.conducted)) (sym h.pulse.end ∙ done.pulse))
     (c.recorders_have_run.ensures.whole w.recorder hist.takes was.steps now.steps st.wrote done.recorder)
     (link w hist h) (flags_taken w hist h) (replies_front w hist h) (pieces_front w hist h) (records_front w hist h)

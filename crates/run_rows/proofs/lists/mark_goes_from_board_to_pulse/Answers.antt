@@ -9,17 +9,17 @@ use Rattle.pulse_engine.specs.Logs.PieceEvent.{got}
 use Rattle.run_rows.proofs.lists.mark_goes_from_board_to_pulse.Goals as goal
 
 first_may : MayPublish [] (pieces.Mark (Dwell 1))
-first_may = record { next = record { going = refl; follows = omega arith }; few = omega arith }
+first_may = record { running = refl; going = refl; follows = omega arith; few = omega arith; room = omega arith }
 
 pub publish-requires : goal.publish-requires
 publish-requires g c = (([], []), [], c.fresh-lists.ensures, first_may)
 
 pub piece-requires : goal.piece-requires
-piece-requires g c = (([], published (pieces.Mark (Dwell 1)) ∷ [], []), [], c.in-Ok.ensures.ok ([], []) [] c.fresh-lists.ensures first_may, refl)
+piece-requires g c = (([], published (pieces.Mark (Dwell 1)) ∷ []), [], c.in-Ok.ensures.ok ([], []) [] c.fresh-lists.ensures first_may, refl)
 
 pub tick_done-requires : goal.tick_done-requires
 tick_done-requires g c =
     let j = c.in-Ok.ensures.ok ([], []) [] c.fresh-lists.ensures first_may in
-    let q = c.in-Some.ensures.some ([], published (pieces.Mark (Dwell 1)) ∷ [], []) [] j refl in
+    let q = c.in-Some.ensures.some ([], published (pieces.Mark (Dwell 1)) ∷ []) [] j refl in
     let more : 0 < length (ticks_of c.in-Some.piece) = subst (λ (p : Piece). 0 < length (ticks_of p)) (sym c.in-Mark.is) (omega arith) in
-    (([], published (pieces.Mark (Dwell 1)) ∷ [], []), got c.in-Some.piece ∷ [], q, more)
+    (([], published (pieces.Mark (Dwell 1)) ∷ []), got c.in-Some.piece ∷ [], q, more)

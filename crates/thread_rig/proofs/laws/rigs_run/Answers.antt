@@ -6,6 +6,7 @@ use Rattle.status_report.specs.Answering.{receive_room}
 use Rattle.stream_host.specs.Ran.{end_of}
 use Rattle.stream_host.specs.Steps.{port_log as host_log}
 use Rattle.board_rules.specs.Breaking.{log_of as board_log}
+use Rattle.board_rules.proofs.Unstopped.{boards_never_stop}
 use Rattle.run_law.specs.Devices.{sinks, HasRun}
 use Rattle.controller.proofs.Kept.{kept_by}
 use Rattle.thread_rig.proofs.Meeting.{begins_with, are_linked, bytes_back, replies_back, pieces_begin, never_halted}
@@ -30,7 +31,7 @@ returns c before after was is end ran agree =
     (law.console is.host.side.host host.journal before.console after.console host.fits host.console))
     (c.boards_have_run.ensures.whole kept.first board.journal kept.opening kept.conducted (kept.ended ran.board.done))
     (c.pulses_have_run.ensures.whole is.pulse.side.pulse pulse.got pulse.put pulse.fits
-    (never_halted log pulse.got _ _ _ _ board.did.pieces_are pulse.pieces agree.pieces) (sym pulse.fits.end ∙ ran.pulse.done))
+    (never_halted log pulse.got _ _ _ _ board.did.pieces_are pulse.pieces agree.pieces (boards_never_stop kept.first board.journal kept.conducted)) (sym pulse.fits.end ∙ ran.pulse.done))
     (c.recorders_have_run.ensures.whole is.recorder.side.recorder recorder.log before.steps after.steps recorder.fits ran.recorder.done)
     (are_linked _ _ _ _ _ _ _ _ _ _ _ receive_room link host.did.bytes_are (bytes_back log _ board.did.steps_are) host.did.shut_is board.did.over_is)
     (c.flags_that_are_taken_were_raised.ensures agree.words (host_log host.journal) log balance)

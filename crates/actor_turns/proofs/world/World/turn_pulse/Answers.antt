@@ -1,4 +1,4 @@
-use Rattle.std.proofs.Common.{None, [], sym}
+use Rattle.std.proofs.Common.{None, sym}
 use Rattle.stream_host.specs.Steps.{port_log as host_log}
 use Rattle.board_rules.specs.Breaking.{log_of as board_log}
 use Rattle.actor_turns.specs.Worlds.{devices}
@@ -6,7 +6,7 @@ use Rattle.actor_turns.proofs.Arms.{holds_on, turns_on, pulse_moves}
 use Rattle.actor_turns.proofs.world.World.turn_pulse.Goals as goal
 
 pub turn-requires : goal.turn-requires
-turn-requires c = let i = c.self.invariant in ((host_log i.0.host, board_log i.0.board, []), i.0.takes, i.0.pulse, i.0.puts, i.1.joined, i.1.passed, i.1.pulse)
+turn-requires c = let i = c.self.invariant in ((host_log i.0.host, board_log i.0.board), i.0.takes, i.0.pulse, i.0.puts, i.1.joined, i.1.passed, i.1.pulse)
 
 pub invariant_of-self : goal.invariant_of-self
 invariant_of-self c = holds_on _ _ _ _ _ _ (pulse_moves _ _ _ _ _ (devices (record { left = None; faults = 0 }) (record { held = None; faults = 0 }) (record { held = None; faults = 0 })) c.turn.ensures.logs) c.self.invariant

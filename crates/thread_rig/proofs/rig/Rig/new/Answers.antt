@@ -50,10 +50,9 @@ returns c =
           over_is = λ e. absurd cc;
           takes_are = sym flags.fresh.1;
           pieces_are = pieces.fresh.0;
-          turns = tt;
           known_is = omega arith;
         };
-        sees = record { byte_looks = (link.idle_board.0, link.idle_board.1); room_looks = link.idle_board.2; done_looks = pieces.fresh.2; saw = tt };
+        sees = record { byte_looks = (link.idle_board.0, link.idle_board.1); room_looks = link.idle_board.2; done_looks = pieces.fresh.2; halt_looks = pieces.fresh.3; saw = tt };
         fits = c.new-3.ensures;
       });
       pulse = subst PulseIsNew (sym pulse) (record { got = nothing_got _ pieces.idle.0 pieces.idle.1 pieces.idle.2 pieces.idle.3; put = records.fresh.0; fits = c.new-5.ensures });
