@@ -1,7 +1,7 @@
 -- Tasks, less those that ask something of the machine: what is left of them where jogs are cut.
 use Rattle.std.proofs.Common.{◌≡◌, ◌+◌, true, false, List, [], ◌∷◌, refl, ap}
 use Rattle.status_report.specs.declared.Reply.{Reply}
-use Rattle.run_rules.specs.Work.{Task, asks, tells, has_moves, has_normal, pauses}
+use Rattle.run_rules.specs.Work.{Task, asks, tells, has_moves, pauses}
 use Rattle.run_rules.specs.Work.Task.{ask, tell, pause, normal}
 use Rattle.board_rules.specs.Steps.{without_asks}
 use Rattle.board_rules.specs.Turns.{tells_next}
@@ -16,11 +16,6 @@ pub tells_kept : (ts : List Task) → tells (without_asks ts) ≡ tells ts
 tells_kept [] = refl
 tells_kept (tell r ∷ ts) = ap (λ (rs : List Reply). r ∷ rs) (tells_kept ts)
 tells_kept (_ ∷ ts) = tells_kept ts
-
-pub normal_kept : (ts : List Task) → has_normal (without_asks ts) ≡ has_normal ts
-normal_kept [] = refl
-normal_kept (normal ∷ ts) = refl
-normal_kept (_ ∷ ts) = normal_kept ts
 
 pub pauses_kept : (ts : List Task) → pauses (without_asks ts) ≡ pauses ts
 pauses_kept [] = refl

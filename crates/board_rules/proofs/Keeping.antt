@@ -26,10 +26,10 @@ use Rattle.planner_runs.specs.Runs.{IsPlannerRun, Plans, NeedsNoOther, Disturbed
 use Rattle.planner_runs.proofs.Runs.{goes_on, grows_by_override, grows_by_clear, disturbed_on, disturbed_more, disturbed_keeps, resets_on}
 use Rattle.plan_rules.specs.declared.Mode.TheVariants.{Go, Hold}
 use Rattle.board_rules.specs.Openings.{Opening}
-use Rattle.run_rules.specs.Work.{Task, Outcome, has_normal, tells, told_by}
+use Rattle.run_rules.specs.Work.{Task, Outcome, tells, told_by}
 use Rattle.run_rules.specs.Work.Task.{ask, pause, normal, finish, halt}
 use Rattle.run_rules.specs.Told.{replies_after}
-use Rattle.board_rules.proofs.Opening.{tells_telling, no_normal_told}
+use Rattle.board_rules.proofs.Opening.{tells_telling}
 use Rattle.board_rules.specs.Ports.{PortStep, has_changes, PortLog, holds_at, has_held_in, cancels_at, has_cancelled_in, has_slowed_in, changes_at, has_changed_in}
 use Rattle.board_rules.specs.Ports.PortStep.{answered, reported, took_exec, took_ovr, published}
 use Rattle.board_rules.specs.Steps.{Journal, port_log, has_limited, outcomes_of, answered_of, actions_of, planned_of, given_of, published_of, hand_of, plan_of, motion_of, left_of, left_by, behind, closed_tells}
@@ -38,7 +38,7 @@ use Rattle.board_rules.specs.Parts.{Part, AreDisturbedOnlyBy}
 use Rattle.board_rules.specs.Cuts.{part_actions, parts_of}
 use Rattle.board_rules.specs.Turns.{unobeyed_of}
 use Rattle.board_rules.specs.Conduct.{Conducted, MayDo, MayHappen, AreChanged}
-use Rattle.board_rules.proofs.Dropping.{normal_kept, tells_kept}
+use Rattle.board_rules.proofs.Dropping.{tells_kept}
 use Rattle.board_rules.proofs.Motions.{SlowsFor, slows_for}
 use Rattle.board_rules.proofs.Plain.{plain_push, report_push}
 
@@ -117,43 +117,11 @@ held_by_word first (became call m ∷ h) c is =
     by_motion first h call m c.0.1 (reached call (motion_of first h) m c.0.0) is (λ (was : motion_of first h ≡ Holding). held_by_word first h c.1 was)
 held_by_word first (_ ∷ h) c is = held_by_word first h c.1 is
 
--- overrides are changed by a word, or set at the end of a program
+-- overrides are changed by a word, or set to 100 percent
 changed_by_word : (h : Journal) (o : Overrides) → AreChanged o h → has_changed_in (port_log h) ≡ true
 changed_by_word h o are = ap has_changed_in are.last ∙ or_left (has_changes are.word) (has_changed_in are.earlier) are.some
 
-abbrev ends_a_program : Journal → Bool
-ends_a_program h = list_any (λ (o : Outcome). has_normal o.work) (outcomes_of h)
-
-normal_before : (tasks : List Task) → has_normal (drop 1 tasks) ≡ true → has_normal tasks ≡ true
-normal_before [] is = is
-normal_before (normal ∷ tasks) is = refl
-normal_before (_ ∷ tasks) is = is
-
-normal_behind : (a : Action) (tasks : List Task) → has_normal (left_by a tasks) ≡ true → has_normal tasks ≡ true
-normal_behind (Add m) tasks is = normal_before tasks is
-normal_behind (Mark m) tasks is = normal_before tasks is
-normal_behind Rest tasks is = normal_before tasks is
-normal_behind _ tasks is = is
-
--- what is left to do is of a line that was begun
-ends_by_line : (first : Opening) (h : Journal) → Conducted first h → has_normal (left_of first h) ≡ true → ends_a_program h ≡ true
-ends_by_line first [] c is = absurd (let e = sym is ∙ no_normal_told first.tells in cc)
-ends_by_line first (at_port (answered r) ∷ h) c is = ends_by_line first h c.1 (normal_before (left_of first h) is)
-ends_by_line first (began o ∷ h) c is = list_any-append (λ (x : Outcome). has_normal x.work) (outcomes_of h) (o ∷ [])
-    ∙ or_right (ends_a_program h) (has_normal o.work || false) (or_left (has_normal o.work) false is)
-ends_by_line first (did a ps ∷ h) c is = ends_by_line first h c.1 (normal_behind a (left_of first h) is)
-ends_by_line first (made_end ∷ h) c is = ends_by_line first h c.1 (normal_before (left_of first h) is)
-ends_by_line first (evened ∷ h) c is = ends_by_line first h c.1 (normal_before (left_of first h) is)
-ends_by_line first (paused ∷ h) c is = ends_by_line first h c.1 (normal_before (left_of first h) is)
-ends_by_line first (cut k ∷ h) c is = ends_by_line first h c.1 (sym (normal_kept (left_of first h)) ∙ is)
-ends_by_line first (halted ∷ h) c is = ends_by_line first h c.1 (normal_before (left_of first h) is)
-ends_by_line first (closing ∷ h) c is = absurd cc
-ends_by_line first (_ ∷ h) c is = ends_by_line first h c.1 is
-
-abbrev changes : Journal → Bool
-changes h = has_changed_in (port_log h) || ends_a_program h
-
--- of two reasons for a change either may be one more
+-- of two reasons either may be one more
 either_more : (a b c d : Bool) → (a ≡ true → c ≡ true) → (b ≡ true → d ≡ true) → (a || b) ≡ true → (c || d) ≡ true
 either_more true b c d ac bd e = or_left c d (ac refl)
 either_more false b c d ac bd e = or_right c d (bd e)
@@ -196,9 +164,9 @@ by_word_alone true alarmed none is = refl
 by_word_alone false true none is = absurd cc
 by_word_alone false false none is = is
 
-one_disturbs : (first : Opening) (h : Journal) (a : Action) → Conducted first h → MayDo first a h → NeedsNoOther (slows h) (changes h) a
+one_disturbs : (first : Opening) (h : Journal) (a : Action) → Conducted first h → MayDo first a h → NeedsNoOther (slows h) (has_changed_in (port_log h)) a
 one_disturbs first h (Take Hold) c may = slowed_by first h c (slows_for first h c may.slows)
-one_disturbs first h (Override o) c may = or_left (has_changed_in (port_log h)) (ends_a_program h) (changed_by_word h o may)
+one_disturbs first h (Override o) c may = inr (changed_by_word h o may)
 one_disturbs first h Clear c may = absurd may
 one_disturbs first h Reset c may = absurd may
 one_disturbs first h _ c may = tt
@@ -225,40 +193,34 @@ opposite : {A : Type 0} (b : Bool) → b ≡ false → b ≡ true → A
 opposite b none is = absurd (let e = sym is ∙ none in cc)
 
 -- it is slowed down only by a word that asks for a hold or a cancel, or where a line has raised an alarm, and planned for other
--- overrides only by a word that changes them, or at the end of a program
-pub disturbed_is : (first : Opening) (h : Journal) → Conducted first h → Disturbed first (has_slowed_in (port_log h)) (has_limited h) (changes h) h
+-- overrides than 100 percent only by a word that changes them
+pub disturbed_is : (first : Opening) (h : Journal) → Conducted first h → Disturbed first (has_slowed_in (port_log h)) (has_limited h) (has_changed_in (port_log h)) h
 disturbed_is first [] c = (tt, tt)
 disturbed_is first (at_port e ∷ h) c =
-    both_more first (has_slowed_in (port_log h)) (has_limited h) (changes h) (has_slowed_in (port_log (at_port e ∷ h))) (has_limited h) (changes (at_port e ∷ h)) h
-    (slowed_before e (port_log h)) (λ (is : has_limited h ≡ true). is)
-    (either_more (has_changed_in (port_log h)) (ends_a_program h) (changes_at e (has_changed_in (port_log h))) (ends_a_program h)
-    (changed_before e (has_changed_in (port_log h))) (λ (is : ends_a_program h ≡ true). is))
+    both_more first (has_slowed_in (port_log h)) (has_limited h) (has_changed_in (port_log h)) (has_slowed_in (port_log (at_port e ∷ h))) (has_limited h) (has_changed_in (port_log (at_port e ∷ h))) h
+    (slowed_before e (port_log h)) (λ (is : has_limited h ≡ true). is) (changed_before e (has_changed_in (port_log h)))
     (disturbed_is first h c.1)
 disturbed_is first (began o ∷ h) c =
-    both_more first (has_slowed_in (port_log h)) (has_limited h) (changes h) (has_slowed_in (port_log h)) (has_limited (began o ∷ h)) (changes (began o ∷ h)) h
+    both_more first (has_slowed_in (port_log h)) (has_limited h) (has_changed_in (port_log h)) (has_slowed_in (port_log h)) (has_limited (began o ∷ h)) (has_changed_in (port_log h)) h
     (λ (is : has_slowed_in (port_log h) ≡ true). is) (λ (is : has_limited h ≡ true). opposite (has_limited h) c.0.calm is)
-    (either_more (has_changed_in (port_log h)) (ends_a_program h) (has_changed_in (port_log h)) (ends_a_program (began o ∷ h))
     (λ (is : has_changed_in (port_log h) ≡ true). is)
-    (λ (is : ends_a_program h ≡ true). list_any-append (λ (x : Outcome). has_normal x.work) (outcomes_of h) (o ∷ []) ∙ or_left (ends_a_program h) (has_normal o.work || false) is))
     (disturbed_is first h c.1)
 disturbed_is first (did a ps ∷ h) c =
     let d = disturbed_is first h c.1 in
-    (disturbed_on (slows h) (changes h) (part_actions h) (a ∷ []) d.0 (one_disturbs first h a c.1 c.0.0, tt), d.1)
+    (disturbed_on (slows h) (has_changed_in (port_log h)) (part_actions h) (a ∷ []) d.0 (one_disturbs first h a c.1 c.0.0, tt), d.1)
 disturbed_is first (evened ∷ h) c =
-    let d = disturbed_is first h c.1 in (
-      disturbed_on (slows h) (changes h) (part_actions h) (Override normal_overrides ∷ []) d.0
-          (or_right (has_changed_in (port_log h)) (ends_a_program h) (ends_by_line first h c.1 (ap has_normal c.0.rests.next)), tt),
-      d.1,
-    )
+    let d = disturbed_is first h c.1 in
+    (disturbed_on (slows h) (has_changed_in (port_log h)) (part_actions h) (Override normal_overrides ∷ []) d.0 (inl refl, tt), d.1)
 disturbed_is first (cut k ∷ h) c =
     let d = disturbed_is first h c.1 in
-    let alone = disturbed_more (slows h) (changes h) (has_slowed_in (port_log h)) (changes h) (part_actions h) (by_word_alone (has_slowed_in (port_log h)) (has_limited h) c.0.calm) (λ (is : changes h ≡ true). is) d.0 in
+    let changed = has_changed_in (port_log h) in
+    let alone = disturbed_more (slows h) changed (has_slowed_in (port_log h)) changed (part_actions h) (by_word_alone (has_slowed_in (port_log h)) (has_limited h) c.0.calm) (λ (is : changed ≡ true). is) d.0 in
     (tt, (alone, d.1))
 disturbed_is first (_ ∷ h) c = disturbed_is first h c.1
 
 -- nothing is taken away but by cuts, and where the machine is halted
 pub never_clears : (first : Opening) (h : Journal) → Conducted first h → NeverClears (part_actions h)
-never_clears first h c = disturbed_keeps (slows h) (changes h) (part_actions h) (disturbed_is first h c).0
+never_clears first h c = disturbed_keeps (slows h) (has_changed_in (port_log h)) (part_actions h) (disturbed_is first h c).0
 
 -- ---- the plan
 

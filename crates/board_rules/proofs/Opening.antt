@@ -3,7 +3,7 @@ use Rattle.std.proofs.Common.{◌≡◌, ℕ, List, [], ◌∷◌, false, Bool, 
 use Rattle.std.specs.List.{AllByRecursion, flat_map}
 use Rattle.std.proofs.lemmas.List.Sums.{sum_by-cons}
 use Rattle.feed_hold.specs.declared.Motion.{Motion}
-use Rattle.run_rules.specs.Work.{Task, Outcome, tells, asks, telling, has_moves, has_normal, pauses}
+use Rattle.run_rules.specs.Work.{Task, Outcome, tells, asks, telling, has_moves, pauses}
 use Rattle.run_rules.specs.Told.{replies_after, replies_in}
 use Rattle.run_rules.proofs.Answering.{NoByes}
 use Rattle.run_rules.specs.Work.Task.{ask}
@@ -39,10 +39,6 @@ no_halt_told (r ∷ rs) = refl
 pub no_work_told : (rs : List Reply) → has_work (telling rs) ≡ false
 no_work_told [] = refl
 no_work_told (r ∷ rs) = no_work_told rs
-
-pub no_normal_told : (rs : List Reply) → has_normal (telling rs) ≡ false
-no_normal_told [] = refl
-no_normal_told (r ∷ rs) = no_normal_told rs
 
 pub no_pauses_told : (rs : List Reply) → pauses (telling rs) ≡ 0
 no_pauses_told [] = refl

@@ -19,7 +19,7 @@ ghost use Rattle.planner_runs.specs.Runs.{IsPlannerRun, IsAtRest, Plans, IsStart
 ghost use Rattle.board_rules.specs.Openings.{Opening, IsPlaced, before_first, first_opening};
 ghost use Rattle.run_rules.specs.declared.State.{State};
 ghost use Rattle.run_rules.specs.States.{IsOpening};
-ghost use Rattle.run_rules.specs.Work.{Outcome, is_limit, tells, asks, has_normal};
+ghost use Rattle.run_rules.specs.Work.{Outcome, is_limit, tells, asks};
 ghost use Rattle.run_rules.specs.Work.Task.{ask, tell};
 ghost use Rattle.run_rules.specs.Told.{replies_after, replies_in, asked_in, limits_in};
 ghost use Rattle.run_rules.specs.Outcomes.{Before, Becomes, Passed, Follows, start, became_of};
@@ -158,8 +158,7 @@ pub fn boards_do_a_bounded_amount()
 
 /// What a board does to its plan is a planner run; and so is what it has done since the last cut, from where nothing
 /// was left to run, to the plan as it is, or to what a halt has dropped. Only a word that asks for a hold or a cancel,
-/// or an alarm, slows it down; and only a word that changes overrides, or the end of a program, plans it for others;
-/// before that they are 100 percent. Only cuts and halts take blocks away. Segments go on while the machine runs or
+/// or an alarm, slows it down; and only a word that changes overrides plans it for others than 100 percent. Only cuts and halts take blocks away. Segments go on while the machine runs or
 /// jogs, and slow it down while it is being held, a jog is cancelled, or an alarm stops it. What was given is what the
 /// plan gave, and the end after it if it was made; it is published, or in hand, and comes in turn, so that the piece in
 /// hand may be published.
@@ -167,9 +166,9 @@ pub fn boards_run_their_plan()
     ensures run { (first : Opening) (h : Journal) → Conducted first h → IsPlannerRun (actions_of h) (planned_of h) (plan_of h) }
     ensures part { (first : Opening) (h : Journal) → Conducted first h → IsStart (part_start h) × Plans most_blocks (part_start h) (part_actions h) (part_given h) (part_plan h) }
     ensures disturbed { (first : Opening) (h : Journal) → Conducted first h →
-        DisturbedOnlyBy (has_slowed_in (port_log h) || has_limited h) (has_changed_in (port_log h) || list_any (λ o. has_normal o.work) (outcomes_of h)) (part_actions h) }
+        DisturbedOnlyBy (has_slowed_in (port_log h) || has_limited h) (has_changed_in (port_log h)) (part_actions h) }
     ensures parts { (first : Opening) (h : Journal) → Conducted first h →
-        AreDisturbedOnlyBy (has_slowed_in (port_log h)) (has_changed_in (port_log h) || list_any (λ o. has_normal o.work) (outcomes_of h)) (parts_of first h) }
+        AreDisturbedOnlyBy (has_slowed_in (port_log h)) (has_changed_in (port_log h)) (parts_of first h) }
     ensures overrides { (first : Opening) (h : Journal) → Conducted first h → has_changed_in (port_log h) ≡ false → (plan_of h).overrides ≡ normal_overrides }
     ensures held { (first : Opening) (h : Journal) → Conducted first h → motion_of first h ≡ Holding → has_held_in (port_log h) ≡ true }
     ensures cancelled { (first : Opening) (h : Journal) → Conducted first h → motion_of first h ≡ Cancelling → has_slowed_in (port_log h) ≡ true }

@@ -27,7 +27,7 @@ use Rattle.planner_runs.specs.declared.Action.{Action}
 use Rattle.planner_runs.specs.declared.Action.TheVariants.{Add, Take, Override, Mark, Rest, Clear, Reset}
 use Rattle.legal_heads.specs.Moves.{geometry_of}
 use Rattle.step_line.specs.Asking.{IsPlannedMove}
-use Rattle.planner_runs.specs.Runs.{Plans, fresh_plan, block_of, with_move, cleared, RunsInParts, MayAdd, IsStart, asked_by, all_asked, moves_added, ticks_asked, NeverClears, KeepsAll, NeverResets, IsNoReset, IsAtRest, NeedsNoOther, DisturbedOnlyBy}
+use Rattle.planner_runs.specs.Runs.{Plans, fresh_plan, block_of, with_move, cleared, RunsInParts, MayAdd, IsStart, asked_by, all_asked, moves_added, ticks_asked, NeverClears, KeepsAll, NeverResets, IsNoReset, IsAtRest, NeedsNoOther, DisturbedOnlyBy, normal_overrides}
 
 -- a run goes on
 pub goes_on : (most : ℕ) (p mid last : Planned) (actions more : List Action) (given next : List Piece)
@@ -293,7 +293,8 @@ needs_less : (held changed held_too changed_too : Bool) (a : Action) → (held �
 needs_less held changed held_too changed_too (Add m) holds changes is = tt
 needs_less held changed held_too changed_too (Take Go) holds changes is = tt
 needs_less held changed held_too changed_too (Take Hold) holds changes is = holds is
-needs_less held changed held_too changed_too (Override o) holds changes is = changes is
+needs_less held changed held_too changed_too (Override o) holds changes (inl normal) = inl normal
+needs_less held changed held_too changed_too (Override o) holds changes (inr asked) = inr (changes asked)
 needs_less held changed held_too changed_too (Mark m) holds changes is = tt
 needs_less held changed held_too changed_too Rest holds changes is = tt
 needs_less held changed held_too changed_too Clear holds changes is = absurd is
@@ -330,3 +331,22 @@ no_reset Reset is = absurd is
 pub keeps_on : (actions : List Action) → NeverClears actions → NeverResets actions
 keeps_on [] is = tt
 keeps_on (a ∷ rest) is = (no_reset a is.0, keeps_on rest is.1)
+
+-- ---- where no change of overrides was asked for
+
+overrides_kept : (most : ℕ) (p last : Planned) (held : Bool) (actions : List Action) (given : List Piece) → DisturbedOnlyBy held false actions → p.overrides ≡ normal_overrides
+    → Plans most p actions given last → last.overrides ≡ normal_overrides
+overrides_kept most p last held [] [] is from run = ap (λ (q : Planned). q.overrides) run ∙ from
+overrides_kept most p last held (Add m ∷ rest) ps is from run = overrides_kept most (with_move p m) last held rest ps is.1 from run.1
+overrides_kept most p last held (Override o ∷ rest) ps (inl normal, is) from run = overrides_kept most (record p { overrides = o }) last held rest ps is normal run.1
+overrides_kept most p last held (Override o ∷ rest) ps (inr asked, is) from run = absurd (let e = asked in cc)
+overrides_kept most p last held (Rest ∷ rest) ps is from run = overrides_kept most p last held rest ps is.1 from run.1
+overrides_kept most p last held (Clear ∷ rest) ps is from run = absurd is.0
+overrides_kept most p last held (Reset ∷ rest) ps is from run = absurd is.0
+overrides_kept most p last held (Take mode ∷ rest) (pieces.Segment s ∷ ps) is from run = overrides_kept most (advanced p s.n s.w_out) last held rest ps is.1 from run.1
+overrides_kept most p last held (Mark m ∷ rest) (pieces.Mark g ∷ ps) is from run = overrides_kept most p last held rest ps is.1 from run.3
+overrides_kept most p last held rest ps is from run = absurd run
+
+pub still_normal : (most : ℕ) (from last : Planned) (held : Bool) (actions : List Action) (given : List Piece) → from.overrides ≡ normal_overrides → DisturbedOnlyBy held false actions
+    → Plans most from actions given last → last.overrides ≡ normal_overrides
+still_normal most from last held actions given normal is run = overrides_kept most from last held actions given is normal run

@@ -13,7 +13,8 @@ use Rattle.planner_runs.specs.Runs.{Plans, IsStart, IsAtRest, IsPlannerRun, Dist
 
 -- What a whole run records of what it was asked for: the pieces of a planner run to which these moves, marks and rests
 -- are given, in this order; and after them the end, when the machine stands. Nothing else disturbs the run than a hold,
--- if there was one, and a change of overrides, if there was one; neither changes an event or a mark.
+-- if there was one, and a change of overrides, if one was asked for; if none was, they are 100 percent throughout.
+-- Neither changes an event or a mark.
 pub record IsDriven (held changed : Bool) (asked : List Asked) (records : List Record) : Type 0 where
   pub actions : List Action
   pub given : List Piece

@@ -1,5 +1,5 @@
 -- Planner runs: what is done to a plan, and the pieces that it gives.
-use Rattle.std.specs.Prelude.{◌≡◌, ℕ, ◌<◌, Bool, true, false, List, [], ◌∷◌, ◌++◌, length, map}
+use Rattle.std.specs.Prelude.{◌≡◌, ℕ, ◌<◌, ◌⊎◌, Bool, true, false, List, [], ◌∷◌, ◌++◌, length, map}
 use Rattle.std.specs.List.{flat_map, AllByRecursion}
 use Rattle.step_line.specs.declared.Mark.TheVariants as marks
 use Rattle.step_line.specs.declared.Piece.{Piece}
@@ -144,15 +144,17 @@ abbrev pub NeverResets : List Action → Type 0
 NeverResets actions = AllByRecursion IsNoReset actions
 
 -- An action that is done with no operator's word, but that segments may be taken to hold the machine if `held` says so,
--- and that it may be planned for other overrides if `changed` does. Nothing is taken away.
+-- and that it may be planned for other overrides if `changed` does: if not, each is set to 100 percent. Nothing is taken
+-- away.
 abbrev pub NeedsNoOther : (held changed : Bool) → Action → Type 0
 NeedsNoOther held changed (Take Hold) = held ≡ true
-NeedsNoOther held changed (Override o) = changed ≡ true
+NeedsNoOther held changed (Override o) = (o ≡ normal_overrides) ⊎ (changed ≡ true)
 NeedsNoOther held changed Clear = ⊥
 NeedsNoOther held changed Reset = ⊥
 NeedsNoOther held changed a = Unit {0}
 
--- nothing else disturbs these than a hold, if there was one, and a change of overrides, if there was one
+-- Nothing else disturbs these than a hold, if there was one, and a change of overrides, if one was asked for; what sets
+-- each to 100 percent needs no asking.
 abbrev pub DisturbedOnlyBy : (held changed : Bool) → List Action → Type 0
 DisturbedOnlyBy held changed actions = AllByRecursion (NeedsNoOther held changed) actions
 

@@ -1,6 +1,6 @@
 //! What holds of every planner run, and of every part of one that begins when nothing is left to run.
 
-ghost use Rattle.std.specs.Prelude.{◌≡◌, ◌∷◌, ◌++◌, ℕ, Bool, true, List, [], reverse};
+ghost use Rattle.std.specs.Prelude.{◌≡◌, ◌∷◌, ◌++◌, ℕ, Bool, true, false, List, [], reverse};
 ghost use Rattle.std.specs.List.{flat_map};
 ghost use Rattle.step_line.specs.declared.Mark.{Mark as AnyMark};
 ghost use Rattle.step_line.specs.declared.Mark.TheVariants.{Cut};
@@ -31,6 +31,7 @@ ghost use Rattle.planner_runs.specs.Runs.{
   IsStart,
   IsPlannerRun,
   fresh_plan,
+  normal_overrides,
   cleared,
   all_asked,
   moves_added,
@@ -148,6 +149,13 @@ pub fn halted_runs_are_legal()
 pub fn cleared_runs_begin_anew()
     ensures { (most : ℕ) (from last : Planned) (actions more : List AnyAction) (given : List AnyPiece) → IsStart from → NeverClears actions →
         Plans most from (actions ++ Clear ∷ more) given last → IsParted most from actions more given last }
+{}
+
+/// Where no change of overrides was asked for, each plan of a run is planned for 100 percent, if the first one is: whatever
+/// sets overrides then sets them so.
+pub fn overrides_are_asked_for()
+    ensures { (most : ℕ) (from last : Planned) (held : Bool) (actions : List AnyAction) (given : List AnyPiece) → from.overrides ≡ normal_overrides →
+        DisturbedOnlyBy held false actions → Plans most from actions given last → last.overrides ≡ normal_overrides }
 {}
 
 /// A planner run that only holds and changes of overrides disturb, and that ends with nothing left to run, is

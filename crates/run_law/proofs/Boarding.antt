@@ -49,7 +49,7 @@ use Rattle.board_rules.proofs.Keeping.{hand_is, told_is}
 use Rattle.board_rules.proofs.Lines.{bytes_are, lines_follow}
 use Rattle.board_rules.proofs.Owing.{owes_few}
 use Rattle.board_rules.proofs.Reporting.{reported_is}
-use Rattle.run_law.specs.Runs.{course, ends_program}
+use Rattle.run_law.specs.Runs.{course}
 use Rattle.run_law.specs.Ran.{HasReported, BoardRan}
 use Rattle.run_law.specs.Fronts.{BeginsWith}
 use Rattle.run_law.specs.Drives.{all_outcomes, all_passed, all_given, all_counts, IsDrive}
@@ -90,7 +90,7 @@ pub record Kept (first : State) (h : Journal) : Type 0 where
   pub told : replies_in (all_outcomes (drive_of first h)) ++ closed_tells h ≡ without_reports (answered_of h) ++ tells (left_of (first_opening first) h)
   pub bye : (closed_tells h ≡ []) ⊎ (closed_tells h ≡ Bye ∷ [])
   pub asked : asked_in (part_outcomes h) ≡ all_asked (part_actions h) ++ asks (left_of (first_opening first) h)
-  pub drives : IsDrive (has_slowed_in (port_log h)) (before_of (first_opening first) h).alarmed (has_changed_in (port_log h) || ends_program (all_outcomes (drive_of first h))) (cancel_words_in (port_log h)) (drive_of first h)
+  pub drives : IsDrive (has_slowed_in (port_log h)) (before_of (first_opening first) h).alarmed (has_changed_in (port_log h)) (cancel_words_in (port_log h)) (drive_of first h)
   pub alarmed : (before_of (first_opening first) h).alarmed ≡ has_limited h
   pub open_plan : has_limited h ≡ false → part_plan h ≡ plan_of h
   pub halt : has_limited h ≡ true → left_of (first_opening first) h ≡ [] → Halted first h
@@ -143,7 +143,7 @@ keeps first h conducted =
       told = ap (λ (os : List Outcome). replies_in os ++ closed_tells h) (sym lines) ∙ told_is (first_opening first) h conducted;
       bye = one_bye (first_opening first) h conducted;
       asked = asked_is (first_opening first) h conducted;
-      drives = subst (λ (t : Bool). IsDrive (has_slowed_in (port_log h)) t (has_changed_in (port_log h) || ends_program (all_outcomes (drive_of first h))) (cancel_words_in (port_log h)) (drive_of first h))
+      drives = subst (λ (t : Bool). IsDrive (has_slowed_in (port_log h)) t (has_changed_in (port_log h)) (cancel_words_in (port_log h)) (drive_of first h))
           (sym (alarmed_is (first_opening first) h)) (drives first h conducted);
       alarmed = alarmed_is (first_opening first) h;
       open_plan = calm_plan (first_opening first) h conducted;

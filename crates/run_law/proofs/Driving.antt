@@ -13,7 +13,7 @@ use Rattle.board_rules.specs.Conduct.{Conducted}
 use Rattle.board_rules.proofs.Alarms.{calm_plan, halted_alarmed}
 use Rattle.board_rules.proofs.Cancels.{few_cuts}
 use Rattle.board_rules.proofs.Keeping.{disturbed_is, never_clears}
-use Rattle.board_rules.proofs.Numbers.{parts_are, starts_are, joined_are, lines_are, numbers_are}
+use Rattle.board_rules.proofs.Numbers.{parts_are, starts_are, joined_are, numbers_are}
 use Rattle.board_rules.proofs.Parting.{asked_is, open_part}
 use Rattle.plan_rules.specs.Plans.{Planned}
 use Rattle.planner_runs.specs.declared.Action.TheVariants.{Clear, Mark}
@@ -41,14 +41,9 @@ use Rattle.step_line.specs.declared.Record.TheVariants as kinds
 use Rattle.legal_heads.specs.Speeds.{HasLegalHeads}
 use Rattle.run_law.specs.Drives.{Drive, all_outcomes, all_passed, all_actions, all_given, ticks_due, IsDrive, IsWholeDrive}
 use Rattle.run_law.specs.Fronts.{BeginsWith}
-use Rattle.run_law.specs.Runs.{ends_program}
 use Rattle.run_law.proofs.Begins.{begins_on, begins_each, ended_ticks}
 
 -- ---- of a board
-
--- what was done behind the last cut, and in the parts before, is disturbed by no more than these
-abbrev IsDisturbed : (slowed alarmed changed : Bool) → Drive → Type 0
-IsDisturbed slowed alarmed changed d = DisturbedOnlyBy (slowed || alarmed) changed d.actions × AreDisturbedOnlyBy slowed changed d.parts
 
 -- its open part is that of the journal, whose plan is kept as it was where the machine was halted
 abbrev pub drive_of : State → Journal → Drive
@@ -90,15 +85,10 @@ all_run first h c =
     goes_on most_blocks fresh_plan (part_start h) (part_plan h) (actions_in (parts_of (first_opening first) h)) (part_actions h) (pieces_in (parts_of (first_opening first) h)) (part_given h) (unreset first h c) (closed_run first h c) (open_part (first_opening first) h c).run
 
 pub drives : (first : State) (h : Journal) → Conducted (first_opening first) h
-    → IsDrive (has_slowed_in (port_log h)) (has_limited h) (has_changed_in (port_log h) || ends_program (all_outcomes (drive_of first h))) (cancel_words_in (port_log h)) (drive_of first h)
+    → IsDrive (has_slowed_in (port_log h)) (has_limited h) (has_changed_in (port_log h)) (cancel_words_in (port_log h)) (drive_of first h)
 drives first h c =
     let part = part_run first h c in
     let was = disturbed_is (first_opening first) h c in
-    let lines = lines_are (first_opening first) h c in
-    let slowed = has_slowed_in (port_log h) in
-    let alarmed = has_limited h in
-    let changed = has_changed_in (port_log h) in
-    let disturbed = subst (λ (os : List Outcome). IsDisturbed slowed alarmed (changed || ends_program os) (drive_of first h)) lines was in
     record {
       closed = parts_are (first_opening first) h c;
       joined = joined_are (first_opening first) h;
@@ -107,8 +97,8 @@ drives first h c =
       starts = part.0;
       part = part.1;
       run = all_run first h c;
-      before = disturbed.1;
-      disturbed = disturbed.0;
+      before = was.1;
+      disturbed = was.0;
       halts = halted_alarmed (first_opening first) h c;
       asks = record { rest = asks (left_of (first_opening first) h); is = asked_is (first_opening first) h c };
     }

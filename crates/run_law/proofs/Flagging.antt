@@ -7,8 +7,8 @@ use Rattle.stream_host.specs.Ran.{AreRaised}
 use Rattle.planner_runs.proofs.Runs.{disturbed_more}
 use Rattle.run_law.specs.Flags.{is_slow, is_change, AreTaken}
 use Rattle.board_rules.specs.Parts.{Part, AreDisturbedOnlyBy}
-use Rattle.run_law.specs.Drives.{Drive, all_outcomes, IsDrive}
-use Rattle.run_law.specs.Runs.{asks_slow, slows_in, asks_change, asks_reset, ends_program}
+use Rattle.run_law.specs.Drives.{Drive, IsDrive}
+use Rattle.run_law.specs.Runs.{asks_slow, slows_in, asks_change, asks_reset}
 
 -- ---- a test that some element passes
 
@@ -40,10 +40,10 @@ scanned_where_raised p scanned raised due resumes none are any =
     passes_some p (served_in scanned) (omega arith)
 
 -- one of two causes is scanned, or there is the other
-by_change : (a b c : Bool) → (a ≡ true → c ≡ true) → (a || b) ≡ true → (c || b) ≡ true
-by_change true b c on is = ap (λ t. t || b) (on refl)
-by_change false b true on is = refl
-by_change false b false on is = is
+either : (a b c : Bool) → (a ≡ true → c ≡ true) → (a || b) ≡ true → (c || b) ≡ true
+either true b c on is = ap (λ t. t || b) (on refl)
+either false b true on is = refl
+either false b false on is = is
 
 parts_more : (slowed changed slowed_too changed_too : Bool) (ps : List Part) → (slowed ≡ true → slowed_too ≡ true) → (changed ≡ true → changed_too ≡ true)
     → AreDisturbedOnlyBy slowed changed ps → AreDisturbedOnlyBy slowed_too changed_too ps
@@ -53,12 +53,10 @@ parts_more slowed changed slowed_too changed_too (p ∷ ps) f g is =
 
 -- so what disturbs a drive is scanned, and jogs are cut no more often than it
 pub driven_by : (scanned raised due : List ℕ) (resumes : ℕ) (held slowed alarmed changed reset : Bool) (asked cancels : ℕ) (d : Drive) → AreRaised scanned raised due resumes → AreTaken raised held slowed changed reset asked cancels
-    → IsDrive slowed alarmed (changed || ends_program (all_outcomes d)) cancels d → IsDrive (asks_slow scanned) alarmed (asks_change scanned || ends_program (all_outcomes d)) (slows_in scanned) d
+    → IsDrive slowed alarmed changed cancels d → IsDrive (asks_slow scanned) alarmed (asks_change scanned) (slows_in scanned) d
 driven_by scanned raised due resumes held slowed alarmed changed reset asked cancels d are taken was =
-    let ends = ends_program (all_outcomes d) in
     let slows : slowed ≡ true → asks_slow scanned ≡ true = λ is. scanned_where_raised is_slow scanned raised due resumes refl are (taken.slowed_by is) in
-    let changes : (changed || ends) ≡ true → (asks_change scanned || ends) ≡ true =
-    λ is. by_change changed ends (asks_change scanned) (λ now. scanned_where_raised is_change scanned raised due resumes refl are (taken.changed_by now)) is in
+    let changes : changed ≡ true → asks_change scanned ≡ true = λ is. scanned_where_raised is_change scanned raised due resumes refl are (taken.changed_by is) in
     record {
       closed = was.closed;
       joined = was.joined;
@@ -67,8 +65,8 @@ driven_by scanned raised due resumes held slowed alarmed changed reset asked can
       starts = was.starts;
       part = was.part;
       run = was.run;
-      before = parts_more slowed (changed || ends) (asks_slow scanned) (asks_change scanned || ends) d.parts slows changes was.before;
-      disturbed = disturbed_more (slowed || alarmed) (changed || ends) (asks_slow scanned || alarmed) (asks_change scanned || ends) d.actions (by_change slowed alarmed (asks_slow scanned) slows) changes was.disturbed;
+      before = parts_more slowed changed (asks_slow scanned) (asks_change scanned) d.parts slows changes was.before;
+      disturbed = disturbed_more (slowed || alarmed) changed (asks_slow scanned || alarmed) (asks_change scanned) d.actions (either slowed alarmed (asks_slow scanned) slows) changes was.disturbed;
       halts = was.halts;
       asks = was.asks;
     }

@@ -34,7 +34,7 @@ use Rattle.run_law.proofs.Flagging.{driven_by, no_reset}
 use Rattle.run_law.proofs.Begins.{begins_on, begins_by, lines_begin, ended_records, ended_ticks}
 use Rattle.run_law.proofs.Driving.{became_all, made_ticks, whole_drive}
 use Rattle.run_law.specs.Drives.{Drive, all_outcomes, all_passed, all_given, all_counts, ticks_due}
-use Rattle.run_law.specs.Runs.{Sinks, ended, course, asks_hold, asks_slow, slows_in, asks_change, asks_reset, ends_program, AreReports, IsRun}
+use Rattle.run_law.specs.Runs.{Sinks, ended, course, asks_hold, asks_slow, slows_in, asks_change, asks_reset, AreReports, IsRun}
 use Rattle.run_law.specs.Fronts.{BeginsWith}
 use Rattle.run_law.proofs.Reporting.{scanned_grows, scanned_few, reported_front, few_front, errors_without}
 use Rattle.run_law.specs.Ran.{HasReported, BoardRan, PulseRan, RecorderRan, IsLinked}
@@ -158,7 +158,7 @@ runs_by job_was job_is was is end steps_failed stored raised taken shut closed h
         kept = board.kept;
         recorded = put_is;
         ticks = subst (λ (rs : List Record). BeginsWith (ticks_due board.drive) rs) (sym (ap ticks_among put_is ∙ ended_ticks board.made))
-            (made_ticks slowed board.last.alarmed (changed || ends_program (all_outcomes board.drive)) cancels board.drive board.made board.drives board.kept);
+            (made_ticks slowed board.last.alarmed changed cancels board.drive board.made board.drives board.kept);
         least = (let answered : end.answered ≡ answers_in answered = host.answered ∙ sym (answers_without got) ∙ ap answers_in same_replies ∙ answers_without answered in
             let ticks : ticks_among put ≡ flat_map ticks_of board.made = ap ticks_among put_is ∙ ended_ticks board.made in
             let as_many = ap (λ (n : ℕ). fewest n (all_outcomes board.drive) (all_counts board.drive)) answered in
@@ -177,7 +177,7 @@ runs_by job_was job_is was is end steps_failed stored raised taken shut closed h
             record {
               begun_are = all_lines;
               said_are = w.told;
-              driven = whole_drive (asks_slow host.scanned) board.last.alarmed (asks_change host.scanned || ends_program (all_outcomes board.drive)) (slows_in host.scanned) board.drive put calm drives w.asks w.rests
+              driven = whole_drive (asks_slow host.scanned) board.last.alarmed (asks_change host.scanned) (slows_in host.scanned) board.drive put calm drives w.asks w.rests
                   (put_is ∙ ap (λ (ps : List Piece). all_records ps ++ kinds.End ∷ []) w.whole);
               ticks_are = ticks_of_pieces (all_given board.drive) ∙ ap (flat_map ticks_of) (sym w.whole) ∙ sym (ap ticks_among put_is ∙ ended_ticks board.made);
               answered = (let a = host.answered in let n = answered_all (unreset none) in let z = ap one_if calm in

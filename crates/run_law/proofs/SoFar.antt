@@ -19,7 +19,7 @@ use Rattle.stream_host.specs.Links.{on_link}
 use Rattle.stream_host.specs.Ran.{HostRuns}
 use Rattle.stream_host.proofs.Pieces.{lines_back}
 use Rattle.run_law.specs.Flags.{AreTaken}
-use Rattle.run_law.specs.Runs.{Sinks, ends_program}
+use Rattle.run_law.specs.Runs.{Sinks}
 use Rattle.run_law.proofs.Flagging.{driven_by, no_reset}
 use Rattle.run_law.specs.Fronts.{BeginsWith}
 use Rattle.run_law.specs.SoFar.{BoardRuns, PulseRuns, RecorderRuns, IsSoFar}
@@ -75,7 +75,7 @@ runs_so_far job_was job_is was is stored raised taken held slowed changed reset 
       whole = λ none. board.whole (no_reset host.scanned raised host.due host.resumes held slowed changed reset asked cancels host.raises flags none);
       records = got_records;
       recorded = records_are;
-      ticks = ticks_begin slowed board.last.alarmed (changed || ends_program (all_outcomes board.drive)) cancels board.drive board.made got_records board.drives board.kept records_are;
+      ticks = ticks_begin slowed board.last.alarmed changed cancels board.drive board.made got_records board.drives board.kept records_are;
       reports = reports_are board.first board.drive host.scanned raised host.due host.resumes held slowed changed reset asked cancels host.lines (ticks_among (all_records (all_given board.drive))) answered got host.raises flags board.reported board.reports some_replies
           (ticks_of_pieces (all_given board.drive)) host.reported;
       steps_failed = recorder.failed;

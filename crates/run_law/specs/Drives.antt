@@ -71,8 +71,8 @@ ticks_due d = flat_map ticks_of (pieces_in d.parts) ++ ticks_of_all (asked_in d.
 -- alone; it came to a stop, with legal heads, and was cleared, and the next began there. The number of each cut is that
 -- of the lines before it, and these rise; there are no more cuts than `cancels`. Of the lines after the last cut a
 -- front of what they ask for was asked of the plan. All of it is one planner run, and nothing else disturbed its parts
--- than a hold or a cancel, if one was taken, and a change of overrides, if there was one; and after the last cut an
--- alarm, if a line raised one. The machine was halted only then.
+-- than a hold or a cancel, if one was taken, and a change of overrides, if one was asked for: without that they are 100
+-- percent throughout; and after the last cut an alarm, if a line raised one. The machine was halted only then.
 pub record IsDrive (slowed alarmed changed : Bool) (cancels : ℕ) (d : Drive) : Type 0 where
   pub closed : AllByRecursion IsCutPart d.parts
   pub joined : AreJoined d.parts

@@ -25,7 +25,7 @@ use Rattle.serial_ring.specs.Marks.{Mark, AreMarks}
 use Rattle.board_rules.specs.Parts.{IsHaltedPart, plan_behind}
 use Rattle.run_law.specs.Fronts.{BeginsWith}
 use Rattle.run_law.specs.Drives.{Drive, all_outcomes, all_passed, all_given, all_counts, IsDrive}
-use Rattle.run_law.specs.Runs.{course, ends_program}
+use Rattle.run_law.specs.Runs.{course}
 
 -- Each report among these replies fits what was driven, while a hold was taken, or a change of overrides, or not.
 abbrev pub HasReported : State → Drive → Bool → Bool → List Reply → Type 0
@@ -70,7 +70,7 @@ pub record BoardRan (taken : List ℕ) (closed held slowed changed reset : Bool)
   pub front : BeginsWith (replies_in (all_outcomes drive)) said
   pub told : without_reports answered ≡ said ++ Bye ∷ []
   pub one : length (all_outcomes drive) ≤ answers_in answered + 1
-  pub drives : IsDrive slowed last.alarmed (changed || ends_program (all_outcomes drive)) cancels drive
+  pub drives : IsDrive slowed last.alarmed changed cancels drive
   pub made : List Piece
   pub kept : BeginsWith (all_given drive) made
   pub gave : published ≡ made ++ pieces.End ∷ []

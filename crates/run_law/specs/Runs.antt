@@ -11,7 +11,7 @@ use Rattle.step_line.specs.declared.Record.{Record}
 use Rattle.flight.specs.Places.{origin}
 use Rattle.run_rules.specs.declared.State.{State}
 use Rattle.run_rules.specs.States.{IsOpening}
-use Rattle.run_rules.specs.Work.{Outcome, has_normal, is_limit}
+use Rattle.run_rules.specs.Work.{Outcome, is_limit}
 use Rattle.run_rules.specs.Outcomes.{Before, Follows, start}
 use Rattle.run_rules.specs.Reports.{Course, Reported, AreReported, fewest, is_query}
 use Rattle.status_report.specs.Answering.{receive_room, answers_in, without_reports, reports_among}
@@ -68,10 +68,6 @@ asks_change scanned = list_any is_change (served_in scanned)
 abbrev pub asks_reset : List ℕ → Bool
 asks_reset scanned = list_any is_reset (served_in scanned)
 
--- a line that ends a program sets all overrides to 100 percent
-abbrev pub ends_program : List Outcome → Bool
-ends_program outcomes = list_any (λ o. has_normal o.work) outcomes
-
 -- what reports are judged by, if these are all ticks that were made
 abbrev pub course : State → Drive → List Record → Bool → Bool → Course
 course first drive ticks held changed = record {
@@ -100,7 +96,7 @@ pub record AreReports (first : State) (drive : Drive) (ticks : List Record) (lin
 pub record IsCarriedOutWhole (scanned : List ℕ) (lines begun : List (List ℕ)) (drive : Drive) (said : List Reply) (records : List Record) (end : RunEnd) : Type 0 where
   pub begun_are : begun ≡ map plain lines
   pub said_are : said ≡ replies_in (all_outcomes drive)
-  pub driven : IsWholeDrive (asks_slow scanned) (asks_change scanned || ends_program (all_outcomes drive)) drive records
+  pub driven : IsWholeDrive (asks_slow scanned) (asks_change scanned) drive records
   pub ticks_are : ticks_among (all_records (all_given drive)) ≡ ticks_among records
   -- each line has one answer
   pub answered : end.answered ≡ length lines
@@ -151,10 +147,10 @@ pub record IsToldAndAnswered (was is : Sinks) (end : RunEnd) (scanned : List ℕ
 -- so their ticks are the first of those that are due. However the run ended, the ticks of the lines up to the last answered
 -- one that settles are there: of each line those that count, all that it asks for but for what a cut or a halt dropped.
 -- Holds, resumes and overrides change no event. A segment slows down only if a `!` or a 0x85 was scanned, or a line raised
--- an alarm, and it is planned for other overrides only if a byte that changes them was scanned, or a program ended. The text
--- is whole if no write failed.
+-- an alarm, and it is planned for other overrides than 100 percent only if a byte that changes them was scanned. The text is
+-- whole if no write failed.
 pub record IsRecorded (was is : Sinks) (end : RunEnd) (scanned : List ℕ) (drive : Drive) (last : Before) (made : List Piece) (records : List Record) : Type 0 where
-  pub drives : IsDrive (asks_slow scanned) last.alarmed (asks_change scanned || ends_program (all_outcomes drive)) (slows_in scanned) drive
+  pub drives : IsDrive (asks_slow scanned) last.alarmed (asks_change scanned) (slows_in scanned) drive
   pub kept : BeginsWith (all_given drive) made
   pub recorded : records ≡ all_records made ++ kinds.End ∷ []
   pub ticks : BeginsWith (ticks_due drive) (ticks_among records)

@@ -24,15 +24,15 @@ use Rattle.stream_host.specs.declared.Reading.{Reading}
 use Rattle.stream_host.specs.declared.Stop.{Stop}
 use Rattle.stream_host.specs.Jobs.{IsSentSoFar}
 use Rattle.status_report.specs.Answering.{without_reports, reports_among}
-use Rattle.run_law.specs.Runs.{Sinks, AreReports, asks_slow, slows_in, asks_change, asks_reset, ends_program}
+use Rattle.run_law.specs.Runs.{Sinks, AreReports, asks_slow, slows_in, asks_change, asks_reset}
 use Rattle.run_law.specs.Fronts.{BeginsWith}
 use Rattle.run_law.specs.Drives.{Drive, all_outcomes, all_passed, all_given, ticks_due, IsDrive}
 use Rattle.run_law.specs.Ran.{HasReported}
 
 -- A board runs: it has begun a front of the lines that it took, and what was told, asked and published is a front of
 -- what these tell and ask for, part by part, with its end after that: after all of it, unless a reset was taken.
--- Nothing else disturbed the plan than a hold or a cancel, if one was taken, a change of overrides, if one was taken or
--- a program ended, and an alarm, if a line raised one; and jogs were cut as often at most as words that ask for a hold
+-- Nothing else disturbed the plan than a hold or a cancel, if one was taken, a change of overrides, if one was taken,
+-- and an alarm, if a line raised one; and jogs were cut as often at most as words that ask for a hold
 -- or a cancel were taken.
 pub record BoardRuns (taken : List ℕ) (held slowed changed reset : Bool) (asked cancels : ℕ) (answered : List Reply) (published : List Piece) : Type 0 where
   pub first : State
@@ -45,7 +45,7 @@ pub record BoardRuns (taken : List ℕ) (held slowed changed reset : Bool) (aske
   pub said : List Reply
   pub front : BeginsWith (replies_in (all_outcomes drive)) said
   pub told : BeginsWith (said ++ Bye ∷ []) (without_reports answered)
-  pub drives : IsDrive slowed last.alarmed (changed || ends_program (all_outcomes drive)) cancels drive
+  pub drives : IsDrive slowed last.alarmed changed cancels drive
   pub made : List Piece
   pub kept : BeginsWith (all_given drive) made
   pub gave : BeginsWith (made ++ pieces.End ∷ []) published
@@ -90,7 +90,7 @@ pub record IsSoFar (job_was job_is : SourceState) (was is : Sinks) : Type 0 wher
   pub console_failed : Bool
   pub text_left : List ℕ
   pub console : Wrote was.console is.console console_failed text_left (replies_text got)
-  pub drives : IsDrive (asks_slow scanned) last.alarmed (asks_change scanned || ends_program (all_outcomes drive)) (slows_in scanned) drive
+  pub drives : IsDrive (asks_slow scanned) last.alarmed (asks_change scanned) (slows_in scanned) drive
   pub records : List Record
   pub made : List Piece
   pub kept : BeginsWith (all_given drive) made

@@ -21,7 +21,7 @@ use Rattle.stream_host.specs.Ran.{is_failed}
 use Rattle.stream_host.proofs.Pieces.{neither, all_are_sent}
 use Rattle.run_law.specs.declared.RunEnd.{RunEnd}
 use Rattle.run_law.specs.Drives.{all_outcomes, all_passed, IsDrive, IsWholeDrive}
-use Rattle.run_law.specs.Runs.{Sinks, AreReports, asks_slow, slows_in, asks_change, asks_reset, ends_program, IsRun}
+use Rattle.run_law.specs.Runs.{Sinks, AreReports, asks_slow, slows_in, asks_change, asks_reset, IsRun}
 use Rattle.run_law.proofs.Completing.{complete}
 use Rattle.run_status.specs.declared.Status.{Status}
 use Rattle.run_status.specs.declared.Status.TheVariants.{SourceFault, ConsoleFault, StepsFault, LongLine, Reset, Alarm, TooLarge}
@@ -232,9 +232,9 @@ by_cases job_was job_is was is end run false false false stops.End es ec en et =
             (subst (λ (ls : List (List ℕ)). AreReports run.first run.drive (ticks_among run.records) ls run.scanned run.replies) all.lines
             (subst (λ (ticks : List Record). AreReports run.first run.drive ticks run.lines run.scanned run.replies) carried.ticks_are run.reports));
         records = run.records;
-        drives = subst (λ (text : List ℕ). IsDrive (asks_slow text) false (asks_change text || ends_program (all_outcomes run.drive)) (slows_in text) run.drive) (sym all.all)
-            (subst (λ (alarm : Bool). IsDrive (asks_slow run.scanned) alarm (asks_change run.scanned || ends_program (all_outcomes run.drive)) (slows_in run.scanned) run.drive) calm run.recording.drives);
-        driven = subst (λ (text : List ℕ). IsWholeDrive (asks_slow text) (asks_change text || ends_program (all_outcomes run.drive)) run.drive run.records) (sym all.all) carried.driven;
+        drives = subst (λ (text : List ℕ). IsDrive (asks_slow text) false (asks_change text) (slows_in text) run.drive) (sym all.all)
+            (subst (λ (alarm : Bool). IsDrive (asks_slow run.scanned) alarm (asks_change run.scanned) (slows_in run.scanned) run.drive) calm run.recording.drives);
+        driven = subst (λ (text : List ℕ). IsWholeDrive (asks_slow text) (asks_change text) run.drive run.records) (sym all.all) carried.driven;
         steps = whole_text was.steps is.steps end.steps_failed _ es run.recording.steps;
         status_is = ap by_errors carried.errors;
       };

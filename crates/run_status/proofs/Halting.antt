@@ -24,7 +24,7 @@ use Rattle.stream_host.specs.Jobs.{IsSentSoFar}
 use Rattle.run_law.specs.declared.RunEnd.{RunEnd}
 use Rattle.run_law.specs.Fronts.{BeginsWith}
 use Rattle.run_law.specs.Drives.{all_outcomes, all_passed, IsDrive}
-use Rattle.run_law.specs.Runs.{Sinks, AreReports, asks_slow, slows_in, asks_change, asks_reset, ends_program, IsRun}
+use Rattle.run_law.specs.Runs.{Sinks, AreReports, asks_slow, slows_in, asks_change, asks_reset, IsRun}
 use Rattle.run_law.proofs.Driving.{became_all}
 use Rattle.run_status.specs.Ends.{IsHaltedRun}
 use Rattle.run_status.proofs.Stops.{by_alarm, not_reset}
@@ -152,7 +152,7 @@ halted_run job_was job_is was is end run k es ec et =
       driven = at.passed_are;
       records = run.records;
       reports = subst (λ (ticks : List Record). AreReports run.first run.drive ticks run.lines run.scanned run.replies) carried.ticks_are run.reports;
-      drives = subst (λ (alarm : Bool). IsDrive (asks_slow run.scanned) alarm (asks_change run.scanned || ends_program (all_outcomes run.drive)) (slows_in run.scanned) run.drive) alarmed run.recording.drives;
+      drives = subst (λ (alarm : Bool). IsDrive (asks_slow run.scanned) alarm (asks_change run.scanned) (slows_in run.scanned) run.drive) alarmed run.recording.drives;
       halted = carried.halted;
       part = carried.part;
       recorded = carried.recorded;

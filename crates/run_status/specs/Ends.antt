@@ -31,7 +31,7 @@ use Rattle.stream_host.specs.Jobs.{MayHaveRead, MayScan, IsSentSoFar, is_long, h
 use Rattle.run_law.specs.declared.RunEnd.{RunEnd}
 use Rattle.run_law.specs.Fronts.{BeginsWith}
 use Rattle.run_law.specs.Drives.{Drive, all_outcomes, all_passed, all_given, ticks_due, IsDrive, IsWholeDrive}
-use Rattle.run_law.specs.Runs.{Sinks, AreReports, asks_slow, slows_in, asks_change, ends_program, IsRun}
+use Rattle.run_law.specs.Runs.{Sinks, AreReports, asks_slow, slows_in, asks_change, IsRun}
 use Rattle.run_law.specs.Complete.{IsAcceptedJob}
 use Rattle.run_status.specs.declared.Status.{Status}
 use Rattle.run_status.specs.declared.Status.TheVariants.{Done, LineErrors, Usage, SourceFault, ConsoleFault, StepsFault, LongLine, Reset, Alarm, TooLarge, OutOfMemory}
@@ -71,7 +71,7 @@ IsWhole _ = ⊥
 -- and marks, in order and each once, heads with legal speeds, and the end. Where jogs were cut, as often at most as `!` and
 -- 0x85 stand in the job, the drive is one of parts: of a part that a cut ended the events of jogs alone are lost, behind the
 -- first ones. Nothing else disturbs the drive than a hold or a cancel, where a `!` or 0x85 stands in the job, and a change of
--- overrides, where a byte that asks for one does or a program ended.
+-- overrides, where a byte that asks for one does: without such a byte they are 100 percent throughout.
 pub record IsWholeRun (job_was job_is : SourceState) (was is : Sinks) (status : Status) : Type 0 where
   pub job : List ℕ
   pub first : State
@@ -88,8 +88,8 @@ pub record IsWholeRun (job_was job_is : SourceState) (was is : Sinks) (status : 
   pub console : Appends was.console.held is.console.held (replies_text replies)
   pub records : List Record
   pub reports : AreReports first drive (ticks_among records) (lines_of job) job replies
-  pub drives : IsDrive (asks_slow job) false (asks_change job || ends_program (all_outcomes drive)) (slows_in job) drive
-  pub driven : IsWholeDrive (asks_slow job) (asks_change job || ends_program (all_outcomes drive)) drive records
+  pub drives : IsDrive (asks_slow job) false (asks_change job) (slows_in job) drive
+  pub driven : IsWholeDrive (asks_slow job) (asks_change job) drive records
   pub steps : Appends was.steps.held is.steps.held (records_text records)
   pub status_is : status ≡ by_errors (errors_in (all_outcomes drive))
 
@@ -125,7 +125,7 @@ pub record IsHaltedRun (job_was job_is : SourceState) (was is : Sinks) (k : ℕ)
   pub driven : all_passed drive ≡ passed ++ a_line (limited before) ∷ []
   pub records : List Record
   pub reports : AreReports first drive (ticks_among records) lines scanned replies
-  pub drives : IsDrive (asks_slow scanned) true (asks_change scanned || ends_program (all_outcomes drive)) (slows_in scanned) drive
+  pub drives : IsDrive (asks_slow scanned) true (asks_change scanned) (slows_in scanned) drive
   pub halted : drive.halted ≡ true
   pub part : IsHaltedPart drive.since (plan_behind drive.parts) drive.actions drive.given drive.plan
   pub recorded : records ≡ all_records (all_given drive) ++ kinds.End ∷ []
