@@ -60,7 +60,7 @@ cancelled_before : (e : PortStep) (cancelled : Bool) → cancelled ≡ true → 
 cancelled_before (took_exec word) cancelled is = or_right (motions.asks word motions.cancel_byte) cancelled is
 cancelled_before _ cancelled is = is
 
-changed_before : (e : PortStep) (changed : Bool) → changed ≡ true → changes_at e changed ≡ true
+pub changed_before : (e : PortStep) (changed : Bool) → changed ≡ true → changes_at e changed ≡ true
 changed_before (took_ovr word) changed is = or_right (has_changes word) changed is
 changed_before _ changed is = is
 
@@ -139,7 +139,7 @@ cancelled_motion : (first : Opening) (h : Journal) (call : Call) (m : Motion) �
 cancelled_motion first h call m may (inl same) is before = before (sym same ∙ is)
 cancelled_motion first h call m may (inr reached) is before = cancelled_call first h call may (subst (λ (now : Motion). motions.Reached now call (motion_of first h)) is reached).1
 
-slowed_before : (e : PortStep) (log : PortLog) → has_slowed_in log ≡ true → has_slowed_in (e ∷ log) ≡ true
+pub slowed_before : (e : PortStep) (log : PortLog) → has_slowed_in log ≡ true → has_slowed_in (e ∷ log) ≡ true
 slowed_before e log is = either_more (has_held_in log) (has_cancelled_in log) (holds_at e (has_held_in log)) (cancels_at e (has_cancelled_in log)) (held_before e (has_held_in log)) (cancelled_before e (has_cancelled_in log)) is
 
 pub cancelled_by_word : (first : Opening) (h : Journal) → Conducted first h → motion_of first h ≡ Cancelling → has_slowed_in (port_log h) ≡ true
@@ -159,12 +159,12 @@ slowed_by first h c (inr (inl cancelled)) = or_left (has_slowed_in (port_log h))
 slowed_by first h c (inr (inr (stops, one))) = or_right (has_slowed_in (port_log h)) (has_limited h) one
 
 -- before an alarm by a word alone
-by_word_alone : (slowed alarmed : Bool) → alarmed ≡ false → (slowed || alarmed) ≡ true → slowed ≡ true
+pub by_word_alone : (slowed alarmed : Bool) → alarmed ≡ false → (slowed || alarmed) ≡ true → slowed ≡ true
 by_word_alone true alarmed none is = refl
 by_word_alone false true none is = absurd cc
 by_word_alone false false none is = is
 
-one_disturbs : (first : Opening) (h : Journal) (a : Action) → Conducted first h → MayDo first a h → NeedsNoOther (slows h) (has_changed_in (port_log h)) a
+pub one_disturbs : (first : Opening) (h : Journal) (a : Action) → Conducted first h → MayDo first a h → NeedsNoOther (slows h) (has_changed_in (port_log h)) a
 one_disturbs first h (Take Hold) c may = slowed_by first h c (slows_for first h c may.slows)
 one_disturbs first h (Override o) c may = inr (changed_by_word h o may)
 one_disturbs first h Clear c may = absurd may
@@ -189,7 +189,7 @@ both_more first slowed alarmed changed slowed_too alarmed_too changed_too h f a 
   parts_more slowed changed slowed_too changed_too (parts_of first h) f g is.1,
 )
 
-opposite : {A : Type 0} (b : Bool) → b ≡ false → b ≡ true → A
+pub opposite : {A : Type 0} (b : Bool) → b ≡ false → b ≡ true → A
 opposite b none is = absurd (let e = sym is ∙ none in cc)
 
 -- it is slowed down only by a word that asks for a hold or a cancel, or where a line has raised an alarm, and planned for other

@@ -7,6 +7,7 @@ pub mod Plain
 pub mod Alarms
 pub mod Keeping
 pub mod Parting
+pub mod Slowing
 pub mod Losing
 pub mod Numbers
 pub mod Cancels

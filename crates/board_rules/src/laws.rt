@@ -15,7 +15,7 @@ ghost use Rattle.outside.specs.declared.On.TheVariants as causes;
 ghost use Rattle.outside.specs.declared.Turn.{Turn as AnyTurn};
 ghost use Rattle.outside.specs.declared.Turn.TheVariants.{Wait};
 ghost use Rattle.planner_runs.specs.declared.Action.TheVariants.{Take};
-ghost use Rattle.planner_runs.specs.Runs.{IsPlannerRun, IsAtRest, Plans, IsStart, DisturbedOnlyBy, most_blocks, normal_overrides, all_asked, ticks_left};
+ghost use Rattle.planner_runs.specs.Runs.{IsPlannerRun, IsAtRest, Plans, IsStart, most_blocks, normal_overrides, all_asked, ticks_left};
 ghost use Rattle.board_rules.specs.Openings.{Opening, IsPlaced, before_first, first_opening};
 ghost use Rattle.run_rules.specs.declared.State.{State};
 ghost use Rattle.run_rules.specs.States.{IsOpening};
@@ -40,7 +40,7 @@ ghost use Rattle.step_line.specs.declared.Segment.{Segment as AnySegment};
 ghost use Rattle.step_line.specs.Places.{place_after};
 ghost use Rattle.board_rules.specs.Steps.Step.{at_port, began, did, became, cut, halted, turned};
 ghost use Rattle.units.specs.Truths.{one_if};
-ghost use Rattle.board_rules.specs.Parts.{IsCutPart, IsHaltedPart, AreDisturbedOnlyBy, lines_in, actions_in, pieces_in, passed_in, plan_behind, AreJoined, AreNumbered};
+ghost use Rattle.board_rules.specs.Parts.{IsCutPart, IsHaltedPart, IsSlowedOnlyBy, AreDisturbedOnlyBy, lines_in, actions_in, pieces_in, passed_in, plan_behind, AreJoined, AreNumbered};
 ghost use Rattle.board_rules.specs.Cuts.{
   part_outcomes,
   part_actions,
@@ -157,8 +157,8 @@ pub fn boards_do_a_bounded_amount()
 {}
 
 /// What a board does to its plan is a planner run; and so is what it has done since the last cut, from where nothing
-/// was left to run, to the plan as it is, or to what a halt has dropped. Only a word that asks for a hold or a cancel,
-/// or an alarm, slows it down; and only a word that changes overrides plans it for others than 100 percent. Only cuts and halts take blocks away. Segments go on while the machine runs or
+/// was left to run, to the plan as it is, or to what a halt has dropped. Only a word that asks for a hold or a cancel
+/// slows it down, and behind the line that raised an alarm that alarm; and only a word that changes overrides plans it for others than 100 percent. Only cuts and halts take blocks away. Segments go on while the machine runs or
 /// jogs, and slow it down while it is being held, a jog is cancelled, or an alarm stops it. What was given is what the
 /// plan gave, and the end after it if it was made; it is published, or in hand, and comes in turn, so that the piece in
 /// hand may be published.
@@ -166,7 +166,7 @@ pub fn boards_run_their_plan()
     ensures run { (first : Opening) (h : Journal) → Conducted first h → IsPlannerRun (actions_of h) (planned_of h) (plan_of h) }
     ensures part { (first : Opening) (h : Journal) → Conducted first h → IsStart (part_start h) × Plans most_blocks (part_start h) (part_actions h) (part_given h) (part_plan h) }
     ensures disturbed { (first : Opening) (h : Journal) → Conducted first h →
-        DisturbedOnlyBy (has_slowed_in (port_log h) || has_limited h) (has_changed_in (port_log h)) (part_actions h) }
+        IsSlowedOnlyBy (has_slowed_in (port_log h)) (has_limited h) (has_changed_in (port_log h)) (asked_in (part_outcomes h)) (part_actions h) }
     ensures parts { (first : Opening) (h : Journal) → Conducted first h →
         AreDisturbedOnlyBy (has_slowed_in (port_log h)) (has_changed_in (port_log h)) (parts_of first h) }
     ensures overrides { (first : Opening) (h : Journal) → Conducted first h → has_changed_in (port_log h) ≡ false → (plan_of h).overrides ≡ normal_overrides }

@@ -288,7 +288,7 @@ pub disturbed_on : (held changed : Bool) (actions more : List Action) → Distur
 disturbed_on held changed [] more is then = then
 disturbed_on held changed (a ∷ rest) more is then = (is.0, disturbed_on held changed rest more is.1 then)
 
-needs_less : (held changed held_too changed_too : Bool) (a : Action) → (held ≡ true → held_too ≡ true) → (changed ≡ true → changed_too ≡ true)
+pub needs_less : (held changed held_too changed_too : Bool) (a : Action) → (held ≡ true → held_too ≡ true) → (changed ≡ true → changed_too ≡ true)
     → NeedsNoOther held changed a → NeedsNoOther held_too changed_too a
 needs_less held changed held_too changed_too (Add m) holds changes is = tt
 needs_less held changed held_too changed_too (Take Go) holds changes is = tt

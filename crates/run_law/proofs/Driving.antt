@@ -15,9 +15,10 @@ use Rattle.board_rules.proofs.Cancels.{few_cuts}
 use Rattle.board_rules.proofs.Keeping.{disturbed_is, never_clears}
 use Rattle.board_rules.proofs.Numbers.{parts_are, starts_are, joined_are, numbers_are}
 use Rattle.board_rules.proofs.Parting.{asked_is, open_part}
+use Rattle.board_rules.proofs.Slowing.{slowed_is, slowed_or_alarmed}
 use Rattle.plan_rules.specs.Plans.{Planned}
 use Rattle.planner_runs.specs.declared.Action.TheVariants.{Clear, Mark}
-use Rattle.planner_runs.specs.Runs.{Plans, IsPlannerRun, IsStart, IsAtRest, DisturbedOnlyBy, NeverResets, fresh_plan, cleared, most_blocks, all_asked, all_records, ticks_left, ticks_left_in}
+use Rattle.planner_runs.specs.Runs.{Plans, IsPlannerRun, IsStart, IsAtRest, NeverResets, fresh_plan, cleared, most_blocks, all_asked, all_records, ticks_left, ticks_left_in}
 use Rattle.planner_runs.specs.Driven.{IsDriven}
 use Rattle.planner_runs.proofs.Driven.{driven, run_has_no_end}
 use Rattle.planner_runs.proofs.Legal.{closed_heads_are_legal}
@@ -98,7 +99,7 @@ drives first h c =
       part = part.1;
       run = all_run first h c;
       before = was.1;
-      disturbed = was.0;
+      disturbed = slowed_is (first_opening first) h c;
       halts = halted_alarmed (first_opening first) h c;
       asks = record { rest = asks (left_of (first_opening first) h); is = asked_is (first_opening first) h c };
     }
@@ -126,7 +127,7 @@ became_all d =
 pub given_ticks : (slowed alarmed changed : Bool) (cancels : ℕ) (d : Drive) → IsDrive slowed alarmed changed cancels d → BeginsWith (ticks_due d) (flat_map ticks_of (all_given d))
 given_ticks slowed alarmed changed cancels d is =
     let done : ticks_of_all (all_asked d.actions) ≡ flat_map ticks_of d.given ++ ticks_left d.plan =
-    ticks_from_start most_blocks (plan_behind d.parts) d.plan d.actions d.given is.starts (disturbed_keeps (slowed || alarmed) changed d.actions is.disturbed) is.part in
+    ticks_from_start most_blocks (plan_behind d.parts) d.plan d.actions d.given is.starts (disturbed_keeps (slowed || alarmed) changed d.actions (slowed_or_alarmed slowed alarmed changed (asked_in d.since) d.actions is.disturbed)) is.part in
     let asked : ticks_of_all (asked_in d.since) ≡ flat_map ticks_of d.given ++ (ticks_left d.plan ++ ticks_of_all is.asks.rest) =
     ap ticks_of_all is.asks.is ∙ flat_map-append ticks_of_one (all_asked d.actions) is.asks.rest ∙ ap (λ (rs : List Record). rs ++ ticks_of_all is.asks.rest) done
     ∙ append_assoc (flat_map ticks_of d.given) (ticks_left d.plan) (ticks_of_all is.asks.rest) in
@@ -155,7 +156,7 @@ ticks_begin slowed alarmed changed cancels d made records is kept rest =
 whole_ticks : (slowed alarmed changed : Bool) (cancels : ℕ) (d : Drive) → IsDrive slowed alarmed changed cancels d → all_asked d.actions ≡ asked_in d.since → IsAtRest d.plan → flat_map ticks_of (all_given d) ≡ ticks_due d
 whole_ticks slowed alarmed changed cancels d is asks rests =
     let done : ticks_of_all (all_asked d.actions) ≡ flat_map ticks_of d.given ++ ticks_left d.plan =
-    ticks_from_start most_blocks (plan_behind d.parts) d.plan d.actions d.given is.starts (disturbed_keeps (slowed || alarmed) changed d.actions is.disturbed) is.part in
+    ticks_from_start most_blocks (plan_behind d.parts) d.plan d.actions d.given is.starts (disturbed_keeps (slowed || alarmed) changed d.actions (slowed_or_alarmed slowed alarmed changed (asked_in d.since) d.actions is.disturbed)) is.part in
     let none : ticks_left d.plan ≡ [] = ap (flat_map ticks_left_in) rests.blocks in
     let all : flat_map ticks_of d.given ≡ ticks_of_all (asked_in d.since) =
     sym (append-nil (flat_map ticks_of d.given)) ∙ ap (λ (rs : List Record). flat_map ticks_of d.given ++ rs) (sym none) ∙ sym done ∙ ap ticks_of_all asks in
@@ -171,7 +172,7 @@ by_word false false calm is = is
 uncut_drive : (slowed alarmed changed : Bool) (cancels : ℕ) (d : Drive) (records : List Record) → alarmed ≡ false → IsDrive slowed alarmed changed cancels d → all_asked d.actions ≡ asked_in d.since → IsAtRest d.plan
     → records ≡ all_records (all_given d) ++ kinds.End ∷ [] → d.parts ≡ [] → IsDriven slowed changed (asked_in d.since) records
 uncut_drive slowed alarmed changed cancels d records calm is asks rests recorded none =
-    let disturbed = disturbed_more (slowed || alarmed) changed slowed changed d.actions (by_word slowed alarmed calm) (λ x. x) is.disturbed in
+    let disturbed = disturbed_more (slowed || alarmed) changed slowed changed d.actions (by_word slowed alarmed calm) (λ x. x) (slowed_or_alarmed slowed alarmed changed (asked_in d.since) d.actions is.disturbed) in
     let run : IsPlannerRun d.actions d.given d.plan = subst (λ (ps : List Part). IsPlannerRun (actions_in ps ++ d.actions) (pieces_in ps ++ d.given) d.plan) none is.run in
     let records_are : records ≡ all_records d.given ++ kinds.End ∷ [] = recorded ∙ ap (λ (ps : List Part). all_records (pieces_in ps ++ d.given) ++ kinds.End ∷ []) none in
     subst (λ (rs : List Record). IsDriven slowed changed (asked_in d.since) rs) (sym records_are)
@@ -186,6 +187,6 @@ whole_drive slowed alarmed changed cancels d records calm is asks rests recorded
   ended = record { front = all_records (all_given d); last = recorded; once = run_has_no_end most_blocks fresh_plan d.plan (all_actions d) (all_given d) is.run };
   ticks = ap ticks_among recorded ∙ ended_ticks (all_given d) ∙ whole_ticks slowed alarmed changed cancels d is asks rests;
   heads = subst (λ (a : List Asked). HasLegalHeads (moves_of a) (all_records d.given ++ kinds.End ∷ [])) asks
-      (closed_heads_are_legal most_blocks (plan_behind d.parts) d.plan d.actions d.given is.starts (disturbed_keeps (slowed || alarmed) changed d.actions is.disturbed) is.part rests.blocks);
+      (closed_heads_are_legal most_blocks (plan_behind d.parts) d.plan d.actions d.given is.starts (disturbed_keeps (slowed || alarmed) changed d.actions (slowed_or_alarmed slowed alarmed changed (asked_in d.since) d.actions is.disturbed)) is.part rests.blocks);
   uncut = uncut_drive slowed alarmed changed cancels d records calm is asks rests recorded;
 }

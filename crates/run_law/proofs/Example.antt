@@ -146,7 +146,7 @@ board_ran first opening = record {
     part = refl;
     run = refl;
     before = tt;
-    disturbed = tt;
+    disturbed = record { early = []; late = []; both = refl; before = tt; behind = tt; calm = λ e. refl; all = λ e. absurd cc };
     halts = λ e. absurd cc;
     asks = record { rest = []; is = refl };
   };

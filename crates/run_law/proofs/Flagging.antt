@@ -7,6 +7,8 @@ use Rattle.stream_host.specs.Ran.{AreRaised}
 use Rattle.planner_runs.proofs.Runs.{disturbed_more}
 use Rattle.run_law.specs.Flags.{is_slow, is_change, AreTaken}
 use Rattle.board_rules.specs.Parts.{Part, AreDisturbedOnlyBy}
+use Rattle.board_rules.proofs.Slowing.{slowed_more}
+use Rattle.run_rules.specs.Told.{asked_in}
 use Rattle.run_law.specs.Drives.{Drive, IsDrive}
 use Rattle.run_law.specs.Runs.{asks_slow, slows_in, asks_change, asks_reset}
 
@@ -39,12 +41,6 @@ scanned_where_raised p scanned raised due resumes none are any =
     let some = some_pass p raised any in let all = are p in let nothing = ap (λ t. cond t resumes 0) none in
     passes_some p (served_in scanned) (omega arith)
 
--- one of two causes is scanned, or there is the other
-either : (a b c : Bool) → (a ≡ true → c ≡ true) → (a || b) ≡ true → (c || b) ≡ true
-either true b c on is = ap (λ t. t || b) (on refl)
-either false b true on is = refl
-either false b false on is = is
-
 parts_more : (slowed changed slowed_too changed_too : Bool) (ps : List Part) → (slowed ≡ true → slowed_too ≡ true) → (changed ≡ true → changed_too ≡ true)
     → AreDisturbedOnlyBy slowed changed ps → AreDisturbedOnlyBy slowed_too changed_too ps
 parts_more slowed changed slowed_too changed_too [] f g is = tt
@@ -66,7 +62,7 @@ driven_by scanned raised due resumes held slowed alarmed changed reset asked can
       part = was.part;
       run = was.run;
       before = parts_more slowed changed (asks_slow scanned) (asks_change scanned) d.parts slows changes was.before;
-      disturbed = disturbed_more (slowed || alarmed) changed (asks_slow scanned || alarmed) (asks_change scanned) d.actions (either slowed alarmed (asks_slow scanned) slows) changes was.disturbed;
+      disturbed = slowed_more slowed alarmed changed (asks_slow scanned) (asks_change scanned) (asked_in d.since) d.actions slows changes was.disturbed;
       halts = was.halts;
       asks = was.asks;
     }

@@ -1,13 +1,13 @@
 -- What was done of lines, part by part: in the parts that cuts have ended, and after the last cut.
-use Rattle.std.specs.Prelude.{◌≡◌, ℕ, ◌≤◌, Bool, true, ◌||◌, cond, List, [], ◌∷◌, ◌++◌, length, map}
+use Rattle.std.specs.Prelude.{◌≡◌, ℕ, ◌≤◌, Bool, true, cond, List, [], ◌∷◌, ◌++◌, length, map}
 use Rattle.flight.specs.Places.{origin}
 use Rattle.std.specs.List.{flat_map, AllByRecursion}
-use Rattle.board_rules.specs.Parts.{Part, IsCutPart, AreJoined, AreNumbered, AreDisturbedOnlyBy, plan_behind, lines_in, actions_in, pieces_in, passed_in, counts_in}
+use Rattle.board_rules.specs.Parts.{Part, IsCutPart, IsSlowedOnlyBy, AreJoined, AreNumbered, AreDisturbedOnlyBy, plan_behind, lines_in, actions_in, pieces_in, passed_in, counts_in}
 use Rattle.legal_heads.specs.Speeds.{HasLegalHeads}
 use Rattle.plan_rules.specs.Plans.{Planned}
 use Rattle.planner_runs.specs.declared.Action.{Action}
 use Rattle.planner_runs.specs.Driven.{IsDriven}
-use Rattle.planner_runs.specs.Runs.{Plans, IsPlannerRun, IsStart, IsAtRest, DisturbedOnlyBy, most_blocks, all_asked, all_records}
+use Rattle.planner_runs.specs.Runs.{Plans, IsPlannerRun, IsStart, IsAtRest, most_blocks, all_asked, all_records}
 use Rattle.run_rules.specs.Cuts.{counts_asked, cut_to}
 use Rattle.run_rules.specs.Outcomes.{Passed}
 use Rattle.run_rules.specs.Outcomes.Passed.{a_line}
@@ -72,7 +72,7 @@ ticks_due d = flat_map ticks_of (pieces_in d.parts) ++ ticks_of_all (asked_in d.
 -- of the lines before it, and these rise; there are no more cuts than `cancels`. Of the lines after the last cut a
 -- front of what they ask for was asked of the plan. All of it is one planner run, and nothing else disturbed its parts
 -- than a hold or a cancel, if one was taken, and a change of overrides, if one was asked for: without that they are 100
--- percent throughout; and after the last cut an alarm, if a line raised one. The machine was halted only then.
+-- percent throughout; and after the last cut, only behind the line that raised it, an alarm. The machine was halted only then.
 pub record IsDrive (slowed alarmed changed : Bool) (cancels : ℕ) (d : Drive) : Type 0 where
   pub closed : AllByRecursion IsCutPart d.parts
   pub joined : AreJoined d.parts
@@ -82,7 +82,7 @@ pub record IsDrive (slowed alarmed changed : Bool) (cancels : ℕ) (d : Drive) :
   pub part : Plans most_blocks (plan_behind d.parts) d.actions d.given d.plan
   pub run : IsPlannerRun (all_actions d) (all_given d) d.plan
   pub before : AreDisturbedOnlyBy slowed changed d.parts
-  pub disturbed : DisturbedOnlyBy (slowed || alarmed) changed d.actions
+  pub disturbed : IsSlowedOnlyBy slowed alarmed changed (asked_in d.since) d.actions
   pub halts : d.halted ≡ true → alarmed ≡ true
   pub asks : BeginsWith (asked_in d.since) (all_asked d.actions)
 

@@ -1,5 +1,6 @@
 use Rattle.board_rules.proofs.Keeping.{run_is, disturbed_is, overrides_are, held_by_word, cancelled_by_word, hand_is}
 use Rattle.board_rules.proofs.Motions.{slows_for}
+use Rattle.board_rules.proofs.Slowing.{slowed_is}
 use Rattle.board_rules.proofs.Parting.{open_part}
 use Rattle.board_rules.proofs.Ending.{turns_are, next_turns}
 use Rattle.board_rules.proofs.Closing.{one_end}
@@ -12,7 +13,7 @@ pub returns-clause-part : goal.returns-clause-part
 returns-clause-part c = λ first h conducted. let p = open_part first h conducted in (p.starts, p.run)
 
 pub returns-clause-disturbed : goal.returns-clause-disturbed
-returns-clause-disturbed c = λ first h conducted. (disturbed_is first h conducted).0
+returns-clause-disturbed c = slowed_is
 
 pub returns-clause-parts : goal.returns-clause-parts
 returns-clause-parts c = λ first h conducted. (disturbed_is first h conducted).1
