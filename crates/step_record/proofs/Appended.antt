@@ -1,4 +1,5 @@
 -- Lines that are appended part by part.
+use Rattle.std.specs.Prelude.{codes}
 use Rattle.std.proofs.Common.{◌≡◌, ℕ, ◌^◌, ◌+◌, ◌-◌, ◌≤◌, ◌<◌, ℤ, List, [], ◌∷◌, ◌++◌, length, drop, set, length-set, decimal, append_assoc, refl, sym, ap, ◌∙◌, arith}
 use Rattle.std.proofs.Math.ListN.{drop_of_length-le}
 use Rattle.std.proofs.lemmas.List.{drop-set}
@@ -6,6 +7,7 @@ use Rattle.std.proofs.lemmas.Fmt.{length-decimal-le}
 use Rattle.step_line.specs.declared.Bits.{Bits}
 use Rattle.step_line.specs.declared.Head.{Head}
 use Rattle.step_record.specs.Texts.{axis_text, event_text, head_text}
+use Rattle.step_record.specs.Forms.{run_text}
 
 pub short32 : (n : ℕ) → n < 2 ^ 32 → length (decimal n) ≤ 10
 short32 n h = length-decimal-le 10 n (omega arith) (omega arith) (omega arith)
@@ -54,3 +56,9 @@ number_behind o m w digits shown end em es ew = rw (ew, em, es) (append_assoc o 
 pub named_behind : (o m w name digits : List ℕ) (end : ℕ) → m ≡ o ++ name → w ≡ m ++ (digits ++ end ∷ []) → w ≡ o ++ ((name ++ digits) ++ end ∷ [])
 named_behind o m w name digits end em ew =
     rw (ew, em) (append_assoc o name (digits ++ end ∷ []) ∙ ap (λ (xs : List ℕ). o ++ xs) (sym (append_assoc name digits (end ∷ []))))
+
+-- ---- so many equal events
+
+pub run_behind : (o m w x : List ℕ) (n : ℕ) (b : Bits) → m ≡ o ++ codes "R " → w ≡ m ++ (decimal n ++ 32 ∷ []) → x ≡ w ++ event_text b → x ≡ o ++ run_text n b
+unfolding run_text
+run_behind o m w x n b name number event = rw (event, number, name) (simp append_assoc)

@@ -6,3 +6,5 @@ pub mod Lines
 pub mod Whole
 pub mod Turns
 pub mod Longest
+pub mod Runs
+pub mod Placed

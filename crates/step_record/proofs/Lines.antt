@@ -73,7 +73,7 @@ head_again h rest is =
 
 -- ---- marks
 
-either : {A : Type 0} {P : Type 0} (o p : Option A) (x : A) → (o ≡ Some x → P) → (p ≡ Some x → P) → (o or p) ≡ Some x → P
+pub either : {A : Type 0} {P : Type 0} (o p : Option A) (x : A) → (o ≡ Some x → P) → (p ≡ Some x → P) → (o or p) ≡ Some x → P
 either (Some y) p x first second e = first e
 either None p x first second e = second e
 

@@ -14,6 +14,8 @@ use Rattle.step_line.specs.declared.SpindleCode.{SpindleCode}
 use Rattle.step_line.specs.declared.SpindleCode.TheVariants.{M3, M4, M5}
 use Rattle.step_line.specs.declared.Record.{Record}
 use Rattle.step_line.specs.declared.Record.TheVariants as kinds
+use Rattle.step_record.specs.declared.forms.Line.{Line}
+use Rattle.step_record.specs.declared.forms.Line.TheVariants as lines
 
 -- a value, and the text behind it
 abbrev pub Read : Type 0 → Type 0
@@ -139,3 +141,30 @@ end_at text = do
 
 unfoldable pub record_at : List ℕ → Read Record
 record_at text = as_record kinds.Event (event_at text) or as_record kinds.Head (head_at text) or as_record kinds.Mark (mark_at text) or end_at text
+
+-- ---- lines
+
+-- two equal events or more
+unfoldable pub run_at : List ℕ → Read Line
+run_at text = do
+  rest ← behind_name (codes "R ") text
+  n ← short_number_at rest 32
+  event ← event_at n.1
+  cond (nat_lt 1 n.0) (Some (lines.Run n.0 event.0, event.1)) None
+
+abbrev pub version_line : List ℕ → Read Line
+version_line text = do
+  rest ← behind_name (codes "V 2\n") text
+  Some (lines.Version, rest)
+
+-- the version, only where a text begins
+unfoldable pub version_at : List ℕ → ℕ → Read Line
+version_at text at = cond (nat_eq at 0) (version_line text) None
+
+-- what is read, as a line
+abbrev pub as_line : Read Record → Read Line
+as_line None = None
+as_line (Some x) = Some (lines.One x.0, x.1)
+
+unfoldable pub line_at : List ℕ → ℕ → Read Line
+line_at text at = as_line (record_at text) or run_at text or version_at text at

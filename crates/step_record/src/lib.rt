@@ -9,9 +9,13 @@
 //!   `M9 0`, a cut `X line`, with a blank that no event has, and a reset `Z line`.
 //! - The end is `E`.
 //!
+//! That is form 1. Form 2 begins with the line `V 2`; equal events that stand together are one line `R n event`, where n is at
+//! least 2 and at most 4,294,967,295, more being full lines and a rest; and each other record has its line of form 1.
+//!
 //! A `Recorder` takes records, one a turn, and writes their lines to a sink.
 #![tactic(auto)]
 
+mod forms;
 mod held_lines;
 mod laws;
 mod numbers;
@@ -20,8 +24,9 @@ mod recorder;
 mod records;
 mod writing;
 
-pub use laws::{longest_lines, one_reading, recorded};
-pub use reading::next_record;
+pub use forms::{Form, Line};
+pub use laws::{longest_lines, one_reading, one_reading_in_form_two, recorded, worked_text};
+pub use reading::{next_line, next_record};
 pub use recorder::{RecordIn, Recorder};
 pub use records::has_line;
 use thiserror::Error;

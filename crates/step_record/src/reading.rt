@@ -4,10 +4,12 @@ ghost use Rattle.std.specs.Prelude.{◌≡◌, ◌≢◌, ℕ, ◌+◌, ◌<◌,
 ghost use Rattle.step_line.specs.declared.Record.{Record};
 ghost use Rattle.step_line.specs.Records.{IsRecord};
 ghost use Rattle.step_record.specs.Texts.{IsLineOf, record_text};
-ghost use Rattle.step_record.specs.Reading.{seen, head_at, axis_at, event_at, dwell_at, turn_at, plain_at, cut_at, reset_at, mark_at, record_at};
+ghost use Rattle.step_record.specs.Reading.{seen, head_at, axis_at, event_at, dwell_at, turn_at, plain_at, cut_at, reset_at, mark_at, record_at, run_at, version_at, line_at};
+ghost use Rattle.step_record.specs.declared.forms.Line.{Line};
+ghost use Rattle.step_record.specs.Forms.{IsLine, StandsFrom, line_text};
 
-use crate::BadRecord;
 use crate::numbers::{after, number_at, short_number_at};
+use crate::{BadRecord, Line};
 use step_line::{Bits, Head, Mark, Record, SpindleCode};
 
 /// A segment's head.
@@ -163,6 +165,77 @@ pub fn next_record(text: &[u8], at: usize) -> Result<Option<(Record, usize)>, Ba
     }
     match record_from(text, at) {
         Some((record, rest)) => Ok(Some((record, text.len() - rest.len()))),
+        None => Err(BadRecord { at }),
+    }
+}
+
+/// Equal events that one line stands for.
+#[tactic(auto, unfolding(crate::specs::Reading::run_at))]
+fn run_at(text: &[u8]) -> Option<(Line, &[u8])>
+    ensures { seen result ≡ run_at text.now }
+{
+    let rest = after(b"R ", text)?;
+    let (n, rest) = short_number_at(rest, b' ')?;
+    let (bits, rest) = event_at(rest)?;
+    if n < 2 {
+        return None;
+    }
+    Some((Line::Run(n, bits), rest))
+}
+
+/// The version.
+#[tactic(auto, unfolding(crate::specs::Reading::version_at))]
+fn version_at(text: &[u8], at: usize) -> Option<(Line, &[u8])>
+    ensures { seen result ≡ version_at text.now at }
+{
+    if at != 0 {
+        return None;
+    }
+    let rest = after(b"V 2\n", text)?;
+    Some((Line::Version, rest))
+}
+
+/// A line of a text of either form.
+#[tactic(auto, unfolding(crate::specs::Reading::line_at))]
+fn line_at(text: &[u8], at: usize) -> Option<(Line, &[u8])>
+    ensures { seen result ≡ line_at text.now at }
+{
+    if let Some((record, rest)) = record_at(text) {
+        return Some((Line::One(record), rest));
+    }
+    if let Some((run, rest)) = run_at(text) {
+        return Some((run, rest));
+    }
+    version_at(text, at)
+}
+
+/// The line that begins at a place, and what follows it.
+fn line_from(text: &[u8], at: usize) -> Option<(Line, &[u8])>
+    requires { at ≤ length text.now }
+    ensures { seen result ≡ line_at (drop at text.now) at }
+{
+    line_at(&text[at..], at)
+}
+
+/// The line of form 1 or 2 that begins at `at`, and the place behind it; the version only where the text begins. `None` is the
+/// text's end. Each line that a recorder writes is read, whatever follows it, and runs of equal events may stand together.
+///
+/// Errors: `BadRecord` with `at`, where none of these lines begins there.
+pub fn next_line(text: &[u8], at: usize) -> Result<Option<(Line, usize)>, BadRecord>
+    requires { at ≤ length text.now }
+    ensures found { IfOk result (λ next. IfSome next (λ found. StandsFrom found.0 text.now at found.1)) }
+    ensures place { IfOk result (λ next. IfSome next (λ found. (at < found.1) × (found.1 ≤ length text.now))) }
+    ensures each { (l : Line) (rest : List ℕ) → IsLine l at → drop at text.now ≡ line_text l ++ rest →
+        result ≡ Ok (Some (l, at + length (line_text l))) }
+    ensures end { (result ≡ Ok None) ↔ (at ≡ length text.now) }
+    ensures bad { IsErr result ↔ ((at < length text.now) × ((l : Line) (rest : List ℕ) → IsLine l at → drop at text.now ≢ line_text l ++ rest)) }
+    ensures bad_place { IfErr result (λ bad. bad.at ≡ at) }
+{
+    if at == text.len() {
+        return Ok(None);
+    }
+    match line_from(text, at) {
+        Some((line, rest)) => Ok(Some((line, text.len() - rest.len()))),
         None => Err(BadRecord { at }),
     }
 }

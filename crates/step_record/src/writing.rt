@@ -4,6 +4,7 @@ ghost use Rattle.std.specs.Prelude.{◌≡◌, ℕ, ◌+◌, ◌≤◌, [], ◌�
 ghost use Rattle.arrayvec.specs.ArrayVec.{array_vec_len};
 ghost use Rattle.step_line.specs.Records.{IsHead, IsMark, IsRecord};
 ghost use Rattle.step_record.specs.Texts.{axis_text, event_text, head_text, mark_text, record_text};
+ghost use Rattle.step_record.specs.Forms.{run_text};
 
 use arrayvec::ArrayVec;
 use itoa::{Buffer, write_digits};
@@ -123,6 +124,18 @@ fn push_mark<const N: usize>(mark: &Mark, out: &mut ArrayVec<u8, N>)
         Mark::Cut(line) => push_named(b"X ", *line as u64, out),
         Mark::Reset(line) => push_named(b"Z ", *line as u64, out),
     }
+}
+
+/// Appends the line of so many equal events.
+#[tactic(auto, unfolding(crate::specs::Forms::run_text))]
+pub(crate) fn push_run<const N: usize>(n: u32, bits: &Bits, out: &mut ArrayVec<u8, N>)
+    requires { array_vec_len out.old + 20 ≤ N }
+    ensures text { out.new.items ≡ out.old.items ++ run_text n bits.now }
+    ensures room { array_vec_len out.new ≤ array_vec_len out.old + 20 }
+{
+    append(b"R ", out);
+    push_number(n as u64, b' ', out);
+    push_event(bits, out);
 }
 
 /// Appends the line of a record. `LONGEST_LINE` bytes must be free.
