@@ -5,12 +5,12 @@ use std::alloc::{AllocError, Global};
 use std::process::Abort;
 use std::test::Fail;
 use step_line::{Bits, Head, Mark, Record, SpindleCode};
-use step_record::{RecordIn, Recorder, has_line};
+use step_record::{Form, RecordIn, Recorder, has_line};
 
 /// Records to be taken.
 #[derive(Drop)]
-struct Tape<'a> {
-    rest: &'a [Record],
+pub(crate) struct Tape<'a> {
+    pub(crate) rest: &'a [Record],
 }
 
 impl RecordIn for Tape<'_> {
@@ -50,7 +50,7 @@ type Ran = (Turn, usize, bool);
 
 /// Lets a new recorder take turns until one answers other than `Did`, at most so many.
 fn run<S: Sink>(records: &[Record], sink: &mut S, most: u32) -> Ran {
-    let mut recorder = Recorder::new();
+    let mut recorder = Recorder::new(Form::One);
     let mut tape = Tape { rest: records };
     let mut last = Turn::Did;
     for _ in 0..most {

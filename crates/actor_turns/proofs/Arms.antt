@@ -5,7 +5,6 @@ use Rattle.outside.specs.declared.Actor.{Actor}
 use Rattle.outside.specs.declared.Actor.TheVariants as actors
 use Rattle.outside.specs.declared.Turn.{Turn}
 use Rattle.step_line.specs.declared.Record.{Record}
-use Rattle.text_writer.specs.Writers.{Writing}
 use Rattle.stream_host.specs.declared.host.Host.{Host}
 use Rattle.stream_host.specs.Steps.{Journal as HostJournal, port_log as host_log, PortLog as HostLog}
 use Rattle.stream_host.specs.Hosts.{HostFits, HostTurned, HostTellsOn}
@@ -19,7 +18,8 @@ use Rattle.pulse_engine.specs.Logs.{PieceLog, RecordLog}
 use Rattle.pulse_engine.specs.Steps.{Pulsing}
 use Rattle.pulse_engine.specs.Turns.{PulseFits, PulseTurned}
 use Rattle.step_record.specs.Taking.{Log}
-use Rattle.step_record.specs.Recording.{RecorderFitsOn, RecorderTurned}
+use Rattle.step_record.specs.declared.forms.Form.TheVariants.{One}
+use Rattle.step_record.specs.Recording.{Recording, RecorderFitsOn, RecorderTurned}
 use Rattle.list_ports.specs.Passing.{HandsOn}
 use Rattle.list_ports.specs.Joining.{Listed, Joined}
 use Rattle.actor_turns.specs.Worlds.{Seen, History, Holds, HasHistory, Devices, devices, Adds, TurnsOn}
@@ -44,7 +44,7 @@ turns_on actor t before after w w' m = record {
       holds = n.1;
       job = n.2.host.job was.job st.job;
       console = n.2.host.console was.console st.console;
-      wrote = n.2.recorder.on was.steps st.wrote;
+      wrote = n.2.recorder.on One was.steps st.wrote;
     },
     n.3,
   );
@@ -58,7 +58,7 @@ host_moves w host' lists' t job job' console console' steps turns = record {
   on = λ hist h. let n = turns (board_log hist.board, hist.pulse) hist.host h.joined h.host h.host_between in (
     record hist { host = n.0 },
     record { joined = n.1; passed = h.passed; host = n.2; host_between = n.3; board = h.board; board_between = h.board_between; pulse = h.pulse },
-    record { host = n.5; recorder = record { on = λ was r. r } },
+    record { host = n.5; recorder = record { on = λ form was r. r } },
     (refl, n.4),
   );
 }
@@ -71,7 +71,7 @@ board_moves w board' lists' t now turns = record {
   on = λ hist h. let n = turns (host_log hist.host, hist.pulse) hist.board h.joined h.board h.board_between in (
     record hist { board = n.0 },
     record { joined = n.1; passed = h.passed; host = h.host; host_between = h.host_between; board = n.2; board_between = n.3; pulse = h.pulse },
-    record { host = record { job = λ was x. x; console = λ was x. x }; recorder = record { on = λ was r. r } },
+    record { host = record { job = λ was x. x; console = λ was x. x }; recorder = record { on = λ form was r. r } },
     (refl, n.4),
   );
 }
@@ -84,12 +84,12 @@ pulse_moves w pulse' lists' waiting' t now turns = record {
   on = λ hist h. let n = turns (host_log hist.host, board_log hist.board) hist.takes hist.pulse hist.puts h.joined h.passed h.pulse in (
     record hist { pulse = n.0; puts = n.1 },
     record { joined = n.2; passed = n.3; host = h.host; host_between = h.host_between; board = h.board; board_between = h.board_between; pulse = n.4 },
-    record { host = record { job = λ was x. x; console = λ was x. x }; recorder = record { on = λ was r. r } },
+    record { host = record { job = λ was x. x; console = λ was x. x }; recorder = record { on = λ form was r. r } },
     (refl, n.5),
   );
 }
 
-pub recorder_moves : (w : Seen) (recorder' : Writing) (waiting' : List Record) (t : Turn) (job : SourceState) (console steps steps' : SinkState)
+pub recorder_moves : (w : Seen) (recorder' : Recording) (waiting' : List Record) (t : Turn) (job : SourceState) (console steps steps' : SinkState)
     → ((far : RecordLog) (log : Log) → HandsOn w.waiting far log
     → (next : Log) × HandsOn waiting' far next × RecorderFitsOn w.recorder recorder' log next steps steps' × RecorderTurned t w.recorder recorder' log next)
     → Moves actors.Record t (devices job console steps) (devices job console steps') w (record w { recorder = recorder'; waiting = waiting' })

@@ -6,17 +6,14 @@ use Rattle.outside.specs.declared.Actor.TheVariants as actors
 use Rattle.outside.specs.declared.Turn.{Turn}
 use Rattle.outside.specs.declared.Turn.TheVariants.{Wait}
 use Rattle.outside.specs.declared.On.TheVariants as on
-use Rattle.outside.specs.Causes.{SinkState}
-use Rattle.text_writer.specs.Writers.{Writing}
 use Rattle.stream_host.specs.Steps.{PortLog as HostLog}
 use Rattle.board_rules.specs.Ports.{PortLog as BoardLog}
 use Rattle.pulse_engine.specs.Logs.{PieceLog, RecordLog}
 use Rattle.pulse_engine.specs.Logs.PieceEvent.{asked, none}
 use Rattle.pulse_engine.specs.Steps.{Pulsing}
 use Rattle.pulse_engine.specs.Turns.{PulseFits}
-use Rattle.step_record.specs.Taking.{Log}
 use Rattle.step_record.specs.Taking.Event.{none as no_record}
-use Rattle.step_record.specs.Recording.{RecorderFits}
+use Rattle.step_record.proofs.Turns.{fits_none}
 use Rattle.list_ports.specs.Joining.{Listed, Joined}
 use Rattle.actor_turns.specs.Worlds.{Seen, Devices, TurnsOn, ActsAlone, OffersNothing, MotionRests}
 use Rattle.actor_turns.specs.Lockstep.{state_after, number_of, Passes, Sifts, IsInOrder}
@@ -39,16 +36,13 @@ joined_none l host board h j = record {
 pulse_fits : (p : Pulsing) (h : PieceLog) (k : RecordLog) → PulseFits p h k → PulseFits p (none ∷ (asked false ∷ h)) k
 pulse_fits p h k f = record { turns = f.turns; records = f.records; waits = f.waits; ticks = f.ticks; left = f.left; reach = f.reach; end = f.end; last = f.last }
 
-recorder_fits : (v : Writing) (log : Log) (was now : SinkState) → RecorderFits v log was now → RecorderFits v (no_record ∷ log) was now
-recorder_fits v log was now f = record { each = f.each; going = f.going; over = f.over; wrote = f.wrote }
-
 pulse_rests : (w : Seen) (now : Devices) → TurnsOn actors.Pulse (Wait on.Piece) now now w w
 pulse_rests w now = turns_on _ _ _ _ _ _ (pulse_moves w w.pulse w.lists w.waiting (Wait on.Piece) now (λ far back h k joined passed fits.
     (none ∷ (asked false ∷ h), k, joined_none _ _ _ _ joined, passed, pulse_fits _ _ _ fits, (refl, refl))))
 
 recorder_rests : (w : Seen) (now : Devices) → MotionRests w → TurnsOn actors.Record (Wait on.Records) now now w w
 recorder_rests w now r = turns_on _ _ _ _ _ _ (recorder_moves w w.recorder w.waiting (Wait on.Records) now.job now.console now.steps now.steps (λ far log passed.
-    (no_record ∷ log, passed, record { on = λ was f. recorder_fits _ _ _ _ f }, (refl, r.recorder, refl))))
+    (no_record ∷ log, passed, fits_none _ _ _, (refl, r.recorder, refl))))
 
 -- a turn of the host or of the board that leaves no stop and no piece
 pub rests_on : (actor : Actor) (w w' : Seen) → number_of actor < 2 → ActsAlone actor w w' → OffersNothing w' → MotionRests w → MotionRests w'

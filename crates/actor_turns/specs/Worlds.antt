@@ -4,7 +4,6 @@ use Rattle.outside.specs.declared.Actor.{Actor}
 use Rattle.outside.specs.declared.Actor.TheVariants as actors
 use Rattle.outside.specs.declared.Turn.{Turn}
 use Rattle.step_line.specs.declared.Record.{Record as AnyRecord}
-use Rattle.text_writer.specs.Writers.{Writing}
 use Rattle.stream_host.specs.declared.host.Host.{Host}
 use Rattle.stream_host.specs.Steps.{Journal as HostJournal, port_log as host_log, stored_of, got_of}
 use Rattle.stream_host.specs.Hosts.{HostFits, HostTurned, HostRests, TellsJob, TellsText}
@@ -21,7 +20,8 @@ use Rattle.pulse_engine.specs.Logs.{PieceLog, RecordLog, pieces_of, counted, rec
 use Rattle.pulse_engine.specs.Steps.{Pulsing, AwaitsPiece}
 use Rattle.pulse_engine.specs.Turns.{PulseFits, PulseTurned}
 use Rattle.step_record.specs.Taking.{Log, records}
-use Rattle.step_record.specs.Recording.{RecorderFits, RecorderTurned, Rests, Takes}
+use Rattle.step_record.specs.declared.forms.Form.TheVariants.{One}
+use Rattle.step_record.specs.Recording.{Recording, RecorderFits, RecorderTurned, Rests, Takes}
 use Rattle.run_law.specs.declared.RunEnd.{RunEnd}
 use Rattle.run_law.specs.Runs.{ended}
 pub use Rattle.run_law.specs.Devices.{Devices, devices, sinks, RunsSoFar, HasRun}
@@ -44,7 +44,7 @@ pub record Seen : Type 0 where
   pub host : Host
   pub board : Controller
   pub pulse : Pulsing
-  pub recorder : Writing
+  pub recorder : Recording
   pub lists : Listed
   pub waiting : List AnyRecord
 
@@ -79,7 +79,7 @@ pub record Stands (was now : Devices) (w : Seen) (hist : History) : Type 0 where
   pub holds : Holds w hist
   pub job : TellsJob hist.host was.job now.job
   pub console : TellsText w.host.text hist.host was.console now.console
-  pub wrote : RecorderFits w.recorder hist.takes was.steps now.steps
+  pub wrote : RecorderFits One w.recorder hist.takes was.steps now.steps
 
 -- ---- what is on its way
 
@@ -173,7 +173,7 @@ pub record HasRunOn (before after : Devices) (w w' : Seen) : Type 0 where
 
 -- how it ends
 abbrev pub end_after : Seen → History → RunEnd
-end_after w hist = ended (end_of hist.host) w.recorder.failed
+end_after w hist = ended (end_of hist.host) w.recorder.writer.failed
 
 -- ---- its reports, line by line
 

@@ -17,7 +17,7 @@ use pulse_engine::Pulse;
 use run_law::RunEnd;
 use std::alloc::Global;
 use std::marker::Model;
-use step_record::Recorder;
+use step_record::{Form, Recorder};
 use stream_host::Host;
 
 /// The four actors of a run, and the lists between them. There is a history of all that was done.
@@ -50,7 +50,7 @@ impl World {
             host: Host::new(),
             board: Controller::new(),
             pulse: Pulse::new(),
-            recorder: Recorder::new(),
+            recorder: Recorder::new(Form::One),
             lists: Lists::new(alloc)?,
             waiting: Records::new(alloc)?,
         })

@@ -6,6 +6,7 @@ use Rattle.motion_ring.specs.Ends.{ring_of_in}
 use Rattle.pulse_engine.specs.Logs.{PieceLog, RecordLog}
 use Rattle.pulse_engine.specs.Turns.{PulseFits}
 use Rattle.step_record.specs.Taking.{Log}
+use Rattle.step_record.specs.declared.forms.Form.TheVariants.{One}
 use Rattle.step_record.specs.Recording.{RecorderFits, Rests}
 use Rattle.motion_ports.specs.Ports.{HasGot, HasPut, HasTaken}
 use Rattle.motion_ports.specs.declared.threads.PulseSide.{PulseSide}
@@ -19,7 +20,7 @@ pub record PulseIsNew (side : PulseSide) : Type 0 where
 
 pub record RecorderIsNew (side : RecorderSide) : Type 0 where
   pub taken : received side.records.end ≡ []
-  pub fits : (now : SinkState) → RecorderFits side.recorder [] now now
+  pub fits : (now : SinkState) → RecorderFits One side.recorder [] now now
 
 -- The pulse has: of the pieces that its end got it put the records, and counted the ticks.
 pub record PulseRunsAt (was is : PulseSide) : Type 0 where
@@ -33,7 +34,7 @@ pub record PulseRunsAt (was is : PulseSide) : Type 0 where
 pub record RecorderRunsAt (steps_was steps_is : SinkState) (was is : RecorderSide) : Type 0 where
   pub log : Log
   pub records : HasTaken is.records.end was.records.end log
-  pub fits : RecorderFits is.recorder log steps_was steps_is
+  pub fits : RecorderFits One is.recorder log steps_was steps_is
 
 -- they have, and the actor is done
 pub record PulseRanAt (was is : PulseSide) : Type 0 where

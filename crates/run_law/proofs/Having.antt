@@ -1,7 +1,6 @@
 -- A pulse and a recorder that have done their work have run.
-use Rattle.std.proofs.Common.{◌≡◌, ℕ, Bool, true, false, ◌&&◌, ◌||◌, [], ◌∷◌, ◌++◌, length, reverse, nat_eq, refl, sym, ap, ◌∙◌, subst, arith}
-use Rattle.std.proofs.lemmas.Bool.Decides.{nat_tests}
-use Rattle.std.proofs.lemmas.List.{nil_from_length, reverse-append, reverse-reverse}
+use Rattle.std.proofs.Common.{◌≡◌, Bool, true, false, ◌&&◌, [], ◌∷◌, ◌++◌, reverse, refl, sym, ap, ◌∙◌, subst}
+use Rattle.std.proofs.lemmas.List.{reverse-append, reverse-reverse}
 use Rattle.outside.specs.Causes.{SinkState}
 use Rattle.step_line.specs.declared.Piece.TheVariants as pieces
 use Rattle.step_line.specs.Ordering.{InTurn}
@@ -9,10 +8,10 @@ use Rattle.pulse_engine.specs.Logs.{PieceLog, RecordLog, pieces_of, got_since, h
 use Rattle.pulse_engine.specs.Steps.{Pulsing}
 use Rattle.pulse_engine.specs.Turns.{PulseFits}
 use Rattle.pulse_engine.proofs.Whole.{recorded_each, never_halted, all_since, done_put}
-use Rattle.text_writer.specs.Writers.{Writing}
 use Rattle.step_record.specs.Taking.{Log, records}
-use Rattle.step_record.specs.Recording.{RecorderFits, Rests}
-use Rattle.stream_host.proofs.Running.{took_of}
+use Rattle.step_record.specs.declared.forms.Form.TheVariants.{One}
+use Rattle.step_record.specs.Recording.{Recording, RecorderFits, Rests, waits}
+use Rattle.step_record.proofs.Turns.{has_wrote, has_took}
 use Rattle.run_law.specs.Ran.{PulseRan, RecorderRan}
 use Rattle.run_law.specs.SoFar.{PulseRuns, RecorderRuns}
 
@@ -40,23 +39,12 @@ pulse_runs p h k f unhalted = record {
 
 -- ---- the recorder
 
-none_waits : (e f : Bool) (n : ℕ) → (e && (f || nat_eq n 0)) ≡ true → f ≡ false → n ≡ 0
-none_waits true false n rests well = grind (arith, nat_tests)
-none_waits true true n rests well = absurd cc
-none_waits false f n rests well = absurd cc
+pub recorder_ran : (v : Recording) (log : Log) (was is : SinkState) → RecorderFits One v log was is → Rests v → RecorderRan was is (records log) v.writer.failed
+recorder_ran v log was is f rests = record { ended = f.over (first_true v.writer.asked _ rests); steps = has_took One v log was is f rests }
+  where
+    first_true : (b c : Bool) → (b && c) ≡ true → b ≡ true
+    first_true true c e = refl
+    first_true false c e = absurd cc
 
-rest_none : (v : Writing) → Rests v → v.failed ≡ false → v.waiting ≡ []
-rest_none v rests well = nil_from_length v.waiting (none_waits v.asked v.failed (length v.waiting) rests well)
-
-first_true : (b c : Bool) → (b && c) ≡ true → b ≡ true
-first_true true c e = refl
-first_true false c e = absurd cc
-
-pub recorder_ran : (v : Writing) (log : Log) (was is : SinkState) → RecorderFits v log was is → Rests v → RecorderRan was is (records log) v.failed
-recorder_ran v log was is f rests = record {
-  ended = f.over (first_true v.asked _ rests);
-  steps = took_of was is v.failed v.waiting _ f.wrote (rest_none v rests);
-}
-
-pub recorder_runs : (v : Writing) (log : Log) (was is : SinkState) → RecorderFits v log was is → RecorderRuns was is (records log)
-recorder_runs v log was is f = record { failed = v.failed; waiting = v.waiting; steps = f.wrote }
+pub recorder_runs : (v : Recording) (log : Log) (was is : SinkState) → RecorderFits One v log was is → RecorderRuns was is (records log)
+recorder_runs v log was is f = record { failed = v.writer.failed; waiting = waits v; steps = has_wrote One v log was is f }

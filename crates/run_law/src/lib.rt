@@ -7,12 +7,12 @@ ghost use Rattle.outside.specs.Causes.{SourceState, SinkState};
 ghost use Rattle.status_report.specs.declared.Reply.{Reply};
 ghost use Rattle.step_line.specs.declared.Piece.{Piece};
 ghost use Rattle.step_line.specs.declared.Record.{Record};
-ghost use Rattle.text_writer.specs.Writers.{Writing};
 ghost use Rattle.pulse_engine.specs.Logs.{PieceLog, RecordLog, pieces_of, halts_of, counted, records_put, end_is_put};
 ghost use Rattle.pulse_engine.specs.Steps.{Pulsing};
 ghost use Rattle.pulse_engine.specs.Turns.{PulseFits};
 ghost use Rattle.step_record.specs.Taking.{Log, records};
-ghost use Rattle.step_record.specs.Recording.{RecorderFits, Rests};
+ghost use Rattle.step_record.specs.declared.forms.Form.TheVariants.{One};
+ghost use Rattle.step_record.specs.Recording.{Recording, RecorderFits, Rests};
 ghost use Rattle.run_rules.specs.declared.State.{State};
 ghost use Rattle.run_rules.specs.States.{IsOpening};
 ghost use Rattle.board_rules.specs.Breaking.{Doings, HasEnded, IsConducted, log_of, taken_of, has_closed, answered_of, published_of};
@@ -113,7 +113,7 @@ pub fn pulses_have_run()
 
 /// A recorder that is done has run, and every recorder runs.
 pub fn recorders_have_run()
-    ensures whole { (recorder : Writing) (log : Log) (was is : SinkState) → RecorderFits recorder log was is → Rests recorder →
-        RecorderRan was is (records log) recorder.failed }
-    ensures so_far { (recorder : Writing) (log : Log) (was is : SinkState) → RecorderFits recorder log was is → RecorderRuns was is (records log) }
+    ensures whole { (recorder : Recording) (log : Log) (was is : SinkState) → RecorderFits One recorder log was is → Rests recorder →
+        RecorderRan was is (records log) recorder.writer.failed }
+    ensures so_far { (recorder : Recording) (log : Log) (was is : SinkState) → RecorderFits One recorder log was is → RecorderRuns was is (records log) }
 {}

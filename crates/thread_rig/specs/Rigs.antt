@@ -43,7 +43,7 @@ pub record RigRan (before after : Devices) (was is : Rig) (end : RunEnd) : Type 
   pub board : BoardRanAt was.board.side is.board.side
   pub pulse : PulseRanAt was.pulse.side is.pulse.side
   pub recorder : RecorderRanAt before.steps after.steps was.recorder.side is.recorder.side
-  pub tells : (h : HostJournal) → HostFits is.host.side.host h → end ≡ ended (end_of h) is.recorder.side.recorder.failed
+  pub tells : (h : HostJournal) → HostFits is.host.side.host h → end ≡ ended (end_of h) is.recorder.side.recorder.writer.failed
 
 -- What one side has got is a front of what the other gave, each mark that was loaded was stored, and each flag that was raised is
 -- taken once or is up. (The lists of bytes, marks, replies, flags and pieces have the latest first.)

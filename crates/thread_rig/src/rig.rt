@@ -26,7 +26,7 @@ use serial_ring::{join_link, link};
 use std::alloc::Global;
 use std::sync::Wait;
 use std::thread::{Threads, join_mut};
-use step_record::Recorder;
+use step_record::{Form, Recorder};
 use stream_host::Host;
 
 /// The four actors of a run, each with its ends of the link, of the flags, and of the rings of pieces and of records.
@@ -69,7 +69,7 @@ impl Rig {
                 records: records_out,
             }),
             recorder: Apart::new(RecorderSide {
-                recorder: Recorder::new(),
+                recorder: Recorder::new(Form::One),
                 records: records_in,
             }),
         })
@@ -77,7 +77,7 @@ impl Rig {
 
     /// How the run ends, as its host tells, and whether a write of the steps failed.
     fn end(&self) -> RunEnd
-        ensures { (h : Journal) → HostFits self.now.host.side.host h → result ≡ ended (end_of h) self.now.recorder.side.recorder.failed }
+        ensures { (h : Journal) → HostFits self.now.host.side.host h → result ≡ ended (end_of h) self.now.recorder.side.recorder.writer.failed }
     {
         let host = &self.host.side.host;
         RunEnd {

@@ -24,7 +24,7 @@ returns-clause-whole c was now w hist st done =
     let h = st.holds in
     let host = c.hosts_have_run.ensures in
     let kept = kept_by w.board hist.board h.board in
-    c.actors_that_end_make_a_run.ensures was.job now.job (sinks was) (sinks now) (end_of hist.host) w.recorder.failed _ _ _ _ _ _ _ _ _ _ _ _ _ _ _ _ _ _ _ _
+    c.actors_that_end_make_a_run.ensures was.job now.job (sinks was) (sinks now) (end_of hist.host) w.recorder.writer.failed _ _ _ _ _ _ _ _ _ _ _ _ _ _ _ _ _ _ _ _
     (host.whole hist.host was.job now.job was.console now.console h.host.conducted (host.finished w.host hist.host h.host done.host) st.job
     (host.console w.host hist.host was.console now.console h.host st.console))
     (c.boards_have_run.ensures.whole kept.first hist.board kept.opening kept.conducted (kept.ended done.board))

@@ -26,7 +26,7 @@ returns c before after was is end ran agree =
     let takes = sym board.did.takes_are in
     let balance = subst (λ rs. IsBalanced agree.words rs (takes_in log)) raises
     (subst (λ ts. IsBalanced agree.words (raises_by is.host.side.link.flags) ts) takes agree.flags) in
-    let run = c.actors_that_end_make_a_run.ensures before.job after.job (sinks before) (sinks after) (end_of host.journal) is.recorder.side.recorder.failed _ _ _ _ _ _ _ _ _ _ _ _ _ _ _ _ _ _ _ _
+    let run = c.actors_that_end_make_a_run.ensures before.job after.job (sinks before) (sinks after) (end_of host.journal) is.recorder.side.recorder.writer.failed _ _ _ _ _ _ _ _ _ _ _ _ _ _ _ _ _ _ _ _
     (law.whole host.journal before.job after.job before.console after.console host.fits.conducted (law.finished is.host.side.host host.journal host.fits ran.host.done) host.job
     (law.console is.host.side.host host.journal before.console after.console host.fits host.console))
     (c.boards_have_run.ensures.whole kept.first board.journal kept.opening kept.conducted (kept.ended ran.board.done))
