@@ -1,9 +1,9 @@
-"""The step text of a run, as segments. The records are those of docs/STREAMING.md."""
+"""The step text of a run, in form 1 or 2, as segments. The records are those of docs/STREAMING.md."""
 import re
 from array import array
 from collections import Counter
 from dataclasses import dataclass
-from itertools import islice, product
+from itertools import chain, groupby, islice, product
 
 AXES = "XYZ"
 MOST_LINES = 4096  # events are looked at by so many lines at once
@@ -38,6 +38,9 @@ HEAD = re.compile(rb"s " + b" ".join([NUMBER] * 4) + rb"\n")
 MARK = re.compile(rb"(D|M3|M4|M5|M8|M9|X) " + NUMBER + rb"\n")
 MARK_ENDS = {"D": 2**64, "M3": 2**32, "M4": 2**32, "M5": 1, "M8": 1, "M9": 1, "X": 2**32}
 SPINDLE = ("M3", "M4", "M5")
+VERSION = b"V 2\n"  # the first line of form 2
+RUN = re.compile(rb"R ([1-9][0-9]{0,9}) ([XYZ+-]+\n)")
+MOST_EVENTS = 2**32 - 1  # of one line
 
 
 @dataclass(frozen=True)
@@ -92,6 +95,12 @@ class Reader:
 
     def __init__(self, stream):
         self.lines, self.number = iter(stream), 0
+        first = list(islice(self.lines, 1))
+        self.is_compact = first == [VERSION]
+        if self.is_compact:
+            self.number = 1
+        else:
+            self.lines = chain(first, self.lines)
         self.track, self.here = Track(), (0, 0, 0)
         self.way, self.way_events = (0, 0, 0), 0  # of the move so far
         self.is_fresh = True  # a move begins with the next segment, whatever it says
@@ -170,6 +179,8 @@ class Reader:
 
     def take_events(self, count):
         """Takes so many events, and answers the steps that they make."""
+        if self.is_compact:
+            return self.take_runs(count)
         x = y = z = 0
         while count:
             most = min(count, MOST_LINES)
@@ -187,6 +198,23 @@ class Reader:
             count -= most
         return x, y, z
 
+    def take_runs(self, count):
+        """Takes so many events in form 2, and answers the steps that they make."""
+        here = (0, 0, 0)
+        while count:
+            line = next(self.lines, None)
+            self.number += 1
+            if line is None:
+                raise BadText(self.number, "the text ends without E")
+            times, event = run_of(line)
+            if event is None:
+                raise BadText(self.number, self.fault_of(line))
+            if times > count:
+                raise BadText(self.number, "a run has more events than its head")
+            here = tuple(at + step * times for at, step in zip(here, EVENTS[event]))
+            count -= times
+        return here
+
     def refuse_in(self, block):
         """Refuses the first line of a block that is no event."""
         at, line = next((at, line) for at, line in enumerate(block) if line not in EVENTS)
@@ -195,7 +223,7 @@ class Reader:
     @staticmethod
     def fault_of(line):
         """What is wrong with a line."""
-        if line in EVENTS:
+        if line in EVENTS or run_of(line)[1]:
             return "an event without a head before it"
         if not line.endswith(b"\n"):
             return "the line has no end"
@@ -208,3 +236,32 @@ def read_steps(stream):
     """Reads a step text to its end."""
     return Reader(stream).read()
 
+
+
+def run_of(line):
+    """How many events a line of form 2 says, and which; or none."""
+    run = RUN.fullmatch(line)
+    times, event = (int(run[1]), run[2]) if run else (1, line)
+    return (times, event) if event in EVENTS and (not run or 2 <= times <= MOST_EVENTS) else (0, None)
+
+
+def in_form_one(text):
+    """The text in form 1 of the records of a text in form 2."""
+    version, *lines = text.splitlines(keepends=True) or [b""]
+    if version != VERSION:
+        raise BadText(1, "a text of form 2 begins with V 2")
+    runs = ((line, *run_of(line)) for line in lines)
+    return b"".join(event * times if event else line for line, times, event in runs)
+
+
+def in_form_two(text):
+    """The text in form 2 of the records of a text in form 1."""
+    out = [VERSION]
+    for line, same in groupby(text.splitlines(keepends=True)):
+        count = sum(1 for _ in same)
+        if line not in EVENTS:
+            out.append(line * count)
+            continue
+        for times in [MOST_EVENTS] * (count // MOST_EVENTS) + [count % MOST_EVENTS]:
+            out.append(b"R %d %s" % (times, line) if times > 1 else line * times)
+    return b"".join(out)
