@@ -127,6 +127,7 @@ fn push_mark<const N: usize>(mark: &Mark, out: &mut ArrayVec<u8, N>)
 }
 
 /// Appends the line of so many equal events.
+#[inline(never)]
 #[tactic(auto, unfolding(crate::specs::Forms::run_text))]
 pub(crate) fn push_run<const N: usize>(n: u32, bits: &Bits, out: &mut ArrayVec<u8, N>)
     requires { array_vec_len out.old + 20 ≤ N }
