@@ -3,7 +3,7 @@ use Rattle.std.specs.Prelude.{codes}
 use Rattle.std.proofs.Common.{◌≡◌, ℕ, ◌^◌, ◌+◌, ◌-◌, ◌≤◌, ◌<◌, ℤ, List, [], ◌∷◌, ◌++◌, length, drop, set, length-set, decimal, append_assoc, refl, sym, ap, ◌∙◌, arith}
 use Rattle.std.proofs.Math.ListN.{drop_of_length-le}
 use Rattle.std.proofs.lemmas.List.{drop-set}
-use Rattle.std.proofs.lemmas.Fmt.{length-decimal-le}
+use Rattle.std.proofs.lemmas.Fmt.{decimal_digit, length-decimal-le}
 use Rattle.step_line.specs.declared.Bits.{Bits}
 use Rattle.step_line.specs.declared.Head.{Head}
 use Rattle.step_record.specs.Texts.{axis_text, event_text, head_text}
@@ -62,3 +62,7 @@ named_behind o m w name digits end em ew =
 pub run_behind : (o m w x : List ℕ) (n : ℕ) (b : Bits) → m ≡ o ++ codes "R " → w ≡ m ++ (decimal n ++ 32 ∷ []) → x ≡ w ++ event_text b → x ≡ o ++ run_text n b
 unfolding run_text
 run_behind o m w x n b name number event = rw (event, number, name) (simp append_assoc)
+
+-- a digit and a blank behind what stands before
+pub digit_behind : (o m w : List ℕ) (n digit : ℕ) → n < 10 → digit ≡ 48 + n → m ≡ o ++ digit ∷ [] → w ≡ m ++ 32 ∷ [] → w ≡ o ++ (decimal n ++ 32 ∷ [])
+digit_behind o m w n digit small is first second = rw (second, first, is, decimal_digit n small) (append_assoc o ((48 + n) ∷ []) (32 ∷ []))

@@ -126,6 +126,21 @@ fn push_mark<const N: usize>(mark: &Mark, out: &mut ArrayVec<u8, N>)
     }
 }
 
+/// Appends how many events a run has, and a blank. Most runs are short.
+#[inline]
+fn push_count<const N: usize>(n: u32, out: &mut ArrayVec<u8, N>)
+    requires { array_vec_len out.old + length (decimal n) + 1 ≤ N }
+    ensures text { out.new.items ≡ out.old.items ++ (decimal n ++ 32 ∷ []) }
+    ensures room { array_vec_len out.new ≡ array_vec_len out.old + length (decimal n) + 1 }
+{
+    if n < 10 {
+        out.push(b'0' + n as u8);
+        out.push(b' ');
+        return;
+    }
+    push_number(n as u64, b' ', out);
+}
+
 /// Appends the line of so many equal events.
 #[inline(never)]
 #[tactic(auto, unfolding(crate::specs::Forms::run_text))]
@@ -135,7 +150,7 @@ pub(crate) fn push_run<const N: usize>(n: u32, bits: &Bits, out: &mut ArrayVec<u
     ensures room { array_vec_len out.new ≤ array_vec_len out.old + 20 }
 {
     append(b"R ", out);
-    push_number(n as u64, b' ', out);
+    push_count(n, out);
     push_event(bits, out);
 }
 
