@@ -101,7 +101,7 @@ inside_events (suc n) b = (refl, inside_events n b)
 
 -- ---- one step
 
-pub one_step_fits : OneStepFits
+unfoldable pub one_step_fits : OneStepFits
 unfolding cut_within words_within first_word decimal_from front_number digits_say verdict words_refusal refusal_at word_refusal group_of code_in target targets line_refusal new_system_offset new_g92 offsets_after parser_moved parser_after items_of rounded_quotient events_of event_of steps_at count
 one_step_fits = record {
   first = first;
