@@ -1,0 +1,11 @@
+pub mod Fronts
+pub mod Replies
+pub mod Stands
+pub mod Lines
+pub mod Places
+pub mod Fitting
+pub mod Fitted
+pub mod Finding
+pub mod Worked
+pub mod Refuted
+pub mod BadAnswer

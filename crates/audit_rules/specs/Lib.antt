@@ -1,0 +1,7 @@
+pub mod Scanned
+pub mod Consoles
+pub mod StepTexts
+pub mod Standing
+pub mod Telling
+pub mod Findings
+pub mod Rows

@@ -1,0 +1,48 @@
+-- Steps that break no rule so far, read from the left.
+use Rattle.std.specs.Prelude.{◌≡◌, ℕ, ◌+◌, true, List, [], ◌∷◌, ◌++◌, length}
+use Rattle.flight.specs.Places.{origin}
+use Rattle.step_line.specs.declared.Record.{Record}
+use Rattle.run_rules.specs.declared.State.{State}
+use Rattle.run_rules.specs.States.{IsOpening}
+use Rattle.run_texts.specs.Courses.{Passed}
+use Rattle.run_texts.specs.Parts.{parts_of}
+use Rattle.run_texts.specs.Points.{Point, opening}
+use Rattle.run_texts.specs.Sent.{Sent, has_reset}
+use Rattle.run_texts.specs.SoFar.{LeadsTo, AreMadeSoFar}
+use Rattle.run_texts.specs.Told.{told_in}
+use Rattle.audit_rules.specs.Consoles.{Tells, GoesOnAnew}
+use Rattle.audit_rules.specs.StepTexts.{StepLine, AreLinesOf, line_text, lines_text, records_of, heading, form_of, body_of}
+
+-- A line may be left unanswered where a reset of the job comes, and is what the console tells next.
+abbrev pub MayWait : Point → List Sent → List ℕ → Type 0
+MayWait p left rest = p.unanswered ≡ true → (has_reset left ≡ true) × GoesOnAnew rest
+
+-- These records break no rule: a course of the job leads to a point, the console tells what this course tells and then goes
+-- on, and the records are those that its parts make, all ended but the last. Which line ends a part is not known before its
+-- end comes; so a record stands also where only another one behind it can't.
+pub record Stand (sent : List Sent) (console : List ℕ) (records : List Record) : Type 0 where
+  pub first : State
+  pub opens : IsOpening first
+  pub course : List Passed
+  pub point : Point
+  pub left : List Sent
+  pub leads : LeadsTo (opening first) sent course point left
+  pub rest : List ℕ
+  pub told : Tells console (told_in course) rest
+  pub waits : MayWait point left rest
+  pub made : AreMadeSoFar origin (parts_of course) records
+
+-- The lines of a step text up to the first that breaks a rule, or ends the steps: they stand, and with the next line, if
+-- one stands there, they do not. The end is no record of a part.
+pub record StandTo (sent : List Sent) (console steps : List ℕ) : Type 0 where
+  pub done : List StepLine
+  pub rest : List ℕ
+  pub text : body_of steps ≡ lines_text done ++ rest
+  pub are : AreLinesOf (form_of steps) done
+  pub stand : Stand sent console (records_of done)
+  pub furthest : (line : StepLine) (more : List ℕ) → rest ≡ line_text line ++ more → AreLinesOf (form_of steps) (done ++ line ∷ []) →
+      Stand sent console (records_of (done ++ line ∷ [])) → ⊥
+
+-- where the first line behind them begins
+abbrev pub place_behind : List ℕ → List StepLine → ℕ
+place_behind steps done = length (heading (form_of steps)) + length (lines_text done)

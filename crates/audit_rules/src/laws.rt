@@ -1,0 +1,38 @@
+//! Laws of audits.
+
+ghost use Rattle.std.specs.Prelude.{◌≡◌, ℕ, List, [], ◌∷◌, ◌++◌};
+ghost use Rattle.run_texts.specs.Sent.{Sent};
+ghost use Rattle.step_line.specs.declared.Record.{Record as AnyRecord};
+ghost use Rattle.audit_rules.specs.declared.Audit.{Audit as AnyAudit};
+ghost use Rattle.audit_rules.specs.Findings.{Finds, FitsWith, BreaksAt, IsForeign, exit_of};
+ghost use Rattle.audit_rules.specs.Scanned.{sent_in};
+ghost use Rattle.audit_rules.specs.Standing.{Stand, StandTo};
+ghost use Rattle.audit_rules.specs.StepTexts.{StepLine, IsStepText};
+ghost use Rattle.audit_rules.specs.Telling.{ConsoleStands, HasBadReply};
+
+/// A text of steps is the lines of one list at most.
+pub fn step_texts_have_one_list()
+    ensures { (text : List ℕ) (lines others : List StepLine) → IsStepText text lines → IsStepText text others → lines ≡ others }
+{}
+
+/// Records that stand have stood before the last of them. So there is one place up to which the lines of a step text stand.
+pub fn records_stand_from_the_left()
+    ensures before { (sent : List Sent) (console : List ℕ) (records : List AnyRecord) (r : AnyRecord) → Stand sent console (records ++ r ∷ []) → Stand sent console records }
+    ensures place { (sent : List Sent) (console steps : List ℕ) (x y : StandTo sent console steps) → (x.done ≡ y.done) × (x.rest ≡ y.rest) }
+{}
+
+/// Of texts that fit the console stands, no reply is bad and no record breaks a rule.
+pub fn texts_that_fit_stand()
+    ensures console { (job console steps : List ℕ) (events : ℕ) → FitsWith job console steps events → ConsoleStands (sent_in job) console steps }
+    ensures replies { (job console steps : List ℕ) (events line : ℕ) → FitsWith job console steps events → HasBadReply (sent_in job) console steps line → ⊥ }
+    ensures records { (job console steps : List ℕ) (events at : ℕ) → FitsWith job console steps events → BreaksAt job console steps at → ⊥ }
+{}
+
+/// Two things that are found of the same texts have one status; and texts that fit have one number of events, steps break a
+/// rule at one place, and one line is the first that is not audited.
+pub fn one_thing_is_found()
+    ensures status { (job console steps : List ℕ) (a b : AnyAudit) → Finds job console steps a → Finds job console steps b → exit_of a ≡ exit_of b }
+    ensures events { (job console steps : List ℕ) (n m : ℕ) → FitsWith job console steps n → FitsWith job console steps m → n ≡ m }
+    ensures place { (job console steps : List ℕ) (at other : ℕ) → BreaksAt job console steps at → BreaksAt job console steps other → at ≡ other }
+    ensures foreign { (job console steps : List ℕ) (line other : ℕ) → IsForeign job console steps line → IsForeign job console steps other → line ≡ other }
+{}

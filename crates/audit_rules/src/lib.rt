@@ -1,0 +1,35 @@
+//! What an audit of a job, a console and steps finds.
+#![tactic(auto)]
+
+mod laws;
+mod rows;
+
+pub use laws::{
+    one_thing_is_found, records_stand_from_the_left, step_texts_have_one_list, texts_that_fit_stand,
+};
+pub use rows::worked_findings;
+
+/// What is found of three texts, or what keeps them from being read.
+#[derive(Clone, Copy, Debug, PartialEq, Eq)]
+pub enum Audit {
+    /// They fit, and the steps have so many events.
+    Fits { events: u64 },
+    /// The console stands, and the record at this byte of the steps is the first that breaks a rule.
+    Misfit { at: u64 },
+    /// The words are not three.
+    Usage,
+    /// The job could not be read.
+    JobFault,
+    /// The console could not be read.
+    ConsoleFault,
+    /// The steps could not be read.
+    StepsFault,
+    /// The line that says what was found could not be written.
+    OutFault,
+    /// The reply to this line, or its absence, is the first that can't stand.
+    BadReplies { line: u32 },
+    /// This line of the job is not audited.
+    Foreign { line: u32 },
+    /// The console or the steps are too long.
+    TooLong,
+}
