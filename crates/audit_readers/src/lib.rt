@@ -1,0 +1,10 @@
+//! Readers of the three texts of an audit, and the line that says what it found: in fixed memory.
+#![tactic(auto)]
+
+mod findings;
+mod job_line;
+mod texts;
+
+pub use findings::{exit_of, put_audit};
+pub use job_line::JobLine;
+pub use texts::{behind_reply, is_foreign};
