@@ -1,1 +1,2 @@
 pub mod JobLines
+pub mod Windows

@@ -4,7 +4,9 @@
 mod findings;
 mod job_line;
 mod texts;
+mod window;
 
 pub use findings::{exit_of, put_audit};
 pub use job_line::JobLine;
 pub use texts::{behind_reply, is_foreign};
+pub use window::Window;
