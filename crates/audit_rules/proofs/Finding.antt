@@ -1,5 +1,5 @@
 -- One thing is found.
-use Rattle.std.proofs.Common.{◌≡◌, ℕ, suc, ◌+◌, List, [], ◌∷◌, ◌++◌, append-nil, length, true, false, Bool, ◌||◌, sym, refl, ap, ◌∙◌, subst}
+use Rattle.std.proofs.Common.{◌≡◌, ◌↔◌, ℕ, suc, ◌+◌, List, [], ◌∷◌, ◌++◌, append-nil, length, true, false, Bool, ◌||◌, sym, refl, ap, ◌∙◌, subst}
 use Rattle.std.proofs.lemmas.List.{append_cancel_left}
 use Rattle.legal_heads.specs.Whole.{events_among}
 use Rattle.run_rules.specs.Told.{replies_text}
@@ -9,7 +9,7 @@ use Rattle.step_line.specs.declared.Record.TheVariants as kinds
 use Rattle.step_record.specs.Texts.{record_text}
 use Rattle.audit_rules.specs.declared.Audit.{Audit}
 use Rattle.audit_rules.specs.declared.Audit.TheVariants.{Fits, Misfit, Usage, JobFault, ConsoleFault, StepsFault, OutFault, BadReplies, Foreign, TooLong}
-use Rattle.audit_rules.specs.Findings.{Finds, FitsWith, BreaksAt, MayEnd, IsForeign, is_foreign, foreign_in, exit_of}
+use Rattle.audit_rules.specs.Findings.{Finds, FitsWith, BreaksAt, MayEnd, IsForeign, HasForeign, IsTooLong, is_foreign, foreign_in, exit_of}
 use Rattle.audit_rules.specs.Findings.BreaksAt.{at_line, behind_end}
 use Rattle.audit_rules.specs.Scanned.{sent_in}
 use Rattle.audit_rules.specs.Standing.{StandTo, place_behind}
@@ -164,3 +164,24 @@ one_status job console steps TooLong OutFault x y = absurd y
 one_status job console steps TooLong (BadReplies m) x y = absurd (y.0 x)
 one_status job console steps TooLong (Foreign m) x y = absurd (y.0 x)
 one_status job console steps TooLong TooLong x y = refl
+
+-- ---- exactly if they fit
+
+zero_fits : (job console steps : List ℕ) (a : Audit) → Finds job console steps a → exit_of a ≡ 0 → (events : ℕ) × FitsWith job console steps events
+zero_fits job console steps (Fits n) x e = (n, x.2)
+zero_fits job console steps (Misfit at) x e = absurd cc
+zero_fits job console steps Usage x e = absurd x
+zero_fits job console steps JobFault x e = absurd x
+zero_fits job console steps ConsoleFault x e = absurd x
+zero_fits job console steps StepsFault x e = absurd x
+zero_fits job console steps OutFault x e = absurd x
+zero_fits job console steps (BadReplies line) x e = absurd cc
+zero_fits job console steps (Foreign line) x e = absurd cc
+zero_fits job console steps TooLong x e = absurd cc
+
+pub fits_exactly : (job console steps : List ℕ) (a : Audit) → Finds job console steps a → (IsTooLong console steps → ⊥) → (HasForeign job console steps → ⊥)
+    → (exit_of a ≡ 0) ↔ ((events : ℕ) × FitsWith job console steps events)
+fits_exactly job console steps a x short audited = (
+  zero_fits job console steps a x,
+  λ f. one_status job console steps a (Fits f.0) x (short, audited, f.1),
+)

@@ -1,6 +1,7 @@
 -- A text is the lines of one list at most.
 use Rattle.std.proofs.Common.{◌≡◌, ℕ, ◌≤◌, ◌⊎◌, inl, inr, List, [], ◌∷◌, ◌++◌, append_assoc, append-nil, length, length-append, decimal, codes, sym, refl, ap, ◌∙◌, subst, arith, Some, None}
 use Rattle.std.specs.List.{AllByRecursion}
+use Rattle.std.specs.Option.{unwrap_or}
 use Rattle.std.specs.declared.option.Option.{Option}
 use Rattle.step_line.specs.declared.Bits.{Bits}
 use Rattle.step_line.specs.declared.Record.{Record}
@@ -39,17 +40,19 @@ not_run r n b form x y is e =
     let found : Some (r, x) ≡ record_at (82 ∷ 32 ∷ t) = sym (record_again r x is) ∙ ap record_at (e ∙ run_is n b y) in
     absurd (let f : ◌≡◌ {A = Option (Record × List ℕ)} (Some (r, x)) None = found ∙ no_record_line t in cc)
 
+same_bits : (b c : Bits) → kinds.Event b ≡ kinds.Event c → b ≡ c
+same_bits b c e = cc
+
 same_run : (n m : ℕ) (b c : Bits) (x y : List ℕ) → IsEvent b → IsEvent c → n ≤ most_in_run → m ≤ most_in_run → line_text (a_run n b) ++ x ≡ line_text (a_run m c) ++ y → Same (a_run n b) (a_run m c) x y
 same_run n m b c x y is_b is_c small_n small_m e =
     let f : 82 ∷ 32 ∷ (decimal n ++ 32 ∷ (event_text b ++ x)) ≡ 82 ∷ 32 ∷ (decimal m ++ 32 ∷ (event_text c ++ y)) = sym (run_is n b x) ∙ e ∙ run_is m c y in
     let g : decimal n ++ 32 ∷ (event_text b ++ x) ≡ decimal m ++ 32 ∷ (event_text c ++ y) = cc in
     let found : Some (n, event_text b ++ x) ≡ Some (m, event_text c ++ y) =
     sym (number_again n 32 (event_text b ++ x) (omega (arith, small_n)) refl) ∙ ap (λ (t : List ℕ). number_at t 32) g ∙ number_again m 32 (event_text c ++ y) (omega (arith, small_m)) refl in
-    let pair : (n, event_text b ++ x) ≡ (m, event_text c ++ y) = cc in
-    let number : n ≡ m = ap (λ (p : ℕ × List ℕ). p.0) pair in
-    let rest : event_text b ++ x ≡ event_text c ++ y = ap (λ (p : ℕ × List ℕ). p.1) pair in
+    let number : n ≡ m = ap (λ (o : Option (ℕ × List ℕ)). (unwrap_or o (0, [])).0) found in
+    let rest : event_text b ++ x ≡ event_text c ++ y = ap (λ (o : Option (ℕ × List ℕ)). (unwrap_or o (0, [])).1) found in
     let same = one_line (kinds.Event b) (kinds.Event c) x y is_b is_c rest in
-    let bits : b ≡ c = (let h = same.0 in let i : b ≡ c = cc in i) in
+    let bits : b ≡ c = same_bits b c same.0 in
     record { line = ap (λ (k : ℕ). a_run k b) number ∙ ap (λ (d : Bits). a_run m d) bits; rest = same.1 }
 
 pub one_line_here : (form : Form) (l m : StepLine) (x y : List ℕ) → IsLineOf form l → IsLineOf form m → line_text l ++ x ≡ line_text m ++ y → Same l m x y

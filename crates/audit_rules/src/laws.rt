@@ -1,10 +1,10 @@
 //! Laws of audits.
 
-ghost use Rattle.std.specs.Prelude.{◌≡◌, ℕ, List, [], ◌∷◌, ◌++◌};
+ghost use Rattle.std.specs.Prelude.{◌≡◌, ◌↔◌, ℕ, List, [], ◌∷◌, ◌++◌};
 ghost use Rattle.run_texts.specs.Sent.{Sent};
 ghost use Rattle.step_line.specs.declared.Record.{Record as AnyRecord};
 ghost use Rattle.audit_rules.specs.declared.Audit.{Audit as AnyAudit};
-ghost use Rattle.audit_rules.specs.Findings.{Finds, FitsWith, BreaksAt, IsForeign, exit_of};
+ghost use Rattle.audit_rules.specs.Findings.{Finds, FitsWith, BreaksAt, IsForeign, HasForeign, IsTooLong, exit_of};
 ghost use Rattle.audit_rules.specs.Scanned.{sent_in};
 ghost use Rattle.audit_rules.specs.Standing.{Stand, StandTo};
 ghost use Rattle.audit_rules.specs.StepTexts.{StepLine, IsStepText};
@@ -35,4 +35,11 @@ pub fn one_thing_is_found()
     ensures events { (job console steps : List ℕ) (n m : ℕ) → FitsWith job console steps n → FitsWith job console steps m → n ≡ m }
     ensures place { (job console steps : List ℕ) (at other : ℕ) → BreaksAt job console steps at → BreaksAt job console steps other → at ≡ other }
     ensures foreign { (job console steps : List ℕ) (line other : ℕ) → IsForeign job console steps line → IsForeign job console steps other → line ≡ other }
+{}
+
+/// So whoever finds something of texts that are not too long, and of which each sent line is audited, says that they fit
+/// exactly if they do.
+pub fn texts_are_found_to_fit_if_they_do()
+    ensures { (job console steps : List ℕ) (found : AnyAudit) → Finds job console steps found → (IsTooLong console steps → ⊥) → (HasForeign job console steps → ⊥) →
+        (exit_of found ≡ 0) ↔ ((events : ℕ) × FitsWith job console steps events) }
 {}

@@ -5,7 +5,8 @@ mod laws;
 mod rows;
 
 pub use laws::{
-    one_thing_is_found, records_stand_from_the_left, step_texts_have_one_list, texts_that_fit_stand,
+    one_thing_is_found, records_stand_from_the_left, step_texts_have_one_list,
+    texts_are_found_to_fit_if_they_do, texts_that_fit_stand,
 };
 pub use rows::worked_findings;
 
