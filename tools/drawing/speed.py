@@ -14,11 +14,13 @@ MOST_EXACT = 800  # moves that are drawn one by one
 
 
 class Along:
-    """Where each segment begins, over the time or the length, in the units of the axis; the last is the end."""
+    """Where each segment begins, over the time or the length, in the units of the axis; the last is the end. The unit of the
+    time is that for so many seconds, or for the run's own."""
 
-    def __init__(self, run, over_time):
+    def __init__(self, run, over_time, longest=None):
         if over_time:
-            unit, seconds = next(it for it in TIME_UNITS if run.seconds > 3 * it[1] or it == TIME_UNITS[-1])
+            longest = run.seconds if longest is None else longest
+            unit, seconds = next(it for it in TIME_UNITS if longest > 3 * it[1] or it == TIME_UNITS[-1])
             self.begins, self.label = array("d", (begin / seconds for begin in run.begins)), f"time, {unit}"
             self.marks = [seconds_at / seconds for seconds_at in run.mark_times]
         else:
@@ -178,7 +180,7 @@ def draw_legend(run, frame, exact, rapid):
     uncut = "rapid, jog" if JOG in kinds else "rapid"
     rows = [(SPEED_LINE, 1.1, "cut" if run.job else "speed")]
     if not exact:
-        rows = [(SPEED_LINE, 1.2, "cut, mean"), (SPEED_BAND, 7, "least, most")]
+        rows = [(SPEED_LINE, 1.2, "cut, mean"), (SPEED_BAND, 7, "range")]
     if kinds - {CUT}:
         rows.append((RAPID_EDGE, 1.0, uncut) if exact else ("#d5d9de", 7, uncut))
     if rapid:
