@@ -5,12 +5,12 @@ ghost use Rattle.std.specs.Prelude.{◌≡◌, ◌↔◌};
 ghost use Rattle.std.specs.IoError.{error_kind};
 
 use grbl_app::{Status, exit_number, put_fault, run_grbl};
-use outside::{OpenGate, ReadSource, WriteSink};
+use outside::{ReadSource, WriteSink};
 use std::alloc::AllocError;
 use std::fs;
 use std::io::{self, ErrorKind, Write};
 use std::process::ExitCode;
-use system_io::{Limited, StepsFile, as_strs, read_words};
+use system_io::{Limited, RestingGate, StepsFile, as_strs, read_words};
 use units::Text;
 
 /// How a run ends whose words could not be read. Words that are no text are no command.
@@ -45,7 +45,7 @@ fn main(rt: HostRuntime) -> ExitCode {
                 &mut job,
                 &mut console,
                 &mut steps,
-                &OpenGate,
+                &RestingGate::new(&rt),
             ),
         },
     };
