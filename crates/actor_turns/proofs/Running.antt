@@ -6,7 +6,7 @@ use Rattle.stream_host.specs.Steps.{is_shut, marks_in}
 use Rattle.stream_host.specs.Steps.{port_log as host_log, stored_of, raises_of, got_of}
 use Rattle.stream_host.specs.Ran.{is_failed}
 use Rattle.board_rules.specs.Breaking.{log_of as board_log, taken_of, has_closed, answered_of, published_of}
-use Rattle.pulse_engine.specs.Logs.{pieces_of, records_put}
+use Rattle.pulse_engine.specs.Logs.{pieces_of, counted, records_put}
 use Rattle.step_record.specs.Taking.{records}
 use Rattle.serial_ring.specs.Logs.{marked_in}
 use Rattle.run_law.specs.Ran.{IsLinked}
@@ -21,7 +21,7 @@ use Rattle.actor_turns.specs.Worlds.{Seen, History, Holds, LinkIsKept, FlagsAreK
 use Rattle.run_law.proofs.Resetting.{taken_were_raised}
 use Rattle.run_law.specs.Flags.{AreTaken}
 use Rattle.board_rules.specs.Cuts.{cancel_words_in}
-use Rattle.board_rules.specs.Ports.{link_steps, has_held_in, has_slowed_in, has_changed_in, has_reset_in, reports_in}
+use Rattle.board_rules.specs.Ports.{link_steps, has_held_in, has_slowed_in, has_changed_in, has_reset_in, reports_in, known_in}
 
 -- ---- what one side got is a front of what the other gave
 
@@ -49,6 +49,10 @@ link w hist h = record {
 -- what the board took of flags was raised
 pub flags_taken : (w : Seen) (hist : History) → Holds w hist → AreTaken (raises_of hist.host) (has_held_in (board_log hist.board)) (has_slowed_in (board_log hist.board)) (has_changed_in (board_log hist.board)) (has_reset_in (board_log hist.board)) (reports_in (board_log hist.board)) (cancel_words_in (board_log hist.board))
 flags_taken w hist h = taken_were_raised (w.lists.exec ∷ w.lists.override ∷ []) (host_log hist.host) (board_log hist.board) h.joined.flags.balance
+
+-- the board found no more ticks done than the pulse counted
+pub found_done : (w : Seen) (hist : History) → Holds w hist → known_in (board_log hist.board) ≤ counted hist.pulse
+found_done w hist h = let p = h.joined.pieces in let known = p.known_is in let done = p.done_is in omega (arith, known, done)
 
 -- ---- how it ends
 

@@ -1,15 +1,18 @@
 -- Fronts of what was sent, asked and recorded.
-use Rattle.std.proofs.Common.{◌≡◌, ℕ, Bool, true, false, cond, List, [], ◌∷◌, ◌++◌, nat_eq, append-nil, append_assoc, refl, ap, ◌∙◌}
+use Rattle.std.proofs.Common.{◌≡◌, ℕ, ◌+◌, Bool, true, false, cond, List, [], ◌∷◌, ◌++◌, length, nat_eq, append-nil, append_assoc, refl, sym, ap, ◌∙◌, arith}
 use Rattle.std.specs.List.{flat_map}
 use Rattle.std.proofs.lemmas.Grind.{flat_map-append}
 use Rattle.std.proofs.lemmas.List.Elements.{filter-append}
 use Rattle.step_line.specs.declared.Piece.{Piece}
 use Rattle.step_line.specs.declared.Piece.TheVariants as pieces
+use Rattle.step_line.specs.declared.Record.{Record}
 use Rattle.step_line.specs.declared.Record.TheVariants as kinds
 use Rattle.step_line.specs.Asking.{ticks_among}
 use Rattle.step_line.specs.Pieces.{records_of, ticks_of}
 use Rattle.step_line.specs.Records.{is_tick}
 use Rattle.planner_runs.specs.Runs.{all_records}
+use Rattle.pulse_engine.specs.Logs.{ticks_in}
+use Rattle.units.specs.Truths.{one_if}
 use Rattle.planner_runs.proofs.Driven.{ticks_of_pieces}
 use Rattle.run_rules.specs.Lines.{whole_lines, onto_line}
 use Rattle.run_law.specs.Fronts.{BeginsWith}
@@ -56,3 +59,14 @@ ended_records given = flat_map-append records_of given (pieces.End ∷ [])
 -- it has their ticks
 pub ended_ticks : (given : List Piece) → ticks_among (all_records given ++ kinds.End ∷ []) ≡ flat_map ticks_of given
 ended_ticks given = filter-append is_tick (all_records given) (kinds.End ∷ []) ∙ append-nil (ticks_among (all_records given)) ∙ ticks_of_pieces given
+
+-- the ticks of a front of what is recorded
+pub recorded_ticks : (made : List Piece) (records : List Record) → BeginsWith (all_records made ++ kinds.End ∷ []) records → BeginsWith (flat_map ticks_of made) (ticks_among records)
+recorded_ticks made records front = record { rest = ticks_among front.rest; is = sym (ended_ticks made) ∙ ap ticks_among front.is ∙ filter-append is_tick records front.rest }
+
+-- how many ticks are among records
+pub ticks_length : (rs : List Record) → length (ticks_among rs) ≡ ticks_in rs
+ticks_length [] = refl
+ticks_length (kinds.Event e ∷ rs) = let more = ticks_length rs in omega (arith, more)
+ticks_length (kinds.Mark m ∷ rs) = let more = ticks_length rs in omega (arith, more)
+ticks_length (_ ∷ rs) = let more = ticks_length rs in omega (arith, more)

@@ -26,7 +26,7 @@ use Rattle.board_rules.specs.Parts.{IsHaltedPart, plan_behind}
 use Rattle.board_rules.specs.Turns.{owes_report}
 use Rattle.board_rules.specs.Steps.{Journal, port_log, taken_of, has_closed, has_limited, plan_of, answered_of, published_of, known_of, open_of, whole_of, lines_of, outcomes_of, before_of, left_of, closed_tells, planned_of, given_of, hand_of}
 use Rattle.board_rules.specs.Ports.{has_held_in, has_slowed_in, has_changed_in, reports_in}
-use Rattle.board_rules.specs.Ports.{PortStep, PortLog, answered_in, changes_at, closed_at, has_cancelled_in, has_closed_in, has_reset_in, cancels_at, holds_at, published_in, reports_at, resets_at, taken_at, taken_in}
+use Rattle.board_rules.specs.Ports.{PortStep, PortLog, answered_in, changes_at, closed_at, has_cancelled_in, has_closed_in, has_reset_in, cancels_at, holds_at, published_in, reports_at, resets_at, taken_at, taken_in, known_at, known_in}
 use Rattle.board_rules.specs.Ports.PortStep.{answered, no_reply_room, no_piece_room, published}
 use Rattle.board_rules.specs.Breaking.{Doings, Ending, EndsRun, MayBreakOff, ending_of, is_end}
 use Rattle.board_rules.specs.Breaking.Doings.{goes, broke}
@@ -39,7 +39,7 @@ use Rattle.board_rules.proofs.Phases.{Phase, count_is, done_of, phase_is}
 use Rattle.board_rules.proofs.Phases.Phase.{between, in_line, unanswered}
 use Rattle.board_rules.proofs.Plain.{answers_without, reports_on}
 use Rattle.board_rules.specs.Conduct.{Conducted, IsFinished, ticks_given, ticks_published}
-use Rattle.board_rules.proofs.Given.{known_within, published_within}
+use Rattle.board_rules.proofs.Given.{published_within}
 use Rattle.board_rules.proofs.Numbers.{lines_are, pieces_are, passed_are, starts_are}
 use Rattle.board_rules.proofs.Parting.{asked_is}
 use Rattle.board_rules.specs.Whole.{course_of, AreLines, IsSpent}
@@ -98,7 +98,7 @@ pub record Kept (first : State) (h : Journal) : Type 0 where
   pub end : (given_of h ≡ all_given (drive_of first h)) ⊎ (given_of h ≡ all_given (drive_of first h) ++ pieces.End ∷ [])
   pub fits : Reported (course_of (first_opening first) h) (reverse (answered_of h)) (known_of h)
   pub within : ticks_published h ≤ ticks_given h
-  pub least : fewest (answers_in (answered_of h)) (all_outcomes (drive_of first h)) (all_counts (drive_of first h)) ≤ ticks_published h
+  pub least : fewest (answers_in (answered_of h)) (all_outcomes (drive_of first h)) (all_counts (drive_of first h)) ≤ known_of h
   pub one : length (all_outcomes (drive_of first h)) ≤ answers_in (answered_of h) + 1
   pub few : reports_among (answered_of h) + cond (owes_report h) 1 0 ≤ reports_in (port_log h)
 
@@ -117,9 +117,9 @@ one_begun first h conducted = by_phase (phase_is (first_opening first) h conduct
     by_phase (between p) count = let e = ap length p.all in omega (arith, e, count)
     by_phase (unanswered p) count = let e = ap length p.begun in let l = length-append (done_of h) (p.o ∷ []) in omega (arith, e, l, count)
 
--- the ticks of the lines up to the last answered one that settles are published, since they were found done
-least_published : (first : State) (h : Journal) → Conducted (first_opening first) h → fewest (answers_in (answered_of h)) (outcomes_of h) (counts_of (first_opening first) h) ≤ ticks_published h
-least_published first h conducted =
+-- the ticks of the lines up to the last answered one that settles were found done
+least_known : (first : State) (h : Journal) → Conducted (first_opening first) h → fewest (answers_in (answered_of h)) (outcomes_of h) (counts_of (first_opening first) h) ≤ known_of h
+least_known first h conducted =
     let x = standing (first_opening first) h (phase_is (first_opening first) h conducted) in
     let k = length (done_of h) in
     let front : take k (outcomes_of h) ≡ done_of h =
@@ -127,8 +127,7 @@ least_published first h conducted =
     let settled : fewest k (outcomes_of h) (counts_of (first_opening first) h) ≡ settled_ticks (first_opening first) h = ap (λ (os : List Outcome). sum (take (settled_to os) (counts_of (first_opening first) h))) front in
     let answered = ap (λ (n : ℕ). fewest n (outcomes_of h) (counts_of (first_opening first) h)) (count_is (first_opening first) h conducted) in
     let known = settled_is_known (first_opening first) h conducted in
-    let within = known_within (first_opening first) h conducted in
-    omega (arith, settled, answered, known, within)
+    omega (arith, settled, answered, known)
 
 -- they hold of it
 pub keeps : (first : State) (h : Journal) → Conducted (first_opening first) h → Kept first h
@@ -152,7 +151,7 @@ keeps first h conducted =
       end = subst (λ (ps : List Piece). (given_of h ≡ ps) ⊎ (given_of h ≡ ps ++ pieces.End ∷ [])) pieces_same (one_end (first_opening first) h conducted);
       fits = reported_is (first_opening first) h conducted;
       within = published_within (first_opening first) h conducted;
-      least = subst (λ (os : List Outcome). fewest (answers_in (answered_of h)) os (counts_of (first_opening first) h) ≤ ticks_published h) lines (least_published first h conducted);
+      least = subst (λ (os : List Outcome). fewest (answers_in (answered_of h)) os (counts_of (first_opening first) h) ≤ known_of h) lines (least_known first h conducted);
       one = subst (λ (os : List Outcome). length os ≤ answers_in (answered_of h) + 1) lines (one_begun first h conducted);
       few = owes_few (first_opening first) h conducted;
     }
@@ -166,31 +165,25 @@ given_few : (given planned : List Piece) → (given ≡ planned) ⊎ (given ≡ 
 given_few given planned (inl same) = let e = ap ticks_together same in omega (arith, e)
 given_few given planned (inr whole) = let e = ap ticks_together whole in let n = no_more_ticks planned in omega (arith, e, n)
 
--- what the plan gave has the ticks of the lines up to the last answered one that settles
-least_given : (first : State) (h : Journal) → Kept first h → fewest (answers_in (answered_of h)) (all_outcomes (drive_of first h)) (all_counts (drive_of first h)) ≤ length (flat_map ticks_of (all_given (drive_of first h)))
-least_given first h c = let least = c.least in let within = c.within in let few = given_few (given_of h) (all_given (drive_of first h)) c.end in omega (arith, least, within, few)
-
 -- the reports fit what was given of the lines
-kept_reported : (first : State) (h : Journal) → Kept first h → HasReported first (drive_of first h) (has_held_in (port_log h)) (has_changed_in (port_log h)) (answered_of h)
+kept_reported : (first : State) (h : Journal) → Kept first h → HasReported first (drive_of first h) (has_held_in (port_log h)) (has_changed_in (port_log h)) (known_of h) (answered_of h)
 kept_reported first h c =
-    let ticks = planned_ticks (given_of h) (all_given (drive_of first h)) (published_of h) (hand_of h) c.end c.hand in (
-      known_of h,
-      reported_still (course_of (first_opening first) h) (course_so first h) (reverse (answered_of h)) (known_of h) c.within
-          (record {
-            first = refl;
-            place = refl;
-            locked = refl;
-            more = [];
-            outcomes = sym c.lines ∙ sym (append-nil (outcomes_of h));
-            low = λ k short. same_low k (outcomes_of h) (all_outcomes (drive_of first h)) (counts_of (first_opening first) h) c.lines;
-            high = λ k n given asked. asked;
-            later = flat_map ticks_of (hand_of h);
-            ticks = ticks;
-            given = given_few (given_of h) (all_given (drive_of first h)) c.end;
-            held = λ is. is;
-            changed = λ none. none;
-          }) c.fits,
-    )
+    let ticks = planned_ticks (given_of h) (all_given (drive_of first h)) (published_of h) (hand_of h) c.end c.hand in
+    reported_still (course_of (first_opening first) h) (course_so first h) (reverse (answered_of h)) (known_of h) c.within
+    (record {
+      first = refl;
+      place = refl;
+      locked = refl;
+      more = [];
+      outcomes = sym c.lines ∙ sym (append-nil (outcomes_of h));
+      low = λ k short. same_low k (outcomes_of h) (all_outcomes (drive_of first h)) (counts_of (first_opening first) h) c.lines;
+      high = λ k n given asked. asked;
+      later = flat_map ticks_of (hand_of h);
+      ticks = ticks;
+      given = given_few (given_of h) (all_given (drive_of first h)) c.end;
+      held = λ is. is;
+      changed = λ none. none;
+    }) c.fits
   where
     same_low : (k : ℕ) (os xs : List Outcome) (ns : List ℕ) → os ≡ xs → fewest k xs ns ≤ fewest k os ns
     same_low k os xs ns same = let e = ap (λ (ys : List Outcome). fewest k ys ns) same in omega (arith, e)
@@ -212,7 +205,7 @@ closed_calmly h (inl closed) calm = closed
 closed_calmly h (inr one) calm = absurd (let e = sym one ∙ calm in cc)
 
 pub board_ran : (first : State) (h : Journal) → IsOpening first → Kept first h → IsFinished (first_opening first) h → IsSpent h
-    → BoardRan (taken_of h) (has_closed h) (has_held_in (port_log h)) (has_slowed_in (port_log h)) (has_changed_in (port_log h)) (has_reset_in (port_log h)) (reports_in (port_log h)) (cancel_words_in (port_log h)) (answered_of h) (published_of h)
+    → BoardRan (taken_of h) (has_closed h) (has_held_in (port_log h)) (has_slowed_in (port_log h)) (has_changed_in (port_log h)) (has_reset_in (port_log h)) (reports_in (port_log h)) (cancel_words_in (port_log h)) (known_of h) (answered_of h) (published_of h)
 board_ran first h opening c f s = record {
   first = first;
   lines = lines_of h;
@@ -230,7 +223,7 @@ board_ran first h opening c f s = record {
   made = (all_given (drive_of first h));
   kept = nothing_more (all_given (drive_of first h));
   gave = sym (append-nil (published_of h)) ∙ ap (λ (ps : List Piece). published_of h ++ ps) (sym s.hand) ∙ sym c.hand ∙ s.given ∙ ap (λ (ps : List Piece). ps ++ pieces.End ∷ []) c.pieces_are;
-  least = least_given first h c;
+  least = c.least;
   reported = kept_reported first h c;
   reports = kept_few h first c;
   whole = λ none calm. record {
@@ -260,7 +253,7 @@ end_last given planned out hand (inl same) e = record {
 end_last given planned out hand (inr whole) e = record { rest = hand; is = sym whole ∙ e }
 
 pub board_runs : (first : State) (h : Journal) → IsOpening first → Kept first h
-    → BoardRuns (taken_of h) (has_held_in (port_log h)) (has_slowed_in (port_log h)) (has_changed_in (port_log h)) (has_reset_in (port_log h)) (reports_in (port_log h)) (cancel_words_in (port_log h)) (answered_of h) (published_of h)
+    → BoardRuns (taken_of h) (has_held_in (port_log h)) (has_slowed_in (port_log h)) (has_changed_in (port_log h)) (has_reset_in (port_log h)) (reports_in (port_log h)) (cancel_words_in (port_log h)) (known_of h) (answered_of h) (published_of h)
 board_runs first h opening c = record {
   first = first;
   lines = lines_of h;
@@ -276,6 +269,7 @@ board_runs first h opening c = record {
   made = (all_given (drive_of first h));
   kept = nothing_more (all_given (drive_of first h));
   gave = end_last (given_of h) (all_given (drive_of first h)) (published_of h) (hand_of h) c.end c.hand;
+  least = c.least;
   reported = kept_reported first h c;
   reports = kept_few h first c;
   whole = λ none. (refl, refl);
@@ -347,6 +341,9 @@ asked_same since before ends = same_log reports_at reports_in since before ends 
 words_same : (since before : Journal) → EndsRun since before → cancel_words_in (log_behind since before) ≡ cancel_words_in (port_log before)
 words_same since before ends = same_log cancel_words_at cancel_words_in since before ends (λ e l. refl) (λ q x. refl) (λ r x. refl) (λ n x. refl) (λ x. refl)
 
+known_same : (since before : Journal) → EndsRun since before → known_in (log_behind since before) ≡ known_of before
+known_same since before ends = same_log known_at known_in since before ends (λ e l. refl) (λ q x. refl) (λ r x. refl) (λ n x. refl) (λ x. refl)
+
 -- what it had told, but for reports
 abbrev said_so : Journal → List Reply
 said_so before = without_reports (answered_of before)
@@ -362,32 +359,37 @@ made_is : (first : State) (since before : Journal) → IsBroken first since befo
 made_is first since before k =
     made_by (given_of before) (all_given (drive_of first before)) (published_of before) (hand_of before) (list_any is_end (published_of before)) refl k.none k.kept.end k.kept.hand
 
--- they have the ticks of the lines up to the last answered one that settles
-least_made : (first : State) (before : Journal) → Kept first before → fewest (answers_in (answered_of before)) (all_outcomes (drive_of first before)) (all_counts (drive_of first before)) ≤ length (flat_map ticks_of (made_of first before))
-least_made first before kept = by_end (list_any is_end (published_of before))
-  where
-    by_end : (t : Bool) → fewest (answers_in (answered_of before)) (all_outcomes (drive_of first before)) (all_counts (drive_of first before)) ≤ length (flat_map ticks_of (cond t (all_given (drive_of first before)) (published_of before)))
-    by_end true = least_given first before kept
-    by_end false = kept.least
-
 -- its reports fit what it had done
 abbrev FitsSo : State → Journal → List Reply → Type 0
-FitsSo first before replies = HasReported first (drive_of first before) (has_held_in (port_log before)) (has_changed_in (port_log before)) replies
+FitsSo first before replies = HasReported first (drive_of first before) (has_held_in (port_log before)) (has_changed_in (port_log before)) (known_of before) replies
 
 -- how far its end is, by what it has answered and published
 record Stage (first : State) (before : Journal) (replies : List Reply) (pieces_out : List Piece) : Type 0 where
   told : BeginsWith (said_so before ++ Bye ∷ []) (without_reports replies)
   gave : BeginsWith (made_of first before ++ pieces.End ∷ []) pieces_out
+  least : fewest (answers_in replies) (all_outcomes (drive_of first before)) (all_counts (drive_of first before)) ≤ known_of before
   fits : FitsSo first before replies
   few : reports_among replies ≤ reports_in (port_log before)
+
+-- as many lines are answered as before
+least_still : (first : State) (before : Journal) (replies : List Reply) → Kept first before → answers_in replies ≡ answers_in (answered_of before)
+    → fewest (answers_in replies) (all_outcomes (drive_of first before)) (all_counts (drive_of first before)) ≤ known_of before
+least_still first before replies kept same =
+    subst (λ (n : ℕ). fewest n (all_outcomes (drive_of first before)) (all_counts (drive_of first before)) ≤ known_of before) (sym same) kept.least
 
 with_bye : (before : Journal) (replies : List Reply) → replies ≡ answered_of before ++ Bye ∷ [] → without_reports replies ≡ said_so before ++ Bye ∷ []
 with_bye before replies is = ap without_reports is ∙ bye_behind (answered_of before)
 
+-- a Bye behind them is no answer
+answers_still : (before : Journal) (replies : List Reply) → without_reports replies ≡ said_so before ++ Bye ∷ [] → answers_in replies ≡ answers_in (answered_of before)
+answers_still before replies told =
+    let all = answers_without replies in let was = answers_without (answered_of before) in
+    let e = ap answers_in told in let l = answers_on (said_so before) (Bye ∷ []) in omega (arith, all, was, e, l)
+
 bye_fits : (first : State) (before : Journal) (replies : List Reply) → Kept first before → replies ≡ answered_of before ++ Bye ∷ [] → FitsSo first before replies
 bye_fits first before replies kept is =
     let was = kept_reported first before kept in
-    subst (λ (rs : List Reply). FitsSo first before rs) (sym is) (was.0, bye_reported (course_so first before) (answered_of before) was.0 was.1)
+    subst (λ (rs : List Reply). FitsSo first before rs) (sym is) (bye_reported (course_so first before) (answered_of before) (known_of before) was)
 
 bye_few : (first : State) (before : Journal) (replies : List Reply) → Kept first before → replies ≡ answered_of before ++ Bye ∷ [] → reports_among replies ≤ reports_in (port_log before)
 bye_few first before replies kept is = let e = ap reports_among is in let s = reports_on (answered_of before) (Bye ∷ []) in let f = kept_few before first kept in omega (arith, e, s, f)
@@ -401,6 +403,7 @@ unanswered_stage : (first : State) (before : Journal) (replies : List Reply) (pi
 unanswered_stage first before replies pieces_out kept same gave = record {
   told = record { rest = Bye ∷ []; is = ap (λ (rs : List Reply). without_reports rs ++ Bye ∷ []) (sym same) };
   gave = gave;
+  least = least_still first before replies kept (ap answers_in same);
   fits = subst (λ (rs : List Reply). FitsSo first before rs) (sym same) (kept_reported first before kept);
   few = subst (λ (rs : List Reply). reports_among rs ≤ reports_in (port_log before)) (sym same) (kept_few before first kept);
 }
@@ -425,12 +428,13 @@ stage first since before over k e =
     record {
       told = record { rest = []; is = sym (with_bye before (answered_in (log_behind since before)) is) ∙ sym (append-nil (without_reports (answered_in (log_behind since before)))) };
       gave = all_pieces (made_of first before ++ pieces.End ∷ []) (published_in (log_behind since before)) (whole_pieces first since before k (λ p. absurd (let s = sym e ∙ p in cc)));
+      least = least_still first before (answered_in (log_behind since before)) k.kept (answers_still before (answered_in (log_behind since before)) (with_bye before (answered_in (log_behind since before)) is));
       fits = bye_fits first before (answered_in (log_behind since before)) k.kept is;
       few = bye_few first before (answered_in (log_behind since before)) k.kept is;
     }
 
 runs_then : (first : State) (since before : Journal) (replies : List Reply) (pieces_out : List Piece) → IsBroken first since before → Stage first before replies pieces_out
-    → BoardRuns (taken_of before) (has_held_in (port_log before)) (has_slowed_in (port_log before)) (has_changed_in (port_log before)) true (reports_in (port_log before)) (cancel_words_in (port_log before)) replies pieces_out
+    → BoardRuns (taken_of before) (has_held_in (port_log before)) (has_slowed_in (port_log before)) (has_changed_in (port_log before)) true (reports_in (port_log before)) (cancel_words_in (port_log before)) (known_of before) replies pieces_out
 runs_then first since before replies pieces_out k s = record {
   first = first;
   lines = lines_of before;
@@ -446,27 +450,22 @@ runs_then first since before replies pieces_out k s = record {
   made = made_of first before;
   kept = (made_is first since before k).0;
   gave = s.gave;
+  least = s.least;
   reported = s.fits;
   reports = s.few;
   whole = λ e. absurd cc;
 }
 
 pub broken_runs : (first : State) (since before : Journal) → IsBroken first since before
-    → BoardRuns (taken_in (log_behind since before)) (has_held_in (log_behind since before)) (has_slowed_in (log_behind since before)) (has_changed_in (log_behind since before)) (has_reset_in (log_behind since before)) (reports_in (log_behind since before)) (cancel_words_in (log_behind since before))
+    → BoardRuns (taken_in (log_behind since before)) (has_held_in (log_behind since before)) (has_slowed_in (log_behind since before)) (has_changed_in (log_behind since before)) (has_reset_in (log_behind since before)) (reports_in (log_behind since before)) (cancel_words_in (log_behind since before)) (known_in (log_behind since before))
     (answered_in (log_behind since before)) (published_in (log_behind since before))
 broken_runs first since before k =
-    rw (taken_same since before k.ends, slowed_same since before k.ends, held_same since before k.ends, changed_same since before k.ends, resets_now first since before k, asked_same since before k.ends, words_same since before k.ends)
+    rw (taken_same since before k.ends, slowed_same since before k.ends, held_same since before k.ends, changed_same since before k.ends, resets_now first since before k, asked_same since before k.ends, words_same since before k.ends, known_same since before k.ends)
     (runs_then first since before (answered_in (log_behind since before)) (published_in (log_behind since before)) k (stage first since before (ending_of since before) k refl))
-
--- a Bye behind them is no answer
-answers_still : (before : Journal) (replies : List Reply) → without_reports replies ≡ said_so before ++ Bye ∷ [] → answers_in replies ≡ answers_in (answered_of before)
-answers_still before replies told =
-    let all = answers_without replies in let was = answers_without (answered_of before) in
-    let e = ap answers_in told in let l = answers_on (said_so before) (Bye ∷ []) in omega (arith, all, was, e, l)
 
 ran_then : (first : State) (since before : Journal) (replies : List Reply) (pieces_out : List Piece) → IsBroken first since before → without_reports replies ≡ said_so before ++ Bye ∷ []
     → pieces_out ≡ made_of first before ++ pieces.End ∷ [] → Stage first before replies pieces_out
-    → BoardRan (taken_of before) (has_closed before) (has_held_in (port_log before)) (has_slowed_in (port_log before)) (has_changed_in (port_log before)) true (reports_in (port_log before)) (cancel_words_in (port_log before)) replies pieces_out
+    → BoardRan (taken_of before) (has_closed before) (has_held_in (port_log before)) (has_slowed_in (port_log before)) (has_changed_in (port_log before)) true (reports_in (port_log before)) (cancel_words_in (port_log before)) (known_of before) replies pieces_out
 ran_then first since before replies pieces_out k told gave s = record {
   first = first;
   lines = lines_of before;
@@ -483,7 +482,7 @@ ran_then first since before replies pieces_out k told gave s = record {
   made = made_of first before;
   kept = (made_is first since before k).0;
   gave = gave;
-  least = subst (λ (n : ℕ). fewest n (all_outcomes (drive_of first before)) (all_counts (drive_of first before)) ≤ length (flat_map ticks_of (made_of first before))) (sym (answers_still before replies told)) (least_made first before k.kept);
+  least = s.least;
   reported = s.fits;
   reports = s.few;
   whole = λ e. absurd cc;
@@ -492,8 +491,8 @@ ran_then first since before replies pieces_out k told gave s = record {
 
 pub broken_ran : (first : State) (since before : Journal) → IsBroken first since before → ending_of since before ≡ over
     → BoardRan (taken_in (log_behind since before)) (has_closed_in (log_behind since before)) (has_held_in (log_behind since before)) (has_slowed_in (log_behind since before)) (has_changed_in (log_behind since before)) (has_reset_in (log_behind since before))
-    (reports_in (log_behind since before)) (cancel_words_in (log_behind since before)) (answered_in (log_behind since before)) (published_in (log_behind since before))
+    (reports_in (log_behind since before)) (cancel_words_in (log_behind since before)) (known_in (log_behind since before)) (answered_in (log_behind since before)) (published_in (log_behind since before))
 broken_ran first since before k e =
-    rw (taken_same since before k.ends, closed_same since before k.ends, slowed_same since before k.ends, held_same since before k.ends, changed_same since before k.ends, resets_now first since before k, asked_same since before k.ends, words_same since before k.ends)
+    rw (taken_same since before k.ends, closed_same since before k.ends, slowed_same since before k.ends, held_same since before k.ends, changed_same since before k.ends, resets_now first since before k, asked_same since before k.ends, words_same since before k.ends, known_same since before k.ends)
     (ran_then first since before (answered_in (log_behind since before)) (published_in (log_behind since before)) k (with_bye before (answered_in (log_behind since before)) (ended_answers since before k.ends e))
     (whole_pieces first since before k (λ p. absurd (let s = sym e ∙ p in cc))) (stage first since before (ending_of since before) k refl))

@@ -42,7 +42,7 @@ use Rattle.step_line.specs.declared.Record.TheVariants as kinds
 use Rattle.legal_heads.specs.Speeds.{HasLegalHeads}
 use Rattle.run_law.specs.Drives.{Drive, all_outcomes, all_passed, all_actions, all_given, ticks_due, IsDrive, IsWholeDrive}
 use Rattle.run_law.specs.Fronts.{BeginsWith}
-use Rattle.run_law.proofs.Begins.{begins_on, begins_each, ended_ticks}
+use Rattle.run_law.proofs.Begins.{begins_on, begins_each, ended_ticks, recorded_ticks}
 
 -- ---- of a board
 
@@ -147,9 +147,7 @@ made_ticks slowed alarmed changed cancels d made is kept =
 pub ticks_begin : (slowed alarmed changed : Bool) (cancels : ℕ) (d : Drive) (made : List Piece) (records : List Record) → IsDrive slowed alarmed changed cancels d → BeginsWith (all_given d) made
     → BeginsWith (all_records made ++ kinds.End ∷ []) records → BeginsWith (ticks_due d) (ticks_among records)
 ticks_begin slowed alarmed changed cancels d made records is kept rest =
-    let recorded : BeginsWith (flat_map ticks_of made) (ticks_among records) =
-    record { rest = ticks_among rest.rest; is = sym (ended_ticks made) ∙ ap ticks_among rest.is ∙ filter-append is_tick records rest.rest } in
-    begins_on (ticks_due d) (flat_map ticks_of made) (ticks_among records) (made_ticks slowed alarmed changed cancels d made is kept) recorded
+    begins_on (ticks_due d) (flat_map ticks_of made) (ticks_among records) (made_ticks slowed alarmed changed cancels d made is kept) (recorded_ticks made records rest)
 
 -- ---- where all of it was carried out
 

@@ -31,10 +31,11 @@ pulse_ran p h k f unhalted ended =
       ticks = d.3;
     }
 
-pub pulse_runs : (p : Pulsing) (h : PieceLog) (k : RecordLog) → PulseFits p h k → halts_of h ≡ [] → PulseRuns (reverse (pieces_of h)) (records_put k)
+pub pulse_runs : (p : Pulsing) (h : PieceLog) (k : RecordLog) → PulseFits p h k → halts_of h ≡ [] → PulseRuns (reverse (pieces_of h)) (counted h) (records_put k)
 pulse_runs p h k f unhalted = record {
   turns = turns_on h unhalted f.turns;
   records = record { rest = p.waiting; is = sym (recorded_each (pieces_of h)) ∙ sym (never_halted h (records_put k ++ p.waiting) unhalted f.records) };
+  ticks = omega (arith, f.ticks);
 }
 
 -- ---- the recorder

@@ -1,5 +1,5 @@
 -- The four actors make a run.
-use Rattle.std.proofs.Common.{◌≡◌, ℕ, ◌+◌, ◌≤◌, Bool, true, false, List, [], ◌∷◌, ◌++◌, ◌||◌, ◌&&◌, not, length, map, reverse, append-nil, refl, sym, ap, ◌∙◌, subst, arith}
+use Rattle.std.proofs.Common.{◌≡◌, ℕ, ◌+◌, ◌≤◌, Bool, true, false, List, [], ◌∷◌, ◌++◌, ◌||◌, ◌&&◌, not, length, length-append, map, reverse, append-nil, refl, sym, ap, ◌∙◌, subst, arith}
 use Rattle.std.specs.List.{flat_map, list_any}
 use Rattle.units.specs.Truths.{one_if}
 use Rattle.std.proofs.lemmas.List.{length-map}
@@ -31,12 +31,12 @@ use Rattle.stream_host.proofs.Pieces.{lines_back}
 use Rattle.step_line.specs.Asking.{ticks_among}
 use Rattle.run_law.specs.Flags.{AreTaken}
 use Rattle.run_law.proofs.Flagging.{driven_by, no_reset}
-use Rattle.run_law.proofs.Begins.{begins_on, begins_by, lines_begin, ended_records, ended_ticks}
+use Rattle.run_law.proofs.Begins.{begins_on, begins_by, begins_each, lines_begin, ended_records, ended_ticks, ticks_length}
 use Rattle.run_law.proofs.Driving.{became_all, made_ticks, whole_drive}
 use Rattle.run_law.specs.Drives.{Drive, all_outcomes, all_passed, all_given, all_counts, ticks_due}
 use Rattle.run_law.specs.Runs.{Sinks, ended, course, asks_hold, asks_slow, slows_in, asks_change, asks_reset, AreReports, IsRun}
 use Rattle.run_law.specs.Fronts.{BeginsWith}
-use Rattle.run_law.proofs.Reporting.{scanned_grows, scanned_few, reported_front, few_front, errors_without}
+use Rattle.run_law.proofs.Reporting.{scanned_grows, scanned_few, reported_fewer, reported_front, few_front, errors_without}
 use Rattle.run_law.specs.Ran.{HasReported, BoardRan, PulseRan, RecorderRan, IsLinked}
 use Rattle.run_rules.proofs.Answering.{answers_are, errors_are}
 use Rattle.run_rules.proofs.Alarms.{alarms_from_start}
@@ -46,20 +46,21 @@ use Rattle.run_law.proofs.Alarming.{alarm_told}
 pub link_taken : (stored taken : List ℕ) (shut closed : Bool) (marks : List ℕ) (loaded : List Mark) → IsLinked stored shut taken closed marks loaded → closed ≡ true → stored ≡ taken
 link_taken stored taken shut closed marks loaded link is = link.front ∙ ap (λ (x : List ℕ). taken ++ x) (link.all is) ∙ append-nil taken
 
--- the reports that were got fit the run
-pub reports_are : (first : State) (drive : Drive) (scanned raised due : List ℕ) (resumes : ℕ) (held slowed changed reset : Bool) (asked cancels : ℕ) (lines : List (List ℕ)) (ticks : List Record) (answered got : List Reply)
-    → AreRaised scanned raised due resumes → AreTaken raised held slowed changed reset asked cancels → HasReported first drive held changed answered → reports_among answered ≤ asked → BeginsWith answered got
-    → ticks ≡ flat_map ticks_of (all_given drive) → AreReported lines got → AreReports first drive ticks lines scanned got
-reports_are first drive scanned raised due resumes held slowed changed reset asked cancels lines ticks answered got are taken has few begins same each =
-    let was = course first drive (flat_map ticks_of (all_given drive)) held changed in
-    let now = course first drive (flat_map ticks_of (all_given drive)) (asks_hold scanned) (asks_change scanned) in
-    let front = reported_front was answered got has.0 begins has.1 in
+-- the reports that were got fit the run, if no more ticks were found done than these
+pub reports_are : (first : State) (drive : Drive) (scanned raised due : List ℕ) (resumes : ℕ) (held slowed changed reset : Bool) (asked cancels known : ℕ) (lines : List (List ℕ)) (ticks : List Record) (answered got : List Reply)
+    → AreRaised scanned raised due resumes → AreTaken raised held slowed changed reset asked cancels → HasReported first drive held changed known answered → reports_among answered ≤ asked → BeginsWith answered got
+    → BeginsWith (flat_map ticks_of (all_given drive)) ticks → known ≤ length ticks → AreReported lines got → AreReports first drive ticks lines scanned got
+reports_are first drive scanned raised due resumes held slowed changed reset asked cancels known lines ticks answered got are taken has few begins front_ticks within each =
+    let was = course first drive ticks held changed in
+    let now = course first drive ticks (asks_hold scanned) (asks_change scanned) in
+    let all = flat_map ticks_of (all_given drive) in
+    let front = reported_fewer first drive all ticks held changed (reverse got) known front_ticks within (reported_front (course first drive all held changed) answered got known begins has) in
+    let as_long : length all ≡ length ticks + length front_ticks.rest = ap (λ (rs : List Record). length rs) front_ticks.is ∙ length-append ticks front_ticks.rest in
     let a = few_front answered got begins in
     let b = scanned_few scanned raised due resumes held slowed changed reset asked cancels are taken in
     record {
-      known = front.0;
-      fit = subst (λ (rs : List Record). Reported (course first drive rs (asks_hold scanned) (asks_change scanned)) (reverse got) front.0) (sym same)
-          (reported_still was now (reverse got) front.0 (omega arith) (scanned_grows first drive (flat_map ticks_of (all_given drive)) scanned raised due resumes held slowed changed reset asked cancels are taken) front.1);
+      known = known;
+      fit = reported_still was now (reverse got) known (omega (arith, as_long)) (scanned_grows first drive ticks scanned raised due resumes held slowed changed reset asked cancels are taken) front;
       few = omega (arith, a, b, few);
       each = each;
     }
@@ -76,9 +77,9 @@ all_out shut raised got closed false closes raises calm found =
     ap (λ t. (t && not (list_any is_limit got)) || list_any is_reset raised) (closes (found refl)) ∙ ap (λ t. not t || list_any is_reset raised) calm
 
 -- unless a reset was taken, a board has told all that is to be told of its lines
-said_all : (taken : List ℕ) (closed held slowed changed reset : Bool) (asked cancels : ℕ) (answered : List Reply) (published : List Piece) → (board : BoardRan taken closed held slowed changed reset asked cancels answered published)
+said_all : (taken : List ℕ) (closed held slowed changed reset : Bool) (asked cancels known : ℕ) (answered : List Reply) (published : List Piece) → (board : BoardRan taken closed held slowed changed reset asked cancels known answered published)
     → reset ≡ false → board.said ≡ replies_in (all_outcomes board.drive)
-said_all taken closed held slowed changed reset asked cancels answered published board none = by_alarm board.last.alarmed refl
+said_all taken closed held slowed changed reset asked cancels known answered published board none = by_alarm board.last.alarmed refl
   where
     by_alarm : (t : Bool) → board.last.alarmed ≡ t → board.said ≡ replies_in (all_outcomes board.drive)
     by_alarm false calm = (board.whole none calm).told
@@ -96,12 +97,12 @@ all_answered first drive lines last got follows told =
 
 -- where a front of what was answered is got, which has all but reports
 pub runs_by : (job_was job_is : SourceState) (was is : Sinks) (end : HostEnd) (steps_failed : Bool)
-    (stored raised taken : List ℕ) (shut closed held slowed changed reset : Bool) (asked cancels : ℕ) (got answered : List Reply) (got_pieces published : List Piece) (ticks : ℕ) (got_records put : List Record) (marks : List ℕ) (loaded : List Mark)
-    → HostRan job_was job_is was.console is.console stored shut raised got end → BoardRan taken closed held slowed changed reset asked cancels answered published → PulseRan got_pieces ticks put
+    (stored raised taken : List ℕ) (shut closed held slowed changed reset : Bool) (asked cancels known : ℕ) (got answered : List Reply) (got_pieces published : List Piece) (ticks : ℕ) (got_records put : List Record) (marks : List ℕ) (loaded : List Mark)
+    → HostRan job_was job_is was.console is.console stored shut raised got end → BoardRan taken closed held slowed changed reset asked cancels known answered published → PulseRan got_pieces ticks put
     → RecorderRan was.steps is.steps got_records steps_failed
-    → IsLinked stored shut taken closed marks loaded → AreTaken raised held slowed changed reset asked cancels → without_reports got ≡ without_reports answered → BeginsWith answered got → got_pieces ≡ published → got_records ≡ put
+    → IsLinked stored shut taken closed marks loaded → AreTaken raised held slowed changed reset asked cancels → known ≤ ticks → without_reports got ≡ without_reports answered → BeginsWith answered got → got_pieces ≡ published → got_records ≡ put
     → IsRun job_was job_is was is (ended end steps_failed)
-runs_by job_was job_is was is end steps_failed stored raised taken shut closed held slowed changed reset asked cancels got answered got_pieces published ticks got_records put marks loaded host board pulse recorder link flags same_replies begins same_pieces same_records =
+runs_by job_was job_is was is end steps_failed stored raised taken shut closed held slowed changed reset asked cancels known got answered got_pieces published ticks got_records put marks loaded host board pulse recorder link flags found same_replies begins same_pieces same_records =
     let raises = host.raises_so_far in
     let on_the_link : BeginsWith (on_link host.lines) taken =
     begins_on (on_link host.lines) stored taken (record { rest = host.left; is = sym host.front }) (record { rest = link.rest; is = link.front }) in
@@ -112,7 +113,7 @@ runs_by job_was job_is was is end steps_failed stored raised taken shut closed h
     let put_is : put ≡ all_records board.made ++ kinds.End ∷ [] = pulse.records ∙ ap (flat_map records_of) (same_pieces ∙ board.gave) ∙ ended_records board.made in
     let unreset : asks_reset host.scanned ≡ false → reset ≡ false = λ none. no_reset host.scanned raised host.due host.resumes held slowed changed reset asked cancels raises flags none in
     let all_told : reset ≡ false → without_reports got ≡ replies_in (became_of (all_passed board.drive)) ++ replies.Bye ∷ [] =
-    λ none. told ∙ ap (λ (rs : List Reply). rs ++ replies.Bye ∷ []) (said_all taken closed held slowed changed reset asked cancels answered published board none ∙ ap replies_in (sym (became_all board.drive))) in
+    λ none. told ∙ ap (λ (rs : List Reply). rs ++ replies.Bye ∷ []) (said_all taken closed held slowed changed reset asked cancels known answered published board none ∙ ap replies_in (sym (became_all board.drive))) in
     let alarm : reset ≡ false → list_any is_limit got ≡ board.last.alarmed = λ none. alarm_told board.first board.lines (all_passed board.drive) board.last got board.follows (all_told none) in
     let out : list_any is_limit got ≡ false → is_sent_out shut raised got ≡ true =
     λ calm. all_out shut raised got closed reset link.closes flags.reset_by calm (λ none. (board.whole none (sym (alarm none) ∙ calm)).found) in
@@ -120,6 +121,10 @@ runs_by job_was job_is was is end steps_failed stored raised taken shut closed h
     let all_errors : reset ≡ false → end.errors ≡ errors_in (all_outcomes board.drive) =
     λ none. host.errors ∙ sym (errors_without got) ∙ ap errors_among (all_told none)
     ∙ errors_are true (start board.first) board.lines (all_passed board.drive) board.last board.follows ∙ ap errors_in (became_all board.drive) in
+    let put_ticks : ticks_among put ≡ flat_map ticks_of board.made = ap ticks_among put_is ∙ ended_ticks board.made in
+    let made_front : BeginsWith (flat_map ticks_of (all_given board.drive)) (ticks_among put) =
+    subst (λ (rs : List Record). BeginsWith (flat_map ticks_of (all_given board.drive)) rs) (sym put_ticks) (begins_each ticks_of (all_given board.drive) board.made board.kept) in
+    let within : known ≤ length (ticks_among put) = (let count = pulse.ticks in let as_long = ticks_length put in omega (arith, found, count, as_long)) in
     let drives = driven_by host.scanned raised host.due host.resumes held slowed board.last.alarmed changed reset asked cancels board.drive raises flags board.drives in
     record {
       read = host.read;
@@ -160,15 +165,13 @@ runs_by job_was job_is was is end steps_failed stored raised taken shut closed h
         ticks = subst (λ (rs : List Record). BeginsWith (ticks_due board.drive) rs) (sym (ap ticks_among put_is ∙ ended_ticks board.made))
             (made_ticks slowed board.last.alarmed changed cancels board.drive board.made board.drives board.kept);
         least = (let answered : end.answered ≡ answers_in answered = host.answered ∙ sym (answers_without got) ∙ ap answers_in same_replies ∙ answers_without answered in
-            let ticks : ticks_among put ≡ flat_map ticks_of board.made = ap ticks_among put_is ∙ ended_ticks board.made in
             let as_many = ap (λ (n : ℕ). fewest n (all_outcomes board.drive) (all_counts board.drive)) answered in
-            let as_long = ap (λ (rs : List Record). length rs) ticks in
             let least = board.least in
-            omega (arith, as_many, as_long, least));
+            omega (arith, as_many, least, within));
         steps = subst (λ (rs : List Record). Took was.steps is.steps steps_failed (records_text rs)) same_records recorder.steps;
       };
-      reports = reports_are board.first board.drive host.scanned raised host.due host.resumes held slowed changed reset asked cancels host.lines (ticks_among (all_records (all_given board.drive))) answered got raises flags board.reported board.reports begins
-          (ticks_of_pieces (all_given board.drive)) host.reported;
+      reports = reports_are board.first board.drive host.scanned raised host.due host.resumes held slowed changed reset asked cancels known host.lines (ticks_among put) answered got raises flags board.reported board.reports begins
+          made_front within host.reported;
       ending = record {
         stop = host.stop;
         whole = λ none calm. (let w = board.whole (unreset none) calm in
@@ -201,11 +204,11 @@ runs_by job_was job_is was is end steps_failed stored raised taken shut closed h
     }
 
 pub runs : (job_was job_is : SourceState) (was is : Sinks) (end : HostEnd) (steps_failed : Bool)
-    (stored raised taken : List ℕ) (shut closed held slowed changed reset : Bool) (asked cancels : ℕ) (got answered : List Reply) (got_pieces published : List Piece) (ticks : ℕ) (got_records put : List Record) (marks : List ℕ) (loaded : List Mark)
-    → HostRan job_was job_is was.console is.console stored shut raised got end → BoardRan taken closed held slowed changed reset asked cancels answered published → PulseRan got_pieces ticks put
+    (stored raised taken : List ℕ) (shut closed held slowed changed reset : Bool) (asked cancels known : ℕ) (got answered : List Reply) (got_pieces published : List Piece) (ticks : ℕ) (got_records put : List Record) (marks : List ℕ) (loaded : List Mark)
+    → HostRan job_was job_is was.console is.console stored shut raised got end → BoardRan taken closed held slowed changed reset asked cancels known answered published → PulseRan got_pieces ticks put
     → RecorderRan was.steps is.steps got_records steps_failed
-    → IsLinked stored shut taken closed marks loaded → AreTaken raised held slowed changed reset asked cancels → got ≡ answered → got_pieces ≡ published → got_records ≡ put
+    → IsLinked stored shut taken closed marks loaded → AreTaken raised held slowed changed reset asked cancels → known ≤ ticks → got ≡ answered → got_pieces ≡ published → got_records ≡ put
     → IsRun job_was job_is was is (ended end steps_failed)
-runs job_was job_is was is end steps_failed stored raised taken shut closed held slowed changed reset asked cancels got answered got_pieces published ticks got_records put marks loaded host board pulse recorder link flags same_replies same_pieces same_records =
-    runs_by job_was job_is was is end steps_failed stored raised taken shut closed held slowed changed reset asked cancels got answered got_pieces published ticks got_records put marks loaded host board pulse recorder link flags
+runs job_was job_is was is end steps_failed stored raised taken shut closed held slowed changed reset asked cancels known got answered got_pieces published ticks got_records put marks loaded host board pulse recorder link flags found same_replies same_pieces same_records =
+    runs_by job_was job_is was is end steps_failed stored raised taken shut closed held slowed changed reset asked cancels known got answered got_pieces published ticks got_records put marks loaded host board pulse recorder link flags found
     (ap without_reports same_replies) (record { rest = []; is = sym same_replies ∙ sym (append-nil got) }) same_pieces same_records

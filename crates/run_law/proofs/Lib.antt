@@ -16,3 +16,4 @@ pub mod Completing
 pub mod Example
 pub mod Cancelling
 pub mod Slowing
+pub mod Fewest

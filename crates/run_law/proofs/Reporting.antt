@@ -1,20 +1,24 @@
 -- Reports fit a run, and a run so far.
-use Rattle.std.proofs.Common.{◌≡◌, ℕ, ◌+◌, ◌≤◌, ◌⊎◌, inl, inr, Bool, true, false, cond, List, [], ◌∷◌, ◌++◌, reverse, append-nil, refl, sym, ap, ◌∙◌, subst, arith}
+use Rattle.std.proofs.Common.{◌≡◌, ℕ, ◌+◌, ◌≤◌, ◌⊎◌, inl, inr, Bool, true, false, cond, List, [], ◌∷◌, ◌++◌, length, take, reverse, append-nil, refl, sym, ap, ◌∙◌, subst, arith}
 use Rattle.std.specs.List.{flat_map, count_by, list_any}
 use Rattle.std.proofs.lemmas.Grind.{flat_map-append}
-use Rattle.std.proofs.lemmas.List.{reverse-append}
+use Rattle.std.proofs.lemmas.List.{reverse-append, take-append-le}
 use Rattle.std.proofs.lemmas.List.Elements.{filter-append}
 use Rattle.std.proofs.lemmas.List.Sums.{sum_by-cons}
 use Rattle.status_report.specs.declared.Reply.{Reply}
+use Rattle.status_report.proofs.Answered.{answers_on}
 use Rattle.status_report.specs.declared.Reply.TheVariants as replies
-use Rattle.status_report.specs.Answering.{is_bye, is_plain, without_reports, reports_among}
+use Rattle.status_report.specs.Answering.{is_bye, is_plain, answers_in, without_reports, reports_among}
 use Rattle.step_line.specs.declared.Piece.{Piece}
 use Rattle.step_line.specs.declared.Piece.TheVariants as pieces
 use Rattle.step_line.specs.declared.Record.{Record}
 use Rattle.step_line.specs.Pieces.{ticks_of}
 use Rattle.run_rules.specs.declared.State.{State}
 use Rattle.run_rules.specs.Told.{errors_among, is_error}
-use Rattle.run_rules.specs.Reports.{Course, Reported, is_query}
+use Rattle.flight.specs.Places.{moved_by, origin}
+use Rattle.units.specs.declared.Steps3.{Steps3}
+use Rattle.status_report.specs.declared.reports.Report.{Report}
+use Rattle.run_rules.specs.Reports.{Course, FitsReport, IsAhead, Reported, Shows, place_at, state_behind, is_query}
 use Rattle.stream_host.specs.Jobs.{served_in}
 use Rattle.stream_host.specs.Ran.{AreRaised}
 use Rattle.board_rules.proofs.Growing.{Grows}
@@ -63,15 +67,57 @@ pub scanned_few : (scanned raised due : List ℕ) (resumes : ℕ) (held slowed c
     → asked ≤ count_by is_query (served_in scanned)
 scanned_few scanned raised due resumes held slowed changed reset asked cancels are taken = let a = are is_query in let b = taken.asked_by in omega (arith, a, b)
 
+-- ---- fewer ticks
+
+-- a report that shows no more ticks than a front of them has fits that front, too
+fits_fewer : (first : State) (drive : Drive) (all front : List Record) (held changed : Bool) (k d : ℕ) (r : Report) → BeginsWith all front → d ≤ length front
+    → FitsReport (course first drive all held changed) k d r → FitsReport (course first drive front held changed) k d r
+fits_fewer first drive all front held changed k d r begins made f = record {
+  lines = f.lines;
+  of_lines = f.of_lines;
+  begun = f.begun;
+  answered = f.answered;
+  made = made;
+  low = f.low;
+  high = f.high;
+  shows = subst (λ (at : Steps3). Shows at (state_behind first (take f.lines (all_outcomes drive))) r) same f.shows;
+  speed = f.speed;
+  ahead = by_ahead f.ahead;
+  state = f.state;
+  holds = f.holds;
+  alarm = f.alarm;
+  overrides = f.overrides;
+}
+  where
+    same : place_at origin all d ≡ place_at origin front d
+    same = ap (λ (rs : List Record). moved_by origin (take d rs)) begins.is ∙ ap (moved_by origin) (take-append-le d front begins.rest made)
+    by_ahead : (r.f ≡ 0) ⊎ IsAhead (course first drive all held changed) k d → (r.f ≡ 0) ⊎ IsAhead (course first drive front held changed) k d
+    by_ahead (inl none) = inl none
+    by_ahead (inr is) = inr (record { given = is.given; below = is.below; asked = is.asked; whole = is.whole })
+
+-- so do all reports of replies that show no more
+pub reported_fewer : (first : State) (drive : Drive) (all front : List Record) (held changed : Bool) (rs : List Reply) (top : ℕ) → BeginsWith all front → top ≤ length front
+    → Reported (course first drive all held changed) rs top → Reported (course first drive front held changed) rs top
+reported_fewer first drive all front held changed [] top begins within is = tt
+reported_fewer first drive all front held changed (replies.Report r ∷ earlier) top begins within is =
+    let few : is.0 ≤ length front = (let a = is.1 in omega (arith, a, within)) in
+    (is.0, is.1, fits_fewer first drive all front held changed (answers_in earlier) is.0 r begins few is.2, reported_fewer first drive all front held changed earlier is.0 begins few is.3)
+reported_fewer first drive all front held changed (_ ∷ earlier) top begins within is = reported_fewer first drive all front held changed earlier top begins within is
+
 -- ---- fronts of replies
 
--- the first replies are reported where all are
-pub reported_behind : (c : Course) (later earlier : List Reply) (top : ℕ) → Reported c (later ++ earlier) top → (known : ℕ) × Reported c earlier known
-reported_behind c [] earlier top is = (top, is)
-reported_behind c (replies.Report r ∷ later) earlier top is = reported_behind c later earlier is.0 is.3
+-- the first replies are reported where all are, and show no more ticks
+higher : (c : Course) (rs : List Reply) (low top : ℕ) → low ≤ top → Reported c rs low → Reported c rs top
+higher c [] low top within is = tt
+higher c (replies.Report r ∷ earlier) low top within is = (is.0, (let a = is.1 in omega (arith, a, within)), is.2, is.3)
+higher c (_ ∷ earlier) low top within is = higher c earlier low top within is
+
+pub reported_behind : (c : Course) (later earlier : List Reply) (top : ℕ) → Reported c (later ++ earlier) top → Reported c earlier top
+reported_behind c [] earlier top is = is
+reported_behind c (replies.Report r ∷ later) earlier top is = higher c earlier is.0 top is.1 (reported_behind c later earlier is.0 is.3)
 reported_behind c (r ∷ later) earlier top is = reported_behind c later earlier top is
 
-pub reported_front : (c : Course) (all front : List Reply) (top : ℕ) → BeginsWith all front → Reported c (reverse all) top → (known : ℕ) × Reported c (reverse front) known
+pub reported_front : (c : Course) (all front : List Reply) (top : ℕ) → BeginsWith all front → Reported c (reverse all) top → Reported c (reverse front) top
 reported_front c all front top begins is =
     reported_behind c (reverse begins.rest) (reverse front) top
     (subst (λ (rs : List Reply). Reported c rs top) (ap reverse begins.is ∙ reverse-append front begins.rest) is)
@@ -81,6 +127,10 @@ few_front all front begins = let e = ap reports_among begins.is in let s = repor
 
 pub plain_front : (all front : List Reply) → BeginsWith all front → BeginsWith (without_reports all) (without_reports front)
 plain_front all front begins = record { rest = without_reports begins.rest; is = ap without_reports begins.is ∙ filter-append is_plain front begins.rest }
+
+-- no more lines are answered in a front
+pub answers_front : (all front : List Reply) → BeginsWith all front → answers_in front ≤ answers_in all
+answers_front all front begins = let e = ap answers_in begins.is in let s = answers_on front begins.rest in omega (arith, e, s)
 
 -- ---- the others
 

@@ -27,10 +27,10 @@ use Rattle.run_law.specs.Fronts.{BeginsWith}
 use Rattle.run_law.specs.Drives.{Drive, all_outcomes, all_passed, all_given, all_counts, IsDrive}
 use Rattle.run_law.specs.Runs.{course}
 
--- Each report among these replies fits what was driven, while a hold was taken, or a change of overrides, or not.
-abbrev pub HasReported : State → Drive → Bool → Bool → List Reply → Type 0
-HasReported first drive held changed answered =
-    (known : ℕ) × Reported (course first drive (flat_map ticks_of (all_given drive)) held changed) (reverse answered) known
+-- Each report among these replies fits what was driven, while a hold was taken, or a change of overrides, or not; it shows
+-- no more ticks than were found done.
+abbrev pub HasReported : State → Drive → Bool → Bool → ℕ → List Reply → Type 0
+HasReported first drive held changed known answered = Reported (course first drive (flat_map ticks_of (all_given drive)) held changed) (reverse answered) known
 
 -- A board has carried out all lines that it took: it found the link closed after them, told all that is to be told of
 -- them, and did all that they ask for, up to the last of it.
@@ -55,10 +55,10 @@ pub record IsHalted (said : List Reply) (drive : Drive) (made : List Piece) : Ty
 -- and in order, and then Bye. Each report shows what was so when it was answered; there are as many at most as words
 -- that asked for one. What it has driven of the lines, part by part, was disturbed by no more than was taken, and jogs
 -- were cut as often at most as words that ask for a hold or a cancel were taken. A front of its pieces was published,
--- and the end after them; however the run ended, this front has the ticks of the lines up to the last answered one that
--- settles. All of it was carried out, unless a reset was taken or a line raised an alarm; if one did, and no reset was
+-- and the end after them; however the run ended, the ticks of the lines up to the last answered one that settles were
+-- found done. All of it was carried out, unless a reset was taken or a line raised an alarm; if one did, and no reset was
 -- taken, it has halted there. Of the lines begun all but the last one are answered.
-pub record BoardRan (taken : List ℕ) (closed held slowed changed reset : Bool) (asked cancels : ℕ) (answered : List Reply) (published : List Piece) : Type 0 where
+pub record BoardRan (taken : List ℕ) (closed held slowed changed reset : Bool) (asked cancels known : ℕ) (answered : List Reply) (published : List Piece) : Type 0 where
   pub first : State
   pub lines : List (List ℕ)
   pub drive : Drive
@@ -74,8 +74,8 @@ pub record BoardRan (taken : List ℕ) (closed held slowed changed reset : Bool)
   pub made : List Piece
   pub kept : BeginsWith (all_given drive) made
   pub gave : published ≡ made ++ pieces.End ∷ []
-  pub least : fewest (answers_in answered) (all_outcomes drive) (all_counts drive) ≤ length (flat_map ticks_of made)
-  pub reported : HasReported first drive held changed answered
+  pub least : fewest (answers_in answered) (all_outcomes drive) (all_counts drive) ≤ known
+  pub reported : HasReported first drive held changed known answered
   pub reports : reports_among answered ≤ asked
   pub whole : reset ≡ false → last.alarmed ≡ false → IsCarriedOut taken closed lines said drive made
   pub halted : reset ≡ false → last.alarmed ≡ true → IsHalted said drive made

@@ -1,6 +1,6 @@
 -- What a run of a job is, and how it ends, and not who has done it.
 use Rattle.std.specs.Prelude.{◌≡◌, ℕ, ◌+◌, ◌≤◌, Bool, true, false, List, [], ◌∷◌, ◌++◌, ◌||◌, length, map, drop, reverse}
-use Rattle.std.specs.List.{count_by, list_any}
+use Rattle.std.specs.List.{count_by, list_any, flat_map}
 use Rattle.std.specs.Io.KnownBytes.{Consumes, IsAtEnd}
 use Rattle.outside.specs.Causes.{Rose, SourceState, SinkState}
 use Rattle.outside.specs.Writing.{Took}
@@ -19,6 +19,7 @@ use Rattle.step_line.specs.Asking.{ticks_among}
 use Rattle.run_rules.specs.Told.{replies_in, replies_text, records_text, errors_in, errors_among}
 use Rattle.planner_runs.specs.Runs.{all_records}
 use Rattle.step_line.specs.declared.Piece.{Piece}
+use Rattle.step_line.specs.Pieces.{ticks_of}
 use Rattle.step_line.specs.declared.Record.TheVariants as kinds
 use Rattle.stream_host.specs.declared.Reading.{Reading}
 use Rattle.stream_host.specs.declared.Reading.TheVariants.{Ended}
@@ -68,7 +69,7 @@ asks_change scanned = list_any is_change (served_in scanned)
 abbrev pub asks_reset : List ℕ → Bool
 asks_reset scanned = list_any is_reset (served_in scanned)
 
--- what reports are judged by, if these are all ticks that were made
+-- what reports are judged by, if these are the ticks that were recorded; more may have been given
 abbrev pub course : State → Drive → List Record → Bool → Bool → Course
 course first drive ticks held changed = record {
   first = first;
@@ -77,12 +78,13 @@ course first drive ticks held changed = record {
   outcomes = all_outcomes drive;
   counts = all_counts drive;
   ticks = ticks;
-  given = length ticks;
+  given = length (flat_map ticks_of (all_given drive));
   held = held;
   changed = changed;
 }
 
--- The reports among these replies: each fits the lines and the ticks of a run in which these bytes were scanned. There
+-- The reports among these replies: each fits the lines of a run in which these bytes were scanned, and the ticks that it
+-- recorded: so it shows a place to which records lead. There
 -- are as many at most as `?` were scanned outside comments, and each line with one that is answered has one, after the
 -- answers to the lines before it.
 pub record AreReports (first : State) (drive : Drive) (ticks : List Record) (lines : List (List ℕ)) (scanned : List ℕ) (replies : List Reply) : Type 0 where
@@ -187,5 +189,5 @@ pub record IsRun (job_was job_is : SourceState) (was is : Sinks) (end : RunEnd) 
   pub sending : IsScannedAndSent job_was job_is end read reading scanned lines replies
   pub telling : IsToldAndAnswered was is end scanned lines begun first drive last replies said
   pub recording : IsRecorded was is end scanned drive last made records
-  pub reports : AreReports first drive (ticks_among (all_records (all_given drive))) lines scanned replies
+  pub reports : AreReports first drive (ticks_among records) lines scanned replies
   pub ending : HasEnded job_was job_is end reading scanned lines begun drive last replies said records

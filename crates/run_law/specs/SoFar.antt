@@ -1,5 +1,5 @@
 -- What a run has done so far, and what the board, the pulse and the recorder have.
-use Rattle.std.specs.Prelude.{◌≡◌, ℕ, ◌≤◌, Bool, true, false, List, [], ◌∷◌, ◌++◌, ◌||◌, map, reverse}
+use Rattle.std.specs.Prelude.{◌≡◌, ℕ, ◌≤◌, Bool, true, false, List, [], ◌∷◌, ◌++◌, length, map, reverse}
 use Rattle.std.specs.List.{flat_map}
 use Rattle.std.specs.Io.KnownBytes.{Consumes}
 use Rattle.outside.specs.Causes.{SourceState, SinkState}
@@ -23,18 +23,21 @@ use Rattle.run_rules.specs.Told.{replies_in, replies_text, records_text}
 use Rattle.stream_host.specs.declared.Reading.{Reading}
 use Rattle.stream_host.specs.declared.Stop.{Stop}
 use Rattle.stream_host.specs.Jobs.{IsSentSoFar}
-use Rattle.status_report.specs.Answering.{without_reports, reports_among}
+use Rattle.run_rules.specs.Reports.{fewest}
+use Rattle.pulse_engine.specs.Logs.{ticks_in}
+use Rattle.status_report.specs.Answering.{answers_in, without_reports, reports_among}
 use Rattle.run_law.specs.Runs.{Sinks, AreReports, asks_slow, slows_in, asks_change, asks_reset}
 use Rattle.run_law.specs.Fronts.{BeginsWith}
-use Rattle.run_law.specs.Drives.{Drive, all_outcomes, all_passed, all_given, ticks_due, IsDrive}
+use Rattle.run_law.specs.Drives.{Drive, all_outcomes, all_passed, all_given, all_counts, ticks_due, IsDrive}
 use Rattle.run_law.specs.Ran.{HasReported}
 
 -- A board runs: it has begun a front of the lines that it took, and what was told, asked and published is a front of
 -- what these tell and ask for, part by part, with its end after that: after all of it, unless a reset was taken.
 -- Nothing else disturbed the plan than a hold or a cancel, if one was taken, a change of overrides, if one was taken,
 -- and an alarm, if a line raised one; and jogs were cut as often at most as words that ask for a hold
--- or a cancel were taken.
-pub record BoardRuns (taken : List ℕ) (held slowed changed reset : Bool) (asked cancels : ℕ) (answered : List Reply) (published : List Piece) : Type 0 where
+-- or a cancel were taken. The ticks of the lines up to the last answered one that settles were found done, and reports
+-- show no more than were.
+pub record BoardRuns (taken : List ℕ) (held slowed changed reset : Bool) (asked cancels known : ℕ) (answered : List Reply) (published : List Piece) : Type 0 where
   pub first : State
   pub lines : List (List ℕ)
   pub drive : Drive
@@ -50,13 +53,16 @@ pub record BoardRuns (taken : List ℕ) (held slowed changed reset : Bool) (aske
   pub kept : BeginsWith (all_given drive) made
   pub gave : BeginsWith (made ++ pieces.End ∷ []) published
   pub whole : reset ≡ false → (said ≡ replies_in (all_outcomes drive)) × (made ≡ all_given drive)
-  pub reported : HasReported first drive held changed answered
+  pub least : fewest (answers_in answered) (all_outcomes drive) (all_counts drive) ≤ known
+  pub reported : HasReported first drive held changed known answered
   pub reports : reports_among answered ≤ asked
 
--- a pulse runs: the pieces that it got came in turn, and it put a front of what is recorded of them
-pub record PulseRuns (got : List Piece) (put : List Record) : Type 0 where
+-- a pulse runs: the pieces that it got came in turn, and it put a front of what is recorded of them, and counted no tick
+-- before
+pub record PulseRuns (got : List Piece) (counted : ℕ) (put : List Record) : Type 0 where
   pub turns : InTurn (reverse got)
   pub records : BeginsWith (flat_map records_of got) put
+  pub ticks : counted ≤ ticks_in put
 
 -- a recorder runs: its sink has a front of the lines of the records that it took
 pub record RecorderRuns (was is : SinkState) (taken : List Record) : Type 0 where
@@ -66,8 +72,9 @@ pub record RecorderRuns (was is : SinkState) (taken : List Record) : Type 0 wher
 
 -- A run so far. A front of the lines that are sent was begun, and each became what the rules say. A front of what they
 -- tell was got, and status reports among that, and a front of its text is on the console. A front of what they ask for
--- was driven, part by part, and a front of what is recorded of its pieces was taken: its ticks begin the ticks that are
--- due. It is disturbed by no more than a hold, a cancel, a change of overrides and an alarm, as in a whole run.
+-- was driven, part by part, a front of what is recorded of its pieces was made, and a front of that was taken: its ticks
+-- begin the ticks that are due. Reports are judged by the ticks that were made, and hold all of the lines up to the last
+-- answered one that settles. It is disturbed by no more than a hold, a cancel, a change of overrides and an alarm, as in a whole run.
 pub record IsSoFar (job_was job_is : SourceState) (was is : Sinks) : Type 0 where
   pub read : List ℕ
   pub reading : Reading
@@ -91,13 +98,16 @@ pub record IsSoFar (job_was job_is : SourceState) (was is : Sinks) : Type 0 wher
   pub text_left : List ℕ
   pub console : Wrote was.console is.console console_failed text_left (replies_text got)
   pub drives : IsDrive (asks_slow scanned) last.alarmed (asks_change scanned) (slows_in scanned) drive
-  pub records : List Record
   pub made : List Piece
   pub kept : BeginsWith (all_given drive) made
-  pub recorded : BeginsWith (all_records made ++ kinds.End ∷ []) records
+  pub put : List Record
+  pub recorded : BeginsWith (all_records made ++ kinds.End ∷ []) put
+  pub records : List Record
+  pub taken_of : BeginsWith put records
   pub whole : asks_reset scanned ≡ false → (said ≡ replies_in (all_outcomes drive)) × (made ≡ all_given drive)
   pub ticks : BeginsWith (ticks_due drive) (ticks_among records)
-  pub reports : AreReports first drive (ticks_among (all_records (all_given drive))) lines scanned got
+  pub least : fewest (answers_in got) (all_outcomes drive) (all_counts drive) ≤ length (ticks_among put)
+  pub reports : AreReports first drive (ticks_among put) lines scanned got
   pub steps_failed : Bool
   pub lines_left : List ℕ
   pub steps : Wrote was.steps is.steps steps_failed lines_left (records_text records)

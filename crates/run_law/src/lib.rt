@@ -2,7 +2,7 @@
 //! rules, is together a run of the job.
 #![tactic(auto)]
 
-ghost use Rattle.std.specs.Prelude.{◌≡◌, ℕ, Bool, true, false, List, [], reverse};
+ghost use Rattle.std.specs.Prelude.{◌≡◌, ◌≤◌, ℕ, Bool, true, false, List, [], reverse};
 ghost use Rattle.outside.specs.Causes.{SourceState, SinkState};
 ghost use Rattle.status_report.specs.declared.Reply.{Reply};
 ghost use Rattle.step_line.specs.declared.Piece.{Piece};
@@ -16,7 +16,7 @@ ghost use Rattle.step_record.specs.Recording.{Recording, RecorderFits, Rests};
 ghost use Rattle.run_rules.specs.declared.State.{State};
 ghost use Rattle.run_rules.specs.States.{IsOpening};
 ghost use Rattle.board_rules.specs.Breaking.{Doings, HasEnded, IsConducted, log_of, taken_of, has_closed, answered_of, published_of};
-ghost use Rattle.board_rules.specs.Ports.{has_held_in, has_slowed_in, has_changed_in, has_reset_in, reports_in};
+ghost use Rattle.board_rules.specs.Ports.{has_held_in, has_slowed_in, has_changed_in, has_reset_in, reports_in, known_in};
 ghost use Rattle.stream_host.specs.Ran.{HostEnd, HostRan, HostRuns};
 ghost use Rattle.realtime_flags.specs.Bits.{IsBalanced};
 ghost use Rattle.serial_ring.specs.Marks.{Mark};
@@ -47,15 +47,15 @@ pub struct RunEnd {
     pub steps_failed: bool,
 }
 
-/// Four actors that ran to their ends make a run, if each got what the other gave, and what the board took of flags was
-/// raised: the lines that are sent of the job are answered in order, the console takes what is told of them, and the
+/// Four actors that ran to their ends make a run, if each got what the other gave, what the board took of flags was
+/// raised, and it found no more ticks done than the pulse counted: the lines that are sent of the job are answered in order, the console takes what is told of them, and the
 /// steps take the records of a drive of what they ask for.
 pub fn actors_make_a_run()
     ensures { (job_was job_is : SourceState) (was is : Sinks) (end : HostEnd) (steps_failed : Bool)
-        (stored raised taken : List ℕ) (shut closed held slowed changed reset : Bool) (asked cancels : ℕ) (got answered : List Reply) (got_pieces published : List Piece) (ticks : ℕ) (got_records put : List Record) (marks : List ℕ) (loaded : List Mark) →
-        HostRan job_was job_is was.console is.console stored shut raised got end → BoardRan taken closed held slowed changed reset asked cancels answered published → PulseRan got_pieces ticks put →
+        (stored raised taken : List ℕ) (shut closed held slowed changed reset : Bool) (asked cancels known : ℕ) (got answered : List Reply) (got_pieces published : List Piece) (ticks : ℕ) (got_records put : List Record) (marks : List ℕ) (loaded : List Mark) →
+        HostRan job_was job_is was.console is.console stored shut raised got end → BoardRan taken closed held slowed changed reset asked cancels known answered published → PulseRan got_pieces ticks put →
         RecorderRan was.steps is.steps got_records steps_failed →
-        IsLinked stored shut taken closed marks loaded → AreTaken raised held slowed changed reset asked cancels → got ≡ answered → got_pieces ≡ published → got_records ≡ put →
+        IsLinked stored shut taken closed marks loaded → AreTaken raised held slowed changed reset asked cancels → known ≤ ticks → got ≡ answered → got_pieces ≡ published → got_records ≡ put →
         IsRun job_was job_is was is (ended end steps_failed) }
 {}
 
@@ -63,18 +63,18 @@ pub fn actors_make_a_run()
 /// nothing waits after Bye, nor after the end.
 pub fn actors_that_end_make_a_run()
     ensures { (job_was job_is : SourceState) (was is : Sinks) (end : HostEnd) (steps_failed : Bool)
-        (stored raised taken : List ℕ) (shut closed held slowed changed reset : Bool) (asked cancels : ℕ) (got answered : List Reply) (got_pieces published : List Piece) (ticks : ℕ) (got_records put : List Record) (marks : List ℕ) (loaded : List Mark) →
-        HostRan job_was job_is was.console is.console stored shut raised got end → BoardRan taken closed held slowed changed reset asked cancels answered published → PulseRan got_pieces ticks put →
+        (stored raised taken : List ℕ) (shut closed held slowed changed reset : Bool) (asked cancels known : ℕ) (got answered : List Reply) (got_pieces published : List Piece) (ticks : ℕ) (got_records put : List Record) (marks : List ℕ) (loaded : List Mark) →
+        HostRan job_was job_is was.console is.console stored shut raised got end → BoardRan taken closed held slowed changed reset asked cancels known answered published → PulseRan got_pieces ticks put →
         RecorderRan was.steps is.steps got_records steps_failed →
-        IsLinked stored shut taken closed marks loaded → AreTaken raised held slowed changed reset asked cancels → BeginsWith answered got → BeginsWith published got_pieces → BeginsWith put got_records →
+        IsLinked stored shut taken closed marks loaded → AreTaken raised held slowed changed reset asked cancels → known ≤ ticks → BeginsWith answered got → BeginsWith published got_pieces → BeginsWith put got_records →
         IsRun job_was job_is was is (ended end steps_failed) }
 {}
 
 /// Four actors that still run have done a run so far, if each has got a front of what the other gave.
 pub fn actors_make_a_run_so_far()
-    ensures { (job_was job_is : SourceState) (was is : Sinks) (stored raised taken : List ℕ) (held slowed changed reset : Bool) (asked cancels : ℕ) (got answered : List Reply) (got_pieces published : List Piece) (got_records put : List Record) →
-        HostRuns job_was job_is was.console is.console stored raised got → BoardRuns taken held slowed changed reset asked cancels answered published → PulseRuns got_pieces put → RecorderRuns was.steps is.steps got_records →
-        BeginsWith stored taken → AreTaken raised held slowed changed reset asked cancels → BeginsWith answered got → BeginsWith published got_pieces → BeginsWith put got_records →
+    ensures { (job_was job_is : SourceState) (was is : Sinks) (stored raised taken : List ℕ) (held slowed changed reset : Bool) (asked cancels known : ℕ) (got answered : List Reply) (got_pieces published : List Piece) (ticks : ℕ) (got_records put : List Record) →
+        HostRuns job_was job_is was.console is.console stored raised got → BoardRuns taken held slowed changed reset asked cancels known answered published → PulseRuns got_pieces ticks put → RecorderRuns was.steps is.steps got_records →
+        BeginsWith stored taken → AreTaken raised held slowed changed reset asked cancels → known ≤ ticks → BeginsWith answered got → BeginsWith published got_pieces → BeginsWith put got_records →
         IsSoFar job_was job_is was is }
 {}
 
@@ -89,9 +89,9 @@ pub fn accepted_jobs_are_complete()
 /// before, it runs.
 pub fn boards_have_run()
     ensures whole { (first : State) (d : Doings) → IsOpening first → IsConducted first d → HasEnded first d →
-        BoardRan (taken_of d) (has_closed d) (has_held_in (log_of d)) (has_slowed_in (log_of d)) (has_changed_in (log_of d)) (has_reset_in (log_of d)) (reports_in (log_of d)) (cancel_words_in (log_of d)) (answered_of d) (published_of d) }
+        BoardRan (taken_of d) (has_closed d) (has_held_in (log_of d)) (has_slowed_in (log_of d)) (has_changed_in (log_of d)) (has_reset_in (log_of d)) (reports_in (log_of d)) (cancel_words_in (log_of d)) (known_in (log_of d)) (answered_of d) (published_of d) }
     ensures so_far { (first : State) (d : Doings) → IsOpening first → IsConducted first d →
-        BoardRuns (taken_of d) (has_held_in (log_of d)) (has_slowed_in (log_of d)) (has_changed_in (log_of d)) (has_reset_in (log_of d)) (reports_in (log_of d)) (cancel_words_in (log_of d)) (answered_of d) (published_of d) }
+        BoardRuns (taken_of d) (has_held_in (log_of d)) (has_slowed_in (log_of d)) (has_changed_in (log_of d)) (has_reset_in (log_of d)) (reports_in (log_of d)) (cancel_words_in (log_of d)) (known_in (log_of d)) (answered_of d) (published_of d) }
 {
     boards_end_well();
 }
@@ -108,7 +108,7 @@ pub fn pulses_have_run()
     ensures whole { (pulse : Pulsing) (h : PieceLog) (k : RecordLog) → PulseFits pulse h k → halts_of h ≡ [] → end_is_put k ≡ true →
         PulseRan (reverse (pieces_of h)) (counted h) (records_put k) }
     ensures so_far { (pulse : Pulsing) (h : PieceLog) (k : RecordLog) → PulseFits pulse h k → halts_of h ≡ [] →
-        PulseRuns (reverse (pieces_of h)) (records_put k) }
+        PulseRuns (reverse (pieces_of h)) (counted h) (records_put k) }
 {}
 
 /// A recorder that is done has run, and every recorder runs.

@@ -230,7 +230,7 @@ by_cases job_was job_is was is end run false false false stops.End es ec en et =
         console = whole_text was.console is.console end.console_failed (replies_text run.replies) ec run.telling.console;
         reports = subst (λ (text : List ℕ). AreReports run.first run.drive (ticks_among run.records) (lines_of run.read) text run.replies) (sym all.all)
             (subst (λ (ls : List (List ℕ)). AreReports run.first run.drive (ticks_among run.records) ls run.scanned run.replies) all.lines
-            (subst (λ (ticks : List Record). AreReports run.first run.drive ticks run.lines run.scanned run.replies) carried.ticks_are run.reports));
+            run.reports);
         records = run.records;
         drives = subst (λ (text : List ℕ). IsDrive (asks_slow text) false (asks_change text) (slows_in text) run.drive) (sym all.all)
             (subst (λ (alarm : Bool). IsDrive (asks_slow run.scanned) alarm (asks_change run.scanned) (slows_in run.scanned) run.drive) calm run.recording.drives);
