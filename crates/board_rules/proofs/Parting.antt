@@ -1,7 +1,8 @@
 -- What the lines since the last cut ask for was done, or is left to ask: it was given, or is left in the plan, or to ask.
-use Rattle.std.proofs.Common.{◌≡◌, Bool, true, false, List, [], ◌∷◌, ◌++◌, drop, sym, refl, ap, ◌∙◌, append_assoc, append-nil, subst}
+use Rattle.std.proofs.Common.{◌≡◌, ℕ, ◌-◌, Bool, true, false, List, [], ◌∷◌, ◌++◌, length, length-append, take, drop, arith, sym, refl, ap, ◌∙◌, append_assoc, append-nil, subst}
 use Rattle.std.specs.List.{flat_map}
 use Rattle.std.proofs.lemmas.Grind.{flat_map-append}
+use Rattle.std.proofs.lemmas.List.{take-append-le, take_all}
 use Rattle.planner_runs.specs.declared.Action.{Action}
 use Rattle.planner_runs.specs.declared.Action.TheVariants.{Add, Take, Override, Mark, Rest, Clear, Reset}
 use Rattle.overrides.specs.declared.Overrides.{Overrides}
@@ -25,6 +26,7 @@ use Rattle.board_rules.specs.Steps.{Journal, plan_of, left_of, left_by, behind}
 use Rattle.board_rules.specs.Steps.Step.{at_port, began, did, made_end, evened, paused, cut, halted, closing}
 use Rattle.board_rules.specs.Cuts.{part_outcomes, part_actions, part_given, part_start, part_plan, has_halted}
 use Rattle.board_rules.specs.Conduct.{Conducted, MayDo, Gives}
+use Rattle.board_rules.specs.Parts.{but_last}
 use Rattle.board_rules.proofs.Opening.{asks_telling}
 use Rattle.board_rules.proofs.Dropping.{asks_dropped}
 use Rattle.board_rules.proofs.Alarms.{Stage, stage_is, only_override, part_plan_is, calm_plan}
@@ -78,6 +80,34 @@ asked_is first (cut k ∷ h) c = sym (asks_dropped (left_of first h))
 asked_is first (halted ∷ h) c = asked_is first h c.1 ∙ ap (asked h) c.0.next
 asked_is first (closing ∷ h) c = asked_is first h c.1 ∙ ap (asked h) c.0.free
 asked_is first (_ ∷ h) c = asked_is first h c.1
+
+without_last : (os : List Outcome) (o : Outcome) → but_last (os ++ o ∷ []) ≡ os
+without_last os o =
+    let l = length-append os (o ∷ []) in
+    ap (λ (n : ℕ). take n (os ++ o ∷ [])) (let e : length (os ++ o ∷ []) - 1 ≡ length os = omega (arith, l) in e)
+    ∙ take-append-le (length os) os (o ∷ []) (omega arith) ∙ take_all (length os) os (omega arith)
+
+-- what all but the last of the lines since the last cut ask for was done
+abbrev IsDoneBefore : Journal → Type 0
+IsDoneBefore h = (more : List Asked) × (all_asked (part_actions h) ≡ asked_in (but_last (part_outcomes h)) ++ more)
+
+done_more : (h : Journal) (actions : List Action) → IsDoneBefore h → (more : List Asked) × (all_asked (part_actions h ++ actions) ≡ asked_in (but_last (part_outcomes h)) ++ more)
+done_more h actions done = (
+  done.0 ++ all_asked actions,
+  flat_map-append asked_by (part_actions h) actions ∙ ap (λ (xs : List Asked). xs ++ all_asked actions) done.1 ∙ append_assoc (asked_in (but_last (part_outcomes h))) done.0 (all_asked actions),
+)
+
+pub done_before : (first : Opening) (h : Journal) → Conducted first h → (more : List Asked) × (all_asked (part_actions h) ≡ asked_in (but_last (part_outcomes h)) ++ more)
+done_before first [] c = ([], refl)
+done_before first (began o ∷ h) c = (
+  [],
+  sym (append-nil (all_asked (part_actions h))) ∙ sym (asked_is first h c.1 ∙ ap (asked h) c.0.free)
+      ∙ ap asked_in (sym (without_last (part_outcomes h) o)) ∙ sym (append-nil (asked_in (but_last (part_outcomes h ++ o ∷ [])))),
+)
+done_before first (did a ps ∷ h) c = done_more h (a ∷ []) (done_before first h c.1)
+done_before first (evened ∷ h) c = done_more h (Override normal_overrides ∷ []) (done_before first h c.1)
+done_before first (cut k ∷ h) c = ([], refl)
+done_before first (_ ∷ h) c = done_before first h c.1
 
 -- ---- the planner's run since the last cut
 

@@ -1,5 +1,5 @@
 -- The parts of a run in which jogs were cut: each begins where the one before was cut.
-use Rattle.std.specs.Prelude.{◌≡◌, ℕ, ◌+◌, ◌≤◌, ◌<◌, ◌⊎◌, Bool, true, false, List, [], ◌∷◌, ◌++◌, length, map, take}
+use Rattle.std.specs.Prelude.{◌≡◌, ℕ, ◌+◌, ◌-◌, ◌≤◌, ◌<◌, ◌⊎◌, Bool, true, false, List, [], ◌∷◌, ◌++◌, length, map, take}
 use Rattle.std.specs.List.{flat_map, AllByRecursion}
 use Rattle.flight.specs.Places.{end_from}
 use Rattle.legal_heads.specs.Speeds.{HasLegalHeads}
@@ -78,6 +78,10 @@ AreJoined (p ∷ ps) = (p.start ≡ plan_behind ps) × AreJoined ps
 -- nothing else disturbs them than a hold or a cancel, if there was one, and a change of overrides, if there was one
 abbrev pub AreDisturbedOnlyBy : Bool → Bool → NewestFirst Part → Type 0
 AreDisturbedOnlyBy slowed changed parts = AllByRecursion (λ p. DisturbedOnlyBy slowed changed p.actions) parts
+
+-- all but the last of some lines
+abbrev pub but_last : List Outcome → List Outcome
+but_last outcomes = take (length outcomes - 1) outcomes
 
 -- What was done since the last cut is disturbed by no more than these before a line has raised an alarm, when all was
 -- asked of the plan that the lines ask for; only behind that line do segments slow down with no word for it. If none has

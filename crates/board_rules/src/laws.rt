@@ -27,7 +27,7 @@ ghost use Rattle.run_rules.specs.Outcomes.Passed.{a_line};
 ghost use Rattle.status_report.specs.declared.Reply.{Reply as AnyReply};
 ghost use Rattle.status_report.specs.Replies.{IsReply};
 ghost use Rattle.plan_rules.specs.declared.Mode.TheVariants.{Go, Hold};
-ghost use Rattle.step_line.specs.Asking.{ticks_of_all};
+ghost use Rattle.step_line.specs.Asking.{Asked, ticks_of_all};
 ghost use Rattle.step_line.specs.Asking.Asked.{a_move};
 ghost use Rattle.step_line.specs.declared.Mark.TheVariants.{Cut};
 ghost use Rattle.step_line.specs.Pieces.{ticks_of};
@@ -40,7 +40,7 @@ ghost use Rattle.step_line.specs.declared.Segment.{Segment as AnySegment};
 ghost use Rattle.step_line.specs.Places.{place_after};
 ghost use Rattle.board_rules.specs.Steps.Step.{at_port, began, did, became, cut, halted, turned};
 ghost use Rattle.units.specs.Truths.{one_if};
-ghost use Rattle.board_rules.specs.Parts.{IsCutPart, IsHaltedPart, IsSlowedOnlyBy, AreDisturbedOnlyBy, lines_in, actions_in, pieces_in, passed_in, plan_behind, AreJoined, AreNumbered};
+ghost use Rattle.board_rules.specs.Parts.{IsCutPart, IsHaltedPart, IsSlowedOnlyBy, AreDisturbedOnlyBy, but_last, lines_in, actions_in, pieces_in, passed_in, plan_behind, AreJoined, AreNumbered};
 ghost use Rattle.board_rules.specs.Cuts.{
   part_outcomes,
   part_actions,
@@ -119,8 +119,8 @@ ghost use Rattle.board_rules.specs.Whole.{AreLines, IsSpent, OneByOne, WorkRests
 
 /// The bytes that a board has taken are its lines, and each line that it has begun becomes what the rules say. What it
 /// has answered, reports left out, and has still to tell, is what the lines tell, and Bye, once, when the run is being
-/// closed; what was asked of the plan, and has still to be asked, is what they ask. No byte of a line is taken while a
-/// task of the line before is left. If jogs are cut, what is asked is that since the last cut.
+/// closed; what was asked of the plan, and has still to be asked, is what they ask: all that all but the last of them ask
+/// for was asked (`added`). No byte of a line is taken while a task of the line before is left. If jogs are cut, what is asked is that since the last cut.
 pub fn boards_keep_to_their_lines()
     ensures bytes { (first : Opening) (h : Journal) → Conducted first h → AreLines (taken_of h) (lines_of h) (open_of h) (whole_of h) }
     ensures follow { (first : Opening) (h : Journal) → Conducted first h → Follows true (before_first first) (lines_of h) (passed_of first h) (before_of first h) }
@@ -128,6 +128,7 @@ pub fn boards_keep_to_their_lines()
     ensures told { (first : Opening) (h : Journal) → Conducted first h → replies_after first.tells (outcomes_of h) ++ closed_tells h ≡ without_reports (answered_of h) ++ tells (left_of first h) }
     ensures bye { (first : Opening) (h : Journal) → Conducted first h → (closed_tells h ≡ []) ⊎ (closed_tells h ≡ AnyReply.Bye ∷ []) }
     ensures asked { (first : Opening) (h : Journal) → Conducted first h → asked_in (part_outcomes h) ≡ all_asked (part_actions h) ++ asks (left_of first h) }
+    ensures added { (first : Opening) (h : Journal) → Conducted first h → (more : List Asked) × (all_asked (part_actions h) ≡ asked_in (but_last (part_outcomes h)) ++ more) }
     ensures one_by_one { (first : Opening) (h : Journal) → Conducted first h → closed_tells h ≡ [] → OneByOne (left_of first h) (open_of h) (whole_of h) }
 {}
 

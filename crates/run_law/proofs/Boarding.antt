@@ -265,6 +265,7 @@ board_runs first h opening c = record {
   said = replies_in (all_outcomes (drive_of first h));
   front = nothing_more (replies_in (all_outcomes (drive_of first h)));
   told = bye_last (replies_in (all_outcomes (drive_of first h))) (closed_tells h) (without_reports (answered_of h)) (tells (left_of (first_opening first) h)) c.bye c.told;
+  one = c.one;
   drives = c.drives;
   made = (all_given (drive_of first h));
   kept = nothing_more (all_given (drive_of first h));
@@ -366,6 +367,7 @@ FitsSo first before replies = HasReported first (drive_of first before) (has_hel
 -- how far its end is, by what it has answered and published
 record Stage (first : State) (before : Journal) (replies : List Reply) (pieces_out : List Piece) : Type 0 where
   told : BeginsWith (said_so before ++ Bye ∷ []) (without_reports replies)
+  one : length (all_outcomes (drive_of first before)) ≤ answers_in replies + 1
   gave : BeginsWith (made_of first before ++ pieces.End ∷ []) pieces_out
   least : fewest (answers_in replies) (all_outcomes (drive_of first before)) (all_counts (drive_of first before)) ≤ known_of before
   fits : FitsSo first before replies
@@ -402,6 +404,7 @@ unanswered_stage : (first : State) (before : Journal) (replies : List Reply) (pi
     → Stage first before replies pieces_out
 unanswered_stage first before replies pieces_out kept same gave = record {
   told = record { rest = Bye ∷ []; is = ap (λ (rs : List Reply). without_reports rs ++ Bye ∷ []) (sym same) };
+  one = (let e = ap answers_in same in let o = kept.one in omega (arith, e, o));
   gave = gave;
   least = least_still first before replies kept (ap answers_in same);
   fits = subst (λ (rs : List Reply). FitsSo first before rs) (sym same) (kept_reported first before kept);
@@ -428,6 +431,7 @@ stage first since before over k e =
     record {
       told = record { rest = []; is = sym (with_bye before (answered_in (log_behind since before)) is) ∙ sym (append-nil (without_reports (answered_in (log_behind since before)))) };
       gave = all_pieces (made_of first before ++ pieces.End ∷ []) (published_in (log_behind since before)) (whole_pieces first since before k (λ p. absurd (let s = sym e ∙ p in cc)));
+      one = (let e = answers_still before (answered_in (log_behind since before)) (with_bye before (answered_in (log_behind since before)) is) in let o = k.kept.one in omega (arith, e, o));
       least = least_still first before (answered_in (log_behind since before)) k.kept (answers_still before (answered_in (log_behind since before)) (with_bye before (answered_in (log_behind since before)) is));
       fits = bye_fits first before (answered_in (log_behind since before)) k.kept is;
       few = bye_few first before (answered_in (log_behind since before)) k.kept is;
@@ -446,6 +450,7 @@ runs_then first since before replies pieces_out k s = record {
   said = said_so before;
   front = front_said first since before k;
   told = s.told;
+  one = s.one;
   drives = k.kept.drives;
   made = made_of first before;
   kept = (made_is first since before k).0;
@@ -477,7 +482,7 @@ ran_then first since before replies pieces_out k told gave s = record {
   said = said_so before;
   front = front_said first since before k;
   told = told;
-  one = (let e = answers_still before replies told in let o = k.kept.one in omega (arith, e, o));
+  one = s.one;
   drives = k.kept.drives;
   made = made_of first before;
   kept = (made_is first since before k).0;

@@ -14,7 +14,7 @@ use Rattle.board_rules.proofs.Alarms.{calm_plan, halted_alarmed}
 use Rattle.board_rules.proofs.Cancels.{few_cuts}
 use Rattle.board_rules.proofs.Keeping.{disturbed_is, never_clears}
 use Rattle.board_rules.proofs.Numbers.{parts_are, starts_are, joined_are, numbers_are}
-use Rattle.board_rules.proofs.Parting.{asked_is, open_part}
+use Rattle.board_rules.proofs.Parting.{asked_is, done_before, open_part}
 use Rattle.board_rules.proofs.Slowing.{slowed_is, slowed_or_alarmed}
 use Rattle.plan_rules.specs.Plans.{Planned}
 use Rattle.planner_runs.specs.declared.Action.TheVariants.{Clear, Mark}
@@ -102,6 +102,7 @@ drives first h c =
       disturbed = slowed_is (first_opening first) h c;
       halts = halted_alarmed (first_opening first) h c;
       asks = record { rest = asks (left_of (first_opening first) h); is = asked_is (first_opening first) h c };
+      added = (let done = done_before (first_opening first) h c in record { rest = done.0; is = done.1 });
     }
 
 -- ---- of every drive

@@ -149,6 +149,7 @@ board_ran first opening = record {
     disturbed = record { early = []; late = []; both = refl; before = tt; behind = tt; calm = λ e. refl; all = λ e. absurd cc };
     halts = λ e. absurd cc;
     asks = record { rest = []; is = refl };
+    added = record { rest = []; is = refl };
   };
   made = [];
   kept = record { rest = []; is = refl };

@@ -65,6 +65,7 @@ driven_by scanned raised due resumes held slowed alarmed changed reset asked can
       disturbed = slowed_more slowed alarmed changed (asks_slow scanned) (asks_change scanned) (asked_in d.since) d.actions slows changes was.disturbed;
       halts = was.halts;
       asks = was.asks;
+      added = was.added;
     }
 
 -- where no reset was scanned, none was taken

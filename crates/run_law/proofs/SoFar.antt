@@ -22,7 +22,7 @@ use Rattle.run_law.specs.Runs.{Sinks}
 use Rattle.run_law.proofs.Flagging.{driven_by, no_reset}
 use Rattle.run_law.specs.Fronts.{BeginsWith}
 use Rattle.run_law.specs.SoFar.{BoardRuns, PulseRuns, RecorderRuns, IsSoFar}
-use Rattle.run_law.proofs.Reporting.{plain_front, answers_front}
+use Rattle.run_law.proofs.Reporting.{answers_front}
 use Rattle.run_law.proofs.Fewest.{fewest_grows}
 use Rattle.run_law.proofs.Begins.{begins_on, begins_each, begins_by, lines_begin, ended_records, recorded_ticks, ticks_length}
 use Rattle.run_law.specs.Drives.{all_outcomes, all_given, all_counts}
@@ -39,7 +39,6 @@ runs_so_far job_was job_is was is stored raised taken held slowed changed reset 
     let on_the_link : BeginsWith (on_link host.lines) taken = begins_on (on_link host.lines) stored taken (record { rest = host.left; is = sym host.link }) bytes in
     let lines : BeginsWith (map plain host.lines) (whole_lines taken) =
     begins_by (whole_lines (on_link host.lines)) (map plain host.lines) (whole_lines taken) (sym (lines_back host.lines)) (lines_begin (on_link host.lines) taken on_the_link) in
-    let told_all = board.said ++ replies.Bye ∷ [] in
     let all_pieces = board.made ++ pieces.End ∷ [] in
     let got_begins : BeginsWith all_pieces got_pieces = begins_on all_pieces published got_pieces board.gave some_pieces in
     let all = flat_map records_of all_pieces in
@@ -64,10 +63,13 @@ runs_so_far job_was job_is was is stored raised taken held slowed changed reset 
       opening = board.opening;
       begun = begins_on (map plain host.lines) (whole_lines taken) board.lines lines board.begun;
       follows = board.follows;
+      answered = answered;
       got = got;
+      got_of = some_replies;
+      one = board.one;
       said = board.said;
       front = board.front;
-      told = begins_on told_all (without_reports answered) (without_reports got) board.told (plain_front answered got some_replies);
+      told = board.told;
       console_failed = host.failed;
       text_left = host.waiting;
       console = host.console;

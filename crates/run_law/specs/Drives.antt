@@ -2,7 +2,7 @@
 use Rattle.std.specs.Prelude.{◌≡◌, ℕ, ◌≤◌, Bool, true, cond, List, [], ◌∷◌, ◌++◌, length, map}
 use Rattle.flight.specs.Places.{origin}
 use Rattle.std.specs.List.{flat_map, AllByRecursion}
-use Rattle.board_rules.specs.Parts.{Part, IsCutPart, IsSlowedOnlyBy, AreJoined, AreNumbered, AreDisturbedOnlyBy, plan_behind, lines_in, actions_in, pieces_in, passed_in, counts_in}
+use Rattle.board_rules.specs.Parts.{Part, IsCutPart, IsSlowedOnlyBy, but_last, AreJoined, AreNumbered, AreDisturbedOnlyBy, plan_behind, lines_in, actions_in, pieces_in, passed_in, counts_in}
 use Rattle.legal_heads.specs.Speeds.{HasLegalHeads}
 use Rattle.plan_rules.specs.Plans.{Planned}
 use Rattle.planner_runs.specs.declared.Action.{Action}
@@ -70,7 +70,7 @@ ticks_due d = flat_map ticks_of (pieces_in d.parts) ++ ticks_of_all (asked_in d.
 -- The plan was driven from part to part. Each closed part gave the first ticks of its lines, and lost those of jogs
 -- alone; it came to a stop, with legal heads, and was cleared, and the next began there. The number of each cut is that
 -- of the lines before it, and these rise; there are no more cuts than `cancels`. Of the lines after the last cut a
--- front of what they ask for was asked of the plan. All of it is one planner run, and nothing else disturbed its parts
+-- front of what they ask for was asked of the plan, all of it but for the last line. All of it is one planner run, and nothing else disturbed its parts
 -- than a hold or a cancel, if one was taken, and a change of overrides, if one was asked for: without that they are 100
 -- percent throughout; and after the last cut, only behind the line that raised it, an alarm. The machine was halted only then.
 pub record IsDrive (slowed alarmed changed : Bool) (cancels : ℕ) (d : Drive) : Type 0 where
@@ -85,6 +85,7 @@ pub record IsDrive (slowed alarmed changed : Bool) (cancels : ℕ) (d : Drive) :
   pub disturbed : IsSlowedOnlyBy slowed alarmed changed (asked_in d.since) d.actions
   pub halts : d.halted ≡ true → alarmed ≡ true
   pub asks : BeginsWith (asked_in d.since) (all_asked d.actions)
+  pub added : BeginsWith (all_asked d.actions) (asked_in (but_last d.since))
 
 -- All of it was carried out: all that the lines after the last cut ask for was asked of the plan, and nothing is left
 -- to run. What is recorded are all pieces, and the end after them, once: so each tick that is due is recorded, once and

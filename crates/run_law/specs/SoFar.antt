@@ -1,5 +1,5 @@
 -- What a run has done so far, and what the board, the pulse and the recorder have.
-use Rattle.std.specs.Prelude.{◌≡◌, ℕ, ◌≤◌, Bool, true, false, List, [], ◌∷◌, ◌++◌, length, map, reverse}
+use Rattle.std.specs.Prelude.{◌≡◌, ℕ, ◌+◌, ◌≤◌, Bool, true, false, List, [], ◌∷◌, ◌++◌, length, map, reverse}
 use Rattle.std.specs.List.{flat_map}
 use Rattle.std.specs.Io.KnownBytes.{Consumes}
 use Rattle.outside.specs.Causes.{SourceState, SinkState}
@@ -33,10 +33,10 @@ use Rattle.run_law.specs.Ran.{HasReported}
 
 -- A board runs: it has begun a front of the lines that it took, and what was told, asked and published is a front of
 -- what these tell and ask for, part by part, with its end after that: after all of it, unless a reset was taken.
--- Nothing else disturbed the plan than a hold or a cancel, if one was taken, a change of overrides, if one was taken,
--- and an alarm, if a line raised one; and jogs were cut as often at most as words that ask for a hold
--- or a cancel were taken. The ticks of the lines up to the last answered one that settles were found done, and reports
--- show no more than were.
+-- Of the lines begun all but the last one are answered. Nothing else disturbed the plan than a hold or a cancel, if one
+-- was taken, a change of overrides, if one was taken, and an alarm, if a line raised one; and jogs were cut as often at
+-- most as words that ask for a hold or a cancel were taken. The ticks of the lines up to the last answered one that
+-- settles were found done, and reports show no more than were.
 pub record BoardRuns (taken : List ℕ) (held slowed changed reset : Bool) (asked cancels known : ℕ) (answered : List Reply) (published : List Piece) : Type 0 where
   pub first : State
   pub lines : List (List ℕ)
@@ -48,6 +48,7 @@ pub record BoardRuns (taken : List ℕ) (held slowed changed reset : Bool) (aske
   pub said : List Reply
   pub front : BeginsWith (replies_in (all_outcomes drive)) said
   pub told : BeginsWith (said ++ Bye ∷ []) (without_reports answered)
+  pub one : length (all_outcomes drive) ≤ answers_in answered + 1
   pub drives : IsDrive slowed last.alarmed changed cancels drive
   pub made : List Piece
   pub kept : BeginsWith (all_given drive) made
@@ -70,8 +71,8 @@ pub record RecorderRuns (was is : SinkState) (taken : List Record) : Type 0 wher
   pub waiting : List ℕ
   pub steps : Wrote was is failed waiting (records_text taken)
 
--- A run so far. A front of the lines that are sent was begun, and each became what the rules say. A front of what they
--- tell was got, and status reports among that, and a front of its text is on the console. A front of what they ask for
+-- A run so far. A front of the lines that are sent was begun, and each became what the rules say; one at most was begun
+-- and not answered. A front of what they tell was answered, and a front of that was got, and status reports among that, and a front of its text is on the console. A front of what they ask for
 -- was driven, part by part, a front of what is recorded of its pieces was made, and a front of that was taken: its ticks
 -- begin the ticks that are due. Reports are judged by the ticks that were made, and hold all of the lines up to the last
 -- answered one that settles. It is disturbed by no more than a hold, a cancel, a change of overrides and an alarm, as in a whole run.
@@ -90,10 +91,13 @@ pub record IsSoFar (job_was job_is : SourceState) (was is : Sinks) : Type 0 wher
   pub opening : IsOpening first
   pub begun : BeginsWith (map plain lines) lines_begun
   pub follows : Follows true (start first) lines_begun (all_passed drive) last
+  pub answered : List Reply
   pub got : List Reply
+  pub got_of : BeginsWith answered got
+  pub one : length (all_outcomes drive) ≤ answers_in answered + 1
   pub said : List Reply
   pub front : BeginsWith (replies_in (all_outcomes drive)) said
-  pub told : BeginsWith (said ++ Bye ∷ []) (without_reports got)
+  pub told : BeginsWith (said ++ Bye ∷ []) (without_reports answered)
   pub console_failed : Bool
   pub text_left : List ℕ
   pub console : Wrote was.console is.console console_failed text_left (replies_text got)
