@@ -175,6 +175,12 @@ pub record HasRunOn (before after : Devices) (w w' : Seen) : Type 0 where
 abbrev pub end_after : Seen → History → RunEnd
 end_after w hist = ended (end_of hist.host) w.recorder.writer.failed
 
+-- A whole run of the job on one thread: each line that was scanned has at most as many reports among the replies as it has `?`,
+-- by the lists of that run.
+pub record HasRunAlone (was now : Devices) (end : RunEnd) : Type 0 where
+  pub run : HasRun was now end
+  pub reports : ReportsPerLine (lines_of run.scanned) run.replies
+
 -- ---- its reports, line by line
 
 -- What was read of the job since a moment, and scanned, and the replies whose text the console was given, as far as it does not

@@ -3,7 +3,7 @@
 ghost use Rattle.run_rules.specs.Lines.{lines_of};
 ghost use Rattle.stream_host.specs.Steps.{scanned_of, got_of};
 ghost use Rattle.list_ports.specs.PerLine.{ReportsPerLine};
-ghost use Rattle.actor_turns.specs.Worlds.{Devices, History, Seen, Holds, Stands, AreDone, end_after, RunsSoFar, HasRun, CountsReports};
+ghost use Rattle.actor_turns.specs.Worlds.{Devices, History, Seen, Holds, Stands, AreDone, end_after, RunsSoFar, HasRun, HasRunAlone, CountsReports};
 
 use run_law::{
     actors_make_a_run_so_far, actors_that_end_make_a_run, boards_have_run, pulses_have_run,
@@ -11,10 +11,12 @@ use run_law::{
 };
 use stream_host::{hosts_have_run, hosts_send_their_lines};
 
-/// What a world has done since it was new is a run of the job so far. Where all four actors are done, it is a whole run.
+/// What a world has done since it was new is a run of the job so far. Where all four actors are done, it is a whole run, each of
+/// whose lines has at most as many reports as it has `?`.
 pub fn worlds_run()
     ensures so_far { (was now : Devices) (w : Seen) (hist : History) → Stands was now w hist → RunsSoFar was now }
     ensures whole { (was now : Devices) (w : Seen) (hist : History) → Stands was now w hist → AreDone w → HasRun was now (end_after w hist) }
+    ensures alone { (was now : Devices) (w : Seen) (hist : History) → Stands was now w hist → AreDone w → HasRunAlone was now (end_after w hist) }
 {
     hosts_have_run();
     boards_have_run();

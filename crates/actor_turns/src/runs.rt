@@ -1,7 +1,7 @@
 //! A run of a job by four actors that take turns: in lockstep, or at a pace.
 
 ghost use Rattle.std.specs.Prelude.{◌≡◌, IfOk, OnErr};
-ghost use Rattle.actor_turns.specs.Worlds.{History, Holds, Stands, AreDone, Devices, devices, HasRun, end_after};
+ghost use Rattle.actor_turns.specs.Worlds.{History, Holds, Stands, AreDone, Devices, devices, HasRun, HasRunAlone, end_after};
 ghost use Rattle.actor_turns.specs.Orders.{IsLockstepRun, IsPacedRun};
 
 use crate::{World, run_lockstep, run_paced};
@@ -14,6 +14,7 @@ use std::sync::Wait;
 fn end_of(world: World) -> RunEnd
     ensures tells { (hist : History) → Holds world hist → result ≡ end_after world hist }
     ensures whole { (was now : Devices) (hist : History) → Stands was now world hist → AreDone world → HasRun was now result }
+    ensures alone { (was now : Devices) (hist : History) → Stands was now world hist → AreDone world → HasRunAlone was now result }
 {
     world.end()
 }

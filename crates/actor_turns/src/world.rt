@@ -6,7 +6,7 @@ ghost use Rattle.stream_host.specs.Hosts.{HostRests};
 ghost use Rattle.controller.specs.Boards.{BoardRests};
 ghost use Rattle.step_record.specs.Recording.{Rests};
 ghost use Rattle.pulse_engine.specs.Steps.{AwaitsPiece};
-ghost use Rattle.actor_turns.specs.Worlds.{Devices, devices, History, no_history, Holds, Stands, LinkIsKept, FlagsAreKept, MotionIsKept, TurnsOn, ActsAlone, IsDone, AreDone, OffersNothing, MotionRests, end_after, HasRun};
+ghost use Rattle.actor_turns.specs.Worlds.{Devices, devices, History, no_history, Holds, Stands, LinkIsKept, FlagsAreKept, MotionIsKept, TurnsOn, ActsAlone, IsDone, AreDone, OffersNothing, MotionRests, end_after, HasRun, HasRunAlone};
 ghost use Rattle.actor_turns.specs.Lockstep.{number_of};
 
 use crate::worlds_run;
@@ -179,10 +179,12 @@ impl World {
     }
 
     /// How the run ends: why no more of the job was sent, what was answered, and which devices have failed. Where all four
-    /// actors are done, a run of the job was done since the world was new, and this is its end.
+    /// actors are done, a run of the job was done since the world was new, and this is its end; each line of it has at most as many
+    /// reports as it has `?`.
     pub fn end(&self) -> RunEnd
         ensures tells { (hist : History) → Holds self.now hist → result ≡ end_after self.now hist }
         ensures whole { (was now : Devices) (hist : History) → Stands was now self.now hist → AreDone self.now → HasRun was now result }
+        ensures alone { (was now : Devices) (hist : History) → Stands was now self.now hist → AreDone self.now → HasRunAlone was now result }
     {
         worlds_run();
         RunEnd {

@@ -149,10 +149,11 @@ impl Controller {
         Turn::Did
     }
 
-    /// Whether a reply is not told yet: Bye waits until the piece in hand is published.
+    /// Whether a reply is not told yet: Bye alone waits until the piece in hand is published.
     #[inline]
     pub(crate) fn holds_back(&self, reply: Reply) -> bool
         ensures yes { result ≡ true → self.now.machine.hand ≢ None }
+        ensures only_bye { result ≡ true → reply ≡ Reply.Bye }
         ensures no { result ≡ false → reply ≡ Reply.Bye → self.now.machine.hand ≡ None }
     {
         reply == Reply::Bye && self.machine.hand.is_some()

@@ -134,10 +134,10 @@ front_none x whole front b none = first_none x front b.rest (subst (Others x) b.
 
 pub ends : (job_was job_is : SourceState) (was is : Sinks) (end : HostEnd) (steps_failed : Bool)
     (stored raised taken : List ℕ) (shut closed held slowed changed reset : Bool) (asked cancels known : ℕ) (got answered : List Reply) (got_pieces published : List Piece) (ticks : ℕ) (got_records put : List Record) (marks : List ℕ) (loaded : List LinkMark)
-    → HostRan job_was job_is was.console is.console stored shut raised got end → BoardRan taken closed held slowed changed reset asked cancels known answered published → PulseRan got_pieces ticks put
+    → (host : HostRan job_was job_is was.console is.console stored shut raised got end) → BoardRan taken closed held slowed changed reset asked cancels known answered published → PulseRan got_pieces ticks put
     → RecorderRan was.steps is.steps got_records steps_failed
     → IsLinked stored shut taken closed marks loaded → AreTaken raised held slowed changed reset asked cancels → known ≤ ticks → BeginsWith answered got → BeginsWith published got_pieces → BeginsWith put got_records
-    → IsRun job_was job_is was is (ended end steps_failed)
+    → (run : IsRun job_was job_is was is (ended end steps_failed)) × (run.scanned ≡ host.scanned) × (run.replies ≡ got)
 ends job_was job_is was is end steps_failed stored raised taken shut closed held slowed changed reset asked cancels known got answered got_pieces published ticks got_records put marks loaded host board pulse recorder link flags found some_replies some_pieces some_records =
     let none = front_none replies.Bye (replies_in (all_outcomes board.drive)) board.said board.front
     (subst (λ (os : List Outcome). NoByes (replies_in os)) (became_all board.drive) (none_is_bye true (start board.first) board.lines (all_passed board.drive) board.last board.follows)) in

@@ -98,10 +98,10 @@ all_answered first drive lines last got follows told =
 -- where a front of what was answered is got, which has all but reports
 pub runs_by : (job_was job_is : SourceState) (was is : Sinks) (end : HostEnd) (steps_failed : Bool)
     (stored raised taken : List ℕ) (shut closed held slowed changed reset : Bool) (asked cancels known : ℕ) (got answered : List Reply) (got_pieces published : List Piece) (ticks : ℕ) (got_records put : List Record) (marks : List ℕ) (loaded : List Mark)
-    → HostRan job_was job_is was.console is.console stored shut raised got end → BoardRan taken closed held slowed changed reset asked cancels known answered published → PulseRan got_pieces ticks put
+    → (host : HostRan job_was job_is was.console is.console stored shut raised got end) → BoardRan taken closed held slowed changed reset asked cancels known answered published → PulseRan got_pieces ticks put
     → RecorderRan was.steps is.steps got_records steps_failed
     → IsLinked stored shut taken closed marks loaded → AreTaken raised held slowed changed reset asked cancels → known ≤ ticks → without_reports got ≡ without_reports answered → BeginsWith answered got → got_pieces ≡ published → got_records ≡ put
-    → IsRun job_was job_is was is (ended end steps_failed)
+    → (run : IsRun job_was job_is was is (ended end steps_failed)) × (run.scanned ≡ host.scanned) × (run.replies ≡ got)
 runs_by job_was job_is was is end steps_failed stored raised taken shut closed held slowed changed reset asked cancels known got answered got_pieces published ticks got_records put marks loaded host board pulse recorder link flags found same_replies begins same_pieces same_records =
     let raises = host.raises_so_far in
     let on_the_link : BeginsWith (on_link host.lines) taken =
@@ -126,7 +126,7 @@ runs_by job_was job_is was is end steps_failed stored raised taken shut closed h
     subst (λ (rs : List Record). BeginsWith (flat_map ticks_of (all_given board.drive)) rs) (sym put_ticks) (begins_each ticks_of (all_given board.drive) board.made board.kept) in
     let within : known ≤ length (ticks_among put) = (let count = pulse.ticks in let as_long = ticks_length put in omega (arith, found, count, as_long)) in
     let drives = driven_by host.scanned raised host.due host.resumes held slowed board.last.alarmed changed reset asked cancels board.drive raises flags board.drives in
-    record {
+    (record {
       read = host.read;
       reading = host.reading;
       scanned = host.scanned;
@@ -201,14 +201,14 @@ runs_by job_was job_is was is end steps_failed stored raised taken shut closed h
         source = host.source;
         source_same = host.source_same;
       };
-    }
+    }, refl, refl)
 
 pub runs : (job_was job_is : SourceState) (was is : Sinks) (end : HostEnd) (steps_failed : Bool)
     (stored raised taken : List ℕ) (shut closed held slowed changed reset : Bool) (asked cancels known : ℕ) (got answered : List Reply) (got_pieces published : List Piece) (ticks : ℕ) (got_records put : List Record) (marks : List ℕ) (loaded : List Mark)
-    → HostRan job_was job_is was.console is.console stored shut raised got end → BoardRan taken closed held slowed changed reset asked cancels known answered published → PulseRan got_pieces ticks put
+    → (host : HostRan job_was job_is was.console is.console stored shut raised got end) → BoardRan taken closed held slowed changed reset asked cancels known answered published → PulseRan got_pieces ticks put
     → RecorderRan was.steps is.steps got_records steps_failed
     → IsLinked stored shut taken closed marks loaded → AreTaken raised held slowed changed reset asked cancels → known ≤ ticks → got ≡ answered → got_pieces ≡ published → got_records ≡ put
-    → IsRun job_was job_is was is (ended end steps_failed)
+    → (run : IsRun job_was job_is was is (ended end steps_failed)) × (run.scanned ≡ host.scanned) × (run.replies ≡ got)
 runs job_was job_is was is end steps_failed stored raised taken shut closed held slowed changed reset asked cancels known got answered got_pieces published ticks got_records put marks loaded host board pulse recorder link flags found same_replies same_pieces same_records =
     runs_by job_was job_is was is end steps_failed stored raised taken shut closed held slowed changed reset asked cancels known got answered got_pieces published ticks got_records put marks loaded host board pulse recorder link flags found
     (ap without_reports same_replies) (record { rest = []; is = sym same_replies ∙ sym (append-nil got) }) same_pieces same_records

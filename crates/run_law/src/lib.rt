@@ -49,14 +49,15 @@ pub struct RunEnd {
 
 /// Four actors that ran to their ends make a run, if each got what the other gave, what the board took of flags was
 /// raised, and it found no more ticks done than the pulse counted: the lines that are sent of the job are answered in order, the console takes what is told of them, and the
-/// steps take the records of a drive of what they ask for.
+/// steps take the records of a drive of what they ask for. What was scanned is what the host has scanned, and the replies
+/// are those that it got.
 pub fn actors_make_a_run()
     ensures { (job_was job_is : SourceState) (was is : Sinks) (end : HostEnd) (steps_failed : Bool)
         (stored raised taken : List ℕ) (shut closed held slowed changed reset : Bool) (asked cancels known : ℕ) (got answered : List Reply) (got_pieces published : List Piece) (ticks : ℕ) (got_records put : List Record) (marks : List ℕ) (loaded : List Mark) →
-        HostRan job_was job_is was.console is.console stored shut raised got end → BoardRan taken closed held slowed changed reset asked cancels known answered published → PulseRan got_pieces ticks put →
+        (host : HostRan job_was job_is was.console is.console stored shut raised got end) → BoardRan taken closed held slowed changed reset asked cancels known answered published → PulseRan got_pieces ticks put →
         RecorderRan was.steps is.steps got_records steps_failed →
         IsLinked stored shut taken closed marks loaded → AreTaken raised held slowed changed reset asked cancels → known ≤ ticks → got ≡ answered → got_pieces ≡ published → got_records ≡ put →
-        IsRun job_was job_is was is (ended end steps_failed) }
+        (run : IsRun job_was job_is was is (ended end steps_failed)) × (run.scanned ≡ host.scanned) × (run.replies ≡ got) }
 {}
 
 /// For four actors that ran to their ends to make a run it is enough that each has got a front of what the other gave:
@@ -64,10 +65,10 @@ pub fn actors_make_a_run()
 pub fn actors_that_end_make_a_run()
     ensures { (job_was job_is : SourceState) (was is : Sinks) (end : HostEnd) (steps_failed : Bool)
         (stored raised taken : List ℕ) (shut closed held slowed changed reset : Bool) (asked cancels known : ℕ) (got answered : List Reply) (got_pieces published : List Piece) (ticks : ℕ) (got_records put : List Record) (marks : List ℕ) (loaded : List Mark) →
-        HostRan job_was job_is was.console is.console stored shut raised got end → BoardRan taken closed held slowed changed reset asked cancels known answered published → PulseRan got_pieces ticks put →
+        (host : HostRan job_was job_is was.console is.console stored shut raised got end) → BoardRan taken closed held slowed changed reset asked cancels known answered published → PulseRan got_pieces ticks put →
         RecorderRan was.steps is.steps got_records steps_failed →
         IsLinked stored shut taken closed marks loaded → AreTaken raised held slowed changed reset asked cancels → known ≤ ticks → BeginsWith answered got → BeginsWith published got_pieces → BeginsWith put got_records →
-        IsRun job_was job_is was is (ended end steps_failed) }
+        (run : IsRun job_was job_is was is (ended end steps_failed)) × (run.scanned ≡ host.scanned) × (run.replies ≡ got) }
 {}
 
 /// Four actors that still run have done a run so far, if each has got a front of what the other gave.

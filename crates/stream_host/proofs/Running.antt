@@ -48,9 +48,10 @@ failed_is _ e = absurd cc
 not_failed : (r : Reading) → is_failed r ≡ false → r ≢ Failed
 not_failed r well bad = absurd (let e = sym (ap is_failed bad) ∙ well in cc)
 
-pub has_run : (h : Journal) (job_was job_is : SourceState) (console_was console_is : SinkState) → Conducted h → HasFinished h → TellsJob h job_was job_is → TellsConsole h console_was console_is
-    → HostRan job_was job_is console_was console_is (stored_of h) (is_shut h) (raises_of h) (got_of h) (end_of h)
-has_run h job_was job_is console_was console_is c finished job console = record {
+-- what it has scanned is what its journal says
+pub has_run_of : (h : Journal) (job_was job_is : SourceState) (console_was console_is : SinkState) → Conducted h → HasFinished h → TellsJob h job_was job_is → TellsConsole h console_was console_is
+    → (ran : HostRan job_was job_is console_was console_is (stored_of h) (is_shut h) (raises_of h) (got_of h) (end_of h)) × (ran.scanned ≡ scanned_of h)
+has_run_of h job_was job_is console_was console_is c finished job console = (record {
   read = read_of h;
   reading = reading_of h;
   scanned = scanned_of h;
@@ -76,7 +77,11 @@ has_run h job_was job_is console_was console_is c finished job console = record 
   failed = refl;
   source = λ e. job.cause (failed_is (reading_of h) e);
   source_same = λ e. job.same (not_failed (reading_of h) e);
-}
+}, refl)
+
+pub has_run : (h : Journal) (job_was job_is : SourceState) (console_was console_is : SinkState) → Conducted h → HasFinished h → TellsJob h job_was job_is → TellsConsole h console_was console_is
+    → HostRan job_was job_is console_was console_is (stored_of h) (is_shut h) (raises_of h) (got_of h) (end_of h)
+has_run h job_was job_is console_was console_is c finished job console = (has_run_of h job_was job_is console_was console_is c finished job console).0
 
 pub runs_so_far : (h : Journal) (job_was job_is : SourceState) (console_was console_is : SinkState) → Conducted h → TellsJob h job_was job_is → TellsConsole h console_was console_is
     → HostRuns job_was job_is console_was console_is (stored_of h) (raises_of h) (got_of h)

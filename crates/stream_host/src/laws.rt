@@ -84,7 +84,7 @@ pub fn hosts_have_run()
         HostRuns job_was job_is console_was console_is (stored_of h) (raises_of h) (got_of h) }
     ensures whole { (h : Journal) (job_was job_is : SourceState) (console_was console_is : SinkState) →
         Conducted h → HasFinished h → TellsJob h job_was job_is → TellsConsole h console_was console_is →
-        HostRan job_was job_is console_was console_is (stored_of h) (is_shut h) (raises_of h) (got_of h) (end_of h) }
+        (ran : HostRan job_was job_is console_was console_is (stored_of h) (is_shut h) (raises_of h) (got_of h) (end_of h)) × (ran.scanned ≡ scanned_of h) }
     ensures finished { (host : Host) (h : Journal) → HostFits host h → HostRests host → HasFinished h }
     ensures console { (host : Host) (h : Journal) (was is : SinkState) → HostFits host h → TellsText host.text h was is → TellsConsole h was is }
     ensures beginning { (job : SourceState) (console : SinkState) → TellsJob [] job job × TellsConsole [] console console }

@@ -16,5 +16,9 @@ returns-clause-order g c = record {
   order = c.run_paced.ensures.paced;
   done = c.run_paced.ensures.done;
   ends = c.end_of.ensures.tells;
-  run = returns-clause-run g c;
+  run =
+      let was = devices (g.So.Source.state c.args.job.now) (g.Co.Sink.state c.args.console.now) (g.St.Sink.state c.args.steps.now) in
+      let now = devices (g.So.Source.state c.run_paced.new.job) (g.Co.Sink.state c.run_paced.new.console) (g.St.Sink.state c.run_paced.new.steps) in
+      let n = c.run_paced.ensures.paced.paced.on was no_history (c.in_ok-world.ensures was) in
+      c.end_of.ensures.alone was now n.0 n.1 c.run_paced.ensures.done;
 }

@@ -16,5 +16,9 @@ returns-clause-order g c = record {
   order = c.run_lockstep.ensures.order;
   done = c.run_lockstep.ensures.done;
   ends = c.end_of.ensures.tells;
-  run = returns-clause-run g c;
+  run =
+      let was = devices (g.So.Source.state c.args.job.now) (g.Co.Sink.state c.args.console.now) (g.St.Sink.state c.args.steps.now) in
+      let now = devices (g.So.Source.state c.run_lockstep.new.job) (g.Co.Sink.state c.run_lockstep.new.console) (g.St.Sink.state c.run_lockstep.new.steps) in
+      let n = c.run_lockstep.ensures.goes_on.runs.on was no_history (c.in_ok-world.ensures was) in
+      c.end_of.ensures.alone was now n.0 n.1 c.run_lockstep.ensures.done;
 }

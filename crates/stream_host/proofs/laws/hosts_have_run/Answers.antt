@@ -1,11 +1,11 @@
-use Rattle.stream_host.proofs.Running.{has_run, runs_so_far, finished_by, console_by, tells_nothing, shows_nothing}
+use Rattle.stream_host.proofs.Running.{has_run_of, runs_so_far, finished_by, console_by, tells_nothing, shows_nothing}
 use Rattle.stream_host.proofs.laws.hosts_have_run.Goals as goal
 
 pub returns-clause-so_far : goal.returns-clause-so_far
 returns-clause-so_far c = runs_so_far
 
 pub returns-clause-whole : goal.returns-clause-whole
-returns-clause-whole c = has_run
+returns-clause-whole c = has_run_of
 
 pub returns-clause-finished : goal.returns-clause-finished
 returns-clause-finished c = finished_by

@@ -14,3 +14,15 @@ returns-clause-whole c = rw (sym c.self.view_is) (λ was now hist st done.
       c.console_failed.ensures hist.host f,
       c.failed.ensures,
     ) (c.worlds_run.ensures.whole was now _ hist st done))
+
+pub returns-clause-alone : goal.returns-clause-alone
+returns-clause-alone c = rw (sym c.self.view_is) (λ was now hist st done.
+    let f = st.holds.host in
+    rw (
+      c.stop.ensures hist.host f,
+      c.answered.ensures hist.host f,
+      c.errors.ensures hist.host f,
+      failed_is c.source_failed.result (reading_of hist.host) (c.source_failed.ensures hist.host f),
+      c.console_failed.ensures hist.host f,
+      c.failed.ensures,
+    ) (c.worlds_run.ensures.alone was now _ hist st done))
