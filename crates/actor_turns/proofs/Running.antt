@@ -20,6 +20,8 @@ use Rattle.board_rules.proofs.Unstopped.{boards_never_stop}
 use Rattle.actor_turns.specs.Worlds.{Seen, History, Holds, LinkIsKept, FlagsAreKept, MotionIsKept}
 use Rattle.run_law.proofs.Resetting.{taken_were_raised}
 use Rattle.run_law.specs.Flags.{AreTaken}
+use Rattle.run_law.specs.Changes.{AreAskedIn, words_in}
+use Rattle.run_law.proofs.Changing.{words_were_raised}
 use Rattle.board_rules.specs.Cuts.{cancel_words_in}
 use Rattle.board_rules.specs.Ports.{link_steps, has_held_in, has_slowed_in, has_changed_in, has_reset_in, reports_in, known_in}
 
@@ -49,6 +51,10 @@ link w hist h = record {
 -- what the board took of flags was raised
 pub flags_taken : (w : Seen) (hist : History) → Holds w hist → AreTaken (raises_of hist.host) (has_held_in (board_log hist.board)) (has_slowed_in (board_log hist.board)) (has_changed_in (board_log hist.board)) (has_reset_in (board_log hist.board)) (reports_in (board_log hist.board)) (cancel_words_in (board_log hist.board))
 flags_taken w hist h = taken_were_raised (w.lists.exec ∷ w.lists.override ∷ []) (host_log hist.host) (board_log hist.board) h.joined.flags.balance
+
+-- and so was each flag of a change
+pub words_asked : (w : Seen) (hist : History) → Holds w hist → AreAskedIn (raises_of hist.host) (words_in (board_log hist.board))
+words_asked w hist h = words_were_raised (w.lists.exec ∷ w.lists.override ∷ []) (host_log hist.host) (board_log hist.board) h.joined.flags.balance
 
 -- the board found no more ticks done than the pulse counted
 pub found_done : (w : Seen) (hist : History) → Holds w hist → known_in (board_log hist.board) ≤ counted hist.pulse

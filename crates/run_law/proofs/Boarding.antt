@@ -11,7 +11,7 @@ use Rattle.step_line.specs.Finishing.{ticks_together}
 use Rattle.status_report.specs.Answering.{answers_in, without_reports, reports_among}
 use Rattle.status_report.proofs.Answered.{answers_on}
 use Rattle.plan_rules.specs.Plans.{Planned}
-use Rattle.planner_runs.specs.Runs.{IsAtRest, all_asked}
+use Rattle.planner_runs.specs.Runs.{IsAtRest, all_asked, normal_overrides}
 use Rattle.run_rules.specs.declared.State.{State}
 use Rattle.run_rules.specs.Lines.{whole_lines}
 use Rattle.run_rules.specs.States.{IsOpening}
@@ -52,8 +52,10 @@ use Rattle.board_rules.proofs.Reporting.{reported_is}
 use Rattle.run_law.specs.Runs.{course}
 use Rattle.run_law.specs.Ran.{HasReported, BoardRan}
 use Rattle.run_law.specs.Fronts.{BeginsWith}
-use Rattle.run_law.specs.Drives.{all_outcomes, all_passed, all_given, all_counts, IsDrive}
+use Rattle.run_law.specs.Drives.{all_outcomes, all_passed, all_actions, all_given, all_counts, IsDrive}
 use Rattle.run_law.proofs.Driving.{drive_of, drives}
+use Rattle.run_law.proofs.Changing.{changes_are}
+use Rattle.run_law.specs.Changes.{IsAmong, AreChanges, words_at, words_in}
 use Rattle.run_law.specs.SoFar.{BoardRuns}
 use Rattle.run_law.proofs.Breaking.{Others, bye_behind, bye_reported, end_is_last, front_before, front_of, no_bye}
 use Rattle.run_law.proofs.Reporting.{planned_ticks}
@@ -90,6 +92,7 @@ pub record Kept (first : State) (h : Journal) : Type 0 where
   pub told : replies_in (all_outcomes (drive_of first h)) ++ closed_tells h ≡ without_reports (answered_of h) ++ tells (left_of (first_opening first) h)
   pub bye : (closed_tells h ≡ []) ⊎ (closed_tells h ≡ Bye ∷ [])
   pub asked : asked_in (part_outcomes h) ≡ all_asked (part_actions h) ++ asks (left_of (first_opening first) h)
+  pub changes : AreChanges (IsAmong (words_in (port_log h))) normal_overrides (all_actions (drive_of first h))
   pub drives : IsDrive (has_slowed_in (port_log h)) (before_of (first_opening first) h).alarmed (has_changed_in (port_log h)) (cancel_words_in (port_log h)) (drive_of first h)
   pub alarmed : (before_of (first_opening first) h).alarmed ≡ has_limited h
   pub open_plan : has_limited h ≡ false → part_plan h ≡ plan_of h
@@ -142,6 +145,7 @@ keeps first h conducted =
       told = ap (λ (os : List Outcome). replies_in os ++ closed_tells h) (sym lines) ∙ told_is (first_opening first) h conducted;
       bye = one_bye (first_opening first) h conducted;
       asked = asked_is (first_opening first) h conducted;
+      changes = changes_are first h conducted;
       drives = subst (λ (t : Bool). IsDrive (has_slowed_in (port_log h)) t (has_changed_in (port_log h)) (cancel_words_in (port_log h)) (drive_of first h))
           (sym (alarmed_is (first_opening first) h)) (drives first h conducted);
       alarmed = alarmed_is (first_opening first) h;
@@ -205,7 +209,7 @@ closed_calmly h (inl closed) calm = closed
 closed_calmly h (inr one) calm = absurd (let e = sym one ∙ calm in cc)
 
 pub board_ran : (first : State) (h : Journal) → IsOpening first → Kept first h → IsFinished (first_opening first) h → IsSpent h
-    → BoardRan (taken_of h) (has_closed h) (has_held_in (port_log h)) (has_slowed_in (port_log h)) (has_changed_in (port_log h)) (has_reset_in (port_log h)) (reports_in (port_log h)) (cancel_words_in (port_log h)) (known_of h) (answered_of h) (published_of h)
+    → BoardRan (taken_of h) (has_closed h) (has_held_in (port_log h)) (has_slowed_in (port_log h)) (has_changed_in (port_log h)) (has_reset_in (port_log h)) (reports_in (port_log h)) (cancel_words_in (port_log h)) (known_of h) (words_in (port_log h)) (answered_of h) (published_of h)
 board_ran first h opening c f s = record {
   first = first;
   lines = lines_of h;
@@ -220,6 +224,7 @@ board_ran first h opening c f s = record {
       ∙ sym c.told ∙ ap (λ (rs : List Reply). replies_in (all_outcomes (drive_of first h)) ++ rs) f.closed;
   one = c.one;
   drives = c.drives;
+  changes = c.changes;
   made = (all_given (drive_of first h));
   kept = nothing_more (all_given (drive_of first h));
   gave = sym (append-nil (published_of h)) ∙ ap (λ (ps : List Piece). published_of h ++ ps) (sym s.hand) ∙ sym c.hand ∙ s.given ∙ ap (λ (ps : List Piece). ps ++ pieces.End ∷ []) c.pieces_are;
@@ -253,7 +258,7 @@ end_last given planned out hand (inl same) e = record {
 end_last given planned out hand (inr whole) e = record { rest = hand; is = sym whole ∙ e }
 
 pub board_runs : (first : State) (h : Journal) → IsOpening first → Kept first h
-    → BoardRuns (taken_of h) (has_held_in (port_log h)) (has_slowed_in (port_log h)) (has_changed_in (port_log h)) (has_reset_in (port_log h)) (reports_in (port_log h)) (cancel_words_in (port_log h)) (known_of h) (answered_of h) (published_of h)
+    → BoardRuns (taken_of h) (has_held_in (port_log h)) (has_slowed_in (port_log h)) (has_changed_in (port_log h)) (has_reset_in (port_log h)) (reports_in (port_log h)) (cancel_words_in (port_log h)) (known_of h) (words_in (port_log h)) (answered_of h) (published_of h)
 board_runs first h opening c = record {
   first = first;
   lines = lines_of h;
@@ -267,6 +272,7 @@ board_runs first h opening c = record {
   told = bye_last (replies_in (all_outcomes (drive_of first h))) (closed_tells h) (without_reports (answered_of h)) (tells (left_of (first_opening first) h)) c.bye c.told;
   one = c.one;
   drives = c.drives;
+  changes = c.changes;
   made = (all_given (drive_of first h));
   kept = nothing_more (all_given (drive_of first h));
   gave = end_last (given_of h) (all_given (drive_of first h)) (published_of h) (hand_of h) c.end c.hand;
@@ -344,6 +350,9 @@ words_same since before ends = same_log cancel_words_at cancel_words_in since be
 
 known_same : (since before : Journal) → EndsRun since before → known_in (log_behind since before) ≡ known_of before
 known_same since before ends = same_log known_at known_in since before ends (λ e l. refl) (λ q x. refl) (λ r x. refl) (λ n x. refl) (λ x. refl)
+
+override_words_same : (since before : Journal) → EndsRun since before → words_in (log_behind since before) ≡ words_in (port_log before)
+override_words_same since before ends = same_log words_at words_in since before ends (λ e l. refl) (λ q x. refl) (λ r x. refl) (λ n x. refl) (λ x. refl)
 
 -- what it had told, but for reports
 abbrev said_so : Journal → List Reply
@@ -438,7 +447,7 @@ stage first since before over k e =
     }
 
 runs_then : (first : State) (since before : Journal) (replies : List Reply) (pieces_out : List Piece) → IsBroken first since before → Stage first before replies pieces_out
-    → BoardRuns (taken_of before) (has_held_in (port_log before)) (has_slowed_in (port_log before)) (has_changed_in (port_log before)) true (reports_in (port_log before)) (cancel_words_in (port_log before)) (known_of before) replies pieces_out
+    → BoardRuns (taken_of before) (has_held_in (port_log before)) (has_slowed_in (port_log before)) (has_changed_in (port_log before)) true (reports_in (port_log before)) (cancel_words_in (port_log before)) (known_of before) (words_in (port_log before)) replies pieces_out
 runs_then first since before replies pieces_out k s = record {
   first = first;
   lines = lines_of before;
@@ -452,6 +461,7 @@ runs_then first since before replies pieces_out k s = record {
   told = s.told;
   one = s.one;
   drives = k.kept.drives;
+  changes = k.kept.changes;
   made = made_of first before;
   kept = (made_is first since before k).0;
   gave = s.gave;
@@ -462,15 +472,15 @@ runs_then first since before replies pieces_out k s = record {
 }
 
 pub broken_runs : (first : State) (since before : Journal) → IsBroken first since before
-    → BoardRuns (taken_in (log_behind since before)) (has_held_in (log_behind since before)) (has_slowed_in (log_behind since before)) (has_changed_in (log_behind since before)) (has_reset_in (log_behind since before)) (reports_in (log_behind since before)) (cancel_words_in (log_behind since before)) (known_in (log_behind since before))
+    → BoardRuns (taken_in (log_behind since before)) (has_held_in (log_behind since before)) (has_slowed_in (log_behind since before)) (has_changed_in (log_behind since before)) (has_reset_in (log_behind since before)) (reports_in (log_behind since before)) (cancel_words_in (log_behind since before)) (known_in (log_behind since before)) (words_in (log_behind since before))
     (answered_in (log_behind since before)) (published_in (log_behind since before))
 broken_runs first since before k =
-    rw (taken_same since before k.ends, slowed_same since before k.ends, held_same since before k.ends, changed_same since before k.ends, resets_now first since before k, asked_same since before k.ends, words_same since before k.ends, known_same since before k.ends)
+    rw (taken_same since before k.ends, slowed_same since before k.ends, held_same since before k.ends, changed_same since before k.ends, resets_now first since before k, asked_same since before k.ends, words_same since before k.ends, known_same since before k.ends, override_words_same since before k.ends)
     (runs_then first since before (answered_in (log_behind since before)) (published_in (log_behind since before)) k (stage first since before (ending_of since before) k refl))
 
 ran_then : (first : State) (since before : Journal) (replies : List Reply) (pieces_out : List Piece) → IsBroken first since before → without_reports replies ≡ said_so before ++ Bye ∷ []
     → pieces_out ≡ made_of first before ++ pieces.End ∷ [] → Stage first before replies pieces_out
-    → BoardRan (taken_of before) (has_closed before) (has_held_in (port_log before)) (has_slowed_in (port_log before)) (has_changed_in (port_log before)) true (reports_in (port_log before)) (cancel_words_in (port_log before)) (known_of before) replies pieces_out
+    → BoardRan (taken_of before) (has_closed before) (has_held_in (port_log before)) (has_slowed_in (port_log before)) (has_changed_in (port_log before)) true (reports_in (port_log before)) (cancel_words_in (port_log before)) (known_of before) (words_in (port_log before)) replies pieces_out
 ran_then first since before replies pieces_out k told gave s = record {
   first = first;
   lines = lines_of before;
@@ -484,6 +494,7 @@ ran_then first since before replies pieces_out k told gave s = record {
   told = told;
   one = s.one;
   drives = k.kept.drives;
+  changes = k.kept.changes;
   made = made_of first before;
   kept = (made_is first since before k).0;
   gave = gave;
@@ -496,8 +507,8 @@ ran_then first since before replies pieces_out k told gave s = record {
 
 pub broken_ran : (first : State) (since before : Journal) → IsBroken first since before → ending_of since before ≡ over
     → BoardRan (taken_in (log_behind since before)) (has_closed_in (log_behind since before)) (has_held_in (log_behind since before)) (has_slowed_in (log_behind since before)) (has_changed_in (log_behind since before)) (has_reset_in (log_behind since before))
-    (reports_in (log_behind since before)) (cancel_words_in (log_behind since before)) (known_in (log_behind since before)) (answered_in (log_behind since before)) (published_in (log_behind since before))
+    (reports_in (log_behind since before)) (cancel_words_in (log_behind since before)) (known_in (log_behind since before)) (words_in (log_behind since before)) (answered_in (log_behind since before)) (published_in (log_behind since before))
 broken_ran first since before k e =
-    rw (taken_same since before k.ends, closed_same since before k.ends, slowed_same since before k.ends, held_same since before k.ends, changed_same since before k.ends, resets_now first since before k, asked_same since before k.ends, words_same since before k.ends, known_same since before k.ends)
+    rw (taken_same since before k.ends, closed_same since before k.ends, slowed_same since before k.ends, held_same since before k.ends, changed_same since before k.ends, resets_now first since before k, asked_same since before k.ends, words_same since before k.ends, known_same since before k.ends, override_words_same since before k.ends)
     (ran_then first since before (answered_in (log_behind since before)) (published_in (log_behind since before)) k (with_bye before (answered_in (log_behind since before)) (ended_answers since before k.ends e))
     (whole_pieces first since before k (λ p. absurd (let s = sym e ∙ p in cc))) (stage first since before (ending_of since before) k refl))

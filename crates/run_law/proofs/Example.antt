@@ -124,7 +124,7 @@ host_ran = has_run all_done one_line nothing silent silent host_keeps (record { 
 abbrev drive : State → Drive
 drive first = record { parts = []; since = told first [] ∷ []; actions = []; given = []; plan = fresh_plan; halted = false }
 
-board_ran : (first : State) → IsOpening first → BoardRan (10 ∷ []) true false false false false 0 0 0 (replies.Banner ∷ replies.Ok ∷ replies.Bye ∷ []) (pieces.End ∷ [])
+board_ran : (first : State) → IsOpening first → BoardRan (10 ∷ []) true false false false false 0 0 0 [] (replies.Banner ∷ replies.Ok ∷ replies.Bye ∷ []) (pieces.End ∷ [])
 board_ran first opening = record {
   first = first;
   lines = [] ∷ [];
@@ -151,6 +151,7 @@ board_ran first opening = record {
     asks = record { rest = []; is = refl };
     added = record { rest = []; is = refl };
   };
+  changes = tt;
   made = [];
   kept = record { rest = []; is = refl };
   gave = refl;
@@ -174,6 +175,6 @@ recorder_ran = record {
 
 pub a_run : (first : State) → IsOpening first → IsRun one_line nothing sinks sinks (ended ended_so false)
 a_run first opening =
-    (runs one_line nothing sinks sinks ended_so false (10 ∷ []) [] (10 ∷ []) true true false false false false 0 0 0
+    (runs one_line nothing sinks sinks ended_so false (10 ∷ []) [] (10 ∷ []) true true false false false false 0 0 0 []
     (replies.Banner ∷ replies.Ok ∷ replies.Bye ∷ []) (replies.Banner ∷ replies.Ok ∷ replies.Bye ∷ []) (pieces.End ∷ []) (pieces.End ∷ []) 0 (kinds.End ∷ []) (kinds.End ∷ []) [] []
-    host_ran (board_ran first opening) pulse_ran recorder_ran (record { rest = []; front = refl; closes = λ e. refl; all = λ e. refl; loads = tt }) (record { held_by = λ e. absurd cc; slowed_by = λ e. absurd cc; changed_by = λ e. absurd cc; cancels_by = omega arith; reset_by = λ e. absurd cc; asked_by = omega arith }) (omega arith) refl refl refl).0
+    host_ran (board_ran first opening) pulse_ran recorder_ran (record { rest = []; front = refl; closes = λ e. refl; all = λ e. refl; loads = tt }) (record { held_by = λ e. absurd cc; slowed_by = λ e. absurd cc; changed_by = λ e. absurd cc; cancels_by = omega arith; reset_by = λ e. absurd cc; asked_by = omega arith }) (omega arith) (λ word among. absurd among) refl refl refl).0

@@ -12,7 +12,7 @@ use Rattle.step_line.specs.declared.Piece.{Piece}
 use Rattle.step_line.specs.declared.Record.{Record}
 use Rattle.step_line.specs.declared.Record.TheVariants as kinds
 use Rattle.step_line.specs.Pieces.{records_of, ticks_of}
-use Rattle.planner_runs.specs.Runs.{all_records}
+use Rattle.planner_runs.specs.Runs.{all_records, normal_overrides}
 use Rattle.planner_runs.proofs.Driven.{ticks_of_pieces}
 use Rattle.run_rules.specs.Lines.{whole_lines}
 use Rattle.run_rules.specs.declared.State.{State}
@@ -24,16 +24,19 @@ use Rattle.status_report.specs.Answering.{answers_in, without_reports, reports_a
 use Rattle.board_rules.proofs.Growing.{reported_still}
 use Rattle.board_rules.proofs.Plain.{answers_without}
 use Rattle.serial_ring.specs.Marks.{Mark}
-use Rattle.stream_host.specs.Jobs.{is_reset}
+use Rattle.stream_host.specs.Jobs.{is_reset, served_in}
 use Rattle.stream_host.specs.Links.{on_link}
 use Rattle.stream_host.specs.Ran.{AreRaised, HostEnd, HostRan, is_sent_out}
 use Rattle.stream_host.proofs.Pieces.{lines_back}
 use Rattle.step_line.specs.Asking.{ticks_among}
+use Rattle.code_table.specs.declared.flags.Ovr.{Ovr}
 use Rattle.run_law.specs.Flags.{AreTaken}
+use Rattle.run_law.specs.Changes.{IsAskedIn, IsAmong, AreAskedIn}
+use Rattle.run_law.proofs.Changing.{changes_more, words_were_scanned}
 use Rattle.run_law.proofs.Flagging.{driven_by, no_reset}
 use Rattle.run_law.proofs.Begins.{begins_on, begins_by, begins_each, lines_begin, ended_records, ended_ticks, ticks_length}
 use Rattle.run_law.proofs.Driving.{became_all, made_ticks, whole_drive}
-use Rattle.run_law.specs.Drives.{Drive, all_outcomes, all_passed, all_given, all_counts, ticks_due}
+use Rattle.run_law.specs.Drives.{Drive, all_outcomes, all_passed, all_actions, all_given, all_counts, ticks_due}
 use Rattle.run_law.specs.Runs.{Sinks, ended, course, asks_hold, asks_slow, slows_in, asks_change, asks_reset, AreReports, IsRun}
 use Rattle.run_law.specs.Fronts.{BeginsWith}
 use Rattle.run_law.proofs.Reporting.{scanned_grows, scanned_few, reported_fewer, reported_front, few_front, errors_without}
@@ -77,9 +80,9 @@ all_out shut raised got closed false closes raises calm found =
     ap (λ t. (t && not (list_any is_limit got)) || list_any is_reset raised) (closes (found refl)) ∙ ap (λ t. not t || list_any is_reset raised) calm
 
 -- unless a reset was taken, a board has told all that is to be told of its lines
-said_all : (taken : List ℕ) (closed held slowed changed reset : Bool) (asked cancels known : ℕ) (answered : List Reply) (published : List Piece) → (board : BoardRan taken closed held slowed changed reset asked cancels known answered published)
+said_all : (taken : List ℕ) (closed held slowed changed reset : Bool) (asked cancels known : ℕ) (words : List Ovr) (answered : List Reply) (published : List Piece) → (board : BoardRan taken closed held slowed changed reset asked cancels known words answered published)
     → reset ≡ false → board.said ≡ replies_in (all_outcomes board.drive)
-said_all taken closed held slowed changed reset asked cancels known answered published board none = by_alarm board.last.alarmed refl
+said_all taken closed held slowed changed reset asked cancels known words answered published board none = by_alarm board.last.alarmed refl
   where
     by_alarm : (t : Bool) → board.last.alarmed ≡ t → board.said ≡ replies_in (all_outcomes board.drive)
     by_alarm false calm = (board.whole none calm).told
@@ -97,12 +100,12 @@ all_answered first drive lines last got follows told =
 
 -- where a front of what was answered is got, which has all but reports
 pub runs_by : (job_was job_is : SourceState) (was is : Sinks) (end : HostEnd) (steps_failed : Bool)
-    (stored raised taken : List ℕ) (shut closed held slowed changed reset : Bool) (asked cancels known : ℕ) (got answered : List Reply) (got_pieces published : List Piece) (ticks : ℕ) (got_records put : List Record) (marks : List ℕ) (loaded : List Mark)
-    → (host : HostRan job_was job_is was.console is.console stored shut raised got end) → BoardRan taken closed held slowed changed reset asked cancels known answered published → PulseRan got_pieces ticks put
+    (stored raised taken : List ℕ) (shut closed held slowed changed reset : Bool) (asked cancels known : ℕ) (words : List Ovr) (got answered : List Reply) (got_pieces published : List Piece) (ticks : ℕ) (got_records put : List Record) (marks : List ℕ) (loaded : List Mark)
+    → (host : HostRan job_was job_is was.console is.console stored shut raised got end) → BoardRan taken closed held slowed changed reset asked cancels known words answered published → PulseRan got_pieces ticks put
     → RecorderRan was.steps is.steps got_records steps_failed
-    → IsLinked stored shut taken closed marks loaded → AreTaken raised held slowed changed reset asked cancels → known ≤ ticks → without_reports got ≡ without_reports answered → BeginsWith answered got → got_pieces ≡ published → got_records ≡ put
+    → IsLinked stored shut taken closed marks loaded → AreTaken raised held slowed changed reset asked cancels → known ≤ ticks → AreAskedIn raised words → without_reports got ≡ without_reports answered → BeginsWith answered got → got_pieces ≡ published → got_records ≡ put
     → (run : IsRun job_was job_is was is (ended end steps_failed)) × (run.scanned ≡ host.scanned) × (run.replies ≡ got)
-runs_by job_was job_is was is end steps_failed stored raised taken shut closed held slowed changed reset asked cancels known got answered got_pieces published ticks got_records put marks loaded host board pulse recorder link flags found same_replies begins same_pieces same_records =
+runs_by job_was job_is was is end steps_failed stored raised taken shut closed held slowed changed reset asked cancels known words got answered got_pieces published ticks got_records put marks loaded host board pulse recorder link flags found all_asked same_replies begins same_pieces same_records =
     let raises = host.raises_so_far in
     let on_the_link : BeginsWith (on_link host.lines) taken =
     begins_on (on_link host.lines) stored taken (record { rest = host.left; is = sym host.front }) (record { rest = link.rest; is = link.front }) in
@@ -113,7 +116,7 @@ runs_by job_was job_is was is end steps_failed stored raised taken shut closed h
     let put_is : put ≡ all_records board.made ++ kinds.End ∷ [] = pulse.records ∙ ap (flat_map records_of) (same_pieces ∙ board.gave) ∙ ended_records board.made in
     let unreset : asks_reset host.scanned ≡ false → reset ≡ false = λ none. no_reset host.scanned raised host.due host.resumes held slowed changed reset asked cancels raises flags none in
     let all_told : reset ≡ false → without_reports got ≡ replies_in (became_of (all_passed board.drive)) ++ replies.Bye ∷ [] =
-    λ none. told ∙ ap (λ (rs : List Reply). rs ++ replies.Bye ∷ []) (said_all taken closed held slowed changed reset asked cancels known answered published board none ∙ ap replies_in (sym (became_all board.drive))) in
+    λ none. told ∙ ap (λ (rs : List Reply). rs ++ replies.Bye ∷ []) (said_all taken closed held slowed changed reset asked cancels known words answered published board none ∙ ap replies_in (sym (became_all board.drive))) in
     let alarm : reset ≡ false → list_any is_limit got ≡ board.last.alarmed = λ none. alarm_told board.first board.lines (all_passed board.drive) board.last got board.follows (all_told none) in
     let out : list_any is_limit got ≡ false → is_sent_out shut raised got ≡ true =
     λ calm. all_out shut raised got closed reset link.closes flags.reset_by calm (λ none. (board.whole none (sym (alarm none) ∙ calm)).found) in
@@ -160,6 +163,8 @@ runs_by job_was job_is was is end steps_failed stored raised taken shut closed h
       };
       recording = record {
         drives = drives;
+        changes = changes_more (IsAmong words) (IsAskedIn (served_in host.scanned)) normal_overrides (all_actions board.drive)
+            (λ word among. words_were_scanned host.scanned raised host.due host.resumes word raises (all_asked word among)) board.changes;
         kept = board.kept;
         recorded = put_is;
         ticks = subst (λ (rs : List Record). BeginsWith (ticks_due board.drive) rs) (sym (ap ticks_among put_is ∙ ended_ticks board.made))
@@ -204,11 +209,11 @@ runs_by job_was job_is was is end steps_failed stored raised taken shut closed h
     }, refl, refl)
 
 pub runs : (job_was job_is : SourceState) (was is : Sinks) (end : HostEnd) (steps_failed : Bool)
-    (stored raised taken : List ℕ) (shut closed held slowed changed reset : Bool) (asked cancels known : ℕ) (got answered : List Reply) (got_pieces published : List Piece) (ticks : ℕ) (got_records put : List Record) (marks : List ℕ) (loaded : List Mark)
-    → (host : HostRan job_was job_is was.console is.console stored shut raised got end) → BoardRan taken closed held slowed changed reset asked cancels known answered published → PulseRan got_pieces ticks put
+    (stored raised taken : List ℕ) (shut closed held slowed changed reset : Bool) (asked cancels known : ℕ) (words : List Ovr) (got answered : List Reply) (got_pieces published : List Piece) (ticks : ℕ) (got_records put : List Record) (marks : List ℕ) (loaded : List Mark)
+    → (host : HostRan job_was job_is was.console is.console stored shut raised got end) → BoardRan taken closed held slowed changed reset asked cancels known words answered published → PulseRan got_pieces ticks put
     → RecorderRan was.steps is.steps got_records steps_failed
-    → IsLinked stored shut taken closed marks loaded → AreTaken raised held slowed changed reset asked cancels → known ≤ ticks → got ≡ answered → got_pieces ≡ published → got_records ≡ put
+    → IsLinked stored shut taken closed marks loaded → AreTaken raised held slowed changed reset asked cancels → known ≤ ticks → AreAskedIn raised words → got ≡ answered → got_pieces ≡ published → got_records ≡ put
     → (run : IsRun job_was job_is was is (ended end steps_failed)) × (run.scanned ≡ host.scanned) × (run.replies ≡ got)
-runs job_was job_is was is end steps_failed stored raised taken shut closed held slowed changed reset asked cancels known got answered got_pieces published ticks got_records put marks loaded host board pulse recorder link flags found same_replies same_pieces same_records =
-    runs_by job_was job_is was is end steps_failed stored raised taken shut closed held slowed changed reset asked cancels known got answered got_pieces published ticks got_records put marks loaded host board pulse recorder link flags found
+runs job_was job_is was is end steps_failed stored raised taken shut closed held slowed changed reset asked cancels known words got answered got_pieces published ticks got_records put marks loaded host board pulse recorder link flags found all_asked same_replies same_pieces same_records =
+    runs_by job_was job_is was is end steps_failed stored raised taken shut closed held slowed changed reset asked cancels known words got answered got_pieces published ticks got_records put marks loaded host board pulse recorder link flags found all_asked
     (ap without_reports same_replies) (record { rest = []; is = sym same_replies ∙ sym (append-nil got) }) same_pieces same_records

@@ -17,3 +17,4 @@ pub mod Example
 pub mod Cancelling
 pub mod Slowing
 pub mod Fewest
+pub mod Changing

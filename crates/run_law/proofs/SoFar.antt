@@ -12,12 +12,16 @@ use Rattle.step_line.specs.declared.Record.{Record}
 use Rattle.step_line.specs.declared.Record.TheVariants as kinds
 use Rattle.step_line.specs.Asking.{ticks_among}
 use Rattle.step_line.specs.Pieces.{records_of, ticks_of}
-use Rattle.planner_runs.specs.Runs.{all_records}
+use Rattle.planner_runs.specs.Runs.{all_records, normal_overrides}
 use Rattle.run_rules.specs.Lines.{whole_lines}
 use Rattle.stream_host.specs.Links.{on_link}
 use Rattle.stream_host.specs.Ran.{HostRuns}
 use Rattle.stream_host.proofs.Pieces.{lines_back}
+use Rattle.code_table.specs.declared.flags.Ovr.{Ovr}
 use Rattle.run_law.specs.Flags.{AreTaken}
+use Rattle.run_law.specs.Changes.{IsAskedIn, IsAmong, AreAskedIn}
+use Rattle.run_law.proofs.Changing.{changes_more, words_were_scanned}
+use Rattle.stream_host.specs.Jobs.{served_in}
 use Rattle.run_law.specs.Runs.{Sinks}
 use Rattle.run_law.proofs.Flagging.{driven_by, no_reset}
 use Rattle.run_law.specs.Fronts.{BeginsWith}
@@ -25,17 +29,17 @@ use Rattle.run_law.specs.SoFar.{BoardRuns, PulseRuns, RecorderRuns, IsSoFar}
 use Rattle.run_law.proofs.Reporting.{answers_front}
 use Rattle.run_law.proofs.Fewest.{fewest_grows}
 use Rattle.run_law.proofs.Begins.{begins_on, begins_each, begins_by, lines_begin, ended_records, recorded_ticks, ticks_length}
-use Rattle.run_law.specs.Drives.{all_outcomes, all_given, all_counts}
+use Rattle.run_law.specs.Drives.{all_outcomes, all_actions, all_given, all_counts}
 use Rattle.run_law.proofs.Driving.{ticks_begin}
 use Rattle.run_law.proofs.Law.{reports_are}
 
 -- ---- the run
 
-pub runs_so_far : (job_was job_is : SourceState) (was is : Sinks) (stored raised taken : List ℕ) (held slowed changed reset : Bool) (asked cancels known : ℕ) (got answered : List Reply) (got_pieces published : List Piece) (counted : ℕ) (got_records put : List Record)
-    → HostRuns job_was job_is was.console is.console stored raised got → BoardRuns taken held slowed changed reset asked cancels known answered published → PulseRuns got_pieces counted put → RecorderRuns was.steps is.steps got_records
-    → BeginsWith stored taken → AreTaken raised held slowed changed reset asked cancels → known ≤ counted → BeginsWith answered got → BeginsWith published got_pieces → BeginsWith put got_records
+pub runs_so_far : (job_was job_is : SourceState) (was is : Sinks) (stored raised taken : List ℕ) (held slowed changed reset : Bool) (asked cancels known : ℕ) (words : List Ovr) (got answered : List Reply) (got_pieces published : List Piece) (counted : ℕ) (got_records put : List Record)
+    → HostRuns job_was job_is was.console is.console stored raised got → BoardRuns taken held slowed changed reset asked cancels known words answered published → PulseRuns got_pieces counted put → RecorderRuns was.steps is.steps got_records
+    → BeginsWith stored taken → AreTaken raised held slowed changed reset asked cancels → known ≤ counted → AreAskedIn raised words → BeginsWith answered got → BeginsWith published got_pieces → BeginsWith put got_records
     → IsSoFar job_was job_is was is
-runs_so_far job_was job_is was is stored raised taken held slowed changed reset asked cancels known got answered got_pieces published counted got_records put host board pulse recorder bytes flags found some_replies some_pieces some_records =
+runs_so_far job_was job_is was is stored raised taken held slowed changed reset asked cancels known words got answered got_pieces published counted got_records put host board pulse recorder bytes flags found all_asked some_replies some_pieces some_records =
     let on_the_link : BeginsWith (on_link host.lines) taken = begins_on (on_link host.lines) stored taken (record { rest = host.left; is = sym host.link }) bytes in
     let lines : BeginsWith (map plain host.lines) (whole_lines taken) =
     begins_by (whole_lines (on_link host.lines)) (map plain host.lines) (whole_lines taken) (sym (lines_back host.lines)) (lines_begin (on_link host.lines) taken on_the_link) in
@@ -74,6 +78,8 @@ runs_so_far job_was job_is was is stored raised taken held slowed changed reset 
       text_left = host.waiting;
       console = host.console;
       drives = driven_by host.scanned raised host.due host.resumes held slowed board.last.alarmed changed reset asked cancels board.drive host.raises flags board.drives;
+      changes = changes_more (IsAmong words) (IsAskedIn (served_in host.scanned)) normal_overrides (all_actions board.drive)
+          (λ word among. words_were_scanned host.scanned raised host.due host.resumes word host.raises (all_asked word among)) board.changes;
       made = board.made;
       kept = board.kept;
       whole = λ none. board.whole (no_reset host.scanned raised host.due host.resumes held slowed changed reset asked cancels host.raises flags none);

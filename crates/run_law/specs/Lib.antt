@@ -1,4 +1,5 @@
 pub mod Flags
+pub mod Changes
 pub mod Fronts
 pub mod Drives
 pub mod Taking

@@ -12,7 +12,7 @@ use Rattle.step_line.specs.declared.Record.{Record}
 use Rattle.step_line.specs.Ending.{IsEnded}
 use Rattle.step_line.specs.Ordering.{InTurn}
 use Rattle.step_line.specs.Pieces.{records_of, ticks_of}
-use Rattle.planner_runs.specs.Runs.{IsAtRest, all_asked}
+use Rattle.planner_runs.specs.Runs.{IsAtRest, all_asked, normal_overrides}
 use Rattle.pulse_engine.specs.Logs.{ticks_in}
 use Rattle.run_rules.specs.declared.State.{State}
 use Rattle.run_rules.specs.Lines.{whole_lines}
@@ -24,7 +24,9 @@ use Rattle.status_report.specs.Answering.{answers_in, without_reports, reports_a
 use Rattle.serial_ring.specs.Marks.{Mark, AreMarks}
 use Rattle.board_rules.specs.Parts.{IsHaltedPart, plan_behind}
 use Rattle.run_law.specs.Fronts.{BeginsWith}
-use Rattle.run_law.specs.Drives.{Drive, all_outcomes, all_passed, all_given, all_counts, IsDrive}
+use Rattle.code_table.specs.declared.flags.Ovr.{Ovr}
+use Rattle.run_law.specs.Changes.{IsAmong, AreChanges}
+use Rattle.run_law.specs.Drives.{Drive, all_outcomes, all_passed, all_actions, all_given, all_counts, IsDrive}
 use Rattle.run_law.specs.Runs.{course}
 
 -- Each report among these replies fits what was driven, while a hold was taken, or a change of overrides, or not; it shows
@@ -53,12 +55,12 @@ pub record IsHalted (said : List Reply) (drive : Drive) (made : List Piece) : Ty
 
 -- A board has run: it has begun a front of the lines that it took, and has told a front of what is told of them, once
 -- and in order, and then Bye. Each report shows what was so when it was answered; there are as many at most as words
--- that asked for one. What it has driven of the lines, part by part, was disturbed by no more than was taken, and jogs
--- were cut as often at most as words that ask for a hold or a cancel were taken. A front of its pieces was published,
+-- that asked for one. What it has driven of the lines, part by part, was disturbed by no more than was taken, each change of overrides
+-- by a word of these, and jogs were cut as often at most as words that ask for a hold or a cancel were taken. A front of its pieces was published,
 -- and the end after them; however the run ended, the ticks of the lines up to the last answered one that settles were
 -- found done. All of it was carried out, unless a reset was taken or a line raised an alarm; if one did, and no reset was
 -- taken, it has halted there. Of the lines begun all but the last one are answered.
-pub record BoardRan (taken : List ℕ) (closed held slowed changed reset : Bool) (asked cancels known : ℕ) (answered : List Reply) (published : List Piece) : Type 0 where
+pub record BoardRan (taken : List ℕ) (closed held slowed changed reset : Bool) (asked cancels known : ℕ) (words : List Ovr) (answered : List Reply) (published : List Piece) : Type 0 where
   pub first : State
   pub lines : List (List ℕ)
   pub drive : Drive
@@ -71,6 +73,7 @@ pub record BoardRan (taken : List ℕ) (closed held slowed changed reset : Bool)
   pub told : without_reports answered ≡ said ++ Bye ∷ []
   pub one : length (all_outcomes drive) ≤ answers_in answered + 1
   pub drives : IsDrive slowed last.alarmed changed cancels drive
+  pub changes : AreChanges (IsAmong words) normal_overrides (all_actions drive)
   pub made : List Piece
   pub kept : BeginsWith (all_given drive) made
   pub gave : published ≡ made ++ pieces.End ∷ []

@@ -17,7 +17,7 @@ use Rattle.run_rules.specs.Reports.{Course, Reported, AreReported, fewest, is_qu
 use Rattle.status_report.specs.Answering.{receive_room, answers_in, without_reports, reports_among}
 use Rattle.step_line.specs.Asking.{ticks_among}
 use Rattle.run_rules.specs.Told.{replies_in, replies_text, records_text, errors_in, errors_among}
-use Rattle.planner_runs.specs.Runs.{all_records}
+use Rattle.planner_runs.specs.Runs.{all_records, normal_overrides}
 use Rattle.step_line.specs.declared.Piece.{Piece}
 use Rattle.step_line.specs.Pieces.{ticks_of}
 use Rattle.step_line.specs.declared.Record.TheVariants as kinds
@@ -31,7 +31,8 @@ use Rattle.board_rules.specs.Parts.{IsHaltedPart, plan_behind}
 use Rattle.run_law.specs.declared.RunEnd.{RunEnd}
 use Rattle.run_law.specs.Flags.{is_hold, is_slow, is_change}
 use Rattle.run_law.specs.Fronts.{BeginsWith}
-use Rattle.run_law.specs.Drives.{Drive, all_outcomes, all_passed, all_given, all_counts, ticks_due, IsDrive, IsWholeDrive}
+use Rattle.run_law.specs.Changes.{IsAskedIn, AreChanges}
+use Rattle.run_law.specs.Drives.{Drive, all_outcomes, all_passed, all_actions, all_given, all_counts, ticks_due, IsDrive, IsWholeDrive}
 
 -- what the console and the steps hold
 pub record Sinks : Type 0 where
@@ -149,10 +150,11 @@ pub record IsToldAndAnswered (was is : Sinks) (end : RunEnd) (scanned : List ℕ
 -- so their ticks are the first of those that are due. However the run ended, the ticks of the lines up to the last answered
 -- one that settles are there: of each line those that count, all that it asks for but for what a cut or a halt dropped.
 -- Holds, resumes and overrides change no event. A segment slows down only if a `!` or a 0x85 was scanned, or a line raised
--- an alarm, and it is planned for other overrides than 100 percent only if a byte that changes them was scanned. The text is
--- whole if no write failed.
+-- an alarm. Overrides begin at 100 percent, and each change sets them to that, or is by a word of flags all of which bytes that
+-- were scanned raise. The text is whole if no write failed.
 pub record IsRecorded (was is : Sinks) (end : RunEnd) (scanned : List ℕ) (drive : Drive) (last : Before) (made : List Piece) (records : List Record) : Type 0 where
   pub drives : IsDrive (asks_slow scanned) last.alarmed (asks_change scanned) (slows_in scanned) drive
+  pub changes : AreChanges (IsAskedIn (served_in scanned)) normal_overrides (all_actions drive)
   pub kept : BeginsWith (all_given drive) made
   pub recorded : records ≡ all_records made ++ kinds.End ∷ []
   pub ticks : BeginsWith (ticks_due drive) (ticks_among records)

@@ -14,7 +14,7 @@ use Rattle.step_line.specs.declared.Record.TheVariants as kinds
 use Rattle.step_line.specs.Asking.{ticks_among}
 use Rattle.step_line.specs.Ordering.{InTurn}
 use Rattle.step_line.specs.Pieces.{records_of}
-use Rattle.planner_runs.specs.Runs.{all_records}
+use Rattle.planner_runs.specs.Runs.{all_records, normal_overrides}
 use Rattle.run_rules.specs.declared.State.{State}
 use Rattle.run_rules.specs.Lines.{whole_lines}
 use Rattle.run_rules.specs.States.{IsOpening}
@@ -22,22 +22,24 @@ use Rattle.run_rules.specs.Outcomes.{Before, Follows, start}
 use Rattle.run_rules.specs.Told.{replies_in, replies_text, records_text}
 use Rattle.stream_host.specs.declared.Reading.{Reading}
 use Rattle.stream_host.specs.declared.Stop.{Stop}
-use Rattle.stream_host.specs.Jobs.{IsSentSoFar}
+use Rattle.stream_host.specs.Jobs.{served_in, IsSentSoFar}
 use Rattle.run_rules.specs.Reports.{fewest}
 use Rattle.pulse_engine.specs.Logs.{ticks_in}
 use Rattle.status_report.specs.Answering.{answers_in, without_reports, reports_among}
 use Rattle.run_law.specs.Runs.{Sinks, AreReports, asks_slow, slows_in, asks_change, asks_reset}
 use Rattle.run_law.specs.Fronts.{BeginsWith}
-use Rattle.run_law.specs.Drives.{Drive, all_outcomes, all_passed, all_given, all_counts, ticks_due, IsDrive}
+use Rattle.code_table.specs.declared.flags.Ovr.{Ovr}
+use Rattle.run_law.specs.Changes.{IsAskedIn, IsAmong, AreChanges}
+use Rattle.run_law.specs.Drives.{Drive, all_outcomes, all_passed, all_actions, all_given, all_counts, ticks_due, IsDrive}
 use Rattle.run_law.specs.Ran.{HasReported}
 
 -- A board runs: it has begun a front of the lines that it took, and what was told, asked and published is a front of
 -- what these tell and ask for, part by part, with its end after that: after all of it, unless a reset was taken.
 -- Of the lines begun all but the last one are answered. Nothing else disturbed the plan than a hold or a cancel, if one
--- was taken, a change of overrides, if one was taken, and an alarm, if a line raised one; and jogs were cut as often at
+-- was taken, changes of overrides by words of these, and an alarm, if a line raised one; and jogs were cut as often at
 -- most as words that ask for a hold or a cancel were taken. The ticks of the lines up to the last answered one that
 -- settles were found done, and reports show no more than were.
-pub record BoardRuns (taken : List ℕ) (held slowed changed reset : Bool) (asked cancels known : ℕ) (answered : List Reply) (published : List Piece) : Type 0 where
+pub record BoardRuns (taken : List ℕ) (held slowed changed reset : Bool) (asked cancels known : ℕ) (words : List Ovr) (answered : List Reply) (published : List Piece) : Type 0 where
   pub first : State
   pub lines : List (List ℕ)
   pub drive : Drive
@@ -50,6 +52,7 @@ pub record BoardRuns (taken : List ℕ) (held slowed changed reset : Bool) (aske
   pub told : BeginsWith (said ++ Bye ∷ []) (without_reports answered)
   pub one : length (all_outcomes drive) ≤ answers_in answered + 1
   pub drives : IsDrive slowed last.alarmed changed cancels drive
+  pub changes : AreChanges (IsAmong words) normal_overrides (all_actions drive)
   pub made : List Piece
   pub kept : BeginsWith (all_given drive) made
   pub gave : BeginsWith (made ++ pieces.End ∷ []) published
@@ -102,6 +105,7 @@ pub record IsSoFar (job_was job_is : SourceState) (was is : Sinks) : Type 0 wher
   pub text_left : List ℕ
   pub console : Wrote was.console is.console console_failed text_left (replies_text got)
   pub drives : IsDrive (asks_slow scanned) last.alarmed (asks_change scanned) (slows_in scanned) drive
+  pub changes : AreChanges (IsAskedIn (served_in scanned)) normal_overrides (all_actions drive)
   pub made : List Piece
   pub kept : BeginsWith (all_given drive) made
   pub put : List Record

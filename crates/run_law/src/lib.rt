@@ -22,6 +22,8 @@ ghost use Rattle.realtime_flags.specs.Bits.{IsBalanced};
 ghost use Rattle.serial_ring.specs.Marks.{Mark};
 ghost use Rattle.stream_host.specs.Steps.{PortLog as HostLog, raises_in as bytes_raised_in};
 ghost use Rattle.board_rules.specs.Ports.{PortLog as BoardLog};
+ghost use Rattle.code_table.specs.declared.flags.Ovr.{Ovr};
+ghost use Rattle.run_law.specs.Changes.{AreAskedIn, words_in};
 ghost use Rattle.run_law.specs.Flags.{AreTaken};
 ghost use Rattle.run_law.specs.Taking.{raises_in, takes_in};
 ghost use Rattle.board_rules.specs.Cuts.{cancel_words_in};
@@ -48,15 +50,15 @@ pub struct RunEnd {
 }
 
 /// Four actors that ran to their ends make a run, if each got what the other gave, what the board took of flags was
-/// raised, and it found no more ticks done than the pulse counted: the lines that are sent of the job are answered in order, the console takes what is told of them, and the
+/// raised, each flag of a change, too, and it found no more ticks done than the pulse counted: the lines that are sent of the job are answered in order, the console takes what is told of them, and the
 /// steps take the records of a drive of what they ask for. What was scanned is what the host has scanned, and the replies
 /// are those that it got.
 pub fn actors_make_a_run()
     ensures { (job_was job_is : SourceState) (was is : Sinks) (end : HostEnd) (steps_failed : Bool)
-        (stored raised taken : List ℕ) (shut closed held slowed changed reset : Bool) (asked cancels known : ℕ) (got answered : List Reply) (got_pieces published : List Piece) (ticks : ℕ) (got_records put : List Record) (marks : List ℕ) (loaded : List Mark) →
-        (host : HostRan job_was job_is was.console is.console stored shut raised got end) → BoardRan taken closed held slowed changed reset asked cancels known answered published → PulseRan got_pieces ticks put →
+        (stored raised taken : List ℕ) (shut closed held slowed changed reset : Bool) (asked cancels known : ℕ) (words : List Ovr) (got answered : List Reply) (got_pieces published : List Piece) (ticks : ℕ) (got_records put : List Record) (marks : List ℕ) (loaded : List Mark) →
+        (host : HostRan job_was job_is was.console is.console stored shut raised got end) → BoardRan taken closed held slowed changed reset asked cancels known words answered published → PulseRan got_pieces ticks put →
         RecorderRan was.steps is.steps got_records steps_failed →
-        IsLinked stored shut taken closed marks loaded → AreTaken raised held slowed changed reset asked cancels → known ≤ ticks → got ≡ answered → got_pieces ≡ published → got_records ≡ put →
+        IsLinked stored shut taken closed marks loaded → AreTaken raised held slowed changed reset asked cancels → known ≤ ticks → AreAskedIn raised words → got ≡ answered → got_pieces ≡ published → got_records ≡ put →
         (run : IsRun job_was job_is was is (ended end steps_failed)) × (run.scanned ≡ host.scanned) × (run.replies ≡ got) }
 {}
 
@@ -64,18 +66,18 @@ pub fn actors_make_a_run()
 /// nothing waits after Bye, nor after the end.
 pub fn actors_that_end_make_a_run()
     ensures { (job_was job_is : SourceState) (was is : Sinks) (end : HostEnd) (steps_failed : Bool)
-        (stored raised taken : List ℕ) (shut closed held slowed changed reset : Bool) (asked cancels known : ℕ) (got answered : List Reply) (got_pieces published : List Piece) (ticks : ℕ) (got_records put : List Record) (marks : List ℕ) (loaded : List Mark) →
-        (host : HostRan job_was job_is was.console is.console stored shut raised got end) → BoardRan taken closed held slowed changed reset asked cancels known answered published → PulseRan got_pieces ticks put →
+        (stored raised taken : List ℕ) (shut closed held slowed changed reset : Bool) (asked cancels known : ℕ) (words : List Ovr) (got answered : List Reply) (got_pieces published : List Piece) (ticks : ℕ) (got_records put : List Record) (marks : List ℕ) (loaded : List Mark) →
+        (host : HostRan job_was job_is was.console is.console stored shut raised got end) → BoardRan taken closed held slowed changed reset asked cancels known words answered published → PulseRan got_pieces ticks put →
         RecorderRan was.steps is.steps got_records steps_failed →
-        IsLinked stored shut taken closed marks loaded → AreTaken raised held slowed changed reset asked cancels → known ≤ ticks → BeginsWith answered got → BeginsWith published got_pieces → BeginsWith put got_records →
+        IsLinked stored shut taken closed marks loaded → AreTaken raised held slowed changed reset asked cancels → known ≤ ticks → AreAskedIn raised words → BeginsWith answered got → BeginsWith published got_pieces → BeginsWith put got_records →
         (run : IsRun job_was job_is was is (ended end steps_failed)) × (run.scanned ≡ host.scanned) × (run.replies ≡ got) }
 {}
 
 /// Four actors that still run have done a run so far, if each has got a front of what the other gave.
 pub fn actors_make_a_run_so_far()
-    ensures { (job_was job_is : SourceState) (was is : Sinks) (stored raised taken : List ℕ) (held slowed changed reset : Bool) (asked cancels known : ℕ) (got answered : List Reply) (got_pieces published : List Piece) (ticks : ℕ) (got_records put : List Record) →
-        HostRuns job_was job_is was.console is.console stored raised got → BoardRuns taken held slowed changed reset asked cancels known answered published → PulseRuns got_pieces ticks put → RecorderRuns was.steps is.steps got_records →
-        BeginsWith stored taken → AreTaken raised held slowed changed reset asked cancels → known ≤ ticks → BeginsWith answered got → BeginsWith published got_pieces → BeginsWith put got_records →
+    ensures { (job_was job_is : SourceState) (was is : Sinks) (stored raised taken : List ℕ) (held slowed changed reset : Bool) (asked cancels known : ℕ) (words : List Ovr) (got answered : List Reply) (got_pieces published : List Piece) (ticks : ℕ) (got_records put : List Record) →
+        HostRuns job_was job_is was.console is.console stored raised got → BoardRuns taken held slowed changed reset asked cancels known words answered published → PulseRuns got_pieces ticks put → RecorderRuns was.steps is.steps got_records →
+        BeginsWith stored taken → AreTaken raised held slowed changed reset asked cancels → known ≤ ticks → AreAskedIn raised words → BeginsWith answered got → BeginsWith published got_pieces → BeginsWith put got_records →
         IsSoFar job_was job_is was is }
 {}
 
@@ -90,9 +92,9 @@ pub fn accepted_jobs_are_complete()
 /// before, it runs.
 pub fn boards_have_run()
     ensures whole { (first : State) (d : Doings) → IsOpening first → IsConducted first d → HasEnded first d →
-        BoardRan (taken_of d) (has_closed d) (has_held_in (log_of d)) (has_slowed_in (log_of d)) (has_changed_in (log_of d)) (has_reset_in (log_of d)) (reports_in (log_of d)) (cancel_words_in (log_of d)) (known_in (log_of d)) (answered_of d) (published_of d) }
+        BoardRan (taken_of d) (has_closed d) (has_held_in (log_of d)) (has_slowed_in (log_of d)) (has_changed_in (log_of d)) (has_reset_in (log_of d)) (reports_in (log_of d)) (cancel_words_in (log_of d)) (known_in (log_of d)) (words_in (log_of d)) (answered_of d) (published_of d) }
     ensures so_far { (first : State) (d : Doings) → IsOpening first → IsConducted first d →
-        BoardRuns (taken_of d) (has_held_in (log_of d)) (has_slowed_in (log_of d)) (has_changed_in (log_of d)) (has_reset_in (log_of d)) (reports_in (log_of d)) (cancel_words_in (log_of d)) (known_in (log_of d)) (answered_of d) (published_of d) }
+        BoardRuns (taken_of d) (has_held_in (log_of d)) (has_slowed_in (log_of d)) (has_changed_in (log_of d)) (has_reset_in (log_of d)) (reports_in (log_of d)) (cancel_words_in (log_of d)) (known_in (log_of d)) (words_in (log_of d)) (answered_of d) (published_of d) }
 {
     boards_end_well();
 }
@@ -100,8 +102,10 @@ pub fn boards_have_run()
 /// What a board has taken of flags was raised, if each flag was found down by as many raises as there are takes that
 /// had it, and by one more if it is up.
 pub fn flags_that_are_taken_were_raised()
-    ensures { (words : List ℕ) (host : HostLog) (board : BoardLog) → IsBalanced words (raises_in host) (takes_in board) →
+    ensures taken { (words : List ℕ) (host : HostLog) (board : BoardLog) → IsBalanced words (raises_in host) (takes_in board) →
         AreTaken (bytes_raised_in host) (has_held_in board) (has_slowed_in board) (has_changed_in board) (has_reset_in board) (reports_in board) (cancel_words_in board) }
+    ensures changes { (words : List ℕ) (host : HostLog) (board : BoardLog) → IsBalanced words (raises_in host) (takes_in board) →
+        AreAskedIn (bytes_raised_in host) (words_in board) }
 {}
 
 /// A pulse that never halted and has put the end has run, and every pulse that never halted runs.

@@ -16,11 +16,13 @@ use Rattle.stream_host.specs.declared.Reading.{Reading}
 use Rattle.stream_host.specs.declared.Reading.TheVariants.{Ended, Failed, Large, Stopped}
 use Rattle.stream_host.specs.declared.Stop.{Stop}
 use Rattle.stream_host.specs.declared.Stop.TheVariants as stops
-use Rattle.stream_host.specs.Jobs.{MayHaveRead, MayLeave, ends_sending, is_long, holds_reset, lines_to_send}
+use Rattle.stream_host.specs.Jobs.{served_in, MayHaveRead, MayLeave, ends_sending, is_long, holds_reset, lines_to_send}
 use Rattle.stream_host.specs.Ran.{is_failed}
 use Rattle.stream_host.proofs.Pieces.{neither, all_are_sent}
 use Rattle.run_law.specs.declared.RunEnd.{RunEnd}
-use Rattle.run_law.specs.Drives.{all_outcomes, all_passed, IsDrive, IsWholeDrive}
+use Rattle.run_law.specs.Drives.{all_outcomes, all_passed, all_actions, IsDrive, IsWholeDrive}
+use Rattle.run_law.specs.Changes.{IsAskedIn, AreChanges}
+use Rattle.planner_runs.specs.Runs.{normal_overrides}
 use Rattle.run_law.specs.Runs.{Sinks, AreReports, asks_slow, slows_in, asks_change, asks_reset, IsRun}
 use Rattle.run_law.proofs.Completing.{complete}
 use Rattle.run_status.specs.declared.Status.{Status}
@@ -232,6 +234,7 @@ by_cases job_was job_is was is end run false false false stops.End es ec en et =
             (subst (λ (ls : List (List ℕ)). AreReports run.first run.drive (ticks_among run.records) ls run.scanned run.replies) all.lines
             run.reports);
         records = run.records;
+        changes = subst (λ (text : List ℕ). AreChanges (IsAskedIn (served_in text)) normal_overrides (all_actions run.drive)) (sym all.all) run.recording.changes;
         drives = subst (λ (text : List ℕ). IsDrive (asks_slow text) false (asks_change text) (slows_in text) run.drive) (sym all.all)
             (subst (λ (alarm : Bool). IsDrive (asks_slow run.scanned) alarm (asks_change run.scanned) (slows_in run.scanned) run.drive) calm run.recording.drives);
         driven = subst (λ (text : List ℕ). IsWholeDrive (asks_slow text) (asks_change text) run.drive run.records) (sym all.all) carried.driven;

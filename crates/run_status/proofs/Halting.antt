@@ -152,6 +152,7 @@ halted_run job_was job_is was is end run k es ec et =
       driven = at.passed_are;
       records = run.records;
       reports = run.reports;
+      changes = run.recording.changes;
       drives = subst (λ (alarm : Bool). IsDrive (asks_slow run.scanned) alarm (asks_change run.scanned) (slows_in run.scanned) run.drive) alarmed run.recording.drives;
       halted = carried.halted;
       part = carried.part;

@@ -21,16 +21,17 @@ use Rattle.run_rules.specs.Limits.{IsBeyond}
 use Rattle.run_rules.specs.Told.{replies_in, replies_text, records_text, errors_in}
 use Rattle.step_line.specs.declared.Record.{Record}
 use Rattle.step_line.specs.declared.Record.TheVariants as kinds
-use Rattle.planner_runs.specs.Runs.{all_records}
+use Rattle.planner_runs.specs.Runs.{all_records, normal_overrides}
 use Rattle.board_rules.specs.Parts.{IsHaltedPart, plan_behind}
 use Rattle.stream_host.specs.declared.Reading.{Reading}
 use Rattle.stream_host.specs.declared.Reading.TheVariants.{Large}
 use Rattle.stream_host.specs.declared.Stop.{Stop}
 use Rattle.stream_host.specs.declared.Stop.TheVariants as stops
-use Rattle.stream_host.specs.Jobs.{MayHaveRead, MayScan, IsSentSoFar, is_long, holds_reset, is_sent}
+use Rattle.stream_host.specs.Jobs.{served_in, MayHaveRead, MayScan, IsSentSoFar, is_long, holds_reset, is_sent}
 use Rattle.run_law.specs.declared.RunEnd.{RunEnd}
 use Rattle.run_law.specs.Fronts.{BeginsWith}
-use Rattle.run_law.specs.Drives.{Drive, all_outcomes, all_passed, all_given, ticks_due, IsDrive, IsWholeDrive}
+use Rattle.run_law.specs.Changes.{IsAskedIn, AreChanges}
+use Rattle.run_law.specs.Drives.{Drive, all_outcomes, all_passed, all_actions, all_given, ticks_due, IsDrive, IsWholeDrive}
 use Rattle.run_law.specs.Runs.{Sinks, AreReports, asks_slow, slows_in, asks_change, IsRun}
 use Rattle.run_law.specs.Complete.{IsAcceptedJob}
 use Rattle.run_status.specs.declared.Status.{Status}
@@ -71,7 +72,7 @@ IsWhole _ = ⊥
 -- and marks, in order and each once, heads with legal speeds, and the end. Where jogs were cut, as often at most as `!` and
 -- 0x85 stand in the job, the drive is one of parts: of a part that a cut ended the events of jogs alone are lost, behind the
 -- first ones. Nothing else disturbs the drive than a hold or a cancel, where a `!` or 0x85 stands in the job, and a change of
--- overrides, where a byte that asks for one does: without such a byte they are 100 percent throughout.
+-- overrides, where bytes that ask for its flags do: without such a byte they are 100 percent throughout.
 pub record IsWholeRun (job_was job_is : SourceState) (was is : Sinks) (status : Status) : Type 0 where
   pub job : List ℕ
   pub first : State
@@ -89,6 +90,7 @@ pub record IsWholeRun (job_was job_is : SourceState) (was is : Sinks) (status : 
   pub records : List Record
   pub reports : AreReports first drive (ticks_among records) (lines_of job) job replies
   pub drives : IsDrive (asks_slow job) false (asks_change job) (slows_in job) drive
+  pub changes : AreChanges (IsAskedIn (served_in job)) normal_overrides (all_actions drive)
   pub driven : IsWholeDrive (asks_slow job) (asks_change job) drive records
   pub steps : Appends was.steps.held is.steps.held (records_text records)
   pub status_is : status ≡ by_errors (errors_in (all_outcomes drive))
@@ -126,6 +128,7 @@ pub record IsHaltedRun (job_was job_is : SourceState) (was is : Sinks) (k : ℕ)
   pub records : List Record
   pub reports : AreReports first drive (ticks_among records) lines scanned replies
   pub drives : IsDrive (asks_slow scanned) true (asks_change scanned) (slows_in scanned) drive
+  pub changes : AreChanges (IsAskedIn (served_in scanned)) normal_overrides (all_actions drive)
   pub halted : drive.halted ≡ true
   pub part : IsHaltedPart drive.since (plan_behind drive.parts) drive.actions drive.given drive.plan
   pub recorded : records ≡ all_records (all_given drive) ++ kinds.End ∷ []
