@@ -6,9 +6,9 @@
 mod laws;
 
 pub use laws::{
-    cleared_runs_begin_anew, halted_runs_are_legal, overrides_are_asked_for, pieces_follow, planner_runs_are_driven,
-    planner_runs_are_legal, planner_runs_begin_at_rest, planner_runs_go_on, planner_runs_grow,
-    ticks_are_those_asked_for,
+    cleared_runs_begin_anew, halted_runs_are_legal, overrides_are_asked_for, pieces_follow,
+    planner_runs_are_driven, planner_runs_are_legal, planner_runs_begin_at_rest,
+    planner_runs_go_on, planner_runs_grow, ticks_are_those_asked_for,
 };
 use overrides::Overrides;
 use plan_rules::Mode;

@@ -128,85 +128,88 @@ runs_by job_was job_is was is end steps_failed stored raised taken shut closed h
     let made_front : BeginsWith (flat_map ticks_of (all_given board.drive)) (ticks_among put) =
     subst (λ (rs : List Record). BeginsWith (flat_map ticks_of (all_given board.drive)) rs) (sym put_ticks) (begins_each ticks_of (all_given board.drive) board.made board.kept) in
     let within : known ≤ length (ticks_among put) = (let count = pulse.ticks in let as_long = ticks_length put in omega (arith, found, count, as_long)) in
-    let drives = driven_by host.scanned raised host.due host.resumes held slowed board.last.alarmed changed reset asked cancels board.drive raises flags board.drives in
-    (record {
-      read = host.read;
-      reading = host.reading;
-      scanned = host.scanned;
-      lines = host.lines;
-      first = board.first;
-      begun = board.lines;
-      drive = board.drive;
-      last = board.last;
-      replies = got;
-      said = board.said;
-      made = board.made;
-      records = put;
-      sending = record {
-        taken = host.taken;
-        at_end = host.at_end;
-        so_far = host.so_far;
-        sent = λ calm. host.sent (out calm);
-        few = λ calm. host.few (out calm);
-      };
-      telling = record {
-        opening = board.opening;
-        begins = lines;
-        follows = board.follows;
-        front = board.front;
-        told = told;
-        alarm = λ none. alarm (unreset none);
-        one = (let a = host.answered in let g = answers_without got in let r = answers_without answered in let e = ap answers_in same_replies in let o = board.one in omega (arith, a, g, r, e, o));
-        answered = host.answered;
-        errors = host.errors;
-        console = host.console;
-      };
-      recording = record {
-        drives = drives;
-        changes = changes_more (IsAmong words) (IsAskedIn (served_in host.scanned)) normal_overrides (all_actions board.drive)
-            (λ word among. words_were_scanned host.scanned raised host.due host.resumes word raises (all_asked word among)) board.changes;
-        kept = board.kept;
-        recorded = put_is;
-        ticks = subst (λ (rs : List Record). BeginsWith (ticks_due board.drive) rs) (sym (ap ticks_among put_is ∙ ended_ticks board.made))
-            (made_ticks slowed board.last.alarmed changed cancels board.drive board.made board.drives board.kept);
-        least = (let answered : end.answered ≡ answers_in answered = host.answered ∙ sym (answers_without got) ∙ ap answers_in same_replies ∙ answers_without answered in
-            let as_many = ap (λ (n : ℕ). fewest n (all_outcomes board.drive) (all_counts board.drive)) answered in
-            let least = board.least in
-            omega (arith, as_many, least, within));
-        steps = subst (λ (rs : List Record). Took was.steps is.steps steps_failed (records_text rs)) same_records recorder.steps;
-      };
-      reports = reports_are board.first board.drive host.scanned raised host.due host.resumes held slowed changed reset asked cancels known host.lines (ticks_among put) answered got raises flags board.reported board.reports begins
-          made_front within host.reported;
-      ending = record {
-        stop = host.stop;
-        whole = λ none calm. (let w = board.whole (unreset none) calm in
-            let sent_lines : whole_lines stored ≡ map plain host.lines = ap whole_lines (host.link (out (alarm (unreset none) ∙ calm))) ∙ lines_back host.lines in
-            let all_lines : board.lines ≡ map plain host.lines = w.begun ∙ ap whole_lines (sym (link_taken stored taken shut closed marks loaded link w.found)) ∙ sent_lines in
-            record {
-              begun_are = all_lines;
-              said_are = w.told;
-              driven = whole_drive (asks_slow host.scanned) board.last.alarmed (asks_change host.scanned) (slows_in host.scanned) board.drive put calm drives w.asks w.rests
-                  (put_is ∙ ap (λ (ps : List Piece). all_records ps ++ kinds.End ∷ []) w.whole);
-              ticks_are = ticks_of_pieces (all_given board.drive) ∙ ap (flat_map ticks_of) (sym w.whole) ∙ sym (ap ticks_among put_is ∙ ended_ticks board.made);
-              answered = (let a = host.answered in let n = answered_all (unreset none) in let z = ap one_if calm in
-                  let l = ap (λ (ls : List (List ℕ)). length ls) all_lines in let m = length-map host.lines plain in omega (arith, a, n, z, l, m));
-              errors = all_errors (unreset none);
-            });
-        halted = λ none one. (let h = board.halted (unreset none) one in
-            record {
-              said_are = h.told;
-              halted = h.halted;
-              part = h.part;
-              recorded = put_is ∙ ap (λ (ps : List Piece). all_records ps ++ kinds.End ∷ []) h.whole;
-              ticks_are = ticks_of_pieces (all_given board.drive) ∙ ap (flat_map ticks_of) (sym h.whole) ∙ sym (ap ticks_among put_is ∙ ended_ticks board.made);
-              answered = (let a = host.answered in let n = answered_all (unreset none) in let z = ap one_if one in omega (arith, a, n, z));
-              errors = all_errors (unreset none);
-            });
-        failed = host.failed;
-        source = host.source;
-        source_same = host.source_same;
-      };
-    }, refl, refl)
+    let drives = driven_by host.scanned raised host.due host.resumes held slowed board.last.alarmed changed reset asked cancels board.drive raises flags board.drives in (
+      record {
+        read = host.read;
+        reading = host.reading;
+        scanned = host.scanned;
+        lines = host.lines;
+        first = board.first;
+        begun = board.lines;
+        drive = board.drive;
+        last = board.last;
+        replies = got;
+        said = board.said;
+        made = board.made;
+        records = put;
+        sending = record {
+          taken = host.taken;
+          at_end = host.at_end;
+          so_far = host.so_far;
+          sent = λ calm. host.sent (out calm);
+          few = λ calm. host.few (out calm);
+        };
+        telling = record {
+          opening = board.opening;
+          begins = lines;
+          follows = board.follows;
+          front = board.front;
+          told = told;
+          alarm = λ none. alarm (unreset none);
+          one = (let a = host.answered in let g = answers_without got in let r = answers_without answered in let e = ap answers_in same_replies in let o = board.one in omega (arith, a, g, r, e, o));
+          answered = host.answered;
+          errors = host.errors;
+          console = host.console;
+        };
+        recording = record {
+          drives = drives;
+          changes = changes_more (IsAmong words) (IsAskedIn (served_in host.scanned)) normal_overrides (all_actions board.drive)
+              (λ word among. words_were_scanned host.scanned raised host.due host.resumes word raises (all_asked word among)) board.changes;
+          kept = board.kept;
+          recorded = put_is;
+          ticks = subst (λ (rs : List Record). BeginsWith (ticks_due board.drive) rs) (sym (ap ticks_among put_is ∙ ended_ticks board.made))
+              (made_ticks slowed board.last.alarmed changed cancels board.drive board.made board.drives board.kept);
+          least = (let answered : end.answered ≡ answers_in answered = host.answered ∙ sym (answers_without got) ∙ ap answers_in same_replies ∙ answers_without answered in
+              let as_many = ap (λ (n : ℕ). fewest n (all_outcomes board.drive) (all_counts board.drive)) answered in
+              let least = board.least in
+              omega (arith, as_many, least, within));
+          steps = subst (λ (rs : List Record). Took was.steps is.steps steps_failed (records_text rs)) same_records recorder.steps;
+        };
+        reports = reports_are board.first board.drive host.scanned raised host.due host.resumes held slowed changed reset asked cancels known host.lines (ticks_among put) answered got raises flags board.reported board.reports begins
+            made_front within host.reported;
+        ending = record {
+          stop = host.stop;
+          whole = λ none calm. (let w = board.whole (unreset none) calm in
+              let sent_lines : whole_lines stored ≡ map plain host.lines = ap whole_lines (host.link (out (alarm (unreset none) ∙ calm))) ∙ lines_back host.lines in
+              let all_lines : board.lines ≡ map plain host.lines = w.begun ∙ ap whole_lines (sym (link_taken stored taken shut closed marks loaded link w.found)) ∙ sent_lines in
+              record {
+                begun_are = all_lines;
+                said_are = w.told;
+                driven = whole_drive (asks_slow host.scanned) board.last.alarmed (asks_change host.scanned) (slows_in host.scanned) board.drive put calm drives w.asks w.rests
+                    (put_is ∙ ap (λ (ps : List Piece). all_records ps ++ kinds.End ∷ []) w.whole);
+                ticks_are = ticks_of_pieces (all_given board.drive) ∙ ap (flat_map ticks_of) (sym w.whole) ∙ sym (ap ticks_among put_is ∙ ended_ticks board.made);
+                answered = (let a = host.answered in let n = answered_all (unreset none) in let z = ap one_if calm in
+                    let l = ap (λ (ls : List (List ℕ)). length ls) all_lines in let m = length-map host.lines plain in omega (arith, a, n, z, l, m));
+                errors = all_errors (unreset none);
+              });
+          halted = λ none one. (let h = board.halted (unreset none) one in
+              record {
+                said_are = h.told;
+                halted = h.halted;
+                part = h.part;
+                recorded = put_is ∙ ap (λ (ps : List Piece). all_records ps ++ kinds.End ∷ []) h.whole;
+                ticks_are = ticks_of_pieces (all_given board.drive) ∙ ap (flat_map ticks_of) (sym h.whole) ∙ sym (ap ticks_among put_is ∙ ended_ticks board.made);
+                answered = (let a = host.answered in let n = answered_all (unreset none) in let z = ap one_if one in omega (arith, a, n, z));
+                errors = all_errors (unreset none);
+              });
+          failed = host.failed;
+          source = host.source;
+          source_same = host.source_same;
+        };
+      },
+      refl,
+      refl,
+    )
 
 pub runs : (job_was job_is : SourceState) (was is : Sinks) (end : HostEnd) (steps_failed : Bool)
     (stored raised taken : List ℕ) (shut closed held slowed changed reset : Bool) (asked cancels known : ℕ) (words : List Ovr) (got answered : List Reply) (got_pieces published : List Piece) (ticks : ℕ) (got_records put : List Record) (marks : List ℕ) (loaded : List Mark)

@@ -91,6 +91,7 @@ fits_fewer first drive all front held changed k d r begins made f = record {
   where
     same : place_at origin all d ≡ place_at origin front d
     same = ap (λ (rs : List Record). moved_by origin (take d rs)) begins.is ∙ ap (moved_by origin) (take-append-le d front begins.rest made)
+
     by_ahead : (r.f ≡ 0) ⊎ IsAhead (course first drive all held changed) k d → (r.f ≡ 0) ⊎ IsAhead (course first drive front held changed) k d
     by_ahead (inl none) = inl none
     by_ahead (inr is) = inr (record { given = is.given; below = is.below; asked = is.asked; whole = is.whole })

@@ -51,33 +51,36 @@ not_failed r well bad = absurd (let e = sym (ap is_failed bad) ∙ well in cc)
 -- what it has scanned is what its journal says
 pub has_run_of : (h : Journal) (job_was job_is : SourceState) (console_was console_is : SinkState) → Conducted h → HasFinished h → TellsJob h job_was job_is → TellsConsole h console_was console_is
     → (ran : HostRan job_was job_is console_was console_is (stored_of h) (is_shut h) (raises_of h) (got_of h) (end_of h)) × (ran.scanned ≡ scanned_of h)
-has_run_of h job_was job_is console_was console_is c finished job console = (record {
-  read = read_of h;
-  reading = reading_of h;
-  scanned = scanned_of h;
-  lines = cut_of h;
-  taken = job.taken;
-  at_end = job.at_end;
-  so_far = let s = sent_so_far h c in record { fits = s.fits; scans = s.scans; later = s.later; sent = s.sent; cause = refl };
-  stop = stop_behind h c;
-  left = to_store h;
-  front = stored_is h c;
-  due = due_of h;
-  raises_so_far = raised_is h c;
-  sent = λ out. let s = sent_out h c out in sent_all h c s.all s.stop;
-  link = λ out. all_stored h c (sent_out h c out).all;
-  few = λ out. few_unanswered h c (sent_out h c out).all.free;
-  resumes = resumes_of h;
-  raises = λ out. subst (λ due. AreRaised (scanned_of h) (raises_of h) due (resumes_of h)) (sent_out h c out).none_due (raised_is h c);
-  reported = reported_is h c;
-  bye = finished.bye;
-  console = took_of console_was console_is (has_given_up h) (drop (written_of h) (text_of h)) (text_of h) console (wrote_all h finished.written);
-  answered = refl;
-  errors = refl;
-  failed = refl;
-  source = λ e. job.cause (failed_is (reading_of h) e);
-  source_same = λ e. job.same (not_failed (reading_of h) e);
-}, refl)
+has_run_of h job_was job_is console_was console_is c finished job console = (
+  record {
+    read = read_of h;
+    reading = reading_of h;
+    scanned = scanned_of h;
+    lines = cut_of h;
+    taken = job.taken;
+    at_end = job.at_end;
+    so_far = let s = sent_so_far h c in record { fits = s.fits; scans = s.scans; later = s.later; sent = s.sent; cause = refl };
+    stop = stop_behind h c;
+    left = to_store h;
+    front = stored_is h c;
+    due = due_of h;
+    raises_so_far = raised_is h c;
+    sent = λ out. let s = sent_out h c out in sent_all h c s.all s.stop;
+    link = λ out. all_stored h c (sent_out h c out).all;
+    few = λ out. few_unanswered h c (sent_out h c out).all.free;
+    resumes = resumes_of h;
+    raises = λ out. subst (λ due. AreRaised (scanned_of h) (raises_of h) due (resumes_of h)) (sent_out h c out).none_due (raised_is h c);
+    reported = reported_is h c;
+    bye = finished.bye;
+    console = took_of console_was console_is (has_given_up h) (drop (written_of h) (text_of h)) (text_of h) console (wrote_all h finished.written);
+    answered = refl;
+    errors = refl;
+    failed = refl;
+    source = λ e. job.cause (failed_is (reading_of h) e);
+    source_same = λ e. job.same (not_failed (reading_of h) e);
+  },
+  refl,
+)
 
 pub has_run : (h : Journal) (job_was job_is : SourceState) (console_was console_is : SinkState) → Conducted h → HasFinished h → TellsJob h job_was job_is → TellsConsole h console_was console_is
     → HostRan job_was job_is console_was console_is (stored_of h) (is_shut h) (raises_of h) (got_of h) (end_of h)

@@ -5,7 +5,8 @@ use Rattle.realtime_flags.specs.Ends.{taken_in}
 use Rattle.motion_ring.specs.Ends.{ring_of_out}
 use Rattle.board_rules.specs.Breaking.{Doings as BoardJournal, log_of as board_log}
 use Rattle.board_rules.specs.Breaking.Doings.{goes}
-use Rattle.controller.specs.Boards.{BoardFits, BoardRests}
+use Rattle.outside.specs.declared.Turn.{Turn}
+use Rattle.controller.specs.Boards.{BoardFits, BoardTurned, BoardRests}
 use Rattle.controller.specs.Boards.{IsBetween as IsBetweenOfBoard}
 use Rattle.link_ports.specs.Standing.{BoardLogs, BoardSees}
 use Rattle.thread_rig.specs.declared.board.BoardSide.{BoardSide}
@@ -29,6 +30,12 @@ pub record BoardRunsAt (was is : BoardSide) : Type 0 where
   pub sees : BoardSees is.link (board_log journal)
   pub fits : BoardFits is.board journal
   pub between : IsBetweenOfBoard journal
+
+-- It was one turn, the first: what it did is all that was done, and the board's rules allow it.
+pub record BoardHasBegun (was is : BoardSide) : Type 0 where
+  pub runs : BoardRunsAt was is
+  pub turn : Turn
+  pub turned : BoardTurned turn was.board is.board (goes []) runs.journal
 
 -- ---- and the board is done
 

@@ -1,6 +1,6 @@
 //! What the thread of the board has, and what it does.
 
-ghost use Rattle.thread_rig.specs.BoardSides.{BoardIsNew, BoardRunsAt, BoardRanAt};
+ghost use Rattle.thread_rig.specs.BoardSides.{BoardIsNew, BoardRunsAt, BoardHasBegun, BoardRanAt};
 
 use controller::Controller;
 use link_ports::BoardLink;
@@ -19,7 +19,8 @@ pub(crate) struct BoardSide {
 /// banner for a while reads on, and its sender may wait for the banner.
 pub(crate) fn begin_board<G: Gate>(side: &mut BoardSide, gate: &G)
     requires { BoardIsNew side.old }
-    ensures { BoardRunsAt side.old side.new }
+    ensures runs { BoardRunsAt side.old side.new }
+    ensures turned { BoardHasBegun side.old side.new }
 {
     gate.pass(Actor::Board);
     side.board.turn(&mut side.link);
