@@ -14,8 +14,8 @@ use Rattle.run_law.specs.declared.RunEnd.{RunEnd}
 use Rattle.run_law.specs.Complete.{AreServed, IsAcceptedJob}
 use Rattle.board_rules.specs.Parts.{Part}
 use Rattle.run_law.specs.Drives.{all_outcomes}
-use Rattle.run_law.specs.Flags.{is_slow}
-use Rattle.run_law.specs.Runs.{Sinks, IsRun, slows_in}
+use Rattle.run_law.specs.Flags.{is_slow, is_change}
+use Rattle.run_law.specs.Runs.{Sinks, IsRun, slows_in, asks_change}
 use Rattle.run_law.proofs.Completing.{complete}
 use Rattle.demo_job.specs.Jobs.{job_lines, job_text}
 use Rattle.demo_law.specs.Accepted.{IsNoSystemLine, IsCalm, IsCode}
@@ -47,6 +47,12 @@ NoneSlows lines = count_by is_slow (flat_map served lines) ≡ 0
 none_slows : (lines : List (List ℕ)) → AllByRecursion IsCalm lines → NoneSlows lines
 none_slows lines calm = ap (λ (bytes : List ℕ). count_by is_slow bytes) (none_raised lines calm)
 
+abbrev NoneChanges : List (List ℕ) → Type 0
+NoneChanges lines = list_any is_change (flat_map served lines) ≡ false
+
+none_changes : (lines : List (List ℕ)) → AllByRecursion IsCalm lines → NoneChanges lines
+none_changes lines calm = ap (λ (bytes : List ℕ). list_any is_change bytes) (none_raised lines calm)
+
 no_part : (parts : List Part) (most : ℕ) → length parts ≤ most → most ≡ 0 → parts ≡ []
 no_part [] most few none = refl
 no_part (p ∷ ps) most few none = absurd (omega (arith, few, none))
@@ -59,6 +65,7 @@ pub record RunsWhole (n : ℕ) (job_was job_is : SourceState) (was is : Sinks) (
   pub read : end.source_failed ≡ false
   pub sent : run.lines ≡ job_lines n
   pub uncut : run.drive.parts ≡ []
+  pub unchanged : asks_change run.scanned ≡ false
   pub asks : asked_in (all_outcomes run.drive) ≡ demo_asks run.first.settings n
 
 never_failed : (t : Bool) → (t ≡ true → 1 ≤ 0) → t ≡ false
@@ -99,5 +106,6 @@ runs_whole n left was is end some most run =
       read = read;
       sent = sent;
       uncut = no_part run.drive.parts (slows_in run.scanned) run.recording.drives.few none;
+      unchanged = subst NoneChanges (sym lines) (none_changes (job_lines n) of.calm);
       asks = ap asked_in done.same ∙ of.asks;
     }

@@ -1,11 +1,11 @@
 -- A run of the generated job.
-use Rattle.std.specs.Prelude.{◌≡◌, ℕ, Bool, cond, List, [], Some, None}
+use Rattle.std.specs.Prelude.{◌≡◌, ℕ, Bool, false, cond, List, [], Some, None}
 use Rattle.outside.specs.Causes.{SourceState, SinkState}
 use Rattle.outside.specs.Writing.{Took}
 use Rattle.run_rules.specs.Told.{asked_in}
 use Rattle.run_law.specs.declared.RunEnd.{RunEnd}
 use Rattle.run_law.specs.Drives.{all_outcomes}
-use Rattle.run_law.specs.Runs.{IsRun}
+use Rattle.run_law.specs.Runs.{asks_change, IsRun}
 use Rattle.demo_job.specs.Jobs.{job_lines, job_text, summary}
 use Rattle.demo_law.specs.Asked.{demo_asks}
 use Rattle.run_status.specs.declared.Status.{Status}
@@ -20,7 +20,8 @@ abbrev pub generated : List ℕ → SourceState
 generated left = record { left = Some left; faults = 0 }
 
 -- A run of the generated job of n moves, whose console keeps nothing. All its lines are sent and answered `ok`, and ask for
--- its moves, of which none is cut: the steps are those of these moves. Then the console takes the line on the run: its lines, all of them `ok`, the
+-- its moves, of which none is cut, and no byte of it changes overrides, so that they are 100 percent throughout: the steps are
+-- those of these moves. Then the console takes the line on the run: its lines, all of them `ok`, the
 -- events of its moves, and where the last of them goes; a front of that line where the console fails. The demo is done,
 -- unless a write of the steps failed, or of the console.
 pub record IsDemo (n : ℕ) (console_was console_is steps_was steps_is : SinkState) (status : Status) : Type 0 where
@@ -31,6 +32,7 @@ pub record IsDemo (n : ℕ) (console_was console_is steps_was steps_is : SinkSta
   pub sent : run.lines ≡ job_lines n
   pub accepted : end.errors ≡ 0
   pub uncut : run.drive.parts ≡ []
+  pub unchanged : asks_change run.scanned ≡ false
   pub asks : asked_in (all_outcomes run.drive) ≡ demo_asks run.first.settings n
   pub console_failed : Bool
   pub console : Took console_was console_is console_failed (summary n)

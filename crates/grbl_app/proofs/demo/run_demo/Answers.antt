@@ -33,6 +33,7 @@ returns-clause-run g c =
       sent = whole.sent;
       accepted = whole.errors;
       uncut = whole.uncut;
+      unchanged = whole.unchanged;
       asks = whole.asks;
       console_failed = c.is_err-console_failed.result;
       console = rw (c.is_err-console_failed.ensures.value, errs c.tell_summary.result)
