@@ -9,3 +9,4 @@ pub mod HostAsks
 pub mod BoardAsks
 pub mod Counting
 pub mod PerLineExample
+pub mod Standing

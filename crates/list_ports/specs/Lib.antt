@@ -3,3 +3,4 @@ pub mod Asked
 pub mod PerLine
 pub mod Joining
 pub mod Finding
+pub mod Standing

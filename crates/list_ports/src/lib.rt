@@ -11,6 +11,8 @@ mod host_port;
 mod lists;
 mod pulse_port;
 mod records;
+#[cfg(test)]
+mod tests;
 
 pub use lists::Lists;
 pub use records::Records;
