@@ -4,7 +4,7 @@ use Rattle.code_table.specs.declared.flags.Exec.{Exec}
 use Rattle.feed_hold.specs.declared.Motion.{Motion}
 use Rattle.feed_hold.specs.declared.Motion.TheVariants.{Idle, Run, Holding, Held, Jog, Cancelling, Stopping, Alarm}
 use Rattle.feed_hold.specs.Motions.{Call, Reached, becomes, hold_byte, cancel_byte, start_byte, asks, after_start, after_requests, after, after_word}
-use Rattle.feed_hold.specs.Motions.Call.{on_exec, on_start, on_limit, on_pause, on_stopped, on_drained}
+use Rattle.feed_hold.specs.Motions.Call.{on_exec, on_start, on_limit, on_pause, on_stopped, on_drained, on_unlock}
 
 -- the state is the one before, or is reached from it
 abbrev pub StaysOrReaches : Motion → Call → Motion → Type 0
@@ -67,7 +67,7 @@ by_pause was now e = cc
 
 by_stop : (was now : Motion) → after on_stopped was ≡ Some now → StaysOrReaches now on_stopped was
 by_stop Holding now e = told on_stopped Holding Held now e (inr (inr (refl, refl)))
-by_stop Cancelling now e = told on_stopped Cancelling Idle now e (inr (inr (inr (refl, refl))))
+by_stop Cancelling now e = told on_stopped Cancelling Idle now e (inr (inr (inr (inl (refl, refl)))))
 by_stop Stopping now e = told on_stopped Stopping Alarm now e (inr (inr (refl, refl)))
 by_stop was now e = cc
 
@@ -77,6 +77,10 @@ by_drain Run now e = told on_drained Run Idle now e (inr (inr (inl (inl refl, re
 by_drain Jog now e = told on_drained Jog Idle now e (inr (inr (inl (inr refl, refl))))
 by_drain was now e = cc
 
+by_unlock : (was now : Motion) → after on_unlock was ≡ Some now → StaysOrReaches now on_unlock was
+by_unlock Alarm now e = told on_unlock Alarm Idle now e (inr (inr (inr (inr (refl, refl)))))
+by_unlock was now e = cc
+
 pub reached : (call : Call) (was now : Motion) → after call was ≡ Some now → StaysOrReaches now call was
 reached (on_exec word queued) was now e = told (on_exec word queued) was (after_word word queued was) now e (by_word (asks word hold_byte) word queued was refl)
 reached (on_start jog) was now e = by_begin jog was now e
@@ -84,3 +88,4 @@ reached on_limit was now e = by_limit was now e
 reached on_pause was now e = by_pause was now e
 reached on_stopped was now e = by_stop was now e
 reached on_drained was now e = by_drain was now e
+reached on_unlock was now e = by_unlock was now e

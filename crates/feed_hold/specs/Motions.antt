@@ -93,6 +93,12 @@ pub data Call : Type 0 where
   on_pause : Call
   on_stopped : Call
   on_drained : Call
+  on_unlock : Call
+
+-- a line unlocks a machine that is in alarm
+abbrev pub unlocked : Motion → Option Motion
+unlocked Alarm = to Idle
+unlocked _ = never
 
 -- the state after a call, if the table has one
 abbrev pub after : Call → Motion → Option Motion
@@ -102,6 +108,7 @@ after on_limit motion = (becomes motion).limited
 after on_pause motion = (becomes motion).paused
 after on_stopped motion = (becomes motion).stopped
 after on_drained motion = (becomes motion).drained
+after on_unlock motion = unlocked motion
 
 -- of hold, cancel and start, a word asks for what one byte asks for
 pub record AsksOnly (byte : ℕ) (word : Exec) : Type 0 where
@@ -115,6 +122,20 @@ is_stopping Holding = true
 is_stopping Cancelling = true
 is_stopping Stopping = true
 is_stopping _ = false
+
+-- The machine moves by lines or jogs, or slows down for a hold or a cancel: where it is halted at once, its place is not sure.
+abbrev pub is_moving : Motion → Bool
+is_moving Run = true
+is_moving Holding = true
+is_moving Jog = true
+is_moving Cancelling = true
+is_moving _ = false
+
+-- what a reset makes of a state: a machine that moved is locked, and one in alarm stays so
+abbrev pub behind_reset : Motion → Motion
+behind_reset Idle = Idle
+behind_reset Held = Idle
+behind_reset _ = Alarm
 
 -- moves or jogs are carried out
 abbrev pub is_going : Motion → Bool
@@ -145,7 +166,7 @@ IsStart queued call = (word : Exec) × (call ≡ on_exec word queued) × (asks w
 
 -- how each state is reached from another
 abbrev pub Reached : Motion → Call → Motion → Type 0
-Reached Idle call was = ((was ≡ Held) × IsStart false call) ⊎ (((was ≡ Run) ⊎ (was ≡ Jog)) × (call ≡ on_drained)) ⊎ ((was ≡ Cancelling) × (call ≡ on_stopped))
+Reached Idle call was = ((was ≡ Held) × IsStart false call) ⊎ (((was ≡ Run) ⊎ (was ≡ Jog)) × (call ≡ on_drained)) ⊎ ((was ≡ Cancelling) × (call ≡ on_stopped)) ⊎ ((was ≡ Alarm) × (call ≡ on_unlock))
 Reached Run call was = (((was ≡ Idle) ⊎ (was ≡ Held)) × IsStart true call) ⊎ ((was ≡ Idle) × (call ≡ on_start false))
 Reached Holding call was = (was ≡ Run) × IsBy hold_byte call
 Reached Held call was = ((was ≡ Idle) × (IsBy hold_byte call ⊎ (call ≡ on_pause))) ⊎ ((was ≡ Holding) × (call ≡ on_stopped))

@@ -1,11 +1,11 @@
 //! How the states of the motion follow one another, as laws.
 
-ghost use Rattle.std.specs.Prelude.{◌≡◌, ◌⊎◌, Bool, true, false, if◌then◌else◌};
+ghost use Rattle.std.specs.Prelude.{◌≡◌, ◌⊎◌, Bool, true, false, ◌||◌, if◌then◌else◌};
 ghost use Rattle.code_table.specs.declared.flags.Exec.{Exec};
 ghost use Rattle.feed_hold.specs.declared.Motion.{Motion};
 ghost use Rattle.feed_hold.specs.declared.Motion.TheVariants.{Idle, Run, Held, Alarm};
-ghost use Rattle.feed_hold.specs.Motions.{Call, Reached, AsksOnly, becomes, hold_byte, cancel_byte, start_byte, asks, after, after_word, is_stopping};
-ghost use Rattle.feed_hold.specs.Motions.Call.{on_stopped};
+ghost use Rattle.feed_hold.specs.Motions.{Call, Reached, AsksOnly, becomes, hold_byte, cancel_byte, start_byte, asks, after, after_word, is_stopping, is_moving, is_limited, behind_reset};
+ghost use Rattle.feed_hold.specs.Motions.Call.{on_stopped, on_unlock};
 
 /// What each byte makes of an idle motion: `!` holds it; 0x85 changes nothing; `~` runs it if moves are queued.
 pub fn bytes_at_rest()
@@ -27,9 +27,15 @@ pub fn stops_are_awaited()
     ensures { (call : Call) (was now : Motion) → is_stopping was ≡ true → after call was ≡ Some now → (now ≡ was) ⊎ (call ≡ on_stopped) }
 {}
 
-/// Nothing leaves Alarm.
+/// Nothing leaves Alarm but an unlock, and nothing is unlocked but a machine in alarm, which stands idle then.
 pub fn locks_stay()
-    ensures { (call : Call) (now : Motion) → after call Alarm ≡ Some now → now ≡ Alarm }
+    ensures stays { (call : Call) (now : Motion) → after call Alarm ≡ Some now → (now ≡ Alarm) ⊎ ((call ≡ on_unlock) × (now ≡ Idle)) }
+    ensures unlocks { (was now : Motion) → after on_unlock was ≡ Some now → (was ≡ Alarm) × (now ≡ Idle) }
+{}
+
+/// Behind a reset the machine stands: it is locked if it was moving or in alarm, or stopped at a limit, and idle otherwise.
+pub fn resets_lock_what_moves()
+    ensures { (was : Motion) → behind_reset was ≡ (if is_moving was || is_limited was then Alarm else Idle) }
 {}
 
 /// How each state is reached from another: Holding by `!` in Run alone, Cancelling by `!` or 0x85 in Jog alone, and so

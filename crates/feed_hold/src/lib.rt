@@ -78,8 +78,8 @@ pub struct Hold {
 impl Hold {
     ghost use Rattle.std.specs.Prelude.{◌≡◌, IsSome};
     ghost use Rattle.feed_hold.specs.declared.Motion.TheVariants.{Idle};
-    ghost use Rattle.feed_hold.specs.Motions.{after, after_word};
-    ghost use Rattle.feed_hold.specs.Motions.Call.{on_start, on_limit, on_pause, on_stopped, on_drained};
+    ghost use Rattle.feed_hold.specs.Motions.{after, after_word, is_moving, behind_reset};
+    ghost use Rattle.feed_hold.specs.Motions.Call.{on_start, on_limit, on_pause, on_stopped, on_drained, on_unlock};
 
     /// Nothing moves.
     pub fn new() -> Hold
@@ -152,5 +152,29 @@ impl Hold {
         ensures { after on_drained self.old.motion ≡ Some self.new.motion }
     {
         self.motion = Motion::Idle;
+    }
+
+    /// A line unlocks a machine that is in alarm.
+    pub fn on_unlock(&mut self)
+        requires { IsSome (after on_unlock self.old.motion) }
+        ensures { after on_unlock self.old.motion ≡ Some self.new.motion }
+    {
+        self.motion = Motion::Idle;
+    }
+
+    /// A reset has halted the machine: one that was moving is locked, and one in alarm stays so. Answers whether it was moving.
+    pub fn on_reset(&mut self) -> bool
+        ensures moving { result ≡ is_moving self.old.motion }
+        ensures motion { self.new.motion ≡ behind_reset self.old.motion }
+    {
+        let moving = matches!(
+            self.motion,
+            Motion::Run | Motion::Holding | Motion::Jog | Motion::Cancelling
+        );
+        self.motion = match self.motion {
+            Motion::Idle | Motion::Held => Motion::Idle,
+            _ => Motion::Alarm,
+        };
+        moving
     }
 }
