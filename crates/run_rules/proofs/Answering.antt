@@ -163,7 +163,7 @@ halts runs b kept o is one = if_alarm b o (answers_or_halts runs b kept o is) on
 -- ---- counts
 
 -- only answers are counted
-abbrev CountsAnswers : (Reply → Bool) → Type 0
+abbrev pub CountsAnswers : (Reply → Bool) → Type 0
 CountsAnswers p = (r : Reply) → is_answer r ≡ false → p r ≡ false
 
 one_none : (b : Bool) → b ≡ false → ◌≡◌ {A = ℕ} (cond b 1 0) 0
@@ -188,7 +188,7 @@ halted_counted p only b =
     none_counted p only (replies.Alarm soft_limit ∷ replies.Message messages.ResetToContinue ∷ []) ((refl, refl, refl), ((refl, refl, refl), tt))
     ∙ sym (one_none (p (replies.Alarm soft_limit)) (only (replies.Alarm soft_limit) refl))
 
-one_counted : (p : Reply → Bool) → CountsAnswers p → (b : Before) (o : Outcome) → AnswersOrHalts b o → count_by p (tells o.work) ≡ cond (p o.answer) 1 0
+pub one_counted : (p : Reply → Bool) → CountsAnswers p → (b : Before) (o : Outcome) → AnswersOrHalts b o → count_by p (tells o.work) ≡ cond (p o.answer) 1 0
 one_counted p only b o (inl once) = once_counted p only o once
 one_counted p only b o (inr is) = subst (λ (x : Outcome). count_by p (tells x.work) ≡ cond (p x.answer) 1 0) (sym is) (halted_counted p only b)
 
@@ -212,7 +212,7 @@ one_of_two true true e f = absurd cc
 one_of_two false y e f = absurd cc
 
 -- a line is answered, or raises an alarm
-one_each : (b : Before) (o : Outcome) → AnswersOrHalts b o → cond (is_answer o.answer) 1 0 + cond (is_limit o.answer) 1 0 ≡ 1
+pub one_each : (b : Before) (o : Outcome) → AnswersOrHalts b o → cond (is_answer o.answer) 1 0 + cond (is_limit o.answer) 1 0 ≡ 1
 one_each b o (inl once) = one_of_two (is_answer o.answer) (is_limit o.answer) once.one (no_alarm o.answer once.one)
 one_each b o (inr is) = subst (λ (x : Outcome). cond (is_answer x.answer) 1 0 + cond (is_limit x.answer) 1 0 ≡ 1) (sym is) refl
 
@@ -268,7 +268,7 @@ errors_are runs b lines ps last f = whole_counted is_error errors_are_answers (b
 abbrev pub NoByes : List Reply → Type 0
 NoByes rs = AllByRecursion (λ (r : Reply). r ≡ replies.Bye → ⊥) rs
 
-no_byes_on : (xs ys : List Reply) → NoByes xs → NoByes ys → NoByes (xs ++ ys)
+pub no_byes_on : (xs ys : List Reply) → NoByes xs → NoByes ys → NoByes (xs ++ ys)
 no_byes_on [] ys a b = b
 no_byes_on (x ∷ xs) ys a b = (a.0, no_byes_on xs ys a.1 b)
 
@@ -285,7 +285,7 @@ body_no_bye (r ∷ rs) none = (not_bye r none.0.1, body_no_bye rs none.1)
 line_no_bye : (o : Outcome) → AnswersOnce o → NoByes (tells o.work)
 line_no_bye o once = subst NoByes (sym once.told) (no_byes_on once.body (o.answer ∷ []) (body_no_bye once.body once.none) (no_answer o.answer once.one, tt))
 
-begun_no_bye : (b : Before) (o : Outcome) → AnswersOrHalts b o → NoByes (tells o.work)
+pub begun_no_bye : (b : Before) (o : Outcome) → AnswersOrHalts b o → NoByes (tells o.work)
 begun_no_bye b o (inl once) = line_no_bye o once
 begun_no_bye b o (inr is) = subst (λ (x : Outcome). NoByes (tells x.work)) (sym is) ((λ e. absurd cc), ((λ e. absurd cc), tt))
 
@@ -311,7 +311,7 @@ body_greets_none [] none = refl
 body_greets_none (r ∷ rs) none =
     let a = sum_by-cons (λ x. cond (is_banner x) 1 0) r rs in let m = body_greets_none rs none.1 in let z = one_none (is_banner r) none.0.2 in omega arith
 
-begun_greets_none : (b : Before) (o : Outcome) → AnswersOrHalts b o → count_by is_banner (tells o.work) ≡ 0
+pub begun_greets_none : (b : Before) (o : Outcome) → AnswersOrHalts b o → count_by is_banner (tells o.work) ≡ 0
 begun_greets_none b o (inl once) =
     let e = ap (count_by is_banner) once.told in
     let a = sum_by-append (λ x. cond (is_banner x) 1 0) once.body (o.answer ∷ []) in

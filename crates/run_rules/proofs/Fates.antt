@@ -26,12 +26,13 @@ use Rattle.system_lines.specs.declared.Command.{Command}
 use Rattle.system_lines.specs.declared.Command.TheVariants.{ListSettings, ListModes, ListOffsets, Unlock, Set}
 use Rattle.run_rules.specs.declared.State.{State}
 use Rattle.run_rules.specs.declared.machine.Machine.{Machine}
-use Rattle.run_rules.specs.declared.machine.Machine.TheVariants.{Runs, Jogs}
+use Rattle.run_rules.specs.declared.machine.Machine.TheVariants.{Runs, Jogs, Locked}
 use Rattle.run_rules.specs.Work.{Outcome, telling, asking, asks}
 use Rattle.run_rules.specs.Work.Task.{tell}
 use Rattle.run_rules.specs.Asks.{planned}
 use Rattle.run_rules.specs.Outcomes.{Before, refused, told, jogging, fault_number, ByVerdict, ByWords, BySetting, ByCommand, ByJogMove, ByJog, ByServed, most_kept, begins_with_dollar}
-use Rattle.run_rules.specs.Finding.{refuses, locks, ByDollarFound, ByCodeFound, ByKeptFound, Found, IsJogWork, Fate}
+use Rattle.status_report.specs.declared.Message.TheVariants.{Unlocked}
+use Rattle.run_rules.specs.Finding.{refuses, locks, begins_jog, is_unlocked_by, ByDollarFound, ByCodeFound, ByKeptFound, Found, IsJogWork, Fate}
 use Rattle.run_rules.specs.Finding.Fate.{coded, a_jog, halted, neither}
 use Rattle.run_rules.proofs.Each.{by_either}
 
@@ -46,12 +47,12 @@ told_fate : (m : Machine) (next : State) (body : List Reply) (kept : List ℕ) (
 told_fate m next body kept o is =
     neither (ap (λ (x : Outcome). x.kind) is) (ap (λ (x : Outcome). x.settles) is) (ap (λ (x : Outcome). asks x.work) is ∙ telling_asks (body ++ replies.Ok ∷ []))
 
-verdict_fate : (m : Machine) (b : Before) (v : Verdict) (kept : List ℕ) (o : Outcome) → (m ≡ Jogs → ⊥) → ByVerdict b v o → Fate m kept o
+verdict_fate : (m : Machine) (b : Before) (v : Verdict) (kept : List ℕ) (o : Outcome) → (m ≡ Jogs → ⊥) × (m ≡ Locked → ⊥) → ByVerdict b v o → Fate m kept o
 verdict_fate m b (Accept a) kept o other is = coded (ap (λ (x : Outcome). x.kind) is) other
 verdict_fate m b (Refuse code) kept o other is = refused_fate m b code.0 kept o is
 verdict_fate m b Limit kept o other is = halted (ap (λ (x : Outcome). x.kind) is) other (ap (λ (x : Outcome). x.settles) is) (ap (λ (x : Outcome). x.work) is)
 
-words_fate : (m : Machine) (b : Before) (r : Result (List Word) WordFault) (kept : List ℕ) (o : Outcome) → (m ≡ Jogs → ⊥) → ByWords b r o → Fate m kept o
+words_fate : (m : Machine) (b : Before) (r : Result (List Word) WordFault) (kept : List ℕ) (o : Outcome) → (m ≡ Jogs → ⊥) × (m ≡ Locked → ⊥) → ByWords b r o → Fate m kept o
 words_fate m b (Err fault) kept o other is = refused_fate m b (fault_number fault) kept o is
 words_fate m b (Ok ws) kept o other is = verdict_fate m b (verdict b.state.parser b.state.settings ws) kept o other is
 
@@ -73,14 +74,14 @@ one_move : (none : Bool) (m : PlannedMove) → IsJogWork (asking (if none then [
 one_move true m = inl refl
 one_move false m = inr (m, refl)
 
-move_fate : (m : Machine) (b : Before) (r : Result JogMove Code) (kept : List ℕ) (o : Outcome) → (m ≡ Runs → ⊥) → begins_with_dollar kept ≡ true → ByJogMove b r o → Fate m kept o
+move_fate : (m : Machine) (b : Before) (r : Result JogMove Code) (kept : List ℕ) (o : Outcome) → (m ≡ Runs → ⊥) × (m ≡ Locked → ⊥) → begins_with_dollar kept ≡ true → ByJogMove b r o → Fate m kept o
 move_fate m b (Err code) kept o other dollar is = refused_fate m b code.0 kept o is
 move_fate m b (Ok jog) kept o other dollar is =
     let work : o.work ≡ (jogging b jog).work = ap (λ (x : Outcome). x.work) is in
     a_jog (ap (λ (x : Outcome). x.kind) is) other dollar (ap (λ (x : Outcome). x.settles) is)
     (rw work (one_move (events_of jog.mv == 0) (planned b.number b.state.settings jog.mv jog.rate)))
 
-jog_fate : (m : Machine) (b : Before) (r : Result (List Word) WordFault) (kept : List ℕ) (o : Outcome) → (m ≡ Runs → ⊥) → begins_with_dollar kept ≡ true → ByJog b r o → Fate m kept o
+jog_fate : (m : Machine) (b : Before) (r : Result (List Word) WordFault) (kept : List ℕ) (o : Outcome) → (m ≡ Runs → ⊥) × (m ≡ Locked → ⊥) → begins_with_dollar kept ≡ true → ByJog b r o → Fate m kept o
 jog_fate m b (Err fault) kept o other dollar is = refused_fate m b (fault_number fault) kept o is
 jog_fate m b (Ok ws) kept o other dollar is = move_fate m b (jog_of b.state.parser b.state.settings ws) kept o other dollar is
 
@@ -89,8 +90,15 @@ jogs_yield : (kind : DollarKind) → is_jog kind ≡ true → refused_in_run kin
 jogs_yield kinds.Jog is = refl
 jogs_yield _ is = absurd cc
 
-not_running : (m : Machine) (kind : DollarKind) → refuses m kind ≡ false → is_jog kind ≡ true → m ≡ Runs → ⊥
-not_running m kind served jogs runs = absurd (let e = sym (jogs_yield kind jogs) ∙ sym (ap (λ (n : Machine). refuses n kind) runs) ∙ served in cc)
+jogs_lock : (kind : DollarKind) → is_jog kind ≡ true → begins_jog kind ≡ true
+jogs_lock kinds.Jog is = refl
+jogs_lock _ is = absurd cc
+
+not_running : (m : Machine) (kind : DollarKind) → refuses m kind ≡ false → is_jog kind ≡ true → (m ≡ Runs → ⊥) × (m ≡ Locked → ⊥)
+not_running m kind served jogs = (
+  λ runs. absurd (let e = sym (jogs_yield kind jogs) ∙ sym (ap (λ (n : Machine). refuses n kind) runs) ∙ served in cc),
+  λ locked. absurd (let e = sym (jogs_lock kind jogs) ∙ sym (ap (λ (n : Machine). refuses n kind) locked) ∙ served in cc),
+)
 
 served_fate : (m : Machine) (b : Before) (kept : List ℕ) (o : Outcome) → refuses m (kind_of kept) ≡ false → begins_with_dollar kept ≡ true → ByServed b kept o → Fate m kept o
 served_fate m b kept o served dollar is = by_either (is_jog (kind_of kept)) _ _ _
@@ -98,10 +106,11 @@ served_fate m b kept o served dollar is = by_either (is_jog (kind_of kept)) _ _ 
     (λ other. command_fate m b (command_of kept) kept o) is
 
 dollar_fate : (m : Machine) (b : Before) (kept : List ℕ) (o : Outcome) → begins_with_dollar kept ≡ true → ByDollarFound m b kept o → Fate m kept o
-dollar_fate m b kept o dollar is = by_either (refuses m (kind_of kept)) _ _ _ (λ e. refused_fate m b 8 kept o) (λ served. served_fate m b kept o served dollar) is
+dollar_fate m b kept o dollar is = by_either (refuses m (kind_of kept)) _ _ _ (λ e. refused_fate m b 8 kept o)
+    (λ served. by_either (is_unlocked_by m (kind_of kept)) _ _ _ (λ e. told_fate m b.state (replies.Message Unlocked ∷ []) kept o) (λ e. served_fate m b kept o served dollar)) is
 
-unlocked : (m : Machine) → locks m ≡ false → m ≡ Jogs → ⊥
-unlocked m free jogs = absurd (let e = sym (ap locks jogs) ∙ free in cc)
+unlocked : (m : Machine) → locks m ≡ false → (m ≡ Jogs → ⊥) × (m ≡ Locked → ⊥)
+unlocked m free = (λ jogs. absurd (let e = sym (ap locks jogs) ∙ free in cc), λ locked. absurd (let e = sym (ap locks locked) ∙ free in cc))
 
 code_fate : (m : Machine) (b : Before) (kept : List ℕ) (o : Outcome) → ByCodeFound m b kept o → Fate m kept o
 code_fate m b kept o is = by_either (locks m) _ _ _ (λ e. refused_fate m b 9 kept o) (λ free. words_fate m b (words_of kept) kept o (unlocked m free)) is

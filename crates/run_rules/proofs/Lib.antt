@@ -10,5 +10,6 @@ pub mod Answering
 pub mod Jogging
 pub mod Finding
 pub mod Fates
+pub mod Locking
 pub mod Causes
 pub mod Alarms

@@ -5,6 +5,7 @@ pub mod Work
 pub mod Asks
 pub mod Outcomes
 pub mod Limits
+pub mod Locking
 pub mod Finding
 pub mod Cuts
 pub mod Told

@@ -20,11 +20,13 @@ ghost use Rattle.run_rules.specs.Told.{replies_in, limits_in};
 ghost use Rattle.run_rules.specs.Outcomes.{Before, Becomes, IsCut, IsLocked, limited, Passed, Follows, NeverFall, start, at_place, became_of, cuts_of, refused, executed, jogging, motion_error, begins_with_dollar, has_cause, most_kept, after};
 ghost use Rattle.run_rules.specs.Outcomes.Passed.{a_line, a_cut};
 ghost use Rattle.run_rules.specs.Finding.{Found, Fate};
+ghost use Rattle.run_rules.specs.Locking.{BecomesLocked, BecomesIn, FollowsFrom, locked_behind};
+ghost use Rattle.run_rules.specs.Work.Kind.{of_none};
 ghost use Rattle.run_rules.specs.Limits.{IsBeyond};
 ghost use Rattle.units.specs.Truths.{one_if};
 ghost use Rattle.status_report.specs.declared.Message.TheVariants.{ResetToContinue};
 ghost use Rattle.run_rules.specs.declared.machine.Machine.{Machine as AnyMachine};
-ghost use Rattle.run_rules.specs.declared.machine.Machine.TheVariants.{Stands, Runs, Jogs};
+ghost use Rattle.run_rules.specs.declared.machine.Machine.TheVariants.{Stands, Runs, Jogs, Locked};
 ghost use Rattle.run_rules.specs.Lines.{CutsInto, lines_of, whole_lines};
 
 /// A run of lines, none of which has raised an alarm, goes on by each line and what becomes of it, and by a cut, after
@@ -127,12 +129,32 @@ pub fn lines_find_a_machine_that_stands()
 {}
 
 /// `Found` says what becomes of a line: if the machine stands, as if none were found in motion; if it runs or jogs, as
-/// if one may be. While it runs a line of G-code must have moved since the last line that settles, and the last that
+/// if one may be; and if it is locked, as `BecomesLocked` says. While it runs a line of G-code must have moved since the last line that settles, and the last that
 /// was accepted of G-code and jogs be no jog. In a jog it must be one, and it or one of those lines must have moved.
 pub fn found_lines_become()
     ensures standing { (b : Before) (kept : List ℕ) (o : Outcome) → Found Stands b kept o → Becomes false b kept o }
     ensures running { (b : Before) (kept : List ℕ) (o : Outcome) → b.moved ≡ true → b.jogged ≡ false → Found Runs b kept o → Becomes true b kept o }
     ensures jogging { (b : Before) (kept : List ℕ) (o : Outcome) → (b.moved || b.jog_moved) ≡ true → b.jogged ≡ true → Found Jogs b kept o → Becomes true b kept o }
+    ensures locked { (b : Before) (kept : List ℕ) (o : Outcome) → Found Locked b kept o → BecomesLocked b kept o }
+{}
+
+/// While the machine is locked a line asks nothing of it, raises no alarm, and changes neither parser nor position: a line of G-code is
+/// refused with 9, and one that begins with `$J` with 8; so no jog is cut. Lines that are passed so, from where the
+/// machine is locked until one unlocks it, are passed one by one, each with one answer, and number the lines; and where it
+/// is not locked they follow as ever.
+pub fn locked_machines_stand()
+    ensures asks { (b : Before) (kept : List ℕ) (o : Outcome) → BecomesLocked b kept o → (asks o.work ≡ []) × (o.kind ≡ of_none) × (o.settles ≡ false) }
+    ensures place { (b : Before) (kept : List ℕ) (o : Outcome) → BecomesLocked b kept o → o.next.parser ≡ b.state.parser }
+    ensures alarm { (b : Before) (kept : List ℕ) (o : Outcome) → BecomesLocked b kept o → is_limit o.answer ≡ false }
+    ensures code { (b : Before) (c : ℕ) (cs : List ℕ) (o : Outcome) → length (c ∷ cs) ≤ most_kept → begins_with_dollar (c ∷ cs) ≡ false → BecomesLocked b (c ∷ cs) o → o ≡ refused b 9 }
+    ensures free { (runs : Bool) (b last : Before) (lines : List (List ℕ)) (passed : List Passed) → FollowsFrom false runs b lines passed last → Follows runs b lines passed last }
+    ensures follows { (runs : Bool) (b last : Before) (lines : List (List ℕ)) (passed : List Passed) → Follows runs b lines passed last → FollowsFrom false runs b lines passed last }
+    ensures goes_on { (locked runs : Bool) (first last : Before) (lines : List (List ℕ)) (passed : List Passed) (line : List ℕ) (outcome : Outcome) →
+        FollowsFrom locked runs first lines passed last → last.alarmed ≡ false → BecomesIn (locked_behind locked lines) runs last line outcome →
+        FollowsFrom locked runs first (lines ++ line ∷ []) (passed ++ a_line outcome ∷ []) (after last outcome) }
+    ensures cut { (locked runs : Bool) (first last : Before) (lines : List (List ℕ)) (passed : List Passed) (k : ℕ) (at : Steps3) →
+        FollowsFrom locked runs first lines passed last → IsCut runs last k →
+        FollowsFrom locked runs first lines (passed ++ a_cut k at ∷ []) (at_place at last) }
 {}
 
 /// Errors 8 and 9 come from the motion alone. A line is refused with 8 only if it begins with `$` and lines before it

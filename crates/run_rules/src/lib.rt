@@ -14,7 +14,7 @@ pub use laws::{
     alarms_end_the_run, errors_for_the_motion_have_causes, found_lines_become,
     jogs_change_the_place_alone, lines_are_of_a_kind, lines_are_pieces,
     lines_find_a_machine_that_stands, lines_have_one_answer, lines_pause_once, lines_settle,
-    run_goes_on, runs_are_determined,
+    locked_machines_stand, run_goes_on, runs_are_determined,
 };
 pub use machine::Machine;
 use modal_state::{Parser, SpindleMode};

@@ -1,13 +1,10 @@
 -- Where a course stands between two lines, and what becomes of a line there.
-use Rattle.std.specs.Prelude.{◌≡◌, ℕ, ◌+◌, Bool, true, false, not, ◌&&◌, ◌||◌, List, [], ◌∷◌, length, nat_eq, nat_lt}
-use Rattle.system_lines.specs.Commands.{kind_of, command_of}
-use Rattle.system_lines.specs.declared.Kind.{Kind as DollarKind}
-use Rattle.system_lines.specs.declared.Kind.TheVariants as kinds
-use Rattle.status_report.specs.declared.Message.TheVariants.{Unlocked}
-use Rattle.status_report.specs.declared.Reply.TheVariants.{Message}
+use Rattle.std.specs.Prelude.{◌≡◌, ℕ, ◌+◌, Bool, true, false, not, ◌&&◌, ◌||◌, List}
+use Rattle.system_lines.specs.Commands.{kind_of}
 use Rattle.run_rules.specs.declared.State.{State}
 use Rattle.run_rules.specs.Work.{Outcome, has_moves}
-use Rattle.run_rules.specs.Outcomes.{Before, Becomes, ByCommand, start, after, told, refused, either, most_kept}
+use Rattle.run_rules.specs.Outcomes.{Before, Becomes, start, after, either}
+pub use Rattle.run_rules.specs.Locking.{is_unlock, unlocked, ByLockedDollar, ByLockedKept, BecomesLocked}
 
 -- What the lines before leave: of their epoch, what `Before` has; whether the machine is locked; whether the part has a
 -- line yet; and whether its last line was begun and has no answer, which only a reset leaves so.
@@ -20,35 +17,6 @@ pub record Point : Type 0 where
 -- before the first line
 abbrev pub opening : State → Point
 opening first = record { before = start first; locked = false; has_line = false; unanswered = false }
-
--- ---- while the machine is locked
-
--- `$X` unlocks it, and says so
-abbrev pub is_unlock : DollarKind → Bool
-is_unlock kinds.Unlock = true
-is_unlock _ = false
-
-abbrev pub unlocked : Before → Outcome
-unlocked b = told b.state (Message Unlocked ∷ [])
-
--- A line that begins with `$` is served as ever, but one that begins with `$J` is refused with 8.
-abbrev pub ByLockedDollar : Before → List ℕ → DollarKind → Outcome → Type 0
-ByLockedDollar b kept kinds.Unlock o = o ≡ unlocked b
-ByLockedDollar b kept kinds.Jog o = o ≡ refused b 8
-ByLockedDollar b kept kinds.BareJog o = o ≡ refused b 8
-ByLockedDollar b kept kinds.ListSettings o = ByCommand b (command_of kept) o
-ByLockedDollar b kept kinds.ListModes o = ByCommand b (command_of kept) o
-ByLockedDollar b kept kinds.ListOffsets o = ByCommand b (command_of kept) o
-ByLockedDollar b kept kinds.Setting o = ByCommand b (command_of kept) o
-ByLockedDollar b kept kinds.Other o = ByCommand b (command_of kept) o
-
--- an empty line is accepted, and a line of G-code refused with 9
-abbrev pub ByLockedKept : Before → List ℕ → Outcome → Type 0
-ByLockedKept b [] o = o ≡ told b.state []
-ByLockedKept b (c ∷ cs) o = either (nat_eq c 36) (ByLockedDollar b (c ∷ cs) (kind_of (c ∷ cs)) o) (o ≡ refused b 9)
-
-abbrev pub BecomesLocked : Before → List ℕ → Outcome → Type 0
-BecomesLocked b kept o = either (nat_lt most_kept (length kept)) (o ≡ refused b 11) (ByLockedKept b kept o)
 
 -- ---- at a point
 
