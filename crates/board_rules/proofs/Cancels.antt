@@ -14,6 +14,7 @@ use Rattle.step_line.specs.declared.Mark.TheVariants as marks
 use Rattle.step_line.specs.declared.Piece.{Piece}
 use Rattle.step_line.specs.declared.Piece.TheVariants as pieces
 use Rattle.step_line.specs.Finishing.{ticks_together}
+use Rattle.board_rules.specs.Ports.{asks_reset}
 use Rattle.board_rules.specs.Ports.PortStep.{took_exec, published}
 use Rattle.board_rules.specs.Steps.{Journal, port_log, given_of, published_of, known_of, motion_of}
 use Rattle.board_rules.specs.Steps.Step.{at_port, paused, became, cut}
@@ -131,15 +132,19 @@ no_word call other (inr (word, queued, is, asked)) = absurd (other word queued i
 abbrev Due : Opening → Journal → Type 0
 Due first h = cancels_of first h + count_by asks_cancel (unobeyed_of h) ≤ cancel_words_in (port_log h)
 
+kept_or_dropped : (r : Bool) (words : List Exec) (word : Exec) → count_by asks_cancel (cond r words (words ++ word ∷ [])) ≤ count_by asks_cancel words + cond (asks_cancel word) 1 0
+kept_or_dropped true words word = omega arith
+kept_or_dropped false words word = let e = sum_by_push (λ w. cond (asks_cancel w) 1 0) words word in omega arith
+
 on_taken : (first : Opening) (h : Journal) (word : Exec) (asked : Bool) → asks_cancel word ≡ asked → Due first h → Due first (at_port (took_exec word) ∷ h)
 on_taken first h word true is due =
-    let push = sum_by_push (λ w. cond (asks_cancel w) 1 0) (unobeyed_of h) word in
+    let push = kept_or_dropped (asks_reset word) (unobeyed_of h) word in
     let one : cond (asks_cancel word) 1 0 ≡ 1 = ap (λ (b : Bool). cond {A = ℕ} b 1 0) is in
     let words : cancel_words_in (port_log (at_port (took_exec word) ∷ h)) ≡ cancel_words_in (port_log h) + 1 =
     ap (λ (b : Bool). cond b (cancel_words_in (port_log h) + 1) (cancel_words_in (port_log h))) is in
     omega (arith, push, one, words, due)
 on_taken first h word false is due =
-    let push = sum_by_push (λ w. cond (asks_cancel w) 1 0) (unobeyed_of h) word in
+    let push = kept_or_dropped (asks_reset word) (unobeyed_of h) word in
     let none : cond (asks_cancel word) 1 0 ≡ 0 = ap (λ (b : Bool). cond {A = ℕ} b 1 0) is in
     let words : cancel_words_in (port_log (at_port (took_exec word) ∷ h)) ≡ cancel_words_in (port_log h) =
     ap (λ (b : Bool). cond b (cancel_words_in (port_log h) + 1) (cancel_words_in (port_log h))) is in

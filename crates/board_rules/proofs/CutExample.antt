@@ -102,7 +102,7 @@ abbrev k10 : State → State → PlannedMove → PlannedMove → Segment → Jou
 k10 next last m n s = words_taken no_changes nothing motions.Jog (k9 next last m n s)
 
 d10 : (first next last : State) (m n : PlannedMove) (s : Segment) → AreTwoJogs first next last m n s → Conducted (first_opening first) (k10 next last m n s)
-d10 first next last m n s p = may_take_words (first_opening first) no_changes nothing motions.Jog (k9 next last m n s) (d9 first next last m n s p) refl refl refl refl refl refl (λ e. absurd cc)
+d10 first next last m n s p = may_take_words (first_opening first) no_changes nothing motions.Jog (k9 next last m n s) (d9 first next last m n s p) refl refl refl refl refl refl refl (λ e. absurd cc)
 
 abbrev k11 : State → State → PlannedMove → PlannedMove → Segment → Journal
 k11 next last m n s = at_port (loaded 0) ∷ k10 next last m n s

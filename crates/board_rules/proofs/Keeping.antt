@@ -1,5 +1,5 @@
 -- What a board that keeps to its rules has told, planned and published.
-use Rattle.std.proofs.Common.{◌≡◌, ℕ, ◌⊎◌, Bool, true, false, ◌||◌, inl, inr, List, [], ◌∷◌, ◌++◌, drop, sym, refl, ap, ◌∙◌, subst, append_assoc, append-nil}
+use Rattle.std.proofs.Common.{◌≡◌, ℕ, ◌⊎◌, Bool, true, false, cond, ◌||◌, inl, inr, List, [], ◌∷◌, ◌++◌, drop, sym, refl, ap, ◌∙◌, subst, append_assoc, append-nil}
 use Rattle.std.specs.List.{list_any, flat_map}
 use Rattle.std.proofs.lemmas.List.Folds.{list_any-append}
 use Rattle.std.proofs.lemmas.Grind.{flat_map-append}
@@ -30,7 +30,7 @@ use Rattle.run_rules.specs.Work.{Task, Outcome, tells, told_by}
 use Rattle.run_rules.specs.Work.Task.{ask, pause, normal, finish, halt}
 use Rattle.run_rules.specs.Told.{replies_after}
 use Rattle.board_rules.proofs.Opening.{tells_telling}
-use Rattle.board_rules.specs.Ports.{PortStep, has_changes, PortLog, holds_at, has_held_in, cancels_at, has_cancelled_in, has_slowed_in, changes_at, has_changed_in}
+use Rattle.board_rules.specs.Ports.{PortStep, asks_reset, has_changes, PortLog, holds_at, has_held_in, cancels_at, has_cancelled_in, has_slowed_in, changes_at, has_changed_in}
 use Rattle.board_rules.specs.Ports.PortStep.{answered, reported, took_exec, took_ovr, published}
 use Rattle.board_rules.specs.Steps.{Journal, port_log, has_limited, outcomes_of, answered_of, actions_of, planned_of, given_of, published_of, hand_of, plan_of, motion_of, left_of, left_by, behind, closed_tells}
 use Rattle.board_rules.specs.Steps.Step.{at_port, began, did, made_end, evened, paused, became, cut, halted, closing}
@@ -80,21 +80,21 @@ one_more true held asked was is = or_right asked held (was refl)
 one_more false held true was is = refl
 one_more false held false was is = absurd cc
 
+one_taken : (p : Exec → Bool) (reset : Bool) (words : List Exec) (held : Bool) (word : Exec) → (list_any p words ≡ true → held ≡ true) → list_any p (cond reset words (words ++ word ∷ [])) ≡ true → (p word || held) ≡ true
+one_taken p true words held word was is = or_right (p word) held (was is)
+one_taken p false words held word was is = one_more (list_any p words) held (p word) was (sym (list_any-append p words (word ∷ [])) ∙ is)
+
 -- a word that is not obeyed yet was taken
 unobeyed_taken : (h : Journal) → list_any asks_hold (unobeyed_of h) ≡ true → has_held_in (port_log h) ≡ true
 unobeyed_taken [] is = absurd cc
-unobeyed_taken (at_port (took_exec word) ∷ h) is =
-    one_more (list_any asks_hold (unobeyed_of h)) (has_held_in (port_log h)) (asks_hold word) (unobeyed_taken h)
-    (sym (list_any-append asks_hold (unobeyed_of h) (word ∷ [])) ∙ is)
+unobeyed_taken (at_port (took_exec word) ∷ h) is = one_taken asks_hold (asks_reset word) (unobeyed_of h) (has_held_in (port_log h)) word (unobeyed_taken h) is
 unobeyed_taken (became (on_exec word queued) m ∷ h) is = unobeyed_taken h (drop_any asks_hold (unobeyed_of h) is)
 unobeyed_taken (_ ∷ h) is = unobeyed_taken h is
 
 -- so was one that asks for a cancel
 uncancelled_taken : (h : Journal) → list_any asks_cancel (unobeyed_of h) ≡ true → has_cancelled_in (port_log h) ≡ true
 uncancelled_taken [] is = absurd cc
-uncancelled_taken (at_port (took_exec word) ∷ h) is =
-    one_more (list_any asks_cancel (unobeyed_of h)) (has_cancelled_in (port_log h)) (asks_cancel word) (uncancelled_taken h)
-    (sym (list_any-append asks_cancel (unobeyed_of h) (word ∷ [])) ∙ is)
+uncancelled_taken (at_port (took_exec word) ∷ h) is = one_taken asks_cancel (asks_reset word) (unobeyed_of h) (has_cancelled_in (port_log h)) word (uncancelled_taken h) is
 uncancelled_taken (became (on_exec word queued) m ∷ h) is = uncancelled_taken h (drop_any asks_cancel (unobeyed_of h) is)
 uncancelled_taken (_ ∷ h) is = uncancelled_taken h is
 

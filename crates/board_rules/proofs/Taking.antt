@@ -1,5 +1,5 @@
 -- Between two turns a board may take its words of flags, where the motion does not slow down, and the bytes of a line.
-use Rattle.std.proofs.Common.{◌≡◌, ◌⊎◌, inl, inr, ℕ, ◌+◌, ◌^◌, ◌<◌, Bool, true, false, ◌&&◌, ◌||◌, not, List, [], ◌∷◌, ◌++◌, drop, length, nat_eq, nat_le, refl, sym, ap, ◌∙◌, arith}
+use Rattle.std.proofs.Common.{◌≡◌, ◌⊎◌, inl, inr, ℕ, ◌+◌, ◌^◌, ◌<◌, Bool, true, false, cond, ◌&&◌, ◌||◌, not, List, [], ◌∷◌, ◌++◌, drop, length, nat_eq, nat_le, refl, sym, ap, ◌∙◌, arith}
 use Rattle.std.specs.Prelude.{Some}
 use Rattle.std.specs.List.{list_any}
 use Rattle.std.proofs.lemmas.List.{length-append}
@@ -11,7 +11,7 @@ use Rattle.feed_hold.specs.Motions.{asks, hold_byte, cancel_byte, start_byte, af
 use Rattle.feed_hold.specs.Motions.Call.{on_exec}
 use Rattle.outside.specs.declared.Turn.TheVariants.{Did}
 use Rattle.board_rules.specs.Openings.{Opening}
-use Rattle.board_rules.specs.Ports.{asks_report, has_changes}
+use Rattle.board_rules.specs.Ports.{asks_report, asks_reset, has_changes}
 use Rattle.board_rules.specs.Ports.PortStep.{took, took_exec, took_ovr}
 use Rattle.line_geom.specs.declared.Block.{Block}
 use Rattle.planner_runs.specs.Runs.{most_blocks}
@@ -21,7 +21,7 @@ use Rattle.step_line.specs.Asking.Asked.{a_move}
 use Rattle.step_line.specs.declared.planned_move.PlannedMove.{PlannedMove}
 use Rattle.board_rules.specs.Steps.{Journal, taken_of, plan_of, motion_of, left_of}
 use Rattle.board_rules.specs.Steps.Step.{at_port, became, turned}
-use Rattle.board_rules.specs.Turns.{this_turn, owes_report, has_blocks, has_jogged, has_jog_to_start, is_full, is_limited, waits_to_jog, starts_cycle}
+use Rattle.board_rules.specs.Turns.{this_turn, unobeyed_of, owes_report, has_blocks, has_jogged, has_jog_to_start, is_full, is_limited, waits_to_jog, starts_cycle}
 use Rattle.board_rules.specs.Conduct.{Conducted, IsNextTask, AreWaiting, MayPoll, MayTake}
 use Rattle.board_rules.proofs.Turning.{few_tries, obeyed_between}
 use Rattle.board_rules.proofs.Causing.{jog_starts}
@@ -108,16 +108,18 @@ limited_word word queued m is =
 not_slowing : {A : Type 0} (m : Motion) → is_stopping m ≡ true → is_stopping m ≡ false → A
 not_slowing m slows still = absurd (let e = sym slows ∙ still in cc)
 
-pub may_request : (first : Opening) (word : Exec) (m : Motion) (h : Journal) → Conducted first h → this_turn h ≡ [] → owes_report h ≡ false → asks_report word ≡ false
+pub may_request : (first : Opening) (word : Exec) (m : Motion) (h : Journal) → Conducted first h → this_turn h ≡ [] → owes_report h ≡ false → asks_report word ≡ false → asks_reset word ≡ false
     → is_stopping (motion_of first h) ≡ false → after_word word (queued_in h) (motion_of first h) ≡ m → StoodBefore first m h → Conducted first (requested word m h)
-may_request first word m h c between unowed asks_none still becomes stood =
-    let none = obeyed_between first h c between unowed in (
+may_request first word m h c between unowed asks_none no_reset still becomes stood =
+    let none = obeyed_between first h c between unowed in
+    let taken : unobeyed_of (at_port (took_exec word) ∷ h) ≡ word ∷ [] = ap (λ (r : Bool). cond r (unobeyed_of h) (unobeyed_of h ++ word ∷ [])) no_reset ∙ ap (λ (words : List Exec). words ++ word ∷ []) none in (
+
       record {
         once = rw between (omega arith);
         adds = λ move next. adds first h move c between next;
         starts = λ w. still_starts first h c between (stood w.stands) w.blocks;
         tries = few_tries first h c between;
-        obeyed = λ e. ap (λ (words : List Exec). drop 1 (words ++ word ∷ [])) none;
+        obeyed = λ e. ap (λ (words : List Exec). drop 1 words) taken;
         changed = rw between refl;
         halts = λ next. sym (ap is_limited becomes) ∙ limited_word word (queued_in h) (motion_of first h) (halts_between first h c between next);
       },
@@ -125,7 +127,7 @@ may_request first word m h c between unowed asks_none still becomes stood =
         (
           ap Some becomes,
           record {
-            next = ap (λ (words : List Exec). words ++ word ∷ []) none;
+            next = taken;
             reported = λ owed. not_owed (asks_report word) (owes_report h) asks_none unowed owed;
             blocks = refl;
             looked = λ s. not_slowing (motion_of first h) s.slows still;
@@ -156,7 +158,7 @@ may_take_no_change first word h none c between = (
 abbrev pub words_taken : Ovr → Exec → Motion → Journal → Journal
 words_taken changes word m h = requested word m (unchanged changes h)
 
-pub may_take_words : (first : Opening) (changes : Ovr) (word : Exec) (m : Motion) (h : Journal) → Conducted first h → this_turn h ≡ [] → has_changes changes ≡ false → owes_report h ≡ false → asks_report word ≡ false
+pub may_take_words : (first : Opening) (changes : Ovr) (word : Exec) (m : Motion) (h : Journal) → Conducted first h → this_turn h ≡ [] → has_changes changes ≡ false → owes_report h ≡ false → asks_report word ≡ false → asks_reset word ≡ false
     → is_stopping (motion_of first h) ≡ false → after_word word (queued_in h) (motion_of first h) ≡ m → StoodBefore first m h → Conducted first (words_taken changes word m h)
 may_take_words first changes word m h c between none = may_request first word m (unchanged changes h) (may_take_no_change first changes h none c between) refl
 

@@ -1,5 +1,5 @@
 -- What a board does turn by turn.
-use Rattle.std.proofs.Common.{◌≡◌, ℕ, ◌+◌, ◌≤◌, List, [], ◌∷◌, ◌++◌, Bool, false, cond, length, drop, refl, ap, arith}
+use Rattle.std.proofs.Common.{◌≡◌, ℕ, ◌+◌, ◌≤◌, List, [], ◌∷◌, ◌++◌, Bool, true, false, not, cond, length, drop, refl, ap, arith}
 use Rattle.std.specs.List.{count_by}
 use Rattle.std.proofs.lemmas.List.{length-append}
 use Rattle.std.proofs.lemmas.List.Sums.{sum_by-cons}
@@ -10,6 +10,7 @@ use Rattle.outside.specs.declared.Turn.{Turn}
 use Rattle.outside.specs.declared.Turn.TheVariants.{Did, Wait, Done}
 use Rattle.board_rules.specs.Openings.{Opening}
 use Rattle.board_rules.specs.Ports.PortStep.{took, found_empty, found_closed, found_free, found_mark, answered, reported, no_reply_room, took_exec, took_ovr, published, no_piece_room, loaded}
+use Rattle.board_rules.specs.Ports.{asks_reset}
 use Rattle.board_rules.specs.Steps.{Step, Journal}
 use Rattle.board_rules.specs.Steps.Step.{at_port, began, did, made_end, evened, paused, became, cut, halted, closing, turned}
 use Rattle.board_rules.specs.Turns.{this_turn, publishing, ends_turn, takes_requests, obeys, unobeyed_of, owes_report, takes_changes, replans, tries_of, most_tries}
@@ -112,11 +113,20 @@ on_neither s h words no_one none obeyed =
     let right = ap (λ (is : Bool). cond {A = ℕ} is 1 0) none in
     omega arith
 
-on_taken : (word : Exec) (h : Journal) (words : List Exec) → Obeys h words → Obeys (at_port (took_exec word) ∷ h) (words ++ word ∷ [])
-on_taken word h words obeyed =
+-- one that asks for a reset is none that is obeyed
+on_taken : (word : Exec) (h : Journal) (words : List Exec) (r : Bool) → asks_reset word ≡ r → Obeys h words → Obeys (at_port (took_exec word) ∷ h) (cond (asks_reset word) words (words ++ word ∷ []))
+on_taken word h words true is obeyed =
     let a = sum_by-cons (λ x. cond (obeys x) 1 0) (at_port (took_exec word)) h in
     let b = sum_by-cons (λ x. cond (takes_requests x) 1 0) (at_port (took_exec word)) h in
-    let e = length-append words (word ∷ []) in
+    let t = ap (λ (r : Bool). cond {A = ℕ} (not r) 1 0) is in
+    let e = ap (λ (r : Bool). length (cond r words (words ++ word ∷ []))) is in
+    omega arith
+on_taken word h words false is obeyed =
+    let a = sum_by-cons (λ x. cond (obeys x) 1 0) (at_port (took_exec word)) h in
+    let b = sum_by-cons (λ x. cond (takes_requests x) 1 0) (at_port (took_exec word)) h in
+    let t = ap (λ (r : Bool). cond {A = ℕ} (not r) 1 0) is in
+    let e = ap (λ (r : Bool). length (cond r words (words ++ word ∷ []))) is in
+    let d = length-append words (word ∷ []) in
     omega arith
 
 on_obeyed : (word : Exec) (queued : Bool) (m : Motion) (h : Journal) (words : List Exec) → words ≡ word ∷ [] → Obeys h words
@@ -131,14 +141,18 @@ on_obeyed word queued m h words next obeyed =
 -- each word of requests that was taken is obeyed once, or not yet
 pub obeyed_each : (first : Opening) (h : Journal) → Conducted first h → count_by obeys h + length (unobeyed_of h) ≡ count_by takes_requests h
 obeyed_each first [] c = refl
-obeyed_each first (at_port (took_exec word) ∷ h) c = on_taken word h (unobeyed_of h) (obeyed_each first h c.1)
+obeyed_each first (at_port (took_exec word) ∷ h) c = on_taken word h (unobeyed_of h) (asks_reset word) refl (obeyed_each first h c.1)
 obeyed_each first (became (on_exec word queued) m ∷ h) c = on_obeyed word queued m h (unobeyed_of h) c.0.1.next (obeyed_each first h c.1)
 obeyed_each first (s ∷ h) c = on_neither s h (unobeyed_of h) refl refl (obeyed_each first h c.1)
+
+few_words : (word : Exec) (words : List Exec) (r : Bool) → words ≡ [] → length (cond r words (words ++ word ∷ [])) ≤ 1
+few_words word words true none = let e = ap (λ (ws : List Exec). length ws) none in omega arith
+few_words word words false none = let e = ap (λ (ws : List Exec). length (ws ++ word ∷ [])) none in omega arith
 
 -- one at most is not obeyed
 pub one_unobeyed : (first : Opening) (h : Journal) → Conducted first h → length (unobeyed_of h) ≤ 1
 one_unobeyed first [] c = omega arith
-one_unobeyed first (at_port (took_exec word) ∷ h) c = let e = ap (λ (ws : List Exec). length (ws ++ word ∷ [])) c.0.obeyed in omega arith
+one_unobeyed first (at_port (took_exec word) ∷ h) c = few_words word (unobeyed_of h) (asks_reset word) c.0.obeyed
 one_unobeyed first (became (on_exec word queued) m ∷ h) c = let e = ap (λ (ws : List Exec). length (drop 1 ws)) c.0.1.next in omega arith
 one_unobeyed first (_ ∷ h) c = one_unobeyed first h c.1
 

@@ -40,7 +40,7 @@ use Rattle.step_line.specs.declared.planned_move.PlannedMove.{PlannedMove}
 use Rattle.step_line.specs.Finishing.{ticks_together}
 use Rattle.board_rules.specs.Openings.{Opening, IsGreeting, most_greetings}
 use Rattle.board_rules.specs.Ports.{PortStep, PortLog, asks_report, has_changes, MayBeDone, HasTakenFew, HasFewReports, LacksPieceRoom}
-use Rattle.board_rules.specs.Ports.PortStep.{took, found_empty, found_closed, answered, reported, no_reply_room, took_exec, took_ovr, published, no_piece_room, loaded, stored_stop, found_no_halt, found_halt}
+use Rattle.board_rules.specs.Ports.PortStep.{took, found_empty, found_closed, answered, reported, no_reply_room, found_mark, took_exec, took_ovr, published, no_piece_room, loaded, stored_stop, found_no_halt, found_halt}
 use Rattle.board_rules.specs.Cuts.{has_cut}
 use Rattle.board_rules.specs.Steps.{Step, Journal, port_log, has_closed, has_limited, published_of, outcomes_of, known_of, open_of, whole_of, before_of, left_of, closed_tells, given_of, hand_of, plan_of, motion_of, behind}
 use Rattle.board_rules.specs.Steps.Step.{at_port, began, did, made_end, evened, paused, became, cut, halted, closing, turned}
@@ -341,6 +341,7 @@ MayAtPort first (took_exec word) h = MayTakeRequests word h
 MayAtPort first (published p) h = IsInHand p h × IsTimely p h
 MayAtPort first (no_piece_room done) h = MayKeep done h
 MayAtPort first (loaded done) h = MayBeDone done (port_log h)
+MayAtPort first (found_mark number bytes) h = ⊥
 MayAtPort first stored_stop h = ⊥
 MayAtPort first found_no_halt h = ⊥
 MayAtPort first (found_halt done) h = ⊥

@@ -20,7 +20,7 @@ use Rattle.run_rules.specs.Work.Task.{ask, tell, pause, normal, finish, halt}
 use Rattle.run_rules.specs.Outcomes.{jogged_behind, begins_with_dollar}
 use Rattle.step_line.specs.Asking.Asked.{a_move, a_rest}
 use Rattle.board_rules.specs.Openings.{Opening}
-use Rattle.board_rules.specs.Ports.{PortStep, has_changes, owes_in}
+use Rattle.board_rules.specs.Ports.{PortStep, asks_reset, has_changes, owes_in}
 use Rattle.board_rules.specs.Ports.PortStep.{took, found_empty, found_closed, found_free, answered, reported, no_reply_room, took_exec, took_ovr, published, no_piece_room, loaded}
 use Rattle.board_rules.specs.Steps.{Step, Journal, port_log, open_of, whole_of, left_of, plan_of, motion_of}
 use Rattle.board_rules.specs.Steps.Step.{at_port, began, did, made_end, evened, paused, became, cut, halted, closing, turned}
@@ -102,12 +102,14 @@ loads _ = false
 
 -- ---- the words of flags
 
+-- a word of requests is taken that is to be obeyed
 abbrev pub takes_requests : Step → Bool
-takes_requests (at_port (took_exec word)) = true
+takes_requests (at_port (took_exec word)) = not (asks_reset word)
 takes_requests _ = false
 
+-- A word that asks for a reset is not obeyed: what else it asks of the motion is dropped.
 abbrev pub unobeyed_at : PortStep → List Exec → List Exec
-unobeyed_at (took_exec word) words = words ++ word ∷ []
+unobeyed_at (took_exec word) words = cond (asks_reset word) words (words ++ word ∷ [])
 unobeyed_at e words = words
 
 abbrev pub unobeyed_by : Call → List Exec → List Exec
