@@ -61,13 +61,13 @@ abbrev h12 : State → State → PlannedMove → Segment → Journal
 h12 first last m s = turned Did ∷ at_port (answered (Alarm 2)) ∷ halted ∷ h11 first last m s
 
 a12 : (first last : State) (m : PlannedMove) (s : Segment) → IsBeyondBehind first last m s → Conducted (first_opening first) (h12 first last m s)
-a12 first last m s p = (ends _ _ (λ w. elsewhere _ w.stands refl) refl refl refl refl refl refl, (record { next = refl; plain = refl; unowed = refl; empty = λ e. absurd cc }, (record { next = refl; alarm = refl; still = refl; empty = refl; done = refl }, a11 first last m s p)))
+a12 first last m s p = (ends _ _ (λ w. elsewhere _ w.stands refl) refl refl refl refl refl refl, (record { next = refl; plain = refl; unowed = refl; empty = λ e. absurd cc; unlocked = refl }, (record { next = refl; alarm = refl; still = refl; empty = refl; done = refl }, a11 first last m s p)))
 
 abbrev h13 : State → State → PlannedMove → Segment → Journal
 h13 first last m s = turned Did ∷ closing ∷ at_port (answered (Message ResetToContinue)) ∷ h12 first last m s
 
 a13 : (first last : State) (m : PlannedMove) (s : Segment) → IsBeyondBehind first last m s → Conducted (first_opening first) (h13 first last m s)
-a13 first last m s p = (ends _ _ (λ w. elsewhere _ w.stands refl) refl refl refl refl refl refl, (record { free = refl; going = refl; begun = refl; closed = inr refl }, (record { next = refl; plain = refl; unowed = refl; empty = λ e. absurd cc }, a12 first last m s p)))
+a13 first last m s p = (ends _ _ (λ w. elsewhere _ w.stands refl) refl refl refl refl refl refl, (record { free = refl; going = refl; begun = refl; closed = inr refl }, (record { next = refl; plain = refl; unowed = refl; empty = λ e. absurd cc; unlocked = refl }, a12 first last m s p)))
 
 abbrev h14 : State → State → PlannedMove → Segment → Journal
 h14 first last m s = turned Did ∷ at_port (published pieces.End) ∷ made_end ∷ h13 first last m s
@@ -79,7 +79,7 @@ abbrev h15 : State → State → PlannedMove → Segment → Journal
 h15 first last m s = turned Did ∷ at_port (answered Bye) ∷ h14 first last m s
 
 a15 : (first last : State) (m : PlannedMove) (s : Segment) → IsBeyondBehind first last m s → Conducted (first_opening first) (h15 first last m s)
-a15 first last m s p = (ends _ _ (λ w. elsewhere _ w.stands refl) refl refl refl refl refl refl, (record { next = refl; plain = refl; unowed = refl; empty = λ e. refl }, a14 first last m s p))
+a15 first last m s p = (ends _ _ (λ w. elsewhere _ w.stands refl) refl refl refl refl refl refl, (record { next = refl; plain = refl; unowed = refl; empty = λ e. refl; unlocked = refl }, a14 first last m s p))
 
 abbrev pub h16 : State → State → PlannedMove → Segment → Journal
 h16 first last m s = turned Done ∷ h15 first last m s

@@ -1,10 +1,10 @@
 -- Where a line has raised an alarm: the machine is to be halted, or was, and then it is only told, and the run is closed.
-use Rattle.std.proofs.Common.{◌≡◌, inl, inr, Bool, true, false, ℕ, List, [], ◌∷◌, drop, refl, sym, ap, ◌∙◌, subst, ◌⊎◌}
+use Rattle.std.proofs.Common.{◌≡◌, inl, inr, Bool, true, false, ℕ, List, [], ◌∷◌, drop, refl, sym, ap, ◌∙◌, subst, ◌⊎◌, Some}
 use Rattle.code_table.specs.declared.flags.Exec.{Exec}
 use Rattle.feed_hold.specs.declared.Motion.{Motion}
 use Rattle.feed_hold.specs.declared.Motion.TheVariants as motions
-use Rattle.feed_hold.specs.Motions.{Call}
-use Rattle.feed_hold.specs.Motions.Call.{on_exec, on_start, on_limit}
+use Rattle.feed_hold.specs.Motions.{Call, after}
+use Rattle.feed_hold.specs.Motions.Call.{on_exec, on_start, on_limit, on_unlock}
 use Rattle.feed_hold.proofs.Reaching.{StaysOrReaches, reached}
 use Rattle.overrides.specs.declared.Overrides.{Overrides}
 use Rattle.plan_rules.specs.Plans.{Planned}
@@ -14,7 +14,6 @@ use Rattle.planner_runs.specs.Runs.{IsAtRest, normal_overrides, cleared}
 use Rattle.board_rules.specs.Openings.{Opening}
 use Rattle.run_rules.specs.Work.{Task, Outcome, is_limit, halting_work, asks, telling}
 use Rattle.run_rules.specs.Work.Task.{ask, tell, pause, normal, finish, halt}
-use Rattle.run_rules.proofs.Answering.{halts}
 use Rattle.status_report.specs.declared.Reply.{Reply}
 use Rattle.step_line.specs.Asking.Asked.{a_move, a_mark, a_rest}
 use Rattle.step_line.specs.declared.Piece.{Piece}
@@ -23,11 +22,15 @@ use Rattle.board_rules.specs.Steps.{Step, Journal, has_limited, plan_of, motion_
 use Rattle.board_rules.specs.Steps.Step.{at_port, began, did, made_end, evened, paused, became, cut, halted, closing, turned}
 use Rattle.board_rules.specs.Steps as steps
 use Rattle.board_rules.specs.Cuts.{part_plan, has_halted}
-use Rattle.board_rules.specs.Turns.{halts_next, has_blocks, is_limited, begins_in}
-use Rattle.board_rules.specs.Conduct.{Conducted, Gives, IsNextTask, MayDo, MayHappen, MayStart, MayObey, MayOpen, IsLocked}
+use Rattle.board_rules.specs.Turns.{halts_next, has_blocks, is_limited, machine_in}
+use Rattle.board_rules.specs.Conduct.{Conducted, Gives, IsNextTask, MayDo, MayHappen, MayStart, MayObey, MayOpen, MayUnlock, IsLocked}
 use Rattle.board_rules.proofs.Opening.{opens_still}
 use Rattle.board_rules.proofs.Tasks.{none_taken, head_is}
-use Rattle.board_rules.proofs.Beginning.{caused, becomes_caused}
+use Rattle.board_rules.proofs.Beginning.{begun_halts}
+use Rattle.board_rules.proofs.Locking.{stays_alarm}
+use Rattle.run_rules.specs.Finding.{Found}
+use Rattle.run_rules.proofs.Finding.{becomes_locked}
+use Rattle.run_rules.proofs.Locking.{IsStill, locked_still}
 
 -- the journal tells whether a line has raised an alarm
 pub alarmed_is : (first : Opening) (h : Journal) → (before_of first h).alarmed ≡ has_limited h
@@ -117,16 +120,6 @@ on_did first h (Override o) ps may gives (locked a b f l p m) = locked a b f l (
 on_did first h Clear ps may gives st = absurd may
 on_did first h Reset ps may gives st = absurd may
 
-other_was : {A : Type 0} (was m : Motion) → was ≡ motions.Alarm → was ≡ m → is_limited m ≡ false → A
-other_was was m alarm is none = absurd (let e = sym (ap is_limited alarm) ∙ ap is_limited is ∙ none in cc)
-
--- a line is begun where no soft limit stops the machine
-begins_free : (m : Motion) → begins_in m ≡ true → is_limited m ≡ false
-begins_free motions.Idle begins = refl
-begins_free motions.Run begins = refl
-begins_free motions.Jog begins = refl
-begins_free m begins = absurd cc
-
 -- a cut drops no reply
 only_told : (ts : List Task) → only_tells ts ≡ true → only_tells (without_asks ts) ≡ true
 only_told [] is = refl
@@ -134,14 +127,25 @@ only_told (tell r ∷ ts) is = only_told ts is
 only_told (finish ∷ ts) is = only_told ts is
 only_told (_ ∷ ts) is = absurd cc
 
+all_told : (rs : List Reply) → only_tells (telling rs) ≡ true
+all_told [] = refl
+all_told (r ∷ rs) = all_told rs
+
+-- a line that finds the machine in alarm is only told
+pub still_locked : (first : Opening) (h : Journal) (o : Outcome) → Conducted first (began o ∷ h) → motion_of first h ≡ motions.Alarm → IsStill (before_of first h) o
+still_locked first h o c alarm =
+    locked_still (before_of first h) (open_of h) o (becomes_locked (before_of first h) (open_of h) o (subst (λ (m : Motion). Found (machine_in m) (before_of first h) (open_of h) o) alarm c.0.becomes))
+
 -- no line before has raised an alarm, and this one does, or it does not
 on_began : (first : Opening) (h : Journal) (o : Outcome) → Conducted first (began o ∷ h) → (one : Bool) → is_limit o.answer ≡ one → Stage first h → Stage first (began o ∷ h)
 on_began first h o c true is (calm a b m) =
-    to_halt is b (ap (λ (x : Outcome). x.work) (halts true (caused first h) (open_of h) o (becomes_caused first h o c.0) is))
+    to_halt is b (ap (λ (x : Outcome). x.work) (begun_halts first h o c.0 is))
 on_began first h o c false is (calm a b m) = calm is b m
 on_began first h o c one is (to_halt a b l) = opposite (has_limited h) a c.0.calm
 on_began first h o c one is (was_halted a b l p m) = opposite (has_limited h) a c.0.calm
-on_began first h o c one is (locked a b f l p m) = other_was (motion_of first h) (motion_of first h) m refl (begins_free (motion_of first h) c.0.begins)
+on_began first h o c one is (locked a b f l p m) =
+    let s = still_locked first h o c m in
+    locked s.calm b f (ap only_tells s.work ∙ all_told s.said) p m
 
 -- a limit is met only where a line has raised an alarm
 no_limit : {A : Type 0} (first : Opening) (h : Journal) (call : Call) → MayHappen first call h → has_limited h ≡ false → call ≡ on_limit → A
@@ -154,29 +158,26 @@ unlimited first h call motions.Alarm may none was (inr (inl (idle, is))) = no_li
 unlimited first h call motions.Alarm may none was (inr (inr (stops, is))) = absurd (let e = sym (ap is_limited stops) ∙ was in cc)
 unlimited first h call _ may none was (inr how) = refl
 
--- nothing changes the motion behind that
-stays_alarm : (call : Call) (was m : Motion) → was ≡ motions.Alarm → StaysOrReaches m call was → m ≡ motions.Alarm
-stays_alarm call was m alarm (inl same) = same ∙ alarm
-stays_alarm call was motions.Idle alarm (inr (inl (held, by))) = other_was was motions.Held alarm held refl
-stays_alarm call was motions.Idle alarm (inr (inr (inl (inl runs, is)))) = other_was was motions.Run alarm runs refl
-stays_alarm call was motions.Idle alarm (inr (inr (inl (inr jogs, is)))) = other_was was motions.Jog alarm jogs refl
-stays_alarm call was motions.Idle alarm (inr (inr (inr (cancelled, is)))) = other_was was motions.Cancelling alarm cancelled refl
-stays_alarm call was motions.Run alarm (inr (inl (inl idle, by))) = other_was was motions.Idle alarm idle refl
-stays_alarm call was motions.Run alarm (inr (inl (inr held, by))) = other_was was motions.Held alarm held refl
-stays_alarm call was motions.Run alarm (inr (inr (idle, is))) = other_was was motions.Idle alarm idle refl
-stays_alarm call was motions.Holding alarm (inr (runs, by)) = other_was was motions.Run alarm runs refl
-stays_alarm call was motions.Held alarm (inr (inl (idle, by))) = other_was was motions.Idle alarm idle refl
-stays_alarm call was motions.Held alarm (inr (inr (holds, is))) = other_was was motions.Holding alarm holds refl
-stays_alarm call was motions.Jog alarm (inr (idle, is)) = other_was was motions.Idle alarm idle refl
-stays_alarm call was motions.Cancelling alarm (inr (jogs, by)) = other_was was motions.Jog alarm jogs refl
-stays_alarm call was motions.Stopping alarm (inr (runs, is)) = other_was was motions.Run alarm runs refl
-stays_alarm call was motions.Alarm alarm (inr how) = refl
+-- nothing is unlocked behind an alarm
+still_limited : (first : Opening) (h : Journal) (call : Call) → MayHappen first call h → has_limited h ≡ true → call ≡ on_unlock → ⊥
+still_limited first h call may one is = let unlocks : MayHappen first on_unlock h = subst (λ (x : Call). MayHappen first x h) is may in opposite (has_limited h) one unlocks.calm
 
-on_call : (first : Opening) (h : Journal) (call : Call) (m : Motion) → MayHappen first call h → StaysOrReaches m call (motion_of first h) → Stage first h → Stage first (became call m ∷ h)
-on_call first h call m may how (calm a b was) = calm a b (unlimited first h call m may a was how)
-on_call first h call m may how (to_halt a b l) = to_halt a b l
-on_call first h call m may how (was_halted a b l p was) = was_halted a b l p (stays_alarm call (motion_of first h) m was how)
-on_call first h call m may how (locked a b f l p was) = locked a b f l p (stays_alarm call (motion_of first h) m was how)
+on_call : (first : Opening) (h : Journal) (call : Call) (m : Motion) → (call ≡ on_unlock → ⊥) → MayHappen first call h → StaysOrReaches m call (motion_of first h) → Stage first h → Stage first (became call m ∷ h)
+on_call first h call m other may how (calm a b was) = calm a b (unlimited first h call m may a was how)
+on_call first h call m other may how (to_halt a b l) = to_halt a b l
+on_call first h call m other may how (was_halted a b l p was) = was_halted a b l p (stays_alarm call (motion_of first h) m other was how)
+on_call first h call m other may how (locked a b f l p was) = locked a b f l p (stays_alarm call (motion_of first h) m other was how)
+
+-- an unlock
+unlock_leads : (was m : Motion) → after on_unlock was ≡ Some m → (was ≡ motions.Alarm) × (is_limited m ≡ false)
+unlock_leads motions.Alarm m e = (refl, let f : motions.Idle ≡ m = cc in sym (ap is_limited f))
+unlock_leads was m e = absurd cc
+
+on_unlocked : (first : Opening) (h : Journal) (m : Motion) → MayUnlock first h → after on_unlock (motion_of first h) ≡ Some m → Stage first h → Stage first (became on_unlock m ∷ h)
+on_unlocked first h m may then (calm a b was) = calm a b (unlock_leads (motion_of first h) m then).1
+on_unlocked first h m may then (to_halt a b l) = opposite (has_limited h) a may.calm
+on_unlocked first h m may then (was_halted a b l p was) = opposite (has_limited h) a may.calm
+on_unlocked first h m may then (locked a b f l p was) = calm a b (unlock_leads (motion_of first h) m then).1
 
 on_halt : (first : Opening) (h : Journal) → IsNextTask first halt h → motion_of first h ≡ motions.Alarm → Stage first h → Stage first (halted ∷ h)
 on_halt first h next alarm (calm a b m) = absurd (let e = sym (ap is_limited alarm) ∙ m in cc)
@@ -215,7 +216,8 @@ stage_is first (did a ps ∷ h) c = on_did first h a ps c.0.0 c.0.1 (stage_is fi
 stage_is first (made_end ∷ h) c = on_task first h made_end finish c.0.next (λ e. absurd cc) refl refl refl refl refl (stage_is first h c.1)
 stage_is first (evened ∷ h) c = on_calm first h evened normal c.0.rests.next (λ e. absurd cc) refl refl refl (λ x. x) (stage_is first h c.1)
 stage_is first (paused ∷ h) c = on_calm first h paused pause c.0.rests.next (λ e. absurd cc) refl refl refl (λ x. refl) (stage_is first h c.1)
-stage_is first (became call m ∷ h) c = on_call first h call m c.0.1 (reached call (motion_of first h) m c.0.0) (stage_is first h c.1)
+stage_is first (became on_unlock m ∷ h) c = on_unlocked first h m c.0.1 c.0.0 (stage_is first h c.1)
+stage_is first (became call m ∷ h) c = on_call first h call m (λ e. absurd cc) c.0.1 (reached call (motion_of first h) m c.0.0) (stage_is first h c.1)
 stage_is first (cut k ∷ h) c = on_cut first h k c.0.calm (stage_is first h c.1)
 stage_is first (halted ∷ h) c = on_halt first h c.0.next c.0.alarm (stage_is first h c.1)
 stage_is first (closing ∷ h) c = on_closing first h c.0.free (stage_is first h c.1)

@@ -1,6 +1,6 @@
 -- Each line has one answer, or raises an alarm, so that a line is answered only where it was taken to its LF.
 use Rattle.std.proofs.Common.{◌≡◌, ℕ, ◌+◌, ◌<◌, List, [], ◌∷◌, ◌++◌, true, false, Bool, cond, length, drop, refl, sym, ap, ◌∙◌, arith}
-use Rattle.std.specs.List.{AllByRecursion, count_by}
+use Rattle.std.specs.List.{AllByRecursion, count_by, flat_map}
 use Rattle.std.proofs.lemmas.List.Sums.{sum_by-append}
 use Rattle.status_report.specs.declared.Reply.{Reply}
 use Rattle.status_report.specs.declared.Reply.TheVariants as replies
@@ -9,22 +9,19 @@ use Rattle.status_report.proofs.Answered.{lfs_first, lfs_on, answers_first, answ
 use Rattle.run_rules.specs.Lines.{HasNoLf, ended}
 use Rattle.run_rules.specs.Work.{Task, tells}
 use Rattle.run_rules.specs.Work.Task.{tell}
-use Rattle.run_rules.specs.Told.{replies_after, replies_in, limits_in}
-use Rattle.run_rules.proofs.Alarms.{alarms_from_start}
-use Rattle.run_rules.proofs.Answering.{lines_answered}
+use Rattle.run_rules.specs.Told.{replies_after, limits_in}
+use Rattle.board_rules.proofs.Lined.{as_many, limits_are, all_answer, all_answered}
 use Rattle.units.specs.Truths.{one_if}
 use Rattle.run_rules.specs.Work.{Outcome}
-use Rattle.board_rules.specs.Openings.{Opening, before_first}
-use Rattle.board_rules.specs.Cuts.{passed_of}
-use Rattle.board_rules.specs.Steps.{Journal, taken_of, has_limited, answered_of, whole_of, open_of, lines_of, outcomes_of, before_of, left_of, closed_tells}
+use Rattle.board_rules.specs.Openings.{Opening}
+use Rattle.board_rules.specs.Steps.{Journal, taken_of, has_limited, answered_of, whole_of, open_of, lines_of, outcomes_of, left_of, closed_tells}
 use Rattle.board_rules.specs.Steps.Step.{closing}
 use Rattle.board_rules.specs.Conduct.{Conducted, IsNextTask}
 use Rattle.board_rules.specs.Whole.{AreLines}
 use Rattle.board_rules.proofs.Opening.{greeted_answers, opened}
-use Rattle.board_rules.proofs.Alarms.{alarmed_is}
 use Rattle.board_rules.proofs.Plain.{answers_without}
 use Rattle.board_rules.proofs.Keeping.{told_is}
-use Rattle.board_rules.proofs.Lines.{bytes_are, lines_follow, became_is}
+use Rattle.board_rules.proofs.Lines.{bytes_are}
 
 -- closing a run tells no answer, and no Banner
 pub closing_none : (p : Reply → Bool) → p replies.Bye ≡ false → (h : Journal) → count_by p (closed_tells h) ≡ 0
@@ -56,20 +53,17 @@ lfs_of_lines taken lines raw false is =
 
 -- as many alarms as the journal tells
 pub alarms_are : (first : Opening) (h : Journal) → Conducted first h → limits_in (outcomes_of h) ≡ one_if (has_limited h)
-alarms_are first h c =
-    ap limits_in (sym (became_is first h))
-    ∙ alarms_from_start true (before_first first) (before_of first h) (lines_of h) (passed_of first h) refl (lines_follow first h c)
-    ∙ ap one_if (alarmed_is first h)
+alarms_are = limits_are
 
 -- what was answered, what is still to be answered, the line that raised an alarm, and the line that is taken and not begun, are the
 -- lines taken
 pub answers_are : (first : Opening) (h : Journal) → Conducted first h
     → answers_in (answered_of h) + answers_in (tells (left_of first h)) + one_if (has_limited h) + cond (whole_of h) 1 0 ≡ lfs_in (taken_of h)
 answers_are first h c =
-    let each = lines_answered true (before_first first) (lines_of h) (passed_of first h) (before_of first h) (lines_follow first h c) in
-    let same_lines = ap (λ (os : List Outcome). answers_in (replies_in os)) (became_is first h) in
+    let each = all_answered (outcomes_of h) (all_answer first h c) in
+    let many = as_many h in
+    let banner = answers_first replies.Banner (flat_map (λ (o : Outcome). tells o.work) (outcomes_of h)) in
     let greeted = greeted_answers first.tells (outcomes_of h) (opened first h c).greets in
-    let same_alarms = ap limits_in (became_is first h) in
     let alarms = alarms_are first h c in
     let lfs = lfs_of_lines (taken_of h) (lines_of h) (open_of h) (whole_of h) (bytes_are first h c) in
     let t = ap answers_in (told_is first h c) in

@@ -1,9 +1,11 @@
 -- What a line that is begun is, by how it finds the machine.
-use Rattle.std.proofs.Common.{◌≡◌, ℕ, Bool, true, false, cond, ◌&&◌, ◌||◌, List, [], ◌∷◌, refl, sym, ap, ◌∙◌}
+use Rattle.std.proofs.Common.{◌≡◌, ◌⊎◌, inl, inr, ℕ, Bool, true, false, cond, ◌&&◌, ◌||◌, List, [], ◌∷◌, refl, sym, ap, ◌∙◌, subst}
+use Rattle.run_rules.specs.Locking.{unlocked}
 use Rattle.run_rules.specs.declared.machine.Machine.{Machine}
-use Rattle.run_rules.specs.Work.{Outcome, Kind, is_code, is_jog, has_moves}
+use Rattle.run_rules.specs.Work.{Outcome, Kind, is_code, is_jog, is_limit, has_moves}
+use Rattle.run_rules.proofs.Answering.{halts}
 use Rattle.run_rules.specs.Work.Kind.{of_code, of_jog, of_none}
-use Rattle.run_rules.specs.Outcomes.{Before, Becomes, after, jogged_behind}
+use Rattle.run_rules.specs.Outcomes.{Before, Becomes, limited, after, jogged_behind}
 use Rattle.run_rules.specs.Finding.{Fate}
 use Rattle.run_rules.specs.Finding.{Fate as fates}
 use Rattle.run_rules.proofs.Finding.{with_cause, found_caused}
@@ -21,10 +23,23 @@ fate_now first h o may = fate (machine_in (motion_of first h)) (before_of first 
 
 -- the same number and state, with a cause for the machine as it is found: the outcome goes by the number and the state alone
 abbrev pub caused : Opening → Journal → Before
-caused first h = with_cause (machine_in (motion_of first h)) (before_of first h)
+caused first h = with_cause (machine_in (motion_of first h)) (open_of h) (before_of first h)
 
-pub becomes_caused : (first : Opening) (h : Journal) (o : Outcome) → MayBegin first o h → Becomes true (caused first h) (open_of h) o
+-- or it unlocks the machine
+pub becomes_caused : (first : Opening) (h : Journal) (o : Outcome) → MayBegin first o h → (o ≡ unlocked (before_of first h)) ⊎ Becomes true (caused first h) (open_of h) o
 becomes_caused first h o may = found_caused (machine_in (motion_of first h)) (before_of first h) (open_of h) o may.becomes
+
+by_cause : (b was : Before) (kept : List ℕ) (o : Outcome) (P : Outcome → Type 0) → P (unlocked b) → ((x : Outcome) → Becomes true was kept x → P x) → (o ≡ unlocked b) ⊎ Becomes true was kept o → P o
+by_cause b was kept o P unlocks becomes (inl is) = subst P (sym is) unlocks
+by_cause b was kept o P unlocks becomes (inr is) = becomes o is
+
+-- what holds of an unlock, and of what becomes of a line by its cause, holds of a line that is begun
+pub of_begun : (first : Opening) (h : Journal) (o : Outcome) (P : Outcome → Type 0) → MayBegin first o h → P (unlocked (before_of first h)) → ((x : Outcome) → Becomes true (caused first h) (open_of h) x → P x) → P o
+of_begun first h o P may unlocks becomes = by_cause (before_of first h) (caused first h) (open_of h) o P unlocks becomes (becomes_caused first h o may)
+
+-- one that raises an alarm is stopped by a soft limit
+pub begun_halts : (first : Opening) (h : Journal) (o : Outcome) → MayBegin first o h → is_limit o.answer ≡ true → o ≡ limited (caused first h)
+begun_halts first h o may one = of_begun first h o (λ (x : Outcome). is_limit x.answer ≡ true → x ≡ limited (caused first h)) may (λ e. absurd cc) (halts true (caused first h) (open_of h)) one
 
 -- the journal tells whether the last is a jog
 pub jogged_is : (first : Opening) (h : Journal) → (before_of first h).jogged ≡ has_jogged h

@@ -34,6 +34,8 @@ use Rattle.status_report.specs.Lists.{setting_replies, offset_replies}
 use Rattle.step_line.specs.Asking.{Asked}
 use Rattle.step_line.specs.Asking.Asked.{a_move, a_mark, a_rest}
 use Rattle.step_line.specs.Counting.{events_of}
+use Rattle.status_report.specs.declared.Message.TheVariants.{Unlocked}
+use Rattle.run_rules.specs.Locking.{unlocked}
 use Rattle.run_rules.specs.declared.State.{State}
 use Rattle.run_rules.specs.Work.{Task, Outcome, asks, tells, telling, told_by}
 use Rattle.run_rules.specs.Work as work
@@ -269,3 +271,7 @@ modest runs b kept o is =
       limits = λ beyond. record { ticks = omega arith; told = omega arith };
     } in
     holds_by_cause runs b kept IsModest each o is
+
+-- and a line that unlocks the machine tells two replies
+pub unlock_modest : (b : Before) → IsModest (unlocked b)
+unlock_modest b = told_modest b.state (replies.Message Unlocked ∷ []) (omega arith)

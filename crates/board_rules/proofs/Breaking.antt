@@ -11,21 +11,20 @@ use Rattle.step_line.specs.Ordering.{ComesNext, InTurn}
 use Rattle.step_line.proofs.Finished.{together_both}
 use Rattle.planner_runs.specs.Runs.{fresh_plan, most_blocks}
 use Rattle.run_rules.specs.Told.{replies_after}
-use Rattle.run_rules.specs.Work.{Outcome, tells}
-use Rattle.run_rules.proofs.Answering.{NoByes, none_is_bye}
-use Rattle.board_rules.specs.Openings.{Opening, before_first}
+use Rattle.run_rules.specs.Work.{tells}
+use Rattle.run_rules.proofs.Answering.{NoByes}
+use Rattle.board_rules.specs.Openings.{Opening}
 use Rattle.board_rules.proofs.LinkSteps.{same_answered}
 use Rattle.board_rules.specs.Ports.{PortStep, PortLog, answered_in, published_in, MayAnswer, MayPublish}
 use Rattle.board_rules.specs.Ports.PortStep.{answered, no_reply_room, published, no_piece_room}
-use Rattle.board_rules.specs.Cuts.{passed_of}
-use Rattle.board_rules.specs.Steps.{Journal, port_log, published_of, answered_of, given_of, planned_of, hand_of, plan_of, actions_of, left_of, closed_tells, outcomes_of, lines_of, before_of}
+use Rattle.board_rules.specs.Steps.{Journal, port_log, published_of, answered_of, given_of, planned_of, hand_of, plan_of, actions_of, left_of, closed_tells, outcomes_of}
 use Rattle.board_rules.specs.Steps.Step.{at_port, turned}
 use Rattle.board_rules.specs.Conduct.{Conducted, IsFinished}
 use Rattle.board_rules.specs.Breaking.{is_end, first_ending, ending_of, EndsRun}
 use Rattle.board_rules.specs.Breaking.Ending.{publishes_end, tells_bye, over}
 use Rattle.board_rules.proofs.Opening.{greeted_no_bye, opened}
 use Rattle.board_rules.proofs.Keeping.{run_is, hand_is, told_is}
-use Rattle.board_rules.proofs.Lines.{lines_follow, became_is}
+use Rattle.board_rules.proofs.Lined.{all_answer, all_no_bye}
 use Rattle.board_rules.proofs.Closing.{At, going, to_finish, to_tell, phase_is}
 use Rattle.board_rules.proofs.Closing as phases
 use Rattle.board_rules.proofs.Ending.{NoEnds, no_ends_back, planned_no_end, not_ended, published_in_turn}
@@ -155,7 +154,7 @@ unsaid first h c unfinished = sym (bye_plain (answered_of h)) ∙ bye_among (wit
   where
     none : NoByes (replies_after first.tells (outcomes_of h))
     none = greeted_no_bye first.tells (outcomes_of h) (opened first h c).greets
-        (subst (λ (os : List Outcome). NoByes (flat_map (λ (o : Outcome). tells o.work) os)) (became_is first h) (none_is_bye true (before_first first) (lines_of h) (passed_of first h) (before_of first h) (lines_follow first h c)).1)
+        (all_no_bye (outcomes_of h) (all_answer first h c))
 
     last : tells (left_of first h) ≡ replies.Bye ∷ [] → closed_tells h ≡ replies.Bye ∷ [] → NoByes (without_reports (answered_of h))
     last left closed =

@@ -1,26 +1,28 @@
 -- The lines before caused the motion: a run is of G-code that moves, and a jog of a jog.
-use Rattle.std.proofs.Common.{◌≡◌, inl, inr, Bool, true, false, cond, ◌&&◌, ◌||◌, List, [], ◌∷◌, refl, sym, ap, ◌∙◌}
+use Rattle.std.proofs.Common.{◌≡◌, inl, inr, Bool, true, false, cond, ◌&&◌, ◌||◌, List, [], ◌∷◌, refl, sym, ap, ◌∙◌, subst}
 use Rattle.std.specs.List.{list_any}
 use Rattle.feed_hold.specs.declared.Motion.{Motion}
 use Rattle.feed_hold.specs.declared.Motion.TheVariants as motions
 use Rattle.line_geom.specs.declared.Block.{Block}
 use Rattle.board_rules.specs.Openings.{Opening}
-use Rattle.run_rules.specs.declared.machine.Machine.TheVariants.{Runs, Jogs}
+use Rattle.run_rules.specs.declared.machine.Machine.TheVariants.{Runs, Jogs, Locked}
 use Rattle.run_rules.specs.Work.{Outcome, Kind, is_code, has_moves, asks}
 use Rattle.run_rules.specs.Work.Kind.{of_none}
 use Rattle.run_rules.specs.Work.Task.{tell, pause, normal, halt}
-use Rattle.run_rules.specs.Outcomes.{Becomes, jogged_behind}
+use Rattle.run_rules.specs.Outcomes.{jogged_behind}
+use Rattle.run_rules.specs.Locking.{BecomesIn}
 use Rattle.run_rules.specs.Finding.{Fate}
 use Rattle.run_rules.specs.Finding.{Fate as fates}
 use Rattle.run_rules.proofs.Finding.{IsCaused, found_becomes}
 use Rattle.board_rules.specs.Ports.PortStep.{answered}
 use Rattle.board_rules.specs.Steps.{Journal, plan_of, motion_of, left_of, open_of, before_of, closed_tells}
 use Rattle.board_rules.specs.Steps.Step.{at_port, began, did, made_end, evened, paused, became, cut, halted, closing, turned}
-use Rattle.board_rules.specs.Turns.{this_turn, found_none, is_full, awaits_motion, has_blocks, has_jogged, machine_in, begins_in, is_going, starts_cycle}
+use Rattle.board_rules.specs.Turns.{this_turn, found_none, is_full, awaits_motion, has_blocks, has_jogged, machine_in, begins_in, is_going, is_locked, starts_cycle}
 use Rattle.board_rules.specs.Conduct.{Conducted}
 use Rattle.board_rules.specs.Whole.{comes_to_rest}
 use Rattle.board_rules.proofs.Tasks.{none_closed}
 use Rattle.board_rules.proofs.Beginning.{fate_now, jogged_is}
+use Rattle.board_rules.proofs.Locking.{begins_unless, finds_locked}
 use Rattle.board_rules.proofs.Dropping.{none_moves}
 use Rattle.board_rules.proofs.Jogging.{run_is_code, jog_is_last, cancel_is_jog}
 use Rattle.board_rules.proofs.Quieting.{has_moved}
@@ -61,12 +63,12 @@ stands_there first h o c is motions.Run e begins other = absurd (let f = sym (ru
 stands_there first h o c is motions.Jog e begins other = absurd (other refl)
 stands_there first h o c is _ e begins other = absurd cc
 
-code_behind_jog : (first : Opening) (h : Journal) (o : Outcome) → Conducted first (began o ∷ h) → has_jogged h ≡ true → (machine_in (motion_of first h) ≡ Jogs → ⊥) → has_moves o.work ≡ false → Rested first (began o ∷ h)
+code_behind_jog : (first : Opening) (h : Journal) (o : Outcome) → Conducted first (began o ∷ h) → has_jogged h ≡ true → (machine_in (motion_of first h) ≡ Jogs → ⊥) × (machine_in (motion_of first h) ≡ Locked → ⊥) → has_moves o.work ≡ false → Rested first (began o ∷ h)
 code_behind_jog first h o c is other none =
-    let idle = stands_there first h o c is (motion_of first h) refl c.0.begins other in
+    let idle = stands_there first h o c is (motion_of first h) refl (begins_unless first h o c other.1) other.0 in
     inr (record { blocks = none_queued first h o c idle is; still = ap stands idle; moves = none })
 
-code_begun : (first : Opening) (h : Journal) (o : Outcome) → Conducted first (began o ∷ h) → (other : machine_in (motion_of first h) ≡ Jogs → ⊥) → (j s m : Bool) → has_jogged h ≡ j → o.settles ≡ s → has_moves o.work ≡ m
+code_begun : (first : Opening) (h : Journal) (o : Outcome) → Conducted first (began o ∷ h) → (other : (machine_in (motion_of first h) ≡ Jogs → ⊥) × (machine_in (motion_of first h) ≡ Locked → ⊥)) → (j s m : Bool) → has_jogged h ≡ j → o.settles ≡ s → has_moves o.work ≡ m
     → cond s false (m || (before_of first h).moved) ≡ false → (has_jogged h ≡ false → (before_of first h).moved ≡ false → Rested first h) → Rested first (began o ∷ h)
 code_begun first h o c other false s m jogs settles moves still rested =
     rested_began first h o c (before_of first h).moved s m settles moves still (λ before. rested jogs before)
@@ -140,5 +142,7 @@ caused_is first h o c = record {
   some = λ e. has_moved first h c.1 c.0.going c.0.free (λ drained. absurd (let goes = sym (ap is_going (jogs_in (motion_of first h) e)) ∙ c.0.idle drained in cc));
 }
 
-pub becomes_now : (first : Opening) (h : Journal) (o : Outcome) → Conducted first (began o ∷ h) → Becomes true (before_of first h) (open_of h) o
-becomes_now first h o c = found_becomes (machine_in (motion_of first h)) (before_of first h) (open_of h) o (caused_is first h o c) c.0.becomes
+pub becomes_now : (first : Opening) (h : Journal) (o : Outcome) → Conducted first (began o ∷ h) → BecomesIn (is_locked first h) true (before_of first h) (open_of h) o
+becomes_now first h o c =
+    subst (λ (t : Bool). BecomesIn t true (before_of first h) (open_of h) o) (finds_locked first h o c)
+    (found_becomes (machine_in (motion_of first h)) (before_of first h) (open_of h) o (caused_is first h o c) c.0.becomes)

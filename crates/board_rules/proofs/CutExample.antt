@@ -156,7 +156,7 @@ abbrev k19 : State → State → PlannedMove → PlannedMove → Segment → Jou
 k19 next last m n s = turned Did ∷ at_port (answered Ok) ∷ k18 next last m n s
 
 d19 : (first next last : State) (m n : PlannedMove) (s : Segment) → AreTwoJogs first next last m n s → Conducted (first_opening first) (k19 next last m n s)
-d19 first next last m n s p = (ends _ _ (λ w. elsewhere _ w.stands refl) refl refl refl refl refl refl, (record { next = refl; plain = refl; unowed = refl; empty = λ e. absurd cc }, d18 first next last m n s p))
+d19 first next last m n s p = (ends _ _ (λ w. elsewhere _ w.stands refl) refl refl refl refl refl refl, (record { next = refl; plain = refl; unowed = refl; empty = λ e. absurd cc; unlocked = refl }, d18 first next last m n s p))
 
 abbrev k20 : State → State → PlannedMove → PlannedMove → Segment → Journal
 k20 next last m n s = at_port (loaded (all_ticks s + 1)) ∷ k19 next last m n s

@@ -20,7 +20,7 @@ use Rattle.board_rules.specs.Ports.PortStep.{answered, published, loaded, found_
 use Rattle.board_rules.specs.Steps.{Journal, published_of, known_of, open_of, left_of, left_by, without_asks, hand_of, plan_of}
 use Rattle.board_rules.specs.Steps.Step.{at_port, began, did, made_end, evened, paused, became, cut, halted, closing, turned}
 use Rattle.board_rules.specs.Conduct.{Conducted, Gives, MayDo, IsStopped, IsTimely, ticks_published}
-use Rattle.board_rules.proofs.Beginning.{caused, becomes_caused}
+use Rattle.board_rules.proofs.Beginning.{caused, of_begun}
 use Rattle.board_rules.proofs.Keeping.{hand_is}
 use Rattle.board_rules.proofs.Unstopped.{done_within}
 use Rattle.planner_runs.specs.Runs.{marks_cut}
@@ -69,7 +69,7 @@ no_cuts : (first : Opening) (h : Journal) → Conducted first h → NoCuts (left
 no_cuts first [] c = cuts_told first.tells
 no_cuts first (at_port (answered r) ∷ h) c = cuts_behind (left_of first h) (no_cuts first h c.1)
 no_cuts first (at_port e ∷ h) c = no_cuts first h c.1
-no_cuts first (began o ∷ h) c = line_cuts true (caused first h) (open_of h) o (becomes_caused first h o c.0)
+no_cuts first (began o ∷ h) c = of_begun first h o (λ (x : Outcome). NoCuts x.work) c.0 tt (line_cuts true (caused first h) (open_of h))
 no_cuts first (did a ps ∷ h) c = cuts_by a (left_of first h) (no_cuts first h c.1)
 no_cuts first (became call m ∷ h) c = no_cuts first h c.1
 no_cuts first (cut k ∷ h) c = cuts_dropped (left_of first h)

@@ -131,7 +131,7 @@ abbrev j1 : Settings → Journal
 j1 s = turned Did ∷ at_port (answered Banner) ∷ j0 s
 
 c1 : (s : Settings) → Conducted (first_opening (first_state s)) (j1 s)
-c1 s = (ends _ _ (λ w. untrue w.blocks) refl refl refl refl refl refl, (record { next = refl; plain = refl; unowed = refl; empty = λ e. absurd cc }, c0 s))
+c1 s = (ends _ _ (λ w. untrue w.blocks) refl refl refl refl refl refl, (record { next = refl; plain = refl; unowed = refl; empty = λ e. absurd cc; unlocked = refl }, c0 s))
 
 abbrev j2 : Settings → Journal
 j2 s = line_taken (77 ∷ 56 ∷ []) (j1 s)
@@ -215,7 +215,7 @@ abbrev j15 : Settings → Journal
 j15 s = turned Did ∷ at_port (answered Ok) ∷ j14 s
 
 c15 : (s : Settings) → Conducted (first_opening (first_state s)) (j15 s)
-c15 s = (ends _ _ (λ w. untrue w.blocks) refl refl refl refl refl refl, (record { next = refl; plain = refl; unowed = refl; empty = λ e. absurd cc }, c14 s))
+c15 s = (ends _ _ (λ w. untrue w.blocks) refl refl refl refl refl refl, (record { next = refl; plain = refl; unowed = refl; empty = λ e. absurd cc; unlocked = refl }, c14 s))
 
 abbrev j16 : Settings → Journal
 j16 s = at_port found_empty ∷ j15 s
@@ -251,7 +251,7 @@ abbrev j21 : Settings → Journal
 j21 s = turned Did ∷ at_port (answered Bye) ∷ j20 s
 
 c21 : (s : Settings) → Conducted (first_opening (first_state s)) (j21 s)
-c21 s = (ends _ _ (λ w. untrue w.blocks) refl refl refl refl refl refl, (record { next = refl; plain = refl; unowed = refl; empty = λ e. refl }, c20 s))
+c21 s = (ends _ _ (λ w. untrue w.blocks) refl refl refl refl refl refl, (record { next = refl; plain = refl; unowed = refl; empty = λ e. refl; unlocked = refl }, c20 s))
 
 abbrev j22 : Settings → Journal
 j22 s = turned Done ∷ j21 s

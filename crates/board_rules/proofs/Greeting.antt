@@ -12,28 +12,26 @@ use Rattle.serial_ring.specs.Logs.{has_greeted, answers_since, lfs_since}
 use Rattle.run_rules.specs.Told.{replies_after}
 use Rattle.run_rules.specs.Work.{Task, Outcome, tells}
 use Rattle.run_rules.specs.Work.Task.{tell}
-use Rattle.run_rules.proofs.Answering.{lines_greet_none}
-use Rattle.board_rules.specs.Openings.{Opening, before_first}
+use Rattle.board_rules.specs.Openings.{Opening}
 use Rattle.board_rules.specs.Ports.{PortLog, taken_in, answered_in, link_steps, MayAnswer}
 use Rattle.board_rules.specs.Ports.PortStep.{took, answered, reported}
-use Rattle.board_rules.specs.Cuts.{passed_of}
-use Rattle.board_rules.specs.Steps.{Journal, port_log, taken_of, answered_of, lines_of, outcomes_of, before_of, left_of, closed_tells}
+use Rattle.board_rules.specs.Steps.{Journal, port_log, taken_of, answered_of, outcomes_of, left_of, closed_tells}
 use Rattle.board_rules.specs.Steps.Step.{at_port}
 use Rattle.board_rules.specs.Conduct.{Conducted, MayTake, MayTell, IsNextTask}
 use Rattle.board_rules.proofs.Opening.{opened}
 use Rattle.board_rules.proofs.Answering.{answers_are, answer_is_due, closing_none}
 use Rattle.board_rules.proofs.Keeping.{told_is}
 use Rattle.board_rules.proofs.Limits.{few_answered}
-use Rattle.board_rules.proofs.Lines.{lines_follow, became_is}
+use Rattle.board_rules.proofs.Lined.{all_answer, all_greet_none}
 use Rattle.board_rules.proofs.LinkSteps.{same_answered}
 
-abbrev banners_in : List Reply → ℕ
+abbrev pub banners_in : List Reply → ℕ
 banners_in rs = count_by is_banner rs
 
-banners_on : (rs ss : List Reply) → banners_in (rs ++ ss) ≡ banners_in rs + banners_in ss
+pub banners_on : (rs ss : List Reply) → banners_in (rs ++ ss) ≡ banners_in rs + banners_in ss
 banners_on rs ss = sum_by-append (λ r. cond (is_banner r) 1 0) rs ss
 
-banners_first : (r : Reply) (rs : List Reply) → banners_in (r ∷ rs) ≡ cond (is_banner r) 1 0 + banners_in rs
+pub banners_first : (r : Reply) (rs : List Reply) → banners_in (r ∷ rs) ≡ cond (is_banner r) 1 0 + banners_in rs
 banners_first r rs = sum_by-cons (λ s. cond (is_banner s) 1 0) r rs
 
 -- a report is no Banner
@@ -47,7 +45,7 @@ banner_is_none replies.Banner e = refl
 banner_is_none r e = absurd cc
 
 -- one Banner was answered, or is left to tell
-banners_are : (first : Opening) (h : Journal) → Conducted first h → banners_in (answered_of h) + banners_in (tells (left_of first h)) ≡ 1
+pub banners_are : (first : Opening) (h : Journal) → Conducted first h → banners_in (answered_of h) + banners_in (tells (left_of first h)) ≡ 1
 banners_are first h c =
     let lines = flat_map (λ (o : Outcome). tells o.work) (outcomes_of h) in
     let all = ap banners_in (told_is first h c) in
@@ -57,12 +55,11 @@ banners_are first h c =
     let e = banners_without (answered_of h) in
     let f = closing_none is_banner refl h in
     let g = (opened first h c).banner in
-    let same = ap (λ (os : List Outcome). banners_in (flat_map (λ (o : Outcome). tells o.work) os)) (became_is first h) in
-    let none = lines_greet_none true (before_first first) (lines_of h) (passed_of first h) (before_of first h) (lines_follow first h c) in
-    omega (arith, all, a, b, d, e, f, g, same, none)
+    let none = all_greet_none (outcomes_of h) (all_answer first h c) in
+    omega (arith, all, a, b, d, e, f, g, none)
 
 -- No byte is taken before the Banner is told; and since it was, as many lines were answered, and had their end taken, as in all.
-abbrev Since : PortLog → Type 0
+abbrev pub Since : PortLog → Type 0
 Since l = (banners_in (answered_in l) ≡ 0 → (taken_in l ≡ []) × (has_greeted (link_steps l) ≡ false))
     × (answers_since (link_steps l) ≡ answers_in (answered_in l)) × (lfs_since (link_steps l) ≡ lfs_in (taken_in l))
 
@@ -100,7 +97,7 @@ reported_since r l s =
     let a = answers_on (answered_in l) (replies.Report r ∷ []) in let b = answers_first (replies.Report r) [] in let d = s.1 in
     ((λ e. s.0 (omega (arith, m, e))), omega (arith, a, b, d), s.2)
 
-since : (first : Opening) (h : Journal) → Conducted first h → Since (port_log h)
+pub since : (first : Opening) (h : Journal) → Conducted first h → Since (port_log h)
 since first [] c = ((λ e. (refl, refl)), refl, refl)
 since first (at_port (took b) ∷ h) c = took_since first b h c.1 c.0 (since first h c.1)
 since first (at_port (answered r) ∷ h) c = told_since first r h c.1 c.0 (since first h c.1)

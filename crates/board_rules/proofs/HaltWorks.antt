@@ -10,7 +10,7 @@ use Rattle.run_rules.specs.Outcomes.{Before, Becomes, most_kept, begins_with_dol
 use Rattle.run_rules.specs.Finding.{Found, ByKeptFound}
 use Rattle.run_rules.proofs.Alarms.{beyond}
 use Rattle.run_rules.proofs.Each.{by_either, HoldsOfEach, holds_of_each}
-use Rattle.run_rules.proofs.Finding.{with_cause, found_caused}
+use Rattle.run_rules.proofs.Finding.{with_cause, free_caused}
 use Rattle.run_rules.proofs.Items.{PassesTasks, holds_of_move, holds_of_work}
 use Rattle.board_rules.specs.Steps.{without_asks}
 use Rattle.board_rules.specs.Turns.{halts_next}
@@ -81,5 +81,5 @@ calm_in_jog b kept o is = by_limit (is_limit o.answer) refl
     by_limit : (t : Bool) → is_limit o.answer ≡ t → is_limit o.answer ≡ false
     by_limit false e = e
     by_limit true e =
-        let cause = beyond true (with_cause Jogs b) kept o (found_caused Jogs b kept o is) e in
+        let cause = beyond true (with_cause Jogs kept b) kept o (free_caused Jogs b kept o (λ locked. absurd cc) is) e in
         by_either (nat_lt most_kept (length kept)) _ _ _ (λ long here. calm_answer _ o refl here) (λ short here. kept_in_jog b kept o cause.some cause.code here) is

@@ -109,7 +109,7 @@ abbrev j1 : State → PlannedMove → Segment → Journal
 j1 last m s = turned Did ∷ at_port (answered Banner) ∷ j0 last m s
 
 c1 : (first last : State) (m : PlannedMove) (s : Segment) → IsOneJog first last m s → Conducted (first_opening first) (j1 last m s)
-c1 first last m s p = (ends _ _ (λ w. untrue w.blocks) refl refl refl refl refl refl, (record { next = refl; plain = refl; unowed = refl; empty = λ e. absurd cc }, c0 first last m s p))
+c1 first last m s p = (ends _ _ (λ w. untrue w.blocks) refl refl refl refl refl refl, (record { next = refl; plain = refl; unowed = refl; empty = λ e. absurd cc; unlocked = refl }, c0 first last m s p))
 
 abbrev j2 : State → PlannedMove → Segment → Journal
 j2 last m s = line_taken (36 ∷ 74 ∷ 61 ∷ 88 ∷ 46 ∷ 48 ∷ 48 ∷ 52 ∷ 70 ∷ 57 ∷ []) (j1 last m s)
@@ -145,7 +145,7 @@ abbrev pub j7 : State → PlannedMove → Segment → Journal
 j7 last m s = turned Did ∷ at_port (answered Ok) ∷ j6 last m s
 
 pub c7 : (first last : State) (m : PlannedMove) (s : Segment) → IsOneJog first last m s → Conducted (first_opening first) (j7 last m s)
-c7 first last m s p = (ends _ _ (λ w. elsewhere _ w.stands refl) refl refl refl refl refl refl, (record { next = refl; plain = refl; unowed = refl; empty = λ e. absurd cc }, c6 first last m s p))
+c7 first last m s p = (ends _ _ (λ w. elsewhere _ w.stands refl) refl refl refl refl refl refl, (record { next = refl; plain = refl; unowed = refl; empty = λ e. absurd cc; unlocked = refl }, c6 first last m s p))
 
 abbrev j8 : State → PlannedMove → Segment → Journal
 j8 last m s = turned Did ∷ at_port (published (pieces.Segment s)) ∷ did (Take Go) (pieces.Segment s ∷ []) ∷ j7 last m s
@@ -193,7 +193,7 @@ abbrev j15 : State → PlannedMove → Segment → Journal
 j15 last m s = turned Did ∷ at_port (answered Bye) ∷ j14 last m s
 
 c15 : (first last : State) (m : PlannedMove) (s : Segment) → IsOneJog first last m s → Conducted (first_opening first) (j15 last m s)
-c15 first last m s p = (ends _ _ (λ w. absurd (no_blocks m s p.rests w.blocks)) refl refl refl refl refl refl, (record { next = refl; plain = refl; unowed = refl; empty = λ e. refl }, c14 first last m s p))
+c15 first last m s p = (ends _ _ (λ w. absurd (no_blocks m s p.rests w.blocks)) refl refl refl refl refl refl, (record { next = refl; plain = refl; unowed = refl; empty = λ e. refl; unlocked = refl }, c14 first last m s p))
 
 abbrev j16 : State → PlannedMove → Segment → Journal
 j16 last m s = turned Done ∷ j15 last m s

@@ -22,7 +22,8 @@ use Rattle.run_rules.specs.Finding.{Fate as fates}
 use Rattle.board_rules.specs.Ports.PortStep.{answered}
 use Rattle.board_rules.specs.Steps.{Journal, plan_of, motion_of, left_of, open_of}
 use Rattle.board_rules.specs.Steps.Step.{at_port, began, did, made_end, evened, paused, became, cut, halted, closing, turned}
-use Rattle.board_rules.specs.Turns.{has_blocks, has_jogged, waits_to_jog, machine_in, begins_in, is_going}
+use Rattle.board_rules.specs.Turns.{has_blocks, has_jogged, waits_to_jog, machine_in, begins_in, is_alarm, is_going}
+use Rattle.board_rules.proofs.Locking.{begins_or_locked}
 use Rattle.board_rules.specs.Conduct.{Conducted, MayDo, MayHappen, MayOpen}
 use Rattle.board_rules.specs.Whole.{comes_to_rest}
 use Rattle.board_rules.proofs.Opening.{opens_still}
@@ -127,17 +128,22 @@ on_tail first h rule = fewer (motion_of first h) (has_jogged h) (has_some first 
 
 -- ---- a line is begun
 
-begun_rule : (m : Motion) (kept : List ℕ) (o : Outcome) (was some now : Bool) → begins_in m ≡ true → Fate (machine_in m) kept o → JogRule m was some → JogRule m (jogged_behind o.kind was) now
+none_begins : {A : Type 0} (m : Motion) → begins_in m ≡ false → is_alarm m ≡ false → (begins_in m ≡ true) ⊎ (m ≡ motions.Alarm) → A
+none_begins m other none (inl begins) = absurd (let e = sym begins ∙ other in cc)
+none_begins m other none (inr alarm) = absurd (let e = sym (ap is_alarm alarm) ∙ none in cc)
+
+begun_rule : (m : Motion) (kept : List ℕ) (o : Outcome) (was some now : Bool) → (begins_in m ≡ true) ⊎ (m ≡ motions.Alarm) → Fate (machine_in m) kept o → JogRule m was some → JogRule m (jogged_behind o.kind was) now
 begun_rule motions.Idle kept o was some now begins fate rule = tt
 begun_rule motions.Run kept o was some now begins (fates.coded kind other) rule = ap (λ (k : Kind). jogged_behind k was) kind
-begun_rule motions.Run kept o was some now begins (fates.a_jog kind other dollar still work) rule = absurd (other refl)
+begun_rule motions.Run kept o was some now begins (fates.a_jog kind other dollar still work) rule = absurd (other.0 refl)
 begun_rule motions.Run kept o was some now begins (fates.halted kind other still work) rule = ap (λ (k : Kind). jogged_behind k was) kind ∙ rule
 begun_rule motions.Run kept o was some now begins (fates.neither kind still none) rule = ap (λ (k : Kind). jogged_behind k was) kind ∙ rule
-begun_rule motions.Jog kept o was some now begins (fates.coded kind other) rule = absurd (other refl)
+begun_rule motions.Jog kept o was some now begins (fates.coded kind other) rule = absurd (other.0 refl)
 begun_rule motions.Jog kept o was some now begins (fates.a_jog kind other dollar still work) rule = ap (λ (k : Kind). jogged_behind k was) kind
-begun_rule motions.Jog kept o was some now begins (fates.halted kind other still work) rule = absurd (other refl)
+begun_rule motions.Jog kept o was some now begins (fates.halted kind other still work) rule = absurd (other.0 refl)
 begun_rule motions.Jog kept o was some now begins (fates.neither kind still none) rule = ap (λ (k : Kind). jogged_behind k was) kind ∙ rule
-begun_rule _ kept o was some now begins fate rule = absurd cc
+begun_rule motions.Alarm kept o was some now begins fate rule = tt
+begun_rule m kept o was some now begins fate rule = none_begins m refl refl begins
 
 -- ---- something is done to the plan
 
@@ -219,7 +225,7 @@ pub rule_is : (first : Opening) (h : Journal) → Conducted first h → KeepsRul
 rule_is first [] c = opens_rule first c first.motion refl
 rule_is first (at_port (answered r) ∷ h) c = on_tail first h (rule_is first h c.1)
 rule_is first (at_port e ∷ h) c = rule_is first h c.1
-rule_is first (began o ∷ h) c = begun_rule (motion_of first h) (open_of h) o (has_jogged h) (has_some first h) _ c.0.begins (fate_now first h o c.0) (rule_is first h c.1)
+rule_is first (began o ∷ h) c = begun_rule (motion_of first h) (open_of h) o (has_jogged h) (has_some first h) _ (begins_or_locked first h o c) (fate_now first h o c.0) (rule_is first h c.1)
 rule_is first (did a ps ∷ h) c = did_rule first h a ps c.0.0 (rule_is first h c.1)
 rule_is first (made_end ∷ h) c = on_tail first h (rule_is first h c.1)
 rule_is first (evened ∷ h) c = on_tail first h (rule_is first h c.1)

@@ -12,7 +12,7 @@ use Rattle.run_rules.specs.Outcomes.{Before, Becomes}
 use Rattle.board_rules.specs.Ports.PortStep.{answered}
 use Rattle.board_rules.specs.Steps.{Journal, open_of, left_of, left_by, without_asks, closed_tells}
 use Rattle.board_rules.specs.Steps.Step.{at_port, began, did, made_end, evened, paused, cut, halted, closing}
-use Rattle.board_rules.proofs.Beginning.{caused, becomes_caused}
+use Rattle.board_rules.proofs.Beginning.{caused, of_begun}
 use Rattle.board_rules.specs.Conduct.{Conducted, IsNextTask}
 use Rattle.board_rules.proofs.Closing.{At, going, to_finish, to_tell, over, phase_is}
 use Rattle.board_rules.proofs.Tasks.{none_next, head_is, rest_is, none_closed}
@@ -102,7 +102,7 @@ told_alone (r ∷ rs) = told_alone rs
 told_is : (first : Opening) (h : Journal) → Conducted first h → closed_tells h ≡ [] → ends_told (left_of first h) ≡ true
 told_is first [] c on = told_alone first.tells
 told_is first (at_port (answered r) ∷ h) c on = told_behind (left_of first h) (told_is first h c.1 on)
-told_is first (began o ∷ h) c on = line_told true (caused first h) (open_of h) o (becomes_caused first h o c.0)
+told_is first (began o ∷ h) c on = of_begun first h o (λ (x : Outcome). ends_told x.work ≡ true) c.0 refl (line_told true (caused first h) (open_of h))
 told_is first (did a ps ∷ h) c on = by_action a (left_of first h) (told_is first h c.1 on)
 told_is first (made_end ∷ h) c on = absurd (c.0.closes on)
 told_is first (evened ∷ h) c on = told_behind (left_of first h) (told_is first h c.1 on)

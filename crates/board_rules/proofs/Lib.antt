@@ -1,4 +1,5 @@
 pub mod Opening
+pub mod Locking
 pub mod DroppedJogs
 pub mod LinkSteps
 pub mod Tasks
@@ -15,7 +16,9 @@ pub mod Counting
 pub mod Halts
 pub mod Unstopped
 pub mod Given
+pub mod Lined
 pub mod Lines
+pub mod Unlocking
 pub mod Answering
 pub mod Greeting
 pub mod Closing

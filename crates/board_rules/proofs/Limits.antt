@@ -28,32 +28,30 @@ use Rattle.planner_runs.specs.declared.Action.TheVariants.{Add, Take, Override, 
 use Rattle.planner_runs.specs.Runs.{Plans, with_move, cleared, most_blocks, all_asked, ticks_left}
 use Rattle.planner_runs.proofs.Ticks.{ticks_from_start}
 use Rattle.run_rules.specs.Work.{Outcome, asks, tells}
-use Rattle.run_rules.specs.Outcomes.{Before, Passed, Follows, after, at_place, became_of}
-use Rattle.run_rules.specs.Outcomes.Passed.{a_line, a_cut}
 use Rattle.run_rules.specs.Told.{asked_in, replies_after}
-use Rattle.board_rules.specs.Openings.{Opening, before_first}
+use Rattle.board_rules.specs.Openings.{Opening}
 use Rattle.board_rules.specs.Ports.{reports_in, MayPublish}
 use Rattle.board_rules.specs.Ports.PortStep.{took}
-use Rattle.board_rules.specs.Steps.{Journal, port_log, taken_of, answered_of, published_of, lines_of, outcomes_of, before_of, left_of, closed_tells, hand_of, open_of, whole_of}
+use Rattle.board_rules.specs.Steps.{Journal, port_log, taken_of, answered_of, published_of, lines_of, outcomes_of, left_of, closed_tells, hand_of, open_of, whole_of}
 use Rattle.board_rules.specs.Steps.Step.{at_port}
 use Rattle.board_rules.specs.Conduct.{Conducted, IsInHand, ticks_given, ticks_published}
 use Rattle.board_rules.proofs.Opening.{opened}
 use Rattle.board_rules.proofs.Plain.{length_apart}
 use Rattle.board_rules.proofs.Owing.{owes_few, few_asked}
 use Rattle.board_rules.specs.Parts.{Part, IsCutPart, lines_in, pieces_in, last_number, AreNumbered}
-use Rattle.board_rules.specs.Cuts.{part_outcomes, part_actions, part_given, part_start, part_plan, parts_of, passed_of}
+use Rattle.board_rules.specs.Cuts.{part_outcomes, part_actions, part_given, part_start, part_plan, parts_of}
 use Rattle.board_rules.proofs.Keeping.{never_clears, told_is, hand_is}
 use Rattle.board_rules.proofs.Parting.{open_part, asked_is}
 use Rattle.board_rules.proofs.Numbers.{lines_are, count_is, numbers_are, parts_are}
 use Rattle.board_rules.proofs.Counting.{given_sum}
 use Rattle.board_rules.proofs.Ending.{published_in_turn, next_turns}
 use Rattle.board_rules.proofs.Unstopped.{journals_never_stop, may_publish_alone}
-use Rattle.board_rules.proofs.Lines.{bytes_are, lines_follow, became_is}
+use Rattle.board_rules.proofs.Lines.{bytes_are}
+use Rattle.board_rules.proofs.Lined.{as_many, all_begun}
 use Rattle.step_line.proofs.Finished.{together_both}
-use Rattle.run_rules.proofs.Going.{as_many}
 use Rattle.board_rules.proofs.Answering.{lfs_of_lines}
 use Rattle.board_rules.proofs.Closing.{At, going, to_finish, to_tell, over, phase_is}
-use Rattle.board_rules.proofs.Bounding.{most_events, weight, weight_on, line_ticks, line_replies, modest}
+use Rattle.board_rules.proofs.Bounding.{most_events, weight, weight_on, line_ticks, line_replies, IsModest, modest, unlock_modest}
 
 -- ---- lines
 
@@ -67,8 +65,7 @@ few_taken first (_ ∷ h) c = few_taken first h c.1
 
 pub lines_in_bytes : (first : Opening) (h : Journal) → Conducted first h → length (outcomes_of h) ≤ length (taken_of h)
 lines_in_bytes first h c =
-    let many = as_many true (before_first first) (before_of first h) (lines_of h) (passed_of first h) (lines_follow first h c) in
-    let same = ap (λ (os : List Outcome). length os) (became_is first h) in
+    let many = as_many h in
     let lfs = lfs_of_lines (taken_of h) (lines_of h) (open_of h) (whole_of h) (bytes_are first h c) in
     let below = count_by-le-length (λ (b : ℕ). nat_eq b 10) (taken_of h) in
     omega arith
@@ -77,28 +74,21 @@ pub few_lines : (first : Opening) (h : Journal) → Conducted first h → length
 few_lines first h c = let few = few_taken first h c in let lines = lines_in_bytes first h c in omega (arith, few, lines)
 
 -- what all lines ask for, and tell
-all_modest : (b last : Before) (ls : List (List ℕ)) (ps : List Passed) → Follows true b ls ps last
-    → (weight (asked_in (became_of ps)) ≤ line_ticks * length (became_of ps)) × (length (flat_map (λ (o : Outcome). tells o.work) (became_of ps)) ≤ line_replies * length (became_of ps))
-all_modest b last [] [] f = (omega arith, omega arith)
-all_modest b last ls (a_cut k at ∷ ps) f = all_modest (at_place at b) last ls ps f.1
-all_modest b last (l ∷ ls) (a_line o ∷ ps) f =
-    let os = became_of ps in
-    let rest = all_modest (after b o) last ls ps f.1 in
-    let one = modest true b l o f.0.becomes in
-    let t = one.ticks in let r = one.told in
+all_modest : (os : List Outcome) → AllByRecursion IsModest os
+    → (weight (asked_in os) ≤ line_ticks * length os) × (length (flat_map (λ (o : Outcome). tells o.work) os) ≤ line_replies * length os)
+all_modest [] all = (omega arith, omega arith)
+all_modest (o ∷ os) all =
+    let rest = all_modest os all.1 in
+    let t = all.0.ticks in let r = all.0.told in
     let u = rest.0 in let v = rest.1 in
     let e = weight_on (asks o.work) (asked_in os) in
     let d = length-append (tells o.work) (flat_map (λ (x : Outcome). tells x.work) os) in
     (omega arith, omega arith)
-all_modest b last [] (a_line o ∷ ps) f = absurd f
-all_modest b last (l ∷ ls) [] f = absurd f
 
 -- of the lines that were begun
 begun_modest : (first : Opening) (h : Journal) → Conducted first h
     → (weight (asked_in (outcomes_of h)) ≤ line_ticks * length (outcomes_of h)) × (length (flat_map (λ (o : Outcome). tells o.work) (outcomes_of h)) ≤ line_replies * length (outcomes_of h))
-begun_modest first h c =
-    subst (λ (os : List Outcome). (weight (asked_in os) ≤ line_ticks * length os) × (length (flat_map (λ (o : Outcome). tells o.work) os) ≤ line_replies * length os)) (became_is first h)
-    (all_modest (before_first first) (before_of first h) (lines_of h) (passed_of first h) (lines_follow first h c))
+begun_modest first h c = all_modest (outcomes_of h) (all_begun IsModest unlock_modest (λ b kept x. modest true b kept x) first h c)
 
 -- ---- ticks
 

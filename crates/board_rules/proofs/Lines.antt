@@ -10,9 +10,12 @@ use Rattle.step_line.specs.Asking.Asked.{a_move, a_mark, a_rest}
 use Rattle.flight.specs.Places.{end_from}
 use Rattle.run_rules.specs.Work.{Task, Outcome}
 use Rattle.run_rules.specs.Work.Task.{ask, tell, pause, normal, halt}
-use Rattle.run_rules.specs.Outcomes.{Follows, became_of}
+use Rattle.run_rules.specs.Outcomes.{became_of}
 use Rattle.run_rules.specs.Outcomes.Passed.{a_line, a_cut}
-use Rattle.run_rules.proofs.Going.{goes_on, cut_goes_on, became_on}
+use Rattle.run_rules.specs.Locking.{FollowsFrom}
+use Rattle.run_rules.proofs.Going.{became_on}
+use Rattle.run_rules.proofs.Locking.{line_goes_on, cut_goes_on}
+use Rattle.board_rules.specs.Turns.{is_limited}
 use Rattle.board_rules.specs.Openings.{Opening, before_first}
 use Rattle.board_rules.specs.Steps.{Journal, taken_of, open_of, whole_of, lines_of, outcomes_of, before_of, given_of, left_of, left_by, without_asks, closed_tells}
 use Rattle.board_rules.specs.Cuts.{passed_of}
@@ -84,14 +87,14 @@ became_is first (began o ∷ h) = became_on (passed_of first h) (a_line o ∷ []
 became_is first (cut k ∷ h) = became_on (passed_of first h) (a_cut k (end_from first.place (given_of h)) ∷ []) ∙ append-nil (became_of (passed_of first h)) ∙ became_is first h
 became_is first (_ ∷ h) = became_is first h
 
-pub lines_follow : (first : Opening) (h : Journal) → Conducted first h → Follows true (before_first first) (lines_of h) (passed_of first h) (before_of first h)
+pub lines_follow : (first : Opening) (h : Journal) → Conducted first h → FollowsFrom (is_limited first.motion) true (before_first first) (lines_of h) (passed_of first h) (before_of first h)
 lines_follow first [] c = refl
 lines_follow first (began o ∷ h) c =
-    goes_on true (before_first first) (before_of first h) (lines_of h) (passed_of first h) (open_of h) o (lines_follow first h c.1) (alarmed_is first h ∙ c.0.calm) (becomes_now first h o c)
+    line_goes_on (is_limited first.motion) true (before_first first) (before_of first h) (lines_of h) (passed_of first h) (open_of h) o (lines_follow first h c.1) (alarmed_is first h ∙ c.0.calm) (becomes_now first h o c)
 lines_follow first (cut k ∷ h) c =
     let n = number_is first h c.1 in
     let k_is = c.0.number in
-    cut_goes_on true (before_first first) (before_of first h) (lines_of h) (passed_of first h) k (end_from first.place (given_of h)) (lines_follow first h c.1)
+    cut_goes_on (is_limited first.motion) true (before_first first) (before_of first h) (lines_of h) (passed_of first h) k (end_from first.place (given_of h)) (lines_follow first h c.1)
     (record { free = alarmed_is first h ∙ c.0.calm; number = omega (arith, n, k_is); cause = jogged_is first h ∙ cancel_is_jog first h c.1 c.0.cancelled; found = refl })
 lines_follow first (_ ∷ h) c = lines_follow first h c.1
 

@@ -28,6 +28,7 @@ use Rattle.board_rules.specs.Cuts.{part_outcomes, part_given, part_plan}
 use Rattle.board_rules.specs.Turns.{has_blocks, has_jogged, machine_in, begins_in, starts_cycle}
 use Rattle.board_rules.specs.Conduct.{Conducted}
 use Rattle.board_rules.proofs.Beginning.{fate_now}
+use Rattle.board_rules.proofs.Locking.{begins_unless}
 use Rattle.board_rules.proofs.Alarms.{calm_plan}
 use Rattle.board_rules.proofs.Jogging.{jog_is_last}
 use Rattle.board_rules.proofs.Parting.{part_ticks}
@@ -112,7 +113,7 @@ line_begins : (first : Opening) (h : Journal) (o : Outcome) → Conducted first 
     → (has_jogged h ≡ true → Loses h) → LosesJogsAlone (given_ticks h) (part_outcomes h ++ o ∷ [])
 line_begins first h o c (fates.coded kind other) is jogs = absurd (let f = sym (ap (λ (k : Kind). jogged_behind k (has_jogged h)) kind) ∙ is in cc)
 line_begins first h o c (fates.a_jog kind other dollar still work) is jogs =
-    one_more (given_ticks h) (part_outcomes h) o (inl (ap is_jog kind)) (before_jog first h o c (motion_of first h) refl c.0.begins other dollar jogs)
+    one_more (given_ticks h) (part_outcomes h) o (inl (ap is_jog kind)) (before_jog first h o c (motion_of first h) refl (begins_unless first h o c other.1) other.0 dollar jogs)
 line_begins first h o c (fates.halted kind other still work) is jogs =
     one_more (given_ticks h) (part_outcomes h) o (inr (ap asks work)) (jogs (sym (ap (λ (k : Kind). jogged_behind k (has_jogged h)) kind) ∙ is))
 line_begins first h o c (fates.neither kind still none) is jogs =

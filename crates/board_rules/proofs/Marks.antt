@@ -26,7 +26,7 @@ use Rattle.board_rules.specs.Openings.{Opening}
 use Rattle.board_rules.specs.Ports.PortStep.{answered}
 use Rattle.board_rules.specs.Steps.{Journal, open_of, left_of, left_by, without_asks, behind, plan_of}
 use Rattle.board_rules.specs.Steps.Step.{at_port, began, did, made_end, evened, paused, cut, halted, closing}
-use Rattle.board_rules.proofs.Beginning.{caused, becomes_caused}
+use Rattle.board_rules.proofs.Beginning.{caused, of_begun}
 use Rattle.board_rules.specs.Conduct.{Conducted, Gives, MayDo, IsNextTask}
 use Rattle.board_rules.proofs.Tasks.{none_taken}
 use Rattle.run_rules.proofs.Each.{HoldsOfEach, holds_of_each}
@@ -158,7 +158,7 @@ marks_told (r ∷ rs) = marks_told rs
 marked : (first : Opening) (h : Journal) → Conducted first h → Marked (left_of first h) (plan_of h)
 marked first [] c = inl (marks_told first.tells)
 marked first (at_port (answered r) ∷ h) c = on_told (left_of first h) (plan_of h) r c.0.next (marked first h c.1)
-marked first (began o ∷ h) c = inl (line_marks true (caused first h) (open_of h) o (becomes_caused first h o c.0))
+marked first (began o ∷ h) c = inl (of_begun first h o (λ (x : Outcome). MarksRest false x.work) c.0 tt (line_marks true (caused first h) (open_of h)))
 marked first (did a ps ∷ h) c = on_did first h a ps c.0.0 c.0.1 (marked first h c.1)
 marked first (made_end ∷ h) c = on_end (left_of first h) (plan_of h) c.0.next (marked first h c.1)
 marked first (evened ∷ h) c = with_overrides (drop 1 (left_of first h)) (plan_of h) normal_overrides (on_normal (left_of first h) (plan_of h) c.0.rests.next (marked first h c.1))

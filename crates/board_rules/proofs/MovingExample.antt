@@ -65,7 +65,7 @@ abbrev j1 : State → PlannedMove → Segment → Journal
 j1 last m s = turned Did ∷ at_port (answered Banner) ∷ j0 last m s
 
 c1 : (first last : State) (m : PlannedMove) (s : Segment) → IsOneSegment first last m s → Conducted (first_opening first) (j1 last m s)
-c1 first last m s p = (ends _ _ (λ w. untrue w.blocks) refl refl refl refl refl refl, (record { next = refl; plain = refl; unowed = refl; empty = λ e. absurd cc }, c0 first last m s p))
+c1 first last m s p = (ends _ _ (λ w. untrue w.blocks) refl refl refl refl refl refl, (record { next = refl; plain = refl; unowed = refl; empty = λ e. absurd cc; unlocked = refl }, c0 first last m s p))
 
 abbrev j2 : State → PlannedMove → Segment → Journal
 j2 last m s = line_taken (71 ∷ 48 ∷ 88 ∷ 46 ∷ 48 ∷ 48 ∷ 52 ∷ []) (j1 last m s)
@@ -101,7 +101,7 @@ abbrev pub j7 : State → PlannedMove → Segment → Journal
 j7 last m s = turned Did ∷ at_port (answered Ok) ∷ j6 last m s
 
 pub c7 : (first last : State) (m : PlannedMove) (s : Segment) → IsOneSegment first last m s → Conducted (first_opening first) (j7 last m s)
-c7 first last m s p = (ends _ _ (λ w. refl) refl refl refl refl refl refl, (record { next = refl; plain = refl; unowed = refl; empty = λ e. absurd cc }, c6 first last m s p))
+c7 first last m s p = (ends _ _ (λ w. refl) refl refl refl refl refl refl, (record { next = refl; plain = refl; unowed = refl; empty = λ e. absurd cc; unlocked = refl }, c6 first last m s p))
 
 abbrev j8 : State → PlannedMove → Segment → Journal
 j8 last m s = became (on_start false) motions.Run ∷ at_port found_empty ∷ j7 last m s
@@ -167,7 +167,7 @@ abbrev j18 : State → PlannedMove → Segment → Journal
 j18 last m s = turned Did ∷ at_port (answered Bye) ∷ j17 last m s
 
 c18 : (first last : State) (m : PlannedMove) (s : Segment) → IsOneSegment first last m s → Conducted (first_opening first) (j18 last m s)
-c18 first last m s p = (ends _ _ (λ w. absurd (no_blocks m s p.rests w.blocks)) refl refl refl refl refl refl, (record { next = refl; plain = refl; unowed = refl; empty = λ e. refl }, c17 first last m s p))
+c18 first last m s p = (ends _ _ (λ w. absurd (no_blocks m s p.rests w.blocks)) refl refl refl refl refl refl, (record { next = refl; plain = refl; unowed = refl; empty = λ e. refl; unlocked = refl }, c17 first last m s p))
 
 abbrev j19 : State → PlannedMove → Segment → Journal
 j19 last m s = turned Done ∷ j18 last m s

@@ -15,7 +15,7 @@ use Rattle.run_rules.specs.Asks.{work_of, planned, move_asked}
 use Rattle.run_rules.specs.Work.{Task, Outcome, is_limit, halting_work, told_by, tells, telling, asking, is_code, is_jog, has_moves}
 use Rattle.run_rules.specs.Work.Task.{ask, tell, pause, normal, finish, halt}
 use Rattle.run_rules.specs.Outcomes.{Before, Becomes, either}
-use Rattle.run_rules.proofs.Answering.{one_answer, halts}
+use Rattle.run_rules.proofs.Answering.{one_answer}
 use Rattle.run_rules.proofs.Each.{HoldsOfEach, holds_of_each}
 use Rattle.board_rules.specs.Openings.{Opening, IsGreeting}
 use Rattle.std.specs.List.{AllByRecursion}
@@ -25,7 +25,7 @@ use Rattle.board_rules.specs.Steps.{Step, Journal, has_limited, outcomes_of, ans
 use Rattle.board_rules.specs.Steps.Step.{at_port, began, did, made_end, evened, paused, became, cut, halted, closing, turned}
 use Rattle.board_rules.specs.Whole.{has_any_moved}
 use Rattle.board_rules.proofs.Alarms.{opposite}
-use Rattle.board_rules.proofs.Beginning.{caused, becomes_caused}
+use Rattle.board_rules.proofs.Beginning.{caused, of_begun, begun_halts}
 use Rattle.board_rules.specs.Conduct.{Conducted, IsNextTask, MayDo}
 
 -- ---- whatever becomes of a line, its answer is the last that there is to do, or it raises an alarm
@@ -254,7 +254,7 @@ on_closing first h free (unanswered z) = unanswered (record { o = z.o; begun = z
 
 alarm_begins : (first : Opening) (h : Journal) (o : Outcome) → Conducted first (began o ∷ h) → is_limit o.answer ≡ true → Between first h → Phase first (began o ∷ h)
 alarm_begins first h o c is y =
-    let limits = halts true (caused first h) (open_of h) o (becomes_caused first h o c.0) is in
+    let limits = begun_halts first h o c.0 is in
     let work : o.work ≡ halting_work = ap (λ (x : Outcome). x.work) limits in
     unanswered (record {
       o = o;
@@ -275,7 +275,7 @@ line_begins first h o going ends y = in_line (record {
 
 on_began : (first : Opening) (h : Journal) (o : Outcome) → Conducted first (began o ∷ h) → (one : Bool) → is_limit o.answer ≡ one → Between first h → Phase first (began o ∷ h)
 on_began first h o c true is y = alarm_begins first h o c is y
-on_began first h o c false is y = line_begins first h o c.0.going (work_ends true (caused first h) (open_of h) o (becomes_caused first h o c.0) is) y
+on_began first h o c false is y = line_begins first h o c.0.going (of_begun first h o (λ (x : Outcome). is_limit x.answer ≡ false → Ends x.work) c.0 (λ e. refl) (work_ends true (caused first h) (open_of h)) is) y
 
 on_did : (first : Opening) (h : Journal) (a : Action) (ps : List Piece) → MayDo first a h → Phase first h → Phase first (did a ps ∷ h)
 on_did first h (Add m) ps may phase = pops first h (did (Add m) ps) (ask (a_move m)) may refl refl refl refl refl refl refl phase

@@ -40,9 +40,9 @@ use Rattle.board_rules.specs.Steps.Step.{at_port, began, did, made_end, evened, 
 use Rattle.board_rules.specs.Cuts.{has_halted}
 use Rattle.board_rules.specs.Conduct.{Conducted, MayDo, MayAtPort, Gives, IsInHand}
 use Rattle.board_rules.proofs.Alarms.{stage_is, only_override}
-use Rattle.board_rules.proofs.Beginning.{caused, becomes_caused}
+use Rattle.board_rules.proofs.Beginning.{caused, of_begun}
 use Rattle.board_rules.proofs.Keeping.{run_is, hand_is}
-use Rattle.board_rules.proofs.Leading.{TasksLead, tasks_start, line_leads}
+use Rattle.board_rules.proofs.Leading.{Leads, TasksLead, tasks_start, line_leads}
 
 -- ---- the blocks of a plan
 
@@ -216,7 +216,7 @@ module _ (first : Opening) (placed : IsPlaced first) where
   journal_leads (began o ∷ h) c none =
       let j = journal_leads h c.1 none in
       keeps first h (began o) refl refl refl
-      (tasks_start (goal_of first h) (position_of first h) o.work o.next.parser.pos_steps (all_done first h c.0.free j) (line_leads true (caused first h) (open_of h) o (becomes_caused first h o c.0))) j
+      (tasks_start (goal_of first h) (position_of first h) o.work o.next.parser.pos_steps (all_done first h c.0.free j) (of_begun first h o (Leads (before_of first h)) c.0 refl (line_leads true (caused first h) (open_of h)))) j
   journal_leads (did a ps ∷ h) c none = on_did first h a ps c.1 c.0.0 c.0.1 (journal_leads h c.1 none)
   journal_leads (made_end ∷ h) c none = on_end first h c.0.next (journal_leads h c.1 none)
   journal_leads (evened ∷ h) c none = let j = journal_leads h c.1 none in keeps first h evened refl refl refl (popped first h normal c.0.rests.next refl j) j

@@ -20,8 +20,8 @@ use Rattle.board_rules.specs.Conduct.{Conducted, Gives, MayDo, MayRest, MayPause
 use Rattle.board_rules.specs.Whole.{has_work, comes_to_rest, WorkRests, IsQuiet, ComesToRest, has_any_moved}
 use Rattle.board_rules.proofs.Opening.{no_work_told}
 use Rattle.board_rules.proofs.Given.{all_known}
-use Rattle.board_rules.proofs.Beginning.{caused, becomes_caused, all_counted}
-use Rattle.board_rules.proofs.Works.{works}
+use Rattle.board_rules.proofs.Beginning.{all_counted}
+use Rattle.board_rules.proofs.Works.{begun_rests}
 use Rattle.board_rules.proofs.Standing.{rested_is, not_cut}
 use Rattle.board_rules.proofs.Tasks.{none_next, none_taken, none_given, none_closed}
 
@@ -152,7 +152,7 @@ quiet first (at_port (published p) ∷ h) c going still = on_publish first h p c
 quiet first (at_port (loaded done) ∷ h) c going still = on_load first h done c.1 c.0 (quiet first h c.1 going still)
 quiet first (at_port (found_halt done) ∷ h) c going still = absurd c.0
 quiet first (began o ∷ h) c going still =
-    on_begun first h o (has_any_moved (before_of first h)) c.0.free (works true (caused first h) (open_of h) o (becomes_caused first h o c.0)) o.settles (has_moves o.work) refl refl
+    on_begun first h o (has_any_moved (before_of first h)) c.0.free (begun_rests first h o c.0) o.settles (has_moves o.work) refl refl
     (all_counted first h o c.0 still) (λ m. quiet first h c.1 going m)
 quiet first (did a ps ∷ h) c going still = on_did first h a ps c.0.0 c.0.1 (quiet first h c.1 going still)
 quiet first (made_end ∷ h) c going still = absurd (c.0.closes going)

@@ -4,7 +4,7 @@ use Rattle.std.specs.declared.option.Option.{Option}
 use Rattle.feed_hold.specs.declared.Motion.{Motion}
 use Rattle.feed_hold.specs.declared.Motion.TheVariants.{Idle, Run, Holding, Held, Jog, Cancelling, Stopping, Alarm}
 use Rattle.feed_hold.specs.Motions.{Call, after, after_hold, after_cancel, after_start, asks, hold_byte, cancel_byte, start_byte, is_stopping}
-use Rattle.feed_hold.specs.Motions.Call.{on_exec, on_start, on_limit, on_pause, on_stopped, on_drained}
+use Rattle.feed_hold.specs.Motions.Call.{on_exec, on_start, on_limit, on_pause, on_stopped, on_drained, on_unlock}
 use Rattle.planner_runs.specs.declared.Action.{Action}
 use Rattle.planner_runs.specs.declared.Action.TheVariants.{Take, Clear, Reset}
 use Rattle.plan_rules.specs.declared.Mode.TheVariants.{Go, Hold}
@@ -71,6 +71,10 @@ word_rests hold cancel start queued was is = hold_rests hold was (cancel_rests c
 abbrev HasNoSpeed : Opening → Journal → Type 0
 HasNoSpeed first h = rests (motion_of first h) ≡ true → (plan_of h).speed ≡ 0
 
+unlock_rests : (was m : Motion) → after on_unlock was ≡ Some m → rests was ≡ true
+unlock_rests Alarm m e = refl
+unlock_rests was m e = absurd cc
+
 happened : (first : Opening) (h : Journal) (call : Call) (m : Motion) → after call (motion_of first h) ≡ Some m → MayHappen first call h → HasNoSpeed first h → rests m ≡ true → (plan_of h).speed ≡ 0
 happened first h (on_start jog) m then may none is = absurd (let e = sym (start_rests jog (motion_of first h)) ∙ ap rests_in then ∙ is in cc)
 happened first h on_drained m then may none is = may.plan.speed
@@ -79,6 +83,7 @@ happened first h (on_exec word queued) m then may none is =
 happened first h on_limit m then may none is = none (limit_rests (motion_of first h) (ap rests_in then ∙ is))
 happened first h on_pause m then may none is = absurd may
 happened first h on_stopped m then may none is = may.stopped.slowed.speed
+happened first h on_unlock m then may none is = none (unlock_rests (motion_of first h) m then)
 
 going_off : (m : Motion) → is_going m ≡ true → rests m ≡ false
 going_off Run is = refl

@@ -3,7 +3,7 @@ use Rattle.std.proofs.Common.{◌≡◌, ℕ, ◌⊎◌, inl, inr, Bool, true, f
 use Rattle.feed_hold.specs.declared.Motion.{Motion}
 use Rattle.feed_hold.specs.declared.Motion.TheVariants.{Idle, Run, Holding, Held, Jog, Cancelling, Stopping, Alarm}
 use Rattle.feed_hold.specs.Motions.{Call, Reached, after, is_stopping}
-use Rattle.feed_hold.specs.Motions.Call.{on_exec, on_start, on_limit, on_pause, on_stopped, on_drained}
+use Rattle.feed_hold.specs.Motions.Call.{on_exec, on_start, on_limit, on_pause, on_stopped, on_drained, on_unlock}
 use Rattle.feed_hold.proofs.Reaching.{StaysOrReaches, reached}
 use Rattle.planner_runs.specs.declared.Action.{Action}
 use Rattle.planner_runs.specs.declared.Action.TheVariants.{Add, Take, Override, Mark, Rest, Clear, Reset}
@@ -21,11 +21,13 @@ use Rattle.run_rules.specs.Work.Task.{ask, tell, pause, normal, finish, halt}
 use Rattle.run_rules.specs.Finding.{Found}
 use Rattle.board_rules.specs.Ports.{MayBeDone}
 use Rattle.board_rules.specs.Ports.PortStep.{took, answered, published, loaded, found_halt}
-use Rattle.board_rules.specs.Steps.{Journal, port_log, has_limited, open_of, before_of, left_of, whole_of, closed_tells, known_of, given_of, hand_of, plan_of, motion_of, behind}
+use Rattle.board_rules.specs.Steps.{Journal, port_log, has_limited, open_of, lines_of, before_of, left_of, whole_of, closed_tells, known_of, given_of, hand_of, plan_of, motion_of, behind}
 use Rattle.board_rules.specs.Steps.Step.{at_port, began, did, made_end, evened, paused, became, cut, halted, closing}
-use Rattle.board_rules.specs.Turns.{begins_in, machine_in, is_going, is_limited, halts_next, stands_still}
+use Rattle.board_rules.specs.Turns.{begins_in, machine_in, is_going, is_limited, is_locked, halts_next, stands_still}
+use Rattle.run_rules.specs.Locking.{locked_behind}
+use Rattle.board_rules.proofs.Locking.{or_false}
 use Rattle.board_rules.specs.Conduct.{Conducted, Gives, IsDrained, IsNextTask, MayBegin, MayDo, MayHappen, MayTell, ticks_given}
-use Rattle.board_rules.proofs.Beginning.{caused, becomes_caused}
+use Rattle.board_rules.proofs.Beginning.{caused, of_begun}
 use Rattle.board_rules.proofs.Given.{all_known}
 use Rattle.board_rules.proofs.Tasks.{none_next, none_given, head_is}
 use Rattle.board_rules.specs.Limiting.{limit_pending}
@@ -42,34 +44,35 @@ opposite t is other = absurd (let e = sym is ∙ other in cc)
 off : {A : Type 0} (was x : Motion) → is_limited x ≡ false → was ≡ x → is_limited was ≡ true → A
 off was x none same is = absurd (let e = sym is ∙ ap is_limited same ∙ none in cc)
 
-reached_limited : (now was : Motion) (call : Call) → Reached now call was → is_limited was ≡ true → is_limited now ≡ true
-reached_limited Stopping was call how is = refl
-reached_limited Alarm was call how is = refl
-reached_limited Idle was call (inl held) is = off was Held refl held.0 is
-reached_limited Idle was call (inr (inl (inl run, how))) is = off was Run refl run is
-reached_limited Idle was call (inr (inl (inr jog, how))) is = off was Jog refl jog is
-reached_limited Idle was call (inr (inr cancelled)) is = off was Cancelling refl cancelled.0 is
-reached_limited Run was call (inl (inl idle, how)) is = off was Idle refl idle is
-reached_limited Run was call (inl (inr held, how)) is = off was Held refl held is
-reached_limited Run was call (inr idle) is = off was Idle refl idle.0 is
-reached_limited Holding was call how is = off was Run refl how.0 is
-reached_limited Held was call (inl idle) is = off was Idle refl idle.0 is
-reached_limited Held was call (inr holding) is = off was Holding refl holding.0 is
-reached_limited Jog was call how is = off was Idle refl how.0 is
-reached_limited Cancelling was call how is = off was Jog refl how.0 is
+reached_limited : (now was : Motion) (call : Call) → (call ≡ on_unlock → ⊥) → Reached now call was → is_limited was ≡ true → is_limited now ≡ true
+reached_limited Stopping was call other how is = refl
+reached_limited Alarm was call other how is = refl
+reached_limited Idle was call other (inl held) is = off was Held refl held.0 is
+reached_limited Idle was call other (inr (inl (inl run, how))) is = off was Run refl run is
+reached_limited Idle was call other (inr (inl (inr jog, how))) is = off was Jog refl jog is
+reached_limited Idle was call other (inr (inr (inl cancelled))) is = off was Cancelling refl cancelled.0 is
+reached_limited Idle was call other (inr (inr (inr locked))) is = absurd (other locked.1)
+reached_limited Run was call other (inl (inl idle, how)) is = off was Idle refl idle is
+reached_limited Run was call other (inl (inr held, how)) is = off was Held refl held is
+reached_limited Run was call other (inr idle) is = off was Idle refl idle.0 is
+reached_limited Holding was call other how is = off was Run refl how.0 is
+reached_limited Held was call other (inl idle) is = off was Idle refl idle.0 is
+reached_limited Held was call other (inr holding) is = off was Holding refl holding.0 is
+reached_limited Jog was call other how is = off was Idle refl how.0 is
+reached_limited Cancelling was call other how is = off was Jog refl how.0 is
 
-stays_limited : (now was : Motion) (call : Call) → StaysOrReaches now call was → is_limited was ≡ true → is_limited now ≡ true
-stays_limited now was call (inl same) is = ap is_limited same ∙ is
-stays_limited now was call (inr how) is = reached_limited now was call how is
+stays_limited : (now was : Motion) (call : Call) → (call ≡ on_unlock → ⊥) → StaysOrReaches now call was → is_limited was ≡ true → is_limited now ≡ true
+stays_limited now was call other (inl same) is = ap is_limited same ∙ is
+stays_limited now was call other (inr how) is = reached_limited now was call other how is
 
-alarm_reached : (now was : Motion) (call : Call) → Reached now call was → was ≡ Alarm → now ≡ Alarm
-alarm_reached Alarm was call how is = refl
-alarm_reached Stopping was call how is = absurd (let e = sym how.0 ∙ is in cc)
-alarm_reached step was call how is = absurd (let e = reached_limited step was call how (ap is_limited is) in cc)
+alarm_reached : (now was : Motion) (call : Call) → (call ≡ on_unlock → ⊥) → Reached now call was → was ≡ Alarm → now ≡ Alarm
+alarm_reached Alarm was call other how is = refl
+alarm_reached Stopping was call other how is = absurd (let e = sym how.0 ∙ is in cc)
+alarm_reached step was call other how is = absurd (let e = reached_limited step was call other how (ap is_limited is) in cc)
 
-stays_alarm : (now was : Motion) (call : Call) → StaysOrReaches now call was → was ≡ Alarm → now ≡ Alarm
-stays_alarm now was call (inl same) is = same ∙ is
-stays_alarm now was call (inr how) is = alarm_reached now was call how is
+stays_alarm : (now was : Motion) (call : Call) → (call ≡ on_unlock → ⊥) → StaysOrReaches now call was → was ≡ Alarm → now ≡ Alarm
+stays_alarm now was call other (inl same) is = same ∙ is
+stays_alarm now was call other (inr how) is = alarm_reached now was call other how is
 
 -- and is stopped by a limit alone
 reached_calm : (now was : Motion) (call : Call) → (call ≡ on_limit → ⊥) → Reached now call was → is_limited was ≡ false → is_limited now ≡ false
@@ -183,13 +186,13 @@ pub alarm_stands : (first : Opening) (h : Journal) (o : Outcome) → begins_in (
 alarm_stands first h o begins found one = not_jog (motion_of first h) begins (λ jog.
     opposite (is_limit o.answer) one (calm_in_jog (before_of first h) (open_of h) o (subst (λ (m : Motion). Found (machine_in m) (before_of first h) (open_of h) o) jog found)))
 
-on_line : (first : Opening) (h : Journal) (o : Outcome) → MayBegin first o h → HaltsOrNot o → Halting first h → Halting first (began o ∷ h)
-on_line first h o may (inl (one, work)) (calm a m l p) = pending one (ap halts_next work) work refl (alarm_stands first h o may.begins may.becomes one)
-on_line first h o may (inr (none, work)) (calm a m l p) = calm none m work (none_halts_next o.work work)
-on_line first h o may how (pending a p l w m) = opposite (has_limited h) a may.calm
-on_line first h o may how (to_halt a p l w m) = opposite (has_limited h) a may.calm
-on_line first h o may how (to_tell a p l w m d) = opposite (has_limited h) a may.calm
-on_line first h o may how (ended a p l w m e) = opposite (has_limited h) a may.calm
+on_line : (first : Opening) → is_limited first.motion ≡ false → (h : Journal) (o : Outcome) → MayBegin first o h → HaltsOrNot o → Halting first h → Halting first (began o ∷ h)
+on_line first free h o may (inl (one, work)) (calm a m l p) = pending one (ap halts_next work) work refl (alarm_stands first h o (or_false (begins_in (motion_of first h)) (is_locked first h) may.begins (ap (λ (t : Bool). locked_behind t (lines_of h)) free)) may.becomes one)
+on_line first free h o may (inr (none, work)) (calm a m l p) = calm none m work (none_halts_next o.work work)
+on_line first free h o may how (pending a p l w m) = opposite (has_limited h) a may.calm
+on_line first free h o may how (to_halt a p l w m) = opposite (has_limited h) a may.calm
+on_line first free h o may how (to_tell a p l w m d) = opposite (has_limited h) a may.calm
+on_line first free h o may how (ended a p l w m e) = opposite (has_limited h) a may.calm
 
 -- ---- the plan
 
@@ -273,24 +276,36 @@ drained_to was now (inl idle) then = let e = sym (ap (after on_drained) idle) �
 drained_to was now (inr run) then = let e = sym (ap (after on_drained) run) ∙ then in cc
 
 -- a call that is no limit
-on_other : (first : Opening) (h : Journal) (call : Call) (m : Motion) → (call ≡ on_limit → ⊥) → limit_pending (became call m ∷ h) ≡ limit_pending h → StaysOrReaches m call (motion_of first h)
+on_other : (first : Opening) (h : Journal) (call : Call) (m : Motion) → (call ≡ on_limit → ⊥) → (call ≡ on_unlock → ⊥) → limit_pending (became call m ∷ h) ≡ limit_pending h → StaysOrReaches m call (motion_of first h)
     → ((motion_of first h ≡ Idle) ⊎ (motion_of first h ≡ Run) → left_of first h ≡ halting_work → (m ≡ Idle) ⊎ (m ≡ Run)) → Halting first h → Halting first (became call m ∷ h)
-on_other first h call m other same how goes (calm a n l p) = calm a (stays_calm m (motion_of first h) call other how n) l (same ∙ p)
-on_other first h call m other same how goes (pending a p l w n) = pending a (same ∙ p) l w (goes n l)
-on_other first h call m other same how goes (to_halt a p l w n) = to_halt a (same ∙ p) l w (stays_limited m (motion_of first h) call how n)
-on_other first h call m other same how goes (to_tell a p l w n d) = to_tell a (same ∙ p) l w (stays_alarm m (motion_of first h) call how n) (record { plan = d.plan; hand = d.hand; done = d.done })
-on_other first h call m other same how goes (ended a p l w n e) = ended a (same ∙ p) l w (stays_alarm m (motion_of first h) call how n) e
+on_other first h call m other never same how goes (calm a n l p) = calm a (stays_calm m (motion_of first h) call other how n) l (same ∙ p)
+on_other first h call m other never same how goes (pending a p l w n) = pending a (same ∙ p) l w (goes n l)
+on_other first h call m other never same how goes (to_halt a p l w n) = to_halt a (same ∙ p) l w (stays_limited m (motion_of first h) call never how n)
+on_other first h call m other never same how goes (to_tell a p l w n d) = to_tell a (same ∙ p) l w (stays_alarm m (motion_of first h) call never how n) (record { plan = d.plan; hand = d.hand; done = d.done })
+on_other first h call m other never same how goes (ended a p l w n e) = ended a (same ∙ p) l w (stays_alarm m (motion_of first h) call never how n) e
+
+unlocks_alarm : (was now : Motion) → after on_unlock was ≡ Some now → was ≡ Alarm
+unlocks_alarm Alarm now e = refl
+unlocks_alarm was now e = absurd cc
 
 on_call : (first : Opening) (h : Journal) (call : Call) (m : Motion) → after call (motion_of first h) ≡ Some m → MayHappen first call h → Halting first h → Halting first (became call m ∷ h)
-on_call first h (on_exec word queued) m then may = on_other first h (on_exec word queued) m (λ e. absurd cc) refl (reached (on_exec word queued) (motion_of first h) m then)
+on_call first h (on_exec word queued) m then may = on_other first h (on_exec word queued) m (λ e. absurd cc) (λ e. absurd cc) refl (reached (on_exec word queued) (motion_of first h) m then)
     (λ n l. either_off (motion_of first h) n (may.halts (ap halts_next l)))
-on_call first h (on_start jog) m then may = on_other first h (on_start jog) m (λ e. absurd cc) refl (reached (on_start jog) (motion_of first h) m then)
+on_call first h (on_start jog) m then may = on_other first h (on_start jog) m (λ e. absurd cc) (λ e. absurd cc) refl (reached (on_start jog) (motion_of first h) m then)
     (λ n l. opposite (halts_next (left_of first h)) (ap halts_next l) may.goes)
-on_call first h on_drained m then may = on_other first h on_drained m (λ e. absurd cc) refl (reached on_drained (motion_of first h) m then)
+on_call first h on_drained m then may = on_other first h on_drained m (λ e. absurd cc) (λ e. absurd cc) refl (reached on_drained (motion_of first h) m then)
     (λ n l. inl (drained_to (motion_of first h) m n then))
-on_call first h on_stopped m then may = on_other first h on_stopped m (λ e. absurd cc) refl (reached on_stopped (motion_of first h) m then)
+on_call first h on_stopped m then may = on_other first h on_stopped m (λ e. absurd cc) (λ e. absurd cc) refl (reached on_stopped (motion_of first h) m then)
     (λ n l. either_moves (motion_of first h) n may.stopped.slowed.slows)
 on_call first h on_pause m then may = absurd may
+on_call first h on_unlock m then may = by_stage
+  where
+    by_stage : Halting first h → Halting first (became on_unlock m ∷ h)
+    by_stage (calm a n l p) = opposite (is_limited (motion_of first h)) (ap is_limited (unlocks_alarm (motion_of first h) m then)) n
+    by_stage (pending a p l w n) = opposite (has_limited h) a may.calm
+    by_stage (to_halt a p l w n) = opposite (has_limited h) a may.calm
+    by_stage (to_tell a p l w n d) = opposite (has_limited h) a may.calm
+    by_stage (ended a p l w n e) = opposite (has_limited h) a may.calm
 on_call first h on_limit m then may = by_stage
   where
     by_stage : Halting first h → Halting first (became on_limit m ∷ h)
@@ -358,7 +373,7 @@ halting_is first free (at_port (answered r) ∷ h) c = on_answer first h r c.0 (
 halting_is first free (at_port (published p) ∷ h) c = on_publish first h p c.0.0 (halting_is first free h c.1)
 halting_is first free (at_port (loaded done) ∷ h) c = on_load first h done c.1 c.0 (halting_is first free h c.1)
 halting_is first free (at_port (found_halt done) ∷ h) c = absurd c.0
-halting_is first free (began o ∷ h) c = on_line first h o c.0 (line_halts true (caused first h) (open_of h) o (becomes_caused first h o c.0)) (halting_is first free h c.1)
+halting_is first free (began o ∷ h) c = on_line first free h o c.0 (of_begun first h o HaltsOrNot c.0 (inr (refl, refl)) (line_halts true (caused first h) (open_of h))) (halting_is first free h c.1)
 halting_is first free (did a ps ∷ h) c = on_did first h a ps c.0.0 c.0.1 (halting_is first free h c.1)
 halting_is first free (made_end ∷ h) c = on_end first h c.1 c.0.next (halting_is first free h c.1)
 halting_is first free (evened ∷ h) c = on_asked first h (evened ∷ h) normal c.0.rests.next (λ e. absurd cc) refl (λ e. absurd cc) refl refl (λ e. e) refl (halting_is first free h c.1)

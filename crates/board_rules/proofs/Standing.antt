@@ -15,16 +15,16 @@ use Rattle.run_rules.specs.Work.{Task, Outcome, asks_move, has_moves}
 use Rattle.run_rules.specs.Work.Task.{ask, tell, pause, normal, halt}
 use Rattle.run_rules.specs.Reports.{moves}
 use Rattle.board_rules.specs.Ports.PortStep.{answered}
-use Rattle.board_rules.specs.Steps.{Step, Journal, plan_of, motion_of, left_of, before_of, open_of, closed_tells, behind}
+use Rattle.board_rules.specs.Steps.{Step, Journal, plan_of, motion_of, left_of, before_of, closed_tells, behind}
 use Rattle.board_rules.specs.Steps.Step.{at_port, began, did, made_end, evened, paused, became, cut, halted, closing, turned}
 use Rattle.board_rules.specs.Turns.{has_blocks, stands_still}
 use Rattle.board_rules.specs.Conduct.{Conducted, Gives, IsNextTask, MayDo, MayHappen, MayRest, MayOpen}
 use Rattle.board_rules.specs.Whole.{has_work, comes_to_rest, has_any_moved}
 use Rattle.board_rules.proofs.Opening.{no_moves_told}
 use Rattle.board_rules.proofs.Tasks.{none_taken, none_closed}
-use Rattle.board_rules.proofs.Beginning.{caused, becomes_caused, all_counted}
+use Rattle.board_rules.proofs.Beginning.{all_counted}
 use Rattle.board_rules.proofs.Jogging.{cancel_is_jog, jog_rests}
-use Rattle.board_rules.proofs.Works.{works}
+use Rattle.board_rules.proofs.Works.{begun_rests}
 
 abbrev pub stands : Motion → Bool
 stands motions.Idle = true
@@ -149,7 +149,7 @@ not_cut first h k c (inr calm) = moved_on (motion_of first h) motions.Cancelling
 -- where something moved before, or not
 pub rested_began : (first : Opening) (h : Journal) (o : Outcome) → Conducted first (began o ∷ h) → (moved s m : Bool) → o.settles ≡ s → has_moves o.work ≡ m
     → cond s false (m || moved) ≡ false → (moved ≡ false → Rested first h) → Rested first (began o ∷ h)
-rested_began first h o c moved true m settles moves still rested = inl ((works true (caused first h) (open_of h) o (becomes_caused first h o c.0)).settles settles)
+rested_began first h o c moved true m settles moves still rested = inl ((begun_rests first h o c.0).settles settles)
 rested_began first h o c moved false true settles moves still rested = absurd cc
 rested_began first h o c moved false false settles moves still rested = by_rest (rested still)
   where

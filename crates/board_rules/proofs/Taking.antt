@@ -113,7 +113,6 @@ pub may_request : (first : Opening) (word : Exec) (m : Motion) (h : Journal) →
 may_request first word m h c between unowed asks_none no_reset still becomes stood =
     let none = obeyed_between first h c between unowed in
     let taken : unobeyed_of (at_port (took_exec word) ∷ h) ≡ word ∷ [] = ap (λ (r : Bool). cond r (unobeyed_of h) (unobeyed_of h ++ word ∷ [])) no_reset ∙ ap (λ (words : List Exec). words ++ word ∷ []) none in (
-
       record {
         once = rw between (omega arith);
         adds = λ move next. adds first h move c between next;

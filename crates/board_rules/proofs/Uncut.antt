@@ -1,5 +1,5 @@
 -- Jogs were cut since the cancel only while they are cancelled; and then nothing is planned, nor asked for.
-use Rattle.std.proofs.Common.{◌≡◌, Bool, true, false, ◌&&◌, List, [], ◌∷◌, drop, refl, sym, ap, ◌∙◌}
+use Rattle.std.proofs.Common.{◌≡◌, ◌⊎◌, inl, inr, Bool, true, false, ◌&&◌, List, [], ◌∷◌, drop, refl, sym, ap, ◌∙◌}
 use Rattle.code_table.specs.declared.flags.Exec.{Exec}
 use Rattle.feed_hold.specs.declared.Motion.{Motion}
 use Rattle.feed_hold.specs.declared.Motion.TheVariants as motions
@@ -20,6 +20,7 @@ use Rattle.board_rules.specs.Cuts.{has_cut, is_cancelling}
 use Rattle.board_rules.specs.Conduct.{Conducted, Gives, MayDo}
 use Rattle.board_rules.proofs.Dropping.{asks_dropped}
 use Rattle.board_rules.proofs.Tasks.{none_taken}
+use Rattle.board_rules.proofs.Locking.{begins_or_locked}
 
 -- what is asked for is next of nothing that is asked for
 pub none_asked : (ts : List Task) (a : Asked) → asks ts ≡ [] → ts ≡ ask a ∷ drop 1 ts → ⊥
@@ -60,11 +61,15 @@ did_then first h Reset ps may gives r = absurd may
 not_standing : {A : Type 0} (first : Opening) (h : Journal) → motion_of first h ≡ motions.Idle → IsCutOff first h → A
 not_standing first h stands r = absurd (let e = sym stands ∙ r.cancelled in cc)
 
+not_begun : {A : Type 0} (m : Motion) → m ≡ motions.Cancelling → (begins_in m ≡ true) ⊎ (m ≡ motions.Alarm) → A
+not_begun m is (inl begins) = absurd (let e = sym (ap begins_in is) ∙ begins in cc)
+not_begun m is (inr alarm) = absurd (let e = sym is ∙ alarm in cc)
+
 pub cut_off : (first : Opening) (h : Journal) → Conducted first h → has_cut h ≡ true → IsCutOff first h
 cut_off first [] c is = absurd cc
 cut_off first (at_port (answered r) ∷ h) c is = let o = cut_off first h c.1 is in record { cancelled = o.cancelled; blocks = o.blocks; none = asks_behind (left_of first h) o.none }
 cut_off first (at_port e ∷ h) c is = let o = cut_off first h c.1 is in record { cancelled = o.cancelled; blocks = o.blocks; none = o.none }
-cut_off first (began o ∷ h) c is = absurd (let e = sym (ap begins_in (cut_off first h c.1 is).cancelled) ∙ c.0.begins in cc)
+cut_off first (began o ∷ h) c is = not_begun (motion_of first h) (cut_off first h c.1 is).cancelled (begins_or_locked first h o c)
 cut_off first (did a ps ∷ h) c is = did_then first h a ps c.0.0 c.0.1 (cut_off first h c.1 is)
 cut_off first (made_end ∷ h) c is = absurd (let e = sym (ap stands_still (cut_off first h c.1 is).cancelled) ∙ c.0.stands in cc)
 cut_off first (evened ∷ h) c is = not_standing first h c.0.rests.stands (cut_off first h c.1 is)

@@ -9,6 +9,10 @@ use Rattle.run_rules.specs.Asks.{planned}
 use Rattle.run_rules.specs.Work.{Outcome, telling, asking, has_moves}
 use Rattle.run_rules.specs.Work.Task.{tell}
 use Rattle.run_rules.specs.Outcomes.{Before, Becomes}
+use Rattle.board_rules.specs.Openings.{Opening}
+use Rattle.board_rules.specs.Steps.{Journal, open_of}
+use Rattle.board_rules.specs.Conduct.{MayBegin}
+use Rattle.board_rules.proofs.Beginning.{caused, of_begun}
 use Rattle.board_rules.specs.Whole.{has_work, WorkRests}
 use Rattle.board_rules.proofs.Resting.{settles, still}
 use Rattle.run_rules.proofs.Each.{HoldsOfEach, holds_of_each}
@@ -40,3 +44,7 @@ works runs b kept o is =
       limits = record { settles = λ e. absurd cc; still = λ none. inr refl };
     } in
     holds_of_each runs b WorkRests each kept o is
+
+-- what there is to do of a line that is begun
+pub begun_rests : (first : Opening) (h : Journal) (o : Outcome) → MayBegin first o h → WorkRests o
+begun_rests first h o may = of_begun first h o WorkRests may (record { settles = λ e. absurd cc; still = λ none. inr refl }) (works true (caused first h) (open_of h))

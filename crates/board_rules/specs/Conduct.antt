@@ -7,7 +7,7 @@ use Rattle.code_table.specs.declared.flags.Ovr.{Ovr}
 use Rattle.feed_hold.specs.declared.Motion.{Motion}
 use Rattle.feed_hold.specs.declared.Motion.TheVariants as motions
 use Rattle.feed_hold.specs.Motions.{Call, after, is_stopping}
-use Rattle.feed_hold.specs.Motions.Call.{on_exec, on_start, on_limit, on_pause, on_stopped, on_drained}
+use Rattle.feed_hold.specs.Motions.Call.{on_exec, on_start, on_limit, on_pause, on_stopped, on_drained, on_unlock}
 use Rattle.flight.specs.Places.{machine_from}
 use Rattle.outside.specs.declared.On.{On}
 use Rattle.outside.specs.declared.On.TheVariants as on
@@ -63,6 +63,8 @@ use Rattle.board_rules.specs.Turns.{
   awaits_motion,
   halts_next,
   is_limited,
+  is_locked,
+  awaits_unlock,
   stands_still,
   is_held_up,
   has_blocks,
@@ -122,12 +124,13 @@ pub record MayTake (first : Opening) (h : Journal) : Type 0 where
   pub few : HasTakenFew (port_log h)
 
 -- The next reply is answered, while no report is owed; Bye only with an empty hand, so that all that was given is
--- published by then.
+-- published by then. A machine that a line unlocks is unlocked before that is told.
 pub record MayTell (first : Opening) (r : Reply) (h : Journal) : Type 0 where
   pub next : IsNextTask first (tell r) h
   pub plain : is_report r ≡ false
   pub unowed : OwesNone h
   pub empty : r ≡ Bye → hand_of h ≡ []
+  pub unlocked : awaits_unlock first h ≡ false
 
 -- A word of requests is taken once the last one is obeyed. Fewer than 2 ^ 31 that ask for a report were taken before
 -- one that does, as the port promises.
@@ -265,6 +268,11 @@ pub record MayLimit (first : Opening) (h : Journal) : Type 0 where
   pub next : IsNextTask first halt h
   pub unlimited : is_limited (motion_of first h) ≡ false
 
+-- A line that was begun has unlocked a machine that was locked, and no line has raised an alarm.
+pub record MayUnlock (first : Opening) (h : Journal) : Type 0 where
+  pub calm : has_limited h ≡ false
+  pub unlocked : is_locked first h ≡ false
+
 -- why something happens to the motion; a pause is a step of its own
 abbrev pub MayHappen : Opening → Call → Journal → Type 0
 MayHappen first (on_start jog) h = MayStart first jog h
@@ -273,6 +281,7 @@ MayHappen first (on_exec word queued) h = MayObey first word queued h
 MayHappen first on_limit h = MayLimit first h
 MayHappen first on_pause h = ⊥
 MayHappen first on_stopped h = MayStop first h
+MayHappen first on_unlock h = MayUnlock first h
 
 -- the machine is held for a pause where it stands
 pub record MayPause (first : Opening) (h : Journal) : Type 0 where
@@ -359,7 +368,7 @@ pub record MayBegin (first : Opening) (o : Outcome) (h : Journal) : Type 0 where
   pub going : closed_tells h ≡ []
   pub whole : whole_of h ≡ true
   pub becomes : Found (machine_in (motion_of first h)) (before_of first h) (open_of h) o
-  pub begins : begins_in (motion_of first h) ≡ true
+  pub begins : (begins_in (motion_of first h) || is_locked first h) ≡ true
   pub flags : flags_taken h ≡ true
   pub obeyed : unobeyed_of h ≡ []
   pub unowed : OwesNone h

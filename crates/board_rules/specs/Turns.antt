@@ -14,7 +14,8 @@ use Rattle.outside.specs.declared.Turn.TheVariants.{Wait}
 use Rattle.planner_runs.specs.declared.Action.TheVariants.{Add, Override}
 pub use Rattle.planner_runs.specs.Moving.{has_blocks, is_full, is_slowing, has_segment}
 use Rattle.run_rules.specs.declared.machine.Machine.{Machine}
-use Rattle.run_rules.specs.declared.machine.Machine.TheVariants.{Stands, Runs, Jogs}
+use Rattle.run_rules.specs.declared.machine.Machine.TheVariants.{Stands, Runs, Jogs, Locked}
+use Rattle.run_rules.specs.Locking.{locked_behind}
 use Rattle.run_rules.specs.Work.{Task, has_moves}
 use Rattle.run_rules.specs.Work.Task.{ask, tell, pause, normal, finish, halt}
 use Rattle.run_rules.specs.Outcomes.{jogged_behind, begins_with_dollar}
@@ -22,7 +23,7 @@ use Rattle.step_line.specs.Asking.Asked.{a_move, a_rest}
 use Rattle.board_rules.specs.Openings.{Opening}
 use Rattle.board_rules.specs.Ports.{PortStep, asks_reset, has_changes, owes_in}
 use Rattle.board_rules.specs.Ports.PortStep.{took, found_empty, found_closed, found_free, answered, reported, no_reply_room, took_exec, took_ovr, published, no_piece_room, loaded}
-use Rattle.board_rules.specs.Steps.{Step, Journal, port_log, open_of, whole_of, left_of, plan_of, motion_of}
+use Rattle.board_rules.specs.Steps.{Step, Journal, port_log, open_of, whole_of, lines_of, has_limited, left_of, plan_of, motion_of}
 use Rattle.board_rules.specs.Steps.Step.{at_port, began, did, made_end, evened, paused, became, cut, halted, closing, turned}
 
 -- the steps after the last turn's end
@@ -228,6 +229,7 @@ starts_before_line first h = starts_cycle first h || (whole_of h && begins_with_
 abbrev pub machine_in : Motion → Machine
 machine_in Run = Runs
 machine_in Jog = Jogs
+machine_in Alarm = Locked
 machine_in _ = Stands
 
 -- the machine stands, and does not go on by itself
@@ -235,6 +237,19 @@ abbrev pub stands_still : Motion → Bool
 stands_still Idle = true
 stands_still Alarm = true
 stands_still _ = false
+
+-- it stands in alarm
+abbrev pub is_alarm : Motion → Bool
+is_alarm Alarm = true
+is_alarm _ = false
+
+-- one that was locked at the opening is so until a line unlocks it
+abbrev pub is_locked : Opening → Journal → Bool
+is_locked first h = locked_behind (is_limited first.motion) (lines_of h)
+
+-- such a line was begun, and it stands in alarm still, for nothing else
+abbrev pub awaits_unlock : Opening → Journal → Bool
+awaits_unlock first h = is_alarm (motion_of first h) && (not (is_locked first h) && not (has_limited h))
 
 -- a line may be begun
 abbrev pub begins_in : Motion → Bool

@@ -7,7 +7,7 @@ ghost use Rattle.feed_hold.specs.declared.Motion.{Motion as AnyMotion};
 ghost use Rattle.feed_hold.specs.declared.Motion.TheVariants.{Idle, Run, Holding, Held, Jog, Cancelling, Stopping, Alarm};
 ghost use Rattle.feed_hold.specs.Motions.{after, is_stopping};
 ghost use Rattle.feed_hold.specs.Motions.{Call};
-ghost use Rattle.feed_hold.specs.Motions.Call.{on_exec, on_start, on_stopped};
+ghost use Rattle.feed_hold.specs.Motions.Call.{on_exec, on_start, on_stopped, on_unlock};
 ghost use Rattle.flight.specs.Flights.{BeginsAt};
 ghost use Rattle.flight.specs.Places.{machine_from, machine_at, end_from};
 ghost use Rattle.outside.specs.declared.On.{On as AnyOn};
@@ -23,6 +23,7 @@ ghost use Rattle.run_rules.specs.Work.{Outcome, is_limit, tells, asks};
 ghost use Rattle.run_rules.specs.Work.Task.{ask, tell};
 ghost use Rattle.run_rules.specs.Told.{replies_after, replies_in, asked_in, limits_in};
 ghost use Rattle.run_rules.specs.Outcomes.{Before, Becomes, Passed, Follows, start, became_of};
+ghost use Rattle.run_rules.specs.Locking.{BecomesIn, FollowsFrom};
 ghost use Rattle.run_rules.specs.Outcomes.Passed.{a_line};
 ghost use Rattle.status_report.specs.declared.Reply.{Reply as AnyReply};
 ghost use Rattle.status_report.specs.Replies.{IsReply};
@@ -107,6 +108,7 @@ ghost use Rattle.board_rules.specs.Turns.{
   is_full,
   halts_next,
   is_limited,
+  is_locked,
   starts_cycle,
   has_jog_to_start,
   is_going,
@@ -123,7 +125,7 @@ ghost use Rattle.board_rules.specs.Whole.{AreLines, IsSpent, OneByOne, WorkRests
 /// for was asked (`added`). No byte of a line is taken while a task of the line before is left. If jogs are cut, what is asked is that since the last cut.
 pub fn boards_keep_to_their_lines()
     ensures bytes { (first : Opening) (h : Journal) → Conducted first h → AreLines (taken_of h) (lines_of h) (open_of h) (whole_of h) }
-    ensures follow { (first : Opening) (h : Journal) → Conducted first h → Follows true (before_first first) (lines_of h) (passed_of first h) (before_of first h) }
+    ensures follow { (first : Opening) (h : Journal) → Conducted first h → FollowsFrom (is_limited first.motion) true (before_first first) (lines_of h) (passed_of first h) (before_of first h) }
     ensures lines { (first : Opening) (h : Journal) → became_of (passed_of first h) ≡ outcomes_of h }
     ensures told { (first : Opening) (h : Journal) → Conducted first h → replies_after first.tells (outcomes_of h) ++ closed_tells h ≡ without_reports (answered_of h) ++ tells (left_of first h) }
     ensures bye { (first : Opening) (h : Journal) → Conducted first h → (closed_tells h ≡ []) ⊎ (closed_tells h ≡ AnyReply.Bye ∷ []) }
@@ -215,7 +217,7 @@ pub fn boards_move_by_their_lines()
     ensures running { (first : Opening) (h : Journal) → Conducted first h → motion_of first h ≡ Run → (before_of first h).jogged ≡ false }
     ensures jogging { (first : Opening) (h : Journal) → Conducted first h → motion_of first h ≡ Jog → (before_of first h).jogged ≡ true }
     ensures moved { (first : Opening) (h : Journal) (o : Outcome) → Conducted first (began o ∷ h) → motion_of first h ≡ Run → (before_of first h).moved ≡ true }
-    ensures becomes { (first : Opening) (h : Journal) (o : Outcome) → Conducted first (began o ∷ h) → Becomes true (before_of first h) (open_of h) o }
+    ensures becomes { (first : Opening) (h : Journal) (o : Outcome) → Conducted first (began o ∷ h) → BecomesIn (is_locked first h) true (before_of first h) (open_of h) o }
 {}
 
 /// A line is refused for the machine's motion, with error 8 or 9, only if the machine was found moving. Unless the line
@@ -223,7 +225,7 @@ pub fn boards_move_by_their_lines()
 /// published, or an event was left to run, in the plan or in hand.
 pub fn boards_refuse_only_while_they_move()
     ensures moving { (first : Opening) (h : Journal) (o : Outcome) → Conducted first (began o ∷ h) →
-        (Becomes false (before_of first h) (open_of h) o → ⊥) → IsFoundMoving first h }
+        (BecomesIn (is_locked first h) false (before_of first h) (open_of h) o → ⊥) → IsFoundMoving first h }
 {}
 
 /// A board publishes one thing a turn at most, also in one that ends in a wait, and between two turns no more than five tries to publish come after
@@ -388,6 +390,18 @@ pub fn boards_end_well()
     ensures { (first : Opening) (h : Journal) → Conducted first h → IsFinished first h → IsSpent h }
 {}
 
+/// A machine that was locked at the opening stands in alarm until a line is begun that unlocks it; it is unlocked after
+/// that alone, once, and before anything else is told. A line that is begun while it is locked asks nothing of it.
+pub fn machines_are_unlocked_by_lines()
+    ensures stands { (first : Opening) (h : Journal) → Conducted first h → is_locked first h ≡ true → motion_of first h ≡ Alarm }
+    ensures unlocked { (first : Opening) (h : Journal) (m : AnyMotion) → Conducted first (became on_unlock m ∷ h) →
+        (motion_of first h ≡ Alarm) × (m ≡ Idle) × (is_locked first h ≡ false) × (has_limited h ≡ false) × (first.motion ≡ Alarm) }
+    ensures told { (first : Opening) (h : Journal) (r : AnyReply) → Conducted first (at_port (answered r) ∷ h) →
+        motion_of first h ≡ Alarm → has_limited h ≡ false → is_locked first h ≡ true }
+    ensures asks { (first : Opening) (h : Journal) (o : Outcome) → Conducted first (began o ∷ h) → is_locked first h ≡ true →
+        (asks o.work ≡ []) × (is_limit o.answer ≡ false) × (o.next.parser ≡ (before_of first h).state.parser) }
+{}
+
 /// A run may begin from its first opening: the next line is the first one, the position is where the machine stands, at
 /// the origin, and it is not locked. So what holds of a journal from any opening holds of a run.
 pub fn runs_begin_from_an_opening()
@@ -396,6 +410,9 @@ pub fn runs_begin_from_an_opening()
     ensures placed { (state : State) → IsOpening state → IsPlaced (first_opening state) }
     ensures machine { (state : State) (ps : List AnyPiece) (done : ℕ) → machine_from (first_opening state).place ps done ≡ machine_at ps done }
     ensures free { (state : State) (h : Journal) → IsLocked (first_opening state) h → ⊥ }
+    ensures unlocked { (state : State) (h : Journal) → is_locked (first_opening state) h ≡ false }
+    ensures follow { (state : State) (h : Journal) → Conducted (first_opening state) h →
+        Follows true (start state) (lines_of h) (passed_of (first_opening state) h) (before_of (first_opening state) h) }
     ensures told { (state : State) (outcomes : List Outcome) → replies_after (first_opening state).tells outcomes ≡ replies_in outcomes }
 {}
 

@@ -10,6 +10,7 @@ pub use laws::{
     boards_lead_the_machine, boards_move_by_their_lines, boards_refuse_only_while_they_move,
     boards_report_where_they_are, boards_run_their_plan, boards_stand_where_nothing_moved,
     boards_take_their_flags, boards_take_turns, boards_wait_for_a_cause, cuts_are_at_known_places,
-    cuts_lose_jogs_alone, halts_drop_what_is_left, lines_follow_cuts, runs_begin_from_an_opening,
+    cuts_lose_jogs_alone, halts_drop_what_is_left, lines_follow_cuts,
+    machines_are_unlocked_by_lines, runs_begin_from_an_opening,
 };
 pub use ports::BoardPort;

@@ -1,4 +1,10 @@
-use Rattle.std.proofs.Common.{refl, sym, ap}
+use Rattle.std.proofs.Common.{true, refl, sym, ap}
+use Rattle.run_rules.specs.Outcomes.{start}
+use Rattle.run_rules.proofs.Locking.{free_follows}
+use Rattle.board_rules.specs.Openings.{first_opening}
+use Rattle.board_rules.specs.Steps.{before_of, lines_of}
+use Rattle.board_rules.specs.Cuts.{passed_of}
+use Rattle.board_rules.proofs.Lines.{lines_follow}
 use Rattle.modal_state.specs.declared.Parser.{Parser}
 use Rattle.board_rules.proofs.Example.{opens}
 use Rattle.board_rules.proofs.laws.runs_begin_from_an_opening.Goals as goal
@@ -20,3 +26,10 @@ returns-clause-free c = λ state h locked. absurd (let e = locked.0 in cc)
 
 pub returns-clause-told : goal.returns-clause-told
 returns-clause-told c = λ state outcomes. refl
+
+pub returns-clause-unlocked : goal.returns-clause-unlocked
+returns-clause-unlocked c = λ state h. refl
+
+pub returns-clause-follow : goal.returns-clause-follow
+returns-clause-follow c = λ state h conducted.
+    free_follows true (start state) (before_of (first_opening state) h) (lines_of h) (passed_of (first_opening state) h) (lines_follow (first_opening state) h conducted)
