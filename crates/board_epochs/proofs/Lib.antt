@@ -1,0 +1,12 @@
+pub mod Opening
+pub mod Prompting
+pub mod Onto
+pub mod Working
+pub mod Seam
+pub mod Chaining
+pub mod Greeted
+pub mod Marking
+pub mod Bounding
+pub mod Asking
+pub mod Telling
+pub mod Texts

@@ -1,0 +1,4 @@
+pub mod Resets
+pub mod Work
+pub mod Bounds
+pub mod Epochs
