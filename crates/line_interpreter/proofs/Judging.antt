@@ -22,10 +22,11 @@ use Rattle.run_rules.specs.declared.State.{State}
 use Rattle.run_rules.specs.Asks.{item_work, work_of, spindle_after, flood_after}
 use Rattle.run_rules.specs.Outcomes.{Before, refused, told, BySetting, ByCommand, ByVerdict, ByWords, ByJogMove, ByJog, ByServed, either, most_kept}
 use Rattle.run_rules.specs.declared.machine.Machine.{Machine}
-use Rattle.run_rules.specs.Finding.{refuses, locks, ByDollarFound, ByCodeFound, ByKeptFound, Found}
+use Rattle.run_rules.specs.Locking.{unlocked}
+use Rattle.run_rules.specs.Finding.{refuses, locks, is_unlocked_by, ByDollarFound, ByCodeFound, ByKeptFound, Found}
 use Rattle.status_report.specs.Lists.{setting_replies, modes_replies, offset_replies}
 use Rattle.line_interpreter.specs.declared.tasks.Body.{Body}
-use Rattle.line_interpreter.specs.declared.tasks.Body.TheVariants.{Items, Accepted, Settings, Modes, Offsets}
+use Rattle.line_interpreter.specs.declared.tasks.Body.TheVariants.{Items, Accepted, Unlocks, Settings, Modes, Offsets}
 use Rattle.line_interpreter.specs.declared.desk.Desk.{Desk}
 use Rattle.line_interpreter.specs.declared.desk.Accepted.TheVariants.{Neither}
 use Rattle.line_interpreter.specs.Desks.{IsReady, Begun}
@@ -80,16 +81,19 @@ kept_code m b (c ∷ cs) byte o first other by =
 pub dollar_refused : (m : Machine) (b : Before) (kept : List ℕ) → refuses m (kind_of kept) ≡ true → ByDollarFound m b kept (refused b 8)
 dollar_refused m b kept busy = either_first (refuses m (kind_of kept)) _ _ busy refl
 
-dollar_served : (m : Machine) (b : Before) (kept : List ℕ) (o : Outcome) → refuses m (kind_of kept) ≡ false → ByServed b kept o → ByDollarFound m b kept o
-dollar_served m b kept o served by = either_second (refuses m (kind_of kept)) _ _ served by
+pub dollar_unlocks : (m : Machine) (b : Before) (kept : List ℕ) → refuses m (kind_of kept) ≡ false → is_unlocked_by m (kind_of kept) ≡ true → ByDollarFound m b kept (unlocked b)
+dollar_unlocks m b kept served unlocks = either_second (refuses m (kind_of kept)) _ _ served (either_first (is_unlocked_by m (kind_of kept)) _ _ unlocks refl)
 
-pub jog_served : (m : Machine) (b : Before) (kept : List ℕ) (o : Outcome) → refuses m (kind_of kept) ≡ false → is_jog (kind_of kept) ≡ true
+dollar_served : (m : Machine) (b : Before) (kept : List ℕ) (o : Outcome) → refuses m (kind_of kept) ≡ false → is_unlocked_by m (kind_of kept) ≡ false → ByServed b kept o → ByDollarFound m b kept o
+dollar_served m b kept o served other by = either_second (refuses m (kind_of kept)) _ _ served (either_second (is_unlocked_by m (kind_of kept)) _ _ other by)
+
+pub jog_served : (m : Machine) (b : Before) (kept : List ℕ) (o : Outcome) → refuses m (kind_of kept) ≡ false → is_unlocked_by m (kind_of kept) ≡ false → is_jog (kind_of kept) ≡ true
     → ByJog b (words_of (jog_words kept)) o → ByDollarFound m b kept o
-jog_served m b kept o served jogs by = dollar_served m b kept o served (either_first (is_jog (kind_of kept)) _ _ jogs by)
+jog_served m b kept o served none jogs by = dollar_served m b kept o served none (either_first (is_jog (kind_of kept)) _ _ jogs by)
 
-pub command_served : (m : Machine) (b : Before) (kept : List ℕ) (o : Outcome) → refuses m (kind_of kept) ≡ false → is_jog (kind_of kept) ≡ false
+pub command_served : (m : Machine) (b : Before) (kept : List ℕ) (o : Outcome) → refuses m (kind_of kept) ≡ false → is_unlocked_by m (kind_of kept) ≡ false → is_jog (kind_of kept) ≡ false
     → ByCommand b (command_of kept) o → ByDollarFound m b kept o
-command_served m b kept o served other by = dollar_served m b kept o served (either_second (is_jog (kind_of kept)) _ _ other by)
+command_served m b kept o served none other by = dollar_served m b kept o served none (either_second (is_jog (kind_of kept)) _ _ other by)
 
 pub code_refused : (m : Machine) (b : Before) (kept : List ℕ) → locks m ≡ true → ByCodeFound m b kept (refused b 9)
 code_refused m b kept locked = either_first (locks m) _ _ locked refl
@@ -121,6 +125,10 @@ settings_begun old new same = rw same (record { state = refl; left = append-nil 
 pub modes_begun : (old new : Desk) → new ≡ with_body old Modes → Begun new (told old.state (modes_replies old.state.parser)) Neither
 modes_begun old new same = rw same (record { state = refl; left = append-nil _; answer = refl })
 
+-- and a line that unlocks the machine
+pub unlock_begun : (old new : Desk) (b : Before) → b.state ≡ old.state → new ≡ with_body old Unlocks → Begun new (unlocked b) Neither
+unlock_begun old new b is same = rw same (record { state = sym is; left = refl; answer = refl })
+
 pub offsets_begun : (old new : Desk) → new ≡ with_body old Offsets → Begun new (told old.state (offset_replies old.state.parser.offsets)) Neither
 offsets_begun old new same = rw same (record { state = refl; left = append-nil _; answer = refl })
 
@@ -132,6 +140,9 @@ begun_ready old new body same ready = rw same (record { state = ready.state; num
 
 pub accepted_alone : Accepted ≡ Items → ⊥
 accepted_alone e = cc
+
+pub unlocks_alone : Unlocks ≡ Items → ⊥
+unlocks_alone e = cc
 
 pub settings_alone : Settings ≡ Items → ⊥
 settings_alone e = cc

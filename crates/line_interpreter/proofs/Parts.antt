@@ -26,7 +26,7 @@ use Rattle.run_rules.specs.Asks.{item_work, planned, move_asked}
 use Rattle.run_rules.proofs.Items.{PassesTasks, holds_of_work}
 use Rattle.line_interpreter.specs.declared.tasks.Line.{Line}
 use Rattle.line_interpreter.specs.declared.tasks.Body.{Body}
-use Rattle.line_interpreter.specs.declared.tasks.Body.TheVariants.{Opening, Closing, Accepted, Refused, Settings as TheSettings, Modes, Offsets as TheOffsets, Limited, Items}
+use Rattle.line_interpreter.specs.declared.tasks.Body.TheVariants.{Opening, Closing, Accepted, Unlocks, Refused, Settings as TheSettings, Modes, Offsets as TheOffsets, Limited, Items}
 use Rattle.line_interpreter.specs.declared.tasks.Todo.{Todo}
 use Rattle.line_interpreter.specs.declared.tasks.Todo.TheVariants as todo
 use Rattle.line_interpreter.specs.Lefts.{IsTodo, IsNextOf, IsSettled, part, part_of, part_left, later, work_left}
@@ -228,6 +228,7 @@ part_moves : (body : Body) (line : ℕ) (s : State) (spindle : SpindleMode) (flo
 part_moves Opening line s spindle flood all place k m e = absurd (no_move m _ k tt e)
 part_moves Closing line s spindle flood all place k m e = absurd (no_move m _ k tt e)
 part_moves Accepted line s spindle flood all place k m e = absurd (no_move m _ k tt e)
+part_moves Unlocks line s spindle flood all place k m e = absurd (no_move m _ k tt e)
 part_moves (Refused n) line s spindle flood all place k m e = absurd (no_move m _ k tt e)
 part_moves TheSettings line s spindle flood all place k m e = absurd (no_move m _ k (told_no_moves (setting_replies s.settings ++ replies.Ok ∷ [])) e)
 part_moves Modes line s spindle flood all place k m e = absurd (no_move m _ k tt e)
@@ -367,6 +368,7 @@ part_few : (body : Body) (line : ℕ) (s : State) (spindle : SpindleMode) (flood
 part_few Opening line s spindle flood all = omega arith
 part_few Closing line s spindle flood all = omega arith
 part_few Accepted line s spindle flood all = omega arith
+part_few Unlocks line s spindle flood all = omega arith
 part_few (Refused n) line s spindle flood all = omega arith
 part_few TheSettings line s spindle flood all = let few = settings_few s.settings in omega (arith, few)
 part_few Modes line s spindle flood all = omega arith

@@ -1,5 +1,6 @@
 -- What is left to do of a line.
 use Rattle.std.specs.Prelude.{◌≡◌, ℕ, ◌≤◌, Bool, List, [], ◌∷◌, ◌++◌, drop, All}
+use Rattle.status_report.specs.declared.Message.TheVariants.{Unlocked}
 use Rattle.status_report.specs.declared.Reply.TheVariants as replies
 use Rattle.status_report.specs.declared.Reply.{Reply}
 use Rattle.status_report.specs.Lists.{setting_replies, modes_replies, offset_replies}
@@ -15,7 +16,7 @@ use Rattle.run_rules.specs.Work.Task.{ask, tell, pause, normal, finish, halt}
 use Rattle.run_rules.specs.Asks.{spindle_after, flood_after, item_work, work_of}
 use Rattle.line_interpreter.specs.declared.tasks.Line.{Line}
 use Rattle.line_interpreter.specs.declared.tasks.Body.{Body}
-use Rattle.line_interpreter.specs.declared.tasks.Body.TheVariants.{Opening, Closing, Accepted, Refused, Settings as TheSettings, Modes, Offsets, Limited, Items}
+use Rattle.line_interpreter.specs.declared.tasks.Body.TheVariants.{Opening, Closing, Accepted, Unlocks, Refused, Settings as TheSettings, Modes, Offsets, Limited, Items}
 use Rattle.line_interpreter.specs.declared.tasks.Todo.{Todo}
 use Rattle.line_interpreter.specs.declared.tasks.Todo.TheVariants as todo
 
@@ -24,6 +25,7 @@ abbrev pub part : Body → ℕ → State → SpindleMode → Bool → List Item 
 part Opening line s spindle flood items = tell replies.Banner ∷ []
 part Closing line s spindle flood items = closing_work
 part Accepted line s spindle flood items = tell replies.Ok ∷ []
+part Unlocks line s spindle flood items = telling (replies.Message Unlocked ∷ replies.Ok ∷ [])
 part (Refused n) line s spindle flood items = tell (replies.Error n) ∷ []
 part TheSettings line s spindle flood items = telling (setting_replies s.settings ++ replies.Ok ∷ [])
 part Modes line s spindle flood items = telling (modes_replies s.parser ++ replies.Ok ∷ [])
@@ -37,6 +39,7 @@ abbrev pub behind_part : Body → ℕ → State → SpindleMode → Bool → Lis
 behind_part Opening line s spindle flood items = []
 behind_part Closing line s spindle flood items = []
 behind_part Accepted line s spindle flood items = []
+behind_part Unlocks line s spindle flood items = []
 behind_part (Refused n) line s spindle flood items = []
 behind_part TheSettings line s spindle flood items = []
 behind_part Modes line s spindle flood items = []

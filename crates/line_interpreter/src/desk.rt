@@ -200,7 +200,7 @@ impl Desk {
         }
     }
 
-    /// Judges a line of G-code where the machine is found so: in a jog it is refused.
+    /// Judges a line of G-code where the machine is found so: in a jog, and while it is locked, it is refused.
     fn judge_code_found(&mut self, kept: &[u8], machine: Machine) -> Accepted
         requires short { length kept.now ≤ 79 }
         requires ready { IsReady self.old }
@@ -272,6 +272,10 @@ impl Desk {
         let kind = Kind::of(kept);
         if machine.refuses(kind) {
             return self.refuse(8);
+        }
+        if machine.is_unlocked_by(kind) {
+            self.begin(Body::Unlocks);
+            return Accepted::Neither;
         }
         if kind.is_jog() {
             return self.judge_jog(kept);

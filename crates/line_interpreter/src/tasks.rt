@@ -70,6 +70,8 @@ pub(crate) enum Body {
     Closing,
     /// `ok` alone.
     Accepted,
+    /// That the machine is unlocked, and `ok`.
+    Unlocks,
     /// An error.
     Refused(u8),
     /// The settings, and `ok`.
@@ -348,6 +350,19 @@ fn modes_told(parser: &Parser, stage: u8) -> Reply
     }
 }
 
+/// The reply that is next of a line that unlocks the machine.
+fn unlock_told(stage: u8) -> Reply
+    ensures next { (reply : AnyReply) → IsNextOf (tell reply) (drop stage (telling (Reply.Message Message.Unlocked ∷ Reply.Ok ∷ []))) → result ≡ reply }
+    ensures valid { IsReply result }
+    ensures plain { is_report result ≡ false }
+{
+    if stage == 0 {
+        Reply::Message(Message::Unlocked)
+    } else {
+        Reply::Ok
+    }
+}
+
 impl Line {
     /// Nothing is left of it.
     pub(crate) fn opening() -> Line
@@ -409,6 +424,7 @@ impl Line {
             Body::Closing => closing_todo(self.stage),
             Body::Settings => told_todo(SETTING_REPLIES + 1, self.stage),
             Body::Modes => told_todo(2, self.stage),
+            Body::Unlocks => told_todo(2, self.stage),
             Body::Offsets => told_todo(OFFSET_REPLIES + 1, self.stage),
             Body::Limited => halting_todo(self.stage),
             Body::Items => self.items_todo(),
@@ -455,6 +471,7 @@ impl Line {
             Body::Refused(number) => Reply::Error(number),
             Body::Settings => setting_told(&state.settings, self.stage),
             Body::Modes => modes_told(&state.parser, self.stage),
+            Body::Unlocks => unlock_told(self.stage),
             Body::Offsets => offset_told(&state.parser.offsets, self.stage),
             Body::Limited => halting_told(self.stage),
             Body::Accepted => Reply::Ok,

@@ -44,6 +44,13 @@ returns-in-Modes c = record {
   plain = c.modes_told.ensures.plain;
 }
 
+pub returns-in-Unlocks : goal.returns-in-Unlocks
+returns-in-Unlocks c = record {
+  next = λ reply is. c.unlock_told.ensures.next reply (part_by c.args.self.now c.args.state.now bodies.Unlocks (tell reply) c.in-Unlocks.is is);
+  valid = c.unlock_told.ensures.valid;
+  plain = c.unlock_told.ensures.plain;
+}
+
 pub returns-in-Offsets : goal.returns-in-Offsets
 returns-in-Offsets c = record {
   next = λ reply is. c.offset_told.ensures.next reply (part_by c.args.self.now c.args.state.now bodies.Offsets (tell reply) c.in-Offsets.is is);

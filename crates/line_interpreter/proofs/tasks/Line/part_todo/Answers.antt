@@ -1,7 +1,8 @@
 use Rattle.std.proofs.Common.{[], ◌∷◌, ◌++◌, refl}
 use Rattle.status_report.specs.Lists.{setting_replies, modes_replies, offset_replies}
+use Rattle.status_report.specs.declared.Message.TheVariants.{Unlocked}
 use Rattle.status_report.specs.declared.Reply.TheVariants as replies
-use Rattle.line_interpreter.specs.declared.tasks.Body.TheVariants.{Opening, Accepted, Refused, Settings, Modes, Offsets}
+use Rattle.line_interpreter.specs.declared.tasks.Body.TheVariants.{Opening, Accepted, Unlocks, Refused, Settings, Modes, Offsets}
 use Rattle.line_interpreter.proofs.Parts.{todo_by_body, settings_many, offsets_many}
 use Rattle.line_interpreter.proofs.tasks.Line.part_todo.Goals as goal
 
@@ -19,6 +20,9 @@ returns-in-Settings c = record { next = λ s. todo_by_body c.told_todo-in-Settin
 
 pub returns-in-Modes : goal.returns-in-Modes
 returns-in-Modes c = record { next = λ s. todo_by_body c.told_todo-in-Modes.result c.args.self.now s Modes c.in-Modes.is (c.told_todo-in-Modes.ensures.next (modes_replies s.parser ++ replies.Ok ∷ []) refl) }
+
+pub returns-in-Unlocks : goal.returns-in-Unlocks
+returns-in-Unlocks c = record { next = λ s. todo_by_body c.told_todo-in-Unlocks.result c.args.self.now s Unlocks c.in-Unlocks.is (c.told_todo-in-Unlocks.ensures.next (replies.Message Unlocked ∷ replies.Ok ∷ []) refl) }
 
 pub returns-in-Offsets : goal.returns-in-Offsets
 returns-in-Offsets c = record { next = λ s. todo_by_body c.told_todo-in-Offsets.result c.args.self.now s Offsets c.in-Offsets.is (c.told_todo-in-Offsets.ensures.next (offset_replies s.parser.offsets ++ replies.Ok ∷ []) (offsets_many s.parser.offsets)) }
