@@ -143,9 +143,10 @@ abbrev pub replans : Step → Bool
 replans (did (Override o) ps) = true
 replans _ = false
 
--- a word of requests is taken that lets a held machine stay so
+-- A word of requests is taken that lets a held machine stay so: it asks for a reset, and is not obeyed, or it asks for no start, or for a
+-- hold.
 abbrev pub asks_no_start : Step → Bool
-asks_no_start (at_port (took_exec word)) = not (asks word start_byte) || asks word hold_byte
+asks_no_start (at_port (took_exec word)) = asks_reset word || (not (asks word start_byte) || asks word hold_byte)
 asks_no_start _ = false
 
 abbrev pub requests_at : PortStep → Bool → Bool

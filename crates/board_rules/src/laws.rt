@@ -58,7 +58,7 @@ ghost use Rattle.board_rules.specs.Cuts.{
   pending,
   cancel_words_in,
 };
-ghost use Rattle.board_rules.specs.Ports.{MayAnswer, MayPublish, MayBeDone, sent_in, unstopped, has_held_in, has_slowed_in, has_changed_in, reports_in};
+ghost use Rattle.board_rules.specs.Ports.{MayAnswer, MayPublish, MayBeDone, asks_reset, sent_in, unstopped, has_held_in, has_slowed_in, has_changed_in, reports_in};
 ghost use Rattle.board_rules.specs.Whole.{course_of};
 ghost use Rattle.run_rules.specs.Reports.{Reported};
 ghost use Rattle.board_rules.specs.Ports.PortStep.{answered, took_exec, reported, published};
@@ -244,7 +244,7 @@ pub fn boards_take_turns()
 
 /// A line is begun once both words of flags were taken after its LF, what they ask for is done, and no report is owed.
 /// When anything is waited for, both were taken since the last wait, and obeyed. A word of requests lets a machine that
-/// is held stay so if it asks for no start, or for a hold. A machine that slows down is held, or in alarm, once it has
+/// is held stay so if it asks for a reset, since it is not obeyed then, or asks for no start, or for a hold. A machine that slows down is held, or in alarm, once it has
 /// stopped and each tick is done; and one whose jogs were cancelled stands then, once its jogs were cut. The board
 /// looks for that before it obeys a word, so that a machine that has stopped is held by then, or its jogs are cut. A
 /// word is obeyed while a report is owed only if there was no room for it in that turn.
@@ -252,7 +252,7 @@ pub fn boards_take_their_flags()
     ensures begun { (first : Opening) (h : Journal) (o : Outcome) → Conducted first (began o ∷ h) → (requests_taken h ≡ true) × (changes_taken h ≡ true) }
     ensures worked { (first : Opening) (h : Journal) (o : Outcome) → Conducted first (began o ∷ h) → (unobeyed_of h ≡ []) × (owes_report h ≡ false) }
     ensures waited { (first : Opening) (h : Journal) (o : AnyOn) → Conducted first (turned (Wait o) ∷ h) → (requests_taken h ≡ true) × ((changes_taken h ≡ true) × (unobeyed_of h ≡ [])) }
-    ensures stays { (word : AnyExec) (queued : Bool) → (asks_no_start (at_port (took_exec word)) ≡ true) ↔ (after (on_exec word queued) Held ≡ Some Held) }
+    ensures stays { (word : AnyExec) (queued : Bool) → (asks_no_start (at_port (took_exec word)) ≡ true) ↔ ((asks_reset word ≡ true) ⊎ (after (on_exec word queued) Held ≡ Some Held)) }
     ensures held { (first : Opening) (h : Journal) (m : AnyMotion) → Conducted first (became on_stopped m ∷ h) → MayStop first h }
     ensures reported { (first : Opening) (h : Journal) (word : AnyExec) (queued : Bool) (m : AnyMotion) → Conducted first (became (on_exec word queued) m ∷ h) →
         owes_report h ≡ true → list_any lacks_reply_room (this_turn h) ≡ true }
