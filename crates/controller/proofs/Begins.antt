@@ -19,8 +19,8 @@ use Rattle.board_rules.specs.Ports.PortStep.{answered, no_reply_room}
 use Rattle.board_rules.specs.Steps.{Step}
 use Rattle.board_rules.specs.Steps.Step.{at_port, began, became}
 use Rattle.board_rules.specs.Cuts.{has_cut, is_cancelling}
-use Rattle.board_rules.proofs.Beginning.{caused, becomes_caused}
-use Rattle.board_rules.specs.Turns.{this_turn, publishing, moving, owes_report, unobeyed_of, flags_taken, found_none, has_blocks, has_jogged, machine_in, tries_of, missed_of, is_due, is_full, awaits_motion, halts_next, is_limited, starts_cycle}
+use Rattle.board_rules.proofs.Beginning.{caused, of_begun}
+use Rattle.board_rules.specs.Turns.{this_turn, publishing, moving, owes_report, unobeyed_of, flags_taken, found_none, has_blocks, has_jogged, machine_in, tries_of, missed_of, is_due, is_full, awaits_motion, halts_next, is_limited, is_locked, begins_in, starts_cycle}
 use Rattle.board_rules.specs.Conduct.{MayBegin, MayStart}
 use Rattle.controller.specs.declared.controller.Controller.{Controller}
 use Rattle.board_machine.specs.declared.machine.Machine.{Machine}
@@ -51,6 +51,9 @@ or_none a b false d ea eb ed = cc
 and_none : (a b : Bool) → a ≡ false → (a && b) ≡ false
 and_none a b e = cc
 
+either_true : (a b : Bool) → a ≡ true → (a || b) ≡ true
+either_true a b e = cc
+
 -- what was found of a line may become of it
 pub may_begin : (first : Opening) (h : Journal) (o : Outcome) → MayJudge first h → has_limited h ≡ false → Found (machine_in (motion_of first h)) (before_of first h) (open_of h) o → MayBegin first o h
 may_begin first h o may calm found = record {
@@ -59,7 +62,7 @@ may_begin first h o may calm found = record {
   going = may.looked.going;
   whole = may.looked.whole;
   becomes = found;
-  begins = may.looked.begins;
+  begins = either_true (begins_in (motion_of first h)) (is_locked first h) may.looked.begins;
   flags = may.looked.flags;
   obeyed = may.looked.worked.obeyed may.looked.unowed;
   unowed = may.looked.unowed;
@@ -126,7 +129,7 @@ limit_to m (inr run) = ap (after_call on_limit) run ∙ ap (λ x. Some (limit_mo
 
 -- it raises an alarm
 alarms : (first : Opening) (was now : Controller) (h : Journal) (o : Outcome) → IsJudged first was now h o → halts_next o.work ≡ true → is_limit o.answer ≡ true
-alarms first was now h o j halts = by_line (line_halts true (caused first h) (open_of h) o (becomes_caused first h o (begins first was now h o j)))
+alarms first was now h o j halts = by_line (of_begun first h o HaltsOrNot (begins first was now h o j) (inr (refl, refl)) (line_halts true (caused first h) (open_of h)))
   where
     by_line : HaltsOrNot o → is_limit o.answer ≡ true
     by_line (inl (one, work)) = one

@@ -1,12 +1,14 @@
 -- Where what is next is held up, the stop is waited for, and then the resume.
-use Rattle.std.proofs.Common.{◌≡◌, ℕ, ◌+◌, ◌≤◌, ◌<◌, ◌⊎◌, inl, inr, Bool, true, false, ◌&&◌, ◌||◌, not, List, [], ◌∷◌, ◌++◌, length, drop, nat_eq, Some, refl, sym, ap, ◌∙◌, subst, arith}
+use Rattle.std.proofs.Common.{◌≡◌, ℕ, ◌+◌, ◌≤◌, ◌<◌, ◌⊎◌, inl, inr, Bool, true, false, ◌&&◌, ◌||◌, not, List, [], ◌∷◌, ◌++◌, length, drop, cond, nat_eq, Some, None, refl, sym, ap, ◌∙◌, subst, arith}
 use Rattle.std.specs.List.{list_any, count_by}
+use Rattle.std.specs.Option.{option_to_list}
+use Rattle.std.specs.declared.option.Option.{Option}
 use Rattle.std.proofs.lemmas.Bool.Decides.{nat_tests}
 use Rattle.std.proofs.Math.Numerals.{lt_of_le_of_ne}
 use Rattle.code_table.specs.declared.flags.Exec.{Exec}
 use Rattle.feed_hold.specs.declared.Motion.{Motion as AnyMotion}
 use Rattle.feed_hold.specs.declared.Motion.TheVariants as motions
-use Rattle.feed_hold.specs.Motions.{asks, hold_byte, cancel_byte, start_byte, after_word, after_requests, after_hold, after_cancel, after_start, is_stopping}
+use Rattle.feed_hold.specs.Motions.{asks, hold_byte, cancel_byte, start_byte, after, after_word, after_requests, after_hold, after_cancel, after_start, is_stopping}
 use Rattle.feed_hold.specs.Motions.Call.{on_exec}
 use Rattle.outside.specs.declared.On.TheVariants as on
 use Rattle.outside.specs.declared.Turn.TheVariants.{Did, Wait}
@@ -16,15 +18,16 @@ use Rattle.plan_rules.specs.Plans.{Planned}
 use Rattle.step_line.specs.Asking.Asked.{a_move}
 use Rattle.step_line.specs.declared.Piece.{Piece}
 use Rattle.step_line.specs.declared.planned_move.PlannedMove.{PlannedMove}
-use Rattle.run_rules.specs.Work.{Task, has_moves}
+use Rattle.run_rules.specs.Work.{Task, has_moves, pauses}
 use Rattle.run_rules.specs.Work.Task.{ask}
 use Rattle.board_rules.specs.Openings.{Opening}
+use Rattle.board_rules.specs.Ports.{asks_reset}
 use Rattle.board_rules.specs.Ports.PortStep.{took_exec}
-use Rattle.board_rules.specs.Steps.{Step, Journal, left_of, whole_of, hand_of, plan_of, motion_of}
+use Rattle.board_rules.specs.Steps.{Step, Journal, left_of, whole_of, closed_tells, hand_of, plan_of, motion_of}
 use Rattle.board_rules.specs.Steps.Step.{at_port, became}
 use Rattle.board_rules.specs.Cuts.{has_cut}
-use Rattle.board_rules.specs.Turns.{this_turn, is_going, publishing, unobeyed_of, owes_report, takes_changes, replans, asks_no_start, flags_taken, has_blocks, has_jogged, has_jog_to_start, waits_to_jog, has_segment, is_full, is_due, is_halting, is_limited, halts_next, is_counted, is_held_up, needs_motion, awaits_motion, starts_cycle, tries_of, most_tries}
-use Rattle.board_rules.specs.Conduct.{EndsTurn, IsNextTask, AreWaiting, HasSlowedDown}
+use Rattle.board_rules.specs.Turns.{this_turn, is_going, publishing, passing, unobeyed_of, owes_report, takes_changes, replans, asks_no_start, flags_taken, has_blocks, has_jogged, has_jog_to_start, waits_to_jog, has_segment, is_full, is_due, is_halting, is_limited, halts_next, is_counted, is_held_up, needs_motion, awaits_motion, starts_cycle, tries_of, most_tries}
+use Rattle.board_rules.specs.Conduct.{Conducted, EndsTurn, IsNextTask, AreWaiting, HasSlowedDown}
 use Rattle.board_rules.proofs.Staying.{both_taken, stays_held}
 use Rattle.board_rules.proofs.Given.{known_within}
 use Rattle.units.specs.Truths.{one_if}
@@ -32,8 +35,9 @@ use Rattle.controller.specs.declared.controller.Controller.{Controller}
 use Rattle.controller.specs.declared.controller.Beat.TheVariants.{Motion}
 use Rattle.controller.specs.declared.controller.Flags.{Flags}
 use Rattle.controller.specs.declared.controller.Flags.TheVariants as words
-use Rattle.controller.specs.Boards.{Keeps, Rounds, IsFree, IsAsked, TakesFlags, takes_no_word, words_left, changes_left, number_of}
-use Rattle.controller.specs.Turning.{HasPiece, IsHalted, MayRun, PassesNothing, StaysSo, IsCutNow, HasSettled, AreWorked, BoardWorked, obeyed}
+use Rattle.controller.specs.Boards.{Keeps, Rounds, NoneWaits, IsFree, IsAsked, TakesFlags, takes_no_word, words_left, changes_left, number_of}
+use Rattle.controller.specs.Turning.{HasPiece, IsHalted, MayRun, PassesNothing, StaysSo, IsCutNow, HasSettled, AreWorked, BoardWorked, obeyed, obeying, to_obey}
+use Rattle.controller.specs.Reporting.{IsBehind}
 use Rattle.board_rules.proofs.Facts.{uncounted, uncounted_line}
 use Rattle.board_rules.proofs.Tries.{counts_none, counts_one}
 use Rattle.controller.proofs.Steps.{at_rest, halts_by}
@@ -294,47 +298,77 @@ idle_before word m e =
     let cancel = asks word cancel_byte in
     hold_idle hold m (cancel_idle cancel (after_hold hold m) (start_idle (asks word start_byte && not hold) (after_cancel cancel (after_hold hold m)) e))
 
-pub waited_before : (first : Opening) (word : Exec) (h : Journal) → AreWaiting first (obeyed first word h) → AreWaiting first h
+pub waited_before : (first : Opening) (word : Exec) (h : Journal) → AreWaiting first (obeying first (Some word) h) → AreWaiting first h
 waited_before first word h w = record {
   stands = idle_before word (motion_of first h) (subst (λ queued. after_word word queued (motion_of first h) ≡ motions.Idle) w.blocks w.stands);
   blocks = w.blocks;
 }
 
-worked_obeyed : (first : Opening) (word : Exec) (h : Journal) → unobeyed_of h ≡ [] → AreWorked h → AreWorked (obeyed first word h)
-worked_obeyed first word h none w =
+-- none waits behind it that did not before
+pub none_waits_behind : (first : Opening) (w : Option Exec) (h : Journal) → NoneWaits first h → NoneWaits first (obeying first w h)
+none_waits_behind first None h none = none
+none_waits_behind first (Some word) h none = λ w. none (waited_before first word h w)
+
+pub rounds_behind : (first : Opening) (w : Option Exec) (h : Journal) → NoneWaits first h → tries_of first h + one_if (whole_of h) ≤ 1 → Rounds first Motion (obeying first w h)
+rounds_behind first None h none few = rounds_still first h none few
+rounds_behind first (Some word) h none few = rounds_still first (obeying first (Some word) h) (none_waits_behind first (Some word) h none) few
+
+-- what a word that is obeyed leaves as it was
+pub record Leaves (first : Opening) (h next : Journal) : Type 0 where
+  pub left : left_of first next ≡ left_of first h
+  pub closed : closed_tells next ≡ closed_tells h
+  pub still : list_any passing (this_turn next) ≡ list_any passing (this_turn h)
+  pub unasked : list_any asks_no_start (this_turn next) ≡ list_any asks_no_start (this_turn h)
+  pub held_up : is_held_up first next ≡ is_held_up first h
+
+pub leaves : (first : Opening) (w : Option Exec) (h : Journal) → Leaves first h (obeying first w h)
+leaves first None h = record { left = refl; closed = refl; still = refl; unasked = refl; held_up = refl }
+leaves first (Some word) h = record { left = refl; closed = refl; still = refl; unasked = refl; held_up = refl }
+
+pub behind_word : (first : Opening) (waiting : Option Exec) (h next : Journal) → IsBehind h next → IsBehind h (obeying first waiting next)
+behind_word first None h next b = record { steps = b.steps; are = b.are }
+behind_word first (Some word) h next b =
+    let s = became (on_exec word (has_blocks (plan_of next).blocks)) (after_word word (has_blocks (plan_of next).blocks) (motion_of first next)) in
+    record { steps = s ∷ b.steps; are = ap (λ (j : Journal). s ∷ j) b.are }
+
+-- a word was taken behind which a report is told first
+abbrev pub taken : Exec → Journal → Journal
+taken word h = at_port (took_exec word) ∷ h
+
+-- what of it waits to be obeyed
+pub word_waits : (word : Exec) (h : Journal) → unobeyed_of h ≡ [] → unobeyed_of (taken word h) ≡ option_to_list (to_obey word)
+word_waits word h none = ap (λ (ws : List Exec). cond (asks_reset word) ws (ws ++ word ∷ [])) none ∙ by_reset (asks_reset word)
+  where
+    by_reset : (r : Bool) → cond r [] (word ∷ []) ≡ option_to_list (cond r None (Some word))
+    by_reset true = refl
+    by_reset false = refl
+
+pub changed_taken : (word : Exec) (h : Journal) → count_by replans (this_turn h) ≡ count_by takes_changes (this_turn h) → count_by replans (this_turn (taken word h)) ≡ count_by takes_changes (this_turn (taken word h))
+changed_taken word h same = counts_none replans (at_port (took_exec word)) (this_turn h) refl ∙ same ∙ sym (counts_none takes_changes (at_port (took_exec word)) (this_turn h) refl)
+
+ends_behind : (first : Opening) (w : Option Exec) (h : Journal) → count_by publishing (this_turn h) ≤ 1 → unobeyed_of h ≡ option_to_list w → count_by replans (this_turn h) ≡ count_by takes_changes (this_turn h)
+    → ((m : PlannedMove) → IsNextTask first (ask (a_move m)) h → is_full (plan_of h) ≡ true) → (AreWaiting first h → starts_cycle first h ≡ false) → tries_of first h ≤ most_tries → HaltsInTime first (obeying first w h) → EndsTurn first (obeying first w h)
+ends_behind first None h once next changed adds starts few halts =
+    record { once = once; adds = adds; starts = starts; tries = few; obeyed = λ e. next; changed = changed; halts = halts }
+ends_behind first (Some word) h once next changed adds starts few halts =
     let call = became (on_exec word (has_blocks (plan_of h).blocks)) (after_word word (has_blocks (plan_of h).blocks) (motion_of first h)) in
-    let took = at_port (took_exec word) in
-    let ss = this_turn h in
-    let a = counts_none replans call (took ∷ ss) refl in
-    let b = counts_none replans took ss refl in
-    let c = counts_none takes_changes call (took ∷ ss) refl in
-    let d = counts_none takes_changes took ss refl in
+    let a = counts_none publishing call (this_turn h) refl in
     record {
-      obeyed = λ e. ap (λ (ws : List Exec). drop 1 (ws ++ word ∷ [])) none;
-      changed = a ∙ b ∙ w.changed ∙ sym (c ∙ d);
+      once = omega (arith, a, once);
+      adds = adds;
+      starts = λ waits. starts (waited_before first word h waits);
+      tries = few;
+      obeyed = λ e. ap (λ (ws : List Exec). drop 1 ws) next;
+      changed = counts_none replans call (this_turn h) refl ∙ changed ∙ sym (counts_none takes_changes call (this_turn h) refl);
+      halts = halts;
     }
 
 pub ends_obeyed : (first : Opening) (word : Exec) (h : Journal) → count_by publishing (this_turn h) ≡ 0 → unobeyed_of h ≡ [] → AreWorked h → ((m : PlannedMove) → IsNextTask first (ask (a_move m)) h → is_full (plan_of h) ≡ true)
     → (AreWaiting first h → starts_cycle first h ≡ false) → tries_of first h ≤ most_tries → HaltsInTime first (obeyed first word h) → EndsTurn first (obeyed first word h)
 ends_obeyed first word h quiet none w adds starts few halts =
-    let call = became (on_exec word (has_blocks (plan_of h).blocks)) (after_word word (has_blocks (plan_of h).blocks) (motion_of first h)) in
-    let took = at_port (took_exec word) in
-    let a = counts_none publishing call (took ∷ this_turn h) refl in
-    let b = counts_one publishing took (this_turn h) refl in
-    let worked = worked_obeyed first word h none w in
-    record {
-      once = omega (arith, a, b, quiet);
-      adds = adds;
-      starts = λ waits. starts (waited_before first word h waits);
-      tries = few;
-      obeyed = worked.obeyed;
-      changed = worked.changed;
-      halts = halts;
-    }
-
--- a word was taken behind which a report is told first
-abbrev pub taken : Exec → Journal → Journal
-taken word h = at_port (took_exec word) ∷ h
+    let b = counts_one publishing (at_port (took_exec word)) (this_turn h) refl in
+    ends_behind first (to_obey word) (taken word h) (omega (arith, b, quiet)) (word_waits word h none) (changed_taken word h w.changed) adds
+    (λ waits. starts (record { stands = waits.stands; blocks = waits.blocks })) few halts
 
 pub ends_taken : (first : Opening) (word : Exec) (h : Journal) → owes_report (taken word h) ≡ true → count_by publishing (this_turn h) ≡ 0 → AreWorked h → ((m : PlannedMove) → IsNextTask first (ask (a_move m)) h → is_full (plan_of h) ≡ true)
     → (AreWaiting first h → starts_cycle first h ≡ false) → tries_of first h ≤ most_tries → HaltsInTime first (taken word h) → EndsTurn first (taken word h)
@@ -347,16 +381,20 @@ ends_taken first word h owed quiet w adds starts few halts =
       starts = λ waits. starts (record { stands = waits.stands; blocks = waits.blocks });
       tries = few;
       obeyed = λ e. absurd (let f = sym e ∙ owed in cc);
-      changed = counts_none replans took (this_turn h) refl ∙ w.changed ∙ sym (counts_none takes_changes took (this_turn h) refl);
+      changed = changed_taken word h w.changed;
       halts = halts;
     }
 
--- both words were taken, and this one waits for the report
-pub asked_now : (word : Exec) (h : Journal) → flags_taken (taken word h) ≡ true → unobeyed_of h ≡ [] → owes_report (taken word h) ≡ true → IsAsked (Some word) (taken word h)
-asked_now word h flags none owed = record { flags = flags; next = ap (λ (ws : List Exec). ws ++ word ∷ []) none; owed = owed }
+-- both words were taken, and this one waits for the report, unless it asks for a reset
+pub asked_now : (word : Exec) (h : Journal) → flags_taken (taken word h) ≡ true → unobeyed_of h ≡ [] → owes_report (taken word h) ≡ true → IsAsked (to_obey word) (taken word h)
+asked_now word h flags none owed = record { flags = flags; next = word_waits word h none; owed = owed }
 
-pub free_now : (first : Opening) (word : Exec) (h : Journal) → flags_taken (obeyed first word h) ≡ true → unobeyed_of h ≡ [] → owes_report (taken word h) ≡ false → IsFree (obeyed first word h)
-free_now first word h flags none unowed = record { flags = flags; obeyed = ap (λ (ws : List Exec). drop 1 (ws ++ word ∷ [])) none; unowed = unowed }
+free_behind : (first : Opening) (w : Option Exec) (h : Journal) → flags_taken h ≡ true → unobeyed_of h ≡ option_to_list w → owes_report h ≡ false → IsFree (obeying first w h)
+free_behind first None h flags next unowed = record { flags = flags; obeyed = next; unowed = unowed }
+free_behind first (Some word) h flags next unowed = record { flags = flags; obeyed = ap (λ (ws : List Exec). drop 1 ws) next; unowed = unowed }
+
+pub free_now : (first : Opening) (word : Exec) (h : Journal) → flags_taken (taken word h) ≡ true → unobeyed_of h ≡ [] → owes_report (taken word h) ≡ false → IsFree (obeyed first word h)
+free_now first word h flags none unowed = free_behind first (to_obey word) (taken word h) flags (word_waits word h none) unowed
 
 -- ---- the resume
 
@@ -376,25 +414,32 @@ resumed_by false false true true cut f = refl
 resumed_by false false true false cut f = refl
 resumed_by false false false queued cut f = absurd (f refl)
 
+-- a machine that a word has resumed halts no more
+resumed : (first : Opening) (w : Option Exec) (h : Journal) → motion_of first h ≡ motions.Held → (motion_of first (obeying first w h) ≡ motions.Held → ⊥) → changes_left (motion_of first (obeying first w h)) (has_cut (obeying first w h)) ≡ 0
+resumed first None h held resumes = absurd (resumes held)
+resumed first (Some word) h held resumes =
+    ap (λ m. changes_left (after_word word (has_blocks (plan_of h).blocks) m) (has_cut (obeying first (Some word) h))) held
+    ∙ resumed_by (asks word hold_byte) (asks word cancel_byte) (asks word start_byte) (has_blocks (plan_of h).blocks) (has_cut (obeying first (Some word) h))
+    (λ e. resumes (ap (λ m. after_word word (has_blocks (plan_of h).blocks) m) held ∙ e))
+
+halts_before : (first : Opening) (w : Option Exec) (h : Journal) → Conducted first (obeying first w h) → HaltsInTime first (obeying first w h) → HaltsInTime first h
+halts_before first None h c halts = halts
+halts_before first (Some word) h c halts = c.0.1.halts
+
 ends_awaited : (first : Opening) (board : Controller) (word : Exec) (h mid : Journal) → Keeps first board (obeyed first word mid) → IsHalted first h → HasSettled first h mid → EndsTurn first (obeyed first word mid)
 ends_awaited first board word h mid k halted s =
-    let ends = ends_settled first h mid halted s k.conducted.0.1.halts in
+    let ends = ends_settled first h mid halted s (halts_before first (to_obey word) (taken word mid) k.conducted (halts_by first board (obeyed first word mid) k)) in
     ends_obeyed first word mid (s.passes.quiet ∙ halted.ready.quiet.quiet) (free_settled first h mid halted s).obeyed (s.passes.worked halted.ready.quiet.worked) ends.adds ends.starts ends.tries
     (halts_by first board (obeyed first word mid) k)
 
 rounds_awaited : (first : Opening) (word : Exec) (board : Controller) (h mid : Journal) → IsHalted first h → HasSettled first h mid → board.beat ≡ Motion → Rounds first board.beat (obeyed first word mid)
 rounds_awaited first word board h mid halted s beat =
     subst (λ b. (Rounds first) b (obeyed first word mid)) (sym beat)
-    (rounds_still first (obeyed first word mid) (λ w. absurd (none_wait first h halted.halts (s.waiting (waited_before first word mid w)))) (few_settled first h mid s (few_halted first h halted)))
+    (rounds_behind first (to_obey word) (taken word mid) (λ w. absurd (none_wait first h halted.halts (s.waiting (record { stands = w.stands; blocks = w.blocks })))) (few_settled first h mid s (few_halted first h halted)))
 
--- the steps of a word that is obeyed
-abbrev pub obeying : Opening → Exec → Journal → List Step → List Step
-obeying first word mid steps =
-    became (on_exec word (has_blocks (plan_of mid).blocks)) (after_word word (has_blocks (plan_of mid).blocks) (motion_of first mid)) ∷ (at_port (took_exec word) ∷ steps)
-
-pub obeying_are : (first : Opening) (word : Exec) (h mid : Journal) (steps : List Step) → mid ≡ steps ++ h → obeyed first word mid ≡ obeying first word mid steps ++ h
-obeying_are first word h mid steps are =
-    ap (λ (j : Journal). became (on_exec word (has_blocks (plan_of mid).blocks)) (after_word word (has_blocks (plan_of mid).blocks) (motion_of first mid)) ∷ (at_port (took_exec word) ∷ j)) are
+-- the steps of a word that is taken, and obeyed
+pub obeyed_behind : (first : Opening) (word : Exec) (h mid : Journal) (steps : List Step) → mid ≡ steps ++ h → IsBehind h (obeyed first word mid)
+obeyed_behind first word h mid steps are = behind_word first (to_obey word) h (taken word mid) (record { steps = at_port (took_exec word) ∷ steps; are = ap (λ (j : Journal). at_port (took_exec word) ∷ j) are })
 
 -- the machine is resumed
 pub did_resume : (first : Opening) (board : Controller) (was : Flags) (word : Exec) (h mid : Journal) → Keeps first board (obeyed first word mid) → IsHalted first h → HasSettled first h mid → motion_of first h ≡ motions.Held
@@ -405,28 +450,21 @@ did_resume first board was word h mid k halted s held resumes unowed beat no_wor
   flags = takes_none board (obeyed first word mid) no_word (free_now first word mid (both_taken mid (s.passes.flags ∙ halted.ready.quiet.flags)).1 (free_settled first h mid halted s).obeyed unowed);
   still = λ e. no_word_left board.flags no_word;
   beat = λ o e. beat;
-  steps = obeying first word mid s.passes.steps;
-  are = obeying_are first word h mid s.passes.steps s.passes.are;
+  steps = (obeyed_behind first word h mid s.passes.steps s.passes.are).steps;
+  are = (obeyed_behind first word h mid s.passes.steps s.passes.are).are;
   may = ends_awaited first board word h mid k halted s;
   moves = λ e. inr (fewer_words first board.flags was h (obeyed first word mid) no_word none falls);
 }
   where
-    is_held : motion_of first mid ≡ motions.Held
-    is_held = s.held held
-
-    gone : changes_left (motion_of first (obeyed first word mid)) (has_cut (obeyed first word mid)) ≡ 0
-    gone =
-        ap (λ m. changes_left (after_word word (has_blocks (plan_of mid).blocks) m) (has_cut (obeyed first word mid))) is_held
-        ∙ resumed_by (asks word hold_byte) (asks word cancel_byte) (asks word start_byte) (has_blocks (plan_of mid).blocks) (has_cut (obeyed first word mid))
-        (λ e. resumes (ap (λ m. after_word word (has_blocks (plan_of mid).blocks) m) is_held ∙ e))
-
     falls : number_of first words.None (obeyed first word mid) < number_of first words.None h
     falls =
-        let zero = gone in
+        let zero = resumed first (to_obey word) (taken word mid) (s.held held) resumes in
         let one = ap (λ m. changes_left m (has_cut h)) held in
+        let l : pauses (left_of first (obeyed first word mid)) ≡ pauses (left_of first mid) = ap pauses (leaves first (to_obey word) (taken word mid)).left in
         let p = s.passes.pauses in
+        let c : one_if (nat_eq (length (closed_tells (obeyed first word mid))) 0) ≡ one_if (nat_eq (length (closed_tells mid)) 0) = ap (λ (rs : List Reply). one_if (nat_eq (length rs) 0)) (leaves first (to_obey word) (taken word mid)).closed in
         let e = ap (λ (rs : List Reply). one_if (nat_eq (length rs) 0)) s.passes.closed in
-        omega (arith, zero, one, p, e)
+        omega (arith, zero, one, l, p, c, e)
 
 -- the resume is waited for
 pub waits_for_resume : (first : Opening) (board : Controller) (was : Flags) (word : Exec) (h mid : Journal) → Keeps first board (obeyed first word mid) → IsHalted first h → HasSettled first h mid → motion_of first h ≡ motions.Held
@@ -437,16 +475,16 @@ waits_for_resume first board was word h mid k halted s held stays unowed beat no
   flags = takes_none board (obeyed first word mid) no_word free;
   still = λ e. no_word_left board.flags no_word;
   beat = λ o e. beat;
-  steps = obeying first word mid s.passes.steps;
-  are = obeying_are first word h mid s.passes.steps s.passes.are;
+  steps = (obeyed_behind first word h mid s.passes.steps s.passes.are).steps;
+  are = (obeyed_behind first word h mid s.passes.steps s.passes.are).are;
   may = record {
     ends = ends_awaited first board word h mid k halted s;
-    cause = record { held = stays; unasked = or_first (asks_no_start (at_port (took_exec word))) (list_any asks_no_start (this_turn mid)) unasked; held_up = held_up s.stays };
-    still = s.passes.still ∙ halted.ready.quiet.still;
+    cause = record { held = stays; unasked = l.unasked ∙ or_first (asks_no_start (at_port (took_exec word))) (list_any asks_no_start (this_turn mid)) unasked; held_up = l.held_up ∙ held_up s.stays };
+    still = l.still ∙ s.passes.still ∙ halted.ready.quiet.still;
     flags = free.flags;
     obeyed = free.obeyed;
     unowed = λ e. absurd (let f = sym e ∙ free.unowed in cc);
-    round = λ due has. absurd (let e : false ≡ true = sym (ap (λ m. has_segment m (plan_of mid)) stays) ∙ due in cc);
+    round = λ due has. absurd (let e : false ≡ true = sym (ap (λ m. has_segment m (plan_of (obeyed first word mid))) stays) ∙ due in cc);
   };
   moves = λ e. absurd cc;
 }
@@ -454,10 +492,17 @@ waits_for_resume first board was word h mid k halted s held stays unowed beat no
     free : IsFree (obeyed first word mid)
     free = free_now first word mid (both_taken mid (s.passes.flags ∙ halted.ready.quiet.flags)).1 (free_settled first h mid halted s).obeyed unowed
 
+    l : Leaves first (taken word mid) (obeyed first word mid)
+    l = leaves first (to_obey word) (taken word mid)
+
+    by_reset : (r : Bool) → asks_reset word ≡ r → (asks_reset word ≡ true) ⊎ (after (on_exec word (has_blocks (plan_of mid).blocks)) motions.Held ≡ Some motions.Held)
+    by_reset true e = inl e
+    by_reset false e =
+        let obeys : motion_of first (obeyed first word mid) ≡ after_word word (has_blocks (plan_of mid).blocks) (motion_of first mid) = ap (λ r. motion_of first (obeying first (cond r None (Some word)) (taken word mid))) e in
+        inr (ap (λ m. Some m) (sym (ap (λ m. after_word word (has_blocks (plan_of mid).blocks) m) (s.held held)) ∙ (sym obeys ∙ stays)))
+
     unasked : asks_no_start (at_port (took_exec word)) ≡ true
-    unasked =
-        (stays_held word (has_blocks (plan_of mid).blocks)).1
-        (ap (λ m. Some m) (sym (ap (λ m. after_word word (has_blocks (plan_of mid).blocks) m) (s.held held)) ∙ stays))
+    unasked = (stays_held word (has_blocks (plan_of mid).blocks)).1 (by_reset (asks_reset word) refl)
 
     held_up : StaysSo first h mid ⊎ IsCutNow first h mid → is_held_up first mid ≡ true
     held_up (inl stays) = still_held_up first h mid s.passes stays halted.held_up
@@ -469,7 +514,7 @@ waits_for_resume first board was word h mid k halted s held stays unowed beat no
 
 -- a report is asked for while the resume is waited for
 pub did_ask : (first : Opening) (board : Controller) (was : Flags) (word : Exec) (h mid : Journal) → Keeps first board (taken word mid) → IsHalted first h → HasSettled first h mid → owes_report (taken word mid) ≡ true
-    → board.beat ≡ Motion → board.flags ≡ words.Report (Some word) → was ≡ words.None → BoardWorked first Did was board h (taken word mid)
+    → board.beat ≡ Motion → board.flags ≡ words.Report (to_obey word) → was ≡ words.None → BoardWorked first Did was board h (taken word mid)
 did_ask first board was word h mid k halted s owed beat asks none = record {
   keeps = k;
   rounds = subst (λ b. (Rounds first) b (taken word mid)) (sym beat)

@@ -3,13 +3,13 @@ use Rattle.std.proofs.Common.{ℕ, ◌≤◌, ◌<◌, Bool, true, false, [], �
 use Rattle.feed_hold.specs.declared.Motion.{Motion}
 use Rattle.feed_hold.specs.declared.Motion.TheVariants as motions
 use Rattle.board_rules.specs.Openings.{Opening}
-use Rattle.run_rules.specs.Work.{pauses}
+use Rattle.run_rules.specs.Work.{Outcome, pauses}
 use Rattle.run_rules.proofs.Pausing.{pauses_once}
 use Rattle.board_rules.specs.Ports.PortStep.{took, found_empty, found_closed, found_free, found_mark, answered, reported, no_reply_room, took_exec, took_ovr, published, no_piece_room, loaded, stored_stop, found_no_halt, found_halt}
 use Rattle.board_rules.specs.Steps.{Journal, open_of, left_of, closed_tells, motion_of}
 use Rattle.board_rules.specs.Steps.Step.{at_port, began, did, made_end, evened, paused, became, cut, halted, closing, turned}
 use Rattle.board_rules.specs.Cuts.{has_cut}
-use Rattle.board_rules.proofs.Beginning.{caused, becomes_caused}
+use Rattle.board_rules.proofs.Beginning.{caused, of_begun}
 use Rattle.board_rules.proofs.Dropping.{pauses_kept}
 use Rattle.board_rules.specs.Conduct.{Conducted}
 use Rattle.units.specs.Truths.{one_if}
@@ -42,7 +42,7 @@ pause_once first (at_port (took_ovr word) ∷ h) c = pause_once first h c.1
 pause_once first (at_port (published p) ∷ h) c = pause_once first h c.1
 pause_once first (at_port (no_piece_room done) ∷ h) c = pause_once first h c.1
 pause_once first (at_port (loaded done) ∷ h) c = pause_once first h c.1
-pause_once first (began o ∷ h) c = pauses_once true (caused first h) (open_of h) o (becomes_caused first h o c.0)
+pause_once first (began o ∷ h) c = of_begun first h o (λ (x : Outcome). pauses x.work ≤ 1) c.0 (omega arith) (pauses_once true (caused first h) (open_of h))
 pause_once first (did a ps ∷ h) c = less_too _ _ (pauses_by a (left_of first h)) (pause_once first h c.1)
 pause_once first (made_end ∷ h) c = less_too _ _ (fewer_pauses (left_of first h)) (pause_once first h c.1)
 pause_once first (evened ∷ h) c = less_too _ _ (fewer_pauses (left_of first h)) (pause_once first h c.1)

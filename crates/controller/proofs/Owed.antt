@@ -38,6 +38,7 @@ use Rattle.controller.specs.Reporting.{HasObserved, HasAskedRoom, IsBehind, IsRe
 use Rattle.controller.proofs.Steps.{report_told, report_kept, other_flags, halts_by}
 use Rattle.board_rules.proofs.Tries.{counts_none, publishes_none, publishes_one}
 use Rattle.board_rules.proofs.Facts.{uncounted_owing}
+pub use Rattle.controller.proofs.Halting.{behind_word}
 use Rattle.controller.proofs.Halting.{waited_before}
 use Rattle.controller.proofs.Settling.{none_waits_so, none_fits_so}
 use Rattle.controller.proofs.Ends.{MayTry, sent_by, rounds_still, none_called, none_waited}
@@ -363,12 +364,6 @@ lacks_room first waiting h r =
       adds = o.adds;
       tries = o.tries;
     }
-
-pub behind_word : (first : Opening) (waiting : Option Exec) (h next : Journal) → IsBehind h next → IsBehind h (obeying first waiting next)
-behind_word first None h next b = record { steps = b.steps; are = b.are }
-behind_word first (Some word) h next b =
-    let s = became (on_exec word (has_blocks (plan_of next).blocks)) (after_word word (has_blocks (plan_of next).blocks) (motion_of first next)) in
-    record { steps = s ∷ b.steps; are = ap (λ (j : Journal). s ∷ j) b.are }
 
 port_behind : (first : Opening) (waiting : Option Exec) (h : Journal) → port_log (obeying first waiting h) ≡ port_log h
 port_behind first None h = refl

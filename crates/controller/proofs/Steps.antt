@@ -1,10 +1,10 @@
 -- One lemma a step: a board keeps on what its fields say of what it has done.
-use Rattle.std.proofs.Common.{◌≡◌, ℕ, ◌⊎◌, inl, inr, List, [], ◌∷◌, ◌++◌, drop, Bool, true, false, ◌||◌, Some, None, sym, refl, ap, ◌∙◌, subst, arith, append-nil}
+use Rattle.std.proofs.Common.{◌≡◌, ℕ, ◌⊎◌, inl, inr, List, [], ◌∷◌, ◌++◌, drop, Bool, true, false, not, ◌&&◌, ◌||◌, Some, None, sym, refl, ap, ◌∙◌, subst, arith, append-nil}
 use Rattle.code_table.specs.declared.flags.Exec.{Exec}
 use Rattle.code_table.specs.declared.flags.Ovr.{Ovr}
 use Rattle.feed_hold.specs.declared.Motion.{Motion}
 use Rattle.feed_hold.specs.declared.Motion.TheVariants as motions
-use Rattle.feed_hold.specs.Motions.{after, after_word, is_stopping}
+use Rattle.feed_hold.specs.Motions.{after, after_word, is_limited, is_stopping}
 use Rattle.feed_hold.specs.Motions.Call.{on_exec, on_start, on_pause, on_drained}
 use Rattle.board_rules.specs.Openings.{Opening}
 use Rattle.run_rules.specs.Work.{Task}
@@ -34,17 +34,18 @@ use Rattle.planner_runs.proofs.Runs.{fresh_starts}
 use Rattle.line_interpreter.specs.Interpreting.{Interpreting}
 use Rattle.board_rules.specs.Ports.{MayBeDone, LacksPieceRoom, has_changes, has_reset_in}
 use Rattle.board_rules.specs.Ports.PortStep.{found_empty, found_closed, answered, reported, no_reply_room, took_exec, took_ovr, published, no_piece_room, loaded}
-use Rattle.board_rules.specs.Steps.{Journal, port_log, published_of, before_of, left_of, closed_tells, given_of, hand_of, plan_of, motion_of}
+use Rattle.board_rules.specs.Steps.{Journal, has_limited, port_log, published_of, before_of, left_of, closed_tells, given_of, hand_of, plan_of, motion_of}
 use Rattle.board_rules.specs.Steps.Step.{at_port, did, made_end, evened, paused, became}
 use Rattle.board_rules.specs.Cuts.{has_cut}
-use Rattle.board_rules.specs.Turns.{owes_report, tells_next, is_full, is_due, is_going, has_blocks, stands_still}
-use Rattle.board_rules.specs.Conduct.{MayDo, IsNextTask, IsDrained, IsTimely, MayPoll, MayStart, MayTakeRequests, MayObey, IsReportAt}
+use Rattle.board_rules.specs.Turns.{owes_report, tells_next, is_full, is_due, is_going, has_blocks, stands_still, is_alarm, is_locked, awaits_unlock}
+use Rattle.board_rules.specs.Conduct.{Conducted, MayDo, IsNextTask, IsDrained, IsTimely, MayPoll, MayStart, MayTakeRequests, MayObey, IsReportAt}
 pub use Rattle.board_machine.proofs.Machining.{has_room}
 use Rattle.controller.specs.declared.controller.Controller.{Controller}
 use Rattle.board_machine.specs.declared.machine.Machine.{Machine}
 use Rattle.board_machine.specs.Machines.{Runs, StandsOrGoes, mode_in, start_motion}
 use Rattle.controller.specs.Boards.{Keeps, Works}
 use Rattle.controller.specs.Turning.{HasPiece, starting}
+use Rattle.board_rules.proofs.Stages.{limit_alarms}
 use Rattle.board_rules.proofs.Uncut.{uncut_else, uncut_idle, cut_obeyed}
 use Rattle.controller.proofs.Starting.{uncut_started}
 pub use Rattle.controller.proofs.Turns.{closes, ends, other_beat, other_flags, other_flight, room_found}
@@ -125,6 +126,24 @@ one_less c i first h w is = record {
   number_is = ap (λ (j : Interpreting). j.number) is ∙ w.number_is;
 }
 
+not_both : (a b : Bool) → b ≡ true → (not a && not b) ≡ false
+not_both true b e = refl
+not_both false b e = ap not e
+
+-- an alarm is one that a soft limit raised: it awaits no unlock
+none_awaited : (first : Opening) (h : Journal) (m : Motion) → motion_of first h ≡ m → (is_limited m ≡ true → has_limited h ≡ true) → (is_alarm m && (not (is_locked first h) && not (has_limited h))) ≡ false
+none_awaited first h motions.Alarm is one = not_both (is_locked first h) (has_limited h) (one refl)
+none_awaited first h motions.Idle is one = refl
+none_awaited first h motions.Run is one = refl
+none_awaited first h motions.Holding is one = refl
+none_awaited first h motions.Held is one = refl
+none_awaited first h motions.Jog is one = refl
+none_awaited first h motions.Cancelling is one = refl
+none_awaited first h motions.Stopping is one = refl
+
+awaits_none : (first : Opening) (h : Journal) → is_limited first.motion ≡ false → Conducted first h → awaits_unlock first h ≡ false
+awaits_none first h free c = none_awaited first h (motion_of first h) refl (λ is. (limit_alarms first free h c is).0)
+
 -- a reply is told
 pub told : (first : Opening) (c : Controller) (i : Interpreting) (r : Reply) (h : Journal) → Keeps first c h → IsNextTask first (tell r) h → is_report r ≡ false → owes_report h ≡ false → (r ≡ Bye → hand_of h ≡ []) → i ≡ record c.lines { left = drop 1 c.lines.left }
     → Keeps first (record c { lines = i }) (at_port (answered r) ∷ h)
@@ -132,7 +151,7 @@ told first c i r h k next plain unowed empty is = record {
   placed = k.placed;
   free = k.free;
   short = k.short;
-  conducted = (record { next = next; plain = plain; unowed = unowed; empty = empty }, k.conducted);
+  conducted = (record { next = next; plain = plain; unowed = unowed; empty = empty; unlocked = awaits_none first h k.free k.conducted }, k.conducted);
   machine = k.machine;
   lines = one_less c i first h k.lines is;
   input = k.input;

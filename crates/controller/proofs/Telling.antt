@@ -1,5 +1,5 @@
 -- It is looked how many ticks are done before a report is told, and the room is asked for.
-use Rattle.std.proofs.Common.{◌≡◌, ℕ, ◌+◌, ◌≤◌, inl, inr, Bool, true, false, ◌||◌, cond, not, nat_eq, List, [], ◌∷◌, length, Some, sym, refl, ap, ◌∙◌, subst, arith, length-append}
+use Rattle.std.proofs.Common.{◌≡◌, ℕ, ◌+◌, ◌≤◌, inl, inr, Bool, true, false, ◌||◌, cond, not, nat_eq, List, [], ◌∷◌, length, Some, None, sym, refl, ap, ◌∙◌, subst, arith, length-append}
 use Rattle.std.specs.declared.option.Option.{Option}
 use Rattle.std.proofs.lemmas.Bool.Decides.{nat_tests}
 use Rattle.std.specs.List.{list_any}
@@ -31,7 +31,7 @@ use Rattle.controller.specs.declared.controller.Controller.{Controller}
 use Rattle.board_machine.specs.declared.machine.Machine.{Machine}
 use Rattle.board_machine.specs.Machines.{Runs, StandsOrGoes, observed, settled}
 use Rattle.controller.specs.Boards.{Keeps}
-use Rattle.controller.specs.Reporting.{HasObserved, HasAskedRoom, IsReported, obeying}
+use Rattle.controller.specs.Reporting.{HasObserved, HasAskedRoom, IsReported, MayObeyNow, obeying}
 use Rattle.controller.specs.Turning.{ComesOf}
 use Rattle.controller.proofs.Steps.{looked, drained, obeys, other_flight, at_rest, halts_by}
 use Rattle.controller.proofs.Settling.{CameOf, came_of, port_came, published_came, known_came}
@@ -270,8 +270,11 @@ may_obey first c told word h k r = record {
   halts = halts_by first c h k;
 }
 
-pub obeys_waiting : (first : Opening) (c : Controller) (m : Machine) (waiting : Option Exec) (word : Exec) (told : Bool) (h : Journal) → waiting ≡ Some word → Keeps first c h → IsReported first told waiting h
+pub may_obey_now : (first : Opening) (c : Controller) (told : Bool) (waiting : Option Exec) (h : Journal) → Keeps first c h → IsReported first told waiting h → MayObeyNow first waiting h
+may_obey_now first c told None h k r = tt
+may_obey_now first c told (Some word) h k r = may_obey first c told word h k r
+
+pub obeys_waiting : (first : Opening) (c : Controller) (m : Machine) (waiting : Option Exec) (word : Exec) (h : Journal) → waiting ≡ Some word → Keeps first c h → MayObeyNow first waiting h
     → Runs m (plan_of h) (after_word word (has_blocks (plan_of h).blocks) (motion_of first h)) (hand_of h) (given_of h) → Keeps first (record c { machine = m }) (obeying first waiting h)
-obeys_waiting first c m waiting word told h is k reported runs =
-    let r = subst (λ (w : Option Exec). IsReported first told w h) is reported in
-    subst (λ (w : Option Exec). Keeps first (record c { machine = m }) (obeying first w h)) (sym is) (obeys first c m word h k (may_obey first c told word h k r) runs)
+obeys_waiting first c m waiting word h is k may runs =
+    subst (λ (w : Option Exec). Keeps first (record c { machine = m }) (obeying first w h)) (sym is) (obeys first c m word h k (subst (λ (w : Option Exec). MayObeyNow first w h) is may) runs)

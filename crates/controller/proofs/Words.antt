@@ -1,6 +1,8 @@
 -- A turn takes a word of flags, and does what that asks for.
-use Rattle.std.proofs.Common.{◌≡◌, ◌+◌, ◌≤◌, ◌<◌, Bool, true, false, List, [], ◌∷◌, ◌++◌, cond, length, nat_eq, drop, Some, refl, sym, ap, ◌∙◌, subst, arith, inr}
+use Rattle.std.proofs.Common.{◌≡◌, ◌+◌, ◌≤◌, ◌<◌, Bool, true, false, List, [], ◌∷◌, ◌++◌, cond, length, nat_eq, drop, Some, None, refl, sym, ap, ◌∙◌, subst, arith, inr}
 use Rattle.std.specs.List.{list_any, count_by}
+use Rattle.std.specs.Option.{option_to_list}
+use Rattle.std.specs.declared.option.Option.{Option}
 use Rattle.code_table.specs.declared.flags.Exec.{Exec}
 use Rattle.code_table.specs.declared.flags.Ovr.{Ovr}
 use Rattle.overrides.specs.Percents.{taken}
@@ -12,9 +14,9 @@ use Rattle.step_line.specs.declared.planned_move.PlannedMove.{PlannedMove}
 use Rattle.run_rules.specs.Work.{Task, pauses}
 use Rattle.run_rules.specs.Work.Task.{ask}
 use Rattle.board_rules.specs.Openings.{Opening}
-use Rattle.board_rules.specs.Ports.{has_changes}
+use Rattle.board_rules.specs.Ports.{PortLog, asks_reset, has_changes}
 use Rattle.board_rules.specs.Ports.PortStep.{took_exec, took_ovr}
-use Rattle.board_rules.specs.Steps.{Step, Journal, left_of, whole_of, closed_tells, plan_of, motion_of}
+use Rattle.board_rules.specs.Steps.{Step, Journal, port_log, left_of, whole_of, closed_tells, plan_of, motion_of}
 use Rattle.board_rules.specs.Steps.Step.{at_port, did}
 use Rattle.board_rules.specs.Cuts.{has_cut}
 use Rattle.board_rules.specs.Turns.{this_turn, publishing, found_none, unobeyed_of, owes_report, takes_changes, replans, changes_taken, starts_cycle, has_blocks, has_jogged, has_jog_to_start, is_full, tries_of}
@@ -26,13 +28,14 @@ use Rattle.controller.specs.declared.controller.Beat.{Beat}
 use Rattle.controller.specs.declared.controller.Beat.TheVariants.{Motion, Main}
 use Rattle.controller.specs.declared.controller.Flags.TheVariants as words
 use Rattle.controller.specs.Boards.{Keeps, Rounds, NoneWaits, HasChanges, TakesFlags, GoingBetween, GoingFits, takes_no_word, has_published, words_left, changes_left, number_of}
-use Rattle.controller.specs.Turning.{HasSettled, AreWorked, BoardWorked, asked, flags_behind, obeyed, replanned}
+use Rattle.controller.specs.Turning.{HasSettled, AreWorked, BoardWorked, asked, flags_behind, obeyed, obeying, replanned, to_obey}
+use Rattle.controller.specs.Reporting.{MayObeyNow}
 use Rattle.board_rules.proofs.Tries.{counts_none, counts_one}
 use Rattle.controller.proofs.Numbers.{few_changes}
 use Rattle.controller.proofs.Steps.{halts_by}
 use Rattle.controller.proofs.Ends.{none_called, same_calls, rounds_still, takes_none, no_word_left}
 use Rattle.controller.proofs.Settling.{replanned_some, replanned_none, none_waits_so, none_fits_so}
-use Rattle.controller.proofs.Halting.{HaltsInTime, waited_before, ends_obeyed, ends_taken, obeying, obeying_are, taken as taken_word, free_now, asked_now}
+use Rattle.controller.proofs.Halting.{HaltsInTime, rounds_behind, leaves, obeyed_behind, word_waits, ends_obeyed, ends_taken, taken as taken_word, free_now, asked_now}
 
 -- ---- between two turns
 
@@ -232,12 +235,13 @@ took_obeyed : (first : Opening) (was board : Controller) (word : Exec) (h mid : 
     → board.flags ≡ words.None → BoardWorked first Did was.flags board h (obeyed first word mid)
 took_obeyed first was board word h mid t keeps unowed no_word = record {
   keeps = keeps;
-  rounds = subst (λ b. (Rounds first) b (obeyed first word mid)) (sym beat) (rounds_still first (obeyed first word mid) (λ w. (none_there first) was board h mid t (waited_before first word mid w)) few);
+  rounds = subst (λ b. (Rounds first) b (obeyed first word mid)) (sym beat)
+      (rounds_behind first (to_obey word) (taken_word word mid) (λ w. (none_there first) was board h mid t (record { stands = w.stands; blocks = w.blocks })) few);
   flags = takes_none board (obeyed first word mid) no_word (free_now first word mid (s.changes ∙ (has_changes_at first was h t.fits t.flag).changes) none_left unowed);
   still = λ e. no_word_left board.flags no_word;
   beat = λ o e. absurd cc;
-  steps = obeying first word mid s.passes.steps;
-  are = obeying_are first word h mid s.passes.steps s.passes.are;
+  steps = (obeyed_behind first word h mid s.passes.steps s.passes.are).steps;
+  are = (obeyed_behind first word h mid s.passes.steps s.passes.are).are;
   may = ends_obeyed first word mid (s.passes.quiet ∙ count_between h publishing t.between) none_left (s.passes.worked (worked_between first h t.between (has_changes_at first was h t.fits t.flag).obeyed))
       (may_add_there first was board h mid t) (none_called_there first was board h mid t) (omega (arith, few)) (halts_by first board (obeyed first word mid) keeps);
   moves = λ e. inr falls;
@@ -261,12 +265,14 @@ took_obeyed first was board word h mid t keeps unowed no_word = record {
         let zero = ap words_left no_word in
         let p = s.passes.pauses in
         let two = few_changes (motion_of first (obeyed first word mid)) (has_cut (obeyed first word mid)) in
+        let l : pauses (left_of first (obeyed first word mid)) ≡ pauses (left_of first mid) = ap pauses (leaves first (to_obey word) (taken_word word mid)).left in
+        let c : one_if (nat_eq (length (closed_tells (obeyed first word mid))) 0) ≡ one_if (nat_eq (length (closed_tells mid)) 0) = ap (λ (rs : List Reply). one_if (nat_eq (length rs) 0)) (leaves first (to_obey word) (taken_word word mid)).closed in
         let e = ap (λ (rs : List Reply). one_if (nat_eq (length rs) 0)) s.passes.closed in
-        omega (arith, one, zero, p, two, e)
+        omega (arith, one, zero, p, two, l, c, e)
 
 -- it was taken, and a report is told first
 took_asked : (first : Opening) (was board : Controller) (word : Exec) (h mid : Journal) → TakesRequests first was board h mid → Keeps first board (taken_word word mid) → owes_report (taken_word word mid) ≡ true
-    → board.flags ≡ words.Report (Some word) → BoardWorked first Did was.flags board h (taken_word word mid)
+    → board.flags ≡ words.Report (to_obey word) → BoardWorked first Did was.flags board h (taken_word word mid)
 took_asked first was board word h mid t keeps owed asks = record {
   keeps = keeps;
   rounds = subst (λ b. (Rounds first) b (taken_word word mid)) (sym beat)
@@ -329,19 +335,38 @@ asked_free first word h e = ap (λ b. cond b (taken_word word h) (obeyed first w
 pub asked_owes : (first : Opening) (word : Exec) (h : Journal) → owes_report (asked first word h) ≡ owes_report (taken_word word h)
 asked_owes first word h = by_owed (owes_report (taken_word word h)) refl
   where
+    same : (w : Option Exec) (j : Journal) → owes_report (obeying first w j) ≡ owes_report j
+    same None j = refl
+    same (Some word) j = refl
+
     by_owed : (b : Bool) → owes_report (taken_word word h) ≡ b → owes_report (asked first word h) ≡ owes_report (taken_word word h)
     by_owed true e = ap owes_report (asked_owed first word h e)
-    by_owed false e = ap owes_report (asked_free first word h e)
+    by_owed false e = ap owes_report (asked_free first word h e) ∙ same (to_obey word) (taken_word word h)
 
--- the word that was taken may be obeyed at once
+-- a port stands for it as it did when the word was taken
+pub port_stands : (first : Opening) (stands : PortLog → Type 0) (word : Exec) (h : Journal) → stands (port_log (taken_word word h)) → stands (port_log (obeyed first word h))
+port_stands first stands word h s = by_word (to_obey word) (taken_word word h) s
+  where
+    by_word : (w : Option Exec) (j : Journal) → stands (port_log j) → stands (port_log (obeying first w j))
+    by_word None j s = s
+    by_word (Some word) j s = s
+
+-- the word that was taken may be obeyed at once, unless it asks for a reset
 pub obeys_at_once : (first : Opening) (word : Exec) (h mid : Journal) → HaltsInTime first mid → HasSettled first h mid → has_jog_to_start first h ≡ false → unobeyed_of mid ≡ [] → owes_report (taken_word word mid) ≡ false
-    → MayObey first word (has_blocks (plan_of mid).blocks) (taken_word word mid)
-obeys_at_once first word h mid halts s no_jog none unowed = record {
-  next = ap (λ (ws : List Exec). ws ++ word ∷ []) none;
-  reported = λ e. absurd (let f = sym e ∙ unowed in cc);
-  blocks = refl;
-  looked = λ x. s.looked (record { slows = x.slows; speed = x.speed; empty = x.empty });
-  stopped = λ x. s.stopped (record { slowed = record { slows = x.slowed.slows; speed = x.slowed.speed; empty = x.slowed.empty }; done = x.done });
-  jog = s.jogs no_jog;
-  halts = halts;
-}
+    → MayObeyNow first (to_obey word) (taken_word word mid)
+obeys_at_once first word h mid halts s no_jog none unowed = by_reset (asks_reset word) refl
+  where
+    obeys : asks_reset word ≡ false → MayObey first word (has_blocks (plan_of mid).blocks) (taken_word word mid)
+    obeys no_reset = record {
+      next = word_waits word mid none ∙ ap (λ r. option_to_list (cond r None (Some word))) no_reset;
+      reported = λ e. absurd (let f = sym e ∙ unowed in cc);
+      blocks = refl;
+      looked = λ x. s.looked (record { slows = x.slows; speed = x.speed; empty = x.empty });
+      stopped = λ x. s.stopped (record { slowed = record { slows = x.slowed.slows; speed = x.slowed.speed; empty = x.slowed.empty }; done = x.done });
+      jog = s.jogs no_jog;
+      halts = halts;
+    }
+
+    by_reset : (r : Bool) → asks_reset word ≡ r → MayObeyNow first (to_obey word) (taken_word word mid)
+    by_reset true e = subst (λ r. MayObeyNow first (cond r None (Some word)) (taken_word word mid)) (sym e) tt
+    by_reset false e = subst (λ r. MayObeyNow first (cond r None (Some word)) (taken_word word mid)) (sym e) (obeys e)

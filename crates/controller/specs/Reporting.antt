@@ -4,8 +4,6 @@ use Rattle.std.specs.List.{list_any, count_by}
 use Rattle.std.specs.Option.{option_to_list}
 use Rattle.std.specs.declared.option.Option.{Option}
 use Rattle.code_table.specs.declared.flags.Exec.{Exec}
-use Rattle.feed_hold.specs.Motions.{after_word}
-use Rattle.feed_hold.specs.Motions.Call.{on_exec}
 use Rattle.flight.specs.Places.{machine_from}
 use Rattle.run_rules.specs.Reports.{Shows}
 use Rattle.status_report.specs.declared.reports.Report.{Report}
@@ -14,7 +12,7 @@ use Rattle.units.specs.Truths.{one_if}
 use Rattle.board_rules.specs.Openings.{Opening}
 use Rattle.board_rules.specs.Ports.PortStep.{found_free}
 use Rattle.board_rules.specs.Steps.{Step, Journal, published_of, known_of, whole_of, plan_of, motion_of}
-use Rattle.board_rules.specs.Steps.Step.{at_port, became}
+use Rattle.board_rules.specs.Steps.Step.{at_port}
 use Rattle.board_rules.specs.Turns.{
   this_turn,
   publishing,
@@ -34,9 +32,10 @@ use Rattle.board_rules.specs.Turns.{
   tries_of,
   waits_of,
 }
-use Rattle.board_rules.specs.Conduct.{IsDrained, IsStopped, AreWaiting, IsRoom, feed_of, shown_as, ticks_given}
+use Rattle.board_rules.specs.Conduct.{IsDrained, IsStopped, AreWaiting, MayObey, IsRoom, feed_of, shown_as, ticks_given}
 use Rattle.controller.specs.declared.controller.Controller.{Controller}
 use Rattle.controller.specs.Boards.{NoneWaits, IsAsked}
+pub use Rattle.controller.specs.Turning.{obeying}
 use Rattle.controller.specs.Turning.{AreWorked, PassesNothing, NoneFits, StaysSo, IsCutNow}
 
 -- ---- what is known
@@ -56,12 +55,6 @@ pub record IsToReport (first : Opening) (word : Option Exec) (h : Journal) : Typ
   pub tries : tries_of first h + one_if (whole_of h) ≤ 1
 
 -- ---- what is added
-
--- a word that waits is obeyed
-abbrev pub obeying : Opening → Option Exec → Journal → Journal
-obeying first None h = h
-obeying first (Some word) h =
-    became (on_exec word (has_blocks (plan_of h).blocks)) (after_word word (has_blocks (plan_of h).blocks) (motion_of first h)) ∷ h
 
 -- It was looked how many ticks are done: what comes of a machine that has stopped came where each is, and where nothing is
 -- left to run and each is, the cycle is over.
@@ -111,6 +104,11 @@ pub record IsReported (first : Opening) (told : Bool) (word : Option Exec) (h : 
   pub none_waits : NoneWaits first h
   pub adds : NoneFits first h
   pub tries : tries_of first h + one_if (whole_of h) ≤ 1
+
+-- the word that waits, if one does, may be obeyed now
+abbrev pub MayObeyNow : Opening → Option Exec → Journal → Type 0
+MayObeyNow first None h = Unit {0}
+MayObeyNow first (Some word) h = MayObey first word (has_blocks (plan_of h).blocks) h
 
 -- There was no room for a report in this turn: it is still owed, and no word waits for it. Nothing was published.
 pub record LacksRoom (first : Opening) (h : Journal) : Type 0 where

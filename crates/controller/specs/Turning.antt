@@ -1,6 +1,7 @@
 -- What is known within a turn of a board, and what its parts add.
-use Rattle.std.specs.Prelude.{◌≡◌, ◌⊎◌, ℕ, ◌+◌, ◌≤◌, ◌<◌, Bool, true, false, cond, List, [], ◌∷◌, ◌++◌, drop, Some}
+use Rattle.std.specs.Prelude.{◌≡◌, ◌⊎◌, ℕ, ◌+◌, ◌≤◌, ◌<◌, Bool, true, false, cond, List, [], ◌∷◌, ◌++◌, drop, Some, None}
 use Rattle.std.specs.List.{list_any, count_by}
+use Rattle.std.specs.declared.option.Option.{Option}
 use Rattle.code_table.specs.declared.flags.Exec.{Exec}
 use Rattle.code_table.specs.declared.flags.Ovr.{Ovr}
 use Rattle.overrides.specs.Percents.{taken}
@@ -19,7 +20,7 @@ use Rattle.step_line.specs.Asking.Asked.{a_move, a_rest}
 use Rattle.step_line.specs.declared.planned_move.PlannedMove.{PlannedMove}
 use Rattle.board_rules.specs.Openings.{Opening}
 use Rattle.board_rules.specs.Ports.{PortLog}
-use Rattle.board_rules.specs.Ports.{has_changes}
+use Rattle.board_rules.specs.Ports.{asks_reset, has_changes}
 use Rattle.status_report.specs.declared.Reply.{Reply}
 use Rattle.board_rules.specs.Ports.PortStep.{answered, no_reply_room, took_exec, took_ovr}
 use Rattle.board_rules.specs.Steps.{Step, Journal, port_log, open_of, before_of, whole_of, left_of, closed_tells, published_of, known_of, hand_of, plan_of, motion_of}
@@ -227,10 +228,19 @@ pub record HasHalted (first : Opening) (h next : Journal) : Type 0 where
   pub alarm : motion_of first next ≡ Alarm
   pub undue : is_due first next ≡ false
 
--- a word of requests was taken, and what it asks of the motion is done
+-- what of a word of requests is to be obeyed: nothing if it asks for a reset
+abbrev pub to_obey : Exec → Option Exec
+to_obey word = cond (asks_reset word) None (Some word)
+
+-- a word that waits is obeyed
+abbrev pub obeying : Opening → Option Exec → Journal → Journal
+obeying first None h = h
+obeying first (Some word) h =
+    became (on_exec word (has_blocks (plan_of h).blocks)) (after_word word (has_blocks (plan_of h).blocks) (motion_of first h)) ∷ h
+
+-- a word of requests was taken, and what it asks of the motion is done, unless it asks for a reset
 abbrev pub obeyed : Opening → Exec → Journal → Journal
-obeyed first word h =
-    became (on_exec word (has_blocks (plan_of h).blocks)) (after_word word (has_blocks (plan_of h).blocks) (motion_of first h)) ∷ (at_port (took_exec word) ∷ h)
+obeyed first word h = obeying first (to_obey word) (at_port (took_exec word) ∷ h)
 
 -- a word of requests was taken; where a report is owed then, it is told before the word is obeyed
 abbrev pub asked : Opening → Exec → Journal → Journal
@@ -238,7 +248,7 @@ asked first word h = cond (owes_report (at_port (took_exec word) ∷ h)) (at_por
 
 -- so the words of flags go on
 abbrev pub flags_behind : Bool → Exec → Flags
-flags_behind owes word = cond owes (words.Report (Some word)) words.None
+flags_behind owes word = cond owes (words.Report (to_obey word)) words.None
 
 -- a word of changes of overrides was taken, and it is planned for what they come to, where it holds one
 abbrev pub replanned : Ovr → Journal → Journal

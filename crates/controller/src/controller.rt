@@ -78,6 +78,7 @@ fn found(motion: Motion) -> Found
     match motion {
         Motion::Run => Found::Runs,
         Motion::Jog => Found::Jogs,
+        Motion::Alarm => Found::Locked,
         _ => Found::Stands,
     }
 }

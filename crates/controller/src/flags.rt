@@ -14,7 +14,7 @@ ghost use Rattle.board_rules.specs.Turns.{unobeyed_of, owes_report, has_jog_to_s
 ghost use Rattle.controller.specs.Turning.{HasPiece, IsHalted, HasSettled, asked, flags_behind, replanned, WorksOn};
 
 use crate::controller::{Beat, Controller, Flags};
-use crate::reports::{asks_report, asks_reset};
+use crate::reports::{asks_report, asks_reset, to_obey};
 use bitflags::Flags as _;
 use board_rules::BoardPort;
 use outside::{On, Turn};
@@ -38,8 +38,8 @@ impl Controller {
         self.come_to_rest();
     }
 
-    /// Takes the word of requests, and does what it asks of the motion; where a report is owed then, that comes first.
-    /// What comes of a machine that has stopped comes before.
+    /// Takes the word of requests, and does what it asks of the motion, unless it asks for a reset; where a report is owed
+    /// then, that comes first. What comes of a machine that has stopped comes before.
     #[inline(never)]
     pub(crate) fn take_requests<P: BoardPort>(&mut self, port: &mut P)
         requires stands { (rest : P.Rest) × (first : Opening) × (h : Journal) × P.stands port.old rest (port_log h) × Keeps first self.old h × (unobeyed_of h ≡ []) × (has_jog_to_start first h ≡ false) }
@@ -52,12 +52,13 @@ impl Controller {
         let word = port.take_exec();
         self.reset = asks_reset(word) | self.reset;
         self.owes = asks_report(word) | self.owes;
+        let waiting = to_obey(word);
         if self.owes {
-            self.flags = Flags::Report(Some(word));
+            self.flags = Flags::Report(waiting);
             return;
         }
         self.flags = Flags::None;
-        self.machine.obey(word);
+        self.obey_waiting(waiting);
     }
 
     /// Takes the word of changes of overrides, and plans anew where it holds one.

@@ -12,8 +12,8 @@ ghost use Rattle.board_rules.specs.Turns.{this_turn, moving};
 ghost use Rattle.board_rules.specs.Conduct.{feed_of, shown_as};
 ghost use Rattle.controller.specs.declared.controller.Flags.{Flags as AnyFlags};
 ghost use Rattle.controller.specs.Boards.{Keeps};
-ghost use Rattle.controller.specs.Turning.{BoardWorked, WorksOn};
-ghost use Rattle.controller.specs.Reporting.{HasAskedRoom, HasObserved, IsBehind, IsReported, IsTold, IsToReport, LacksRoom, obeying};
+ghost use Rattle.controller.specs.Turning.{BoardWorked, WorksOn, to_obey};
+ghost use Rattle.controller.specs.Reporting.{HasAskedRoom, HasObserved, IsBehind, IsReported, IsTold, IsToReport, LacksRoom, MayObeyNow, obeying};
 
 use crate::controller::{Beat, Controller, Flags};
 use bitflags::Flags as _;
@@ -38,6 +38,16 @@ pub(crate) fn asks_reset(word: Exec) -> bool
     ensures { result ≡ asks_reset word }
 {
     word.contains(Exec::RESET)
+}
+
+/// What of a word of requests is to be obeyed: nothing where it asks for a reset.
+pub(crate) fn to_obey(word: Exec) -> Option<Exec>
+    ensures { result ≡ to_obey word }
+{
+    if asks_reset(word) {
+        return None;
+    }
+    Some(word)
 }
 
 /// The state, as reports tell it.
@@ -113,9 +123,9 @@ impl Controller {
         })
     }
 
-    /// Does what a word of requests asks of the motion that waited for a report, if one did.
-    fn obey_waiting(&mut self, word: Option<Exec>)
-        ensures goes_on { (first : Opening) (h : Journal) (told : Bool) → Keeps first self.old h → IsReported first told word h → Keeps first self.new (obeying first word h) }
+    /// Does what a word of requests asks of the motion, if one waits for that.
+    pub(crate) fn obey_waiting(&mut self, word: Option<Exec>)
+        ensures goes_on { (first : Opening) (h : Journal) → Keeps first self.old h → MayObeyNow first word h → Keeps first self.new (obeying first word h) }
         ensures same { self.new ≡ record self.old { machine = self.new.machine } }
     {
         if let Some(word) = word {

@@ -18,10 +18,11 @@ use Rattle.run_rules.specs.States.{IsOpening}
 use Rattle.run_rules.specs.Work.{Task, Outcome, tells, asks}
 use Rattle.run_rules.specs.Outcomes.{Passed, Follows, start}
 use Rattle.run_rules.specs.Told.{replies_in, asked_in}
+use Rattle.run_rules.proofs.Locking.{free_follows}
 use Rattle.stream_host.proofs.Pieces.{wholes_on, no_whole}
 use Rattle.run_rules.specs.Reports.{Course, Reported, settled_to, fewest}
 use Rattle.board_rules.specs.Openings.{first_opening}
-use Rattle.board_rules.specs.Cuts.{part_outcomes, part_actions, part_given, part_plan, has_halted, parts_of, counts_of, cancel_words_at, cancel_words_in}
+use Rattle.board_rules.specs.Cuts.{part_outcomes, part_actions, part_given, part_plan, has_halted, parts_of, passed_of, counts_of, cancel_words_at, cancel_words_in}
 use Rattle.board_rules.specs.Parts.{IsHaltedPart, plan_behind}
 use Rattle.board_rules.specs.Turns.{owes_report}
 use Rattle.board_rules.specs.Steps.{Journal, port_log, taken_of, has_closed, has_limited, plan_of, answered_of, published_of, known_of, open_of, whole_of, lines_of, outcomes_of, before_of, left_of, closed_tells, planned_of, given_of, hand_of}
@@ -141,7 +142,8 @@ keeps first h conducted =
       bytes = bytes_are (first_opening first) h conducted;
       lines = lines;
       pieces_are = pieces_same;
-      follow = subst (λ (ps : List Passed). Follows true (start first) (lines_of h) ps (before_of (first_opening first) h)) (passed_are (first_opening first) h conducted) (lines_follow (first_opening first) h conducted);
+      follow = subst (λ (ps : List Passed). Follows true (start first) (lines_of h) ps (before_of (first_opening first) h)) (passed_are (first_opening first) h conducted)
+          (free_follows true (start first) (before_of (first_opening first) h) (lines_of h) (passed_of (first_opening first) h) (lines_follow (first_opening first) h conducted));
       told = ap (λ (os : List Outcome). replies_in os ++ closed_tells h) (sym lines) ∙ told_is (first_opening first) h conducted;
       bye = one_bye (first_opening first) h conducted;
       asked = asked_is (first_opening first) h conducted;

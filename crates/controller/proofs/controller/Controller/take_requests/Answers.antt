@@ -1,14 +1,16 @@
-use Rattle.std.proofs.Common.{◌≡◌, ◌||◌, Some, sym, ap, ◌∙◌, subst}
+use Rattle.std.proofs.Common.{◌≡◌, ◌||◌, sym, ap, ◌∙◌, subst}
 use Rattle.board_rules.specs.Ports.{asks_report, asks_reset}
-use Rattle.board_rules.specs.Steps.{Journal, port_log, hand_of, given_of, plan_of, motion_of}
+use Rattle.board_rules.specs.Steps.{Journal, port_log}
 use Rattle.board_rules.specs.Turns.{owes_report}
 use Rattle.board_rules.specs.Conduct.{MayTakeRequests}
+use Rattle.controller.specs.declared.controller.Controller.{Controller}
 use Rattle.controller.specs.declared.controller.Flags.TheVariants as words
 use Rattle.controller.specs.Boards.{Keeps}
-use Rattle.controller.specs.Turning.{flags_behind}
-use Rattle.controller.proofs.Steps.{takes_word, obeys, other_flags, halts_by}
+use Rattle.controller.specs.Turning.{flags_behind, obeying}
+use Rattle.controller.specs.Reporting.{MayObeyNow}
+use Rattle.controller.proofs.Steps.{takes_word, other_flags, halts_by}
 use Rattle.controller.proofs.Halting.{taken}
-use Rattle.controller.proofs.Words.{asked_owed, asked_free, obeys_at_once}
+use Rattle.controller.proofs.Words.{asked_owed, asked_free, port_stands, obeys_at_once}
 use Rattle.controller.proofs.controller.Controller.take_requests.Goals as goal
 
 pub returns-then-self-clause-goes_on : goal.returns-then-self-clause-goes_on
@@ -26,8 +28,8 @@ returns-then-self-clause-goes_on g c = λ rest first h stands k none no_jog.
       j,
       n.3,
       subst (λ (x : Journal). g.P.BoardPort.stands c.take_exec-word.new.self rest (port_log x)) (sym is) (c.take_exec-word.ensures.taken rest (port_log j) n.1),
-      subst (λ (x : Journal). Keeps first (record board { flags = words.Report (Some word) }) x) (sym is) (other_flags first board (words.Report (Some word)) (taken word j) (takes_word first c.settle.new.self (c.asks_report.result || c.settle.new.self.owes) (c.asks_reset.result || c.settle.new.self.reset) word j n.2 may owes_is reset_is)),
-      sym (ap (λ b. flags_behind b word) owed),
+      subst (λ (x : Journal). Keeps first (record board { flags = words.Report c.to_obey-waiting.result }) x) (sym is) (other_flags first board (words.Report c.to_obey-waiting.result) (taken word j) (takes_word first c.settle.new.self (c.asks_report.result || c.settle.new.self.owes) (c.asks_reset.result || c.settle.new.self.reset) word j n.2 may owes_is reset_is)),
+      ap (λ w. words.Report w) c.to_obey-waiting.ensures ∙ sym (ap (λ b. flags_behind b word) owed),
     )
 
 pub returns-clause-goes_on : goal.returns-clause-goes_on
@@ -36,18 +38,19 @@ returns-clause-goes_on g c = λ rest first h stands k none no_jog.
     let j = n.0 in
     let word = c.take_exec-word.result in
     let left = n.3.passes.words ∙ none in
-    let may : MayTakeRequests word j = record { obeyed = left; few = λ e. c.take_exec-word.ensures.few e rest (port_log j) n.1 } in
+    let takes : MayTakeRequests word j = record { obeyed = left; few = λ e. c.take_exec-word.ensures.few e rest (port_log j) n.1 } in
     let owes_is = ap (λ b. b || c.settle.new.self.owes) c.asks_report.ensures ∙ ap (λ b. asks_report word || b) n.2.owes_is in
     let reset_is = ap (λ b. b || c.settle.new.self.reset) c.asks_reset.ensures ∙ ap (λ b. asks_reset word || b) n.2.reset_is in
     let unowed : owes_report (taken word j) ≡ _ = sym owes_is ∙ c.if-self.false in
     let is = asked_free first word j unowed in
-    let board = record c.settle.new.self { reset = c.asks_reset.result || c.settle.new.self.reset; owes = c.asks_report.result || c.settle.new.self.owes; flags = words.None } in
-    let kept = other_flags first (record c.settle.new.self { reset = c.asks_reset.result || c.settle.new.self.reset; owes = c.asks_report.result || c.settle.new.self.owes }) words.None (taken word j) (takes_word first c.settle.new.self (c.asks_report.result || c.settle.new.self.owes) (c.asks_reset.result || c.settle.new.self.reset) word j n.2 may owes_is reset_is) in
-    let runs = c.obey.ensures (plan_of j) (motion_of first j) (hand_of j) (given_of j) n.2.machine in (
+    let kept = other_flags first (record c.settle.new.self { reset = c.asks_reset.result || c.settle.new.self.reset; owes = c.asks_report.result || c.settle.new.self.owes }) words.None (taken word j) (takes_word first c.settle.new.self (c.asks_report.result || c.settle.new.self.owes) (c.asks_reset.result || c.settle.new.self.reset) word j n.2 takes owes_is reset_is) in
+    let waits = c.to_obey-waiting.ensures in
+    let may = subst (λ w. MayObeyNow first w (taken word j)) (sym waits) (obeys_at_once first word h j (halts_by first c.settle.new.self j n.2) n.3 no_jog left unowed) in
+    let obeyed = subst (λ w. Keeps first c.obey_waiting.new.self (obeying first w (taken word j))) waits (c.obey_waiting.ensures.goes_on first (taken word j) kept may) in (
       word,
       j,
       n.3,
-      subst (λ (x : Journal). g.P.BoardPort.stands c.take_exec-word.new.self rest (port_log x)) (sym is) (c.take_exec-word.ensures.taken rest (port_log j) n.1),
-      subst (λ (x : Journal). Keeps first (record board { machine = c.obey.new.self }) x) (sym is) (obeys first board c.obey.new.self word (taken word j) kept (obeys_at_once first word h j (halts_by first c.settle.new.self j n.2) n.3 no_jog left unowed) runs),
-      sym (ap (λ b. flags_behind b word) unowed),
+      subst (λ (x : Journal). g.P.BoardPort.stands c.take_exec-word.new.self rest (port_log x)) (sym is) (port_stands first (λ l. g.P.BoardPort.stands c.take_exec-word.new.self rest l) word j (c.take_exec-word.ensures.taken rest (port_log j) n.1)),
+      subst (λ (x : Journal). Keeps first c.obey_waiting.new.self x) (sym is) obeyed,
+      ap (λ (b : Controller). b.flags) c.obey_waiting.ensures.same ∙ sym (ap (λ b. flags_behind b word) unowed),
     )
