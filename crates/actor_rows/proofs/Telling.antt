@@ -1,72 +1,147 @@
--- What a board that is a plain list has told with a reply more, and what a host may take from it.
-use Rattle.std.proofs.Common.{◌≡◌, ℕ, zero, suc, ◌+◌, ◌≤◌, Bool, true, false, ◌&&◌, cond, List, [], ◌∷◌, refl, ap, arith}
-use Rattle.std.proofs.lemmas.List.Sums.{sum_by-append, sum_by-cons}
+-- What a board that is a plain list has told with a step more, and what a host may take from it.
+use Rattle.std.proofs.Common.{◌≡◌, ℕ, zero, suc, ◌+◌, ◌≤◌, ◌<◌, inl, inr, Bool, true, false, cond, List, [], ◌∷◌, ◌++◌, length, drop, nat_eq, refl, ap, ◌∙◌, arith, length-append}
+use Rattle.std.proofs.lemmas.List.Sums.{sum_by-append}
 use Rattle.status_report.specs.declared.Reply.{Reply}
-use Rattle.status_report.specs.Answering.{lfs_in, is_answer, is_banner, answers_in}
-use Rattle.serial_ring.specs.Marks.{start}
-use Rattle.serial_ring.specs.Lists.{has_banner, answers_behind_mark}
-use Rattle.stream_host.specs.Links.{banners_in}
+use Rattle.status_report.specs.declared.Reply.TheVariants.{Banner}
+use Rattle.status_report.specs.Answering.{lfs_in, is_answer, is_banner}
+use Rattle.serial_ring.specs.Marks.{Mark, IsMark, start, latest, last_of}
+use Rattle.serial_ring.specs.Lists.{has_banner}
+use Rattle.stream_host.specs.Links.{banners_in, behind_mark, AreGreetings}
 use Rattle.stream_host.specs.Ports.{AnswersLines}
-use Rattle.stream_host.specs.Steps.{PortLog, got_in, latest_got, stored_in}
-use Rattle.stream_host.specs.Steps.PortStep.{stored, dropped, marked, raised, got, no_reply, shut}
+use Rattle.stream_host.specs.Steps.{PortLog, latest_got, marks_in, stored_in}
+use Rattle.stream_host.specs.Steps.PortStep.{stored, marked, got}
+use Rattle.stream_host.proofs.Raised.{banners_first, rising_is}
+use Rattle.stream_host.proofs.Epochs.{some_banner, none_banner}
 use Rattle.actor_rows.specs.Boards.{HasTold}
 
-by_bool : {Q : Type 0} (b : Bool) → (b ≡ true → Q) → (b ≡ false → Q) → Q
-by_bool true t f = t refl
-by_bool false t f = f refl
+-- a board has told nothing at first
+pub told_none : HasTold 0 0 0 0 []
+told_none = record {
+  seen = [];
+  each = refl;
+  are = tt;
+  lines = omega arith;
+  none = λ e. refl;
+  some = λ s. absurd (omega arith);
+  stored = refl;
+  low = omega arith;
+  within = omega arith;
+}
 
-banners_first : (r : Reply) (rs : List Reply) → banners_in (r ∷ rs) ≡ cond (is_banner r) 1 0 + banners_in rs
-banners_first r rs = sum_by-cons (λ (s : Reply). cond (is_banner s) 1 0) r rs
+-- ---- bytes and marks
 
-answers_first : (r : Reply) (rs : List Reply) → answers_in (r ∷ rs) ≡ cond (is_answer r) 1 0 + answers_in rs
-answers_first r rs = sum_by-cons (λ (s : Reply). cond (is_answer s) 1 0) r rs
+drop_more : (n : ℕ) (xs : List ℕ) (b : ℕ) → n ≤ length xs → drop n (xs ++ b ∷ []) ≡ drop n xs ++ b ∷ []
+drop_more zero xs b few = refl
+drop_more (suc n) [] b few = absurd (omega arith)
+drop_more (suc n) (x ∷ xs) b few = drop_more n xs b (omega arith)
 
--- an answer more, or a banner where none was told
-pub tells : (r : Reply) (owed told owed' told' : ℕ) (h : PortLog) → HasTold owed told h
-    → cond (is_answer r) 1 0 + owed' ≤ owed → (is_banner r ≡ true → told ≡ 0) → cond (is_banner r) 1 told ≤ told' → HasTold owed' told' (got r ∷ h)
-tells r owed told owed' told' h t answers none more =
-    let first = banners_first r (latest_got h) in
-    let before = t.first in
+pub with_byte : (b owed owed' told marks greeted : ℕ) (h : PortLog) → HasTold owed told marks greeted h → owed' ≤ owed + cond (nat_eq b 10) 1 0 → HasTold owed' told marks greeted (stored b ∷ h)
+with_byte b owed owed' told marks greeted h t few = record {
+  seen = t.seen;
+  each = t.each;
+  are = t.are;
+  lines = (
+      let l = t.lines in let e = ap lfs_in (drop_more (last_of t.seen).1 (stored_in h) b t.within) in
+      let a = sum_by-append (λ c. cond (nat_eq c 10) 1 0) (drop (last_of t.seen).1 (stored_in h)) (b ∷ []) in omega arith
+      );
+  none = t.none;
+  some = t.some;
+  stored = t.stored;
+  low = t.low;
+  within = (let w = t.within in let l = length-append (stored_in h) (b ∷ []) in omega arith);
+}
+
+more_marks : (b : ℕ) (marks : List ℕ) (seen : List Mark) → AreGreetings marks seen → AreGreetings (b ∷ marks) seen
+more_marks b marks [] are = tt
+more_marks b marks (m ∷ []) are = (are.0, tt)
+more_marks b marks (m ∷ before ∷ earlier) are = ((are.0.0, inr are.0.1), more_marks b marks (before ∷ earlier) are.1)
+
+pub with_mark : (owed told marks greeted : ℕ) (h : PortLog) → HasTold owed told marks greeted h → HasTold owed told (marks + 1) greeted (marked ∷ h)
+with_mark owed told marks greeted h t = record {
+  seen = t.seen;
+  each = t.each;
+  are = more_marks (length (stored_in h)) (marks_in h) t.seen t.are;
+  lines = t.lines;
+  none = t.none;
+  some = t.some;
+  stored = (let s = t.stored in omega arith);
+  low = t.low;
+  within = t.within;
+}
+
+-- ---- replies
+
+no_banners : (seen : List Mark) (n : ℕ) → length seen ≡ n → seen ≡ [] → n ≡ 0
+no_banners seen n e none = let l = ap (λ (ms : List Mark). length ms) none in omega arith
+
+-- an answer to a line that has none, or another reply that is no banner
+pub tells : (r : Reply) (owed owed' told told' marks greeted : ℕ) (h : PortLog) → HasTold owed told marks greeted h → is_banner r ≡ false → cond (is_answer r) 1 0 + owed' ≤ owed → 0 < told → told ≤ told'
+    → HasTold owed' told' marks greeted (got r ∷ h)
+tells r owed owed' told told' marks greeted h t other answers some more = record {
+  seen = t.seen;
+  each = t.each ∙ (let f = banners_first r (latest_got h) in let o = ap (λ (x : Bool). cond {A = ℕ} x 1 0) other in omega arith);
+  are = t.are;
+  lines = rw other (let l = t.lines in omega arith);
+  none = λ e. absurd (omega arith);
+  some = λ s. t.some some;
+  stored = t.stored;
+  low = t.low;
+  within = t.within;
+}
+
+-- the first banner is of the start of the link
+pub greets : (owed told marks greeted : ℕ) (h : PortLog) → HasTold owed told marks greeted h → told ≡ 0 → HasTold owed 1 marks greeted (got Banner ∷ h)
+greets owed told marks greeted h t first =
+    let empty = t.none first in
+    let none : banners_in (latest_got h) ≡ 0 = no_banners t.seen (banners_in (latest_got h)) t.each empty in
     record {
-      lines = (let l = t.lines in let e = sum_by-append (λ (s : Reply). cond (is_answer s) 1 0) (got_in h) (r ∷ []) in omega arith);
-      once = by_bool (is_banner r)
-          (λ b. let n = none b in let f = ap (λ (x : Bool). cond {A = ℕ} x 1 0) b in omega arith)
-          (λ b. let o = t.once in let f = ap (λ (x : Bool). cond {A = ℕ} x 1 0) b in omega arith);
-      first = by_bool (is_banner r)
-          (λ b. let n = none b in let f = ap (λ (x : Bool). cond {A = ℕ} x 1 0) b in let m = ap (λ (x : Bool). cond {A = ℕ} x 1 told) b in omega arith)
-          (λ b. let f = ap (λ (x : Bool). cond {A = ℕ} x 1 0) b in let m = ap (λ (x : Bool). cond {A = ℕ} x 1 told) b in omega arith);
+      seen = start ∷ [];
+      each = (let f = banners_first Banner (latest_got h) in omega arith);
+      are = (refl, tt);
+      lines = (let l = t.lines in let e = ap (λ (ms : List Mark). lfs_in (behind_mark ms (stored_in h))) empty in rw (no_banner h none) (omega arith));
+      none = λ e. absurd (omega arith);
+      some = λ s. omega arith;
+      stored = t.stored;
+      low = omega arith;
+      within = omega arith;
     }
-
-fewer_behind : (rs : List Reply) → answers_behind_mark rs ≤ answers_in rs
-fewer_behind [] = omega arith
-fewer_behind (r ∷ rs) =
-    let rest = fewer_behind rs in let a = answers_first r rs in
-    by_bool (is_banner r && has_banner rs) (λ t. rw t (omega arith)) (λ t. rw t (omega arith))
-
-same_answers : (h : PortLog) → answers_in (latest_got h) ≡ answers_in (got_in h)
-same_answers [] = refl
-same_answers (stored b ∷ h) = same_answers h
-same_answers (dropped b ∷ h) = same_answers h
-same_answers (marked ∷ h) = same_answers h
-same_answers (raised b down ∷ h) = same_answers h
-same_answers (got r ∷ h) =
-    let f = answers_first r (latest_got h) in let s = same_answers h in
-    let e = sum_by-append (λ (s : Reply). cond (is_answer s) 1 0) (got_in h) (r ∷ []) in omega arith
-same_answers (no_reply ∷ h) = same_answers h
-same_answers (shut ∷ h) = same_answers h
-
--- the only banner is of the start
-pub answers_lines : (owed told : ℕ) (h : PortLog) → HasTold owed told h → AnswersLines h
-answers_lines owed told h t = by_count (banners_in (latest_got h)) refl
   where
-    few : answers_behind_mark (latest_got h) ≤ lfs_in (stored_in h)
-    few = let f = fewer_behind (latest_got h) in let s = same_answers h in let l = t.lines in omega arith
+    no_banner : (h : PortLog) → banners_in (latest_got h) ≡ 0 → has_banner (latest_got h) ≡ false
+    no_banner h none = by_test (has_banner (latest_got h)) refl
+      where
+        by_test : (b : Bool) → has_banner (latest_got h) ≡ b → b ≡ false
+        by_test false e = refl
+        by_test true e = absurd (let s = some_banner (latest_got h) e in omega arith)
 
-    by_count : (n : ℕ) → banners_in (latest_got h) ≡ n → AnswersLines h
-    by_count zero e = record { greeted = []; are = record { each = omega arith; stored = tt }; few = few }
-    by_count (suc zero) e = record { greeted = start ∷ []; are = record { each = omega arith; stored = (refl, tt) }; few = few }
-    by_count (suc (suc n)) e = absurd (let o = t.once in omega arith)
+is_latest : (marks : List ℕ) → 0 < length marks → IsMark marks (length marks, latest marks)
+is_latest [] some = absurd (omega arith)
+is_latest (b ∷ earlier) some = inl (λ i. ((let e : length (b ∷ earlier) ≡ length earlier + 1 = omega arith in e) i, b))
 
--- so what a host may take from a reply holds: it is an answer only where a line has none, and a banner only as the first
-pub reply_lines : (r : Reply) (owed told : ℕ) (h : PortLog) → HasTold owed told h → cond (is_answer r) 1 0 ≤ owed → (is_banner r ≡ true → told ≡ 0) → AnswersLines (got r ∷ h)
-reply_lines r owed told h t answers none = answers_lines 0 (cond (is_banner r) 1 told) (got r ∷ h) (tells r owed told 0 (cond (is_banner r) 1 told) h t (omega arith) none (omega arith))
+follows : (marks : List ℕ) (seen : List Mark) → 0 < length seen → (last_of seen).0 < length marks → AreGreetings marks seen → AreGreetings marks ((length marks, latest marks) ∷ seen)
+follows marks [] some less are = absurd (omega arith)
+follows marks (before ∷ earlier) some less are = ((less, is_latest marks (omega arith)), are)
+
+-- a later one is of the latest mark, and begins anew
+pub begins_anew : (owed told marks greeted : ℕ) (h : PortLog) → HasTold owed told marks greeted h → 0 < told → greeted < marks → HasTold 0 told marks marks (got Banner ∷ h)
+begins_anew owed told marks greeted h t some more = record {
+  seen = (length (marks_in h), latest (marks_in h)) ∷ t.seen;
+  each = (let f = banners_first Banner (latest_got h) in let e = t.each in omega arith);
+  are = follows (marks_in h) t.seen (t.some some) (let l = t.low in let s = t.stored in omega arith) t.are;
+  lines = rw has_one (omega arith);
+  none = λ e. absurd (omega arith);
+  some = λ s. omega arith;
+  stored = t.stored;
+  low = (let s = t.stored in omega arith);
+  within = (rising_is h).1;
+}
+  where
+    has_one : has_banner (latest_got h) ≡ true
+    has_one = by_test (has_banner (latest_got h)) refl
+      where
+        by_test : (b : Bool) → has_banner (latest_got h) ≡ b → b ≡ true
+        by_test true e = refl
+        by_test false e = absurd (let n = none_banner (latest_got h) e in let s = t.some some in let e = t.each in omega arith)
+
+-- so what a host may take from a reply holds
+pub answers_lines : (owed told marks greeted : ℕ) (h : PortLog) → HasTold owed told marks greeted h → AnswersLines h
+answers_lines owed told marks greeted h t = record { greeted = t.seen; are = record { each = t.each; stored = t.are }; few = (let l = t.lines in omega arith) }

@@ -1,11 +1,24 @@
 -- What a board that is a plain list has told.
-use Rattle.std.specs.Prelude.{ℕ, ◌+◌, ◌≤◌}
-use Rattle.status_report.specs.Answering.{answers_in, lfs_in}
-use Rattle.stream_host.specs.Links.{banners_in}
-use Rattle.stream_host.specs.Steps.{PortLog, got_in, latest_got, stored_in}
+use Rattle.std.specs.Prelude.{◌≡◌, ℕ, ◌+◌, ◌≤◌, ◌<◌, List, [], length}
+use Rattle.status_report.specs.declared.Reply.{Reply}
+use Rattle.status_report.specs.Answering.{lfs_in}
+use Rattle.serial_ring.specs.Marks.{Mark, last_of}
+use Rattle.serial_ring.specs.Lists.{answers_behind_mark}
+use Rattle.stream_host.specs.Links.{banners_in, behind_mark, AreGreetings}
+use Rattle.stream_host.specs.Steps.{PortLog, latest_got, marks_in, stored_in}
 
--- so many lines that were stored have no answer, and so many replies were told, of which at most one is a banner
-pub record HasTold (owed told : ℕ) (h : PortLog) : Type 0 where
-  pub lines : answers_in (got_in h) + owed ≤ lfs_in (stored_in h)
-  pub once : banners_in (latest_got h) ≤ 1
-  pub first : banners_in (latest_got h) ≤ told
+-- So many lines that were stored behind the mark of the last banner have no answer, so many replies were told, so many marks are
+-- stored, and no banner is of a mark with a larger number than this: by the replies, the latest first, the marks and the bytes.
+pub record Told (owed told marks greeted : ℕ) (replies : List Reply) (places bytes : List ℕ) : Type 0 where
+  pub seen : List Mark
+  pub each : length seen ≡ banners_in replies
+  pub are : AreGreetings places seen
+  pub lines : answers_behind_mark replies + owed ≤ lfs_in (behind_mark seen bytes)
+  pub none : told ≡ 0 → seen ≡ []
+  pub some : 0 < told → 0 < length seen
+  pub stored : marks ≡ length places
+  pub low : (last_of seen).0 ≤ greeted
+  pub within : (last_of seen).1 ≤ length bytes
+
+abbrev pub HasTold : ℕ → ℕ → ℕ → ℕ → PortLog → Type 0
+HasTold owed told marks greeted h = Told owed told marks greeted (latest_got h) (marks_in h) (stored_in h)

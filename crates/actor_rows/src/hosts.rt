@@ -204,6 +204,77 @@ fn realtime_bytes_are_raised(rt: HostRuntime) -> Result<(), Fail> {
     Ok(())
 }
 
+/// The job, the polls before each reply, what the board has then, and how many lines are answered.
+const EPOCHS: &[(&[u8], u32, &[u8], u32)] = &[
+    (b"G0\x18X1\n", 0, b"|\x18&X1\n=", 1),
+    (b"G0\nG1\n\x18M2\n", 30, b"G0\nG1\n|\x18&M2\n=", 1),
+    (b"\x18\x18X1\n", 0, b"|\x18&|\x18&X1\n=", 1),
+    (
+        b"G0\x18(\x18)X1;\x18\nM2\x18\n",
+        0,
+        b"|\x18&X1\n=|\x18&\n=",
+        2,
+    ),
+    (b"G0\n\x18?X1\n", 30, b"G0\n|\x18&?<X1\n=", 1),
+    (b"G0\n\x18\x85X1\n", 30, b"G0\n|\x18&\x85X1\n=", 1),
+    (b"G0\n\x18", 30, b"G0\n|\x18&\n=", 1),
+    (
+        b"XXXXXXXXXXXXXXXXXXXXXXXXXXXXXXXXXXXXXXXXXXXXXXXXXXXXXXXXXXXXXXXXXXXXXXXXXXXXXXXXXXXXXXXXXXXXXXXXXXXXXXXXXXXXXXXXXXXXXXXXXXXXXXX\x18XXXXXXXXXXXXXXXXXXXXXXXXXXXXXXXXXXXXXXXXXXXXXXXXXXXXXXXXXXXXXXXXXXXXXXXXXXXXXXXXXXXXXXXXXXXXXXXXXXXXXXXXXXXXXXXXXXXXXXXXXXXXXXX\n",
+        0,
+        b"|\x18&XXXXXXXXXXXXXXXXXXXXXXXXXXXXXXXXXXXXXXXXXXXXXXXXXXXXXXXXXXXXXXXXXXXXXXXXXXXXXXXXXXXXXXXXXXXXXXXXXXXXXXXXXXXXXXXXXXXXXXXXXXXXXXX\n=",
+        1,
+    ),
+];
+
+/// Before a reset goes its mark, in a turn of its own, and nothing more goes before the banner. Then the lines without an answer
+/// are forgotten, what is kept of its line so far is dropped, and a `?` and a cancel wait for no line before it.
+#[test]
+fn resets_begin_epochs(rt: HostRuntime) -> Result<(), Fail> {
+    for (i, (bytes, pause, taken, answered)) in EPOCHS.iter().enumerate() {
+        let mut line = Line::new(rt.alloc(), bytes, 4096, *pause)?;
+        line.board.marked = true;
+        line.board.begins = true;
+        assert_eq!(rt; line.run(Turn::Done, 1000), Turn::Done, "row {i}");
+        assert!(rt; line.taken() == *taken, "row {i}");
+        assert_eq!(rt; line.host.answered(), *answered, "row {i}");
+        assert_eq!(rt; line.host.stop(), Stop::End, "row {i}");
+    }
+    Ok(())
+}
+
+/// Nine lines of 14 bytes are all that may have no answer; as many may behind a reset.
+#[test]
+fn epochs_count_anew(rt: HostRuntime) -> Result<(), Fail> {
+    let lines =
+        "XXXXXXXXXXXXX\nXXXXXXXXXXXXX\nXXXXXXXXXXXXX\nXXXXXXXXXXXXX\nXXXXXXXXXXXXX\nXXXXXXXXXXXXX\nXXXXXXXXXXXXX\nXXXXXXXXXXXXX\nXXXXXXXXXXXXX\n\u{18}";
+    let job = many(rt.alloc(), lines, 2)?;
+    let mut line = Line::new(rt.alloc(), job.as_slice(), 4096, 300)?;
+    line.board.begins = true;
+    assert_eq!(rt; line.run(Turn::Done, 3000), Turn::Done);
+    assert_eq!(rt; line.taken().len(), 255);
+    assert_eq!(rt; line.host.answered(), 1);
+    Ok(())
+}
+
+/// The 128th byte that is kept behind a reset ends the sending; a board that tells no banner behind a reset ends it there.
+#[test]
+fn sending_ends_behind_a_reset(rt: HostRuntime) -> Result<(), Fail> {
+    let long =
+        b"XXXXXXXXXXXXXXXXXXXXXXXXXXXXXXXXXXXXXXXXXXXXXXXXXXXXXXXXXXXXXXXXXXXXXXXXXXXXXXXXXXXXXXXXXXXXXXXXXXXXXXXXXXXXXXXXXXXXXXXXXXXXXXX\x18XXXXXXXXXXXXXXXXXXXXXXXXXXXXXXXXXXXXXXXXXXXXXXXXXXXXXXXXXXXXXXXXXXXXXXXXXXXXXXXXXXXXXXXXXXXXXXXXXXXXXXXXXXXXXXXXXXXXXXXXXXXXXXXX\n";
+    let mut line = Line::new(rt.alloc(), long, 4096, 0)?;
+    line.board.begins = true;
+    assert_eq!(rt; line.run(Turn::Done, 1000), Turn::Done);
+    assert!(rt; line.taken() == b"\x18".as_slice());
+    assert_eq!(rt; line.host.stop(), Stop::LongLine(1));
+    let mut line = Line::new(rt.alloc(), b"G0\nG1\x18X1\n", 4096, 0)?;
+    line.board.marked = true;
+    assert_eq!(rt; line.run(Turn::Done, 1000), Turn::Done);
+    assert!(rt; line.taken() == b"G0\n=|\x18".as_slice());
+    assert_eq!(rt; line.host.stop(), Stop::Reset);
+    assert_eq!(rt; line.host.answered(), 1);
+    Ok(())
+}
+
 const WAITS: Turn = Turn::Wait(On::Answer);
 
 /// The job, the polls before each reply, the reads that fail, what the board has then, and the last turn's answer.

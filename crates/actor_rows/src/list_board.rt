@@ -15,12 +15,13 @@ use units::Nm3;
 
 /// A board that takes each byte at once, also those that are raised. It tells the banner, reports where it was asked
 /// to, answers the lines one by one, and says Bye once the link is closed and each line has its answer. A line may raise an
-/// alarm: no line from there on has an answer. So many polls find no reply before each reply.
+/// alarm: no line from there on has an answer. At a reset it says Bye, or drops the lines that have no answer and tells the
+/// banner again. So many polls find no reply before each reply.
 #[derive(Drop)]
 pub(crate) struct Board<'a> {
     taken: MemSink<'a>,
-    /// Among what is taken stand a `<` for each report, a `=` for each answer and a `#` for an alarm, at the place where they
-    /// are told.
+    /// Among what is taken stand a `<` for each report, a `=` for each answer, a `#` for an alarm and a `&` for the banner of a
+    /// reset, at the place where they are told, and a `|` for each mark.
     pub(crate) marked: bool,
     /// A `?` was raised, and nothing is reported since.
     asked: bool,
@@ -33,6 +34,13 @@ pub(crate) struct Board<'a> {
     pub(crate) limit: u32,
     /// An alarm is told, and its message is not.
     locks: bool,
+    /// The banner is told again behind a reset.
+    pub(crate) begins: bool,
+    /// A reset was raised, and nothing is told of it.
+    reset: bool,
+    /// So many marks are stored, and of this number is that of the last banner.
+    marks: u32,
+    greeted: u32,
     pause: u32,
     polls: u32,
     pub(crate) shut: bool,
@@ -94,8 +102,9 @@ impl HostPort for Board<'_> {
 
     ghost Rest = { Unit {0} };
 
-    /// No more lines are owed an answer than were stored and have none, and the banner is told once.
-    ghost stands = { λ board _ h. HasTold board.owed board.told h };
+    /// No more lines are owed an answer than were stored behind the mark of the last banner and have none, and each banner but
+    /// the first is of a mark that is stored behind that of the one before.
+    ghost stands = { λ board _ h. HasTold board.owed board.told board.marks board.greeted h };
 
     fn store(&mut self, byte: u8) -> Stored {
         let _ = self.taken.write(&[byte]);
@@ -105,13 +114,18 @@ impl HostPort for Board<'_> {
         Stored::Stored
     }
 
-    /// A mark changes nothing: the board greets once.
-    fn mark(&mut self) {}
+    fn mark(&mut self) {
+        self.note(b'|');
+        self.marks = self.marks.saturating_add(1);
+    }
 
     fn raise(&mut self, byte: u8) -> Raised {
         let _ = self.taken.write(&[byte]);
         if byte == b'?' {
             self.asked = true;
+        }
+        if byte == 0x18 {
+            self.reset = true;
         }
         match realtime_rows().find(u16::from(byte)) {
             Some(bit) if bit < 16 => Raised::Exec,
@@ -130,6 +144,18 @@ impl HostPort for Board<'_> {
         if self.told == 0 {
             self.told = 1;
             return Some(Reply::Banner);
+        }
+        if self.reset {
+            self.reset = false;
+            self.asked = false;
+            if self.begins && self.marks > self.greeted {
+                self.greeted = self.marks;
+                self.owed = 0;
+                self.note(b'&');
+                return Some(Reply::Banner);
+            }
+            self.over = true;
+            return Some(Reply::Bye);
         }
         if self.asked {
             self.asked = false;
@@ -182,7 +208,7 @@ impl<'a> Model for Line<'a> {
 
     ghost view = { λ _. tt };
 
-    ghost invariant = { λ l. (h : Journal) × HasTold l.board.owed l.board.told (port_log h) × HostFits l.host h × IsBetween h };
+    ghost invariant = { λ l. (h : Journal) × HasTold l.board.owed l.board.told l.board.marks l.board.greeted (port_log h) × HostFits l.host h × IsBetween h };
 }
 
 impl<'a> Line<'a> {
@@ -218,6 +244,10 @@ impl<'a> Line<'a> {
                 strict: false,
                 limit: 0,
                 locks: false,
+                begins: false,
+                reset: false,
+                marks: 0,
+                greeted: 0,
                 pause,
                 polls: pause,
                 shut: false,

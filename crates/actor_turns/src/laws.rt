@@ -34,4 +34,5 @@ pub fn worlds_count_reports()
     ensures told { (was now : Devices) (w : Seen) (hist : History) → Stands was now w hist → CountsReports was now }
 {
     hosts_send_their_lines();
+    boards_have_run();
 }

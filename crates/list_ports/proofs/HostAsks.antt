@@ -5,38 +5,62 @@ use Rattle.std.proofs.lemmas.Bool.Decides.{nat_tests}
 use Rattle.std.proofs.lemmas.List.{get_or_append_left, get_or_push, get_or_past}
 use Rattle.std.proofs.lemmas.List.Sums.{sum_by-append, sum_by-cons}
 use Rattle.code_table.specs.Tables.{query}
+use Rattle.status_report.specs.declared.Reply.{Reply}
 use Rattle.status_report.specs.Answering.{lfs_in}
 use Rattle.status_report.proofs.Answered.{lfs_on}
 use Rattle.run_rules.specs.Lines.{lines_of}
 use Rattle.run_rules.specs.Reports.{is_query}
 use Rattle.run_rules.proofs.Cutting.{lines_are, some_bytes}
 use Rattle.stream_host.specs.Jobs.{resume, served}
-use Rattle.stream_host.specs.Steps.{Journal, port_log, stored_of, answered_of, scanned_of, raw_of, cut_of, to_store, due_of, more_served, polls_of, empty_polls}
+use Rattle.stream_host.specs.Links.{banners_in}
+use Rattle.stream_host.specs.Steps.{Journal, port_log, stored_of, got_of, answered_of, scanned_of, raw_of, cut_of, live_of, to_store, due_of, more_served, polls_of, empty_polls}
 use Rattle.stream_host.specs.Steps.PortStep.{stored, dropped, marked, raised, got}
 use Rattle.stream_host.specs.Steps.Step.{at_port, scanned, line_over}
 use Rattle.stream_host.specs.Conduct.{Conducted, MayRaise, MayScanNext, waits_for_lines}
 use Rattle.stream_host.proofs.Keeping.{IsCut, cut_is, stored_is}
 use Rattle.stream_host.proofs.Raising.{served_on, none_at_lf, few_polls, is_enough, is_fewer}
-use Rattle.stream_host.proofs.Sending.{answers_are_few, lfs_linked}
+use Rattle.stream_host.proofs.Links.{lfs_linked}
+use Rattle.stream_host.proofs.Raised.{free_by}
+use Rattle.stream_host.proofs.Cutting.{live_all}
+use Rattle.stream_host.proofs.Awaiting.{banner_on}
 use Rattle.list_ports.specs.Asked.{AsksBetween, raised_behind}
 use Rattle.list_ports.specs.PerLine.{queries_of}
 
+-- ---- no line is forgotten, where one Banner was got at most
+
+abbrev pub OneBanner : Journal → Type 0
+OneBanner h = banners_in (got_of h) ≤ 1
+
+one_before : (r : Reply) (h : Journal) → OneBanner (at_port (got r) ∷ h) → OneBanner h
+one_before r h one = let a = banner_on (got_of h) r in omega arith
+
+all_live : (h : Journal) → Conducted h → OneBanner h → length (live_of h) ≡ length (cut_of h)
+all_live h c one = ap (λ (ls : List (List ℕ)). length ls) (live_all h c one)
+
 -- ---- a `?` is raised while each line that was stored is answered
 
-lfs_cut : (h : Journal) → Conducted h → lfs_in (stored_of h) ≤ length (cut_of h)
-lfs_cut h c = let a = lfs_on (stored_of h) (to_store h) in let e = ap lfs_in (stored_is h c) in let l = lfs_linked (cut_of h) in omega arith
+lfs_cut : (h : Journal) → Conducted h → to_store h ≡ [] → lfs_in (stored_of h) ≡ length (cut_of h)
+lfs_cut h c free = let a = lfs_on (stored_of h) (to_store h) in let e = ap lfs_in (stored_is h c) in let l = lfs_linked (cut_of h) in let n = ap lfs_in free in omega arith
 
-pub asks_between : (h : Journal) → Conducted h → AsksBetween (port_log h)
-asks_between [] c = tt
-asks_between (at_port (stored b) ∷ h) c = asks_between h c.1
-asks_between (at_port (dropped b) ∷ h) c = absurd c.0
-asks_between (at_port marked ∷ h) c = absurd c.0
-asks_between (at_port (raised b down) ∷ h) c = (
-  (λ q. let a = c.0.after (ap waits_for_lines q) in let l = lfs_cut h c.1 in let f = answers_are_few h c.1 in omega arith),
-  asks_between h c.1,
+-- nothing is to be stored then
+query_free : (b : ℕ) (h : Journal) → Conducted h → MayRaise b h → b ≡ query → to_store h ≡ []
+query_free b h c may q = by_polls (nat_eq (polls_of h) empty_polls) refl
+  where
+    by_polls : (t : Bool) → nat_eq (polls_of h) empty_polls ≡ t → to_store h ≡ []
+    by_polls true e = absurd (let r = may.resumes (is_enough (polls_of h) e) in omega arith)
+    by_polls false e = free_by h b c (may.next (is_fewer (polls_of h) (few_polls h c) e))
+
+pub asks_between : (h : Journal) → Conducted h → OneBanner h → AsksBetween (port_log h)
+asks_between [] c one = tt
+asks_between (at_port (stored b) ∷ h) c one = asks_between h c.1 one
+asks_between (at_port (dropped b) ∷ h) c one = absurd c.0
+asks_between (at_port marked ∷ h) c one = asks_between h c.1 one
+asks_between (at_port (raised b down) ∷ h) c one = (
+  (λ q. let a = c.0.after (ap waits_for_lines q) in let l = lfs_cut h c.1 (query_free b h c.1 c.0 q) in let s = all_live h c.1 one in omega arith),
+  asks_between h c.1 one,
 )
-asks_between (at_port (got r) ∷ h) c = asks_between h c.1
-asks_between (_ ∷ h) c = asks_between h c.1
+asks_between (at_port (got r) ∷ h) c one = asks_between h c.1 (one_before r h one)
+asks_between (_ ∷ h) c one = asks_between h c.1 one
 
 -- ---- each stands in its line
 
@@ -72,11 +96,11 @@ is_same m n e = grind (arith, nat_tests)
 same_is : (m n : ℕ) → m ≡ n → nat_eq m n ≡ true
 same_is m n e = grind (arith, nat_tests)
 
-raised_in : (k b : ℕ) (down : Bool) (h : Journal) → Conducted h → MayRaise b h → InLines k h → InLines k (at_port (raised b down) ∷ h)
-raised_in k b down h c may was =
+raised_in : (k b : ℕ) (down : Bool) (h : Journal) → Conducted h → OneBanner h → MayRaise b h → InLines k h → InLines k (at_port (raised b down) ∷ h)
+raised_in k b down h c one may was =
     one_raised down (nat_eq b query) (nat_eq (answered_of h) k) (nat_eq k (length (cut_of h))) (raised_behind k (port_log h)) (count_by is_query (due_of h)) _ _
     (due_by b (nat_eq (polls_of h) empty_polls) (due_of h) (λ e. may.resumes (is_enough (polls_of h) e)) (λ e. may.next (is_fewer (polls_of h) (few_polls h c) e)))
-    (λ t u. let a = may.after (ap waits_for_lines (is_same b query t)) in let n = is_same (answered_of h) k u in same_is k (length (cut_of h)) (sym n ∙ a)) was
+    (λ t u. let a = may.after (ap waits_for_lines (is_same b query t)) in let n = is_same (answered_of h) k u in same_is k (length (cut_of h)) (sym n ∙ a ∙ all_live h c one)) was
 
 no_due : (v : Bool) (due : List ℕ) → due ≡ [] → cond v (count_by is_query due) 0 ≡ 0
 no_due true due none = ap (count_by is_query) none
@@ -141,14 +165,14 @@ scanned_in k b h true e may was =
     (ap (λ (d : List ℕ). d ++ more_served (raw_of h) b) may.none_due ∙ none_at_lf (raw_of h) b e) was
 scanned_in k b h false e may was = byte_in k (raised_behind k (port_log h)) b (due_of h) (cut_of h) (raw_of h) may.none_due was
 
-in_lines : (k : ℕ) (h : Journal) → Conducted h → InLines k h
-in_lines k [] c = let n = no_due (nat_eq k 0) [] refl in omega arith
-in_lines k (at_port (dropped b) ∷ h) c = absurd c.0
-in_lines k (at_port marked ∷ h) c = absurd c.0
-in_lines k (at_port (raised b down) ∷ h) c = raised_in k b down h c.1 c.0 (in_lines k h c.1)
-in_lines k (scanned b ∷ h) c = scanned_in k b h (nat_eq b 10) refl c.0 (in_lines k h c.1)
-in_lines k (line_over ∷ h) c = line_over_in k (raised_behind k (port_log h)) (due_of h) (due_of h) (cut_of h) (raw_of h) c.0.none_due c.0.none_due (in_lines k h c.1)
-in_lines k (_ ∷ h) c = in_lines k h c.1
+in_lines : (k : ℕ) (h : Journal) → Conducted h → OneBanner h → InLines k h
+in_lines k [] c one = let n = no_due (nat_eq k 0) [] refl in omega arith
+in_lines k (at_port (dropped b) ∷ h) c one = absurd c.0
+in_lines k (at_port (raised b down) ∷ h) c one = raised_in k b down h c.1 one c.0 (in_lines k h c.1 one)
+in_lines k (at_port (got r) ∷ h) c one = in_lines k h c.1 (one_before r h one)
+in_lines k (scanned b ∷ h) c one = scanned_in k b h (nat_eq b 10) refl c.0 (in_lines k h c.1 one)
+in_lines k (line_over ∷ h) c one = line_over_in k (raised_behind k (port_log h)) (due_of h) (due_of h) (cut_of h) (raw_of h) c.0.none_due c.0.none_due (in_lines k h c.1 one)
+in_lines k (_ ∷ h) c one = in_lines k h c.1 one
 
 -- ---- by what was scanned
 
@@ -164,8 +188,8 @@ line_is k h (inr over) =
     ∙ ap (λ (ls : List (List ℕ)). get_or ls k []) (sym over.whole)
 
 -- behind k answers `?` was raised no more often than it stands in line k
-pub raised_in_lines : (h : Journal) → Conducted h → (k : ℕ) → raised_behind k (port_log h) ≤ queries_of (get_or (lines_of (scanned_of h)) k [])
+pub raised_in_lines : (h : Journal) → Conducted h → OneBanner h → (k : ℕ) → raised_behind k (port_log h) ≤ queries_of (get_or (lines_of (scanned_of h)) k [])
 unfolding asked
-raised_in_lines h c k =
-    let i = in_lines k h c in
+raised_in_lines h c one k =
+    let i = in_lines k h c one in
     let e = ap asked (line_is k h (cut_is h c)) in omega arith

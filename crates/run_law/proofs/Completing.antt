@@ -25,9 +25,11 @@ use Rattle.run_rules.proofs.Determined.{one_outcome, one_opening}
 use Rattle.stream_host.specs.declared.Reading.{Reading}
 use Rattle.stream_host.specs.declared.Reading.TheVariants.{Ended, Failed, Large, Stopped}
 use Rattle.stream_host.specs.declared.Stop.TheVariants.{End, Reset}
-use Rattle.stream_host.specs.Jobs.{ends_sending, is_long, is_reset, is_sent, holds_reset, served, ends_in, long_line, stop_by, lines_read, lines_to_send, MayHaveRead, MayLeave}
+use Rattle.stream_host.specs.Jobs.{is_reset, served, lines_read, MayHaveRead, MayLeave}
+use Rattle.run_law.specs.Sending.{ends_sending, is_long, is_sent, holds_reset, ends_in, long_line, stop_by, lines_to_send}
 use Rattle.stream_host.specs.Ran.{is_failed}
-use Rattle.stream_host.proofs.Pieces.{neither, ends_on, all_are_sent}
+use Rattle.stream_host.proofs.Pieces.{neither}
+use Rattle.run_law.proofs.Unreset.{ends_on, all_are_sent}
 use Rattle.run_law.specs.declared.RunEnd.{RunEnd}
 use Rattle.run_law.specs.Runs.{Sinks, IsRun}
 use Rattle.run_law.specs.Fronts.{BeginsWith}
@@ -135,7 +137,7 @@ either_none (l ∷ ls) none =
 -- ---- a front of such a job
 
 -- each line of a front begins a line of the text
-abbrev AreFronts : List (List ℕ) → List (List ℕ) → Type 0
+abbrev pub AreFronts : List (List ℕ) → List (List ℕ) → Type 0
 AreFronts [] ys = Unit {0}
 AreFronts (l ∷ ls) [] = ⊥
 AreFronts (l ∷ ls) (m ∷ ms) = BeginsWith m l × AreFronts ls ms
@@ -153,7 +155,7 @@ one_front : (t : Bool) (c : ℕ) (ls ms : List (List ℕ)) → AreFronts ls ms �
 one_front true c ls ms f = (record { rest = []; is = refl }, f)
 one_front false c ls ms f = onto_fronts c ls ms f
 
-lines_front : (text more : List ℕ) → AreFronts (lines_of text) (lines_of (text ++ more))
+pub lines_front : (text more : List ℕ) → AreFronts (lines_of text) (lines_of (text ++ more))
 lines_front [] more = tt
 lines_front (c ∷ cs) more = one_front (nat_eq c 10) c (lines_of cs) (lines_of (cs ++ more)) (lines_front cs more)
 

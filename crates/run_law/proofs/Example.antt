@@ -14,6 +14,7 @@ use Rattle.run_law.specs.Drives.{Drive}
 use Rattle.run_rules.specs.declared.State.{State}
 use Rattle.run_rules.specs.States.{IsOpening}
 use Rattle.run_rules.specs.Outcomes.{start, after, told}
+use Rattle.serial_ring.specs.Marks.{start as link_start}
 use Rattle.stream_host.specs.declared.Stop.TheVariants as stops
 use Rattle.stream_host.specs.Steps as hosts
 use Rattle.stream_host.specs.Conduct.{Conducted}
@@ -49,19 +50,20 @@ all_done =
     ∷ hosts.wrote (length (hosts.text_of answered) - length (hosts.text_of greeted)) ∷ answered
 
 got_keeps : Conducted greeted
-got_keeps = (record { poll = record { going = refl; rested = omega arith }; few = omega arith }, tt)
+got_keeps = (record { poll = record { going = refl; rested = omega arith }; lines = record { greeted = link_start ∷ []; are = record { each = refl; stored = (refl, tt) }; few = omega arith } }, tt)
 
 sent_keeps : Conducted sent
 unfolding cut_within reply_text
 sent_keeps = (
-  record { calm = refl; next = refl; reported = refl; room = omega arith },
+  record { calm = refl; epoch = refl; next = refl; reported = refl; room = omega arith },
   (
-    record { going = refl; calm = refl; next = refl; few = omega arith; sends = refl; free = refl; none_due = refl },
+    record { going = refl; calm = refl; epoch = refl; next = refl; few = omega arith; sends = refl; free = refl; none_due = refl },
     (
       (
         record {
           going = refl;
           calm = refl;
+          epoch = refl;
           on = refl;
           sends = refl;
           used = refl;
@@ -81,13 +83,14 @@ sent_keeps = (
 host_keeps : Conducted all_done
 unfolding cut_within reply_text
 host_keeps = (
-  record { poll = record { going = refl; rested = omega arith }; few = omega arith },
+  record { poll = record { going = refl; rested = omega arith }; lines = record { greeted = link_start ∷ []; are = record { each = refl; stored = (refl, tt) }; few = omega arith } },
   (
-    record { going = refl; sent = inr (record { free = refl; all = inr (refl, refl) }); all_raised = inr refl },
+    record { going = refl; epoch = refl; sent = inr (record { free = refl; all = inr (refl, refl) }); all_raised = inr refl },
     (
       record {
         going = refl;
         calm = refl;
+        epoch = refl;
         on = refl;
         sends = refl;
         used = refl;
@@ -98,7 +101,7 @@ host_keeps = (
       },
       (
         record { going = refl; some = omega arith; front = omega arith },
-        (record { poll = record { going = refl; rested = omega arith }; few = omega arith }, sent_keeps),
+        (record { poll = record { going = refl; rested = omega arith }; lines = record { greeted = link_start ∷ []; are = record { each = refl; stored = (refl, tt) }; few = omega arith } }, sent_keeps),
       ),
     ),
   ),
@@ -113,7 +116,7 @@ one_line = record { left = Some (10 ∷ []); faults = 0 }
 abbrev nothing : SourceState
 nothing = record { left = Some []; faults = 0 }
 
-host_ran : HostRan one_line nothing silent silent (10 ∷ []) true [] (replies.Banner ∷ replies.Ok ∷ replies.Bye ∷ []) ended_so
+host_ran : HostRan one_line nothing silent silent (10 ∷ []) [] true [] (replies.Banner ∷ replies.Ok ∷ replies.Bye ∷ []) ended_so
 unfolding cut_within reply_text
 host_ran = has_run all_done one_line nothing silent silent host_keeps (record { bye = refl; written = inr (omega arith) })
     (record { taken = refl; at_end = λ e. refl; later = omega arith; cause = λ e. absurd cc; same = λ e. refl })

@@ -16,7 +16,7 @@ use Rattle.planner_runs.specs.Runs.{all_records, normal_overrides}
 use Rattle.planner_runs.proofs.Driven.{ticks_of_pieces}
 use Rattle.run_rules.specs.Lines.{whole_lines}
 use Rattle.run_rules.specs.declared.State.{State}
-use Rattle.run_rules.specs.Reports.{Reported, AreReported, fewest}
+use Rattle.run_rules.specs.Reports.{AreReported, fewest}
 use Rattle.run_rules.specs.Outcomes.{Before, Follows, start, became_of}
 use Rattle.run_rules.specs.Told.{replies_in, records_text, errors_among, errors_in}
 use Rattle.run_rules.specs.Work.{is_limit}
@@ -25,9 +25,7 @@ use Rattle.board_rules.proofs.Growing.{reported_still}
 use Rattle.board_rules.proofs.Plain.{answers_without}
 use Rattle.serial_ring.specs.Marks.{Mark}
 use Rattle.stream_host.specs.Jobs.{is_reset, served_in}
-use Rattle.stream_host.specs.Links.{on_link}
-use Rattle.stream_host.specs.Ran.{AreRaised, HostEnd, HostRan, is_sent_out}
-use Rattle.stream_host.proofs.Pieces.{lines_back}
+use Rattle.stream_host.specs.Ran.{AreRaised, HostEnd, HostRan}
 use Rattle.step_line.specs.Asking.{ticks_among}
 use Rattle.code_table.specs.declared.flags.Ovr.{Ovr}
 use Rattle.run_law.specs.Flags.{AreTaken}
@@ -44,6 +42,10 @@ use Rattle.run_law.specs.Ran.{HasReported, BoardRan, PulseRan, RecorderRan, IsLi
 use Rattle.run_rules.proofs.Answering.{answers_are, errors_are}
 use Rattle.run_rules.proofs.Alarms.{alarms_from_start}
 use Rattle.run_law.proofs.Alarming.{alarm_told}
+use Rattle.run_law.specs.Sending.{on_link}
+use Rattle.run_law.proofs.Unreset.{lines_back}
+use Rattle.run_law.proofs.Once.{RanOnce, is_sent_out, once}
+use Rattle.run_law.proofs.Banners.{one_banner}
 
 -- where the link was found closed, all that was stored is taken
 pub link_taken : (stored taken : List ℕ) (shut closed : Bool) (marks : List ℕ) (loaded : List Mark) → IsLinked stored shut taken closed marks loaded → closed ≡ true → stored ≡ taken
@@ -99,13 +101,13 @@ all_answered first drive lines last got follows told =
     omega (arith, plain, same, each, one)
 
 -- where a front of what was answered is got, which has all but reports
-pub runs_by : (job_was job_is : SourceState) (was is : Sinks) (end : HostEnd) (steps_failed : Bool)
+once_by : (job_was job_is : SourceState) (was is : Sinks) (end : HostEnd) (steps_failed : Bool)
     (stored raised taken : List ℕ) (shut closed held slowed changed reset : Bool) (asked cancels known : ℕ) (words : List Ovr) (got answered : List Reply) (got_pieces published : List Piece) (ticks : ℕ) (got_records put : List Record) (marks : List ℕ) (loaded : List Mark)
-    → (host : HostRan job_was job_is was.console is.console stored shut raised got end) → BoardRan taken closed held slowed changed reset asked cancels known words answered published → PulseRan got_pieces ticks put
+    → (host : RanOnce job_was job_is was.console is.console stored shut raised got end) → BoardRan taken closed held slowed changed reset asked cancels known words answered published → PulseRan got_pieces ticks put
     → RecorderRan was.steps is.steps got_records steps_failed
     → IsLinked stored shut taken closed marks loaded → AreTaken raised held slowed changed reset asked cancels → known ≤ ticks → AreAskedIn raised words → without_reports got ≡ without_reports answered → BeginsWith answered got → got_pieces ≡ published → got_records ≡ put
     → (run : IsRun job_was job_is was is (ended end steps_failed)) × (run.scanned ≡ host.scanned) × (run.replies ≡ got)
-runs_by job_was job_is was is end steps_failed stored raised taken shut closed held slowed changed reset asked cancels known words got answered got_pieces published ticks got_records put marks loaded host board pulse recorder link flags found all_asked same_replies begins same_pieces same_records =
+once_by job_was job_is was is end steps_failed stored raised taken shut closed held slowed changed reset asked cancels known words got answered got_pieces published ticks got_records put marks loaded host board pulse recorder link flags found all_asked same_replies begins same_pieces same_records =
     let raises = host.raises_so_far in
     let on_the_link : BeginsWith (on_link host.lines) taken =
     begins_on (on_link host.lines) stored taken (record { rest = host.left; is = sym host.front }) (record { rest = link.rest; is = link.front }) in
@@ -211,9 +213,23 @@ runs_by job_was job_is was is end steps_failed stored raised taken shut closed h
       refl,
     )
 
+pub runs_by : (job_was job_is : SourceState) (was is : Sinks) (end : HostEnd) (steps_failed : Bool)
+    (stored raised taken : List ℕ) (shut closed held slowed changed reset : Bool) (asked cancels known : ℕ) (words : List Ovr) (got answered : List Reply) (got_pieces published : List Piece) (ticks : ℕ) (got_records put : List Record) (marks : List ℕ) (loaded : List Mark)
+    → (host : HostRan job_was job_is was.console is.console stored marks shut raised got end) → BoardRan taken closed held slowed changed reset asked cancels known words answered published → PulseRan got_pieces ticks put
+    → RecorderRan was.steps is.steps got_records steps_failed
+    → IsLinked stored shut taken closed marks loaded → AreTaken raised held slowed changed reset asked cancels → known ≤ ticks → AreAskedIn raised words → without_reports got ≡ without_reports answered → BeginsWith answered got → got_pieces ≡ published → got_records ≡ put
+    → (run : IsRun job_was job_is was is (ended end steps_failed)) × (run.scanned ≡ host.scanned) × (run.replies ≡ got)
+runs_by job_was job_is was is end steps_failed stored raised taken shut closed held slowed changed reset asked cancels known words got answered got_pieces published ticks got_records put marks loaded host board pulse recorder link flags found all_asked same_replies begins same_pieces same_records =
+    let told : BeginsWith (board.said ++ replies.Bye ∷ []) (without_reports answered) = record { rest = []; is = sym board.told ∙ sym (append-nil (without_reports answered)) } in
+    let one = one_banner board.first board.lines board.drive board.last board.said answered got board.follows board.front told begins in
+    let ran = once job_was job_is was.console is.console stored marks shut raised got end host one in
+    let run = once_by job_was job_is was is end steps_failed stored raised taken shut closed held slowed changed reset asked cancels known words got answered got_pieces published ticks got_records put marks loaded
+    ran.0 board pulse recorder link flags found all_asked same_replies begins same_pieces same_records in
+    (run.0, run.1 ∙ ran.1, run.2)
+
 pub runs : (job_was job_is : SourceState) (was is : Sinks) (end : HostEnd) (steps_failed : Bool)
     (stored raised taken : List ℕ) (shut closed held slowed changed reset : Bool) (asked cancels known : ℕ) (words : List Ovr) (got answered : List Reply) (got_pieces published : List Piece) (ticks : ℕ) (got_records put : List Record) (marks : List ℕ) (loaded : List Mark)
-    → (host : HostRan job_was job_is was.console is.console stored shut raised got end) → BoardRan taken closed held slowed changed reset asked cancels known words answered published → PulseRan got_pieces ticks put
+    → (host : HostRan job_was job_is was.console is.console stored marks shut raised got end) → BoardRan taken closed held slowed changed reset asked cancels known words answered published → PulseRan got_pieces ticks put
     → RecorderRan was.steps is.steps got_records steps_failed
     → IsLinked stored shut taken closed marks loaded → AreTaken raised held slowed changed reset asked cancels → known ≤ ticks → AreAskedIn raised words → got ≡ answered → got_pieces ≡ published → got_records ≡ put
     → (run : IsRun job_was job_is was is (ended end steps_failed)) × (run.scanned ≡ host.scanned) × (run.replies ≡ got)

@@ -5,6 +5,9 @@ pub mod Resetting
 pub mod Begins
 pub mod Driving
 pub mod Alarming
+pub mod Unreset
+pub mod Once
+pub mod Banners
 pub mod Law
 pub mod Fronts
 pub mod SoFar

@@ -4,8 +4,7 @@ use Rattle.std.specs.List.{flat_map}
 use Rattle.outside.specs.Causes.{SourceState}
 use Rattle.gcode_words.specs.Stripping.{plain}
 use Rattle.status_report.specs.declared.Reply.{Reply}
-use Rattle.status_report.specs.Answering.{answers_in, without_reports}
-use Rattle.status_report.specs.declared.Reply.TheVariants as replies
+use Rattle.status_report.specs.Answering.{answers_in}
 use Rattle.step_line.specs.declared.Piece.{Piece}
 use Rattle.step_line.specs.declared.Piece.TheVariants as pieces
 use Rattle.step_line.specs.declared.Record.{Record}
@@ -14,9 +13,7 @@ use Rattle.step_line.specs.Asking.{ticks_among}
 use Rattle.step_line.specs.Pieces.{records_of, ticks_of}
 use Rattle.planner_runs.specs.Runs.{all_records, normal_overrides}
 use Rattle.run_rules.specs.Lines.{whole_lines}
-use Rattle.stream_host.specs.Links.{on_link}
 use Rattle.stream_host.specs.Ran.{HostRuns}
-use Rattle.stream_host.proofs.Pieces.{lines_back}
 use Rattle.code_table.specs.declared.flags.Ovr.{Ovr}
 use Rattle.run_law.specs.Flags.{AreTaken}
 use Rattle.run_law.specs.Changes.{IsAskedIn, IsAmong, AreAskedIn}
@@ -32,14 +29,19 @@ use Rattle.run_law.proofs.Begins.{begins_on, begins_each, begins_by, lines_begin
 use Rattle.run_law.specs.Drives.{all_outcomes, all_actions, all_given, all_counts}
 use Rattle.run_law.proofs.Driving.{ticks_begin}
 use Rattle.run_law.proofs.Law.{reports_are}
+use Rattle.run_law.specs.Sending.{on_link}
+use Rattle.run_law.proofs.Unreset.{lines_back}
+use Rattle.run_law.proofs.Once.{runs_once}
+use Rattle.run_law.proofs.Banners.{one_banner}
 
 -- ---- the run
 
-pub runs_so_far : (job_was job_is : SourceState) (was is : Sinks) (stored raised taken : List ℕ) (held slowed changed reset : Bool) (asked cancels known : ℕ) (words : List Ovr) (got answered : List Reply) (got_pieces published : List Piece) (counted : ℕ) (got_records put : List Record)
-    → HostRuns job_was job_is was.console is.console stored raised got → BoardRuns taken held slowed changed reset asked cancels known words answered published → PulseRuns got_pieces counted put → RecorderRuns was.steps is.steps got_records
+pub runs_so_far : (job_was job_is : SourceState) (was is : Sinks) (stored marks raised taken : List ℕ) (held slowed changed reset : Bool) (asked cancels known : ℕ) (words : List Ovr) (got answered : List Reply) (got_pieces published : List Piece) (counted : ℕ) (got_records put : List Record)
+    → HostRuns job_was job_is was.console is.console stored marks raised got → BoardRuns taken held slowed changed reset asked cancels known words answered published → PulseRuns got_pieces counted put → RecorderRuns was.steps is.steps got_records
     → BeginsWith stored taken → AreTaken raised held slowed changed reset asked cancels → known ≤ counted → AreAskedIn raised words → BeginsWith answered got → BeginsWith published got_pieces → BeginsWith put got_records
     → IsSoFar job_was job_is was is
-runs_so_far job_was job_is was is stored raised taken held slowed changed reset asked cancels known words got answered got_pieces published counted got_records put host board pulse recorder bytes flags found all_asked some_replies some_pieces some_records =
+runs_so_far job_was job_is was is stored marks raised taken held slowed changed reset asked cancels known words got answered got_pieces published counted got_records put ran board pulse recorder bytes flags found all_asked some_replies some_pieces some_records =
+    let host = runs_once job_was job_is was.console is.console stored marks raised got ran (one_banner board.first board.lines board.drive board.last board.said answered got board.follows board.front board.told some_replies) in
     let on_the_link : BeginsWith (on_link host.lines) taken = begins_on (on_link host.lines) stored taken (record { rest = host.left; is = sym host.link }) bytes in
     let lines : BeginsWith (map plain host.lines) (whole_lines taken) =
     begins_by (whole_lines (on_link host.lines)) (map plain host.lines) (whole_lines taken) (sym (lines_back host.lines)) (lines_begin (on_link host.lines) taken on_the_link) in

@@ -1,5 +1,6 @@
 pub mod Flags
 pub mod Changes
+pub mod Sending
 pub mod Fronts
 pub mod Drives
 pub mod Taking

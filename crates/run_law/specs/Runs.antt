@@ -23,12 +23,12 @@ use Rattle.step_line.specs.Pieces.{ticks_of}
 use Rattle.step_line.specs.declared.Record.TheVariants as kinds
 use Rattle.stream_host.specs.declared.Reading.{Reading}
 use Rattle.stream_host.specs.declared.Reading.TheVariants.{Ended}
-use Rattle.stream_host.specs.Jobs.{is_reset, served_in, stop_by, IsSent, IsSentSoFar}
-use Rattle.stream_host.specs.Links.{on_link}
+use Rattle.stream_host.specs.Jobs.{is_reset, served_in}
 use Rattle.stream_host.specs.Ran.{HostEnd, is_failed}
 use Rattle.stream_host.specs.Steps.{or_alarm}
 use Rattle.board_rules.specs.Parts.{IsHaltedPart, plan_behind}
 use Rattle.run_law.specs.declared.RunEnd.{RunEnd}
+use Rattle.run_law.specs.Sending.{on_link, stop_by, IsSent, IsSentSoFar}
 use Rattle.run_law.specs.Flags.{is_hold, is_slow, is_change}
 use Rattle.run_law.specs.Fronts.{BeginsWith}
 use Rattle.run_law.specs.Changes.{IsAskedIn, AreChanges}

@@ -22,10 +22,11 @@ use Rattle.run_rules.specs.Outcomes.{Before, Follows, start}
 use Rattle.run_rules.specs.Told.{replies_in, replies_text, records_text}
 use Rattle.stream_host.specs.declared.Reading.{Reading}
 use Rattle.stream_host.specs.declared.Stop.{Stop}
-use Rattle.stream_host.specs.Jobs.{served_in, IsSentSoFar}
+use Rattle.stream_host.specs.Jobs.{served_in}
 use Rattle.run_rules.specs.Reports.{fewest}
 use Rattle.pulse_engine.specs.Logs.{ticks_in}
 use Rattle.status_report.specs.Answering.{answers_in, without_reports, reports_among}
+use Rattle.run_law.specs.Sending.{IsSentSoFar}
 use Rattle.run_law.specs.Runs.{Sinks, AreReports, asks_slow, slows_in, asks_change, asks_reset}
 use Rattle.run_law.specs.Fronts.{BeginsWith}
 use Rattle.code_table.specs.declared.flags.Ovr.{Ovr}

@@ -8,7 +8,8 @@ use Rattle.run_rules.specs.Work.{Outcome, Kind}
 use Rattle.run_rules.specs.Outcomes.{Before, Follows, start, jogged_behind}
 use Rattle.run_rules.specs.Outcomes.Passed.{a_line}
 use Rattle.run_rules.specs.Told.{asked_in}
-use Rattle.stream_host.specs.Jobs.{is_reset, holds_reset, served}
+use Rattle.stream_host.specs.Jobs.{is_reset, served}
+use Rattle.run_law.specs.Sending.{holds_reset}
 use Rattle.stream_host.specs.declared.Stop.TheVariants as stops
 use Rattle.run_law.specs.declared.RunEnd.{RunEnd}
 use Rattle.run_law.specs.Complete.{AreServed, IsAcceptedJob}

@@ -16,9 +16,11 @@ use Rattle.stream_host.specs.declared.Reading.{Reading}
 use Rattle.stream_host.specs.declared.Reading.TheVariants.{Ended, Failed, Large, Stopped}
 use Rattle.stream_host.specs.declared.Stop.{Stop}
 use Rattle.stream_host.specs.declared.Stop.TheVariants as stops
-use Rattle.stream_host.specs.Jobs.{served_in, MayHaveRead, MayLeave, ends_sending, is_long, holds_reset, lines_to_send}
+use Rattle.stream_host.specs.Jobs.{served_in, MayHaveRead, MayLeave}
+use Rattle.run_law.specs.Sending.{ends_sending, is_long, holds_reset, lines_to_send}
 use Rattle.stream_host.specs.Ran.{is_failed}
-use Rattle.stream_host.proofs.Pieces.{neither, all_are_sent}
+use Rattle.stream_host.proofs.Pieces.{neither}
+use Rattle.run_law.proofs.Unreset.{all_are_sent}
 use Rattle.run_law.specs.declared.RunEnd.{RunEnd}
 use Rattle.run_law.specs.Drives.{all_outcomes, all_passed, all_actions, IsDrive, IsWholeDrive}
 use Rattle.run_law.specs.Changes.{IsAskedIn, AreChanges}

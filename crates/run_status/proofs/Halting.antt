@@ -20,7 +20,7 @@ use Rattle.run_rules.proofs.Alarms.{beyond, none_behind}
 use Rattle.run_rules.proofs.Answering.{halts}
 use Rattle.run_rules.proofs.Going.{became_on}
 use Rattle.stream_host.specs.declared.Stop.TheVariants as stops
-use Rattle.stream_host.specs.Jobs.{IsSentSoFar}
+use Rattle.run_law.specs.Sending.{IsSentSoFar}
 use Rattle.run_law.specs.declared.RunEnd.{RunEnd}
 use Rattle.run_law.specs.Fronts.{BeginsWith}
 use Rattle.run_law.specs.Drives.{all_outcomes, all_passed, IsDrive}

@@ -8,7 +8,8 @@ use Rattle.stream_host.specs.declared.Reading.{Reading}
 use Rattle.stream_host.specs.declared.Reading.TheVariants.{Ended, Failed, Large, Stopped}
 use Rattle.stream_host.specs.declared.Stop.{Stop}
 use Rattle.stream_host.specs.declared.Stop.TheVariants as stops
-use Rattle.stream_host.specs.Jobs.{MayHaveRead, MayLeave, ScansFront, ends_in, stop_by}
+use Rattle.stream_host.specs.Jobs.{MayHaveRead, MayLeave}
+use Rattle.run_law.specs.Sending.{ScansFront, ends_in, stop_by}
 use Rattle.stream_host.specs.Ran.{is_failed}
 use Rattle.run_law.specs.Drives.{all_outcomes}
 use Rattle.run_law.specs.declared.RunEnd.{RunEnd}

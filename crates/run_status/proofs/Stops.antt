@@ -9,7 +9,7 @@ use Rattle.stream_host.specs.declared.Reading.{Reading}
 use Rattle.stream_host.specs.declared.Reading.TheVariants.{Ended, Failed, Large, Stopped}
 use Rattle.stream_host.specs.declared.Stop.{Stop}
 use Rattle.stream_host.specs.declared.Stop.TheVariants as stops
-use Rattle.stream_host.specs.Jobs.{MayScan, ScansFront, is_long, holds_reset, is_sent, long_line, stop_by}
+use Rattle.run_law.specs.Sending.{MayScan, ScansFront, is_long, holds_reset, is_sent, long_line, stop_by}
 use Rattle.stream_host.specs.Steps.{or_alarm}
 use Rattle.run_law.specs.declared.RunEnd.{RunEnd}
 use Rattle.run_law.specs.Runs.{Sinks, asks_reset, IsRun}

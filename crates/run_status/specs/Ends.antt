@@ -27,7 +27,8 @@ use Rattle.stream_host.specs.declared.Reading.{Reading}
 use Rattle.stream_host.specs.declared.Reading.TheVariants.{Large}
 use Rattle.stream_host.specs.declared.Stop.{Stop}
 use Rattle.stream_host.specs.declared.Stop.TheVariants as stops
-use Rattle.stream_host.specs.Jobs.{served_in, MayHaveRead, MayScan, IsSentSoFar, is_long, holds_reset, is_sent}
+use Rattle.stream_host.specs.Jobs.{served_in, MayHaveRead}
+use Rattle.run_law.specs.Sending.{MayScan, IsSentSoFar, is_long, holds_reset, is_sent}
 use Rattle.run_law.specs.declared.RunEnd.{RunEnd}
 use Rattle.run_law.specs.Fronts.{BeginsWith}
 use Rattle.run_law.specs.Changes.{IsAskedIn, AreChanges}

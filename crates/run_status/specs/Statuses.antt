@@ -6,7 +6,7 @@ use Rattle.run_rules.specs.Readings.{largest_job}
 use Rattle.stream_host.specs.declared.Reading.TheVariants.{Ended}
 use Rattle.stream_host.specs.declared.Stop.{Stop}
 use Rattle.stream_host.specs.declared.Stop.TheVariants as stops
-use Rattle.stream_host.specs.Jobs.{ScansFront, ends_in, stop_by}
+use Rattle.run_law.specs.Sending.{ScansFront, ends_in, stop_by}
 use Rattle.run_law.specs.Runs.{Sinks}
 use Rattle.run_status.specs.declared.Status.{Status}
 use Rattle.run_status.specs.declared.Status.TheVariants.{Done, LineErrors, Usage, SourceFault, ConsoleFault, StepsFault, LongLine, Reset, Alarm, TooLarge, OutOfMemory}

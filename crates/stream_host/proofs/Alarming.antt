@@ -3,15 +3,13 @@ use Rattle.std.proofs.Common.{◌≡◌, ℕ, ◌||◌, Bool, true, false, cond,
 use Rattle.std.specs.List.{list_any}
 use Rattle.std.proofs.lemmas.List.Folds.{list_any-append}
 use Rattle.status_report.specs.declared.Reply.{Reply}
-use Rattle.run_rules.specs.Work.{is_limit}
-use Rattle.stream_host.specs.Jobs.{is_long, holds_reset, ends_sending}
-use Rattle.stream_host.specs.declared.Reading.{Reading}
-use Rattle.stream_host.specs.declared.Reading.TheVariants.{Ended, Failed, Large, Stopped}
 use Rattle.stream_host.specs.declared.Stop.{Stop}
 use Rattle.stream_host.specs.declared.Stop.TheVariants.{End, LongLine, TooLarge, Reset, Alarm}
-use Rattle.stream_host.specs.Steps.{Journal, got_of, has_limit, line_raises_of, polls_of, empty_polls, stop_at, or_alarm}
+use Rattle.run_rules.specs.Work.{is_limit}
+use Rattle.stream_host.specs.Jobs.{or_reset}
+use Rattle.stream_host.specs.Steps.{Journal, got_of, has_limit, line_raises_of, polls_of, empty_polls, or_alarm}
 use Rattle.stream_host.specs.Steps.PortStep.{stored, dropped, marked, raised, got, no_reply, shut}
-use Rattle.stream_host.specs.Steps.Step.{at_port, read_some, wrote, gave_up, turned}
+use Rattle.stream_host.specs.Steps.Step.{at_port, read_some, read_end, read_failed, scanned, line_over, wrote, gave_up, turned}
 use Rattle.stream_host.specs.Conduct.{Conducted, MayRaise}
 use Rattle.stream_host.specs.Ran.{SentNoMore}
 use Rattle.stream_host.proofs.Raising.{few_polls, is_fewer}
@@ -23,8 +21,21 @@ more_replies rs r e = list_any-append is_limit rs (r ∷ []) ∙ ap (λ b. b || 
 
 pub alarm_stays : (later h : Journal) → has_limit h ≡ true → has_limit (later ++ h) ≡ true
 alarm_stays [] h e = e
+alarm_stays (at_port (stored b) ∷ l) h e = alarm_stays l h e
+alarm_stays (at_port (dropped b) ∷ l) h e = alarm_stays l h e
+alarm_stays (at_port marked ∷ l) h e = alarm_stays l h e
+alarm_stays (at_port (raised b down) ∷ l) h e = alarm_stays l h e
 alarm_stays (at_port (got r) ∷ l) h e = more_replies (got_of (l ++ h)) r (alarm_stays l h e)
-alarm_stays (_ ∷ l) h e = alarm_stays l h e
+alarm_stays (at_port no_reply ∷ l) h e = alarm_stays l h e
+alarm_stays (at_port shut ∷ l) h e = alarm_stays l h e
+alarm_stays (read_some bytes ∷ l) h e = alarm_stays l h e
+alarm_stays (read_end ∷ l) h e = alarm_stays l h e
+alarm_stays (read_failed ∷ l) h e = alarm_stays l h e
+alarm_stays (scanned b ∷ l) h e = alarm_stays l h e
+alarm_stays (line_over ∷ l) h e = alarm_stays l h e
+alarm_stays (wrote n ∷ l) h e = alarm_stays l h e
+alarm_stays (gave_up ∷ l) h e = alarm_stays l h e
+alarm_stays (turned t ∷ l) h e = alarm_stays l h e
 
 -- ---- nothing more is sent
 
@@ -46,13 +57,15 @@ sent_on h is now s t = record {
   scanned = t.scanned ∙ s.scanned;
   lines = t.lines ∙ s.lines;
   stored = t.stored ∙ s.stored;
+  marks = t.marks ∙ s.marks;
   raised = t.raised ∙ s.raised;
 }
 
 pub sends_no_more : (later h : Journal) → Conducted (later ++ h) → has_limit h ≡ true → SentNoMore h (later ++ h)
-sends_no_more [] h c e = record { read = refl; reading = refl; scanned = refl; lines = refl; stored = refl; raised = refl }
+sends_no_more [] h c e = record { read = refl; reading = refl; scanned = refl; lines = refl; stored = refl; marks = refl; raised = refl }
+sends_no_more (at_port (stored b) ∷ l) h c e = calm_step l h e c.0.calm
 sends_no_more (at_port (dropped b) ∷ l) h c e = absurd c.0
-sends_no_more (at_port marked ∷ l) h c e = absurd c.0
+sends_no_more (at_port marked ∷ l) h c e = calm_step l h e c.0.calm
 sends_no_more (at_port (raised b down) ∷ l) h c e =
     let s = sends_no_more l h c.1 e in record {
       read = s.read;
@@ -60,37 +73,43 @@ sends_no_more (at_port (raised b down) ∷ l) h c e =
       scanned = s.scanned;
       lines = s.lines;
       stored = s.stored;
+      marks = s.marks;
       raised = own_resume l h b c.1 e c.0 (nat_eq (polls_of (l ++ h)) empty_polls) refl s.raised;
     }
-sends_no_more (at_port (stored b) ∷ l) h c e = calm_step l h e c.0.calm
-sends_no_more (at_port step ∷ l) h c e =
-    sent_on h (l ++ h) (at_port step ∷ (l ++ h)) (sends_no_more l h c.1 e) (record { read = refl; reading = refl; scanned = refl; lines = refl; stored = refl; raised = refl })
+sends_no_more (at_port (got r) ∷ l) h c e =
+    sent_on h (l ++ h) (at_port (got r) ∷ (l ++ h)) (sends_no_more l h c.1 e) (record { read = refl; reading = refl; scanned = refl; lines = refl; stored = refl; marks = refl; raised = refl })
+sends_no_more (at_port no_reply ∷ l) h c e =
+    sent_on h (l ++ h) (at_port no_reply ∷ (l ++ h)) (sends_no_more l h c.1 e) (record { read = refl; reading = refl; scanned = refl; lines = refl; stored = refl; marks = refl; raised = refl })
+sends_no_more (at_port shut ∷ l) h c e =
+    sent_on h (l ++ h) (at_port shut ∷ (l ++ h)) (sends_no_more l h c.1 e) (record { read = refl; reading = refl; scanned = refl; lines = refl; stored = refl; marks = refl; raised = refl })
 sends_no_more (read_some bytes ∷ l) h c e = calm_step l h e c.0.0.calm
+sends_no_more (read_end ∷ l) h c e = calm_step l h e c.0.calm
+sends_no_more (read_failed ∷ l) h c e = calm_step l h e c.0.calm
+sends_no_more (scanned b ∷ l) h c e = calm_step l h e c.0.calm
+sends_no_more (line_over ∷ l) h c e = calm_step l h e c.0.calm
 sends_no_more (wrote n ∷ l) h c e =
-    sent_on h (l ++ h) (wrote n ∷ (l ++ h)) (sends_no_more l h c.1 e) (record { read = refl; reading = refl; scanned = refl; lines = refl; stored = refl; raised = refl })
+    sent_on h (l ++ h) (wrote n ∷ (l ++ h)) (sends_no_more l h c.1 e) (record { read = refl; reading = refl; scanned = refl; lines = refl; stored = refl; marks = refl; raised = refl })
 sends_no_more (gave_up ∷ l) h c e =
-    sent_on h (l ++ h) (gave_up ∷ (l ++ h)) (sends_no_more l h c.1 e) (record { read = refl; reading = refl; scanned = refl; lines = refl; stored = refl; raised = refl })
+    sent_on h (l ++ h) (gave_up ∷ (l ++ h)) (sends_no_more l h c.1 e) (record { read = refl; reading = refl; scanned = refl; lines = refl; stored = refl; marks = refl; raised = refl })
 sends_no_more (turned t ∷ l) h c e =
-    sent_on h (l ++ h) (turned t ∷ (l ++ h)) (sends_no_more l h c.1 e) (record { read = refl; reading = refl; scanned = refl; lines = refl; stored = refl; raised = refl })
-sends_no_more (_ ∷ l) h c e = calm_step l h e c.0.calm
+    sent_on h (l ++ h) (turned t ∷ (l ++ h)) (sends_no_more l h c.1 e) (record { read = refl; reading = refl; scanned = refl; lines = refl; stored = refl; marks = refl; raised = refl })
 
--- ---- where the sending ends in a line, an alarm is no cause
-
-pub other_cause : (alarm : Bool) (n : ℕ) (r : Reading) (raw : List ℕ) (lines : ℕ) → ends_sending raw ≡ true → or_alarm alarm n (stop_at r raw lines) ≡ stop_at r raw lines
-other_cause false n r raw lines ends = refl
-other_cause true n r raw lines ends = by_reading r
-  where
-    by_tests : (k : ℕ) (long reset : Bool) → (long || reset) ≡ true → or_alarm true n (cond long (LongLine k) (cond reset Reset End)) ≡ cond long (LongLine k) (cond reset Reset End)
-    by_tests k true reset e = refl
-    by_tests k false true e = refl
-    by_tests k false false e = absurd cc
-
-    by_reading : (r : Reading) → or_alarm true n (stop_at r raw lines) ≡ stop_at r raw lines
-    by_reading Large = refl
-    by_reading _ = by_tests _ (is_long raw) (holds_reset raw) ends
+-- ---- a reset and an alarm are no cause where the job gives one
 
 -- a cause that the job gives stays
-pub cause_of_job : (alarm : Bool) (n : ℕ) (stop : Stop) → (stop ≡ End → ⊥) → stop ≡ or_alarm alarm n stop
-cause_of_job false n stop other = refl
-cause_of_job true n End other = absurd (other refl)
-cause_of_job true n _ other = refl
+pub cause_of_job : (alarm : Bool) (n : ℕ) (lacking : Bool) (stop : Stop) → (stop ≡ End → ⊥) → stop ≡ or_alarm alarm n (or_reset lacking stop)
+cause_of_job false n false stop other = refl
+cause_of_job false n true End other = absurd (other refl)
+cause_of_job false n true (LongLine k) other = refl
+cause_of_job false n true TooLarge other = refl
+cause_of_job false n true Reset other = refl
+cause_of_job false n true (Alarm k) other = refl
+cause_of_job true n lacking End other = absurd (other refl)
+cause_of_job true n false (LongLine k) other = refl
+cause_of_job true n false TooLarge other = refl
+cause_of_job true n false Reset other = refl
+cause_of_job true n false (Alarm k) other = refl
+cause_of_job true n true (LongLine k) other = refl
+cause_of_job true n true TooLarge other = refl
+cause_of_job true n true Reset other = refl
+cause_of_job true n true (Alarm k) other = refl

@@ -2,6 +2,7 @@
 use Rattle.std.proofs.Common.{inl, inr, ◌-◌, [], ◌∷◌, length, refl, arith}
 use Rattle.gcode_words.specs.Comments.{cut_within}
 use Rattle.outside.specs.declared.Turn.TheVariants.{Did, Done}
+use Rattle.serial_ring.specs.Marks.{start}
 use Rattle.status_report.specs.declared.Reply.TheVariants.{Banner, Ok, Bye}
 use Rattle.status_report.specs.Replies.{reply_text}
 use Rattle.stream_host.specs.Steps.{Journal, text_of}
@@ -16,106 +17,218 @@ c0 : Conducted j0
 c0 = tt
 
 abbrev j1 : Journal
-j1 = turned Did ∷ at_port (got Banner) ∷ j0
+j1 = at_port (got Banner) ∷ j0
 
 c1 : Conducted j1
 unfolding cut_within reply_text
-c1 = (omega arith, (record { poll = record { going = refl; rested = omega arith }; few = omega arith }, c0))
+c1 = (record { poll = record { going = refl; rested = omega arith }; lines = record { greeted = start ∷ []; are = record { each = refl; stored = (refl, tt) }; few = omega arith } }, c0)
 
 abbrev j2 : Journal
-j2 = turned Did ∷ wrote (length (text_of j1)) ∷ j1
+j2 = turned Did ∷ j1
 
 c2 : Conducted j2
 unfolding cut_within reply_text
-c2 = (omega arith, (record { going = refl; some = omega arith; front = omega arith }, c1))
+c2 = (record { once = omega arith; polls = omega arith }, c1)
 
 abbrev j3 : Journal
-j3 = turned Did ∷ read_some (10 ∷ 88 ∷ []) ∷ j2
+j3 = wrote (length (text_of j2)) ∷ j2
 
 c3 : Conducted j3
 unfolding cut_within reply_text
-c3 = (omega arith, ((record { going = refl; calm = refl; on = refl; sends = refl; used = refl; free = refl; none_due = refl; settled = record { greeted = inl refl; reported = refl; answered = inl refl }; shown = inr (omega arith) }, (omega arith), (omega arith)), c2))
+c3 = (record { going = refl; some = omega arith; front = omega arith }, c2)
 
 abbrev j4 : Journal
-j4 = turned Did ∷ at_port (stored 10) ∷ scanned 10 ∷ j3
+j4 = turned Did ∷ j3
 
 c4 : Conducted j4
 unfolding cut_within reply_text
-c4 = (omega arith, (record { calm = refl; next = refl; reported = refl; room = omega arith }, (record { going = refl; calm = refl; next = refl; few = omega arith; sends = refl; free = refl; none_due = refl }, c3)))
+c4 = (record { once = omega arith; polls = omega arith }, c3)
 
 abbrev j5 : Journal
-j5 = turned Did ∷ scanned 88 ∷ j4
+j5 = read_some (10 ∷ 88 ∷ []) ∷ j4
 
 c5 : Conducted j5
 unfolding cut_within reply_text
-c5 = (omega arith, (record { going = refl; calm = refl; next = refl; few = omega arith; sends = refl; free = refl; none_due = refl }, c4))
+c5 = ((record { going = refl; calm = refl; epoch = refl; on = refl; sends = refl; used = refl; free = refl; none_due = refl; settled = record { greeted = inl refl; reported = refl; answered = inl refl }; shown = inr (omega arith) }, (omega arith), (omega arith)), c4)
 
 abbrev j6 : Journal
-j6 = turned Did ∷ at_port (got Ok) ∷ j5
+j6 = turned Did ∷ j5
 
 c6 : Conducted j6
 unfolding cut_within reply_text
-c6 = (omega arith, (record { poll = record { going = refl; rested = omega arith }; few = omega arith }, c5))
+c6 = (record { once = omega arith; polls = omega arith }, c5)
 
 abbrev j7 : Journal
-j7 = turned Did ∷ wrote (length (text_of j6) - length (text_of j1)) ∷ j6
+j7 = scanned 10 ∷ j6
 
 c7 : Conducted j7
 unfolding cut_within reply_text
-c7 = (omega arith, (record { going = refl; some = omega arith; front = omega arith }, c6))
+c7 = (record { going = refl; calm = refl; epoch = refl; next = refl; few = omega arith; sends = refl; free = refl; none_due = refl }, c6)
 
 abbrev j8 : Journal
-j8 = read_end ∷ j7
+j8 = at_port (stored 10) ∷ j7
 
 c8 : Conducted j8
 unfolding cut_within reply_text
-c8 = (record { going = refl; calm = refl; on = refl; sends = refl; used = refl; free = refl; none_due = refl; settled = record { greeted = inl refl; reported = refl; answered = inl refl }; shown = inr (omega arith) }, c7)
+c8 = (record { calm = refl; epoch = refl; next = refl; reported = refl; room = omega arith }, c7)
 
 abbrev j9 : Journal
-j9 = turned Did ∷ at_port (stored 88) ∷ line_over ∷ j8
+j9 = turned Did ∷ j8
 
 c9 : Conducted j9
 unfolding cut_within reply_text
-c9 = (omega arith, (record { calm = refl; next = refl; reported = refl; room = omega arith }, (record { going = refl; calm = refl; at_end = refl; used = refl; some = omega arith; sends = refl; free = refl; none_due = refl }, c8)))
+c9 = (record { once = omega arith; polls = omega arith }, c8)
 
 abbrev j10 : Journal
-j10 = turned Did ∷ at_port (stored 10) ∷ at_port no_reply ∷ j9
+j10 = scanned 88 ∷ j9
 
 c10 : Conducted j10
 unfolding cut_within reply_text
-c10 = (omega arith, (record { calm = refl; next = refl; reported = refl; room = omega arith }, (record { going = refl; rested = omega arith }, c9)))
+c10 = (record { going = refl; calm = refl; epoch = refl; next = refl; few = omega arith; sends = refl; free = refl; none_due = refl }, c9)
 
 abbrev j11 : Journal
-j11 = turned Did ∷ at_port shut ∷ j10
+j11 = turned Did ∷ j10
 
 c11 : Conducted j11
 unfolding cut_within reply_text
-c11 = (omega arith, (record { going = refl; sent = inr (record { free = refl; all = inr (refl, refl) }); all_raised = inr refl }, c10))
+c11 = (record { once = omega arith; polls = omega arith }, c10)
 
 abbrev j12 : Journal
-j12 = turned Did ∷ at_port (got Ok) ∷ j11
+j12 = at_port (got Ok) ∷ j11
 
 c12 : Conducted j12
 unfolding cut_within reply_text
-c12 = (omega arith, (record { poll = record { going = refl; rested = omega arith }; few = omega arith }, c11))
+c12 = (record { poll = record { going = refl; rested = omega arith }; lines = record { greeted = start ∷ []; are = record { each = refl; stored = (refl, tt) }; few = omega arith } }, c11)
 
 abbrev j13 : Journal
-j13 = turned Did ∷ at_port (got Bye) ∷ j12
+j13 = turned Did ∷ j12
 
 c13 : Conducted j13
 unfolding cut_within reply_text
-c13 = (omega arith, (record { poll = record { going = refl; rested = omega arith }; few = omega arith }, c12))
+c13 = (record { once = omega arith; polls = omega arith }, c12)
 
 abbrev j14 : Journal
-j14 = turned Did ∷ wrote (length (text_of j13) - length (text_of j6)) ∷ j13
+j14 = wrote (length (text_of j13) - length (text_of j2)) ∷ j13
 
 c14 : Conducted j14
 unfolding cut_within reply_text
-c14 = (omega arith, (record { going = refl; some = omega arith; front = omega arith }, c13))
+c14 = (record { going = refl; some = omega arith; front = omega arith }, c13)
 
 abbrev j15 : Journal
-j15 = turned Done ∷ j14
+j15 = turned Did ∷ j14
 
 c15 : Conducted j15
 unfolding cut_within reply_text
-c15 = (record { bye = refl; written = inr (omega arith); still = refl }, c14)
+c15 = (record { once = omega arith; polls = omega arith }, c14)
+
+abbrev j16 : Journal
+j16 = read_end ∷ j15
+
+c16 : Conducted j16
+unfolding cut_within reply_text
+c16 = (record { going = refl; calm = refl; epoch = refl; on = refl; sends = refl; used = refl; free = refl; none_due = refl; settled = record { greeted = inl refl; reported = refl; answered = inl refl }; shown = inr (omega arith) }, c15)
+
+abbrev j17 : Journal
+j17 = line_over ∷ j16
+
+c17 : Conducted j17
+unfolding cut_within reply_text
+c17 = (record { going = refl; calm = refl; epoch = refl; at_end = refl; used = refl; some = omega arith; sends = refl; free = refl; none_due = refl }, c16)
+
+abbrev j18 : Journal
+j18 = at_port (stored 88) ∷ j17
+
+c18 : Conducted j18
+unfolding cut_within reply_text
+c18 = (record { calm = refl; epoch = refl; next = refl; reported = refl; room = omega arith }, c17)
+
+abbrev j19 : Journal
+j19 = turned Did ∷ j18
+
+c19 : Conducted j19
+unfolding cut_within reply_text
+c19 = (record { once = omega arith; polls = omega arith }, c18)
+
+abbrev j20 : Journal
+j20 = at_port no_reply ∷ j19
+
+c20 : Conducted j20
+unfolding cut_within reply_text
+c20 = (record { going = refl; rested = omega arith }, c19)
+
+abbrev j21 : Journal
+j21 = at_port (stored 10) ∷ j20
+
+c21 : Conducted j21
+unfolding cut_within reply_text
+c21 = (record { calm = refl; epoch = refl; next = refl; reported = refl; room = omega arith }, c20)
+
+abbrev j22 : Journal
+j22 = turned Did ∷ j21
+
+c22 : Conducted j22
+unfolding cut_within reply_text
+c22 = (record { once = omega arith; polls = omega arith }, c21)
+
+abbrev j23 : Journal
+j23 = at_port shut ∷ j22
+
+c23 : Conducted j23
+unfolding cut_within reply_text
+c23 = (record { going = refl; epoch = refl; sent = inr (record { free = refl; all = inr (refl, refl) }); all_raised = inr refl }, c22)
+
+abbrev j24 : Journal
+j24 = turned Did ∷ j23
+
+c24 : Conducted j24
+unfolding cut_within reply_text
+c24 = (record { once = omega arith; polls = omega arith }, c23)
+
+abbrev j25 : Journal
+j25 = at_port (got Ok) ∷ j24
+
+c25 : Conducted j25
+unfolding cut_within reply_text
+c25 = (record { poll = record { going = refl; rested = omega arith }; lines = record { greeted = start ∷ []; are = record { each = refl; stored = (refl, tt) }; few = omega arith } }, c24)
+
+abbrev j26 : Journal
+j26 = turned Did ∷ j25
+
+c26 : Conducted j26
+unfolding cut_within reply_text
+c26 = (record { once = omega arith; polls = omega arith }, c25)
+
+abbrev j27 : Journal
+j27 = at_port (got Bye) ∷ j26
+
+c27 : Conducted j27
+unfolding cut_within reply_text
+c27 = (record { poll = record { going = refl; rested = omega arith }; lines = record { greeted = start ∷ []; are = record { each = refl; stored = (refl, tt) }; few = omega arith } }, c26)
+
+abbrev j28 : Journal
+j28 = turned Did ∷ j27
+
+c28 : Conducted j28
+unfolding cut_within reply_text
+c28 = (record { once = omega arith; polls = omega arith }, c27)
+
+abbrev j29 : Journal
+j29 = wrote (length (text_of j28) - length (text_of j13)) ∷ j28
+
+c29 : Conducted j29
+unfolding cut_within reply_text
+c29 = (record { going = refl; some = omega arith; front = omega arith }, c28)
+
+abbrev j30 : Journal
+j30 = turned Did ∷ j29
+
+c30 : Conducted j30
+unfolding cut_within reply_text
+c30 = (record { once = omega arith; polls = omega arith }, c29)
+
+abbrev j31 : Journal
+j31 = turned Done ∷ j30
+
+c31 : Conducted j31
+unfolding cut_within reply_text
+c31 = (record { bye = refl; written = inr (omega arith); still = refl }, c30)

@@ -1,12 +1,12 @@
 -- What a host makes of its job by itself.
 use Rattle.std.proofs.Common.{◌≡◌, ◌≢◌, ℕ, ◌+◌, ◌≤◌, ◌<◌, inl, Bool, true, false, cond, List, [], ◌∷◌, ◌++◌, length, map, take, nat_lt, refl, sym, ap, ◌∙◌, arith, subst, append-nil, length-append}
-use Rattle.std.specs.List.{list_any}
+use Rattle.std.specs.List.{list_any, count_by}
 use Rattle.std.proofs.lemmas.Bool.Decides.{nat_tests}
 use Rattle.std.proofs.lemmas.List.{length-take, length-drop, drop_all}
 use Rattle.std.specs.Io.KnownBytes.{Consumes, IsAtEnd}
 use Rattle.std.proofs.KnownBytes.{Consumes-trans, Consumes-kept}
 use Rattle.outside.specs.Causes.{SourceState, SinkState, Rose}
-use Rattle.gcode_words.specs.Stripping.{plain}
+use Rattle.stream_host.specs.Jobs.{sent_text}
 use Rattle.run_rules.specs.Readings.{largest_job}
 use Rattle.run_rules.specs.Told.{replies_text}
 use Rattle.stream_host.specs.declared.Reading.TheVariants.{Ended, Failed, Large, Stopped}
@@ -14,13 +14,14 @@ use Rattle.stream_host.specs.declared.line.SentLine.{SentLine}
 use Rattle.stream_host.specs.declared.reader.Reader.{Reader}
 use Rattle.stream_host.specs.declared.counts.Counts.{Counts}
 use Rattle.stream_host.specs.declared.host.Host.{Host}
-use Rattle.stream_host.specs.Steps.{Journal, port_log, got_in, got_of, read_of, reading_of, scanned_of, unscanned_of, raw_of, cut_of, pause_of, to_store, due_of}
+use Rattle.stream_host.specs.Steps.{Journal, port_log, got_in, got_of, read_of, reading_of, scanned_of, unscanned_of, raw_of, cut_of, live_of, pause_of, this_turn, to_store, due_of}
 use Rattle.stream_host.specs.Holding.{pauses}
 use Rattle.stream_host.specs.Steps.Step.{read_some, read_end, read_failed, scanned, line_over}
-use Rattle.stream_host.specs.Conduct.{IsSettled, MayRead, HasWritten, moving}
-use Rattle.stream_host.specs.Hosts.{HostFits, KeepsLine, KeepsCounts, IsQuiet, MayReadOn, GaveBytes, GaveEnd, GaveNone, DidAlone, HostTellsOn, TellsJob, unread}
+use Rattle.stream_host.specs.Conduct.{IsSettled, MayRead, HasWritten, polling, moving}
+use Rattle.stream_host.specs.Hosts.{HostFits, KeepsLine, KeepsCounts, IsQuiet, MayReadOn, GaveBytes, GaveEnd, GaveNone, DidAlone, HostTellsOn, TellsJob, unread, awaits_by, ends_turn}
 use Rattle.stream_host.proofs.Keeping.{read_is}
-use Rattle.stream_host.proofs.Hosting.{calm_now, none_due_by, nothing_due, ends_is, pause_behind_line, quiet_on, same_job}
+use Rattle.stream_host.proofs.Consoles.{quiet_on, looks_on, same_job}
+use Rattle.stream_host.proofs.Hosting.{calm_now, none_due_by, nothing_due, ends_is, pause_behind_line, calm_epoch}
 
 -- ---- some bytes are scanned
 
@@ -40,6 +41,14 @@ quiet_scans : (bytes : List ℕ) (h : Journal) → IsQuiet h → IsQuiet (map sc
 quiet_scans [] h q = q
 quiet_scans (b ∷ bytes) h q = quiet_on (scanned b) (map scanned bytes ++ h) refl (quiet_scans bytes h q)
 
+looks_scans : (bytes : List ℕ) (h : Journal) → count_by polling (this_turn (map scanned bytes ++ h)) ≡ count_by polling (this_turn h)
+looks_scans [] h = refl
+looks_scans (b ∷ bytes) h = looks_on (scanned b) (map scanned bytes ++ h) refl ∙ looks_scans bytes h
+
+inner_scans : (bytes : List ℕ) → list_any ends_turn (map scanned bytes) ≡ false
+inner_scans [] = refl
+inner_scans (b ∷ bytes) = inner_scans bytes
+
 moves_scans : (bytes : List ℕ) → 0 < length bytes → list_any moving (map scanned bytes) ≡ true
 moves_scans [] some = absurd (let s : 0 < 0 = some in omega arith)
 moves_scans (b ∷ bytes) some = refl
@@ -52,8 +61,10 @@ did_scan s t h same (bytes, some, fits) = (
     fits = fits;
     steps = map scanned bytes;
     are = refl;
+    inner = inner_scans bytes;
     port = port_scans bytes h;
     quiet = λ q. quiet_scans bytes h q;
+    looks = looks_scans bytes h;
     moves = inl (moves_scans bytes some);
   },
   λ job console. record {
@@ -68,9 +79,10 @@ did_scan s t h same (bytes, some, fits) = (
 pub used_up : (s : Host) (h : Journal) → HostFits s h → s.job.end ≤ s.job.place → unscanned_of h ≡ []
 used_up s h f used = sym f.job_is.left_is ∙ drop_all s.job.place (take s.job.end s.job.bytes) (let l = length-take s.job.end s.job.bytes in omega arith)
 
-pub may_read : (s : Host) (h : Journal) → HostFits s h → MayReadOn s → s.shut ≡ false → s.alarm ≡ false → IsSettled h → HasWritten h → MayRead h
-may_read s h f may going calm settled written = record {
+pub may_read : (s : Host) (h : Journal) → HostFits s h → MayReadOn s → s.shut ≡ false → s.alarm ≡ false → awaits_by s.resets ≡ false → IsSettled h → HasWritten h → MayRead h
+may_read s h f may going calm epoch settled written = record {
   calm = calm_now s h f calm;
+  epoch = calm_epoch s h f epoch;
   going = sym f.shut_is ∙ going;
   on = sym f.job_is.reading_is ∙ may.on;
   sends = ends_is s h f may.scanning ∙ may.sends;
@@ -104,10 +116,10 @@ never_failed false e = absurd cc
 still_reads : (h : Journal) → reading_of h ≡ Stopped → reading_of h ≢ Failed
 still_reads h on bad = absurd (let e = sym on ∙ bad in cc)
 
-pub did_read : (s : Host) (r : Reader) (h : Journal) (now later : SourceState) → HostFits s h → MayReadOn s → s.shut ≡ false → s.alarm ≡ false → IsSettled h → HasWritten h → GaveBytes s.job r now later
+pub did_read : (s : Host) (r : Reader) (h : Journal) (now later : SourceState) → HostFits s h → MayReadOn s → s.shut ≡ false → s.alarm ≡ false → awaits_by s.resets ≡ false → IsSettled h → HasWritten h → GaveBytes s.job r now later
     → (next : Journal) × DidAlone s (record s { job = r }) h next × ((console : SinkState) → HostTellsOn s (record s { job = r }) h next now later console console)
-did_read s r h now later f on going calm settled written gave =
-    let may = may_read s h f on going calm settled written in (
+did_read s r h now later f on going calm epoch settled written gave =
+    let may = may_read s h f on going calm epoch settled written in (
       read_some (unread r) ∷ h,
       record {
         fits = record {
@@ -124,6 +136,8 @@ did_read s r h now later f on going calm settled written gave =
           due_is = f.due_is;
           asking_is = f.asking_is;
           counts_are = f.counts_are;
+          all_are = f.all_are;
+          resets_are = f.resets_are;
           polls_are = f.polls_are;
           held_is = f.held_is;
           greeted_is = f.greeted_is;
@@ -136,8 +150,10 @@ did_read s r h now later f on going calm settled written gave =
         };
         steps = read_some (unread r) ∷ [];
         are = refl;
+        inner = refl;
         port = refl;
         quiet = λ q. quiet_on (read_some (unread r)) h refl q;
+        looks = looks_on (read_some (unread r)) h refl;
         moves = inl refl;
       },
       λ console. record {
@@ -152,10 +168,10 @@ did_read s r h now later f on going calm settled written gave =
       },
     )
 
-pub did_fail : (s : Host) (r : Reader) (h : Journal) (now later : SourceState) → HostFits s h → MayReadOn s → s.shut ≡ false → s.alarm ≡ false → IsSettled h → HasWritten h → GaveNone s.job r now later
+pub did_fail : (s : Host) (r : Reader) (h : Journal) (now later : SourceState) → HostFits s h → MayReadOn s → s.shut ≡ false → s.alarm ≡ false → awaits_by s.resets ≡ false → IsSettled h → HasWritten h → GaveNone s.job r now later
     → (next : Journal) × DidAlone s (record s { job = r }) h next × ((console : SinkState) → HostTellsOn s (record s { job = r }) h next now later console console)
-did_fail s r h now later f on going calm settled written gave =
-    let may = may_read s h f on going calm settled written in (
+did_fail s r h now later f on going calm epoch settled written gave =
+    let may = may_read s h f on going calm epoch settled written in (
       read_failed ∷ h,
       record {
         fits = record {
@@ -165,6 +181,8 @@ did_fail s r h now later f on going calm settled written gave =
           due_is = f.due_is;
           asking_is = f.asking_is;
           counts_are = f.counts_are;
+          all_are = f.all_are;
+          resets_are = f.resets_are;
           polls_are = f.polls_are;
           held_is = f.held_is;
           greeted_is = f.greeted_is;
@@ -177,8 +195,10 @@ did_fail s r h now later f on going calm settled written gave =
         };
         steps = read_failed ∷ [];
         are = refl;
+        inner = refl;
         port = refl;
         quiet = λ q. quiet_on read_failed h refl q;
+        looks = looks_on read_failed h refl;
         moves = inl refl;
       },
       λ console. record {
@@ -209,10 +229,10 @@ none_begun (x ∷ xs) e = absurd (grind (arith, nat_tests))
 some_begun : (xs : List ℕ) → nat_lt 0 (length xs) ≡ true → 0 < length xs
 some_begun xs e = grind (arith, nat_tests)
 
-pub did_end : (s : Host) (r : Reader) (h : Journal) (now later : SourceState) → HostFits s h → MayReadOn s → s.shut ≡ false → s.alarm ≡ false → IsSettled h → HasWritten h → s.line.begun ≡ false → GaveEnd s.job r now later
+pub did_end : (s : Host) (r : Reader) (h : Journal) (now later : SourceState) → HostFits s h → MayReadOn s → s.shut ≡ false → s.alarm ≡ false → awaits_by s.resets ≡ false → IsSettled h → HasWritten h → s.line.begun ≡ false → GaveEnd s.job r now later
     → (next : Journal) × DidAlone s (record s { job = r }) h next × ((console : SinkState) → HostTellsOn s (record s { job = r }) h next now later console console)
-did_end s r h now later f on going calm settled written none gave =
-    let may = may_read s h f on going calm settled written in
+did_end s r h now later f on going calm epoch settled written none gave =
+    let may = may_read s h f on going calm epoch settled written in
     let raw : raw_of h ≡ [] = none_begun (raw_of h) (sym (f.line_is.scanning on.scanning).0.begun ∙ none) in (
       read_end ∷ h,
       record {
@@ -223,6 +243,8 @@ did_end s r h now later f on going calm settled written none gave =
           due_is = f.due_is;
           asking_is = f.asking_is;
           counts_are = f.counts_are;
+          all_are = f.all_are;
+          resets_are = f.resets_are;
           polls_are = f.polls_are;
           held_is = f.held_is;
           greeted_is = f.greeted_is;
@@ -235,8 +257,10 @@ did_end s r h now later f on going calm settled written none gave =
         };
         steps = read_end ∷ [];
         are = refl;
+        inner = refl;
         port = refl;
         quiet = λ q. quiet_on read_end h refl q;
+        looks = looks_on read_end h refl;
         moves = inl refl;
       },
       λ console. record {
@@ -246,11 +270,11 @@ did_end s r h now later f on going calm settled written none gave =
     )
 
 -- the last line has no LF
-pub did_end_line : (s : Host) (r : Reader) (l : SentLine) (c : Counts) (h : Journal) (now later : SourceState) → HostFits s h → MayReadOn s → s.shut ≡ false → s.alarm ≡ false → IsSettled h → HasWritten h → s.line.begun ≡ true → GaveEnd s.job r now later
-    → KeepsLine l [] (plain (raw_of h) ++ 10 ∷ []) → l.due ≡ s.line.due → KeepsCounts c (cut_of h ++ raw_of h ∷ []) (got_of h) → c.pause_at ≡ cond (pauses (raw_of h)) (s.counts.lines + 1) s.counts.pause_at
+pub did_end_line : (s : Host) (r : Reader) (l : SentLine) (c : Counts) (h : Journal) (now later : SourceState) → HostFits s h → MayReadOn s → s.shut ≡ false → s.alarm ≡ false → awaits_by s.resets ≡ false → IsSettled h → HasWritten h → s.line.begun ≡ true → GaveEnd s.job r now later
+    → KeepsLine l [] (sent_text (raw_of h) ++ 10 ∷ []) → l.due ≡ s.line.due → KeepsCounts c (live_of h ++ raw_of h ∷ []) (got_of h) → c.all ≡ s.counts.all + 1 → c.pause_at ≡ cond (pauses (raw_of h)) (s.counts.lines + 1) s.counts.pause_at
     → (next : Journal) × DidAlone s (record s { job = r; line = l; counts = c }) h next × ((console : SinkState) → HostTellsOn s (record s { job = r; line = l; counts = c }) h next now later console console)
-did_end_line s r l c h now later f on going calm settled written begun gave line due counts pause =
-    let may = may_read s h f on going calm settled written in (
+did_end_line s r l c h now later f on going calm epoch settled written begun gave line due counts all pause =
+    let may = may_read s h f on going calm epoch settled written in (
       line_over ∷ read_end ∷ h,
       record {
         fits = record {
@@ -258,6 +282,7 @@ did_end_line s r l c h now later f on going calm settled written begun gave line
             record {
               going = may.going;
               calm = may.calm;
+              epoch = may.epoch;
               at_end = refl;
               used = may.used;
               some = some_begun (raw_of h) (sym (f.line_is.scanning on.scanning).0.begun ∙ begun);
@@ -272,11 +297,13 @@ did_end_line s r l c h now later f on going calm settled written begun gave line
           due_is = nothing_due l.due (due_of h) (due ∙ on.none_due) may.none_due;
           asking_is = f.asking_is;
           counts_are = counts;
+          all_are = all ∙ ap (λ n. n + 1) f.all_are ∙ sym (length-append (cut_of h) (raw_of h ∷ []));
+          resets_are = f.resets_are;
           polls_are = f.polls_are;
           held_is = f.held_is;
           greeted_is = f.greeted_is;
           alarm_is = f.alarm_is;
-          pause_is = pause_behind_line s.counts c (raw_of h) (cut_of h) (got_of h) (pause_of h) f.counts_are f.pause_is pause;
+          pause_is = pause_behind_line s.counts c (raw_of h) (live_of h) (got_of h) (pause_of h) f.counts_are f.pause_is pause;
           text_is = f.text_is;
           shut_is = f.shut_is;
           bye_is = f.bye_is;
@@ -284,8 +311,10 @@ did_end_line s r l c h now later f on going calm settled written begun gave line
         };
         steps = line_over ∷ read_end ∷ [];
         are = refl;
+        inner = refl;
         port = refl;
         quiet = λ q. quiet_on line_over (read_end ∷ h) refl (quiet_on read_end h refl q);
+        looks = looks_on line_over (read_end ∷ h) refl ∙ looks_on read_end h refl;
         moves = inl refl;
       },
       λ console. record {

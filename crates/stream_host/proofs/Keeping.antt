@@ -5,20 +5,19 @@ use Rattle.std.proofs.lemmas.Bool.Decides.{nat_tests}
 use Rattle.std.proofs.lemmas.Grind.{flat_map-append}
 use Rattle.std.proofs.lemmas.List.{map-append}
 use Rattle.std.proofs.Math.Seq.{take-append_seam}
-use Rattle.gcode_words.specs.Stripping.{plain}
 use Rattle.run_rules.specs.Lines.{CutsInto, ended, lines_of}
 use Rattle.run_rules.specs.Readings.{largest_job, largest_piece}
 use Rattle.run_rules.proofs.Cutting.{cut_byte, cut_line, cut_none, lines_with}
 use Rattle.stream_host.specs.declared.Reading.{Reading}
 use Rattle.stream_host.specs.declared.Reading.TheVariants.{Ended, Large, Stopped}
 use Rattle.stream_host.specs.Links.{on_link}
-use Rattle.stream_host.specs.Jobs.{ends_sending, ends_in, but_last, MayHaveRead}
+use Rattle.stream_host.specs.Jobs.{sent_text, ends_sending, ends_in, but_last, MayHaveRead}
 use Rattle.std.proofs.lemmas.List.Folds.{list_any-append}
 use Rattle.status_report.specs.declared.Reply.{Reply}
 use Rattle.run_rules.specs.Work.{is_limit}
 use Rattle.stream_host.specs.Steps.{Step, Journal, stored_of, got_of, has_limit, is_shut, read_of, reading_of, scanned_of, unscanned_of, raw_of, cut_of, to_store}
-use Rattle.stream_host.specs.Steps.PortStep.{stored, dropped, marked, got, shut}
-use Rattle.stream_host.specs.Steps.Step.{at_port, read_some, read_end, read_failed, scanned, line_over}
+use Rattle.stream_host.specs.Steps.PortStep.{stored, dropped, marked, raised, got, no_reply, shut}
+use Rattle.stream_host.specs.Steps.Step.{at_port, read_some, read_end, read_failed, scanned, line_over, wrote, gave_up, turned}
 use Rattle.stream_host.specs.Conduct.{Conducted, MayScanNext, HasSentAll}
 use Rattle.stream_host.proofs.Links.{all_push}
 use Rattle.stream_host.proofs.Pieces.{IsSendable, any_is, none_any, none_ends}
@@ -27,26 +26,32 @@ use Rattle.stream_host.proofs.Pieces.{IsSendable, any_is, none_any, none_ends}
 
 pub read_is : (h : Journal) → Conducted h → read_of h ≡ scanned_of h ++ unscanned_of h
 read_is [] c = refl
+read_is (at_port e ∷ h) c = read_is h c.1
 read_is (read_some bytes ∷ h) c = ap (λ (t : List ℕ). t ++ bytes) (read_is h c.1) ∙ append_assoc (scanned_of h) (unscanned_of h) bytes
+read_is (read_end ∷ h) c = read_is h c.1
+read_is (read_failed ∷ h) c = read_is h c.1
 read_is (scanned b ∷ h) c = read_is h c.1 ∙ ap (λ (t : List ℕ). scanned_of h ++ t) c.0.next ∙ sym (append_assoc (scanned_of h) (b ∷ []) (drop 1 (unscanned_of h)))
-read_is (_ ∷ h) c = read_is h c.1
+read_is (line_over ∷ h) c = read_is h c.1
+read_is (wrote n ∷ h) c = read_is h c.1
+read_is (gave_up ∷ h) c = read_is h c.1
+read_is (turned t ∷ h) c = read_is h c.1
 
 -- ---- what is stored of a line, and what is still to be stored, is the line
 
 -- one line more
-pub linked_push : (lines : List (List ℕ)) (raw : List ℕ) → on_link (lines ++ raw ∷ []) ≡ on_link lines ++ (plain raw ++ 10 ∷ [])
+pub linked_push : (lines : List (List ℕ)) (raw : List ℕ) → on_link (lines ++ raw ∷ []) ≡ on_link lines ++ (sent_text raw ++ 10 ∷ [])
 linked_push lines raw =
-    ap ended (map-append plain lines (raw ∷ []))
-    ∙ flat_map-append (λ (l : List ℕ). l ++ 10 ∷ []) (map plain lines) (plain raw ∷ [])
-    ∙ ap (λ (t : List ℕ). on_link lines ++ t) (append-nil (plain raw ++ 10 ∷ []))
+    ap ended (map-append sent_text lines (raw ∷ []))
+    ∙ flat_map-append (λ (l : List ℕ). l ++ 10 ∷ []) (map sent_text lines) (sent_text raw ∷ [])
+    ∙ ap (λ (t : List ℕ). on_link lines ++ t) (append-nil (sent_text raw ++ 10 ∷ []))
 
 -- a line more is to be stored, where none was
-linked_line : (bytes left : List ℕ) (lines : List (List ℕ)) (raw : List ℕ) → left ≡ [] → bytes ++ left ≡ on_link lines → bytes ++ (plain raw ++ 10 ∷ []) ≡ on_link (lines ++ raw ∷ [])
+pub linked_line : (bytes left : List ℕ) (lines : List (List ℕ)) (raw : List ℕ) → left ≡ [] → bytes ++ left ≡ on_link lines → bytes ++ (sent_text raw ++ 10 ∷ []) ≡ on_link (lines ++ raw ∷ [])
 linked_line bytes left lines raw none is =
-    ap (λ (t : List ℕ). t ++ (plain raw ++ 10 ∷ [])) (sym (append-nil bytes) ∙ ap (λ (t : List ℕ). bytes ++ t) (sym none) ∙ is) ∙ sym (linked_push lines raw)
+    ap (λ (t : List ℕ). t ++ (sent_text raw ++ 10 ∷ [])) (sym (append-nil bytes) ∙ ap (λ (t : List ℕ). bytes ++ t) (sym none) ∙ is) ∙ sym (linked_push lines raw)
 
-linked_byte : (bytes left : List ℕ) (lines : List (List ℕ)) (raw : List ℕ) (t : Bool) → left ≡ [] → bytes ++ left ≡ on_link lines
-    → bytes ++ cond t (plain raw ++ 10 ∷ []) left ≡ on_link (cond t (lines ++ raw ∷ []) lines)
+pub linked_byte : (bytes left : List ℕ) (lines : List (List ℕ)) (raw : List ℕ) (t : Bool) → left ≡ [] → bytes ++ left ≡ on_link lines
+    → bytes ++ cond t (sent_text raw ++ 10 ∷ []) left ≡ on_link (cond t (lines ++ raw ∷ []) lines)
 linked_byte bytes left lines raw true none is = linked_line bytes left lines raw none is
 linked_byte bytes left lines raw false none is = is
 
@@ -54,10 +59,19 @@ pub stored_is : (h : Journal) → Conducted h → stored_of h ++ to_store h ≡ 
 stored_is [] c = refl
 stored_is (at_port (stored b) ∷ h) c = append_assoc (stored_of h) (b ∷ []) (drop 1 (to_store h)) ∙ ap (λ (t : List ℕ). stored_of h ++ t) (sym c.0.next) ∙ stored_is h c.1
 stored_is (at_port (dropped b) ∷ h) c = absurd c.0
-stored_is (at_port marked ∷ h) c = absurd c.0
+stored_is (at_port marked ∷ h) c = stored_is h c.1
+stored_is (at_port (raised b down) ∷ h) c = stored_is h c.1
+stored_is (at_port (got r) ∷ h) c = stored_is h c.1
+stored_is (at_port no_reply ∷ h) c = stored_is h c.1
+stored_is (at_port shut ∷ h) c = stored_is h c.1
+stored_is (read_some bytes ∷ h) c = stored_is h c.1
+stored_is (read_end ∷ h) c = stored_is h c.1
+stored_is (read_failed ∷ h) c = stored_is h c.1
 stored_is (scanned b ∷ h) c = linked_byte (stored_of h) (to_store h) (cut_of h) (raw_of h) (nat_eq b 10) c.0.free (stored_is h c.1)
 stored_is (line_over ∷ h) c = linked_line (stored_of h) (to_store h) (cut_of h) (raw_of h) c.0.free (stored_is h c.1)
-stored_is (_ ∷ h) c = stored_is h c.1
+stored_is (wrote n ∷ h) c = stored_is h c.1
+stored_is (gave_up ∷ h) c = stored_is h c.1
+stored_is (turned t ∷ h) c = stored_is h c.1
 
 -- ---- what is scanned is cut
 
@@ -83,7 +97,7 @@ cut_on b text lines raw false e is = cut_byte text lines raw b is e
 not_read_on : (r : Reading) → r ≡ Ended → r ≡ Stopped → ⊥
 not_read_on r e f = absurd (let g = sym e ∙ f in cc)
 
-none_next : (xs : List ℕ) (x : ℕ) → xs ≡ [] → xs ≡ x ∷ drop 1 xs → ⊥
+pub none_next : (xs : List ℕ) (x : ℕ) → xs ≡ [] → xs ≡ x ∷ drop 1 xs → ⊥
 none_next xs x none next = absurd (let e = sym none ∙ next in cc)
 
 some_in : (xs : List ℕ) → xs ≡ [] → 0 < length xs → ⊥
@@ -106,12 +120,15 @@ cut_end h at_end used some (inr over) = absurd (some_in (raw_of h) over.none som
 
 pub cut_is : (h : Journal) → Conducted h → IsCut h
 cut_is [] c = inl cut_none
+cut_is (at_port e ∷ h) c = cut_is h c.1
 cut_is (read_some bytes ∷ h) c = inl (cut_read h (read_some bytes) c.0.0.on (cut_is h c.1))
 cut_is (read_end ∷ h) c = inl (cut_read h read_end c.0.on (cut_is h c.1))
 cut_is (read_failed ∷ h) c = inl (cut_read h read_failed c.0.on (cut_is h c.1))
 cut_is (scanned b ∷ h) c = cut_scan b h c.0 (cut_is h c.1)
 cut_is (line_over ∷ h) c = cut_end h c.0.at_end c.0.used c.0.some (cut_is h c.1)
-cut_is (_ ∷ h) c = cut_is h c.1
+cut_is (wrote n ∷ h) c = cut_is h c.1
+cut_is (gave_up ∷ h) c = cut_is h c.1
+cut_is (turned t ∷ h) c = cut_is h c.1
 
 -- ---- no line in which the sending ends is cut
 
@@ -121,9 +138,15 @@ sendable_push lines raw false short all = all
 
 pub sendable_is : (h : Journal) → Conducted h → AllByRecursion IsSendable (cut_of h)
 sendable_is [] c = tt
+sendable_is (at_port e ∷ h) c = sendable_is h c.1
+sendable_is (read_some bytes ∷ h) c = sendable_is h c.1
+sendable_is (read_end ∷ h) c = sendable_is h c.1
+sendable_is (read_failed ∷ h) c = sendable_is h c.1
 sendable_is (scanned b ∷ h) c = sendable_push (cut_of h) (raw_of h) (nat_eq b 10) c.0.sends (sendable_is h c.1)
 sendable_is (line_over ∷ h) c = sendable_push (cut_of h) (raw_of h) true c.0.sends (sendable_is h c.1)
-sendable_is (_ ∷ h) c = sendable_is h c.1
+sendable_is (wrote n ∷ h) c = sendable_is h c.1
+sendable_is (gave_up ∷ h) c = sendable_is h c.1
+sendable_is (turned t ∷ h) c = sendable_is h c.1
 
 -- a test that only lines pass in which the sending ends is passed in what is scanned just where the line in hand passes
 pub any_now : (p : List ℕ → Bool) → p [] ≡ false → ((l : List ℕ) → IsSendable l → p l ≡ false) → (h : Journal) → Conducted h → list_any p (lines_of (scanned_of h)) ≡ p (raw_of h)
@@ -149,22 +172,42 @@ but_last_is text b =
 
 pub early_is : (h : Journal) → Conducted h → ends_in (but_last (scanned_of h)) ≡ false
 early_is [] c = refl
+early_is (at_port e ∷ h) c = early_is h c.1
+early_is (read_some bytes ∷ h) c = early_is h c.1
+early_is (read_end ∷ h) c = early_is h c.1
+early_is (read_failed ∷ h) c = early_is h c.1
 early_is (scanned b ∷ h) c = ap ends_in (but_last_is (scanned_of h) b) ∙ ends_now h c.1 ∙ c.0.sends
-early_is (_ ∷ h) c = early_is h c.1
+early_is (line_over ∷ h) c = early_is h c.1
+early_is (wrote n ∷ h) c = early_is h c.1
+early_is (gave_up ∷ h) c = early_is h c.1
+early_is (turned t ∷ h) c = early_is h c.1
 
 -- ---- how much is read and scanned
 
 pub few_scanned : (h : Journal) → Conducted h → length (scanned_of h) ≤ largest_job
 few_scanned [] c = omega arith
+few_scanned (at_port e ∷ h) c = few_scanned h c.1
+few_scanned (read_some bytes ∷ h) c = few_scanned h c.1
+few_scanned (read_end ∷ h) c = few_scanned h c.1
+few_scanned (read_failed ∷ h) c = few_scanned h c.1
 few_scanned (scanned b ∷ h) c = let l = length-append (scanned_of h) (b ∷ []) in let f = c.0.few in omega arith
-few_scanned (_ ∷ h) c = few_scanned h c.1
+few_scanned (line_over ∷ h) c = few_scanned h c.1
+few_scanned (wrote n ∷ h) c = few_scanned h c.1
+few_scanned (gave_up ∷ h) c = few_scanned h c.1
+few_scanned (turned t ∷ h) c = few_scanned h c.1
 
 -- what is read and not scanned is of one piece
 pub few_unscanned : (h : Journal) → Conducted h → length (unscanned_of h) ≤ largest_piece
 few_unscanned [] c = omega arith
+few_unscanned (at_port e ∷ h) c = few_unscanned h c.1
 few_unscanned (read_some bytes ∷ h) c = let e = ap (λ (t : List ℕ). length (t ++ bytes)) c.0.0.used in let p = c.0.2 in omega arith
+few_unscanned (read_end ∷ h) c = few_unscanned h c.1
+few_unscanned (read_failed ∷ h) c = few_unscanned h c.1
 few_unscanned (scanned b ∷ h) c = let l = ap length c.0.next in let m = few_unscanned h c.1 in omega arith
-few_unscanned (_ ∷ h) c = few_unscanned h c.1
+few_unscanned (line_over ∷ h) c = few_unscanned h c.1
+few_unscanned (wrote n ∷ h) c = few_unscanned h c.1
+few_unscanned (gave_up ∷ h) c = few_unscanned h c.1
+few_unscanned (turned t ∷ h) c = few_unscanned h c.1
 
 -- a job is read for so many bytes at most
 pub few_read : (h : Journal) → Conducted h → length (read_of h) ≤ length (scanned_of h) + largest_piece
@@ -181,12 +224,17 @@ fits_from r n e f = subst (λ (q : Reading). MayHaveRead q n) e f
 
 pub reading_fits : (h : Journal) → Conducted h → MayHaveRead (reading_of h) (length (read_of h))
 reading_fits [] c = omega arith
+reading_fits (at_port e ∷ h) c = reading_fits h c.1
 reading_fits (read_some bytes ∷ h) c =
     let few : length (read_of h ++ bytes) ≤ largest_job + largest_piece = (let r = few_read (read_some bytes ∷ h) c in let s = few_scanned h c.1 in omega arith) in
     fits_read (length (read_of h ++ bytes)) (nat_lt largest_job (length (read_of h ++ bytes))) few refl
 reading_fits (read_end ∷ h) c = fits_from (reading_of h) (length (read_of h)) c.0.on (reading_fits h c.1)
 reading_fits (read_failed ∷ h) c = fits_from (reading_of h) (length (read_of h)) c.0.on (reading_fits h c.1)
-reading_fits (_ ∷ h) c = reading_fits h c.1
+reading_fits (scanned b ∷ h) c = reading_fits h c.1
+reading_fits (line_over ∷ h) c = reading_fits h c.1
+reading_fits (wrote n ∷ h) c = reading_fits h c.1
+reading_fits (gave_up ∷ h) c = reading_fits h c.1
+reading_fits (turned t ∷ h) c = reading_fits h c.1
 
 -- ---- a link that is closed has all that is sent, where no alarm was got
 
@@ -211,15 +259,19 @@ pub shut_is : (h : Journal) → Conducted h → is_shut h ≡ true → has_limit
 shut_is [] c e calm = absurd cc
 shut_is (at_port (stored b) ∷ h) c e calm = absurd (none_next (to_store h) b (shut_is h c.1 e calm).free c.0.next)
 shut_is (at_port (dropped b) ∷ h) c e calm = absurd c.0
-shut_is (at_port marked ∷ h) c e calm = absurd c.0
+shut_is (at_port marked ∷ h) c e calm = let s = shut_is h c.1 e calm in record { free = s.free; all = s.all }
+shut_is (at_port (raised b down) ∷ h) c e calm = let s = shut_is h c.1 e calm in record { free = s.free; all = s.all }
 shut_is (at_port (got r) ∷ h) c e calm = let s = shut_is h c.1 e (calm_before (got_of h) r calm) in record { free = s.free; all = s.all }
+shut_is (at_port no_reply ∷ h) c e calm = let s = shut_is h c.1 e calm in record { free = s.free; all = s.all }
 shut_is (at_port shut ∷ h) c e calm = let s = calm_one h calm c.0.sent in record { free = s.free; all = s.all }
 shut_is (read_some bytes ∷ h) c e calm = open_link h c.0.0.going e
 shut_is (read_end ∷ h) c e calm = open_link h c.0.going e
 shut_is (read_failed ∷ h) c e calm = open_link h c.0.going e
 shut_is (scanned b ∷ h) c e calm = open_link h c.0.going e
 shut_is (line_over ∷ h) c e calm = open_link h c.0.going e
-shut_is (_ ∷ h) c e calm = let s = shut_is h c.1 e calm in record { free = s.free; all = s.all }
+shut_is (wrote n ∷ h) c e calm = let s = shut_is h c.1 e calm in record { free = s.free; all = s.all }
+shut_is (gave_up ∷ h) c e calm = let s = shut_is h c.1 e calm in record { free = s.free; all = s.all }
+shut_is (turned t ∷ h) c e calm = let s = shut_is h c.1 e calm in record { free = s.free; all = s.all }
 
 -- nothing is stored behind the closing
 pub open_is : (b : ℕ) (h : Journal) → Conducted h → has_limit h ≡ false → to_store h ≡ b ∷ drop 1 (to_store h) → is_shut h ≡ false

@@ -1,16 +1,18 @@
 -- Lists of bytes and lines on a link.
-use Rattle.std.proofs.Common.{◌≡◌, ℕ, suc, zero, ◌+◌, ◌-◌, ◌≤◌, Bool, true, false, cond, List, [], ◌∷◌, ◌++◌, length, map, drop, nat_eq, refl, sym, ap, ◌∙◌, arith, subst, append_assoc, length-append}
+use Rattle.std.proofs.Common.{◌≡◌, ℕ, suc, zero, ◌+◌, ◌-◌, ◌≤◌, Bool, true, false, cond, List, [], ◌∷◌, ◌++◌, length, map, drop, nat_eq, refl, ap, ◌∙◌, arith, append_assoc, length-append}
 use Rattle.std.specs.List.{AllByRecursion, filter}
 use Rattle.std.proofs.lemmas.Bool.Decides.{nat_tests}
 use Rattle.std.proofs.lemmas.List.Sums.{sum_by-append, sum_by-cons}
-use Rattle.gcode_words.specs.Comments.{cut_within}
+use Rattle.gcode_words.specs.Comments.{cut, cut_within}
 use Rattle.gcode_words.specs.declared.stripping.Comment.{Comment}
 use Rattle.gcode_words.specs.declared.stripping.Comment.TheVariants.{Outside, Paren, Semicolon}
-use Rattle.gcode_words.specs.Stripping.{realtime, plain, capital, is_plain}
+use Rattle.gcode_words.specs.Stripping.{realtime, capital, is_plain}
 use Rattle.gcode_words.proofs.Scanning.{next, seen, shown}
-use Rattle.gcode_words.proofs.Fed.{kept_of, plain-append}
+use Rattle.gcode_words.proofs.Fed.{kept_of}
 use Rattle.run_rules.specs.Lines.{HasNoLf, ended}
-use Rattle.stream_host.specs.Links.{behind}
+use Rattle.stream_host.specs.Jobs.{is_reset, behind_last, sent_text}
+use Rattle.stream_host.specs.Links.{behind, on_link}
+use Rattle.stream_host.proofs.Texts.{sent_within}
 use Rattle.status_report.specs.Answering.{lfs_in}
 
 pub all_push : {X : Type 0} (P : X → Type 0) (xs : List X) (x : X) → AllByRecursion P xs → P x → AllByRecursion P (xs ++ x ∷ [])
@@ -26,27 +28,20 @@ kept_one : (x : ℕ) (kept : List ℕ) (b : Bool) → is_plain x ≡ b → HasNo
 kept_one x kept true e h = (capital_no_lf x e, h)
 kept_one x kept false e h = h
 
-kept_no_lf : (xs : List ℕ) → HasNoLf (kept_of xs)
+pub kept_no_lf : (xs : List ℕ) → HasNoLf (kept_of xs)
 kept_no_lf [] = tt
 kept_no_lf (x ∷ xs) = kept_one x (filter is_plain xs) (is_plain x) refl (kept_no_lf xs)
-
-plain_is : (line : List ℕ) → plain line ≡ kept_of (shown Outside line)
-unfolding cut_within
-plain_is line = plain-append [] line
-
-pub plain_nil : plain [] ≡ []
-plain_nil = plain_is []
 
 pub realtime_nil : realtime [] ≡ []
 unfolding cut_within
 realtime_nil = refl
 
-pub plain_no_lf : (line : List ℕ) → HasNoLf (plain line)
-plain_no_lf line = subst HasNoLf (sym (plain_is line)) (kept_no_lf (shown Outside line))
+pub sent_no_lf : (line : List ℕ) → HasNoLf (sent_text line)
+sent_no_lf line = kept_no_lf (behind_last is_reset (cut line).outside)
 
-pub plains_no_lf : (lines : List (List ℕ)) → AllByRecursion HasNoLf (map plain lines)
-plains_no_lf [] = tt
-plains_no_lf (l ∷ ls) = (plain_no_lf l, plains_no_lf ls)
+pub all_no_lf : (lines : List (List ℕ)) → AllByRecursion HasNoLf (map sent_text lines)
+all_no_lf [] = tt
+all_no_lf (l ∷ ls) = (sent_no_lf l, all_no_lf ls)
 
 few_more : (x : ℕ) (kept : List ℕ) (n : ℕ) (b : Bool) → length (map capital kept) ≤ n → length (map capital (cond b (x ∷ kept) kept)) ≤ suc n
 few_more x kept n true h = omega arith
@@ -65,8 +60,8 @@ few_shown : (s : Comment) (xs : List ℕ) → length (shown s xs) ≤ length xs
 few_shown s [] = omega arith
 few_shown s (x ∷ xs) = let m = few_shown (next s x) xs in let f = few_seen s x in let l = length-append (seen s x) (shown (next s x) xs) in omega arith
 
-pub few_plain : (line : List ℕ) → length (plain line) ≤ length line
-few_plain line = let e = ap length (plain_is line) in let k = few_kept (shown Outside line) in let s = few_shown Outside line in omega arith
+pub few_sent : (line : List ℕ) → length (sent_text line) ≤ length line
+few_sent line = let k = few_kept (behind_last is_reset (cut line).outside) in let w = sent_within line in let s = few_shown Outside line in omega arith
 
 -- ---- what stands behind a line feed
 
@@ -102,3 +97,19 @@ behind_ended (suc k) (l ∷ ls) h = ap (behind (suc k)) (append_assoc l (10 ∷ 
 -- behind at most the last LF that was taken stands all that was not taken
 pub behind_taken : (k : ℕ) (taken bytes : List ℕ) → k ≤ lfs_in taken → length bytes ≤ length (behind k (taken ++ bytes))
 behind_taken k taken bytes few = let e = ap length (behind_append k taken bytes few) in let l = length-append (behind k taken) bytes in omega arith
+
+-- as many line feeds as lines
+pub lfs_linked : (lines : List (List ℕ)) → lfs_in (on_link lines) ≡ length lines
+lfs_linked [] = refl
+lfs_linked (l ∷ ls) =
+    let a = sum_by-append (λ c. cond (nat_eq c 10) 1 0) (sent_text l ++ 10 ∷ []) (on_link ls) in
+    let b = sum_by-append (λ c. cond (nat_eq c 10) 1 0) (sent_text l) (10 ∷ []) in
+    let n = no_lfs (sent_text l) (sent_no_lf l) in let m = lfs_linked ls in omega arith
+  where
+    by_test : (t : Bool) (n m : ℕ) → t ≡ false → n ≡ cond t 1 0 + m → m ≡ 0 → n ≡ 0
+    by_test true n m none e z = absurd cc
+    by_test false n m none e z = omega arith
+
+    no_lfs : (xs : List ℕ) → HasNoLf xs → lfs_in xs ≡ 0
+    no_lfs [] h = refl
+    no_lfs (x ∷ xs) h = by_test (nat_eq x 10) (lfs_in (x ∷ xs)) (lfs_in xs) h.0 (sum_by-cons (λ c. cond (nat_eq c 10) 1 0) x xs) (no_lfs xs h.1)

@@ -1,69 +1,32 @@
 -- Lines of a text, and those that are sent.
 use Rattle.std.proofs.Common.{◌≡◌, ℕ, ◌+◌, ◌≤◌, Bool, true, false, not, cond, ◌||◌, List, [], ◌∷◌, ◌++◌, length, map, nat_eq, nat_lt, refl, sym, ap, ◌∙◌, arith, append-nil, append_assoc, length-append}
-use Rattle.std.specs.List.{AllByRecursion, filter, list_any, take_while}
-use Rattle.std.proofs.lemmas.Bool.Decides.{nat_tests}
+use Rattle.std.specs.List.{AllByRecursion, list_any, take_while}
 use Rattle.std.proofs.lemmas.List.Sums.{take_while-cons}
 use Rattle.std.proofs.lemmas.List.Folds.{list_any-append}
-use Rattle.gcode_words.specs.Comments.{comment_after}
-use Rattle.gcode_words.specs.Stripping.{plain, realtime, is_realtime}
-use Rattle.gcode_words.proofs.Scanning.{shown}
-use Rattle.gcode_words.proofs.Fed.{kept_of, plain-append, realtime-append}
 use Rattle.run_rules.specs.Lines.{CutsInto, HasNoLf, ended, lines_of, whole_lines, onto_line, onto_first}
 use Rattle.run_rules.proofs.Cutting.{lines_are, some_bytes}
 use Rattle.stream_host.specs.declared.Reading.{Reading}
-use Rattle.stream_host.specs.declared.Reading.TheVariants.{Ended}
+use Rattle.stream_host.specs.declared.Reading.TheVariants.{Ended, Failed, Large, Stopped}
 use Rattle.stream_host.specs.Links.{on_link}
-use Rattle.stream_host.specs.Jobs.{is_long, is_reset, holds_reset, ends_sending, is_sent, lines_read, lines_to_send}
-use Rattle.stream_host.proofs.Links.{plain_nil, realtime_nil, plains_no_lf, few_plain}
+use Rattle.stream_host.specs.Jobs.{sent_text, ends_sending, is_sent, lines_read, lines_to_send}
+use Rattle.stream_host.proofs.Links.{all_no_lf, few_sent}
+use Rattle.stream_host.proofs.Texts.{none_long, long_on}
 
 abbrev pub IsSendable : List ℕ → Type 0
 IsSendable line = ends_sending line ≡ false
 
 -- ---- one line
 
-pub none_long : is_long [] ≡ false
-none_long = ap (λ (l : List ℕ). nat_lt 127 (length l)) plain_nil
-
-pub none_reset : holds_reset [] ≡ false
-none_reset = ap (list_any is_reset) realtime_nil
-
 pub none_ends : ends_sending [] ≡ false
-none_ends = ap (λ b. b || holds_reset []) none_long ∙ none_reset
+none_ends = none_long
 
 -- neither of two holds
 pub neither : (a b : Bool) → (a || b) ≡ false → (a ≡ false) × (b ≡ false)
 neither true b h = absurd cc
 neither false b h = (refl, h)
 
-pub not_long : (line : List ℕ) → IsSendable line → is_long line ≡ false
-not_long line h = (neither (is_long line) (holds_reset line) h).0
-
-pub no_reset : (line : List ℕ) → IsSendable line → holds_reset line ≡ false
-no_reset line h = (neither (is_long line) (holds_reset line) h).1
-
-long_on : (raw more : List ℕ) → is_long raw ≡ true → is_long (raw ++ more) ≡ true
-long_on raw more h =
-    let e = plain-append raw more in
-    let l = length-append (plain raw) (kept_of (shown (comment_after raw) more)) in
-    let w = ap length e in
-    over (length (plain raw)) (length (plain (raw ++ more))) (omega arith) h
-  where
-    over : (m n : ℕ) → m ≤ n → nat_lt 127 m ≡ true → nat_lt 127 n ≡ true
-    over m n l h = grind (arith, nat_tests)
-
-reset_on : (raw more : List ℕ) → holds_reset raw ≡ true → holds_reset (raw ++ more) ≡ true
-reset_on raw more h =
-    ap (list_any is_reset) (realtime-append raw more)
-    ∙ list_any-append is_reset (realtime raw) (filter is_realtime (shown (comment_after raw) more))
-    ∙ ap (λ b. b || list_any is_reset (filter is_realtime (shown (comment_after raw) more))) h
-
 pub ends_on : (raw more : List ℕ) → ends_sending raw ≡ true → ends_sending (raw ++ more) ≡ true
-ends_on raw more h = by_cases (is_long raw) (holds_reset raw) (is_long (raw ++ more)) (holds_reset (raw ++ more)) (long_on raw more) (reset_on raw more) h
-  where
-    by_cases : (a b c d : Bool) → (a ≡ true → c ≡ true) → (b ≡ true → d ≡ true) → (a || b) ≡ true → (c || d) ≡ true
-    by_cases true b c d f g h = ap (λ x. x || d) (f refl)
-    by_cases false b true d f g h = refl
-    by_cases false b false d f g h = g h
+ends_on raw more h = long_on raw more h
 
 -- ---- lists of lines
 
@@ -106,9 +69,11 @@ wholes_on (l ∷ ls) xs h =
     ap whole_lines (append_assoc (l ++ 10 ∷ []) (ended ls) xs ∙ append_assoc l (10 ∷ []) (ended ls ++ xs))
     ∙ whole_first l (ended ls ++ xs) h.0 ∙ ap (λ (r : List (List ℕ)). l ∷ r) (wholes_on ls xs h.1)
 
-read_on : (r : Reading) (lines : List (List ℕ)) (xs : List ℕ) → AllByRecursion HasNoLf lines → lines_read r (ended lines ++ xs) ≡ lines ++ lines_read r xs
+pub read_on : (r : Reading) (lines : List (List ℕ)) (xs : List ℕ) → AllByRecursion HasNoLf lines → lines_read r (ended lines ++ xs) ≡ lines ++ lines_read r xs
 read_on Ended lines xs h = lines_on lines xs h
-read_on _ lines xs h = wholes_on lines xs h
+read_on Failed lines xs h = wholes_on lines xs h
+read_on Large lines xs h = wholes_on lines xs h
+read_on Stopped lines xs h = wholes_on lines xs h
 
 -- what is sent of a text whose front is cut into lines that are sent
 pub sends_on : (r : Reading) (text : List ℕ) (lines : List (List ℕ)) (raw left : List ℕ) → CutsInto text lines raw → AllByRecursion IsSendable lines
@@ -123,9 +88,9 @@ sends_on r text lines raw left is short =
 pub all_are_sent : (r : Reading) (job : List ℕ) → AllByRecursion IsSendable (lines_read r job) → lines_to_send r job ≡ lines_read r job
 all_are_sent r job all = ap sent_front (sym (append-nil (lines_read r job))) ∙ front_on (lines_read r job) [] all ∙ append-nil (lines_read r job)
 
--- lines come back from the link as what is kept of them
-pub lines_back : (lines : List (List ℕ)) → whole_lines (on_link lines) ≡ map plain lines
-lines_back lines = ap whole_lines (sym (append-nil (on_link lines))) ∙ wholes_on (map plain lines) [] (plains_no_lf lines) ∙ append-nil (map plain lines)
+-- lines come back from the link as what is sent of them
+pub lines_back : (lines : List (List ℕ)) → whole_lines (on_link lines) ≡ map sent_text lines
+lines_back lines = ap whole_lines (sym (append-nil (on_link lines))) ∙ wholes_on (map sent_text lines) [] (all_no_lf lines) ∙ append-nil (map sent_text lines)
 
 -- ---- a line in which the sending ends
 
@@ -173,9 +138,11 @@ none_behind : (raw : List ℕ) (lines : List (List ℕ)) → ends_sending raw �
 none_behind raw lines h (no_line e) = ap sent_front e
 none_behind raw lines h (a_line more rest e) = ap sent_front e ∙ front_ends (raw ++ more) rest (ends_on raw more h)
 
-read_starts : (r : Reading) (raw left : List ℕ) → HasNoLf raw → Starts raw (lines_read r (raw ++ left))
+pub read_starts : (r : Reading) (raw left : List ℕ) → HasNoLf raw → Starts raw (lines_read r (raw ++ left))
 read_starts Ended raw left h = lines_start raw left h
-read_starts _ raw left h = whole_starts raw left h
+read_starts Failed raw left h = whole_starts raw left h
+read_starts Large raw left h = whole_starts raw left h
+read_starts Stopped raw left h = whole_starts raw left h
 
 pub sends_none : (r : Reading) (raw left : List ℕ) → HasNoLf raw → ends_sending raw ≡ true → lines_to_send r (raw ++ left) ≡ []
 sends_none r raw left none h = none_behind raw (lines_read r (raw ++ left)) h (read_starts r raw left none)
@@ -225,9 +192,9 @@ few_ended (c ∷ cs) = by_test (nat_eq c 10) (lines_of cs) (few_ended cs)
 few_linked : (lines : List (List ℕ)) → length (on_link lines) ≤ length (ended lines)
 few_linked [] = omega arith
 few_linked (l ∷ ls) =
-    let m = few_linked ls in let p = few_plain l in
-    let a = length-append (plain l ++ 10 ∷ []) (on_link ls) in let b = length-append (l ++ 10 ∷ []) (ended ls) in
-    let c = length-append (plain l) (10 ∷ []) in let d = length-append l (10 ∷ []) in
+    let m = few_linked ls in let p = few_sent l in
+    let a = length-append (sent_text l ++ 10 ∷ []) (on_link ls) in let b = length-append (l ++ 10 ∷ []) (ended ls) in
+    let c = length-append (sent_text l) (10 ∷ []) in let d = length-append l (10 ∷ []) in
     omega arith
 
 -- the lines of a text are at most as many as its bytes, and take one byte more on the link at most

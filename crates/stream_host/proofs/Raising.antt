@@ -1,9 +1,8 @@
 -- What is raised is scanned, but for the resumes of the host's own.
-use Rattle.std.proofs.Common.{◌≡◌, ℕ, ◌+◌, ◌*◌, ◌≤◌, ◌<◌, ◌⊎◌, ◌||◌, inl, inr, Bool, true, false, cond, List, [], ◌∷◌, ◌++◌, length, drop, nat_eq, nat_lt, refl, sym, ap, ◌∙◌, arith, append-nil, append_assoc, length-append}
-use Rattle.std.specs.List.{count_by, filter, flat_map, list_any}
+use Rattle.std.proofs.Common.{◌≡◌, ℕ, ◌+◌, ◌*◌, ◌≤◌, ◌<◌, ◌⊎◌, inl, inr, Bool, true, false, cond, List, [], ◌∷◌, ◌++◌, length, drop, nat_eq, nat_lt, refl, sym, ap, ◌∙◌, arith, append-nil, append_assoc, length-append}
+use Rattle.std.specs.List.{count_by, filter, flat_map}
 use Rattle.std.proofs.lemmas.Bool.Decides.{nat_tests}
 use Rattle.std.proofs.lemmas.Grind.{flat_map-append}
-use Rattle.std.proofs.lemmas.List.Folds.{list_any-append}
 use Rattle.std.proofs.lemmas.List.Sums.{sum_by-append, length-filter, count_by-le-length}
 use Rattle.std.proofs.Math.Seq.{drop-append_seam}
 use Rattle.code_table.specs.Tables.{query}
@@ -17,10 +16,10 @@ use Rattle.stream_host.specs.Hosts.{KeepsDue}
 use Rattle.gcode_words.proofs.Scanning.{shown}
 use Rattle.gcode_words.proofs.Fed.{realtime-append}
 use Rattle.run_rules.proofs.Cutting.{lines_are, some_bytes}
-use Rattle.stream_host.specs.Jobs.{resume, is_reset, holds_reset, served, served_in}
-use Rattle.stream_host.specs.Steps.{Journal, port_log, got_of, has_limit, is_shut, scanned_of, raw_of, cut_of, to_store, due_of, more_served, empty_polls, polls_of, raises_of, line_raises_of, resumes_of, resumes_next, all_empty_in}
+use Rattle.stream_host.specs.Jobs.{resume, is_reset, served, served_in}
+use Rattle.stream_host.specs.Steps.{Journal, port_log, got_of, has_limit, is_shut, marks_of, resets_of, scanned_of, raw_of, cut_of, to_store, due_of, more_served, empty_polls, polls_of, raises_of, line_raises_of, resumes_of, resumes_next, all_empty_in}
 use Rattle.stream_host.specs.Steps.PortStep.{stored, dropped, marked, raised, got, no_reply, shut}
-use Rattle.stream_host.specs.Steps.Step.{at_port, read_some, read_end, read_failed, scanned, line_over}
+use Rattle.stream_host.specs.Steps.Step.{at_port, read_some, read_end, read_failed, scanned, line_over, wrote, gave_up, turned}
 use Rattle.stream_host.specs.Conduct.{Conducted, AreAnswered, MayStore, Waits, waits_for_lines}
 use Rattle.stream_host.specs.Ports.{queries_in}
 use Rattle.stream_host.specs.Ran.{AreRaised}
@@ -54,17 +53,6 @@ more_by raw b more is = ap (drop (length (served raw))) is ∙ drop-append_seam 
 pub due_more : (raw : List ℕ) (b : ℕ) (a : Stripped) (d : Option ℕ) → realtime (raw ++ b ∷ []) ≡ realtime raw ++ taken_by a → KeepsDue d (taken_by a) → KeepsDue d (more_served raw b)
 due_more raw b a d taken due = due ∙ sym (more_by raw b (taken_by a) taken)
 
--- a line has a reset where it had one, or the byte is one
-pub reset_more : (raw : List ℕ) (b : ℕ) (a : Stripped) (old is : Bool) → realtime (raw ++ b ∷ []) ≡ realtime raw ++ taken_by a → old ≡ holds_reset raw → is ≡ list_any is_reset (taken_by a)
-    → (old || is) ≡ holds_reset (raw ++ b ∷ [])
-reset_more raw b a old is taken was now =
-    ap (λ x. x || is) was ∙ ap (λ x. holds_reset raw || x) now ∙ sym (list_any-append is_reset (realtime raw) (taken_by a)) ∙ sym (ap (list_any is_reset) taken)
-
--- a byte that is not taken changes neither
-pub none_reset : (raw : List ℕ) (b : ℕ) (a : Stripped) (old : Bool) → realtime (raw ++ b ∷ []) ≡ realtime raw ++ taken_by a → taken_by a ≡ [] → old ≡ holds_reset raw → old ≡ holds_reset (raw ++ b ∷ [])
-none_reset raw b a old taken none was =
-    was ∙ sym (ap (list_any is_reset) (taken ∙ ap (λ bs. realtime raw ++ bs) none ∙ append-nil (realtime raw)))
-
 -- a line feed is none
 pub none_at_lf : (raw : List ℕ) (b : ℕ) → nat_eq b 10 ≡ true → more_served raw b ≡ []
 unfolding more_of
@@ -93,12 +81,21 @@ few_or_none false n few = few
 -- no more than so many polls in a row find no reply before the host resumes
 pub few_polls : (h : Journal) → Conducted h → polls_of h ≤ empty_polls
 few_polls [] c = omega arith
+few_polls (at_port (stored b) ∷ h) c = few_polls h c.1
 few_polls (at_port (dropped b) ∷ h) c = absurd c.0
-few_polls (at_port marked ∷ h) c = absurd c.0
+few_polls (at_port marked ∷ h) c = few_polls h c.1
 few_polls (at_port (raised b down) ∷ h) c = few_or_none (nat_eq (polls_of h) empty_polls) (polls_of h) (few_polls h c.1)
 few_polls (at_port (got r) ∷ h) c = omega arith
 few_polls (at_port no_reply ∷ h) c = let r = c.0.rested in omega arith
-few_polls (_ ∷ h) c = few_polls h c.1
+few_polls (at_port shut ∷ h) c = few_polls h c.1
+few_polls (read_some bytes ∷ h) c = few_polls h c.1
+few_polls (read_end ∷ h) c = few_polls h c.1
+few_polls (read_failed ∷ h) c = few_polls h c.1
+few_polls (scanned b ∷ h) c = few_polls h c.1
+few_polls (line_over ∷ h) c = few_polls h c.1
+few_polls (wrote n ∷ h) c = few_polls h c.1
+few_polls (gave_up ∷ h) c = few_polls h c.1
+few_polls (turned t ∷ h) c = few_polls h c.1
 
 rested_by : (t : Bool) (polls resumes empty : ℕ) → nat_eq polls empty_polls ≡ t → empty_polls * resumes + polls ≤ empty → empty_polls * cond t (resumes + 1) resumes + cond t 0 polls ≤ empty
 rested_by true polls resumes empty e was = let n = is_enough polls e in omega arith
@@ -107,12 +104,21 @@ rested_by false polls resumes empty e was = was
 -- so many polls of its own stand before each resume
 pub rested_is : (h : Journal) → Conducted h → empty_polls * resumes_of h + polls_of h ≤ all_empty_in (port_log h)
 rested_is [] c = omega arith
+rested_is (at_port (stored b) ∷ h) c = rested_is h c.1
 rested_is (at_port (dropped b) ∷ h) c = absurd c.0
-rested_is (at_port marked ∷ h) c = absurd c.0
+rested_is (at_port marked ∷ h) c = rested_is h c.1
 rested_is (at_port (raised b down) ∷ h) c = rested_by (nat_eq (polls_of h) empty_polls) (polls_of h) (resumes_of h) (all_empty_in (port_log h)) refl (rested_is h c.1)
 rested_is (at_port (got r) ∷ h) c = let m = rested_is h c.1 in omega arith
 rested_is (at_port no_reply ∷ h) c = let m = rested_is h c.1 in omega arith
-rested_is (_ ∷ h) c = rested_is h c.1
+rested_is (at_port shut ∷ h) c = rested_is h c.1
+rested_is (read_some bytes ∷ h) c = rested_is h c.1
+rested_is (read_end ∷ h) c = rested_is h c.1
+rested_is (read_failed ∷ h) c = rested_is h c.1
+rested_is (scanned b ∷ h) c = rested_is h c.1
+rested_is (line_over ∷ h) c = rested_is h c.1
+rested_is (wrote n ∷ h) c = rested_is h c.1
+rested_is (gave_up ∷ h) c = rested_is h c.1
+rested_is (turned t ∷ h) c = rested_is h c.1
 
 -- ---- what is raised for the lines is what is scanned, but for what is due
 
@@ -138,13 +144,22 @@ on_byte b gone due raw lines false e was =
 
 in_lines : (h : Journal) → Conducted h → line_raises_of h ++ due_of h ≡ flat_map served (cut_of h) ++ served (raw_of h)
 in_lines [] c = sym served_nil
+in_lines (at_port (stored b) ∷ h) c = in_lines h c.1
 in_lines (at_port (dropped b) ∷ h) c = absurd c.0
-in_lines (at_port marked ∷ h) c = absurd c.0
+in_lines (at_port marked ∷ h) c = in_lines h c.1
 in_lines (at_port (raised b down) ∷ h) c =
     on_raise b (polls_of h) (nat_eq (polls_of h) empty_polls) (line_raises_of h) (due_of h) (flat_map served (cut_of h) ++ served (raw_of h)) refl (few_polls h c.1) c.0.next (in_lines h c.1)
+in_lines (at_port (got r) ∷ h) c = in_lines h c.1
+in_lines (at_port no_reply ∷ h) c = in_lines h c.1
+in_lines (at_port shut ∷ h) c = in_lines h c.1
+in_lines (read_some bytes ∷ h) c = in_lines h c.1
+in_lines (read_end ∷ h) c = in_lines h c.1
+in_lines (read_failed ∷ h) c = in_lines h c.1
 in_lines (scanned b ∷ h) c = on_byte b (line_raises_of h) (due_of h) (raw_of h) (cut_of h) (nat_eq b 10) refl (in_lines h c.1)
 in_lines (line_over ∷ h) c = in_lines h c.1 ∙ sym (served_line (cut_of h) (raw_of h))
-in_lines (_ ∷ h) c = in_lines h c.1
+in_lines (wrote n ∷ h) c = in_lines h c.1
+in_lines (gave_up ∷ h) c = in_lines h c.1
+in_lines (turned t ∷ h) c = in_lines h c.1
 
 -- the bytes that stood in a line are raised in order, and the rest is due
 pub in_order : (h : Journal) → Conducted h → line_raises_of h ++ due_of h ≡ served_in (scanned_of h)
@@ -184,11 +199,22 @@ with_resumes p [] c = none (p resume)
     none : (u : Bool) → 0 ≡ 0 + cond u 0 0
     none true = refl
     none false = refl
+with_resumes p (at_port (stored b) ∷ h) c = with_resumes p h c.1
 with_resumes p (at_port (dropped b) ∷ h) c = absurd c.0
-with_resumes p (at_port marked ∷ h) c = absurd c.0
+with_resumes p (at_port marked ∷ h) c = with_resumes p h c.1
 with_resumes p (at_port (raised b down) ∷ h) c =
     resumed_by p b (polls_of h) (resumes_of h) (nat_eq (polls_of h) empty_polls) (p resume) (raises_of h) (line_raises_of h) refl c.0.resumes refl (with_resumes p h c.1)
-with_resumes p (_ ∷ h) c = with_resumes p h c.1
+with_resumes p (at_port (got r) ∷ h) c = with_resumes p h c.1
+with_resumes p (at_port no_reply ∷ h) c = with_resumes p h c.1
+with_resumes p (at_port shut ∷ h) c = with_resumes p h c.1
+with_resumes p (read_some bytes ∷ h) c = with_resumes p h c.1
+with_resumes p (read_end ∷ h) c = with_resumes p h c.1
+with_resumes p (read_failed ∷ h) c = with_resumes p h c.1
+with_resumes p (scanned b ∷ h) c = with_resumes p h c.1
+with_resumes p (line_over ∷ h) c = with_resumes p h c.1
+with_resumes p (wrote n ∷ h) c = with_resumes p h c.1
+with_resumes p (gave_up ∷ h) c = with_resumes p h c.1
+with_resumes p (turned t ∷ h) c = with_resumes p h c.1
 
 pub raised_is : (h : Journal) → Conducted h → AreRaised (scanned_of h) (raises_of h) (due_of h) (resumes_of h)
 raised_is h c p =
@@ -215,15 +241,22 @@ calm_is (at_port (stored b) ∷ h) c = elim (calm_is h c.1) [
   | inr none ↦ inr none
 ]
 calm_is (at_port (dropped b) ∷ h) c = absurd c.0
-calm_is (at_port marked ∷ h) c = absurd c.0
+calm_is (at_port marked ∷ h) c = calm_is h c.1
 calm_is (at_port (raised b down) ∷ h) c = elim (calm_is h c.1) [
   | inl free ↦ inl free
   | inr none ↦ inr (still_none (resumes_next (port_log h)) (due_of h) none)
 ]
 calm_is (at_port (got r) ∷ h) c = calm_is h c.1
+calm_is (at_port no_reply ∷ h) c = calm_is h c.1
+calm_is (at_port shut ∷ h) c = calm_is h c.1
+calm_is (read_some bytes ∷ h) c = calm_is h c.1
+calm_is (read_end ∷ h) c = calm_is h c.1
+calm_is (read_failed ∷ h) c = calm_is h c.1
 calm_is (scanned b ∷ h) c = none_more (raw_of h) b (due_of h) (to_store h) _ (nat_eq b 10) refl c.0.free c.0.none_due
 calm_is (line_over ∷ h) c = inr c.0.none_due
-calm_is (_ ∷ h) c = calm_is h c.1
+calm_is (wrote n ∷ h) c = calm_is h c.1
+calm_is (gave_up ∷ h) c = calm_is h c.1
+calm_is (turned t ∷ h) c = calm_is h c.1
 
 pub none_due_first : (b : ℕ) (h : Journal) → Conducted h → MayStore b h → due_of h ≡ []
 none_due_first b h c may = elim (calm_is h c) [
@@ -233,28 +266,35 @@ none_due_first b h c may = elim (calm_is h c) [
 
 pub none_due_shut : (h : Journal) → Conducted h → is_shut h ≡ true → has_limit h ≡ false → due_of h ≡ []
 none_due_shut [] c e calm = absurd cc
+none_due_shut (at_port (stored b) ∷ h) c e calm = none_due_shut h c.1 e calm
 none_due_shut (at_port (dropped b) ∷ h) c e calm = absurd c.0
-none_due_shut (at_port marked ∷ h) c e calm = absurd c.0
+none_due_shut (at_port marked ∷ h) c e calm = none_due_shut h c.1 e calm
 none_due_shut (at_port (raised b down) ∷ h) c e calm = still_none (resumes_next (port_log h)) (due_of h) (none_due_shut h c.1 e calm)
 none_due_shut (at_port (got r) ∷ h) c e calm = none_due_shut h c.1 e (calm_before (got_of h) r calm)
+none_due_shut (at_port no_reply ∷ h) c e calm = none_due_shut h c.1 e calm
 none_due_shut (at_port shut ∷ h) c e calm = calm_one h calm c.0.all_raised
 none_due_shut (read_some bytes ∷ h) c e calm = open_link h c.0.0.going e
 none_due_shut (read_end ∷ h) c e calm = open_link h c.0.going e
 none_due_shut (read_failed ∷ h) c e calm = open_link h c.0.going e
 none_due_shut (scanned b ∷ h) c e calm = open_link h c.0.going e
 none_due_shut (line_over ∷ h) c e calm = open_link h c.0.going e
-none_due_shut (_ ∷ h) c e calm = none_due_shut h c.1 e calm
+none_due_shut (wrote n ∷ h) c e calm = none_due_shut h c.1 e calm
+none_due_shut (gave_up ∷ h) c e calm = none_due_shut h c.1 e calm
+none_due_shut (turned t ∷ h) c e calm = none_due_shut h c.1 e calm
 
 resumes_only : waits_for_lines resume ≡ true → ⊥
 resumes_only e = cc
 
+no_reset : is_reset resume ≡ true → ⊥
+no_reset e = cc
+
 -- a host that waits may raise no byte that is due: it is a `?` or a cancel, and a line before its own has no answer
-pub early_waiting : (b : ℕ) (h : Journal) → Conducted h → has_limit h ≡ false → Waits h → due_of h ≡ b ∷ drop 1 (due_of h) → (waits_for_lines b ≡ true → AreAnswered h) → ⊥
-early_waiting b h c calm w next after = by_polls (nat_eq (polls_of h) empty_polls) refl
+pub early_waiting : (b : ℕ) (h : Journal) → Conducted h → has_limit h ≡ false → Waits h → due_of h ≡ b ∷ drop 1 (due_of h) → (waits_for_lines b ≡ true → AreAnswered h) → (is_reset b ≡ true → resets_of h < length (marks_of h)) → ⊥
+early_waiting b h c calm w next after behind = by_polls (nat_eq (polls_of h) empty_polls) refl
   where
     by_polls : (t : Bool) → nat_eq (polls_of h) empty_polls ≡ t → ⊥
-    by_polls true e = w.no_raise resume (record { resumes = λ n. refl; calm = λ fewer. calm; next = λ fewer. absurd (let n = is_enough (polls_of h) e in omega arith); after = λ q. absurd (resumes_only q) })
-    by_polls false e = w.no_raise b (record { resumes = λ n. absurd (let m = is_fewer (polls_of h) (few_polls h c) e in omega arith); calm = λ fewer. calm; next = λ fewer. next; after = after })
+    by_polls true e = w.no_raise resume (record { resumes = λ n. refl; calm = λ fewer. calm; next = λ fewer. absurd (let n = is_enough (polls_of h) e in omega arith); after = λ q. absurd (resumes_only q); behind_mark = λ q. absurd (no_reset q) })
+    by_polls false e = w.no_raise b (record { resumes = λ n. absurd (let m = is_fewer (polls_of h) (few_polls h c) e in omega arith); calm = λ fewer. calm; next = λ fewer. next; after = after; behind_mark = behind })
 
 -- ---- the reports that are asked for
 
@@ -286,12 +326,22 @@ asked_by b n all false false due is tired next was = let l = ap length (next ref
 -- each `?` that is raised is scanned, and so is what is due
 pub few_queries : (h : Journal) → Conducted h → queries_in (port_log h) + length (due_of h) ≤ length (scanned_of h)
 few_queries [] c = omega arith
+few_queries (at_port (stored b) ∷ h) c = few_queries h c.1
 few_queries (at_port (dropped b) ∷ h) c = absurd c.0
-few_queries (at_port marked ∷ h) c = absurd c.0
+few_queries (at_port marked ∷ h) c = few_queries h c.1
 few_queries (at_port (raised b down) ∷ h) c =
     asked_by b (queries_in (port_log h)) (length (scanned_of h)) (nat_eq (polls_of h) empty_polls) (nat_eq b query) (due_of h) refl
     (λ e. c.0.resumes (is_enough (polls_of h) e)) (λ e. c.0.next (is_fewer (polls_of h) (few_polls h c.1) e)) (few_queries h c.1)
+few_queries (at_port (got r) ∷ h) c = few_queries h c.1
+few_queries (at_port no_reply ∷ h) c = few_queries h c.1
+few_queries (at_port shut ∷ h) c = few_queries h c.1
+few_queries (read_some bytes ∷ h) c = few_queries h c.1
+few_queries (read_end ∷ h) c = few_queries h c.1
+few_queries (read_failed ∷ h) c = few_queries h c.1
 few_queries (scanned b ∷ h) c =
     let m = few_queries h c.1 in let o = one_more (raw_of h) b in
     let a = length-append (due_of h) (more_served (raw_of h) b) in let s = length-append (scanned_of h) (b ∷ []) in omega arith
-few_queries (_ ∷ h) c = few_queries h c.1
+few_queries (line_over ∷ h) c = few_queries h c.1
+few_queries (wrote n ∷ h) c = few_queries h c.1
+few_queries (gave_up ∷ h) c = few_queries h c.1
+few_queries (turned t ∷ h) c = few_queries h c.1

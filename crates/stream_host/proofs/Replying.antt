@@ -1,20 +1,21 @@
 -- What a host keeps where it gets a reply.
-use Rattle.std.proofs.Common.{◌≡◌, ℕ, ◌+◌, ◌<◌, ◌||◌, ◌^◌, Bool, true, false, cond, List, [], ◌∷◌, ◌++◌, length, map, drop, nat_lt, refl, sym, ap, ◌∙◌, arith, append-nil, length-append}
+use Rattle.std.proofs.Common.{◌≡◌, ℕ, ◌+◌, ◌<◌, ◌||◌, ◌&&◌, ◌^◌, Bool, true, false, cond, List, [], ◌∷◌, ◌++◌, length, map, take, drop, nat_lt, refl, sym, ap, ◌∙◌, arith, subst, append-nil, length-append}
 use Rattle.std.proofs.lemmas.Bool.Decides.{nat_tests}
 use Rattle.std.specs.List.{list_any}
-use Rattle.std.proofs.lemmas.List.{drop-append-le}
+use Rattle.std.proofs.lemmas.List.{drop-append-le, drop_all, length-take}
 use Rattle.std.proofs.lemmas.List.Sums.{sum_by-append}
 use Rattle.stream_host.specs.declared.host.Host.{Host}
 use Rattle.stream_host.specs.declared.line.Asking.{Asking}
-use Rattle.stream_host.specs.Steps.{Journal, port_log, got_of, has_bye, cut_of, got_one, text_of}
+use Rattle.run_rules.specs.Work.{is_limit}
+use Rattle.stream_host.specs.Steps.{Journal, port_log, got_of, latest_got, begins, answered_of, has_bye, cut_of, live_of, holds_of, pause_of, resets_of, banners_of, marks_of, got_one, text_of}
 use Rattle.stream_host.specs.Steps.PortStep.{got}
 use Rattle.stream_host.specs.Steps.Step.{at_port}
-use Rattle.stream_host.specs.Hosts.{HostFits, KeepsCounts, KeepsText, line_length, lengths, IsSummed}
+use Rattle.stream_host.specs.Hosts.{HostFits, KeepsCounts, KeepsResets, KeepsText, line_length, lengths, IsSummed, begins_by, with_banner}
 use Rattle.stream_host.specs.declared.counts.Counts.{Counts}
+use Rattle.stream_host.specs.declared.resets.Resets.{Resets}
 use Rattle.status_report.specs.declared.Reply.{Reply}
-use Rattle.status_report.specs.Answering.{answers_in, is_answer, is_bye, is_report}
+use Rattle.status_report.specs.Answering.{is_answer, answers_in, is_banner, is_bye, is_report}
 use Rattle.stream_host.specs.Ports.{AnswersLines}
-use Rattle.stream_host.proofs.Unmarked.{none_marked, answers_all}
 use Rattle.stream_host.proofs.Sending as sending
 use Rattle.std.proofs.lemmas.List.{drop-drop}
 use Rattle.outside.specs.Causes.{SourceState, SinkState}
@@ -28,18 +29,26 @@ use Rattle.outside.proofs.Written.{more_waits}
 use Rattle.status_report.specs.declared.Reply.TheVariants as replies
 use Rattle.status_report.specs.Replies.{reply_text}
 use Rattle.run_rules.specs.Told.{replies_text, is_error, errors_among}
-use Rattle.run_rules.specs.Work.{is_limit}
 use Rattle.text_writer.specs.Writers.{with_text, with_all_asked}
 use Rattle.stream_host.specs.Steps.{has_given_up}
 use Rattle.stream_host.specs.Hosts.{shown}
-use Rattle.stream_host.proofs.Hosting.{same_job}
+use Rattle.stream_host.proofs.Consoles.{same_job}
+use Rattle.stream_host.proofs.Raised.{banners_first}
+use Rattle.stream_host.proofs.Epochs.{all_lines, answered_live, banner_test, begins_none}
 
 -- ---- a reply
 
 pub is_no_answer : (r : Reply) → (r ≡ replies.Ok → ⊥) → ((n : ℕ) → r ≡ replies.Error n → ⊥) → (is_answer r ≡ false) × (is_error r ≡ false)
+is_no_answer replies.Banner o e = (refl, refl)
 is_no_answer replies.Ok o e = absurd (o refl)
 is_no_answer (replies.Error n) o e = absurd (e n refl)
-is_no_answer _ o e = (refl, refl)
+is_no_answer (replies.Alarm n) o e = (refl, refl)
+is_no_answer (replies.Message m) o e = (refl, refl)
+is_no_answer (replies.Report t) o e = (refl, refl)
+is_no_answer (replies.Setting n v) o e = (refl, refl)
+is_no_answer (replies.Modes m) o e = (refl, refl)
+is_no_answer (replies.Offset row at) o e = (refl, refl)
+is_no_answer replies.Bye o e = (refl, refl)
 
 errors_push : (rs : List Reply) (r : Reply) → errors_among (rs ++ r ∷ []) ≡ errors_among rs + cond {A = ℕ} (is_error r) 1 0
 errors_push rs r = let e = sum_by-append (λ x. cond {A = ℕ} (is_error x) 1 0) rs (r ∷ []) in omega arith
@@ -80,7 +89,7 @@ counted_other c r cuts rs k is none =
 -- the numbers fit
 pub few_counted : (s : Host) (h : Journal) → HostFits s h → (s.counts.answered + 1 < 2 ^ 32) × (s.counts.errors + 1 < 2 ^ 32)
 few_counted s h f =
-    let n = sending.counts_are h f.conducted in let a = n.0 in let b = n.1 in let d = n.2 in
+    let n = sending.counts_are h f.conducted in let a = n.0 in let b = n.1 in let d = n.2 in let every = all_lines h f.conducted in
     let e = f.counts_are.answered_is in let g = f.counts_are.errors_are in (omega arith, omega arith)
 
 text_push : (rs : List Reply) (r : Reply) → replies_text (rs ++ r ∷ []) ≡ replies_text rs ++ reply_text r
@@ -130,20 +139,119 @@ got_text s w r h f going is = record {
 some_got : (rs : List Reply) (r : Reply) → true ≡ nat_lt 0 (length (rs ++ r ∷ []))
 some_got rs r = let l = length-append rs (r ∷ []) in grind (arith, nat_tests, l)
 
-pub got_reply : (s : Host) (w : Writing) (c : Counts) (a : Asking) (bye alarm : Bool) (r : Reply) (h : Journal) → HostFits s h → s.bye ≡ false → AnswersLines (got r ∷ port_log h) → w ≡ shown s.text r → bye ≡ (s.bye || is_bye r) → alarm ≡ (s.alarm || is_limit r)
-    → KeepsCounts c (cut_of h) (got_of h ++ r ∷ []) → c.pause_at ≡ s.counts.pause_at → a ≡ cond (is_report r) (got_one s.asking) s.asking → HostFits (record s { text = w; counts = c; asking = a; polls = 0; bye = bye; greeted = true; alarm = alarm }) (at_port (got r) ∷ h)
-got_reply s w c a bye alarm r h f going lines text is alarms counts pause asks = record {
-  conducted = (record { poll = record { going = sym f.bye_is ∙ going; rested = f.polls_are.few }; few = answers_all (got r ∷ port_log h) (none_marked h f.conducted) lines }, f.conducted);
+-- ---- an epoch
+
+-- an epoch begins with the reply, or not
+pub record TurnsEpoch (s t : Host) (r : Reply) : Type 0 where
+  pub resets : t.resets ≡ with_banner s.resets r
+  pub begun : begins_by s.resets r ≡ true → (lengths t.counts.unanswered ≡ []) × IsSummed t.counts.unanswered
+      × (t ≡ record s { resets = t.resets; held = false; counts = record s.counts { unanswered = t.counts.unanswered; lines = s.counts.answered; pause_at = 0 } })
+  pub none : begins_by s.resets r ≡ false → t ≡ record s { resets = t.resets }
+
+-- what the host keeps then
+pub record IsTurned (s t : Host) (r : Reply) (h : Journal) : Type 0 where
+  pub same : t ≡ record s { counts = t.counts; held = t.held; resets = t.resets }
+  pub counts : KeepsCounts t.counts (live_of (at_port (got r) ∷ h)) (got_of h ++ r ∷ [])
+  pub all : t.counts.all ≡ length (cut_of h)
+  pub pause : t.counts.pause_at ≡ pause_of (at_port (got r) ∷ h)
+  pub held : t.held ≡ holds_of (at_port (got r) ∷ h)
+  pub resets : KeepsResets t.resets (resets_of h) (banners_of (at_port (got r) ∷ h)) (length (marks_of h))
+
+begins_same : (s : Host) (r : Reply) (h : Journal) → HostFits s h → begins_by s.resets r ≡ begins r (port_log h)
+begins_same s r h f = ap (λ n. is_banner r && nat_lt 0 n) f.resets_are.banners_are ∙ ap (λ t. is_banner r && t) (banner_test (latest_got (port_log h)))
+
+resets_told : (s t : Host) (r : Reply) (h : Journal) → HostFits s h → t.resets ≡ with_banner s.resets r → KeepsResets t.resets (resets_of h) (banners_of (at_port (got r) ∷ h)) (length (marks_of h))
+resets_told s t r h f is = record {
+  raised_is = ap (λ k. k.raised) is ∙ f.resets_are.raised_is;
+  banners_are = ap (λ k. k.banners) is ∙ ap (λ n. cond (is_banner r) (n + 1) n) f.resets_are.banners_are ∙ one_more_if (is_banner r) (banners_of h) ∙ turn (banners_first r (latest_got (port_log h)));
+  marked_is = ap (λ k. k.marked) is ∙ f.resets_are.marked_is;
+}
+  where
+    turn : banners_of (at_port (got r) ∷ h) ≡ cond (is_banner r) 1 0 + banners_of h → banners_of h + cond {A = ℕ} (is_banner r) 1 0 ≡ banners_of (at_port (got r) ∷ h)
+    turn e = omega arith
+
+-- the lines without an answer are forgotten
+counts_begun : (c d : Counts) (r : Reply) (h : Journal) (s : Host) → HostFits s h → begins r (port_log h) ≡ true → KeepsCounts c (live_of h) (got_of h ++ r ∷ []) → lengths d.unanswered ≡ [] → IsSummed d.unanswered
+    → d.lines ≡ c.answered → d.answered ≡ c.answered → d.errors ≡ c.errors → KeepsCounts d (take (answered_of h) (live_of h)) (got_of h ++ r ∷ [])
+counts_begun c d r h s f is k none summed lines answered errors =
+    let few = answered_live h f.conducted in
+    let l = length-take (answered_of h) (live_of h) in
+    let p = sending.answers_push (got_of h) r in let n = ap (λ t. cond {A = ℕ} t 1 0) (begins_none r (port_log h) is) in
+    let a = k.answered_is in
+    record {
+      unanswered_are = none ∙ ap (map line_length) (sym (drop_all (answers_in (got_of h ++ r ∷ [])) (take (answered_of h) (live_of h)) (omega arith)));
+      summed = summed;
+      lines_are = omega arith;
+      answered_is = answered ∙ k.answered_is;
+      errors_are = errors ∙ k.errors_are;
+    }
+
+abbrev turn : Resets → Bool → Counts → Host → Host
+turn k held c s = record s { resets = k; held = held; counts = c }
+
+abbrev turn_resets : Resets → Host → Host
+turn_resets k s = record s { resets = k }
+
+pub turned_epoch : (s u t : Host) (r : Reply) (h : Journal) → HostFits s h → u ≡ record s { counts = u.counts } → KeepsCounts u.counts (live_of h) (got_of h ++ r ∷ []) → u.counts.pause_at ≡ s.counts.pause_at → u.counts.all ≡ s.counts.all
+    → TurnsEpoch u t r → IsTurned s t r h
+turned_epoch s u t r h f was counts pause all turns = by_begins (begins r (port_log h)) refl
+  where
+    resets : u.resets ≡ s.resets
+    resets = ap (λ x. x.resets) was
+
+    held : u.held ≡ s.held
+    held = ap (λ x. x.held) was
+
+    told : KeepsResets t.resets (resets_of h) (banners_of (at_port (got r) ∷ h)) (length (marks_of h))
+    told = resets_told s t r h f (turns.resets ∙ ap (λ k. with_banner k r) resets)
+
+    by_begins : (b : Bool) → begins r (port_log h) ≡ b → IsTurned s t r h
+    by_begins true is =
+        let e = turns.begun (ap (λ k. begins_by k r) resets ∙ begins_same s r h f ∙ is) in
+        let on : t ≡ record s { resets = t.resets; held = false; counts = record u.counts { unanswered = t.counts.unanswered; lines = u.counts.answered; pause_at = 0 } } =
+        e.2 ∙ ap (turn t.resets false (record u.counts { unanswered = t.counts.unanswered; lines = u.counts.answered; pause_at = 0 })) was in
+        record {
+          same =
+              on ∙ ap (λ q. turn t.resets q (record u.counts { unanswered = t.counts.unanswered; lines = u.counts.answered; pause_at = 0 }) s) (sym (ap (λ x. x.held) on))
+              ∙ ap (λ p. turn t.resets t.held p s) (sym (ap (λ x. x.counts) on));
+          counts = subst (λ b. KeepsCounts t.counts (cond b (take (answered_of h) (live_of h)) (live_of h)) (got_of h ++ r ∷ [])) (sym is)
+              (counts_begun u.counts t.counts r h s f is counts e.0 e.1 (ap (λ x. x.counts.lines) on) (ap (λ x. x.counts.answered) on) (ap (λ x. x.counts.errors) on));
+          all = ap (λ x. x.counts.all) on ∙ all ∙ f.all_are;
+          pause = ap (λ x. x.counts.pause_at) on ∙ ap (λ b. cond b 0 (pause_of h)) (sym is);
+          held = ap (λ x. x.held) on ∙ ap (λ b. cond b false (holds_of h)) (sym is);
+          resets = told;
+        }
+    by_begins false is =
+        let e = turns.none (ap (λ k. begins_by k r) resets ∙ begins_same s r h f ∙ is) in
+        let on : t ≡ record s { resets = t.resets; counts = u.counts } = e ∙ ap (turn_resets t.resets) was in
+        record {
+          same =
+              on ∙ ap (λ q. turn t.resets q u.counts s) (sym (ap (λ x. x.held) on))
+              ∙ ap (λ p. turn t.resets t.held p s) (sym (ap (λ x. x.counts) on));
+          counts = subst (λ b. KeepsCounts t.counts (cond b (take (answered_of h) (live_of h)) (live_of h)) (got_of h ++ r ∷ [])) (sym is)
+              (subst (λ c. KeepsCounts c (live_of h) (got_of h ++ r ∷ [])) (sym (ap (λ x. x.counts) on)) counts);
+          all = ap (λ x. x.counts.all) on ∙ all ∙ f.all_are;
+          pause = ap (λ x. x.counts.pause_at) on ∙ pause ∙ f.pause_is ∙ ap (λ b. cond b 0 (pause_of h)) (sym is);
+          held = ap (λ x. x.held) on ∙ f.held_is ∙ ap (λ b. cond b false (holds_of h)) (sym is);
+          resets = told;
+        }
+
+pub got_reply : (s t : Host) (w : Writing) (a : Asking) (bye alarm : Bool) (r : Reply) (h : Journal) → HostFits s h → s.bye ≡ false → AnswersLines (got r ∷ port_log h) → IsTurned s t r h → w ≡ shown s.text r → bye ≡ (s.bye || is_bye r) → alarm ≡ (s.alarm || is_limit r)
+    → a ≡ cond (is_report r) (got_one s.asking) s.asking → HostFits (record s { counts = t.counts; held = t.held; resets = t.resets; text = w; asking = a; polls = 0; bye = bye; greeted = true; alarm = alarm }) (at_port (got r) ∷ h)
+got_reply s t w a bye alarm r h f going lines turned text is alarms asks = record {
+  conducted = (record { poll = record { going = sym f.bye_is ∙ going; rested = f.polls_are.few }; lines = lines }, f.conducted);
   job_is = f.job_is;
   line_is = f.line_is;
   due_is = f.due_is;
   asking_is = asks ∙ ap (λ (x : Asking). cond (is_report r) (got_one x) x) f.asking_is;
-  counts_are = counts;
+  counts_are = turned.counts;
+  all_are = turned.all;
+  resets_are = turned.resets;
   polls_are = record { polls_are = refl; few = omega arith };
-  held_is = f.held_is;
+  held_is = turned.held;
   greeted_is = some_got (got_of h) r;
   alarm_is = alarms ∙ ap (λ b. b || is_limit r) f.alarm_is ∙ sym (any_push is_limit (got_of h) r);
-  pause_is = pause ∙ f.pause_is;
+  pause_is = turned.pause;
   text_is = got_text s w r h f going text;
   shut_is = f.shut_is;
   bye_is = is ∙ ap (λ b. b || is_bye r) f.bye_is ∙ sym (any_push is_bye (got_of h) r);

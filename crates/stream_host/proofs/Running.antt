@@ -1,22 +1,31 @@
 -- A journal that is conducted and finished is a whole run of the host.
-use Rattle.std.proofs.Common.{◌≡◌, ◌≢◌, ℕ, inl, inr, Bool, true, false, List, [], length, drop, refl, sym, ap, ◌∙◌, arith, subst, Some, None}
+use Rattle.std.proofs.Common.{◌≡◌, ◌≢◌, ℕ, inl, inr, Bool, true, false, not, ◌&&◌, ◌||◌, List, [], length, drop, refl, sym, ap, ◌∙◌, arith, subst, Some, None}
 use Rattle.std.proofs.lemmas.List.{nil_from_length, length-drop}
 use Rattle.std.proofs.KnownBytes.{Appends-nil}
+use Rattle.std.specs.List.{count_by}
 use Rattle.std.specs.declared.option.Option.{Option}
 use Rattle.std.specs.Io.KnownBytes.{Consumes}
 use Rattle.outside.specs.Causes.{SourceState, SinkState}
 use Rattle.outside.specs.Writing.{Wrote, Took}
 use Rattle.stream_host.specs.declared.Reading.{Reading}
-use Rattle.stream_host.specs.declared.Reading.TheVariants.{Failed}
+use Rattle.stream_host.specs.declared.Reading.TheVariants.{Ended, Failed, Large, Stopped}
 use Rattle.stream_host.specs.declared.host.Host.{Host}
-use Rattle.stream_host.specs.Steps.{Journal, stored_of, got_of, is_shut, read_of, reading_of, scanned_of, cut_of, to_store, due_of, raises_of, resumes_of, job_stop_of, text_of, written_of, has_given_up, has_bye}
-use Rattle.stream_host.specs.Conduct.{Conducted, HasWritten}
+use Rattle.stream_host.specs.Steps.{Journal, stored_of, got_of, is_shut, read_of, reading_of, scanned_of, cut_of, live_of, forgotten_of, over_of, marks_of, has_limit, or_alarm, stop_of, banners_of, to_store, due_of, raises_of, resumes_of, job_stop_of, text_of, written_of, has_given_up, has_bye, awaits_banner}
+use Rattle.stream_host.specs.Conduct.{Conducted, HasSentAll, HasWritten}
 use Rattle.stream_host.specs.Hosts.{HostFits, HostRests, TellsJob, TellsText}
-use Rattle.stream_host.specs.Ran.{AreRaised, HostRan, HostRuns, HasFinished, TellsConsole, end_of, is_failed}
-use Rattle.stream_host.proofs.Keeping.{stored_is}
-use Rattle.stream_host.proofs.Sending.{sent_so_far, sent_all, all_stored, stop_behind}
-use Rattle.stream_host.proofs.Raising.{raised_is}
-use Rattle.stream_host.proofs.Resetting.{sent_out}
+use Rattle.stream_host.specs.Links.{banners_in}
+use Rattle.stream_host.specs.Jobs.{is_reset, lacks_banner, resets_scanned, or_reset, stop_by}
+use Rattle.stream_host.specs.Ran.{AreRaised, is_sent_out, is_out, HostRan, HostRuns, HasFinished, TellsConsole, end_of, is_failed}
+use Rattle.stream_host.proofs.Keeping.{shut_is, stored_is}
+use Rattle.stream_host.proofs.Sending.{sent_so_far, sent_all, stop_behind, stop_shut}
+use Rattle.stream_host.proofs.Raising.{raised_is, none_due_shut}
+use Rattle.stream_host.specs.Epochs.{ended_of, epoch_now}
+use Rattle.stream_host.proofs.Raised.{IsWaiting, calm_shut, waiting_is}
+use Rattle.stream_host.proofs.Epochs.{all_lines, borders_are, whole_by}
+use Rattle.stream_host.proofs.Awaiting.{raised_resets, banners_got, awaited_got}
+use Rattle.stream_host.proofs.Bordering.{marks_of_resets, all_marks}
+use Rattle.stream_host.proofs.Cutting.{epochs_are}
+use Rattle.stream_host.proofs.Ending.{ends_by, ends_all}
 use Rattle.stream_host.proofs.Reporting.{reported_is}
 use Rattle.stream_host.proofs.Turns.{has_written}
 use Rattle.stream_host.proofs.Waiting.{few_unanswered}
@@ -43,33 +52,75 @@ took_of was is failed waiting text wrote none = record {
 
 failed_is : (r : Reading) → is_failed r ≡ true → r ≡ Failed
 failed_is Failed e = refl
-failed_is _ e = absurd cc
+failed_is Ended e = absurd cc
+failed_is Large e = absurd cc
+failed_is Stopped e = absurd cc
 
 not_failed : (r : Reading) → is_failed r ≡ false → r ≢ Failed
 not_failed r well bad = absurd (let e = sym (ap is_failed bad) ∙ well in cc)
 
+-- all is sent, nothing is due, and an alarm is no cause
+record IsSentOut (h : Journal) : Type 0 where
+  pub all : HasSentAll h
+  pub none_due : due_of h ≡ []
+  pub stop : stop_of h ≡ job_stop_of h
+  pub epoch : awaits_banner h ≡ false
+
+-- a host that has closed the link and has got no alarm has sent all
+sent_out : (h : Journal) → Conducted h → is_sent_out (is_shut h) (got_of h) ≡ true → IsSentOut h
+sent_out h c out = by_shut (is_shut h) (has_limit h) refl refl out
+  where
+    by_shut : (t u : Bool) → is_shut h ≡ t → has_limit h ≡ u → (t && not u) ≡ true → IsSentOut h
+    by_shut true false e calm out = record { all = shut_is h c e calm; none_due = none_due_shut h c e calm; stop = stop_shut h c e calm; epoch = calm_shut h c e calm }
+    by_shut true true e calm out = absurd cc
+    by_shut false u e calm out = absurd cc
+
+-- all that was cut is stored, and nothing is due: all is sent, or a Banner is awaited
+out_is : (h : Journal) → Conducted h → is_out (is_shut h) (raises_of h) (got_of h) ≡ true → IsWaiting h
+out_is h c out = by_sent (is_sent_out (is_shut h) (got_of h)) refl out
+  where
+    by_sent : (t : Bool) → is_sent_out (is_shut h) (got_of h) ≡ t → (t || lacks_banner (count_by is_reset (raises_of h)) (banners_in (got_of h))) ≡ true → IsWaiting h
+    by_sent true e out = let s = sent_out h c e in record { free = s.all.free; none_due = s.none_due }
+    by_sent false e out = waiting_is h c (ap (λ n. lacks_banner n (banners_of h)) (sym (raised_resets h)) ∙ ap (lacks_banner (count_by is_reset (raises_of h))) (sym (banners_got h)) ∙ out)
+
+stop_got : (h : Journal) → Conducted h → stop_of h ≡ or_alarm (has_limit h) (over_of h) (or_reset (lacks_banner (resets_scanned (scanned_of h)) (banners_in (got_of h))) (stop_by (reading_of h) (scanned_of h)))
+stop_got h c =
+    stop_behind h c ∙ ap (λ n. or_alarm (has_limit h) (over_of h) (or_reset (lacks_banner (resets_scanned (scanned_of h)) n) (stop_by (reading_of h) (scanned_of h)))) (sym (banners_got h))
+
 -- what it has scanned is what its journal says
 pub has_run_of : (h : Journal) (job_was job_is : SourceState) (console_was console_is : SinkState) → Conducted h → HasFinished h → TellsJob h job_was job_is → TellsConsole h console_was console_is
-    → (ran : HostRan job_was job_is console_was console_is (stored_of h) (is_shut h) (raises_of h) (got_of h) (end_of h)) × (ran.scanned ≡ scanned_of h)
+    → (ran : HostRan job_was job_is console_was console_is (stored_of h) (marks_of h) (is_shut h) (raises_of h) (got_of h) (end_of h)) × (ran.scanned ≡ scanned_of h)
 has_run_of h job_was job_is console_was console_is c finished job console = (
   record {
     read = read_of h;
     reading = reading_of h;
     scanned = scanned_of h;
     lines = cut_of h;
+    live = live_of h;
+    forgotten = forgotten_of h;
+    all = all_lines h c;
+    ended = ended_of h;
+    now = epoch_now h;
+    epochs = epochs_are h c;
+    ends = ends_by h c;
+    all_ended = λ out. let s = sent_out h c out in ends_all h c s.epoch s.none_due;
+    awaited = awaited_got h c;
     taken = job.taken;
     at_end = job.at_end;
     so_far = let s = sent_so_far h c in record { fits = s.fits; scans = s.scans; later = s.later; sent = s.sent; cause = refl };
-    stop = stop_behind h c;
+    stop = stop_got h c;
     left = to_store h;
     front = stored_is h c;
+    borders = borders_are h c;
+    marks_are = marks_of_resets h c;
+    all_marked = λ out. all_marks h c (sent_out h c out).none_due;
     due = due_of h;
     raises_so_far = raised_is h c;
     sent = λ out. let s = sent_out h c out in sent_all h c s.all s.stop;
-    link = λ out. all_stored h c (sent_out h c out).all;
-    few = λ out. few_unanswered h c (sent_out h c out).all.free;
+    link = λ out. whole_by h c (out_is h c out).free;
+    few = λ out. few_unanswered h c (out_is h c out).free;
     resumes = resumes_of h;
-    raises = λ out. subst (λ due. AreRaised (scanned_of h) (raises_of h) due (resumes_of h)) (sent_out h c out).none_due (raised_is h c);
+    raises = λ out. subst (λ due. AreRaised (scanned_of h) (raises_of h) due (resumes_of h)) (out_is h c out).none_due (raised_is h c);
     reported = reported_is h c;
     bye = finished.bye;
     console = took_of console_was console_is (has_given_up h) (drop (written_of h) (text_of h)) (text_of h) console (wrote_all h finished.written);
@@ -83,21 +134,27 @@ has_run_of h job_was job_is console_was console_is c finished job console = (
 )
 
 pub has_run : (h : Journal) (job_was job_is : SourceState) (console_was console_is : SinkState) → Conducted h → HasFinished h → TellsJob h job_was job_is → TellsConsole h console_was console_is
-    → HostRan job_was job_is console_was console_is (stored_of h) (is_shut h) (raises_of h) (got_of h) (end_of h)
+    → HostRan job_was job_is console_was console_is (stored_of h) (marks_of h) (is_shut h) (raises_of h) (got_of h) (end_of h)
 has_run h job_was job_is console_was console_is c finished job console = (has_run_of h job_was job_is console_was console_is c finished job console).0
 
 pub runs_so_far : (h : Journal) (job_was job_is : SourceState) (console_was console_is : SinkState) → Conducted h → TellsJob h job_was job_is → TellsConsole h console_was console_is
-    → HostRuns job_was job_is console_was console_is (stored_of h) (raises_of h) (got_of h)
+    → HostRuns job_was job_is console_was console_is (stored_of h) (marks_of h) (raises_of h) (got_of h)
 runs_so_far h job_was job_is console_was console_is c job console = record {
   read = read_of h;
   reading = reading_of h;
   scanned = scanned_of h;
   lines = cut_of h;
+  live = live_of h;
+  ended = ended_of h;
+  now = epoch_now h;
+  epochs = epochs_are h c;
+  awaited = awaited_got h c;
   stop = job_stop_of h;
   taken = job.taken;
   sent = sent_so_far h c;
   left = to_store h;
   link = stored_is h c;
+  borders = borders_are h c;
   due = due_of h;
   resumes = resumes_of h;
   raises = raised_is h c;

@@ -1,28 +1,31 @@
 -- What a host that keeps to its rules sends of a job, and how much is unanswered.
-use Rattle.std.proofs.Common.{◌≡◌, ◌||◌, ℕ, suc, zero, ◌+◌, ◌-◌, ◌≤◌, ◌<◌, ◌⊎◌, inl, inr, Bool, true, false, cond, List, [], ◌∷◌, ◌++◌, length, map, take, drop, nat_eq, nat_lt, refl, sym, ap, ◌∙◌, arith, subst, append-nil, length-append}
+use Rattle.std.proofs.Common.{◌≡◌, ℕ, suc, zero, ◌+◌, ◌-◌, ◌≤◌, ◌⊎◌, inl, inr, Bool, true, false, cond, List, [], ◌∷◌, ◌++◌, length, take, drop, nat_lt, refl, sym, ap, ◌∙◌, arith, subst, append-nil, length-append}
 use Rattle.std.specs.List.{list_any}
-use Rattle.std.proofs.lemmas.List.{take_all, drop-drop, drop-map}
+use Rattle.std.proofs.lemmas.List.{take_all, drop-drop, drop_all, length-take}
 use Rattle.std.proofs.lemmas.List.Sums.{sum_by-append, sum_by-cons}
 use Rattle.std.proofs.Math.Seq.{take-append-add}
-use Rattle.gcode_words.specs.Stripping.{plain}
 use Rattle.status_report.specs.declared.Reply.{Reply}
 use Rattle.status_report.specs.declared.Reply.TheVariants as replies
-use Rattle.run_rules.specs.Lines.{HasNoLf, ended, lines_of}
+use Rattle.run_rules.specs.Lines.{HasNoLf, lines_of}
 use Rattle.run_rules.specs.Readings.{largest_job, job_of}
 use Rattle.run_rules.specs.Told.{is_error, errors_among}
 use Rattle.run_rules.proofs.Cutting.{lines_with}
 use Rattle.stream_host.specs.declared.Reading.{Reading}
 use Rattle.stream_host.specs.declared.Reading.TheVariants.{Ended, Failed, Large, Stopped}
-use Rattle.stream_host.specs.declared.Stop.TheVariants.{End, LongLine, Reset}
-use Rattle.stream_host.specs.Links.{behind, on_link}
-use Rattle.status_report.specs.Answering.{receive_room, lfs_in, is_answer, answers_in}
-use Rattle.stream_host.specs.Jobs.{is_long, holds_reset, ends_sending, lines_to_send, ScansFront, MayLeave, MayScan, long_line, stop_by, IsSentSoFar, IsSent}
-use Rattle.stream_host.specs.Steps.{Journal, stored_of, got_of, answered_of, errors_of, read_of, reading_of, scanned_of, unscanned_of, raw_of, cut_of, to_store, begun_of, has_limit, stop_at, job_stop_of, or_alarm, stop_of}
-use Rattle.stream_host.specs.Steps.PortStep.{stored, dropped, marked, got}
-use Rattle.stream_host.specs.Steps.Step.{at_port}
-use Rattle.stream_host.specs.Conduct.{Conducted, HasSentAll, HasNoMore, MayStore}
-use Rattle.stream_host.proofs.Links.{lfs_push, behind_append, behind_ended, plain_no_lf, plains_no_lf}
-use Rattle.stream_host.proofs.Pieces.{none_ends, sent_front, front_on, front_ends, sends_on, sends_none, no_whole, few_cut, few_whole, none_long, none_reset, not_long, no_reset}
+use Rattle.stream_host.specs.declared.Stop.TheVariants.{End, LongLine}
+use Rattle.stream_host.specs.Links.{on_link}
+use Rattle.status_report.specs.Answering.{receive_room, is_answer, answers_in}
+use Rattle.stream_host.specs.Jobs.{sent_text, is_long, ends_sending, lines_to_send, ScansFront, MayLeave, MayScan, long_line, lacks_banner, resets_scanned, stop_by, or_reset, IsSentSoFar, IsSent}
+use Rattle.stream_host.specs.Steps.{Journal, stored_of, got_of, answered_of, errors_of, begins, live_of, port_log, over_of, resets_so_far, banners_of, is_shut, read_of, reading_of, scanned_of, unscanned_of, raw_of, cut_of, to_store, begun_of, has_limit, stop_at, job_stop_of, or_alarm, stop_of}
+use Rattle.stream_host.specs.Steps.PortStep.{stored, dropped, marked, raised, got, no_reply, shut}
+use Rattle.stream_host.specs.Steps.Step.{at_port, read_some, read_end, read_failed, scanned, line_over, wrote, gave_up, turned}
+use Rattle.stream_host.specs.Conduct.{Conducted, HasSentAll, HasNoMore}
+use Rattle.stream_host.proofs.Pieces.{none_ends, sent_front, front_on, front_ends, sends_on, sends_none, no_whole, few_cut, few_whole}
+use Rattle.stream_host.proofs.Texts.{none_long}
+use Rattle.stream_host.proofs.Raising.{none_due_shut}
+use Rattle.stream_host.proofs.Raised.{calm_shut}
+use Rattle.stream_host.proofs.Epochs.{answered_live}
+use Rattle.stream_host.proofs.Awaiting.{scanned_resets, none_lacks}
 use Rattle.stream_host.proofs.Keeping.{read_is, stored_is, IsCut, cut_is, sendable_is, ends_now, any_now, early_is, few_scanned, reading_fits, some_is}
 
 -- ---- the job
@@ -136,30 +139,35 @@ first_ends h c l = by_cut (cut_is h c)
         ∙ ap (λ (ls : List (List ℕ)). cut_of h ++ ls) (front_ends (raw_of h) [] l) ∙ append-nil (cut_of h)
     by_cut (inr over) = absurd (none_ends_in (raw_of h) over.none l)
 
-stop_cond : (text : List ℕ) (lines : List (List ℕ)) (long reset long_in reset_in : Bool) → long_in ≡ long → reset_in ≡ reset → (long ≡ true → sent_front (lines_of text) ≡ lines)
-    → cond long (LongLine (length lines + 1)) (cond reset Reset End) ≡ cond long_in (long_line (lines_of text)) (cond reset_in Reset End)
-stop_cond text lines true reset long_in reset_in e f first =
-    ap (λ (ls : List (List ℕ)). LongLine (length ls + 1)) (sym (first refl)) ∙ ap (λ b. cond b (long_line (lines_of text)) (cond reset_in Reset End)) (sym e)
-stop_cond text lines false reset long_in reset_in e f first =
-    ap (λ b. cond b Reset End) (sym f) ∙ ap (λ b. cond b (long_line (lines_of text)) (cond reset_in Reset End)) (sym e)
+stop_cond : (text : List ℕ) (lines : List (List ℕ)) (long long_in : Bool) → long_in ≡ long → (long ≡ true → sent_front (lines_of text) ≡ lines)
+    → cond long (LongLine (length lines + 1)) End ≡ cond long_in (long_line (lines_of text)) End
+stop_cond text lines true long_in e first =
+    ap (λ (ls : List (List ℕ)). LongLine (length ls + 1)) (sym (first refl)) ∙ ap (λ b. cond b (long_line (lines_of text)) End) (sym e)
+stop_cond text lines false long_in e first = ap (λ b. cond b (long_line (lines_of text)) End) (sym e)
 
 pub stop_is : (h : Journal) → Conducted h → job_stop_of h ≡ stop_by (reading_of h) (scanned_of h)
 stop_is h c = by_reading (reading_of h)
   where
-    first : is_long (raw_of h) ≡ true → sent_front (lines_of (scanned_of h)) ≡ cut_of h
-    first l = first_ends h c (ap (λ b. b || holds_reset (raw_of h)) l)
-
-    else_by : cond (is_long (raw_of h)) (LongLine (length (cut_of h) + 1)) (cond (holds_reset (raw_of h)) Reset End) ≡ stop_by Ended (scanned_of h)
-    else_by = stop_cond (scanned_of h) (cut_of h) (is_long (raw_of h)) (holds_reset (raw_of h)) (list_any is_long (lines_of (scanned_of h))) (list_any holds_reset (lines_of (scanned_of h)))
-        (any_now is_long none_long not_long h c) (any_now holds_reset none_reset no_reset h c) first
+    else_by : cond (is_long (raw_of h)) (LongLine (length (cut_of h) + 1)) End ≡ stop_by Ended (scanned_of h)
+    else_by = stop_cond (scanned_of h) (cut_of h) (is_long (raw_of h)) (list_any is_long (lines_of (scanned_of h))) (any_now is_long none_long (λ l e. e) h c) (first_ends h c)
 
     by_reading : (r : Reading) → stop_at r (raw_of h) (length (cut_of h)) ≡ stop_by r (scanned_of h)
     by_reading Large = refl
-    by_reading _ = else_by
+    by_reading Ended = else_by
+    by_reading Failed = else_by
+    by_reading Stopped = else_by
 
--- an alarm is a cause where the job gives none
-pub stop_behind : (h : Journal) → Conducted h → stop_of h ≡ or_alarm (has_limit h) (answered_of h) (stop_by (reading_of h) (scanned_of h))
-stop_behind h c = ap (or_alarm (has_limit h) (answered_of h)) (stop_is h c)
+-- a reset whose Banner is lacking, or an alarm, is a cause where the job gives none
+pub stop_behind : (h : Journal) → Conducted h → stop_of h ≡ or_alarm (has_limit h) (over_of h) (or_reset (lacks_banner (resets_scanned (scanned_of h)) (banners_of h)) (stop_by (reading_of h) (scanned_of h)))
+stop_behind h c =
+    ap (λ n. or_alarm (has_limit h) (over_of h) (or_reset (lacks_banner n (banners_of h)) (job_stop_of h))) (sym (scanned_resets h c))
+    ∙ ap (λ s. or_alarm (has_limit h) (over_of h) (or_reset (lacks_banner (resets_scanned (scanned_of h)) (banners_of h)) s)) (stop_is h c)
+
+-- where the link is closed and no alarm was got, neither is
+pub stop_shut : (h : Journal) → Conducted h → is_shut h ≡ true → has_limit h ≡ false → stop_of h ≡ job_stop_of h
+stop_shut h c e calm =
+    ap (λ b. or_alarm b (over_of h) (or_reset (lacks_banner (resets_so_far h) (banners_of h)) (job_stop_of h))) calm
+    ∙ ap (λ b. or_reset b (job_stop_of h)) (none_lacks h (calm_shut h c e calm) (none_due_shut h c e calm))
 
 -- ---- how much
 
@@ -198,7 +206,7 @@ answers_push rs r = let e = sum_by-append (λ x. cond (is_answer x) 1 0) rs (r �
 link_drop : (n : ℕ) (lines : List (List ℕ)) → length (on_link (drop n lines)) ≤ length (on_link lines)
 link_drop zero lines = omega arith
 link_drop (suc n) [] = omega arith
-link_drop (suc n) (l ∷ ls) = let m = link_drop n ls in let a = length-append (plain l ++ 10 ∷ []) (on_link ls) in omega arith
+link_drop (suc n) (l ∷ ls) = let m = link_drop n ls in let a = length-append (sent_text l ++ 10 ∷ []) (on_link ls) in omega arith
 
 fewer_left : (rs : List Reply) (r : Reply) (lines : List (List ℕ)) → unanswered rs lines ≤ receive_room → unanswered (rs ++ r ∷ []) lines ≤ receive_room
 fewer_left rs r lines few =
@@ -212,33 +220,28 @@ pub sum_is : (h : Journal) → Conducted h → length (on_link (drop (answered_o
 sum_is [] c = omega arith
 sum_is (at_port (stored b) ∷ h) c = c.0.room
 sum_is (at_port (dropped b) ∷ h) c = absurd c.0
-sum_is (at_port marked ∷ h) c = absurd c.0
-sum_is (at_port (got r) ∷ h) c = fewer_left (got_of h) r (begun_of h) (sum_is h c.1)
-sum_is (_ ∷ h) c = sum_is h c.1
+sum_is (at_port marked ∷ h) c = sum_is h c.1
+sum_is (at_port (raised b down) ∷ h) c = sum_is h c.1
+sum_is (at_port (got r) ∷ h) c = by_begins (begins r (port_log h)) (sum_is h c.1)
+  where
+    none_left : length (on_link (drop (answers_in (got_of h ++ r ∷ [])) (take (answered_of h) (begun_of h)))) ≤ receive_room
+    none_left =
+        let p = answers_push (got_of h) r in let l = length-take (answered_of h) (begun_of h) in
+        let e = ap (λ (ls : List (List ℕ)). length (on_link ls)) (drop_all (answers_in (got_of h ++ r ∷ [])) (take (answered_of h) (begun_of h)) (omega arith)) in omega arith
 
--- no more answers than lines were stored
-pub answers_are_few : (h : Journal) → Conducted h → answered_of h ≤ lfs_in (stored_of h)
-answers_are_few [] c = omega arith
-answers_are_few (at_port (stored b) ∷ h) c = let m = answers_are_few h c.1 in let p = lfs_push (stored_of h) b in omega arith
-answers_are_few (at_port (dropped b) ∷ h) c = absurd c.0
-answers_are_few (at_port marked ∷ h) c = absurd c.0
-answers_are_few (at_port (got r) ∷ h) c = c.0.few
-answers_are_few (_ ∷ h) c = answers_are_few h c.1
-
--- what stands on the link behind the answers that were got, with what is still to be stored, is the lines without an answer
-pub behind_is : (h : Journal) → Conducted h → behind (answered_of h) (stored_of h) ++ to_store h ≡ on_link (drop (answered_of h) (cut_of h))
-behind_is h c =
-    sym (behind_append (answered_of h) (stored_of h) (to_store h) (answers_are_few h c))
-    ∙ ap (behind (answered_of h)) (stored_is h c)
-    ∙ behind_ended (answered_of h) (map plain (cut_of h)) (plains_no_lf (cut_of h))
-    ∙ ap ended (drop-map plain (answered_of h) (cut_of h))
-
--- where a byte may be stored, fewer than 128 bytes stand behind the answers
-pub room_is : (b : ℕ) (h : Journal) → Conducted h → MayStore b h → length (behind (answered_of h) (stored_of h)) < receive_room
-room_is b h c may =
-    let l = length-append (behind (answered_of h) (stored_of h)) (to_store h) in
-    let e = ap length (behind_is h c) in let s = ap length may.next in let r = may.room in
-    omega arith
+    by_begins : (t : Bool) → unanswered (got_of h) (begun_of h) ≤ receive_room → unanswered (got_of h ++ r ∷ []) (cond t (take (answered_of h) (begun_of h)) (begun_of h)) ≤ receive_room
+    by_begins true few = none_left
+    by_begins false few = fewer_left (got_of h) r (begun_of h) few
+sum_is (at_port no_reply ∷ h) c = sum_is h c.1
+sum_is (at_port shut ∷ h) c = sum_is h c.1
+sum_is (read_some bytes ∷ h) c = sum_is h c.1
+sum_is (read_end ∷ h) c = sum_is h c.1
+sum_is (read_failed ∷ h) c = sum_is h c.1
+sum_is (scanned b ∷ h) c = sum_is h c.1
+sum_is (line_over ∷ h) c = sum_is h c.1
+sum_is (wrote n ∷ h) c = sum_is h c.1
+sum_is (gave_up ∷ h) c = sum_is h c.1
+sum_is (turned t ∷ h) c = sum_is h c.1
 
 errors_below : (rs : List Reply) → errors_among rs ≤ answers_in rs
 errors_below [] = omega arith
@@ -249,27 +252,15 @@ errors_below (r ∷ rs) =
   where
     one : (r : Reply) → cond (is_error r) 1 0 ≤ cond (is_answer r) 1 0
     one (replies.Error n) = omega arith
-    one _ = omega arith
+    one replies.Ok = omega arith
+    one replies.Banner = omega arith
+    one (replies.Alarm n) = omega arith
+    one (replies.Message m) = omega arith
+    one (replies.Report t) = omega arith
+    one (replies.Setting n v) = omega arith
+    one (replies.Modes m) = omega arith
+    one (replies.Offset r a) = omega arith
+    one replies.Bye = omega arith
 
--- as many line feeds as lines
-pub lfs_linked : (lines : List (List ℕ)) → lfs_in (on_link lines) ≡ length lines
-lfs_linked [] = refl
-lfs_linked (l ∷ ls) =
-    let a = sum_by-append (λ c. cond (nat_eq c 10) 1 0) (plain l ++ 10 ∷ []) (on_link ls) in
-    let b = sum_by-append (λ c. cond (nat_eq c 10) 1 0) (plain l) (10 ∷ []) in
-    let n = no_lfs (plain l) (plain_no_lf l) in let m = lfs_linked ls in omega arith
-  where
-    by_test : (t : Bool) (n m : ℕ) → t ≡ false → n ≡ cond t 1 0 + m → m ≡ 0 → n ≡ 0
-    by_test true n m none e z = absurd cc
-    by_test false n m none e z = omega arith
-
-    no_lfs : (xs : List ℕ) → HasNoLf xs → lfs_in xs ≡ 0
-    no_lfs [] h = refl
-    no_lfs (x ∷ xs) h = by_test (nat_eq x 10) (lfs_in (x ∷ xs)) (lfs_in xs) h.0 (sum_by-cons (λ c. cond (nat_eq c 10) 1 0) x xs) (no_lfs xs h.1)
-
-pub counts_are : (h : Journal) → Conducted h → (errors_of h ≤ answered_of h) × (answered_of h ≤ length (cut_of h)) × (length (cut_of h) ≤ largest_job)
-counts_are h c =
-    let few = answers_are_few h c in
-    let a = sum_by-append (λ b. cond (nat_eq b 10) 1 0) (stored_of h) (to_store h) in
-    let e = ap lfs_in (stored_is h c) in let l = lfs_linked (cut_of h) in
-    (errors_below (got_of h), (omega arith), (few_lines_cut h c).0)
+pub counts_are : (h : Journal) → Conducted h → (errors_of h ≤ answered_of h) × (answered_of h ≤ length (live_of h)) × (length (cut_of h) ≤ largest_job)
+counts_are h c = (errors_below (got_of h), answered_live h c, (few_lines_cut h c).0)

@@ -12,7 +12,7 @@ use Rattle.stream_host.specs.Hosts.{HostFits, HostWorked, HasPolled, HasShown, M
 use Rattle.stream_host.proofs.Keeping.{calm_one}
 use Rattle.stream_host.proofs.Hosting.{calm_now, none_due_by, never_raised, ends_is}
 use Rattle.stream_host.proofs.JobSteps.{used_up}
-use Rattle.stream_host.proofs.Turns.{has_written}
+use Rattle.stream_host.proofs.Turns.{has_written, one_turn}
 
 -- ---- the machine may be held
 
@@ -38,15 +38,20 @@ waits_unsettled s h f calm polled shown may busy =
       fits = f;
       steps = [];
       are = refl;
-      may = record {
-        poll = polled.poll;
-        no_read = λ m. busy m.settled;
-        no_scan = λ b m. absurd (let e = sym used ∙ m.next in cc);
-        no_line = λ m. absurd (let e = sym on ∙ m.at_end in cc);
-        no_raise = λ b m. never_raised s b h f (none_due_by s h f may.none_due) m;
-        no_store = λ b m. absurd (let e = sym free ∙ m.next in cc);
-        no_close = λ m. still_sends h on sends (calm_one h (calm_now s h f calm) m.sent).all;
-        written = has_written s h f shown;
-      };
+      inner = refl;
+      may = (
+        one_turn h polled,
+        record {
+          poll = polled.poll;
+          no_read = λ m. busy m.settled;
+          no_scan = λ b m. absurd (let e = sym used ∙ m.next in cc);
+          no_line = λ m. absurd (let e = sym on ∙ m.at_end in cc);
+          no_mark = λ m. absurd (let e = sym (none_due_by s h f may.none_due) ∙ m.next in cc);
+          no_raise = λ b m. never_raised s b h f (none_due_by s h f may.none_due) m;
+          no_store = λ b m. absurd (let e = sym free ∙ m.next in cc);
+          no_close = λ m. still_sends h on sends (calm_one h (calm_now s h f calm) m.sent).all;
+          written = has_written s h f shown;
+        },
+      );
       moves = λ e. absurd cc;
     }

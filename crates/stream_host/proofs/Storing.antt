@@ -3,30 +3,32 @@ use Rattle.std.proofs.Common.{◌≡◌, ℕ, ◌+◌, ◌≤◌, ◌<◌, Bool,
 use Rattle.std.proofs.lemmas.Bool.Decides.{nat_tests}
 use Rattle.std.proofs.lemmas.List.{drop_all}
 use Rattle.stream_host.specs.declared.line.Asking.{Asking}
-use Rattle.stream_host.specs.declared.line.Asking.TheVariants.{Nothing, Awaits, HasOne}
+use Rattle.stream_host.specs.declared.line.Asking.TheVariants.{Nothing, Awaits, HasOne, AsksAgain}
 use Rattle.stream_host.specs.declared.line.SentLine.{SentLine}
 use Rattle.stream_host.specs.declared.host.Host.{Host}
 use Rattle.stream_host.specs.Steps.{Journal, port_log, raw_of, to_store, due_of, asking_of, is_waiting}
 use Rattle.stream_host.specs.Steps.PortStep.{stored}
 use Rattle.stream_host.specs.Steps.Step.{at_port}
 use Rattle.stream_host.specs.Conduct.{MayStore}
-use Rattle.stream_host.specs.Hosts.{HostFits, HasLine, IsStoring, KeepsLine, KeepsDue}
+use Rattle.stream_host.specs.Hosts.{HostFits, HasLine, IsStoring, KeepsLine, KeepsDue, awaits_by}
 use Rattle.stream_host.specs.Ports.{TakesByte, SeemsFull}
 use Rattle.stream_host.proofs.Keeping.{open_is}
 use Rattle.stream_host.proofs.Sending as sending
-use Rattle.stream_host.proofs.Unmarked.{none_marked, seems_all}
-use Rattle.stream_host.proofs.Hosting.{calm_now, total_is}
+use Rattle.stream_host.proofs.Hosting.{calm_now, calm_epoch, total_is}
+use Rattle.stream_host.proofs.Epochs.{room_is}
 
 pub not_waiting : (a b : Asking) → a ≡ b → (a ≡ Awaits → ⊥) → is_waiting b ≡ false
 not_waiting a Nothing is none = refl
 not_waiting a Awaits is none = absurd (none is)
 not_waiting a HasOne is none = refl
+not_waiting a AsksAgain is none = refl
 
-pub may_store : (s : Host) (b : ℕ) (h : Journal) → HostFits s h → s.alarm ≡ false → s.line.whole ≡ true → (s.asking ≡ Awaits → ⊥) → s.counts.unanswered.total ≤ 128 → drop s.line.place (s.line.kept.items ++ 10 ∷ []) ≡ b ∷ drop (s.line.place + 1) (s.line.kept.items ++ 10 ∷ []) → MayStore b h
-may_store s b h f calm whole reported room next =
+pub may_store : (s : Host) (b : ℕ) (h : Journal) → HostFits s h → s.alarm ≡ false → awaits_by s.resets ≡ false → s.line.whole ≡ true → (s.asking ≡ Awaits → ⊥) → s.counts.unanswered.total ≤ 128 → drop s.line.place (s.line.kept.items ++ 10 ∷ []) ≡ b ∷ drop (s.line.place + 1) (s.line.kept.items ++ 10 ∷ []) → MayStore b h
+may_store s b h f calm epoch whole reported room next =
     let left = (f.line_is.storing whole).left_is in
     record {
       calm = calm_now s h f calm;
+      epoch = calm_epoch s h f epoch;
       next = left ∙ next ∙ ap (λ (t : List ℕ). b ∷ drop 1 t) (sym next ∙ sym left);
       reported = not_waiting s.asking (asking_of h) f.asking_is reported;
       room = (let t = total_is s h f in omega arith);
@@ -36,7 +38,7 @@ pub takes_byte : (s : Host) (b : ℕ) (h : Journal) → HostFits s h → MayStor
 takes_byte s b h f may = record { going = open_is b h f.conducted may.calm may.next; few = (let n = sending.few_stored h f.conducted in omega arith) }
 
 pub not_dropped : (s : Host) (b : ℕ) (h : Journal) → HostFits s h → MayStore b h → SeemsFull (port_log h) → ⊥
-not_dropped s b h f may full = let l = sending.room_is b h f.conducted may in let n = seems_all (port_log h) (none_marked h f.conducted) full in absurd (omega arith)
+not_dropped s b h f may full = room_is b h f.conducted may full
 
 -- the line after the byte
 pub record Advances (l m : SentLine) : Type 0 where
@@ -74,6 +76,8 @@ stored_byte s m b h f whole may stores next = record {
   due_is = subst (λ d. KeepsDue d (due_of h)) (sym stores.due) f.due_is;
   asking_is = f.asking_is;
   counts_are = f.counts_are;
+  all_are = f.all_are;
+  resets_are = f.resets_are;
   polls_are = f.polls_are;
   held_is = f.held_is;
   greeted_is = f.greeted_is;

@@ -12,14 +12,16 @@ use Rattle.outside.specs.declared.Turn.TheVariants.{Did, Wait, Done}
 use Rattle.status_report.specs.declared.Reply.{Reply}
 use Rattle.text_writer.specs.Writers.{Writing, is_due, with_all_asked}
 use Rattle.stream_host.specs.declared.host.Host.{Host}
-use Rattle.stream_host.specs.Steps.{Step, Journal, has_limit, is_shut, has_bye, to_store, due_of, awaits_report, text_of, written_of, this_turn}
-use Rattle.stream_host.specs.Steps.PortStep.{stored, raised, got, no_reply, shut}
+use Rattle.stream_host.specs.Jobs.{is_reset}
+use Rattle.stream_host.specs.Steps.{Step, Journal, awaits_banner, has_limit, is_shut, has_bye, to_store, due_of, awaits_report, text_of, written_of, this_turn}
+use Rattle.stream_host.specs.Steps.PortStep.{stored, marked, raised, got, no_reply, shut}
 use Rattle.stream_host.specs.Steps.Step.{at_port, turned}
-use Rattle.stream_host.specs.Conduct.{AreAnswered, waits_for_lines, HasWritten, publishing, moving}
-use Rattle.stream_host.specs.Hosts.{HostFits, HostWorked, HostTurned, HostTellsOn, HasPolled, IsQuiet, IsBetween, DidAlone, HasShown, HostRests, rank}
+use Rattle.stream_host.specs.Conduct.{AreAnswered, waits_for_lines, HasWritten, IsOneTurn, MayShut, publishing, polling, moving}
+use Rattle.stream_host.specs.Hosts.{HostFits, HostWorked, HostTurned, HostTellsOn, HasPolled, IsQuiet, IsBetween, DidAlone, HasShown, HostRests, rank, awaits_by, ends_turn}
 use Rattle.stream_host.proofs.Keeping.{calm_one}
 use Rattle.stream_host.proofs.Raising.{none_due_first}
-use Rattle.stream_host.proofs.Hosting.{calm_now, none_due_by, never_raised, due_next, quiet_on, same_job, total_is}
+use Rattle.stream_host.proofs.Consoles.{quiet_on, looks_on, same_job}
+use Rattle.stream_host.proofs.Hosting.{calm_now, none_due_by, never_raised, due_next, epoch_now, total_is}
 
 -- ---- what a turn answers
 
@@ -70,31 +72,44 @@ none_left s h f well true some (inr all) =
 
 -- ---- what a turn does
 
-few_on : (s : Step) (h : Journal) → IsQuiet h → count_by publishing (s ∷ this_turn h) ≤ 1
-few_on s h quiet = let e = sum_by-cons (λ x. cond {A = ℕ} (publishing x) 1 0) s (this_turn h) in let b = at_most (publishing s) in omega arith
+-- the turn that has polled published nothing
+pub one_turn : (h : Journal) → HasPolled h → IsOneTurn h
+one_turn h polled = record { once = (let q = polled.quiet in omega arith); polls = polled.once }
+
+-- a step more, which is no poll
+pub one_step : (s : Step) (h : Journal) → polling s ≡ false → HasPolled h → (count_by publishing (s ∷ this_turn h) ≤ 1) × (count_by polling (s ∷ this_turn h) ≤ 1)
+one_step s h none polled =
+    let e = sum_by-cons (λ x. cond {A = ℕ} (publishing x) 1 0) s (this_turn h) in let b = at_most (publishing s) in let q = polled.quiet in
+    let l = looks_on s h none in let o = polled.once in ((omega arith), (omega arith))
   where
     at_most : (b : Bool) → cond {A = ℕ} b 1 0 ≤ 1
     at_most true = omega arith
     at_most false = omega arith
 
-pub did_alone : (s t : Host) (h next : Journal) → IsQuiet h → DidAlone s t h next → HostWorked Did s t h next
-did_alone s t h next quiet d = record { fits = d.fits; steps = d.steps; are = d.are; may = (let q = d.quiet quiet in omega arith); moves = λ e. d.moves }
+pub did_alone : (s t : Host) (h next : Journal) → IsQuiet h → count_by polling (this_turn h) ≤ 1 → DidAlone s t h next → HostWorked Did s t h next
+did_alone s t h next quiet once d = record { fits = d.fits; steps = d.steps; are = d.are; inner = d.inner; may = record { once = (let q = d.quiet quiet in omega arith); polls = (let l = d.looks in omega arith) }; moves = λ e. d.moves }
 
 -- one step at the port
-pub did_at_port : (s t : Host) (p : Step) (h : Journal) → moving p ≡ true → IsQuiet h → HostFits t (p ∷ h) → count_by publishing (this_turn (p ∷ h)) ≤ 1 → HostWorked Did s t h (p ∷ h)
-did_at_port s t p h moves quiet fits few = record { fits = fits; steps = p ∷ []; are = refl; may = few; moves = λ e. inl (ap (λ b. b || false) moves) }
+pub did_at_port : (s t : Host) (p : Step) (h : Journal) → moving p ≡ true → ends_turn p ≡ false → HostFits t (p ∷ h) → IsOneTurn (p ∷ h) → HostWorked Did s t h (p ∷ h)
+did_at_port s t p h moves inner fits one = record { fits = fits; steps = p ∷ []; are = refl; inner = ap (λ b. b || false) inner; may = one; moves = λ e. inl (ap (λ b. b || false) moves) }
 
-pub few_stored_now : (b : ℕ) (h : Journal) → IsQuiet h → count_by publishing (this_turn (at_port (stored b) ∷ h)) ≤ 1
-few_stored_now b h quiet = few_on (at_port (stored b)) h quiet
+pub few_stored_now : (b : ℕ) (h : Journal) → HasPolled h → IsOneTurn (at_port (stored b) ∷ h)
+few_stored_now b h polled = let o = one_step (at_port (stored b)) h refl polled in record { once = o.0; polls = o.1 }
 
-pub few_shut_now : (h : Journal) → IsQuiet h → count_by publishing (this_turn (at_port shut ∷ h)) ≤ 1
-few_shut_now h quiet = few_on (at_port shut) h quiet
+pub few_shut_now : (h : Journal) → HasPolled h → IsOneTurn (at_port shut ∷ h)
+few_shut_now h polled = let o = one_step (at_port shut) h refl polled in record { once = o.0; polls = o.1 }
 
-pub few_raised_now : (b : ℕ) (down : Bool) (h : Journal) → IsQuiet h → count_by publishing (this_turn (at_port (raised b down) ∷ h)) ≤ 1
-few_raised_now b down h quiet = few_on (at_port (raised b down)) h quiet
+pub few_marked_now : (h : Journal) → HasPolled h → IsOneTurn (at_port marked ∷ h)
+few_marked_now h polled = let o = one_step (at_port marked) h refl polled in record { once = o.0; polls = o.1 }
 
-pub few_got_now : (r : Reply) (h : Journal) → IsQuiet h → count_by publishing (this_turn (at_port (got r) ∷ h)) ≤ 1
-few_got_now r h quiet = few_on (at_port (got r)) h quiet
+pub few_raised_now : (b : ℕ) (down : Bool) (h : Journal) → HasPolled h → IsOneTurn (at_port (raised b down) ∷ h)
+few_raised_now b down h polled = let o = one_step (at_port (raised b down)) h refl polled in record { once = o.0; polls = o.1 }
+
+pub few_got_now : (r : Reply) (h : Journal) → IsBetween h → IsOneTurn (at_port (got r) ∷ h)
+few_got_now r h between = let p = ap (λ (n : Journal). count_by publishing (at_port (got r) ∷ n)) between in let q = ap (λ (n : Journal). count_by polling (at_port (got r) ∷ n)) between in record { once = omega arith; polls = omega arith }
+
+pub tells_marked : (s t : Host) (h : Journal) (job : SourceState) (console : SinkState) → t.text ≡ s.text → HostTellsOn s t h (at_port marked ∷ h) job job console console
+tells_marked s t h job console same = record { job = λ before j. same_job h (at_port marked ∷ h) before job refl refl j; console = λ before j. rw same j }
 
 pub tells_stored : (s t : Host) (b : ℕ) (h : Journal) (job : SourceState) (console : SinkState) → t.text ≡ s.text → HostTellsOn s t h (at_port (stored b) ∷ h) job job console console
 tells_stored s t b h job console same = record { job = λ before j. same_job h (at_port (stored b) ∷ h) before job refl refl j; console = λ before j. rw same j }
@@ -126,16 +141,21 @@ waits_early s b h f calm polled shown is early =
       fits = f;
       steps = [];
       are = refl;
-      may = record {
-        poll = polled.poll;
-        no_read = λ m. busy m.none_due;
-        no_scan = λ d m. busy m.none_due;
-        no_line = λ m. busy m.none_due;
-        no_raise = λ d m. early (subst (λ x. waits_for_lines x ≡ true → AreAnswered h) (same_first d b (drop 1 (due_of h)) (sym (m.next f.polls_are.few) ∙ due)) m.after);
-        no_store = λ d m. busy (none_due_first d h f.conducted m);
-        no_close = λ m. busy (calm_one h (calm_now s h f calm) m.all_raised);
-        written = has_written s h f shown;
-      };
+      inner = refl;
+      may = (
+        one_turn h polled,
+        record {
+          poll = polled.poll;
+          no_read = λ m. busy m.none_due;
+          no_scan = λ d m. busy m.none_due;
+          no_line = λ m. busy m.none_due;
+          no_mark = λ m. early (λ q. absurd (let x = same_first 0x18 b (drop 1 (due_of h)) (sym m.next ∙ due) in let g = ap waits_for_lines x ∙ q in cc));
+          no_raise = λ d m. early (subst (λ x. waits_for_lines x ≡ true → AreAnswered h) (same_first d b (drop 1 (due_of h)) (sym (m.next f.polls_are.few) ∙ due)) m.after);
+          no_store = λ d m. busy (none_due_first d h f.conducted m);
+          no_close = λ m. busy (calm_one h (calm_now s h f calm) m.all_raised);
+          written = has_written s h f shown;
+        },
+      );
       moves = λ e. absurd cc;
     }
   where
@@ -151,16 +171,21 @@ waits_held_back s h f calm polled shown none whole held =
       fits = f;
       steps = [];
       are = refl;
-      may = record {
-        poll = polled.poll;
-        no_read = λ m. busy m.free;
-        no_scan = λ b m. busy m.free;
-        no_line = λ m. busy m.free;
-        no_raise = λ b m. never_raised s b h f (none_due_by s h f none) m;
-        no_store = λ b m. held (m.reported, (let t = total_is s h f in let r = m.room in omega arith));
-        no_close = λ m. busy (calm_one h (calm_now s h f calm) m.sent).free;
-        written = has_written s h f shown;
-      };
+      inner = refl;
+      may = (
+        one_turn h polled,
+        record {
+          poll = polled.poll;
+          no_read = λ m. busy m.free;
+          no_scan = λ b m. busy m.free;
+          no_line = λ m. busy m.free;
+          no_mark = λ m. absurd (let e = sym (none_due_by s h f none) ∙ m.next in cc);
+          no_raise = λ b m. never_raised s b h f (none_due_by s h f none) m;
+          no_store = λ b m. held (m.reported, (let t = total_is s h f in let r = m.room in omega arith));
+          no_close = λ m. busy (calm_one h (calm_now s h f calm) m.sent).free;
+          written = has_written s h f shown;
+        },
+      );
       moves = λ e. absurd cc;
     }
 
@@ -172,38 +197,96 @@ waits_shut s h f polled shown none whole closed =
       fits = f;
       steps = [];
       are = refl;
-      may = record {
-        poll = polled.poll;
-        no_read = λ m. over m.going;
-        no_scan = λ b m. over m.going;
-        no_line = λ m. over m.going;
-        no_raise = λ b m. never_raised s b h f (none_due_by s h f none) m;
-        no_store = λ b m. absurd (let g = sym free ∙ m.next in cc);
-        no_close = λ m. over m.going;
-        written = has_written s h f shown;
-      };
+      inner = refl;
+      may = (
+        one_turn h polled,
+        record {
+          poll = polled.poll;
+          no_read = λ m. over m.going;
+          no_scan = λ b m. over m.going;
+          no_line = λ m. over m.going;
+          no_mark = λ m. absurd (let e = sym (none_due_by s h f none) ∙ m.next in cc);
+          no_raise = λ b m. never_raised s b h f (none_due_by s h f none) m;
+          no_store = λ b m. absurd (let g = sym free ∙ m.next in cc);
+          no_close = λ m. over m.going;
+          written = has_written s h f shown;
+        },
+      );
       moves = λ e. absurd cc;
     }
 
--- behind an alarm a link that is closed lets nothing be done
-pub waits_at_alarm : (s : Host) (h : Journal) → HostFits s h → HasPolled h → HasShown s.text → s.alarm ≡ true → s.shut ≡ true → HostWorked (Wait Answer) s s h h
-waits_at_alarm s h f polled shown alarm closed =
-    let over : is_shut h ≡ false → ⊥ = (λ e. absurd (let g = sym closed ∙ f.shut_is ∙ e in cc)) in
+-- behind an alarm nothing is done where the link may not be closed
+pub waits_at_alarm : (s : Host) (h : Journal) → HostFits s h → HasPolled h → HasShown s.text → s.alarm ≡ true → (MayShut h → ⊥) → HostWorked (Wait Answer) s s h h
+waits_at_alarm s h f polled shown alarm no_shut =
     let loud : has_limit h ≡ false → ⊥ = (λ e. absurd (let g = sym alarm ∙ f.alarm_is ∙ e in cc)) in
     record {
       fits = f;
       steps = [];
       are = refl;
-      may = record {
-        poll = polled.poll;
-        no_read = λ m. loud m.calm;
-        no_scan = λ b m. loud m.calm;
-        no_line = λ m. loud m.calm;
-        no_raise = λ b m. loud (m.calm f.polls_are.few);
-        no_store = λ b m. loud m.calm;
-        no_close = λ m. over m.going;
-        written = has_written s h f shown;
-      };
+      inner = refl;
+      may = (
+        one_turn h polled,
+        record {
+          poll = polled.poll;
+          no_read = λ m. loud m.calm;
+          no_scan = λ b m. loud m.calm;
+          no_line = λ m. loud m.calm;
+          no_mark = λ m. loud m.calm;
+          no_raise = λ b m. loud (m.calm f.polls_are.few);
+          no_store = λ b m. loud m.calm;
+          no_close = no_shut;
+          written = has_written s h f shown;
+        },
+      );
+      moves = λ e. absurd cc;
+    }
+
+-- it may not where it is closed, nor where a Banner is awaited
+pub shut_already : (s : Host) (h : Journal) → HostFits s h → s.shut ≡ true → MayShut h → ⊥
+shut_already s h f closed may = absurd (let g = sym closed ∙ f.shut_is ∙ may.going in cc)
+
+pub shut_later : (s : Host) (h : Journal) → HostFits s h → awaits_by s.resets ≡ true → MayShut h → ⊥
+shut_later s h f awaits may = absurd (let g = sym awaits ∙ epoch_now s h f ∙ may.epoch in cc)
+
+-- a reset whose mark is not stored
+pub wants : (t : Bool) (b : ℕ) (marked_now : Bool) → t ≡ (is_reset b && not marked_now) → t ≡ true → (b ≡ 0x18) × (marked_now ≡ false)
+wants t b m is so = by_tests (is_reset b) m refl (sym is ∙ so)
+  where
+    by_tests : (u v : Bool) → is_reset b ≡ u → (u && not v) ≡ true → (b ≡ 0x18) × (v ≡ false)
+    by_tests true false e f = ((grind (arith, nat_tests)), refl)
+    by_tests true true e f = absurd cc
+    by_tests false v e f = absurd cc
+
+pub wants_none : (t : Bool) (b : ℕ) (marked_now : Bool) → t ≡ (is_reset b && not marked_now) → t ≡ false → is_reset b ≡ true → marked_now ≡ true
+wants_none t b m is none reset = by_tests m (sym (ap (λ u. u && not m) reset) ∙ sym is ∙ none)
+  where
+    by_tests : (v : Bool) → (true && not v) ≡ false → v ≡ true
+    by_tests true f = refl
+    by_tests false f = absurd cc
+
+-- a Banner is waited for
+pub waits_for_banner : (s : Host) (h : Journal) → HostFits s h → HasPolled h → HasShown s.text → s.line.due ≡ None → awaits_by s.resets ≡ true → HostWorked (Wait Answer) s s h h
+waits_for_banner s h f polled shown none awaits =
+    let busy : awaits_banner h ≡ false → ⊥ = (λ e. absurd (let g = sym awaits ∙ epoch_now s h f ∙ e in cc)) in
+    record {
+      fits = f;
+      steps = [];
+      are = refl;
+      inner = refl;
+      may = (
+        one_turn h polled,
+        record {
+          poll = polled.poll;
+          no_read = λ m. busy m.epoch;
+          no_scan = λ b m. busy m.epoch;
+          no_line = λ m. busy m.epoch;
+          no_mark = λ m. absurd (let e = sym (none_due_by s h f none) ∙ m.next in cc);
+          no_raise = λ b m. never_raised s b h f (none_due_by s h f none) m;
+          no_store = λ b m. busy m.epoch;
+          no_close = λ m. busy m.epoch;
+          written = has_written s h f shown;
+        },
+      );
       moves = λ e. absurd cc;
     }
 
@@ -217,6 +300,8 @@ all_asked s h f = record {
   due_is = f.due_is;
   asking_is = f.asking_is;
   counts_are = f.counts_are;
+  all_are = f.all_are;
+  resets_are = f.resets_are;
   polls_are = f.polls_are;
   held_is = f.held_is;
   greeted_is = f.greeted_is;
@@ -231,8 +316,11 @@ all_asked s h f = record {
 pub quiet_between : (h : Journal) → IsBetween h → IsQuiet h
 quiet_between h between = ap (count_by publishing) between
 
+pub polls_between : (h : Journal) → IsBetween h → count_by polling (this_turn h) ≤ 1
+polls_between h between = let e = ap (count_by polling) between in omega arith
+
 pub has_polled : (h : Journal) → IsBetween h → HasPolled (at_port no_reply ∷ h)
-has_polled h between = record { poll = refl; quiet = quiet_on (at_port no_reply) h refl (quiet_between h between) }
+has_polled h between = record { poll = refl; once = (let e = ap (λ (n : Journal). count_by polling (at_port no_reply ∷ n)) between in omega arith); quiet = quiet_on (at_port no_reply) h refl (quiet_between h between) }
 
 -- what is done behind a poll is done in the turn
 pub worked_on : (t : Turn) (s v u : Host) (h next : Journal) → v.text ≡ s.text → HostWorked t v u (at_port no_reply ∷ h) next → HostWorked t s u h next
@@ -240,6 +328,7 @@ worked_on t s v u h next same w = record {
   fits = w.fits;
   steps = w.steps ++ at_port no_reply ∷ [];
   are = w.are ∙ sym (append_assoc w.steps (at_port no_reply ∷ []) h);
+  inner = list_any-append ends_turn w.steps (at_port no_reply ∷ []) ∙ ap (λ b. b || false) w.inner;
   may = w.may;
   moves = λ e. elim (w.moves e) [
     | inl any ↦ inl (list_any-append moving w.steps (at_port no_reply ∷ []) ∙ ap (λ b. b || false) any)
@@ -260,6 +349,7 @@ is_done s h f between rests =
       fits = f;
       steps = [];
       are = refl;
+      inner = refl;
       may = record { bye = bye; written = has_written s h f (record { asked = f.text_is.all_asked bye; none = rests.none }); still = between };
       moves = λ e. absurd cc;
     }
@@ -273,6 +363,8 @@ ends t s u h next w = (
     due_is = w.fits.due_is;
     asking_is = w.fits.asking_is;
     counts_are = w.fits.counts_are;
+    all_are = w.fits.all_are;
+    resets_are = w.fits.resets_are;
     polls_are = w.fits.polls_are;
     held_is = w.fits.held_is;
     greeted_is = w.fits.greeted_is;
@@ -283,7 +375,7 @@ ends t s u h next w = (
     bye_is = w.fits.bye_is;
     over = w.fits.over;
   },
-  record { steps = w.steps; are = ap (λ n. turned t ∷ n) w.are; moves = w.moves },
+  record { steps = w.steps; are = ap (λ n. turned t ∷ n) w.are; inner = w.inner; moves = w.moves },
 )
 
 pub tells_turned : (t : Turn) (s u : Host) (h next : Journal) (job later : SourceState) (now after : SinkState) → HostTellsOn s u h next job later now after → HostTellsOn s u h (turned t ∷ next) job later now after
@@ -302,6 +394,7 @@ worked_asked t s u w h next e d = record {
   fits = d.fits;
   steps = d.steps;
   are = d.are;
+  inner = d.inner;
   may = d.may;
   moves = λ did. elim (d.moves did) [
     | inl any ↦ inl any

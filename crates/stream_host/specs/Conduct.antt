@@ -1,5 +1,5 @@
 -- The rules of a host: what it may do next.
-use Rattle.std.specs.Prelude.{◌≡◌, ℕ, ◌+◌, ◌≤◌, ◌<◌, ◌⊎◌, Bool, true, false, ◌||◌, List, [], ◌∷◌, ◌++◌, length, drop, nat_eq, nat_lt}
+use Rattle.std.specs.Prelude.{◌≡◌, ℕ, ◌+◌, ◌≤◌, ◌<◌, ◌⊎◌, Bool, true, false, ◌||◌, List, [], ◌∷◌, length, drop, nat_eq, nat_lt}
 use Rattle.std.specs.List.{list_any, count_by}
 use Rattle.code_table.specs.Tables.{query}
 use Rattle.run_rules.specs.Readings.{largest_job, largest_piece}
@@ -10,9 +10,10 @@ use Rattle.outside.specs.declared.Turn.TheVariants.{Did, Wait, Done}
 use Rattle.stream_host.specs.declared.Reading.{Reading}
 use Rattle.stream_host.specs.declared.Reading.TheVariants.{Ended, Failed, Large, Stopped}
 use Rattle.stream_host.specs.Links.{on_link}
-use Rattle.status_report.specs.Answering.{receive_room, lfs_in, answers_in}
-use Rattle.stream_host.specs.Jobs.{resume, cancel, ends_sending}
-use Rattle.stream_host.specs.Steps.{PortStep, Step, Journal, stored_of, got_of, has_limit, is_shut, has_bye, is_greeted, answered_of, reading_of, scanned_of, unscanned_of, raw_of, cut_of, begun_of, to_store, due_of, awaits_report, polls_of, empty_polls, held_polls, holds_of, pause_of, text_of, written_of, has_given_up, this_turn}
+use Rattle.status_report.specs.Answering.{receive_room}
+use Rattle.stream_host.specs.Jobs.{resume, cancel, is_reset, ends_sending}
+use Rattle.stream_host.specs.Ports.{AnswersLines}
+use Rattle.stream_host.specs.Steps.{PortStep, Step, Journal, port_log, has_limit, is_shut, has_bye, is_greeted, answered_of, marks_of, resets_of, awaits_banner, reading_of, scanned_of, unscanned_of, raw_of, live_of, unanswered_of, begun_of, to_store, due_of, awaits_report, awaits_any_report, polls_of, empty_polls, held_polls, holds_of, pause_of, text_of, written_of, has_given_up, this_turn}
 use Rattle.stream_host.specs.Steps.PortStep.{stored, dropped, marked, raised, got, no_reply, shut}
 use Rattle.stream_host.specs.Steps.Step.{at_port, read_some, read_end, read_failed, scanned, line_over, wrote, gave_up, turned}
 
@@ -20,21 +21,21 @@ use Rattle.stream_host.specs.Steps.Step.{at_port, read_some, read_end, read_fail
 abbrev pub HasWritten : Journal → Type 0
 HasWritten h = (has_given_up h ≡ true) ⊎ (written_of h ≡ length (text_of h))
 
--- the lines before the one in hand are answered
+-- the lines of the epoch before the one in hand are answered
 abbrev pub AreAnswered : Journal → Type 0
-AreAnswered h = answered_of h ≡ length (cut_of h)
+AreAnswered h = answered_of h ≡ length (live_of h)
 
--- A realtime byte that is raised only once the lines before its own are answered: a `?`, which asks for a report behind them,
--- and the cancel of a jog, so that their jogs have begun when the board takes it.
+-- A realtime byte that is raised only once the lines of the epoch before its own are answered: a `?`, which asks for a report
+-- behind them, and the cancel of a jog, so that their jogs have begun when the board takes it.
 abbrev pub waits_for_lines : ℕ → Bool
 waits_for_lines b = nat_eq b query || nat_eq b cancel
 
--- something is awaited: the banner, the answer to a line that was sent, or a report
+-- something is awaited: the first banner, the answer to a line that was sent, a report, or the banner of a reset
 abbrev pub AwaitsSome : Journal → Type 0
-AwaitsSome h = (is_greeted h ≡ false) ⊎ ((0 < length (drop (answered_of h) (begun_of h))) ⊎ (awaits_report h ≡ true))
+AwaitsSome h = (is_greeted h ≡ false) ⊎ ((0 < length (drop (answered_of h) (begun_of h))) ⊎ ((awaits_any_report h ≡ true) ⊎ (awaits_banner h ≡ true)))
 
 -- The machine may be held: a `!` was raised and no `~` since, or a line that has no answer asks for a pause, and no `~` was
--- raised since it was scanned.
+-- raised since it was scanned; and no epoch began since.
 abbrev pub may_be_held : Journal → Bool
 may_be_held h = holds_of h || nat_lt (answered_of h) (pause_of h)
 
@@ -51,15 +52,16 @@ IsGreeted h = (is_greeted h ≡ true) ⊎ (held_polls ≤ polls_of h)
 -- answer, or the machine seems held: then the resume may stand in what was not read yet.
 pub record IsSettled (h : Journal) : Type 0 where
   pub greeted : IsGreeted h
-  pub reported : awaits_report h ≡ false
+  pub reported : awaits_any_report h ≡ false
   pub answered : AreAnswered h ⊎ SeemsHeld h
 
 -- The job is read on: all that was read is scanned, raised and stored, nothing is awaited but of a machine that seems held,
--- all that was got is shown, no end of the reading was met, the sending has not ended in the line that is being scanned, and no
--- alarm was got.
+-- all that was got is shown, no end of the reading was met, the sending has not ended in the line that is being scanned, no
+-- alarm was got, and no Banner is awaited.
 pub record MayRead (h : Journal) : Type 0 where
   pub going : is_shut h ≡ false
   pub calm : has_limit h ≡ false
+  pub epoch : awaits_banner h ≡ false
   pub on : reading_of h ≡ Stopped
   pub sends : ends_sending (raw_of h) ≡ false
   pub used : unscanned_of h ≡ []
@@ -69,20 +71,23 @@ pub record MayRead (h : Journal) : Type 0 where
   pub shown : HasWritten h
 
 -- The next byte that was read is scanned: no byte is to be raised, the line before its own is wholly stored, the job may
--- have so many bytes, the sending has not ended in its line, and no alarm was got.
+-- have so many bytes, the sending has not ended in its line, no alarm was got, and no Banner is awaited.
 pub record MayScanNext (b : ℕ) (h : Journal) : Type 0 where
   pub going : is_shut h ≡ false
   pub calm : has_limit h ≡ false
+  pub epoch : awaits_banner h ≡ false
   pub next : unscanned_of h ≡ b ∷ drop 1 (unscanned_of h)
   pub few : length (scanned_of h) < largest_job
   pub sends : ends_sending (raw_of h) ≡ false
   pub free : to_store h ≡ []
   pub none_due : due_of h ≡ []
 
--- The last line is over: the source's end was read, bytes stand behind the last LF, none is to be raised, and no alarm was got.
+-- The last line is over: the source's end was read, bytes stand behind the last LF, none is to be raised, no alarm was got, and
+-- no Banner is awaited.
 pub record MayEndLine (h : Journal) : Type 0 where
   pub going : is_shut h ≡ false
   pub calm : has_limit h ≡ false
+  pub epoch : awaits_banner h ≡ false
   pub at_end : reading_of h ≡ Ended
   pub used : unscanned_of h ≡ []
   pub some : 0 < length (raw_of h)
@@ -90,21 +95,30 @@ pub record MayEndLine (h : Journal) : Type 0 where
   pub free : to_store h ≡ []
   pub none_due : due_of h ≡ []
 
+-- A mark is stored: a reset is to be raised next, and its mark was not stored yet. The n-th mark is that of the n-th reset.
+pub record MayMark (h : Journal) : Type 0 where
+  pub calm : has_limit h ≡ false
+  pub next : due_of h ≡ 0x18 ∷ drop 1 (due_of h)
+  pub fresh : length (marks_of h) ≡ resets_of h
+
 -- A realtime byte is raised: a resume where so many polls have found no reply, else the next that is due; that is a `?` or the
--- cancel of a jog only once each line before its own is answered. Behind an alarm no byte of the job is raised.
+-- cancel of a jog only once each line of the epoch before its own is answered, and a reset only behind its mark. Behind an alarm
+-- no byte of the job is raised.
 pub record MayRaise (b : ℕ) (h : Journal) : Type 0 where
   pub resumes : polls_of h ≡ empty_polls → b ≡ resume
   pub calm : polls_of h < empty_polls → has_limit h ≡ false
   pub next : polls_of h < empty_polls → due_of h ≡ b ∷ drop 1 (due_of h)
   pub after : waits_for_lines b ≡ true → AreAnswered h
+  pub behind_mark : is_reset b ≡ true → resets_of h < length (marks_of h)
 
 -- The next byte of the line in hand is stored: the lines that have no answer, this one among them, take at most 128
--- bytes, and where the line asked for a report, one was got since. No alarm was got.
+-- bytes, and where the line asked for a report, one was got since it first did. No alarm was got, and no Banner is awaited.
 pub record MayStore (b : ℕ) (h : Journal) : Type 0 where
   pub calm : has_limit h ≡ false
+  pub epoch : awaits_banner h ≡ false
   pub next : to_store h ≡ b ∷ drop 1 (to_store h)
   pub reported : awaits_report h ≡ false
-  pub room : length (on_link (drop (answered_of h) (cut_of h))) ≤ receive_room
+  pub room : length (on_link (unanswered_of h)) ≤ receive_room
 
 -- nothing more of the job is to be scanned, nor to be made a line: by what is read and not scanned, the line that is being
 -- scanned, and how many bytes are scanned
@@ -119,9 +133,10 @@ pub record HasSentAll (h : Journal) : Type 0 where
   pub free : to_store h ≡ []
   pub all : (ends_sending (raw_of h) ≡ true) ⊎ HasNoMore (reading_of h) (unscanned_of h) (raw_of h) (length (scanned_of h))
 
--- the link is closed: all that is sent of the job is stored and raised, or an alarm was got
+-- the link is closed: all that is sent of the job is stored and raised, or an alarm was got; and no Banner is awaited
 pub record MayShut (h : Journal) : Type 0 where
   pub going : is_shut h ≡ false
+  pub epoch : awaits_banner h ≡ false
   pub sent : (has_limit h ≡ true) ⊎ HasSentAll h
   pub all_raised : (has_limit h ≡ true) ⊎ (due_of h ≡ [])
 
@@ -130,16 +145,17 @@ pub record MayPoll (h : Journal) : Type 0 where
   pub going : has_bye h ≡ false
   pub rested : polls_of h < empty_polls
 
--- a reply is taken; no more of them are answers than lines were stored, as the port promises
+-- a reply is taken; since the last Banner of a mark no more of them are answers than lines were stored behind that mark, as the
+-- port promises
 pub record MayGet (r : Reply) (h : Journal) : Type 0 where
   pub poll : MayPoll h
-  pub few : answers_in (got_of h ++ r ∷ []) ≤ lfs_in (stored_of h)
+  pub lines : AnswersLines (got r ∷ port_log h)
 
--- no byte is ever dropped, and no mark stored yet
+-- no byte is ever dropped
 abbrev pub MayAtPort : PortStep → Journal → Type 0
 MayAtPort (stored b) h = MayStore b h
 MayAtPort (dropped b) h = ⊥
-MayAtPort marked h = ⊥
+MayAtPort marked h = MayMark h
 MayAtPort (raised b down) h = MayRaise b h
 MayAtPort (got r) h = MayGet r h
 MayAtPort no_reply h = MayPoll h
@@ -170,10 +186,20 @@ publishing _ = false
 -- a step with which the turn moves
 abbrev pub moving : Step → Bool
 moving (at_port e) = publishing (at_port e)
+moving (read_some bytes) = true
+moving read_end = true
+moving read_failed = true
+moving (scanned b) = true
 moving line_over = false
+moving (wrote n) = true
 moving gave_up = false
 moving (turned t) = false
-moving _ = true
+
+-- a reply is looked for
+abbrev pub polling : Step → Bool
+polling (at_port (got r)) = true
+polling (at_port no_reply) = true
+polling _ = false
 
 -- a poll found nothing
 abbrev pub found_none : Step → Bool
@@ -186,6 +212,7 @@ pub record Waits (h : Journal) : Type 0 where
   pub no_read : MayRead h → ⊥
   pub no_scan : (b : ℕ) → MayScanNext b h → ⊥
   pub no_line : MayEndLine h → ⊥
+  pub no_mark : MayMark h → ⊥
   pub no_raise : (b : ℕ) → MayRaise b h → ⊥
   pub no_store : (b : ℕ) → MayStore b h → ⊥
   pub no_close : MayShut h → ⊥
@@ -197,10 +224,15 @@ pub record IsDone (h : Journal) : Type 0 where
   pub written : HasWritten h
   pub still : this_turn h ≡ []
 
+-- in a turn the other side can see one step at most, and a reply is looked for once at most
+pub record IsOneTurn (h : Journal) : Type 0 where
+  pub once : count_by publishing (this_turn h) ≤ 1
+  pub polls : count_by polling (this_turn h) ≤ 1
+
 -- what a turn answers; one that moves nothing and answers Did lowers the host's number, as the turn says itself
 abbrev pub MayTurn : Turn → Journal → Type 0
-MayTurn Did h = count_by publishing (this_turn h) ≤ 1
-MayTurn (Wait Answer) h = Waits h
+MayTurn Did h = IsOneTurn h
+MayTurn (Wait Answer) h = IsOneTurn h × Waits h
 MayTurn (Wait on) h = ⊥
 MayTurn Done h = IsDone h
 

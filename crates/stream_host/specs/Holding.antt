@@ -1,8 +1,7 @@
 -- When a machine may be held, so that a line has no answer before the machine is resumed.
 use Rattle.std.specs.Prelude.{ℕ, Bool, true, false, not, cond, ◌&&◌, ◌||◌, List, [], ◌∷◌, nat_eq}
 use Rattle.units.specs.Decimals.{is_digit}
-use Rattle.gcode_words.specs.Stripping.{plain}
-use Rattle.stream_host.specs.Jobs.{resume}
+use Rattle.stream_host.specs.Jobs.{resume, sent_text}
 
 -- `!` holds the machine
 abbrev pub hold : ℕ
@@ -23,6 +22,6 @@ abbrev pub has_pause : List ℕ → Bool
 has_pause [] = false
 has_pause (c ∷ cs) = (nat_eq c 77 && begins_zero false cs) || has_pause cs
 
--- a line asks for a pause: what is kept of it has one
+-- a line asks for a pause: what is sent of it has one
 abbrev pub pauses : List ℕ → Bool
-pauses line = has_pause (plain line)
+pauses line = has_pause (sent_text line)

@@ -1,5 +1,5 @@
 -- What the fields of a host say of what it has done.
-use Rattle.std.specs.Prelude.{◌≡◌, ◌≢◌, ℕ, ◌+◌, ◌^◌, ◌≤◌, ◌<◌, ◌⊎◌, Bool, true, false, ◌||◌, cond, nat_lt, List, [], ◌∷◌, ◌++◌, length, take, drop, map, reverse, sum, option_to_list, None}
+use Rattle.std.specs.Prelude.{◌≡◌, ◌≢◌, ℕ, ◌+◌, ◌^◌, ◌≤◌, ◌<◌, ◌⊎◌, Bool, true, false, ◌&&◌, cond, nat_lt, nat_le, List, [], ◌∷◌, ◌++◌, length, take, drop, map, reverse, sum, option_to_list, None}
 use Rattle.std.specs.Io.KnownBytes.{Consumes, IsAtEnd, Keeps}
 use Rattle.std.specs.List.{list_any, count_by}
 use Rattle.outside.specs.Causes.{Rose, SourceState, SinkState}
@@ -10,7 +10,6 @@ use Rattle.text_writer.specs.Writers.{Writing, is_due, with_text, with_all_asked
 use Rattle.status_report.specs.declared.Reply.{Reply}
 use Rattle.status_report.specs.Replies.{reply_text}
 use Rattle.gcode_words.specs.Comments.{comment_after}
-use Rattle.gcode_words.specs.Stripping.{plain}
 use Rattle.run_rules.specs.Readings.{largest_job, largest_piece}
 use Rattle.stream_host.specs.declared.Reading.{Reading}
 use Rattle.stream_host.specs.declared.Reading.TheVariants.{Ended, Failed, Large, Stopped}
@@ -18,14 +17,15 @@ use Rattle.stream_host.specs.declared.line.SentLine.{SentLine}
 use Rattle.stream_host.specs.declared.reader.Reader.{Reader}
 use Rattle.stream_host.specs.declared.unanswered.Unanswered.{Unanswered}
 use Rattle.stream_host.specs.declared.counts.Counts.{Counts}
+use Rattle.stream_host.specs.declared.resets.Resets.{Resets}
 use Rattle.stream_host.specs.declared.host.Host.{Host}
 use Rattle.run_rules.specs.Told.{errors_among}
-use Rattle.status_report.specs.Answering.{answers_in, is_bye}
+use Rattle.status_report.specs.Answering.{answers_in, is_banner, is_bye}
 use Rattle.std.specs.declared.option.Option.{Option}
-use Rattle.stream_host.specs.Jobs.{holds_reset}
-use Rattle.stream_host.specs.Steps.{Step, Journal, port_log, got_of, has_limit, is_shut, has_bye, read_of, reading_of, scanned_of, unscanned_of, raw_of, cut_of, to_store, due_of, asking_of, polls_of, empty_polls, holds_of, pause_of, is_greeted, text_of, written_of, has_given_up, this_turn}
+use Rattle.stream_host.specs.Jobs.{is_long, sent_text}
+use Rattle.stream_host.specs.Steps.{Step, Journal, port_log, got_of, has_limit, is_shut, has_bye, read_of, reading_of, scanned_of, unscanned_of, raw_of, cut_of, live_of, banners_of, resets_of, marks_of, to_store, due_of, asking_of, polls_of, empty_polls, holds_of, pause_of, is_greeted, text_of, written_of, has_given_up, this_turn}
 use Rattle.stream_host.specs.Steps.Step.{turned}
-use Rattle.stream_host.specs.Conduct.{Conducted, MayTurn, publishing, moving, found_none}
+use Rattle.stream_host.specs.Conduct.{Conducted, MayTurn, publishing, polling, moving, found_none}
 
 -- ---- the piece that was read last
 
@@ -72,21 +72,20 @@ pub record GaveNone (old new : Reader) (before now : SourceState) : Type 0 where
 
 -- ---- the line in hand
 
--- what a line takes on the link: what is kept of it, and LF
+-- what a line takes on the link: what is sent of it, and LF
 abbrev pub line_length : List ℕ → ℕ
-line_length line = length (plain line) + 1
+line_length line = length (sent_text line) + 1
 
 -- what has come of a line with these bytes
 pub record HasLine (l : SentLine) (raw : List ℕ) : Type 0 where
   pub stripper : l.stripper ≡ comment_after raw
-  pub kept : l.kept.items ≡ take 127 (plain raw)
-  pub long : l.long ≡ nat_lt 127 (length (plain raw))
-  pub reset : l.reset ≡ holds_reset raw
+  pub kept : l.kept.items ≡ take 127 (sent_text raw)
+  pub long : l.long ≡ is_long raw
   pub begun : l.begun ≡ nat_lt 0 (length raw)
 
 -- the sending ends in it
 abbrev pub is_over : SentLine → Bool
-is_over l = l.long || l.reset
+is_over l = l.long
 
 -- ---- the lines that have no answer
 
@@ -127,13 +126,19 @@ pub record KeepsPolls (count polls : ℕ) : Type 0 where
   pub polls_are : count ≡ polls
   pub few : polls < empty_polls
 
--- the counts, by the lines that were scanned whole, and the replies
-pub record KeepsCounts (c : Counts) (cuts : List (List ℕ)) (got : List Reply) : Type 0 where
-  pub unanswered_are : lengths c.unanswered ≡ map line_length (drop (answers_in got) cuts)
+-- the counts, by the lines that are not forgotten, and the replies
+pub record KeepsCounts (c : Counts) (live : List (List ℕ)) (got : List Reply) : Type 0 where
+  pub unanswered_are : lengths c.unanswered ≡ map line_length (drop (answers_in got) live)
   pub summed : IsSummed c.unanswered
-  pub lines_are : c.lines ≡ length cuts
+  pub lines_are : c.lines ≡ length live
   pub answered_is : c.answered ≡ answers_in got
   pub errors_are : c.errors ≡ errors_among got
+
+-- the resets, by how many were raised, how many Banners were got, and how many marks were stored
+pub record KeepsResets (r : Resets) (raised banners marks : ℕ) : Type 0 where
+  pub raised_is : r.raised ≡ raised
+  pub banners_are : r.banners ≡ banners
+  pub marked_is : r.marked ≡ nat_lt raised marks
 
 -- the console, by the text of the replies, how much of it is written, whether a write failed, and whether Bye was got
 pub record KeepsText (w : Writing) (text : List ℕ) (written : ℕ) (given_up bye : Bool) : Type 0 where
@@ -153,7 +158,9 @@ pub record HostFits (host : Host) (h : Journal) : Type 0 where
   pub line_is : KeepsLine host.line (raw_of h) (to_store h)
   pub due_is : KeepsDue host.line.due (due_of h)
   pub asking_is : host.asking ≡ asking_of h
-  pub counts_are : KeepsCounts host.counts (cut_of h) (got_of h)
+  pub counts_are : KeepsCounts host.counts (live_of h) (got_of h)
+  pub all_are : host.counts.all ≡ length (cut_of h)
+  pub resets_are : KeepsResets host.resets (resets_of h) (banners_of h) (length (marks_of h))
   pub polls_are : KeepsPolls host.polls (polls_of h)
   pub held_is : host.held ≡ holds_of h
   pub pause_is : host.counts.pause_at ≡ pause_of h
@@ -174,10 +181,16 @@ IsBetween h = this_turn h ≡ []
 abbrev pub IsQuiet : Journal → Type 0
 IsQuiet h = count_by publishing (this_turn h) ≡ 0
 
--- a poll found no reply in this turn, and nothing was published
+-- a poll found no reply in this turn, no other was made, and nothing was published
 pub record HasPolled (h : Journal) : Type 0 where
   pub poll : list_any found_none (this_turn h) ≡ true
+  pub once : count_by polling (this_turn h) ≤ 1
   pub quiet : IsQuiet h
+
+-- a step ends a turn
+abbrev pub ends_turn : Step → Bool
+ends_turn (turned t) = true
+ends_turn _ = false
 
 -- the number of a host, which falls where a turn does something and moves nothing
 abbrev pub rank : Host → ℕ
@@ -189,13 +202,15 @@ pub record HostWorked (t : Turn) (old new : Host) (h next : Journal) : Type 0 wh
   pub fits : HostFits new next
   pub steps : List Step
   pub are : next ≡ steps ++ h
+  pub inner : list_any ends_turn steps ≡ false
   pub may : MayTurn t next
   pub moves : t ≡ Did → (list_any moving steps ≡ true) ⊎ (rank new < rank old)
 
--- a turn adds what was done in it, and its answer
+-- a turn adds what was done in it, which ends no other turn, and its answer
 pub record HostTurned (t : Turn) (old new : Host) (h next : Journal) : Type 0 where
   pub steps : List Step
   pub are : next ≡ turned t ∷ (steps ++ h)
+  pub inner : list_any ends_turn steps ≡ false
   pub moves : t ≡ Did → (list_any moving steps ≡ true) ⊎ (rank new < rank old)
 
 -- ---- what a host tells of its devices
@@ -226,8 +241,10 @@ pub record DidAlone (old new : Host) (h next : Journal) : Type 0 where
   pub fits : HostFits new next
   pub steps : List Step
   pub are : next ≡ steps ++ h
+  pub inner : list_any ends_turn steps ≡ false
   pub port : port_log next ≡ port_log h
   pub quiet : IsQuiet h → IsQuiet next
+  pub looks : count_by polling (this_turn next) ≡ count_by polling (this_turn h)
   pub moves : (list_any moving steps ≡ true) ⊎ (rank new < rank old)
 
 -- a line more may be counted
@@ -236,6 +253,7 @@ pub record HasRoom (c : Counts) : Type 0 where
   pub small : c.unanswered.total ≤ 128
   pub summed : IsSummed c.unanswered
   pub lines : c.lines + 1 < 2 ^ 32
+  pub all : c.all + 1 < 2 ^ 32
 
 -- the next byte may be scanned
 pub record MayScanOn (host : Host) : Type 0 where
@@ -266,3 +284,17 @@ shown w r = cond (is_bye r) (with_all_asked (with_text w (reply_text r))) (with_
 pub record HostRests (host : Host) : Type 0 where
   pub bye : host.bye ≡ true
   pub none : is_due host.text ≡ false
+
+-- ---- resets
+
+-- a Banner is awaited
+abbrev pub awaits_by : Resets → Bool
+awaits_by r = nat_lt 0 r.raised && nat_le r.banners r.raised
+
+-- a reply begins an epoch
+abbrev pub begins_by : Resets → Reply → Bool
+begins_by r reply = is_banner reply && nat_lt 0 r.banners
+
+-- a reply is got
+abbrev pub with_banner : Resets → Reply → Resets
+with_banner r reply = record r { banners = cond (is_banner reply) (r.banners + 1) r.banners }

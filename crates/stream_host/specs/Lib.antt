@@ -3,6 +3,7 @@ pub mod Jobs
 pub mod Holding
 pub mod Steps
 pub mod Conduct
+pub mod Epochs
 pub mod Ports
 pub mod Hosts
 pub mod Ran

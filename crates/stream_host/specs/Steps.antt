@@ -1,21 +1,22 @@
 -- What a host has done, the latest first: at its port, and by itself.
-use Rattle.std.specs.Prelude.{ℕ, ◌+◌, Bool, true, false, cond, List, [], ◌∷◌, ◌++◌, length, drop, nat_eq, nat_lt}
-use Rattle.std.specs.List.{list_any}
-use Rattle.gcode_words.specs.Stripping.{plain}
+use Rattle.std.specs.Prelude.{ℕ, ◌+◌, Bool, true, false, ◌&&◌, cond, List, [], ◌∷◌, ◌++◌, length, take, drop, nat_eq, nat_lt}
+use Rattle.std.specs.List.{count_by, list_any}
 use Rattle.run_rules.specs.Readings.{largest_job}
 use Rattle.run_rules.specs.Told.{replies_text, errors_among}
 use Rattle.run_rules.specs.Work.{is_limit}
+use Rattle.serial_ring.specs.Lists.{has_banner}
 use Rattle.status_report.specs.declared.Reply.{Reply}
 use Rattle.outside.specs.declared.Turn.{Turn}
 use Rattle.stream_host.specs.declared.Reading.{Reading}
 use Rattle.stream_host.specs.declared.Reading.TheVariants.{Ended, Failed, Large, Stopped}
 use Rattle.stream_host.specs.declared.Stop.{Stop}
 use Rattle.stream_host.specs.declared.line.Asking.{Asking}
-use Rattle.stream_host.specs.declared.line.Asking.TheVariants.{Nothing, Awaits, HasOne}
-use Rattle.stream_host.specs.declared.Stop.TheVariants.{End, LongLine, TooLarge, Reset, Alarm}
+use Rattle.stream_host.specs.declared.line.Asking.TheVariants.{Nothing, Awaits, HasOne, AsksAgain}
+use Rattle.stream_host.specs.declared.Stop.TheVariants.{End, LongLine, TooLarge, Alarm}
 use Rattle.code_table.specs.Tables.{query}
-use Rattle.status_report.specs.Answering.{answers_in, is_bye, is_report}
-use Rattle.stream_host.specs.Jobs.{resume, is_long, holds_reset, served}
+use Rattle.status_report.specs.Answering.{answers_in, is_banner, is_bye, is_report}
+use Rattle.stream_host.specs.Jobs.{resume, is_reset, lacks_banner, is_long, or_reset, sent_text, served}
+use Rattle.stream_host.specs.Links.{banners_in}
 use Rattle.stream_host.specs.Holding.{held_after, pauses}
 
 -- what a host does at its port
@@ -87,11 +88,21 @@ latest_got [] = []
 latest_got (got r ∷ h) = r ∷ latest_got h
 latest_got (_ ∷ h) = latest_got h
 
--- the marks stored, by how many bytes were stored before each, the latest first
+-- the marks stored, by how many bytes were stored before each, the latest first; they are numbered from 1 in their order
 abbrev pub marks_in : PortLog → List ℕ
 marks_in [] = []
 marks_in (marked ∷ h) = length (stored_in h) ∷ marks_in h
 marks_in (_ ∷ h) = marks_in h
+
+-- how many resets were raised
+abbrev pub resets_in : PortLog → ℕ
+resets_in [] = 0
+resets_in (raised b down ∷ h) = cond (is_reset b) (resets_in h + 1) (resets_in h)
+resets_in (_ ∷ h) = resets_in h
+
+-- a reply begins an epoch: it is a Banner, and none of the run's first
+abbrev pub begins : Reply → PortLog → Bool
+begins r h = is_banner r && has_banner (latest_got h)
 
 -- the same as of the port's log
 abbrev pub stored_of : Journal → List ℕ
@@ -118,6 +129,20 @@ answered_of h = answers_in (got_of h)
 -- how many of them are errors
 abbrev pub errors_of : Journal → ℕ
 errors_of h = errors_among (got_of h)
+
+-- how many Banners were got
+abbrev pub banners_of : Journal → ℕ
+banners_of h = banners_in (latest_got (port_log h))
+
+abbrev pub marks_of : Journal → List ℕ
+marks_of h = marks_in (port_log h)
+
+abbrev pub resets_of : Journal → ℕ
+resets_of h = resets_in (port_log h)
+
+-- a Banner is awaited: a reset was raised, and the Banner that it waits for was not got
+abbrev pub awaits_banner : Journal → Bool
+awaits_banner h = lacks_banner (resets_of h) (banners_of h)
 
 -- ---- the polls, and what is raised
 
@@ -159,10 +184,11 @@ resumes_in [] = 0
 resumes_in (raised b down ∷ h) = cond (resumes_next h) (resumes_in h + 1) (resumes_in h)
 resumes_in (_ ∷ h) = resumes_in h
 
--- a `!` was raised, and no `~` since
+-- a `!` was raised, and no `~` since, nor did an epoch begin
 abbrev pub holds_in : PortLog → Bool
 holds_in [] = false
 holds_in (raised b down ∷ h) = held_after b (holds_in h)
+holds_in (got r ∷ h) = cond (begins r h) false (holds_in h)
 holds_in (_ ∷ h) = holds_in h
 
 -- all polls that found no reply
@@ -239,32 +265,45 @@ left_at e bytes = bytes
 abbrev pub to_store : Journal → List ℕ
 to_store [] = []
 to_store (at_port e ∷ h) = left_at e (to_store h)
-to_store (scanned b ∷ h) = cond (nat_eq b 10) (plain (raw_of h) ++ 10 ∷ []) (to_store h)
-to_store (line_over ∷ h) = plain (raw_of h) ++ 10 ∷ []
+to_store (scanned b ∷ h) = cond (nat_eq b 10) (sent_text (raw_of h) ++ 10 ∷ []) (to_store h)
+to_store (line_over ∷ h) = sent_text (raw_of h) ++ 10 ∷ []
 to_store (_ ∷ h) = to_store h
 
-abbrev pub begun_at : PortStep → List (List ℕ) → List (List ℕ) → List (List ℕ)
-begun_at (stored b) cuts begun = cuts
-begun_at e cuts begun = begun
+-- Those of the lines that were scanned whole that are not forgotten. Where an epoch begins, each that has no answer is forgotten.
+abbrev pub live_of : Journal → List (List ℕ)
+live_of [] = []
+live_of (at_port (got r) ∷ h) = cond (begins r (port_log h)) (take (answered_of h) (live_of h)) (live_of h)
+live_of (scanned b ∷ h) = cond (nat_eq b 10) (live_of h ++ raw_of h ∷ []) (live_of h)
+live_of (line_over ∷ h) = live_of h ++ raw_of h ∷ []
+live_of (_ ∷ h) = live_of h
 
--- the lines of which a byte was stored
+-- the lines that have no answer
+abbrev pub unanswered_of : Journal → List (List ℕ)
+unanswered_of h = drop (answered_of h) (live_of h)
+
+-- how many lines are forgotten
+abbrev pub forgotten_of : Journal → ℕ
+forgotten_of [] = 0
+forgotten_of (at_port (got r) ∷ h) = cond (begins r (port_log h)) (forgotten_of h + length (unanswered_of h)) (forgotten_of h)
+forgotten_of (_ ∷ h) = forgotten_of h
+
+-- those of the lines that are not forgotten of which a byte was stored
 abbrev pub begun_of : Journal → List (List ℕ)
 begun_of [] = []
-begun_of (at_port e ∷ h) = begun_at e (cut_of h) (begun_of h)
+begun_of (at_port (stored b) ∷ h) = live_of h
+begun_of (at_port (got r) ∷ h) = cond (begins r (port_log h)) (take (answered_of h) (begun_of h)) (begun_of h)
 begun_of (_ ∷ h) = begun_of h
 
 -- ---- pauses
 
-abbrev pub pause_behind : PortStep → ℕ → ℕ
-pause_behind (raised b down) n = cond (nat_eq b resume) 0 n
-pause_behind e n = n
-
--- the number of the last line that asks for a pause, of those that were scanned whole since the last `~`; 0 where none does
+-- The number of the last line that asks for a pause, of those that were scanned whole since the last `~` and in this epoch, among
+-- the lines that are not forgotten; 0 where none does.
 abbrev pub pause_of : Journal → ℕ
 pause_of [] = 0
-pause_of (at_port e ∷ h) = pause_behind e (pause_of h)
-pause_of (scanned b ∷ h) = cond (nat_eq b 10) (cond (pauses (raw_of h)) (length (cut_of h) + 1) (pause_of h)) (pause_of h)
-pause_of (line_over ∷ h) = cond (pauses (raw_of h)) (length (cut_of h) + 1) (pause_of h)
+pause_of (at_port (raised b down) ∷ h) = cond (nat_eq b resume) 0 (pause_of h)
+pause_of (at_port (got r) ∷ h) = cond (begins r (port_log h)) 0 (pause_of h)
+pause_of (scanned b ∷ h) = cond (nat_eq b 10) (cond (pauses (raw_of h)) (length (live_of h) + 1) (pause_of h)) (pause_of h)
+pause_of (line_over ∷ h) = cond (pauses (raw_of h)) (length (live_of h) + 1) (pause_of h)
 pause_of (_ ∷ h) = pause_of h
 
 -- ---- realtime bytes
@@ -286,59 +325,83 @@ due_of (_ ∷ h) = due_of h
 
 -- ---- reports
 
--- a report is asked for, whether one was got before or not; one is got
+-- a report is asked for, the first time or again; one is got
 abbrev pub asked_more : Asking → Asking
-asked_more a = Awaits
+asked_more Nothing = Awaits
+asked_more Awaits = Awaits
+asked_more HasOne = AsksAgain
+asked_more AsksAgain = AsksAgain
 
 abbrev pub got_one : Asking → Asking
 got_one Nothing = Nothing
 got_one Awaits = HasOne
 got_one HasOne = HasOne
+got_one AsksAgain = HasOne
 
 abbrev pub asking_at : PortStep → Asking → Asking
 asking_at (raised b down) a = cond (nat_eq b query) (asked_more a) a
 asking_at (got r) a = cond (is_report r) (got_one a) a
 asking_at e a = a
 
--- Whether the line in hand has asked for a report, and whether one was got since it last did. It is the line that is scanned, or
--- else the last one that was scanned whole.
+-- Whether the line in hand has asked for a report, and whether one was got since it first did, and since it last did. It is the
+-- line that is scanned, or else the last one that was scanned whole.
 abbrev pub asking_of : Journal → Asking
 asking_of [] = Nothing
 asking_of (at_port e ∷ h) = asking_at e (asking_of h)
 asking_of (scanned b ∷ h) = cond (nat_eq (length (raw_of h)) 0) Nothing (asking_of h)
 asking_of (_ ∷ h) = asking_of h
 
--- a report was asked for, and none was got since
+-- a report was asked for, and none was got since it first was
 abbrev pub is_waiting : Asking → Bool
 is_waiting Nothing = false
 is_waiting Awaits = true
 is_waiting HasOne = false
+is_waiting AsksAgain = false
+
+-- none was got since it last was
+abbrev pub is_asking : Asking → Bool
+is_asking Nothing = false
+is_asking Awaits = true
+is_asking HasOne = false
+is_asking AsksAgain = true
 
 abbrev pub awaits_report : Journal → Bool
 awaits_report h = is_waiting (asking_of h)
 
+abbrev pub awaits_any_report : Journal → Bool
+awaits_any_report h = is_asking (asking_of h)
+
 -- ---- the end
 
--- an alarm was got
+-- the alarm of a soft limit was got
 abbrev pub has_limit : Journal → Bool
 has_limit h = list_any is_limit (got_of h)
 
 -- why it sends no more of the job: by how the reading goes, the line that is being scanned, and the number of those before it
 abbrev pub stop_at : Reading → List ℕ → ℕ → Stop
 stop_at Large raw lines = TooLarge
-stop_at _ raw lines = cond (is_long raw) (LongLine (lines + 1)) (cond (holds_reset raw) Reset End)
+stop_at _ raw lines = cond (is_long raw) (LongLine (lines + 1)) End
 
 abbrev pub job_stop_of : Journal → Stop
 job_stop_of h = stop_at (reading_of h) (raw_of h) (length (cut_of h))
 
--- where nothing of the job ends the sending, an alarm does: at the first line that has no answer
-abbrev pub or_alarm : (alarm : Bool) → (answered : ℕ) → Stop → Stop
-or_alarm true answered End = Alarm (answered + 1)
-or_alarm alarm answered stop = stop
+-- where nothing of the job ends the sending, an alarm does: at the first line that is neither answered nor forgotten
+abbrev pub or_alarm : (alarm : Bool) → (over : ℕ) → Stop → Stop
+or_alarm true over End = Alarm (over + 1)
+or_alarm alarm over stop = stop
 
--- why it sends no more: what the job says, or else an alarm, at the first line without an answer
+-- how many lines are answered or forgotten
+abbrev pub over_of : Journal → ℕ
+over_of h = answered_of h + forgotten_of h
+
+-- how many resets were scanned: those that were raised, and one that is due
+abbrev pub resets_so_far : Journal → ℕ
+resets_so_far h = resets_of h + count_by is_reset (due_of h)
+
+-- why it sends no more: what the job says, or else a reset whose Banner is lacking, or else an alarm, at the first line of the epoch
+-- without an answer
 abbrev pub stop_of : Journal → Stop
-stop_of h = or_alarm (has_limit h) (answered_of h) (job_stop_of h)
+stop_of h = or_alarm (has_limit h) (over_of h) (or_reset (lacks_banner (resets_so_far h) (banners_of h)) (job_stop_of h))
 
 -- ---- the console
 

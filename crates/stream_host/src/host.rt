@@ -1,29 +1,29 @@
 //! The host.
 
-ghost use Rattle.std.specs.Prelude.{◌+◌, ◌≡◌, ◌≢◌, ◌↔◌, ◌≤◌, ◌<◌, ◌∷◌, [], ◌++◌, ℕ, List, true, false, length, ◌||◌, Bool, Some, None, cond};
+ghost use Rattle.std.specs.Prelude.{◌+◌, ◌^◌, ◌≡◌, ◌≢◌, ◌↔◌, ◌≤◌, ◌<◌, ◌∷◌, [], ◌++◌, ℕ, List, true, false, length, ◌||◌, Bool, Some, None, cond};
 ghost use Rattle.status_report.specs.Replies.{IsReply};
 ghost use Rattle.outside.specs.declared.Turn.TheVariants.{Did};
 ghost use Rattle.text_writer.specs.Writers.{is_due};
 ghost use Rattle.stream_host.specs.Ports.{AnswersLines};
 ghost use Rattle.run_rules.specs.Work.{is_limit};
-ghost use Rattle.stream_host.specs.Steps.{Journal, port_log, got_of, has_limit, job_stop_of, or_alarm, stop_of, stop_at, raw_of, cut_of, reading_of, has_given_up, answered_of, errors_of, awaits_report};
+ghost use Rattle.stream_host.specs.Steps.{Journal, port_log, got_of, live_of, awaits_report};
 ghost use Rattle.stream_host.specs.Holding.{pauses};
-ghost use Rattle.stream_host.specs.Steps.PortStep.{stored, raised, got, no_reply, shut};
+ghost use Rattle.stream_host.specs.Steps.PortStep.{stored, marked, raised, got, no_reply, shut};
 ghost use Rattle.stream_host.specs.Steps.Step.{at_port, scanned, turned};
 ghost use Rattle.status_report.specs.Answering.{answers_in, is_bye};
-ghost use Rattle.stream_host.specs.Jobs.{resume};
+ghost use Rattle.stream_host.specs.Jobs.{resume, is_reset, sent_text};
 ghost use Rattle.stream_host.specs.Conduct.{AreAnswered, waits_for_lines, may_be_held, IsGreeted, IsSettled, MayShut};
-ghost use Rattle.stream_host.specs.Hosts.{HostFits, HostWorked, HostTurned, HostTellsOn, HasPolled, IsBetween, DidAlone, MayScanOn, MayReadOn, HasRoom, HasShown, HostRests, HasLine, KeepsLine, KeepsCounts, is_over, unread, shown};
+ghost use Rattle.stream_host.specs.Hosts.{HostFits, HostWorked, HostTurned, HostTellsOn, HasPolled, IsBetween, DidAlone, MayScanOn, MayReadOn, HasRoom, HasShown, HostRests, HasLine, IsSummed, lengths, with_banner, begins_by, awaits_by, KeepsLine, KeepsCounts, is_over, unread, shown};
 ghost use Rattle.outside.specs.Causes.{SourceState, SinkState};
-ghost use Rattle.gcode_words.specs.Stripping.{plain};
 
+use crate::Reading;
 use crate::counts::Counts;
 use crate::line::{Asking, SentLine};
 use crate::pause::has_pause;
 use crate::ports::HostPort;
 use crate::reader::{Gave, LARGEST_JOB, Reader};
 use crate::realtime::{RESUME, is_held_after, pause_after, waits_for_lines};
-use crate::{Reading, Stop};
+use crate::resets::Resets;
 use outside::{On, Sink, Source, Turn};
 use serial_ring::Stored;
 use status_report::{Reply, put_reply};
@@ -36,25 +36,29 @@ const RECEIVE_ROOM: usize = 128;
 /// So many polls in a row that find no reply are enough to resume the machine.
 const EMPTY_POLLS: u16 = 4096;
 
+/// The number of the alarm that ends the run: a line is beyond the limits.
+const SOFT_LIMIT: u8 = 2;
+
 /// Half as many are enough to read on where the machine may be held, or the board has said nothing yet.
 const HELD_POLLS: u16 = 2048;
 
 /// Reads a job, raises its realtime bytes, sends its lines by counting characters, and shows the replies.
 #[derive(Drop)]
 pub struct Host {
-    job: Reader,
-    line: SentLine,
-    asking: Asking,
-    counts: Counts,
-    text: TextWriter,
-    polls: u16,
-    /// A `!` was raised, and no `~` since.
-    held: bool,
-    greeted: bool,
-    /// An alarm was got.
-    alarm: bool,
-    shut: bool,
-    bye: bool,
+    pub(crate) job: Reader,
+    pub(crate) line: SentLine,
+    pub(crate) asking: Asking,
+    pub(crate) counts: Counts,
+    pub(crate) text: TextWriter,
+    pub(crate) polls: u16,
+    pub(crate) resets: Resets,
+    /// A `!` was raised, and no `~` since, nor did an epoch begin.
+    pub(crate) held: bool,
+    pub(crate) greeted: bool,
+    /// An alarm was got that ends the run.
+    pub(crate) alarm: bool,
+    pub(crate) shut: bool,
+    pub(crate) bye: bool,
 }
 
 impl Host {
@@ -69,87 +73,13 @@ impl Host {
             counts: Counts::new(),
             text: TextWriter::new(),
             polls: 0,
+            resets: Resets::new(),
             held: false,
             greeted: false,
             alarm: false,
             shut: false,
             bye: false,
         }
-    }
-
-    /// What the line in hand says of the sending.
-    fn stop_in_line(&self) -> Stop
-        ensures { (h : Journal) → HostFits self.now h → result ≡ stop_at Reading.Ended (raw_of h) (length (cut_of h)) }
-    {
-        if self.line.long {
-            Stop::LongLine(self.counts.lines.saturating_add(1))
-        } else if self.line.reset {
-            Stop::Reset
-        } else {
-            Stop::End
-        }
-    }
-
-    /// What the job says of it.
-    fn stop_in_job(&self) -> Stop
-        ensures { (h : Journal) → HostFits self.now h → result ≡ job_stop_of h }
-    {
-        match self.job.reading {
-            Reading::Large => Stop::TooLarge,
-            Reading::Ended => self.stop_in_line(),
-            Reading::Failed => self.stop_in_line(),
-            Reading::Stopped => self.stop_in_line(),
-        }
-    }
-
-    /// Why the sending ended: End until another cause comes. An alarm is told where the job gives no cause, by the number of
-    /// the first line that has no answer.
-    pub fn stop(&self) -> Stop
-        ensures { (h : Journal) → HostFits self.now h → result ≡ stop_of h }
-    {
-        let stop = self.stop_in_job();
-        match stop {
-            Stop::End => self.stop_at_alarm(),
-            _ => stop,
-        }
-    }
-
-    /// The same where the job gives no cause.
-    fn stop_at_alarm(&self) -> Stop
-        ensures { (h : Journal) → HostFits self.now h → result ≡ or_alarm (has_limit h) (answered_of h) Stop.End }
-    {
-        if !self.alarm {
-            return Stop::End;
-        }
-        Stop::Alarm(self.counts.answered.saturating_add(1))
-    }
-
-    /// How many `ok` and `error` replies were got.
-    pub fn answered(&self) -> u32
-        ensures { (h : Journal) → HostFits self.now h → result ≡ answered_of h }
-    {
-        self.counts.answered
-    }
-
-    /// How many `error` replies were got.
-    pub fn errors(&self) -> u32
-        ensures { (h : Journal) → HostFits self.now h → result ≡ errors_of h }
-    {
-        self.counts.errors
-    }
-
-    /// Whether a read of the job has failed.
-    pub fn source_failed(&self) -> bool
-        ensures { (h : Journal) → HostFits self.now h → (result ≡ true) ↔ (reading_of h ≡ Reading.Failed) }
-    {
-        matches!(self.job.reading, Reading::Failed)
-    }
-
-    /// Whether a write to the console has failed.
-    pub fn console_failed(&self) -> bool
-        ensures { (h : Journal) → HostFits self.now h → result ≡ has_given_up h }
-    {
-        self.text.failed()
     }
 
     /// Makes one call of the console with what waits.
@@ -164,8 +94,9 @@ impl Host {
     /// Counts a reply.
     fn count(&mut self, reply: &Reply)
         requires { (h : Journal) × HostFits self.old h × AnswersLines (got reply.now ∷ port_log h) }
-        ensures counts { (h : Journal) → HostFits self.old h → AnswersLines (got reply.now ∷ port_log h) → KeepsCounts self.new.counts (cut_of h) (got_of h ++ reply.now ∷ []) }
+        ensures counts { (h : Journal) → HostFits self.old h → AnswersLines (got reply.now ∷ port_log h) → KeepsCounts self.new.counts (live_of h) (got_of h ++ reply.now ∷ []) }
         ensures pause { self.new.counts.pause_at ≡ self.old.counts.pause_at }
+        ensures all { self.new.counts.all ≡ self.old.counts.all }
         ensures same { self.new ≡ record self.old { counts = self.new.counts } }
     {
         match reply {
@@ -192,6 +123,22 @@ impl Host {
         }
     }
 
+    /// An epoch begins where a reply is a Banner, and not the run's first: the lines that have no answer are forgotten, and so is
+    /// a hold.
+    fn begin_epoch(&mut self, reply: &Reply)
+        requires few { self.old.resets.banners + 1 < 2 ^ 32 }
+        ensures resets { self.new.resets ≡ with_banner self.old.resets reply.now }
+        ensures begun { begins_by self.old.resets reply.now ≡ true → (lengths self.new.counts.unanswered ≡ []) × IsSummed self.new.counts.unanswered
+            × (self.new ≡ record self.old { resets = self.new.resets; held = false; counts = record self.old.counts { unanswered = self.new.counts.unanswered; lines = self.old.counts.answered; pause_at = 0 } }) }
+        ensures none { begins_by self.old.resets reply.now ≡ false → self.new ≡ record self.old { resets = self.new.resets } }
+        ensures text { self.new.text ≡ self.old.text }
+    {
+        if self.resets.told(reply) {
+            self.counts.forget();
+            self.held = false;
+        }
+    }
+
     /// A reply was got: it is counted, and its text waits for the console. The polls are counted anew.
     fn take_reply(&mut self, reply: &Reply)
         requires reply { IsReply reply.now }
@@ -202,6 +149,7 @@ impl Host {
         ensures tells { (h : Journal) (job : SourceState) (console : SinkState) → HostTellsOn self.old self.new h (at_port (got reply.now) ∷ h) job job console console }
     {
         self.count(reply);
+        self.begin_epoch(reply);
         self.show(reply);
         self.asking = self.asking.told(reply);
         self.polls = 0;
@@ -226,11 +174,13 @@ impl Host {
         requires may { MayScanOn self.old }
         requires going { self.old.shut ≡ false }
         requires calm { self.old.alarm ≡ false }
+        requires epoch { awaits_by self.old.resets ≡ false }
         requires fits { (h : Journal) × HostFits self.old h }
         ensures fits { (h : Journal) → HostFits self.old h → (b : ℕ) × HostFits self.new (scanned b ∷ h) }
         ensures text { self.new.text ≡ self.old.text }
         ensures shut { self.new.shut ≡ self.old.shut }
         ensures alarm { self.new.alarm ≡ self.old.alarm }
+        ensures resets { self.new.resets ≡ self.old.resets }
         ensures fewer { length (unread self.new.job) < length (unread self.old.job) }
     {
         let byte = self.job.next_byte();
@@ -247,6 +197,7 @@ impl Host {
         requires may { MayScanOn self.old }
         requires going { self.old.shut ≡ false }
         requires calm { self.old.alarm ≡ false }
+        requires epoch { awaits_by self.old.resets ≡ false }
         requires fits { (h : Journal) × HostFits self.old h }
         ensures { (h : Journal) → HostFits self.old h → (next : Journal) × DidAlone self.old self.new h next
             × ((job : SourceState) (console : SinkState) → HostTellsOn self.old self.new h next job job console console) }
@@ -263,6 +214,7 @@ impl Host {
         requires shown { HasShown self.old.text }
         requires going { self.old.shut ≡ false }
         requires calm { self.old.alarm ≡ false }
+        requires epoch { awaits_by self.old.resets ≡ false }
         requires settled { (h : Journal) → HostFits self.old h → IsSettled h }
         requires fits { (h : Journal) × HostFits self.old h }
         ensures { (h : Journal) → HostFits self.old h → (next : Journal) × DidAlone self.old self.new h next
@@ -278,7 +230,8 @@ impl Host {
         }
     }
 
-    /// Whether a byte that is due is not raised yet: a `?` or a cancel waits until each line before its own is answered.
+    /// Whether a byte that is due is not raised yet: a `?` or a cancel waits until each line of the epoch before its own is
+    /// answered.
     fn is_early(&self, byte: u8) -> bool
         ensures { (h : Journal) → HostFits self.now h → (result ≡ false) ↔ (waits_for_lines byte ≡ true → AreAnswered h) }
     {
@@ -293,10 +246,25 @@ impl Host {
         self.asking == Asking::Awaits || self.counts.unanswered.total > RECEIVE_ROOM
     }
 
+    /// Stores the mark of the reset that is due.
+    fn mark<P: HostPort>(&mut self, port: &mut P)
+        requires due { self.old.line.due ≡ Some 0x18 }
+        requires fresh { self.old.resets.marked ≡ false }
+        requires calm { self.old.alarm ≡ false }
+        requires stands { (rest : P.Rest) × (h : Journal) × P.stands port.old rest (port_log h) × HostFits self.old h }
+        ensures marked { (rest : P.Rest) (h : Journal) → P.stands port.old rest (port_log h) → HostFits self.old h → P.stands port.new rest (marked ∷ port_log h)
+            × HostFits self.new (at_port marked ∷ h) }
+        ensures text { self.new.text ≡ self.old.text }
+    {
+        port.mark();
+        self.resets.marked = true;
+    }
+
     /// Raises the byte that is due.
     fn raise<P: HostPort>(&mut self, port: &mut P, byte: u8)
         requires due { self.old.line.due ≡ Some byte }
         requires calm { self.old.alarm ≡ false }
+        requires behind_mark { is_reset byte ≡ true → self.old.resets.marked ≡ true }
         requires after { (h : Journal) → HostFits self.old h → waits_for_lines byte ≡ true → AreAnswered h }
         requires stands { (rest : P.Rest) × (h : Journal) × P.stands port.old rest (port_log h) × HostFits self.old h }
         ensures raised { (rest : P.Rest) (h : Journal) → P.stands port.old rest (port_log h) → HostFits self.old h → (down : Bool) × P.stands port.new rest (raised byte down ∷ port_log h)
@@ -305,6 +273,7 @@ impl Host {
     {
         port.raise(byte);
         self.line.due = None;
+        self.resets.raise(byte);
         self.asking = self.asking.raised(byte);
         self.held = is_held_after(byte, self.held);
         self.counts.pause_at = pause_after(byte, self.counts.pause_at);
@@ -334,6 +303,7 @@ impl Host {
     fn store<P: HostPort>(&mut self, port: &mut P)
         requires storing { self.old.line.whole ≡ true }
         requires calm { self.old.alarm ≡ false }
+        requires epoch { awaits_by self.old.resets ≡ false }
         requires room { self.old.counts.unanswered.total ≤ 128 }
         requires reported { self.old.asking ≢ Asking.Awaits }
         requires stands { (rest : P.Rest) × (h : Journal) × P.stands port.old rest (port_log h) × HostFits self.old h }
@@ -361,8 +331,8 @@ impl Host {
         self.shut = true;
     }
 
-    /// Whether the banner is awaited: none was got, and the board may still tell it.
-    fn awaits_banner(&self) -> bool
+    /// Whether the first banner is awaited: nothing was got, and the board may still tell it.
+    fn awaits_greeting(&self) -> bool
         ensures { (h : Journal) → HostFits self.now h → (result ≡ false) ↔ IsGreeted h }
     {
         !self.greeted && self.polls < HELD_POLLS
@@ -380,10 +350,10 @@ impl Host {
     fn is_settled(&self) -> bool
         ensures { (h : Journal) → HostFits self.now h → (result ≡ true) ↔ IsSettled h }
     {
-        if self.awaits_banner() {
+        if self.awaits_greeting() {
             return false;
         }
-        if self.asking == Asking::Awaits {
+        if self.asking.is_open() {
             return false;
         }
         if self.counts.answered == self.counts.lines {
@@ -404,7 +374,7 @@ impl Host {
             && matches!(self.job.reading, Reading::Stopped)
     }
 
-    /// Nothing more is sent: the link is closed, and then replies are waited for.
+    /// Nothing more is sent: the link is closed, but for a Banner that is awaited, and then replies are waited for.
     fn send_no_more<P: HostPort>(&mut self, port: &mut P) -> Turn
         requires alarm { self.old.alarm ≡ true }
         requires shown { HasShown self.old.text }
@@ -415,6 +385,9 @@ impl Host {
         ensures going { result ≢ Turn.Done }
     {
         if self.shut {
+            return Turn::Wait(On::Answer);
+        }
+        if self.resets.awaits() {
             return Turn::Wait(On::Answer);
         }
         self.close(port);
@@ -436,8 +409,30 @@ impl Host {
         self.send_on(port, job)
     }
 
-    /// Takes one step of sending: raises a byte, stores one, scans, reads once nothing is awaited, or closes the link. Where
-    /// it may do none, a reply is waited for.
+    /// Raises a byte that is due, a reset behind its mark, which is stored in a turn of its own. Where it is too early, a reply is
+    /// waited for.
+    fn raise_due<P: HostPort>(&mut self, port: &mut P, byte: u8) -> Turn
+        requires due { self.old.line.due ≡ Some byte }
+        requires calm { self.old.alarm ≡ false }
+        requires shown { HasShown self.old.text }
+        requires stands { (rest : P.Rest) × (h : Journal) × P.stands port.old rest (port_log h) × HostFits self.old h × HasPolled h }
+        ensures goes_on { (rest : P.Rest) (h : Journal) → P.stands port.old rest (port_log h) → HostFits self.old h → HasPolled h
+            → (next : Journal) × P.stands port.new rest (port_log next) × HostWorked result self.old self.new h next
+            × ((job : SourceState) (console : SinkState) → HostTellsOn self.old self.new h next job job console console) }
+        ensures going { result ≢ Turn.Done }
+    {
+        if self.is_early(byte) {
+            return Turn::Wait(On::Answer);
+        }
+        if self.resets.wants_mark(byte) {
+            self.mark(port);
+            return Turn::Did;
+        }
+        self.raise(port, byte);
+        Turn::Did
+    }
+
+    /// Takes one step of sending: marks and raises a byte, or goes on with the line where no Banner is awaited.
     fn send_on<P: HostPort, So: Source>(&mut self, port: &mut P, job: &mut So) -> Turn
         requires calm { self.old.alarm ≡ false }
         requires shown { HasShown self.old.text }
@@ -448,12 +443,26 @@ impl Host {
         ensures going { result ≢ Turn.Done }
     {
         if let Some(byte) = self.line.due {
-            if self.is_early(byte) {
-                return Turn::Wait(On::Answer);
-            }
-            self.raise(port, byte);
-            return Turn::Did;
+            return self.raise_due(port, byte);
         }
+        if self.resets.awaits() {
+            return Turn::Wait(On::Answer);
+        }
+        self.send_line(port, job)
+    }
+
+    /// Stores a byte, scans, reads once nothing is awaited, or closes the link. Where it may do none, a reply is waited for.
+    fn send_line<P: HostPort, So: Source>(&mut self, port: &mut P, job: &mut So) -> Turn
+        requires none_due { self.old.line.due ≡ None }
+        requires calm { self.old.alarm ≡ false }
+        requires epoch { awaits_by self.old.resets ≡ false }
+        requires shown { HasShown self.old.text }
+        requires stands { (rest : P.Rest) × (h : Journal) × P.stands port.old rest (port_log h) × HostFits self.old h × HasPolled h }
+        ensures goes_on { (rest : P.Rest) (h : Journal) → P.stands port.old rest (port_log h) → HostFits self.old h → HasPolled h
+            → (next : Journal) × P.stands port.new rest (port_log next) × HostWorked result self.old self.new h next
+            × ((console : SinkState) → HostTellsOn self.old self.new h next (So.state job.old) (So.state job.new) console console) }
+        ensures going { result ≢ Turn.Done }
+    {
         if self.line.whole {
             if self.is_held_back() {
                 return Turn::Wait(On::Answer);
@@ -565,26 +574,21 @@ impl Host {
     }
 }
 
-/// The alarm of a soft limit.
-const SOFT_LIMIT: u8 = 2;
-
-/// Whether the alarm of a soft limit was got, with a reply more.
+/// Whether an alarm was got that ends the run, with a reply more.
 fn is_alarmed_after(reply: &Reply, alarm: bool) -> bool
     ensures { result ≡ (alarm || is_limit reply.now) }
 {
-    match reply {
-        Reply::Alarm(number) => alarm || *number == SOFT_LIMIT,
-        _ => alarm,
-    }
+    alarm || matches!(reply, Reply::Alarm(SOFT_LIMIT))
 }
 
 /// The line in hand is over, and is to be stored.
 fn finish_line(line: &mut SentLine, counts: &mut Counts)
     requires room { HasRoom counts.old }
     requires sends { is_over line.old ≡ false }
-    ensures line { (raw : List ℕ) → HasLine line.old raw → KeepsLine line.new [] (plain raw ++ 10 ∷ []) }
-    ensures counts { (raw : List ℕ) (cuts : List (List ℕ)) (got : List Reply) → HasLine line.old raw → KeepsCounts counts.old cuts got → answers_in got ≤ length cuts
-        → KeepsCounts counts.new (cuts ++ raw ∷ []) got }
+    ensures line { (raw : List ℕ) → HasLine line.old raw → KeepsLine line.new [] (sent_text raw ++ 10 ∷ []) }
+    ensures counts { (raw : List ℕ) (live : List (List ℕ)) (got : List Reply) → HasLine line.old raw → KeepsCounts counts.old live got → answers_in got ≤ length live
+        → KeepsCounts counts.new (live ++ raw ∷ []) got }
+    ensures all { counts.new.all ≡ counts.old.all + 1 }
     ensures due { line.new.due ≡ line.old.due }
     ensures pause { (raw : List ℕ) → HasLine line.old raw → counts.new.pause_at ≡ cond (pauses raw) (counts.old.lines + 1) counts.old.pause_at }
 {

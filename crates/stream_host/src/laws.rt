@@ -1,41 +1,43 @@
 //! Laws of hosts.
 
-ghost use Rattle.std.specs.Prelude.{◌≡◌, ℕ, ◌+◌, ◌*◌, ◌≤◌, ◌<◌, ◌⊎◌, Bool, true, false, List, [], ◌∷◌, ◌++◌, length, map, drop};
-ghost use Rattle.gcode_words.specs.Stripping.{plain};
-ghost use Rattle.run_rules.specs.Lines.{whole_lines};
+ghost use Rattle.std.specs.Prelude.{◌≡◌, ℕ, ◌+◌, ◌*◌, ◌≤◌, ◌<◌, ◌⊎◌, Bool, true, false, List, [], ◌∷◌, ◌++◌, length, map, drop, reverse};
+ghost use Rattle.run_rules.specs.Lines.{lines_of, whole_lines};
 ghost use Rattle.run_rules.specs.Readings.{largest_job, largest_piece};
 ghost use Rattle.stream_host.specs.Links.{behind, on_link};
-ghost use Rattle.status_report.specs.Answering.{receive_room, lfs_in};
-ghost use Rattle.stream_host.specs.Jobs.{served_in, ends_sending, lines_read, lines_to_send, stop_by, IsSent, IsSentSoFar};
+ghost use Rattle.status_report.specs.Answering.{receive_room, lfs_in, answers_in};
+ghost use Rattle.stream_host.specs.Jobs.{is_reset, lacks_banner, resets_scanned, sent_text, marks_behind, served_in, ends_sending, lines_read, lines_to_send, stop_by, or_reset, IsSent, IsSentSoFar};
 ghost use Rattle.stream_host.specs.declared.Reading.{Reading};
 ghost use Rattle.std.specs.List.{AllByRecursion};
-ghost use Rattle.stream_host.specs.Steps.{Journal, stored_of, got_of, is_shut, answered_of, errors_of, read_of, reading_of, scanned_of, cut_of, to_store, begun_of, due_of, has_limit, job_stop_of, or_alarm, stop_of, port_log, raises_of, line_raises_of, resumes_of, polls_of, awaits_report, all_empty_in, empty_polls};
+ghost use Rattle.stream_host.specs.Steps.{Journal, stored_of, got_of, is_shut, answered_of, errors_of, live_of, unanswered_of, forgotten_of, over_of, marks_of, resets_of, banners_of, awaits_banner, read_of, reading_of, scanned_of, cut_of, to_store, begun_of, due_of, has_limit, job_stop_of, or_alarm, stop_of, port_log, raises_of, line_raises_of, resumes_of, polls_of, awaits_report, all_empty_in, empty_polls};
 ghost use Rattle.stream_host.specs.Steps.Step.{at_port};
-ghost use Rattle.stream_host.specs.Steps.PortStep.{raised};
+ghost use Rattle.stream_host.specs.Steps.PortStep.{marked, raised};
 ghost use Rattle.run_rules.specs.Reports.{AreReported};
 ghost use Rattle.stream_host.specs.Conduct.{AwaitsSome, Conducted, MayStore, Waits, waits_for_lines};
 ghost use Rattle.outside.specs.Causes.{SourceState, SinkState};
 ghost use Rattle.stream_host.specs.declared.host.Host.{Host};
 ghost use Rattle.stream_host.specs.Hosts.{HostFits, HostRests, TellsJob, TellsText};
-ghost use Rattle.stream_host.specs.Ran.{AreRaised, HostRan, HostRuns, SentNoMore, HasFinished, TellsConsole, end_of};
+ghost use Rattle.stream_host.specs.Ports.{SeemsFull};
+ghost use Rattle.stream_host.specs.Epochs.{AreEnds, AreEpochs, ended_of, epoch_now, lines_now, got_now};
+ghost use Rattle.stream_host.specs.Ran.{AreAwaited, AreBorders, AreMarks, AreRaised, HostRan, HostRuns, SentNoMore, HasFinished, TellsConsole, end_of};
 
-/// What a host that keeps to its rules stores is what is kept of the lines that it cuts, each with LF. These are the lines
-/// that are sent of the job, and what it scans, and why it stops, is what the job allows: so far, and all once it has
-/// closed the link and got no alarm. Where the job gives no cause, an alarm is one, at the first line that has no answer.
+/// What a host that keeps to its rules stores is what is kept of the lines that it cuts behind their last reset, each with LF.
+/// These are the lines that are sent of the job, and what it scans, and why it stops, is what the job allows: so far, and all once
+/// it has closed the link and got no alarm. Where the job gives no cause, a reset whose Banner is lacking is one, or else an alarm, at the
+/// first line of the epoch that has no answer.
 pub fn hosts_send_their_lines()
     ensures stored { (h : Journal) → Conducted h → stored_of h ++ to_store h ≡ on_link (cut_of h) }
     ensures so_far { (h : Journal) → Conducted h → IsSentSoFar (read_of h) (reading_of h) (scanned_of h) (cut_of h) (job_stop_of h) }
-    ensures stop { (h : Journal) → Conducted h → stop_of h ≡ or_alarm (has_limit h) (answered_of h) (stop_by (reading_of h) (scanned_of h)) }
+    ensures stop { (h : Journal) → Conducted h → stop_of h ≡ or_alarm (has_limit h) (over_of h) (or_reset (lacks_banner (resets_scanned (scanned_of h)) (banners_of h)) (stop_by (reading_of h) (scanned_of h))) }
     ensures whole { (h : Journal) → Conducted h → is_shut h ≡ true → has_limit h ≡ false →
         IsSent (read_of h) (reading_of h) (scanned_of h) (cut_of h) (stop_of h) × (stored_of h ≡ on_link (cut_of h)) }
 {}
 
-/// The lines that a host has sent and that have no answer take at most 128 bytes on the link, so that there is room for each
-/// byte that it may store. What it reads, stores and counts is bounded.
+/// The lines of the epoch that a host has sent and that have no answer take at most 128 bytes on the link, so that no byte that it
+/// may store is dropped. What it reads, stores and counts is bounded.
 pub fn hosts_keep_to_their_count()
     ensures count { (h : Journal) → Conducted h → length (on_link (drop (answered_of h) (begun_of h))) ≤ receive_room }
-    ensures room { (b : ℕ) (h : Journal) → Conducted h → MayStore b h → (is_shut h ≡ false) × (length (behind (answered_of h) (stored_of h)) < receive_room) }
-    ensures answers { (h : Journal) → Conducted h → (errors_of h ≤ answered_of h) × (answered_of h ≤ length (cut_of h)) × (length (cut_of h) ≤ largest_job) }
+    ensures room { (b : ℕ) (h : Journal) → Conducted h → MayStore b h → (is_shut h ≡ false) × (SeemsFull (port_log h) → ⊥) }
+    ensures answers { (h : Journal) → Conducted h → (errors_of h ≤ answered_of h) × (answered_of h ≤ length (live_of h)) × (length (cut_of h) ≤ largest_job) }
     ensures read { (h : Journal) → Conducted h → (length (scanned_of h) ≤ largest_job) × (length (read_of h) ≤ length (scanned_of h) + largest_piece) }
     ensures bytes { (h : Journal) → Conducted h → length (stored_of h) ≤ largest_job + 1 }
 {}
@@ -49,10 +51,29 @@ pub fn hosts_raise_what_they_scan()
     ensures in_order { (h : Journal) → Conducted h → line_raises_of h ++ due_of h ≡ served_in (scanned_of h) }
     ensures first { (b : ℕ) (h : Journal) → Conducted h → MayStore b h → due_of h ≡ [] }
     ensures closed { (h : Journal) → Conducted h → is_shut h ≡ true → has_limit h ≡ false → due_of h ≡ [] }
-    ensures after { (b : ℕ) (h : Journal) (down : Bool) → waits_for_lines b ≡ true → Conducted (at_port (raised b down) ∷ h) → answered_of h ≡ length (cut_of h) }
-    ensures reported { (h : Journal) → Conducted h → AreReported (cut_of h) (got_of h) }
+    ensures after { (b : ℕ) (h : Journal) (down : Bool) → waits_for_lines b ≡ true → Conducted (at_port (raised b down) ∷ h) → answers_in (got_now h) ≡ length (lines_now h) }
+    ensures reported { (h : Journal) → Conducted h → AreReported (live_of h) (got_of h) }
     ensures tired { (h : Journal) → Conducted h → polls_of h ≤ empty_polls }
     ensures rested { (h : Journal) → Conducted h → empty_polls * resumes_of h + polls_of h ≤ all_empty_in (port_log h) }
+{}
+
+/// What a host did is cut into epochs by the Banners that it got, and each that is over ends at its mark. The marks stored are
+/// those of the resets that were scanned, each behind the lines before its own; the last may not be stored yet, but is where
+/// nothing is due. A mark stands at the border of the lines stored, and the n-th reset is raised behind the n-th mark. A host that
+/// has raised resets awaits one Banner more than these, and until it comes nothing is scanned, and all lines that were cut are
+/// stored; those that have no answer then, which the epoch's beginning forgets, take at most 128 bytes.
+pub fn hosts_begin_epochs()
+    ensures borders { (h : Journal) → Conducted h → AreBorders (marks_of h) (cut_of h) }
+    ensures now { (h : Journal) → Conducted (at_port marked ∷ h) → stored_of h ≡ on_link (cut_of h) }
+    ensures marks { (h : Journal) → Conducted h → (resets_of h ≤ length (marks_of h)) × (length (marks_of h) ≤ resets_of h + 1) }
+    ensures behind { (b : ℕ) (down : Bool) (h : Journal) → is_reset b ≡ true → Conducted (at_port (raised b down) ∷ h) → length (marks_of h) ≡ resets_of h + 1 }
+    ensures awaits { (h : Journal) → Conducted h → awaits_banner h ≡ true → (stored_of h ≡ on_link (cut_of h)) × (due_of h ≡ []) × (length (on_link (unanswered_of h)) ≤ receive_room) }
+    ensures banners { (h : Journal) → Conducted h → (banners_of h ≤ length (marks_of h) + 1) × (0 < resets_of h → awaits_banner h ≡ false → resets_of h < banners_of h) }
+    ensures lines { (h : Journal) → Conducted h → length (cut_of h) ≡ length (live_of h) + forgotten_of h }
+    ensures places { (h : Journal) → Conducted h → AreMarks (marks_of h) (scanned_of h) × (due_of h ≡ [] → reverse (marks_of h) ≡ marks_behind 0 (lines_of (scanned_of h))) }
+    ensures awaited { (h : Journal) → Conducted h → AreAwaited (scanned_of h) (cut_of h) (banners_of h) }
+    ensures ends { (h : Journal) → Conducted h → (AreEnds (marks_of h) (ended_of h) ⊎ AreEnds (drop 1 (marks_of h)) (ended_of h)) × (awaits_banner h ≡ false → due_of h ≡ [] → AreEnds (marks_of h) (ended_of h)) }
+    ensures epochs { (h : Journal) → Conducted h → AreEpochs (cut_of h) (live_of h) (got_of h) (ended_of h) (epoch_now h) × (answers_in (got_now h) ≤ length (lines_now h)) }
 {}
 
 /// Behind an alarm nothing more of the job is read, scanned, stored or raised, whatever is done later.
@@ -61,8 +82,8 @@ pub fn hosts_stop_at_an_alarm()
     ensures no_more { (later h : Journal) → Conducted (later ++ h) → has_limit h ≡ true → SentNoMore h (later ++ h) }
 {}
 
-/// A host whose link is open waits only where it awaits something: the banner, the answer to a line that it has sent, or a
-/// report that it has asked for. Its rules always allow it one of its steps else.
+/// A host whose link is open waits only where it awaits something: the first banner, the answer to a line that it has sent, a
+/// report that it has asked for, or the Banner of a reset. Its rules always allow it one of its steps else.
 pub fn hosts_wait_for_answers()
     ensures { (h : Journal) → Conducted h → Waits h → is_shut h ≡ false → AwaitsSome h }
 {}
@@ -71,7 +92,7 @@ pub fn hosts_wait_for_answers()
 /// lines that are answered stands at least what was not taken.
 pub fn links_carry_lines()
     ensures all { (r : Reading) (job : List ℕ) → AllByRecursion (λ l. ends_sending l ≡ false) (lines_read r job) → lines_to_send r job ≡ lines_read r job }
-    ensures lines { (lines : List (List ℕ)) → whole_lines (on_link lines) ≡ map plain lines }
+    ensures lines { (lines : List (List ℕ)) → whole_lines (on_link lines) ≡ map sent_text lines }
     ensures untaken { (k : ℕ) (taken bytes : List ℕ) → k ≤ lfs_in taken → length bytes ≤ length (behind k (taken ++ bytes)) }
 {}
 
@@ -81,10 +102,10 @@ pub fn links_carry_lines()
 pub fn hosts_have_run()
     ensures so_far { (h : Journal) (job_was job_is : SourceState) (console_was console_is : SinkState) →
         Conducted h → TellsJob h job_was job_is → TellsConsole h console_was console_is →
-        HostRuns job_was job_is console_was console_is (stored_of h) (raises_of h) (got_of h) }
+        HostRuns job_was job_is console_was console_is (stored_of h) (marks_of h) (raises_of h) (got_of h) }
     ensures whole { (h : Journal) (job_was job_is : SourceState) (console_was console_is : SinkState) →
         Conducted h → HasFinished h → TellsJob h job_was job_is → TellsConsole h console_was console_is →
-        (ran : HostRan job_was job_is console_was console_is (stored_of h) (is_shut h) (raises_of h) (got_of h) (end_of h)) × (ran.scanned ≡ scanned_of h) }
+        (ran : HostRan job_was job_is console_was console_is (stored_of h) (marks_of h) (is_shut h) (raises_of h) (got_of h) (end_of h)) × (ran.scanned ≡ scanned_of h) }
     ensures finished { (host : Host) (h : Journal) → HostFits host h → HostRests host → HasFinished h }
     ensures console { (host : Host) (h : Journal) (was is : SinkState) → HostFits host h → TellsText host.text h was is → TellsConsole h was is }
     ensures beginning { (job : SourceState) (console : SinkState) → TellsJob [] job job × TellsConsole [] console console }

@@ -9,12 +9,14 @@ mod pause;
 mod ports;
 mod reader;
 mod realtime;
+mod resets;
+mod stops;
 mod unanswered;
 
 pub use host::Host;
 pub use laws::{
-    hosts_have_run, hosts_keep_to_their_count, hosts_raise_what_they_scan, hosts_send_their_lines,
-    hosts_stop_at_an_alarm, hosts_wait_for_answers, links_carry_lines,
+    hosts_begin_epochs, hosts_have_run, hosts_keep_to_their_count, hosts_raise_what_they_scan,
+    hosts_send_their_lines, hosts_stop_at_an_alarm, hosts_wait_for_answers, links_carry_lines,
 };
 pub use ports::HostPort;
 
@@ -28,7 +30,8 @@ pub enum Reading {
     Stopped,
 }
 
-/// Why a host sends no more: all is sent; a line has too many bytes, or the job has; a reset; an alarm.
+/// Why a host sends no more: all is sent; a line has too many bytes, or the job has; a reset whose Banner did not come before
+/// Bye; an alarm that ends the run.
 #[derive(Clone, Copy, Debug, PartialEq, Eq)]
 pub enum Stop {
     End,

@@ -1,12 +1,12 @@
 //! The line in hand: first it is scanned, then it is stored.
 
-ghost use Rattle.std.specs.Prelude.{◌≡◌, ◌≢◌, ℕ, ◌+◌, ◌≤◌, ◌<◌, ◌++◌, ◌∷◌, [], List, take, drop, length, cond, nat_eq, nat_lt, true, false, option_to_list, None};
+ghost use Rattle.std.specs.Prelude.{◌≡◌, ◌≢◌, ℕ, ◌+◌, ◌≤◌, ◌<◌, ◌++◌, ◌∷◌, [], List, take, drop, length, cond, nat_eq, nat_lt, true, false, ◌||◌, option_to_list, None};
 ghost use Rattle.std.specs.List.{list_any};
 ghost use Rattle.code_table.specs.Tables.{query};
 ghost use Rattle.gcode_words.specs.Stripping.{taken_by};
 ghost use Rattle.status_report.specs.Answering.{is_report};
 ghost use Rattle.stream_host.specs.Jobs.{is_reset};
-ghost use Rattle.stream_host.specs.Steps.{more_served, asked_more, got_one};
+ghost use Rattle.stream_host.specs.Steps.{more_served, asked_more, got_one, is_asking};
 ghost use Rattle.stream_host.specs.declared.line.Asking.TheVariants.{Nothing};
 ghost use Rattle.stream_host.specs.Hosts.{HasLine, KeepsDue, is_over};
 
@@ -17,30 +17,31 @@ use status_report::Reply;
 /// The realtime byte that resets the machine.
 const RESET: u8 = 0x18;
 
-/// What has come of a line: where the stripper stands in it, the first 127 kept bytes, whether there were more, whether
-/// a reset was among them, and whether any byte came; the realtime byte that is to be raised before it goes on, if any;
-/// whether it is whole, and how much of it is stored then.
+/// What has come of a line: where the stripper stands in it, the first 127 bytes kept behind its last reset, whether there were
+/// ever more, and whether any byte came; the realtime byte that is to be raised before it goes on, if any; whether it is
+/// whole, and how much of it is stored then.
 #[derive(Drop)]
 pub(crate) struct SentLine {
     pub(crate) stripper: Stripper,
     pub(crate) kept: ArrayVec<u8, 127>,
     pub(crate) long: bool,
-    pub(crate) reset: bool,
     pub(crate) begun: bool,
     pub(crate) due: Option<u8>,
     pub(crate) whole: bool,
     pub(crate) place: usize,
 }
 
-/// Whether a line has asked for a report, and whether one was got since it last did.
+/// Whether a line has asked for a report, and whether one was got since it first did, and since it last did.
 #[derive(Clone, Copy, PartialEq, Eq)]
 pub(crate) enum Asking {
     /// It has not asked for one.
     Nothing,
-    /// It has, and none was got since.
+    /// It has, and none was got since it first did.
     Awaits,
-    /// It has, and one was got since.
+    /// It has, and one was got since it last did.
     HasOne,
+    /// It has again, behind one that was got.
+    AsksAgain,
 }
 
 impl Asking {
@@ -53,14 +54,22 @@ impl Asking {
         }
     }
 
-    /// A realtime byte is raised: a `?` asks for one report more.
+    /// A realtime byte is raised: a `?` asks for a report. The line waits for the first, the next read for each.
     pub(crate) fn raised(self, byte: u8) -> Asking
         ensures { result ≡ cond (nat_eq byte query) (asked_more self) self }
     {
-        match byte {
-            b'?' => Asking::Awaits,
+        match (self, byte) {
+            (Asking::Nothing, b'?') => Asking::Awaits,
+            (Asking::HasOne, b'?') => Asking::AsksAgain,
             _ => self,
         }
+    }
+
+    /// Whether none was got since the line last asked for one.
+    pub(crate) fn is_open(self) -> bool
+        ensures { result ≡ is_asking self }
+    {
+        matches!(self, Asking::Awaits | Asking::AsksAgain)
     }
 
     /// A reply is got: one report is, where it is one.
@@ -68,7 +77,7 @@ impl Asking {
         ensures { result ≡ cond (is_report reply.now) (got_one self) self }
     {
         match (self, reply) {
-            (Asking::Awaits, Reply::Report(_)) => Asking::HasOne,
+            (Asking::Awaits | Asking::AsksAgain, Reply::Report(_)) => Asking::HasOne,
             _ => self,
         }
     }
@@ -102,7 +111,6 @@ impl SentLine {
             stripper: Stripper::new(),
             kept: ArrayVec::new(),
             long: false,
-            reset: false,
             begun: false,
             due: None,
             whole: false,
@@ -119,24 +127,22 @@ impl SentLine {
         self.stripper = Stripper::new();
         self.kept.clear();
         self.long = false;
-        self.reset = false;
         self.begun = false;
         self.whole = false;
     }
 
-    /// Whether the sending ends in it: it is too long, or has a reset.
+    /// Whether the sending ends in it: it is too long.
     pub(crate) fn is_over(&self) -> bool
         ensures { result ≡ is_over self.now }
     {
-        self.long || self.reset
+        self.long
     }
 
     /// One kept byte more.
     fn keep(&mut self, byte: u8)
         ensures kept { (all : List ℕ) → self.old.kept.items ≡ take 127 all → self.new.kept.items ≡ take 127 (all ++ byte ∷ []) }
-        ensures long { (all : List ℕ) → self.old.kept.items ≡ take 127 all → self.old.long ≡ nat_lt 127 (length all) → self.new.long ≡ nat_lt 127 (length (all ++ byte ∷ [])) }
+        ensures long { (all : List ℕ) → self.old.kept.items ≡ take 127 all → self.new.long ≡ (self.old.long || nat_lt 127 (length (all ++ byte ∷ []))) }
         ensures stripper { self.new.stripper ≡ self.old.stripper }
-        ensures reset { self.new.reset ≡ self.old.reset }
         ensures begun { self.new.begun ≡ self.old.begun }
         ensures due { self.new.due ≡ self.old.due }
         ensures whole { self.new.whole ≡ self.old.whole }
@@ -148,7 +154,7 @@ impl SentLine {
         }
     }
 
-    /// One byte more, no line feed. One that asks for what is done in real time is to be raised.
+    /// One byte more, no line feed. One that asks for what is done in real time is to be raised. A reset drops what is kept.
     pub(crate) fn feed(&mut self, byte: u8)
         requires text { byte ≢ 10 }
         requires none_due { self.old.due ≡ None }
@@ -163,7 +169,9 @@ impl SentLine {
             return;
         }
         self.due = due_in(stripped);
-        self.reset |= is_reset(stripped);
+        if is_reset(stripped) {
+            self.kept.clear();
+        }
     }
 
     /// The line is over, and is stored from its first byte on. Answers its length with LF.

@@ -44,6 +44,16 @@ impl Unanswered {
         }
     }
 
+    /// No line is without an answer any more.
+    pub(crate) fn clear(&mut self)
+        ensures none { lengths self.new ≡ [] }
+        ensures summed { IsSummed self.new }
+    {
+        self.older.clear();
+        self.newer.clear();
+        self.total = 0;
+    }
+
     /// A line of this length is sent.
     #[tactic(auto, using(crate::proofs::Counting::sum_push))]
     pub(crate) fn push(&mut self, size: u8)

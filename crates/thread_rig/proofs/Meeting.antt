@@ -1,11 +1,11 @@
 -- What the ends of a rig have to do with each other, by the journals of its actors.
-use Rattle.std.proofs.Common.{◌≡◌, ℕ, Bool, true, List, [], ◌∷◌, ◌++◌, length, map, reverse, refl, sym, ap, ◌∙◌, arith, length-append}
+use Rattle.std.proofs.Common.{◌≡◌, ℕ, Bool, true, List, [], ◌∷◌, ◌++◌, length, map, reverse, refl, sym, ap, subst, ◌∙◌, arith, length-append}
 use Rattle.std.proofs.lemmas.List.{reverse-append}
 use Rattle.atomic_table.specs.Seated.{TableId}
 use Rattle.status_report.specs.declared.Reply.{Reply}
 use Rattle.serial_ring.specs.declared.view.LinkStep.{LinkStep}
 use Rattle.serial_ring.specs.Logs.{taken_in, marked_in, answered_in}
-use Rattle.serial_ring.specs.Marks.{Mark}
+use Rattle.serial_ring.specs.Marks.{Mark, AreMarks}
 use Rattle.serial_ring.specs.Rule.{AreTied}
 use Rattle.motion_ring.specs.declared.lists.Halt.{Halt}
 use Rattle.motion_ring.specs.declared.lists.Sent.{Sent}
@@ -36,16 +36,16 @@ none_before : {A : Type 0} (xs ys : List A) → ys ≡ xs ++ ys → xs ≡ []
 none_before [] ys e = refl
 none_before (x ∷ xs) ys e = absurd (let n = ap length e ∙ length-append (x ∷ xs) ys in omega arith)
 
-pub are_linked : (bytes bytes_taken : List ℕ) (is_shut is_over : Bool) (stored_by marks : List ℕ) (closed_by : Bool) (log : List LinkStep) (over : Bool) (got_by : List Reply) (greeted : List Mark) (room : ℕ)
+pub are_linked : (places bytes bytes_taken : List ℕ) (is_shut is_over : Bool) (stored_by marks : List ℕ) (closed_by : Bool) (log : List LinkStep) (over : Bool) (got_by : List Reply) (greeted : List Mark) (room : ℕ)
     → AreTied room stored_by marks closed_by log over got_by greeted
-    → bytes ≡ reverse stored_by → bytes_taken ≡ reverse (taken_in log) → is_shut ≡ closed_by → (is_over ≡ true → over ≡ true)
-    → IsLinked bytes is_shut bytes_taken is_over marks (marked_in log)
-are_linked bytes bytes_taken is_shut is_over stored_by marks closed_by log over got_by greeted room t s k closed known = record {
+    → bytes ≡ reverse stored_by → bytes_taken ≡ reverse (taken_in log) → is_shut ≡ closed_by → (is_over ≡ true → over ≡ true) → places ≡ marks
+    → IsLinked bytes is_shut bytes_taken is_over places (marked_in log)
+are_linked places bytes bytes_taken is_shut is_over stored_by marks closed_by log over got_by greeted room t s k closed known same = record {
   rest = reverse t.unread;
   front = goes_on bytes bytes_taken stored_by (taken_in log) t.unread s k t.bytes;
   closes = λ o. closed ∙ t.closes (known o);
   all = λ o. ap reverse (none_before t.unread (taken_in log) (sym (t.all_bytes (known o)) ∙ t.bytes));
-  loads = t.loads;
+  loads = subst (λ (ms : List ℕ). AreMarks ms (marked_in log)) (sym same) t.loads;
 }
 
 -- ---- what a board took and answered, by what its end did

@@ -17,7 +17,7 @@ returns-clause-so_far c was now w hist st =
     let h = st.holds in
     let host = c.hosts_have_run.ensures in
     let kept = kept_by w.board hist.board h.board in
-    c.actors_make_a_run_so_far.ensures was.job now.job (sinks was) (sinks now) _ _ _ _ _ _ _ _ _ _ _ _ _ _ _ _ _ _
+    c.actors_make_a_run_so_far.ensures was.job now.job (sinks was) (sinks now) _ _ _ _ _ _ _ _ _ _ _ _ _ _ _ _ _ _ _
     (host.so_far hist.host was.job now.job was.console now.console h.host.conducted st.job (host.console w.host hist.host was.console now.console h.host st.console))
     (c.boards_have_run.ensures.so_far kept.first hist.board kept.opening kept.conducted)
     (c.pulses_have_run.ensures.so_far w.pulse hist.pulse hist.puts h.pulse (never_halts _ _ _ _ h.joined (boards_never_stop kept.first hist.board kept.conducted)))
@@ -40,7 +40,7 @@ returns-clause-alone c was now w hist st done =
     record {
       run = run.0;
       reports = subst (λ (bytes : List ℕ). ReportsPerLine (lines_of bytes) run.0.replies) (sym (run.1 ∙ ran.1))
-          (subst (λ (rs : List Reply). ReportsPerLine (lines_of (scanned_of hist.host)) rs) (sym run.2) (world_reports w hist h));
+          (subst (λ (rs : List Reply). ReportsPerLine (lines_of (scanned_of hist.host)) rs) (sym run.2) (world_reports w hist h (c.boards_have_run.ensures.so_far kept.first hist.board kept.opening kept.conducted)));
     }
 
 pub returns-clause-whole : goal.returns-clause-whole

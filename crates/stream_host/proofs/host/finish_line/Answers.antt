@@ -17,3 +17,6 @@ returns-clause-pause c = λ raw has.
     ap (λ d. d.pause_at) c.add_line.ensures.same
     ∙ ap (λ t. cond t (c.args.counts.now.lines + 1) c.args.counts.now.pause_at)
     (pauses_is c.args.line.now raw c.has_pause-pauses.result has c.requires.sends (c.has_pause-pauses.ensures ∙ ap has_pause c.as_slice.ensures.value))
+
+pub returns-clause-all : goal.returns-clause-all
+returns-clause-all c = ap (λ d. d.all) c.add_line.ensures.same

@@ -1,5 +1,6 @@
 use Rattle.stream_host.proofs.Keeping.{few_scanned, few_read, open_is}
-use Rattle.stream_host.proofs.Sending.{sum_is, room_is, counts_are, few_stored}
+use Rattle.stream_host.proofs.Sending.{sum_is, counts_are, few_stored}
+use Rattle.stream_host.proofs.Epochs.{room_is}
 use Rattle.stream_host.proofs.laws.hosts_keep_to_their_count.Goals as goal
 
 pub returns-clause-count : goal.returns-clause-count

@@ -1,4 +1,5 @@
 use Rattle.stream_host.proofs.Raising.{raised_is, in_order, none_due_first, none_due_shut, few_polls, rested_is}
+use Rattle.stream_host.proofs.Cutting.{all_now}
 use Rattle.stream_host.proofs.Reporting.{reported_is}
 use Rattle.stream_host.proofs.laws.hosts_raise_what_they_scan.Goals as goal
 
@@ -15,7 +16,7 @@ pub returns-clause-closed : goal.returns-clause-closed
 returns-clause-closed c = none_due_shut
 
 pub returns-clause-after : goal.returns-clause-after
-returns-clause-after c = λ b h down waits conducted. conducted.0.after waits
+returns-clause-after c = λ b h down waits conducted. all_now h conducted.1 (conducted.0.after waits)
 
 pub returns-clause-reported : goal.returns-clause-reported
 returns-clause-reported c = reported_is

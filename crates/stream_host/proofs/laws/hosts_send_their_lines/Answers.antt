@@ -1,7 +1,5 @@
-use Rattle.std.proofs.Common.{ap}
-use Rattle.stream_host.specs.Steps.{answered_of, job_stop_of, or_alarm}
 use Rattle.stream_host.proofs.Keeping.{stored_is, shut_is}
-use Rattle.stream_host.proofs.Sending.{sent_so_far, sent_all, all_stored, stop_behind}
+use Rattle.stream_host.proofs.Sending.{sent_so_far, sent_all, all_stored, stop_behind, stop_shut}
 use Rattle.stream_host.proofs.laws.hosts_send_their_lines.Goals as goal
 
 pub returns-clause-stored : goal.returns-clause-stored
@@ -15,4 +13,4 @@ returns-clause-stop c = stop_behind
 
 pub returns-clause-whole : goal.returns-clause-whole
 returns-clause-whole c = λ h conducted closed calm.
-    (let all = shut_is h conducted closed calm in (sent_all h conducted all (ap (λ b. or_alarm b (answered_of h) (job_stop_of h)) calm), all_stored h conducted all))
+    (let all = shut_is h conducted closed calm in (sent_all h conducted all (stop_shut h conducted closed calm), all_stored h conducted all))

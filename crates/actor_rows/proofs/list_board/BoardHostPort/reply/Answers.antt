@@ -1,23 +1,19 @@
-use Rattle.std.proofs.Common.{arith}
-use Rattle.status_report.specs.declared.Message.TheVariants.{ResetToContinue}
-use Rattle.status_report.specs.declared.Reply.TheVariants.{Banner, Message, Alarm, Bye}
-use Rattle.actor_rows.proofs.Telling.{reply_lines}
+use Rattle.std.proofs.Common.{◌∷◌, arith}
+use Rattle.stream_host.specs.Steps.PortStep.{got}
+use Rattle.status_report.specs.declared.Reply.TheVariants.{Banner}
+use Rattle.actor_rows.proofs.Telling.{greets, begins_anew, answers_lines}
 use Rattle.actor_rows.proofs.list_board.BoardHostPort.reply.Goals as goal
 
+pub returns-then-self-eq0-clause-some : goal.returns-then-self-eq0-clause-some
+returns-then-self-eq0-clause-some c = λ rest h t. greets _ _ _ _ h t c.if-self-eq0.true
+
 pub returns-then-self-eq0-clause-lines : goal.returns-then-self-eq0-clause-lines
-returns-then-self-eq0-clause-lines c = λ rest h t. reply_lines Banner _ _ h t (omega arith) (λ e. c.if-self-eq0.true)
+returns-then-self-eq0-clause-lines c = λ rest h t. answers_lines _ _ _ _ (got Banner ∷ h) (greets _ _ _ _ h t c.if-self-eq0.true)
 
-pub returns-then-self-2-clause-lines : goal.returns-then-self-2-clause-lines
-returns-then-self-2-clause-lines c = λ rest h t. let o = c.report.ensures.other in reply_lines c.report.result _ _ h t (rw o.0 (omega arith)) (λ e. absurd (let n = o.1 in cc))
-
-pub returns-then-self-3-clause-lines : goal.returns-then-self-3-clause-lines
-returns-then-self-3-clause-lines c = λ rest h t. reply_lines (Message ResetToContinue) _ _ h t (omega arith) (λ e. absurd cc)
+pub returns-then-self-4-clause-some : goal.returns-then-self-4-clause-some
+returns-then-self-4-clause-some c = λ rest h t.
+    let same = c.note.ensures in rw same (begins_anew _ _ _ _ h t (let some = c.if-self-eq0.false in omega arith) c.if-self-4.true)
 
 pub returns-then-self-4-clause-lines : goal.returns-then-self-4-clause-lines
-returns-then-self-4-clause-lines c = λ rest h t. reply_lines (Alarm 2) _ _ h t (omega arith) (λ e. absurd cc)
-
-pub returns-then-self-gt0-2-clause-lines : goal.returns-then-self-gt0-2-clause-lines
-returns-then-self-gt0-2-clause-lines c = λ rest h t. let n = c.answer.ensures.other in reply_lines c.answer.result _ _ h t (rw c.answer.ensures.answers (let more = c.if-self-gt0-2.true in omega arith)) (λ e. absurd cc)
-
-pub returns-then-not-self-clause-lines : goal.returns-then-not-self-clause-lines
-returns-then-not-self-clause-lines c = λ rest h t. reply_lines Bye _ _ h t (omega arith) (λ e. absurd cc)
+returns-then-self-4-clause-lines c = λ rest h t.
+    answers_lines _ _ _ _ (got Banner ∷ h) (begins_anew _ _ _ _ h t (let some = c.if-self-eq0.false in omega arith) c.if-self-4.true)

@@ -1,4 +1,5 @@
-use Rattle.std.proofs.Common.{◌∷◌, [], ◌++◌, ◌∙◌, map, arith}
+use Rattle.std.proofs.Common.{◌∷◌, [], ◌++◌, ◌∙◌, ap, map, arith}
+use Rattle.stream_host.specs.Hosts.{awaits_by}
 use Rattle.stream_host.specs.Steps.Step.{scanned}
 use Rattle.stream_host.proofs.JobSteps.{did_scan}
 use Rattle.stream_host.proofs.host.Host.scan.Goals as goal
@@ -7,6 +8,7 @@ pub loop-self-init : goal.loop-self-init
 loop-self-init c = record {
   shut = c.scan_byte.ensures.shut ∙ c.requires.going;
   calm = c.scan_byte.ensures.alarm ∙ c.requires.calm;
+  epoch = ap awaits_by c.scan_byte.ensures.resets ∙ c.requires.epoch;
   text = c.scan_byte.ensures.text;
   scans = λ h f. let n = c.scan_byte.ensures.fits h f in (n.0 ∷ [], omega arith, n.1);
 }
@@ -18,6 +20,7 @@ loop-self-preserved c =
     record {
       shut = n.shut ∙ i.shut;
       calm = n.alarm ∙ i.calm;
+      epoch = ap awaits_by n.resets ∙ i.epoch;
       text = n.text ∙ i.text;
       scans = λ h f. let was = i.scans h f in let next = n.fits (map scanned was.0 ++ h) was.2 in (next.0 ∷ was.0, omega arith, next.1);
     }
@@ -26,11 +29,11 @@ pub returns : goal.returns
 returns c = λ h f. did_scan c.args.self.now _ h c.loop-self.invariant.text (c.loop-self.invariant.scans h f)
 
 pub scan_byte-requires : goal.scan_byte-requires
-scan_byte-requires c = record { may = c.requires.may; going = c.requires.going; calm = c.requires.calm; fits = c.requires.fits }
+scan_byte-requires c = record { may = c.requires.may; going = c.requires.going; calm = c.requires.calm; epoch = c.requires.epoch; fits = c.requires.fits }
 
 pub scan_byte-requires-in-loop-self : goal.scan_byte-requires-in-loop-self
 scan_byte-requires-in-loop-self c =
     let i = c.loop-self.invariant in
     let r = c.requires.fits in
     let was = i.scans r.0 r.1 in
-    record { may = c.may_scan.ensures.may c.loop-self-test.true; going = i.shut; calm = i.calm; fits = (map scanned was.0 ++ r.0, was.2) }
+    record { may = c.may_scan.ensures.may c.loop-self-test.true; going = i.shut; calm = i.calm; epoch = i.epoch; fits = (map scanned was.0 ++ r.0, was.2) }

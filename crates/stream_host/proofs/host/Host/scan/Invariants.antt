@@ -1,13 +1,14 @@
 use Rattle.std.proofs.Common.{◌≡◌, ℕ, ◌<◌, ◌++◌, false, List, length, map}
 use Rattle.stream_host.specs.Steps.{Journal}
 use Rattle.stream_host.specs.Steps.Step.{scanned}
-use Rattle.stream_host.specs.Hosts.{HostFits, unread}
+use Rattle.stream_host.specs.Hosts.{HostFits, awaits_by, unread}
 use Rattle.stream_host.proofs.host.Host.scan.Given as goal
 
 abbrev pub invariant-loop-self : goal.invariant-loop-self
 invariant-loop-self l = record {
   shut : l.self.shut ≡ false;
   calm : l.self.alarm ≡ false;
+  epoch : awaits_by l.self.resets ≡ false;
   text : l.self.text ≡ l.fn.self.text;
   scans : (h : Journal) → HostFits l.fn.self h → (bytes : List ℕ) × (0 < length bytes) × HostFits l.self (map scanned bytes ++ h);
 }

@@ -1,6 +1,6 @@
 use Rattle.std.proofs.Common.{arith}
 use Rattle.std.proofs.lemmas.Bool.Decides.{nat_tests}
-use Rattle.stream_host.specs.Steps.{raw_of, cut_of, got_of}
+use Rattle.stream_host.specs.Steps.{raw_of, live_of, got_of}
 use Rattle.stream_host.proofs.Hosting.{has_room, scanned_byte, scanned_lf, few_answers}
 use Rattle.stream_host.proofs.host.Host.scan_byte.Goals as goal
 
@@ -13,14 +13,14 @@ returns-then-byte-eq10-clause-fits c = λ h f.
     let s = c.args.self.now in
     let has = (f.line_is.scanning c.requires.may.scanning).0 in (
       c.next_byte-byte.result,
-      scanned_lf s _ _ _ _ c.next_byte-byte.result h f c.requires.may c.requires.going c.requires.calm n.byte n.piece n.scanned n.reading (grind (arith, nat_tests, c.if-byte-eq10.true))
-          (c.finish_line.ensures.line (raw_of h) has) c.finish_line.ensures.due (c.finish_line.ensures.counts (raw_of h) (cut_of h) (got_of h) has f.counts_are (few_answers s h f)) (c.finish_line.ensures.pause (raw_of h) has) c.scan.ensures,
+      scanned_lf s _ _ _ _ c.next_byte-byte.result h f c.requires.may c.requires.going c.requires.calm c.requires.epoch n.byte n.piece n.scanned n.reading (grind (arith, nat_tests, c.if-byte-eq10.true))
+          (c.finish_line.ensures.line (raw_of h) has) c.finish_line.ensures.due (c.finish_line.ensures.counts (raw_of h) (live_of h) (got_of h) has f.counts_are (few_answers s h f)) c.finish_line.ensures.all (c.finish_line.ensures.pause (raw_of h) has) c.scan.ensures,
     )
 
 pub returns-else-byte-eq10-clause-fits : goal.returns-else-byte-eq10-clause-fits
 returns-else-byte-eq10-clause-fits c = λ h f.
     let n = c.next_byte-byte.ensures in (
       c.next_byte-byte.result,
-      scanned_byte c.args.self.now _ _ _ c.next_byte-byte.result h f c.requires.may c.requires.going c.requires.calm n.byte n.piece n.scanned n.reading (grind (arith, nat_tests, c.if-byte-eq10.false))
+      scanned_byte c.args.self.now _ _ _ c.next_byte-byte.result h f c.requires.may c.requires.going c.requires.calm c.requires.epoch n.byte n.piece n.scanned n.reading (grind (arith, nat_tests, c.if-byte-eq10.false))
           c.feed.ensures.fed c.feed.ensures.due c.feed.ensures.whole c.scan.ensures,
     )

@@ -1,130 +1,31 @@
-use Rattle.std.proofs.Common.{◌≡◌, ◌≤◌, true, false, ◌∷◌, refl}
-use Rattle.stream_host.specs.Steps.{awaits_report}
-use Rattle.stream_host.specs.Conduct.{AreAnswered, IsSettled, waits_for_lines}
-use Rattle.stream_host.specs.Steps.PortStep.{stored, raised, shut}
-use Rattle.stream_host.specs.Steps.Step.{at_port}
-use Rattle.stream_host.proofs.Turns.{did_alone, did_at_port, few_stored_now, few_raised_now, few_shut_now, tells_stored, tells_raised, tells_shut, tells_same, waits_early, waits_held_back, waits_shut, did_goes_on, waits_on, not_both}
-use Rattle.stream_host.proofs.Settling.{waits_unsettled}
-use Rattle.stream_host.proofs.Hosting.{may_shut}
+use Rattle.std.proofs.Common.{sym, ◌∙◌}
+use Rattle.stream_host.proofs.Turns.{tells_same, waits_for_banner, waits_on}
 use Rattle.stream_host.proofs.host.Host.send_on.Goals as goal
+
+pub raise_due-requires : goal.raise_due-requires
+raise_due-requires g c = record { due = c.in-Some.is; calm = c.requires.calm; shown = c.requires.shown; stands = c.requires.stands }
 
 pub returns-in-Some-clause-goes_on : goal.returns-in-Some-clause-goes_on
 returns-in-Some-clause-goes_on g c = λ rest h stands f polled.
-    let b = c.in-Some.byte in let t = c.raise.ensures.raised rest h stands f in (
-      at_port (raised b t.0) ∷ h,
-      t.1,
-      did_at_port c.args.self.now _ (at_port (raised b t.0)) h refl polled.quiet t.2 (few_raised_now b t.0 h polled.quiet),
-      λ console. tells_raised c.args.self.now _ b t.0 h _ console c.raise.ensures.text,
-    )
-
-pub returns-then-is_early-clause-goes_on : goal.returns-then-is_early-clause-goes_on
-returns-then-is_early-clause-goes_on g c = λ rest h stands f polled.
-    let early : (waits_for_lines c.in-Some.byte ≡ true → AreAnswered h) → ⊥ = (λ after. not_both _ ((c.is_early.ensures h f).1 after) c.if-is_early.true) in
-    (h, stands, waits_early c.args.self.now c.in-Some.byte h f c.requires.calm polled c.requires.shown c.in-Some.is early, λ console. tells_same c.args.self.now h _ console)
-
-pub returns-then-is_held_back-clause-goes_on : goal.returns-then-is_held_back-clause-goes_on
-returns-then-is_held_back-clause-goes_on g c = λ rest h stands f polled.
-    let held : (awaits_report h ≡ false) × (c.args.self.now.counts.unanswered.total ≤ 128) → ⊥ = (λ free. not_both _ ((c.is_held_back.ensures h f).1 free) c.if-is_held_back.true) in
-    (h, stands, waits_held_back c.args.self.now h f c.requires.calm polled c.requires.shown c.in_default.is c.if-self.true held, λ console. tells_same c.args.self.now h _ console)
-
-pub returns-then-self-clause-goes_on : goal.returns-then-self-clause-goes_on
-returns-then-self-clause-goes_on g c = λ rest h stands f polled.
-    let t = c.store.ensures.stored rest h stands f in (
-      at_port (stored t.0) ∷ h,
-      t.1,
-      did_at_port c.args.self.now _ (at_port (stored t.0)) h refl polled.quiet t.2 (few_stored_now t.0 h polled.quiet),
-      λ console. tells_stored c.args.self.now _ t.0 h _ console c.store.ensures.text,
-    )
-
-pub returns-then-self-2-clause-goes_on : goal.returns-then-self-2-clause-goes_on
-returns-then-self-2-clause-goes_on g c = λ rest h stands f polled.
-    (h, stands, waits_shut c.args.self.now h f polled c.requires.shown c.in_default.is c.if-self.false c.if-self-2.true, λ console. tells_same c.args.self.now h _ console)
-
-pub returns-then-may_scan-clause-goes_on : goal.returns-then-may_scan-clause-goes_on
-returns-then-may_scan-clause-goes_on g c = λ rest h stands f polled.
-    let n = c.scan.ensures h f in (n.0, rw n.1.port stands, did_alone c.args.self.now _ h n.0 polled.quiet n.1, λ console. n.2 _ console)
-
-pub returns-then-not-is_settled-clause-goes_on : goal.returns-then-not-is_settled-clause-goes_on
-returns-then-not-is_settled-clause-goes_on g c = λ rest h stands f polled.
-    let busy : IsSettled h → ⊥ = (λ settled. not_both _ c.if-not-is_settled.true ((c.is_settled.ensures h f).1 settled)) in
-    (h, stands, waits_unsettled c.args.self.now h f c.requires.calm polled c.requires.shown (c.may_read.ensures.may c.if-may_read.true) busy, λ console. tells_same c.args.self.now h _ console)
-
-pub returns-then-may_read-clause-goes_on : goal.returns-then-may_read-clause-goes_on
-returns-then-may_read-clause-goes_on g c = λ rest h stands f polled.
-    let n = c.read.ensures h f in (n.0, rw n.1.port stands, did_alone c.args.self.now _ h n.0 polled.quiet n.1, λ console. n.2 console)
-
-pub close-requires-clause-may : goal.close-requires-clause-may
-close-requires-clause-may g c = λ h f.
-    may_shut c.args.self.now h f c.if-self.false c.if-self-2.false c.in_default.is (c.may_scan.ensures.may_not c.if-may_scan.false) (c.may_read.ensures.may_not c.if-may_read.false)
-
-pub returns-clause-goes_on : goal.returns-clause-goes_on
-returns-clause-goes_on g c = λ rest h stands f polled.
-    let t = c.close.ensures.closed rest h stands f in (
-      at_port shut ∷ h,
-      t.0,
-      did_at_port c.args.self.now _ (at_port shut) h refl polled.quiet t.1 (few_shut_now h polled.quiet),
-      λ console. tells_shut c.args.self.now _ h _ console c.close.ensures.text,
-    )
-
-pub returns-then-is_early-clause-going : goal.returns-then-is_early-clause-going
-returns-then-is_early-clause-going g c = waits_on
+    let n = c.raise_due.ensures.goes_on rest h stands f polled in (n.0, n.1, n.2, λ console. n.3 _ console)
 
 pub returns-in-Some-clause-going : goal.returns-in-Some-clause-going
-returns-in-Some-clause-going g c = did_goes_on
+returns-in-Some-clause-going g c = c.raise_due.ensures.going
 
-pub returns-then-is_held_back-clause-going : goal.returns-then-is_held_back-clause-going
-returns-then-is_held_back-clause-going g c = waits_on
+pub returns-then-awaits-clause-goes_on : goal.returns-then-awaits-clause-goes_on
+returns-then-awaits-clause-goes_on g c = λ rest h stands f polled.
+    let s = c.args.self.now in
+    (h, stands, waits_for_banner s h f polled c.requires.shown c.in_default.is (sym c.awaits.ensures ∙ c.if-awaits.true), λ console. tells_same s h _ console)
 
-pub returns-then-self-clause-going : goal.returns-then-self-clause-going
-returns-then-self-clause-going g c = did_goes_on
+pub returns-then-awaits-clause-going : goal.returns-then-awaits-clause-going
+returns-then-awaits-clause-going g c = waits_on
 
-pub returns-then-self-2-clause-going : goal.returns-then-self-2-clause-going
-returns-then-self-2-clause-going g c = waits_on
+pub send_line-requires : goal.send_line-requires
+send_line-requires g c =
+    record { none_due = c.in_default.is; calm = c.requires.calm; epoch = sym c.awaits.ensures ∙ c.if-awaits.false; shown = c.requires.shown; stands = c.requires.stands }
 
-pub returns-then-may_scan-clause-going : goal.returns-then-may_scan-clause-going
-returns-then-may_scan-clause-going g c = did_goes_on
-
-pub returns-then-not-is_settled-clause-going : goal.returns-then-not-is_settled-clause-going
-returns-then-not-is_settled-clause-going g c = waits_on
-
-pub returns-then-may_read-clause-going : goal.returns-then-may_read-clause-going
-returns-then-may_read-clause-going g c = did_goes_on
+pub returns-clause-goes_on : goal.returns-clause-goes_on
+returns-clause-goes_on g c = c.send_line.ensures.goes_on
 
 pub returns-clause-going : goal.returns-clause-going
-returns-clause-going g c = did_goes_on
-
-pub raise-requires : goal.raise-requires
-raise-requires g c = let r = c.requires.stands in record { due = c.in-Some.is; calm = c.requires.calm; after = λ h f. (c.is_early.ensures h f).0 c.if-is_early.false; stands = (r.0, r.1, r.2, r.3) }
-
-pub store-requires-clause-storing : goal.store-requires-clause-storing
-store-requires-clause-storing g c = c.if-self.true
-
-pub store-requires-clause-calm : goal.store-requires-clause-calm
-store-requires-clause-calm g c = c.requires.calm
-
-pub store-requires-clause-room : goal.store-requires-clause-room
-store-requires-clause-room g c = let r = c.requires.stands in ((c.is_held_back.ensures r.1 r.3).0 c.if-is_held_back.false).1
-
-pub store-requires-clause-stands : goal.store-requires-clause-stands
-store-requires-clause-stands g c = let r = c.requires.stands in (r.0, r.1, r.2, r.3)
-
-pub scan-requires : goal.scan-requires
-scan-requires g c = let r = c.requires.stands in record { may = c.may_scan.ensures.may c.if-may_scan.true; going = c.if-self-2.false; calm = c.requires.calm; fits = (r.1, r.3) }
-
-pub read-requires : goal.read-requires
-read-requires g c =
-    let r = c.requires.stands in
-    record {
-      may = c.may_read.ensures.may c.if-may_read.true;
-      shown = c.requires.shown;
-      going = c.if-self-2.false;
-      calm = c.requires.calm;
-      settled = λ h f. (c.is_settled.ensures h f).0 c.if-not-is_settled.false;
-      fits = (r.1, r.3);
-    }
-
-pub close-requires-clause-going : goal.close-requires-clause-going
-close-requires-clause-going g c = c.if-self-2.false
-
-pub close-requires-clause-stands : goal.close-requires-clause-stands
-close-requires-clause-stands g c = let r = c.requires.stands in (r.0, r.1, r.2, r.3)
+returns-clause-going g c = c.send_line.ensures.going

@@ -3,13 +3,13 @@ use Rattle.stream_host.specs.Steps.{port_log}
 use Rattle.stream_host.specs.Steps.PortStep.{raised, got, no_reply}
 use Rattle.stream_host.specs.Steps.Step.{at_port}
 use Rattle.stream_host.specs.Jobs.{resume}
-use Rattle.stream_host.proofs.Turns.{did_alone, did_at_port, few_got_now, quiet_between, has_polled, worked_on, few_raised_now, tells_polled, tells_resumed, tells_same, is_done, did_goes_on, not_both}
+use Rattle.stream_host.proofs.Turns.{did_alone, did_at_port, few_got_now, quiet_between, polls_between, has_polled, worked_on, few_raised_now, tells_polled, tells_resumed, tells_same, is_done, did_goes_on, not_both}
 use Rattle.stream_host.proofs.host.Host.work.Goals as goal
 
 pub returns-then-is_due-clause-goes_on : goal.returns-then-is_due-clause-goes_on
 returns-then-is_due-clause-goes_on g c = λ rest h stands f between.
     let n = c.write.ensures h f in
-    (n.0, rw n.1.port stands, did_alone _ _ h n.0 (quiet_between h between) n.1, n.2 _)
+    (n.0, rw n.1.port stands, did_alone _ _ h n.0 (quiet_between h between) (polls_between h between) n.1, n.2 _)
 
 pub returns-then-self-clause-goes_on : goal.returns-then-self-clause-goes_on
 returns-then-self-clause-goes_on g c = λ rest h stands f between.
@@ -25,7 +25,7 @@ returns-then-count_poll-clause-goes_on g c = λ rest h stands f between.
       next,
       t.1,
       worked_on _ _ _ _ h next refl
-          (did_at_port c.args.self.now _ (at_port (raised resume t.0)) (at_port no_reply ∷ h) refl (has_polled h between).quiet t.2 (few_raised_now resume t.0 (at_port no_reply ∷ h) (has_polled h between).quiet)),
+          (did_at_port c.args.self.now _ (at_port (raised resume t.0)) (at_port no_reply ∷ h) refl refl t.2 (few_raised_now resume t.0 (at_port no_reply ∷ h) (has_polled h between))),
       tells_resumed c.args.self.now _ resume t.0 h _ _ c.count_poll.ensures.text,
     )
 
@@ -52,7 +52,7 @@ returns-in-Some-clause-goes_on g c = λ rest h stands f between.
     let lines = c.in-Some.ensures.lines rest (port_log h) stands in (
       at_port (got r) ∷ h,
       c.in-Some.ensures.some rest (port_log h) stands,
-      did_at_port c.args.self.now _ (at_port (got r)) h refl (quiet_between h between) (c.take_reply.ensures.fits h f lines) (few_got_now r h (quiet_between h between)),
+      did_at_port c.args.self.now _ (at_port (got r)) h refl refl (c.take_reply.ensures.fits h f lines) (few_got_now r h between),
       c.take_reply.ensures.tells h _ _,
     )
 

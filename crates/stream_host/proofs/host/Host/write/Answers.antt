@@ -1,4 +1,4 @@
-use Rattle.stream_host.proofs.Hosting.{wrote_on}
+use Rattle.stream_host.proofs.Consoles.{wrote_on}
 use Rattle.stream_host.proofs.host.Host.write.Goals as goal
 
 pub returns : goal.returns

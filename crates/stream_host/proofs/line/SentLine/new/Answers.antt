@@ -4,4 +4,4 @@ use Rattle.stream_host.proofs.line.SentLine.new.Goals as goal
 
 pub returns-clause-fresh : goal.returns-clause-fresh
 unfolding cut_within
-returns-clause-fresh c = record { stripper = c.new.ensures; kept = c.new-2.ensures; long = refl; reset = refl; begun = refl }
+returns-clause-fresh c = record { stripper = c.new.ensures; kept = c.new-2.ensures; long = refl; begun = refl }
