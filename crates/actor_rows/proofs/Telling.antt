@@ -8,7 +8,7 @@ use Rattle.serial_ring.specs.Marks.{Mark, IsMark, start, latest, last_of}
 use Rattle.serial_ring.specs.Lists.{has_banner}
 use Rattle.stream_host.specs.Links.{banners_in, behind_mark, AreGreetings}
 use Rattle.stream_host.specs.Ports.{AnswersLines}
-use Rattle.stream_host.specs.Steps.{PortLog, latest_got, marks_in, stored_in}
+use Rattle.stream_host.specs.Steps.{HostLog, latest_got, marks_in, stored_in}
 use Rattle.stream_host.specs.Steps.PortStep.{stored, marked, got}
 use Rattle.stream_host.proofs.Raised.{banners_first, rising_is}
 use Rattle.stream_host.proofs.Epochs.{some_banner, none_banner}
@@ -35,7 +35,7 @@ drop_more zero xs b few = refl
 drop_more (suc n) [] b few = absurd (omega arith)
 drop_more (suc n) (x ∷ xs) b few = drop_more n xs b (omega arith)
 
-pub with_byte : (b owed owed' told marks greeted : ℕ) (h : PortLog) → HasTold owed told marks greeted h → owed' ≤ owed + cond (nat_eq b 10) 1 0 → HasTold owed' told marks greeted (stored b ∷ h)
+pub with_byte : (b owed owed' told marks greeted : ℕ) (h : HostLog) → HasTold owed told marks greeted h → owed' ≤ owed + cond (nat_eq b 10) 1 0 → HasTold owed' told marks greeted (stored b ∷ h)
 with_byte b owed owed' told marks greeted h t few = record {
   seen = t.seen;
   each = t.each;
@@ -56,7 +56,7 @@ more_marks b marks [] are = tt
 more_marks b marks (m ∷ []) are = (are.0, tt)
 more_marks b marks (m ∷ before ∷ earlier) are = ((are.0.0, inr are.0.1), more_marks b marks (before ∷ earlier) are.1)
 
-pub with_mark : (owed told marks greeted : ℕ) (h : PortLog) → HasTold owed told marks greeted h → HasTold owed told (marks + 1) greeted (marked ∷ h)
+pub with_mark : (owed told marks greeted : ℕ) (h : HostLog) → HasTold owed told marks greeted h → HasTold owed told (marks + 1) greeted (marked ∷ h)
 with_mark owed told marks greeted h t = record {
   seen = t.seen;
   each = t.each;
@@ -75,7 +75,7 @@ no_banners : (seen : List Mark) (n : ℕ) → length seen ≡ n → seen ≡ [] 
 no_banners seen n e none = let l = ap (λ (ms : List Mark). length ms) none in omega arith
 
 -- an answer to a line that has none, or another reply that is no banner
-pub tells : (r : Reply) (owed owed' told told' marks greeted : ℕ) (h : PortLog) → HasTold owed told marks greeted h → is_banner r ≡ false → cond (is_answer r) 1 0 + owed' ≤ owed → 0 < told → told ≤ told'
+pub tells : (r : Reply) (owed owed' told told' marks greeted : ℕ) (h : HostLog) → HasTold owed told marks greeted h → is_banner r ≡ false → cond (is_answer r) 1 0 + owed' ≤ owed → 0 < told → told ≤ told'
     → HasTold owed' told' marks greeted (got r ∷ h)
 tells r owed owed' told told' marks greeted h t other answers some more = record {
   seen = t.seen;
@@ -90,7 +90,7 @@ tells r owed owed' told told' marks greeted h t other answers some more = record
 }
 
 -- the first banner is of the start of the link
-pub greets : (owed told marks greeted : ℕ) (h : PortLog) → HasTold owed told marks greeted h → told ≡ 0 → HasTold owed 1 marks greeted (got Banner ∷ h)
+pub greets : (owed told marks greeted : ℕ) (h : HostLog) → HasTold owed told marks greeted h → told ≡ 0 → HasTold owed 1 marks greeted (got Banner ∷ h)
 greets owed told marks greeted h t first =
     let empty = t.none first in
     let none : banners_in (latest_got h) ≡ 0 = no_banners t.seen (banners_in (latest_got h)) t.each empty in
@@ -106,7 +106,7 @@ greets owed told marks greeted h t first =
       within = omega arith;
     }
   where
-    no_banner : (h : PortLog) → banners_in (latest_got h) ≡ 0 → has_banner (latest_got h) ≡ false
+    no_banner : (h : HostLog) → banners_in (latest_got h) ≡ 0 → has_banner (latest_got h) ≡ false
     no_banner h none = by_test (has_banner (latest_got h)) refl
       where
         by_test : (b : Bool) → has_banner (latest_got h) ≡ b → b ≡ false
@@ -122,7 +122,7 @@ follows marks [] some less are = absurd (omega arith)
 follows marks (before ∷ earlier) some less are = ((less, is_latest marks (omega arith)), are)
 
 -- a later one is of the latest mark, and begins anew
-pub begins_anew : (owed told marks greeted : ℕ) (h : PortLog) → HasTold owed told marks greeted h → 0 < told → greeted < marks → HasTold 0 told marks marks (got Banner ∷ h)
+pub begins_anew : (owed told marks greeted : ℕ) (h : HostLog) → HasTold owed told marks greeted h → 0 < told → greeted < marks → HasTold 0 told marks marks (got Banner ∷ h)
 begins_anew owed told marks greeted h t some more = record {
   seen = (length (marks_in h), latest (marks_in h)) ∷ t.seen;
   each = (let f = banners_first Banner (latest_got h) in let e = t.each in omega arith);
@@ -143,5 +143,5 @@ begins_anew owed told marks greeted h t some more = record {
         by_test false e = absurd (let n = none_banner (latest_got h) e in let s = t.some some in let e = t.each in omega arith)
 
 -- so what a host may take from a reply holds
-pub answers_lines : (owed told marks greeted : ℕ) (h : PortLog) → HasTold owed told marks greeted h → AnswersLines h
+pub answers_lines : (owed told marks greeted : ℕ) (h : HostLog) → HasTold owed told marks greeted h → AnswersLines h
 answers_lines owed told marks greeted h t = record { greeted = t.seen; are = record { each = t.each; stored = t.are }; few = (let l = t.lines in omega arith) }

@@ -5,7 +5,7 @@ use Rattle.status_report.specs.Answering.{lfs_in}
 use Rattle.serial_ring.specs.Marks.{Mark, last_of}
 use Rattle.serial_ring.specs.Lists.{answers_behind_mark}
 use Rattle.stream_host.specs.Links.{banners_in, behind_mark, AreGreetings}
-use Rattle.stream_host.specs.Steps.{PortLog, latest_got, marks_in, stored_in}
+use Rattle.stream_host.specs.Steps.{HostLog, latest_got, marks_in, stored_in}
 
 -- So many lines that were stored behind the mark of the last banner have no answer, so many replies were told, so many marks are
 -- stored, and no banner is of a mark with a larger number than this: by the replies, the latest first, the marks and the bytes.
@@ -20,5 +20,5 @@ pub record Told (owed told marks greeted : ℕ) (replies : List Reply) (places b
   pub low : (last_of seen).0 ≤ greeted
   pub within : (last_of seen).1 ≤ length bytes
 
-abbrev pub HasTold : ℕ → ℕ → ℕ → ℕ → PortLog → Type 0
+abbrev pub HasTold : ℕ → ℕ → ℕ → ℕ → HostLog → Type 0
 HasTold owed told marks greeted h = Told owed told marks greeted (latest_got h) (marks_in h) (stored_in h)

@@ -6,10 +6,10 @@ use Rattle.outside.specs.declared.Actor.TheVariants as actors
 use Rattle.outside.specs.declared.Turn.{Turn}
 use Rattle.step_line.specs.declared.Record.{Record}
 use Rattle.stream_host.specs.declared.host.Host.{Host}
-use Rattle.stream_host.specs.Steps.{Journal as HostJournal, port_log as host_log, PortLog as HostLog}
+use Rattle.stream_host.specs.Steps.{Journal as HostJournal, port_log as host_log, HostLog}
 use Rattle.stream_host.specs.Hosts.{HostFits, HostTurned, HostTellsOn}
 use Rattle.stream_host.specs.Hosts.{IsBetween as IsBetweenOfHost}
-use Rattle.board_rules.specs.Ports.{PortLog as BoardLog}
+use Rattle.board_rules.specs.Ports.{BoardLog}
 use Rattle.board_rules.specs.Breaking.{Doings as BoardJournal, log_of as board_log}
 use Rattle.controller.specs.declared.controller.Controller.{Controller}
 use Rattle.controller.specs.Boards.{BoardFits, BoardTurned}

@@ -6,8 +6,8 @@ use Rattle.outside.specs.declared.Actor.TheVariants as actors
 use Rattle.outside.specs.declared.Turn.{Turn}
 use Rattle.outside.specs.declared.Turn.TheVariants.{Wait}
 use Rattle.outside.specs.declared.On.TheVariants as on
-use Rattle.stream_host.specs.Steps.{PortLog as HostLog}
-use Rattle.board_rules.specs.Ports.{PortLog as BoardLog}
+use Rattle.stream_host.specs.Steps.{HostLog}
+use Rattle.board_rules.specs.Ports.{BoardLog}
 use Rattle.pulse_engine.specs.Logs.{PieceLog, RecordLog}
 use Rattle.pulse_engine.specs.Logs.PieceEvent.{asked, none}
 use Rattle.pulse_engine.specs.Steps.{Pulsing}

@@ -23,7 +23,7 @@ use Rattle.step_record.specs.Taking.{Log, records}
 use Rattle.step_record.specs.declared.forms.Form.TheVariants.{One}
 use Rattle.step_record.specs.Recording.{Recording, RecorderFits, RecorderTurned, Rests, Takes}
 use Rattle.run_law.specs.declared.RunEnd.{RunEnd}
-use Rattle.run_law.specs.Runs.{ended}
+use Rattle.run_law.specs.Runs.{run_end}
 pub use Rattle.run_law.specs.Devices.{Devices, devices, sinks, RunsSoFar, HasRun}
 use Rattle.list_ports.specs.Passing.{HandsOn, record_room}
 use Rattle.realtime_flags.specs.Bits.{IsBalanced}
@@ -173,7 +173,7 @@ pub record HasRunOn (before after : Devices) (w w' : Seen) : Type 0 where
 
 -- how it ends
 abbrev pub end_after : Seen → History → RunEnd
-end_after w hist = ended (end_of hist.host) w.recorder.writer.failed
+end_after w hist = run_end (end_of hist.host) w.recorder.writer.failed
 
 -- A whole run of the job on one thread: each line that was scanned has at most as many reports among the replies as it has `?`,
 -- by the lists of that run.

@@ -23,7 +23,7 @@ use Rattle.step_line.specs.declared.Record.{Record}
 use Rattle.step_line.specs.declared.Record.TheVariants as kinds
 use Rattle.step_record.specs.Texts.{event_text, head_text}
 use Rattle.run_rules.proofs.Determined.{one_opening}
-use Rattle.run_rules.specs.Outcomes.{IsLocked, start}
+use Rattle.run_rules.specs.Outcomes.{IsLockedOut, start}
 use Rattle.run_rules.specs.States.{IsOpening}
 use Rattle.run_rules.specs.Work.{Outcome, tells}
 use Rattle.run_rules.specs.declared.State.{State}
@@ -100,7 +100,7 @@ one_line_course p point kept waiting (a_line o ∷ a_broken x ∷ ps) rest recor
 abbrev pub step_made : Outcome
 step_made = coded (start first) one_step
 
-by_choice : (o : Outcome) → IsLocked true (start first) o ⊎ (o ≡ step_made) → o ≡ step_made
+by_choice : (o : Outcome) → IsLockedOut true (start first) o ⊎ (o ≡ step_made) → o ≡ step_made
 by_choice o (inl locked) = differ (sym locked.cause)
 by_choice o (inr e) = e
 

@@ -16,7 +16,7 @@ use Rattle.step_line.specs.declared.Piece.TheVariants as pieces
 use Rattle.step_line.proofs.Finished.{together_both}
 use Rattle.board_rules.specs.Conduct.{Conducted, IsInHand}
 use Rattle.board_rules.specs.Openings.{Opening}
-use Rattle.board_rules.specs.Ports.{PortLog, taken_in, published_in, known_in, sent_in, MayPublish, LacksPieceRoom}
+use Rattle.board_rules.specs.Ports.{BoardLog, taken_in, published_in, known_in, sent_in, MayPublish, LacksPieceRoom}
 use Rattle.board_rules.specs.Ports.PortStep.{took}
 use Rattle.board_rules.specs.Steps.{Journal, port_log, taken_of, published_of, lines_of, open_of, whole_of, hand_of}
 use Rattle.board_rules.proofs.Answering.{lfs_of_lines}
@@ -49,7 +49,7 @@ hand_ticks first h p c next =
     let a = given_by_lines first h c in let b = lines_in_bytes first h c in
     omega (arith, given, both, hand, one, a, b)
 
-unended_own : (l : PortLog) (s : Sent) → sent_in l ≡ s → s ≡ onto none_sent (reverse (published_in l)) → has_ended (ring.published_in (sent_in l)) ≡ false → has_ended (reverse (published_in l)) ≡ false
+unended_own : (l : BoardLog) (s : Sent) → sent_in l ≡ s → s ≡ onto none_sent (reverse (published_in l)) → has_ended (ring.published_in (sent_in l)) ≡ false → has_ended (reverse (published_in l)) ≡ false
 unended_own l s is own going =
     ap has_ended (sym (append-nil (reverse (published_in l)))) ∙ ap has_ended (sym (append-nil (reverse (published_in l) ++ []))) ∙ sym (ap (λ (x : Sent). has_ended (ring.published_in x)) (is ∙ own)) ∙ going
 
@@ -76,7 +76,7 @@ publish_there state es h p c next =
 
 -- ---- the mark of a reset
 
-both_taken : (l m : PortLog) → length (taken_in (l ++ m)) ≡ length (taken_in l) + length (taken_in m)
+both_taken : (l m : BoardLog) → length (taken_in (l ++ m)) ≡ length (taken_in l) + length (taken_in m)
 both_taken [] m = omega arith
 both_taken (took b ∷ l) m =
     let e = both_taken l m in let a = length-append (taken_in (l ++ m)) (b ∷ []) in let d = length-append (taken_in l) (b ∷ []) in omega (arith, e, a, d)
@@ -103,7 +103,7 @@ pub number_there : (state : State) (es : NewestFirst Closed) (h : Journal) → A
 number_there state es h c conducted =
     let was = lines_there state es c in let lines = lines_in_bytes (opening_behind state es) h conducted in let all = taken_behind (closed_log es) h in omega (arith, was, lines, all)
 
-unended_all : (before : PortLog) (ps : List Piece) → Begins before → has_ended ps ≡ false → has_ended (ring.published_in (onto (sent_in before) ps)) ≡ false
+unended_all : (before : BoardLog) (ps : List Piece) → Begins before → has_ended ps ≡ false → has_ended (ring.published_in (onto (sent_in before) ps)) ≡ false
 unended_all before ps (a_run sent known) none = ap (λ (s : Sent). has_ended (ring.published_in (onto s ps))) sent ∙ ap has_ended (append-nil (ps ++ []) ∙ append-nil ps) ∙ none
 unended_all before ps (an_epoch m s sent waits since known) none =
     ap (λ (x : Sent). has_ended (ring.published_in (onto x ps))) sent ∙ ended_mark m s.older ps s.since since (ap has_ended (append-nil (ps ++ []) ∙ append-nil ps) ∙ none)

@@ -15,7 +15,7 @@ use Rattle.step_line.specs.declared.Piece.{Piece}
 use Rattle.status_report.specs.declared.Reply.{Reply}
 use Rattle.board_rules.specs.Conduct.{Conducted}
 use Rattle.board_rules.specs.Openings.{Opening}
-use Rattle.board_rules.specs.Ports.{PortLog, asks_report, taken_in, answered_in, reports_in, published_in, known_in, link_steps, sent_in}
+use Rattle.board_rules.specs.Ports.{BoardLog, asks_report, taken_in, answered_in, reports_in, published_in, known_in, link_steps, sent_in}
 use Rattle.board_rules.specs.Ports.PortStep.{took, found_mark, answered, reported, took_exec, found_halt}
 use Rattle.board_rules.specs.Steps.{Journal, port_log, taken_of, answered_of, published_of, given_of, planned_of, hand_of}
 use Rattle.board_rules.specs.Steps.Step.{at_port, turned}
@@ -40,7 +40,7 @@ use Rattle.board_epochs.proofs.Working.{all_of, never, works_end, holds, Holds}
 
 -- ---- the marks
 
-answered_none : (number : ℕ) (before : PortLog) (w : Work) → Works number before w → has_greeted (link_steps (all_of before w)) ≡ has_greeted (link_steps before)
+answered_none : (number : ℕ) (before : BoardLog) (w : Work) → Works number before w → has_greeted (link_steps (all_of before w)) ≡ has_greeted (link_steps before)
 answered_none number before [] c = refl
 answered_none number before (at_port (answered r) ∷ w) c = absurd (never number (all_of before w) (stage_of before w) (answered r) tt c.0)
 answered_none number before (at_port (reported r) ∷ w) c = absurd (never number (all_of before w) (stage_of before w) (reported r) tt c.0)
@@ -51,23 +51,23 @@ answered_none number before (turned t ∷ w) c = answered_none number before w c
 answered_none number before (_ ∷ w) c = absurd c.0
 
 -- a first epoch has no mark, another has that of the reset before it
-abbrev pub Marked : PortLog → ℕ → Type 0
+abbrev pub Marked : BoardLog → ℕ → Type 0
 Marked l resets = ((resets ≡ 0) × (l ≡ [])) ⊎ AreMarked l resets
 
-worked_then : (first : Opening) (h : Journal) (before : PortLog) → Conducted first h → MayReset first h → last_of (greeted_in (link_steps (log_behind before h))) ≡ next_mark (link_steps before)
+worked_then : (first : Opening) (h : Journal) (before : BoardLog) → Conducted first h → MayReset first h → last_of (greeted_in (link_steps (log_behind before h))) ≡ next_mark (link_steps before)
 worked_then first h before c may =
     ap (λ (ss : List LinkStep). last_of (greeted_in ss)) (steps_on (known_in before) (port_log h) before) ∙ (greeted_with first h (link_steps before) c (was_greeted first h c may)).0
 
-greeted_then : (first : Opening) (h : Journal) (before : PortLog) → Conducted first h → MayReset first h → has_greeted (link_steps (log_behind before h)) ≡ true
+greeted_then : (first : Opening) (h : Journal) (before : BoardLog) → Conducted first h → MayReset first h → has_greeted (link_steps (log_behind before h)) ≡ true
 greeted_then first h before c may = ap has_greeted (steps_on (known_in before) (port_log h) before) ∙ (greeted_with first h (link_steps before) c (was_greeted first h c may)).1
 
-next_above : (before : PortLog) (n : ℕ) → Marked before n → n ≤ (next_mark (link_steps before)).0
+next_above : (before : BoardLog) (n : ℕ) → Marked before n → n ≤ (next_mark (link_steps before)).0
 next_above before n (inl none) = let z = none.0 in omega arith
 next_above before n (inr m) =
     let e : (next_mark (link_steps before)).0 ≡ (loaded_mark before).0 = ap (λ (t : Bool). (cond t (loaded_mark before) start).0) m.greeted in
     let many = m.many in omega (arith, e, many)
 
-marks_on : (first : Opening) (before : PortLog) (e : Closed) (n : ℕ) → IsClosed first before e → Marked before n → AreMarked (all_of (log_behind before e.journal) e.work) (n + 1)
+marks_on : (first : Opening) (before : BoardLog) (e : Closed) (n : ℕ) → IsClosed first before e → Marked before n → AreMarked (all_of (log_behind before e.journal) e.work) (n + 1)
 marks_on first before e n is m =
     let lb = log_behind before e.journal in
     let l = all_of lb e.work in
@@ -94,13 +94,13 @@ marked_behind state (e ∷ es) c =
 
 -- ---- ticks, pieces and bytes
 
-pub more_taken : (l before : PortLog) → length (taken_in before) ≤ length (taken_in (l ++ before))
+pub more_taken : (l before : BoardLog) → length (taken_in before) ≤ length (taken_in (l ++ before))
 more_taken [] before = omega arith
 more_taken (took b ∷ l) before = let m = more_taken l before in let e = length-append (taken_in (l ++ before)) (b ∷ []) in omega (arith, m, e)
 more_taken (_ ∷ l) before = more_taken l before
 
 -- no more ticks are done at the halt than were published
-pub halted_below : (number : ℕ) (before : PortLog) (w : Work) → Works number before w → halted_in w ≤ ring.ticks_published (sent_in before)
+pub halted_below : (number : ℕ) (before : BoardLog) (w : Work) → Works number before w → halted_in w ≤ ring.ticks_published (sent_in before)
 halted_below number before [] c = omega arith
 halted_below number before (at_port (found_halt done) ∷ w) c = by_stage (stage_of before w) c.0 (holds number before w c.2)
   where
@@ -112,7 +112,7 @@ halted_below number before (turned t ∷ w) c = halted_below number before w c.2
 halted_below number before (_ ∷ w) c = absurd c.0
 
 -- the ticks of an epoch
-pub own_ticks : (l : PortLog) → NeverStops l → ring.ticks_published (sent_in l) ≡ ticks_together (published_in l)
+pub own_ticks : (l : BoardLog) → NeverStops l → ring.ticks_published (sent_in l) ≡ ticks_together (published_in l)
 own_ticks l n =
     let e = ap ring.ticks_published (sent_own l n) in let a = ap ticks_together (append-nil (reverse (published_in l))) in let b = together_reversed (published_in l) in omega (arith, e, a, b)
 
@@ -133,21 +133,21 @@ pieces_bounded first h c going =
     let m = few_pieces (reverse (published_of h)) (published_in_turn first h c) going in
     let a = together_reversed (published_of h) in let b = length-reverse (published_of h) in let d = ticks_bounded first h c in omega (arith, m, a, b, d)
 
-pub pieces_behind : (first : Opening) (before : PortLog) (h : Journal) → Conducted first h → length (ring.published_in (sent_in (log_behind before h))) ≡ length (published_of h) + length (ring.published_in (sent_in before))
+pub pieces_behind : (first : Opening) (before : BoardLog) (h : Journal) → Conducted first h → length (ring.published_in (sent_in (log_behind before h))) ≡ length (published_of h) + length (ring.published_in (sent_in before))
 pieces_behind first before h c =
     let s = sent_in before in
     let e = ap (λ (x : Sent). length (ring.published_in x)) (sent_on (known_in before) (port_log h) before (journals_never_stop first h c)) in
     let a = length-append (reverse (published_of h) ++ s.since) s.older in let b = length-append (reverse (published_of h)) s.since in
     let d = length-append s.since s.older in let f = length-reverse (published_of h) in omega (arith, e, a, b, d, f)
 
-pub taken_behind : (before : PortLog) (h : Journal) → length (taken_in (log_behind before h)) ≡ length (taken_in before) + length (taken_of h)
+pub taken_behind : (before : BoardLog) (h : Journal) → length (taken_in (log_behind before h)) ≡ length (taken_in before) + length (taken_of h)
 taken_behind before h = ap (λ (bs : List ℕ). length bs) (taken_on (known_in before) (port_log h) before) ∙ length-append (taken_in before) (taken_of h)
 
-pub answered_behind : (before : PortLog) (h : Journal) → length (answered_in (log_behind before h)) ≡ length (answered_in before) + length (answered_of h)
+pub answered_behind : (before : BoardLog) (h : Journal) → length (answered_in (log_behind before h)) ≡ length (answered_in before) + length (answered_of h)
 answered_behind before h = ap (λ (rs : List Reply). length rs) (answered_on (known_in before) (port_log h) before) ∙ length-append (answered_in before) (answered_of h)
 
 -- no reply is answered by a reset's work
-no_replies : (number : ℕ) (before : PortLog) (w : Work) → Works number before w → length (answered_in (all_of before w)) ≡ length (answered_in before)
+no_replies : (number : ℕ) (before : BoardLog) (w : Work) → Works number before w → length (answered_in (all_of before w)) ≡ length (answered_in before)
 no_replies number before [] c = refl
 no_replies number before (at_port (answered r) ∷ w) c = absurd (never number (all_of before w) (stage_of before w) (answered r) tt c.0)
 no_replies number before (at_port (reported r) ∷ w) c = absurd (never number (all_of before w) (stage_of before w) (reported r) tt c.0)
@@ -159,12 +159,12 @@ one_more : (asked : Bool) (n : ℕ) → n ≤ cond asked (n + 1) n
 one_more true n = omega arith
 one_more false n = omega arith
 
-more_reports : (l before : PortLog) → reports_in before ≤ reports_in (l ++ before)
+more_reports : (l before : BoardLog) → reports_in before ≤ reports_in (l ++ before)
 more_reports [] before = omega arith
 more_reports (took_exec word ∷ l) before = let m = more_reports l before in let e = one_more (asks_report word) (reports_in (l ++ before)) in omega (arith, m, e)
 more_reports (_ ∷ l) before = more_reports l before
 
-few_on : (first : Opening) (before : PortLog) (e : Closed) (n : ℕ) → IsClosed first before e → Begins before → IsFew before n → IsFew (all_of (log_behind before e.journal) e.work) (n + 1)
+few_on : (first : Opening) (before : BoardLog) (e : Closed) (n : ℕ) → IsClosed first before e → Begins before → IsFew before n → IsFew (all_of (log_behind before e.journal) e.work) (n + 1)
 few_on first before e n is b m =
     let h = e.journal in
     let lb = log_behind before h in

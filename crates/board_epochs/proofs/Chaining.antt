@@ -6,7 +6,7 @@ use Rattle.step_line.specs.Finishing.{ticks_together}
 use Rattle.step_line.specs.Logs.{NewestFirst}
 use Rattle.step_line.specs.declared.Mark.TheVariants as marks
 use Rattle.step_line.specs.declared.Piece.{Piece}
-use Rattle.board_rules.specs.Ports.{PortLog, known_in, sent_in, MayBeDone, LacksPieceRoom, HasTakenFew, HasFewReports, MayStop, MayAskHalt}
+use Rattle.board_rules.specs.Ports.{BoardLog, known_in, sent_in, MayBeDone, LacksPieceRoom, HasTakenFew, HasFewReports, MayStop, MayAskHalt}
 use Rattle.board_rules.specs.Steps.{Journal, port_log, known_of}
 use Rattle.board_rules.proofs.Unstopped.{journals_never_stop}
 use Rattle.board_epochs.specs.Work.{Work, stage_of, halted_in}
@@ -26,7 +26,7 @@ begins_behind state (e ∷ es) c =
     let over = works_end (last_line first e.journal) before e.work c.0.resetting.works c.0.worked.done in
     an_epoch (marks.Reset (last_line first e.journal)) (with_mark (last_line first e.journal) (sent_in before) (halted_in e.work)) over.0 refl refl over.1
 
-begun_ticks : (l : PortLog) → Begins l → ring.ticks_published (sent_in l) ≡ known_in l
+begun_ticks : (l : BoardLog) → Begins l → ring.ticks_published (sent_in l) ≡ known_in l
 begun_ticks l (a_run sent known) = ap ring.ticks_published sent ∙ sym known
 begun_ticks l (an_epoch m s sent waits since known) = ap ring.ticks_published sent ∙ ap (λ (ps : List Piece). ring.ticks_at s.halts + ticks_together ps) since ∙ sym known
 

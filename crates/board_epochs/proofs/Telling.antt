@@ -16,7 +16,7 @@ use Rattle.status_report.specs.declared.reports.Report.{Report}
 use Rattle.step_line.specs.Logs.{NewestFirst}
 use Rattle.board_rules.specs.Conduct.{Conducted, IsNextTask}
 use Rattle.board_rules.specs.Openings.{Opening}
-use Rattle.board_rules.specs.Ports.{PortLog, known_in, link_steps, MayAnswer}
+use Rattle.board_rules.specs.Ports.{BoardLog, known_in, link_steps, MayAnswer}
 use Rattle.board_rules.specs.Steps.{Journal, port_log, answered_of, left_of}
 use Rattle.board_rules.proofs.Greeting.{banners_in, banners_first, banners_are, since, may_answer}
 use Rattle.board_rules.proofs.Limits.{lines_in_bytes, answered_by_lines}
@@ -54,10 +54,10 @@ greeted_by first h c due =
 
 -- ---- a Banner
 
-next_is : (before : PortLog) (n : ℕ) → AreMarked before n → next_mark (link_steps before) ≡ loaded_mark before
+next_is : (before : BoardLog) (n : ℕ) → AreMarked before n → next_mark (link_steps before) ≡ loaded_mark before
 next_is before n m = ap (λ (t : Bool). cond t (loaded_mark before) start) m.greeted
 
-new_mark : (first : Opening) (h : Journal) (before : PortLog) (n : ℕ) → Conducted first h → banners_in (answered_of h) ≡ 0 → AreMarked before n
+new_mark : (first : Opening) (h : Journal) (before : BoardLog) (n : ℕ) → Conducted first h → banners_in (answered_of h) ≡ 0 → AreMarked before n
     → IsNewMark (link_steps (port_log h) ++ link_steps before) (next_mark (link_steps (port_log h) ++ link_steps before))
 new_mark first h before n c none m =
     let is : next_mark (link_steps (port_log h) ++ link_steps before) ≡ loaded_mark before = next_there first h (link_steps before) c none ∙ next_is before n m in
@@ -103,7 +103,7 @@ banner_there state es h c conducted none greeted = by_marks (marked_behind state
   where
     by_marks : Marked (closed_log es) (length es) → IsNewMark (link_steps (port_log h) ++ link_steps (closed_log es)) (next_mark (link_steps (port_log h) ++ link_steps (closed_log es)))
     by_marks (inl begins) =
-        absurd (let e = sym (ap (λ (l : PortLog). has_greeted (link_steps l)) begins.1) ∙ sym (ungreeted (opening_behind state es) h (link_steps (closed_log es)) conducted none).has ∙ greeted in cc)
+        absurd (let e = sym (ap (λ (l : BoardLog). has_greeted (link_steps l)) begins.1) ∙ sym (ungreeted (opening_behind state es) h (link_steps (closed_log es)) conducted none).has ∙ greeted in cc)
     by_marks (inr m) = new_mark (opening_behind state es) h (closed_log es) (length es) conducted none m
 
 pub answer_there : (state : State) (es : NewestFirst Closed) (h : Journal) (r : Reply) → AreEpochs state (goes es h) → IsNextTask (opening_behind state es) (tell r) h → IsReply r → MayAnswer (log_of (goes es h)) r

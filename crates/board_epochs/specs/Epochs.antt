@@ -13,7 +13,7 @@ use Rattle.status_report.specs.Answering.{is_answer, lfs_in}
 use Rattle.step_line.specs.Logs.{NewestFirst}
 use Rattle.board_rules.specs.Conduct.{Conducted}
 use Rattle.board_rules.specs.Openings.{Opening, first_opening, before_first}
-use Rattle.board_rules.specs.Ports.{PortStep, PortLog, taken_in, reports_in, known_in}
+use Rattle.board_rules.specs.Ports.{PortStep, BoardLog, taken_in, reports_in, known_in}
 use Rattle.board_rules.specs.Ports.PortStep.{answered, no_piece_room, loaded}
 use Rattle.board_rules.specs.Steps.{Journal, port_log, published_of, outcomes_of, whole_of, actions_of, before_of, motion_of}
 use Rattle.board_rules.specs.Steps.Step.{at_port}
@@ -78,12 +78,12 @@ counted_on base (loaded done) = loaded (base + done)
 counted_on base (no_piece_room done) = no_piece_room (base + done)
 counted_on base e = e
 
-abbrev pub log_on : ℕ → PortLog → PortLog
+abbrev pub log_on : ℕ → BoardLog → BoardLog
 log_on base [] = []
 log_on base (e ∷ l) = counted_on base e ∷ log_on base l
 
 -- all that was done at the port up to the end of an epoch, behind what was done before it
-abbrev pub log_behind : PortLog → Journal → PortLog
+abbrev pub log_behind : BoardLog → Journal → BoardLog
 log_behind before h = log_on (known_in before) (port_log h) ++ before
 
 -- ---- epochs
@@ -100,7 +100,7 @@ pub data Epochs : Type 0 where
 
 -- What was done at the port in closed epochs. A reset's work is in the port's own counts; it finds all ticks done, so that the next
 -- epoch counts from there.
-abbrev pub closed_log : NewestFirst Closed → PortLog
+abbrev pub closed_log : NewestFirst Closed → BoardLog
 closed_log [] = []
 closed_log (e ∷ es) = port_log e.work ++ log_behind (closed_log es) e.journal
 
@@ -109,7 +109,7 @@ abbrev pub ticks_made : NewestFirst Closed → ℕ
 ticks_made es = known_in (closed_log es)
 
 -- all that was done at the port, the latest first
-abbrev pub log_of : Epochs → PortLog
+abbrev pub log_of : Epochs → BoardLog
 log_of (goes es h) = log_behind (closed_log es) h
 log_of (resets es h w) = port_log w ++ log_behind (closed_log es) h
 
@@ -124,13 +124,13 @@ pub record IsEpoch (first : Opening) (h : Journal) : Type 0 where
   pub prompt : IsPrompt first h
 
 -- and a reset that is being worked behind it
-pub record IsResetting (first : Opening) (before : PortLog) (h : Journal) (w : Work) : Type 0 where
+pub record IsResetting (first : Opening) (before : BoardLog) (h : Journal) (w : Work) : Type 0 where
   pub epoch : IsEpoch first h
   pub may : MayReset first h
   pub works : Works (last_line first h) (log_behind before h) w
 
 -- one whose reset was worked whole
-pub record IsClosed (first : Opening) (before : PortLog) (e : Closed) : Type 0 where
+pub record IsClosed (first : Opening) (before : BoardLog) (e : Closed) : Type 0 where
   pub resetting : IsResetting first before e.journal e.work
   pub worked : IsWorked (log_behind before e.journal) e.work
 
@@ -139,7 +139,7 @@ AreClosed state [] = Unit {0}
 AreClosed state (e ∷ es) = IsClosed (opening_behind state es) (closed_log es) e × AreClosed state es
 
 -- the port gives so many bytes at most, and so many words that ask for a report
-pub record IsBounded (l : PortLog) : Type 0 where
+pub record IsBounded (l : BoardLog) : Type 0 where
   pub bytes : length (taken_in l) ≤ 2 ^ 31
   pub reports : reports_in l ≤ 2 ^ 31
 

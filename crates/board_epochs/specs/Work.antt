@@ -10,7 +10,7 @@ use Rattle.serial_ring.specs.Logs.{greeted_in}
 use Rattle.serial_ring.specs.Marks.{last_of}
 use Rattle.step_line.specs.declared.Mark.TheVariants as marks
 use Rattle.step_line.specs.declared.Piece.TheVariants as pieces
-use Rattle.board_rules.specs.Ports.{PortStep, PortLog, asks_report, taken_in, link_steps, sent_in, MayBeDone, HasTakenFew, HasFewReports, LacksPieceRoom}
+use Rattle.board_rules.specs.Ports.{PortStep, BoardLog, asks_report, taken_in, link_steps, sent_in, MayBeDone, HasTakenFew, HasFewReports, LacksPieceRoom}
 use Rattle.board_rules.specs.Ports.PortStep.{took, found_mark, took_exec, took_ovr, published, no_piece_room, loaded, stored_stop, found_no_halt, found_halt}
 use Rattle.board_rules.specs.Steps.{Step, Journal, port_log}
 use Rattle.board_rules.specs.Steps.Step.{at_port, turned}
@@ -35,7 +35,7 @@ pub data Stage : Type 0 where
   over : Stage
 
 -- the number of the mark that was worked last: that of the last Banner
-abbrev pub worked_in : PortLog → ℕ
+abbrev pub worked_in : BoardLog → ℕ
 worked_in l = (last_of (greeted_in (link_steps l))).0
 
 -- so many bytes are left to drop, or none is
@@ -54,7 +54,7 @@ by_load true = over
 by_load false = awaits_done
 
 -- a step at the port leads from stage to stage, behind all that was done there
-abbrev pub stage_at : PortLog → PortStep → Stage → Stage
+abbrev pub stage_at : BoardLog → PortStep → Stage → Stage
 stage_at l (took_ovr word) drops_changes = awaits_mark
 stage_at l (found_mark number bytes) awaits_mark = by_mark (nat_lt (worked_in l) number) (bytes - length (taken_in l))
 stage_at l stored_stop (stops n) = awaits_halt n
@@ -65,7 +65,7 @@ stage_at l (loaded done) awaits_done = by_load (nat_eq done (ring.ticks_publishe
 stage_at l e stage = stage
 
 -- how far the work is, behind what was done at the port before it
-abbrev pub stage_of : PortLog → Work → Stage
+abbrev pub stage_of : BoardLog → Work → Stage
 stage_of before [] = drops_changes
 stage_of before (at_port e ∷ w) = stage_at (port_log w ++ before) e (stage_of before w)
 stage_of before (_ ∷ w) = stage_of before w
@@ -75,7 +75,7 @@ stage_of before (_ ∷ w) = stage_of before w
 -- What may be done there at each stage, behind all that was done at the port, where the mark that is published has this number.
 -- Words of requests, and of overrides, are taken and dropped at any stage. The number of a mark of the link is below 2 ^ 32. What
 -- else the port promises is as in `Conduct` of `board_rules`.
-abbrev pub MayWorkAt : (number : ℕ) → PortLog → PortStep → Stage → Type 0
+abbrev pub MayWorkAt : (number : ℕ) → BoardLog → PortStep → Stage → Type 0
 MayWorkAt number l e over = ⊥
 MayWorkAt number l (took_exec word) stage = asks_report word ≡ true → HasFewReports l
 MayWorkAt number l (took_ovr word) stage = Unit {0}
@@ -135,14 +135,14 @@ NeedsAt on.Motion awaits_done w = list_any loads (this_turn w) ≡ true
 NeedsAt o stage w = ⊥
 
 -- A turn waits: nothing went on in it, and both words of flags were taken since the work began, or since the last wait.
-pub record WorkWaits (before : PortLog) (o : On) (w : Work) : Type 0 where
+pub record WorkWaits (before : BoardLog) (o : On) (w : Work) : Type 0 where
   pub once : count_by goes_out (this_turn w) ≤ 1
   pub cause : NeedsAt o (stage_of before w) w
   pub still : list_any goes_on (this_turn w) ≡ false
   pub requests : requests_dropped w ≡ true
   pub changes : changes_dropped w ≡ true
 
-abbrev pub MayEndWork : PortLog → Turn → Work → Type 0
+abbrev pub MayEndWork : BoardLog → Turn → Work → Type 0
 MayEndWork before Did w = count_by goes_out (this_turn w) ≤ 1
 MayEndWork before (Wait o) w = WorkWaits before o w
 MayEndWork before Done w = ⊥
@@ -150,17 +150,17 @@ MayEndWork before Done w = ⊥
 -- ---- all of it
 
 -- the reset is worked
-pub record IsWorked (before : PortLog) (w : Work) : Type 0 where
+pub record IsWorked (before : BoardLog) (w : Work) : Type 0 where
   pub done : stage_of before w ≡ over
   pub between : this_turn w ≡ []
 
-abbrev pub MayWork : (number : ℕ) → PortLog → Step → Work → Type 0
+abbrev pub MayWork : (number : ℕ) → BoardLog → Step → Work → Type 0
 MayWork number before (at_port e) w = MayWorkAt number (port_log w ++ before) e (stage_of before w)
 MayWork number before (turned t) w = MayEndWork before t w
 MayWork number before s w = ⊥
 
 -- A reset is worked behind what was done at the port before, and its mark has this number. Once it is worked, the next epoch begins.
-abbrev pub Works : (number : ℕ) → PortLog → Work → Type 0
+abbrev pub Works : (number : ℕ) → BoardLog → Work → Type 0
 Works number before [] = Unit {0}
 Works number before (s ∷ w) = MayWork number before s w × (IsWorked before w → ⊥) × Works number before w
 

@@ -111,8 +111,8 @@ on_did first h (Mark m) ps may gives st = on_calm first h (did (Mark m) ps) (ask
 on_did first h Rest ps may gives st = on_calm first h (did Rest ps) (ask a_rest) may.next (λ e. absurd cc) refl refl refl (λ x. x) st
 on_did first h (Take mode) ps may gives (calm a b m) = calm a b m
 on_did first h (Take mode) ps may gives (to_halt a b l) = to_halt a b l
-on_did first h (Take mode) ps may gives (was_halted a b l p m) = absurd (none_taken (plan_of h) mode ps (steps.behind (Take mode) ps (plan_of h)) p.blocks gives)
-on_did first h (Take mode) ps may gives (locked a b f l p m) = absurd (none_taken (plan_of h) mode ps (steps.behind (Take mode) ps (plan_of h)) p.blocks gives)
+on_did first h (Take mode) ps may gives (was_halted a b l p m) = absurd (none_taken (plan_of h) mode ps (steps.plan_after (Take mode) ps (plan_of h)) p.blocks gives)
+on_did first h (Take mode) ps may gives (locked a b f l p m) = absurd (none_taken (plan_of h) mode ps (steps.plan_after (Take mode) ps (plan_of h)) p.blocks gives)
 on_did first h (Override o) ps may gives (calm a b m) = calm a b m
 on_did first h (Override o) ps may gives (to_halt a b l) = to_halt a b l
 on_did first h (Override o) ps may gives (was_halted a b l p m) = was_halted a b l (record { blocks = p.blocks; speed = p.speed }) m
@@ -353,7 +353,7 @@ only_override first h a ps may gives (locked x b f l p alarm) was = opposite (ha
 only_override first h (Add m) ps may gives (was_halted x b l p alarm) was = not_told (left_of first h) (ask (a_move m)) may refl l
 only_override first h (Mark m) ps may gives (was_halted x b l p alarm) was = not_told (left_of first h) (ask (a_mark m)) may.next refl l
 only_override first h Rest ps may gives (was_halted x b l p alarm) was = not_told (left_of first h) (ask a_rest) may.next refl l
-only_override first h (Take mode) ps may gives (was_halted x b l p alarm) was = absurd (none_taken (plan_of h) mode ps (steps.behind (Take mode) ps (plan_of h)) p.blocks gives)
+only_override first h (Take mode) ps may gives (was_halted x b l p alarm) was = absurd (none_taken (plan_of h) mode ps (steps.plan_after (Take mode) ps (plan_of h)) p.blocks gives)
 only_override first h (Override o) [] may gives (was_halted x b l p alarm) was = (o, refl, refl)
 only_override first h (Override o) (q ∷ ps) may gives (was_halted x b l p alarm) was = absurd gives.1
 only_override first h Clear ps may gives (was_halted x b l p alarm) was = absurd may
@@ -364,8 +364,8 @@ only_override first h Reset ps may gives (was_halted x b l p alarm) was = absurd
 -- where the machine was not halted it is the plan
 pub part_plan_is : (h : Journal) → has_halted h ≡ false → part_plan h ≡ plan_of h
 part_plan_is [] none = refl
-part_plan_is (did a ps ∷ h) none = ap (λ (p : Planned). steps.behind a ps p) (part_plan_is h none)
-part_plan_is (evened ∷ h) none = ap (λ (p : Planned). steps.behind (Override normal_overrides) [] p) (part_plan_is h none)
+part_plan_is (did a ps ∷ h) none = ap (λ (p : Planned). steps.plan_after a ps p) (part_plan_is h none)
+part_plan_is (evened ∷ h) none = ap (λ (p : Planned). steps.plan_after (Override normal_overrides) [] p) (part_plan_is h none)
 part_plan_is (cut k ∷ h) none = ap cleared (part_plan_is h none)
 part_plan_is (halted ∷ h) none = absurd cc
 part_plan_is (_ ∷ h) none = part_plan_is h none

@@ -7,7 +7,7 @@ use Rattle.code_table.specs.declared.flags.Exec.{Exec}
 use Rattle.realtime_flags.specs.declared.words.Take.TheVariants as kinds
 use Rattle.realtime_flags.specs.Bits.{report_flag, takes_with, stood_in}
 use Rattle.realtime_flags.proofs.Bits.{one_more}
-use Rattle.board_rules.specs.Ports.{PortLog, asks_report, reports_in}
+use Rattle.board_rules.specs.Ports.{BoardLog, asks_report, reports_in}
 use Rattle.board_rules.specs.Ports.PortStep.{took_exec}
 use Rattle.board_rules.specs.Takes.{takes_in}
 
@@ -22,7 +22,7 @@ stood : (word : Exec) → asks_report word ≡ true → stood_in report_flag (ki
 stood word e = asked_bit word.0 e
 
 -- no more words that ask for a report were taken than such words with its bit
-pub reports_are : (l : PortLog) → reports_in l ≤ takes_with report_flag (takes_in l)
+pub reports_are : (l : BoardLog) → reports_in l ≤ takes_with report_flag (takes_in l)
 reports_are [] = omega arith
 reports_are (took_exec word ∷ l) = one_more (asks_report word) (stood_in report_flag (kinds.Exec word)) (reports_in l) (takes_with report_flag (takes_in l)) (stood word) (reports_are l)
 reports_are (_ ∷ l) = reports_are l

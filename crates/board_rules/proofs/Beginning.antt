@@ -2,7 +2,7 @@
 use Rattle.std.proofs.Common.{◌≡◌, ◌⊎◌, inl, inr, ℕ, Bool, true, false, cond, ◌&&◌, ◌||◌, List, [], ◌∷◌, refl, sym, ap, ◌∙◌, subst}
 use Rattle.run_rules.specs.Locking.{unlocked}
 use Rattle.run_rules.specs.declared.machine.Machine.{Machine}
-use Rattle.run_rules.specs.Work.{Outcome, Kind, is_code, is_jog, is_limit, has_moves}
+use Rattle.run_rules.specs.Work.{Outcome, Kind, accepted_code, accepted_jog, is_limit, has_moves}
 use Rattle.run_rules.proofs.Answering.{halts}
 use Rattle.run_rules.specs.Work.Kind.{of_code, of_jog, of_none}
 use Rattle.run_rules.specs.Outcomes.{Before, Becomes, limited, after, jogged_behind}
@@ -49,13 +49,13 @@ jogged_is first (_ ∷ h) = jogged_is first h
 
 -- what is neither G-code nor a jog moves nothing
 none_moves : (m : Machine) (kept : List ℕ) (o : Outcome) → Fate m kept o → o.kind ≡ of_none → has_moves o.work ≡ false
-none_moves m kept o (fates.coded kind other) is = absurd (let e = sym (ap is_code kind) ∙ ap is_code is in cc)
-none_moves m kept o (fates.a_jog kind other dollar still work) is = absurd (let e = sym (ap is_jog kind) ∙ ap is_jog is in cc)
+none_moves m kept o (fates.coded kind other) is = absurd (let e = sym (ap accepted_code kind) ∙ ap accepted_code is in cc)
+none_moves m kept o (fates.a_jog kind other dollar still work) is = absurd (let e = sym (ap accepted_jog kind) ∙ ap accepted_jog is in cc)
 none_moves m kept o (fates.halted kind other still work) is = ap has_moves work
 none_moves m kept o (fates.neither kind still none) is = nothing_moves o.work none
 
 counted : (k : Kind) (s m moved jog : Bool) → (k ≡ of_none → m ≡ false)
-    → (cond s false (is_code k && m || moved) || cond s false (is_jog k && m || jog)) ≡ false → cond s false (m || (moved || jog)) ≡ false
+    → (cond s false (accepted_code k && m || moved) || cond s false (accepted_jog k && m || jog)) ≡ false → cond s false (m || (moved || jog)) ≡ false
 counted k true m moved jog none e = refl
 counted of_code false true moved jog none e = absurd cc
 counted of_code false false moved jog none e = e

@@ -15,7 +15,7 @@ use Rattle.run_rules.specs.Work.{tells}
 use Rattle.run_rules.proofs.Answering.{NoByes}
 use Rattle.board_rules.specs.Openings.{Opening}
 use Rattle.board_rules.proofs.LinkSteps.{same_answered}
-use Rattle.board_rules.specs.Ports.{PortStep, PortLog, answered_in, published_in, MayAnswer, MayPublish}
+use Rattle.board_rules.specs.Ports.{PortStep, BoardLog, answered_in, published_in, MayAnswer, MayPublish}
 use Rattle.board_rules.specs.Ports.PortStep.{answered, no_reply_room, published, no_piece_room}
 use Rattle.board_rules.specs.Steps.{Journal, port_log, published_of, answered_of, given_of, planned_of, hand_of, plan_of, actions_of, left_of, closed_tells, outcomes_of}
 use Rattle.board_rules.specs.Steps.Step.{at_port, turned}
@@ -173,7 +173,7 @@ unsaid first h c unfinished = sym (bye_plain (answered_of h)) ∙ bye_among (wit
 -- ---- what a board has done whose run a reset has ended
 
 -- what only other steps change is as before
-pub same_since : {X : Type 0} (at : PortStep → X → X) (p : PortLog → X) → ((e : PortStep) (l : PortLog) → p (e ∷ l) ≡ at e (p l))
+pub same_since : {X : Type 0} (at : PortStep → X → X) (p : BoardLog → X) → ((e : PortStep) (l : BoardLog) → p (e ∷ l) ≡ at e (p l))
     → ((q : Piece) (x : X) → at (published q) x ≡ x) → ((r : Reply) (x : X) → at (answered r) x ≡ x) → ((n : ℕ) (x : X) → at (no_piece_room n) x ≡ x) → ((x : X) → at no_reply_room x ≡ x)
     → (since before : Journal) → EndsRun since before → p (port_log since ++ port_log before) ≡ p (port_log before)
 same_since at p step out told kept full [] before c = refl

@@ -20,7 +20,7 @@ use Rattle.board_rules.specs.Steps.{Journal, has_limited, outcomes_of, known_of,
 use Rattle.board_rules.specs.Cuts.{counts_of}
 use Rattle.board_rules.specs.Steps.Step.{at_port, began, did, made_end, evened, paused, became, cut, halted, closing, turned}
 use Rattle.board_rules.specs.Conduct.{Conducted, IsNextTask, ticks_given}
-use Rattle.board_rules.specs.Whole.{comes_to_rest, IsQuiet, has_any_moved}
+use Rattle.board_rules.specs.Whole.{comes_to_rest, HasComeToRest, has_any_moved}
 use Rattle.board_rules.proofs.Counting.{left_to_ask, counts_are, length_counts, counts_begun, counts_did}
 use Rattle.board_rules.proofs.Given.{published_within, known_within}
 use Rattle.board_rules.proofs.Quieting.{quiet}
@@ -51,10 +51,10 @@ all_is_given first h c blocks none =
 only_answer : (first : Opening) (h : Journal) (r : Reply) → IsNextTask first (tell r) h → drop 1 (left_of first h) ≡ [] → left_of first h ≡ tell r ∷ []
 only_answer first h r next last = next ∙ ap (λ (ts : List Task). tell r ∷ ts) last
 
-at_answer : (first : Opening) (h : Journal) (r : Reply) → Conducted first h → left_of first h ≡ tell r ∷ [] → closed_tells h ≡ [] → has_any_moved (before_of first h) ≡ false → IsQuiet first h
+at_answer : (first : Opening) (h : Journal) (r : Reply) → Conducted first h → left_of first h ≡ tell r ∷ [] → closed_tells h ≡ [] → has_any_moved (before_of first h) ≡ false → HasComeToRest first h
 at_answer first h r c left going still = by_rest (quiet first h c going still)
   where
-    by_rest : (comes_to_rest (left_of first h) ≡ true) ⊎ IsQuiet first h → IsQuiet first h
+    by_rest : (comes_to_rest (left_of first h) ≡ true) ⊎ HasComeToRest first h → HasComeToRest first h
     by_rest (inl will) = absurd (let e = sym (ap comes_to_rest left) ∙ will in cc)
     by_rest (inr q) = q
 

@@ -6,7 +6,7 @@ use Rattle.feed_hold.specs.declared.Motion.TheVariants as motions
 use Rattle.line_geom.specs.declared.Block.{Block}
 use Rattle.board_rules.specs.Openings.{Opening}
 use Rattle.run_rules.specs.declared.machine.Machine.TheVariants.{Runs, Jogs, Locked}
-use Rattle.run_rules.specs.Work.{Outcome, Kind, is_code, has_moves, asks}
+use Rattle.run_rules.specs.Work.{Outcome, Kind, accepted_code, has_moves, asks}
 use Rattle.run_rules.specs.Work.Kind.{of_none}
 use Rattle.run_rules.specs.Work.Task.{tell, pause, normal, halt}
 use Rattle.run_rules.specs.Outcomes.{jogged_behind}
@@ -78,21 +78,21 @@ code_begun first h o c other true false false jogs settles moves still rested = 
 
 -- a line of neither kind leaves what was, and moves nothing
 asks_nothing : (first : Opening) (h : Journal) (o : Outcome) → Conducted first (began o ∷ h) → o.kind ≡ of_none → o.settles ≡ false → asks o.work ≡ []
-    → jogged_behind o.kind (has_jogged h) ≡ false → cond o.settles false (is_code o.kind && has_moves o.work || (before_of first h).moved) ≡ false
+    → jogged_behind o.kind (has_jogged h) ≡ false → cond o.settles false (accepted_code o.kind && has_moves o.work || (before_of first h).moved) ≡ false
     → (has_jogged h ≡ false → (before_of first h).moved ≡ false → Rested first h) → Rested first (began o ∷ h)
 asks_nothing first h o c kind settles none jogs still rested =
     let was : has_jogged h ≡ false = sym (ap (λ (k : Kind). jogged_behind k (has_jogged h)) kind) ∙ jogs in
     let before : (before_of first h).moved ≡ false =
-    sym (ap (λ (s : Bool). cond s false (is_code o.kind && has_moves o.work || (before_of first h).moved)) settles
-    ∙ ap (λ (k : Kind). is_code k && has_moves o.work || (before_of first h).moved) kind) ∙ still in
+    sym (ap (λ (s : Bool). cond s false (accepted_code o.kind && has_moves o.work || (before_of first h).moved)) settles
+    ∙ ap (λ (k : Kind). accepted_code k && has_moves o.work || (before_of first h).moved) kind) ∙ still in
     rested_began first h o c (before_of first h).moved false false settles (none_moves o.work none) before (λ e. rested was e)
 
 line_begun : (first : Opening) (h : Journal) (o : Outcome) → Conducted first (began o ∷ h) → Fate (machine_in (motion_of first h)) (open_of h) o
-    → jogged_behind o.kind (has_jogged h) ≡ false → cond o.settles false (is_code o.kind && has_moves o.work || (before_of first h).moved) ≡ false
+    → jogged_behind o.kind (has_jogged h) ≡ false → cond o.settles false (accepted_code o.kind && has_moves o.work || (before_of first h).moved) ≡ false
     → (has_jogged h ≡ false → (before_of first h).moved ≡ false → Rested first h) → Rested first (began o ∷ h)
 line_begun first h o c (fates.coded kind other) jogs still rested =
     code_begun first h o c other (has_jogged h) o.settles (has_moves o.work) refl refl refl
-    (sym (ap (λ (k : Kind). cond o.settles false (is_code k && has_moves o.work || (before_of first h).moved)) kind) ∙ still) rested
+    (sym (ap (λ (k : Kind). cond o.settles false (accepted_code k && has_moves o.work || (before_of first h).moved)) kind) ∙ still) rested
 line_begun first h o c (fates.a_jog kind other dollar settles work) jogs still rested =
     absurd (let e = sym (ap (λ (k : Kind). jogged_behind k (has_jogged h)) kind) ∙ jogs in cc)
 line_begun first h o c (fates.halted kind other settles work) jogs still rested = asks_nothing first h o c kind settles (ap asks work) jogs still rested

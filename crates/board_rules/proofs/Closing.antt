@@ -24,7 +24,7 @@ use Rattle.run_rules.specs.Work.Task.{ask, tell, pause, normal, finish, halt}
 use Rattle.board_rules.specs.Ports.{MayBeDone}
 use Rattle.board_rules.specs.Ports.PortStep.{took, found_closed, answered, published, loaded, found_halt}
 use Rattle.board_rules.specs.Turns.{stands_still}
-use Rattle.board_rules.specs.Steps.{Journal, port_log, has_limited, motion_of, without_asks, known_of, given_of, planned_of, hand_of, plan_of, left_of, behind, whole_of, has_closed, closed_tells}
+use Rattle.board_rules.specs.Steps.{Journal, port_log, has_limited, motion_of, without_asks, known_of, given_of, planned_of, hand_of, plan_of, left_of, plan_after, whole_of, has_closed, closed_tells}
 use Rattle.board_rules.specs.Steps.Step.{at_port, began, did, made_end, evened, paused, became, cut, halted, closing}
 use Rattle.board_rules.specs.Conduct.{Conducted, ticks_given, Gives, MayDo, MayEnd, MayEven, MayHappen, MayPause, MayTell, IsFinished}
 use Rattle.board_rules.specs.Whole.{IsSpent}
@@ -92,8 +92,8 @@ still_going first h a ps e is = going e (more_given ps (given_of h) (planned_of 
 on_take : (first : Opening) (h : Journal) (mode : Mode) (ps : List Piece) → Gives (Take mode) ps (plan_of h) → At first h → At first (did (Take mode) ps ∷ h)
 on_take first h mode ps gives (going e is) = going e (more_given ps (given_of h) (planned_of h) is)
 on_take first h mode ps gives (to_finish e l w is) = to_finish e l w (more_given ps (given_of h) (planned_of h) is)
-on_take first h mode ps gives (to_tell e l w p still is k) = absurd (none_taken (plan_of h) mode ps (behind (Take mode) ps (plan_of h)) p.blocks gives)
-on_take first h mode ps gives (over e l w p still d is k) = absurd (none_taken (plan_of h) mode ps (behind (Take mode) ps (plan_of h)) p.blocks gives)
+on_take first h mode ps gives (to_tell e l w p still is k) = absurd (none_taken (plan_of h) mode ps (plan_after (Take mode) ps (plan_of h)) p.blocks gives)
+on_take first h mode ps gives (over e l w p still d is k) = absurd (none_taken (plan_of h) mode ps (plan_after (Take mode) ps (plan_of h)) p.blocks gives)
 
 -- other overrides leave a plan at rest so
 on_override : (first : Opening) (h : Journal) (o : Overrides) (ps : List Piece) → ps ≡ [] → At first h → At first (did (Override o) ps ∷ h)
@@ -121,7 +121,7 @@ on_did first h Rest ps may gives at = no_ask first h (ask a_rest) (λ e. absurd 
 on_did first h (Take Go) ps may gives at = on_take first h Go ps gives at
 on_did first h (Take Hold) ps may gives at = on_take first h Hold ps gives at
 on_did first h (Override o) ps may gives at =
-    on_override first h o ps (none_given most_blocks (behind (Override o) ps (plan_of h)) (behind (Override o) ps (plan_of h)) ps gives.1) at
+    on_override first h o ps (none_given most_blocks (plan_after (Override o) ps (plan_of h)) (plan_after (Override o) ps (plan_of h)) ps gives.1) at
 on_did first h Clear ps may gives at = absurd may
 on_did first h Reset ps may gives at = absurd may
 

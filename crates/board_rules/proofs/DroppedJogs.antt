@@ -6,7 +6,7 @@ use Rattle.run_rules.specs.Finding.{Fate}
 use Rattle.run_rules.specs.Finding.{Fate as fates}
 use Rattle.run_rules.specs.declared.machine.Machine.{Machine}
 use Rattle.run_rules.specs.Outcomes.{jogged_behind}
-use Rattle.run_rules.specs.Work.{Task, Outcome, Kind, asks, asked_by_task, is_jog}
+use Rattle.run_rules.specs.Work.{Task, Outcome, Kind, asks, asked_by_task, accepted_jog}
 use Rattle.run_rules.specs.Work.Task.{ask, tell, pause, normal, finish, halt}
 use Rattle.step_line.specs.Asking.{Asked}
 use Rattle.step_line.specs.Asking.Asked.{a_move, a_mark, a_rest}
@@ -30,7 +30,7 @@ Drops first h = DropsLast (asks (left_of first h)) (part_outcomes h)
 -- a line of which a jog is the last that was accepted
 line_drops : (m : Machine) (kept : List ℕ) (early : List Outcome) (o : Outcome) (was : Bool) → Fate m kept o → jogged_behind o.kind was ≡ true → DropsLast (asks o.work) (early ++ o ∷ [])
 line_drops m kept early o was (fates.coded kind other) is = absurd (let e = sym (ap (λ (k : Kind). jogged_behind k was) kind) ∙ is in cc)
-line_drops m kept early o was (fates.a_jog kind other dollar still work) is = inr (early, o, refl, refl, ap is_jog kind)
+line_drops m kept early o was (fates.a_jog kind other dollar still work) is = inr (early, o, refl, refl, ap accepted_jog kind)
 line_drops m kept early o was (fates.halted kind other still work) is = inl (ap asks work)
 line_drops m kept early o was (fates.neither kind still none) is = inl none
 

@@ -13,7 +13,7 @@ use Rattle.run_rules.specs.Told.{replies_after}
 use Rattle.run_rules.specs.Work.{Task, Outcome, tells}
 use Rattle.run_rules.specs.Work.Task.{tell}
 use Rattle.board_rules.specs.Openings.{Opening}
-use Rattle.board_rules.specs.Ports.{PortLog, taken_in, answered_in, link_steps, MayAnswer}
+use Rattle.board_rules.specs.Ports.{BoardLog, taken_in, answered_in, link_steps, MayAnswer}
 use Rattle.board_rules.specs.Ports.PortStep.{took, answered, reported}
 use Rattle.board_rules.specs.Steps.{Journal, port_log, taken_of, answered_of, outcomes_of, left_of, closed_tells}
 use Rattle.board_rules.specs.Steps.Step.{at_port}
@@ -59,7 +59,7 @@ banners_are first h c =
     omega (arith, all, a, b, d, e, f, g, none)
 
 -- No byte is taken before the Banner is told; and since it was, as many lines were answered, and had their end taken, as in all.
-abbrev pub Since : PortLog → Type 0
+abbrev pub Since : BoardLog → Type 0
 Since l = (banners_in (answered_in l) ≡ 0 → (taken_in l ≡ []) × (has_greeted (link_steps l) ≡ false))
     × (answers_since (link_steps l) ≡ answers_in (answered_in l)) × (lfs_since (link_steps l) ≡ lfs_in (taken_in l))
 
@@ -91,7 +91,7 @@ told_since first r h c may s = by_banner (is_banner r) refl
         let a = answers_on (answered_of h) (r ∷ []) in let b = answers_first r [] in let d = s.1 in
         ((λ e. let before = s.0 (omega (arith, m, e)) in (before.0, rw is before.1)), rw is (omega (arith, a, b, d)), rw is s.2)
 
-reported_since : (r : Report) (l : PortLog) → Since l → Since (reported r ∷ l)
+reported_since : (r : Report) (l : BoardLog) → Since l → Since (reported r ∷ l)
 reported_since r l s =
     let m = banners_on (answered_in l) (replies.Report r ∷ []) in
     let a = answers_on (answered_in l) (replies.Report r ∷ []) in let b = answers_first (replies.Report r) [] in let d = s.1 in

@@ -21,8 +21,8 @@ use Rattle.step_line.specs.Finishing.{ticks_together}
 use Rattle.step_line.specs.Pieces.{ticks_of}
 use Rattle.step_line.specs.declared.Piece.{Piece}
 use Rattle.board_rules.specs.Ports.PortStep.{loaded, found_halt}
-use Rattle.board_rules.specs.Parts.{IsHaltedPart, lines_in, counts_in}
-use Rattle.board_rules.specs.Steps.{Step, Journal, has_limited, outcomes_of, known_of, given_of, planned_of, left_of, behind}
+use Rattle.board_rules.specs.Parts.{IsAlarmedPart, lines_in, counts_in}
+use Rattle.board_rules.specs.Steps.{Step, Journal, has_limited, outcomes_of, known_of, given_of, planned_of, left_of, plan_after}
 use Rattle.board_rules.specs.Steps.Step.{at_port, began, did, made_end, evened, paused, became, cut, halted, closing, turned}
 use Rattle.board_rules.specs.Cuts.{part_outcomes, part_actions, part_given, part_start, part_plan, has_halted, parts_of, passed_of}
 use Rattle.board_rules.specs.Conduct.{Conducted, ticks_given}
@@ -99,8 +99,8 @@ same_then : (first : Opening) (h : Journal) (s : Step) → part_outcomes (s ∷ 
     → HaltedThen first h → HaltedThen first (s ∷ h)
 same_then first h s outcomes given speed t = record { then = t.then; halts = t.halts; outcomes = outcomes ∙ t.outcomes; given = given ∙ t.given; still = speed ∙ t.still }
 
-override_speed : (a : Action) (ps : List Piece) (p : Planned) (o : Overrides) → a ≡ Override o → (behind a ps p).speed ≡ p.speed
-override_speed a ps p o is = ap (λ (b : Action). (behind b ps p).speed) is
+override_speed : (a : Action) (ps : List Piece) (p : Planned) (o : Overrides) → a ≡ Override o → (plan_after a ps p).speed ≡ p.speed
+override_speed a ps p o is = ap (λ (b : Action). (plan_after b ps p).speed) is
 
 did_then : (first : Opening) (h : Journal) (a : Action) (ps : List Piece) → (o : Overrides) × (a ≡ Override o) × (ps ≡ []) → HaltedThen first h → HaltedThen first (did a ps ∷ h)
 did_then first h a ps (o, is, none) t = same_then first h (did a ps) refl (and_none (part_given h) ps none) (override_speed a ps (part_plan h) o is) t
@@ -185,7 +185,7 @@ settled_whole first h c = by_any (list_any settles (part_outcomes h)) refl
 
 -- ---- the part that it ends
 
-pub halted_part : (first : Opening) (h : Journal) → Conducted first h → has_halted h ≡ true → IsHaltedPart (part_outcomes h) (part_start h) (part_actions h) (part_given h) (part_plan h)
+pub halted_part : (first : Opening) (h : Journal) → Conducted first h → has_halted h ≡ true → IsAlarmedPart (part_outcomes h) (part_start h) (part_actions h) (part_given h) (part_plan h)
 halted_part first h c was =
     let p = open_part first h c in
     let t = halted_then first h c was in

@@ -30,9 +30,9 @@ use Rattle.run_rules.specs.Work.{Task, Outcome, tells, told_by}
 use Rattle.run_rules.specs.Work.Task.{ask, pause, normal, finish, halt}
 use Rattle.run_rules.specs.Told.{replies_after}
 use Rattle.board_rules.proofs.Opening.{tells_telling}
-use Rattle.board_rules.specs.Ports.{PortStep, asks_reset, has_changes, PortLog, holds_at, has_held_in, cancels_at, has_cancelled_in, has_slowed_in, changes_at, has_changed_in}
+use Rattle.board_rules.specs.Ports.{PortStep, asks_reset, has_changes, BoardLog, holds_at, has_held_in, cancels_at, has_cancelled_in, has_slowed_in, changes_at, has_changed_in}
 use Rattle.board_rules.specs.Ports.PortStep.{answered, reported, took_exec, took_ovr, published}
-use Rattle.board_rules.specs.Steps.{Journal, port_log, has_limited, outcomes_of, answered_of, actions_of, planned_of, given_of, published_of, hand_of, plan_of, motion_of, left_of, left_by, behind, closed_tells}
+use Rattle.board_rules.specs.Steps.{Journal, port_log, has_limited, outcomes_of, answered_of, actions_of, planned_of, given_of, published_of, hand_of, plan_of, motion_of, left_of, left_by, plan_after, closed_tells}
 use Rattle.board_rules.specs.Steps.Step.{at_port, began, did, made_end, evened, paused, became, cut, halted, closing}
 use Rattle.board_rules.specs.Parts.{Part, AreDisturbedOnlyBy}
 use Rattle.board_rules.specs.Cuts.{part_actions, parts_of}
@@ -139,7 +139,7 @@ cancelled_motion : (first : Opening) (h : Journal) (call : Call) (m : Motion) �
 cancelled_motion first h call m may (inl same) is before = before (sym same ∙ is)
 cancelled_motion first h call m may (inr reached) is before = cancelled_call first h call may (subst (λ (now : Motion). motions.Reached now call (motion_of first h)) is reached).1
 
-pub slowed_before : (e : PortStep) (log : PortLog) → has_slowed_in log ≡ true → has_slowed_in (e ∷ log) ≡ true
+pub slowed_before : (e : PortStep) (log : BoardLog) → has_slowed_in log ≡ true → has_slowed_in (e ∷ log) ≡ true
 slowed_before e log is = either_more (has_held_in log) (has_cancelled_in log) (holds_at e (has_held_in log)) (cancels_at e (has_cancelled_in log)) (held_before e (has_held_in log)) (cancelled_before e (has_cancelled_in log)) is
 
 pub cancelled_by_word : (first : Opening) (h : Journal) → Conducted first h → motion_of first h ≡ Cancelling → has_slowed_in (port_log h) ≡ true
@@ -244,7 +244,7 @@ cut_gives p k still mark = (still, (refl, mark, record { blocks = refl; speed = 
 pub run_is : (first : Opening) (h : Journal) → Conducted first h → IsPlannerRun (actions_of h) (planned_of h) (plan_of h)
 run_is first [] c = refl
 run_is first (did a ps ∷ h) c =
-    goes_on most_blocks fresh_plan (plan_of h) (behind a ps (plan_of h)) (actions_of h) (a ∷ []) (planned_of h) ps
+    goes_on most_blocks fresh_plan (plan_of h) (plan_after a ps (plan_of h)) (actions_of h) (a ∷ []) (planned_of h) ps
     (never_resets first h c.1) (run_is first h c.1) c.0.1
 run_is first (evened ∷ h) c =
     grows_by_override most_blocks fresh_plan (plan_of h) (actions_of h) (planned_of h) normal_overrides
@@ -262,7 +262,7 @@ unchanged_before e false is = refl
 unchanged_before e true is = absurd (let s = changed_before e true refl in cc)
 
 as_planned : (first : Opening) (h : Journal) (a : Action) (ps : List Piece) → MayDo first a h → has_changed_in (port_log h) ≡ false
-    → (behind a ps (plan_of h)).overrides ≡ (plan_of h).overrides
+    → (plan_after a ps (plan_of h)).overrides ≡ (plan_of h).overrides
 as_planned first h (Take mode) (pieces.Segment s ∷ ps) may none = refl
 as_planned first h (Take mode) (pieces.Mark m ∷ ps) may none = refl
 as_planned first h (Take mode) (pieces.End ∷ ps) may none = refl

@@ -15,7 +15,7 @@ use Rattle.run_rules.specs.Finding.{Fate}
 use Rattle.run_rules.specs.Finding.{Fate as fates}
 use Rattle.run_rules.specs.Outcomes.{jogged_behind, begins_with_dollar}
 use Rattle.run_rules.specs.Told.{asked_in}
-use Rattle.run_rules.specs.Work.{Task, Outcome, Kind, asks, is_jog}
+use Rattle.run_rules.specs.Work.{Task, Outcome, Kind, asks, accepted_jog}
 use Rattle.step_line.specs.declared.Piece.{Piece}
 use Rattle.step_line.specs.declared.Record.{Record}
 use Rattle.step_line.specs.Asking.{Asked, ticks_of_one, ticks_of_all}
@@ -43,7 +43,7 @@ kept_too m n t within x (inr whole) = inr (omega (arith, within, whole))
 more_is_kept : (m n : ℕ) (os : List Outcome) → m ≤ n → LosesJogsAlone m os → LosesJogsAlone n os
 more_is_kept m n [] within is = tt
 more_is_kept m n (o ∷ os) within is =
-    (kept_too m n (ticks_asked_for o) within (is_jog o.kind) is.0, more_is_kept (m - ticks_asked_for o) (n - ticks_asked_for o) os (omega (arith, within)) is.1)
+    (kept_too m n (ticks_asked_for o) within (accepted_jog o.kind) is.0, more_is_kept (m - ticks_asked_for o) (n - ticks_asked_for o) os (omega (arith, within)) is.1)
 
 pub one_and_more : (o : Outcome) (os : List Outcome) → length (ticks_of_all (asked_in (o ∷ os))) ≡ ticks_asked_for o + length (ticks_of_all (asked_in os))
 one_and_more o os =
@@ -57,12 +57,12 @@ all_are_kept m (o ∷ os) within =
     let e = one_and_more o os in
     (inr (omega (arith, e, within)), all_are_kept (m - ticks_asked_for o) os (omega (arith, e, within)))
 
-nothing_lost : (m : ℕ) (o : Outcome) → (is_jog o.kind ≡ true) ⊎ (asks o.work ≡ []) → (is_jog o.kind ≡ true) ⊎ (ticks_asked_for o ≤ m)
+nothing_lost : (m : ℕ) (o : Outcome) → (accepted_jog o.kind ≡ true) ⊎ (asks o.work ≡ []) → (accepted_jog o.kind ≡ true) ⊎ (ticks_asked_for o ≤ m)
 nothing_lost m o (inl jog) = inl jog
 nothing_lost m o (inr none) = inr (let e : ticks_asked_for o ≡ 0 = ap (λ (xs : List Asked). length (ticks_of_all xs)) none in omega (arith, e))
 
 -- a jog more, or a line that asks for nothing, leaves out no others
-one_more : (m : ℕ) (os : List Outcome) (o : Outcome) → (is_jog o.kind ≡ true) ⊎ (asks o.work ≡ []) → LosesJogsAlone m os → LosesJogsAlone m (os ++ o ∷ [])
+one_more : (m : ℕ) (os : List Outcome) (o : Outcome) → (accepted_jog o.kind ≡ true) ⊎ (asks o.work ≡ []) → LosesJogsAlone m os → LosesJogsAlone m (os ++ o ∷ [])
 one_more m [] o may is = (nothing_lost m o may, tt)
 one_more m (p ∷ os) o may is = (is.0, one_more (m - ticks_asked_for p) os o may is.1)
 
@@ -113,7 +113,7 @@ line_begins : (first : Opening) (h : Journal) (o : Outcome) → Conducted first 
     → (has_jogged h ≡ true → Loses h) → LosesJogsAlone (given_ticks h) (part_outcomes h ++ o ∷ [])
 line_begins first h o c (fates.coded kind other) is jogs = absurd (let f = sym (ap (λ (k : Kind). jogged_behind k (has_jogged h)) kind) ∙ is in cc)
 line_begins first h o c (fates.a_jog kind other dollar still work) is jogs =
-    one_more (given_ticks h) (part_outcomes h) o (inl (ap is_jog kind)) (before_jog first h o c (motion_of first h) refl (begins_unless first h o c other.1) other.0 dollar jogs)
+    one_more (given_ticks h) (part_outcomes h) o (inl (ap accepted_jog kind)) (before_jog first h o c (motion_of first h) refl (begins_unless first h o c other.1) other.0 dollar jogs)
 line_begins first h o c (fates.halted kind other still work) is jogs =
     one_more (given_ticks h) (part_outcomes h) o (inr (ap asks work)) (jogs (sym (ap (λ (k : Kind). jogged_behind k (has_jogged h)) kind) ∙ is))
 line_begins first h o c (fates.neither kind still none) is jogs =

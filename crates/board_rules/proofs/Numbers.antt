@@ -27,7 +27,7 @@ use Rattle.step_line.specs.declared.Piece.{Piece}
 use Rattle.step_line.specs.declared.Piece.TheVariants as pieces
 use Rattle.units.specs.declared.Steps3.{Steps3}
 use Rattle.board_rules.specs.Ports.PortStep.{answered}
-use Rattle.board_rules.specs.Steps.{Journal, outcomes_of, actions_of, planned_of, given_of, plan_of, motion_of, left_of, behind}
+use Rattle.board_rules.specs.Steps.{Journal, outcomes_of, actions_of, planned_of, given_of, plan_of, motion_of, left_of, plan_after}
 use Rattle.board_rules.specs.Steps.Step.{at_port, began, did, made_end, evened, paused, became, cut, halted, closing, turned}
 use Rattle.board_rules.specs.Parts.{IsCutPart, lines_in, actions_in, pieces_in, passed_in, last_number, AreNumbered, plan_behind, AreJoined}
 use Rattle.board_rules.specs.Cuts.{part_outcomes, part_actions, part_given, part_start, has_halted, parts_of, passed_of, has_cut}
@@ -68,7 +68,7 @@ unbegun_did : (first : Opening) (h : Journal) (a : Action) (ps : List Piece) →
 unbegun_did first h (Add m) ps may run u = no_ask (left_of first h) (a_move m) may u.asks
 unbegun_did first h (Mark m) ps may run u = no_ask (left_of first h) (a_mark m) may.next u.asks
 unbegun_did first h Rest ps may run u = no_ask (left_of first h) a_rest may.next u.asks
-unbegun_did first h (Take mode) ps may run u = absurd (none_taken (plan_of h) mode ps (behind (Take mode) ps (plan_of h)) u.blocks run)
+unbegun_did first h (Take mode) ps may run u = absurd (none_taken (plan_of h) mode ps (plan_after (Take mode) ps (plan_of h)) u.blocks run)
 unbegun_did first h (Override o) ps may run u = record { blocks = u.blocks; asks = u.asks }
 unbegun_did first h Clear ps may run u = absurd may
 unbegun_did first h Reset ps may run u = absurd may

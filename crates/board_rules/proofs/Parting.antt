@@ -22,7 +22,7 @@ use Rattle.step_line.specs.Asking.{Asked, ticks_of_one, ticks_of_all}
 use Rattle.step_line.specs.Asking.Asked.{a_move, a_mark, a_rest}
 use Rattle.step_line.specs.Pieces.{ticks_of}
 use Rattle.board_rules.specs.Ports.PortStep.{answered}
-use Rattle.board_rules.specs.Steps.{Journal, plan_of, left_of, left_by, behind}
+use Rattle.board_rules.specs.Steps.{Journal, plan_of, left_of, left_by, plan_after}
 use Rattle.board_rules.specs.Steps.Step.{at_port, began, did, made_end, evened, paused, cut, halted, closing}
 use Rattle.board_rules.specs.Cuts.{part_outcomes, part_actions, part_given, part_start, part_plan, has_halted}
 use Rattle.board_rules.specs.Conduct.{Conducted, MayDo, Gives}
@@ -138,7 +138,7 @@ open_part first (did a ps ∷ h) c =
     let p = open_part first h c.1 in
     record {
       starts = p.starts;
-      run = goes_on most_blocks (part_start h) (part_plan h) (behind a ps (part_plan h)) (part_actions h) (a ∷ []) (part_given h) ps (unreset first h c.1) p.run
+      run = goes_on most_blocks (part_start h) (part_plan h) (plan_after a ps (part_plan h)) (part_actions h) (a ∷ []) (part_given h) ps (unreset first h c.1) p.run
           (part_gives first h a ps c.0.0 c.0.1 (stage_is first h c.1) (has_halted h) refl);
     }
 open_part first (evened ∷ h) c =

@@ -12,7 +12,7 @@ use Rattle.step_line.specs.Asking.Asked.{a_move, a_mark, a_rest}
 use Rattle.planner_runs.specs.declared.Action.{Action}
 use Rattle.planner_runs.specs.declared.Action.TheVariants.{Add, Take, Override, Mark, Rest, Clear, Reset}
 use Rattle.run_rules.specs.Asks.{work_of, planned, move_asked}
-use Rattle.run_rules.specs.Work.{Task, Outcome, is_limit, halting_work, told_by, tells, telling, asking, is_code, is_jog, has_moves}
+use Rattle.run_rules.specs.Work.{Task, Outcome, is_limit, halting_work, told_by, tells, telling, asking, accepted_code, accepted_jog, has_moves}
 use Rattle.run_rules.specs.Work.Task.{ask, tell, pause, normal, finish, halt}
 use Rattle.run_rules.specs.Outcomes.{Before, Becomes, either}
 use Rattle.run_rules.proofs.Answering.{one_answer}
@@ -270,7 +270,7 @@ line_begins first h o going ends y = in_line (record {
   begun = ap (λ (os : List Outcome). os ++ o ∷ []) y.all;
   left = ends;
   going = going;
-  moved = λ is. ap (λ (b : Bool). cond b false (is_code o.kind && has_moves o.work || (before_of first h).moved) || cond b false (is_jog o.kind && has_moves o.work || (before_of first h).jog_moved)) is;
+  moved = λ is. ap (λ (b : Bool). cond b false (accepted_code o.kind && has_moves o.work || (before_of first h).moved) || cond b false (accepted_jog o.kind && has_moves o.work || (before_of first h).jog_moved)) is;
 })
 
 on_began : (first : Opening) (h : Journal) (o : Outcome) → Conducted first (began o ∷ h) → (one : Bool) → is_limit o.answer ≡ one → Between first h → Phase first (began o ∷ h)

@@ -14,10 +14,10 @@ use Rattle.run_rules.specs.Work.{Task, Outcome, has_moves}
 use Rattle.run_rules.specs.Work.Task.{ask, tell, pause, normal, halt}
 use Rattle.board_rules.specs.Ports.{MayBeDone}
 use Rattle.board_rules.specs.Ports.PortStep.{took, found_empty, found_closed, found_free, found_mark, answered, reported, no_reply_room, took_exec, took_ovr, published, no_piece_room, loaded, found_halt}
-use Rattle.board_rules.specs.Steps.{Step, Journal, port_log, given_of, hand_of, known_of, plan_of, left_of, left_by, behind, before_of, closed_tells, open_of}
+use Rattle.board_rules.specs.Steps.{Step, Journal, port_log, given_of, hand_of, known_of, plan_of, left_of, left_by, plan_after, before_of, closed_tells, open_of}
 use Rattle.board_rules.specs.Steps.Step.{at_port, began, did, made_end, evened, paused, became, cut, halted, closing, turned}
 use Rattle.board_rules.specs.Conduct.{Conducted, Gives, MayDo, MayRest, MayPause, MayEven, MayHalt, IsDrained, ticks_given}
-use Rattle.board_rules.specs.Whole.{has_work, comes_to_rest, WorkRests, IsQuiet, ComesToRest, has_any_moved}
+use Rattle.board_rules.specs.Whole.{has_work, comes_to_rest, WorkRests, HasComeToRest, ComesToRest, has_any_moved}
 use Rattle.board_rules.proofs.Opening.{no_work_told}
 use Rattle.board_rules.proofs.Given.{all_known}
 use Rattle.board_rules.proofs.Beginning.{all_counted}
@@ -27,7 +27,7 @@ use Rattle.board_rules.proofs.Tasks.{none_next, none_taken, none_given, none_clo
 
 -- the same, of tasks that may be left
 abbrev Stands : Opening → List Task → Journal → Type 0
-Stands first tasks h = (comes_to_rest tasks ≡ true) ⊎ IsQuiet first h
+Stands first tasks h = (comes_to_rest tasks ≡ true) ⊎ HasComeToRest first h
 
 -- one task less, where there is no work
 tail_works : (ts : List Task) (t : Task) → ts ≡ t ∷ drop 1 ts → has_work ts ≡ false → has_work (drop 1 ts) ≡ false
@@ -123,10 +123,10 @@ on_did first h (Mark m) ps may gives (inl will) = inl (tail_rests (left_of first
 on_did first h (Mark m) ps may gives (inr q) = absurd (let e = sym q.work ∙ ap has_work may.next in cc)
 on_did first h Rest ps may gives st = on_rest first h ps may (none_given most_blocks (plan_of h) (plan_of h) ps gives.1) st (has_work (drop 1 (left_of first h))) refl
 on_did first h (Take Go) ps may gives (inl will) = inl will
-on_did first h (Take Go) ps may gives (inr q) = absurd (none_taken (plan_of h) Go ps (behind (Take Go) ps (plan_of h)) q.drained.plan.blocks gives)
+on_did first h (Take Go) ps may gives (inr q) = absurd (none_taken (plan_of h) Go ps (plan_after (Take Go) ps (plan_of h)) q.drained.plan.blocks gives)
 on_did first h (Take Hold) ps may gives (inl will) = inl will
-on_did first h (Take Hold) ps may gives (inr q) = absurd (none_taken (plan_of h) Hold ps (behind (Take Hold) ps (plan_of h)) q.drained.plan.blocks gives)
-on_did first h (Override o) ps may gives st = on_override first h o ps (none_given most_blocks (behind (Override o) ps (plan_of h)) (behind (Override o) ps (plan_of h)) ps gives.1) st
+on_did first h (Take Hold) ps may gives (inr q) = absurd (none_taken (plan_of h) Hold ps (plan_after (Take Hold) ps (plan_of h)) q.drained.plan.blocks gives)
+on_did first h (Override o) ps may gives st = on_override first h o ps (none_given most_blocks (plan_after (Override o) ps (plan_of h)) (plan_after (Override o) ps (plan_of h)) ps gives.1) st
 on_did first h Clear ps may gives st = absurd may
 on_did first h Reset ps may gives st = absurd may
 

@@ -38,7 +38,7 @@ use Rattle.run_rules.specs.Cuts.{ticks_asked_for}
 use Rattle.run_rules.specs.Outcomes.{Before, at_place}
 use Rattle.run_rules.specs.Reports.{settled_to, moves, has_pause, raises_alarm, state_behind, steps_in_thousandths, shows_machine, shows_room, turns_shown, fewest, most, may_move, is_held, Shows, Course, IsAhead, FitsReport, Reported}
 use Rattle.board_rules.specs.Openings.{Opening}
-use Rattle.board_rules.specs.Ports.{PortStep, PortLog, published_in, has_held_in, has_changed_in}
+use Rattle.board_rules.specs.Ports.{PortStep, BoardLog, published_in, has_held_in, has_changed_in}
 use Rattle.board_rules.specs.Ports.PortStep.{answered, reported, published, loaded, found_halt}
 use Rattle.board_rules.specs.Turns.{is_limited, stands_still}
 use Rattle.board_rules.specs.Steps.{Step, Journal, port_log, has_limited, outcomes_of, answered_of, given_of, published_of, known_of, plan_of, motion_of, left_of, left_by, before_of}
@@ -317,7 +317,7 @@ by_port first h e pieces =
 
 by_itself : (first : Opening) (h : Journal) (s : Step) → outcomes_of (s ∷ h) ≡ outcomes_of h → counts_of first (s ∷ h) ≡ counts_of first h → port_log (s ∷ h) ≡ port_log h → ticks_given h ≤ ticks_given (s ∷ h) → Grows (course_of first h) (course_of first (s ∷ h))
 by_itself first h s outcomes counts log given =
-    same_lines first h s outcomes counts (ap (λ (l : PortLog). published_in l) log) given (λ is. ap has_held_in log ∙ is) (λ none. sym (ap has_changed_in log) ∙ none)
+    same_lines first h s outcomes counts (ap (λ (l : BoardLog). published_in l) log) given (λ is. ap has_held_in log ∙ is) (λ none. sym (ap has_changed_in log) ∙ none)
 
 by_piece : (first : Opening) (h : Journal) (p : Piece) → Grows (course_of first h) (course_of first (at_port (published p) ∷ h))
 by_piece first h p = record {

@@ -10,7 +10,7 @@ use Rattle.planner_runs.specs.declared.Action.TheVariants.{Take, Clear, Reset}
 use Rattle.plan_rules.specs.declared.Mode.TheVariants.{Go, Hold}
 use Rattle.step_line.specs.declared.Piece.{Piece}
 use Rattle.board_rules.specs.Openings.{Opening}
-use Rattle.board_rules.specs.Steps.{Journal, behind, plan_of, motion_of}
+use Rattle.board_rules.specs.Steps.{Journal, plan_after, plan_of, motion_of}
 use Rattle.board_rules.specs.Steps.Step.{did, paused, became, cut, halted}
 use Rattle.board_rules.specs.Turns.{is_going}
 use Rattle.board_rules.specs.Conduct.{Conducted, MayDo, MayHappen}
@@ -96,7 +96,7 @@ stopping_off Cancelling is = refl
 stopping_off Stopping is = refl
 stopping_off _ is = absurd cc
 
-did_then : (first : Opening) (h : Journal) (a : Action) (ps : List Piece) → MayDo first a h → HasNoSpeed first h → rests (motion_of first h) ≡ true → (behind a ps (plan_of h)).speed ≡ 0
+did_then : (first : Opening) (h : Journal) (a : Action) (ps : List Piece) → MayDo first a h → HasNoSpeed first h → rests (motion_of first h) ≡ true → (plan_after a ps (plan_of h)).speed ≡ 0
 did_then first h (Take Go) ps may none is = absurd (let e = sym is ∙ going_off (motion_of first h) may.goes in cc)
 did_then first h (Take Hold) ps may none is = absurd (let e = sym is ∙ stopping_off (motion_of first h) may.slows in cc)
 did_then first h Clear ps may none is = absurd may

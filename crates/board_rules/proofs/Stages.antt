@@ -21,7 +21,7 @@ use Rattle.run_rules.specs.Work.Task.{ask, tell, pause, normal, finish, halt}
 use Rattle.run_rules.specs.Finding.{Found}
 use Rattle.board_rules.specs.Ports.{MayBeDone}
 use Rattle.board_rules.specs.Ports.PortStep.{took, answered, published, loaded, found_halt}
-use Rattle.board_rules.specs.Steps.{Journal, port_log, has_limited, open_of, lines_of, before_of, left_of, whole_of, closed_tells, known_of, given_of, hand_of, plan_of, motion_of, behind}
+use Rattle.board_rules.specs.Steps.{Journal, port_log, has_limited, open_of, lines_of, before_of, left_of, whole_of, closed_tells, known_of, given_of, hand_of, plan_of, motion_of, plan_after}
 use Rattle.board_rules.specs.Steps.Step.{at_port, began, did, made_end, evened, paused, became, cut, halted, closing}
 use Rattle.board_rules.specs.Turns.{begins_in, machine_in, is_going, is_limited, is_locked, halts_next, stands_still}
 use Rattle.run_rules.specs.Locking.{locked_behind}
@@ -239,7 +239,7 @@ on_did first h (Mark m) ps may gives = on_asked first h (did (Mark m) ps ∷ h) 
 on_did first h Rest ps may gives = on_asked first h (did Rest ps ∷ h) (ask a_rest) may.next (λ e. absurd cc) refl (λ e. absurd cc) refl refl (λ e. e) refl
 on_did first h (Take Go) ps may gives = on_take first h (did (Take Go) ps ∷ h) (λ e. absurd (let f = sym (ap is_going e) ∙ may.goes in cc)) refl refl refl refl refl
 on_did first h (Take Hold) ps may gives = on_take first h (did (Take Hold) ps ∷ h) (λ e. absurd (let f = sym (ap is_stopping e) ∙ may.slows in cc)) refl refl refl refl refl
-on_did first h (Override o) ps may gives = on_override first h o ps (none_given most_blocks (behind (Override o) ps (plan_of h)) (behind (Override o) ps (plan_of h)) ps gives.1)
+on_did first h (Override o) ps may gives = on_override first h o ps (none_given most_blocks (plan_after (Override o) ps (plan_of h)) (plan_after (Override o) ps (plan_of h)) ps gives.1)
 on_did first h Clear ps may gives = absurd may
 on_did first h Reset ps may gives = absurd may
 

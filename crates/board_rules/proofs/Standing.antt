@@ -15,7 +15,7 @@ use Rattle.run_rules.specs.Work.{Task, Outcome, asks_move, has_moves}
 use Rattle.run_rules.specs.Work.Task.{ask, tell, pause, normal, halt}
 use Rattle.run_rules.specs.Reports.{moves}
 use Rattle.board_rules.specs.Ports.PortStep.{answered}
-use Rattle.board_rules.specs.Steps.{Step, Journal, plan_of, motion_of, left_of, before_of, closed_tells, behind}
+use Rattle.board_rules.specs.Steps.{Step, Journal, plan_of, motion_of, left_of, before_of, closed_tells, plan_after}
 use Rattle.board_rules.specs.Steps.Step.{at_port, began, did, made_end, evened, paused, became, cut, halted, closing, turned}
 use Rattle.board_rules.specs.Turns.{has_blocks, stands_still}
 use Rattle.board_rules.specs.Conduct.{Conducted, Gives, IsNextTask, MayDo, MayHappen, MayRest, MayOpen}
@@ -80,7 +80,7 @@ calm_did : (first : Opening) (h : Journal) (a : Action) (ps : List Piece) → Ma
 calm_did first h (Add m) ps may gives calm = absurd (let e = sym (ap has_moves may) ∙ calm.moves in cc)
 calm_did first h (Mark m) ps may gives calm = calm_tail first h (did (Mark m) ps) refl refl refl calm
 calm_did first h Rest ps may gives calm = calm_tail first h (did Rest ps) refl refl refl calm
-calm_did first h (Take mode) ps may gives calm = absurd (none_taken (plan_of h) mode ps (behind (Take mode) ps (plan_of h)) calm.blocks gives)
+calm_did first h (Take mode) ps may gives calm = absurd (none_taken (plan_of h) mode ps (plan_after (Take mode) ps (plan_of h)) calm.blocks gives)
 calm_did first h (Override o) ps may gives calm = calm_same first h (did (Override o) ps) refl refl refl calm
 calm_did first h Clear ps may gives calm = absurd may
 calm_did first h Reset ps may gives calm = absurd may

@@ -13,7 +13,7 @@ use Rattle.board_rules.specs.Openings.{Opening}
 use Rattle.run_rules.specs.Work.{Task, asks}
 use Rattle.run_rules.specs.Work.Task.{ask}
 use Rattle.board_rules.specs.Ports.PortStep.{answered}
-use Rattle.board_rules.specs.Steps.{Journal, left_of, behind, plan_of, motion_of}
+use Rattle.board_rules.specs.Steps.{Journal, left_of, plan_after, plan_of, motion_of}
 use Rattle.board_rules.specs.Steps.Step.{at_port, began, did, made_end, evened, paused, became, cut, halted, closing, turned}
 use Rattle.board_rules.specs.Turns.{begins_in, stands_still}
 use Rattle.board_rules.specs.Cuts.{has_cut, is_cancelling}
@@ -53,7 +53,7 @@ did_then : (first : Opening) (h : Journal) (a : Action) (ps : List Piece) → Ma
 did_then first h (Add m) ps may gives r = absurd (none_asked (left_of first h) (a_move m) r.none may)
 did_then first h (Mark m) ps may gives r = absurd (none_asked (left_of first h) (a_mark m) r.none may.next)
 did_then first h Rest ps may gives r = absurd (none_asked (left_of first h) a_rest r.none may.next)
-did_then first h (Take mode) ps may gives r = absurd (none_taken (plan_of h) mode ps (behind (Take mode) ps (plan_of h)) r.blocks gives)
+did_then first h (Take mode) ps may gives r = absurd (none_taken (plan_of h) mode ps (plan_after (Take mode) ps (plan_of h)) r.blocks gives)
 did_then first h (Override o) ps may gives r = record { cancelled = r.cancelled; blocks = r.blocks; none = r.none }
 did_then first h Clear ps may gives r = absurd may
 did_then first h Reset ps may gives r = absurd may

@@ -11,7 +11,7 @@ use Rattle.motion_ring.specs.Sides as ring
 use Rattle.motion_ring.proofs.Ticks.{together_reversed, few_pieces}
 use Rattle.run_rules.specs.declared.State.{State}
 use Rattle.board_rules.specs.Openings.{Opening, first_opening}
-use Rattle.board_rules.specs.Ports.{PortLog, published_in, sent_in, unstopped, MayPublish, MayBeDone}
+use Rattle.board_rules.specs.Ports.{BoardLog, published_in, sent_in, unstopped, MayPublish, MayBeDone}
 use Rattle.board_rules.specs.Ports.PortStep.{answered, no_reply_room, published, no_piece_room, stored_stop, found_halt}
 use Rattle.board_rules.specs.Steps.{Journal, port_log, published_of}
 use Rattle.board_rules.specs.Steps.Step.{at_port, turned}
@@ -20,13 +20,13 @@ use Rattle.board_rules.specs.Breaking.{Doings, EndsRun, IsConducted, log_of}
 use Rattle.board_rules.specs.Breaking.Doings.{goes, broke}
 
 -- what was published is what went to the pulse, up to a halt and since
-pub published_back : (l : PortLog) → published_in l ≡ reverse (ring.published_in (sent_in l))
+pub published_back : (l : BoardLog) → published_in l ≡ reverse (ring.published_in (sent_in l))
 published_back [] = refl
 published_back (published p ∷ l) = ap (λ (ps : List Piece). ps ++ p ∷ []) (published_back l) ∙ sym (reverse_onto (ring.published_in (sent_in l)) p [])
 published_back (_ ∷ l) = published_back l
 
 -- no stop was stored, and no halt found
-abbrev pub NeverStops : PortLog → Type 0
+abbrev pub NeverStops : BoardLog → Type 0
 NeverStops [] = Unit {0}
 NeverStops (stored_stop ∷ l) = ⊥
 NeverStops (found_halt n ∷ l) = ⊥
@@ -57,17 +57,17 @@ boards_never_stop first (broke since before) c = ended_never_stop (first_opening
 
 -- ---- what went to the pulse then
 
-pub sent_alone : (l : PortLog) → NeverStops l → sent_in l ≡ unstopped (reverse (published_in l))
+pub sent_alone : (l : BoardLog) → NeverStops l → sent_in l ≡ unstopped (reverse (published_in l))
 sent_alone [] n = refl
 sent_alone (published p ∷ l) n = ap (λ (s : Sent). ring.with_piece s p) (sent_alone l n) ∙ ap unstopped (sym (reverse-append (published_in l) (p ∷ [])))
 sent_alone (stored_stop ∷ l) n = absurd n
 sent_alone (found_halt done ∷ l) n = absurd n
 sent_alone (_ ∷ l) n = sent_alone l n
 
-same_ticks : (l : PortLog) → NeverStops l → ring.ticks_published (sent_in l) ≡ ticks_together (published_in l)
+same_ticks : (l : BoardLog) → NeverStops l → ring.ticks_published (sent_in l) ≡ ticks_together (published_in l)
 same_ticks l n = let e = ap ring.ticks_published (sent_alone l n) in let t = together_reversed (published_in l) in omega arith
 
-same_unfinished : (l : PortLog) (done : ℕ) → NeverStops l → ring.unfinished_in (sent_in l) done ≡ unfinished (published_in l) done
+same_unfinished : (l : BoardLog) (done : ℕ) → NeverStops l → ring.unfinished_in (sent_in l) done ≡ unfinished (published_in l) done
 same_unfinished l done n =
     let all : done - 0 ≡ done = omega arith in
     ap (λ (s : Sent). ring.unfinished_in s done) (sent_alone l n) ∙ (λ i. unfinished (reverse-reverse (published_in l) i) (all i))
@@ -77,7 +77,7 @@ abbrev pub onward : List Piece → Sent → Sent
 onward ps s = record s { since = ps ++ s.since }
 
 -- what is done behind a log, with no stop, only adds pieces to those that were published since its last halt
-pub sent_onward : (l before : PortLog) → NeverStops l → sent_in (l ++ before) ≡ onward (reverse (published_in l)) (sent_in before)
+pub sent_onward : (l before : BoardLog) → NeverStops l → sent_in (l ++ before) ≡ onward (reverse (published_in l)) (sent_in before)
 sent_onward [] before n = refl
 sent_onward (published p ∷ l) before n =
     ap (λ (s : Sent). ring.with_piece s p) (sent_onward l before n) ∙ ap (λ (ps : List Piece). onward ps (sent_in before)) (sym (reverse-append (published_in l) (p ∷ [])))
@@ -86,7 +86,7 @@ sent_onward (found_halt done ∷ l) before n = absurd n
 sent_onward (_ ∷ l) before n = sent_onward l before n
 
 -- a piece may be published that comes next of all pieces
-pub may_publish_alone : (l : PortLog) (p : Piece) → NeverStops l → InTurn (reverse (published_in l)) → ComesNext (reverse (published_in l)) p → ticks_together (published_in l) + tick_count p < 2 ^ 62 → MayPublish l p
+pub may_publish_alone : (l : BoardLog) (p : Piece) → NeverStops l → InTurn (reverse (published_in l)) → ComesNext (reverse (published_in l)) p → ticks_together (published_in l) + tick_count p < 2 ^ 62 → MayPublish l p
 may_publish_alone l p n turns next few =
     let all = append-nil (reverse (published_in l)) in
     let t = together_reversed (published_in l) in

@@ -11,7 +11,7 @@ use Rattle.status_report.specs.Answering.{is_bye}
 use Rattle.step_line.specs.declared.Piece.{Piece}
 use Rattle.step_line.specs.declared.Piece.TheVariants as pieces
 use Rattle.board_rules.specs.Openings.{first_opening}
-use Rattle.board_rules.specs.Ports.{PortStep, PortLog, has_reset_in, LacksPieceRoom, taken_in, has_closed_in, answered_in, published_in, known_in}
+use Rattle.board_rules.specs.Ports.{PortStep, BoardLog, has_reset_in, LacksPieceRoom, taken_in, has_closed_in, answered_in, published_in, known_in}
 use Rattle.board_rules.specs.Ports.PortStep.{answered, no_reply_room, published, no_piece_room}
 use Rattle.board_rules.specs.Steps.{Step, Journal, port_log, published_of as published_then, answered_of as answered_then}
 use Rattle.board_rules.specs.Steps.Step.{at_port, turned}
@@ -55,7 +55,7 @@ ending_of [] before = first_ending before
 ending_of (s ∷ since) before = ending_by s (ending_of since before)
 
 -- The end is published, and then Bye is sent; either may be handed back.
-abbrev pub MayEndAtPort : PortStep → Ending → PortLog → Type 0
+abbrev pub MayEndAtPort : PortStep → Ending → BoardLog → Type 0
 MayEndAtPort (published p) e l = (e ≡ publishes_end) × (p ≡ pieces.End)
 MayEndAtPort (no_piece_room done) e l = (e ≡ publishes_end) × LacksPieceRoom done l
 MayEndAtPort (answered r) e l = (e ≡ tells_bye) × (r ≡ Bye)
@@ -100,7 +100,7 @@ HasEnded first (goes h) = IsFinished (first_opening first) h
 HasEnded first (broke since before) = ending_of since before ≡ over
 
 -- what it did at its port
-abbrev pub log_of : Doings → PortLog
+abbrev pub log_of : Doings → BoardLog
 log_of (goes h) = port_log h
 log_of (broke since before) = port_log since ++ port_log before
 

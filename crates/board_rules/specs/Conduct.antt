@@ -39,10 +39,10 @@ use Rattle.step_line.specs.declared.Piece.TheVariants as pieces
 use Rattle.step_line.specs.declared.planned_move.PlannedMove.{PlannedMove}
 use Rattle.step_line.specs.Finishing.{ticks_together}
 use Rattle.board_rules.specs.Openings.{Opening, IsGreeting, most_greetings}
-use Rattle.board_rules.specs.Ports.{PortStep, PortLog, asks_report, has_changes, MayBeDone, HasTakenFew, HasFewReports, LacksPieceRoom}
+use Rattle.board_rules.specs.Ports.{PortStep, BoardLog, asks_report, has_changes, MayBeDone, HasTakenFew, HasFewReports, LacksPieceRoom}
 use Rattle.board_rules.specs.Ports.PortStep.{took, found_empty, found_closed, answered, reported, no_reply_room, found_mark, took_exec, took_ovr, published, no_piece_room, loaded, stored_stop, found_no_halt, found_halt}
 use Rattle.board_rules.specs.Cuts.{has_cut}
-use Rattle.board_rules.specs.Steps.{Step, Journal, port_log, has_closed, has_limited, published_of, outcomes_of, known_of, open_of, whole_of, before_of, left_of, closed_tells, given_of, hand_of, plan_of, motion_of, behind}
+use Rattle.board_rules.specs.Steps.{Step, Journal, port_log, has_closed, has_limited, published_of, outcomes_of, known_of, open_of, whole_of, before_of, left_of, closed_tells, given_of, hand_of, plan_of, motion_of, plan_after}
 use Rattle.board_rules.specs.Steps.Step.{at_port, began, did, made_end, evened, paused, became, cut, halted, closing, turned}
 use Rattle.board_rules.specs.Turns.{
   this_turn,
@@ -158,7 +158,7 @@ pub record MaySlowDown (first : Opening) (h : Journal) : Type 0 where
 -- A word that changes overrides was just taken: it is planned for the overrides that these give.
 pub record AreChanged (o : Overrides) (h : Journal) : Type 0 where
   pub word : Ovr
-  pub earlier : PortLog
+  pub earlier : BoardLog
   pub last : port_log h ≡ took_ovr word ∷ earlier
   pub some : has_changes word ≡ true
   pub taken : o ≡ taken (plan_of h).overrides word
@@ -187,7 +187,7 @@ MayDo first Reset h = ⊥
 
 -- an action gives these pieces
 abbrev pub Gives : Action → List Piece → Planned → Type 0
-Gives a ps p = Plans most_blocks p (a ∷ []) ps (behind a ps p)
+Gives a ps p = Plans most_blocks p (a ∷ []) ps (plan_after a ps p)
 
 -- the end is made when nothing is left to run, each tick is done, and the machine stands, also in alarm; and only by
 -- closing the run

@@ -18,9 +18,9 @@ use Rattle.step_line.specs.Finishing.{ticks_together}
 use Rattle.step_line.specs.Logs.{NewestFirst}
 use Rattle.step_line.specs.declared.Piece.{Piece}
 use Rattle.board_rules.specs.Openings.{Opening}
-use Rattle.board_rules.specs.Ports.{PortStep, PortLog}
+use Rattle.board_rules.specs.Ports.{PortStep, BoardLog}
 use Rattle.board_rules.specs.Ports.PortStep.{took_exec}
-use Rattle.board_rules.specs.Steps.{Step, Journal, behind, plan_of, given_of, left_of, motion_of}
+use Rattle.board_rules.specs.Steps.{Step, Journal, plan_after, plan_of, given_of, left_of, motion_of}
 use Rattle.board_rules.specs.Steps.Step.{began, did, evened, paused, became, cut, halted}
 use Rattle.board_rules.specs.Parts.{Part, counts_in}
 
@@ -57,8 +57,8 @@ part_start (_ ∷ h) = part_start h
 -- the plan after what was done to it; nothing is done to it after a halt, which drops what is left of it
 abbrev pub part_plan : Journal → Planned
 part_plan [] = fresh_plan
-part_plan (did a ps ∷ h) = behind a ps (part_plan h)
-part_plan (evened ∷ h) = behind (Override normal_overrides) [] (part_plan h)
+part_plan (did a ps ∷ h) = plan_after a ps (part_plan h)
+part_plan (evened ∷ h) = plan_after (Override normal_overrides) [] (part_plan h)
 part_plan (cut k ∷ h) = cleared (part_plan h)
 part_plan (_ ∷ h) = part_plan h
 
@@ -142,6 +142,6 @@ cancel_words_at (took_exec word) n = cond (asks_cancel word) (n + 1) n
 cancel_words_at e n = n
 
 -- how many such words were taken
-abbrev pub cancel_words_in : PortLog → ℕ
+abbrev pub cancel_words_in : BoardLog → ℕ
 cancel_words_in [] = 0
 cancel_words_in (e ∷ l) = cancel_words_at e (cancel_words_in l)

@@ -9,7 +9,7 @@ use Rattle.planner_runs.specs.declared.Action.{Action}
 use Rattle.planner_runs.specs.declared.Action.TheVariants.{Mark, Clear}
 use Rattle.planner_runs.specs.Halted.{HasHaltedHeads}
 use Rattle.planner_runs.specs.Runs.{Plans, IsStart, DisturbedOnlyBy, fresh_plan, cleared, most_blocks, all_asked, moves_added, ticks_left, all_records}
-use Rattle.run_rules.specs.Work.{Outcome, asks, is_jog}
+use Rattle.run_rules.specs.Work.{Outcome, asks, accepted_jog}
 use Rattle.run_rules.specs.Cuts.{LosesJogsAlone, counts_asked, cut_to, with_cut}
 use Rattle.run_rules.specs.Outcomes.{Passed}
 use Rattle.run_rules.specs.Outcomes.Passed.{a_line, a_cut}
@@ -37,7 +37,7 @@ pub record Part : Type 0 where
 
 -- what is dropped of what lines ask for is nothing, or all of the last line, which is a jog
 abbrev pub DropsLast : List Asked → List Outcome → Type 0
-DropsLast dropped outcomes = (dropped ≡ []) ⊎ ((early : List Outcome) × (o : Outcome) × (outcomes ≡ early ++ o ∷ []) × (asks o.work ≡ dropped) × (is_jog o.kind ≡ true))
+DropsLast dropped outcomes = (dropped ≡ []) ⊎ ((early : List Outcome) × (o : Outcome) × (outcomes ≡ early ++ o ∷ []) × (asks o.work ≡ dropped) × (accepted_jog o.kind ≡ true))
 
 -- Such a part is a planner run from where the machine stood to where it has come to a stop, so that its heads are legal
 -- and a cut may break a move off. What its lines ask for was done, or was left to ask by the last of them, a jog; so the
@@ -56,7 +56,7 @@ pub record IsCutPart (p : Part) : Type 0 where
 -- stop. What its lines ask for was done, so the ticks that were given are the first of those that the lines ask for,
 -- and the others are dropped; they hold all of the lines up to the last that settles. Its heads are legal up to the
 -- end, which may break a move off.
-pub record IsHaltedPart (outcomes : List Outcome) (start : Planned) (actions : List Action) (given : List Piece) (plan : Planned) : Type 0 where
+pub record IsAlarmedPart (outcomes : List Outcome) (start : Planned) (actions : List Action) (given : List Piece) (plan : Planned) : Type 0 where
   pub starts : IsStart start
   pub run : Plans most_blocks start actions given plan
   pub stops : plan.speed ≡ 0

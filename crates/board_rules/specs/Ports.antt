@@ -49,8 +49,8 @@ pub data PortStep : Type 0 where
   found_halt : ℕ → PortStep
 
 -- all steps at the port, the latest first
-abbrev pub PortLog : Type 0
-PortLog = NewestFirst PortStep
+abbrev pub BoardLog : Type 0
+BoardLog = NewestFirst PortStep
 
 -- 0x18 resets the machine
 abbrev pub reset_byte : ℕ
@@ -68,7 +68,7 @@ taken_at (took b) bytes = bytes ++ b ∷ []
 taken_at e bytes = bytes
 
 -- the bytes taken
-abbrev pub taken_in : PortLog → List ℕ
+abbrev pub taken_in : BoardLog → List ℕ
 taken_in [] = []
 taken_in (e ∷ l) = taken_at e (taken_in l)
 
@@ -77,7 +77,7 @@ closed_at found_closed closed = true
 closed_at e closed = closed
 
 -- the link was found closed
-abbrev pub has_closed_in : PortLog → Bool
+abbrev pub has_closed_in : BoardLog → Bool
 has_closed_in [] = false
 has_closed_in (e ∷ l) = closed_at e (has_closed_in l)
 
@@ -87,7 +87,7 @@ answered_at (reported r) rs = rs ++ replies.Report r ∷ []
 answered_at e rs = rs
 
 -- the replies answered
-abbrev pub answered_in : PortLog → List Reply
+abbrev pub answered_in : BoardLog → List Reply
 answered_in [] = []
 answered_in (e ∷ l) = answered_at e (answered_in l)
 
@@ -99,7 +99,7 @@ link_steps_at (reported r) steps = Answered (replies.Report r) ∷ steps
 link_steps_at e steps = steps
 
 -- what the link's bounds speak of, the latest first: the bytes taken, the marks loaded, the replies answered
-abbrev pub link_steps : PortLog → List LinkStep
+abbrev pub link_steps : BoardLog → List LinkStep
 link_steps [] = []
 link_steps (e ∷ l) = link_steps_at e (link_steps l)
 
@@ -116,7 +116,7 @@ reports_at (took_exec word) n = cond (asks_report word) (n + 1) n
 reports_at e n = n
 
 -- how many words that ask for a report were taken
-abbrev pub reports_in : PortLog → ℕ
+abbrev pub reports_in : BoardLog → ℕ
 reports_in [] = 0
 reports_in (e ∷ l) = reports_at e (reports_in l)
 
@@ -126,7 +126,7 @@ owes_at (reported r) owes = false
 owes_at e owes = owes
 
 -- a word that asks for a report was taken, and none was answered since
-abbrev pub owes_in : PortLog → Bool
+abbrev pub owes_in : BoardLog → Bool
 owes_in [] = false
 owes_in (e ∷ l) = owes_at e (owes_in l)
 
@@ -135,7 +135,7 @@ holds_at (took_exec word) held = asks word hold_byte || held
 holds_at e held = held
 
 -- a word that asks for a hold was taken
-abbrev pub has_held_in : PortLog → Bool
+abbrev pub has_held_in : BoardLog → Bool
 has_held_in [] = false
 has_held_in (e ∷ l) = holds_at e (has_held_in l)
 
@@ -144,12 +144,12 @@ cancels_at (took_exec word) cancelled = asks word cancel_byte || cancelled
 cancels_at e cancelled = cancelled
 
 -- a word that asks for a jog's cancel was taken
-abbrev pub has_cancelled_in : PortLog → Bool
+abbrev pub has_cancelled_in : BoardLog → Bool
 has_cancelled_in [] = false
 has_cancelled_in (e ∷ l) = cancels_at e (has_cancelled_in l)
 
 -- a word that asks for a hold or for a cancel was taken: each may slow the machine down
-abbrev pub has_slowed_in : PortLog → Bool
+abbrev pub has_slowed_in : BoardLog → Bool
 has_slowed_in l = has_held_in l || has_cancelled_in l
 
 -- a word of requests asks for a reset
@@ -161,7 +161,7 @@ resets_at (took_exec word) reset = asks_reset word || reset
 resets_at e reset = reset
 
 -- a word that asks for a reset was taken
-abbrev pub has_reset_in : PortLog → Bool
+abbrev pub has_reset_in : BoardLog → Bool
 has_reset_in [] = false
 has_reset_in (e ∷ l) = resets_at e (has_reset_in l)
 
@@ -170,7 +170,7 @@ changes_at (took_ovr word) changed = has_changes word || changed
 changes_at e changed = changed
 
 -- a word that changes overrides was taken
-abbrev pub has_changed_in : PortLog → Bool
+abbrev pub has_changed_in : BoardLog → Bool
 has_changed_in [] = false
 has_changed_in (e ∷ l) = changes_at e (has_changed_in l)
 
@@ -179,7 +179,7 @@ published_at (published p) ps = ps ++ p ∷ []
 published_at e ps = ps
 
 -- the pieces published
-abbrev pub published_in : PortLog → List Piece
+abbrev pub published_in : BoardLog → List Piece
 published_in [] = []
 published_in (e ∷ l) = published_at e (published_in l)
 
@@ -189,7 +189,7 @@ known_at (found_halt n) known = n
 known_at e known = known
 
 -- how many ticks were found done when that was loaded last, or when a halt was found
-abbrev pub known_in : PortLog → ℕ
+abbrev pub known_in : BoardLog → ℕ
 known_in [] = 0
 known_in (e ∷ l) = known_at e (known_in l)
 
@@ -202,7 +202,7 @@ sent_at e s = s
 -- What went to the pulse, as the ring of pieces has it: the pieces published up to the last halt that was found, and those since;
 -- the stops, the halts, and whether a stop waits for its halt. The ticks published are those done at that halt, and those of the
 -- pieces published since: of the pieces before it, which the halt may have cut, no further tick is counted.
-abbrev pub sent_in : PortLog → Sent
+abbrev pub sent_in : BoardLog → Sent
 sent_in [] = none_sent
 sent_in (e ∷ l) = sent_at e (sent_in l)
 
@@ -214,49 +214,49 @@ unstopped ps = record { older = []; since = ps; stops = []; halts = []; waits = 
 
 -- A reply may be answered: a line only if fewer were answered since the last Banner than were taken to their LF since, and a
 -- Banner behind another only for a new mark.
-abbrev pub MayAnswer : PortLog → Reply → Type 0
+abbrev pub MayAnswer : BoardLog → Reply → Type 0
 MayAnswer l r = link.MayAnswer (link_steps l) r
 
 -- A piece may be published: no stop waits for its halt, and no end was published; it may come behind the pieces published since the
 -- last halt, so that the first segment behind a stop begins its move; the ticks published and its own are fewer than 2 ^ 62, and so
 -- were the pieces.
-abbrev pub MayPublish : PortLog → Piece → Type 0
+abbrev pub MayPublish : BoardLog → Piece → Type 0
 MayPublish l p = ring.MayPublish (sent_in l) p
 
 -- the pulse may be told to stop: no stop waits for its halt, and where there was one before, a piece was published since
-abbrev pub MayStop : PortLog → Type 0
+abbrev pub MayStop : BoardLog → Type 0
 MayStop l = ring.MayStop (sent_in l)
 
 -- it may be looked for a halt: a stop waits for it
-abbrev pub MayAskHalt : PortLog → Type 0
+abbrev pub MayAskHalt : BoardLog → Type 0
 MayAskHalt l = (sent_in l).waits ≡ true
 
 -- ---- what a port promises
 
 -- fewer bytes are taken than were stored before a mark that was loaded: there is one more
-abbrev pub IsMarkedPast : PortLog → Type 0
+abbrev pub IsMarkedPast : BoardLog → Type 0
 IsMarkedPast l = MarkedPast (length (taken_in l)) (link.marked_in (link_steps l))
 
 -- one more byte is taken: fewer than 2 ^ 31 were
-abbrev pub HasTakenFew : PortLog → Type 0
+abbrev pub HasTakenFew : BoardLog → Type 0
 HasTakenFew l = length (taken_in l) < 2 ^ 31
 
 -- one more report is asked for: fewer than 2 ^ 31 were
-abbrev pub HasFewReports : PortLog → Type 0
+abbrev pub HasFewReports : BoardLog → Type 0
 HasFewReports l = reports_in l < 2 ^ 31
 
 -- a reply is handed back only if 16 that were answered may be on the link
-abbrev pub LacksReplyRoom : PortLog → Type 0
+abbrev pub LacksReplyRoom : BoardLog → Type 0
 LacksReplyRoom l = reply_room ≤ length (answered_in l)
 
 -- a piece is handed back, while so many ticks are done, only if five pieces are unfinished
-pub record LacksPieceRoom (done : ℕ) (l : PortLog) : Type 0 where
+pub record LacksPieceRoom (done : ℕ) (l : BoardLog) : Type 0 where
   pub later : known_in l ≤ done
   pub full : ring.unfinished_in (sent_in l) done ≡ most_unfinished
 
 -- So many ticks may be found done: no fewer than before, and no more than the ticks published, so that nothing is done before it is
 -- published. At most five pieces are unfinished then. It is so at a halt, too, from which on all pieces are finished.
-pub record MayBeDone (done : ℕ) (l : PortLog) : Type 0 where
+pub record MayBeDone (done : ℕ) (l : BoardLog) : Type 0 where
   pub later : known_in l ≤ done
   pub below : done ≤ ring.ticks_published (sent_in l)
   pub few : ring.unfinished_in (sent_in l) done ≤ most_unfinished

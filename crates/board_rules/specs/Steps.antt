@@ -20,7 +20,7 @@ use Rattle.step_line.specs.declared.Piece.{Piece}
 use Rattle.step_line.specs.declared.Piece.TheVariants as pieces
 use Rattle.step_line.specs.Logs.{NewestFirst}
 use Rattle.board_rules.specs.Openings.{Opening, before_first}
-use Rattle.board_rules.specs.Ports.{PortStep, PortLog, taken_in, has_closed_in, answered_in, published_in, known_in}
+use Rattle.board_rules.specs.Ports.{PortStep, BoardLog, taken_in, has_closed_in, answered_in, published_in, known_in}
 use Rattle.board_rules.specs.Ports.PortStep.{took, answered, published}
 
 -- what a board does, at its port and by itself
@@ -52,7 +52,7 @@ abbrev pub Journal : Type 0
 Journal = NewestFirst Step
 
 -- the steps at the port alone
-abbrev pub port_log : Journal → PortLog
+abbrev pub port_log : Journal → BoardLog
 port_log [] = []
 port_log (at_port e ∷ h) = e ∷ port_log h
 port_log (_ ∷ h) = port_log h
@@ -203,19 +203,19 @@ hand_of (cut k ∷ h) = hand_of h ++ pieces.Mark (marks.Cut k) ∷ []
 hand_of (_ ∷ h) = hand_of h
 
 -- the plan after an action that gives these pieces
-abbrev pub behind : Action → List Piece → Planned → Planned
-behind (Add m) ps p = with_move p m
-behind (Override o) ps p = record p { overrides = o }
-behind (Take mode) (pieces.Segment s ∷ ps) p = advanced p s.n s.w_out
-behind Clear ps p = cleared p
-behind Reset ps p = cleared p
-behind a ps p = p
+abbrev pub plan_after : Action → List Piece → Planned → Planned
+plan_after (Add m) ps p = with_move p m
+plan_after (Override o) ps p = record p { overrides = o }
+plan_after (Take mode) (pieces.Segment s ∷ ps) p = advanced p s.n s.w_out
+plan_after Clear ps p = cleared p
+plan_after Reset ps p = cleared p
+plan_after a ps p = p
 
 -- the plan that the actions leave
 abbrev pub plan_of : Journal → Planned
 plan_of [] = fresh_plan
-plan_of (did a ps ∷ h) = behind a ps (plan_of h)
-plan_of (evened ∷ h) = behind (Override normal_overrides) [] (plan_of h)
+plan_of (did a ps ∷ h) = plan_after a ps (plan_of h)
+plan_of (evened ∷ h) = plan_after (Override normal_overrides) [] (plan_of h)
 plan_of (cut k ∷ h) = cleared (plan_of h)
 plan_of (halted ∷ h) = cleared (plan_of h)
 plan_of (_ ∷ h) = plan_of h

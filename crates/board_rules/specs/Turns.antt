@@ -154,10 +154,10 @@ requests_at (took b) taken = not (nat_eq b 10) && taken
 requests_at (took_exec word) taken = true
 requests_at e taken = taken
 
-abbrev pub changes_at : PortStep → Bool → Bool
-changes_at (took b) taken = not (nat_eq b 10) && taken
-changes_at (took_ovr word) taken = true
-changes_at e taken = taken
+abbrev pub changes_taken_at : PortStep → Bool → Bool
+changes_taken_at (took b) taken = not (nat_eq b 10) && taken
+changes_taken_at (took_ovr word) taken = true
+changes_taken_at e taken = taken
 
 abbrev pub by_wait : Turn → Bool → Bool
 by_wait (Wait on) taken = false
@@ -173,7 +173,7 @@ requests_taken (_ ∷ h) = requests_taken h
 -- so was the word of changes of overrides
 abbrev pub changes_taken : Journal → Bool
 changes_taken [] = true
-changes_taken (at_port e ∷ h) = changes_at e (changes_taken h)
+changes_taken (at_port e ∷ h) = changes_taken_at e (changes_taken h)
 changes_taken (turned t ∷ h) = by_wait t (changes_taken h)
 changes_taken (_ ∷ h) = changes_taken h
 

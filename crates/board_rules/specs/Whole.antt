@@ -57,13 +57,13 @@ pub record WorkRests (o : Outcome) : Type 0 where
   pub still : has_moves o.work ≡ false → (comes_to_rest o.work ≡ true) ⊎ (has_work o.work ≡ false)
 
 -- the machine stands, and nothing more is asked of it
-pub record IsQuiet (first : Opening) (h : Journal) : Type 0 where
+pub record HasComeToRest (first : Opening) (h : Journal) : Type 0 where
   pub drained : IsDrained h
   pub work : has_work (left_of first h) ≡ false
 
 -- it stands, or will be waited for
 abbrev pub ComesToRest : Opening → Journal → Type 0
-ComesToRest first h = (comes_to_rest (left_of first h) ≡ true) ⊎ IsQuiet first h
+ComesToRest first h = (comes_to_rest (left_of first h) ≡ true) ⊎ HasComeToRest first h
 
 -- A line is begun when the machine was found moving: it runs or jogs; the done ticks were loaded in this turn, and they
 -- were fewer than those of the published pieces, or an event is left to run: a block is queued, or a piece is in hand.

@@ -41,7 +41,7 @@ ghost use Rattle.step_line.specs.declared.Segment.{Segment as AnySegment};
 ghost use Rattle.step_line.specs.Places.{place_after};
 ghost use Rattle.board_rules.specs.Steps.Step.{at_port, began, did, became, cut, halted, turned};
 ghost use Rattle.units.specs.Truths.{one_if};
-ghost use Rattle.board_rules.specs.Parts.{IsCutPart, IsHaltedPart, IsSlowedOnlyBy, AreDisturbedOnlyBy, but_last, lines_in, actions_in, pieces_in, passed_in, plan_behind, AreJoined, AreNumbered};
+ghost use Rattle.board_rules.specs.Parts.{IsCutPart, IsAlarmedPart, IsSlowedOnlyBy, AreDisturbedOnlyBy, but_last, lines_in, actions_in, pieces_in, passed_in, plan_behind, AreJoined, AreNumbered};
 ghost use Rattle.board_rules.specs.Cuts.{
   part_outcomes,
   part_actions,
@@ -369,13 +369,13 @@ pub fn boards_halt_at_alarms()
 {}
 
 /// If the machine was halted, the part after the last cut is a planner run that has come to a stop, with legal heads;
-/// it holds the first ticks of its lines, and all of those up to the last that settles (`IsHaltedPart`). Nothing is
+/// it holds the first ticks of its lines, and all of those up to the last that settles (`IsAlarmedPart`). Nothing is
 /// left to run, the machine stands in alarm, and each tick that was given is done. No line is begun after it, and the
 /// plan gives nothing more, so that only the end is given. A finished board, one of whose lines has raised an alarm,
 /// was halted.
 pub fn halts_drop_what_is_left()
     ensures part { (first : Opening) (h : Journal) → Conducted first h → has_halted h ≡ true →
-        IsHaltedPart (part_outcomes h) (part_start h) (part_actions h) (part_given h) (part_plan h) }
+        IsAlarmedPart (part_outcomes h) (part_start h) (part_actions h) (part_given h) (part_plan h) }
     ensures stands { (first : Opening) (h : Journal) → Conducted first h → has_halted h ≡ true →
         IsAtRest (plan_of h) × (motion_of first h ≡ Alarm) × (known_of h ≡ ticks_given h) }
     ensures alarmed { (first : Opening) (h : Journal) → Conducted first h → has_halted h ≡ true → has_limited h ≡ true }

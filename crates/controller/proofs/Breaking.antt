@@ -19,7 +19,7 @@ use Rattle.run_rules.specs.declared.State.{State}
 use Rattle.run_rules.specs.States.{IsOpening}
 use Rattle.board_rules.specs.Openings.{Opening, first_opening}
 use Rattle.controller.proofs.AnyState.{turned_any}
-use Rattle.board_rules.specs.Ports.{PortLog, LacksPieceRoom}
+use Rattle.board_rules.specs.Ports.{BoardLog, LacksPieceRoom}
 use Rattle.board_rules.specs.Ports.PortStep.{answered, no_reply_room, published, no_piece_room}
 use Rattle.board_rules.specs.Steps.{Journal, port_log, published_of, left_of, closed_tells}
 use Rattle.board_rules.specs.Steps.Step.{at_port, turned}
@@ -64,7 +64,7 @@ over_worked first c h f between rests = record {
 }
 
 -- where the run is not over, and a reset was asked for, a reset has ended it
-pub is_broken : (was : PortLog → Type 0) (c : Controller) (d : Doings) → c.reset ≡ true → (BoardRests c → ⊥) → was (log_of d) → BoardFits c d → IsBetween d
+pub is_broken : (was : BoardLog → Type 0) (c : Controller) (d : Doings) → c.reset ≡ true → (BoardRests c → ⊥) → was (log_of d) → BoardFits c d → IsBetween d
     → (since before : Journal) × was (log_of (broke since before)) × BrokenFits c since before × IsBetween (broke since before)
 is_broken was c (goes h) reset unrested at f between = absurd (unrested (f.3 reset))
 is_broken was c (broke since before) reset unrested at f between = (since, before, at, f, between)
@@ -240,11 +240,11 @@ bye_is_next tells_bye t left is some todo other = refl
 bye_is_next over t left is some todo other = absurd (some is)
 
 -- what a turn leaves of a port and a board
-abbrev pub GoesOn : (PortLog → Type 0) → Turn → Controller → Controller → Doings → Type 0
+abbrev pub GoesOn : (BoardLog → Type 0) → Turn → Controller → Controller → Doings → Type 0
 GoesOn stands t was is d = (next : Doings) × stands (log_of next) × BoardFits is next × IsBetween next × BoardTurned t was is d next
 
 -- a run that is over stays so
-pub over_goes_on : (stands : PortLog → Type 0) (c : Controller) (d : Doings) → stands (log_of d) → BoardFits c d → IsBetween d → BoardRests c → GoesOn stands Done c c d
+pub over_goes_on : (stands : BoardLog → Type 0) (c : Controller) (d : Doings) → stands (log_of d) → BoardFits c d → IsBetween d → BoardRests c → GoesOn stands Done c c d
 over_goes_on stands c (goes h) at f between rests =
     let r = turned_by (first_opening f.0) Done c c c.flags h h refl (over_worked (first_opening f.0) c h f.2 between rests) in
     (goes (turned Done ∷ h), at, (f.0, f.1, r.0, f.3), refl, turned_any Done c c h (turned Done ∷ h) f.0 r.1)
@@ -252,18 +252,18 @@ over_goes_on stands c (broke since before) at f between rests =
     (broke (turned Done ∷ since) before, at, over_ends c since before f between rests, refl, (refl, record { steps = []; are = refl; moves = λ e. absurd cc }))
 
 -- a run that a reset has ended goes on to its end
-pub ended_goes_on : (was stands : PortLog → Type 0) (t : Turn) (c is : Controller) (d : Doings) → c.reset ≡ true → (BoardRests c → ⊥) → was (log_of d) → BoardFits c d → IsBetween d
+pub ended_goes_on : (was stands : BoardLog → Type 0) (t : Turn) (c is : Controller) (d : Doings) → c.reset ≡ true → (BoardRests c → ⊥) → was (log_of d) → BoardFits c d → IsBetween d
     → ((since before : Journal) → was (log_of (broke since before)) → BrokenFits c since before → IsBetween (broke since before) → EndsOn stands t is since before) → GoesOn stands t c is d
 ended_goes_on was stands t c is (goes h) reset unrested at f between ends = absurd (unrested (f.3 reset))
 ended_goes_on was stands t c is (broke since before) reset unrested at f between ends =
     let e = ends since before at f between in (broke e.0 before, e.1, e.2, e.3, (refl, e.4))
 
 -- a run that goes on does so, or is ended behind the turn
-pub turned_goes_on : (state : State) (stands : PortLog → Type 0) (t : Turn) (c is : Controller) (h next : Journal) → IsOpening state → stands (port_log next) → GoingFits (first_opening state) is next → GoingBetween next → GoingTurned (first_opening state) t c is h next
+pub turned_goes_on : (state : State) (stands : BoardLog → Type 0) (t : Turn) (c is : Controller) (h next : Journal) → IsOpening state → stands (port_log next) → GoingFits (first_opening state) is next → GoingBetween next → GoingTurned (first_opening state) t c is h next
     → (is.reset ≡ true → BoardRests is) → GoesOn stands t c is (goes h)
 turned_goes_on state stands t c is h next opening at f between was rests = (goes next, at, (state, opening, f, rests), between, turned_any t c is h next state was)
 
-pub broken_goes_on : (first : State) (stands : PortLog → Type 0) (t : Turn) (c mid is : Controller) (h next : Journal) → stands (port_log next) → GoingTurned (first_opening first) t c mid h next → BrokenFits is [] next → is.flags ≡ mid.flags
+pub broken_goes_on : (first : State) (stands : BoardLog → Type 0) (t : Turn) (c mid is : Controller) (h next : Journal) → stands (port_log next) → GoingTurned (first_opening first) t c mid h next → BrokenFits is [] next → is.flags ≡ mid.flags
     → GoesOn stands t c is (goes h)
 broken_goes_on first stands t c mid is h next at was f same = (
   broke [] next,
@@ -281,7 +281,7 @@ broken_goes_on first stands t c mid is h next at was f same = (
 )
 
 -- a board without a reset goes on
-pub unbroken_goes_on : (was stands : PortLog → Type 0) (t : Turn) (c is : Controller) (d : Doings) → c.reset ≡ false → was (log_of d) → BoardFits c d → IsBetween d
+pub unbroken_goes_on : (was stands : BoardLog → Type 0) (t : Turn) (c is : Controller) (d : Doings) → c.reset ≡ false → was (log_of d) → BoardFits c d → IsBetween d
     → ((state : State) → IsOpening state → (h : Journal) → was (port_log h) → GoingFits (first_opening state) c h → GoingBetween h → GoesOn stands t c is (goes h)) → GoesOn stands t c is d
 unbroken_goes_on was stands t c is (goes h) none at f between on = on f.0 f.1 h at f.2 between
 unbroken_goes_on was stands t c is (broke since before) none at f between on = absurd (let e = sym none ∙ f.reset in cc)

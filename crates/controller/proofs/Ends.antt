@@ -12,7 +12,7 @@ use Rattle.run_rules.specs.Work.{Task, pauses}
 use Rattle.run_rules.specs.Work.Task.{ask, tell, pause, normal, finish, halt}
 use Rattle.status_report.specs.declared.Reply.{Reply}
 use Rattle.step_line.specs.Asking.Asked.{a_move, a_mark, a_rest}
-use Rattle.board_rules.specs.Ports.{PortLog}
+use Rattle.board_rules.specs.Ports.{BoardLog}
 use Rattle.board_rules.specs.Steps.{Step, Journal, left_of, plan_of, motion_of, whole_of, closed_tells}
 use Rattle.board_rules.specs.Cuts.{has_cut}
 use Rattle.board_rules.specs.Steps.Step.{turned}
@@ -93,12 +93,12 @@ worked_on first t was board h mid next steps is fewer w = record {
     further (inl moved) = inl moved
     further (inr falls) = inr (omega (arith, falls, fewer))
 
-pub works_on : (first : Opening) (stands : PortLog → Type 0) (t : Turn) (was : Flags) (board : Controller) (h mid : Journal) (steps : List Step) → mid ≡ steps ++ h → number_of first was mid ≤ number_of first was h
+pub works_on : (first : Opening) (stands : BoardLog → Type 0) (t : Turn) (was : Flags) (board : Controller) (h mid : Journal) (steps : List Step) → mid ≡ steps ++ h → number_of first was mid ≤ number_of first was h
     → WorksOn first stands t was board mid → WorksOn first stands t was board h
 works_on first stands t was board h mid steps is fewer w = (w.0, w.1, worked_on first t was board h mid w.0 steps is fewer w.2)
 
 -- so it has behind steps that pass nothing
-pub works_passed : (first : Opening) (stands : PortLog → Type 0) (t : Turn) (was : Flags) (board : Controller) (h mid : Journal) → PassesNothing first h mid → WorksOn first stands t was board mid → WorksOn first stands t was board h
+pub works_passed : (first : Opening) (stands : BoardLog → Type 0) (t : Turn) (was : Flags) (board : Controller) (h mid : Journal) → PassesNothing first h mid → WorksOn first stands t was board mid → WorksOn first stands t was board h
 works_passed first stands t was board h mid p w = works_on first stands t was board h mid p.steps p.are (number_passes first was h mid p) w
 
 -- ---- truths

@@ -36,7 +36,7 @@ use Rattle.controller.specs.declared.controller.Beat.TheVariants.{Motion}
 use Rattle.controller.specs.declared.controller.Flags.{Flags}
 use Rattle.controller.specs.declared.controller.Flags.TheVariants as words
 use Rattle.controller.specs.Boards.{Keeps, Rounds, NoneWaits, IsFree, IsAsked, TakesFlags, takes_no_word, words_left, changes_left, number_of}
-use Rattle.controller.specs.Turning.{HasPiece, IsHalted, MayRun, PassesNothing, StaysSo, IsCutNow, HasSettled, AreWorked, BoardWorked, obeyed, obeying, to_obey}
+use Rattle.controller.specs.Turning.{HasPiece, IsHeldUp, MayRun, PassesNothing, StaysSo, IsCutNow, HasSettled, AreWorked, BoardWorked, obeyed, obeying, to_obey}
 use Rattle.controller.specs.Reporting.{IsBehind}
 use Rattle.board_rules.proofs.Facts.{uncounted, uncounted_line}
 use Rattle.board_rules.proofs.Tries.{counts_none, counts_one}
@@ -53,14 +53,14 @@ some_left first h held_up partial none =
     absurd (let e = sym partial ∙ sym same ∙ held_up in cc)
 
 -- few tries stand behind the last poll
-pub few_halted : (first : Opening) (h : Journal) → IsHalted first h → tries_of first h + one_if (whole_of h) ≤ 1
+pub few_halted : (first : Opening) (h : Journal) → IsHeldUp first h → tries_of first h + one_if (whole_of h) ≤ 1
 few_halted first h halted = by_whole (whole_of h) refl
   where
     by_whole : (w : Bool) → whole_of h ≡ w → tries_of first h + one_if (whole_of h) ≤ 1
     by_whole true e = let none = halted.ready.held halted.halts e in let w = ap one_if e in omega (arith, none, w)
     by_whole false e = let few = halted.ready.few (some_left first h halted.held_up e) in let w = ap one_if e in omega (arith, few, w)
 
-uncounted_halted : (first : Opening) (h : Journal) → IsHalted first h → is_counted first h ≡ false
+uncounted_halted : (first : Opening) (h : Journal) → IsHeldUp first h → is_counted first h ≡ false
 uncounted_halted first h halted = by_whole (whole_of h) refl
   where
     by_whole : (w : Bool) → whole_of h ≡ w → is_counted first h ≡ false
@@ -68,7 +68,7 @@ uncounted_halted first h halted = by_whole (whole_of h) refl
     by_whole false e = uncounted first h (some_left first h halted.held_up e)
 
 -- what is in hand or due may be tried to be published
-pub may_run_halted : (first : Opening) (h : Journal) → IsHalted first h → MayRun first h
+pub may_run_halted : (first : Opening) (h : Journal) → IsHeldUp first h → MayRun first h
 may_run_halted first h halted = record {
   quiet = halted.ready.quiet;
   polled = λ e. absurd (let f = sym halted.ready.unpolled ∙ e in cc);
@@ -98,7 +98,7 @@ few_settled first h next s few = let t = s.passes.tries in let w = ap one_if s.p
 abbrev pub HaltsInTime : Opening → Journal → Type 0
 HaltsInTime first h = halts_next (left_of first h) ≡ true → is_limited (motion_of first h) ≡ true
 
-pub ends_settled : (first : Opening) (h next : Journal) → IsHalted first h → HasSettled first h next → HaltsInTime first next → EndsTurn first next
+pub ends_settled : (first : Opening) (h next : Journal) → IsHeldUp first h → HasSettled first h next → HaltsInTime first next → EndsTurn first next
 ends_settled first h next halted s halts =
     let quiet = s.passes.quiet in
     let none = halted.ready.quiet.quiet in
@@ -114,12 +114,12 @@ ends_settled first h next halted s halts =
       halts = halts;
     }
 
-pub rounds_settled : (first : Opening) (board : Controller) (h next : Journal) → IsHalted first h → HasSettled first h next → board.beat ≡ Motion → Rounds first board.beat next
+pub rounds_settled : (first : Opening) (board : Controller) (h next : Journal) → IsHeldUp first h → HasSettled first h next → board.beat ≡ Motion → Rounds first board.beat next
 rounds_settled first board h next halted s beat =
     subst (λ b. (Rounds first) b next) (sym beat) (rounds_still first next (λ w. absurd (none_wait first h halted.halts (s.waiting w))) (few_settled first h next s (few_halted first h halted)))
 
 -- no word is to be taken, none waits, and no report is owed
-pub free_settled : (first : Opening) (h next : Journal) → IsHalted first h → HasSettled first h next → IsFree next
+pub free_settled : (first : Opening) (h next : Journal) → IsHeldUp first h → HasSettled first h next → IsFree next
 free_settled first h next halted s = free_passed first h next s.passes (free_of h halted.ready.quiet)
 
 -- a board's number, where no word of flags is to be taken
@@ -127,7 +127,7 @@ pub fewer_words : (first : Opening) (f was : Flags) (h next : Journal) → f ≡
 fewer_words first f was h next e g falls = let a = ap words_left e in let b = ap words_left g in omega (arith, falls, a, b)
 
 -- something came of a machine that has stopped
-pub did_settle : (first : Opening) (board : Controller) (was : Flags) (h next : Journal) → Keeps first board next → IsHalted first h → HasSettled first h next → HasSlowedDown first h → (HasSlowedDown first next → ⊥)
+pub did_settle : (first : Opening) (board : Controller) (was : Flags) (h next : Journal) → Keeps first board next → IsHeldUp first h → HasSettled first h next → HasSlowedDown first h → (HasSlowedDown first next → ⊥)
     → board.beat ≡ Motion → board.flags ≡ words.None → was ≡ words.None → BoardWorked first Did was board h next
 did_settle first board was h next k halted s slowed other beat no_word none = record {
   keeps = k;
@@ -192,7 +192,7 @@ slow_stands first board h k slows due = by_blocks (plan_of h).blocks refl
         grind (arith, nat_tests, zero)
 
 -- where nothing is in hand or due, a machine that halts and is not held has slowed down
-pub slowed_halted : (first : Opening) (board : Controller) (h : Journal) → Keeps first board h → IsHalted first h → (HasPiece first h → ⊥) → (motion_of first h ≡ motions.Held → ⊥) → HasSlowedDown first h
+pub slowed_halted : (first : Opening) (board : Controller) (h : Journal) → Keeps first board h → IsHeldUp first h → (HasPiece first h → ⊥) → (motion_of first h ≡ motions.Held → ⊥) → HasSlowedDown first h
 slowed_halted first board h k halted none other =
     let slows = stopping_by (motion_of first h) halted.halts other in
     record { slows = slows; speed = slow_stands first board h k slows (not_due first h none); empty = none_in_hand first h none }
@@ -215,7 +215,7 @@ slowed_undue : (first : Opening) (h : Journal) → HasSlowedDown first h → is_
 slowed_undue first h s = no_more_due (is_going (motion_of first h)) (is_stopping (motion_of first h)) (has_blocks (plan_of h).blocks) (plan_of h).speed (not_both (motion_of first h)) s.slows s.speed
 
 -- the stop is waited for: ticks are found not to be done
-pub waits_for_stop : (first : Opening) (board : Controller) (was : Flags) (h next : Journal) → Keeps first board next → IsHalted first h → HasSettled first h next → HasSlowedDown first next
+pub waits_for_stop : (first : Opening) (board : Controller) (was : Flags) (h next : Journal) → Keeps first board next → IsHeldUp first h → HasSettled first h next → HasSlowedDown first next
     → board.beat ≡ Motion → board.flags ≡ words.None → BoardWorked first (Wait on.Motion) was board h next
 waits_for_stop first board was h next k halted s slowed beat no_word = record {
   keeps = k;
@@ -426,13 +426,13 @@ halts_before : (first : Opening) (w : Option Exec) (h : Journal) → Conducted f
 halts_before first None h c halts = halts
 halts_before first (Some word) h c halts = c.0.1.halts
 
-ends_awaited : (first : Opening) (board : Controller) (word : Exec) (h mid : Journal) → Keeps first board (obeyed first word mid) → IsHalted first h → HasSettled first h mid → EndsTurn first (obeyed first word mid)
+ends_awaited : (first : Opening) (board : Controller) (word : Exec) (h mid : Journal) → Keeps first board (obeyed first word mid) → IsHeldUp first h → HasSettled first h mid → EndsTurn first (obeyed first word mid)
 ends_awaited first board word h mid k halted s =
     let ends = ends_settled first h mid halted s (halts_before first (to_obey word) (taken word mid) k.conducted (halts_by first board (obeyed first word mid) k)) in
     ends_obeyed first word mid (s.passes.quiet ∙ halted.ready.quiet.quiet) (free_settled first h mid halted s).obeyed (s.passes.worked halted.ready.quiet.worked) ends.adds ends.starts ends.tries
     (halts_by first board (obeyed first word mid) k)
 
-rounds_awaited : (first : Opening) (word : Exec) (board : Controller) (h mid : Journal) → IsHalted first h → HasSettled first h mid → board.beat ≡ Motion → Rounds first board.beat (obeyed first word mid)
+rounds_awaited : (first : Opening) (word : Exec) (board : Controller) (h mid : Journal) → IsHeldUp first h → HasSettled first h mid → board.beat ≡ Motion → Rounds first board.beat (obeyed first word mid)
 rounds_awaited first word board h mid halted s beat =
     subst (λ b. (Rounds first) b (obeyed first word mid)) (sym beat)
     (rounds_behind first (to_obey word) (taken word mid) (λ w. absurd (none_wait first h halted.halts (s.waiting (record { stands = w.stands; blocks = w.blocks })))) (few_settled first h mid s (few_halted first h halted)))
@@ -442,7 +442,7 @@ pub obeyed_behind : (first : Opening) (word : Exec) (h mid : Journal) (steps : L
 obeyed_behind first word h mid steps are = behind_word first (to_obey word) h (taken word mid) (record { steps = at_port (took_exec word) ∷ steps; are = ap (λ (j : Journal). at_port (took_exec word) ∷ j) are })
 
 -- the machine is resumed
-pub did_resume : (first : Opening) (board : Controller) (was : Flags) (word : Exec) (h mid : Journal) → Keeps first board (obeyed first word mid) → IsHalted first h → HasSettled first h mid → motion_of first h ≡ motions.Held
+pub did_resume : (first : Opening) (board : Controller) (was : Flags) (word : Exec) (h mid : Journal) → Keeps first board (obeyed first word mid) → IsHeldUp first h → HasSettled first h mid → motion_of first h ≡ motions.Held
     → (motion_of first (obeyed first word mid) ≡ motions.Held → ⊥) → owes_report (taken word mid) ≡ false → board.beat ≡ Motion → board.flags ≡ words.None → was ≡ words.None → BoardWorked first Did was board h (obeyed first word mid)
 did_resume first board was word h mid k halted s held resumes unowed beat no_word none = record {
   keeps = k;
@@ -467,7 +467,7 @@ did_resume first board was word h mid k halted s held resumes unowed beat no_wor
         omega (arith, zero, one, l, p, c, e)
 
 -- the resume is waited for
-pub waits_for_resume : (first : Opening) (board : Controller) (was : Flags) (word : Exec) (h mid : Journal) → Keeps first board (obeyed first word mid) → IsHalted first h → HasSettled first h mid → motion_of first h ≡ motions.Held
+pub waits_for_resume : (first : Opening) (board : Controller) (was : Flags) (word : Exec) (h mid : Journal) → Keeps first board (obeyed first word mid) → IsHeldUp first h → HasSettled first h mid → motion_of first h ≡ motions.Held
     → motion_of first (obeyed first word mid) ≡ motions.Held → owes_report (taken word mid) ≡ false → board.beat ≡ Motion → board.flags ≡ words.None → BoardWorked first (Wait on.Resume) was board h (obeyed first word mid)
 waits_for_resume first board was word h mid k halted s held stays unowed beat no_word = record {
   keeps = k;
@@ -513,7 +513,7 @@ waits_for_resume first board was word h mid k halted s held stays unowed beat no
     or_first false b e = absurd cc
 
 -- a report is asked for while the resume is waited for
-pub did_ask : (first : Opening) (board : Controller) (was : Flags) (word : Exec) (h mid : Journal) → Keeps first board (taken word mid) → IsHalted first h → HasSettled first h mid → owes_report (taken word mid) ≡ true
+pub did_ask : (first : Opening) (board : Controller) (was : Flags) (word : Exec) (h mid : Journal) → Keeps first board (taken word mid) → IsHeldUp first h → HasSettled first h mid → owes_report (taken word mid) ≡ true
     → board.beat ≡ Motion → board.flags ≡ words.Report (to_obey word) → was ≡ words.None → BoardWorked first Did was board h (taken word mid)
 did_ask first board was word h mid k halted s owed beat asks none = record {
   keeps = k;

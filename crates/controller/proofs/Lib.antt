@@ -2,6 +2,7 @@ pub mod Begins
 pub mod Known
 pub mod Turns
 pub mod Steps
+pub mod Requests
 pub mod Standing
 pub mod Settling
 pub mod Pausing

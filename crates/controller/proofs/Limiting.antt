@@ -33,7 +33,7 @@ use Rattle.controller.specs.declared.controller.Flags.TheVariants as flags
 use Rattle.board_machine.specs.declared.machine.Machine.{Machine}
 use Rattle.board_machine.specs.Machines.{Runs}
 use Rattle.controller.specs.Boards.{Keeps, Rounds, number_of}
-use Rattle.controller.specs.Turning.{HasPiece, IsAtLimit, IsLocked, HasHalted, IsReady, PassesNothing, BoardWorked}
+use Rattle.controller.specs.Turning.{HasPiece, IsAtLimit, IsInAlarm, HasHalted, IsReady, PassesNothing, BoardWorked}
 use Rattle.controller.proofs.Steps.{is_next, looked, one_less, halts_by}
 use Rattle.board_rules.proofs.Speeds.{no_speed, rests}
 use Rattle.board_rules.proofs.Stages.{ends_run, limit_alarms, limited_next}
@@ -201,7 +201,7 @@ halted_alone first h alarm = record {
 
 -- behind a journal it is in alarm
 abbrev pub Locks : Opening → Controller → Journal → Type 0
-Locks first c h = (next : Journal) × Keeps first c next × IsLocked first h next
+Locks first c h = (next : Journal) × Keeps first c next × IsInAlarm first h next
 
 -- it was in alarm already
 pub locked_before : (first : Opening) (c : Controller) (h : Journal) → Keeps first c h → IsAtLimit first h → c.machine.hold.motion ≡ motions.Alarm → Locks first c h
@@ -232,7 +232,7 @@ locks_now first c m h k at slows runs = (
 )
 
 -- what was planned is dropped then
-pub halts_now : (first : Opening) (c : Controller) (m : Machine) (i : Interpreting) (h mid : Journal) → Keeps first c mid → IsLocked first h mid → Runs m (cleared (plan_of mid)) (motion_of first mid) (hand_of mid) (given_of mid)
+pub halts_now : (first : Opening) (c : Controller) (m : Machine) (i : Interpreting) (h mid : Journal) → Keeps first c mid → IsInAlarm first h mid → Runs m (cleared (plan_of mid)) (motion_of first mid) (hand_of mid) (given_of mid)
     → i ≡ record c.lines { left = drop 1 c.lines.left } → (next : Journal) × Keeps first (record c { machine = m; lines = i }) next × HasHalted first h next
 halts_now first c m i h mid k locked runs is =
     let alone = halted_alone first mid locked.alarm in (

@@ -31,7 +31,7 @@ use Rattle.controller.specs.declared.controller.Flags.TheVariants as words
 use Rattle.controller.specs.declared.controller.Beat.{Beat}
 use Rattle.controller.specs.declared.controller.Beat.TheVariants.{Motion, Main}
 use Rattle.controller.specs.Boards.{Keeps, Rounds, NoneWaits, GoingBetween, IsFree, TakesFlags, has_published, number_of}
-use Rattle.controller.specs.Turning.{IsNextMove, IsQuiet, IsReady, IsHalted, HasPiece, HasPolled, MayRun, MayAwait, MayFinish, IsWholeLine, NeedsNoWait, GoesOn, PassesNothing, BoardWorked, starting}
+use Rattle.controller.specs.Turning.{IsNextMove, IsQuiet, IsReady, IsHeldUp, HasPiece, HasPolled, MayRun, MayAwait, MayFinish, IsWholeLine, NeedsNoWait, GoesOn, PassesNothing, BoardWorked, starting}
 use Rattle.controller.proofs.Steps.{is_next, not_told, begins_by, calm_now, halts_by}
 use Rattle.board_rules.proofs.Facts.{not_whole, uncounted, unmissed}
 use Rattle.board_rules.proofs.Tries.{publishes_none, publishes_one, worked_behind, passes_did, passes_end, passes_motion}
@@ -134,7 +134,7 @@ held_up first b h k =
     ∙ ap (λ p. needs_motion b.lines.left b.input.whole (is_full p)) (sym k.machine.plan_is)
 
 -- what is next is held up by a machine that is held, or slows down for that
-pub is_halted : (first : Opening) (b : Controller) (h : Journal) → Keeps first b h → IsReady first h → is_halting b.machine.hold.motion ≡ true → needs_motion b.lines.left b.input.whole (is_full b.machine.plan) ≡ true → IsHalted first h
+pub is_halted : (first : Opening) (b : Controller) (h : Journal) → Keeps first b h → IsReady first h → is_halting b.machine.hold.motion ≡ true → needs_motion b.lines.left b.input.whole (is_full b.machine.plan) ≡ true → IsHeldUp first h
 is_halted first b h k ready halts up = record { ready = ready; halts = ap is_halting (sym k.machine.motion_is) ∙ halts; held_up = held_up first b h k ∙ up }
 
 -- what is next goes on, by the fields

@@ -20,7 +20,7 @@ use Rattle.status_report.specs.declared.Reply.{Reply}
 use Rattle.status_report.specs.declared.Reply.TheVariants as replies
 use Rattle.status_report.specs.declared.reports.Report.{Report}
 use Rattle.board_rules.specs.Openings.{Opening}
-use Rattle.board_rules.specs.Ports.{PortLog, MayAnswer, LacksReplyRoom, said}
+use Rattle.board_rules.specs.Ports.{BoardLog, MayAnswer, LacksReplyRoom, said}
 use Rattle.board_rules.specs.Ports.PortStep.{found_free, reported, no_reply_room}
 use Rattle.board_rules.specs.Steps.{Step, Journal, port_log, published_of, known_of, whole_of, plan_of, motion_of}
 use Rattle.board_rules.specs.Steps.Step.{at_port, became}
@@ -188,13 +188,13 @@ reported_kept first word h f =
     }
 
 -- behind a journal a report was tried to be told
-abbrev pub Reports : Opening → (PortLog → Type 0) → Bool → Controller → Option Exec → Journal → Type 0
+abbrev pub Reports : Opening → (BoardLog → Type 0) → Bool → Controller → Option Exec → Journal → Type 0
 Reports first stands told c word h = (next : Journal) × stands (port_log next) × Keeps first (record c { owes = not told }) next × IsReported first told word next × IsBehind h next
 
-pub reports : (first : Opening) (Rest : Type 0) (old new : Rest → PortLog → Type 0) (rest : Rest) (answer : Result (Unit {0}) Reply) (c : Controller) (word : Option Exec) (buffer : Option (ℕ × ℕ)) (r : Report) (h mid next : Journal)
+pub reports : (first : Opening) (Rest : Type 0) (old new : Rest → BoardLog → Type 0) (rest : Rest) (answer : Result (Unit {0}) Reply) (c : Controller) (word : Option Exec) (buffer : Option (ℕ × ℕ)) (r : Report) (h mid next : Journal)
     → IsToReport first word h → HasObserved first h mid → HasAskedRoom buffer mid next → Keeps first c next → IsTold first c r next → old rest (port_log next)
-    → OnOk answer ((rest : Rest) (l : PortLog) → old rest l → MayAnswer l (replies.Report r) → new rest (said (replies.Report r) ∷ l))
-    → OnErr answer ((rest : Rest) (l : PortLog) → old rest l → new rest (no_reply_room ∷ l) × LacksReplyRoom l)
+    → OnOk answer ((rest : Rest) (l : BoardLog) → old rest l → MayAnswer l (replies.Report r) → new rest (said (replies.Report r) ∷ l))
+    → OnErr answer ((rest : Rest) (l : BoardLog) → old rest l → new rest (no_reply_room ∷ l) × LacksReplyRoom l)
     → Reports first (new rest) (is_ok answer) c word h
 reports first Rest old new rest (Ok x) c word buffer r h mid next t o a k told stood ok full =
     let f = found_asked first word buffer mid next (found first word h mid t o) a in
@@ -369,7 +369,7 @@ port_behind : (first : Opening) (waiting : Option Exec) (h : Journal) → port_l
 port_behind first None h = refl
 port_behind first (Some word) h = refl
 
-pub stands_behind : (first : Opening) (stands : PortLog → Type 0) (waiting : Option Exec) (h : Journal) → stands (port_log h) → stands (port_log (obeying first waiting h))
+pub stands_behind : (first : Opening) (stands : BoardLog → Type 0) (waiting : Option Exec) (h : Journal) → stands (port_log h) → stands (port_log (obeying first waiting h))
 stands_behind first stands waiting h s = subst (λ l. stands l) (sym (port_behind first waiting h)) s
 
 -- ---- the turn

@@ -33,7 +33,8 @@ use Rattle.board_machine.specs.Machines.{Runs, StandsOrGoes, observed, settled}
 use Rattle.controller.specs.Boards.{Keeps}
 use Rattle.controller.specs.Reporting.{HasObserved, HasAskedRoom, IsReported, MayObeyNow, obeying}
 use Rattle.controller.specs.Turning.{ComesOf}
-use Rattle.controller.proofs.Steps.{looked, drained, obeys, other_flight, at_rest, halts_by}
+use Rattle.controller.proofs.Steps.{looked, drained, other_flight, at_rest, halts_by}
+use Rattle.controller.proofs.Requests.{obeys}
 use Rattle.controller.proofs.Settling.{CameOf, came_of, port_came, published_came, known_came}
 use Rattle.board_rules.proofs.Tries.{passes_load, passes_motion, passes_on}
 use Rattle.controller.proofs.Ends.{none_called}

@@ -14,7 +14,7 @@ use Rattle.step_line.specs.declared.planned_move.PlannedMove.{PlannedMove}
 use Rattle.run_rules.specs.Work.{Task, pauses}
 use Rattle.run_rules.specs.Work.Task.{ask}
 use Rattle.board_rules.specs.Openings.{Opening}
-use Rattle.board_rules.specs.Ports.{PortLog, asks_reset, has_changes}
+use Rattle.board_rules.specs.Ports.{BoardLog, asks_reset, has_changes}
 use Rattle.board_rules.specs.Ports.PortStep.{took_exec, took_ovr}
 use Rattle.board_rules.specs.Steps.{Step, Journal, port_log, left_of, whole_of, closed_tells, plan_of, motion_of}
 use Rattle.board_rules.specs.Steps.Step.{at_port, did}
@@ -344,7 +344,7 @@ asked_owes first word h = by_owed (owes_report (taken_word word h)) refl
     by_owed false e = ap owes_report (asked_free first word h e) ∙ same (to_obey word) (taken_word word h)
 
 -- a port stands for it as it did when the word was taken
-pub port_stands : (first : Opening) (stands : PortLog → Type 0) (word : Exec) (h : Journal) → stands (port_log (taken_word word h)) → stands (port_log (obeyed first word h))
+pub port_stands : (first : Opening) (stands : BoardLog → Type 0) (word : Exec) (h : Journal) → stands (port_log (taken_word word h)) → stands (port_log (obeyed first word h))
 port_stands first stands word h s = by_word (to_obey word) (taken_word word h) s
   where
     by_word : (w : Option Exec) (j : Journal) → stands (port_log j) → stands (port_log (obeying first w j))

@@ -19,7 +19,7 @@ use Rattle.line_interpreter.specs.Lefts.{IsNextOf}
 use Rattle.step_line.specs.Asking.Asked.{a_move, a_rest}
 use Rattle.step_line.specs.declared.planned_move.PlannedMove.{PlannedMove}
 use Rattle.board_rules.specs.Openings.{Opening}
-use Rattle.board_rules.specs.Ports.{PortLog}
+use Rattle.board_rules.specs.Ports.{BoardLog}
 use Rattle.board_rules.specs.Ports.{asks_reset, has_changes}
 use Rattle.status_report.specs.declared.Reply.{Reply}
 use Rattle.board_rules.specs.Ports.PortStep.{answered, no_reply_room, took_exec, took_ovr}
@@ -104,7 +104,7 @@ pub record GoesOn (first : Opening) (h : Journal) : Type 0 where
   pub unlimited : is_limited (motion_of first h) ≡ false
 
 -- What is next is held up, and it was not tried yet to publish a piece for it.
-pub record IsHalted (first : Opening) (h : Journal) : Type 0 where
+pub record IsHeldUp (first : Opening) (h : Journal) : Type 0 where
   pub ready : IsReady first h
   pub halts : is_halting (motion_of first h) ≡ true
   pub held_up : is_held_up first h ≡ true
@@ -215,7 +215,7 @@ abbrev pub starting : Bool → Journal → Journal
 starting jog h = became (on_start jog) (start_motion jog) ∷ h
 
 -- it is in alarm then, if it was not before
-pub record IsLocked (first : Opening) (h next : Journal) : Type 0 where
+pub record IsInAlarm (first : Opening) (h next : Journal) : Type 0 where
   pub at : IsAtLimit first next
   pub alarm : motion_of first next ≡ Alarm
   pub alone : DidAlone first h next
@@ -313,5 +313,5 @@ pub record BoardWorked (first : Opening) (t : Turn) (was : Flags) (board : Contr
   pub moves : t ≡ Did → (list_any moving (this_turn next) ≡ true) ⊎ (number_of first board.flags next < number_of first was h)
 
 -- behind a journal a board has worked up to an answer, and its port stands for that
-abbrev pub WorksOn : Opening → (PortLog → Type 0) → Turn → Flags → Controller → Journal → Type 0
+abbrev pub WorksOn : Opening → (BoardLog → Type 0) → Turn → Flags → Controller → Journal → Type 0
 WorksOn first stands t was board h = (next : Journal) × stands (port_log next) × BoardWorked first t was board h next

@@ -17,7 +17,7 @@ ghost use Rattle.board_rules.specs.Breaking.Doings.{goes};
 ghost use Rattle.board_rules.specs.Turns.{this_turn, awaits_motion, begins_in, machine_in, needs_motion, flags_taken, found_nothing, has_blocks, is_full};
 ghost use Rattle.board_rules.specs.Conduct.{IsNextTask, MayTake, MayPoll};
 ghost use Rattle.controller.specs.Boards.{Keeps, BoardFits, GoingFits, GoingTurned, BoardRests, GoingBetween, IsFree, TakesFlags, takes_no_word, number_of};
-ghost use Rattle.controller.specs.Turning.{IsNextMove, HasPiece, IsReady, MayRun, MayAwait, MayJudge, IsLooked, NeedsNoWait, IsWholeLine, HasPolled, HasStopped, PassesNothing, DidAlone, HasLooked, HasAdded, HasFilled, HasBegun, Tried, HasTried, BoardWorked, IsHalted, IsJudged, GoesOn, HasSettled, IsPassed, WorksOn};
+ghost use Rattle.controller.specs.Turning.{IsNextMove, HasPiece, IsReady, MayRun, MayAwait, MayJudge, IsLooked, NeedsNoWait, IsWholeLine, HasPolled, HasStopped, PassesNothing, DidAlone, HasLooked, HasAdded, HasFilled, HasBegun, Tried, HasTried, BoardWorked, IsHeldUp, IsJudged, GoesOn, HasSettled, IsPassed, WorksOn};
 
 use crate::input::Input;
 use board_machine::Machine;

@@ -11,7 +11,7 @@ ghost use Rattle.controller.specs.Boards.{Keeps};
 ghost use Rattle.board_rules.specs.Ports.PortStep.{took_exec};
 ghost use Rattle.board_rules.specs.Steps.Step.{at_port};
 ghost use Rattle.board_rules.specs.Turns.{unobeyed_of, owes_report, has_jog_to_start};
-ghost use Rattle.controller.specs.Turning.{HasPiece, IsHalted, HasSettled, asked, flags_behind, replanned, WorksOn};
+ghost use Rattle.controller.specs.Turning.{HasPiece, IsHeldUp, HasSettled, asked, flags_behind, replanned, WorksOn};
 
 use crate::controller::{Beat, Controller, Flags};
 use crate::reports::{asks_report, asks_reset, to_obey};
@@ -76,11 +76,11 @@ impl Controller {
 
     /// Waits for a machine that slows down, and does what comes of it once it has stopped.
     pub(crate) fn await_stop<P: BoardPort>(&mut self, port: &mut P) -> Turn
-        requires stands { (rest : P.Rest) × (first : Opening) × (h : Journal) × P.stands port.old rest (port_log h) × Keeps first self.old h × IsHalted first h × (HasPiece first h → ⊥) }
+        requires stands { (rest : P.Rest) × (first : Opening) × (h : Journal) × P.stands port.old rest (port_log h) × Keeps first self.old h × IsHeldUp first h × (HasPiece first h → ⊥) }
         requires slows { self.old.machine.hold.motion ≢ Held }
         requires beat { self.old.beat ≡ Beat.Motion }
         requires flags { self.old.flags ≡ Flags.None }
-        ensures goes_on { (rest : P.Rest) (first : Opening) (h : Journal) → P.stands port.old rest (port_log h) → Keeps first self.old h → IsHalted first h → (HasPiece first h → ⊥)
+        ensures goes_on { (rest : P.Rest) (first : Opening) (h : Journal) → P.stands port.old rest (port_log h) → Keeps first self.old h → IsHeldUp first h → (HasPiece first h → ⊥)
             → WorksOn first (P.stands port.new rest) result self.old.flags self.new h }
         ensures going { result ≢ Done }
     {
@@ -93,11 +93,11 @@ impl Controller {
 
     /// Waits for the resume of a machine that is held, unless a report is asked for.
     pub(crate) fn await_resume<P: BoardPort>(&mut self, port: &mut P) -> Turn
-        requires stands { (rest : P.Rest) × (first : Opening) × (h : Journal) × P.stands port.old rest (port_log h) × Keeps first self.old h × IsHalted first h × (HasPiece first h → ⊥) }
+        requires stands { (rest : P.Rest) × (first : Opening) × (h : Journal) × P.stands port.old rest (port_log h) × Keeps first self.old h × IsHeldUp first h × (HasPiece first h → ⊥) }
         requires held { self.old.machine.hold.motion ≡ Held }
         requires beat { self.old.beat ≡ Beat.Motion }
         requires flags { self.old.flags ≡ Flags.None }
-        ensures goes_on { (rest : P.Rest) (first : Opening) (h : Journal) → P.stands port.old rest (port_log h) → Keeps first self.old h → IsHalted first h → (HasPiece first h → ⊥)
+        ensures goes_on { (rest : P.Rest) (first : Opening) (h : Journal) → P.stands port.old rest (port_log h) → Keeps first self.old h → IsHeldUp first h → (HasPiece first h → ⊥)
             → WorksOn first (P.stands port.new rest) result self.old.flags self.new h }
         ensures going { result ≢ Done }
     {
@@ -115,10 +115,10 @@ impl Controller {
     /// and the resume.
     #[inline(never)]
     pub(crate) fn halt<P: BoardPort>(&mut self, port: &mut P) -> Turn
-        requires stands { (rest : P.Rest) × (first : Opening) × (h : Journal) × P.stands port.old rest (port_log h) × Keeps first self.old h × IsHalted first h }
+        requires stands { (rest : P.Rest) × (first : Opening) × (h : Journal) × P.stands port.old rest (port_log h) × Keeps first self.old h × IsHeldUp first h }
         requires beat { self.old.beat ≡ Beat.Motion }
         requires flags { self.old.flags ≡ Flags.None }
-        ensures goes_on { (rest : P.Rest) (first : Opening) (h : Journal) → P.stands port.old rest (port_log h) → Keeps first self.old h → IsHalted first h
+        ensures goes_on { (rest : P.Rest) (first : Opening) (h : Journal) → P.stands port.old rest (port_log h) → Keeps first self.old h → IsHeldUp first h
             → WorksOn first (P.stands port.new rest) result self.old.flags self.new h }
         ensures going { result ≢ Done }
     {

@@ -10,7 +10,7 @@ ghost use Rattle.run_rules.specs.Work.Task.{halt};
 ghost use Rattle.controller.specs.declared.controller.Beat.{Beat};
 ghost use Rattle.controller.specs.declared.controller.Flags.{Flags};
 ghost use Rattle.controller.specs.Boards.{Keeps};
-ghost use Rattle.controller.specs.Turning.{BoardWorked, HasHalted, IsAtLimit, IsLocked, IsReady, WorksOn};
+ghost use Rattle.controller.specs.Turning.{BoardWorked, HasHalted, IsAtLimit, IsInAlarm, IsReady, WorksOn};
 
 use crate::controller::{Beat, Controller, Flags};
 use board_rules::BoardPort;
@@ -21,7 +21,7 @@ impl Controller {
     /// A machine that a soft limit has stopped is in alarm.
     fn lock(&mut self)
         requires { (first : Opening) × (h : Journal) × Keeps first self.old h × IsAtLimit first h }
-        ensures locked { (first : Opening) (h : Journal) → Keeps first self.old h → IsAtLimit first h → (next : Journal) × Keeps first self.new next × IsLocked first h next }
+        ensures locked { (first : Opening) (h : Journal) → Keeps first self.old h → IsAtLimit first h → (next : Journal) × Keeps first self.new next × IsInAlarm first h next }
         ensures same { self.new ≡ record self.old { machine = self.new.machine } }
     {
         if !self.machine.is_locked() {

@@ -161,13 +161,13 @@ abbrev pub IsBy : ℕ → Call → Type 0
 IsBy byte call = (word : Exec) × (queued : Bool) × (call ≡ on_exec word queued) × (asks word byte ≡ true)
 
 -- a word with a start and without a hold came, while blocks were queued or none was
-abbrev pub IsStart : Bool → Call → Type 0
-IsStart queued call = (word : Exec) × (call ≡ on_exec word queued) × (asks word start_byte ≡ true) × (asks word hold_byte ≡ false)
+abbrev pub IsByStart : Bool → Call → Type 0
+IsByStart queued call = (word : Exec) × (call ≡ on_exec word queued) × (asks word start_byte ≡ true) × (asks word hold_byte ≡ false)
 
 -- how each state is reached from another
 abbrev pub Reached : Motion → Call → Motion → Type 0
-Reached Idle call was = ((was ≡ Held) × IsStart false call) ⊎ (((was ≡ Run) ⊎ (was ≡ Jog)) × (call ≡ on_drained)) ⊎ ((was ≡ Cancelling) × (call ≡ on_stopped)) ⊎ ((was ≡ Alarm) × (call ≡ on_unlock))
-Reached Run call was = (((was ≡ Idle) ⊎ (was ≡ Held)) × IsStart true call) ⊎ ((was ≡ Idle) × (call ≡ on_start false))
+Reached Idle call was = ((was ≡ Held) × IsByStart false call) ⊎ (((was ≡ Run) ⊎ (was ≡ Jog)) × (call ≡ on_drained)) ⊎ ((was ≡ Cancelling) × (call ≡ on_stopped)) ⊎ ((was ≡ Alarm) × (call ≡ on_unlock))
+Reached Run call was = (((was ≡ Idle) ⊎ (was ≡ Held)) × IsByStart true call) ⊎ ((was ≡ Idle) × (call ≡ on_start false))
 Reached Holding call was = (was ≡ Run) × IsBy hold_byte call
 Reached Held call was = ((was ≡ Idle) × (IsBy hold_byte call ⊎ (call ≡ on_pause))) ⊎ ((was ≡ Holding) × (call ≡ on_stopped))
 Reached Jog call was = (was ≡ Idle) × (call ≡ on_start true)

@@ -8,12 +8,12 @@ use Rattle.units.specs.Lengths.{IsPlace}
 use Rattle.step_line.specs.declared.Piece.{Piece}
 use Rattle.step_line.specs.declared.Piece.TheVariants as pieces
 use Rattle.step_line.specs.Finishing.{tick_count}
-use Rattle.flight.specs.Flights.{IsKept, IsFlight, flight_room, EndsWithin}
+use Rattle.flight.specs.Flights.{MayBeKept, IsFlight, flight_room, EndsWithin}
 use Rattle.flight.proofs.Counts.{segment_ticks}
 use Rattle.flight.proofs.Flying.{within_on}
 
 -- no piece has 2 ^ 32 ticks
-pub few_ticks : (p : Piece) → IsKept p → tick_count p < 2 ^ 32
+pub few_ticks : (p : Piece) → MayBeKept p → tick_count p < 2 ^ 32
 few_ticks (pieces.Segment s) is = let n = is.fits.head.n in let e = segment_ticks s in omega (arith, n.1)
 few_ticks (pieces.Mark m) is = omega arith
 few_ticks pieces.End is = omega arith
@@ -24,14 +24,14 @@ in_use slots count from before known is = length-take-le count slots (let long =
 pub pushed_slots : (slots : List Piece) (count : ℕ) (p : Piece) → length slots ≡ flight_room → count < flight_room → take (count + 1) (slice_set slots count p) ≡ take count slots ++ p ∷ []
 pushed_slots slots count p long few = take_more_set slots count p (omega arith)
 
-pub pushed_flight : (slots : List Piece) (count : ℕ) (from : Steps3) (before known : ℕ) (p : Piece) → IsFlight slots count from before known → count < flight_room → IsKept p
+pub pushed_flight : (slots : List Piece) (count : ℕ) (from : Steps3) (before known : ℕ) (p : Piece) → IsFlight slots count from before known → count < flight_room → MayBeKept p
     → IsFlight (slice_set slots count p) (count + 1) from before known
 pushed_flight slots count from before known p is few kept =
     let more = pushed_slots slots count p is.long few in
     record {
       long = length-set slots count p ∙ is.long;
       few = omega arith;
-      kept = subst (All IsKept) (sym more) (All-append IsKept (take count slots) (p ∷ []) is.kept (All-cons IsKept p [] kept (All-nil IsKept)));
+      kept = subst (All MayBeKept) (sym more) (All-append MayBeKept (take count slots) (p ∷ []) is.kept (All-cons MayBeKept p [] kept (All-nil MayBeKept)));
       place = is.place;
       low = is.low;
       within = subst (λ (ps : List Piece). EndsWithin ps (known - before)) (sym more) (within_on (take count slots) p (known - before) kept.ticks is.within);
@@ -44,15 +44,15 @@ dropped_slots slots after (suc n) long some few is =
     ap (take (suc n - 1)) is ∙ ap (λ m. take m (drop 1 slots ++ take 1 slots)) one ∙ take-append-le n (drop 1 slots) (take 1 slots) fits ∙ sym (drop-take 1 n slots) ∙ ap (λ m. drop 1 (take m slots)) (let e : 1 + n ≡ suc n = omega arith in e)
 dropped_slots slots after zero long some few is = absurd (omega arith)
 
-none_made : (ps : List Piece) (done : ℕ) → All IsKept ps → done ≡ 0 → EndsWithin ps done
+none_made : (ps : List Piece) (done : ℕ) → All MayBeKept ps → done ≡ 0 → EndsWithin ps done
 none_made [] done kept none = none
-none_made (p ∷ ps) done kept none = let some = (All-head IsKept p ps kept).ticks in omega (arith, some)
+none_made (p ∷ ps) done kept none = let some = (All-head MayBeKept p ps kept).ticks in omega (arith, some)
 
 pub dropped_flight : (slots after : List Piece) (count : ℕ) (from place : Steps3) (before known done : ℕ) → IsFlight slots count from before known → 0 < count → after ≡ drop 1 slots ++ take 1 slots → length after ≡ length slots → IsPlace place
     → IsFlight after (count - 1) place done done
 dropped_flight slots after count from place before known done is some after_is long place_is =
     let rest = dropped_slots slots after count is.long some is.few after_is in
-    let kept : All IsKept (take (count - 1) after) = subst (All IsKept) (sym rest) (All-drop IsKept 1 (take count slots) is.kept) in
+    let kept : All MayBeKept (take (count - 1) after) = subst (All MayBeKept) (sym rest) (All-drop MayBeKept 1 (take count slots) is.kept) in
     record {
       long = long ∙ is.long;
       few = let few = is.few in omega arith;

@@ -33,7 +33,7 @@ abbrev pub has_ticks : Piece → Bool
 has_ticks p = nat_lt 0 (tick_count p)
 
 -- a piece that may be kept
-pub record IsKept (p : Piece) : Type 0 where
+pub record MayBeKept (p : Piece) : Type 0 where
   pub fits : IsFit p
   pub ticks : 0 < tick_count p
 
@@ -65,7 +65,7 @@ EndsWithin (p ∷ ps) done = done < tick_count p
 pub record IsFlight (slots : List Piece) (count : ℕ) (from : Steps3) (before known : ℕ) : Type 0 where
   pub long : length slots ≡ flight_room
   pub few : count ≤ flight_room
-  pub kept : All IsKept (take count slots)
+  pub kept : All MayBeKept (take count slots)
   pub place : IsPlace from
   pub low : before ≤ known
   pub within : EndsWithin (take count slots) (known - before)

@@ -68,7 +68,7 @@ impl Flight {
     ghost use Rattle.step_line.specs.declared.Piece.{Piece as AnyPiece};
     ghost use Rattle.step_line.specs.Finishing.{tick_count, ticks_together, unfinished};
     ghost use Rattle.flight.specs.Places.{machine_from, end_from, origin};
-    ghost use Rattle.flight.specs.Flights.{IsFit, IsKept, BeginsAt, EndsWithin, Flies, first_ticks, flight_room};
+    ghost use Rattle.flight.specs.Flights.{IsFit, MayBeKept, BeginsAt, EndsWithin, Flies, first_ticks, flight_room};
 
     /// No piece was published; the machine is at this place.
     pub fn starting_at(place: Steps3) -> Flight
@@ -123,7 +123,7 @@ impl Flight {
     /// The first of the pieces that are kept.
     fn first(&self) -> Option<&Piece>
         ensures none { IsNone result ↔ (self.now.kept ≡ []) }
-        ensures some { IfSome result (λ p. (self.now.kept ≡ p.now ∷ drop 1 self.now.kept) × IsKept p.now) }
+        ensures some { IfSome result (λ p. (self.now.kept ≡ p.now ∷ drop 1 self.now.kept) × MayBeKept p.now) }
         ensures within { EndsWithin self.now.kept (self.now.known - self.now.before) }
         ensures low { self.now.before ≤ self.now.known }
         ensures from { IsPlace self.now.from }

@@ -10,7 +10,7 @@ ghost use Rattle.run_law.specs.Devices.{devices};
 ghost use Rattle.run_status.specs.Demos.{IsDemo};
 ghost use Rattle.grbl_app.specs.Orders.{EndsInOrder, IsOrderedDemo};
 ghost use Rattle.run_status.specs.Statuses.{HasItsCause, CanFail, AreOne, TellsFaults};
-ghost use Rattle.run_status.specs.Ends.{EndsWith, IsWhole, IsWholeRun, IsHaltedRun, IsFaultless, TookMore, HasLongLine, HasReset, HasNotBegun, HasRun, HasCauses};
+ghost use Rattle.run_status.specs.Ends.{EndsWith, IsWhole, IsWholeRun, IsAlarmedRun, IsFaultless, TookMore, HasLongLine, HasReset, HasNotBegun, JobWasRun, HasCauses};
 
 mod demo;
 mod runs;
@@ -107,21 +107,21 @@ pub fn run_grbl<
 
     // An alarm comes only of a line beyond a soft limit. What the lines before it tell, and the alarm, is on the console, and the
     // first of their events are recorded, in order and each once.
-    ensures alarm { (seed : _) (k : ℕ) → Asks (tasks.Stream seed) (map (λ w. w.now) words.now) → result ≡ Status.Alarm k → IsHaltedRun (So.state job.old) (So.state job.new)
+    ensures alarm { (seed : _) (k : ℕ) → Asks (tasks.Stream seed) (map (λ w. w.now) words.now) → result ≡ Status.Alarm k → IsAlarmedRun (So.state job.old) (So.state job.new)
         (record { console = Co.state console.old; steps = St.state steps.old })
         (record { console = Co.state console.new; steps = St.state steps.new }) k }
 
     // A run ends with the first status of the table whose cause there is, and with no other. Words that are refused end with
     // Usage, or, as any words may, with OutOfMemory.
-    ensures its_cause { (seed : _) → Asks (tasks.Stream seed) (map (λ w. w.now) words.now) → HasRun result → HasItsCause (So.state job.old) (So.state job.new)
+    ensures its_cause { (seed : _) → Asks (tasks.Stream seed) (map (λ w. w.now) words.now) → JobWasRun result → HasItsCause (So.state job.old) (So.state job.new)
         (record { console = Co.state console.old; steps = St.state steps.old })
         (record { console = Co.state console.new; steps = St.state steps.new }) result }
-    ensures no_other { (seed : _) (bytes : List ℕ) (status : Status) → Asks (tasks.Stream seed) (map (λ w. w.now) words.now) → HasRun result → (So.state job.old).left ≡ Some bytes →
+    ensures no_other { (seed : _) (bytes : List ℕ) (status : Status) → Asks (tasks.Stream seed) (map (λ w. w.now) words.now) → JobWasRun result → (So.state job.old).left ≡ Some bytes →
         CanFail (So.state job.old) (record { console = Co.state console.old; steps = St.state steps.old }) →
         HasItsCause (So.state job.old) (So.state job.new)
         (record { console = Co.state console.old; steps = St.state steps.old })
         (record { console = Co.state console.new; steps = St.state steps.new }) status → AreOne result status }
-    ensures first_fault { HasRun result → CanFail (So.state job.old) (record { console = Co.state console.old; steps = St.state steps.old }) →
+    ensures first_fault { JobWasRun result → CanFail (So.state job.old) (record { console = Co.state console.old; steps = St.state steps.old }) →
         TellsFaults (So.state job.old) (So.state job.new)
         (record { console = Co.state console.old; steps = St.state steps.old })
         (record { console = Co.state console.new; steps = St.state steps.new }) result }
@@ -129,7 +129,7 @@ pub fn run_grbl<
     // For every job and every interleaving of the threads' atomic steps, the recorded step events are, in order and each once,
     // a prefix of the Bresenham events of the lines answered `ok`, and all of them where no reset, alarm or record fault occurs;
     // a jog cancel keeps a prefix of the jogs and later moves start there; holds, resumes and overrides change no event.
-    ensures run { (seed : _) → Asks (tasks.Stream seed) (map (λ w. w.now) words.now) → HasRun result → EndsWith (So.state job.old) (So.state job.new)
+    ensures run { (seed : _) → Asks (tasks.Stream seed) (map (λ w. w.now) words.now) → JobWasRun result → EndsWith (So.state job.old) (So.state job.new)
         (record { console = Co.state console.old; steps = St.state steps.old })
         (record { console = Co.state console.new; steps = St.state steps.new }) result }
 
@@ -151,14 +151,14 @@ pub fn run_grbl<
         (result ≡ Status.Done) ⊎ (result ≡ Status.OutOfMemory) }
 
     // The turns are those of the order that the words name: of the seed, or at a pace.
-    ensures order { (order : _) → Asks (tasks.Stream order) (map (λ w. w.now) words.now) → HasRun result →
+    ensures order { (order : _) → Asks (tasks.Stream order) (map (λ w. w.now) words.now) → JobWasRun result →
         EndsInOrder order (devices (So.state job.old) (Co.state console.old) (St.state steps.old)) (devices (So.state job.new) (Co.state console.new) (St.state steps.new)) result }
 
     // The demo runs the generated job, all of whose lines are accepted, in the order of its number, and leaves the source as it
     // is.
-    ensures demo { (n : ℕ) → Asks (tasks.Demo n) (map (λ w. w.now) words.now) → HasRun result →
+    ensures demo { (n : ℕ) → Asks (tasks.Demo n) (map (λ w. w.now) words.now) → JobWasRun result →
         IsDemo n (Co.state console.old) (Co.state console.new) (St.state steps.old) (St.state steps.new) result × (So.state job.new ≡ So.state job.old) }
-    ensures demo_order { (n : ℕ) → Asks (tasks.Demo n) (map (λ w. w.now) words.now) → HasRun result →
+    ensures demo_order { (n : ℕ) → Asks (tasks.Demo n) (map (λ w. w.now) words.now) → JobWasRun result →
         IsOrderedDemo n (St.state steps.old) (St.state steps.new) result }
 {
     let task = match read_words(alloc, words) {

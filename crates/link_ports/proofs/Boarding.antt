@@ -19,7 +19,7 @@ use Rattle.motion_ring.specs.declared.lists.Sent.{Sent}
 use Rattle.motion_ring.specs.Sides as ring
 use Rattle.motion_ring.specs.Sides.{ticks_published, unfinished_in, with_piece, with_stop, with_halt}
 use Rattle.motion_ring.specs.Rule.{none_sent}
-use Rattle.board_rules.specs.Ports.{PortLog, said, taken_in, link_steps, asks_report, reports_in, MayAnswer, IsMarkedPast, MayPublish, MayStop, MayAskHalt, HasTakenFew, HasFewReports, LacksReplyRoom, LacksPieceRoom, MayBeDone}
+use Rattle.board_rules.specs.Ports.{BoardLog, said, taken_in, link_steps, asks_report, reports_in, MayAnswer, IsMarkedPast, MayPublish, MayStop, MayAskHalt, HasTakenFew, HasFewReports, LacksReplyRoom, LacksPieceRoom, MayBeDone}
 use Rattle.board_rules.specs.Ports.PortStep.{took, found_empty, found_closed, found_free, found_mark, answered, no_reply_room, took_exec, took_ovr, published, no_piece_room, loaded, stored_stop, found_no_halt, found_halt}
 use Rattle.link_ports.specs.Loads.{FoundNoByte}
 use Rattle.board_rules.specs.Takes.{takes_in}
@@ -27,13 +27,13 @@ use Rattle.link_ports.specs.Boards.{BoardDid, LooksForBytes}
 use Rattle.link_ports.proofs.Lists.{by_said}
 
 -- a port that stands for a reply stands for what it is to answer with it
-as_said : (steps : List LinkStep) (over : Bool) (takes : List Take) (sent : Sent) (known : ℕ) (l : PortLog) (r : Reply)
+as_said : (steps : List LinkStep) (over : Bool) (takes : List Take) (sent : Sent) (known : ℕ) (l : BoardLog) (r : Reply)
     → BoardDid steps over takes sent known (answered r ∷ l) → BoardDid steps over takes sent known (said r ∷ l)
 as_said steps over takes sent known l = by_said (λ r e. BoardDid steps over takes sent known (answered r ∷ l) → BoardDid steps over takes sent known (e ∷ l))
     (λ r d. d)
     (λ p d. record { steps_are = d.steps_are; over_is = d.over_is; takes_are = d.takes_are; pieces_are = d.pieces_are; known_is = d.known_is })
 
-module _ (steps steps' : List LinkStep) (over over' : Bool) (takes : List Take) (sent : Sent) (known : ℕ) (l : PortLog) (d : BoardDid steps over takes sent known l) where
+module _ (steps steps' : List LinkStep) (over over' : Bool) (takes : List Take) (sent : Sent) (known : ℕ) (l : BoardLog) (d : BoardDid steps over takes sent known l) where
   count : length (taken_in l) ≡ length (link.taken_in steps)
   count = same_taken l ∙ ap (λ z. length (link.taken_in z)) d.steps_are
 
@@ -80,7 +80,7 @@ module _ (steps steps' : List LinkStep) (over over' : Bool) (takes : List Take) 
 asked : (word : Exec) → asks_report word ≡ stood_in report_flag (words.Exec word)
 asked word = ap (λ n. nat_eq n 1) (ap (λ n. bit_and n 1) (let e : exec_bits word ≡ exec_bits word / 2 ^ 0 = omega arith in e) ∙ shr_and_one (exec_bits word) 0)
 
-pub reports_taken : (l : PortLog) → takes_with report_flag (takes_in l) ≡ reports_in l
+pub reports_taken : (l : BoardLog) → takes_with report_flag (takes_in l) ≡ reports_in l
 reports_taken [] = refl
 reports_taken (took_exec word ∷ l) = ap (λ n. counted (stood_in report_flag (words.Exec word)) n) (reports_taken l) ∙ ap (λ b. cond b (reports_in l + 1) (reports_in l)) (sym (asked word))
 reports_taken (_ ∷ l) = reports_taken l
@@ -89,7 +89,7 @@ counts_it : (b : Bool) (n m : ℕ) → b ≡ true → counted b n ≤ m → n < 
 counts_it true n m is le = omega arith
 counts_it false n m is le = absurd cc
 
-module _ (steps : List LinkStep) (over : Bool) (takes takes' : List Take) (sent sent' : Sent) (known known' : ℕ) (l : PortLog) (d : BoardDid steps over takes sent known l) where
+module _ (steps : List LinkStep) (over : Bool) (takes takes' : List Take) (sent sent' : Sent) (known known' : ℕ) (l : BoardLog) (d : BoardDid steps over takes sent known l) where
   pub exec_taken : (word : Exec) → takes' ≡ words.Exec word ∷ takes → BoardDid steps over takes' sent known (took_exec word ∷ l)
   exec_taken word e = record { steps_are = d.steps_are; over_is = d.over_is; takes_are = ap (λ (z : List Take). words.Exec word ∷ z) d.takes_are ∙ sym e; pieces_are = d.pieces_are; known_is = d.known_is }
 

@@ -13,7 +13,7 @@ use Rattle.serial_ring.specs.Lists as link
 use Rattle.stream_host.specs.Links as host
 use Rattle.stream_host.specs.Links.{banners_in, AreGreetings}
 use Rattle.stream_host.specs.Ports.{TakesByte, TakesMark, AreGreeted, SeemsFull, AnswersLines}
-use Rattle.stream_host.specs.Steps.{PortLog, stored_in, got_in, latest_got, marks_in}
+use Rattle.stream_host.specs.Steps.{HostLog, stored_in, got_in, latest_got, marks_in}
 use Rattle.stream_host.specs.Steps.PortStep.{stored, dropped, marked, got, no_reply, shut}
 use Rattle.link_ports.specs.Hosts.{HostDid, LooksForRoom}
 use Rattle.link_ports.proofs.Lists.{reverse_on, fewer_behind, since_drops, same_lines_behind}
@@ -35,12 +35,12 @@ more_marked bytes marks (m ∷ before ∷ earlier) are = ((are.0.0, inr are.0.1)
 banners_first : (r : Reply) (rs : List Reply) → banners_in (r ∷ rs) ≡ cond (is_banner r) 1 0 + banners_in rs
 banners_first r rs = sum_by-cons (λ (s : Reply). cond (is_banner s) 1 0) r rs
 
-module _ (bytes bytes' marks marks' : List ℕ) (closed closed' : Bool) (replies replies' : List Reply) (greeted greeted' : List Mark) (raises raises' : List Raise) (h : PortLog) (d : HostDid bytes marks closed replies greeted raises h) where
+module _ (bytes bytes' marks marks' : List ℕ) (closed closed' : Bool) (replies replies' : List Reply) (greeted greeted' : List Mark) (raises raises' : List Raise) (h : HostLog) (d : HostDid bytes marks closed replies greeted raises h) where
   count : length (stored_in h) ≡ length bytes
   count = ap length d.bytes_are ∙ length-reverse bytes
 
   -- the same marks of the same Banners
-  same_greeted : (h' : PortLog) → latest_got h' ≡ latest_got h → marks_in h' ≡ marks_in h → greeted' ≡ greeted → AreGreeted h' greeted'
+  same_greeted : (h' : HostLog) → latest_got h' ≡ latest_got h → marks_in h' ≡ marks_in h → greeted' ≡ greeted → AreGreeted h' greeted'
   same_greeted h' l m e = record {
     each = ap length e ∙ (d.greeted_are.each ∙ ap banners_in (sym l));
     stored = subst (λ (z : List ℕ × List Mark). AreGreetings z.0 z.1) (λ i. (sym m i, sym e i)) d.greeted_are.stored;
@@ -151,8 +151,8 @@ module _ (bytes bytes' marks marks' : List ℕ) (closed closed' : Bool) (replies
         let n : ℕ = (last_of greeted).1 in
         let k : ℕ = answers_behind_mark replies in
         let f = fewer_behind k (link.since n bytes) in
-        let s = ap (λ z. length (host.behind k z)) (since_drops n bytes) in
-        let e : length (host.behind (answers_behind_mark (latest_got h)) (drop n (stored_in h))) ≡ length (host.behind k (drop n (reverse bytes))) = (λ i. length (host.behind (answers_behind_mark (d.latest_are i)) (drop n (d.bytes_are i)))) in omega arith;
+        let s = ap (λ z. length (host.behind_lf k z)) (since_drops n bytes) in
+        let e : length (host.behind_lf (answers_behind_mark (latest_got h)) (drop n (stored_in h))) ≡ length (host.behind_lf k (drop n (reverse bytes))) = (λ i. length (host.behind_lf (answers_behind_mark (d.latest_are i)) (drop n (d.bytes_are i)))) in omega arith;
   }
 
   -- how often the link was looked at for room

@@ -46,11 +46,11 @@ not_zero : (k : ℕ) → nat_eq (suc k) 0 ≡ false
 not_zero k = grind (arith, nat_tests)
 
 -- behind no line stand all bytes; else the first of them is not there
-behind_later : (k y : ℕ) (bytes : List ℕ) → nat_eq k 0 ≡ false → host.behind k (y ∷ bytes) ≡ host.behind (k - cond (nat_eq y 10) 1 0) bytes
-behind_later k y bytes e = ap (λ is. cond is (y ∷ bytes) (host.behind (k - cond (nat_eq y 10) 1 0) bytes)) e
+behind_later : (k y : ℕ) (bytes : List ℕ) → nat_eq k 0 ≡ false → host.behind_lf k (y ∷ bytes) ≡ host.behind_lf (k - cond (nat_eq y 10) 1 0) bytes
+behind_later k y bytes e = ap (λ is. cond is (y ∷ bytes) (host.behind_lf (k - cond (nat_eq y 10) 1 0) bytes)) e
 
 -- one byte more behind a line that has ended
-one_longer : (bytes : List ℕ) (k b : ℕ) → k ≤ lfs_in bytes → length (host.behind k (bytes ++ b ∷ [])) ≡ length (host.behind k bytes) + 1
+one_longer : (bytes : List ℕ) (k b : ℕ) → k ≤ lfs_in bytes → length (host.behind_lf k (bytes ++ b ∷ [])) ≡ length (host.behind_lf k bytes) + 1
 one_longer [] zero b le = refl
 one_longer [] (suc k) b le = absurd (let z : suc k ≤ 0 = le in omega arith)
 one_longer (y ∷ bytes) zero b le = let l = length-append bytes (b ∷ []) in omega arith
@@ -66,12 +66,12 @@ behind_by true k n m b xs l e more = let le : k ≤ n = at_most k n e in let r =
     at_most a b e = grind (arith, nat_tests)
 behind_by false k n m b xs l e more = omega arith
 
-pub fewer_behind : (k : ℕ) (bytes : List ℕ) → length (link.behind k bytes) ≤ length (host.behind k (reverse bytes))
+pub fewer_behind : (k : ℕ) (bytes : List ℕ) → length (link.since_lf k bytes) ≤ length (host.behind_lf k (reverse bytes))
 fewer_behind k [] = omega arith
-fewer_behind k (b ∷ bytes) = behind_by (nat_le k (lfs_in bytes)) k (lfs_in bytes) 0 b (link.behind k bytes) (length (host.behind k (reverse (b ∷ bytes)))) refl
+fewer_behind k (b ∷ bytes) = behind_by (nat_le k (lfs_in bytes)) k (lfs_in bytes) 0 b (link.since_lf k bytes) (length (host.behind_lf k (reverse (b ∷ bytes)))) refl
     (λ le. let m = fewer_behind k bytes in
     let o = one_longer (reverse bytes) k b (let s = same_lines bytes in omega arith) in
-    let e = ap (λ l. length (host.behind k l)) (reverse_on b bytes) in omega arith)
+    let e = ap (λ l. length (host.behind_lf k l)) (reverse_on b bytes) in omega arith)
 
 -- ---- bytes behind a mark
 

@@ -8,7 +8,7 @@ use Rattle.realtime_flags.specs.Bits.{report_flag, is_flag, counted, raises_of}
 use Rattle.realtime_flags.specs.Bytes.{flag_of_bit, flag_of_row, flag_of_byte}
 use Rattle.stream_host.specs.Ports.{queries_in, TakesRaise}
 use Rattle.stream_host.specs.Raises.{raised_to, raises_in}
-use Rattle.stream_host.specs.Steps.{PortLog}
+use Rattle.stream_host.specs.Steps.{HostLog}
 use Rattle.stream_host.specs.Steps.PortStep.{stored, dropped, marked, raised, got, no_reply, shut}
 
 by_bool : {Q : Type 0} (b : Bool) → (b ≡ true → Q) → (b ≡ false → Q) → Q
@@ -64,7 +64,7 @@ one_step b down rs n e = by_bool (nat_eq b 63)
     (λ t. ap (λ m. raises_of report_flag (raised_to (flag_of_byte m) down rs)) (same b 63 t) ∙ (ap (λ m. m + 1) e ∙ sym (ap (λ c. cond c (n + 1) n) t)))
     (λ f. counts b (value_of b rows_of_bytes) down rs refl (λ is. let x : true ≡ false = sym (ap (λ m. nat_eq m 63) is) ∙ f in cc) ∙ (e ∙ sym (ap (λ c. cond c (n + 1) n) f)))
 
-pub queries_raised : (h : PortLog) → raises_of report_flag (raises_in h) ≡ queries_in h
+pub queries_raised : (h : HostLog) → raises_of report_flag (raises_in h) ≡ queries_in h
 queries_raised [] = refl
 queries_raised (stored b ∷ h) = queries_raised h
 queries_raised (dropped b ∷ h) = queries_raised h
@@ -79,7 +79,7 @@ asks_report b None e is = absurd cc
 asks_report b (Some bit) e is = let f : flag_of_bit bit ≡ report_flag = cc in query_alone b (e ∙ ap (λ n. Some n) (report_bit bit (ap (is_flag report_flag) f)))
 
 -- what a raise needs
-pub may_raise : (b : ℕ) (h : PortLog) (raises : List Raise) → raises_in h ≡ raises → TakesRaise b h → flag_of_byte b ≡ Some report_flag → raises_of report_flag raises < 2 ^ 31
+pub may_raise : (b : ℕ) (h : HostLog) (raises : List Raise) → raises_in h ≡ raises → TakesRaise b h → flag_of_byte b ≡ Some report_flag → raises_of report_flag raises < 2 ^ 31
 may_raise b h raises are takes is =
     let few = takes (asks_report b (value_of b rows_of_bytes) refl is) in
     let q = queries_raised h in

@@ -9,14 +9,14 @@ use Rattle.motion_ring.specs.declared.lists.Sent.{Sent}
 use Rattle.motion_ring.specs.declared.ends.SegOut.{SegOut}
 use Rattle.motion_ring.specs.Ends.{known_by, done_loads_of, heard_by, halt_loads_of, stop_of}
 use Rattle.link_ports.specs.Loads.{TookByte, FoundNoByte}
-use Rattle.board_rules.specs.Ports.{PortStep, PortLog, taken_in, link_steps, has_closed_in, sent_in, known_in}
+use Rattle.board_rules.specs.Ports.{PortStep, BoardLog, taken_in, link_steps, has_closed_in, sent_in, known_in}
 use Rattle.board_rules.specs.Ports.PortStep.{took, found_empty, found_closed, found_free, answered, reported, no_reply_room, published, no_piece_room, loaded, found_no_halt, found_halt}
 use Rattle.board_rules.specs.Takes.{takes_in}
 
 -- what the end of the link took, loaded of marks and answered, the latest first, is what the log says, and so is what was taken
 -- of the flags, and what went to the pulse, pieces, stops and halts; where it was found closed, the link is known to be; and the
 -- done count that was loaded last is no less than the log says
-pub record BoardDid (steps : List LinkStep) (over : Bool) (takes : List Take) (sent : Sent) (known : ℕ) (l : PortLog) : Type 0 where
+pub record BoardDid (steps : List LinkStep) (over : Bool) (takes : List Take) (sent : Sent) (known : ℕ) (l : BoardLog) : Type 0 where
   pub steps_are : link_steps l ≡ steps
   pub over_is : has_closed_in l ≡ true → over ≡ true
   pub takes_are : takes_in l ≡ takes
@@ -25,7 +25,7 @@ pub record BoardDid (steps : List LinkStep) (over : Bool) (takes : List Take) (s
 
 -- How often the head of the bytes was loaded, and how many bytes it showed stored at last: a call that finds no byte, or that
 -- tells the room, loads it once, and a call that takes a byte loads it if all that it had shown were taken.
-abbrev pub LooksForBytes : PortLog → (loads shown : ℕ) → Type 0
+abbrev pub LooksForBytes : BoardLog → (loads shown : ℕ) → Type 0
 LooksForBytes [] loads shown = (loads ≡ 0) × (shown ≡ 0)
 LooksForBytes (took b ∷ l) loads shown = (k s : ℕ) × LooksForBytes l k s × TookByte (length (taken_in l)) k s loads shown
 LooksForBytes (found_empty ∷ l) loads shown = (k s : ℕ) × LooksForBytes l k s × FoundNoByte (length (taken_in l)) k s loads shown
@@ -40,7 +40,7 @@ room_looks_at (reported r) n = n + 1
 room_looks_at no_reply_room n = n + 1
 room_looks_at e n = n
 
-abbrev pub room_looks_in : PortLog → ℕ
+abbrev pub room_looks_in : BoardLog → ℕ
 room_looks_in [] = 0
 room_looks_in (e ∷ l) = room_looks_at e (room_looks_in l)
 
@@ -51,7 +51,7 @@ done_looks_at (loaded done) n = n + 1
 done_looks_at (found_halt done) n = n + 1
 done_looks_at e n = n
 
-abbrev pub done_looks_in : PortLog → ℕ
+abbrev pub done_looks_in : BoardLog → ℕ
 done_looks_in [] = 0
 done_looks_in (e ∷ l) = done_looks_at e (done_looks_in l)
 
@@ -60,14 +60,14 @@ halt_looks_at found_no_halt n = n + 1
 halt_looks_at (found_halt done) n = n + 1
 halt_looks_at e n = n
 
-abbrev pub halt_looks_in : PortLog → ℕ
+abbrev pub halt_looks_in : BoardLog → ℕ
 halt_looks_in [] = 0
 halt_looks_in (e ∷ l) = halt_looks_at e (halt_looks_in l)
 
 -- What was loaded last showed: the link is found closed exactly if the head showed it closed; a reply is handed back only where
 -- the tail of the replies showed 16 untaken ones; the ticks that it tells are those that it loaded; and a halt is found exactly
 -- where the halted word showed the stop that was stored last, or one behind it.
-abbrev pub BoardSaw : PortLog → (closed : Bool) (replies got known heard stop : ℕ) → Type 0
+abbrev pub BoardSaw : BoardLog → (closed : Bool) (replies got known heard stop : ℕ) → Type 0
 BoardSaw [] closed replies got known heard stop = Unit {0}
 BoardSaw (found_empty ∷ l) closed replies got known heard stop = closed ≡ false
 BoardSaw (found_closed ∷ l) closed replies got known heard stop = closed ≡ true
@@ -81,7 +81,7 @@ BoardSaw (e ∷ l) closed replies got known heard stop = Unit {0}
 -- The ends have loaded the head of the bytes as often as they had to, the tail of the replies once each time that they looked for
 -- room, and the done count and the halted word once each time that they looked for that. So what is not found is what a load of
 -- that call showed.
-pub record BoardLooked {room : ℕ} (end : BoardEnd room) (pieces : SegOut) (l : PortLog) : Type 0 where
+pub record BoardLooked {room : ℕ} (end : BoardEnd room) (pieces : SegOut) (l : BoardLog) : Type 0 where
   pub byte_looks : LooksForBytes l (head_loads_of end) (bytes_shown end)
   pub room_looks : room_loads_of end ≡ room_looks_in l
   pub done_looks : done_loads_of pieces ≡ done_looks_in l

@@ -5,14 +5,14 @@ use Rattle.realtime_flags.specs.declared.words.Raise.{Raise}
 use Rattle.serial_ring.specs.declared.ends.HostEnd.{HostEnd}
 use Rattle.serial_ring.specs.Ends.{stored_by, tail_shown, tail_loads_of, got_by, replies_shown, reply_loads_of}
 use Rattle.link_ports.specs.Loads.{StoredByte, FoundNoRoom}
-use Rattle.stream_host.specs.Steps.{PortLog, stored_in, got_in, latest_got, marks_in, is_shut_in}
+use Rattle.stream_host.specs.Steps.{HostLog, stored_in, got_in, latest_got, marks_in, is_shut_in}
 use Rattle.stream_host.specs.Ports.{AreGreeted}
 use Rattle.stream_host.specs.Raises.{raises_in}
 use Rattle.serial_ring.specs.Marks.{Mark}
 use Rattle.stream_host.specs.Steps.PortStep.{stored, dropped, marked, raised, got, no_reply, shut}
 
 -- what the ends stored, marked, got and raised, the latest first, is what the log says, and these are marks of the Banners got
-pub record HostDid (bytes marks : List ℕ) (closed : Bool) (replies : List Reply) (greeted : List Mark) (raises : List Raise) (h : PortLog) : Type 0 where
+pub record HostDid (bytes marks : List ℕ) (closed : Bool) (replies : List Reply) (greeted : List Mark) (raises : List Raise) (h : HostLog) : Type 0 where
   pub bytes_are : stored_in h ≡ reverse bytes
   pub marks_are : marks_in h ≡ marks
   pub shut_is : is_shut_in h ≡ closed
@@ -23,7 +23,7 @@ pub record HostDid (bytes marks : List ℕ) (closed : Bool) (replies : List Repl
 
 -- How often the tail of the bytes was loaded, and how many bytes it showed taken at last: a call that stores a byte, or drops it,
 -- loads it if it had shown no room for one.
-abbrev pub LooksForRoom : (room : ℕ) → PortLog → (loads shown : ℕ) → Type 0
+abbrev pub LooksForRoom : (room : ℕ) → HostLog → (loads shown : ℕ) → Type 0
 LooksForRoom room [] loads shown = (loads ≡ 0) × (shown ≡ 0)
 LooksForRoom room (stored b ∷ h) loads shown = (k s : ℕ) × LooksForRoom room h k s × StoredByte room (length (stored_in h)) k s loads shown
 LooksForRoom room (dropped b ∷ h) loads shown = (k s : ℕ) × LooksForRoom room h k s × FoundNoRoom room (length (stored_in h)) k s loads shown
@@ -34,7 +34,7 @@ LooksForRoom room (no_reply ∷ h) loads shown = LooksForRoom room h loads shown
 LooksForRoom room (shut ∷ h) loads shown = LooksForRoom room h loads shown
 
 -- how often it was looked for a reply
-abbrev pub reply_looks_in : PortLog → ℕ
+abbrev pub reply_looks_in : HostLog → ℕ
 reply_looks_in [] = 0
 reply_looks_in (stored b ∷ h) = reply_looks_in h
 reply_looks_in (dropped b ∷ h) = reply_looks_in h
@@ -45,7 +45,7 @@ reply_looks_in (no_reply ∷ h) = reply_looks_in h + 1
 reply_looks_in (shut ∷ h) = reply_looks_in h
 
 -- What was loaded last showed: no reply is found only where the head of the replies showed that all are obtained.
-abbrev pub HostSaw : PortLog → (replies obtained : ℕ) → Type 0
+abbrev pub HostSaw : HostLog → (replies obtained : ℕ) → Type 0
 HostSaw [] replies obtained = Unit {0}
 HostSaw (stored b ∷ h) replies obtained = Unit {0}
 HostSaw (dropped b ∷ h) replies obtained = Unit {0}
@@ -57,7 +57,7 @@ HostSaw (shut ∷ h) replies obtained = Unit {0}
 
 -- The end has loaded the tail of the bytes as often as it had to, and the head of the replies once each time that it looked for a
 -- reply. So what is not found is what a load of that call showed.
-pub record HostLooked {room : ℕ} (end : HostEnd room) (h : PortLog) : Type 0 where
+pub record HostLooked {room : ℕ} (end : HostEnd room) (h : HostLog) : Type 0 where
   pub room_looks : LooksForRoom room h (tail_loads_of end) (tail_shown end)
   pub reply_looks : reply_loads_of end ≡ reply_looks_in h
   pub saw : HostSaw h (replies_shown end) (length (got_by end))

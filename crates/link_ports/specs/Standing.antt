@@ -15,24 +15,24 @@ use Rattle.link_ports.specs.Hosts.{HostDid, HostLooked}
 use Rattle.link_ports.specs.Boards.{BoardDid, BoardLooked}
 
 -- what a host's port did
-abbrev pub HostLogs : {room : ℕ} → HostLink room → host.PortLog → Type 0
+abbrev pub HostLogs : {room : ℕ} → HostLink room → host.HostLog → Type 0
 HostLogs port h = HostDid (stored_by port.end) (marks_by port.end) (closed_by port.end) (got_by port.end) (greeted_by port.end) (raises_by port.flags) h
 
 -- how often it looked, and what it saw
-abbrev pub HostSees : {room : ℕ} → HostLink room → host.PortLog → Type 0
+abbrev pub HostSees : {room : ℕ} → HostLink room → host.HostLog → Type 0
 HostSees port h = HostLooked port.end h
 
 -- what a board's port did
-abbrev pub BoardLogs : BoardLink → board.PortLog → Type 0
+abbrev pub BoardLogs : BoardLink → board.BoardLog → Type 0
 BoardLogs port l = BoardDid (log_by port.end) (found_closed port.end) (takes_by port.flags) (sent_by port.pieces) (known_by port.pieces) l
 
 -- how often it looked, and what it saw
-abbrev pub BoardSees : BoardLink → board.PortLog → Type 0
+abbrev pub BoardSees : BoardLink → board.BoardLog → Type 0
 BoardSees port l = BoardLooked port.end port.pieces l
 
 -- the link is open, at most so many bytes were stored, and no mark
 pub record IsOpenBehind {room : ℕ} (n : ℕ) (port : HostLink room) : Type 0 where
-  pub log : host.PortLog
+  pub log : host.HostLog
   pub did : HostLogs port log
   pub sees : HostSees port log
   pub going : IsOpen log
@@ -41,7 +41,7 @@ pub record IsOpenBehind {room : ℕ} (n : ℕ) (port : HostLink room) : Type 0 w
 
 -- since the last Banner so many lines or more wait for an answer, and at most so many replies were answered
 pub record OwesAnswers (owed n : ℕ) (port : BoardLink) : Type 0 where
-  pub log : board.PortLog
+  pub log : board.BoardLog
   pub did : BoardLogs port log
   pub sees : BoardSees port log
   pub owes : answers_since (board.link_steps log) + owed ≤ lfs_since (board.link_steps log)
@@ -49,7 +49,7 @@ pub record OwesAnswers (owed n : ℕ) (port : BoardLink) : Type 0 where
 
 -- no stop waits, no end was published, and at most so many ticks and pieces
 pub record HasPublished (n : ℕ) (port : BoardLink) : Type 0 where
-  pub log : board.PortLog
+  pub log : board.BoardLog
   pub did : BoardLogs port log
   pub sees : BoardSees port log
   pub running : (board.sent_in log).waits ≡ false
@@ -59,7 +59,7 @@ pub record HasPublished (n : ℕ) (port : BoardLink) : Type 0 where
 
 -- a stop waits for its halt, behind no end and at most so many ticks and pieces
 pub record AwaitsHalt (n : ℕ) (port : BoardLink) : Type 0 where
-  pub log : board.PortLog
+  pub log : board.BoardLog
   pub did : BoardLogs port log
   pub sees : BoardSees port log
   pub waits : board.MayAskHalt log

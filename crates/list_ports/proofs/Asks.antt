@@ -16,8 +16,8 @@ use Rattle.list_ports.specs.Joining.{BytesPass, RepliesPass}
 -- ---- a realtime byte is raised
 
 -- a `?` is raised only where all lines on the link are answered, and all answers got
-abbrev pub IsQuiet : (got answers lfs : ℕ) → Type 0
-IsQuiet got answers lfs = (got ≡ answers) × (answers ≡ lfs)
+abbrev pub AllAnswered : (got answers lfs : ℕ) → Type 0
+AllAnswered got answers lfs = (got ≡ answers) × (answers ≡ lfs)
 
 raised_here : (up up' down t : Bool) (words raises got answers k : ℕ) → (up' ≡ true → (up ≡ true) ⊎ ((t ≡ true) × (down ≡ true))) → (t ≡ true → got ≡ answers)
     → words + cond (up && nat_eq answers k) 1 0 ≤ raises → words + cond (up' && nat_eq answers k) 1 0 ≤ cond (down && (t && nat_eq got k)) 1 0 + raises
@@ -32,7 +32,7 @@ raised_here false true down t words raises got answers k how same le = by_how (h
         let d = ap (λ b. cond {A = ℕ} (b && (t && nat_eq got k)) 1 0) e.1 in
         let u = ap (λ b. cond {A = ℕ} (b && nat_eq got k) 1 0) e.0 in omega arith
 
-pub asks_raised : (up up' down t : Bool) (raises words : ℕ → ℕ) (got answers lfs : ℕ) (looked : Bool) → (up' ≡ true → (up ≡ true) ⊎ ((t ≡ true) × (down ≡ true))) → (t ≡ true → IsQuiet got answers lfs)
+pub asks_raised : (up up' down t : Bool) (raises words : ℕ → ℕ) (got answers lfs : ℕ) (looked : Bool) → (up' ≡ true → (up ≡ true) ⊎ ((t ≡ true) × (down ≡ true))) → (t ≡ true → AllAnswered got answers lfs)
     → AsksPass up raises words answers lfs looked → AsksPass up' (λ k. cond (down && (t && nat_eq got k)) 1 0 + raises k) words answers lfs looked
 asks_raised up up' down t raises words got answers lfs looked how quiet p = record {
   each = λ k. raised_here up up' down t (words k) (raises k) got answers k how (λ e. (quiet e).0) (p.each k);
@@ -45,7 +45,7 @@ asks_raised up up' down t raises words got answers lfs looked how quiet p = reco
 
 -- the lists are empty then
 pub quiet_lists : (ws stored taken : List ℕ) (closed shut over : Bool) (waiting answered got : List Reply) → BytesPass ws closed stored shut taken over → RepliesPass waiting answered got taken
-    → answers_in got ≡ lfs_in stored → IsQuiet (answers_in got) (answers_in answered) (lfs_in taken)
+    → answers_in got ≡ lfs_in stored → AllAnswered (answers_in got) (answers_in answered) (lfs_in taken)
 quiet_lists ws stored taken closed shut over waiting answered got p q e =
     let a = ap answers_in q.fifo in let b = answers_on got waiting in
     let c = ap lfs_in p.fifo in let d = lfs_on taken ws in let f = q.fewer in (omega arith, omega arith)

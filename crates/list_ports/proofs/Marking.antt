@@ -17,9 +17,9 @@ use Rattle.serial_ring.specs.Logs as link
 use Rattle.serial_ring.specs.Logs.{AnswersWell, MayAnswer, greeted_in, next_mark, answers_since, lfs_since}
 use Rattle.serial_ring.proofs.Marking.{latest_is, more_marks, past_below}
 use Rattle.serial_ring.proofs.Logs.{counts, well_on, marks_on, taken_on, next_follows, answers_stored}
-use Rattle.stream_host.specs.Links.{behind, banners_in, AreGreetings}
+use Rattle.stream_host.specs.Links.{behind_lf, banners_in, AreGreetings}
 use Rattle.stream_host.specs.Ports.{AreGreeted, SeemsFull, AnswersLines}
-use Rattle.stream_host.specs.Steps.{PortLog, stored_in, got_in, latest_got, marks_in}
+use Rattle.stream_host.specs.Steps.{HostLog, stored_in, got_in, latest_got, marks_in}
 use Rattle.stream_host.specs.Steps.PortStep.{got}
 use Rattle.stream_host.proofs.Links.{behind_taken}
 use Rattle.board_rules.specs.Ports as board
@@ -96,12 +96,12 @@ same_lines bytes = sum_by-IsPermutation (λ (b : ℕ). cond (nat_eq b 10) 1 0) b
 
 -- ---- what the host knows
 
-latest_back : (h : PortLog) → latest_got h ≡ reverse (got_in h)
+latest_back : (h : HostLog) → latest_got h ≡ reverse (got_in h)
 latest_back [] = refl
 latest_back (got r ∷ h) = ap (λ (z : List Reply). r ∷ z) (latest_back h) ∙ sym (reverse-append (got_in h) (r ∷ []))
 latest_back (_ ∷ h) = latest_back h
 
-module _ (ws : List ℕ) (closed shut_is over : Bool) (waiting : List Reply) (count : ℕ) (mark : Mark) (host : PortLog) (l : board.PortLog)
+module _ (ws : List ℕ) (closed shut_is over : Bool) (waiting : List Reply) (count : ℕ) (mark : Mark) (host : HostLog) (l : board.BoardLog)
     (p : BytesPass ws closed (stored_in host) shut_is (board.taken_in l) over) (q : RepliesPass waiting (board.answered_in l) (got_in host) (board.taken_in l)) (m : MarksPass count mark (stored_in host) (marks_in host) (board.link_steps l)) where
   at_got : Cut (board.link_steps l) (latest_got host)
   at_got = cut (board.link_steps l) (reverse waiting) (latest_got host)
@@ -142,7 +142,7 @@ module _ (ws : List ℕ) (closed shut_is over : Bool) (waiting : List Reply) (co
   seems_full many = record {
     greeted = greeted_in at_got.seen;
     are = are_greeted;
-    full = (let b = behind_taken (answers_behind_mark (latest_got host)) (drop mark_bytes (board.taken_in l)) ws few_behind in let e = ap (λ z. length (behind (answers_behind_mark (latest_got host)) z)) whole in omega arith);
+    full = (let b = behind_taken (answers_behind_mark (latest_got host)) (drop mark_bytes (board.taken_in l)) ws few_behind in let e = ap (λ z. length (behind_lf (answers_behind_mark (latest_got host)) z)) whole in omega arith);
   }
 
   pub answers_lines : AnswersLines host
@@ -205,11 +205,11 @@ total (Answered r ∷ l) w =
     (λ b. let no = banner_is_none r b in let g = ap (λ (x : Bool). cond {A = ℕ} x 1 0) no in rw b (omega arith))
     (λ b. rw b (omega arith))
 
-same_answers : (l : board.PortLog) → answers_in (board.answered_in l) ≡ answers_in (link.answered_in (board.link_steps l))
+same_answers : (l : board.BoardLog) → answers_in (board.answered_in l) ≡ answers_in (link.answered_in (board.link_steps l))
 same_answers l = ap answers_in (answered_back l) ∙ sum_by-IsPermutation (λ (r : Reply). cond (is_answer r) 1 0) (link.answered_in (board.link_steps l)) (reverse (link.answered_in (board.link_steps l))) (IsPermutation-reverse (link.answered_in (board.link_steps l)))
 
 -- a line that may be answered is one of those whose end was taken
-pub may_line : (l : board.PortLog) (r : Reply) → AnswersWell (board.link_steps l) → board.MayAnswer l r → is_answer r ≡ true → answers_in (board.answered_in l) < lfs_in (board.taken_in l)
+pub may_line : (l : board.BoardLog) (r : Reply) → AnswersWell (board.link_steps l) → board.MayAnswer l r → is_answer r ≡ true → answers_in (board.answered_in l) < lfs_in (board.taken_in l)
 may_line l r well may is =
     let t = total (board.link_steps l) well in
     let n = may.line is in

@@ -7,7 +7,7 @@ use Rattle.realtime_flags.specs.declared.words.Take.TheVariants as kinds
 use Rattle.realtime_flags.specs.Bits.{is_flag, is_up, report_flag, raises_of, takes_with}
 use Rattle.realtime_flags.proofs.Bits.{raise_balances, take_balances, down_among, at_least, raised_small}
 use Rattle.board_rules.specs.Ports.{asks_report, reports_in}
-use Rattle.board_rules.specs.Ports.{PortLog as BoardLog}
+use Rattle.board_rules.specs.Ports.{BoardLog}
 use Rattle.board_rules.specs.Ports.PortStep.{took_exec}
 pub use Rattle.stream_host.proofs.Queries.{asks, only_query, few_queries}
 pub use Rattle.board_rules.proofs.Asking.{reports_are}

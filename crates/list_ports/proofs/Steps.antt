@@ -9,7 +9,7 @@ use Rattle.step_line.specs.Finishing.{tick_count, ticks_together, unfinished, mo
 use Rattle.motion_ring.specs.declared.lists.Sent.{Sent}
 use Rattle.motion_ring.specs.Sides.{ticks_at, unfinished_in}
 use Rattle.board_rules.specs.Ports.{taken_in, link_steps, has_closed_in, answered_in, published_in, known_in, sent_in, unstopped, asks_report, said, IsMarkedPast, MayAnswer, MayPublish, MayStop, MayAskHalt, MayBeDone, HasFewReports, LacksPieceRoom}
-use Rattle.board_rules.specs.Ports.{PortLog as BoardLog}
+use Rattle.board_rules.specs.Ports.{BoardLog}
 use Rattle.board_rules.specs.Ports.PortStep.{took_exec, published, no_piece_room, loaded, stored_stop, found_halt}
 use Rattle.board_rules.proofs.Unstopped.{NeverStops, sent_alone, published_back}
 use Rattle.realtime_flags.specs.declared.words.Flag.{Flag}
@@ -25,7 +25,7 @@ use Rattle.status_report.specs.Answering.{receive_room, answers_in, lfs_in}
 use Rattle.stream_host.specs.Ports.{TakesRaise, SeemsFull, AnswersLines}
 use Rattle.code_table.specs.Tables.{query}
 use Rattle.stream_host.specs.Steps.{stored_in, got_in, marks_in, is_shut_in}
-use Rattle.stream_host.specs.Steps.{PortLog as HostLog}
+use Rattle.stream_host.specs.Steps.{HostLog}
 use Rattle.stream_host.specs.Steps.PortStep.{dropped, marked, raised, got}
 use Rattle.list_ports.specs.Asked.{AsksBetween, LooksFirst, AsksPass, report_is_up, raised_behind, words_behind, has_looked}
 use Rattle.pulse_engine.proofs.Whole.{all_since}

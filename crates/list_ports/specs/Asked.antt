@@ -4,10 +4,10 @@ use Rattle.code_table.specs.Tables.{query}
 use Rattle.status_report.specs.Answering.{is_answer, answers_in, lfs_in}
 use Rattle.realtime_flags.specs.Bits.{is_up, report_flag}
 use Rattle.stream_host.specs.Steps.{stored_in, got_in}
-use Rattle.stream_host.specs.Steps.{PortLog as HostLog}
+use Rattle.stream_host.specs.Steps.{HostLog}
 use Rattle.stream_host.specs.Steps.PortStep.{raised}
 use Rattle.board_rules.specs.Ports.{asks_report, answered_in}
-use Rattle.board_rules.specs.Ports.{PortStep as BoardStep, PortLog as BoardLog}
+use Rattle.board_rules.specs.Ports.{PortStep as BoardStep, BoardLog}
 use Rattle.board_rules.specs.Ports.PortStep.{took, answered, took_exec}
 
 -- ---- the host

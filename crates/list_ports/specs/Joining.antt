@@ -22,13 +22,13 @@ use Rattle.motion_ring.specs.Sides.{published_in as pieces_sent}
 use Rattle.motion_ring.specs.Ticks.{slots}
 use Rattle.board_rules.specs.Ports.{taken_in, link_steps, has_closed_in, answered_in, sent_in, known_in}
 use Rattle.status_report.specs.Answering.{reply_room, receive_room, lfs_in, answers_in}
-use Rattle.board_rules.specs.Ports.{PortLog as BoardLog}
+use Rattle.board_rules.specs.Ports.{BoardLog}
 use Rattle.pulse_engine.specs.Logs.{PieceLog, pieces_of, got_since, counted, uncounted, saw_stop, halts_of}
 use Rattle.serial_ring.specs.declared.view.LinkStep.{LinkStep}
 use Rattle.serial_ring.specs.Marks.{Mark, AreMarks, AreRising, latest}
 use Rattle.serial_ring.specs.Logs.{marked_in, AnswersWell}
 use Rattle.stream_host.specs.Steps.{stored_in, got_in, marks_in, is_shut_in}
-use Rattle.stream_host.specs.Steps.{PortLog as HostLog}
+use Rattle.stream_host.specs.Steps.{HostLog}
 use Rattle.list_ports.specs.Asked.{AsksBetween, LooksFirst, AsksPass, report_is_up, raised_behind, words_behind, has_looked}
 
 -- what the lists hold: bytes and replies on their way, whether the link is closed, how many bytes were stored, and the last mark;

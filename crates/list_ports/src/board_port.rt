@@ -3,9 +3,9 @@
 ghost use Rattle.std.specs.Prelude.{◌≡◌, ℕ, ◌+◌, [], ◌∷◌, ◌≤◌, true, length, OnOk, OnErr, IfErr};
 ghost use Rattle.std.specs.List.{slice_get};
 ghost use Rattle.status_report.specs.Answering.{receive_room, reply_room};
-ghost use Rattle.board_rules.specs.Ports.{PortLog as BoardLog, said, MayAnswer, IsMarkedPast, HasTakenFew, HasFewReports, LacksReplyRoom, asks_report};
+ghost use Rattle.board_rules.specs.Ports.{BoardLog, said, MayAnswer, IsMarkedPast, HasTakenFew, HasFewReports, LacksReplyRoom, asks_report};
 ghost use Rattle.board_rules.specs.Ports.PortStep.{took, found_empty, found_closed, found_free, no_reply_room, took_exec, took_ovr};
-ghost use Rattle.stream_host.specs.Steps.{PortLog as HostLog};
+ghost use Rattle.stream_host.specs.Steps.{HostLog};
 ghost use Rattle.pulse_engine.specs.Logs.{PieceLog};
 ghost use Rattle.list_ports.specs.Joining.{Joined};
 ghost use Rattle.list_ports.specs.Finding.{byte_found};

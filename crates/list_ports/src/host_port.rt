@@ -3,9 +3,9 @@
 ghost use Rattle.std.specs.Prelude.{◌≡◌, [], ◌∷◌, IfSome, IfNone};
 ghost use Rattle.std.specs.List.{slice_get};
 ghost use Rattle.status_report.specs.Replies.{IsReply};
-ghost use Rattle.board_rules.specs.Ports.{PortLog as BoardLog};
+ghost use Rattle.board_rules.specs.Ports.{BoardLog};
 ghost use Rattle.stream_host.specs.Ports.{AnswersLines};
-ghost use Rattle.stream_host.specs.Steps.{PortLog as HostLog};
+ghost use Rattle.stream_host.specs.Steps.{HostLog};
 ghost use Rattle.stream_host.specs.Steps.PortStep.{got, no_reply};
 ghost use Rattle.pulse_engine.specs.Logs.{PieceLog};
 ghost use Rattle.list_ports.specs.Joining.{Joined};

@@ -7,7 +7,7 @@ use lib.ListN.{get_elem?}
 use Rattle.atomic_table.specs.Table.{State, Me, step, Act, Valid, stepped, carried_after}
 use Rattle.shared_rings.proofs.Rights as rights
 use Rattle.step_line.specs.declared.Piece.{Piece}
-use Rattle.motion_ring.specs.declared.view.Sight.{Sight}
+use Rattle.motion_ring.specs.declared.view.MotionSight.{MotionSight}
 use Rattle.motion_ring.specs.declared.lists.Sent.{Sent}
 use Rattle.motion_ring.specs.declared.lists.Taken.{Taken}
 use Rattle.motion_ring.specs.Sides.{last_stop}
@@ -17,22 +17,22 @@ use Rattle.motion_ring.proofs.Flows.{Homes}
 abbrev pub Hand : Type 0
 Hand = List (ℕ × Option Piece)
 
-abbrev pub may_publish : Sight → Bool
+abbrev pub may_publish : MotionSight → Bool
 may_publish v = v.may_publish
 
-abbrev pub may_get : Sight → Bool
+abbrev pub may_get : MotionSight → Bool
 may_get v = v.may_get
 
-abbrev pub after : List ℕ → Homes → List Sight → ℕ → Sight → State (Option Piece) Sight
+abbrev pub after : List ℕ → Homes → List MotionSight → ℕ → MotionSight → State (Option Piece) MotionSight
 after words homes views id w = record { words = words; homes = homes; views = set views id w }
 
-abbrev pub Way : State (Option Piece) Sight → ℕ → Hand → ℕ → ℕ → (ℕ → Me (Option Piece) Sight → Type 0) → Type 0
-Way s id c i n then = (w : Sight) × (a : Act (Option Piece)) × Valid s.homes c a × Kept (stepped s i n id c w a) × then n (w, carried_after c a)
+abbrev pub Way : State (Option Piece) MotionSight → ℕ → Hand → ℕ → ℕ → (ℕ → Me (Option Piece) MotionSight → Type 0) → Type 0
+Way s id c i n then = (w : MotionSight) × (a : Act (Option Piece)) × Valid s.homes c a × Kept (stepped s i n id c w a) × then n (w, carried_after c a)
 
-pub loads : (s : State (Option Piece) Sight) (i : ℕ) (homes : Homes) (id : ℕ) (w : Sight) → Kept (after s.words homes s.views id w) → Kept (after (set s.words i (get_or s.words i 0)) homes s.views id w)
+pub loads : (s : State (Option Piece) MotionSight) (i : ℕ) (homes : Homes) (id : ℕ) (w : MotionSight) → Kept (after s.words homes s.views id w) → Kept (after (set s.words i (get_or s.words i 0)) homes s.views id w)
 loads s i homes id w k = let Q : List ℕ → Type 0 = λ ws. Kept (after ws homes s.views id w) in subst Q (sym (set-get_or s.words i 0)) k
 
-module _ (s : State (Option Piece) Sight) (k : Kept s) (id : ℕ) (v : Sight) (at : get_elem? s.views id ≡ some v) where
+module _ (s : State (Option Piece) MotionSight) (k : Kept s) (id : ℕ) (v : MotionSight) (at : get_elem? s.views id ≡ some v) where
   -- what the seat that publishes knows is so
   pub own_publishing : v.may_publish ≡ true → (id ≡ k.publisher) × Publishes k.sent k.filling k.taken.counted v
   own_publishing mine = k.publishing id v at mine
@@ -62,7 +62,7 @@ module _ (s : State (Option Piece) Sight) (k : Kept s) (id : ℕ) (v : Sight) (a
   taken_asked mine = let g = own_getting mine in subst (λ (x : Taken). (v.asked ≤ length x.past) ⊎ (v.asked ≡ last_stop k.sent.stops)) (sym g.1.taken_is) g.1.asked_is
 
   -- a step of the seat that publishes
-  pub published_by : (w : Sight) (words : List ℕ) (homes : Homes) (filling : Bool) → v.may_publish ≡ true → w.may_get ≡ v.may_get
+  pub published_by : (w : MotionSight) (words : List ℕ) (homes : Homes) (filling : Bool) → v.may_publish ≡ true → w.may_get ≡ v.may_get
       → w.taken ≡ v.taken → w.dropping ≡ v.dropping → w.busy ≡ v.busy → w.asked ≡ v.asked
       → ((a : ℕ) → (a ≤ length k.taken.past) ⊎ (a ≡ last_stop k.sent.stops) → (a ≤ length k.taken.past) ⊎ (a ≡ last_stop w.sent.stops))
       → AreWords words w.sent k.taken → Flows homes w.sent k.taken k.dropping k.finished_of filling k.busy → Publishes w.sent filling k.taken.counted w
@@ -87,7 +87,7 @@ module _ (s : State (Option Piece) Sight) (k : Kept s) (id : ℕ) (v : Sight) (a
       }
 
   -- a step of the seat that gets
-  pub gotten_by : (w : Sight) (words : List ℕ) (homes : Homes) (finished_of : ℕ) → v.may_get ≡ true → w.may_publish ≡ v.may_publish
+  pub gotten_by : (w : MotionSight) (words : List ℕ) (homes : Homes) (finished_of : ℕ) → v.may_get ≡ true → w.may_publish ≡ v.may_publish
       → w.sent ≡ v.sent → w.filling ≡ v.filling → w.known ≡ v.known → k.taken.counted ≤ w.taken.counted
       → (w.asked ≤ length w.taken.past) ⊎ (w.asked ≡ last_stop k.sent.stops)
       → AreWords words k.sent w.taken → Flows homes k.sent w.taken w.dropping finished_of k.filling w.busy

@@ -9,7 +9,7 @@ use Rattle.atomic_table.specs.Table.{State, Me, step, Act, Allows, Valid, carrie
 use Rattle.atomic_table.specs.Table.Act.{keeps, takes, gives, chain}
 use Rattle.shared_rings.proofs.Shelf as shelves
 use Rattle.step_line.specs.declared.Piece.{Piece}
-use Rattle.motion_ring.specs.declared.view.Sight.{Sight}
+use Rattle.motion_ring.specs.declared.view.MotionSight.{MotionSight}
 use Rattle.motion_ring.specs.Ticks.{head_word, done_word, stop_word, halted_word}
 use Rattle.motion_ring.specs.Sides.{published_in, passed_in, last_stop, with_got, with_tick, halted_with}
 use Rattle.motion_ring.specs.Rule.{Kept, Flows, IsStopping, saw_head, got_piece, counted_tick, counted_last, saw_stop, skipped_piece, gave_halt, empty_slots, grasped, ticked, finished, asked, recalled, skipped, halted}
@@ -18,7 +18,7 @@ use Rattle.motion_ring.proofs.Flows.{Homes, long, passed_long, next, there, come
 use Rattle.motion_ring.proofs.Flows as flowing
 use Rattle.motion_ring.proofs.Frame.{Hand, Way, after, loads, own_getting, taken_flows, taken_words, taken_asked, gotten_by}
 
-module _ (s : State (Option Piece) Sight) (k : Kept s) (id : ℕ) (v : Sight) (at : get_elem? s.views id ≡ some v) (mine : v.may_get ≡ true) where
+module _ (s : State (Option Piece) MotionSight) (k : Kept s) (id : ℕ) (v : MotionSight) (at : get_elem? s.views id ≡ some v) (mine : v.may_get ≡ true) where
   abbrev flows : Flows s.homes k.sent v.taken v.dropping k.finished_of k.filling v.busy
   flows = taken_flows s k id v at mine
 
@@ -40,7 +40,7 @@ module _ (s : State (Option Piece) Sight) (k : Kept s) (id : ℕ) (v : Sight) (a
   stop_above : length v.taken.past ≤ last_stop k.sent.stops
   stop_above = ⊎_elim (λ r. let e = r.even in omega arith) (λ o. ⊎_elim (λ t. let a = t.above in omega arith) (λ h. let e = h.even in omega arith) o) flows.phase
 
-pub grasps : (slots id : ℕ) (v : Sight) (c : Hand) → v.may_get ≡ true → v.dropping ≡ [] → v.taken.left ≡ 0 → Allows Kept slots id (v, c) head_word (λ n. n) (grasped (step slots head_word 0 0 none) (v, c))
+pub grasps : (slots id : ℕ) (v : MotionSight) (c : Hand) → v.may_get ≡ true → v.dropping ≡ [] → v.taken.left ≡ 0 → Allows Kept slots id (v, c) head_word (λ n. n) (grasped (step slots head_word 0 0 none) (v, c))
 grasps slots id v c mine none_dropped none_left s k size at small = go (dec_le n (length (passed_in v.taken)))
   where
     n : ℕ
@@ -72,7 +72,7 @@ grasps slots id v c mine none_dropped none_left s k size at small = go (dec_le n
         let more : length (passed_in v.taken) < length (published_in k.sent) = (let lt : length (passed_in v.taken) < n = lt_of_not-le d in omega arith) in
         let p : Piece = next s.homes k.sent v.taken k.finished_of k.filling v.busy f none_left more in
         let t = there s.homes k.sent v.taken k.finished_of k.filling v.busy f none_left more in
-        let w : Sight = got_piece v n p in
+        let w : MotionSight = got_piece v n p in
         let i : ℕ = length (passed_in v.taken) % 6 in
         let are = taken_words s k id v at mine in
         let moved = subst (λ (d : List Piece). Flows (set s.homes i none) k.sent (with_got v.taken p) d k.finished_of k.filling true) (sym none_dropped)
@@ -97,7 +97,7 @@ grasps slots id v c mine none_dropped none_left s k size at small = go (dec_le n
           ),
         )
 
-pub ticks : (slots id new : ℕ) (v : Sight) (c : Hand) → v.may_get ≡ true → 1 < v.taken.left → new ≡ v.taken.counted + 1
+pub ticks : (slots id new : ℕ) (v : MotionSight) (c : Hand) → v.may_get ≡ true → 1 < v.taken.left → new ≡ v.taken.counted + 1
     → Allows Kept slots id (v, c) done_word (λ _. new) (λ _. ticked (step slots done_word new 0 none) (v, c) new)
 ticks slots id new v c mine more count s k size at small = (
   counted_tick v,
@@ -109,7 +109,7 @@ ticks slots id new v c mine more count s k size at small = (
   refl,
 )
 
-pub finishes : (slots id new i : ℕ) (v : Sight) → v.may_get ≡ true → v.busy ≡ true → v.taken.left ≡ 1 → i ≡ (length (passed_in v.taken) - 1) % 6 → new ≡ v.taken.counted + 1
+pub finishes : (slots id new i : ℕ) (v : MotionSight) → v.may_get ≡ true → v.busy ≡ true → v.taken.left ≡ 1 → i ≡ (length (passed_in v.taken) - 1) % 6 → new ≡ v.taken.counted + 1
     → Allows Kept slots id (v, (i, None) ∷ []) done_word (λ _. new) (λ _. finished (step slots done_word new 0 none) (v, (i, None) ∷ []) new)
 finishes slots id new i v mine out last place count s k size at small =
     let f : Flows s.homes k.sent v.taken v.dropping k.finished_of k.filling v.busy = taken_flows s k id v at mine in
@@ -127,7 +127,7 @@ finishes slots id new i v mine out last place count s k size at small =
       refl,
     )
 
-pub asks : (slots id : ℕ) (v : Sight) (c : Hand) → v.may_get ≡ true → Allows Kept slots id (v, c) stop_word (λ n. n) (asked (step slots stop_word 0 0 none) (v, c))
+pub asks : (slots id : ℕ) (v : MotionSight) (c : Hand) → v.may_get ≡ true → Allows Kept slots id (v, c) stop_word (λ n. n) (asked (step slots stop_word 0 0 none) (v, c))
 asks slots id v c mine s k size at small =
     let n : ℕ = get_or s.words stop_word 0 in
     let are = taken_words s k id v at mine in
@@ -140,7 +140,7 @@ asks slots id v c mine s k size at small =
       (refl, omega arith),
     )
 
-pub recalls : (slots id : ℕ) (v : Sight) (c : Hand) → v.may_get ≡ true → length v.taken.past < v.asked → Allows Kept slots id (v, c) stop_word (λ n. n) (recalled (step slots stop_word 0 0 none) (v, c))
+pub recalls : (slots id : ℕ) (v : MotionSight) (c : Hand) → v.may_get ≡ true → length v.taken.past < v.asked → Allows Kept slots id (v, c) stop_word (λ n. n) (recalled (step slots stop_word 0 0 none) (v, c))
 recalls slots id v c mine above s k size at small =
     let n : ℕ = get_or s.words stop_word 0 in
     let are = taken_words s k id v at mine in
@@ -157,7 +157,7 @@ recalls slots id v c mine above s k size at small =
       (refl, e ∙ sym t.1, omega arith, omega arith),
     )
 
-pub skips : (slots id : ℕ) (v : Sight) (c : Hand) → v.may_get ≡ true → length v.taken.past < v.asked → length (v.dropping ++ passed_in v.taken) < v.asked
+pub skips : (slots id : ℕ) (v : MotionSight) (c : Hand) → v.may_get ≡ true → length v.taken.past < v.asked → length (v.dropping ++ passed_in v.taken) < v.asked
     → Allows Kept slots id (v, c) stop_word (λ n. n) (skipped (step slots stop_word 0 0 none) (v, c))
 skips slots id v c mine above below s k size at small =
     let f : Flows s.homes k.sent v.taken v.dropping k.finished_of k.filling v.busy = taken_flows s k id v at mine in
@@ -166,7 +166,7 @@ skips slots id v c mine above below s k size at small =
     let more : length (v.dropping ++ passed_in v.taken) < length (published_in k.sent) = omega arith in
     let p : Piece = flowing.skipped s.homes k.sent v.taken v.dropping k.finished_of k.filling v.busy f t.0 more in
     let i : ℕ = length (v.dropping ++ passed_in v.taken) % 6 in
-    let w : Sight = skipped_piece v p in (
+    let w : MotionSight = skipped_piece v p in (
       w,
       takes i (Some p),
       shelves.grasp_home 6 s.homes (published_in k.sent) (v.dropping ++ passed_in v.taken) k.finished_of k.filling p f.shelf (skipped_there s.homes k.sent v.taken v.dropping k.finished_of k.filling v.busy f t.0 more),
@@ -192,7 +192,7 @@ homes_all : (n first : ℕ) (homes : Homes) → homes_after homes (empty_slots f
 homes_all zero first homes = refl
 homes_all (suc n) first homes = homes_all n (first + 1) (set homes (first % 6) (some None))
 
-pub halts : (slots id new first n : ℕ) (v : Sight) → v.may_get ≡ true → length v.taken.past < v.asked → new ≡ v.asked → length (v.dropping ++ passed_in v.taken) ≡ v.asked
+pub halts : (slots id new first n : ℕ) (v : MotionSight) → v.may_get ≡ true → length v.taken.past < v.asked → new ≡ v.asked → length (v.dropping ++ passed_in v.taken) ≡ v.asked
     → length (passed_in v.taken) ≡ first + one_if v.busy → n ≡ one_if v.busy + length v.dropping
     → Allows Kept slots id (v, empty_slots first n) halted_word (λ _. new) (λ _. halted (step slots halted_word new 0 none) (v, empty_slots first n) new)
 halts slots id new first n v mine above count whole held out s k size at small =
@@ -202,7 +202,7 @@ halts slots id new first n v mine above count whole held out s k size at small =
     let all : length (v.dropping ++ passed_in v.taken) ≡ length (published_in k.sent) = omega arith in
     let fh = f.held in
     let e : k.finished_of ≡ first = omega arith in
-    let w : Sight = gave_halt v in
+    let w : MotionSight = gave_halt v in
     let past = past_is s.homes k.sent v.taken v.dropping k.finished_of k.filling v.busy f t.0 all in
     let moved : Flows (given s.homes k.finished_of (one_if v.busy + length v.dropping)) k.sent w.taken [] (k.finished_of + (one_if v.busy + length v.dropping)) k.filling false = halted_flows s.homes k.sent v.taken v.dropping k.finished_of k.filling v.busy f t.0 all in
     let homes : given s.homes k.finished_of (one_if v.busy + length v.dropping) ≡ homes_after s.homes (empty_slots first n) (give_all n) = (λ i. given s.homes (e i) (sym out i)) ∙ sym (homes_all n first s.homes) in (

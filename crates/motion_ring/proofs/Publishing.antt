@@ -10,7 +10,7 @@ use Rattle.shared_rings.specs.Shelf.{Shelf}
 use Rattle.shared_rings.proofs.Shelf as shelves
 use Rattle.step_line.specs.declared.Piece.{Piece}
 use Rattle.step_line.specs.Ordering.{has_ended}
-use Rattle.motion_ring.specs.declared.view.Sight.{Sight}
+use Rattle.motion_ring.specs.declared.view.MotionSight.{MotionSight}
 use Rattle.motion_ring.specs.declared.lists.Sent.{Sent}
 use Rattle.motion_ring.specs.Ticks.{head_word, done_word, stop_word, halted_word}
 use Rattle.motion_ring.specs.Sides.{published_in, passed_in, last_stop, room_from, MayPublish, MayStop}
@@ -19,7 +19,7 @@ use Rattle.motion_ring.proofs.Words.{head_stored, stop_stored}
 use Rattle.motion_ring.proofs.Flows.{Homes, done_within, done_late, has_room, reached_flows, published_flows, stopped_flows, heeded_flows}
 use Rattle.motion_ring.proofs.Frame.{Hand, Way, after, loads, own_publishing, sent_flows, sent_words, published_by}
 
-module _ (s : State (Option Piece) Sight) (k : Kept s) (id : ℕ) (v : Sight) (at : get_elem? s.views id ≡ some v) (mine : v.may_publish ≡ true) where
+module _ (s : State (Option Piece) MotionSight) (k : Kept s) (id : ℕ) (v : MotionSight) (at : get_elem? s.views id ≡ some v) (mine : v.may_publish ≡ true) where
   abbrev flows : Flows s.homes v.sent k.taken k.dropping k.finished_of v.filling k.busy
   flows = sent_flows s k id v at mine
 
@@ -51,10 +51,10 @@ module _ (s : State (Option Piece) Sight) (k : Kept s) (id : ℕ) (v : Sight) (a
       loads s done_word s.homes id (saw_done v n) (published_by s k id v at (saw_done v n) s.words s.homes v.filling mine refl refl refl refl refl asks_same (sent_words s k id v at mine) flows
       (record { sent_is = refl; filling_is = refl; known_is = omega arith }))
 
-pub sees : (slots id : ℕ) (v : Sight) (c : Hand) → v.may_publish ≡ true → Allows Kept slots id (v, c) done_word (λ n. n) (seen (step slots done_word 0 0 none) (v, c))
+pub sees : (slots id : ℕ) (v : MotionSight) (c : Hand) → v.may_publish ≡ true → Allows Kept slots id (v, c) done_word (λ n. n) (seen (step slots done_word 0 0 none) (v, c))
 sees slots id v c mine s k size at small = (saw_done v (get_or s.words done_word 0), keeps, tt, sees_known s k id v at mine, (known_here s k id v at mine, refl))
 
-pub reaches : (slots id : ℕ) (v : Sight) (c : Hand) → v.may_publish ≡ true → v.filling ≡ false → v.sent.waits ≡ false → has_ended (published_in v.sent) ≡ false
+pub reaches : (slots id : ℕ) (v : MotionSight) (c : Hand) → v.may_publish ≡ true → v.filling ≡ false → v.sent.waits ≡ false → has_ended (published_in v.sent) ≡ false
     → Allows Kept slots id (v, c) done_word (λ n. n) (reached (step slots done_word 0 0 none) (v, c))
 reaches slots id v c mine idle none_waits going s k size at small = go (dec_le (room_from v.sent) (get_or s.words done_word 0))
   where
@@ -81,7 +81,7 @@ reaches slots id v c mine idle none_waits going s k size at small = go (dec_le (
           (known_here s k id v at mine, (λ le. refl), (λ lt. absurd (omega arith))),
         )
 
-pub publishes : (slots id new : ℕ) (v : Sight) (i : ℕ) (p : Piece) → v.may_publish ≡ true → v.filling ≡ true → i ≡ length (published_in v.sent) % 6 → MayPublish v.sent p → new ≡ length (published_in v.sent) + 1
+pub publishes : (slots id new : ℕ) (v : MotionSight) (i : ℕ) (p : Piece) → v.may_publish ≡ true → v.filling ≡ true → i ≡ length (published_in v.sent) % 6 → MayPublish v.sent p → new ≡ length (published_in v.sent) + 1
     → Allows Kept slots id (v, (i, Some p) ∷ []) head_word (λ _. new) (λ _. published (step slots head_word new 0 none) (v, (i, Some p) ∷ []) new)
 publishes slots id new v i p mine out place may count s k size at small =
     let f : Flows s.homes v.sent k.taken k.dropping k.finished_of v.filling k.busy = sent_flows s k id v at mine in
@@ -97,7 +97,7 @@ publishes slots id new v i p mine out place may count s k size at small =
       λ m q z. let pair : (i, Some p) ≡ (m, Some q) = cc in let both : Some p ≡ Some q = ap (λ (x : ℕ × Option Piece). x.1) pair in let pq : p ≡ q = cc in ap (λ (x : Piece). (gave_piece v x, [])) pq,
     )
 
-pub stops : (slots id new : ℕ) (v : Sight) (c : Hand) → v.may_publish ≡ true → MayStop v.sent → new ≡ length (published_in v.sent)
+pub stops : (slots id new : ℕ) (v : MotionSight) (c : Hand) → v.may_publish ≡ true → MayStop v.sent → new ≡ length (published_in v.sent)
     → Allows Kept slots id (v, c) stop_word (λ _. new) (λ _. stopped (step slots stop_word new 0 none) (v, c) new)
 stops slots id new v c mine may count s k size at small =
     let f : Flows s.homes v.sent k.taken k.dropping k.finished_of v.filling k.busy = sent_flows s k id v at mine in
@@ -114,7 +114,7 @@ stops slots id new v c mine may count s k size at small =
       refl,
     )
 
-pub heeds : (slots id : ℕ) (v : Sight) (c : Hand) → v.may_publish ≡ true → v.sent.waits ≡ true
+pub heeds : (slots id : ℕ) (v : MotionSight) (c : Hand) → v.may_publish ≡ true → v.sent.waits ≡ true
     → Allows Kept slots id (v, c) halted_word (λ n. n) (heeded (step slots halted_word 0 0 none) (v, c))
 heeds slots id v c mine waits s k size at small = go (dec_le (length (published_in v.sent)) n)
   where
@@ -145,7 +145,7 @@ heeds slots id v c mine waits s k size at small = go (dec_le (length (published_
     go (yes d) =
         let p = own_publishing s k id v at mine in
         let done : ℕ = k.taken.counted in
-        let w : Sight = saw_halt v n done in
+        let w : MotionSight = saw_halt v n done in
         let are = sent_words s k id v at mine in (
           w,
           keeps,

@@ -10,13 +10,13 @@ use Rattle.shared_rings.proofs.Rights as rights
 use Rattle.step_line.specs.declared.Piece.{Piece}
 use Rattle.step_line.specs.Ordering.{InTurn}
 use Rattle.step_line.specs.Finishing.{ticks_together}
-use Rattle.motion_ring.specs.declared.view.Sight.{Sight}
+use Rattle.motion_ring.specs.declared.view.MotionSight.{MotionSight}
 use Rattle.motion_ring.specs.declared.lists.Halt.{Halt}
 use Rattle.motion_ring.specs.declared.lists.Sent.{Sent}
 use Rattle.motion_ring.specs.declared.lists.Taken.{Taken}
 use Rattle.motion_ring.specs.Ticks.{done_word, unfinished_of}
 use Rattle.motion_ring.specs.Sides.{published_in, passed_in, ticks_at, last_stop, all_passed, unless_none, some_halts, some_stops, pieces_at, halt_of}
-use Rattle.motion_ring.specs.Rule.{Kept, Flows, IsGoing, AreTied, beginning, none_sent, none_taken, without_publishing, without_getting, both_of, spent, tied}
+use Rattle.motion_ring.specs.Rule.{Kept, Flows, IsGoing, PiecesAreTied, beginning, none_sent, none_taken, without_publishing, without_getting, both_of, spent, tied}
 use Rattle.motion_ring.proofs.Ticks.{at_most_five}
 use Rattle.motion_ring.proofs.Sides.{none_of}
 use Rattle.motion_ring.proofs.Flows.{Homes, long, passed_long, going_late, empty_flows}
@@ -54,7 +54,7 @@ module _ (homes : Homes) (sent : Sent) (taken : Taken) (finished : ℕ) (filling
   waiting_stops : (waiting : List ℕ) × (some_stops sent.stops ≡ waiting ++ map pieces_at taken.halts)
   waiting_stops = ⊎_elim (λ r. ([], r.asks)) (λ o. ⊎_elim (λ s. (last_stop sent.stops ∷ [], s.asks)) (λ h. ([], h.asks)) o) f.phase
 
-  tied_ends : (known : ℕ) → known ≤ taken.counted → AreTied sent known taken
+  tied_ends : (known : ℕ) → known ≤ taken.counted → PiecesAreTied sent known taken
   tied_ends known le = record {
     rest = f.rest;
     pieces = f.fifo;
@@ -71,7 +71,7 @@ module _ (homes : Homes) (sent : Sent) (taken : Taken) (finished : ℕ) (filling
     stops = waiting_stops.1;
   }
 
-pub ties : (slots id : ℕ) (v : Sight) (c : Hand) → v.may_publish ≡ true → v.may_get ≡ true → Allows Kept slots id (v, c) done_word (λ n. n) (tied (step slots done_word 0 0 none) (v, c))
+pub ties : (slots id : ℕ) (v : MotionSight) (c : Hand) → v.may_publish ≡ true → v.may_get ≡ true → Allows Kept slots id (v, c) done_word (λ n. n) (tied (step slots done_word 0 0 none) (v, c))
 unfolding tied_ends
 ties slots id v c publishing getting s k size at small =
     let p = own_publishing s k id v at publishing in
@@ -113,7 +113,7 @@ starts = record {
   getting = rights.starts may_get _ beginning (record { taken_is = refl; dropping_is = refl; busy_is = refl; asked_is = inl (omega arith) });
 }
 
-pub splits : (id : ℕ) (v : Sight) → v.may_publish ≡ true → v.may_get ≡ true → Splits Kept id v (without_publishing v) (without_getting v)
+pub splits : (id : ℕ) (v : MotionSight) → v.may_publish ≡ true → v.may_get ≡ true → Splits Kept id v (without_publishing v) (without_getting v)
 splits id v publishing getting s k at =
     let p = k.publishing id v at publishing in
     let g = k.getting id v at getting in record {
@@ -133,7 +133,7 @@ splits id v publishing getting s k at =
           (record { taken_is = g.1.taken_is; dropping_is = g.1.dropping_is; busy_is = g.1.busy_is; asked_is = g.1.asked_is }) refl;
     }
 
-pub joins : (id other : ℕ) (v w : Sight) → v.may_get ≡ true → w.may_publish ≡ true → Joins Kept id v other w (both_of v w) spent
+pub joins : (id other : ℕ) (v w : MotionSight) → v.may_get ≡ true → w.may_publish ≡ true → Joins Kept id v other w (both_of v w) spent
 joins id other v w getting publishing s k at apart at_other =
     let was : get_elem? s.views other ≡ some w = ⊎_elim (λ a. absurd (apart a.0)) (λ a. a.1) (at_set s.views id other (both_of v w) w at_other) in
     let p = k.publishing other w was publishing in

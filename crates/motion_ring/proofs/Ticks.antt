@@ -12,7 +12,7 @@ use Rattle.step_line.specs.Ordering.{ComesNext, InTurn, has_ended}
 use Rattle.step_line.specs.Finishing.{tick_count, ticks_together, unfinished}
 use Rattle.step_line.proofs.Order.{length_after}
 use Rattle.step_line.proofs.Finished.{together, together_on, all_done, one_more_behind, end_is_finished}
-use Rattle.motion_ring.specs.declared.view.Sight.{Sight}
+use Rattle.motion_ring.specs.declared.view.MotionSight.{MotionSight}
 use Rattle.motion_ring.specs.Ticks.{unfinished_of}
 use Rattle.motion_ring.specs.Sides.{published_in, ticks_at, unfinished_in, room_from}
 use Rattle.motion_ring.specs.Rule.{IsKnown, saw_halt}
@@ -112,14 +112,14 @@ many_unfinished (suc k) (p ∷ h) done turns going lt =
     let e = one_more h p done (has_tick h p turns.0 going) (omega arith) in let m = many_unfinished k h done turns.1 turns.0.going lt in omega arith
 
 -- what a load of the done count says of the pieces that are unfinished
-pub few_known : (v : Sight) (n : ℕ) → IsKnown v n → unfinished_in v.sent n ≤ 5
+pub few_known : (v : MotionSight) (n : ℕ) → IsKnown v n → unfinished_in v.sent n ≤ 5
 few_known v n told = at_most_five v.sent.since (n - ticks_at v.sent.halts) told.turns (let l = told.late in omega arith)
 
 -- where all ticks but those of the last four pieces are done, at most four are unfinished; where they are not, five are
-pub few_shown : (v : Sight) (n : ℕ) → IsKnown v n → has_ended (published_in v.sent) ≡ false → room_from v.sent ≤ n → unfinished_in v.sent n ≤ 4
+pub few_shown : (v : MotionSight) (n : ℕ) → IsKnown v n → has_ended (published_in v.sent) ≡ false → room_from v.sent ≤ n → unfinished_in v.sent n ≤ 4
 few_shown v n told going le = few_unfinished 4 v.sent.since (n - ticks_at v.sent.halts) told.turns (going_since v.sent.since v.sent.older going) (omega arith)
 
-pub many_shown : (v : Sight) (n : ℕ) → IsKnown v n → has_ended (published_in v.sent) ≡ false → n < room_from v.sent → unfinished_in v.sent n ≡ 5
+pub many_shown : (v : MotionSight) (n : ℕ) → IsKnown v n → has_ended (published_in v.sent) ≡ false → n < room_from v.sent → unfinished_in v.sent n ≡ 5
 many_shown v n told going lt =
     let few = few_known v n told in
     let late = told.late in
@@ -127,8 +127,8 @@ many_shown v n told going lt =
     let many = many_unfinished 4 v.sent.since (n - ticks_at v.sent.halts) told.turns (going_since v.sent.since v.sent.older going) (omega arith) in omega arith
 
 -- once a halt is seen the done count stands
-pub halt_stands : (v w : Sight) (n done now : ℕ) → w ≡ saw_halt v n done → IsKnown w now → now ≡ done
+pub halt_stands : (v w : MotionSight) (n done now : ℕ) → w ≡ saw_halt v n done → IsKnown w now → now ≡ done
 halt_stands v w n done now e told =
-    let k : IsKnown (saw_halt v n done) now = subst (λ (x : Sight). IsKnown x now) e told in
+    let k : IsKnown (saw_halt v n done) now = subst (λ (x : MotionSight). IsKnown x now) e told in
     let more = k.no_more in
     let late = k.late in omega arith

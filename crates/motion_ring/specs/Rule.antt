@@ -16,18 +16,18 @@ use Rattle.step_line.specs.Finishing.{tick_count, ticks_together, most_unfinishe
 use Rattle.motion_ring.specs.declared.lists.Halt.{Halt}
 use Rattle.motion_ring.specs.declared.lists.Sent.{Sent}
 use Rattle.motion_ring.specs.declared.lists.Taken.{Taken}
-use Rattle.motion_ring.specs.declared.view.Sight.{Sight}
+use Rattle.motion_ring.specs.declared.view.MotionSight.{MotionSight}
 use Rattle.motion_ring.specs.Ticks.{slots, head_word, done_word, stop_word, halted_word, all_words, unfinished_of}
 use Rattle.motion_ring.specs.Sides.{published_in, ticks_at, last_stop, ticks_published, room_from, with_piece, with_stop, with_halt, halt_of, piece_of, all_passed, AreFates, passed_in, with_got, with_tick, halted_with, HaltsAt, some_stops, some_halts, pieces_at}
 
 -- what the seat that publishes knows
-pub record Publishes (sent : Sent) (filling : Bool) (done : ℕ) (v : Sight) : Type 0 where
+pub record Publishes (sent : Sent) (filling : Bool) (done : ℕ) (v : MotionSight) : Type 0 where
   pub sent_is : v.sent ≡ sent
   pub filling_is : v.filling ≡ filling
   pub known_is : v.known ≤ done
 
 -- what the seat that gets knows; a stop that it saw is the last one until it has halted
-pub record Gets (taken : Taken) (dropping : NewestFirst Piece) (busy : Bool) (stop : ℕ) (v : Sight) : Type 0 where
+pub record Gets (taken : Taken) (dropping : NewestFirst Piece) (busy : Bool) (stop : ℕ) (v : MotionSight) : Type 0 where
   pub taken_is : v.taken ≡ taken
   pub dropping_is : v.dropping ≡ dropping
   pub busy_is : v.busy ≡ busy
@@ -103,7 +103,7 @@ pub record Flows (homes : List (maybe.Option (Option Piece))) (sent : Sent) (tak
   pub at_work : busy ≡ true → (0 < taken.left) ⊎ (has_ended taken.fresh ≡ true)
   pub phase : Phase sent taken dropping rest
 
-pub record Kept (s : State (Option Piece) Sight) : Type 0 where
+pub record Kept (s : State (Option Piece) MotionSight) : Type 0 where
   pub sent : Sent
   pub taken : Taken
   pub dropping : NewestFirst Piece
@@ -123,17 +123,17 @@ none_sent = record { older = []; since = []; stops = []; halts = []; waits = fal
 abbrev pub none_taken : Taken
 none_taken = record { past = []; fresh = []; counted = 0; left = 0; halts = [] }
 
-abbrev pub beginning : Sight
+abbrev pub beginning : MotionSight
 beginning = record { may_publish = true; may_get = true; sent = none_sent; known = 0; done_loads = 0; heard = 0; halt_loads = 0; taken = none_taken; shown = 0; head_loads = 0; asked = 0; stop_loads = 0; dropping = []; filling = false; busy = false }
 
-abbrev pub without_publishing : Sight → Sight
+abbrev pub without_publishing : MotionSight → MotionSight
 without_publishing v = record v { may_publish = false }
 
-abbrev pub without_getting : Sight → Sight
+abbrev pub without_getting : MotionSight → MotionSight
 without_getting v = record v { may_get = false }
 
 -- the first is the one that gets
-abbrev pub both_of : Sight → Sight → Sight
+abbrev pub both_of : MotionSight → MotionSight → MotionSight
 both_of v w = record {
   may_publish = w.may_publish;
   may_get = v.may_get;
@@ -152,47 +152,47 @@ both_of v w = record {
   busy = v.busy;
 }
 
-abbrev pub spent : Sight
+abbrev pub spent : MotionSight
 spent = record beginning { may_publish = false; may_get = false }
 
 -- the view after each step
-abbrev pub saw_slot : Sight → ℕ → Sight
+abbrev pub saw_slot : MotionSight → ℕ → MotionSight
 saw_slot v n = record v { filling = true; known = n; done_loads = v.done_loads + 1 }
 
-abbrev pub saw_done : Sight → ℕ → Sight
+abbrev pub saw_done : MotionSight → ℕ → MotionSight
 saw_done v n = record v { known = n; done_loads = v.done_loads + 1 }
 
-abbrev pub gave_piece : Sight → Piece → Sight
+abbrev pub gave_piece : MotionSight → Piece → MotionSight
 gave_piece v p = record v { sent = with_piece v.sent p; filling = false }
 
-abbrev pub gave_stop : Sight → Sight
+abbrev pub gave_stop : MotionSight → MotionSight
 gave_stop v = record v { sent = with_stop v.sent }
 
-abbrev pub saw_no_halt : Sight → ℕ → Sight
+abbrev pub saw_no_halt : MotionSight → ℕ → MotionSight
 saw_no_halt v n = record v { heard = n; halt_loads = v.halt_loads + 1 }
 
-abbrev pub saw_halt : Sight → ℕ → ℕ → Sight
+abbrev pub saw_halt : MotionSight → ℕ → ℕ → MotionSight
 saw_halt v n done = record v { heard = n; halt_loads = v.halt_loads + 1; sent = with_halt v.sent done }
 
-abbrev pub saw_head : Sight → ℕ → Sight
+abbrev pub saw_head : MotionSight → ℕ → MotionSight
 saw_head v n = record v { shown = n; head_loads = v.head_loads + 1 }
 
-abbrev pub got_piece : Sight → ℕ → Piece → Sight
+abbrev pub got_piece : MotionSight → ℕ → Piece → MotionSight
 got_piece v n p = record v { shown = n; head_loads = v.head_loads + 1; taken = with_got v.taken p; busy = true }
 
-abbrev pub counted_tick : Sight → Sight
+abbrev pub counted_tick : MotionSight → MotionSight
 counted_tick v = record v { taken = with_tick v.taken }
 
-abbrev pub counted_last : Sight → Sight
+abbrev pub counted_last : MotionSight → MotionSight
 counted_last v = record v { taken = with_tick v.taken; busy = false }
 
-abbrev pub saw_stop : Sight → ℕ → Sight
+abbrev pub saw_stop : MotionSight → ℕ → MotionSight
 saw_stop v n = record v { asked = n; stop_loads = v.stop_loads + 1 }
 
-abbrev pub skipped_piece : Sight → Piece → Sight
+abbrev pub skipped_piece : MotionSight → Piece → MotionSight
 skipped_piece v p = record v { dropping = p ∷ v.dropping }
 
-abbrev pub gave_halt : Sight → Sight
+abbrev pub gave_halt : MotionSight → MotionSight
 gave_halt v = record v { taken = halted_with v.taken v.dropping; dropping = []; busy = false }
 
 -- these many slots, empty, from one on
@@ -200,7 +200,7 @@ abbrev pub empty_slots : ℕ → ℕ → List (ℕ × Option Piece)
 empty_slots k zero = []
 empty_slots k (suc n) = (k % slots, None) ∷ empty_slots (k + 1) n
 
-abbrev pub with_dropped : Sight → NewestFirst Piece → Sight
+abbrev pub with_dropped : MotionSight → NewestFirst Piece → MotionSight
 with_dropped v ps = record v { dropping = ps }
 
 -- a seat is of this ring
@@ -210,7 +210,7 @@ pub record IsOfRing (seat ring : TableId) : Type 0 where
   pub slots_are : ring.slots ≡ slots
 
 -- the slot of the next piece may be taken untraced: a stop was seen that is behind it
-pub record MayDrop (v : Sight) (slot : ℕ) : Type 0 where
+pub record MayDrop (v : MotionSight) (slot : ℕ) : Type 0 where
   pub mine : v.may_get ≡ true
   pub above : length v.taken.past < v.asked
   pub below : length (v.dropping ++ passed_in v.taken) < v.asked
@@ -218,7 +218,7 @@ pub record MayDrop (v : Sight) (slot : ℕ) : Type 0 where
 
 -- a seat may halt at a stop that it saw: the next piece has this slot and this number, and the slot of the piece before it is out
 -- where that is unfinished
-pub record MayHalt (m : Me (Option Piece) Sight) (slot from stop : ℕ) : Type 0 where
+pub record MayHalt (m : Me (Option Piece) MotionSight) (slot from stop : ℕ) : Type 0 where
   pub mine : m.0.may_get ≡ true
   pub above : length m.0.taken.past < m.0.asked
   pub stop_is : stop ≡ m.0.asked
@@ -230,13 +230,13 @@ pub record MayHalt (m : Me (Option Piece) Sight) (slot from stop : ℕ) : Type 0
   pub place : slot ≡ from % slots
 
 abbrev Sat : Type 0
-Sat = Me (Option Piece) Sight
+Sat = Me (Option Piece) MotionSight
 
 abbrev At : Type 0
 At = Step (Option Piece)
 
 -- what a load of the done count tells
-pub record IsKnown (v : Sight) (n : ℕ) : Type 0 where
+pub record IsKnown (v : MotionSight) (n : ℕ) : Type 0 where
   pub no_fewer : v.known ≤ n
   pub no_more : n ≤ ticks_published v.sent
   pub late : ticks_at v.sent.halts + ticks_together (drop 5 v.sent.since) ≤ n
@@ -291,7 +291,7 @@ abbrev pub halted : At → Sat → ℕ → Sat → Type 0
 halted st m n m' = m' ≡ (gave_halt m.0, [])
 
 -- what the two ends of one ring have to do with each other
-pub record AreTied (sent : Sent) (known : ℕ) (taken : Taken) : Type 0 where
+pub record PiecesAreTied (sent : Sent) (known : ℕ) (taken : Taken) : Type 0 where
   -- the pieces got or dropped are the first of those published
   pub rest : NewestFirst Piece
   pub pieces : published_in sent ≡ rest ++ passed_in taken
@@ -316,4 +316,4 @@ pub record AreTied (sent : Sent) (known : ℕ) (taken : Taken) : Type 0 where
 
 -- the seat that publishes and gets learns how both sides' lists hang together; what it loads is the done count
 abbrev pub tied : At → Sat → ℕ → Sat → Type 0
-tied st m n m' = (m' ≡ m) × (m.0.dropping ≡ [] → (t : AreTied m.0.sent m.0.known m.0.taken) × (t.done ≡ n))
+tied st m n m' = (m' ≡ m) × (m.0.dropping ≡ [] → (t : PiecesAreTied m.0.sent m.0.known m.0.taken) × (t.done ≡ n))

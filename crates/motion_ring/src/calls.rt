@@ -6,7 +6,7 @@ ghost use Rattle.step_line.specs.Finishing.{tick_count, most_unfinished};
 ghost use Rattle.motion_ring.specs.Sides.{MayPublish, MayStop, unfinished_in, ticks_published, with_piece, with_stop, with_halt, with_got, with_tick, halted_with, passed_in};
 ghost use Rattle.units.specs.Truths.{one_if};
 ghost use Rattle.motion_ring.specs.Ticks.{slots};
-ghost use Rattle.motion_ring.specs.Rule.{AreTied, IsOfRing, MayDrop, MayHalt, none_sent, none_taken, skipped_piece, with_dropped, empty_slots};
+ghost use Rattle.motion_ring.specs.Rule.{PiecesAreTied, IsOfRing, MayDrop, MayHalt, none_sent, none_taken, skipped_piece, with_dropped, empty_slots};
 ghost use Rattle.motion_ring.specs.Ends.{ring_of_out, ring_of_in, sent_by, stop_of, known_by, done_loads_of, heard_by, halt_loads_of, taken_by, passed_by, halted_by, shown_to, head_loads_of, asked_by, stop_loads_of, counted_by, left_in};
 
 use crate::ends::{SegIn, SegOut};
@@ -264,7 +264,7 @@ fn drop_pieces(shared: &Common, seat: &mut Place, first: usize, from: u64, stop:
 /// seen are the first of those stored, and these the first of the stops.
 pub fn join_motion(out: SegOut, into: SegIn)
     requires { ring_of_out out ≡ ring_of_in into }
-    ensures { AreTied (sent_by out) (known_by out) (taken_by into) }
+    ensures { PiecesAreTied (sent_by out) (known_by out) (taken_by into) }
 {
     let SegOut {
         ring,

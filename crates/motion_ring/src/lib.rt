@@ -20,4 +20,4 @@ mod view;
 pub use calls::{join_motion, motion};
 pub use ends::{SegIn, SegOut};
 pub use lists::{Halt, Passed, Sent, Taken};
-pub use view::{Motion, Sight};
+pub use view::{Motion, MotionSight};

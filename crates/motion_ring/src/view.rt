@@ -6,7 +6,7 @@ use std::collections::LinkedList;
 use step_line::Piece;
 
 /// What a seat of the table knows. No value of it is made.
-pub struct Sight {
+pub struct MotionSight {
     pub may_publish: bool,
     pub may_get: bool,
     pub sent: Sent,
@@ -38,7 +38,7 @@ pub struct Sight {
 /// The rule of the ring.
 pub struct Motion;
 
-impl TableRule<Option<Piece>, Sight, ()> for Motion {
+impl TableRule<Option<Piece>, MotionSight, ()> for Motion {
     ghost use Rattle.motion_ring.specs.Rule.{Kept, beginning};
 
     ghost holds = { λ _. Kept };
@@ -46,9 +46,9 @@ impl TableRule<Option<Piece>, Sight, ()> for Motion {
     ghost first = { λ _. beginning };
 }
 
-pub(crate) type Ring = Table<Option<Piece>, Sight, (), Motion, Global>;
+pub(crate) type Ring = Table<Option<Piece>, MotionSight, (), Motion, Global>;
 
-pub(crate) type Place = Seat<Option<Piece>, Sight>;
+pub(crate) type Place = Seat<Option<Piece>, MotionSight>;
 
 /// What the ends have of the table.
-pub(crate) type Common = Shared<Option<Piece>, Sight, (), Motion>;
+pub(crate) type Common = Shared<Option<Piece>, MotionSight, (), Motion>;

@@ -15,7 +15,7 @@ use Rattle.profile.proofs.Slowing.{planned_first}
 use Rattle.profile.proofs.Settled.{settled_none}
 use Rattle.profile.proofs.Settling.{settled_first, settled_within_reach, settled_dropped}
 use Rattle.plan_rules.specs.Blocks.{IsBlock, left_of, top_of, gap_of, gaps_of, soft_of, softs_of, hard_of, hards_of}
-use Rattle.plan_passes.specs.Tables.{IsTabled, IsMovedUp, IsKept}
+use Rattle.plan_passes.specs.Tables.{IsTabled, IsMovedUp, KeepsPlan}
 use Rattle.plan_rules.specs.Plans.{planned_at, IsReached, IsSettledAt, IsPointer, IsLastPoint}
 use Rattle.plan_rules.specs.Segments.{IsGoing, IsHolding, IsSegment, moved}
 use Rattle.plan_rules.proofs.Junctions.{length-gaps, length-joints}
@@ -235,7 +235,7 @@ pub kept_anew : (N w count settled : ℕ) (bs : List Block) (o : Overrides) (spe
     → ((j : ℕ) → 0 < j → j ≤ count → get_or speeds j 0 ≡ planned w (take count gap_row) (take (count - 1) soft_row) j)
     → (0 < count → IsLastSettled (take count gap_row) (caps w (take count gap_row) (take (count - 1) soft_row)) settled)
     → (count ≡ 0 → settled ≡ 0)
-    → IsKept N (plan_of bs w o) speeds gap_row soft_row settled
+    → KeepsPlan N (plan_of bs w o) speeds gap_row soft_row settled
 unfolding planned_at
 kept_anew N w count settled bs o speeds gap_row soft_row some few room is tabled many at last none = record {
   some = some;
@@ -252,9 +252,9 @@ kept_anew N w count settled bs o speeds gap_row soft_row some few room is tabled
 
 -- no block stands, at rest
 pub kept_none : (N : ℕ) (bs : List Block) (o : Overrides) (speeds gap_row soft_row : List ℕ) → 2 ≤ N → N ≤ 64 → IsOverrides o → bs ≡ []
-    → IsKept N (plan_of bs 0 o) speeds gap_row soft_row 0
+    → KeepsPlan N (plan_of bs 0 o) speeds gap_row soft_row 0
 kept_none N bs o speeds gap_row soft_row some few right none =
-    subst (λ bs. IsKept N (plan_of bs 0 o) speeds gap_row soft_row 0) (sym none) record {
+    subst (λ bs. KeepsPlan N (plan_of bs 0 o) speeds gap_row soft_row 0) (sym none) record {
       some = some;
       few = few;
       room = omega (arith, some);
@@ -299,7 +299,7 @@ module _ (N n g : ℕ) (o : Overrides) (gap_row gap_row' soft_row soft_row' : Li
         softs = ap (take (length (b' ∷ bs) - 1)) (softs_left left) ∙ is.softs ∙ sym (softs_same o b (b.prepared + n) bs);
       }
 
-  pub tabled_moved : (w v settled : ℕ) (speeds : List ℕ) (bs bs' : List Block) → IsKept N (plan_of bs w o) speeds gap_row soft_row settled
+  pub tabled_moved : (w v settled : ℕ) (speeds : List ℕ) (bs bs' : List Block) → KeepsPlan N (plan_of bs w o) speeds gap_row soft_row settled
       → IsSegment (plan_of bs w o) n v → bs' ≡ moved n bs
       → ((b : Block) (rest : List Block) → bs ≡ b ∷ rest → g ≡ b.geom.q * (left_of b - n)) → IsTabled bs' o gap_row' soft_row'
   tabled_moved w v settled speeds [] bs' is segment e gap = absurd segment
@@ -322,7 +322,7 @@ module _ (N n g : ℕ) (o : Overrides) (gap_row gap_row' soft_row soft_row' : Li
 module _ (N w n v g settled settled' : ℕ) (o : Overrides) (speeds speeds' gap_row soft_row gap_row' soft_row' : List ℕ)
     (left_same : g ≢ 0 → speeds' ≡ speeds) (gone_up : g ≡ 0 → IsMovedUp N speeds speeds')
     (point_left : g ≢ 0 → settled' ≡ settled) (point_gone : g ≡ 0 → settled' ≡ settled - 1) where
-  reach_is : (b : Block) (bs : List Block) → IsKept N (plan_of (b ∷ bs) w o) speeds gap_row soft_row settled → g ≡ b.geom.q * (left_of b - n)
+  reach_is : (b : Block) (bs : List Block) → KeepsPlan N (plan_of (b ∷ bs) w o) speeds gap_row soft_row settled → g ≡ b.geom.q * (left_of b - n)
       → distance v (get_or speeds 1 0) ≤ g
       → distance v (planned_at (plan_of (b ∷ bs) w o) 1) ≤ b.geom.q * (left_of b - n)
   reach_is b bs is gap reach =
@@ -336,9 +336,9 @@ module _ (N w n v g settled settled' : ℕ) (o : Overrides) (speeds speeds' gap_
       sym (get_or-take (j + 1) speeds' j 0 (omega arith)) ∙ ap (λ l. get_or l j 0) (gone_up none (j + 1) room)
       ∙ get_or-take (j + 1) (drop 1 speeds) j 0 (omega arith) ∙ get_or-drop 1 speeds j 0 ∙ ap (λ k. get_or speeds k 0) on
 
-  pub kept_on : (bs bs' : List Block) → IsKept N (plan_of bs w o) speeds gap_row soft_row settled → IsSegment (plan_of bs w o) n v
+  pub kept_on : (bs bs' : List Block) → KeepsPlan N (plan_of bs w o) speeds gap_row soft_row settled → IsSegment (plan_of bs w o) n v
       → bs' ≡ moved n bs → ((b : Block) (rest : List Block) → bs ≡ b ∷ rest → g ≡ b.geom.q * (left_of b - n))
-      → distance v (get_or speeds 1 0) ≤ g → IsTabled bs' o gap_row' soft_row' → IsKept N (plan_of bs' v o) speeds' gap_row' soft_row' settled'
+      → distance v (get_or speeds 1 0) ≤ g → IsTabled bs' o gap_row' soft_row' → KeepsPlan N (plan_of bs' v o) speeds' gap_row' soft_row' settled'
   kept_on [] bs' is segment e gap reach tabled = absurd segment
   kept_on (b ∷ bs) bs' is segment e gap reach tabled =
       let b' : Block = record b { prepared = b.prepared + n } in

@@ -11,7 +11,7 @@ use Rattle.plan_rules.specs.Blocks.{left_of, top_of}
 use Rattle.plan_rules.specs.Plans.{Planned, IsReached, IsTail, exit_of}
 use Rattle.plan_rules.specs.Segments.{IsSegment, count_of, moved}
 use Rattle.plan_passes.specs.Paces.{IsPaceOf, IsPaceOfTail, IsSteady, IsSteadyOf}
-use Rattle.plan_passes.specs.Tables.{IsKept}
+use Rattle.plan_passes.specs.Tables.{KeepsPlan}
 use Rattle.plan_rules.proofs.Reached.{plan_of, tail_if}
 use Rattle.plan_passes.proofs.Moved.{tail_left}
 
@@ -75,11 +75,11 @@ steady_is p s b exit tail pace some same exit_is left reach =
 
 -- by what the fields of a plan keep
 pub tail_kept : (N w settled : ℕ) (bs : List Block) (o : Overrides) (speeds gap_row soft_row : List ℕ) (b : Bor Block)
-    → IsKept N (plan_of bs w o) speeds gap_row soft_row settled → bs ≡ b.now ∷ drop 1 bs → IsTail (plan_of bs w o) b.now
+    → KeepsPlan N (plan_of bs w o) speeds gap_row soft_row settled → bs ≡ b.now ∷ drop 1 bs → IsTail (plan_of bs w o) b.now
 tail_kept N w settled bs o speeds gap_row soft_row b kept e = tail_if (Some b) (plan_of bs w o) e kept.reached
 
 pub steady_kept : (N w settled exit : ℕ) (bs : List Block) (o : Overrides) (speeds gap_row soft_row : List ℕ) (b : Bor Block) (s : Pace)
-    → IsKept N (plan_of bs w o) speeds gap_row soft_row settled → bs ≡ b.now ∷ drop 1 bs → IsPaceOfTail o bs s → s.n ≢ 0 → w ≡ s.w
+    → KeepsPlan N (plan_of bs w o) speeds gap_row soft_row settled → bs ≡ b.now ∷ drop 1 bs → IsPaceOfTail o bs s → s.n ≢ 0 → w ≡ s.w
     → exit ≡ get_or speeds 1 0 → (s.n < left_of b.now) × (s.w ≤ exit + b.now.geom.q * (left_of b.now - s.n)) → IsSteadyOf (plan_of bs w o) bs s
 steady_kept N w settled exit bs o speeds gap_row soft_row b s kept e pace some same at on =
     let long = ap length e in

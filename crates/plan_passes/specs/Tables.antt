@@ -28,7 +28,7 @@ pub record IsOnward (w from : ℕ) (gaps softs speeds : List ℕ) : Type 0 where
 
 -- what the fields of a plan of N slots keep: what every plan keeps, the planned speed at each point, what is kept beside the
 -- blocks, and a settled point
-pub record IsKept (N : ℕ) (p : Planned) (speeds gap_row soft_row : List ℕ) (settled : ℕ) : Type 0 where
+pub record KeepsPlan (N : ℕ) (p : Planned) (speeds gap_row soft_row : List ℕ) (settled : ℕ) : Type 0 where
   pub some : 2 ≤ N
   pub few : N ≤ 64
   pub room : length p.blocks < N

@@ -51,14 +51,14 @@ impl<const N: usize> Model for Plan<N> {
     ghost use Rattle.plan_rules.specs.Plans.{Planned};
     ghost use Rattle.std.specs.Prelude.{◌≡◌, ◌-◌, length, take};
     ghost use Rattle.plan_rules.specs.Blocks.{hards_of};
-    ghost use Rattle.plan_passes.specs.Tables.{IsKept, nominals_of};
+    ghost use Rattle.plan_passes.specs.Tables.{KeepsPlan, nominals_of};
     ghost use Rattle.plan_passes.specs.Paces.{IsPaceOfTail};
 
     ghost Value = { Planned };
 
     ghost view = { λ p. record { blocks = p.ring; speed = p.speed; overrides = p.overrides } };
 
-    ghost invariant = { λ p. IsKept N (record { blocks = p.ring; speed = p.speed; overrides = p.overrides }) p.planned p.gaps p.softs p.settled × IsPaceOfTail p.overrides p.ring p.pace × (take (length p.ring) p.nominals ≡ nominals_of p.overrides p.ring) × (take (length p.ring - 1) p.hards ≡ hards_of p.ring) };
+    ghost invariant = { λ p. KeepsPlan N (record { blocks = p.ring; speed = p.speed; overrides = p.overrides }) p.planned p.gaps p.softs p.settled × IsPaceOfTail p.overrides p.ring p.pace × (take (length p.ring) p.nominals ≡ nominals_of p.overrides p.ring) × (take (length p.ring - 1) p.hards ≡ hards_of p.ring) };
 }
 
 /// The cap of a block's junction with the last block of the plan.

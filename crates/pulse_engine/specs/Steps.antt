@@ -49,7 +49,7 @@ pub record AwaitsPiece (p : Pulsing) : Type 0 where
   pub going : p.over ≡ false
 
 -- what the fields of a pulse keep
-pub record IsKept (hand : Option Record) (t : Trace) (n : ℕ) (owes over : Bool) : Type 0 where
+pub record KeepsPulse (hand : Option Record) (t : Trace) (n : ℕ) (owes over : Bool) : Type 0 where
   pub first : IsHand hand n
   pub within : t.done + n ≤ events_of t.mv
   pub last : over ≡ true → (hand ≡ None) × (n ≡ 0) × (owes ≡ false)

@@ -5,7 +5,7 @@ ghost use Rattle.step_line.specs.Counting.{events_of};
 ghost use Rattle.step_line.specs.Events.{IsEvent};
 ghost use Rattle.step_line.specs.Pieces.{records_of};
 ghost use Rattle.step_line.specs.declared.Record.TheVariants.{Event};
-ghost use Rattle.pulse_engine.specs.Steps.{IsFirst, IsKept, MayBegin, coming, gone, reached_after};
+ghost use Rattle.pulse_engine.specs.Steps.{IsFirst, KeepsPulse, MayBegin, coming, gone, reached_after};
 
 use crate::{PulsePort, TickOut};
 use outside::{On, Turn};
@@ -30,13 +30,13 @@ pub struct Pulse {
 }
 
 impl Model for Pulse {
-    ghost use Rattle.pulse_engine.specs.Steps.{Pulsing, pulsing, IsKept};
+    ghost use Rattle.pulse_engine.specs.Steps.{Pulsing, pulsing, KeepsPulse};
 
     ghost Value = { Pulsing };
 
     ghost view = { λ p. pulsing p.hand p.tracer p.left p.owes p.over };
 
-    ghost invariant = { λ p. IsKept p.hand p.tracer p.left p.owes p.over };
+    ghost invariant = { λ p. KeepsPulse p.hand p.tracer p.left p.owes p.over };
 }
 
 /// The next of the events that are left.

@@ -14,18 +14,18 @@ use Rattle.realtime_flags.specs.declared.words.Flag.{Flag}
 use Rattle.realtime_flags.specs.declared.words.Flag.TheVariants as flags
 use Rattle.realtime_flags.specs.declared.words.Raise.{Raise}
 use Rattle.realtime_flags.specs.declared.words.Take.{Take}
-use Rattle.realtime_flags.specs.declared.words.Sight.{Sight}
+use Rattle.realtime_flags.specs.declared.words.FlagSight.{FlagSight}
 use Rattle.realtime_flags.specs.Bits.{word_of, place_of, is_flag, report_flag, IsNamed, counted, is_up, raises_of, takes_with, IsBalanced, word_taken, bits_taken}
 use Rattle.realtime_flags.specs.Rule.{Kept, beginning, without_taking, without_raising, both_of, spent, with_raise, with_take, exec_taken, override_taken, raised, took_exec, took_override, balanced}
 use Rattle.realtime_flags.proofs.Bits.{raised_words, raise_balances, take_balances, down_among, raised_small, zero_is, same_power, at_least, same_flag, by_bool}
 
-abbrev may_raise : Sight → Bool
+abbrev may_raise : FlagSight → Bool
 may_raise v = v.may_raise
 
-abbrev may_take : Sight → Bool
+abbrev may_take : FlagSight → Bool
 may_take v = v.may_take
 
-abbrev after : State ℕ Sight → List ℕ → ℕ → Sight → State ℕ Sight
+abbrev after : State ℕ FlagSight → List ℕ → ℕ → FlagSight → State ℕ FlagSight
 after s words id w = record { words = words; homes = s.homes; views = set s.views id w }
 
 raised_exec : (words : List ℕ) (f : Flag) → length words ≡ 2 → IsNamed f → get_or words 0 0 < 2 ^ 5 → get_or (raised_words words f) 0 0 < 2 ^ 5
@@ -49,7 +49,7 @@ one_flag (flags.Override j) (flags.Override k) w p = ap (λ n. flags.Override n)
 one_flag (flags.Exec j) (flags.Override k) w p = absurd (omega arith)
 one_flag (flags.Override j) (flags.Exec k) w p = absurd (omega arith)
 
-pub raises : (slots id i k : ℕ) (v : Sight) (c : List (ℕ × ℕ)) (f : Flag) → v.may_raise ≡ true → IsNamed f → i ≡ word_of f → k ≡ 2 ^ place_of f
+pub raises : (slots id i k : ℕ) (v : FlagSight) (c : List (ℕ × ℕ)) (f : Flag) → v.may_raise ≡ true → IsNamed f → i ≡ word_of f → k ≡ 2 ^ place_of f
     → (f ≡ report_flag → raises_of report_flag v.raises < 2 ^ 31)
     → Allows Kept slots id (v, c) i (λ n. bit_or n k) (raised (step slots i k 0 none) (v, c))
 raises slots id i k v c f mine named word bit more s kept size at small =
@@ -57,7 +57,7 @@ raises slots id i k v c f mine named word bit more s kept size at small =
     let n : ℕ = get_or s.words i 0 in
     let found_down : Bool = not (nat_eq (bit_at n (place_of f)) 1) in
     let r : Raise = record { flag = f; down = found_down } in
-    let w : Sight = with_raise v f found_down in
+    let w : FlagSight = with_raise v f found_down in
     let words : set s.words i (bit_or n k) ≡ raised_words s.words f = λ j. set s.words (word j) (bit_or (get_or s.words (word j) 0) (bit j)) in
     let same : found_down ≡ not (is_up f s.words) = ap (λ j. not (nat_eq (bit_at (get_or s.words j 0) (place_of f)) 1)) word in
     let next : Kept (after s (raised_words s.words f) id w) = record {
@@ -82,11 +82,11 @@ raises slots id i k v c f mine named word bit more s kept size at small =
     )
 
 -- a word is taken
-taken_state : (s : State ℕ Sight) (kept : Kept s) (id : ℕ) (v : Sight) (t : Take) → get_elem? s.views id ≡ some v → v.may_take ≡ true → word_taken t < 2 → bits_taken t ≡ get_or s.words (word_taken t) 0
+taken_state : (s : State ℕ FlagSight) (kept : Kept s) (id : ℕ) (v : FlagSight) (t : Take) → get_elem? s.views id ≡ some v → v.may_take ≡ true → word_taken t < 2 → bits_taken t ≡ get_or s.words (word_taken t) 0
     → Kept (after s (set s.words (word_taken t) 0) id (with_take v t))
 taken_state s kept id v t at mine low bits =
     let own = kept.taking id v at mine in
-    let w : Sight = with_take v t in record {
+    let w : FlagSight = with_take v t in record {
       raises = kept.raises;
       taken = t ∷ kept.taken;
       raiser = kept.raiser;
@@ -101,13 +101,13 @@ taken_state s kept id v t at mine low bits =
     }
 
 -- the report flag was taken no more often than it was raised
-few_taken : (s : State ℕ Sight) (kept : Kept s) → takes_with report_flag kept.taken ≤ 2 ^ 31
+few_taken : (s : State ℕ FlagSight) (kept : Kept s) → takes_with report_flag kept.taken ≤ 2 ^ 31
 few_taken s kept = let b = kept.balance report_flag in let l = at_least (is_up report_flag s.words) (takes_with report_flag kept.taken) in let d = down_among report_flag kept.raises in let f = kept.few in omega arith
 
-cleared : (s : State ℕ Sight) (i id : ℕ) (w : Sight) (n : ℕ) → Kept (after s (set s.words i 0) id w) → Kept (after s (set s.words i (bit_and n 0)) id w)
+cleared : (s : State ℕ FlagSight) (i id : ℕ) (w : FlagSight) (n : ℕ) → Kept (after s (set s.words i 0) id w) → Kept (after s (set s.words i (bit_and n 0)) id w)
 cleared s i id w n kept = let Q : ℕ → Type 0 = λ z. Kept (after s (set s.words i z) id w) in subst Q (sym (and_zero_r n)) kept
 
-pub takes_exec : (slots id : ℕ) (v : Sight) (c : List (ℕ × ℕ)) → v.may_take ≡ true → Allows Kept slots id (v, c) 0 (λ n. bit_and n 0) (took_exec (step slots 0 0 0 none) (v, c))
+pub takes_exec : (slots id : ℕ) (v : FlagSight) (c : List (ℕ × ℕ)) → v.may_take ≡ true → Allows Kept slots id (v, c) 0 (λ n. bit_and n 0) (took_exec (step slots 0 0 0 none) (v, c))
 unfolding taken_state
 takes_exec slots id v c mine s kept size at small =
     let n : ℕ = get_or s.words 0 0 in
@@ -121,7 +121,7 @@ takes_exec slots id v c mine s kept size at small =
       (refl, kept.exec, (let Q : List Take → Type 0 = λ l. takes_with report_flag (exec_taken n ∷ l) ≤ 2 ^ 31 in subst Q (sym own.1) few)),
     )
 
-pub takes_override : (slots id : ℕ) (v : Sight) (c : List (ℕ × ℕ)) → v.may_take ≡ true → Allows Kept slots id (v, c) 1 (λ n. bit_and n 0) (took_override (step slots 1 0 0 none) (v, c))
+pub takes_override : (slots id : ℕ) (v : FlagSight) (c : List (ℕ × ℕ)) → v.may_take ≡ true → Allows Kept slots id (v, c) 1 (λ n. bit_and n 0) (took_override (step slots 1 0 0 none) (v, c))
 takes_override slots id v c mine s kept size at small =
     let n : ℕ = get_or s.words 1 0 in (
       with_take v (override_taken n),
@@ -131,7 +131,7 @@ takes_override slots id v c mine s kept size at small =
       (refl, kept.override),
     )
 
-pub balances : (slots id i : ℕ) (v : Sight) (c : List (ℕ × ℕ)) → v.may_raise ≡ true → v.may_take ≡ true → Allows Kept slots id (v, c) i (λ n. n) (balanced (step slots i 0 0 none) (v, c))
+pub balances : (slots id i : ℕ) (v : FlagSight) (c : List (ℕ × ℕ)) → v.may_raise ≡ true → v.may_take ≡ true → Allows Kept slots id (v, c) i (λ n. n) (balanced (step slots i 0 0 none) (v, c))
 balances slots id i v c raising taking s kept size at small =
     let r = kept.raising id v at raising in
     let t = kept.taking id v at taking in (
@@ -173,7 +173,7 @@ starts = record {
     nothing_up (flags.Exec k) = rw (bit_at-zero k) refl
     nothing_up (flags.Override k) = rw (bit_at-zero k) refl
 
-pub splits : (id : ℕ) (v : Sight) → v.may_raise ≡ true → v.may_take ≡ true → Splits Kept id v (without_taking v) (without_raising v)
+pub splits : (id : ℕ) (v : FlagSight) → v.may_raise ≡ true → v.may_take ≡ true → Splits Kept id v (without_taking v) (without_raising v)
 splits id v raising taking s kept at =
     let r = kept.raising id v at raising in
     let t = kept.taking id v at taking in record {
@@ -190,7 +190,7 @@ splits id v raising taking s kept at =
       taking = rights.splits_right may_take s.views kept.taker _ id (without_taking v) (without_raising v) kept.taking t.0 refl t.1;
     }
 
-pub joins : (id other : ℕ) (v w : Sight) → v.may_raise ≡ true → w.may_take ≡ true → Joins Kept id v other w (both_of v w) spent
+pub joins : (id other : ℕ) (v w : FlagSight) → v.may_raise ≡ true → w.may_take ≡ true → Joins Kept id v other w (both_of v w) spent
 joins id other v w raising taking s kept at apart at_other =
     let was : get_elem? s.views other ≡ some w = ⊎_elim (λ a. absurd (apart a.0)) (λ a. a.1) (at_set s.views id other (both_of v w) w at_other) in
     let r = kept.raising id v at raising in

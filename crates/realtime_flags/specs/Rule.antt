@@ -7,10 +7,10 @@ use Rattle.realtime_flags.specs.declared.words.Flag.{Flag}
 use Rattle.realtime_flags.specs.declared.words.Raise.{Raise}
 use Rattle.realtime_flags.specs.declared.words.Take.{Take}
 use Rattle.realtime_flags.specs.declared.words.Take.TheVariants as takes
-use Rattle.realtime_flags.specs.declared.words.Sight.{Sight}
+use Rattle.realtime_flags.specs.declared.words.FlagSight.{FlagSight}
 use Rattle.realtime_flags.specs.Bits.{word_of, place_of, report_flag, raises_of, takes_with, IsBalanced}
 
-pub record Kept (s : State ℕ Sight) : Type 0 where
+pub record Kept (s : State ℕ FlagSight) : Type 0 where
   pub raises : List Raise
   pub taken : List Take
   pub raiser : ℕ
@@ -24,30 +24,30 @@ pub record Kept (s : State ℕ Sight) : Type 0 where
   pub raising : Sole s.views (λ v. v.may_raise) raiser (λ v. v.raises ≡ raises)
   pub taking : Sole s.views (λ v. v.may_take) taker (λ v. v.takes ≡ taken)
 
-abbrev pub beginning : Sight
+abbrev pub beginning : FlagSight
 beginning = record { may_raise = true; may_take = true; raises = []; takes = [] }
 
-abbrev pub without_taking : Sight → Sight
+abbrev pub without_taking : FlagSight → FlagSight
 without_taking v = record v { may_take = false }
 
-abbrev pub without_raising : Sight → Sight
+abbrev pub without_raising : FlagSight → FlagSight
 without_raising v = record v { may_raise = false }
 
-abbrev pub both_of : Sight → Sight → Sight
+abbrev pub both_of : FlagSight → FlagSight → FlagSight
 both_of v w = record { may_raise = v.may_raise; may_take = w.may_take; raises = v.raises; takes = w.takes }
 
-abbrev pub spent : Sight
+abbrev pub spent : FlagSight
 spent = record { may_raise = false; may_take = false; raises = []; takes = [] }
 
 -- the view after each step
-abbrev pub with_raise : Sight → Flag → Bool → Sight
+abbrev pub with_raise : FlagSight → Flag → Bool → FlagSight
 with_raise v f found_down = record v { raises = record { flag = f; down = found_down } ∷ v.raises }
 
-abbrev pub with_take : Sight → Take → Sight
+abbrev pub with_take : FlagSight → Take → FlagSight
 with_take v t = record v { takes = t ∷ v.takes }
 
 abbrev Sat : Type 0
-Sat = Me ℕ Sight
+Sat = Me ℕ FlagSight
 
 abbrev At : Type 0
 At = Step ℕ

@@ -14,4 +14,4 @@ mod words;
 
 pub use calls::{flag_table, join_flags};
 pub use ends::{Raiser, Taker};
-pub use words::{Flag, Raise, Raised, Sight, Take, Words, flag_of_byte};
+pub use words::{Flag, FlagSight, Raise, Raised, Take, Words, flag_of_byte};

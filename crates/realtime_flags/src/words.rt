@@ -67,7 +67,7 @@ pub enum Take {
 }
 
 /// What a seat of the table knows: what its side did, the latest first. No value of it is made.
-pub struct Sight {
+pub struct FlagSight {
     pub may_raise: bool,
     pub may_take: bool,
     pub raises: LinkedList<Raise>,
@@ -77,7 +77,7 @@ pub struct Sight {
 /// The rule of the two words.
 pub struct Words;
 
-impl TableRule<u64, Sight, ()> for Words {
+impl TableRule<u64, FlagSight, ()> for Words {
     ghost use Rattle.realtime_flags.specs.Rule.{Kept, beginning};
 
     ghost holds = { λ _. Kept };
@@ -85,9 +85,9 @@ impl TableRule<u64, Sight, ()> for Words {
     ghost first = { λ _. beginning };
 }
 
-pub(crate) type FlagTable = Table<u64, Sight, (), Words, Global>;
+pub(crate) type FlagTable = Table<u64, FlagSight, (), Words, Global>;
 
-pub(crate) type Place = Seat<u64, Sight>;
+pub(crate) type Place = Seat<u64, FlagSight>;
 
 /// The flag that a byte raises.
 pub fn flag_of_byte(byte: u8) -> Option<Flag>

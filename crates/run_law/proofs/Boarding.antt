@@ -23,11 +23,11 @@ use Rattle.stream_host.proofs.Pieces.{wholes_on, no_whole}
 use Rattle.run_rules.specs.Reports.{Course, Reported, settled_to, fewest}
 use Rattle.board_rules.specs.Openings.{first_opening}
 use Rattle.board_rules.specs.Cuts.{part_outcomes, part_actions, part_given, part_plan, has_halted, parts_of, passed_of, counts_of, cancel_words_at, cancel_words_in}
-use Rattle.board_rules.specs.Parts.{IsHaltedPart, plan_behind}
+use Rattle.board_rules.specs.Parts.{IsAlarmedPart, plan_behind}
 use Rattle.board_rules.specs.Turns.{owes_report}
 use Rattle.board_rules.specs.Steps.{Journal, port_log, taken_of, has_closed, has_limited, plan_of, answered_of, published_of, known_of, open_of, whole_of, lines_of, outcomes_of, before_of, left_of, closed_tells, planned_of, given_of, hand_of}
 use Rattle.board_rules.specs.Ports.{has_held_in, has_slowed_in, has_changed_in, reports_in}
-use Rattle.board_rules.specs.Ports.{PortStep, PortLog, answered_in, changes_at, closed_at, has_cancelled_in, has_closed_in, has_reset_in, cancels_at, holds_at, published_in, reports_at, resets_at, taken_at, taken_in, known_at, known_in}
+use Rattle.board_rules.specs.Ports.{PortStep, BoardLog, answered_in, changes_at, closed_at, has_cancelled_in, has_closed_in, has_reset_in, cancels_at, holds_at, published_in, reports_at, resets_at, taken_at, taken_in, known_at, known_in}
 use Rattle.board_rules.specs.Ports.PortStep.{answered, no_reply_room, no_piece_room, published}
 use Rattle.board_rules.specs.Breaking.{Doings, Ending, EndsRun, MayBreakOff, ending_of, is_end}
 use Rattle.board_rules.specs.Breaking.Doings.{goes, broke}
@@ -82,7 +82,7 @@ by_doings P going ended (broke since before) = ended since before
 
 -- it has halted, and its open part is one that an alarm has ended
 abbrev Halted : State → Journal → Type 0
-Halted first h = (has_halted h ≡ true) × IsHaltedPart (part_outcomes h) (plan_behind (parts_of (first_opening first) h)) (part_actions h) (part_given h) (part_plan h)
+Halted first h = (has_halted h ≡ true) × IsAlarmedPart (part_outcomes h) (plan_behind (parts_of (first_opening first) h)) (part_actions h) (part_given h) (part_plan h)
 
 -- what the laws of boards say of one that keeps to its rules
 pub record Kept (first : State) (h : Journal) : Type 0 where
@@ -110,7 +110,7 @@ pub record Kept (first : State) (h : Journal) : Type 0 where
 halted_so : (first : State) (h : Journal) → Conducted (first_opening first) h → has_limited h ≡ true → left_of (first_opening first) h ≡ [] → Halted first h
 halted_so first h conducted one free =
     let was = free_halted (first_opening first) h conducted one free in
-    (was, subst (λ (start : Planned). IsHaltedPart (part_outcomes h) start (part_actions h) (part_given h) (part_plan h)) (starts_are (first_opening first) h) (halted_part (first_opening first) h conducted was))
+    (was, subst (λ (start : Planned). IsAlarmedPart (part_outcomes h) start (part_actions h) (part_given h) (part_plan h)) (starts_are (first_opening first) h) (halted_part (first_opening first) h conducted was))
 
 -- all lines but the last one that was begun are answered
 one_begun : (first : State) (h : Journal) → Conducted (first_opening first) h → length (outcomes_of h) ≤ answers_in (answered_of h) + 1
@@ -313,11 +313,11 @@ pub record IsBroken (first : State) (since before : Journal) : Type 0 where
   pub broke_off : MayBreakOff before
   pub ends : EndsRun since before
 
-abbrev log_behind : Journal → Journal → PortLog
+abbrev log_behind : Journal → Journal → BoardLog
 log_behind since before = port_log since ++ port_log before
 
 -- its log has of a word, a byte and a flag what it had before
-same_log : {X : Type 0} (at : PortStep → X → X) (p : PortLog → X) (since before : Journal) → EndsRun since before → ((e : PortStep) (l : PortLog) → p (e ∷ l) ≡ at e (p l))
+same_log : {X : Type 0} (at : PortStep → X → X) (p : BoardLog → X) (since before : Journal) → EndsRun since before → ((e : PortStep) (l : BoardLog) → p (e ∷ l) ≡ at e (p l))
     → ((q : Piece) (x : X) → at (published q) x ≡ x) → ((r : Reply) (x : X) → at (answered r) x ≡ x) → ((n : ℕ) (x : X) → at (no_piece_room n) x ≡ x) → ((x : X) → at no_reply_room x ≡ x)
     → p (log_behind since before) ≡ p (port_log before)
 same_log at p since before ends step gave told kept full = same_since at p step gave told kept full since before ends

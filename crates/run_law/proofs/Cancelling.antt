@@ -10,9 +10,9 @@ use Rattle.realtime_flags.specs.declared.words.Flag.{Flag}
 use Rattle.realtime_flags.specs.declared.words.Flag.TheVariants as flags
 use Rattle.realtime_flags.specs.Bits.{is_flag, is_up, raised_down, takes_with, IsBalanced}
 use Rattle.realtime_flags.specs.Bytes.{flag_of_row, flag_of_byte}
-use Rattle.stream_host.specs.Steps.{PortLog as HostLog}
+use Rattle.stream_host.specs.Steps.{HostLog}
 use Rattle.stream_host.specs.Steps as hosts
-use Rattle.board_rules.specs.Ports.{PortLog as BoardLog, has_held_in, has_cancelled_in, has_slowed_in}
+use Rattle.board_rules.specs.Ports.{BoardLog, has_held_in, has_cancelled_in, has_slowed_in}
 use Rattle.board_rules.specs.Ports.PortStep.{took_exec}
 use Rattle.run_law.specs.Flags.{is_hold, is_cancel, is_slow}
 use Rattle.run_law.specs.Taking.{raises_in, takes_in}
@@ -84,11 +84,11 @@ holds_slow b is = ap (λ (t : Bool). t || is_cancel b) is
 cancels_slow : (b : ℕ) → is_cancel b ≡ true → is_slow b ≡ true
 cancels_slow b is = later (is_hold b) (is_cancel b) is
 
-pub slow_raised : (words : List ℕ) (host : HostLog) (board : BoardLog) → IsBalanced words (raises_in host) (takes_in board) → has_slowed_in board ≡ true → list_any is_slow (hosts.raises_in host) ≡ true
+pub slow_raised : (words : List ℕ) (host : HostLog) (board : BoardLog) → IsBalanced words (raises_in host) (takes_in board) → has_slowed_in board ≡ true → list_any is_slow (hosts.bytes_raised_in host) ≡ true
 slow_raised words host board balance slowed = by_either (has_held_in board) (has_cancelled_in board) refl refl slowed
   where
-    by_either : (held cancelled : Bool) → has_held_in board ≡ held → has_cancelled_in board ≡ cancelled → (held || cancelled) ≡ true → list_any is_slow (hosts.raises_in host) ≡ true
-    by_either true cancelled e f some = either_slows (hosts.raises_in host) is_hold holds_slow (flag_was_raised hold_flag is_hold hold_bytes host
+    by_either : (held cancelled : Bool) → has_held_in board ≡ held → has_cancelled_in board ≡ cancelled → (held || cancelled) ≡ true → list_any is_slow (hosts.bytes_raised_in host) ≡ true
+    by_either true cancelled e f some = either_slows (hosts.bytes_raised_in host) is_hold holds_slow (flag_was_raised hold_flag is_hold hold_bytes host
         (taken_was_down (is_up hold_flag words) (raised_down hold_flag (raises_in host)) (takes_with hold_flag (takes_in board)) (balance hold_flag) (hold_taken board e)))
-    by_either false cancelled e f some = either_slows (hosts.raises_in host) is_cancel cancels_slow (flag_was_raised cancel_flag is_cancel cancel_bytes host
+    by_either false cancelled e f some = either_slows (hosts.bytes_raised_in host) is_cancel cancels_slow (flag_was_raised cancel_flag is_cancel cancel_bytes host
         (taken_was_down (is_up cancel_flag words) (raised_down cancel_flag (raises_in host)) (takes_with cancel_flag (takes_in board)) (balance cancel_flag) (cancel_taken board (f ∙ some))))

@@ -19,12 +19,12 @@ use Rattle.realtime_flags.specs.Bits.{counted, is_up, raised_down, takes_with, I
 use Rattle.realtime_flags.specs.Bytes.{flag_of_byte}
 use Rattle.stream_host.specs.Jobs.{served_in}
 use Rattle.stream_host.specs.Ran.{AreRaised}
-use Rattle.stream_host.specs.Steps.{PortLog as HostLog}
+use Rattle.stream_host.specs.Steps.{HostLog}
 use Rattle.stream_host.specs.Steps as hosts
 use Rattle.board_rules.specs.Openings.{first_opening}
-use Rattle.board_rules.specs.Ports.{PortStep, PortLog}
+use Rattle.board_rules.specs.Ports.{PortStep, BoardLog}
 use Rattle.board_rules.specs.Ports.PortStep.{took_exec, took_ovr}
-use Rattle.board_rules.specs.Steps.{Journal, port_log, plan_of, behind}
+use Rattle.board_rules.specs.Steps.{Journal, port_log, plan_of, plan_after}
 use Rattle.board_rules.specs.Steps.Step.{at_port, did, evened, cut}
 use Rattle.board_rules.specs.Parts.{actions_in}
 use Rattle.board_rules.specs.Cuts.{part_actions, parts_of}
@@ -77,10 +77,10 @@ record Changed (first : State) (h : Journal) : Type 0 where
 -- one action of a board
 record OneChange (h : Journal) (a : Action) (ps : List Piece) : Type 0 where
   are : AreChanges (IsAmong (words_in (port_log h))) (plan_of h).overrides (a ∷ [])
-  now : overrides_behind (plan_of h).overrides (a ∷ []) ≡ (behind a ps (plan_of h)).overrides
+  now : overrides_behind (plan_of h).overrides (a ∷ []) ≡ (plan_after a ps (plan_of h)).overrides
 
-just_taken : (h : Journal) (word : Ovr) (earlier : PortLog) → port_log h ≡ took_ovr word ∷ earlier → IsAmong (words_in (port_log h)) word
-just_taken h word earlier is = subst (λ (l : PortLog). IsAmong (words_in l) word) (sym is) (inl refl)
+just_taken : (h : Journal) (word : Ovr) (earlier : BoardLog) → port_log h ≡ took_ovr word ∷ earlier → IsAmong (words_in (port_log h)) word
+just_taken h word earlier is = subst (λ (l : BoardLog). IsAmong (words_in l) word) (sym is) (inl refl)
 
 one_change : (first : State) (h : Journal) (a : Action) (ps : List Piece) → MayDo (first_opening first) a h → OneChange h a ps
 one_change first h (Override o) ps may = record { are = (inr (may.word, just_taken h may.word may.earlier may.last, may.taken), tt); now = refl }
@@ -149,7 +149,7 @@ changes_are first h c = (changed_is first h c).are
 
 -- ---- what was taken was raised
 
-flag_taken : (l : PortLog) (word : Ovr) (place : ℕ) → IsAmong (words_in l) word → bit_at (ovr_bits word) place ≡ 1 → 0 < takes_with (flags.Override place) (takes_in l)
+flag_taken : (l : BoardLog) (word : Ovr) (place : ℕ) → IsAmong (words_in l) word → bit_at (ovr_bits word) place ≡ 1 → 0 < takes_with (flags.Override place) (takes_in l)
 flag_taken [] word place among bit = absurd among
 flag_taken (took_exec w ∷ l) word place among bit = flag_taken l word place among bit
 flag_taken (took_ovr w ∷ l) word place (inl is) bit =
@@ -163,7 +163,7 @@ same_place place = grind (arith, nat_tests)
 its_byte : (place : ℕ) → IsByteOf (flags.Override place) (raises_change place)
 its_byte place b is = ap (is_change_at place) is ∙ same_place place
 
-pub words_were_raised : (words : List ℕ) (host : HostLog) (board : PortLog) → IsBalanced words (raises_in host) (takes_in board) → (word : Ovr) → IsAmong (words_in board) word → IsAskedIn (hosts.raises_in host) word
+pub words_were_raised : (words : List ℕ) (host : HostLog) (board : BoardLog) → IsBalanced words (raises_in host) (takes_in board) → (word : Ovr) → IsAmong (words_in board) word → IsAskedIn (hosts.bytes_raised_in host) word
 words_were_raised words host board balance word among place bit =
     let f = flags.Override place in
     flag_was_raised f (raises_change place) (its_byte place) host

@@ -20,7 +20,7 @@ use Rattle.stream_host.specs.Steps as hosts
 use Rattle.stream_host.specs.Conduct.{Conducted}
 use Rattle.stream_host.specs.Ran.{HostEnd, HostRan}
 use Rattle.stream_host.proofs.Running.{has_run}
-use Rattle.run_law.specs.Runs.{Sinks, ended, IsRun}
+use Rattle.run_law.specs.Runs.{Sinks, run_end, IsRun}
 use Rattle.run_law.specs.Ran.{BoardRan, PulseRan, RecorderRan}
 use Rattle.run_law.proofs.Law.{runs}
 
@@ -176,7 +176,7 @@ recorder_ran = record {
 
 -- ---- the run
 
-pub a_run : (first : State) → IsOpening first → IsRun one_line nothing sinks sinks (ended ended_so false)
+pub a_run : (first : State) → IsOpening first → IsRun one_line nothing sinks sinks (run_end ended_so false)
 a_run first opening =
     (runs one_line nothing sinks sinks ended_so false (10 ∷ []) [] (10 ∷ []) true true false false false false 0 0 0 []
     (replies.Banner ∷ replies.Ok ∷ replies.Bye ∷ []) (replies.Banner ∷ replies.Ok ∷ replies.Bye ∷ []) (pieces.End ∷ []) (pieces.End ∷ []) 0 (kinds.End ∷ []) (kinds.End ∷ []) [] []

@@ -27,7 +27,7 @@ use Rattle.stream_host.specs.Ran.{HostEnd, HostRan}
 use Rattle.code_table.specs.declared.flags.Ovr.{Ovr}
 use Rattle.run_law.specs.Changes.{AreAskedIn}
 use Rattle.run_law.specs.Flags.{AreTaken}
-use Rattle.run_law.specs.Runs.{Sinks, ended, IsRun}
+use Rattle.run_law.specs.Runs.{Sinks, run_end, IsRun}
 use Rattle.run_law.specs.Ran.{BoardRan, PulseRan, RecorderRan, IsLinked}
 use Rattle.run_law.specs.Fronts.{BeginsWith}
 use Rattle.run_rules.proofs.Answering.{NoByes, none_is_bye}
@@ -139,17 +139,17 @@ pub ends : (job_was job_is : SourceState) (was is : Sinks) (end : HostEnd) (step
     → (host : HostRan job_was job_is was.console is.console stored marks shut raised got end) → BoardRan taken closed held slowed changed reset asked cancels known words answered published → PulseRan got_pieces ticks put
     → RecorderRan was.steps is.steps got_records steps_failed
     → IsLinked stored shut taken closed marks loaded → AreTaken raised held slowed changed reset asked cancels → known ≤ ticks → AreAskedIn raised words → BeginsWith answered got → BeginsWith published got_pieces → BeginsWith put got_records
-    → (run : IsRun job_was job_is was is (ended end steps_failed)) × (run.scanned ≡ host.scanned) × (run.replies ≡ got)
+    → (run : IsRun job_was job_is was is (run_end end steps_failed)) × (run.scanned ≡ host.scanned) × (run.replies ≡ got)
 ends job_was job_is was is end steps_failed stored raised taken shut closed held slowed changed reset asked cancels known words got answered got_pieces published ticks got_records put marks loaded host board pulse recorder link flags found all_asked some_replies some_pieces some_records =
     let none = front_none replies.Bye (replies_in (all_outcomes board.drive)) board.said board.front
     (subst (λ (os : List Outcome). NoByes (replies_in os)) (became_all board.drive) (none_is_bye true (start board.first) board.lines (all_passed board.drive) board.last board.follows)) in
     let same_replies = replies_whole (without_reports answered) (without_reports got) board.said board.told none (bye_without got host.bye) (plain_front answered got some_replies) in
     let no_end = front_none pieces.End (all_given board.drive) board.made board.kept (no_ends most_blocks fresh_plan board.drive.plan (all_actions board.drive) (all_given board.drive) board.drives.run) in
     let same_pieces : got_pieces ≡ published = whole_front pieces.End published got_pieces board.made pulse.before no_end board.gave pulse.ends some_pieces in
-    let ended : IsEnded put = record {
+    let run_end : IsEnded put = record {
       front = all_records board.made;
       last = pulse.records ∙ ap (flat_map records_of) (same_pieces ∙ board.gave) ∙ ended_records board.made;
       once = records_end (all_given board.drive) board.made board.kept (run_has_no_end most_blocks fresh_plan board.drive.plan (all_actions board.drive) (all_given board.drive) board.drives.run);
     } in
     runs_by job_was job_is was is end steps_failed stored raised taken shut closed held slowed changed reset asked cancels known words got answered got_pieces published ticks got_records put marks loaded host board pulse recorder link flags found all_asked
-    same_replies some_replies same_pieces (records_whole put got_records ended recorder.ended some_records)
+    same_replies some_replies same_pieces (records_whole put got_records run_end recorder.ended some_records)

@@ -35,7 +35,7 @@ use Rattle.run_law.proofs.Flagging.{driven_by, no_reset}
 use Rattle.run_law.proofs.Begins.{begins_on, begins_by, begins_each, lines_begin, ended_records, ended_ticks, ticks_length}
 use Rattle.run_law.proofs.Driving.{became_all, made_ticks, whole_drive}
 use Rattle.run_law.specs.Drives.{Drive, all_outcomes, all_passed, all_actions, all_given, all_counts, ticks_due}
-use Rattle.run_law.specs.Runs.{Sinks, ended, course, asks_hold, asks_slow, slows_in, asks_change, asks_reset, AreReports, IsRun}
+use Rattle.run_law.specs.Runs.{Sinks, run_end, course, asks_hold, asks_slow, slows_in, asks_change, asks_reset, AreReports, IsRun}
 use Rattle.run_law.specs.Fronts.{BeginsWith}
 use Rattle.run_law.proofs.Reporting.{scanned_grows, scanned_few, reported_fewer, reported_front, few_front, errors_without}
 use Rattle.run_law.specs.Ran.{HasReported, BoardRan, PulseRan, RecorderRan, IsLinked}
@@ -106,7 +106,7 @@ once_by : (job_was job_is : SourceState) (was is : Sinks) (end : HostEnd) (steps
     → (host : RanOnce job_was job_is was.console is.console stored shut raised got end) → BoardRan taken closed held slowed changed reset asked cancels known words answered published → PulseRan got_pieces ticks put
     → RecorderRan was.steps is.steps got_records steps_failed
     → IsLinked stored shut taken closed marks loaded → AreTaken raised held slowed changed reset asked cancels → known ≤ ticks → AreAskedIn raised words → without_reports got ≡ without_reports answered → BeginsWith answered got → got_pieces ≡ published → got_records ≡ put
-    → (run : IsRun job_was job_is was is (ended end steps_failed)) × (run.scanned ≡ host.scanned) × (run.replies ≡ got)
+    → (run : IsRun job_was job_is was is (run_end end steps_failed)) × (run.scanned ≡ host.scanned) × (run.replies ≡ got)
 once_by job_was job_is was is end steps_failed stored raised taken shut closed held slowed changed reset asked cancels known words got answered got_pieces published ticks got_records put marks loaded host board pulse recorder link flags found all_asked same_replies begins same_pieces same_records =
     let raises = host.raises_so_far in
     let on_the_link : BeginsWith (on_link host.lines) taken =
@@ -218,7 +218,7 @@ pub runs_by : (job_was job_is : SourceState) (was is : Sinks) (end : HostEnd) (s
     → (host : HostRan job_was job_is was.console is.console stored marks shut raised got end) → BoardRan taken closed held slowed changed reset asked cancels known words answered published → PulseRan got_pieces ticks put
     → RecorderRan was.steps is.steps got_records steps_failed
     → IsLinked stored shut taken closed marks loaded → AreTaken raised held slowed changed reset asked cancels → known ≤ ticks → AreAskedIn raised words → without_reports got ≡ without_reports answered → BeginsWith answered got → got_pieces ≡ published → got_records ≡ put
-    → (run : IsRun job_was job_is was is (ended end steps_failed)) × (run.scanned ≡ host.scanned) × (run.replies ≡ got)
+    → (run : IsRun job_was job_is was is (run_end end steps_failed)) × (run.scanned ≡ host.scanned) × (run.replies ≡ got)
 runs_by job_was job_is was is end steps_failed stored raised taken shut closed held slowed changed reset asked cancels known words got answered got_pieces published ticks got_records put marks loaded host board pulse recorder link flags found all_asked same_replies begins same_pieces same_records =
     let told : BeginsWith (board.said ++ replies.Bye ∷ []) (without_reports answered) = record { rest = []; is = sym board.told ∙ sym (append-nil (without_reports answered)) } in
     let one = one_banner board.first board.lines board.drive board.last board.said answered got board.follows board.front told begins in
@@ -232,7 +232,7 @@ pub runs : (job_was job_is : SourceState) (was is : Sinks) (end : HostEnd) (step
     → (host : HostRan job_was job_is was.console is.console stored marks shut raised got end) → BoardRan taken closed held slowed changed reset asked cancels known words answered published → PulseRan got_pieces ticks put
     → RecorderRan was.steps is.steps got_records steps_failed
     → IsLinked stored shut taken closed marks loaded → AreTaken raised held slowed changed reset asked cancels → known ≤ ticks → AreAskedIn raised words → got ≡ answered → got_pieces ≡ published → got_records ≡ put
-    → (run : IsRun job_was job_is was is (ended end steps_failed)) × (run.scanned ≡ host.scanned) × (run.replies ≡ got)
+    → (run : IsRun job_was job_is was is (run_end end steps_failed)) × (run.scanned ≡ host.scanned) × (run.replies ≡ got)
 runs job_was job_is was is end steps_failed stored raised taken shut closed held slowed changed reset asked cancels known words got answered got_pieces published ticks got_records put marks loaded host board pulse recorder link flags found all_asked same_replies same_pieces same_records =
     runs_by job_was job_is was is end steps_failed stored raised taken shut closed held slowed changed reset asked cancels known words got answered got_pieces published ticks got_records put marks loaded host board pulse recorder link flags found all_asked
     (ap without_reports same_replies) (record { rest = []; is = sym same_replies ∙ sym (append-nil got) }) same_pieces same_records

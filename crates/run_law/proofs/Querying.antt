@@ -7,11 +7,11 @@ use Rattle.realtime_flags.specs.Bits.{is_up, report_flag, takes_with, IsBalanced
 use Rattle.realtime_flags.proofs.Bits.{down_among, at_least}
 use Rattle.run_rules.specs.Reports.{is_query}
 use Rattle.stream_host.specs.Ports.{queries_in}
-use Rattle.stream_host.specs.Steps.{PortLog}
+use Rattle.stream_host.specs.Steps.{HostLog}
 use Rattle.stream_host.specs.Steps as hosts
 use Rattle.stream_host.specs.Steps.PortStep.{stored, dropped, marked, raised, got, no_reply, shut}
 use Rattle.stream_host.proofs.Queries.{few_queries}
-use Rattle.board_rules.specs.Ports.{PortLog as BoardLog, reports_in}
+use Rattle.board_rules.specs.Ports.{BoardLog, reports_in}
 use Rattle.board_rules.proofs.Asking.{reports_are}
 use Rattle.run_law.specs.Taking.{raises_in, takes_in}
 
@@ -20,15 +20,15 @@ one_query n bytes true e = omega (arith, e)
 one_query n bytes false e = omega (arith, e)
 
 -- `?` was raised as often as it is among the bytes that were
-pub queries_counted : (h : PortLog) → queries_in h ≡ count_by is_query (hosts.raises_in h)
+pub queries_counted : (h : HostLog) → queries_in h ≡ count_by is_query (hosts.bytes_raised_in h)
 queries_counted [] = refl
 queries_counted (raised b down ∷ h) =
-    one_query (queries_in h) (hosts.raises_in h) (nat_eq b query) (queries_counted h)
-    ∙ (let s = sum_by-append (λ x. cond {A = ℕ} (is_query x) 1 0) (hosts.raises_in h) (b ∷ []) in omega (arith, s))
+    one_query (queries_in h) (hosts.bytes_raised_in h) (nat_eq b query) (queries_counted h)
+    ∙ (let s = sum_by-append (λ x. cond {A = ℕ} (is_query x) 1 0) (hosts.bytes_raised_in h) (b ∷ []) in omega (arith, s))
 queries_counted (_ ∷ h) = queries_counted h
 
 -- words that ask for a report are no more than the `?` that were raised
-pub asked_few : (words : List ℕ) (host : PortLog) (board : BoardLog) → IsBalanced words (raises_in host) (takes_in board) → reports_in board ≤ count_by is_query (hosts.raises_in host)
+pub asked_few : (words : List ℕ) (host : HostLog) (board : BoardLog) → IsBalanced words (raises_in host) (takes_in board) → reports_in board ≤ count_by is_query (hosts.bytes_raised_in host)
 asked_few words host board balance =
     let a = reports_are board in
     let b = balance report_flag in

@@ -10,9 +10,9 @@ use Rattle.realtime_flags.specs.declared.words.Flag.TheVariants as flags
 use Rattle.realtime_flags.specs.Bits.{is_flag, is_up, raised_down, takes_with, IsBalanced}
 use Rattle.realtime_flags.specs.Bytes.{flag_of_row, flag_of_byte}
 use Rattle.stream_host.specs.Jobs.{is_reset}
-use Rattle.stream_host.specs.Steps.{PortLog as HostLog}
+use Rattle.stream_host.specs.Steps.{HostLog}
 use Rattle.stream_host.specs.Steps as hosts
-use Rattle.board_rules.specs.Ports.{PortLog as BoardLog, asks_reset, has_held_in, has_slowed_in, has_changed_in, has_reset_in, reports_in}
+use Rattle.board_rules.specs.Ports.{BoardLog, asks_reset, has_held_in, has_slowed_in, has_changed_in, has_reset_in, reports_in}
 use Rattle.board_rules.specs.Ports.PortStep.{took_exec}
 use Rattle.run_law.specs.Flags.{is_hold, is_change, AreTaken}
 use Rattle.run_law.specs.Taking.{raises_in, takes_in}
@@ -67,7 +67,7 @@ reset_bytes b is = only_reset b (ap is_reset_flag is)
 
 -- ---- what was taken was raised
 
-pub taken_were_raised : (words : List ℕ) (host : HostLog) (board : BoardLog) → IsBalanced words (raises_in host) (takes_in board) → AreTaken (hosts.raises_in host) (has_held_in board) (has_slowed_in board) (has_changed_in board) (has_reset_in board) (reports_in board) (cancel_words_in board)
+pub taken_were_raised : (words : List ℕ) (host : HostLog) (board : BoardLog) → IsBalanced words (raises_in host) (takes_in board) → AreTaken (hosts.bytes_raised_in host) (has_held_in board) (has_slowed_in board) (has_changed_in board) (has_reset_in board) (reports_in board) (cancel_words_in board)
 taken_were_raised words host board balance = record {
   held_by = λ held. flag_was_raised hold_flag is_hold hold_bytes host
       (taken_was_down (is_up hold_flag words) (raised_down hold_flag (raises_in host)) (takes_with hold_flag (takes_in board)) (balance hold_flag) (hold_taken board held));

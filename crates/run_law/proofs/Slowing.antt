@@ -11,10 +11,10 @@ use Rattle.realtime_flags.specs.declared.words.Raise.{Raise}
 use Rattle.realtime_flags.specs.Bits.{is_flag, is_up, counted, raised_down, takes_with, IsBalanced}
 use Rattle.realtime_flags.specs.Bytes.{flag_of_byte}
 use Rattle.realtime_flags.proofs.Bits.{same_flag}
-use Rattle.stream_host.specs.Steps.{PortLog as HostLog}
+use Rattle.stream_host.specs.Steps.{HostLog}
 use Rattle.stream_host.specs.Steps as hosts
 use Rattle.stream_host.specs.Steps.PortStep.{stored, dropped, marked, raised, got, no_reply, shut}
-use Rattle.board_rules.specs.Ports.{PortLog as BoardLog}
+use Rattle.board_rules.specs.Ports.{BoardLog}
 use Rattle.board_rules.specs.Ports.PortStep.{took_exec}
 use Rattle.board_rules.specs.Cuts.{cancel_words_in}
 use Rattle.run_law.specs.Flags.{is_hold, is_cancel, is_slow}
@@ -43,11 +43,11 @@ by_byte f p b down rs m (Some g) byte is few =
     one_byte (down && is_flag f g) (p b) (raised_down f rs) m (λ both. byte b (is ∙ ap (λ x. Some x) (sym (same_flag f g (and_right down (is_flag f g) both))))) few
 
 -- a flag is raised no more often than its byte
-flag_count : (f : Flag) (p : ℕ → Bool) → IsByteOf f p → (h : HostLog) → raised_down f (raises_in h) ≤ count_by p (hosts.raises_in h)
+flag_count : (f : Flag) (p : ℕ → Bool) → IsByteOf f p → (h : HostLog) → raised_down f (raises_in h) ≤ count_by p (hosts.bytes_raised_in h)
 flag_count f p byte [] = omega arith
 flag_count f p byte (raised b down ∷ h) =
-    let few = by_byte f p b down (raises_in h) (count_by p (hosts.raises_in h)) (flag_of_byte b) byte refl (flag_count f p byte h) in
-    let push = push_count p (hosts.raises_in h) b in
+    let few = by_byte f p b down (raises_in h) (count_by p (hosts.bytes_raised_in h)) (flag_of_byte b) byte refl (flag_count f p byte h) in
+    let push = push_count p (hosts.bytes_raised_in h) b in
     omega (arith, few, push)
 flag_count f p byte (_ ∷ h) = flag_count f p byte h
 
@@ -92,7 +92,7 @@ both_count (b ∷ bytes) =
     let s = sum_by-cons (λ x. cond {A = ℕ} (is_slow x) 1 0) b bytes in
     omega (arith, rest, one, h, c, s)
 
-pub cancels_few : (words : List ℕ) (host : HostLog) (board : BoardLog) → IsBalanced words (raises_in host) (takes_in board) → cancel_words_in board ≤ count_by is_slow (hosts.raises_in host)
+pub cancels_few : (words : List ℕ) (host : HostLog) (board : BoardLog) → IsBalanced words (raises_in host) (takes_in board) → cancel_words_in board ≤ count_by is_slow (hosts.bytes_raised_in host)
 cancels_few words host board balance =
     let taken = words_taken board in
     let holds = balance hold_flag in
@@ -101,5 +101,5 @@ cancels_few words host board balance =
     let c = up_more (is_up cancel_flag words) (takes_with cancel_flag (takes_in board)) in
     let raised_holds = flag_count hold_flag is_hold hold_bytes host in
     let raised_cancels = flag_count cancel_flag is_cancel cancel_bytes host in
-    let both = both_count (hosts.raises_in host) in
+    let both = both_count (hosts.bytes_raised_in host) in
     omega (arith, taken, holds, cancels, h, c, raised_holds, raised_cancels, both)

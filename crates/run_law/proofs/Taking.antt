@@ -20,10 +20,10 @@ use Rattle.realtime_flags.specs.declared.words.Take.{Take}
 use Rattle.realtime_flags.specs.Bits.{is_flag, counted, raised_down, takes_with}
 use Rattle.realtime_flags.specs.Bytes.{flag_of_row, flag_of_byte}
 use Rattle.realtime_flags.proofs.Bits.{same_flag}
-use Rattle.stream_host.specs.Steps.{PortLog as HostLog}
+use Rattle.stream_host.specs.Steps.{HostLog}
 use Rattle.stream_host.specs.Steps as hosts
 use Rattle.stream_host.specs.Steps.PortStep.{stored, dropped, marked, raised, got, no_reply, shut}
-use Rattle.board_rules.specs.Ports.{PortLog as BoardLog, has_changes, has_held_in, has_changed_in}
+use Rattle.board_rules.specs.Ports.{BoardLog, has_changes, has_held_in, has_changed_in}
 use Rattle.board_rules.specs.Ports.PortStep.{took_exec, took_ovr}
 use Rattle.run_law.specs.Flags.{is_hold, is_override, is_change}
 use Rattle.run_law.specs.Taking.{raised_to, raises_in, takes_in}
@@ -117,9 +117,9 @@ raised_by_byte f p b down rs bytes (Some g) byte is rest some = by_flag down (is
     by_flag false t e more = bytes_before p bytes b (rest more)
 
 -- a flag that was raised and found down was raised by one of its bytes
-pub flag_was_raised : (f : Flag) (p : ℕ → Bool) → IsByteOf f p → (h : HostLog) → 0 < raised_down f (raises_in h) → list_any p (hosts.raises_in h) ≡ true
+pub flag_was_raised : (f : Flag) (p : ℕ → Bool) → IsByteOf f p → (h : HostLog) → 0 < raised_down f (raises_in h) → list_any p (hosts.bytes_raised_in h) ≡ true
 flag_was_raised f p byte [] some = absurd (let s : 0 < 0 = some in omega arith)
-flag_was_raised f p byte (raised b down ∷ h) some = raised_by_byte f p b down (raises_in h) (hosts.raises_in h) (flag_of_byte b) byte refl (flag_was_raised f p byte h) some
+flag_was_raised f p byte (raised b down ∷ h) some = raised_by_byte f p b down (raises_in h) (hosts.bytes_raised_in h) (flag_of_byte b) byte refl (flag_was_raised f p byte h) some
 flag_was_raised f p byte (_ ∷ h) some = flag_was_raised f p byte h some
 
 -- ---- the bytes of the flags

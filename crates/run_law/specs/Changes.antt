@@ -14,7 +14,7 @@ use Rattle.realtime_flags.specs.Bits.{is_flag}
 use Rattle.realtime_flags.specs.Bytes.{flag_of_byte}
 use Rattle.realtime_flags.specs.declared.words.Flag.{Flag}
 use Rattle.realtime_flags.specs.declared.words.Flag.TheVariants as flags
-use Rattle.board_rules.specs.Ports.{PortStep, PortLog}
+use Rattle.board_rules.specs.Ports.{PortStep, BoardLog}
 use Rattle.board_rules.specs.Ports.PortStep.{took_ovr}
 
 -- a byte raises the flag at this place of the word of changes
@@ -55,6 +55,6 @@ words_at (took_ovr word) words = word ∷ words
 words_at e words = words
 
 -- the words of changes that it took
-abbrev pub words_in : PortLog → List Ovr
+abbrev pub words_in : BoardLog → List Ovr
 words_in [] = []
 words_in (e ∷ l) = words_at e (words_in l)

@@ -22,7 +22,7 @@ use Rattle.run_rules.specs.Reports.{Reported, fewest}
 use Rattle.run_rules.specs.Told.{replies_in, asked_in, records_text}
 use Rattle.status_report.specs.Answering.{answers_in, without_reports, reports_among}
 use Rattle.serial_ring.specs.Marks.{Mark, AreMarks}
-use Rattle.board_rules.specs.Parts.{IsHaltedPart, plan_behind}
+use Rattle.board_rules.specs.Parts.{IsAlarmedPart, plan_behind}
 use Rattle.run_law.specs.Fronts.{BeginsWith}
 use Rattle.code_table.specs.declared.flags.Ovr.{Ovr}
 use Rattle.run_law.specs.Changes.{IsAmong, AreChanges}
@@ -47,10 +47,10 @@ pub record IsCarriedOut (taken : List ℕ) (closed : Bool) (lines : List (List �
 -- A board has halted at an alarm: it told all that is to be told of the lines that it has begun. What it did of those
 -- after the last cut came to a stop, and what was left of the plan was dropped. It published all pieces that the plan
 -- gave.
-pub record IsHalted (said : List Reply) (drive : Drive) (made : List Piece) : Type 0 where
+pub record HasEndedInAlarm (said : List Reply) (drive : Drive) (made : List Piece) : Type 0 where
   pub told : said ≡ replies_in (all_outcomes drive)
   pub halted : drive.halted ≡ true
-  pub part : IsHaltedPart drive.since (plan_behind drive.parts) drive.actions drive.given drive.plan
+  pub part : IsAlarmedPart drive.since (plan_behind drive.parts) drive.actions drive.given drive.plan
   pub whole : made ≡ all_given drive
 
 -- A board has run: it has begun a front of the lines that it took, and has told a front of what is told of them, once
@@ -81,7 +81,7 @@ pub record BoardRan (taken : List ℕ) (closed held slowed changed reset : Bool)
   pub reported : HasReported first drive held changed known answered
   pub reports : reports_among answered ≤ asked
   pub whole : reset ≡ false → last.alarmed ≡ false → IsCarriedOut taken closed lines said drive made
-  pub halted : reset ≡ false → last.alarmed ≡ true → IsHalted said drive made
+  pub halted : reset ≡ false → last.alarmed ≡ true → HasEndedInAlarm said drive made
 
 -- A pulse has run: the pieces that it got came in turn, the end at last. It put what is recorded of each, and counted
 -- each tick of it.

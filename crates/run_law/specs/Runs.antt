@@ -26,7 +26,7 @@ use Rattle.stream_host.specs.declared.Reading.TheVariants.{Ended}
 use Rattle.stream_host.specs.Jobs.{is_reset, served_in}
 use Rattle.stream_host.specs.Ran.{HostEnd, is_failed}
 use Rattle.stream_host.specs.Steps.{or_alarm}
-use Rattle.board_rules.specs.Parts.{IsHaltedPart, plan_behind}
+use Rattle.board_rules.specs.Parts.{IsAlarmedPart, plan_behind}
 use Rattle.run_law.specs.declared.RunEnd.{RunEnd}
 use Rattle.run_law.specs.Sending.{on_link, stop_by, IsSent, IsSentSoFar}
 use Rattle.run_law.specs.Flags.{is_hold, is_slow, is_change}
@@ -40,8 +40,8 @@ pub record Sinks : Type 0 where
   pub steps : SinkState
 
 -- how a run ends: what its host says, and whether a write of the steps failed
-abbrev pub ended : HostEnd → Bool → RunEnd
-ended host failed = record {
+abbrev pub run_end : HostEnd → Bool → RunEnd
+run_end host failed = record {
   stop = host.stop;
   answered = host.answered;
   errors = host.errors;
@@ -109,10 +109,10 @@ pub record IsCarriedOutWhole (scanned : List ℕ) (lines begun : List (List ℕ)
 -- and its message at last, and all of them but that line have their answers. The motion came to a stop, and what was
 -- left of the plan was dropped. So the records are those of the first ticks of what the lines ask for, part by part:
 -- after the last cut they hold all ticks of the lines up to the last that settles.
-pub record IsHaltedWhole (begun : List (List ℕ)) (drive : Drive) (said : List Reply) (records : List Record) (end : RunEnd) : Type 0 where
+pub record IsAlarmedWhole (begun : List (List ℕ)) (drive : Drive) (said : List Reply) (records : List Record) (end : RunEnd) : Type 0 where
   pub said_are : said ≡ replies_in (all_outcomes drive)
   pub halted : drive.halted ≡ true
-  pub part : IsHaltedPart drive.since (plan_behind drive.parts) drive.actions drive.given drive.plan
+  pub part : IsAlarmedPart drive.since (plan_behind drive.parts) drive.actions drive.given drive.plan
   pub recorded : records ≡ all_records (all_given drive) ++ kinds.End ∷ []
   pub ticks_are : ticks_among (all_records (all_given drive)) ≡ ticks_among records
   -- each line before the one that raised the alarm has one answer
@@ -168,7 +168,7 @@ pub record IsRecorded (was is : Sinks) (end : RunEnd) (scanned : List ℕ) (driv
 pub record HasEnded (job_was job_is : SourceState) (end : RunEnd) (reading : Reading) (scanned : List ℕ) (lines begun : List (List ℕ)) (drive : Drive) (last : Before) (replies said : List Reply) (records : List Record) : Type 0 where
   pub stop : end.stop ≡ or_alarm (list_any is_limit replies) end.answered (stop_by reading scanned)
   pub whole : asks_reset scanned ≡ false → last.alarmed ≡ false → IsCarriedOutWhole scanned lines begun drive said records end
-  pub halted : asks_reset scanned ≡ false → last.alarmed ≡ true → IsHaltedWhole begun drive said records end
+  pub halted : asks_reset scanned ≡ false → last.alarmed ≡ true → IsAlarmedWhole begun drive said records end
   pub failed : end.source_failed ≡ is_failed reading
   pub source : end.source_failed ≡ true → Rose job_was.faults job_is.faults
   pub source_same : end.source_failed ≡ false → job_is.faults ≡ job_was.faults

@@ -20,15 +20,15 @@ ghost use Rattle.board_rules.specs.Ports.{has_held_in, has_slowed_in, has_change
 ghost use Rattle.stream_host.specs.Ran.{HostEnd, HostRan, HostRuns};
 ghost use Rattle.realtime_flags.specs.Bits.{IsBalanced};
 ghost use Rattle.serial_ring.specs.Marks.{Mark};
-ghost use Rattle.stream_host.specs.Steps.{PortLog as HostLog, raises_in as bytes_raised_in};
-ghost use Rattle.board_rules.specs.Ports.{PortLog as BoardLog};
+ghost use Rattle.stream_host.specs.Steps.{HostLog, bytes_raised_in};
+ghost use Rattle.board_rules.specs.Ports.{BoardLog};
 ghost use Rattle.code_table.specs.declared.flags.Ovr.{Ovr};
 ghost use Rattle.run_law.specs.Changes.{AreAskedIn, words_in};
 ghost use Rattle.run_law.specs.Flags.{AreTaken};
 ghost use Rattle.run_law.specs.Taking.{raises_in, takes_in};
 ghost use Rattle.board_rules.specs.Cuts.{cancel_words_in};
 ghost use Rattle.run_law.specs.Drives.{all_outcomes};
-ghost use Rattle.run_law.specs.Runs.{Sinks, ended, IsRun};
+ghost use Rattle.run_law.specs.Runs.{Sinks, run_end, IsRun};
 ghost use Rattle.run_law.specs.Complete.{IsAcceptedJob, IsComplete};
 ghost use Rattle.run_law.specs.Ran.{BoardRan, PulseRan, RecorderRan, IsLinked};
 ghost use Rattle.run_law.specs.Fronts.{BeginsWith};
@@ -59,7 +59,7 @@ pub fn actors_make_a_run()
         (host : HostRan job_was job_is was.console is.console stored marks shut raised got end) → BoardRan taken closed held slowed changed reset asked cancels known words answered published → PulseRan got_pieces ticks put →
         RecorderRan was.steps is.steps got_records steps_failed →
         IsLinked stored shut taken closed marks loaded → AreTaken raised held slowed changed reset asked cancels → known ≤ ticks → AreAskedIn raised words → got ≡ answered → got_pieces ≡ published → got_records ≡ put →
-        (run : IsRun job_was job_is was is (ended end steps_failed)) × (run.scanned ≡ host.scanned) × (run.replies ≡ got) }
+        (run : IsRun job_was job_is was is (run_end end steps_failed)) × (run.scanned ≡ host.scanned) × (run.replies ≡ got) }
 {}
 
 /// For four actors that ran to their ends to make a run it is enough that each has got a front of what the other gave:
@@ -70,7 +70,7 @@ pub fn actors_that_end_make_a_run()
         (host : HostRan job_was job_is was.console is.console stored marks shut raised got end) → BoardRan taken closed held slowed changed reset asked cancels known words answered published → PulseRan got_pieces ticks put →
         RecorderRan was.steps is.steps got_records steps_failed →
         IsLinked stored shut taken closed marks loaded → AreTaken raised held slowed changed reset asked cancels → known ≤ ticks → AreAskedIn raised words → BeginsWith answered got → BeginsWith published got_pieces → BeginsWith put got_records →
-        (run : IsRun job_was job_is was is (ended end steps_failed)) × (run.scanned ≡ host.scanned) × (run.replies ≡ got) }
+        (run : IsRun job_was job_is was is (run_end end steps_failed)) × (run.scanned ≡ host.scanned) × (run.replies ≡ got) }
 {}
 
 /// Four actors that still run have done a run so far, if each has got a front of what the other gave.

@@ -9,7 +9,7 @@ use Rattle.gcode_check.specs.declared.Verdict.{Verdict}
 use Rattle.gcode_words.specs.declared.Word.{Word}
 use Rattle.gcode_words.specs.declared.WordFault.{WordFault}
 use Rattle.run_rules.specs.Work.{Outcome, is_limit}
-use Rattle.run_rules.specs.Outcomes.{Before, IsLocked, ByVerdict, ByWords, ByCode, ByKept, Becomes, Passed, Follows, after, at_place, became_of, limited, most_kept}
+use Rattle.run_rules.specs.Outcomes.{Before, IsLockedOut, ByVerdict, ByWords, ByCode, ByKept, Becomes, Passed, Follows, after, at_place, became_of, limited, most_kept}
 use Rattle.run_rules.specs.Outcomes.Passed.{a_line, a_cut}
 use Rattle.run_rules.specs.Limits.{IsBeyond}
 use Rattle.run_rules.specs.Told.{limits_in}
@@ -32,7 +32,7 @@ beyond runs b kept o is =
 -- ---- and such a line does, if it is not refused with 9
 
 abbrev HaltsOrLocked : Bool → Before → Outcome → Type 0
-HaltsOrLocked runs b o = (o ≡ limited b) ⊎ IsLocked runs b o
+HaltsOrLocked runs b o = (o ≡ limited b) ⊎ IsLockedOut runs b o
 
 code_halts : (runs : Bool) (b : Before) (kept : List ℕ) (o : Outcome) → IsBeyond b kept → ByCode runs b kept o → HaltsOrLocked runs b o
 code_halts runs b kept o beyond (inl locked) = inr locked

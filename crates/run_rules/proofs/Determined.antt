@@ -17,7 +17,7 @@ use Rattle.code_table.specs.Tables.{Row}
 use Rattle.settings.specs.Numbers.{values, set_refusal}
 use Rattle.jog.specs.declared.JogMove.{JogMove}
 use Rattle.jog.specs.Jogs.{jog_of}
-use Rattle.system_lines.specs.Commands.{command_of, kind_of, jog_words, is_jog as begins_jog}
+use Rattle.system_lines.specs.Commands.{command_of, kind_of, jog_words, is_jog}
 use Rattle.system_lines.specs.declared.Command.{Command}
 use Rattle.system_lines.specs.declared.Command.TheVariants.{Set}
 use Rattle.run_rules.specs.declared.State.{State}
@@ -97,7 +97,7 @@ one_of false A B first second a b e f = second a b e f
 
 by_served : (s : Before) (kept : List ℕ) (a b : Outcome) → ByServed s kept a → ByServed s kept b → a ≡ b
 by_served s kept a b e f =
-    one_of (begins_jog (kind_of kept)) (λ o. ByJog s (words_of (jog_words kept)) o) (λ o. ByCommand s (command_of kept) o)
+    one_of (is_jog (kind_of kept)) (λ o. ByJog s (words_of (jog_words kept)) o) (λ o. ByCommand s (command_of kept) o)
     (by_jog s (words_of (jog_words kept))) (by_command s (command_of kept)) a b e f
 
 -- two outcomes are one, or one of them is refused with this, for a machine that is found in motion

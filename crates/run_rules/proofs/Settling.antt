@@ -3,7 +3,7 @@ use Rattle.std.proofs.Common.{◌≡◌, Bool, true, false, not, cond, ◌&&◌,
 use Rattle.gcode_check.specs.declared.Item.{Item}
 use Rattle.gcode_check.specs.declared.Accept.{Accept as Accepted}
 use Rattle.gcode_check.specs.Items.{is_move, settling}
-use Rattle.run_rules.specs.Work.{Outcome, is_code, is_jog, has_moves}
+use Rattle.run_rules.specs.Work.{Outcome, accepted_code, accepted_jog, has_moves}
 use Rattle.run_rules.specs.Outcomes.{Before, executed, after}
 
 last_is : (items : List Item) (last : Item) → settling (items ++ last ∷ []) ≡ not (is_move last)
@@ -22,4 +22,4 @@ stands true more e = refl
 stands false more e = absurd cc
 
 pub still_behind : (b : Before) (o : Outcome) → o.settles ≡ true → ((after b o).moved ≡ false) × ((after b o).jog_moved ≡ false)
-still_behind b o e = (stands o.settles (is_code o.kind && has_moves o.work || b.moved) e, stands o.settles (is_jog o.kind && has_moves o.work || b.jog_moved) e)
+still_behind b o e = (stands o.settles (accepted_code o.kind && has_moves o.work || b.moved) e, stands o.settles (accepted_jog o.kind && has_moves o.work || b.jog_moved) e)

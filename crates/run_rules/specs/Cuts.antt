@@ -2,7 +2,7 @@
 use Rattle.std.specs.Prelude.{◌≡◌, ℕ, ◌+◌, ◌-◌, ◌≤◌, ◌⊎◌, min, true, List, [], ◌∷◌, length, map}
 use Rattle.step_line.specs.declared.Record.{Record}
 use Rattle.step_line.specs.Asking.{ticks_of_all}
-use Rattle.run_rules.specs.Work.{Outcome, asks, is_jog}
+use Rattle.run_rules.specs.Work.{Outcome, asks, accepted_jog}
 
 -- the ticks that a line asks for, and how many these are
 abbrev pub ticks_for : Outcome → List Record
@@ -14,7 +14,7 @@ ticks_asked_for o = length (ticks_for o)
 -- the first m ticks of these lines leave out ticks of jogs alone
 abbrev pub LosesJogsAlone : ℕ → List Outcome → Type 0
 LosesJogsAlone m [] = Unit {0}
-LosesJogsAlone m (o ∷ os) = ((is_jog o.kind ≡ true) ⊎ (ticks_asked_for o ≤ m)) × LosesJogsAlone (m - ticks_asked_for o) os
+LosesJogsAlone m (o ∷ os) = ((accepted_jog o.kind ≡ true) ⊎ (ticks_asked_for o ≤ m)) × LosesJogsAlone (m - ticks_asked_for o) os
 
 -- how many ticks count of each of some lines that no cut has ended
 abbrev pub counts_asked : List Outcome → List ℕ

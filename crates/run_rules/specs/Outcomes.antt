@@ -18,7 +18,7 @@ use Rattle.gcode_check.specs.declared.Verdict.TheVariants.{Accept, Refuse, Limit
 use Rattle.jog.specs.declared.JogMove.{JogMove}
 use Rattle.jog.specs.Jogs.{jog_of, jogged}
 use Rattle.settings.specs.Numbers.{values, value_set, with_value, set_refusal}
-use Rattle.system_lines.specs.Commands.{command_of, kind_of, jog_words, is_jog as begins_jog}
+use Rattle.system_lines.specs.Commands.{command_of, kind_of, jog_words, is_jog}
 use Rattle.system_lines.specs.declared.Kind.{Kind as DollarKind}
 use Rattle.system_lines.specs.declared.Kind.TheVariants as kinds
 use Rattle.system_lines.specs.declared.Command.{Command}
@@ -27,7 +27,7 @@ use Rattle.status_report.specs.Lists.{setting_replies, modes_replies, offset_rep
 use Rattle.status_report.specs.declared.Reply.{Reply}
 use Rattle.status_report.specs.declared.Reply.TheVariants.{Ok as Done, Error, Alarm}
 use Rattle.run_rules.specs.declared.State.{State}
-use Rattle.run_rules.specs.Work.{Outcome, Kind, is_code, is_jog, is_limit, soft_limit, halting_work, telling, asking, has_moves}
+use Rattle.run_rules.specs.Work.{Outcome, Kind, accepted_code, accepted_jog, is_limit, soft_limit, halting_work, telling, asking, has_moves}
 use Rattle.run_rules.specs.Work.Kind.{of_code, of_jog, of_none}
 use Rattle.run_rules.specs.Work.Task.{tell}
 use Rattle.run_rules.specs.Asks.{work_of, planned, move_asked}
@@ -130,7 +130,7 @@ ByJog b (Ok ws) o = ByJogMove b (jog_of b.state.parser b.state.settings ws) o
 
 -- a line that begins with `$` and is served: a jog by its words, and any other by what it asks for
 abbrev pub ByServed : Before → List ℕ → Outcome → Type 0
-ByServed b kept o = either (begins_jog (kind_of kept)) (ByJog b (words_of (jog_words kept)) o) (ByCommand b (command_of kept) o)
+ByServed b kept o = either (is_jog (kind_of kept)) (ByJog b (words_of (jog_words kept)) o) (ByCommand b (command_of kept) o)
 
 -- ---- lines that are refused if the machine is found in motion
 
@@ -153,7 +153,7 @@ pub record IsBusy (runs : Bool) (b : Before) (kept : List ℕ) (o : Outcome) : T
   pub outcome : o ≡ refused b 8
 
 -- A line of G-code is refused with 9 in a jog. So the last accepted of G-code and jogs is a jog.
-pub record IsLocked (runs : Bool) (b : Before) (o : Outcome) : Type 0 where
+pub record IsLockedOut (runs : Bool) (b : Before) (o : Outcome) : Type 0 where
   pub cause : b.jogged ≡ true
   pub found : runs ≡ true
   pub outcome : o ≡ refused b 9
@@ -162,7 +162,7 @@ abbrev pub ByDollar : Bool → Before → List ℕ → Outcome → Type 0
 ByDollar runs b kept o = IsBusy runs b kept o ⊎ ByServed b kept o
 
 abbrev pub ByCode : Bool → Before → List ℕ → Outcome → Type 0
-ByCode runs b kept o = IsLocked runs b o ⊎ ByWords b (words_of kept) o
+ByCode runs b kept o = IsLockedOut runs b o ⊎ ByWords b (words_of kept) o
 
 -- what becomes of a line of which these bytes are kept, the first that holds: it is empty; it begins with `$`; it is
 -- G-code
@@ -198,8 +198,8 @@ abbrev pub after : Before → Outcome → Before
 after b o = record {
   number = b.number + 1;
   state = o.next;
-  moved = cond o.settles false (is_code o.kind && has_moves o.work || b.moved);
-  jog_moved = cond o.settles false (is_jog o.kind && has_moves o.work || b.jog_moved);
+  moved = cond o.settles false (accepted_code o.kind && has_moves o.work || b.moved);
+  jog_moved = cond o.settles false (accepted_jog o.kind && has_moves o.work || b.jog_moved);
   jogged = jogged_behind o.kind b.jogged;
   alarmed = is_limit o.answer;
 }

@@ -37,15 +37,15 @@ abbrev pub is_limit : Reply → Bool
 is_limit (Alarm n) = nat_eq n soft_limit
 is_limit _ = false
 
-abbrev pub is_code : Kind → Bool
-is_code of_code = true
-is_code of_jog = false
-is_code of_none = false
+abbrev pub accepted_code : Kind → Bool
+accepted_code of_code = true
+accepted_code of_jog = false
+accepted_code of_none = false
 
-abbrev pub is_jog : Kind → Bool
-is_jog of_code = false
-is_jog of_jog = true
-is_jog of_none = false
+abbrev pub accepted_jog : Kind → Bool
+accepted_jog of_code = false
+accepted_jog of_jog = true
+accepted_jog of_none = false
 
 -- What becomes of a line: what there is to do; its answer, which is told last; whether it settles, that is, has items,
 -- and the last is no move; what was accepted; and the state after it. A line that ends the run has no answer of its

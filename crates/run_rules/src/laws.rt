@@ -17,7 +17,7 @@ ghost use Rattle.status_report.specs.Answering.{is_answer, answers_in};
 ghost use Rattle.run_rules.specs.Work.{Outcome, is_limit, soft_limit, tells, asks, pauses, closing_work};
 ghost use Rattle.run_rules.specs.Asks.{planned, move_asked};
 ghost use Rattle.run_rules.specs.Told.{replies_in, limits_in};
-ghost use Rattle.run_rules.specs.Outcomes.{Before, Becomes, IsCut, IsLocked, limited, Passed, Follows, NeverFall, start, at_place, became_of, cuts_of, refused, executed, jogging, motion_error, begins_with_dollar, has_cause, most_kept, after};
+ghost use Rattle.run_rules.specs.Outcomes.{Before, Becomes, IsCut, IsLockedOut, limited, Passed, Follows, NeverFall, start, at_place, became_of, cuts_of, refused, executed, jogging, motion_error, begins_with_dollar, has_cause, most_kept, after};
 ghost use Rattle.run_rules.specs.Outcomes.Passed.{a_line, a_cut};
 ghost use Rattle.run_rules.specs.Finding.{Found, Fate};
 ghost use Rattle.run_rules.specs.Locking.{BecomesLocked, BecomesIn, FollowsFrom, locked_behind};
@@ -68,7 +68,7 @@ pub fn alarms_end_the_run()
     ensures cause { (runs : Bool) (before : Before) (line : List ℕ) (outcome : Outcome) → Becomes runs before line outcome → is_limit outcome.answer ≡ true →
         IsBeyond before line × (outcome ≡ limited before) }
     ensures comes { (runs : Bool) (before : Before) (line : List ℕ) (outcome : Outcome) → IsBeyond before line → Becomes runs before line outcome →
-        (outcome ≡ limited before) ⊎ IsLocked runs before outcome }
+        (outcome ≡ limited before) ⊎ IsLockedOut runs before outcome }
     ensures none { (before : Before) → let halted = limited before in
         (asks halted.work ≡ []) × (tells halted.work ≡ AnyReply.Alarm soft_limit ∷ AnyReply.Message ResetToContinue ∷ []) × (halted.next ≡ before.state) × ((after before halted).alarmed ≡ true) }
     ensures behind { (runs : Bool) (first last : Before) (lines : List (List ℕ)) (passed : List Passed) →

@@ -5,13 +5,13 @@ use Rattle.stream_host.specs.declared.Stop.TheVariants as stops
 use Rattle.run_status.specs.declared.Status.{Status}
 use Rattle.run_status.specs.declared.Status.TheVariants.{Done, LineErrors, Usage, SourceFault, ConsoleFault, StepsFault, LongLine, Reset, Alarm, TooLarge, OutOfMemory}
 use Rattle.run_law.specs.declared.RunEnd.{RunEnd}
-use Rattle.run_status.specs.Ends.{status_of, IsWhole, HasNotBegun, HasRun}
+use Rattle.run_status.specs.Ends.{status_of, IsWhole, HasNotBegun, JobWasRun}
 use Rattle.demo_job.specs.Jobs.{job_events, stop, summary, summary_of}
 use Rattle.run_status.specs.Demos.{IsDemo}
 
 -- a job was run, a fault comes only where its device's count rose, and the demo is done only where no count did
 pub record DemoCauses (console_was console_is steps_was steps_is : SinkState) (status : Status) : Type 0 where
-  pub has_run : HasRun status
+  pub has_run : JobWasRun status
   pub console : status ≡ ConsoleFault → Rose console_was.faults console_is.faults
   pub steps : status ≡ StepsFault → Rose steps_was.faults steps_is.faults
   pub faultless : IsWhole status → (console_is.faults ≡ console_was.faults) × (steps_is.faults ≡ steps_was.faults)
@@ -39,7 +39,7 @@ told_whole n ok errors all none =
     ap (λ m. summary_of n (n + 3) m errors (job_events n) (stop n)) all ∙ ap (λ e. summary_of n (n + 3) (n + 3) e (job_events n) (stop n)) none
 
 -- a run is no refusal
-pub has_begun : {A : Type 0} (status : Status) → HasRun status → HasNotBegun status → A
+pub has_begun : {A : Type 0} (status : Status) → JobWasRun status → HasNotBegun status → A
 has_begun Done run none = absurd none
 has_begun (LineErrors n) run none = absurd none
 has_begun Usage run none = absurd run

@@ -29,7 +29,7 @@ use Rattle.run_law.specs.Runs.{Sinks, AreReports, asks_slow, slows_in, asks_chan
 use Rattle.run_law.proofs.Completing.{complete}
 use Rattle.run_status.specs.declared.Status.{Status}
 use Rattle.run_status.specs.declared.Status.TheVariants.{SourceFault, ConsoleFault, StepsFault, LongLine, Reset, Alarm, TooLarge}
-use Rattle.run_status.specs.Ends.{by_errors, by_stop, EndsWith, IsHaltedRun, HasRun, HasCauses}
+use Rattle.run_status.specs.Ends.{by_errors, by_stop, EndsWith, IsAlarmedRun, JobWasRun, HasCauses}
 use Rattle.run_status.proofs.Stops.{end_means, large_means, long_means, reset_means, not_reset, by_end, by_job, scanned_to_long, scanned_to_reset}
 use Rattle.run_status.proofs.Halting.{whole_text, halted_run}
 
@@ -85,7 +85,7 @@ pub by_errors_not : (n : ℕ) → (by_errors n ≢ SourceFault) × (by_errors n 
 by_errors_not zero = ((λ e. cc), (λ e. cc), (λ e. cc), (λ e. cc), (λ k e. cc), (λ e. cc), (λ k e. cc))
 by_errors_not (suc n) = ((λ e. cc), (λ e. cc), (λ e. cc), (λ e. cc), (λ k e. cc), (λ e. cc), (λ k e. cc))
 
-pub errors_have_run : (n : ℕ) → HasRun (by_errors n)
+pub errors_have_run : (n : ℕ) → JobWasRun (by_errors n)
 errors_have_run zero = tt
 errors_have_run (suc n) = tt
 
@@ -201,7 +201,7 @@ by_cases job_was job_is was is end run false false false (stops.Alarm k) es ec e
   large = λ e. absurd cc;
   long = λ j e. absurd cc;
   reset = λ e. absurd cc;
-  alarm = λ j e. let same : k ≡ j = cc in subst (IsHaltedRun job_was job_is was is) same (halted_run job_was job_is was is end run k es ec et);
+  alarm = λ j e. let same : k ≡ j = cc in subst (IsAlarmedRun job_was job_is was is) same (halted_run job_was job_is was is end run k es ec et);
   whole = λ w. absurd w;
   faultless = λ w. absurd w;
   complete = λ job source console steps. absurd (let e = sym (complete job_was job_is was is end run job en).stop ∙ et in cc);

@@ -26,7 +26,7 @@ use Rattle.run_law.specs.Fronts.{BeginsWith}
 use Rattle.run_law.specs.Drives.{all_outcomes, all_passed, IsDrive}
 use Rattle.run_law.specs.Runs.{Sinks, AreReports, asks_slow, slows_in, asks_change, asks_reset, IsRun}
 use Rattle.run_law.proofs.Driving.{became_all}
-use Rattle.run_status.specs.Ends.{IsHaltedRun}
+use Rattle.run_status.specs.Ends.{IsAlarmedRun}
 use Rattle.run_status.proofs.Stops.{by_alarm, not_reset}
 
 -- ---- what was written
@@ -116,7 +116,7 @@ told_last outcomes b =
     ap (λ (rs : List Reply). (Banner ∷ rs) ++ Bye ∷ []) apart ∙ append_assoc (replies_in outcomes) (answers.Alarm soft_limit ∷ answers.Message ResetToContinue ∷ []) (Bye ∷ [])
 
 pub halted_run : (job_was job_is : SourceState) (was is : Sinks) (end : RunEnd) (run : IsRun job_was job_is was is end) (k : ℕ)
-    → end.steps_failed ≡ false → end.console_failed ≡ false → end.stop ≡ stops.Alarm k → IsHaltedRun job_was job_is was is k
+    → end.steps_failed ≡ false → end.console_failed ≡ false → end.stop ≡ stops.Alarm k → IsAlarmedRun job_was job_is was is k
 halted_run job_was job_is was is end run k es ec et =
     let why = by_alarm job_was job_is was is end run k et in
     let going : asks_reset run.scanned ≡ false = not_reset run.reading run.scanned why.end in

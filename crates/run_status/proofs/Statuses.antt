@@ -17,7 +17,7 @@ use Rattle.run_law.specs.Runs.{Sinks, IsRun}
 use Rattle.run_law.proofs.Completing.{whole_job}
 use Rattle.run_status.specs.declared.Status.{Status}
 use Rattle.run_status.specs.declared.Status.TheVariants.{Done, LineErrors, Usage, SourceFault, ConsoleFault, StepsFault, LongLine, Reset, Alarm, TooLarge, OutOfMemory}
-use Rattle.run_status.specs.Ends.{by_errors, by_stop, status_of, EndsWith, IsWhole, IsWholeRun, IsHaltedRun, IsFaultless, TookMore, HasCauses}
+use Rattle.run_status.specs.Ends.{by_errors, by_stop, status_of, EndsWith, IsWhole, IsWholeRun, IsAlarmedRun, IsFaultless, TookMore, HasCauses}
 use Rattle.run_status.specs.Demos.{IsDemo}
 use Rattle.run_status.specs.Statuses.{SendsUpTo, HasItsCause, CanRise, CanFail, IsAlarm, IsOfJob, AreOne, TellsFaults}
 use Rattle.run_status.proofs.Endings.{has_causes}
@@ -124,7 +124,7 @@ record IsBy (stop : Stop) (status : Status) : Type 0 where
 -- why no more was sent of a job that is not too large: what was scanned of it says so, or an alarm came
 data Rest (job_was job_is : SourceState) (was is : Sinks) (status : Status) : Type 0 where
   sent : (stop : Stop) → IsBy stop status → SendsUpTo job_was job_is stop → Rest job_was job_is was is status
-  halted : (k : ℕ) → status ≡ Alarm k → IsHaltedRun job_was job_is was is k → Rest job_was job_is was is status
+  halted : (k : ℕ) → status ≡ Alarm k → IsAlarmedRun job_was job_is was is k → Rest job_was job_is was is status
 
 -- the rows of the table, with those of a job that is not too large as one
 data Row (job_was job_is : SourceState) (was is : Sinks) (status : Status) : Type 0 where

@@ -22,7 +22,7 @@ use Rattle.run_rules.specs.Told.{replies_in, replies_text, records_text, errors_
 use Rattle.step_line.specs.declared.Record.{Record}
 use Rattle.step_line.specs.declared.Record.TheVariants as kinds
 use Rattle.planner_runs.specs.Runs.{all_records, normal_overrides}
-use Rattle.board_rules.specs.Parts.{IsHaltedPart, plan_behind}
+use Rattle.board_rules.specs.Parts.{IsAlarmedPart, plan_behind}
 use Rattle.stream_host.specs.declared.Reading.{Reading}
 use Rattle.stream_host.specs.declared.Reading.TheVariants.{Large}
 use Rattle.stream_host.specs.declared.Stop.{Stop}
@@ -103,7 +103,7 @@ pub record IsWholeRun (job_was job_is : SourceState) (was is : Sinks) (status : 
 -- drive of these lines, and the end: behind the last cut the motion came to a stop, and what was left of the plan was dropped,
 -- so that their ticks are the first of those that are due, and hold all of the lines up to the last that settles. Jogs are cut,
 -- and the drive is disturbed, as in a run that goes to its end, and the alarm slows it down.
-pub record IsHaltedRun (job_was job_is : SourceState) (was is : Sinks) (k : ℕ) : Type 0 where
+pub record IsAlarmedRun (job_was job_is : SourceState) (was is : Sinks) (k : ℕ) : Type 0 where
   pub read : List ℕ
   pub reading : Reading
   pub scanned : List ℕ
@@ -131,7 +131,7 @@ pub record IsHaltedRun (job_was job_is : SourceState) (was is : Sinks) (k : ℕ)
   pub drives : IsDrive (asks_slow scanned) true (asks_change scanned) (slows_in scanned) drive
   pub changes : AreChanges (IsAskedIn (served_in scanned)) normal_overrides (all_actions drive)
   pub halted : drive.halted ≡ true
-  pub part : IsHaltedPart drive.since (plan_behind drive.parts) drive.actions drive.given drive.plan
+  pub part : IsAlarmedPart drive.since (plan_behind drive.parts) drive.actions drive.given drive.plan
   pub recorded : records ≡ all_records (all_given drive) ++ kinds.End ∷ []
   pub ticks : BeginsWith (ticks_due drive) (ticks_among records)
   pub steps : Appends was.steps.held is.steps.held (records_text records)
@@ -169,10 +169,10 @@ HasNotBegun OutOfMemory = Unit {0}
 HasNotBegun _ = ⊥
 
 -- a job was run
-abbrev pub HasRun : Status → Type 0
-HasRun Usage = ⊥
-HasRun OutOfMemory = ⊥
-HasRun _ = Unit {0}
+abbrev pub JobWasRun : Status → Type 0
+JobWasRun Usage = ⊥
+JobWasRun OutOfMemory = ⊥
+JobWasRun _ = Unit {0}
 
 -- no device has failed: each count of faults is as before
 pub record IsFaultless (job_was job_is : SourceState) (was is : Sinks) : Type 0 where
@@ -182,14 +182,14 @@ pub record IsFaultless (job_was job_is : SourceState) (was is : Sinks) : Type 0 
 
 -- a status and its cause, what a run to the end has done, and which runs end with `Done`
 pub record HasCauses (job_was job_is : SourceState) (was is : Sinks) (status : Status) : Type 0 where
-  pub has_run : HasRun status
+  pub has_run : JobWasRun status
   pub source : status ≡ SourceFault → Rose job_was.faults job_is.faults
   pub console : status ≡ ConsoleFault → Rose was.console.faults is.console.faults
   pub steps : status ≡ StepsFault → Rose was.steps.faults is.steps.faults
   pub large : status ≡ TooLarge → TookMore job_was job_is
   pub long : (k : ℕ) → status ≡ LongLine k → HasLongLine job_was job_is k
   pub reset : status ≡ Reset → HasReset job_was job_is
-  pub alarm : (k : ℕ) → status ≡ Alarm k → IsHaltedRun job_was job_is was is k
+  pub alarm : (k : ℕ) → status ≡ Alarm k → IsAlarmedRun job_was job_is was is k
   pub whole : IsWhole status → IsWholeRun job_was job_is was is status
   pub faultless : IsWhole status → IsFaultless job_was job_is was is
   pub complete : IsAcceptedJob job_was → ¬ Rose job_was.faults job_is.faults

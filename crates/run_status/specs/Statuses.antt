@@ -10,7 +10,7 @@ use Rattle.run_law.specs.Sending.{ScansFront, ends_in, stop_by}
 use Rattle.run_law.specs.Runs.{Sinks}
 use Rattle.run_status.specs.declared.Status.{Status}
 use Rattle.run_status.specs.declared.Status.TheVariants.{Done, LineErrors, Usage, SourceFault, ConsoleFault, StepsFault, LongLine, Reset, Alarm, TooLarge, OutOfMemory}
-use Rattle.run_status.specs.Ends.{IsWhole, IsWholeRun, IsHaltedRun, IsFaultless, TookMore}
+use Rattle.run_status.specs.Ends.{IsWhole, IsWholeRun, IsAlarmedRun, IsFaultless, TookMore}
 
 -- Why no more was sent of a job that is not too large, where no read failed. What was scanned of it ends with the byte with
 -- which a line is too long, or with a reset; else all of the job was read and scanned.
@@ -34,7 +34,7 @@ HasItsCause job_was job_is was is SourceFault =
 HasItsCause job_was job_is was is TooLarge = IsFaultless job_was job_is was is × TookMore job_was job_is
 HasItsCause job_was job_is was is (LongLine k) = IsFaultless job_was job_is was is × SendsUpTo job_was job_is (stops.LongLine k)
 HasItsCause job_was job_is was is Reset = IsFaultless job_was job_is was is × SendsUpTo job_was job_is stops.Reset
-HasItsCause job_was job_is was is (Alarm k) = IsFaultless job_was job_is was is × IsHaltedRun job_was job_is was is k
+HasItsCause job_was job_is was is (Alarm k) = IsFaultless job_was job_is was is × IsAlarmedRun job_was job_is was is k
 HasItsCause job_was job_is was is (LineErrors n) =
     IsFaultless job_was job_is was is × SendsUpTo job_was job_is stops.End × IsWholeRun job_was job_is was is (LineErrors n)
 HasItsCause job_was job_is was is Done = IsFaultless job_was job_is was is × SendsUpTo job_was job_is stops.End × IsWholeRun job_was job_is was is Done

@@ -26,7 +26,7 @@ use Rattle.run_texts.specs.Sent.{Sent, behind_reset}
 use Rattle.run_texts.specs.Sent.Sent.{a_text, a_stop}
 use Rattle.run_texts.specs.Told.{told_at_reset, told_of, told_in, IsTold}
 use Rattle.run_texts.proofs.Errors.{told_one, begun_one}
-use Rattle.run_texts.proofs.Quiet.{opens, Quiet, IsQuiet, line_quiet}
+use Rattle.run_texts.proofs.Quiet.{opens, Quiet, TellsQuietly, line_quiet}
 use Rattle.run_texts.proofs.Stops.{Stop, stops_of, stops_agree}
 use Rattle.run_texts.proofs.Stops.Stop.{cut_at, reset_at}
 
@@ -66,7 +66,7 @@ quiet_front : (xs ys : List Reply) (r : Reply) → Quiet (xs ++ r ∷ []) → fi
 quiet_front [] ys r quiet = quiet.0
 quiet_front (x ∷ xs) ys r quiet = quiet.0
 
-line_opens_none : (b : Before) (o : Outcome) (ys : List Reply) → AnswersOrHalts b o → IsQuiet o → first_opens (tells o.work ++ ys) ≡ false
+line_opens_none : (b : Before) (o : Outcome) (ys : List Reply) → AnswersOrHalts b o → TellsQuietly o → first_opens (tells o.work ++ ys) ≡ false
 line_opens_none b o ys (inl once) quiet =
     ap (λ (t : List Reply). first_opens (t ++ ys)) once.told ∙ quiet_front once.body ys o.answer (subst Quiet once.told quiet)
 line_opens_none b o ys (inr is) quiet = ap (λ (x : Outcome). first_opens (tells x.work ++ ys)) is

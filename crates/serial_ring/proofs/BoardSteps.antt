@@ -10,7 +10,7 @@ use Rattle.shared_rings.specs.Placed.{placed}
 use Rattle.shared_rings.proofs.Placed.{placed_below, some_placed, by_bool}
 use Rattle.shared_rings.proofs.Shelf as shelves
 use Rattle.status_report.specs.declared.Reply.{Reply}
-use Rattle.serial_ring.specs.declared.view.Sight.{Sight}
+use Rattle.serial_ring.specs.declared.view.LinkSight.{LinkSight}
 use Rattle.serial_ring.specs.declared.view.LinkStep.{LinkStep}
 use Rattle.serial_ring.specs.declared.view.LinkStep.TheVariants.{Took, Marked, Answered}
 use Rattle.serial_ring.specs.Marks.{Mark, MarkedPast, IsMark, latest, last_of, number_in, bytes_in}
@@ -22,7 +22,7 @@ use Rattle.serial_ring.proofs.Replies.{replies_stay, replies_reached, replies_gi
 use Rattle.serial_ring.proofs.Frames.{Hand, after, Way, loads, board_steps, same_board, same_host, host_words}
 
 -- the host, while a byte more is taken, knows no less
-pub host_later : (room : ℕ) (words stored marks taken : List ℕ) (b : ℕ) (closed : Bool) (seen : List LinkStep) (emptying : Bool) (new : ℕ) (u : Sight) → Hosts room words stored marks taken closed seen emptying u → Hosts room (set words tail_word new) stored marks (b ∷ taken) closed seen emptying u
+pub host_later : (room : ℕ) (words stored marks taken : List ℕ) (b : ℕ) (closed : Bool) (seen : List LinkStep) (emptying : Bool) (new : ℕ) (u : LinkSight) → Hosts room words stored marks taken closed seen emptying u → Hosts room (set words tail_word new) stored marks (b ∷ taken) closed seen emptying u
 host_later room words stored marks taken b closed seen emptying new u h = host_words room words stored marks taken (b ∷ taken) closed seen emptying tail_word new u (omega arith) (omega arith) h
 
 top_word : (n l : ℕ) (closed : Bool) → n ≡ l + top_if closed → l ≤ 2 ^ 31 → (n % 2 ^ 63 ≡ l) × (n < 2 ^ 64)
@@ -37,7 +37,7 @@ all_taken : (stored rest taken : List ℕ) → stored ≡ rest ++ taken → leng
 all_taken stored [] taken e l = e
 all_taken stored (b ∷ rest) taken e l = absurd (let m = ap length e in let a = length-append rest taken in omega arith)
 
-pub sees_head : (room slots id : ℕ) (v : Sight) (c : Hand) → v.may_take ≡ true → Allows (Kept room) slots id (v, c) head_word (λ n. n) (saw_head room (step slots head_word 0 0 none) (v, c))
+pub sees_head : (room slots id : ℕ) (v : LinkSight) (c : Hand) → v.may_take ≡ true → Allows (Kept room) slots id (v, c) head_word (λ n. n) (saw_head room (step slots head_word 0 0 none) (v, c))
 sees_head room slots id v c mine s k size at small = go (ℕ_discrete (get_or s.words head_word 0) (length (taken_in v.log) + 2 ^ 63))
   where
     n : ℕ
@@ -64,7 +64,7 @@ sees_head room slots id v c mine s k size at small = go (ℕ_discrete (get_or s.
     few : n % 2 ^ 63 ≤ 2 ^ 31
     few = let z = word.0 in let f = k.bytes.short in omega arith
 
-    kept : (w : Sight) → Boards k.stored k.closed k.log k.filling w → w.may_store ≡ v.may_store → w.stored ≡ v.stored → w.marks ≡ v.marks → w.closed ≡ v.closed → w.tail ≡ v.tail → w.cell ≡ v.cell → w.got ≡ v.got → w.greeted ≡ v.greeted → w.emptying ≡ v.emptying
+    kept : (w : LinkSight) → Boards k.stored k.closed k.log k.filling w → w.may_store ≡ v.may_store → w.stored ≡ v.stored → w.marks ≡ v.marks → w.closed ≡ v.closed → w.tail ≡ v.tail → w.cell ≡ v.cell → w.got ≡ v.got → w.greeted ≡ v.greeted → w.emptying ≡ v.emptying
         → Kept room (after (set s.words head_word n) s.homes s.views id w)
     kept w knows same p x q r o a g f = loads room s head_word s.homes id w (board_steps room s k id v w s.words s.homes k.log k.later k.filling at mine k.wide k.bytes k.marked k.replies k.parts k.loads k.well knows
         (λ m. let h = k.hosting id v at (sym same ∙ m) in (h.0, same_host room s.words k.stored k.marks (taken_in k.log) k.closed k.seen k.emptying v w p x q r o a g f h.1)) (λ u h. h))
@@ -97,7 +97,7 @@ sees_head room slots id v c mine s k size at small = go (ℕ_discrete (get_or s.
       (low, high, few, word.1, (λ q. absurd (d q)), (λ q. (refl, by_bool v.over (λ o. absurd (let z = b.1.over_is o in d (closed_word k.closed z.0 (ap length z.1) refl))) (λ o. o))), past),
     )
 
-pub looks : (room slots id i : ℕ) (v : Sight) (c : Hand) → v.may_take ≡ true → i ≡ cell_of room (length (taken_in v.log)) → length (taken_in v.log) < v.head
+pub looks : (room slots id i : ℕ) (v : LinkSight) (c : Hand) → v.may_take ≡ true → i ≡ cell_of room (length (taken_in v.log)) → length (taken_in v.log) < v.head
     → Allows (Kept room) slots id (v, c) i (λ n. n) (looked (step slots i 0 0 none) (v, c))
 looks room slots id i v c mine place more s k size at small =
     let b = k.boarding id v at mine in
@@ -107,7 +107,7 @@ looks room slots id i v c mine place more s k size at small =
     let found = some_placed k.stored (length (taken_in k.log)) (let x : v.head ≤ length k.stored = b.1.head_is in omega arith) in
     let is : n ≡ found.0 = ap (λ m. get_or s.words m 0) here ∙ k.bytes.cells (length (taken_in k.log)) found.0 found.1 (omega arith) in
     let byte : found.0 < 256 = k.bytes.small (length (taken_in k.log)) found.0 found.1 in
-    let w : Sight = with_read v n in (
+    let w : LinkSight = with_read v n in (
       w,
       keeps,
       tt,
@@ -123,14 +123,14 @@ looks room slots id i v c mine place more s k size at small =
       (refl, omega arith),
     )
 
-pub takes_byte : (room slots id x new : ℕ) (v : Sight) (c : Hand) → v.may_take ≡ true → v.read ≡ Some x → new ≡ length (taken_in v.log) + 1
+pub takes_byte : (room slots id x new : ℕ) (v : LinkSight) (c : Hand) → v.may_take ≡ true → v.read ≡ Some x → new ≡ length (taken_in v.log) + 1
     → Allows (Kept room) slots id (v, c) tail_word (λ _. new) (λ _. took (step slots tail_word new 0 none) (v, c) new)
 takes_byte room slots id x new v c mine read count s k size at small =
     let b = k.boarding id v at mine in
     let e : length (taken_in v.log) ≡ length (taken_in k.log) = ap length (ap taken_in b.1.log_is) in
     let there : placed k.stored (length (taken_in k.log)) ≡ some x = b.1.read_is x read in
     let low : length (taken_in k.log) < length k.stored = placed_below k.stored (length (taken_in k.log)) x there in
-    let w : Sight = with_taken v x in (
+    let w : LinkSight = with_taken v x in (
       w,
       keeps,
       tt,
@@ -151,7 +151,7 @@ takes_byte room slots id x new v c mine read count s k size at small =
       λ z q. let xz : x ≡ z = cc in ap (λ n. (with_taken v n, c)) xz,
     )
 
-pub sees_mark : (room slots id : ℕ) (v : Sight) (c : Hand) → v.may_take ≡ true → Allows (Kept room) slots id (v, c) mark_word (λ n. n) (saw_mark (step slots mark_word 0 0 none) (v, c))
+pub sees_mark : (room slots id : ℕ) (v : LinkSight) (c : Hand) → v.may_take ≡ true → Allows (Kept room) slots id (v, c) mark_word (λ n. n) (saw_mark (step slots mark_word 0 0 none) (v, c))
 sees_mark room slots id v c mine s k size at small =
     let b = k.boarding id v at mine in
     let n : ℕ = get_or s.words mark_word 0 in
@@ -163,7 +163,7 @@ sees_mark room slots id v c mine s k size at small =
     let new : LinkStep = Marked (number_in n) (bytes_in n) in
     let last : (last_of (marked_in v.log)).0 ≤ number_in n =
     (let l = mark_within k.marks (last_of (marked_in k.log)) k.marked.rising (last_is k.marks (marked_in k.log) k.loads) in let e = ap (λ (z : List LinkStep). (last_of (marked_in z)).0) b.1.log_is in omega arith) in
-    let w : Sight = with_marked v (number_in n) (bytes_in n) in (
+    let w : LinkSight = with_marked v (number_in n) (bytes_in n) in (
       w,
       keeps,
       tt,
@@ -180,7 +180,7 @@ sees_mark room slots id v c mine s k size at small =
       (refl, last, (λ e. bytes ∙ none_yet k.marks (sym number ∙ e))),
     )
 
-pub reaches : (room slots id : ℕ) (v : Sight) (c : Hand) → v.may_take ≡ true → v.filling ≡ false → Allows (Kept room) slots id (v, c) reply_tail_word (λ n. n) (reached (step slots reply_tail_word 0 0 none) (v, c))
+pub reaches : (room slots id : ℕ) (v : LinkSight) (c : Hand) → v.may_take ≡ true → v.filling ≡ false → Allows (Kept room) slots id (v, c) reply_tail_word (λ n. n) (reached (step slots reply_tail_word 0 0 none) (v, c))
 reaches room slots id v c mine idle s k size at small = go (dec_le (get_or s.words reply_tail_word 0 + 16) (length (answered_in v.log)))
   where
     n : ℕ
@@ -202,7 +202,7 @@ reaches room slots id v c mine idle s k size at small = go (dec_le (get_or s.wor
     few = let t = tail in let e = ap length (ap answered_in b.1.log_is) in let x = k.replies.shelf.few in omega arith
 
     go : Dec (n + 16 ≤ length (answered_in v.log)) → Way room s id c reply_tail_word n (reached (step slots reply_tail_word 0 0 none) (v, c))
-    go (yes d) = let w : Sight = with_reply_tail v n in (
+    go (yes d) = let w : LinkSight = with_reply_tail v n in (
       w,
       keeps,
       tt,
@@ -221,7 +221,7 @@ reaches room slots id v c mine idle s k size at small = go (dec_le (get_or s.wor
         let here : length (answered_in k.log) % 16 ≡ i = ap (λ (l : List Reply). length l % 16) (sym (ap answered_in b.1.log_is)) in
         let at_slot : get_elem? s.homes i ≡ some (some None) = subst (λ j. get_elem? s.homes j ≡ some (some None)) here (shelves.reach_home 16 s.homes (answered_in k.log) (answered_in k.seen) k.given replies.shelf space) in
         let moved = subst (λ j. Replies s.words (set s.homes j none) (answered_in k.log) (answered_in k.seen) k.given true k.emptying) here (replies_reached s.words s.homes (answered_in k.log) (answered_in k.seen) k.given k.emptying replies space) in
-        let w : Sight = with_slot v n in (
+        let w : LinkSight = with_slot v n in (
           w,
           takes i None,
           at_slot,
@@ -231,7 +231,7 @@ reaches room slots id v c mine idle s k size at small = go (dec_le (get_or s.wor
           (within, few, (λ q. refl), (λ q. absurd (omega arith))),
         )
 
-pub answers : (room slots id new i : ℕ) (v : Sight) (r : Reply) → v.may_take ≡ true → v.filling ≡ true → i ≡ length (answered_in v.log) % 16 → MayAnswer v.log r → new ≡ length (answered_in v.log) + 1
+pub answers : (room slots id new i : ℕ) (v : LinkSight) (r : Reply) → v.may_take ≡ true → v.filling ≡ true → i ≡ length (answered_in v.log) % 16 → MayAnswer v.log r → new ≡ length (answered_in v.log) + 1
     → Allows (Kept room) slots id (v, (i, Some r) ∷ []) reply_head_word (λ _. new) (λ _. gave (step slots reply_head_word new 0 none) (v, (i, Some r) ∷ []) new)
 answers room slots id new i v r mine busy place may count s k size at small =
     let b = k.boarding id v at mine in
@@ -241,7 +241,7 @@ answers room slots id new i v r mine busy place may count s k size at small =
     let here : length (answered_in k.log) % 16 ≡ i = ap (λ (l : List Reply). length l % 16) (sym (ap answered_in b.1.log_is)) ∙ sym place in
     let moved = subst (λ j. Replies (set s.words reply_head_word new) (set s.homes j (some (Some r))) (r ∷ (answered_in k.log)) (answered_in k.seen) k.given false k.emptying) here
     (replies_given s.words s.homes (answered_in k.log) (answered_in k.seen) k.given k.emptying r new replies k.wide may.text (let f = may.few in omega arith) (count ∙ ap (λ n. n + 1) e)) in
-    let w : Sight = with_answered v r in (
+    let w : LinkSight = with_answered v r in (
       w,
       gives,
       tt,

@@ -8,7 +8,7 @@ use Rattle.atomic_table.specs.Table.{State, Me, Act, stepped, Valid, carried_aft
 use Rattle.shared_rings.proofs.Rights as rights
 use Rattle.shared_rings.proofs.Placed.{placed_other}
 use Rattle.status_report.specs.declared.Reply.{Reply}
-use Rattle.serial_ring.specs.declared.view.Sight.{Sight}
+use Rattle.serial_ring.specs.declared.view.LinkSight.{LinkSight}
 use Rattle.serial_ring.specs.declared.view.LinkStep.{LinkStep}
 use Rattle.serial_ring.specs.Marks.{AreMarks}
 use Rattle.serial_ring.specs.Logs.{AnswersWell, taken_in, marked_in, answered_in}
@@ -19,28 +19,28 @@ use Rattle.serial_ring.proofs.Replies.{Homes}
 abbrev pub Hand : Type 0
 Hand = List (ℕ × Option Reply)
 
-abbrev pub may_store : Sight → Bool
+abbrev pub may_store : LinkSight → Bool
 may_store v = v.may_store
 
-abbrev pub may_take : Sight → Bool
+abbrev pub may_take : LinkSight → Bool
 may_take v = v.may_take
 
-abbrev pub after : List ℕ → Homes → List Sight → ℕ → Sight → State (Option Reply) Sight
+abbrev pub after : List ℕ → Homes → List LinkSight → ℕ → LinkSight → State (Option Reply) LinkSight
 after words homes views id w = record { words = words; homes = homes; views = set views id w }
 
-abbrev pub Way : ℕ → State (Option Reply) Sight → ℕ → Hand → ℕ → ℕ → (ℕ → Me (Option Reply) Sight → Type 0) → Type 0
-Way room s id c i n then = (w : Sight) × (a : Act (Option Reply)) × Valid s.homes c a × Kept room (stepped s i n id c w a) × then n (w, carried_after c a)
+abbrev pub Way : ℕ → State (Option Reply) LinkSight → ℕ → Hand → ℕ → ℕ → (ℕ → Me (Option Reply) LinkSight → Type 0) → Type 0
+Way room s id c i n then = (w : LinkSight) × (a : Act (Option Reply)) × Valid s.homes c a × Kept room (stepped s i n id c w a) × then n (w, carried_after c a)
 
-pub loads : (room : ℕ) (s : State (Option Reply) Sight) (i : ℕ) (homes : Homes) (id : ℕ) (w : Sight) → Kept room (after s.words homes s.views id w) → Kept room (after (set s.words i (get_or s.words i 0)) homes s.views id w)
+pub loads : (room : ℕ) (s : State (Option Reply) LinkSight) (i : ℕ) (homes : Homes) (id : ℕ) (w : LinkSight) → Kept room (after s.words homes s.views id w) → Kept room (after (set s.words i (get_or s.words i 0)) homes s.views id w)
 loads room s i homes id w k = let Q : List ℕ → Type 0 = λ ws. Kept room (after ws homes s.views id w) in subst Q (sym (set-get_or s.words i 0)) k
 
 -- a step of the host
-pub host_steps : (room : ℕ) (s : State (Option Reply) Sight) (k : Kept room s) (id : ℕ) (v w : Sight) (words : List ℕ) (homes : Homes) (stored marks : List ℕ) (closed : Bool) (later seen : List LinkStep) (given : ℕ) (emptying : Bool)
+pub host_steps : (room : ℕ) (s : State (Option Reply) LinkSight) (k : Kept room s) (id : ℕ) (v w : LinkSight) (words : List ℕ) (homes : Homes) (stored marks : List ℕ) (closed : Bool) (later seen : List LinkStep) (given : ℕ) (emptying : Bool)
     → get_elem? s.views id ≡ some v → v.may_store ≡ true
     → length words ≡ all_words → Bytes room words stored (taken_in k.log) closed → Marks words stored marks → Replies words homes (answered_in k.log) (answered_in seen) given k.filling emptying
     → k.log ≡ later ++ seen → AreMarks marks (marked_in k.log)
     → Hosts room words stored marks (taken_in k.log) closed seen emptying w → (w.may_take ≡ true → (id ≡ k.board) × Boards stored closed k.log k.filling w)
-    → ((u : Sight) → Boards k.stored k.closed k.log k.filling u → Boards stored closed k.log k.filling u)
+    → ((u : LinkSight) → Boards k.stored k.closed k.log k.filling u → Boards stored closed k.log k.filling u)
     → Kept room (after words homes s.views id w)
 host_steps room s k id v w words homes stored marks closed later seen given emptying at mine wide bytes marked replies parts loads knows also still = record {
   stored = stored;
@@ -67,11 +67,11 @@ host_steps room s k id v w words homes stored marks closed later seen given empt
 }
 
 -- a step of the board
-pub board_steps : (room : ℕ) (s : State (Option Reply) Sight) (k : Kept room s) (id : ℕ) (v w : Sight) (words : List ℕ) (homes : Homes) (log later : List LinkStep) (filling : Bool) → get_elem? s.views id ≡ some v → v.may_take ≡ true
+pub board_steps : (room : ℕ) (s : State (Option Reply) LinkSight) (k : Kept room s) (id : ℕ) (v w : LinkSight) (words : List ℕ) (homes : Homes) (log later : List LinkStep) (filling : Bool) → get_elem? s.views id ≡ some v → v.may_take ≡ true
     → length words ≡ all_words → Bytes room words k.stored (taken_in log) k.closed → Marks words k.stored k.marks → Replies words homes (answered_in log) (answered_in k.seen) k.given filling k.emptying
     → log ≡ later ++ k.seen → AreMarks k.marks (marked_in log) → AnswersWell log
     → Boards k.stored k.closed log filling w → (w.may_store ≡ true → (id ≡ k.host) × Hosts room words k.stored k.marks (taken_in log) k.closed k.seen k.emptying w)
-    → ((u : Sight) → Hosts room s.words k.stored k.marks (taken_in k.log) k.closed k.seen k.emptying u → Hosts room words k.stored k.marks (taken_in log) k.closed k.seen k.emptying u)
+    → ((u : LinkSight) → Hosts room s.words k.stored k.marks (taken_in k.log) k.closed k.seen k.emptying u → Hosts room words k.stored k.marks (taken_in log) k.closed k.seen k.emptying u)
     → Kept room (after words homes s.views id w)
 board_steps room s k id v w words homes log later filling at mine wide bytes marked replies parts loads well knows also still = record {
   stored = k.stored;
@@ -98,7 +98,7 @@ board_steps room s k id v w words homes log later filling at mine wide bytes mar
 }
 
 -- what one side knows rests on its own part of a view
-pub same_board : (stored : List ℕ) (closed : Bool) (log : List LinkStep) (filling : Bool) (v w : Sight) → w.log ≡ v.log → w.head ≡ v.head → w.read ≡ v.read → w.over ≡ v.over → w.filling ≡ v.filling
+pub same_board : (stored : List ℕ) (closed : Bool) (log : List LinkStep) (filling : Bool) (v w : LinkSight) → w.log ≡ v.log → w.head ≡ v.head → w.read ≡ v.read → w.over ≡ v.over → w.filling ≡ v.filling
     → Boards stored closed log filling v → Boards stored closed log filling w
 same_board stored closed log filling v w p q r o f b = record {
   log_is = p ∙ b.log_is;
@@ -108,7 +108,7 @@ same_board stored closed log filling v w p q r o f b = record {
   filling_is = f ∙ b.filling_is;
 }
 
-pub same_host : (room : ℕ) (words stored marks taken : List ℕ) (closed : Bool) (seen : List LinkStep) (emptying : Bool) (v w : Sight) → w.stored ≡ v.stored → w.marks ≡ v.marks → w.closed ≡ v.closed → w.tail ≡ v.tail → w.cell ≡ v.cell → w.got ≡ v.got → w.greeted ≡ v.greeted → w.emptying ≡ v.emptying
+pub same_host : (room : ℕ) (words stored marks taken : List ℕ) (closed : Bool) (seen : List LinkStep) (emptying : Bool) (v w : LinkSight) → w.stored ≡ v.stored → w.marks ≡ v.marks → w.closed ≡ v.closed → w.tail ≡ v.tail → w.cell ≡ v.cell → w.got ≡ v.got → w.greeted ≡ v.greeted → w.emptying ≡ v.emptying
     → Hosts room words stored marks taken closed seen emptying v → Hosts room words stored marks taken closed seen emptying w
 same_host room words stored marks taken closed seen emptying v w p m q r o a g f h = record {
   stored_are = p ∙ h.stored_are;
@@ -122,7 +122,7 @@ same_host room words stored marks taken closed seen emptying v w p m q r o a g f
 }
 
 -- the host's cell stays where other words change
-pub host_words : (room : ℕ) (words stored marks taken later : List ℕ) (closed : Bool) (seen : List LinkStep) (emptying : Bool) (i x : ℕ) (u : Sight) → i < first_cell → length taken ≤ length later
+pub host_words : (room : ℕ) (words stored marks taken later : List ℕ) (closed : Bool) (seen : List LinkStep) (emptying : Bool) (i x : ℕ) (u : LinkSight) → i < first_cell → length taken ≤ length later
     → Hosts room words stored marks taken closed seen emptying u → Hosts room (set words i x) stored marks later closed seen emptying u
 host_words room words stored marks taken later closed seen emptying i x u low more h = record {
   stored_are = h.stored_are;
@@ -136,7 +136,7 @@ host_words room words stored marks taken later closed seen emptying i x u low mo
 }
 
 -- the board, while a byte more is stored
-pub board_stored : (stored : List ℕ) (log : List LinkStep) (filling : Bool) (b : ℕ) (u : Sight) → Boards stored false log filling u → Boards (b ∷ stored) false log filling u
+pub board_stored : (stored : List ℕ) (log : List LinkStep) (filling : Bool) (b : ℕ) (u : LinkSight) → Boards stored false log filling u → Boards (b ∷ stored) false log filling u
 board_stored stored log filling b u k = record {
   log_is = k.log_is;
   head_is = (let s = k.head_is in omega arith);
@@ -145,7 +145,7 @@ board_stored stored log filling b u k = record {
   filling_is = k.filling_is;
 }
 
-pub board_closed : (stored : List ℕ) (log : List LinkStep) (filling : Bool) (u : Sight) → Boards stored false log filling u → Boards stored true log filling u
+pub board_closed : (stored : List ℕ) (log : List LinkStep) (filling : Bool) (u : LinkSight) → Boards stored false log filling u → Boards stored true log filling u
 board_closed stored log filling u k = record {
   log_is = k.log_is;
   head_is = k.head_is;

@@ -10,7 +10,7 @@ use Rattle.shared_rings.proofs.Shelf as shelves
 use Rattle.shared_rings.proofs.Shelf.{below_size}
 use Rattle.status_report.specs.declared.Reply.{Reply}
 use Rattle.status_report.specs.Replies.{IsReply}
-use Rattle.serial_ring.specs.declared.view.Sight.{Sight}
+use Rattle.serial_ring.specs.declared.view.LinkSight.{LinkSight}
 use Rattle.serial_ring.specs.declared.view.LinkStep.{LinkStep}
 use Rattle.serial_ring.specs.declared.view.LinkStep.TheVariants.{Answered}
 use Rattle.serial_ring.specs.Marks.{Mark, Follows, AreMarks, packed}
@@ -25,7 +25,7 @@ use Rattle.serial_ring.proofs.Bytes.{below, above, cell_apart, apart_from_cell, 
 use Rattle.serial_ring.proofs.Replies.{replies_stay, next_reply, replies_grasped, replies_back}
 use Rattle.serial_ring.proofs.Frames.{Hand, Way, loads, host_steps, same_board, same_host, host_words, board_stored, board_closed}
 
-pub sees_tail : (room slots id : ℕ) (v : Sight) (c : Hand) → v.may_store ≡ true → Allows (Kept room) slots id (v, c) tail_word (λ n. n) (saw_tail room (step slots tail_word 0 0 none) (v, c))
+pub sees_tail : (room slots id : ℕ) (v : LinkSight) (c : Hand) → v.may_store ≡ true → Allows (Kept room) slots id (v, c) tail_word (λ n. n) (saw_tail room (step slots tail_word 0 0 none) (v, c))
 sees_tail room slots id v c mine s k size at small =
     let h = k.hosting id v at mine in
     let n : ℕ = get_or s.words tail_word 0 in
@@ -46,7 +46,7 @@ sees_tail room slots id v c mine s k size at small =
       (refl, omega arith, omega arith, omega arith),
     )
 
-pub writes : (room slots id i x : ℕ) (v : Sight) (c : Hand) → v.may_store ≡ true → i ≡ cell_of room (length v.stored) → length v.stored < v.tail + room → x < 256
+pub writes : (room slots id i x : ℕ) (v : LinkSight) (c : Hand) → v.may_store ≡ true → i ≡ cell_of room (length v.stored) → length v.stored < v.tail + room → x < 256
     → Allows (Kept room) slots id (v, c) i (λ _. x) (λ _. wrote (step slots i x 0 none) (v, c) x)
 writes room slots id i x v c mine place fits byte s k size at small =
     let h = k.hosting id v at mine in
@@ -79,7 +79,7 @@ writes room slots id i x v c mine place fits byte s k size at small =
       refl,
     )
 
-pub stores : (room slots id x new : ℕ) (v : Sight) (c : Hand) → v.may_store ≡ true → v.closed ≡ false → v.cell ≡ Some x → length v.stored < v.tail + room → length v.stored < 2 ^ 31 → new ≡ length v.stored + 1
+pub stores : (room slots id x new : ℕ) (v : LinkSight) (c : Hand) → v.may_store ≡ true → v.closed ≡ false → v.cell ≡ Some x → length v.stored < v.tail + room → length v.stored < 2 ^ 31 → new ≡ length v.stored + 1
     → Allows (Kept room) slots id (v, c) head_word (λ _. new) (λ _. stored_byte (step slots head_word new 0 none) (v, c) new)
 stores room slots id x new v c mine still cell fits short count s k size at small =
     let h = k.hosting id v at mine in
@@ -89,7 +89,7 @@ stores room slots id x new v c mine still cell fits short count s k size at smal
     let free : length k.stored < length (taken_in k.log) + room = let r : v.tail ≤ length (taken_in k.log) = h.1.tail_is in omega arith in
     let wide : length s.words ≡ all_words = k.wide in
     let bytes = subst (λ z. Bytes room s.words k.stored (taken_in k.log) z) unclosed k.bytes in
-    let w : Sight = with_stored v x in (
+    let w : LinkSight = with_stored v x in (
       w,
       keeps,
       tt,
@@ -117,14 +117,14 @@ stores room slots id x new v c mine still cell fits short count s k size at smal
       λ z q. let xz : x ≡ z = cc in ap (λ n. (with_stored v n, c)) xz,
     )
 
-pub shuts : (room slots id new : ℕ) (v : Sight) (c : Hand) → v.may_store ≡ true → v.closed ≡ false → new ≡ length v.stored + 2 ^ 63
+pub shuts : (room slots id new : ℕ) (v : LinkSight) (c : Hand) → v.may_store ≡ true → v.closed ≡ false → new ≡ length v.stored + 2 ^ 63
     → Allows (Kept room) slots id (v, c) head_word (λ _. new) (λ _. shut (step slots head_word new 0 none) (v, c) new)
 shuts room slots id new v c mine still count s k size at small =
     let h = k.hosting id v at mine in
     let e : length v.stored ≡ length k.stored = ap length h.1.stored_are in
     let unclosed : k.closed ≡ false = sym h.1.closed_is ∙ still in
     let bytes = subst (λ z. Bytes room s.words k.stored (taken_in k.log) z) unclosed k.bytes in
-    let w : Sight = with_closed v in (
+    let w : LinkSight = with_closed v in (
       w,
       keeps,
       tt,
@@ -152,13 +152,13 @@ shuts room slots id new v c mine still count s k size at small =
       refl,
     )
 
-pub sets_mark : (room slots id new : ℕ) (v : Sight) (c : Hand) → v.may_store ≡ true → length v.marks + 1 < 2 ^ 32 → new ≡ packed (length v.marks + 1) (length v.stored)
+pub sets_mark : (room slots id new : ℕ) (v : LinkSight) (c : Hand) → v.may_store ≡ true → length v.marks + 1 < 2 ^ 32 → new ≡ packed (length v.marks + 1) (length v.stored)
     → Allows (Kept room) slots id (v, c) mark_word (λ _. new) (λ _. set_mark (step slots mark_word new 0 none) (v, c) new)
 sets_mark room slots id new v c mine few is s k size at small =
     let h = k.hosting id v at mine in
     let e : length v.stored ≡ length k.stored = ap length h.1.stored_are in
     let f : length v.marks ≡ length k.marks = ap length h.1.marks_are in
-    let w : Sight = with_mark v in (
+    let w : LinkSight = with_mark v in (
       w,
       keeps,
       tt,
@@ -181,7 +181,7 @@ sets_mark room slots id new v c mine few is s k size at small =
       refl,
     )
 
-pub grasps : (room slots id : ℕ) (v : Sight) (c : Hand) → v.may_store ≡ true → v.emptying ≡ false → Allows (Kept room) slots id (v, c) reply_head_word (λ n. n) (grasped (step slots reply_head_word 0 0 none) (v, c))
+pub grasps : (room slots id : ℕ) (v : LinkSight) (c : Hand) → v.may_store ≡ true → v.emptying ≡ false → Allows (Kept room) slots id (v, c) reply_head_word (λ n. n) (grasped (step slots reply_head_word 0 0 none) (v, c))
 grasps room slots id v c mine idle s k size at small = go (dec_le (get_or s.words reply_head_word 0) (length v.got))
   where
     n : ℕ
@@ -200,7 +200,7 @@ grasps room slots id v c mine idle s k size at small = go (dec_le (get_or s.word
     short = let r = k.replies.head in let e = k.replies.short in omega arith
 
     go : Dec (n ≤ length v.got) → Way room s id c reply_head_word n (grasped (step slots reply_head_word 0 0 none) (v, c))
-    go (yes d) = let w : Sight = with_reply_head v n in (
+    go (yes d) = let w : LinkSight = with_reply_head v n in (
       w,
       keeps,
       tt,
@@ -236,7 +236,7 @@ grasps room slots id v c mine idle s k size at small = go (dec_le (get_or s.word
         subst (λ (z : List ℕ × List Reply × List Mark). AnswersStored z.0 z.1 z.2) (λ j. (sym (h.1.stored_are ∙ whole) j, sym got_now j, sym greeted_now j)) (answers_stored spot.later now k.bytes.rest well) in
         let follows : is_banner r ≡ true → Follows v.marks v.greeted mark = λ q.
         subst (λ (z : List ℕ × List Mark). Follows z.0 z.1 mark) (λ j. (sym h.1.marks_are j, sym greeted j)) (next_follows k.marks spot.before r loaded well.0 q) in
-        let w : Sight = with_got v n r mark in (
+        let w : LinkSight = with_got v n r mark in (
           w,
           takes i (Some r),
           at_slot,
@@ -251,7 +251,7 @@ grasps room slots id v c mine idle s k size at small = go (dec_le (get_or s.word
           ),
         )
 
-pub gives_back : (room slots id new i : ℕ) (v : Sight) → v.may_store ≡ true → v.emptying ≡ true → i ≡ (length v.got - 1) % 16 → new ≡ length v.got
+pub gives_back : (room slots id new i : ℕ) (v : LinkSight) → v.may_store ≡ true → v.emptying ≡ true → i ≡ (length v.got - 1) % 16 → new ≡ length v.got
     → Allows (Kept room) slots id (v, (i, None) ∷ []) reply_tail_word (λ _. new) (λ _. gave_back (step slots reply_tail_word new 0 none) (v, (i, None) ∷ []) new)
 gives_back room slots id new i v mine busy place count s k size at small =
     let h = k.hosting id v at mine in
@@ -263,7 +263,7 @@ gives_back room slots id new i v mine busy place count s k size at small =
     let here : k.given % 16 ≡ i = ap (λ z. z % 16) first ∙ sym place in
     let moved = subst (λ j. Replies (set s.words reply_tail_word new) (set s.homes j (some None)) (answered_in k.log) (answered_in k.seen) (k.given + 1) k.filling false) here
     (replies_back s.words s.homes (answered_in k.log) (answered_in k.seen) k.given k.filling new replies k.wide (omega arith)) in
-    let w : Sight = with_back v in (
+    let w : LinkSight = with_back v in (
       w,
       gives,
       tt,

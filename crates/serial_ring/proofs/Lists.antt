@@ -4,7 +4,7 @@ use Rattle.std.proofs.lemmas.Bool.Decides.{nat_tests}
 use Rattle.status_report.specs.declared.Reply.{Reply}
 use Rattle.status_report.specs.Replies.{IsReply}
 use Rattle.status_report.proofs.Answered.{lfs_first}
-use Rattle.serial_ring.specs.Lists.{behind, since, AreReplies}
+use Rattle.serial_ring.specs.Lists.{since_lf, since, AreReplies}
 use Rattle.status_report.specs.Answering.{lfs_in}
 
 pub more_lfs : (rest taken : List ℕ) → lfs_in taken ≤ lfs_in (rest ++ taken)
@@ -15,7 +15,7 @@ pub stands : (k n : ℕ) → k ≤ n → nat_le k n ≡ true
 stands k n le = grind (arith, nat_tests)
 
 -- what is not taken stands behind each line whose end was taken
-pub unread_behind : (k : ℕ) (rest taken : List ℕ) → k ≤ lfs_in taken → length rest ≤ length (behind k (rest ++ taken))
+pub unread_behind : (k : ℕ) (rest taken : List ℕ) → k ≤ lfs_in taken → length rest ≤ length (since_lf k (rest ++ taken))
 unread_behind k [] taken le = omega arith
 unread_behind k (b ∷ rest) taken le =
     let m = more_lfs rest taken in

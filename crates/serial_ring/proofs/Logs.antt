@@ -8,7 +8,7 @@ use Rattle.status_report.proofs.Answered.{lfs_first}
 use Rattle.serial_ring.specs.declared.view.LinkStep.{LinkStep}
 use Rattle.serial_ring.specs.declared.view.LinkStep.TheVariants.{Took, Marked, Answered}
 use Rattle.serial_ring.specs.Marks.{Mark, AreMarks, last_of, Follows}
-use Rattle.serial_ring.specs.Lists.{since, answers_behind_mark, behind_mark, behind, maybe_unread, AnswersStored, with_greeting}
+use Rattle.serial_ring.specs.Lists.{since, answers_behind_mark, behind_mark, since_lf, maybe_unread, AnswersStored, with_greeting}
 use Rattle.serial_ring.specs.Logs.{taken_in, marked_in, answered_in, has_greeted, next_mark, greeted_in, answers_since, lfs_since, MayAnswer, AnswersWell}
 use Rattle.serial_ring.proofs.Lists.{stands, since_on, unread_behind, more_lfs}
 use Rattle.serial_ring.proofs.Marking.{last_is}
@@ -200,7 +200,7 @@ unread_by_replies later seen rest w =
     let enough : k ≤ lfs_in (since n (taken_in (later ++ seen))) =
     (let m = more_lfs (taken_in later) (since n (taken_in seen)) in let e = ap lfs_in at_mark in let b = c.behind_is in let f = c.fewer in omega arith) in
     let u = unread_behind k rest (since n (taken_in (later ++ seen))) enough in
-    let e = ap (λ z. length (behind k z)) whole in
+    let e = ap (λ z. length (since_lf k z)) whole in
     omega arith
 
 pub answers_stored : (later seen : List LinkStep) (rest : List ℕ) → AnswersWell seen → AnswersStored (rest ++ taken_in (later ++ seen)) (answered_in seen) (greeted_in seen)

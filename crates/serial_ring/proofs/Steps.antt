@@ -10,7 +10,7 @@ use Rattle.shared_rings.proofs.Rights as rights
 use Rattle.shared_rings.proofs.Placed.{placed_below}
 use Rattle.shared_rings.proofs.Shelf as shelves
 use Rattle.status_report.specs.declared.Reply.{Reply}
-use Rattle.serial_ring.specs.declared.view.Sight.{Sight}
+use Rattle.serial_ring.specs.declared.view.LinkSight.{LinkSight}
 use Rattle.serial_ring.specs.declared.view.LinkStep.{LinkStep}
 use Rattle.serial_ring.specs.Marks.{Mark, AreMarks, AreRising, latest}
 use Rattle.serial_ring.specs.Lists.{IsRoom}
@@ -19,7 +19,7 @@ use Rattle.serial_ring.specs.Rule.{Kept, head_word, beginning, without_taking, w
 use Rattle.serial_ring.proofs.Logs.{counts, greeted_on}
 use Rattle.serial_ring.proofs.Frames.{Hand, may_store, may_take, loads, host_steps, same_board, same_host}
 
-pub ties : (room slots id : ℕ) (v : Sight) (c : Hand) → v.may_store ≡ true → v.may_take ≡ true → Allows (Kept room) slots id (v, c) head_word (λ n. n) (tied room (step slots head_word 0 0 none) (v, c))
+pub ties : (room slots id : ℕ) (v : LinkSight) (c : Hand) → v.may_store ≡ true → v.may_take ≡ true → Allows (Kept room) slots id (v, c) head_word (λ n. n) (tied room (step slots head_word 0 0 none) (v, c))
 ties room slots id v c storing taking s k size at small =
     let h = k.hosting id v at storing in
     let b = k.boarding id v at taking in
@@ -81,7 +81,7 @@ starts room sized = record {
   boarding = rights.starts may_take _ beginning (record { log_is = refl; head_is = omega arith; read_is = λ z e. absurd cc; over_is = λ e. absurd cc; filling_is = refl });
 }
 
-pub splits : (room id : ℕ) (v : Sight) → v.may_store ≡ true → v.may_take ≡ true → Splits (Kept room) id v (without_taking v) (without_storing v)
+pub splits : (room id : ℕ) (v : LinkSight) → v.may_store ≡ true → v.may_take ≡ true → Splits (Kept room) id v (without_taking v) (without_storing v)
 splits room id v storing taking s k at =
     let h = k.hosting id v at storing in
     let b = k.boarding id v at taking in record {
@@ -110,7 +110,7 @@ splits room id v storing taking s k at =
           (same_board k.stored k.closed k.log k.filling v (without_storing v) refl refl refl refl refl b.1);
     }
 
-pub joins : (room id other : ℕ) (v w : Sight) → v.may_store ≡ true → w.may_take ≡ true → Joins (Kept room) id v other w (both_of v w) spent
+pub joins : (room id other : ℕ) (v w : LinkSight) → v.may_store ≡ true → w.may_take ≡ true → Joins (Kept room) id v other w (both_of v w) spent
 joins room id other v w storing taking s k at apart at_other =
     let was : get_elem? s.views other ≡ some w = ⊎_elim (λ a. absurd (apart a.0)) (λ a. a.1) (at_set s.views id other (both_of v w) w at_other) in
     let h = k.hosting id v at storing in

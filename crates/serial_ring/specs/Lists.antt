@@ -10,9 +10,9 @@ abbrev pub IsRoom : ℕ → Type 0
 IsRoom room = (128 ≤ room) × (room ≤ 255)
 
 -- the bytes after the k-th line feed; after the 0th, all
-abbrev pub behind : ℕ → List ℕ → List ℕ
-behind k [] = []
-behind k (b ∷ earlier) = cond (nat_le k (lfs_in earlier)) (b ∷ behind k earlier) []
+abbrev pub since_lf : ℕ → List ℕ → List ℕ
+since_lf k [] = []
+since_lf k (b ∷ earlier) = cond (nat_le k (lfs_in earlier)) (b ∷ since_lf k earlier) []
 
 -- the bytes after the first n
 abbrev pub since : ℕ → List ℕ → List ℕ
@@ -39,7 +39,7 @@ behind_mark greeted stored = since (last_of greeted).1 stored
 
 -- Those of them that may be unread, by the replies got: what stands after the last line that was answered since that Banner.
 abbrev pub maybe_unread : List ℕ → List Reply → List Mark → List ℕ
-maybe_unread stored got greeted = behind (answers_behind_mark got) (behind_mark greeted stored)
+maybe_unread stored got greeted = since_lf (answers_behind_mark got) (behind_mark greeted stored)
 
 -- no more lines have an answer since that Banner than end among the bytes stored behind its mark
 abbrev pub AnswersStored : List ℕ → List Reply → List Mark → Type 0

@@ -11,7 +11,7 @@ use Rattle.shared_rings.specs.Placed.{placed}
 use Rattle.shared_rings.specs.Shelf.{Shelf}
 use Rattle.status_report.specs.declared.Reply.{Reply}
 use Rattle.status_report.specs.Replies.{IsReply}
-use Rattle.serial_ring.specs.declared.view.Sight.{Sight}
+use Rattle.serial_ring.specs.declared.view.LinkSight.{LinkSight}
 use Rattle.serial_ring.specs.declared.view.LinkStep.{LinkStep}
 use Rattle.serial_ring.specs.declared.view.LinkStep.TheVariants.{Took, Marked, Answered}
 use Rattle.serial_ring.specs.Marks.{Mark, Follows, MarkedPast, AreMarks, AreRising, latest, last_of, packed, number_in, bytes_in}
@@ -79,7 +79,7 @@ pub record Replies (words : List ℕ) (homes : List (maybe.Option (Option Reply)
   pub tail : slice_index words reply_tail_word ≡ given
 
 -- what the seat of the host knows, by what the board had done when it answered the reply that was got last
-pub record Hosts (room : ℕ) (words : List ℕ) (stored marks taken : List ℕ) (closed : Bool) (seen : List LinkStep) (emptying : Bool) (v : Sight) : Type 0 where
+pub record Hosts (room : ℕ) (words : List ℕ) (stored marks taken : List ℕ) (closed : Bool) (seen : List LinkStep) (emptying : Bool) (v : LinkSight) : Type 0 where
   pub stored_are : v.stored ≡ stored
   pub marks_are : v.marks ≡ marks
   pub closed_is : v.closed ≡ closed
@@ -90,7 +90,7 @@ pub record Hosts (room : ℕ) (words : List ℕ) (stored marks taken : List ℕ)
   pub emptying_is : v.emptying ≡ emptying
 
 -- what the seat of the board knows
-pub record Boards (stored : List ℕ) (closed : Bool) (log : List LinkStep) (filling : Bool) (v : Sight) : Type 0 where
+pub record Boards (stored : List ℕ) (closed : Bool) (log : List LinkStep) (filling : Bool) (v : LinkSight) : Type 0 where
   pub log_is : v.log ≡ log
   pub head_is : v.head ≤ length stored
   pub read_is : (b : ℕ) → v.read ≡ Some b → placed stored (length (taken_in log)) ≡ some b
@@ -98,7 +98,7 @@ pub record Boards (stored : List ℕ) (closed : Bool) (log : List LinkStep) (fil
   pub filling_is : v.filling ≡ filling
 
 -- Of what the board has done, `seen` is what it had when it answered the reply that was got last.
-pub record Kept (room : ℕ) (s : State (Option Reply) Sight) : Type 0 where
+pub record Kept (room : ℕ) (s : State (Option Reply) LinkSight) : Type 0 where
   pub stored : List ℕ
   pub marks : List ℕ
   pub closed : Bool
@@ -122,7 +122,7 @@ pub record Kept (room : ℕ) (s : State (Option Reply) Sight) : Type 0 where
   pub hosting : Sole s.views (λ v. v.may_store) host (Hosts room s.words stored marks (taken_in log) closed seen emptying)
   pub boarding : Sole s.views (λ v. v.may_take) board (Boards stored closed log filling)
 
-abbrev pub beginning : Sight
+abbrev pub beginning : LinkSight
 beginning = record {
   may_store = true;
   may_take = true;
@@ -147,14 +147,14 @@ beginning = record {
   filling = false;
 }
 
-abbrev pub without_taking : Sight → Sight
+abbrev pub without_taking : LinkSight → LinkSight
 without_taking v = record v { may_take = false }
 
-abbrev pub without_storing : Sight → Sight
+abbrev pub without_storing : LinkSight → LinkSight
 without_storing v = record v { may_store = false }
 
 -- the first is the host's
-abbrev pub both_of : Sight → Sight → Sight
+abbrev pub both_of : LinkSight → LinkSight → LinkSight
 both_of v w = record {
   may_store = v.may_store;
   may_take = w.may_take;
@@ -179,61 +179,61 @@ both_of v w = record {
   filling = w.filling;
 }
 
-abbrev pub spent : Sight
+abbrev pub spent : LinkSight
 spent = record beginning { may_store = false; may_take = false }
 
 -- the view after each step
-abbrev pub with_tail : Sight → ℕ → Sight
+abbrev pub with_tail : LinkSight → ℕ → LinkSight
 with_tail v n = record v { tail = n; tail_loads = v.tail_loads + 1 }
 
-abbrev pub with_cell : Sight → ℕ → Sight
+abbrev pub with_cell : LinkSight → ℕ → LinkSight
 with_cell v b = record v { cell = Some b }
 
-abbrev pub with_stored : Sight → ℕ → Sight
+abbrev pub with_stored : LinkSight → ℕ → LinkSight
 with_stored v b = record v { stored = b ∷ v.stored; cell = None }
 
-abbrev pub with_closed : Sight → Sight
+abbrev pub with_closed : LinkSight → LinkSight
 with_closed v = record v { closed = true }
 
-abbrev pub with_mark : Sight → Sight
+abbrev pub with_mark : LinkSight → LinkSight
 with_mark v = record v { marks = length v.stored ∷ v.marks }
 
-abbrev pub with_reply_head : Sight → ℕ → Sight
+abbrev pub with_reply_head : LinkSight → ℕ → LinkSight
 with_reply_head v n = record v { reply_head = n; reply_head_loads = v.reply_head_loads + 1 }
 
 -- a reply is got; if it is a Banner, it has this mark
-abbrev pub with_got : Sight → ℕ → Reply → Mark → Sight
+abbrev pub with_got : LinkSight → ℕ → Reply → Mark → LinkSight
 with_got v n r m = record v { reply_head = n; reply_head_loads = v.reply_head_loads + 1; got = r ∷ v.got; greeted = with_greeting r m v.greeted; emptying = true }
 
-abbrev pub with_back : Sight → Sight
+abbrev pub with_back : LinkSight → LinkSight
 with_back v = record v { emptying = false }
 
-abbrev pub with_head : Sight → ℕ → Sight
+abbrev pub with_head : LinkSight → ℕ → LinkSight
 with_head v n = record v { head = n; head_loads = v.head_loads + 1 }
 
-abbrev pub with_over : Sight → ℕ → Sight
+abbrev pub with_over : LinkSight → ℕ → LinkSight
 with_over v n = record v { head = n; head_loads = v.head_loads + 1; over = true }
 
-abbrev pub with_read : Sight → ℕ → Sight
+abbrev pub with_read : LinkSight → ℕ → LinkSight
 with_read v b = record v { read = Some b }
 
-abbrev pub with_taken : Sight → ℕ → Sight
+abbrev pub with_taken : LinkSight → ℕ → LinkSight
 with_taken v b = record v { log = Took b ∷ v.log; read = None }
 
-abbrev pub with_marked : Sight → ℕ → ℕ → Sight
+abbrev pub with_marked : LinkSight → ℕ → ℕ → LinkSight
 with_marked v number bytes = record v { log = Marked number bytes ∷ v.log }
 
-abbrev pub with_reply_tail : Sight → ℕ → Sight
+abbrev pub with_reply_tail : LinkSight → ℕ → LinkSight
 with_reply_tail v n = record v { reply_tail = n; reply_tail_loads = v.reply_tail_loads + 1 }
 
-abbrev pub with_slot : Sight → ℕ → Sight
+abbrev pub with_slot : LinkSight → ℕ → LinkSight
 with_slot v n = record v { reply_tail = n; reply_tail_loads = v.reply_tail_loads + 1; filling = true }
 
-abbrev pub with_answered : Sight → Reply → Sight
+abbrev pub with_answered : LinkSight → Reply → LinkSight
 with_answered v r = record v { log = Answered r ∷ v.log; filling = false }
 
 abbrev Sat : Type 0
-Sat = Me (Option Reply) Sight
+Sat = Me (Option Reply) LinkSight
 
 abbrev At : Type 0
 At = Step (Option Reply)

@@ -21,4 +21,4 @@ mod view;
 pub use ends::{BoardEnd, HostEnd};
 pub use joined::{join_link, link};
 pub use marks::mark_is_read_back;
-pub use view::{ByteIn, Link, LinkStep, Sight, Stored};
+pub use view::{ByteIn, Link, LinkSight, LinkStep, Stored};

@@ -32,7 +32,7 @@ pub enum LinkStep {
 }
 
 /// What a seat of the table knows, the latest first. No value of it is made.
-pub struct Sight {
+pub struct LinkSight {
     pub may_store: bool,
     pub may_take: bool,
     pub stored: LinkedList<u8>,
@@ -71,7 +71,7 @@ pub struct Sight {
 /// The rule of a link with room for `RX` bytes.
 pub struct Link<const RX: usize>;
 
-impl<const RX: usize> TableRule<Option<Reply>, Sight, ()> for Link<RX> {
+impl<const RX: usize> TableRule<Option<Reply>, LinkSight, ()> for Link<RX> {
     ghost use Rattle.serial_ring.specs.Rule.{Kept, beginning};
 
     ghost holds = { λ _. Kept RX };
@@ -79,6 +79,6 @@ impl<const RX: usize> TableRule<Option<Reply>, Sight, ()> for Link<RX> {
     ghost first = { λ _. beginning };
 }
 
-pub(crate) type LinkTable<const RX: usize> = Table<Option<Reply>, Sight, (), Link<RX>, Global>;
+pub(crate) type LinkTable<const RX: usize> = Table<Option<Reply>, LinkSight, (), Link<RX>, Global>;
 
-pub(crate) type Place = Seat<Option<Reply>, Sight>;
+pub(crate) type Place = Seat<Option<Reply>, LinkSight>;

@@ -5,7 +5,7 @@ ghost use Rattle.step_line.specs.Counting.{events_of};
 ghost use Rattle.step_line.specs.Events.{IsEvent};
 ghost use Rattle.step_line.specs.Pieces.{records_of};
 ghost use Rattle.step_line.specs.declared.Record.TheVariants.{Event};
-ghost use Rattle.pulse_engine.specs.Steps.{IsFirst, IsKept, MayBegin, coming, gone, reached_after};
+ghost use Rattle.pulse_engine.specs.Steps.{IsFirst, KeepsPulse, MayBegin, coming, gone, reached_after};
 ghost use Rattle.smooth_step.specs.Pulses.{begun, level_behind};
 
 use crate::pins::hand_out;
@@ -38,14 +38,14 @@ pub struct SmoothPulse {
 
 impl Model for SmoothPulse {
     ghost use Rattle.std.specs.Prelude.{◌≡◌, ◌≤◌};
-    ghost use Rattle.pulse_engine.specs.Steps.{IsKept};
+    ghost use Rattle.pulse_engine.specs.Steps.{KeepsPulse};
     ghost use Rattle.smooth_step.specs.Pulses.{SmoothPulsing};
 
     ghost Value = { SmoothPulsing };
 
     ghost view = { λ p. record { hand = p.hand; traced = p.tracer; left = p.left; owes = p.owes; over = p.over; level = p.level } };
 
-    ghost invariant = { λ p. IsKept p.hand p.tracer p.left p.owes p.over × (p.smooth ≡ p.tracer) × (p.level ≤ 3) };
+    ghost invariant = { λ p. KeepsPulse p.hand p.tracer p.left p.owes p.over × (p.smooth ≡ p.tracer) × (p.level ≤ 3) };
 }
 
 /// The next of the events that are left.

@@ -8,7 +8,7 @@ use Rattle.status_report.specs.Answering.{is_banner}
 use Rattle.stream_host.specs.Links.{banners_in}
 use Rattle.stream_host.specs.Jobs.{is_reset, is_long, served, resets_scanned, lacks_banner}
 use Rattle.stream_host.specs.Ran.{AreAwaited, EndsInReset}
-use Rattle.stream_host.specs.Steps.{PortLog, Journal, port_log, got_in, latest_got, got_of, raises_in, resets_in, raises_of, resets_of, resets_so_far, banners_of, awaits_banner, scanned_of, raw_of, cut_of, due_of, more_served}
+use Rattle.stream_host.specs.Steps.{HostLog, Journal, port_log, got_in, latest_got, got_of, bytes_raised_in, resets_in, raises_of, resets_of, resets_so_far, banners_of, awaits_banner, scanned_of, raw_of, cut_of, due_of, more_served}
 use Rattle.stream_host.specs.Steps.PortStep.{stored, dropped, marked, raised, got, no_reply, shut}
 use Rattle.stream_host.specs.Steps.Step.{at_port, read_some, read_end, read_failed, scanned, line_over, wrote, gave_up, turned}
 use Rattle.stream_host.specs.Conduct.{Conducted}
@@ -27,12 +27,12 @@ reset_on xs b = sum_by-append (λ x. cond (is_reset x) 1 0) xs (b ∷ []) ∙ by
     by_test true e = let o = ap (λ t. cond {A = ℕ} t 1 0) e in omega arith
     by_test false e = let o = ap (λ t. cond {A = ℕ} t 1 0) e in omega arith
 
-resets_raised : (h : PortLog) → resets_in h ≡ count_by is_reset (raises_in h)
+resets_raised : (h : HostLog) → resets_in h ≡ count_by is_reset (bytes_raised_in h)
 resets_raised [] = refl
 resets_raised (stored b ∷ h) = resets_raised h
 resets_raised (dropped b ∷ h) = resets_raised h
 resets_raised (marked ∷ h) = resets_raised h
-resets_raised (raised b down ∷ h) = ap (λ n. cond (is_reset b) (n + 1) n) (resets_raised h) ∙ sym (reset_on (raises_in h) b)
+resets_raised (raised b down ∷ h) = ap (λ n. cond (is_reset b) (n + 1) n) (resets_raised h) ∙ sym (reset_on (bytes_raised_in h) b)
 resets_raised (got r ∷ h) = resets_raised h
 resets_raised (no_reply ∷ h) = resets_raised h
 resets_raised (shut ∷ h) = resets_raised h
@@ -48,7 +48,7 @@ scanned_resets h c = let r = raised_is h c is_reset in let n = raised_resets h i
 pub banner_on : (rs : List Reply) (r : Reply) → banners_in (rs ++ r ∷ []) ≡ banners_in rs + cond (is_banner r) 1 0
 banner_on rs r = let e = sum_by-append (λ x. cond (is_banner x) 1 0) rs (r ∷ []) in omega arith
 
-banners_are : (h : PortLog) → banners_in (got_in h) ≡ banners_in (latest_got h)
+banners_are : (h : HostLog) → banners_in (got_in h) ≡ banners_in (latest_got h)
 banners_are [] = refl
 banners_are (stored b ∷ h) = banners_are h
 banners_are (dropped b ∷ h) = banners_are h

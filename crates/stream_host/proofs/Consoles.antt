@@ -8,7 +8,7 @@ use Rattle.stream_host.specs.declared.host.Host.{Host}
 use Rattle.stream_host.specs.Steps.{Step, Journal, read_of, reading_of, text_of, this_turn}
 use Rattle.stream_host.specs.Steps.Step.{wrote, gave_up}
 use Rattle.stream_host.specs.Conduct.{publishing, polling}
-use Rattle.stream_host.specs.Hosts.{HostFits, IsQuiet}
+use Rattle.stream_host.specs.Hosts.{HostFits, NothingPublished}
 use Rattle.std.specs.Io.KnownBytes.{Consumes}
 use Rattle.std.proofs.lemmas.List.{drop-drop}
 use Rattle.outside.specs.Causes.{SourceState, SinkState}
@@ -19,7 +19,7 @@ use Rattle.stream_host.specs.Hosts.{DidAlone, HostTellsOn, TellsJob}
 
 -- ---- the console
 
-pub quiet_on : (s : Step) (h : Journal) → publishing s ≡ false → IsQuiet h → count_by publishing (s ∷ this_turn h) ≡ 0
+pub quiet_on : (s : Step) (h : Journal) → publishing s ≡ false → NothingPublished h → count_by publishing (s ∷ this_turn h) ≡ 0
 quiet_on s h none quiet = let e = sum_by-cons (λ x. cond (publishing x) 1 0) s (this_turn h) in let f = ap (λ b. cond {A = ℕ} b 1 0) none in omega arith
 
 -- nor is a reply looked for

@@ -9,11 +9,11 @@ use Rattle.status_report.specs.declared.Reply.TheVariants as replies
 use Rattle.status_report.specs.Answering.{lfs_in, is_answer, answers_in, is_banner}
 use Rattle.serial_ring.specs.Marks.{latest, last_of}
 use Rattle.serial_ring.specs.Lists.{has_banner, answers_behind_mark}
-use Rattle.stream_host.specs.Links.{on_link, behind, behind_mark, banners_in}
+use Rattle.stream_host.specs.Links.{on_link, behind_lf, behind_mark, banners_in}
 use Rattle.stream_host.specs.Jobs.{is_reset, sent_text}
 use Rattle.stream_host.specs.Ports.{AnswersLines, SeemsFull}
 use Rattle.stream_host.specs.Ran.{AreBorders}
-use Rattle.stream_host.specs.Steps.{PortLog, Journal, port_log, stored_of, got_in, latest_got, marks_of, resets_of, banners_of, awaits_banner, begins, answered_of, raw_of, cut_of, live_of, unanswered_of, forgotten_of, to_store, due_of}
+use Rattle.stream_host.specs.Steps.{HostLog, Journal, port_log, stored_of, got_in, latest_got, marks_of, resets_of, banners_of, awaits_banner, begins, answered_of, raw_of, cut_of, live_of, unanswered_of, forgotten_of, to_store, due_of}
 use Rattle.stream_host.specs.Steps.PortStep.{stored, dropped, marked, raised, got, no_reply, shut}
 use Rattle.stream_host.specs.Steps.Step.{at_port, read_some, read_end, read_failed, scanned, line_over, wrote, gave_up, turned}
 use Rattle.stream_host.specs.Conduct.{Conducted, MayMark, MayStore}
@@ -24,7 +24,7 @@ use Rattle.stream_host.proofs.Raised.{free_by, both, banners_first, IsMarked, ma
 -- ---- the answers of an epoch
 
 -- the answers got before it
-abbrev pub earlier_in : PortLog → ℕ
+abbrev pub earlier_in : HostLog → ℕ
 earlier_in [] = 0
 earlier_in (got r ∷ h) = cond (begins r h) (answers_in (got_in h)) (earlier_in h)
 earlier_in (_ ∷ h) = earlier_in h
@@ -49,10 +49,10 @@ both_true true b e = (refl, e)
 both_true false b e = absurd cc
 
 -- a reply that begins an epoch is no answer
-pub begins_none : (r : Reply) (h : PortLog) → begins r h ≡ true → is_answer r ≡ false
+pub begins_none : (r : Reply) (h : HostLog) → begins r h ≡ true → is_answer r ≡ false
 begins_none r h e = no_answer r (both_true (is_banner r) (has_banner (latest_got h)) e).0
 
-pub answers_split : (h : PortLog) → answers_in (got_in h) ≡ earlier_in h + answers_behind_mark (latest_got h)
+pub answers_split : (h : HostLog) → answers_in (got_in h) ≡ earlier_in h + answers_behind_mark (latest_got h)
 answers_split [] = refl
 answers_split (stored b ∷ h) = answers_split h
 answers_split (dropped b ∷ h) = answers_split h
@@ -379,15 +379,15 @@ room_is b h c may full = by_stands (epoch_is h c).stands
           | inr all ↦ inr (full.are.each ∙ all)
         ]) in
         let same : behind_mark full.greeted (stored_of h) ≡ drop e.from (stored_of h) = ap (λ n. drop n (stored_of h)) (at ∙ sym s.1) in
-        let link : behind now (drop e.from (stored_of h)) ++ to_store h ≡ on_link (unanswered_of h) =
-        sym (behind_append now (drop e.from (stored_of h)) (to_store h) e.few) ∙ ap (behind now) e.link
+        let link : behind_lf now (drop e.from (stored_of h)) ++ to_store h ≡ on_link (unanswered_of h) =
+        sym (behind_append now (drop e.from (stored_of h)) (to_store h) e.few) ∙ ap (behind_lf now) e.link
         ∙ behind_on (drop (earlier_in (port_log h)) (live_of h)) ∙ ap on_link (drop-drop now (earlier_in (port_log h)) (live_of h))
         ∙ ap (λ n. on_link (drop n (live_of h))) (sym (answers_split (port_log h))) in
-        let l = ap length link in let a = length-append (behind now (drop e.from (stored_of h))) (to_store h) in
-        let f = full.full in let g = ap (λ (x : List ℕ). length (behind now x)) same in let r = may.room in let n = ap length may.next in
+        let l = ap length link in let a = length-append (behind_lf now (drop e.from (stored_of h))) (to_store h) in
+        let f = full.full in let g = ap (λ (x : List ℕ). length (behind_lf now x)) same in let r = may.room in let n = ap length may.next in
         absurd (omega arith)
       where
-        behind_on : (lines : List (List ℕ)) → behind now (on_link lines) ≡ on_link (drop now lines)
+        behind_on : (lines : List (List ℕ)) → behind_lf now (on_link lines) ≡ on_link (drop now lines)
         behind_on lines = behind_ended now (map sent_text lines) (all_no_lf lines) ∙ ap ended (drop-map sent_text now lines)
 
 -- each line lives or is forgotten

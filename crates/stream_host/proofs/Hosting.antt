@@ -12,7 +12,7 @@ use Rattle.stream_host.specs.declared.host.Host.{Host}
 use Rattle.stream_host.specs.Links.{on_link}
 use Rattle.stream_host.specs.Jobs.{resume, is_reset, is_long, sent_text, ends_sending, MayHaveRead}
 use Rattle.stream_host.specs.Holding.{held_after, has_pause, pauses}
-use Rattle.stream_host.specs.Steps.{Journal, port_log, got_of, has_limit, answered_of, read_of, reading_of, scanned_of, unscanned_of, raw_of, cut_of, live_of, over_of, marks_of, resets_of, banners_of, awaits_banner, to_store, begun_of, due_of, asking_of, pause_of, asked_more, more_served, PortLog, polls_of, empty_polls}
+use Rattle.stream_host.specs.Steps.{Journal, port_log, got_of, has_limit, answered_of, read_of, reading_of, scanned_of, unscanned_of, raw_of, cut_of, live_of, over_of, marks_of, resets_of, banners_of, awaits_banner, to_store, begun_of, due_of, asking_of, pause_of, asked_more, more_served, HostLog, polls_of, empty_polls}
 use Rattle.stream_host.specs.Steps.PortStep.{marked, raised, no_reply, shut}
 use Rattle.stream_host.specs.Steps.Step.{at_port, scanned}
 use Rattle.code_table.specs.Tables.{query}
@@ -163,7 +163,7 @@ due_next s b h f is = sym f.due_is ∙ ap option_to_list is
 pub takes_raise : (b : ℕ) (h : Journal) → Conducted h → TakesRaise b (port_log h)
 takes_raise b h c query_now = let q = few_queries h c in let n = few_scanned h c in omega arith
 
-pub takes_resume : (l : PortLog) → TakesRaise resume l
+pub takes_resume : (l : HostLog) → TakesRaise resume l
 takes_resume l query_now = absurd cc
 
 -- a byte that waits for lines does so while fewer are answered than were scanned whole

@@ -18,7 +18,7 @@ use Rattle.stream_host.specs.Steps.{Journal, port_log, got_in, got_of, read_of, 
 use Rattle.stream_host.specs.Holding.{pauses}
 use Rattle.stream_host.specs.Steps.Step.{read_some, read_end, read_failed, scanned, line_over}
 use Rattle.stream_host.specs.Conduct.{IsSettled, MayRead, HasWritten, polling, moving}
-use Rattle.stream_host.specs.Hosts.{HostFits, KeepsLine, KeepsCounts, IsQuiet, MayReadOn, GaveBytes, GaveEnd, GaveNone, DidAlone, HostTellsOn, TellsJob, unread, awaits_by, ends_turn}
+use Rattle.stream_host.specs.Hosts.{HostFits, KeepsLine, KeepsCounts, NothingPublished, MayReadOn, GaveBytes, GaveEnd, GaveNone, DidAlone, HostTellsOn, TellsJob, unread, awaits_by, ends_turn}
 use Rattle.stream_host.proofs.Keeping.{read_is}
 use Rattle.stream_host.proofs.Consoles.{quiet_on, looks_on, same_job}
 use Rattle.stream_host.proofs.Hosting.{calm_now, none_due_by, nothing_due, ends_is, pause_behind_line, calm_epoch}
@@ -37,7 +37,7 @@ reading_scans : (bytes : List ℕ) (h : Journal) → reading_of (map scanned byt
 reading_scans [] h = refl
 reading_scans (b ∷ bytes) h = reading_scans bytes h
 
-quiet_scans : (bytes : List ℕ) (h : Journal) → IsQuiet h → IsQuiet (map scanned bytes ++ h)
+quiet_scans : (bytes : List ℕ) (h : Journal) → NothingPublished h → NothingPublished (map scanned bytes ++ h)
 quiet_scans [] h q = q
 quiet_scans (b ∷ bytes) h q = quiet_on (scanned b) (map scanned bytes ++ h) refl (quiet_scans bytes h q)
 

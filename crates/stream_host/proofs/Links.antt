@@ -11,7 +11,7 @@ use Rattle.gcode_words.proofs.Scanning.{next, seen, shown}
 use Rattle.gcode_words.proofs.Fed.{kept_of}
 use Rattle.run_rules.specs.Lines.{HasNoLf, ended}
 use Rattle.stream_host.specs.Jobs.{is_reset, behind_last, sent_text}
-use Rattle.stream_host.specs.Links.{behind, on_link}
+use Rattle.stream_host.specs.Links.{behind_lf, on_link}
 use Rattle.stream_host.proofs.Texts.{sent_within}
 use Rattle.status_report.specs.Answering.{lfs_in}
 
@@ -68,7 +68,7 @@ few_sent line = let k = few_kept (behind_last is_reset (cut line).outside) in le
 pub lfs_push : (xs : List ℕ) (b : ℕ) → lfs_in xs ≤ lfs_in (xs ++ b ∷ [])
 lfs_push xs b = let e = sum_by-append (λ c. cond (nat_eq c 10) 1 0) xs (b ∷ []) in omega arith
 
-behind_none : (xs : List ℕ) → behind 0 xs ≡ xs
+behind_none : (xs : List ℕ) → behind_lf 0 xs ≡ xs
 behind_none [] = refl
 behind_none (b ∷ bs) = refl
 
@@ -79,24 +79,24 @@ behind_by : (x : ℕ) (xs ys : List ℕ) (t : Bool) (one both : List ℕ) → bo
 behind_by x xs ys true one both e = refl
 behind_by x xs ys false one both e = e
 
-pub behind_append : (k : ℕ) (xs ys : List ℕ) → k ≤ lfs_in xs → behind k (xs ++ ys) ≡ behind k xs ++ ys
-behind_append k [] ys few = let z : k ≡ 0 = (let f : k ≤ 0 = few in omega arith) in ap (λ n. behind n ys) z ∙ behind_none ys
+pub behind_append : (k : ℕ) (xs ys : List ℕ) → k ≤ lfs_in xs → behind_lf k (xs ++ ys) ≡ behind_lf k xs ++ ys
+behind_append k [] ys few = let z : k ≡ 0 = (let f : k ≤ 0 = few in omega arith) in ap (λ n. behind_lf n ys) z ∙ behind_none ys
 behind_append k (x ∷ xs) ys few =
     let rest : k - cond (nat_eq x 10) 1 0 ≤ lfs_in xs = (let e = lfs_first x xs in omega arith) in
-    behind_by x xs ys (nat_eq k 0) (behind (k - cond (nat_eq x 10) 1 0) xs) (behind (k - cond (nat_eq x 10) 1 0) (xs ++ ys)) (behind_append (k - cond (nat_eq x 10) 1 0) xs ys rest)
+    behind_by x xs ys (nat_eq k 0) (behind_lf (k - cond (nat_eq x 10) 1 0) xs) (behind_lf (k - cond (nat_eq x 10) 1 0) (xs ++ ys)) (behind_append (k - cond (nat_eq x 10) 1 0) xs ys rest)
 
-behind_line : (k : ℕ) (line rest : List ℕ) → HasNoLf line → behind (suc k) (line ++ 10 ∷ rest) ≡ behind k rest
+behind_line : (k : ℕ) (line rest : List ℕ) → HasNoLf line → behind_lf (suc k) (line ++ 10 ∷ rest) ≡ behind_lf k rest
 behind_line k [] rest h = let e : suc k - 1 ≡ k = omega arith in let z : nat_eq (suc k) 0 ≡ false = grind (arith, nat_tests) in rw (z, e) refl
 behind_line k (c ∷ cs) rest h = let e : suc k - 0 ≡ suc k = omega arith in let z : nat_eq (suc k) 0 ≡ false = grind (arith, nat_tests) in rw (z, h.0, e) (behind_line k cs rest h.1)
 
-pub behind_ended : (k : ℕ) (lines : List (List ℕ)) → AllByRecursion HasNoLf lines → behind k (ended lines) ≡ ended (drop k lines)
+pub behind_ended : (k : ℕ) (lines : List (List ℕ)) → AllByRecursion HasNoLf lines → behind_lf k (ended lines) ≡ ended (drop k lines)
 behind_ended zero lines h = behind_none (ended lines)
 behind_ended (suc k) [] h = refl
-behind_ended (suc k) (l ∷ ls) h = ap (behind (suc k)) (append_assoc l (10 ∷ []) (ended ls)) ∙ behind_line k l (ended ls) h.0 ∙ behind_ended k ls h.1
+behind_ended (suc k) (l ∷ ls) h = ap (behind_lf (suc k)) (append_assoc l (10 ∷ []) (ended ls)) ∙ behind_line k l (ended ls) h.0 ∙ behind_ended k ls h.1
 
 -- behind at most the last LF that was taken stands all that was not taken
-pub behind_taken : (k : ℕ) (taken bytes : List ℕ) → k ≤ lfs_in taken → length bytes ≤ length (behind k (taken ++ bytes))
-behind_taken k taken bytes few = let e = ap length (behind_append k taken bytes few) in let l = length-append (behind k taken) bytes in omega arith
+pub behind_taken : (k : ℕ) (taken bytes : List ℕ) → k ≤ lfs_in taken → length bytes ≤ length (behind_lf k (taken ++ bytes))
+behind_taken k taken bytes few = let e = ap length (behind_append k taken bytes few) in let l = length-append (behind_lf k taken) bytes in omega arith
 
 -- as many line feeds as lines
 pub lfs_linked : (lines : List (List ℕ)) → lfs_in (on_link lines) ≡ length lines

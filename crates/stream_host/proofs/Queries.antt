@@ -9,7 +9,7 @@ use Rattle.realtime_flags.specs.Bytes.{flag_of_row, flag_of_byte}
 use Rattle.realtime_flags.proofs.Bits.{one_more}
 use Rattle.stream_host.specs.Ports.{queries_in}
 use Rattle.stream_host.specs.Raises.{raised_to, raises_in}
-use Rattle.stream_host.specs.Steps.{PortLog}
+use Rattle.stream_host.specs.Steps.{HostLog}
 use Rattle.stream_host.specs.Steps.PortStep.{stored, dropped, marked, raised, got, no_reply, shut}
 
 -- whether a flag asks for a report
@@ -37,7 +37,7 @@ raised_more None down t rs q same le = one_more false t _ q same le
 raised_more (Some f) down t rs q same le = one_more (is_flag report_flag f) t _ q same le
 
 -- reports were asked for no more often than `?` was raised
-pub few_queries : (h : PortLog) → raises_of report_flag (raises_in h) ≤ queries_in h
+pub few_queries : (h : HostLog) → raises_of report_flag (raises_in h) ≤ queries_in h
 few_queries [] = omega arith
 few_queries (stored b ∷ h) = few_queries h
 few_queries (dropped b ∷ h) = few_queries h

@@ -8,7 +8,7 @@ use Rattle.status_report.specs.Answering.{is_banner}
 use Rattle.serial_ring.specs.Marks.{Mark, latest, last_of, IsMark, AreRising}
 use Rattle.stream_host.specs.Links.{banners_in, AreGreetings}
 use Rattle.stream_host.specs.Jobs.{resume, is_reset}
-use Rattle.stream_host.specs.Steps.{PortLog, Journal, port_log, stored_in, latest_got, marks_in, marks_of, resets_of, banners_of, awaits_banner, scanned_of, raw_of, to_store, due_of, more_served, resumes_next, polls_of, empty_polls, is_shut, has_limit, got_of}
+use Rattle.stream_host.specs.Steps.{HostLog, Journal, port_log, stored_in, latest_got, marks_in, marks_of, resets_of, banners_of, awaits_banner, scanned_of, raw_of, to_store, due_of, more_served, resumes_next, polls_of, empty_polls, is_shut, has_limit, got_of}
 use Rattle.stream_host.specs.Steps.PortStep.{stored, dropped, marked, raised, got, no_reply, shut}
 use Rattle.stream_host.specs.Steps.Step.{at_port, read_some, read_end, read_failed, scanned, line_over, wrote, gave_up, turned}
 use Rattle.stream_host.specs.Conduct.{Conducted, MayMark, MayRaise}
@@ -265,7 +265,7 @@ early_greeted (b ∷ a ∷ marks) (m ∷ before ∷ earlier) rising are (inl man
     let n = numbers (b ∷ a ∷ marks) (m ∷ before ∷ earlier) are in
     early_mark (b ∷ a ∷ marks) m rising are.0.1 (omega arith)
 
-pub rising_is : (h : PortLog) → AreRising (marks_in h) × (latest (marks_in h) ≤ length (stored_in h))
+pub rising_is : (h : HostLog) → AreRising (marks_in h) × (latest (marks_in h) ≤ length (stored_in h))
 rising_is [] = (tt, omega arith)
 rising_is (stored b ∷ h) = let r = rising_is h in (r.0, (let l = length-append (stored_in h) (b ∷ []) in let n = r.1 in omega arith))
 rising_is (dropped b ∷ h) = rising_is h

@@ -17,7 +17,7 @@ use Rattle.stream_host.specs.Steps.{Step, Journal, awaits_banner, has_limit, is_
 use Rattle.stream_host.specs.Steps.PortStep.{stored, marked, raised, got, no_reply, shut}
 use Rattle.stream_host.specs.Steps.Step.{at_port, turned}
 use Rattle.stream_host.specs.Conduct.{AreAnswered, waits_for_lines, HasWritten, IsOneTurn, MayShut, publishing, polling, moving}
-use Rattle.stream_host.specs.Hosts.{HostFits, HostWorked, HostTurned, HostTellsOn, HasPolled, IsQuiet, IsBetween, DidAlone, HasShown, HostRests, rank, awaits_by, ends_turn}
+use Rattle.stream_host.specs.Hosts.{HostFits, HostWorked, HostTurned, HostTellsOn, HasPolled, NothingPublished, IsBetween, DidAlone, HasShown, HostRests, rank, awaits_by, ends_turn}
 use Rattle.stream_host.proofs.Keeping.{calm_one}
 use Rattle.stream_host.proofs.Raising.{none_due_first}
 use Rattle.stream_host.proofs.Consoles.{quiet_on, looks_on, same_job}
@@ -86,7 +86,7 @@ one_step s h none polled =
     at_most true = omega arith
     at_most false = omega arith
 
-pub did_alone : (s t : Host) (h next : Journal) → IsQuiet h → count_by polling (this_turn h) ≤ 1 → DidAlone s t h next → HostWorked Did s t h next
+pub did_alone : (s t : Host) (h next : Journal) → NothingPublished h → count_by polling (this_turn h) ≤ 1 → DidAlone s t h next → HostWorked Did s t h next
 did_alone s t h next quiet once d = record { fits = d.fits; steps = d.steps; are = d.are; inner = d.inner; may = record { once = (let q = d.quiet quiet in omega arith); polls = (let l = d.looks in omega arith) }; moves = λ e. d.moves }
 
 -- one step at the port
@@ -313,7 +313,7 @@ all_asked s h f = record {
   over = f.over;
 }
 
-pub quiet_between : (h : Journal) → IsBetween h → IsQuiet h
+pub quiet_between : (h : Journal) → IsBetween h → NothingPublished h
 quiet_between h between = ap (count_by publishing) between
 
 pub polls_between : (h : Journal) → IsBetween h → count_by polling (this_turn h) ≤ 1

@@ -178,14 +178,14 @@ abbrev pub IsBetween : Journal → Type 0
 IsBetween h = this_turn h ≡ []
 
 -- nothing was published in this turn yet
-abbrev pub IsQuiet : Journal → Type 0
-IsQuiet h = count_by publishing (this_turn h) ≡ 0
+abbrev pub NothingPublished : Journal → Type 0
+NothingPublished h = count_by publishing (this_turn h) ≡ 0
 
 -- a poll found no reply in this turn, no other was made, and nothing was published
 pub record HasPolled (h : Journal) : Type 0 where
   pub poll : list_any found_none (this_turn h) ≡ true
   pub once : count_by polling (this_turn h) ≤ 1
-  pub quiet : IsQuiet h
+  pub quiet : NothingPublished h
 
 -- a step ends a turn
 abbrev pub ends_turn : Step → Bool
@@ -243,7 +243,7 @@ pub record DidAlone (old new : Host) (h next : Journal) : Type 0 where
   pub are : next ≡ steps ++ h
   pub inner : list_any ends_turn steps ≡ false
   pub port : port_log next ≡ port_log h
-  pub quiet : IsQuiet h → IsQuiet next
+  pub quiet : NothingPublished h → NothingPublished next
   pub looks : count_by polling (this_turn next) ≡ count_by polling (this_turn h)
   pub moves : (list_any moving steps ≡ true) ⊎ (rank new < rank old)
 

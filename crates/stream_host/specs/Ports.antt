@@ -4,47 +4,47 @@ use Rattle.code_table.specs.Tables.{query}
 use Rattle.status_report.specs.Answering.{receive_room, lfs_in}
 use Rattle.serial_ring.specs.Marks.{Mark}
 use Rattle.serial_ring.specs.Lists.{answers_behind_mark}
-use Rattle.stream_host.specs.Links.{behind, behind_mark, banners_in, AreGreetings}
-use Rattle.stream_host.specs.Steps.{PortLog, stored_in, latest_got, marks_in, is_shut_in}
+use Rattle.stream_host.specs.Links.{behind_lf, behind_mark, banners_in, AreGreetings}
+use Rattle.stream_host.specs.Steps.{HostLog, stored_in, latest_got, marks_in, is_shut_in}
 use Rattle.stream_host.specs.Steps.PortStep.{raised}
 
 -- how often a report was asked for
-abbrev pub queries_in : PortLog → ℕ
+abbrev pub queries_in : HostLog → ℕ
 queries_in [] = 0
 queries_in (raised b down ∷ h) = cond (nat_eq b query) (queries_in h + 1) (queries_in h)
 queries_in (_ ∷ h) = queries_in h
 
 -- the link was not closed
-abbrev pub IsOpen : PortLog → Type 0
+abbrev pub IsOpen : HostLog → Type 0
 IsOpen h = is_shut_in h ≡ false
 
 -- a byte may be stored: the link is open, and fewer than 2 ^ 31 bytes were stored
-pub record TakesByte (h : PortLog) : Type 0 where
+pub record TakesByte (h : HostLog) : Type 0 where
   pub going : IsOpen h
   pub few : length (stored_in h) < 2 ^ 31
 
 -- a byte may be raised: of `?` fewer than 2 ^ 31 were
-abbrev pub TakesRaise : ℕ → PortLog → Type 0
+abbrev pub TakesRaise : ℕ → HostLog → Type 0
 TakesRaise b h = b ≡ query → queries_in h < 2 ^ 31
 
 -- a mark may be stored: fewer than 2 ^ 32 - 1 were
-abbrev pub TakesMark : PortLog → Type 0
+abbrev pub TakesMark : HostLog → Type 0
 TakesMark h = length (marks_in h) + 1 < 2 ^ 32
 
 -- these may be the marks of the Banners got, the latest first
-pub record AreGreeted (h : PortLog) (greeted : List Mark) : Type 0 where
+pub record AreGreeted (h : HostLog) (greeted : List Mark) : Type 0 where
   pub each : length greeted ≡ banners_in (latest_got h)
   pub stored : AreGreetings (marks_in h) greeted
 
 -- So many bytes may not be taken yet: those stored behind the last mark whose Banner was got, after the last line that was
 -- answered since. A byte is dropped only where they leave no room.
-pub record SeemsFull (h : PortLog) : Type 0 where
+pub record SeemsFull (h : HostLog) : Type 0 where
   pub greeted : List Mark
   pub are : AreGreeted h greeted
-  pub full : receive_room ≤ length (behind (answers_behind_mark (latest_got h)) (behind_mark greeted (stored_in h)))
+  pub full : receive_room ≤ length (behind_lf (answers_behind_mark (latest_got h)) (behind_mark greeted (stored_in h)))
 
 -- since the last Banner of a mark each answer is to a line that was stored behind that mark
-pub record AnswersLines (h : PortLog) : Type 0 where
+pub record AnswersLines (h : HostLog) : Type 0 where
   pub greeted : List Mark
   pub are : AreGreeted h greeted
   pub few : answers_behind_mark (latest_got h) ≤ lfs_in (behind_mark greeted (stored_in h))

@@ -32,8 +32,8 @@ pub data PortStep : Type 0 where
   shut : PortStep
 
 -- all steps at the port, the latest first
-abbrev pub PortLog : Type 0
-PortLog = List PortStep
+abbrev pub HostLog : Type 0
+HostLog = List PortStep
 
 -- what a host does, at its port and by itself
 pub data Step : Type 0 where
@@ -57,7 +57,7 @@ abbrev pub Journal : Type 0
 Journal = List Step
 
 -- the steps at the port alone
-abbrev pub port_log : Journal → PortLog
+abbrev pub port_log : Journal → HostLog
 port_log [] = []
 port_log (at_port e ∷ h) = e ∷ port_log h
 port_log (_ ∷ h) = port_log h
@@ -65,43 +65,43 @@ port_log (_ ∷ h) = port_log h
 -- ---- projections of the port's log
 
 -- the bytes stored
-abbrev pub stored_in : PortLog → List ℕ
+abbrev pub stored_in : HostLog → List ℕ
 stored_in [] = []
 stored_in (stored b ∷ h) = stored_in h ++ b ∷ []
 stored_in (_ ∷ h) = stored_in h
 
 -- the replies got
-abbrev pub got_in : PortLog → List Reply
+abbrev pub got_in : HostLog → List Reply
 got_in [] = []
 got_in (got r ∷ h) = got_in h ++ r ∷ []
 got_in (_ ∷ h) = got_in h
 
 -- the link was closed
-abbrev pub is_shut_in : PortLog → Bool
+abbrev pub is_shut_in : HostLog → Bool
 is_shut_in [] = false
 is_shut_in (shut ∷ h) = true
 is_shut_in (_ ∷ h) = is_shut_in h
 
 -- the replies got, the latest first
-abbrev pub latest_got : PortLog → List Reply
+abbrev pub latest_got : HostLog → List Reply
 latest_got [] = []
 latest_got (got r ∷ h) = r ∷ latest_got h
 latest_got (_ ∷ h) = latest_got h
 
 -- the marks stored, by how many bytes were stored before each, the latest first; they are numbered from 1 in their order
-abbrev pub marks_in : PortLog → List ℕ
+abbrev pub marks_in : HostLog → List ℕ
 marks_in [] = []
 marks_in (marked ∷ h) = length (stored_in h) ∷ marks_in h
 marks_in (_ ∷ h) = marks_in h
 
 -- how many resets were raised
-abbrev pub resets_in : PortLog → ℕ
+abbrev pub resets_in : HostLog → ℕ
 resets_in [] = 0
 resets_in (raised b down ∷ h) = cond (is_reset b) (resets_in h + 1) (resets_in h)
 resets_in (_ ∷ h) = resets_in h
 
 -- a reply begins an epoch: it is a Banner, and none of the run's first
-abbrev pub begins : Reply → PortLog → Bool
+abbrev pub begins : Reply → HostLog → Bool
 begins r h = is_banner r && has_banner (latest_got h)
 
 -- the same as of the port's log
@@ -155,7 +155,7 @@ abbrev pub held_polls : ℕ
 held_polls = 2048
 
 -- the polls that found no reply since the last that found one, or that the host answered with a resume
-abbrev pub polls_in : PortLog → ℕ
+abbrev pub polls_in : HostLog → ℕ
 polls_in [] = 0
 polls_in (raised b down ∷ h) = cond (nat_eq (polls_in h) empty_polls) 0 (polls_in h)
 polls_in (got r ∷ h) = 0
@@ -163,36 +163,36 @@ polls_in (no_reply ∷ h) = polls_in h + 1
 polls_in (_ ∷ h) = polls_in h
 
 -- what is raised next is a resume of the host's own
-abbrev pub resumes_next : PortLog → Bool
+abbrev pub resumes_next : HostLog → Bool
 resumes_next h = nat_eq (polls_in h) empty_polls
 
 -- the bytes that were raised
-abbrev pub raises_in : PortLog → List ℕ
-raises_in [] = []
-raises_in (raised b down ∷ h) = raises_in h ++ b ∷ []
-raises_in (_ ∷ h) = raises_in h
+abbrev pub bytes_raised_in : HostLog → List ℕ
+bytes_raised_in [] = []
+bytes_raised_in (raised b down ∷ h) = bytes_raised_in h ++ b ∷ []
+bytes_raised_in (_ ∷ h) = bytes_raised_in h
 
 -- those among them that stood in a line
-abbrev pub line_raises_in : PortLog → List ℕ
+abbrev pub line_raises_in : HostLog → List ℕ
 line_raises_in [] = []
 line_raises_in (raised b down ∷ h) = cond (resumes_next h) (line_raises_in h) (line_raises_in h ++ b ∷ [])
 line_raises_in (_ ∷ h) = line_raises_in h
 
 -- the number of the others
-abbrev pub resumes_in : PortLog → ℕ
+abbrev pub resumes_in : HostLog → ℕ
 resumes_in [] = 0
 resumes_in (raised b down ∷ h) = cond (resumes_next h) (resumes_in h + 1) (resumes_in h)
 resumes_in (_ ∷ h) = resumes_in h
 
 -- a `!` was raised, and no `~` since, nor did an epoch begin
-abbrev pub holds_in : PortLog → Bool
+abbrev pub holds_in : HostLog → Bool
 holds_in [] = false
 holds_in (raised b down ∷ h) = held_after b (holds_in h)
 holds_in (got r ∷ h) = cond (begins r h) false (holds_in h)
 holds_in (_ ∷ h) = holds_in h
 
 -- all polls that found no reply
-abbrev pub all_empty_in : PortLog → ℕ
+abbrev pub all_empty_in : HostLog → ℕ
 all_empty_in [] = 0
 all_empty_in (no_reply ∷ h) = all_empty_in h + 1
 all_empty_in (_ ∷ h) = all_empty_in h
@@ -204,7 +204,7 @@ abbrev pub holds_of : Journal → Bool
 holds_of h = holds_in (port_log h)
 
 abbrev pub raises_of : Journal → List ℕ
-raises_of h = raises_in (port_log h)
+raises_of h = bytes_raised_in (port_log h)
 
 abbrev pub line_raises_of : Journal → List ℕ
 line_raises_of h = line_raises_in (port_log h)

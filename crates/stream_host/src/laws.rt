@@ -3,7 +3,7 @@
 ghost use Rattle.std.specs.Prelude.{◌≡◌, ℕ, ◌+◌, ◌*◌, ◌≤◌, ◌<◌, ◌⊎◌, Bool, true, false, List, [], ◌∷◌, ◌++◌, length, map, drop, reverse};
 ghost use Rattle.run_rules.specs.Lines.{lines_of, whole_lines};
 ghost use Rattle.run_rules.specs.Readings.{largest_job, largest_piece};
-ghost use Rattle.stream_host.specs.Links.{behind, on_link};
+ghost use Rattle.stream_host.specs.Links.{behind_lf, on_link};
 ghost use Rattle.status_report.specs.Answering.{receive_room, lfs_in, answers_in};
 ghost use Rattle.stream_host.specs.Jobs.{is_reset, lacks_banner, resets_scanned, sent_text, marks_behind, served_in, ends_sending, lines_read, lines_to_send, stop_by, or_reset, IsSent, IsSentSoFar};
 ghost use Rattle.stream_host.specs.declared.Reading.{Reading};
@@ -93,7 +93,7 @@ pub fn hosts_wait_for_answers()
 pub fn links_carry_lines()
     ensures all { (r : Reading) (job : List ℕ) → AllByRecursion (λ l. ends_sending l ≡ false) (lines_read r job) → lines_to_send r job ≡ lines_read r job }
     ensures lines { (lines : List (List ℕ)) → whole_lines (on_link lines) ≡ map sent_text lines }
-    ensures untaken { (k : ℕ) (taken bytes : List ℕ) → k ≤ lfs_in taken → length bytes ≤ length (behind k (taken ++ bytes)) }
+    ensures untaken { (k : ℕ) (taken bytes : List ℕ) → k ≤ lfs_in taken → length bytes ≤ length (behind_lf k (taken ++ bytes)) }
 {}
 
 /// A host that keeps to its rules, has got Bye, and has written all or met a write that failed, has run: what it read,

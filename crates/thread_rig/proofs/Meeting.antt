@@ -12,11 +12,11 @@ use Rattle.motion_ring.specs.declared.lists.Sent.{Sent}
 use Rattle.motion_ring.specs.declared.ends.SegIn.{SegIn}
 use Rattle.motion_ring.specs.Ends.{passed_by}
 use Rattle.motion_ring.specs.Ends.{taken_by as pieces_taken_by}
-use Rattle.motion_ring.specs.Rule.{AreTied as PiecesAreTied}
+use Rattle.motion_ring.specs.Rule.{PiecesAreTied}
 use Rattle.motion_ring.specs.Sides.{published_in, some_stops, pieces_at}
 use Rattle.pulse_engine.specs.Logs.{PieceLog, pieces_of, halts_of}
 use Rattle.motion_ports.specs.Ports.{HasGot, numbers_of}
-use Rattle.board_rules.specs.Ports.{PortLog as BoardLog, link_steps, sent_in}
+use Rattle.board_rules.specs.Ports.{BoardLog, link_steps, sent_in}
 use Rattle.board_rules.specs.Ports.{taken_in as board_bytes, answered_in as board_replies, published_in as board_pieces}
 use Rattle.board_rules.proofs.LinkSteps.{taken_back, answered_back}
 use Rattle.board_rules.proofs.Unstopped.{NeverStops, sent_alone, published_back}

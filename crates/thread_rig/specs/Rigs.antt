@@ -8,13 +8,13 @@ use Rattle.realtime_flags.specs.Ends.{raised_in, taken_in, raises_by, takes_by}
 use Rattle.realtime_flags.specs.Bits.{IsBalanced}
 use Rattle.motion_ring.specs.Ends.{ring_of_out, ring_of_in, sent_by, known_by}
 use Rattle.motion_ring.specs.Ends.{taken_by as pieces_taken_by}
-use Rattle.motion_ring.specs.Rule.{AreTied as PiecesAreTied}
+use Rattle.motion_ring.specs.Rule.{PiecesAreTied}
 use Rattle.status_report.specs.Answering.{receive_room}
 use Rattle.stream_host.specs.Steps.{Journal as HostJournal}
 use Rattle.stream_host.specs.Hosts.{HostFits}
 use Rattle.stream_host.specs.Ran.{end_of}
 use Rattle.run_law.specs.declared.RunEnd.{RunEnd}
-use Rattle.run_law.specs.Runs.{ended}
+use Rattle.run_law.specs.Runs.{run_end}
 use Rattle.thread_rig.specs.declared.rig.Rig.{Rig}
 use Rattle.run_law.specs.Devices.{Devices}
 use Rattle.link_ports.specs.HostSides.{HostIsNew, HostRanAt}
@@ -43,7 +43,7 @@ pub record RigRan (before after : Devices) (was is : Rig) (end : RunEnd) : Type 
   pub board : BoardRanAt was.board.side is.board.side
   pub pulse : PulseRanAt was.pulse.side is.pulse.side
   pub recorder : RecorderRanAt before.steps after.steps was.recorder.side is.recorder.side
-  pub tells : (h : HostJournal) → HostFits is.host.side.host h → end ≡ ended (end_of h) is.recorder.side.recorder.writer.failed
+  pub tells : (h : HostJournal) → HostFits is.host.side.host h → end ≡ run_end (end_of h) is.recorder.side.recorder.writer.failed
 
 -- What one side has got is a front of what the other gave, each mark that was loaded was stored, and each flag that was raised is
 -- taken once or is up. (The lists of bytes, marks, replies, flags and pieces have the latest first.)

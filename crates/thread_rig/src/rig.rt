@@ -4,7 +4,7 @@ ghost use Rattle.std.specs.Prelude.{◌≡◌, IfOk};
 ghost use Rattle.stream_host.specs.Steps.{Journal};
 ghost use Rattle.stream_host.specs.Hosts.{HostFits};
 ghost use Rattle.stream_host.specs.Ran.{end_of};
-ghost use Rattle.run_law.specs.Runs.{ended};
+ghost use Rattle.run_law.specs.Runs.{run_end};
 ghost use Rattle.run_law.specs.Devices.{devices};
 ghost use Rattle.link_ports.specs.HostSides.{HostIsNew, HostRanAt};
 ghost use Rattle.motion_ports.specs.MotionSides.{PulseIsNew, PulseRanAt, RecorderIsNew, RecorderRanAt};
@@ -77,7 +77,7 @@ impl Rig {
 
     /// How the run ends, as its host tells, and whether a write of the steps failed.
     fn end(&self) -> RunEnd
-        ensures { (h : Journal) → HostFits self.now.host.side.host h → result ≡ ended (end_of h) self.now.recorder.side.recorder.writer.failed }
+        ensures { (h : Journal) → HostFits self.now.host.side.host h → result ≡ run_end (end_of h) self.now.recorder.side.recorder.writer.failed }
     {
         let host = &self.host.side.host;
         RunEnd {

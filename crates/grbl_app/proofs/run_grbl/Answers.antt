@@ -5,7 +5,7 @@ use Rattle.run_law.specs.Devices.{devices}
 use Rattle.run_status.specs.Demos.{IsDemo}
 use Rattle.grbl_app.specs.Orders.{EndsInOrder, IsOrderedDemo}
 use Rattle.grbl_app.proofs.Tasks.{no_stream, same_moves, same_order}
-use Rattle.run_status.specs.Ends.{HasRun}
+use Rattle.run_status.specs.Ends.{JobWasRun}
 use Rattle.run_status.proofs.Demos.{demo_causes, has_begun}
 use Rattle.run_status.proofs.Statuses.{one_cause, tells_faults, demo_tells_faults}
 use Rattle.run_status.specs.declared.Status.TheVariants.{Usage, OutOfMemory}
@@ -27,7 +27,7 @@ pub returns-in-Ok-run_demo-clause-first_fault : goal.returns-in-Ok-run_demo-clau
 returns-in-Ok-run_demo-clause-first_fault g c = λ run can. demo_tells_faults _ _ _ _ _ can c.in-Ok-run_demo.ensures.run
 
 pub returns-in-Ok-run_demo-clause-usage : goal.returns-in-Ok-run_demo-clause-usage
-returns-in-Ok-run_demo-clause-usage g c = λ e. absurd (subst HasRun e (demo_causes _ _ _ _ _ _ c.in-Ok-run_demo.ensures.run).has_run)
+returns-in-Ok-run_demo-clause-usage g c = λ e. absurd (subst JobWasRun e (demo_causes _ _ _ _ _ _ c.in-Ok-run_demo.ensures.run).has_run)
 
 pub returns-in-Ok-run_demo-clause-untouched : goal.returns-in-Ok-run_demo-clause-untouched
 returns-in-Ok-run_demo-clause-untouched g c = λ none. has_begun c.in-Ok-run_demo.status (demo_causes _ _ _ _ _ _ c.in-Ok-run_demo.ensures.run).has_run none
@@ -58,25 +58,25 @@ pub returns-in-Err-Refused-clause-untouched : goal.returns-in-Err-Refused-clause
 returns-in-Err-Refused-clause-untouched g c = λ none. (refl, refl, refl)
 
 pub returns-in-Err-Refused-clause-source_fault : goal.returns-in-Err-Refused-clause-source_fault
-returns-in-Err-Refused-clause-source_fault g c = λ seed asks e. absurd (subst HasRun (sym e) tt)
+returns-in-Err-Refused-clause-source_fault g c = λ seed asks e. absurd (subst JobWasRun (sym e) tt)
 
 pub returns-in-Err-Refused-clause-too_large : goal.returns-in-Err-Refused-clause-too_large
-returns-in-Err-Refused-clause-too_large g c = λ seed asks e. absurd (subst HasRun (sym e) tt)
+returns-in-Err-Refused-clause-too_large g c = λ seed asks e. absurd (subst JobWasRun (sym e) tt)
 
 pub returns-in-Err-Refused-clause-reset : goal.returns-in-Err-Refused-clause-reset
-returns-in-Err-Refused-clause-reset g c = λ seed asks e. absurd (subst HasRun (sym e) tt)
+returns-in-Err-Refused-clause-reset g c = λ seed asks e. absurd (subst JobWasRun (sym e) tt)
 
 pub returns-in-Err-Refused-clause-console_fault : goal.returns-in-Err-Refused-clause-console_fault
-returns-in-Err-Refused-clause-console_fault g c = λ e. absurd (subst HasRun (sym e) tt)
+returns-in-Err-Refused-clause-console_fault g c = λ e. absurd (subst JobWasRun (sym e) tt)
 
 pub returns-in-Err-Refused-clause-steps_fault : goal.returns-in-Err-Refused-clause-steps_fault
-returns-in-Err-Refused-clause-steps_fault g c = λ e. absurd (subst HasRun (sym e) tt)
+returns-in-Err-Refused-clause-steps_fault g c = λ e. absurd (subst JobWasRun (sym e) tt)
 
 pub returns-in-Err-Refused-clause-long_line : goal.returns-in-Err-Refused-clause-long_line
-returns-in-Err-Refused-clause-long_line g c = λ seed k asks e. absurd (subst HasRun (sym e) tt)
+returns-in-Err-Refused-clause-long_line g c = λ seed k asks e. absurd (subst JobWasRun (sym e) tt)
 
 pub returns-in-Err-Refused-clause-alarm : goal.returns-in-Err-Refused-clause-alarm
-returns-in-Err-Refused-clause-alarm g c = λ seed k asks e. absurd (subst HasRun (sym e) tt)
+returns-in-Err-Refused-clause-alarm g c = λ seed k asks e. absurd (subst JobWasRun (sym e) tt)
 
 pub returns-in-Err-Refused-clause-its_cause : goal.returns-in-Err-Refused-clause-its_cause
 returns-in-Err-Refused-clause-its_cause g c = λ seed asks run. absurd run
@@ -112,25 +112,25 @@ pub returns-in-Err-OutOfMemory-clause-untouched : goal.returns-in-Err-OutOfMemor
 returns-in-Err-OutOfMemory-clause-untouched g c = λ none. (refl, refl, refl)
 
 pub returns-in-Err-OutOfMemory-clause-source_fault : goal.returns-in-Err-OutOfMemory-clause-source_fault
-returns-in-Err-OutOfMemory-clause-source_fault g c = λ seed asks e. absurd (subst HasRun (sym e) tt)
+returns-in-Err-OutOfMemory-clause-source_fault g c = λ seed asks e. absurd (subst JobWasRun (sym e) tt)
 
 pub returns-in-Err-OutOfMemory-clause-too_large : goal.returns-in-Err-OutOfMemory-clause-too_large
-returns-in-Err-OutOfMemory-clause-too_large g c = λ seed asks e. absurd (subst HasRun (sym e) tt)
+returns-in-Err-OutOfMemory-clause-too_large g c = λ seed asks e. absurd (subst JobWasRun (sym e) tt)
 
 pub returns-in-Err-OutOfMemory-clause-reset : goal.returns-in-Err-OutOfMemory-clause-reset
-returns-in-Err-OutOfMemory-clause-reset g c = λ seed asks e. absurd (subst HasRun (sym e) tt)
+returns-in-Err-OutOfMemory-clause-reset g c = λ seed asks e. absurd (subst JobWasRun (sym e) tt)
 
 pub returns-in-Err-OutOfMemory-clause-console_fault : goal.returns-in-Err-OutOfMemory-clause-console_fault
-returns-in-Err-OutOfMemory-clause-console_fault g c = λ e. absurd (subst HasRun (sym e) tt)
+returns-in-Err-OutOfMemory-clause-console_fault g c = λ e. absurd (subst JobWasRun (sym e) tt)
 
 pub returns-in-Err-OutOfMemory-clause-steps_fault : goal.returns-in-Err-OutOfMemory-clause-steps_fault
-returns-in-Err-OutOfMemory-clause-steps_fault g c = λ e. absurd (subst HasRun (sym e) tt)
+returns-in-Err-OutOfMemory-clause-steps_fault g c = λ e. absurd (subst JobWasRun (sym e) tt)
 
 pub returns-in-Err-OutOfMemory-clause-long_line : goal.returns-in-Err-OutOfMemory-clause-long_line
-returns-in-Err-OutOfMemory-clause-long_line g c = λ seed k asks e. absurd (subst HasRun (sym e) tt)
+returns-in-Err-OutOfMemory-clause-long_line g c = λ seed k asks e. absurd (subst JobWasRun (sym e) tt)
 
 pub returns-in-Err-OutOfMemory-clause-alarm : goal.returns-in-Err-OutOfMemory-clause-alarm
-returns-in-Err-OutOfMemory-clause-alarm g c = λ seed k asks e. absurd (subst HasRun (sym e) tt)
+returns-in-Err-OutOfMemory-clause-alarm g c = λ seed k asks e. absurd (subst JobWasRun (sym e) tt)
 
 pub returns-in-Err-OutOfMemory-clause-its_cause : goal.returns-in-Err-OutOfMemory-clause-its_cause
 returns-in-Err-OutOfMemory-clause-its_cause g c = λ seed asks run. absurd run
@@ -166,25 +166,25 @@ pub returns-in-Err-clause-untouched : goal.returns-in-Err-clause-untouched
 returns-in-Err-clause-untouched g c = λ none. let same = c.in-Err.ensures.untouched in (ap g.So.Source.state same.0, ap g.Co.Sink.state same.1, ap g.St.Sink.state same.2)
 
 pub returns-in-Err-clause-source_fault : goal.returns-in-Err-clause-source_fault
-returns-in-Err-clause-source_fault g c = λ seed asks e. absurd (subst HasRun (sym e) tt)
+returns-in-Err-clause-source_fault g c = λ seed asks e. absurd (subst JobWasRun (sym e) tt)
 
 pub returns-in-Err-clause-too_large : goal.returns-in-Err-clause-too_large
-returns-in-Err-clause-too_large g c = λ seed asks e. absurd (subst HasRun (sym e) tt)
+returns-in-Err-clause-too_large g c = λ seed asks e. absurd (subst JobWasRun (sym e) tt)
 
 pub returns-in-Err-clause-reset : goal.returns-in-Err-clause-reset
-returns-in-Err-clause-reset g c = λ seed asks e. absurd (subst HasRun (sym e) tt)
+returns-in-Err-clause-reset g c = λ seed asks e. absurd (subst JobWasRun (sym e) tt)
 
 pub returns-in-Err-clause-console_fault : goal.returns-in-Err-clause-console_fault
-returns-in-Err-clause-console_fault g c = λ e. absurd (subst HasRun (sym e) tt)
+returns-in-Err-clause-console_fault g c = λ e. absurd (subst JobWasRun (sym e) tt)
 
 pub returns-in-Err-clause-steps_fault : goal.returns-in-Err-clause-steps_fault
-returns-in-Err-clause-steps_fault g c = λ e. absurd (subst HasRun (sym e) tt)
+returns-in-Err-clause-steps_fault g c = λ e. absurd (subst JobWasRun (sym e) tt)
 
 pub returns-in-Err-clause-long_line : goal.returns-in-Err-clause-long_line
-returns-in-Err-clause-long_line g c = λ seed k asks e. absurd (subst HasRun (sym e) tt)
+returns-in-Err-clause-long_line g c = λ seed k asks e. absurd (subst JobWasRun (sym e) tt)
 
 pub returns-in-Err-clause-alarm : goal.returns-in-Err-clause-alarm
-returns-in-Err-clause-alarm g c = λ seed k asks e. absurd (subst HasRun (sym e) tt)
+returns-in-Err-clause-alarm g c = λ seed k asks e. absurd (subst JobWasRun (sym e) tt)
 
 pub returns-in-Err-clause-its_cause : goal.returns-in-Err-clause-its_cause
 returns-in-Err-clause-its_cause g c = λ seed asks run. absurd run
@@ -220,25 +220,25 @@ pub returns-in-Err-run_demo-clause-untouched : goal.returns-in-Err-run_demo-clau
 returns-in-Err-run_demo-clause-untouched g c = λ none. let same = c.in-Err-run_demo.ensures.untouched in (refl, ap g.Co.Sink.state same.0, ap g.St.Sink.state same.1)
 
 pub returns-in-Err-run_demo-clause-source_fault : goal.returns-in-Err-run_demo-clause-source_fault
-returns-in-Err-run_demo-clause-source_fault g c = λ seed asks e. absurd (subst HasRun (sym e) tt)
+returns-in-Err-run_demo-clause-source_fault g c = λ seed asks e. absurd (subst JobWasRun (sym e) tt)
 
 pub returns-in-Err-run_demo-clause-too_large : goal.returns-in-Err-run_demo-clause-too_large
-returns-in-Err-run_demo-clause-too_large g c = λ seed asks e. absurd (subst HasRun (sym e) tt)
+returns-in-Err-run_demo-clause-too_large g c = λ seed asks e. absurd (subst JobWasRun (sym e) tt)
 
 pub returns-in-Err-run_demo-clause-reset : goal.returns-in-Err-run_demo-clause-reset
-returns-in-Err-run_demo-clause-reset g c = λ seed asks e. absurd (subst HasRun (sym e) tt)
+returns-in-Err-run_demo-clause-reset g c = λ seed asks e. absurd (subst JobWasRun (sym e) tt)
 
 pub returns-in-Err-run_demo-clause-console_fault : goal.returns-in-Err-run_demo-clause-console_fault
-returns-in-Err-run_demo-clause-console_fault g c = λ e. absurd (subst HasRun (sym e) tt)
+returns-in-Err-run_demo-clause-console_fault g c = λ e. absurd (subst JobWasRun (sym e) tt)
 
 pub returns-in-Err-run_demo-clause-steps_fault : goal.returns-in-Err-run_demo-clause-steps_fault
-returns-in-Err-run_demo-clause-steps_fault g c = λ e. absurd (subst HasRun (sym e) tt)
+returns-in-Err-run_demo-clause-steps_fault g c = λ e. absurd (subst JobWasRun (sym e) tt)
 
 pub returns-in-Err-run_demo-clause-long_line : goal.returns-in-Err-run_demo-clause-long_line
-returns-in-Err-run_demo-clause-long_line g c = λ seed k asks e. absurd (subst HasRun (sym e) tt)
+returns-in-Err-run_demo-clause-long_line g c = λ seed k asks e. absurd (subst JobWasRun (sym e) tt)
 
 pub returns-in-Err-run_demo-clause-alarm : goal.returns-in-Err-run_demo-clause-alarm
-returns-in-Err-run_demo-clause-alarm g c = λ seed k asks e. absurd (subst HasRun (sym e) tt)
+returns-in-Err-run_demo-clause-alarm g c = λ seed k asks e. absurd (subst JobWasRun (sym e) tt)
 
 pub returns-in-Err-run_demo-clause-its_cause : goal.returns-in-Err-run_demo-clause-its_cause
 returns-in-Err-run_demo-clause-its_cause g c = λ seed asks run. absurd run
@@ -265,7 +265,7 @@ pub returns-in-Ok-stream-clause-refused : goal.returns-in-Ok-stream-clause-refus
 returns-in-Ok-stream-clause-refused g c = λ r. absurd (c.in-Ok.ensures.accepted refl r)
 
 pub returns-in-Ok-stream-clause-usage : goal.returns-in-Ok-stream-clause-usage
-returns-in-Ok-stream-clause-usage g c = λ e. absurd (subst HasRun e c.in-Ok-stream.ensures.causes.has_run)
+returns-in-Ok-stream-clause-usage g c = λ e. absurd (subst JobWasRun e c.in-Ok-stream.ensures.causes.has_run)
 
 pub returns-in-Ok-stream-clause-untouched : goal.returns-in-Ok-stream-clause-untouched
 returns-in-Ok-stream-clause-untouched g c = λ none. has_begun c.in-Ok-stream.status c.in-Ok-stream.ensures.causes.has_run none

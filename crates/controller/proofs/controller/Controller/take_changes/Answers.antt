@@ -2,7 +2,8 @@ use Rattle.std.proofs.Common.{rules, ◌≡◌, true, false, sym, subst}
 use Rattle.board_rules.specs.Ports.{has_changes}
 use Rattle.board_rules.specs.Steps.{Journal, port_log, hand_of, given_of, plan_of, motion_of}
 use Rattle.controller.specs.Boards.{Keeps}
-use Rattle.controller.proofs.Steps.{in_range, changes, takes_changes}
+use Rattle.controller.proofs.Steps.{in_range}
+use Rattle.controller.proofs.Requests.{changes, takes_changes}
 use Rattle.controller.proofs.Settling.{replanned_some, replanned_none}
 use Rattle.controller.proofs.controller.Controller.take_changes.Goals as goal
 

@@ -8,7 +8,8 @@ use Rattle.controller.specs.declared.controller.Flags.TheVariants as words
 use Rattle.controller.specs.Boards.{Keeps}
 use Rattle.controller.specs.Turning.{flags_behind, obeying}
 use Rattle.controller.specs.Reporting.{MayObeyNow}
-use Rattle.controller.proofs.Steps.{takes_word, other_flags, halts_by}
+use Rattle.controller.proofs.Steps.{other_flags, halts_by}
+use Rattle.controller.proofs.Requests.{takes_word}
 use Rattle.controller.proofs.Halting.{taken}
 use Rattle.controller.proofs.Words.{asked_owed, asked_free, port_stands, obeys_at_once}
 use Rattle.controller.proofs.controller.Controller.take_requests.Goals as goal

@@ -4,7 +4,7 @@ use Rattle.units.specs.Truths.{one_if}
 use Rattle.atomic_table.specs.Table.{Me, step, Allows}
 use mathlib.Core.Option.{none}
 use Rattle.step_line.specs.declared.Piece.{Piece}
-use Rattle.motion_ring.specs.declared.view.Sight.{Sight}
+use Rattle.motion_ring.specs.declared.view.MotionSight.{MotionSight}
 use Rattle.motion_ring.specs.Ticks.{halted_word}
 use Rattle.motion_ring.specs.Sides.{passed_in}
 use Rattle.motion_ring.specs.Rule.{Kept, MayHalt, with_dropped, halted, empty_slots}
@@ -46,5 +46,5 @@ store-requires c =
     let all = length-append d.0 (passed_in o.seat.me.0.taken) in
     let len = d.2 in
     let stop = told.1 in
-    let P : Me (Option Piece) Sight → Type 0 = λ m. Allows Kept c.deref.result.now.shared.table_id.slots c.drop_pieces-self.new.seat.id m halted_word (λ _. c.load-stop.result) (λ _. halted (step c.deref.result.now.shared.table_id.slots halted_word c.load-stop.result 0 none) m c.load-stop.result) in
+    let P : Me (Option Piece) MotionSight → Type 0 = λ m. Allows Kept c.deref.result.now.shared.table_id.slots c.drop_pieces-self.new.seat.id m halted_word (λ _. c.load-stop.result) (λ _. halted (step c.deref.result.now.shared.table_id.slots halted_word c.load-stop.result 0 none) m c.load-stop.result) in
     (search rules, search rules, subst P (sym now) (halts _ _ _ first n v o.mine.0 c.requires stop (omega arith) (omega arith) refl))

@@ -4,7 +4,7 @@ use mathlib.Core.Option.{none}
 use Rattle.atomic_table.specs.Table.{Me, rest, step, Allows}
 use Rattle.step_line.specs.declared.Piece.{Piece}
 use Rattle.step_line.proofs.Finished.{together}
-use Rattle.motion_ring.specs.declared.view.Sight.{Sight}
+use Rattle.motion_ring.specs.declared.view.MotionSight.{MotionSight}
 use Rattle.motion_ring.specs.Rule.{Kept, saw_slot, published}
 use Rattle.motion_ring.specs.Sides.{room_from, unfinished_in, earlier_ticks, published_in, ticks_published, with_piece}
 use Rattle.motion_ring.proofs.Ticks.{few_shown, many_shown}
@@ -23,7 +23,7 @@ store-requires c =
     let bare = ap (λ m. rest m.1) took ∙ o.bare in
     let now : c.exchange.new.seat.me ≡ (saw_slot o.seat.me.0 c.load-done.result, (o.slot, Some c.args.p) ∷ []) =
     wrote ∙ (λ i. (ap (λ m. m.0) took i, (o.slot, Some c.args.p) ∷ bare i)) in
-    let P : Me (Option Piece) Sight → Type 0 = λ m. Allows Kept c.deref.result.now.shared.table_id.slots c.exchange.new.seat.id m 0 (λ _. o.head + 1) (λ _. published (step c.deref.result.now.shared.table_id.slots 0 (o.head + 1) 0 none) m (o.head + 1)) in
+    let P : Me (Option Piece) MotionSight → Type 0 = λ m. Allows Kept c.deref.result.now.shared.table_id.slots c.exchange.new.seat.id m 0 (λ _. o.head + 1) (λ _. published (step c.deref.result.now.shared.table_id.slots 0 (o.head + 1) 0 none) m (o.head + 1)) in
     (search rules, search rules, subst P (sym now) (publishes _ _ _ _ _ c.args.p o.mine.0 refl (o.placed ∙ ap (λ z. z % 6) o.counted) c.requires (ap (λ z. z + 1) o.counted)))
 
 pub returns-then-done-self-clause-full : goal.returns-then-done-self-clause-full

@@ -8,7 +8,7 @@ use Rattle.plan_passes.proofs.Kept.{kept_anew}
 use Rattle.plan_passes.proofs.Nominals.{nominals_before}
 use Rattle.plan_passes.proofs.Onward.{onward_more, onward_before}
 use Rattle.plan_passes.proofs.Paces.{pace_added}
-use Rattle.plan_passes.specs.Tables.{IsKept, nominals_of}
+use Rattle.plan_passes.specs.Tables.{KeepsPlan, nominals_of}
 use Rattle.plan_passes.specs.Paces.{IsPaceOfTail}
 use Rattle.plan_passes.proofs.plan.Plan.add.Goals as goal
 
@@ -99,7 +99,7 @@ push-requires g c = omega (arith, c.self.invariant.0.few)
 pub invariant_of-self : goal.invariant_of-self
 invariant_of-self g c =
     let p = c.self.inside in
-    subst (λ bs. IsKept g.row.N (plan_of bs p.speed p.overrides) p.planned p.gaps p.softs p.settled × IsPaceOfTail p.overrides bs p.pace
+    subst (λ bs. KeepsPlan g.row.N (plan_of bs p.speed p.overrides) p.planned p.gaps p.softs p.settled × IsPaceOfTail p.overrides bs p.pace
     × (take (length bs) p.nominals ≡ nominals_of p.overrides bs) × (take (length bs - 1) p.hards ≡ hards_of bs)) (sym c.in-Err.ensures.full) c.self.invariant
 
 pub len-count-requires : goal.len-count-requires

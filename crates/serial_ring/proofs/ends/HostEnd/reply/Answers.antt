@@ -3,7 +3,7 @@ use Rattle.std.specs.declared.option.Option.{Option}
 use mathlib.Core.Option.{none}
 use Rattle.atomic_table.specs.Table.{Me, rest, step, Allows}
 use Rattle.status_report.specs.declared.Reply.{Reply}
-use Rattle.serial_ring.specs.declared.view.Sight.{Sight}
+use Rattle.serial_ring.specs.declared.view.LinkSight.{LinkSight}
 use Rattle.serial_ring.specs.Rule.{Kept, reply_tail_word, with_got, gave_back}
 use Rattle.shared_rings.proofs.Places.{next_place}
 use Rattle.serial_ring.proofs.HostSteps.{grasps, gives_back}
@@ -30,7 +30,7 @@ store-requires g c =
     let now : c.exchange.new.seat.me ≡ (with_got o.seat.me.0 c.load-shown.result found.0 found.1, (o.slot, None) ∷ []) =
     wrote ∙ (λ i. (ap (λ m. m.0) found.2 i, (o.slot, None) ∷ bare i)) in
     let first : o.got ≡ length (with_got o.seat.me.0 c.load-shown.result found.0 found.1).got - 1 = let e = o.replies in omega arith in
-    let P : Me (Option Reply) Sight → Type 0 = λ m. Allows (Kept _) c.deref.result.now.shared.table_id.slots c.exchange.new.seat.id m reply_tail_word (λ _. o.got + 1) (λ _. gave_back (step c.deref.result.now.shared.table_id.slots reply_tail_word (o.got + 1) 0 none) m (o.got + 1)) in
+    let P : Me (Option Reply) LinkSight → Type 0 = λ m. Allows (Kept _) c.deref.result.now.shared.table_id.slots c.exchange.new.seat.id m reply_tail_word (λ _. o.got + 1) (λ _. gave_back (step c.deref.result.now.shared.table_id.slots reply_tail_word (o.got + 1) 0 none) m (o.got + 1)) in
     (search rules, search rules, subst P (sym now) (gives_back _ _ _ _ _ _ o.mine.0 refl (o.slotted ∙ ap (λ z. z % 16) first) (let e = o.replies in omega arith)))
 
 pub invariant_of-self : goal.invariant_of-self

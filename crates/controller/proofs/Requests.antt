@@ -1,0 +1,112 @@
+-- What a board keeps where it takes its words of flags, and obeys them.
+use Rattle.std.proofs.Common.{◌≡◌, [], ◌∷◌, Bool, true, sym, refl, ◌∙◌, subst, append-nil}
+use Rattle.code_table.specs.declared.flags.Exec.{Exec}
+use Rattle.code_table.specs.declared.flags.Ovr.{Ovr}
+use Rattle.feed_hold.specs.Motions.{after_word}
+use Rattle.feed_hold.specs.Motions.Call.{on_exec}
+use Rattle.board_rules.specs.Openings.{Opening}
+use Rattle.overrides.specs.Percents.{IsOverrides, taken}
+use Rattle.planner_runs.specs.declared.Action.TheVariants.{Override}
+use Rattle.board_rules.specs.Ports.{has_changes, has_reset_in}
+use Rattle.board_rules.specs.Ports.PortStep.{took_exec, took_ovr}
+use Rattle.board_rules.specs.Steps.{Journal, port_log, given_of, hand_of, plan_of, motion_of}
+use Rattle.board_rules.specs.Steps.Step.{at_port, did, became}
+use Rattle.board_rules.specs.Turns.{owes_report, has_blocks}
+use Rattle.board_rules.specs.Conduct.{MayTakeRequests, MayObey}
+use Rattle.controller.specs.declared.controller.Controller.{Controller}
+use Rattle.board_machine.specs.declared.machine.Machine.{Machine}
+use Rattle.board_machine.specs.Machines.{Runs}
+use Rattle.controller.specs.Boards.{Keeps}
+use Rattle.board_rules.proofs.Uncut.{cut_obeyed}
+
+-- a word of requests is taken
+pub takes_word : (first : Opening) (c : Controller) (owes reset : Bool) (word : Exec) (h : Journal) → Keeps first c h → MayTakeRequests word h → owes ≡ owes_report (at_port (took_exec word) ∷ h)
+    → reset ≡ has_reset_in (port_log (at_port (took_exec word) ∷ h)) → Keeps first (record c { owes = owes; reset = reset }) (at_port (took_exec word) ∷ h)
+takes_word first c owes reset word h k may is resets = record {
+  placed = k.placed;
+  free = k.free;
+  short = k.short;
+  conducted = (may, k.conducted);
+  machine = k.machine;
+  lines = k.lines;
+  input = k.input;
+  flight = record { known = k.flight.known; found = k.flight.found; flies = k.flight.flies };
+  owes_is = is;
+  reset_is = resets;
+  jogged_is = k.jogged_is;
+  cut_is = k.cut_is;
+  going = k.going;
+  closed = k.closed;
+  limited = k.limited;
+  tries = k.tries;
+}
+
+-- a word that was taken is obeyed
+pub obeys : (first : Opening) (c : Controller) (m : Machine) (word : Exec) (h : Journal) → Keeps first c h → MayObey first word (has_blocks (plan_of h).blocks) h
+    → Runs m (plan_of h) (after_word word (has_blocks (plan_of h).blocks) (motion_of first h)) (hand_of h) (given_of h)
+    → Keeps first (record c { machine = m }) (became (on_exec word (has_blocks (plan_of h).blocks)) (after_word word (has_blocks (plan_of h).blocks) (motion_of first h)) ∷ h)
+obeys first c m word h k may runs = record {
+  placed = k.placed;
+  free = k.free;
+  short = k.short;
+  conducted = ((refl, may), k.conducted);
+  machine = runs;
+  lines = k.lines;
+  input = k.input;
+  flight = record { known = k.flight.known; found = k.flight.found; flies = k.flight.flies };
+  owes_is = k.owes_is;
+  reset_is = k.reset_is;
+  jogged_is = k.jogged_is;
+  cut_is = k.cut_is ∙ cut_obeyed first word (has_blocks (plan_of h).blocks) h k.conducted;
+  going = k.going;
+  closed = k.closed;
+  limited = k.limited;
+  tries = k.tries;
+}
+
+-- a word of changes of overrides is taken
+pub takes_changes : (first : Opening) (c : Controller) (word : Ovr) (h : Journal) → Keeps first c h → Keeps first c (at_port (took_ovr word) ∷ h)
+takes_changes first c word h k = record {
+  placed = k.placed;
+  free = k.free;
+  short = k.short;
+  conducted = (tt, k.conducted);
+  machine = k.machine;
+  lines = k.lines;
+  input = k.input;
+  flight = record { known = k.flight.known; found = k.flight.found; flies = k.flight.flies };
+  owes_is = k.owes_is;
+  reset_is = k.reset_is;
+  jogged_is = k.jogged_is;
+  cut_is = k.cut_is;
+  going = k.going;
+  closed = k.closed;
+  limited = k.limited;
+  tries = k.tries;
+}
+
+-- it is planned for what a word makes of the overrides
+pub changes : (first : Opening) (c : Controller) (m : Machine) (word : Ovr) (h : Journal) → Keeps first c h → has_changes word ≡ true → IsOverrides m.overrides
+    → Runs m (record (plan_of h) { overrides = taken (plan_of h).overrides word }) (motion_of first h) (hand_of h) (given_of h)
+    → Keeps first (record c { machine = m }) (did (Override (taken (plan_of h).overrides word)) [] ∷ at_port (took_ovr word) ∷ h)
+changes first c m word h k some range runs = record {
+  placed = k.placed;
+  free = k.free;
+  short = k.short;
+  conducted = (
+    (record { word = word; earlier = port_log h; last = refl; some = some; taken = refl }, (subst IsOverrides (sym runs.same) range, refl)),
+    (tt, k.conducted),
+  );
+  machine = rw (append-nil (hand_of h), append-nil (given_of h)) runs;
+  lines = k.lines;
+  input = k.input;
+  flight = record { known = k.flight.known; found = k.flight.found; flies = k.flight.flies };
+  owes_is = k.owes_is;
+  reset_is = k.reset_is;
+  jogged_is = k.jogged_is;
+  cut_is = k.cut_is;
+  going = k.going;
+  closed = k.closed;
+  limited = k.limited;
+  tries = k.tries;
+}
