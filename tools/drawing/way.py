@@ -33,10 +33,11 @@ class Way:
         return self.rows[0][node], self.rows[1][node], self.rows[2][node]
 
     def depth_scale(self):
-        """Colours by the depth of what is cut on the way, or of all where nothing is."""
-        (xs, ys, zs), cut = self.rows, [at for at, kind in enumerate(self.kinds) if kind == CUT]
-        across = [at for at in cut if xs[at] != xs[at + 1] or ys[at] != ys[at + 1]] or cut or range(len(self.kinds))
-        low = min((min(zs[at], zs[at + 1]) for at in across), default=0.0)
+        """Colours from the highest place of what is cut on the way down to the deepest cut, holes among them; of all where
+        nothing is cut."""
+        (xs, ys, zs), cut = self.rows, [at for at, kind in enumerate(self.kinds) if kind == CUT] or range(len(self.kinds))
+        across = [at for at in cut if xs[at] != xs[at + 1] or ys[at] != ys[at + 1]] or cut
+        low = min((min(zs[at], zs[at + 1]) for at in cut), default=0.0)
         high = max((max(zs[at], zs[at + 1]) for at in across), default=0.0)
         return Scale("Z, mm", high, low, DEPTHS, DEPTH_BINS)
 
