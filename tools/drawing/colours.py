@@ -2,7 +2,7 @@
 from drawing.frames import FRAME, number_text, text_at, tick_step, ticks
 
 # From the highest Z to the deepest, and from the fastest to rest.
-DEPTHS = ["#b9c7d5", "#8fb4d2", "#5b9bc8", "#2f78b3", "#2a5599", "#3d3580", "#571c63"]
+DEPTHS = ["#62b0e8", "#4b9bd8", "#3383c2", "#2868ab", "#2c4b91", "#3f317b", "#571c63"]
 SPEEDS = ["#2166ac", "#35978f", "#8ab861", "#e0b13c", "#e2711d", "#b2182b"]
 DEPTH_BINS, SPEED_BINS = 24, 12
 

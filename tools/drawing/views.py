@@ -136,7 +136,7 @@ def draw_lines(way, view):
         if not number:
             out.append(f'<path class="rapid" d="{shape}"/>')
             continue
-        width = 1.5 if way.by_speed else 1.0 + 0.9 * (number - 1) / (way.scale.bins - 1)
+        width = 1.5 if way.by_speed else 1.2 + 0.7 * (number - 1) / (way.scale.bins - 1)
         out.append(f'<path class="way" d="{shape}" stroke="{way.scale.colours[number - 1]}" stroke-width="{width:.1f}"/>')
     return out
 
