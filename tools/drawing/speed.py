@@ -195,8 +195,12 @@ def draw_legend(run, frame, exact, rapid):
 
 
 def draw_ticks(run, along, frame):
-    """Marks and refused lines, as ticks at the top of the frame, and labels where there is room."""
-    told = [(along.begins[run.before_line(line)], f"line {line}: error:{number}", REFUSED) for line, number in run.refused()]
+    """An alarm, refused lines and marks, as ticks at the top of the frame, and labels where there is room."""
+    told = []
+    if run.console and run.console.alarm:
+        line, number = run.console.alarm
+        told.append((along.begins[-1], f"line {line}: ALARM:{number}", REFUSED))
+    told += [(along.begins[run.before_line(line)], f"line {line}: error:{number}", REFUSED) for line, number in run.refused()]
     told += [(at, mark.text, INK) for at, mark in zip(along.marks, run.track.marks)]
     groups, out, labels = {}, [], Labels(frame.left - 10, frame.right + RIGHT - 6)
     for at, text, colour in told:

@@ -206,11 +206,11 @@ def marked_of(run):
     track = run.track
     told = [Marked(run.point(0), "start", "start"), Marked(run.point(len(track)), "end", "end")]
     told += [Marked(zero.place, f"zero {zero.name}", "zero") for zero in run.used_zeros()[:6]]
-    told += [Marked(run.point(run.before_line(line)), f"line {line}: error:{number}", "refused")
-             for line, number in run.refused()[:MOST_MARKS]]
     if run.console and run.console.alarm:
         line, number = run.console.alarm
         told.append(Marked(run.point(len(track)), f"line {line}: ALARM:{number}", "refused"))
+    told += [Marked(run.point(run.before_line(line)), f"line {line}: error:{number}", "refused")
+             for line, number in run.refused()[:MOST_MARKS]]
     if len(track.marks) <= MOST_MARKS:
         told += [Marked(run.millimetres(mark.place), mark.text, "mark") for mark in track.marks]
     return told
