@@ -14,6 +14,7 @@ MOST_DOTS = 4_000
 ROOM, GAP = 0.08, 60
 TALLEST, LOWEST = 560, 170
 SIDE_FLAT, SIDE_LEAST, SIDE_MOST, SIDE_ROOM = 70, 120, 220, 28
+FLAT_SPAN = 1.0       # mm, of a side view with one height
 WIDEST = WIDTH - LEFT - RIGHT
 
 
@@ -66,7 +67,7 @@ def views_of(limits, top):
     above = Frame(LEFT, top, WIDEST, height, x_range, spread(limits[1], height / scale))
     is_flat = limits[2][0] == limits[2][1]
     side_height = SIDE_FLAT if is_flat else min(max(scale * spans[2] + SIDE_ROOM, SIDE_LEAST), SIDE_MOST)
-    z_scale = (side_height - SIDE_ROOM) / spans[2]
+    z_scale = (side_height - SIDE_ROOM) / (FLAT_SPAN if is_flat else spans[2])
     front = Frame(LEFT, above.bottom + GAP, WIDEST, side_height, x_range, spread(limits[2], side_height / z_scale))
     name = "from the front" + ("" if is_flat else ", " + stretched(z_scale / scale, "high"))
     return View(above, (0, 1), "from above", ("", "Y, mm")), View(front, (0, 2), name, ("X, mm", "Z, mm"))
@@ -79,9 +80,9 @@ def beside(limits, spans, room, top):
     side_width = min(max(scale * spans[2] + SIDE_ROOM, 200), 300)
     width = WIDEST - gap - side_width
     above = Frame(LEFT, top, width, TALLEST, spread(limits[0], width / scale), spread(limits[1], TALLEST / scale))
-    z_scale = (side_width - SIDE_ROOM) / spans[2]
-    right = Frame(above.right + gap, top, side_width, TALLEST, spread(limits[2], side_width / z_scale), above.y_range)
     is_flat = limits[2][0] == limits[2][1]
+    z_scale = (side_width - SIDE_ROOM) / (FLAT_SPAN if is_flat else spans[2])
+    right = Frame(above.right + gap, top, side_width, TALLEST, spread(limits[2], side_width / z_scale), above.y_range)
     name = "from the right" + ("" if is_flat else ", " + stretched(z_scale / scale, "wide"))
     return View(above, (0, 1), "from above", ("X, mm", "Y, mm")), View(right, (2, 1), name, ("Z, mm", ""))
 
