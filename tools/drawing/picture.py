@@ -8,7 +8,7 @@ from drawing.way import Way
 from texts.run import AT_FEED
 
 TOP, SPEED_GAP, BOTTOM = 92, 84, 52
-MOST_TOLD = 8   # refused lines in the heading
+MOST_LETTERS = 136   # of a line of the heading
 
 
 def summary(run):
@@ -45,13 +45,17 @@ def settings_text(job, line):
 
 
 def refused_text(run):
-    """What was refused, in one line, or nothing."""
-    refused = run.refused()
-    told = [f"{line} (error:{number})" for line, number in refused[:MOST_TOLD]] + ["\u2026"] * (len(refused) > MOST_TOLD)
-    text = f"{counted(len(refused), 'line')} refused: {', '.join(told)}" if refused else ""
+    """What ended the run and what was refused, in one line, or nothing: as many refused lines as it has room for."""
+    refused, text = run.refused(), ""
     if run.console and run.console.alarm:
         line, number = run.console.alarm
-        text = "; ".join(filter(None, [text, f"line {line} ended the run by ALARM:{number}"]))
+        text = f"line {line} ended the run by ALARM:{number}" + "; " * bool(refused)
+    text += f"{counted(len(refused), 'line')} refused: " if refused else ""
+    for at, (line, number) in enumerate(refused):
+        told = (", " if at else "") + f"{line} (error:{number})"
+        if len(text) + len(told) > MOST_LETTERS:
+            return text + ", \u2026"
+        text += told
     return text
 
 
