@@ -2,7 +2,7 @@
 import math
 from xml.sax.saxutils import escape
 
-WIDTH, LEFT, RIGHT, LINE = 1000, 76, 104, 18
+WIDTH, LEFT, RIGHT, LINE = 1020, 76, 124, 18
 INK, FADED, GRID, FRAME = "#22272e", "#6a737d", "#e8eaed", "#a9b1ba"
 RAPID_LINE, RAPID_FILL = "#8b949e", "#eef0f2"
 REFUSED, ZERO, SLOW = "#c62828", "#1a7f37", "#8250df"
