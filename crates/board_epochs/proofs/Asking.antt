@@ -30,7 +30,7 @@ use Rattle.board_epochs.specs.Epochs.{Closed, AreClosed, AreEpochs, closed_log, 
 use Rattle.board_epochs.specs.Epochs.Epochs.{goes, resets}
 use Rattle.board_epochs.specs.Work.{Work, stage_of}
 use Rattle.board_epochs.specs.Work.Stage.{publishes}
-use Rattle.board_epochs.proofs.Bounding.{few_behind, few_epochs, own_ticks, ticks_bounded, pieces_bounded, pieces_behind, taken_behind, none_ended, halted_below, more_taken}
+use Rattle.board_epochs.proofs.Bounding.{AreConducted, few_behind, few_epochs, own_ticks, ticks_bounded, pieces_bounded, pieces_behind, taken_behind, none_ended, halted_below, more_taken}
 use Rattle.board_epochs.proofs.Chaining.{begins_behind}
 use Rattle.board_epochs.proofs.Onto.{Begins, onto, sent_on}
 use Rattle.board_epochs.proofs.Onto.Begins.{a_run, an_epoch}
@@ -53,11 +53,11 @@ unended_own : (l : BoardLog) (s : Sent) → sent_in l ≡ s → s ≡ onto none_
 unended_own l s is own going =
     ap has_ended (sym (append-nil (reverse (published_in l)))) ∙ ap has_ended (sym (append-nil (reverse (published_in l) ++ []))) ∙ sym (ap (λ (x : Sent). has_ended (ring.published_in x)) (is ∙ own)) ∙ going
 
-pub publish_there : (state : State) (es : NewestFirst Closed) (h : Journal) (p : Piece) → AreEpochs state (goes es h) → IsInHand p h → MayPublish (log_of (goes es h)) p
+pub publish_there : (state : State) (es : NewestFirst Closed) (h : Journal) (p : Piece) → AreConducted state es h → IsInHand p h → MayPublish (log_of (goes es h)) p
 publish_there state es h p c next =
     let first = opening_behind state es in
     let before = closed_log es in
-    let conducted = c.1.conducted in
+    let conducted = c.1 in
     let never = journals_never_stop first h conducted in
     let own = may_publish_next first h p conducted next in
     let few = few_behind state es c.0 in

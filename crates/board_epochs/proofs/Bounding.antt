@@ -25,7 +25,7 @@ use Rattle.board_rules.proofs.Given.{published_within}
 use Rattle.board_rules.proofs.Keeping.{hand_is}
 use Rattle.board_rules.proofs.Limits.{given_by_lines, lines_in_bytes, answered_by_lines}
 use Rattle.board_rules.proofs.Unstopped.{NeverStops, journals_never_stop}
-use Rattle.board_epochs.specs.Epochs.{Closed, AreClosed, IsClosed, closed_log, log_behind, opening_behind, last_line}
+use Rattle.board_epochs.specs.Epochs.{Closed, AreClosed, IsClosed, IsBounded, closed_log, log_behind, opening_behind, last_line}
 use Rattle.board_epochs.specs.Bounds.{loaded_mark, AreMarked, IsFew}
 use Rattle.board_epochs.specs.Resets.{MayReset}
 use Rattle.board_epochs.specs.Work.{Work, Works, Stage, MayWorkAt, stage_of, worked_in, halted_in}
@@ -37,6 +37,10 @@ use Rattle.board_epochs.proofs.Onto.{Begins, sent_on, steps_on, taken_on, answer
 use Rattle.board_epochs.proofs.Seam.{sent_own, ticks_behind}
 use Rattle.board_epochs.proofs.Prompting.{unended}
 use Rattle.board_epochs.proofs.Working.{all_of, never, works_end, holds, Holds}
+
+-- the open epoch keeps to its rules, promptly or not, and the port gives so much at most
+abbrev pub AreConducted : State → NewestFirst Closed → Journal → Type 0
+AreConducted state es h = AreClosed state es × Conducted (opening_behind state es) h × IsBounded (log_behind (closed_log es) h)
 
 -- ---- the marks
 

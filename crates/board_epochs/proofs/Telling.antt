@@ -22,9 +22,9 @@ use Rattle.board_rules.proofs.Greeting.{banners_in, banners_first, banners_are, 
 use Rattle.board_rules.proofs.Limits.{lines_in_bytes, answered_by_lines}
 use Rattle.board_rules.proofs.LinkSteps.{same_answered, same_taken}
 use Rattle.board_epochs.specs.Bounds.{loaded_mark, AreMarked}
-use Rattle.board_epochs.specs.Epochs.{Closed, AreClosed, AreEpochs, closed_log, log_on, log_behind, log_of, opening_behind}
+use Rattle.board_epochs.specs.Epochs.{Closed, AreClosed, closed_log, log_on, log_behind, log_of, opening_behind}
 use Rattle.board_epochs.specs.Epochs.Epochs.{goes}
-use Rattle.board_epochs.proofs.Bounding.{Marked, marked_behind, few_behind, few_epochs, taken_behind, answered_behind, more_taken}
+use Rattle.board_epochs.proofs.Bounding.{AreConducted, Marked, marked_behind, few_behind, few_epochs, taken_behind, answered_behind, more_taken}
 use Rattle.board_epochs.proofs.Greeted.{by_count, greeted_with, ungreeted, next_there}
 use Rattle.board_epochs.proofs.Onto.{steps_on, reports_on}
 
@@ -72,7 +72,7 @@ new_mark first h before n c none m =
 
 -- ---- each reply
 
-few_replies : (state : State) (es : NewestFirst Closed) (h : Journal) → AreEpochs state (goes es h) → length (link.answered_in (link_steps (port_log h) ++ link_steps (closed_log es))) < 2 ^ 62
+few_replies : (state : State) (es : NewestFirst Closed) (h : Journal) → AreConducted state es h → length (link.answered_in (link_steps (port_log h) ++ link_steps (closed_log es))) < 2 ^ 62
 few_replies state es h c =
     let first = opening_behind state es in
     let before = closed_log es in
@@ -80,8 +80,8 @@ few_replies state es h c =
     let all = same_answered (log_behind before h) in
     let both = answered_behind before h in
     let was = (few_behind state es c.0).replies in
-    let now = answered_by_lines first h c.1.conducted in
-    let lines = lines_in_bytes first h c.1.conducted in
+    let now = answered_by_lines first h c.1 in
+    let lines = lines_in_bytes first h c.1 in
     let taken = taken_behind before h in
     let asked = reports_on (known_in before) (port_log h) before in
     let n = few_epochs state es c.0 in
@@ -106,19 +106,19 @@ banner_there state es h c conducted none greeted = by_marks (marked_behind state
         absurd (let e = sym (ap (λ (l : BoardLog). has_greeted (link_steps l)) begins.1) ∙ sym (ungreeted (opening_behind state es) h (link_steps (closed_log es)) conducted none).has ∙ greeted in cc)
     by_marks (inr m) = new_mark (opening_behind state es) h (closed_log es) (length es) conducted none m
 
-pub answer_there : (state : State) (es : NewestFirst Closed) (h : Journal) (r : Reply) → AreEpochs state (goes es h) → IsNextTask (opening_behind state es) (tell r) h → IsReply r → MayAnswer (log_of (goes es h)) r
+pub answer_there : (state : State) (es : NewestFirst Closed) (h : Journal) (r : Reply) → AreConducted state es h → IsNextTask (opening_behind state es) (tell r) h → IsReply r → MayAnswer (log_of (goes es h)) r
 answer_there state es h r c next text =
     let first = opening_behind state es in
-    let own = may_answer first h r c.1.conducted next text in
+    let own = may_answer first h r c.1 next text in
     subst (λ (ss : List LinkStep). link.MayAnswer ss r) (sym (steps_on (known_in (closed_log es)) (port_log h) (closed_log es))) (record {
       line = λ is. (let due = own.line is in
-          let e = since_same (link_steps (port_log h)) (link_steps (closed_log es)) (greeted_by first h c.1.conducted due) in let a = e.0 in let b = e.1 in omega (arith, due, a, b));
-      banner = λ is greeted. banner_there state es h c.0 c.1.conducted (none_yet first h r c.1.conducted next is) greeted;
+          let e = since_same (link_steps (port_log h)) (link_steps (closed_log es)) (greeted_by first h c.1 due) in let a = e.0 in let b = e.1 in omega (arith, due, a, b));
+      banner = λ is greeted. banner_there state es h c.0 c.1 (none_yet first h r c.1 next is) greeted;
       text = text;
       few = few_replies state es h c;
     })
 
-pub report_there : (state : State) (es : NewestFirst Closed) (h : Journal) (r : Report) → AreEpochs state (goes es h) → IsReply (replies.Report r) → MayAnswer (log_of (goes es h)) (replies.Report r)
+pub report_there : (state : State) (es : NewestFirst Closed) (h : Journal) (r : Report) → AreConducted state es h → IsReply (replies.Report r) → MayAnswer (log_of (goes es h)) (replies.Report r)
 report_there state es h r c text =
     subst (λ (ss : List LinkStep). link.MayAnswer ss (replies.Report r)) (sym (steps_on (known_in (closed_log es)) (port_log h) (closed_log es))) (record {
       line = λ is. absurd cc;
