@@ -18,14 +18,14 @@ use Rattle.plan_rules.specs.Plans.{Planned}
 use Rattle.line_interpreter.specs.Lefts.{IsNextOf, IsTodo}
 use Rattle.line_interpreter.specs.declared.tasks.Todo.{Todo}
 use Rattle.line_interpreter.specs.declared.tasks.Todo.TheVariants as todo
-use Rattle.controller.specs.declared.controller.Controller.{Controller}
-use Rattle.controller.specs.Boards.{Keeps, NoneWaits}
+use Rattle.board_turns.specs.declared.board.Board.{Board}
+use Rattle.board_turns.specs.Boards.{Keeps, NoneWaits}
 use Rattle.board_machine.specs.Machines.{start_motion}
-use Rattle.controller.specs.Turning.{IsNextMove, NoneFits, DidAlone, HasAdded, HasFilled, starting}
+use Rattle.board_turns.specs.Turning.{IsNextMove, NoneFits, DidAlone, HasAdded, HasFilled, starting}
 use Rattle.board_rules.proofs.Tries.{alone_did, alone_on, alone_motion}
-use Rattle.controller.proofs.Starting.{none_left_to_change, starts_off}
-use Rattle.controller.proofs.Ends.{same_calls}
-use Rattle.controller.proofs.Steps.{none_halts}
+use Rattle.board_turns.proofs.Starting.{none_left_to_change, starts_off}
+use Rattle.board_turns.proofs.Ends.{same_calls}
+use Rattle.board_turns.proofs.Steps.{none_halts}
 
 -- some of the moves that are next were added, or none
 pub record Adds (first : Opening) (h next : Journal) : Type 0 where
@@ -66,7 +66,7 @@ has_added first h next a fits = record {
 }
 
 -- a full plan has no room
-pub none_fits_full : (first : Opening) (c : Controller) (h : Journal) → Keeps first c h → is_full c.machine.plan ≡ true → NoneFits first h
+pub none_fits_full : (first : Opening) (c : Board) (h : Journal) → Keeps first c h → is_full c.machine.plan ≡ true → NoneFits first h
 none_fits_full first c h k full m next = subst (λ (p : Planned). is_full p ≡ true) k.machine.plan_is full
 
 no_move : (t : Todo) (tasks : List Task) → IsTodo t tasks → (t ≡ todo.Move → ⊥) → (m : PlannedMove) → IsNextOf (ask (a_move m)) tasks → ⊥
@@ -81,27 +81,27 @@ no_move todo.Finish tasks is other m next = absurd cc
 no_move todo.Halt tasks is other m next = absurd cc
 
 -- no move is next
-pub none_fits_other : (first : Opening) (c : Controller) (h : Journal) (t : Todo) → Keeps first c h → IsTodo t c.lines.left → (t ≡ todo.Move → ⊥) → NoneFits first h
+pub none_fits_other : (first : Opening) (c : Board) (h : Journal) (t : Todo) → Keeps first c h → IsTodo t c.lines.left → (t ≡ todo.Move → ⊥) → NoneFits first h
 none_fits_other first c h t k is other m next = absurd (no_move t (left_of first h) (subst (IsTodo t) k.lines.left_is is) other m next)
 
-pub has_room_now : (first : Opening) (c : Controller) (h : Journal) → Keeps first c h → is_full c.machine.plan ≡ false → is_full (plan_of h) ≡ false
+pub has_room_now : (first : Opening) (c : Board) (h : Journal) → Keeps first c h → is_full c.machine.plan ≡ false → is_full (plan_of h) ≡ false
 has_room_now first c h k room = subst (λ (p : Planned). is_full p ≡ false) k.machine.plan_is room
 
 -- ---- queued blocks
 
 -- what calls for a start, by the fields
-calls_now : (first : Opening) (c : Controller) (h : Journal) → Keeps first c h → (is_full c.machine.plan || (awaits_motion c.lines.left || c.jogged)) ≡ (is_full (plan_of h) || (awaits_motion (left_of first h) || has_jogged h))
+calls_now : (first : Opening) (c : Board) (h : Journal) → Keeps first c h → (is_full c.machine.plan || (awaits_motion c.lines.left || c.jogged)) ≡ (is_full (plan_of h) || (awaits_motion (left_of first h) || has_jogged h))
 calls_now first c h k =
     same_calls (is_full c.machine.plan) (is_full (plan_of h)) c.lines.left (left_of first h) c.jogged (has_jogged h) (ap is_full k.machine.plan_is) k.lines.left_is k.jogged_is
 
 -- none waits where nothing calls for a start
-pub none_waits_now : (first : Opening) (c : Controller) (h : Journal) → Keeps first c h
+pub none_waits_now : (first : Opening) (c : Board) (h : Journal) → Keeps first c h
     → (c.machine.hold.motion ≡ motions.Idle → has_blocks c.machine.plan.blocks ≡ true → (is_full c.machine.plan || (awaits_motion c.lines.left || c.jogged)) ≡ false) → NoneWaits first h
 none_waits_now first c h k none w =
     sym (calls_now first c h k) ∙ none (k.machine.motion_is ∙ w.stands) (ap (λ (p : Planned). has_blocks p.blocks) k.machine.plan_is ∙ w.blocks)
 
 -- a start that the plan, or what is next, calls for
-pub may_start : (first : Opening) (c : Controller) (h : Journal) → Keeps first c h → motion_of first h ≡ motions.Idle → has_blocks c.machine.plan.blocks ≡ true → (is_full c.machine.plan || (awaits_motion c.lines.left || c.jogged)) ≡ true → MayStart first c.jogged h
+pub may_start : (first : Opening) (c : Board) (h : Journal) → Keeps first c h → motion_of first h ≡ motions.Idle → has_blocks c.machine.plan.blocks ≡ true → (is_full c.machine.plan || (awaits_motion c.lines.left || c.jogged)) ≡ true → MayStart first c.jogged h
 may_start first c h k stands blocks called = record {
   goes = none_halts first c h k (ap is_limited stands);
   blocks = subst (λ (p : Planned). has_blocks p.blocks ≡ true) k.machine.plan_is blocks;

@@ -11,9 +11,9 @@ use Rattle.board_rules.specs.Cuts.{has_cut}
 use Rattle.board_rules.specs.Steps.{Journal, left_of, left_at, left_by, without_asks, motion_of, closed_tells}
 use Rattle.board_rules.specs.Steps.Step.{at_port, began, did, made_end, evened, paused, became, cut, halted, closing, turned}
 use Rattle.board_rules.specs.Turns.{this_turn, moving}
-use Rattle.controller.specs.declared.controller.Controller.{Controller}
-use Rattle.controller.specs.declared.controller.Flags.{Flags}
-use Rattle.controller.specs.Boards.{GoingTurned, changes_left, number_of, words_left}
+use Rattle.board_turns.specs.declared.board.Board.{Board}
+use Rattle.board_turns.specs.declared.board.Flags.{Flags}
+use Rattle.board_turns.specs.Boards.{GoingTurned, changes_left, number_of, words_left}
 
 left_any : (s t : State) (h : Journal) → left_of (first_opening s) h ≡ left_of (first_opening t) h
 left_any s t [] = refl
@@ -40,7 +40,7 @@ number_any s t f h =
     ap (λ (ts : List Task). 3 * (words_left f + pauses ts) + changes_left (motion_of (first_opening s) h) (has_cut h) + one_if (nat_eq (length (closed_tells h)) 0)) (left_any s t h)
     ∙ ap (λ (m : Motion). 3 * (words_left f + pauses (left_of (first_opening t) h)) + changes_left m (has_cut h) + one_if (nat_eq (length (closed_tells h)) 0)) (motion_any s t h)
 
-pub turned_any : (t : Turn) (was is : Controller) (h next : Journal) (s : State) → GoingTurned (first_opening s) t was is h next → (state : State) → GoingTurned (first_opening state) t was is h next
+pub turned_any : (t : Turn) (was is : Board) (h next : Journal) (s : State) → GoingTurned (first_opening s) t was is h next → (state : State) → GoingTurned (first_opening state) t was is h next
 turned_any t was is h next s so state = record {
   steps = so.steps;
   are = so.are;

@@ -22,25 +22,25 @@ use Rattle.board_rules.specs.Cuts.{has_cut, is_cancelling}
 use Rattle.board_rules.proofs.Beginning.{caused, of_begun}
 use Rattle.board_rules.specs.Turns.{this_turn, publishing, moving, owes_report, unobeyed_of, flags_taken, found_none, has_blocks, has_jogged, machine_in, tries_of, missed_of, is_due, is_full, awaits_motion, halts_next, is_limited, is_locked, begins_in, starts_cycle}
 use Rattle.board_rules.specs.Conduct.{MayBegin, MayStart}
-use Rattle.controller.specs.declared.controller.Controller.{Controller}
+use Rattle.board_turns.specs.declared.board.Board.{Board}
 use Rattle.board_machine.specs.declared.machine.Machine.{Machine}
 use Rattle.units.specs.Truths.{one_if}
-use Rattle.controller.specs.declared.controller.Flags.{Flags}
-use Rattle.controller.specs.declared.controller.Flags.TheVariants as words
-use Rattle.controller.specs.declared.controller.Beat.TheVariants.{Motion}
-use Rattle.controller.specs.Boards.{Keeps, Works, IsFree}
+use Rattle.board_turns.specs.declared.board.Flags.{Flags}
+use Rattle.board_turns.specs.declared.board.Flags.TheVariants as words
+use Rattle.board_turns.specs.declared.board.Beat.TheVariants.{Motion}
+use Rattle.board_turns.specs.Boards.{Keeps, Works, IsFree}
 use Rattle.board_machine.specs.Machines.{Runs, limit_motion, start_motion}
-use Rattle.controller.specs.Turning.{IsReady, IsWholeLine, IsLooked, MayJudge, IsJudged, PassesNothing, DidAlone, HasLooked, HasBegun, HasFilled, BoardWorked, MayHaveTold, starting}
-use Rattle.controller.specs.Turning.MayHaveTold.{untold, handed_back, was_told}
+use Rattle.board_turns.specs.Turning.{IsReady, IsWholeLine, IsLooked, MayJudge, IsJudged, PassesNothing, DidAlone, HasLooked, HasBegun, HasFilled, BoardWorked, MayHaveTold, starting}
+use Rattle.board_turns.specs.Turning.MayHaveTold.{untold, handed_back, was_told}
 use Rattle.board_rules.specs.Within.{AreWorked}
-use Rattle.controller.proofs.Starting.{starts_off, starts_to_begin}
-use Rattle.controller.proofs.Standing.{blocks_undrained}
+use Rattle.board_turns.proofs.Starting.{starts_off, starts_to_begin}
+use Rattle.board_turns.proofs.Standing.{blocks_undrained}
 use Rattle.board_rules.proofs.Tries.{IsNoWord, worked_behind, publishes_one, publishes_none}
 use Rattle.board_rules.proofs.Uncut.{uncut_else}
 use Rattle.board_rules.proofs.HaltWorks.{HaltsOrNot, line_halts, none_halts_next}
 use Rattle.board_rules.proofs.Stages.{alarm_stands}
-use Rattle.controller.proofs.Steps.{begins_unlimited, calm_now}
-use Rattle.controller.proofs.Ends.{takes_none, did_filled, free_of, free_passed}
+use Rattle.board_turns.proofs.Steps.{begins_unlimited, calm_now}
+use Rattle.board_turns.proofs.Ends.{takes_none, did_filled, free_of, free_passed}
 
 -- ---- the rules
 
@@ -73,10 +73,10 @@ may_begin first h o may calm found = record {
 }
 
 -- a line is begun
-begins : (first : Opening) (was now : Controller) (h : Journal) (o : Outcome) → (j : IsJudged first was now h o) → MayBegin first o h
+begins : (first : Opening) (was now : Board) (h : Journal) (o : Outcome) → (j : IsJudged first was now h o) → MayBegin first o h
 begins first was now h o j = may_begin first h o j.may (calm_now first was h j.keeps (begins_unlimited (motion_of first h) j.may.looked.begins)) j.found
 
-works : (first : Opening) (was now : Controller) (h : Journal) (o : Outcome) → (j : IsJudged first was now h o) → Works now.lines o.work (after (before_of first h) o)
+works : (first : Opening) (was now : Board) (h : Journal) (o : Outcome) → (j : IsJudged first was now h o) → Works now.lines o.work (after (before_of first h) o)
 works first was now h o j = record {
   left_is = ap (λ (i : Interpreting). i.left) j.is;
   state_is = ap (λ (i : Interpreting). i.state) j.is;
@@ -84,7 +84,7 @@ works first was now h o j = record {
 }
 
 -- all that is left of it is next
-next_judged : (first : Opening) (was now : Controller) (h : Journal) (o : Outcome) (t : Todo) → IsJudged first was now h o → IsTodo t now.lines.left → IsTodo t o.work
+next_judged : (first : Opening) (was now : Board) (h : Journal) (o : Outcome) (t : Todo) → IsJudged first was now h o → IsTodo t now.lines.left → IsTodo t o.work
 next_judged first was now h o t j is = subst (IsTodo t) (ap (λ (i : Interpreting). i.left) j.is) is
 
 not_halting : (t : Todo) (ts : List Task) → IsTodo t ts → (t ≡ todo.Halt → ⊥) → halts_next ts ≡ false
@@ -99,10 +99,10 @@ not_halting todo.Finish ts is other = ap halts_next is
 not_halting todo.Halt ts is other = absurd (other refl)
 
 -- a line is begun that does not halt the machine
-pub begun : (first : Opening) (was now : Controller) (t : Todo) (h : Journal) (o : Outcome) → IsJudged first was now h o → IsTodo t now.lines.left → (t ≡ todo.Halt → ⊥) → Keeps first now (began o ∷ h)
+pub begun : (first : Opening) (was now : Board) (t : Todo) (h : Journal) (o : Outcome) → IsJudged first was now h o → IsTodo t now.lines.left → (t ≡ todo.Halt → ⊥) → Keeps first now (began o ∷ h)
 begun first was now t h o j is other =
     let k = j.keeps in
-    subst (λ (c : Controller). Keeps first c (began o ∷ h)) (sym j.same) (record {
+    subst (λ (c : Board). Keeps first c (began o ∷ h)) (sym j.same) (record {
       placed = k.placed;
       free = k.free;
       short = k.short;
@@ -128,7 +128,7 @@ limit_to m (inl idle) = ap (after_call on_limit) idle ∙ ap (λ x. Some (limit_
 limit_to m (inr run) = ap (after_call on_limit) run ∙ ap (λ x. Some (limit_motion x)) (sym run)
 
 -- it raises an alarm
-alarms : (first : Opening) (was now : Controller) (h : Journal) (o : Outcome) → IsJudged first was now h o → halts_next o.work ≡ true → is_limit o.answer ≡ true
+alarms : (first : Opening) (was now : Board) (h : Journal) (o : Outcome) → IsJudged first was now h o → halts_next o.work ≡ true → is_limit o.answer ≡ true
 alarms first was now h o j halts = by_line (of_begun first h o HaltsOrNot (begins first was now h o j) (inr (refl, refl)) (line_halts true (caused first h) (open_of h)))
   where
     by_line : HaltsOrNot o → is_limit o.answer ≡ true
@@ -136,14 +136,14 @@ alarms first was now h o j halts = by_line (of_begun first h o HaltsOrNot (begin
     by_line (inr (none, work)) = absurd (let e = sym halts ∙ none_halts_next o.work work in cc)
 
 -- so the machine stands, or runs
-stands_or_runs : (first : Opening) (was now : Controller) (h : Journal) (o : Outcome) → IsJudged first was now h o → halts_next o.work ≡ true → (motion_of first h ≡ motions.Idle) ⊎ (motion_of first h ≡ motions.Run)
+stands_or_runs : (first : Opening) (was now : Board) (h : Journal) (o : Outcome) → IsJudged first was now h o → halts_next o.work ≡ true → (motion_of first h ≡ motions.Idle) ⊎ (motion_of first h ≡ motions.Run)
 stands_or_runs first was now h o j halts = alarm_stands first h o j.may.looked.begins j.found (alarms first was now h o j halts)
 
 -- the machine is as it was
-pub machine_judged : (first : Opening) (was now : Controller) (h : Journal) (o : Outcome) → IsJudged first was now h o → Runs now.machine (plan_of h) (motion_of first h) (hand_of h) (given_of h)
-machine_judged first was now h o j = subst (λ (c : Controller). Runs c.machine (plan_of h) (motion_of first h) (hand_of h) (given_of h)) (sym j.same) j.keeps.machine
+pub machine_judged : (first : Opening) (was now : Board) (h : Journal) (o : Outcome) → IsJudged first was now h o → Runs now.machine (plan_of h) (motion_of first h) (hand_of h) (given_of h)
+machine_judged first was now h o j = subst (λ (c : Board). Runs c.machine (plan_of h) (motion_of first h) (hand_of h) (given_of h)) (sym j.same) j.keeps.machine
 
-pub may_limit : (first : Opening) (was now : Controller) (h : Journal) (o : Outcome) → IsJudged first was now h o → IsTodo todo.Halt now.lines.left → (now.machine.hold.motion ≡ motions.Idle) ⊎ (now.machine.hold.motion ≡ motions.Run)
+pub may_limit : (first : Opening) (was now : Board) (h : Journal) (o : Outcome) → IsJudged first was now h o → IsTodo todo.Halt now.lines.left → (now.machine.hold.motion ≡ motions.Idle) ⊎ (now.machine.hold.motion ≡ motions.Run)
 may_limit first was now h o j is = by_motion (stands_or_runs first was now h o j (ap halts_next (next_judged first was now h o todo.Halt j is)))
   where
     same : now.machine.hold.motion ≡ motion_of first h
@@ -166,14 +166,14 @@ limits_off motions.Run was none = none
 limits_off m was none = none
 
 -- and is stopped for that at once
-pub begun_limited : (first : Opening) (was now : Controller) (m : Machine) (h : Journal) (o : Outcome) → IsJudged first was now h o → IsTodo todo.Halt now.lines.left → Runs m (plan_of h) (limit_motion (motion_of first h)) (hand_of h) (given_of h)
+pub begun_limited : (first : Opening) (was now : Board) (m : Machine) (h : Journal) (o : Outcome) → IsJudged first was now h o → IsTodo todo.Halt now.lines.left → Runs m (plan_of h) (limit_motion (motion_of first h)) (hand_of h) (given_of h)
     → Keeps first (record now { machine = m }) (became on_limit (limit_motion (motion_of first h)) ∷ began o ∷ h)
 begun_limited first was now m h o j is runs =
     let k = j.keeps in
     let next = next_judged first was now h o todo.Halt j is in
     let halts : halts_next o.work ≡ true = ap halts_next next in
     let stands = stands_or_runs first was now h o j halts in
-    subst (λ (c : Controller). Keeps first (record c { machine = m }) (became on_limit (limit_motion (motion_of first h)) ∷ began o ∷ h)) (sym j.same) (record {
+    subst (λ (c : Board). Keeps first (record c { machine = m }) (became on_limit (limit_motion (motion_of first h)) ∷ began o ∷ h)) (sym j.same) (record {
       placed = k.placed;
       free = k.free;
       short = k.short;
@@ -222,7 +222,7 @@ looked_whole first h next ready line l =
     }
 
 -- queued blocks start before a line that begins with `$`
-pub may_start : (first : Opening) (board : Controller) (h : Journal) → Keeps first board h → IsLooked first h → has_blocks (plan_of h).blocks ≡ true → begins_with_dollar (open_of h) ≡ true → MayStart first board.jogged h
+pub may_start : (first : Opening) (board : Board) (h : Journal) → Keeps first board h → IsLooked first h → has_blocks (plan_of h).blocks ≡ true → begins_with_dollar (open_of h) ≡ true → MayStart first board.jogged h
 may_start first board h k l blocks dollar = record {
   goes = ap halts_next l.free;
   blocks = blocks;
@@ -342,7 +342,7 @@ begun_unowed first o mid line may (inl is) = ap owes_report is ∙ may.looked.un
 begun_unowed first o mid line may (inr is) = ap owes_report is ∙ may.looked.unowed
 
 -- a line is begun, its first reply is told where it has room, and moves are added behind it
-pub did_begin_line : (first : Opening) (was : Flags) (board : Controller) (h seen mid spoken next : Journal) (o : Outcome) → IsReady first h → IsWholeLine first h → PassesNothing first h seen → DidAlone first seen mid → IsBegun first 1 o mid spoken → Keeps first board next
+pub did_begin_line : (first : Opening) (was : Flags) (board : Board) (h seen mid spoken next : Journal) (o : Outcome) → IsReady first h → IsWholeLine first h → PassesNothing first h seen → DidAlone first seen mid → IsBegun first 1 o mid spoken → Keeps first board next
     → board.beat ≡ Motion → board.flags ≡ words.None → HasFilled first spoken next → BoardWorked first Did was board h next
 did_begin_line first was board h seen mid spoken next o ready line look alone b keeps beat no_word filled =
     let a = alone.passes in

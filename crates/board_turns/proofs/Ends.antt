@@ -46,15 +46,15 @@ use Rattle.board_rules.specs.Turns.{
 }
 use Rattle.board_rules.specs.Conduct.{Conducted, AreWaiting, IsNextTask, MayTurn, Waits}
 use Rattle.units.specs.Truths.{one_if}
-use Rattle.controller.specs.declared.controller.Controller.{Controller}
-use Rattle.controller.specs.declared.controller.Flags.{Flags}
-use Rattle.controller.specs.declared.controller.Flags.TheVariants as words
-use Rattle.controller.specs.declared.controller.Beat.TheVariants.{Motion, Main}
-use Rattle.controller.specs.Boards.{Keeps, Rounds, NoneWaits, GoingBetween, IsFree, TakesFlags, takes_no_word, GoingFits, GoingTurned, has_published, changes_left, number_of}
-use Rattle.controller.specs.Turning.{IsNextMove, AreWorked, IsQuiet, IsReady, MayRun, MayAwait, HasStopped, NeedsNoWait, GoesOn, PassesNothing, HasFilled, HasTried, BoardWorked, WorksOn}
-pub use Rattle.controller.proofs.Freeing.{free_of, takes_none, no_word_left, free_passed, free_tried, flags_tried, flags_passed, taken_by, obeyed_by}
+use Rattle.board_turns.specs.declared.board.Board.{Board}
+use Rattle.board_turns.specs.declared.board.Flags.{Flags}
+use Rattle.board_turns.specs.declared.board.Flags.TheVariants as words
+use Rattle.board_turns.specs.declared.board.Beat.TheVariants.{Motion, Main}
+use Rattle.board_turns.specs.Boards.{Keeps, Rounds, NoneWaits, GoingBetween, IsFree, TakesFlags, takes_no_word, GoingFits, GoingTurned, has_published, changes_left, number_of}
+use Rattle.board_turns.specs.Turning.{IsNextMove, AreWorked, IsQuiet, IsReady, MayRun, MayAwait, HasStopped, NeedsNoWait, GoesOn, PassesNothing, HasFilled, HasTried, BoardWorked, WorksOn}
+pub use Rattle.board_turns.proofs.Freeing.{free_of, takes_none, no_word_left, free_passed, free_tried, flags_tried, flags_passed, taken_by, obeyed_by}
 use Rattle.board_rules.proofs.Facts.{not_whole, uncounted, uncounted_line, uncounted_owing}
-use Rattle.controller.proofs.Steps.{other_beat, other_flags, ends, halts_by, none_halts}
+use Rattle.board_turns.proofs.Steps.{other_beat, other_flags, ends, halts_by, none_halts}
 
 -- ---- what follows
 
@@ -75,7 +75,7 @@ number_tried first was p h next t =
     (let m = ap (λ m. changes_left m (has_cut next)) t.motion in let c = ap (changes_left (motion_of first h)) t.cuts in omega (arith, m, c)) t.closed
 
 -- what a board has worked up to an answer behind further steps
-pub worked_on : (first : Opening) (t : Turn) (was : Flags) (board : Controller) (h mid next : Journal) (steps : List Step) → mid ≡ steps ++ h → number_of first was mid ≤ number_of first was h → BoardWorked first t was board mid next
+pub worked_on : (first : Opening) (t : Turn) (was : Flags) (board : Board) (h mid next : Journal) (steps : List Step) → mid ≡ steps ++ h → number_of first was mid ≤ number_of first was h → BoardWorked first t was board mid next
     → BoardWorked first t was board h next
 worked_on first t was board h mid next steps is fewer w = record {
   keeps = w.keeps;
@@ -93,12 +93,12 @@ worked_on first t was board h mid next steps is fewer w = record {
     further (inl moved) = inl moved
     further (inr falls) = inr (omega (arith, falls, fewer))
 
-pub works_on : (first : Opening) (stands : BoardLog → Type 0) (t : Turn) (was : Flags) (board : Controller) (h mid : Journal) (steps : List Step) → mid ≡ steps ++ h → number_of first was mid ≤ number_of first was h
+pub works_on : (first : Opening) (stands : BoardLog → Type 0) (t : Turn) (was : Flags) (board : Board) (h mid : Journal) (steps : List Step) → mid ≡ steps ++ h → number_of first was mid ≤ number_of first was h
     → WorksOn first stands t was board mid → WorksOn first stands t was board h
 works_on first stands t was board h mid steps is fewer w = (w.0, w.1, worked_on first t was board h mid w.0 steps is fewer w.2)
 
 -- so it has behind steps that pass nothing
-pub works_passed : (first : Opening) (stands : BoardLog → Type 0) (t : Turn) (was : Flags) (board : Controller) (h mid : Journal) → PassesNothing first h mid → WorksOn first stands t was board mid → WorksOn first stands t was board h
+pub works_passed : (first : Opening) (stands : BoardLog → Type 0) (t : Turn) (was : Flags) (board : Board) (h mid : Journal) → PassesNothing first h mid → WorksOn first stands t was board mid → WorksOn first stands t was board h
 works_passed first stands t was board h mid p w = works_on first stands t was board h mid p.steps p.are (number_passes first was h mid p) w
 
 -- ---- truths
@@ -205,7 +205,7 @@ none_for_line first h mid next p may tried filled halts whole =
 
 -- ---- a piece that is published
 
-pub sent_by : (first : Opening) (was : Flags) (board : Controller) (h mid next : Journal) → MayTry first h → HasTried first true h mid → HasFilled first mid next → Keeps first board next → takes_no_word board.flags ≡ true → TakesFlags board.flags next
+pub sent_by : (first : Opening) (was : Flags) (board : Board) (h mid next : Journal) → MayTry first h → HasTried first true h mid → HasFilled first mid next → Keeps first board next → takes_no_word board.flags ≡ true → TakesFlags board.flags next
     → BoardWorked first Did was (record board { beat = Main }) h next
 sent_by first was board h mid next may tried filled keeps no_word takes =
     let a = filled.alone.passes in
@@ -244,7 +244,7 @@ sent_by first was board h mid next may tried filled keeps no_word takes =
       moves = λ e. inl (a.moves (tried.moves refl));
     }
 
-pub sent : (first : Opening) (was : Flags) (board : Controller) (h mid next : Journal) → MayTry first h → IsFree h → HasTried first true h mid → HasFilled first mid next → Keeps first board next → board.flags ≡ words.None
+pub sent : (first : Opening) (was : Flags) (board : Board) (h mid next : Journal) → MayTry first h → IsFree h → HasTried first true h mid → HasFilled first mid next → Keeps first board next → board.flags ≡ words.None
     → BoardWorked first Did was (record board { beat = Main }) h next
 sent first was board h mid next may free tried filled keeps none =
     sent_by first was board h mid next may tried filled keeps (no_word_left board.flags none) (takes_none board next none (free_passed first mid next filled.alone.passes (free_tried first true h mid tried free)))
@@ -264,7 +264,7 @@ may_try first h may = record {
 }
 
 -- it was handed back, and room for it is waited for
-pub handed_back : (first : Opening) (was : Flags) (board : Controller) (h mid next : Journal) → MayRun first h → HasTried first false h mid → HasFilled first mid next → Keeps first board next → board.beat ≡ Motion → board.flags ≡ words.None
+pub handed_back : (first : Opening) (was : Flags) (board : Board) (h mid next : Journal) → MayRun first h → HasTried first false h mid → HasFilled first mid next → Keeps first board next → board.beat ≡ Motion → board.flags ≡ words.None
     → BoardWorked first (Wait SegmentRoom) was board h next
 handed_back first was board h mid next may tried filled keeps beat no_word =
     let a = filled.alone.passes in
@@ -458,7 +458,7 @@ awaited (finish ∷ ts) e none = inr (inr (inr refl))
 awaited (halt ∷ ts) e none = absurd cc
 
 -- where no rest is next, nor overrides that are set, a pause or the end is what waits for the motion
-pub needs_no_wait : (first : Opening) (b : Controller) (h : Journal) → Keeps first b h → HasStopped first h → (IsNextTask first (ask a_rest) h → ⊥) → (IsNextTask first normal h → ⊥) → NeedsNoWait first h
+pub needs_no_wait : (first : Opening) (b : Board) (h : Journal) → Keeps first b h → HasStopped first h → (IsNextTask first (ask a_rest) h → ⊥) → (IsNextTask first normal h → ⊥) → NeedsNoWait first h
 needs_no_wait first b h k stopped no_rest no_normal awaits = by_task (awaited (left_of first h) awaits (none_halts first b h k (ap is_limited stopped.stands)))
   where
     by_task : IsNextTask first (ask a_rest) h ⊎ (IsNextTask first pause h ⊎ (IsNextTask first normal h ⊎ IsNextTask first finish h)) → HasStopped first h × (IsNextTask first pause h ⊎ IsNextTask first finish h)
@@ -470,7 +470,7 @@ needs_no_wait first b h k stopped no_rest no_normal awaits = by_task (awaited (l
 -- ---- what was done moves on
 
 -- something was done up to a journal, behind which moves were added
-pub did_filled : (first : Opening) (was : Flags) (board : Controller) (h mid next : Journal) (steps : List Step) → mid ≡ steps ++ h → Keeps first board next → board.beat ≡ Motion → TakesFlags board.flags next → HasFilled first mid next
+pub did_filled : (first : Opening) (was : Flags) (board : Board) (h mid next : Journal) (steps : List Step) → mid ≡ steps ++ h → Keeps first board next → board.beat ≡ Motion → TakesFlags board.flags next → HasFilled first mid next
     → AreWorked mid → count_by publishing (this_turn mid) ≤ 1 → list_any found_none (this_turn mid) ≡ false → tries_of first mid + one_if (whole_of mid) ≤ 1
     → (list_any moving (this_turn next) ≡ true) ⊎ (number_of first board.flags next < number_of first was h) → BoardWorked first Did was board h next
 did_filled first was board h mid next steps is keeps beat taken filled worked once unpolled few moves =
@@ -501,14 +501,14 @@ did_filled first was board h mid next steps is keeps beat taken filled worked on
 -- ---- whether the run is being closed
 
 -- where the motion was waited for, and the rests that were next are over, nothing is left only of a run that goes on
-pub still_open : (was stopped is : Controller) → awaits_motion was.lines.left ≡ true → stopped.lines ≡ was.lines → is.closing ≡ stopped.closing → (stopped.closing ≡ true → is ≡ stopped)
+pub still_open : (was stopped is : Board) → awaits_motion was.lines.left ≡ true → stopped.lines ≡ was.lines → is.closing ≡ stopped.closing → (stopped.closing ≡ true → is ≡ stopped)
     → is.lines.left ≡ [] → is.closing ≡ false
 still_open was stopped is awaits lines closing same none = by_closing stopped.closing refl
   where
     by_closing : (b : Bool) → stopped.closing ≡ b → is.closing ≡ false
     by_closing false e = closing ∙ e
     by_closing true e =
-        let none_was : was.lines.left ≡ [] = sym (ap (λ i. i.left) lines) ∙ sym (ap (λ (c : Controller). c.lines.left) (same e)) ∙ none in
+        let none_was : was.lines.left ≡ [] = sym (ap (λ i. i.left) lines) ∙ sym (ap (λ (c : Board). c.lines.left) (same e)) ∙ none in
         absurd (let f = sym awaits ∙ ap awaits_motion none_was in cc)
 
 -- ---- a turn that has ended
@@ -518,7 +518,7 @@ abbrev pub flags_behind : Turn → Flags → Flags
 flags_behind (Wait o) f = words.Both
 flags_behind t f = f
 
-pub rounds_turned : (first : Opening) (t : Turn) (was : Flags) (board : Controller) (h next : Journal) → BoardWorked first t was board h next → Rounds first board.beat (turned t ∷ next)
+pub rounds_turned : (first : Opening) (t : Turn) (was : Flags) (board : Board) (h next : Journal) → BoardWorked first t was board h next → Rounds first board.beat (turned t ∷ next)
 rounds_turned first t was board h next w = record {
   waits = by_turn t w.beat;
   tried = λ e. ap (λ b. b && is_due first next) (w.rounds.tried e);
@@ -550,12 +550,12 @@ flags_turned first Done words.Requests next may takes = record { changes = takes
 flags_turned first Done (words.Report word) next may takes = record { flags = takes.flags; next = takes.next; owed = takes.owed }
 flags_turned first Done words.None next may takes = record { flags = takes.flags; obeyed = takes.obeyed; unowed = takes.unowed }
 
-still_turned : (first : Opening) (t : Turn) (was : Flags) (board : Controller) (h next : Journal) → BoardWorked first t was board h next → has_published board.beat ≡ true → takes_no_word (flags_behind t board.flags) ≡ true
+still_turned : (first : Opening) (t : Turn) (was : Flags) (board : Board) (h next : Journal) → BoardWorked first t was board h next → has_published board.beat ≡ true → takes_no_word (flags_behind t board.flags) ≡ true
 still_turned first Did was board h next w e = w.still e
 still_turned first (Wait o) was board h next w e = absurd (let s = ap has_published (w.beat o refl) in cc)
 still_turned first Done was board h next w e = w.still e
 
-pub turned_on : (first : Opening) (t : Turn) (was : Flags) (board : Controller) (h next : Journal) → BoardWorked first t was board h next → GoingFits first (record board { flags = flags_behind t board.flags }) (turned t ∷ next)
+pub turned_on : (first : Opening) (t : Turn) (was : Flags) (board : Board) (h next : Journal) → BoardWorked first t was board h next → GoingFits first (record board { flags = flags_behind t board.flags }) (turned t ∷ next)
 turned_on first t was board h next w = record {
   keeps = other_flags first board (flags_behind t board.flags) (turned t ∷ next) (ends first board t next w.keeps w.may);
   rounds = rounds_turned first t was board h next w;
@@ -563,7 +563,7 @@ turned_on first t was board h next w = record {
   still = still_turned first t was board h next w;
 }
 
-pub board_turned : (first : Opening) (t : Turn) (before board : Controller) (h next : Journal) → BoardWorked first t before.flags board h next
+pub board_turned : (first : Opening) (t : Turn) (before board : Board) (h next : Journal) → BoardWorked first t before.flags board h next
     → GoingTurned first t before (record board { flags = flags_behind t board.flags }) h (turned t ∷ next)
 board_turned first t before board h next w = record {
   steps = w.steps;
@@ -577,7 +577,7 @@ board_turned first t before board h next w = record {
     by_move e (inr falls) = inr (subst (λ (x : Turn). number_of first (flags_behind x board.flags) (turned t ∷ next) < number_of first before.flags h) (sym e) falls)
 
 -- a turn has ended, behind which these words of flags are to be taken
-pub turned_by : (first : Opening) (t : Turn) (before board : Controller) (f : Flags) (h next : Journal) → flags_behind t board.flags ≡ f → BoardWorked first t before.flags board h next
+pub turned_by : (first : Opening) (t : Turn) (before board : Board) (f : Flags) (h next : Journal) → flags_behind t board.flags ≡ f → BoardWorked first t before.flags board h next
     → GoingFits first (record board { flags = f }) (turned t ∷ next) × GoingTurned first t before (record board { flags = f }) h (turned t ∷ next)
 turned_by first t before board f h next is w =
     subst (λ (x : Flags). GoingFits first (record board { flags = x }) (turned t ∷ next) × GoingTurned first t before (record board { flags = x }) h (turned t ∷ next)) is

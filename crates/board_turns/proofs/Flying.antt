@@ -17,8 +17,8 @@ use Rattle.board_rules.specs.Steps.Step.{at_port}
 use Rattle.board_rules.proofs.Placing.{next_begins}
 use Rattle.board_rules.specs.Conduct.{Conducted}
 use Rattle.board_rules.proofs.Unstopped.{journals_never_stop, sent_alone, done_within}
-use Rattle.controller.specs.declared.controller.Controller.{Controller}
-use Rattle.controller.specs.Boards.{Keeps, IsFlown}
+use Rattle.board_turns.specs.declared.board.Board.{Board}
+use Rattle.board_turns.specs.Boards.{Keeps, IsFlown}
 
 -- a piece that comes next can be traced
 pub fits_next : (p : Piece) (h : Journal) → MayPublish (port_log h) p → IsFit p
@@ -27,14 +27,14 @@ fits_next (pieces.Mark m) h next = tt
 fits_next pieces.End h next = tt
 
 -- it begins where the flight leads
-pub begins_next : (first : Opening) (b : Controller) (h : Journal) (p : Piece) → Keeps first b h → hand_of h ≡ p ∷ [] → BeginsAt (end_from first.place (published_of h)) p
+pub begins_next : (first : Opening) (b : Board) (h : Journal) (p : Piece) → Keeps first b h → hand_of h ≡ p ∷ [] → BeginsAt (end_from first.place (published_of h)) p
 begins_next first b h p k is = next_begins first h k.placed k.conducted p (rw is refl)
 
 no_more : (a b c d : ℕ) → a ≤ d → d ≤ b → max a (min b c) ≤ b
 no_more a b c d e f = grind (arith, e, f)
 
 -- a flight that learns how many ticks are done
-pub learned : (first : Opening) (b : Controller) (f : Flying) (h : Journal) (done : ℕ) → Keeps first b h → MayBeDone done (port_log h)
+pub learned : (first : Opening) (b : Board) (f : Flying) (h : Journal) (done : ℕ) → Keeps first b h → MayBeDone done (port_log h)
     → ((published : List Piece) (known : ℕ) → Flies first.place b.flight published known → Flies first.place f published (max known (min done (ticks_together published))))
     → IsFlown first f (at_port (loaded done) ∷ h)
 learned first b f h done k may learns = record {
@@ -51,14 +51,14 @@ few_unfinished first h done c may =
     let f = may.few in omega (arith, e, f)
 
 -- so the flight has room for a piece more
-pub room_learned : (first : Opening) (b : Controller) (f : Flying) (h : Journal) (done : ℕ) → Keeps first b h → MayBeDone done (port_log h)
+pub room_learned : (first : Opening) (b : Board) (f : Flying) (h : Journal) (done : ℕ) → Keeps first b h → MayBeDone done (port_log h)
     → ((start : Steps3) (published : List Piece) (known : ℕ) → Flies start b.flight published known → unfinished published done < flight_room → length f.kept < flight_room) → length f.kept < flight_room
 room_learned first b f h done k may room =
     let few = few_unfinished first h done k.conducted may in
     room first.place (published_of h) k.flight.known k.flight.flies (omega (arith, few))
 
 -- it knows each tick that is found done
-pub learned_all : (first : Opening) (b : Controller) (f : Flying) (done : ℕ) (h : Journal) → Keeps first b h → MayBeDone done (port_log h)
+pub learned_all : (first : Opening) (b : Board) (f : Flying) (done : ℕ) (h : Journal) → Keeps first b h → MayBeDone done (port_log h)
     → ((published : List Piece) (known : ℕ) → Flies first.place b.flight published known → Flies first.place f published (max known (min done (ticks_together published)))) → Flies first.place f (published_of h) done
 learned_all first b f done h k may learns =
     let known = k.flight.known in

@@ -3,16 +3,16 @@ use Rattle.std.proofs.Common.{◌≡◌, Bool, true, false, [], sym, ap, ◌∙�
 use Rattle.board_rules.specs.Openings.{Opening}
 use Rattle.board_rules.specs.Steps.{Journal}
 use Rattle.board_rules.specs.Turns.{flags_taken, unobeyed_of, owes_report}
-use Rattle.controller.specs.declared.controller.Controller.{Controller}
-use Rattle.controller.specs.declared.controller.Flags.{Flags}
-use Rattle.controller.specs.declared.controller.Flags.TheVariants as words
-use Rattle.controller.specs.Boards.{IsFree, TakesFlags, takes_no_word}
-use Rattle.controller.specs.Turning.{IsQuiet, PassesNothing, HasTried}
+use Rattle.board_turns.specs.declared.board.Board.{Board}
+use Rattle.board_turns.specs.declared.board.Flags.{Flags}
+use Rattle.board_turns.specs.declared.board.Flags.TheVariants as words
+use Rattle.board_turns.specs.Boards.{IsFree, TakesFlags, takes_no_word}
+use Rattle.board_turns.specs.Turning.{IsQuiet, PassesNothing, HasTried}
 
 pub free_of : (h : Journal) → IsQuiet h → IsFree h
 free_of h q = record { flags = q.flags; obeyed = q.worked.obeyed q.unowed; unowed = q.unowed }
 
-pub takes_none : (board : Controller) (h : Journal) → board.flags ≡ words.None → IsFree h → TakesFlags board.flags h
+pub takes_none : (board : Board) (h : Journal) → board.flags ≡ words.None → IsFree h → TakesFlags board.flags h
 takes_none board h none free = subst (λ f. TakesFlags f h) (sym none) free
 
 -- none is to be taken where none is left

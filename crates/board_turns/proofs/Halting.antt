@@ -31,19 +31,19 @@ use Rattle.board_rules.specs.Conduct.{Conducted, EndsTurn, IsNextTask, AreWaitin
 use Rattle.board_rules.proofs.Staying.{both_taken, stays_held}
 use Rattle.board_rules.proofs.Given.{known_within}
 use Rattle.units.specs.Truths.{one_if}
-use Rattle.controller.specs.declared.controller.Controller.{Controller}
-use Rattle.controller.specs.declared.controller.Beat.TheVariants.{Motion}
-use Rattle.controller.specs.declared.controller.Flags.{Flags}
-use Rattle.controller.specs.declared.controller.Flags.TheVariants as words
-use Rattle.controller.specs.Boards.{Keeps, Rounds, NoneWaits, IsFree, IsAsked, TakesFlags, takes_no_word, words_left, changes_left, number_of}
-use Rattle.controller.specs.Turning.{HasPiece, IsHeldUp, MayRun, PassesNothing, StaysSo, IsCutNow, HasSettled, AreWorked, BoardWorked, obeyed, obeying, to_obey}
-use Rattle.controller.specs.Reporting.{IsBehind}
+use Rattle.board_turns.specs.declared.board.Board.{Board}
+use Rattle.board_turns.specs.declared.board.Beat.TheVariants.{Motion}
+use Rattle.board_turns.specs.declared.board.Flags.{Flags}
+use Rattle.board_turns.specs.declared.board.Flags.TheVariants as words
+use Rattle.board_turns.specs.Boards.{Keeps, Rounds, NoneWaits, IsFree, IsAsked, TakesFlags, takes_no_word, words_left, changes_left, number_of}
+use Rattle.board_turns.specs.Turning.{HasPiece, IsHeldUp, MayRun, PassesNothing, StaysSo, IsCutNow, HasSettled, AreWorked, BoardWorked, obeyed, obeying, to_obey}
+use Rattle.board_turns.specs.Reporting.{IsBehind}
 use Rattle.board_rules.proofs.Facts.{uncounted, uncounted_line}
 use Rattle.board_rules.proofs.Tries.{counts_none, counts_one}
-use Rattle.controller.proofs.Steps.{at_rest, halts_by}
-use Rattle.controller.proofs.Standing.{all_published}
-use Rattle.controller.proofs.Settling.{none_fits_so}
-use Rattle.controller.proofs.Ends.{rounds_still, takes_none, no_word_left, free_of, free_passed}
+use Rattle.board_turns.proofs.Steps.{at_rest, halts_by}
+use Rattle.board_turns.proofs.Standing.{all_published}
+use Rattle.board_turns.proofs.Settling.{none_fits_so}
+use Rattle.board_turns.proofs.Ends.{rounds_still, takes_none, no_word_left, free_of, free_passed}
 
 -- ---- what is held up
 
@@ -114,7 +114,7 @@ ends_settled first h next halted s halts =
       halts = halts;
     }
 
-pub rounds_settled : (first : Opening) (board : Controller) (h next : Journal) → IsHeldUp first h → HasSettled first h next → board.beat ≡ Motion → Rounds first board.beat next
+pub rounds_settled : (first : Opening) (board : Board) (h next : Journal) → IsHeldUp first h → HasSettled first h next → board.beat ≡ Motion → Rounds first board.beat next
 rounds_settled first board h next halted s beat =
     subst (λ b. (Rounds first) b next) (sym beat) (rounds_still first next (λ w. absurd (none_wait first h halted.halts (s.waiting w))) (few_settled first h next s (few_halted first h halted)))
 
@@ -127,7 +127,7 @@ pub fewer_words : (first : Opening) (f was : Flags) (h next : Journal) → f ≡
 fewer_words first f was h next e g falls = let a = ap words_left e in let b = ap words_left g in omega (arith, falls, a, b)
 
 -- something came of a machine that has stopped
-pub did_settle : (first : Opening) (board : Controller) (was : Flags) (h next : Journal) → Keeps first board next → IsHeldUp first h → HasSettled first h next → HasSlowedDown first h → (HasSlowedDown first next → ⊥)
+pub did_settle : (first : Opening) (board : Board) (was : Flags) (h next : Journal) → Keeps first board next → IsHeldUp first h → HasSettled first h next → HasSlowedDown first h → (HasSlowedDown first next → ⊥)
     → board.beat ≡ Motion → board.flags ≡ words.None → was ≡ words.None → BoardWorked first Did was board h next
 did_settle first board was h next k halted s slowed other beat no_word none = record {
   keeps = k;
@@ -182,7 +182,7 @@ by_speed v goes slows some stops is none = by_test (nat_eq v 0) goes slows some 
     by_test false goes slows false stops is none = absurd cc
 
 -- a machine that slows down, with no segment due, stands still
-pub slow_stands : (first : Opening) (board : Controller) (h : Journal) → Keeps first board h → is_stopping (motion_of first h) ≡ true → is_due first h ≡ false → (plan_of h).speed ≡ 0
+pub slow_stands : (first : Opening) (board : Board) (h : Journal) → Keeps first board h → is_stopping (motion_of first h) ≡ true → is_due first h ≡ false → (plan_of h).speed ≡ 0
 slow_stands first board h k slows due = by_blocks (plan_of h).blocks refl
   where
     by_blocks : (bs : List Block) → (plan_of h).blocks ≡ bs → (plan_of h).speed ≡ 0
@@ -192,7 +192,7 @@ slow_stands first board h k slows due = by_blocks (plan_of h).blocks refl
         grind (arith, nat_tests, zero)
 
 -- where nothing is in hand or due, a machine that halts and is not held has slowed down
-pub slowed_halted : (first : Opening) (board : Controller) (h : Journal) → Keeps first board h → IsHeldUp first h → (HasPiece first h → ⊥) → (motion_of first h ≡ motions.Held → ⊥) → HasSlowedDown first h
+pub slowed_halted : (first : Opening) (board : Board) (h : Journal) → Keeps first board h → IsHeldUp first h → (HasPiece first h → ⊥) → (motion_of first h ≡ motions.Held → ⊥) → HasSlowedDown first h
 slowed_halted first board h k halted none other =
     let slows = stopping_by (motion_of first h) halted.halts other in
     record { slows = slows; speed = slow_stands first board h k slows (not_due first h none); empty = none_in_hand first h none }
@@ -215,7 +215,7 @@ slowed_undue : (first : Opening) (h : Journal) → HasSlowedDown first h → is_
 slowed_undue first h s = no_more_due (is_going (motion_of first h)) (is_stopping (motion_of first h)) (has_blocks (plan_of h).blocks) (plan_of h).speed (not_both (motion_of first h)) s.slows s.speed
 
 -- the stop is waited for: ticks are found not to be done
-pub waits_for_stop : (first : Opening) (board : Controller) (was : Flags) (h next : Journal) → Keeps first board next → IsHeldUp first h → HasSettled first h next → HasSlowedDown first next
+pub waits_for_stop : (first : Opening) (board : Board) (was : Flags) (h next : Journal) → Keeps first board next → IsHeldUp first h → HasSettled first h next → HasSlowedDown first next
     → board.beat ≡ Motion → board.flags ≡ words.None → BoardWorked first (Wait on.Motion) was board h next
 waits_for_stop first board was h next k halted s slowed beat no_word = record {
   keeps = k;
@@ -426,13 +426,13 @@ halts_before : (first : Opening) (w : Option Exec) (h : Journal) → Conducted f
 halts_before first None h c halts = halts
 halts_before first (Some word) h c halts = c.0.1.halts
 
-ends_awaited : (first : Opening) (board : Controller) (word : Exec) (h mid : Journal) → Keeps first board (obeyed first word mid) → IsHeldUp first h → HasSettled first h mid → EndsTurn first (obeyed first word mid)
+ends_awaited : (first : Opening) (board : Board) (word : Exec) (h mid : Journal) → Keeps first board (obeyed first word mid) → IsHeldUp first h → HasSettled first h mid → EndsTurn first (obeyed first word mid)
 ends_awaited first board word h mid k halted s =
     let ends = ends_settled first h mid halted s (halts_before first (to_obey word) (taken word mid) k.conducted (halts_by first board (obeyed first word mid) k)) in
     ends_obeyed first word mid (s.passes.quiet ∙ halted.ready.quiet.quiet) (free_settled first h mid halted s).obeyed (s.passes.worked halted.ready.quiet.worked) ends.adds ends.starts ends.tries
     (halts_by first board (obeyed first word mid) k)
 
-rounds_awaited : (first : Opening) (word : Exec) (board : Controller) (h mid : Journal) → IsHeldUp first h → HasSettled first h mid → board.beat ≡ Motion → Rounds first board.beat (obeyed first word mid)
+rounds_awaited : (first : Opening) (word : Exec) (board : Board) (h mid : Journal) → IsHeldUp first h → HasSettled first h mid → board.beat ≡ Motion → Rounds first board.beat (obeyed first word mid)
 rounds_awaited first word board h mid halted s beat =
     subst (λ b. (Rounds first) b (obeyed first word mid)) (sym beat)
     (rounds_behind first (to_obey word) (taken word mid) (λ w. absurd (none_wait first h halted.halts (s.waiting (record { stands = w.stands; blocks = w.blocks })))) (few_settled first h mid s (few_halted first h halted)))
@@ -442,7 +442,7 @@ pub obeyed_behind : (first : Opening) (word : Exec) (h mid : Journal) (steps : L
 obeyed_behind first word h mid steps are = behind_word first (to_obey word) h (taken word mid) (record { steps = at_port (took_exec word) ∷ steps; are = ap (λ (j : Journal). at_port (took_exec word) ∷ j) are })
 
 -- the machine is resumed
-pub did_resume : (first : Opening) (board : Controller) (was : Flags) (word : Exec) (h mid : Journal) → Keeps first board (obeyed first word mid) → IsHeldUp first h → HasSettled first h mid → motion_of first h ≡ motions.Held
+pub did_resume : (first : Opening) (board : Board) (was : Flags) (word : Exec) (h mid : Journal) → Keeps first board (obeyed first word mid) → IsHeldUp first h → HasSettled first h mid → motion_of first h ≡ motions.Held
     → (motion_of first (obeyed first word mid) ≡ motions.Held → ⊥) → owes_report (taken word mid) ≡ false → board.beat ≡ Motion → board.flags ≡ words.None → was ≡ words.None → BoardWorked first Did was board h (obeyed first word mid)
 did_resume first board was word h mid k halted s held resumes unowed beat no_word none = record {
   keeps = k;
@@ -467,7 +467,7 @@ did_resume first board was word h mid k halted s held resumes unowed beat no_wor
         omega (arith, zero, one, l, p, c, e)
 
 -- the resume is waited for
-pub waits_for_resume : (first : Opening) (board : Controller) (was : Flags) (word : Exec) (h mid : Journal) → Keeps first board (obeyed first word mid) → IsHeldUp first h → HasSettled first h mid → motion_of first h ≡ motions.Held
+pub waits_for_resume : (first : Opening) (board : Board) (was : Flags) (word : Exec) (h mid : Journal) → Keeps first board (obeyed first word mid) → IsHeldUp first h → HasSettled first h mid → motion_of first h ≡ motions.Held
     → motion_of first (obeyed first word mid) ≡ motions.Held → owes_report (taken word mid) ≡ false → board.beat ≡ Motion → board.flags ≡ words.None → BoardWorked first (Wait on.Resume) was board h (obeyed first word mid)
 waits_for_resume first board was word h mid k halted s held stays unowed beat no_word = record {
   keeps = k;
@@ -513,7 +513,7 @@ waits_for_resume first board was word h mid k halted s held stays unowed beat no
     or_first false b e = absurd cc
 
 -- a report is asked for while the resume is waited for
-pub did_ask : (first : Opening) (board : Controller) (was : Flags) (word : Exec) (h mid : Journal) → Keeps first board (taken word mid) → IsHeldUp first h → HasSettled first h mid → owes_report (taken word mid) ≡ true
+pub did_ask : (first : Opening) (board : Board) (was : Flags) (word : Exec) (h mid : Journal) → Keeps first board (taken word mid) → IsHeldUp first h → HasSettled first h mid → owes_report (taken word mid) ≡ true
     → board.beat ≡ Motion → board.flags ≡ words.Report (to_obey word) → was ≡ words.None → BoardWorked first Did was board h (taken word mid)
 did_ask first board was word h mid k halted s owed beat asks none = record {
   keeps = k;

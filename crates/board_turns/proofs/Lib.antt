@@ -17,10 +17,9 @@ pub mod Flying
 pub mod Freeing
 pub mod Telling
 pub mod Ends
-pub mod Breaking
 pub mod Owing
 pub mod Owed
 pub mod Nexts
 pub mod Numbers
 pub mod AnyState
-pub mod Kept
+pub mod Over

@@ -26,23 +26,23 @@ use Rattle.board_rules.specs.Turns.{this_turn, awaits_motion, is_due, is_going, 
 use Rattle.board_rules.specs.Conduct.{AreWaiting, IsNextTask, IsStopped, MayClose, ticks_given}
 use Rattle.board_rules.proofs.Tasks.{none_next}
 use Rattle.units.specs.Truths.{one_if}
-use Rattle.controller.specs.declared.controller.Controller.{Controller}
-use Rattle.controller.specs.declared.controller.Beat.TheVariants.{Motion}
-use Rattle.controller.specs.declared.controller.Flags.{Flags}
-use Rattle.controller.specs.declared.controller.Flags.TheVariants as flags
+use Rattle.board_turns.specs.declared.board.Board.{Board}
+use Rattle.board_turns.specs.declared.board.Beat.TheVariants.{Motion}
+use Rattle.board_turns.specs.declared.board.Flags.{Flags}
+use Rattle.board_turns.specs.declared.board.Flags.TheVariants as flags
 use Rattle.board_machine.specs.declared.machine.Machine.{Machine}
 use Rattle.board_machine.specs.Machines.{Runs}
-use Rattle.controller.specs.Boards.{Keeps, Rounds, number_of}
-use Rattle.controller.specs.Turning.{HasPiece, IsAtLimit, IsInAlarm, HasHalted, IsReady, PassesNothing, BoardWorked}
-use Rattle.controller.proofs.Steps.{is_next, looked, one_less, halts_by}
+use Rattle.board_turns.specs.Boards.{Keeps, Rounds, number_of}
+use Rattle.board_turns.specs.Turning.{HasPiece, IsAtLimit, IsInAlarm, HasHalted, IsReady, PassesNothing, BoardWorked}
+use Rattle.board_turns.proofs.Steps.{is_next, looked, one_less, halts_by}
 use Rattle.board_rules.proofs.Speeds.{no_speed, rests}
 use Rattle.board_rules.proofs.Stages.{ends_run, limit_alarms, limited_next}
-use Rattle.controller.proofs.Stopping.{locks}
-use Rattle.controller.proofs.Standing.{all_published, awaits_no_move}
-use Rattle.controller.proofs.Halting.{not_due, none_in_hand, slow_stands}
+use Rattle.board_turns.proofs.Stopping.{locks}
+use Rattle.board_turns.proofs.Standing.{all_published, awaits_no_move}
+use Rattle.board_turns.proofs.Halting.{not_due, none_in_hand, slow_stands}
 use Rattle.board_rules.proofs.Tries.{publishes_none, worked_behind, fewer_pauses, passes_none, passes_load, passes_on, alone_on, alone_motion}
-use Rattle.controller.proofs.Ends.{rounds_still, free_of, free_passed, takes_none, no_word_left}
-use Rattle.controller.proofs.Nexts.{quiet_on}
+use Rattle.board_turns.proofs.Ends.{rounds_still, free_of, free_passed, takes_none, no_word_left}
+use Rattle.board_turns.proofs.Nexts.{quiet_on}
 
 -- ---- a machine that a soft limit stops
 
@@ -64,7 +64,7 @@ limited_by motions.Alarm is = inr refl
 limited_by m is = absurd cc
 
 -- where nothing is in hand or due, it has no speed
-no_speed_now : (first : Opening) (b : Controller) (h : Journal) → Keeps first b h → is_limited (motion_of first h) ≡ true → is_due first h ≡ false → (plan_of h).speed ≡ 0
+no_speed_now : (first : Opening) (b : Board) (h : Journal) → Keeps first b h → is_limited (motion_of first h) ≡ true → is_due first h ≡ false → (plan_of h).speed ≡ 0
 no_speed_now first b h k is idle = by_motion (limited_by (motion_of first h) is)
   where
     by_motion : (is_stopping (motion_of first h) ≡ true) ⊎ (rests (motion_of first h) ≡ true) → (plan_of h).speed ≡ 0
@@ -72,7 +72,7 @@ no_speed_now first b h k is idle = by_motion (limited_by (motion_of first h) is)
     by_motion (inr stands) = no_speed first h k.conducted stands
 
 -- once each tick is done, it may be halted
-pub at_limit : (first : Opening) (b : Controller) (h : Journal) (done : ℕ) → Keeps first b h → is_limited (motion_of first h) ≡ true → IsNextTask first halt h → (HasPiece first h → ⊥) → done ≡ b.machine.given → IsAtLimit first (at_port (loaded done) ∷ h)
+pub at_limit : (first : Opening) (b : Board) (h : Journal) (done : ℕ) → Keeps first b h → is_limited (motion_of first h) ≡ true → IsNextTask first halt h → (HasPiece first h → ⊥) → done ≡ b.machine.given → IsAtLimit first (at_port (loaded done) ∷ h)
 at_limit first b h done k is next none all = record {
   next = next;
   limited = is;
@@ -86,7 +86,7 @@ at_limit first b h done k is next none all = record {
 some_halt : (first : Opening) (h : Journal) → IsNextTask first halt h → left_of first h ≡ [] → ⊥
 some_halt first h next none = none_next (left_of first h) halt none next
 
-few_ready : (first : Opening) (b : Controller) (h : Journal) → Keeps first b h → IsReady first h → is_limited (motion_of first h) ≡ true → tries_of first h + one_if (whole_of h) ≤ 1
+few_ready : (first : Opening) (b : Board) (h : Journal) → Keeps first b h → IsReady first h → is_limited (motion_of first h) ≡ true → tries_of first h + one_if (whole_of h) ≤ 1
 few_ready first b h k ready is =
     let one = limit_alarms first k.free h k.conducted is in
     let few = k.tries one.0 in
@@ -94,7 +94,7 @@ few_ready first b h k ready is =
     omega (arith, few, w)
 
 -- ticks are found not to be done
-pub waits_at_limit : (first : Opening) (b : Controller) (h : Journal) (done : ℕ) → Keeps first b h → IsReady first h → is_limited (motion_of first h) ≡ true → IsNextTask first halt h → (HasPiece first h → ⊥) → b.beat ≡ Motion → b.flags ≡ flags.None
+pub waits_at_limit : (first : Opening) (b : Board) (h : Journal) (done : ℕ) → Keeps first b h → IsReady first h → is_limited (motion_of first h) ≡ true → IsNextTask first halt h → (HasPiece first h → ⊥) → b.beat ≡ Motion → b.flags ≡ flags.None
     → MayBeDone done (port_log h) → done < b.machine.given → BoardWorked first (Wait on.Motion) b.flags b h (at_port (loaded done) ∷ h)
 waits_at_limit first b h done k ready is next none beat no_word found fewer =
     let mid : Journal = at_port (loaded done) ∷ h in
@@ -166,7 +166,7 @@ passes_halted first h = record {
 }
 
 -- what was planned is dropped where it stands in alarm
-halts : (first : Opening) (c : Controller) (m : Machine) (i : Interpreting) (h : Journal) → Keeps first c h → IsAtLimit first h → motion_of first h ≡ motions.Alarm → Runs m (cleared (plan_of h)) (motion_of first h) (hand_of h) (given_of h)
+halts : (first : Opening) (c : Board) (m : Machine) (i : Interpreting) (h : Journal) → Keeps first c h → IsAtLimit first h → motion_of first h ≡ motions.Alarm → Runs m (cleared (plan_of h)) (motion_of first h) (hand_of h) (given_of h)
     → i ≡ record c.lines { left = drop 1 c.lines.left } → Keeps first (record c { machine = m; lines = i }) (halted ∷ h)
 halts first c m i h k at alarm runs is = record {
   placed = k.placed;
@@ -200,11 +200,11 @@ halted_alone first h alarm = record {
 }
 
 -- behind a journal it is in alarm
-abbrev pub Locks : Opening → Controller → Journal → Type 0
+abbrev pub Locks : Opening → Board → Journal → Type 0
 Locks first c h = (next : Journal) × Keeps first c next × IsInAlarm first h next
 
 -- it was in alarm already
-pub locked_before : (first : Opening) (c : Controller) (h : Journal) → Keeps first c h → IsAtLimit first h → c.machine.hold.motion ≡ motions.Alarm → Locks first c h
+pub locked_before : (first : Opening) (c : Board) (h : Journal) → Keeps first c h → IsAtLimit first h → c.machine.hold.motion ≡ motions.Alarm → Locks first c h
 locked_before first c h k at is = (h, k, record { at = at; alarm = sym k.machine.motion_is ∙ is; alone = record { passes = passes_none first h; port = refl }; left = refl })
 
 stopping_by : (m : AnyMotion) → is_limited m ≡ true → (m ≡ motions.Alarm → ⊥) → m ≡ motions.Stopping
@@ -213,13 +213,13 @@ stopping_by motions.Alarm is other = absurd (other refl)
 stopping_by m is other = absurd cc
 
 -- it has slowed down for that
-pub was_slowing : (first : Opening) (c : Controller) (h : Journal) → Keeps first c h → IsAtLimit first h → (c.machine.hold.motion ≡ motions.Alarm → ⊥) → motion_of first h ≡ motions.Stopping
+pub was_slowing : (first : Opening) (c : Board) (h : Journal) → Keeps first c h → IsAtLimit first h → (c.machine.hold.motion ≡ motions.Alarm → ⊥) → motion_of first h ≡ motions.Stopping
 was_slowing first c h k at other = stopping_by (motion_of first h) at.limited (λ e. other (k.machine.motion_is ∙ e))
 
 has_stopped : (first : Opening) (h : Journal) → IsAtLimit first h → motion_of first h ≡ motions.Stopping → IsStopped first h
 has_stopped first h at slows = record { slowed = record { slows = ap is_stopping slows; speed = at.speed; empty = at.empty }; done = at.done }
 
-pub locks_now : (first : Opening) (c : Controller) (m : Machine) (h : Journal) → Keeps first c h → IsAtLimit first h → motion_of first h ≡ motions.Stopping → Runs m (plan_of h) motions.Alarm (hand_of h) (given_of h) → Locks first (record c { machine = m }) h
+pub locks_now : (first : Opening) (c : Board) (m : Machine) (h : Journal) → Keeps first c h → IsAtLimit first h → motion_of first h ≡ motions.Stopping → Runs m (plan_of h) motions.Alarm (hand_of h) (given_of h) → Locks first (record c { machine = m }) h
 locks_now first c m h k at slows runs = (
   became on_stopped motions.Alarm ∷ h,
   locks first c m h k slows (has_stopped first h at slows) runs,
@@ -232,7 +232,7 @@ locks_now first c m h k at slows runs = (
 )
 
 -- what was planned is dropped then
-pub halts_now : (first : Opening) (c : Controller) (m : Machine) (i : Interpreting) (h mid : Journal) → Keeps first c mid → IsInAlarm first h mid → Runs m (cleared (plan_of mid)) (motion_of first mid) (hand_of mid) (given_of mid)
+pub halts_now : (first : Opening) (c : Board) (m : Machine) (i : Interpreting) (h mid : Journal) → Keeps first c mid → IsInAlarm first h mid → Runs m (cleared (plan_of mid)) (motion_of first mid) (hand_of mid) (given_of mid)
     → i ≡ record c.lines { left = drop 1 c.lines.left } → (next : Journal) × Keeps first (record c { machine = m; lines = i }) next × HasHalted first h next
 halts_now first c m i h mid k locked runs is =
     let alone = halted_alone first mid locked.alarm in (
@@ -264,7 +264,7 @@ ready_halted first h mid next ready is look left stops =
 
 -- ---- the run is closed
 
-pub may_close : (first : Opening) (b : Controller) (h : Journal) → Keeps first b h → is_limited (motion_of first h) ≡ true → left_of first h ≡ [] → b.closing ≡ false → MayClose first h
+pub may_close : (first : Opening) (b : Board) (h : Journal) → Keeps first b h → is_limited (motion_of first h) ≡ true → left_of first h ≡ [] → b.closing ≡ false → MayClose first h
 may_close first b h k is none open_yet =
     let one = limit_alarms first k.free h k.conducted is in
     record { free = none; going = k.going open_yet; begun = one.1; closed = inr one.0 }
@@ -276,7 +276,7 @@ closing_falls first f h none going =
     let d = ap (λ (rs : List Reply). one_if (nat_eq (length (rs ++ Bye ∷ [])) 0)) going in
     omega (arith, p, c, d)
 
-pub closes_limited : (first : Opening) (board now : Controller) (h : Journal) → Keeps first board h → Keeps first now (closing ∷ h) → IsReady first h → is_limited (motion_of first h) ≡ true → left_of first h ≡ [] → board.closing ≡ false → now.beat ≡ Motion
+pub closes_limited : (first : Opening) (board now : Board) (h : Journal) → Keeps first board h → Keeps first now (closing ∷ h) → IsReady first h → is_limited (motion_of first h) ≡ true → left_of first h ≡ [] → board.closing ≡ false → now.beat ≡ Motion
     → board.flags ≡ flags.None → now.flags ≡ flags.None → BoardWorked first Did board.flags now h (closing ∷ h)
 closes_limited first board now h k keeps ready is none open_yet beat no_word_was no_word =
     let few = few_ready first board h k ready is in
@@ -306,16 +306,16 @@ closes_limited first board now h k keeps ready is none open_yet beat no_word_was
 -- ---- what is next
 
 -- the alarm is told behind the halt
-pub alarm_next : (first : Opening) (c : Controller) (h mid next : Journal) → Keeps first c next → left_of first mid ≡ left_of first h → HasHalted first mid next → left_of first h ≡ halting_work → (r : Reply) × IsNextOf (tell r) c.lines.left
+pub alarm_next : (first : Opening) (c : Board) (h mid next : Journal) → Keeps first c next → left_of first mid ≡ left_of first h → HasHalted first mid next → left_of first h ≡ halting_work → (r : Reply) × IsNextOf (tell r) c.lines.left
 alarm_next first c h mid next k same stops left =
     let e : c.lines.left ≡ tell (Alarm soft_limit) ∷ tell (Message ResetToContinue) ∷ [] = k.lines.left_is ∙ stops.left ∙ ap (λ (ts : List Task). drop 1 ts) (same ∙ left) in
     (Alarm soft_limit, e ∙ ap (λ (ts : List Task). tell (Alarm soft_limit) ∷ drop 1 ts) (sym e))
 
-not_ending : {A : Type 0} (first : Opening) (b : Controller) (h : Journal) (t : Task) → Keeps first b h → is_limited (motion_of first h) ≡ true → ends_run t ≡ false → IsNextOf t b.lines.left → A
+not_ending : {A : Type 0} (first : Opening) (b : Board) (h : Journal) (t : Task) → Keeps first b h → is_limited (motion_of first h) ≡ true → ends_run t ≡ false → IsNextOf t b.lines.left → A
 not_ending first b h t k is other next = absurd (let e = sym (limited_next first k.free h t k.conducted is (is_next first b h t k next)) ∙ other in cc)
 
 -- nothing else is next of a run that a soft limit ends
-pub nothing_else : (first : Opening) (b : Controller) (h : Journal) (t : Todo) → Keeps first b h → is_limited (motion_of first h) ≡ true → IsTodo t b.lines.left → (t ≡ todo.Halt → ⊥) → (t ≡ todo.Tell → ⊥) → (t ≡ todo.Finish → ⊥) → (t ≡ todo.Nothing → ⊥) → ⊥
+pub nothing_else : (first : Opening) (b : Board) (h : Journal) (t : Todo) → Keeps first b h → is_limited (motion_of first h) ≡ true → IsTodo t b.lines.left → (t ≡ todo.Halt → ⊥) → (t ≡ todo.Tell → ⊥) → (t ≡ todo.Finish → ⊥) → (t ≡ todo.Nothing → ⊥) → ⊥
 nothing_else first b h todo.Nothing k is next stops tells ends none = none refl
 nothing_else first b h todo.Rest k is next stops tells ends none = not_ending first b h (ask a_rest) k is refl next
 nothing_else first b h (todo.Mark m) k is next stops tells ends none = not_ending first b h (ask (a_mark m)) k is refl next.0

@@ -25,20 +25,20 @@ use Rattle.board_rules.specs.Turns.{this_turn, found_none, found_nothing, tells_
 use Rattle.board_rules.specs.Conduct.{Conducted, AreWaiting, IsNextTask, MayPoll, MayStart, MayClose}
 use Rattle.board_rules.proofs.Tasks.{none_next, head_is}
 use Rattle.units.specs.Truths.{one_if}
-use Rattle.controller.specs.declared.controller.Controller.{Controller}
-use Rattle.controller.specs.declared.controller.Flags.{Flags}
-use Rattle.controller.specs.declared.controller.Flags.TheVariants as words
-use Rattle.controller.specs.declared.controller.Beat.{Beat}
-use Rattle.controller.specs.declared.controller.Beat.TheVariants.{Motion, Main}
-use Rattle.controller.specs.Boards.{Keeps, Rounds, NoneWaits, GoingBetween, IsFree, TakesFlags, has_published, number_of}
-use Rattle.controller.specs.Turning.{IsNextMove, IsQuiet, IsReady, IsHeldUp, HasPiece, HasPolled, MayRun, MayAwait, MayFinish, IsWholeLine, NeedsNoWait, GoesOn, PassesNothing, BoardWorked, starting}
-use Rattle.controller.proofs.Steps.{is_next, not_told, begins_by, calm_now, halts_by}
+use Rattle.board_turns.specs.declared.board.Board.{Board}
+use Rattle.board_turns.specs.declared.board.Flags.{Flags}
+use Rattle.board_turns.specs.declared.board.Flags.TheVariants as words
+use Rattle.board_turns.specs.declared.board.Beat.{Beat}
+use Rattle.board_turns.specs.declared.board.Beat.TheVariants.{Motion, Main}
+use Rattle.board_turns.specs.Boards.{Keeps, Rounds, NoneWaits, GoingBetween, IsFree, TakesFlags, has_published, number_of}
+use Rattle.board_turns.specs.Turning.{IsNextMove, IsQuiet, IsReady, IsHeldUp, HasPiece, HasPolled, MayRun, MayAwait, MayFinish, IsWholeLine, NeedsNoWait, GoesOn, PassesNothing, BoardWorked, starting}
+use Rattle.board_turns.proofs.Steps.{is_next, not_told, begins_by, calm_now, halts_by}
 use Rattle.board_rules.proofs.Facts.{not_whole, uncounted, unmissed}
 use Rattle.board_rules.proofs.Tries.{publishes_none, publishes_one, worked_behind, passes_did, passes_end, passes_motion}
-use Rattle.controller.proofs.Standing.{full_is_queued, goes_or_stands}
-use Rattle.controller.proofs.Starting.{none_left_to_change, starts_off, starts_going}
+use Rattle.board_turns.proofs.Standing.{full_is_queued, goes_or_stands}
+use Rattle.board_turns.proofs.Starting.{none_left_to_change, starts_off, starts_going}
 use Rattle.board_rules.proofs.Lasts.{behind_asked, IsClosing}
-use Rattle.controller.proofs.Ends.{none_called, none_waited, rounds_still, one_at_most, takes_none, ready_sent, ready_idle, may_await, free_of, no_word_left}
+use Rattle.board_turns.proofs.Ends.{none_called, none_waited, rounds_still, one_at_most, takes_none, ready_sent, ready_idle, may_await, free_of, no_word_left}
 
 -- ---- how a turn begins
 
@@ -104,7 +104,7 @@ full_piece first h c none goes move full = inr (by_motion (goes_or_stands (motio
 
 -- ---- lines
 
-none_left : (first : Opening) (b : Controller) (h : Journal) → Keeps first b h → b.lines.left ≡ [] → left_of first h ≡ []
+none_left : (first : Opening) (b : Board) (h : Journal) → Keeps first b h → b.lines.left ≡ [] → left_of first h ≡ []
 none_left first b h k none = sym k.lines.left_is ∙ none
 
 -- what is next where nothing is left is a line that was taken whole
@@ -112,14 +112,14 @@ held_up_line : (ts : List Task) (whole full : Bool) → ts ≡ [] → whole ≡ 
 held_up_line [] whole full none is = is
 held_up_line (t ∷ ts) whole full none is = absurd cc
 
-pub whole_line : (first : Opening) (b : Controller) (h : Journal) → Keeps first b h → GoesOn first h → b.lines.left ≡ [] → b.closing ≡ false → b.input.whole ≡ true → IsWholeLine first h
+pub whole_line : (first : Opening) (b : Board) (h : Journal) → Keeps first b h → GoesOn first h → b.lines.left ≡ [] → b.closing ≡ false → b.input.whole ≡ true → IsWholeLine first h
 whole_line first b h k goes none open_yet whole =
     let free = none_left first b h k none in
     let is = sym k.input.whole_is ∙ whole in
     record { free = free; going = k.going open_yet; whole = is; goes = not_halting first h goes (held_up_line (left_of first h) (whole_of h) (is_full (plan_of h)) free is) }
 
 -- a byte may be polled for where no line waits to be begun
-pub may_poll : (first : Opening) (b : Controller) (h : Journal) → Keeps first b h → GoesOn first h → b.lines.left ≡ [] → b.closing ≡ false → b.input.whole ≡ false → MayPoll first h
+pub may_poll : (first : Opening) (b : Board) (h : Journal) → Keeps first b h → GoesOn first h → b.lines.left ≡ [] → b.closing ≡ false → b.input.whole ≡ false → MayPoll first h
 may_poll first b h k goes none open_yet partial = record {
   calm = calm_now first b h k goes.unlimited;
   all_done = none_left first b h k none;
@@ -128,17 +128,17 @@ may_poll first b h k goes none open_yet partial = record {
 }
 
 -- what is next is held up as the fields tell
-held_up : (first : Opening) (b : Controller) (h : Journal) → Keeps first b h → is_held_up first h ≡ needs_motion b.lines.left b.input.whole (is_full b.machine.plan)
+held_up : (first : Opening) (b : Board) (h : Journal) → Keeps first b h → is_held_up first h ≡ needs_motion b.lines.left b.input.whole (is_full b.machine.plan)
 held_up first b h k =
     ap (λ (ts : List Task). needs_motion ts (whole_of h) (is_full (plan_of h))) (sym k.lines.left_is) ∙ ap (λ w. needs_motion b.lines.left w (is_full (plan_of h))) (sym k.input.whole_is)
     ∙ ap (λ p. needs_motion b.lines.left b.input.whole (is_full p)) (sym k.machine.plan_is)
 
 -- what is next is held up by a machine that is held, or slows down for that
-pub is_halted : (first : Opening) (b : Controller) (h : Journal) → Keeps first b h → IsReady first h → is_halting b.machine.hold.motion ≡ true → needs_motion b.lines.left b.input.whole (is_full b.machine.plan) ≡ true → IsHeldUp first h
+pub is_halted : (first : Opening) (b : Board) (h : Journal) → Keeps first b h → IsReady first h → is_halting b.machine.hold.motion ≡ true → needs_motion b.lines.left b.input.whole (is_full b.machine.plan) ≡ true → IsHeldUp first h
 is_halted first b h k ready halts up = record { ready = ready; halts = ap is_halting (sym k.machine.motion_is) ∙ halts; held_up = held_up first b h k ∙ up }
 
 -- what is next goes on, by the fields
-pub goes_on : (first : Opening) (b : Controller) (h : Journal) → Keeps first b h → (is_halting b.machine.hold.motion ≡ true → needs_motion b.lines.left b.input.whole (is_full b.machine.plan) ≡ false) → is_limited b.machine.hold.motion ≡ false → GoesOn first h
+pub goes_on : (first : Opening) (b : Board) (h : Journal) → Keeps first b h → (is_halting b.machine.hold.motion ≡ true → needs_motion b.lines.left b.input.whole (is_full b.machine.plan) ≡ false) → is_limited b.machine.hold.motion ≡ false → GoesOn first h
 goes_on first b h k held other = record {
   held = λ halts. (held_up first) b h k ∙ held (ap is_halting k.machine.motion_is ∙ halts);
   unlimited = ap is_limited (sym k.machine.motion_is) ∙ other;
@@ -159,15 +159,15 @@ held_up_awaited (finish ∷ ts) whole full is = refl
 held_up_awaited (halt ∷ ts) whole full is = refl
 
 -- so the motion may be waited for where what is next goes on
-pub may_await_now : (first : Opening) (b : Controller) (h : Journal) → Keeps first b h → IsReady first h → GoesOn first h → awaits_motion (left_of first h) ≡ true → MayAwait first h
+pub may_await_now : (first : Opening) (b : Board) (h : Journal) → Keeps first b h → IsReady first h → GoesOn first h → awaits_motion (left_of first h) ≡ true → MayAwait first h
 may_await_now first b h k ready goes awaits = may_await first h k.conducted ready (not_halting first h goes (held_up_awaited (left_of first h) (whole_of h) (is_full (plan_of h)) awaits)) awaits
 
 -- ---- what is next, by the fields
 
-pub next_move : (first : Opening) (b : Controller) (h : Journal) → Keeps first b h → IsTodo todo.Move b.lines.left → IsNextMove first h
+pub next_move : (first : Opening) (b : Board) (h : Journal) → Keeps first b h → IsTodo todo.Move b.lines.left → IsNextMove first h
 next_move first b h k is = (is.0, is_next first b h (ask (a_move is.0)) k is.1)
 
-pub finish_next : (first : Opening) (b : Controller) (h : Journal) → Keeps first b h → NeedsNoWait first h → IsTodo todo.Finish b.lines.left → MayFinish first h × IsNextTask first finish h
+pub finish_next : (first : Opening) (b : Board) (h : Journal) → Keeps first b h → NeedsNoWait first h → IsTodo todo.Finish b.lines.left → MayFinish first h × IsNextTask first finish h
 finish_next first b h k needs is =
     let next = is_next first b h finish k is in
     let stopped = (needs (ap awaits_motion next)).0 in
@@ -218,7 +218,7 @@ may_run_ended first h may stopped next is =
 -- ---- replies
 
 -- a reply was handed back
-pub told_later : (first : Opening) (was : Flags) (board : Controller) (h : Journal) (r : Reply) → Keeps first board h → IsReady first h → IsNextTask first (tell r) h → board.beat ≡ Motion → board.flags ≡ words.None
+pub told_later : (first : Opening) (was : Flags) (board : Board) (h : Journal) (r : Reply) → Keeps first board h → IsReady first h → IsNextTask first (tell r) h → board.beat ≡ Motion → board.flags ≡ words.None
     → BoardWorked first (Wait ReplyRoom) was board h (at_port no_reply_room ∷ h)
 told_later first was board h r k ready next beat no_word =
     let worked = worked_behind (at_port no_reply_room) h (at_port no_reply_room ∷ h) refl (record { no_changes = refl; none_planned = refl }) refl refl ready.quiet.worked in
@@ -255,7 +255,7 @@ told_later first was board h r k ready next beat no_word =
 
 -- ---- bytes
 
-pub took_worked : (first : Opening) (was : Flags) (board : Controller) (b : ℕ) (h : Journal) → Keeps first board (at_port (took b) ∷ h) → TakesFlags board.flags (at_port (took b) ∷ h) → IsReady first h → MayPoll first h → board.beat ≡ Motion
+pub took_worked : (first : Opening) (was : Flags) (board : Board) (b : ℕ) (h : Journal) → Keeps first board (at_port (took b) ∷ h) → TakesFlags board.flags (at_port (took b) ∷ h) → IsReady first h → MayPoll first h → board.beat ≡ Motion
     → BoardWorked first Did was board h (at_port (took b) ∷ h)
 took_worked first was board b h keeps takes ready may beat =
     let none : NoneWaits first (at_port (took b) ∷ h) = (λ waiting. ready.none_waits (record { stands = waiting.stands; blocks = waiting.blocks })) in
@@ -318,10 +318,10 @@ polled_end first h ready may = record {
 }
 
 -- no queued block waits for a start, by the fields
-pub none_waiting : (first : Opening) (board : Controller) (h : Journal) → Keeps first board h → (board.machine.hold.motion ≡ Idle → has_blocks board.machine.plan.blocks ≡ true → ⊥) → AreWaiting first h → ⊥
+pub none_waiting : (first : Opening) (board : Board) (h : Journal) → Keeps first board h → (board.machine.hold.motion ≡ Idle → has_blocks board.machine.plan.blocks ≡ true → ⊥) → AreWaiting first h → ⊥
 none_waiting first board h k none waiting = none (k.machine.motion_is ∙ waiting.stands) (ap (λ p. has_blocks p.blocks) k.machine.plan_is ∙ waiting.blocks)
 
-pub waits_for_byte : (first : Opening) (was : Flags) (board : Controller) (h : Journal) → Keeps first board h → HasPolled first h → list_any found_nothing (this_turn h) ≡ true → (AreWaiting first h → ⊥) → board.beat ≡ Motion → board.flags ≡ words.None
+pub waits_for_byte : (first : Opening) (was : Flags) (board : Board) (h : Journal) → Keeps first board h → HasPolled first h → list_any found_nothing (this_turn h) ≡ true → (AreWaiting first h → ⊥) → board.beat ≡ Motion → board.flags ≡ words.None
     → BoardWorked first (Wait Byte) was board h h
 waits_for_byte first was board h k polled found none beat no_word =
     let t = polled.tries in
@@ -363,7 +363,7 @@ called true b d e = refl
 called false b d e = absurd cc
 
 -- queued blocks start where a poll found no byte
-pub may_start_polled : (first : Opening) (board : Controller) (h : Journal) → Keeps first board h → HasPolled first h → has_blocks board.machine.plan.blocks ≡ true → MayStart first board.jogged h
+pub may_start_polled : (first : Opening) (board : Board) (h : Journal) → Keeps first board h → HasPolled first h → has_blocks board.machine.plan.blocks ≡ true → MayStart first board.jogged h
 may_start_polled first board h k polled blocks = record {
   goes = ap halts_next polled.free;
   blocks = sym (ap (λ p. has_blocks p.blocks) k.machine.plan_is) ∙ blocks;
@@ -402,7 +402,7 @@ closing_falls first f h polled =
     let d = ap (λ (rs : List Reply). one_if (nat_eq (length (rs ++ Bye ∷ [])) 0)) polled.going in
     omega (arith, p, c, d)
 
-pub closes_worked : (first : Opening) (board is : Controller) (h : Journal) → Keeps first is (closing ∷ h) → HasPolled first h → (AreWaiting first h → ⊥) → is.beat ≡ Motion → board.flags ≡ words.None → is.flags ≡ words.None
+pub closes_worked : (first : Opening) (board is : Board) (h : Journal) → Keeps first is (closing ∷ h) → HasPolled first h → (AreWaiting first h → ⊥) → is.beat ≡ Motion → board.flags ≡ words.None → is.flags ≡ words.None
     → BoardWorked first Did board.flags is h (closing ∷ h)
 closes_worked first board is h keeps polled none beat no_word_was no_word =
     let none_now : AreWaiting first (closing ∷ h) → ⊥ = (λ waiting. none (record { stands = waiting.stands; blocks = waiting.blocks })) in

@@ -20,28 +20,28 @@ use Rattle.status_report.specs.declared.Reply.{Reply}
 use Rattle.status_report.specs.declared.Reply.TheVariants as replies
 use Rattle.status_report.specs.declared.reports.Report.{Report}
 use Rattle.board_rules.specs.Openings.{Opening}
-use Rattle.board_rules.specs.Ports.{BoardLog, MayAnswer, LacksReplyRoom, said}
+use Rattle.board_rules.specs.Ports.{BoardLog, said}
+use Rattle.epoch_ports.specs.Serving.{MayTellNow}
 use Rattle.board_rules.specs.Ports.PortStep.{found_free, reported, no_reply_room}
 use Rattle.board_rules.specs.Steps.{Step, Journal, port_log, published_of, known_of, whole_of, plan_of, motion_of}
 use Rattle.board_rules.specs.Steps.Step.{at_port, became}
 use Rattle.board_rules.specs.Turns.{this_turn, publishing, passing, moving, found_none, lacks_reply_room, loads, has_blocks, is_going, is_due, flags_taken, unobeyed_of, owes_report, takes_changes, replans, tries_of, waits_of}
 use Rattle.board_rules.specs.Conduct.{IsDrained, IsStopped, IsReportAt}
-use Rattle.board_rules.proofs.Greeting.{may_report}
 use Rattle.units.specs.Truths.{one_if}
-use Rattle.controller.specs.declared.controller.Controller.{Controller}
-use Rattle.controller.specs.declared.controller.Beat.TheVariants.{Motion, Main}
-use Rattle.controller.specs.declared.controller.Flags.{Flags}
-use Rattle.controller.specs.declared.controller.Flags.TheVariants as words
-use Rattle.controller.specs.Boards.{Keeps, Rounds, NoneWaits, TakesFlags, has_published}
-use Rattle.controller.specs.Turning.{NoneFits, HasPiece, HasTried, HasFilled, BoardWorked}
-use Rattle.controller.specs.Reporting.{HasObserved, HasAskedRoom, IsBehind, IsReported, IsTold, IsToReport, LacksRoom, obeying}
-use Rattle.controller.proofs.Steps.{report_told, report_kept, other_flags, halts_by}
+use Rattle.board_turns.specs.declared.board.Board.{Board}
+use Rattle.board_turns.specs.declared.board.Beat.TheVariants.{Motion, Main}
+use Rattle.board_turns.specs.declared.board.Flags.{Flags}
+use Rattle.board_turns.specs.declared.board.Flags.TheVariants as words
+use Rattle.board_turns.specs.Boards.{Keeps, Rounds, NoneWaits, TakesFlags, has_published}
+use Rattle.board_turns.specs.Turning.{NoneFits, HasPiece, HasTried, HasFilled, BoardWorked}
+use Rattle.board_turns.specs.Reporting.{HasObserved, HasAskedRoom, IsBehind, IsReported, IsTold, IsToReport, LacksRoom, obeying}
+use Rattle.board_turns.proofs.Steps.{report_told, report_kept, other_flags, halts_by}
 use Rattle.board_rules.proofs.Tries.{counts_none, publishes_none, publishes_one}
 use Rattle.board_rules.proofs.Facts.{uncounted_owing}
-pub use Rattle.controller.proofs.Halting.{behind_word}
-use Rattle.controller.proofs.Halting.{waited_before}
-use Rattle.controller.proofs.Settling.{none_waits_so, none_fits_so}
-use Rattle.controller.proofs.Ends.{MayTry, sent_by, rounds_still, none_called, none_waited}
+pub use Rattle.board_turns.proofs.Halting.{behind_word}
+use Rattle.board_turns.proofs.Halting.{waited_before}
+use Rattle.board_turns.proofs.Settling.{none_waits_so, none_fits_so}
+use Rattle.board_turns.proofs.Ends.{MayTry, sent_by, rounds_still, none_called, none_waited}
 
 -- ---- before the report
 
@@ -109,7 +109,7 @@ found_asked first word buffer h next f a = by_are a.are
     by_are (inl same) = subst (λ (j : Journal). IsFound first word j) (sym same) f
     by_are (inr asked) = subst (λ (j : Journal). IsFound first word j) (sym asked.1) (found_room first word asked.0 h f)
 
-pub flies_asked : (first : Opening) (c : Controller) (buffer : Option (ℕ × ℕ)) (h next : Journal) → Flies first.place c.flight (published_of h) (known_of h) → HasAskedRoom buffer h next → Flies first.place c.flight (published_of next) (known_of next)
+pub flies_asked : (first : Opening) (c : Board) (buffer : Option (ℕ × ℕ)) (h next : Journal) → Flies first.place c.flight (published_of h) (known_of h) → HasAskedRoom buffer h next → Flies first.place c.flight (published_of next) (known_of next)
 flies_asked first c buffer h next flies a = by_are a.are
   where
     by_are : (next ≡ h) ⊎ ((bytes : ℕ) × (next ≡ at_port (found_free bytes) ∷ h)) → Flies first.place c.flight (published_of next) (known_of next)
@@ -129,10 +129,10 @@ room_known buffer h next a = record { are = inl refl; room = a.room }
 
 -- ---- the report
 
-pub may_tell : (first : Opening) (c : Controller) (r : Report) (h : Journal) → Keeps first c h → IsTold first c r h → MayAnswer (port_log h) (replies.Report r)
-may_tell first c r h k told = may_report first h r k.conducted told.valid
+pub may_tell : (first : Opening) (c : Board) (r : Report) (h : Journal) → Keeps first c h → IsTold first c r h → MayTellNow first (replies.Report r) h
+may_tell first c r h k told = record { conducted = k.conducted; next = inl refl; text = told.valid }
 
-report_at : (first : Opening) (c : Controller) (word : Option Exec) (r : Report) (h : Journal) (k : Keeps first c h) → IsFound first word h → IsTold first c r h → IsReportAt first r h
+report_at : (first : Opening) (c : Board) (word : Option Exec) (r : Report) (h : Journal) (k : Keeps first c h) → IsFound first word h → IsTold first c r h → IsReportAt first r h
 report_at first c word r h k f told = record {
   owed = f.owed;
   load = f.load;
@@ -188,19 +188,19 @@ reported_kept first word h f =
     }
 
 -- behind a journal a report was tried to be told
-abbrev pub Reports : Opening → (BoardLog → Type 0) → Bool → Controller → Option Exec → Journal → Type 0
+abbrev pub Reports : Opening → (BoardLog → Type 0) → Bool → Board → Option Exec → Journal → Type 0
 Reports first stands told c word h = (next : Journal) × stands (port_log next) × Keeps first (record c { owes = not told }) next × IsReported first told word next × IsBehind h next
 
-pub reports : (first : Opening) (Rest : Type 0) (old new : Rest → BoardLog → Type 0) (rest : Rest) (answer : Result (Unit {0}) Reply) (c : Controller) (word : Option Exec) (buffer : Option (ℕ × ℕ)) (r : Report) (h mid next : Journal)
-    → IsToReport first word h → HasObserved first h mid → HasAskedRoom buffer mid next → Keeps first c next → IsTold first c r next → old rest (port_log next)
-    → OnOk answer ((rest : Rest) (l : BoardLog) → old rest l → MayAnswer l (replies.Report r) → new rest (said (replies.Report r) ∷ l))
-    → OnErr answer ((rest : Rest) (l : BoardLog) → old rest l → new rest (no_reply_room ∷ l) × LacksReplyRoom l)
-    → Reports first (new rest) (is_ok answer) c word h
+pub reports : (first : Opening) (Rest : Type 0) (old new : Rest → Opening → BoardLog → Type 0) (rest : Rest) (answer : Result (Unit {0}) Reply) (c : Board) (word : Option Exec) (buffer : Option (ℕ × ℕ)) (r : Report) (h mid next : Journal)
+    → IsToReport first word h → HasObserved first h mid → HasAskedRoom buffer mid next → Keeps first c next → IsTold first c r next → old rest first (port_log next)
+    → OnOk answer ((rest : Rest) (first : Opening) (h : Journal) → old rest first (port_log h) → MayTellNow first (replies.Report r) h → new rest first (said (replies.Report r) ∷ port_log h))
+    → OnErr answer ((rest : Rest) (first : Opening) (l : BoardLog) → old rest first l → new rest first (no_reply_room ∷ l))
+    → Reports first (new rest first) (is_ok answer) c word h
 reports first Rest old new rest (Ok x) c word buffer r h mid next t o a k told stood ok full =
     let f = found_asked first word buffer mid next (found first word h mid t o) a in
     let b = behind_asked first buffer h mid next o a in (
       at_port (reported r) ∷ next,
-      ok rest (port_log next) stood (may_tell first c r next k told),
+      ok rest first next stood (may_tell first c r next k told),
       report_told first c r next k (report_at first c word r next k f told),
       reported_told first word r next f,
       record { steps = at_port (reported r) ∷ b.steps; are = ap (λ (j : Journal). at_port (reported r) ∷ j) b.are },
@@ -209,7 +209,7 @@ reports first Rest old new rest (Err e) c word buffer r h mid next t o a k told 
     let f = found_asked first word buffer mid next (found first word h mid t o) a in
     let b = behind_asked first buffer h mid next o a in (
       at_port no_reply_room ∷ next,
-      (full rest (port_log next) stood).0,
+      full rest first (port_log next) stood,
       report_kept first c next k f.owed,
       reported_kept first word next f,
       record { steps = at_port no_reply_room ∷ b.steps; are = ap (λ (j : Journal). at_port no_reply_room ∷ j) b.are },
@@ -217,11 +217,11 @@ reports first Rest old new rest (Err e) c word buffer r h mid next t o a k told 
 
 -- ---- where there is no room for it
 
-motion_beat : (board : Controller) → board.beat ≡ Motion → has_published board.beat ≡ true → ⊥
+motion_beat : (board : Board) → board.beat ≡ Motion → has_published board.beat ≡ true → ⊥
 motion_beat board beat e = absurd (let s = sym (ap has_published beat) ∙ e in cc)
 
 -- the room is waited for
-waits_for_room : (first : Opening) (board : Controller) (was : Flags) (h next : Journal) (steps : List Step) → next ≡ steps ++ h → Keeps first board next → LacksRoom first next → (is_due first next ≡ true → waits_of next ≡ []) → board.beat ≡ Motion
+waits_for_room : (first : Opening) (board : Board) (was : Flags) (h next : Journal) (steps : List Step) → next ≡ steps ++ h → Keeps first board next → LacksRoom first next → (is_due first next ≡ true → waits_of next ≡ []) → board.beat ≡ Motion
     → board.flags ≡ words.Both → BoardWorked first (Wait ReplyRoom) was board h next
 waits_for_room first board was h next steps are keeps l tried beat both = record {
   keeps = keeps;
@@ -252,7 +252,7 @@ waits_for_room first board was h next steps are keeps l tried beat both = record
 }
 
 -- nothing is in hand, nor due
-pub waits_idle : (first : Opening) (board : Controller) (was : Flags) (h : Journal) → Keeps first board h → LacksRoom first h → (HasPiece first h → ⊥) → board.beat ≡ Motion → BoardWorked first (Wait ReplyRoom) was (record board { flags = words.Both }) h h
+pub waits_idle : (first : Opening) (board : Board) (was : Flags) (h : Journal) → Keeps first board h → LacksRoom first h → (HasPiece first h → ⊥) → board.beat ≡ Motion → BoardWorked first (Wait ReplyRoom) was (record board { flags = words.Both }) h h
 waits_idle first board was h k l none beat =
     waits_for_room first (record board { flags = words.Both }) was h h [] refl (other_flags first board words.Both h k) l (λ due. absurd (none (inr due))) beat refl
 
@@ -263,7 +263,7 @@ less_or true false c then none = absurd (let e = then refl in cc)
 less_or true true c then none = absurd cc
 
 -- a piece was handed back
-pub waits_handed : (first : Opening) (board : Controller) (was : Flags) (h mid next : Journal) → Keeps first board next → LacksRoom first h → HasTried first false h mid → HasFilled first mid next → board.beat ≡ Motion → board.flags ≡ words.Both
+pub waits_handed : (first : Opening) (board : Board) (was : Flags) (h mid next : Journal) → Keeps first board next → LacksRoom first h → HasTried first false h mid → HasFilled first mid next → board.beat ≡ Motion → board.flags ≡ words.Both
     → BoardWorked first (Wait ReplyRoom) was board h next
 waits_handed first board was h mid next k l tried filled beat both =
     let a = filled.alone.passes in
@@ -283,7 +283,7 @@ waits_handed first board was h mid next k l tried filled beat both =
     }) (λ due. a.waits ∙ tried.waits) beat both
 
 -- a piece was published, and the report is still told next
-pub sent_owing : (first : Opening) (board : Controller) (was : Flags) (h mid next : Journal) → Keeps first board next → LacksRoom first h → HasTried first true h mid → HasFilled first mid next
+pub sent_owing : (first : Opening) (board : Board) (was : Flags) (h mid next : Journal) → Keeps first board next → LacksRoom first h → HasTried first true h mid → HasFilled first mid next
     → BoardWorked first Did was (record board { flags = words.Report None; beat = Main }) h next × (list_any moving (this_turn next) ≡ true)
 sent_owing first board was h mid next k l tried filled =
     let a = filled.alone.passes in
@@ -375,7 +375,7 @@ stands_behind first stands waiting h s = subst (λ l. stands l) (sym (port_behin
 -- ---- the turn
 
 -- it was told
-pub did_report : (first : Opening) (board : Controller) (was : Flags) (waiting : Option Exec) (h next : Journal) → Keeps first board (obeying first waiting next) → IsReported first true waiting next → IsBehind h next → board.beat ≡ Motion
+pub did_report : (first : Opening) (board : Board) (was : Flags) (waiting : Option Exec) (h next : Journal) → Keeps first board (obeying first waiting next) → IsReported first true waiting next → IsBehind h next → board.beat ≡ Motion
     → BoardWorked first Did was (record board { flags = words.None }) h (obeying first waiting next)
 did_report first board was waiting h next k r b beat =
     let o = obeyed_word first true waiting next r in
@@ -401,7 +401,7 @@ did_report first board was waiting h next k r b beat =
     }
 
 -- it was not, and the board went on
-pub went_on : (first : Opening) (t : Turn) (board : Controller) (was : Flags) (h mid next : Journal) → IsBehind h mid → BoardWorked first t was board mid next → (t ≡ Did → list_any moving (this_turn next) ≡ true) → BoardWorked first t was board h next
+pub went_on : (first : Opening) (t : Turn) (board : Board) (was : Flags) (h mid next : Journal) → IsBehind h mid → BoardWorked first t was board mid next → (t ≡ Did → list_any moving (this_turn next) ≡ true) → BoardWorked first t was board h next
 went_on first t board was h mid next b w moved = record {
   keeps = w.keeps;
   rounds = w.rounds;

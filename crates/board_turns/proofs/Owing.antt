@@ -8,15 +8,15 @@ use Rattle.board_rules.specs.Turns.{passing, found_none, is_due, waits_of}
 use Rattle.board_rules.specs.Conduct.{Conducted}
 use Rattle.board_rules.proofs.Waiting.{adds}
 use Rattle.units.specs.Truths.{one_if}
-use Rattle.controller.specs.declared.controller.Flags.{Flags}
-use Rattle.controller.specs.declared.controller.Flags.TheVariants as words
-use Rattle.controller.specs.declared.controller.Beat.{Beat}
-use Rattle.controller.specs.declared.controller.Beat.TheVariants.{Motion, Main}
-use Rattle.controller.specs.Boards.{Rounds, GoingBetween, IsAsked, takes_no_word}
-use Rattle.controller.specs.Turning.{HasPiece, HasFilled, HasTried}
-use Rattle.controller.specs.Reporting.{IsToReport}
+use Rattle.board_turns.specs.declared.board.Flags.{Flags}
+use Rattle.board_turns.specs.declared.board.Flags.TheVariants as words
+use Rattle.board_turns.specs.declared.board.Beat.{Beat}
+use Rattle.board_turns.specs.declared.board.Beat.TheVariants.{Motion, Main}
+use Rattle.board_turns.specs.Boards.{Rounds, GoingBetween, IsAsked, takes_no_word}
+use Rattle.board_turns.specs.Turning.{HasPiece, HasFilled, HasTried}
+use Rattle.board_turns.specs.Reporting.{IsToReport}
 use Rattle.board_rules.proofs.Facts.{uncounted_owing}
-use Rattle.controller.proofs.Ends.{none_between, count_between, none_worked}
+use Rattle.board_turns.proofs.Ends.{none_between, count_between, none_worked}
 
 -- ---- which words are left
 

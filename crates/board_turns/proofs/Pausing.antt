@@ -11,15 +11,15 @@ use Rattle.board_rules.specs.Turns.{this_turn, tries_of}
 use Rattle.board_rules.specs.Conduct.{IsNextTask}
 use Rattle.board_rules.proofs.Tasks.{none_next}
 use Rattle.units.specs.Truths.{one_if}
-use Rattle.controller.specs.declared.controller.Controller.{Controller}
-use Rattle.controller.specs.declared.controller.Beat.TheVariants.{Motion}
-use Rattle.controller.specs.declared.controller.Flags.TheVariants as flags
-use Rattle.controller.specs.Boards.{Keeps, Rounds, number_of}
-use Rattle.controller.specs.Turning.{IsReady, PassesNothing, HasFilled, BoardWorked}
+use Rattle.board_turns.specs.declared.board.Board.{Board}
+use Rattle.board_turns.specs.declared.board.Beat.TheVariants.{Motion}
+use Rattle.board_turns.specs.declared.board.Flags.TheVariants as flags
+use Rattle.board_turns.specs.Boards.{Keeps, Rounds, number_of}
+use Rattle.board_turns.specs.Turning.{IsReady, PassesNothing, HasFilled, BoardWorked}
 use Rattle.board_rules.proofs.Facts.{not_whole}
-use Rattle.controller.proofs.Steps.{halts_by}
+use Rattle.board_turns.proofs.Steps.{halts_by}
 use Rattle.board_rules.proofs.Tries.{publishes_none, worked_behind}
-use Rattle.controller.proofs.Ends.{none_called, rounds_still, free_of, free_passed, takes_none, no_word_left}
+use Rattle.board_turns.proofs.Ends.{none_called, rounds_still, free_of, free_passed, takes_none, no_word_left}
 
 -- a pause less is left
 falls : (first : Opening) (h next : Journal) → IsNextTask first pause h → PassesNothing first (paused ∷ h) next → number_of first flags.None next < number_of first flags.None h
@@ -31,7 +31,7 @@ falls first h next task passes =
     omega (arith, fewer, slower, one, same)
 
 -- it is held, and what comes next is added
-pub paused_filled : (first : Opening) (board was : Controller) (h next : Journal) → Keeps first was h → IsReady first h → IsNextTask first pause h → HasFilled first (paused ∷ h) next → Keeps first board next → board.beat ≡ Motion → board.flags ≡ flags.None
+pub paused_filled : (first : Opening) (board was : Board) (h next : Journal) → Keeps first was h → IsReady first h → IsNextTask first pause h → HasFilled first (paused ∷ h) next → Keeps first board next → board.beat ≡ Motion → board.flags ≡ flags.None
     → BoardWorked first Did flags.None board h next
 paused_filled first board was h next k ready task filled keeps beat no_word =
     let a = filled.alone.passes in

@@ -13,14 +13,14 @@ use Rattle.board_rules.specs.Steps.{Journal, port_log, given_of, hand_of, plan_o
 use Rattle.board_rules.specs.Steps.Step.{at_port, did, became}
 use Rattle.board_rules.specs.Turns.{owes_report, has_blocks}
 use Rattle.board_rules.specs.Conduct.{MayTakeRequests, MayObey}
-use Rattle.controller.specs.declared.controller.Controller.{Controller}
+use Rattle.board_turns.specs.declared.board.Board.{Board}
 use Rattle.board_machine.specs.declared.machine.Machine.{Machine}
 use Rattle.board_machine.specs.Machines.{Runs}
-use Rattle.controller.specs.Boards.{Keeps}
+use Rattle.board_turns.specs.Boards.{Keeps}
 use Rattle.board_rules.proofs.Uncut.{cut_obeyed}
 
 -- a word of requests is taken
-pub takes_word : (first : Opening) (c : Controller) (owes reset : Bool) (word : Exec) (h : Journal) → Keeps first c h → MayTakeRequests word h → owes ≡ owes_report (at_port (took_exec word) ∷ h)
+pub takes_word : (first : Opening) (c : Board) (owes reset : Bool) (word : Exec) (h : Journal) → Keeps first c h → MayTakeRequests word h → owes ≡ owes_report (at_port (took_exec word) ∷ h)
     → reset ≡ has_reset_in (port_log (at_port (took_exec word) ∷ h)) → Keeps first (record c { owes = owes; reset = reset }) (at_port (took_exec word) ∷ h)
 takes_word first c owes reset word h k may is resets = record {
   placed = k.placed;
@@ -42,7 +42,7 @@ takes_word first c owes reset word h k may is resets = record {
 }
 
 -- a word that was taken is obeyed
-pub obeys : (first : Opening) (c : Controller) (m : Machine) (word : Exec) (h : Journal) → Keeps first c h → MayObey first word (has_blocks (plan_of h).blocks) h
+pub obeys : (first : Opening) (c : Board) (m : Machine) (word : Exec) (h : Journal) → Keeps first c h → MayObey first word (has_blocks (plan_of h).blocks) h
     → Runs m (plan_of h) (after_word word (has_blocks (plan_of h).blocks) (motion_of first h)) (hand_of h) (given_of h)
     → Keeps first (record c { machine = m }) (became (on_exec word (has_blocks (plan_of h).blocks)) (after_word word (has_blocks (plan_of h).blocks) (motion_of first h)) ∷ h)
 obeys first c m word h k may runs = record {
@@ -65,7 +65,7 @@ obeys first c m word h k may runs = record {
 }
 
 -- a word of changes of overrides is taken
-pub takes_changes : (first : Opening) (c : Controller) (word : Ovr) (h : Journal) → Keeps first c h → Keeps first c (at_port (took_ovr word) ∷ h)
+pub takes_changes : (first : Opening) (c : Board) (word : Ovr) (h : Journal) → Keeps first c h → Keeps first c (at_port (took_ovr word) ∷ h)
 takes_changes first c word h k = record {
   placed = k.placed;
   free = k.free;
@@ -86,7 +86,7 @@ takes_changes first c word h k = record {
 }
 
 -- it is planned for what a word makes of the overrides
-pub changes : (first : Opening) (c : Controller) (m : Machine) (word : Ovr) (h : Journal) → Keeps first c h → has_changes word ≡ true → IsOverrides m.overrides
+pub changes : (first : Opening) (c : Board) (m : Machine) (word : Ovr) (h : Journal) → Keeps first c h → has_changes word ≡ true → IsOverrides m.overrides
     → Runs m (record (plan_of h) { overrides = taken (plan_of h).overrides word }) (motion_of first h) (hand_of h) (given_of h)
     → Keeps first (record c { machine = m }) (did (Override (taken (plan_of h).overrides word)) [] ∷ at_port (took_ovr word) ∷ h)
 changes first c m word h k some range runs = record {

@@ -16,13 +16,13 @@ use Rattle.board_rules.specs.Openings.{Opening}
 use Rattle.board_rules.specs.Steps.{Journal, given_of, hand_of, plan_of, motion_of}
 use Rattle.board_rules.specs.Steps.Step.{did, evened}
 use Rattle.board_rules.proofs.Tasks.{none_next, head_is}
-use Rattle.controller.specs.declared.controller.Controller.{Controller}
+use Rattle.board_turns.specs.declared.board.Board.{Board}
 use Rattle.board_machine.specs.declared.machine.Machine.{Machine}
 use Rattle.board_machine.specs.Machines.{Runs}
-use Rattle.controller.specs.Boards.{Keeps}
-use Rattle.controller.specs.Turning.{HasStopped, IsPassed, DidAlone}
+use Rattle.board_turns.specs.Boards.{Keeps}
+use Rattle.board_turns.specs.Turning.{HasStopped, IsPassed, DidAlone}
 use Rattle.board_rules.proofs.Facts.{no_rest_closing, no_normal_closing}
-use Rattle.controller.proofs.Steps.{is_next, rested, evens}
+use Rattle.board_turns.proofs.Steps.{is_next, rested, evens}
 use Rattle.board_rules.proofs.Tries.{alone_did, alone_even}
 
 still_stopped : (first : Opening) (h : Journal) → HasStopped first h → HasStopped first (did Rest [] ∷ h)
@@ -46,17 +46,17 @@ still_stopped_even first h s = record {
 }
 
 -- what was done by itself where the machine has stopped, and still has
-abbrev pub Passed : Opening → Controller → Journal → Type 0
+abbrev pub Passed : Opening → Board → Journal → Type 0
 Passed first board h = (next : Journal) × Keeps first board next × HasStopped first next × DidAlone first h next
 
 -- a rest that is next is over
-pub rest_over : (first : Opening) (c : Controller) (i : Interpreting) (h : Journal) → Keeps first c h → HasStopped first h → IsNextOf (ask a_rest) c.lines.left → i ≡ record c.lines { left = drop 1 c.lines.left }
+pub rest_over : (first : Opening) (c : Board) (i : Interpreting) (h : Journal) → Keeps first c h → HasStopped first h → IsNextOf (ask a_rest) c.lines.left → i ≡ record c.lines { left = drop 1 c.lines.left }
     → Passed first (record c { lines = i }) h
 rest_over first c i h k stopped is same =
     (did Rest [] ∷ h, rested first c i h k (is_next first c h (ask a_rest) k is) stopped.drained stopped.stands same, still_stopped first h stopped, alone_did first Rest [] h refl)
 
 -- each override is set to 100 percent
-pub normal_over : (first : Opening) (c : Controller) (m : Machine) (i : Interpreting) (h : Journal) → Keeps first c h → HasStopped first h → IsNextOf normal c.lines.left
+pub normal_over : (first : Opening) (c : Board) (m : Machine) (i : Interpreting) (h : Journal) → Keeps first c h → HasStopped first h → IsNextOf normal c.lines.left
     → ((p : Planned) (now : Motion) (hand given : List Piece) → Runs c.machine p now hand given → Runs m (record p { overrides = normal_overrides }) now hand given)
     → i ≡ record c.lines { left = drop 1 c.lines.left } → Passed first (record c { machine = m; lines = i }) h
 normal_over first c m i h k stopped is runs same = (
@@ -105,18 +105,18 @@ fewer_left [] next = absurd (some_passed [] next refl)
 fewer_left (t ∷ ts) next = omega arith
 
 -- a board that closes its run has neither left
-pub none_passed : (first : Opening) (c : Controller) (h : Journal) → Keeps first c h → c.closing ≡ true → IsPassed c.lines.left → ⊥
+pub none_passed : (first : Opening) (c : Board) (h : Journal) → Keeps first c h → c.closing ≡ true → IsPassed c.lines.left → ⊥
 none_passed first c h k closing (inl next) = no_rest_closing first h k.conducted (λ none. absurd (let e = sym none ∙ k.closed closing in cc)) (is_next first c h (ask a_rest) k next)
 none_passed first c h k closing (inr next) = no_normal_closing first h k.conducted (λ none. absurd (let e = sym none ∙ k.closed closing in cc)) (is_next first c h normal k next)
 
 -- a board whose plan has other overrides, or the same
-pub passed_even : (first : Opening) (was b : Controller) (m : Machine) (i : Interpreting) (h : Journal) → Keeps first was h → HasStopped first h → IsNextOf normal was.lines.left
+pub passed_even : (first : Opening) (was b : Board) (m : Machine) (i : Interpreting) (h : Journal) → Keeps first was h → HasStopped first h → IsNextOf normal was.lines.left
     → ((p : Planned) (now : Motion) (hand given : List Piece) → Runs was.machine p now hand given → Runs m (record p { overrides = normal_overrides }) now hand given)
     → b ≡ record was { machine = m } → i ≡ record b.lines { left = drop 1 b.lines.left } → Passed first (record b { lines = i }) h
 passed_even first was b m i h k stopped is runs e same =
-    subst (λ (x : Controller). i ≡ record x.lines { left = drop 1 x.lines.left } → Passed first (record x { lines = i }) h) (sym e) (λ s. (normal_over first) was m i h k stopped is runs s) same
+    subst (λ (x : Board). i ≡ record x.lines { left = drop 1 x.lines.left } → Passed first (record x { lines = i }) h) (sym e) (λ s. (normal_over first) was m i h k stopped is runs s) same
 
-pub passed_rest : (first : Opening) (was b : Controller) (i : Interpreting) (h : Journal) → Keeps first was h → HasStopped first h → IsNextOf (ask a_rest) was.lines.left
+pub passed_rest : (first : Opening) (was b : Board) (i : Interpreting) (h : Journal) → Keeps first was h → HasStopped first h → IsNextOf (ask a_rest) was.lines.left
     → b ≡ was → i ≡ record b.lines { left = drop 1 b.lines.left } → Passed first (record b { lines = i }) h
 passed_rest first was b i h k stopped is e same =
-    subst (λ (x : Controller). i ≡ record x.lines { left = drop 1 x.lines.left } → Passed first (record x { lines = i }) h) (sym e) (λ s. (rest_over first) was i h k stopped is s) same
+    subst (λ (x : Board). i ≡ record x.lines { left = drop 1 x.lines.left } → Passed first (record x { lines = i }) h) (sym e) (λ s. (rest_over first) was i h k stopped is s) same

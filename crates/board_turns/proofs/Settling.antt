@@ -28,16 +28,16 @@ use Rattle.board_rules.specs.Cuts.{has_cut}
 use Rattle.board_rules.specs.Turns.{this_turn, loads, has_blocks, has_jogged, waits_to_jog, is_full, is_going, is_halting, is_slowing, is_due, awaits_motion}
 use Rattle.board_rules.specs.Conduct.{Conducted, HasSlowedDown, AreWaiting}
 use Rattle.board_rules.proofs.Dropping.{asks_dropped, none_moves}
-use Rattle.controller.specs.declared.controller.Controller.{Controller}
+use Rattle.board_turns.specs.declared.board.Board.{Board}
 use Rattle.board_machine.specs.declared.machine.Machine.{Machine}
-use Rattle.controller.specs.Boards.{Keeps, NoneWaits, changes_left}
-use Rattle.controller.specs.Turning.{NoneFits, StaysSo, IsCutNow, IsUncut, IsFoundStopped, ComesOf, HasSettled, replanned}
-use Rattle.controller.specs.Turning.ComesOf.{is_held, is_cut, is_locked, is_over}
+use Rattle.board_turns.specs.Boards.{Keeps, NoneWaits, changes_left}
+use Rattle.board_turns.specs.Turning.{NoneFits, StaysSo, IsCutNow, IsUncut, IsFoundStopped, ComesOf, HasSettled, replanned}
+use Rattle.board_turns.specs.Turning.ComesOf.{is_held, is_cut, is_locked, is_over}
 use Rattle.board_rules.proofs.Uncut.{none_asked, cut_off}
-use Rattle.controller.proofs.Steps.{hand_empty, looked, other_flight}
-use Rattle.controller.proofs.Flying.{learned, learned_all}
+use Rattle.board_turns.proofs.Steps.{hand_empty, looked, other_flight}
+use Rattle.board_turns.proofs.Flying.{learned, learned_all}
 use Rattle.board_rules.proofs.Tries.{passes_none, passes_load, passes_motion, passes_cut, passes_on}
-use Rattle.controller.proofs.Ends.{same_calls}
+use Rattle.board_turns.proofs.Ends.{same_calls}
 
 -- ---- a machine that slowed down
 
@@ -49,14 +49,14 @@ none_in (Some p) is = absurd cc
 abbrev pub SlowedDown : Machine → Type 0
 SlowedDown m = (is_stopping m.hold.motion ≡ true) × (m.plan.speed ≡ 0) × (m.hand ≡ None)
 
-pub slowed_now : (first : Opening) (b : Controller) (h : Journal) → Keeps first b h → HasSlowedDown first h → SlowedDown b.machine
+pub slowed_now : (first : Opening) (b : Board) (h : Journal) → Keeps first b h → HasSlowedDown first h → SlowedDown b.machine
 slowed_now first b h k s = (
   ap is_stopping k.machine.motion_is ∙ s.slows,
   ap (λ (p : Planned). p.speed) k.machine.plan_is ∙ s.speed,
   none_in b.machine.hand (k.machine.hand_is ∙ s.empty),
 )
 
-pub slowed_is : (first : Opening) (b : Controller) (h : Journal) → Keeps first b h → SlowedDown b.machine → HasSlowedDown first h
+pub slowed_is : (first : Opening) (b : Board) (h : Journal) → Keeps first b h → SlowedDown b.machine → HasSlowedDown first h
 slowed_is first b h k s = record {
   slows = sym (ap is_stopping k.machine.motion_is) ∙ s.0;
   speed = sym (ap (λ (p : Planned). p.speed) k.machine.plan_is) ∙ s.1;
@@ -68,7 +68,7 @@ slowed_looked : (first : Opening) (done : ℕ) (h : Journal) → HasSlowedDown f
 slowed_looked first done h s = record { slows = s.slows; speed = s.speed; empty = s.empty }
 
 -- each tick is found done
-pub found_stopped : (first : Opening) (b : Controller) (f : Flying) (done : ℕ) (h : Journal) → Keeps first b h → HasSlowedDown first h → MayBeDone done (port_log h) → done ≡ b.machine.given
+pub found_stopped : (first : Opening) (b : Board) (f : Flying) (done : ℕ) (h : Journal) → Keeps first b h → HasSlowedDown first h → MayBeDone done (port_log h) → done ≡ b.machine.given
     → ((published : List Piece) (known : ℕ) → Flies first.place b.flight published known → Flies first.place f published (max known (min done (ticks_together published)))) → IsFoundStopped first f (at_port (loaded done) ∷ h)
 found_stopped first b f done h k slowed may all learns = record {
   stopped = record { slowed = slowed_looked first done h slowed; done = all ∙ k.machine.given_is };
@@ -77,7 +77,7 @@ found_stopped first b f done h k slowed may all learns = record {
 }
 
 -- a board whose flight has learned that
-pub looked_learned : (first : Opening) (b : Controller) (f : Flying) (done : ℕ) (h : Journal) → Keeps first b h → MayBeDone done (port_log h)
+pub looked_learned : (first : Opening) (b : Board) (f : Flying) (done : ℕ) (h : Journal) → Keeps first b h → MayBeDone done (port_log h)
     → ((published : List Piece) (known : ℕ) → Flies first.place b.flight published known → Flies first.place f published (max known (min done (ticks_together published)))) → Keeps first (record b { flight = f }) (at_port (loaded done) ∷ h)
 looked_learned first b f done h k may learns = other_flight first b f (at_port (loaded done) ∷ h) (looked first b done h k may) (learned first b f h done k may learns)
 
@@ -112,7 +112,7 @@ settled_none first h moves = record {
 }
 
 -- ticks are found not to be done
-pub settled_later : (first : Opening) (b : Controller) (h : Journal) (done : ℕ) → Keeps first b h → (done ≡ b.machine.given → ⊥) → HasSettled first h (at_port (loaded done) ∷ h)
+pub settled_later : (first : Opening) (b : Board) (h : Journal) (done : ℕ) → Keeps first b h → (done ≡ b.machine.given → ⊥) → HasSettled first h (at_port (loaded done) ∷ h)
 settled_later first b h done k fewer = record {
   passes = passes_load first done h;
   stays = inl (record { left = refl; hand = refl; plan = refl });

@@ -6,7 +6,7 @@ use Rattle.board_rules.specs.Steps.{Journal, motion_of}
 use Rattle.board_rules.specs.Cuts.{has_cut, is_cancelling}
 use Rattle.board_rules.specs.Turns.{is_halting, begins_in}
 use Rattle.board_machine.specs.Machines.{start_motion}
-use Rattle.controller.specs.Boards.{changes_left}
+use Rattle.board_turns.specs.Boards.{changes_left}
 
 -- the machine does not stand
 pub starts_off : {A : Type 0} (jog : Bool) → start_motion jog ≡ motions.Idle → A

@@ -40,20 +40,20 @@ use Rattle.board_rules.specs.Cuts.{has_cut}
 use Rattle.board_rules.specs.Turns.{owes_report, tells_next, is_full, is_due, is_going, has_blocks, stands_still, is_alarm, is_locked, awaits_unlock}
 use Rattle.board_rules.specs.Conduct.{Conducted, MayDo, IsNextTask, IsDrained, IsTimely, MayPoll, MayStart, MayTakeRequests, MayObey, IsReportAt}
 pub use Rattle.board_machine.proofs.Machining.{has_room}
-use Rattle.controller.specs.declared.controller.Controller.{Controller}
+use Rattle.board_turns.specs.declared.board.Board.{Board}
 use Rattle.board_machine.specs.declared.machine.Machine.{Machine}
 use Rattle.board_machine.specs.Machines.{Runs, StandsOrGoes, mode_in, start_motion}
-use Rattle.controller.specs.Boards.{Keeps, Works}
-use Rattle.controller.specs.Turning.{HasPiece, starting}
+use Rattle.board_turns.specs.Boards.{Keeps, Works}
+use Rattle.board_turns.specs.Turning.{HasPiece, starting}
 use Rattle.board_rules.proofs.Stages.{limit_alarms}
 use Rattle.board_rules.proofs.Uncut.{uncut_else, uncut_idle, cut_obeyed}
-use Rattle.controller.proofs.Starting.{uncut_started}
-pub use Rattle.controller.proofs.Turns.{closes, ends, other_beat, other_flags, other_flight, room_found}
-pub use Rattle.controller.proofs.Known.{is_next, hand_empty, none_by_test, in_hand, some_in_hand, hand_left, one_in_hand, hand_of_one, due_moves, due_now, at_rest, few_ticks, in_range, same_overrides, may_publish, may_answer, few_tried, begins_unlimited, begins_by, halts_by, none_halts, calm_now}
+use Rattle.board_turns.proofs.Starting.{uncut_started}
+pub use Rattle.board_turns.proofs.Turns.{closes, ends, other_beat, other_flags, other_flight, room_found}
+pub use Rattle.board_turns.proofs.Known.{is_next, hand_empty, none_by_test, in_hand, some_in_hand, hand_left, one_in_hand, hand_of_one, due_moves, due_now, at_rest, few_ticks, in_range, same_overrides, may_publish, may_publish_now, may_answer, few_tried, begins_unlimited, begins_by, halts_by, none_halts, calm_now}
 
 -- ---- at the port
 -- a piece is published
-pub sent : (first : Opening) (c : Controller) (m : Machine) (f : Flying) (p : Piece) (h : Journal) → Keeps first c h → hand_of h ≡ p ∷ [] → IsTimely p h → Runs m (plan_of h) (motion_of first h) [] (given_of h)
+pub sent : (first : Opening) (c : Board) (m : Machine) (f : Flying) (p : Piece) (h : Journal) → Keeps first c h → hand_of h ≡ p ∷ [] → IsTimely p h → Runs m (plan_of h) (motion_of first h) [] (given_of h)
     → ((known : ℕ) → Flies first.place c.flight (published_of h) known → Flies first.place f (published_of h ++ p ∷ []) known)
     → Keeps first (record c { machine = m; flight = f }) (at_port (published p) ∷ h)
 sent first c m f p h k is timely runs flies = record {
@@ -76,7 +76,7 @@ sent first c m f p h k is timely runs flies = record {
 }
 
 -- it is handed back
-pub not_sent : (first : Opening) (c : Controller) (done : ℕ) (h : Journal) → Keeps first c h → (hand_of h ≡ [] → ⊥) → LacksPieceRoom done (port_log h) → Keeps first c (at_port (no_piece_room done) ∷ h)
+pub not_sent : (first : Opening) (c : Board) (done : ℕ) (h : Journal) → Keeps first c h → (hand_of h ≡ [] → ⊥) → LacksPieceRoom done (port_log h) → Keeps first c (at_port (no_piece_room done) ∷ h)
 not_sent first c done h k some full = record {
   placed = k.placed;
   free = k.free;
@@ -97,7 +97,7 @@ not_sent first c done h k some full = record {
 }
 
 -- so many ticks are found done
-pub looked : (first : Opening) (c : Controller) (done : ℕ) (h : Journal) → Keeps first c h → MayBeDone done (port_log h) → Keeps first c (at_port (loaded done) ∷ h)
+pub looked : (first : Opening) (c : Board) (done : ℕ) (h : Journal) → Keeps first c h → MayBeDone done (port_log h) → Keeps first c (at_port (loaded done) ∷ h)
 looked first c done h k may = record {
   placed = k.placed;
   free = k.free;
@@ -118,7 +118,7 @@ looked first c done h k may = record {
 }
 
 -- a task less is left
-pub one_less : (c : Controller) (i : Interpreting) (first : Opening) (h : Journal) → Works c.lines (left_of first h) (before_of first h) → i ≡ record c.lines { left = drop 1 c.lines.left }
+pub one_less : (c : Board) (i : Interpreting) (first : Opening) (h : Journal) → Works c.lines (left_of first h) (before_of first h) → i ≡ record c.lines { left = drop 1 c.lines.left }
     → Works i (drop 1 (left_of first h)) (before_of first h)
 one_less c i first h w is = record {
   left_is = ap (λ (j : Interpreting). j.left) is ∙ ap (λ (ts : List Task). drop 1 ts) w.left_is;
@@ -145,7 +145,7 @@ awaits_none : (first : Opening) (h : Journal) → is_limited first.motion ≡ fa
 awaits_none first h free c = none_awaited first h (motion_of first h) refl (λ is. (limit_alarms first free h c is).0)
 
 -- a reply is told
-pub told : (first : Opening) (c : Controller) (i : Interpreting) (r : Reply) (h : Journal) → Keeps first c h → IsNextTask first (tell r) h → is_report r ≡ false → owes_report h ≡ false → (r ≡ Bye → hand_of h ≡ []) → i ≡ record c.lines { left = drop 1 c.lines.left }
+pub told : (first : Opening) (c : Board) (i : Interpreting) (r : Reply) (h : Journal) → Keeps first c h → IsNextTask first (tell r) h → is_report r ≡ false → owes_report h ≡ false → (r ≡ Bye → hand_of h ≡ []) → i ≡ record c.lines { left = drop 1 c.lines.left }
     → Keeps first (record c { lines = i }) (at_port (answered r) ∷ h)
 told first c i r h k next plain unowed empty is = record {
   placed = k.placed;
@@ -167,7 +167,7 @@ told first c i r h k next plain unowed empty is = record {
 }
 
 -- it is handed back
-pub not_told : (first : Opening) (c : Controller) (h : Journal) → Keeps first c h → tells_next (left_of first h) ≡ true → Keeps first c (at_port no_reply_room ∷ h)
+pub not_told : (first : Opening) (c : Board) (h : Journal) → Keeps first c h → tells_next (left_of first h) ≡ true → Keeps first c (at_port no_reply_room ∷ h)
 not_told first c h k next = record {
   placed = k.placed;
   free = k.free;
@@ -188,7 +188,7 @@ not_told first c h k next = record {
 }
 
 -- a report is told
-pub report_told : (first : Opening) (c : Controller) (r : Report) (h : Journal) (k : Keeps first c h) → IsReportAt first r h → Keeps first (record c { owes = false }) (at_port (reported r) ∷ h)
+pub report_told : (first : Opening) (c : Board) (r : Report) (h : Journal) (k : Keeps first c h) → IsReportAt first r h → Keeps first (record c { owes = false }) (at_port (reported r) ∷ h)
 report_told first c r h k may = record {
   placed = k.placed;
   free = k.free;
@@ -213,7 +213,7 @@ or_true true b e = refl
 or_true false b e = e
 
 -- it is handed back
-pub report_kept : (first : Opening) (c : Controller) (h : Journal) → Keeps first c h → owes_report h ≡ true → Keeps first (record c { owes = true }) (at_port no_reply_room ∷ h)
+pub report_kept : (first : Opening) (c : Board) (h : Journal) → Keeps first c h → owes_report h ≡ true → Keeps first (record c { owes = true }) (at_port no_reply_room ∷ h)
 report_kept first c h k owed = record {
   placed = k.placed;
   free = k.free;
@@ -234,7 +234,7 @@ report_kept first c h k owed = record {
 }
 
 -- no byte is found
-pub polled_empty : (first : Opening) (c : Controller) (h : Journal) → Keeps first c h → MayPoll first h → Keeps first c (at_port found_empty ∷ h)
+pub polled_empty : (first : Opening) (c : Board) (h : Journal) → Keeps first c h → MayPoll first h → Keeps first c (at_port found_empty ∷ h)
 polled_empty first c h k may = record {
   placed = k.placed;
   free = k.free;
@@ -255,7 +255,7 @@ polled_empty first c h k may = record {
 }
 
 -- none is found, and the link is closed
-pub polled_closed : (first : Opening) (c : Controller) (h : Journal) → Keeps first c h → MayPoll first h → Keeps first c (at_port found_closed ∷ h)
+pub polled_closed : (first : Opening) (c : Board) (h : Journal) → Keeps first c h → MayPoll first h → Keeps first c (at_port found_closed ∷ h)
 polled_closed first c h k may = record {
   placed = k.placed;
   free = k.free;
@@ -277,7 +277,7 @@ polled_closed first c h k may = record {
 
 -- ---- the plan
 -- a move is added
-pub added_move : (first : Opening) (c : Controller) (m : Machine) (i : Interpreting) (mv : PlannedMove) (h : Journal) → Keeps first c h → IsNextTask first (ask (a_move mv)) h → IsPlannedMove mv → is_full (plan_of h) ≡ false
+pub added_move : (first : Opening) (c : Board) (m : Machine) (i : Interpreting) (mv : PlannedMove) (h : Journal) → Keeps first c h → IsNextTask first (ask (a_move mv)) h → IsPlannedMove mv → is_full (plan_of h) ≡ false
     → Runs m (with_move (plan_of h) mv) (motion_of first h) (hand_of h) (given_of h) → i ≡ record c.lines { left = drop 1 c.lines.left }
     → Keeps first (record c { machine = m; lines = i }) (did (Add mv) [] ∷ h)
 added_move first c m i mv h k next planned room runs is = record {
@@ -317,7 +317,7 @@ may_take first h (inl goes) empty = subst (λ (mode : Mode). MayDo first (Take m
 may_take first h (inr slows) empty = subst (λ (mode : Mode). MayDo first (Take mode) h) (sym (stopping_mode (motion_of first h) slows)) (record { slows = slows; empty = empty })
 
 -- a segment is taken: to slow down where the machine is to stop
-pub took_segment : (first : Opening) (c : Controller) (m : Machine) (s : Segment) (h : Journal) → Keeps first c h → (is_going (motion_of first h) ≡ true) ⊎ (is_stopping (motion_of first h) ≡ true) → hand_of h ≡ []
+pub took_segment : (first : Opening) (c : Board) (m : Machine) (s : Segment) (h : Journal) → Keeps first c h → (is_going (motion_of first h) ≡ true) ⊎ (is_stopping (motion_of first h) ≡ true) → hand_of h ≡ []
     → IsNext (plan_of h) (mode_in (motion_of first h)) s → Runs m (advanced (plan_of h) s.n s.w_out) (motion_of first h) (pieces.Segment s ∷ []) (given_of h ++ pieces.Segment s ∷ [])
     → Keeps first (record c { machine = m }) (did (Take (mode_in (motion_of first h))) (pieces.Segment s ∷ []) ∷ h)
 took_segment first c m s h k moves empty next runs = record {
@@ -340,7 +340,7 @@ took_segment first c m s h k moves empty next runs = record {
 }
 
 -- the segment that is due comes into the empty hand
-pub took_next : (first : Opening) (c : Controller) (m : Machine) (h : Journal) → Keeps first c h → HasPiece first h → c.machine.hand ≡ None
+pub took_next : (first : Opening) (c : Board) (m : Machine) (h : Journal) → Keeps first c h → HasPiece first h → c.machine.hand ≡ None
     → ((p : Planned) (now : Motion) (given : List Piece) → Runs c.machine p now [] given
     → (s : Segment) × IsNext p (mode_in now) s × Runs m (advanced p s.n s.w_out) now (pieces.Segment s ∷ []) (given ++ pieces.Segment s ∷ []))
     → (s : Segment) × Keeps first (record c { machine = m }) (did (Take (mode_in (motion_of first h))) (pieces.Segment s ∷ []) ∷ h) × (is_due first h ≡ true) × (hand_of h ≡ [])
@@ -351,7 +351,7 @@ took_next first c m h k has none takes =
     (t.0, took_segment first c m t.0 h k (due_moves first c h k due) empty t.1 t.2, due, empty)
 
 -- a mark is made
-pub marked : (first : Opening) (c : Controller) (m : Machine) (i : Interpreting) (mark : AnyMark) (h : Journal) → Keeps first c h → IsNextTask first (ask (a_mark mark)) h → IsMark mark → hand_of h ≡ [] → IsAtRest (plan_of h)
+pub marked : (first : Opening) (c : Board) (m : Machine) (i : Interpreting) (mark : AnyMark) (h : Journal) → Keeps first c h → IsNextTask first (ask (a_mark mark)) h → IsMark mark → hand_of h ≡ [] → IsAtRest (plan_of h)
     → Runs m (plan_of h) (motion_of first h) (pieces.Mark mark ∷ []) (given_of h ++ pieces.Mark mark ∷ []) → i ≡ record c.lines { left = drop 1 c.lines.left }
     → Keeps first (record c { machine = m; lines = i }) (did (Mark mark) (pieces.Mark mark ∷ []) ∷ h)
 marked first c m i mark h k next good empty rest runs is = record {
@@ -374,7 +374,7 @@ marked first c m i mark h k next good empty rest runs is = record {
 }
 
 -- a rest is over
-pub rested : (first : Opening) (c : Controller) (i : Interpreting) (h : Journal) → Keeps first c h → IsNextTask first (ask a_rest) h → IsDrained h → motion_of first h ≡ motions.Idle → i ≡ record c.lines { left = drop 1 c.lines.left }
+pub rested : (first : Opening) (c : Board) (i : Interpreting) (h : Journal) → Keeps first c h → IsNextTask first (ask a_rest) h → IsDrained h → motion_of first h ≡ motions.Idle → i ≡ record c.lines { left = drop 1 c.lines.left }
     → Keeps first (record c { lines = i }) (did Rest [] ∷ h)
 rested first c i h k next drained stands is = record {
   placed = k.placed;
@@ -396,7 +396,7 @@ rested first c i h k next drained stands is = record {
 }
 
 -- each override is set to 100 percent
-pub evens : (first : Opening) (c : Controller) (m : Machine) (i : Interpreting) (h : Journal) → Keeps first c h → IsNextTask first normal h → IsDrained h → motion_of first h ≡ motions.Idle
+pub evens : (first : Opening) (c : Board) (m : Machine) (i : Interpreting) (h : Journal) → Keeps first c h → IsNextTask first normal h → IsDrained h → motion_of first h ≡ motions.Idle
     → Runs m (record (plan_of h) { overrides = normal_overrides }) (motion_of first h) (hand_of h) (given_of h) → i ≡ record c.lines { left = drop 1 c.lines.left }
     → Keeps first (record c { machine = m; lines = i }) (evened ∷ h)
 evens first c m i h k next drained stands runs is = record {
@@ -419,7 +419,7 @@ evens first c m i h k next drained stands runs is = record {
 }
 
 -- the machine is held for a pause
-pub held_for_pause : (first : Opening) (c : Controller) (m : Machine) (i : Interpreting) (h : Journal) → Keeps first c h → IsNextTask first pause h → IsDrained h → motion_of first h ≡ motions.Idle
+pub held_for_pause : (first : Opening) (c : Board) (m : Machine) (i : Interpreting) (h : Journal) → Keeps first c h → IsNextTask first pause h → IsDrained h → motion_of first h ≡ motions.Idle
     → Runs m (plan_of h) motions.Held (hand_of h) (given_of h) → i ≡ record c.lines { left = drop 1 c.lines.left } → Keeps first (record c { machine = m; lines = i }) (paused ∷ h)
 held_for_pause first c m i h k next drained stands runs is = record {
   placed = k.placed;
@@ -441,7 +441,7 @@ held_for_pause first c m i h k next drained stands runs is = record {
 }
 
 -- the end is made
-pub ended : (first : Opening) (c : Controller) (m : Machine) (i : Interpreting) (h : Journal) → Keeps first c h → IsNextTask first finish h → IsDrained h → stands_still (motion_of first h) ≡ true → (closed_tells h ≡ [] → ⊥)
+pub ended : (first : Opening) (c : Board) (m : Machine) (i : Interpreting) (h : Journal) → Keeps first c h → IsNextTask first finish h → IsDrained h → stands_still (motion_of first h) ≡ true → (closed_tells h ≡ [] → ⊥)
     → Runs m (plan_of h) (motion_of first h) (pieces.End ∷ []) (given_of h ++ pieces.End ∷ []) → i ≡ record c.lines { left = drop 1 c.lines.left }
     → Keeps first (record c { machine = m; lines = i }) (made_end ∷ h)
 ended first c m i h k next drained stands closes runs is = record {
@@ -470,7 +470,7 @@ starts_to false now stands = ap (λ m. after (on_start false) m) stands
 starts_to true now stands = ap (λ m. after (on_start true) m) stands
 
 -- queued blocks start the cycle, or a jog
-pub started : (first : Opening) (c : Controller) (m : Machine) (jog : Bool) (h : Journal) → Keeps first c h → motion_of first h ≡ motions.Idle → MayStart first jog h → Runs m (plan_of h) (start_motion jog) (hand_of h) (given_of h)
+pub started : (first : Opening) (c : Board) (m : Machine) (jog : Bool) (h : Journal) → Keeps first c h → motion_of first h ≡ motions.Idle → MayStart first jog h → Runs m (plan_of h) (start_motion jog) (hand_of h) (given_of h)
     → Keeps first (record c { machine = m }) (starting jog h)
 started first c m jog h k stands may runs = record {
   placed = k.placed;
@@ -502,7 +502,7 @@ not_cancelled now (inr (inl e)) is = absurd (let f = sym e ∙ is in cc)
 not_cancelled now (inr (inr e)) is = absurd (let f = sym e ∙ is in cc)
 
 -- the cycle is over
-pub drained : (first : Opening) (c : Controller) (m : Machine) (h : Journal) → Keeps first c h → StandsOrGoes (motion_of first h) → IsDrained h → Runs m (plan_of h) motions.Idle (hand_of h) (given_of h)
+pub drained : (first : Opening) (c : Board) (m : Machine) (h : Journal) → Keeps first c h → StandsOrGoes (motion_of first h) → IsDrained h → Runs m (plan_of h) motions.Idle (hand_of h) (given_of h)
     → Keeps first (record c { machine = m }) (became on_drained motions.Idle ∷ h)
 drained first c m h k was may runs = record {
   placed = k.placed;

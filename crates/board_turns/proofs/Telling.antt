@@ -27,17 +27,17 @@ use Rattle.board_rules.specs.Turns.{this_turn, has_blocks, is_going, finds_free}
 use Rattle.board_rules.specs.Conduct.{IsDrained, HasSlowedDown, IsStopped, ticks_given, MayObey}
 use Rattle.board_rules.proofs.Keeping.{run_is}
 use Rattle.board_rules.proofs.Taking.{no_jog_to_start}
-use Rattle.controller.specs.declared.controller.Controller.{Controller}
+use Rattle.board_turns.specs.declared.board.Board.{Board}
 use Rattle.board_machine.specs.declared.machine.Machine.{Machine}
 use Rattle.board_machine.specs.Machines.{Runs, StandsOrGoes, observed, settled}
-use Rattle.controller.specs.Boards.{Keeps}
-use Rattle.controller.specs.Reporting.{HasObserved, HasAskedRoom, IsReported, MayObeyNow, obeying}
-use Rattle.controller.specs.Turning.{ComesOf}
-use Rattle.controller.proofs.Steps.{looked, drained, other_flight, at_rest, halts_by}
-use Rattle.controller.proofs.Requests.{obeys}
-use Rattle.controller.proofs.Settling.{CameOf, came_of, port_came, published_came, known_came}
+use Rattle.board_turns.specs.Boards.{Keeps}
+use Rattle.board_turns.specs.Reporting.{HasObserved, HasAskedRoom, IsReported, MayObeyNow, obeying}
+use Rattle.board_turns.specs.Turning.{ComesOf}
+use Rattle.board_turns.proofs.Steps.{looked, drained, other_flight, at_rest, halts_by}
+use Rattle.board_turns.proofs.Requests.{obeys}
+use Rattle.board_turns.proofs.Settling.{CameOf, came_of, port_came, published_came, known_came}
 use Rattle.board_rules.proofs.Tries.{passes_load, passes_motion, passes_on}
-use Rattle.controller.proofs.Ends.{none_called}
+use Rattle.board_turns.proofs.Ends.{none_called}
 
 -- ---- what is observed
 
@@ -56,7 +56,7 @@ observed_now m now p [] false none e is = absurd cc
 observed_now m now p (x ∷ xs) all none e is = absurd cc
 
 -- a machine that keeps its plan, its motion and its hand
-pub other_machine : (first : Opening) (c : Controller) (m : Machine) (h : Journal) → Keeps first c h → Runs m (plan_of h) (motion_of first h) (hand_of h) (given_of h) → Keeps first (record c { machine = m }) h
+pub other_machine : (first : Opening) (c : Board) (m : Machine) (h : Journal) → Keeps first c h → Runs m (plan_of h) (motion_of first h) (hand_of h) (given_of h) → Keeps first (record c { machine = m }) h
 other_machine first c m h k runs = record {
   placed = k.placed;
   free = k.free;
@@ -120,7 +120,7 @@ observed_came first h next came = record {
 -- ---- a look
 
 -- what a board with another machine and another flight has observed
-abbrev pub Observes : Opening → Controller → Machine → Flying → ℕ → Journal → Type 0
+abbrev pub Observes : Opening → Board → Machine → Flying → ℕ → Journal → Type 0
 Observes first c m f done h =
     (next : Journal) × (port_log next ≡ loaded done ∷ port_log h) × Keeps first (record c { machine = m; flight = f }) next × HasObserved first h next × Flies first.place f (published_of next) (known_of next)
 
@@ -135,7 +135,7 @@ equal_tests : (a b : ℕ) → a ≡ b → nat_eq a b ≡ true
 equal_tests a b e = grind (arith, nat_tests, e)
 
 -- a machine that has not stopped
-pub looks : (first : Opening) (c : Controller) (m : Machine) (f : Flying) (done : ℕ) (h : Journal) → Keeps first c h → MayBeDone done (port_log h) → Flies first.place f (published_of h) done → (IsStopped first (at_port (loaded done) ∷ h) → ⊥)
+pub looks : (first : Opening) (c : Board) (m : Machine) (f : Flying) (done : ℕ) (h : Journal) → Keeps first c h → MayBeDone done (port_log h) → Flies first.place f (published_of h) done → (IsStopped first (at_port (loaded done) ∷ h) → ⊥)
     → Runs m (plan_of h) (observed (motion_of first h) (plan_of h) (hand_of h) (nat_eq done (ticks_given h))) (hand_of h) (given_of h) → Observes first c m f done h
 looks first c m f done h k may flies moves runs = by_hand (hand_of h) refl
   where
@@ -200,7 +200,7 @@ looks first c m f done h k may flies moves runs = by_hand (hand_of h) refl
         stays (observed_kept (motion_of first h) (plan_of h) (hand_of h) (nat_eq done (ticks_given h)) some) (λ d. absurd (some d.hand))
 
 -- a machine that has stopped
-pub looks_stopped : (first : Opening) (b : Controller) (f : Flying) (d : Controller) (done : ℕ) (h next : Journal) → Keeps first b h → HasSlowedDown first h → d.flight ≡ f → Flies first.place f (published_of h) done → ComesOf first (at_port (loaded done) ∷ h) next → Keeps first d next
+pub looks_stopped : (first : Opening) (b : Board) (f : Flying) (d : Board) (done : ℕ) (h next : Journal) → Keeps first b h → HasSlowedDown first h → d.flight ≡ f → Flies first.place f (published_of h) done → ComesOf first (at_port (loaded done) ∷ h) next → Keeps first d next
     → (port_log next ≡ loaded done ∷ port_log h) × HasObserved first h next × Flies first.place d.flight (published_of next) (known_of next)
 looks_stopped first b f d done h next k slowed same flies comes keeps =
     let mid : Journal = at_port (loaded done) ∷ h in (
@@ -233,7 +233,7 @@ few_behind most p last (Take mode ∷ rest) (pieces.Segment s ∷ ps) few run =
 few_behind most p last (Mark m ∷ rest) (pieces.Mark g ∷ ps) few run = few_behind most p last rest ps few run.3
 few_behind most p last rest ps few run = absurd run
 
-pub few_blocks : (first : Opening) (c : Controller) (h : Journal) → Keeps first c h → length c.machine.plan.blocks ≤ most_blocks
+pub few_blocks : (first : Opening) (c : Board) (h : Journal) → Keeps first c h → length c.machine.plan.blocks ≤ most_blocks
 few_blocks first c h k =
     subst (λ (p : Planned). length p.blocks ≤ most_blocks) (sym k.machine.plan_is)
     (few_behind most_blocks fresh_plan (plan_of h) (actions_of h) (planned_of h) (omega arith) (run_is first h k.conducted))
@@ -245,7 +245,7 @@ either : (a b : Bool) → a ≡ true → (a || b) ≡ true
 either true b e = refl
 either false b e = absurd cc
 
-pub asked_room : (first : Opening) (c : Controller) (free bytes : ℕ) (h : Journal) → Keeps first c h → free + length c.machine.plan.blocks ≡ most_blocks → HasAskedRoom (Some (free, bytes)) h (at_port (found_free bytes) ∷ h)
+pub asked_room : (first : Opening) (c : Board) (free bytes : ℕ) (h : Journal) → Keeps first c h → free + length c.machine.plan.blocks ≡ most_blocks → HasAskedRoom (Some (free, bytes)) h (at_port (found_free bytes) ∷ h)
 asked_room first c free bytes h k room = record {
   are = inr (bytes, refl);
   room = (
@@ -260,7 +260,7 @@ told_or_lacks : (told : Bool) (A : Type 0) → (told ≡ false → A) → not to
 told_or_lacks true A f e = absurd cc
 told_or_lacks false A f e = f refl
 
-pub may_obey : (first : Opening) (c : Controller) (told : Bool) (word : Exec) (h : Journal) → Keeps first c h → IsReported first told (Some word) h → MayObey first word (has_blocks (plan_of h).blocks) h
+pub may_obey : (first : Opening) (c : Board) (told : Bool) (word : Exec) (h : Journal) → Keeps first c h → IsReported first told (Some word) h → MayObey first word (has_blocks (plan_of h).blocks) h
 may_obey first c told word h k r = record {
   next = r.words;
   reported = λ owed. told_or_lacks told _ r.lacks (sym r.owed ∙ owed);
@@ -271,11 +271,11 @@ may_obey first c told word h k r = record {
   halts = halts_by first c h k;
 }
 
-pub may_obey_now : (first : Opening) (c : Controller) (told : Bool) (waiting : Option Exec) (h : Journal) → Keeps first c h → IsReported first told waiting h → MayObeyNow first waiting h
+pub may_obey_now : (first : Opening) (c : Board) (told : Bool) (waiting : Option Exec) (h : Journal) → Keeps first c h → IsReported first told waiting h → MayObeyNow first waiting h
 may_obey_now first c told None h k r = tt
 may_obey_now first c told (Some word) h k r = may_obey first c told word h k r
 
-pub obeys_waiting : (first : Opening) (c : Controller) (m : Machine) (waiting : Option Exec) (word : Exec) (h : Journal) → waiting ≡ Some word → Keeps first c h → MayObeyNow first waiting h
+pub obeys_waiting : (first : Opening) (c : Board) (m : Machine) (waiting : Option Exec) (word : Exec) (h : Journal) → waiting ≡ Some word → Keeps first c h → MayObeyNow first waiting h
     → Runs m (plan_of h) (after_word word (has_blocks (plan_of h).blocks) (motion_of first h)) (hand_of h) (given_of h) → Keeps first (record c { machine = m }) (obeying first waiting h)
 obeys_waiting first c m waiting word h is k may runs =
     subst (λ (w : Option Exec). Keeps first (record c { machine = m }) (obeying first w h)) (sym is) (obeys first c m word h k (subst (λ (w : Option Exec). MayObeyNow first w h) is may) runs)

@@ -11,15 +11,15 @@ use Rattle.board_rules.specs.Ports.PortStep.{found_free}
 use Rattle.board_rules.specs.Steps.{Journal}
 use Rattle.board_rules.specs.Steps.Step.{at_port, closing, turned}
 use Rattle.board_rules.specs.Conduct.{MayTurn, MayClose}
-use Rattle.controller.specs.declared.controller.Controller.{Controller}
-use Rattle.controller.specs.declared.controller.Beat.{Beat}
-use Rattle.controller.specs.declared.controller.Flags.{Flags}
-use Rattle.controller.specs.Boards.{Keeps, IsFlown}
+use Rattle.board_turns.specs.declared.board.Board.{Board}
+use Rattle.board_turns.specs.declared.board.Beat.{Beat}
+use Rattle.board_turns.specs.declared.board.Flags.{Flags}
+use Rattle.board_turns.specs.Boards.{Keeps, IsFlown}
 
 -- ---- the run and the turns
 
 -- the run is being closed
-pub closes : (first : Opening) (c : Controller) (i : Interpreting) (h : Journal) → Keeps first c h → MayClose first h → i ≡ record c.lines { left = finish ∷ tell Bye ∷ [] }
+pub closes : (first : Opening) (c : Board) (i : Interpreting) (h : Journal) → Keeps first c h → MayClose first h → i ≡ record c.lines { left = finish ∷ tell Bye ∷ [] }
     → Keeps first (record c { lines = i; closing = true }) (closing ∷ h)
 closes first c i h k may is = record {
   placed = k.placed;
@@ -45,7 +45,7 @@ closes first c i h k may is = record {
 }
 
 -- a turn ends
-pub ends : (first : Opening) (c : Controller) (t : Turn) (h : Journal) → Keeps first c h → MayTurn first t h → Keeps first c (turned t ∷ h)
+pub ends : (first : Opening) (c : Board) (t : Turn) (h : Journal) → Keeps first c h → MayTurn first t h → Keeps first c (turned t ∷ h)
 ends first c t h k may = record {
   placed = k.placed;
   free = k.free;
@@ -66,7 +66,7 @@ ends first c t h k may = record {
 }
 
 -- the room on the link is asked for
-pub room_found : (first : Opening) (c : Controller) (bytes : ℕ) (h : Journal) → Keeps first c h → Keeps first c (at_port (found_free bytes) ∷ h)
+pub room_found : (first : Opening) (c : Board) (bytes : ℕ) (h : Journal) → Keeps first c h → Keeps first c (at_port (found_free bytes) ∷ h)
 room_found first c bytes h k = record {
   placed = k.placed;
   free = k.free;
@@ -87,7 +87,7 @@ room_found first c bytes h k = record {
 }
 
 -- what the next turn begins with is no part of it, nor which words of flags it takes
-pub other_beat : (first : Opening) (c : Controller) (b : Beat) (h : Journal) → Keeps first c h → Keeps first (record c { beat = b }) h
+pub other_beat : (first : Opening) (c : Board) (b : Beat) (h : Journal) → Keeps first c h → Keeps first (record c { beat = b }) h
 other_beat first c b h k = record {
   placed = k.placed;
   free = k.free;
@@ -107,7 +107,7 @@ other_beat first c b h k = record {
   tries = k.tries;
 }
 
-pub other_flags : (first : Opening) (c : Controller) (f : Flags) (h : Journal) → Keeps first c h → Keeps first (record c { flags = f }) h
+pub other_flags : (first : Opening) (c : Board) (f : Flags) (h : Journal) → Keeps first c h → Keeps first (record c { flags = f }) h
 other_flags first c f h k = record {
   placed = k.placed;
   free = k.free;
@@ -128,7 +128,7 @@ other_flags first c f h k = record {
 }
 
 -- the flight may know of more ticks
-pub other_flight : (first : Opening) (c : Controller) (f : Flying) (h : Journal) → Keeps first c h → IsFlown first f h → Keeps first (record c { flight = f }) h
+pub other_flight : (first : Opening) (c : Board) (f : Flying) (h : Journal) → Keeps first c h → IsFlown first f h → Keeps first (record c { flight = f }) h
 other_flight first c f h k flown = record {
   placed = k.placed;
   free = k.free;

@@ -23,16 +23,13 @@ use Rattle.board_rules.specs.Turns.{this_turn, unobeyed_of, owes_report, moving,
 use Rattle.board_rules.specs.Conduct.{Conducted, AreWaiting}
 use Rattle.board_rules.specs.Cuts.{has_cut}
 pub use Rattle.board_rules.specs.Within.{changes_left}
-use Rattle.board_rules.specs.Breaking.{Doings, Ending, IsConducted, ending_of, turn_of}
-use Rattle.board_rules.specs.Breaking.Doings.{goes, broke}
-use Rattle.board_rules.specs.Breaking.Ending.{publishes_end, tells_bye, over}
 use Rattle.units.specs.Truths.{one_if}
-use Rattle.controller.specs.declared.controller.Controller.{Controller}
-use Rattle.controller.specs.declared.controller.Flags.{Flags}
-use Rattle.controller.specs.declared.controller.Flags.TheVariants as words
-use Rattle.controller.specs.declared.controller.Beat.{Beat}
-use Rattle.controller.specs.declared.controller.Beat.TheVariants.{Motion, Main}
-use Rattle.controller.specs.declared.input.Input.{Input}
+use Rattle.board_turns.specs.declared.board.Board.{Board}
+use Rattle.board_turns.specs.declared.board.Flags.{Flags}
+use Rattle.board_turns.specs.declared.board.Flags.TheVariants as words
+use Rattle.board_turns.specs.declared.board.Beat.{Beat}
+use Rattle.board_turns.specs.declared.board.Beat.TheVariants.{Motion, Main}
+use Rattle.board_turns.specs.declared.input.Input.{Input}
 use Rattle.board_machine.specs.Machines.{Runs}
 use Rattle.board_rules.specs.Limiting.{limit_pending}
 
@@ -58,7 +55,7 @@ pub record IsFlown (first : Opening) (f : Flying) (h : Journal) : Type 0 where
 
 -- What the fields of a board keep of all that it did since an opening, which its rules allow; the machine is not locked there. The motion is stopped
 -- for a line that a soft limit stops, and few tries to publish stand behind the last poll there.
-pub record Keeps (first : Opening) (board : Controller) (h : Journal) : Type 0 where
+pub record Keeps (first : Opening) (board : Board) (h : Journal) : Type 0 where
   pub placed : IsPlaced first
   pub free : is_limited first.motion ≡ false
   pub short : first.lines + 2 < 2 ^ 31
@@ -132,7 +129,7 @@ abbrev pub GoingBetween : Journal → Type 0
 GoingBetween h = this_turn h ≡ []
 
 -- What the fields of a board say between two turns. The last one published no piece where words of flags are to be taken.
-pub record GoingFits (first : Opening) (board : Controller) (h : Journal) : Type 0 where
+pub record GoingFits (first : Opening) (board : Board) (h : Journal) : Type 0 where
   pub keeps : Keeps first board h
   pub rounds : Rounds first board.beat h
   pub flags : TakesFlags board.flags h
@@ -152,57 +149,16 @@ words_left (words.Report word) = 0
 abbrev pub number_of : Opening → Flags → Journal → ℕ
 number_of first f h = 3 * (words_left f + pauses (left_of first h)) + changes_left (motion_of first h) (has_cut h) + one_if (nat_eq (length (closed_tells h)) 0)
 
+abbrev pub board_number : Opening → Board → Journal → ℕ
+board_number first board h = number_of first board.flags h
+
 -- A turn adds what was done in it, and its answer; where that is Did, something moves, or the board's number falls.
-pub record GoingTurned (first : Opening) (t : Turn) (was is : Controller) (h next : Journal) : Type 0 where
+pub record GoingTurned (first : Opening) (t : Turn) (was is : Board) (h next : Journal) : Type 0 where
   pub steps : List Step
   pub are : next ≡ turned t ∷ (steps ++ h)
   pub moves : t ≡ Did → (list_any moving (this_turn (steps ++ h)) ≡ true) ⊎ (number_of first is.flags next < number_of first was.flags h)
 
 -- a board that has closed its run, and has nothing left to do
-pub record BoardRests (board : Controller) : Type 0 where
+pub record BoardIsOver (board : Board) : Type 0 where
   pub closing : board.closing ≡ true
   pub none : board.lines.left ≡ []
-
--- ---- with its end by a reset
-
--- what is left to do of the run's end
-abbrev pub left_to_end : Ending → List Task
-left_to_end publishes_end = closing_work
-left_to_end tells_bye = tell Bye ∷ []
-left_to_end over = []
-
--- What the fields of a board say whose run a reset has ended.
-pub record BrokenFits (board : Controller) (since before : Journal) : Type 0 where
-  pub first : State
-  pub opening : IsOpening first
-  pub conducted : IsConducted first (broke since before)
-  pub reset : board.reset ≡ true
-  pub closing : board.closing ≡ true
-  pub left : board.lines.left ≡ left_to_end (ending_of since before)
-
--- What the fields of a board say of all that it did. Where a word that asks for a reset was taken, its run is ended, or over.
-abbrev pub BoardFits : Controller → Doings → Type 0
-BoardFits board (goes h) = (state : State) × IsOpening state × GoingFits (first_opening state) board h × (board.reset ≡ true → BoardRests board)
-BoardFits board (broke since before) = BrokenFits board since before
-
--- between two turns
-abbrev pub IsBetween : Doings → Type 0
-IsBetween d = turn_of d ≡ []
-
--- a turn of a run that a reset has ended adds what was done in it, and its answer; where that is Did, something moves
-pub record EndTurned (t : Turn) (since next : Journal) : Type 0 where
-  pub steps : List Step
-  pub are : next ≡ turned t ∷ (steps ++ since)
-  pub moves : t ≡ Did → list_any moving (this_turn (steps ++ since)) ≡ true
-
--- A turn adds what was done in it. Where it took a word that asks for a reset, the run is ended behind it.
-abbrev pub BoardTurned : Turn → Controller → Controller → Doings → Doings → Type 0
-BoardTurned t was is (goes h) (goes next) = (state : State) → GoingTurned (first_opening state) t was is h next
-BoardTurned t was is (goes h) (broke since next) = (since ≡ []) × ((state : State) → GoingTurned (first_opening state) t was is h next)
-BoardTurned t was is (broke since h) (goes next) = ⊥
-BoardTurned t was is (broke since h) (broke next before) = (before ≡ h) × EndTurned t since next
-
--- the number of a board, which no state changes: where a reset has ended its run, each turn that answers Did moves something
-abbrev pub number_in : State → Flags → Doings → ℕ
-number_in state f (goes h) = number_of (first_opening state) f h
-number_in state f (broke since before) = 0

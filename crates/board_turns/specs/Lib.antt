@@ -1,5 +1,4 @@
 pub mod Boards
-pub mod Breaking
 pub mod Turning
 pub mod Reporting
 pub use Rattle.board_rules.specs.Conduct

@@ -33,10 +33,10 @@ use Rattle.board_rules.specs.Turns.{
   waits_of,
 }
 use Rattle.board_rules.specs.Conduct.{IsDrained, IsStopped, AreWaiting, MayObey, IsRoom, feed_of, shown_as, ticks_given}
-use Rattle.controller.specs.declared.controller.Controller.{Controller}
-use Rattle.controller.specs.Boards.{NoneWaits, IsAsked}
-pub use Rattle.controller.specs.Turning.{obeying}
-use Rattle.controller.specs.Turning.{AreWorked, PassesNothing, NoneFits, StaysSo, IsCutNow}
+use Rattle.board_turns.specs.declared.board.Board.{Board}
+use Rattle.board_turns.specs.Boards.{NoneWaits, IsAsked}
+pub use Rattle.board_turns.specs.Turning.{obeying}
+use Rattle.board_turns.specs.Turning.{AreWorked, PassesNothing, NoneFits, StaysSo, IsCutNow}
 
 -- ---- what is known
 
@@ -73,7 +73,7 @@ pub record HasAskedRoom (buffer : Option (ℕ × ℕ)) (h next : Journal) : Type
   pub room : IsRoom buffer next
 
 -- a report tells what a board keeps, and what was found in this turn
-pub record IsTold (first : Opening) (board : Controller) (r : Report) (h : Journal) : Type 0 where
+pub record IsTold (first : Opening) (board : Board) (r : Report) (h : Journal) : Type 0 where
   pub shows : Shows (machine_from first.place (published_of h) (known_of h)) board.lines.state r
   pub room : IsRoom r.buffer h
   pub feed : r.f ≡ cond (nat_lt (known_of h) (ticks_given h)) (feed_of (plan_of h).speed) 0

@@ -32,12 +32,12 @@ use Rattle.board_rules.specs.Turns.{this_turn, publishing, passing, moving, foun
 use Rattle.board_rules.specs.Conduct.{MayTurn, IsNextTask, IsDrained, HasSlowedDown, IsStopped, AreWaiting, ticks_given}
 use Rattle.units.specs.Truths.{one_if}
 pub use Rattle.board_rules.specs.Within.{AreWorked, MayFinish, PassesNothing, DidAlone, MayHaveLooked, Tried, HasTried}
-use Rattle.controller.specs.declared.controller.Controller.{Controller}
+use Rattle.board_turns.specs.declared.board.Board.{Board}
 use Rattle.board_machine.specs.Machines.{start_motion, limit_motion}
-use Rattle.controller.specs.declared.controller.Beat.TheVariants.{Motion}
-use Rattle.controller.specs.declared.controller.Flags.{Flags}
-use Rattle.controller.specs.declared.controller.Flags.TheVariants as words
-use Rattle.controller.specs.Boards.{Keeps, Reads, Rounds, NoneWaits, TakesFlags, takes_no_word, has_published, changes_left, number_of}
+use Rattle.board_turns.specs.declared.board.Beat.TheVariants.{Motion}
+use Rattle.board_turns.specs.declared.board.Flags.{Flags}
+use Rattle.board_turns.specs.declared.board.Flags.TheVariants as words
+use Rattle.board_turns.specs.Boards.{Keeps, Reads, Rounds, NoneWaits, TakesFlags, takes_no_word, has_published, changes_left, number_of}
 
 -- ---- what is known
 
@@ -150,7 +150,7 @@ pub record MayJudge (first : Opening) (h : Journal) : Type 0 where
   pub starts : AreWaiting first h → begins_with_dollar (open_of h) ≡ false
 
 -- A line was judged, of which this becomes; it is not begun yet.
-pub record IsJudged (first : Opening) (was now : Controller) (h : Journal) (o : Outcome) : Type 0 where
+pub record IsJudged (first : Opening) (was now : Board) (h : Journal) (o : Outcome) : Type 0 where
   pub keeps : Keeps first was h
   pub may : MayJudge first h
   pub found : Found (machine_in (motion_of first h)) (before_of first h) (open_of h) o
@@ -301,7 +301,7 @@ pub record HasSettled (first : Opening) (h next : Journal) : Type 0 where
 
 -- What was done up to the end of a turn, before its answer: the board keeps it, the rules allow the answer, and where it is
 -- Did something moved in the turn, or the board's number fell. It answers a wait only where it did not publish.
-pub record BoardWorked (first : Opening) (t : Turn) (was : Flags) (board : Controller) (h next : Journal) : Type 0 where
+pub record BoardWorked (first : Opening) (t : Turn) (was : Flags) (board : Board) (h next : Journal) : Type 0 where
   pub keeps : Keeps first board next
   pub rounds : Rounds first board.beat next
   pub flags : TakesFlags board.flags next
@@ -313,5 +313,5 @@ pub record BoardWorked (first : Opening) (t : Turn) (was : Flags) (board : Contr
   pub moves : t ≡ Did → (list_any moving (this_turn next) ≡ true) ⊎ (number_of first board.flags next < number_of first was h)
 
 -- behind a journal a board has worked up to an answer, and its port stands for that
-abbrev pub WorksOn : Opening → (BoardLog → Type 0) → Turn → Flags → Controller → Journal → Type 0
+abbrev pub WorksOn : Opening → (BoardLog → Type 0) → Turn → Flags → Board → Journal → Type 0
 WorksOn first stands t was board h = (next : Journal) × stands (port_log next) × BoardWorked first t was board h next

@@ -10,19 +10,22 @@ ghost use Rattle.line_interpreter.specs.Desks.{kind_told};
 ghost use Rattle.run_rules.specs.Work.Task.{ask, tell, pause, normal, finish};
 ghost use Rattle.step_line.specs.Asking.Asked.{a_rest};
 ghost use Rattle.board_rules.specs.Ports.PortStep.{took};
-ghost use Rattle.board_rules.specs.Steps.{Journal, port_log, left_of, motion_of, has_closed};
-ghost use Rattle.board_rules.specs.Openings.{Opening};
+ghost use Rattle.run_rules.specs.declared.State.{State};
+ghost use Rattle.run_rules.specs.States.{IsOpening};
+ghost use Rattle.board_rules.specs.Breaking.{is_end};
+ghost use Rattle.board_rules.specs.Ports.{has_reset_in};
+ghost use Rattle.board_rules.specs.Steps.{Journal, port_log, published_of, left_of, motion_of, has_closed};
+ghost use Rattle.board_rules.specs.Openings.{Opening, first_opening};
 ghost use Rattle.board_rules.specs.Steps.Step.{at_port};
-ghost use Rattle.board_rules.specs.Breaking.Doings.{goes};
 ghost use Rattle.board_rules.specs.Turns.{this_turn, awaits_motion, begins_in, machine_in, needs_motion, flags_taken, found_nothing, has_blocks, is_full};
 ghost use Rattle.board_rules.specs.Conduct.{IsNextTask, MayTake, MayPoll};
-ghost use Rattle.controller.specs.Boards.{Keeps, BoardFits, GoingFits, GoingTurned, BoardRests, GoingBetween, IsFree, TakesFlags, takes_no_word, number_of};
-ghost use Rattle.controller.specs.Turning.{IsNextMove, HasPiece, IsReady, MayRun, MayAwait, MayJudge, IsLooked, NeedsNoWait, IsWholeLine, HasPolled, HasStopped, PassesNothing, DidAlone, HasLooked, HasAdded, HasFilled, HasBegun, Tried, HasTried, BoardWorked, IsHeldUp, IsJudged, GoesOn, HasSettled, IsPassed, WorksOn};
+ghost use Rattle.board_turns.specs.Boards.{Keeps, GoingFits, GoingTurned, BoardIsOver, GoingBetween, IsFree, TakesFlags, takes_no_word, board_number};
+ghost use Rattle.board_turns.specs.Turning.{IsNextMove, HasPiece, IsReady, MayRun, MayAwait, MayJudge, IsLooked, NeedsNoWait, IsWholeLine, HasPolled, HasStopped, PassesNothing, DidAlone, HasLooked, HasAdded, HasFilled, HasBegun, Tried, HasTried, BoardWorked, IsHeldUp, IsJudged, GoesOn, HasSettled, IsPassed, WorksOn};
 
 use crate::input::Input;
 use board_machine::Machine;
-use board_rules::BoardPort;
 use code_table::Exec;
+use epoch_ports::EpochPort;
 use feed_hold::Motion;
 use flight::Flight;
 use line_interpreter::{Accepted, Interpreter, Todo};
@@ -55,7 +58,7 @@ pub(crate) enum Beat {
 
 /// Carries out a job: takes its bytes, begins its lines one at a time, does what they ask for, and answers them.
 #[derive(Drop)]
-pub struct Controller {
+pub struct Board {
     pub(crate) machine: Machine,
     pub(crate) flight: Flight,
     pub(crate) lines: Interpreter,
@@ -94,12 +97,12 @@ fn jogs_behind(accepted: Accepted, was: bool) -> bool
     }
 }
 
-impl Controller {
+impl Board {
     /// A board that has done nothing. The banner is to be told.
-    pub fn new() -> Controller
-        ensures { BoardFits result (goes []) }
+    pub fn new() -> Board
+        ensures { (state : State) × IsOpening state × GoingFits (first_opening state) result [] }
     {
-        Controller {
+        Board {
             machine: Machine::new(),
             flight: Flight::new(),
             lines: Interpreter::new(),
@@ -116,10 +119,31 @@ impl Controller {
 
     /// Whether the run is closed, and nothing is left to do.
     #[inline]
-    pub(crate) fn is_over(&self) -> bool
-        ensures { (result ≡ true) ↔ BoardRests self.now }
+    pub fn is_over(&self) -> bool
+        ensures { (result ≡ true) ↔ BoardIsOver self.now }
     {
         self.closing && self.lines.is_done()
+    }
+
+    /// Whether a word that asks for a reset was taken.
+    #[inline]
+    pub fn was_reset(&self) -> bool
+        ensures { (first : Opening) (h : Journal) → GoingFits first self.now h → result ≡ has_reset_in (port_log h) }
+    {
+        self.reset
+    }
+
+    /// Whether the end of the run is published. The run isn't over.
+    pub fn has_published_end(&self) -> bool
+        ensures { (first : Opening) (h : Journal) → GoingFits first self.now h → (BoardIsOver self.now → ⊥) → list_any is_end (published_of h) ≡ result }
+    {
+        if !self.closing {
+            return false;
+        }
+        if self.machine.hand.is_some() {
+            return false;
+        }
+        matches!(self.lines.todo(), Todo::Tell)
     }
 
     /// Whether what is next waits for the motion.
@@ -149,14 +173,14 @@ impl Controller {
     /// Waits until nothing is left to run, and each tick is done; then the cycle is over. Answers what the turn answers where
     /// that is not so yet.
     #[inline(never)]
-    fn await_motion<P: BoardPort>(&mut self, port: &mut P) -> Option<Turn>
-        requires stands { (rest : P.Rest) × (first : Opening) × (h : Journal) × P.stands port.old rest (port_log h) × Keeps first self.old h × MayAwait first h }
+    fn await_motion<P: EpochPort>(&mut self, port: &mut P) -> Option<Turn>
+        requires stands { (rest : P.Rest) × (first : Opening) × (h : Journal) × P.stands port.old rest first (port_log h) × Keeps first self.old h × MayAwait first h }
         requires beat { self.old.beat ≡ Beat.Motion }
         requires flags { self.old.flags ≡ Flags.None }
-        ensures waits { IfSome result (λ t. (rest : P.Rest) (first : Opening) (h : Journal) → P.stands port.old rest (port_log h) → Keeps first self.old h → MayAwait first h
-            → WorksOn first (P.stands port.new rest) t self.old.flags self.new h) }
-        ensures over { IfNone result ((rest : P.Rest) (first : Opening) (h : Journal) → P.stands port.old rest (port_log h) → Keeps first self.old h → MayAwait first h
-            → (next : Journal) × P.stands port.new rest (port_log next) × Keeps first self.new next × HasStopped first next × PassesNothing first h next × (left_of first next ≡ left_of first h)) }
+        ensures waits { IfSome result (λ t. (rest : P.Rest) (first : Opening) (h : Journal) → P.stands port.old rest first (port_log h) → Keeps first self.old h → MayAwait first h
+            → WorksOn first (P.stands port.new rest first) t self.old.flags self.new h) }
+        ensures over { IfNone result ((rest : P.Rest) (first : Opening) (h : Journal) → P.stands port.old rest first (port_log h) → Keeps first self.old h → MayAwait first h
+            → (next : Journal) × P.stands port.new rest first (port_log next) × Keeps first self.new next × HasStopped first next × PassesNothing first h next × (left_of first next ≡ left_of first h)) }
         ensures same { IfNone result (self.new ≡ record self.old { machine = self.new.machine }) }
         ensures going { IfSome result (λ t. t ≢ Done) }
     {
@@ -229,14 +253,14 @@ impl Controller {
     }
 
     /// Starts the queued blocks that wait where a poll found no byte, and tries to publish the first segment of them.
-    fn run_waiting<P: BoardPort>(&mut self, port: &mut P) -> Turn
-        requires stands { (rest : P.Rest) × (first : Opening) × (h : Journal) × P.stands port.old rest (port_log h) × Keeps first self.old h × HasPolled first h }
+    fn run_waiting<P: EpochPort>(&mut self, port: &mut P) -> Turn
+        requires stands { (rest : P.Rest) × (first : Opening) × (h : Journal) × P.stands port.old rest first (port_log h) × Keeps first self.old h × HasPolled first h }
         requires idle { self.old.machine.hold.motion ≡ Idle }
         requires blocks { has_blocks self.old.machine.plan.blocks ≡ true }
         requires beat { self.old.beat ≡ Beat.Motion }
         requires flags { self.old.flags ≡ Flags.None }
-        ensures goes_on { (rest : P.Rest) (first : Opening) (h : Journal) → P.stands port.old rest (port_log h) → Keeps first self.old h → HasPolled first h
-            → WorksOn first (P.stands port.new rest) result self.old.flags self.new h }
+        ensures goes_on { (rest : P.Rest) (first : Opening) (h : Journal) → P.stands port.old rest first (port_log h) → Keeps first self.old h → HasPolled first h
+            → WorksOn first (P.stands port.new rest first) result self.old.flags self.new h }
         ensures going { result ≢ Done }
     {
         self.machine.start(self.jogged);
@@ -245,12 +269,12 @@ impl Controller {
 
     /// What is done where a poll found no byte: queued blocks start.
     #[inline(never)]
-    fn without_byte<P: BoardPort>(&mut self, port: &mut P) -> Turn
-        requires stands { (rest : P.Rest) × (first : Opening) × (h : Journal) × P.stands port.old rest (port_log h) × Keeps first self.old h × HasPolled first h }
+    fn without_byte<P: EpochPort>(&mut self, port: &mut P) -> Turn
+        requires stands { (rest : P.Rest) × (first : Opening) × (h : Journal) × P.stands port.old rest first (port_log h) × Keeps first self.old h × HasPolled first h }
         requires beat { self.old.beat ≡ Beat.Motion }
         requires flags { self.old.flags ≡ Flags.None }
-        ensures goes_on { (rest : P.Rest) (first : Opening) (h : Journal) → P.stands port.old rest (port_log h) → Keeps first self.old h → HasPolled first h → list_any found_nothing (this_turn h) ≡ true
-            → WorksOn first (P.stands port.new rest) result self.old.flags self.new h }
+        ensures goes_on { (rest : P.Rest) (first : Opening) (h : Journal) → P.stands port.old rest first (port_log h) → Keeps first self.old h → HasPolled first h → list_any found_nothing (this_turn h) ≡ true
+            → WorksOn first (P.stands port.new rest first) result self.old.flags self.new h }
         ensures going { result ≢ Done }
     {
         if !self.machine.is_waiting() {
@@ -261,12 +285,12 @@ impl Controller {
 
     /// What is done where a poll found the link closed: queued blocks start, and where none waits the run is closed.
     #[inline(never)]
-    fn close<P: BoardPort>(&mut self, port: &mut P) -> Turn
-        requires stands { (rest : P.Rest) × (first : Opening) × (h : Journal) × P.stands port.old rest (port_log h) × Keeps first self.old h × HasPolled first h × (has_closed h ≡ true) }
+    fn close<P: EpochPort>(&mut self, port: &mut P) -> Turn
+        requires stands { (rest : P.Rest) × (first : Opening) × (h : Journal) × P.stands port.old rest first (port_log h) × Keeps first self.old h × HasPolled first h × (has_closed h ≡ true) }
         requires beat { self.old.beat ≡ Beat.Motion }
         requires flags { self.old.flags ≡ Flags.None }
-        ensures goes_on { (rest : P.Rest) (first : Opening) (h : Journal) → P.stands port.old rest (port_log h) → Keeps first self.old h → HasPolled first h → has_closed h ≡ true
-            → WorksOn first (P.stands port.new rest) result self.old.flags self.new h }
+        ensures goes_on { (rest : P.Rest) (first : Opening) (h : Journal) → P.stands port.old rest first (port_log h) → Keeps first self.old h → HasPolled first h → has_closed h ≡ true
+            → WorksOn first (P.stands port.new rest first) result self.old.flags self.new h }
         ensures going { result ≢ Done }
     {
         if self.machine.is_waiting() {
@@ -279,12 +303,12 @@ impl Controller {
 
     /// Polls for the next byte.
     #[inline(always)]
-    fn poll<P: BoardPort>(&mut self, port: &mut P) -> Turn
-        requires stands { (rest : P.Rest) × (first : Opening) × (h : Journal) × P.stands port.old rest (port_log h) × Keeps first self.old h × IsReady first h × MayPoll first h }
+    fn poll<P: EpochPort>(&mut self, port: &mut P) -> Turn
+        requires stands { (rest : P.Rest) × (first : Opening) × (h : Journal) × P.stands port.old rest first (port_log h) × Keeps first self.old h × IsReady first h × MayPoll first h }
         requires beat { self.old.beat ≡ Beat.Motion }
         requires flags { self.old.flags ≡ Flags.None }
-        ensures goes_on { (rest : P.Rest) (first : Opening) (h : Journal) → P.stands port.old rest (port_log h) → Keeps first self.old h → IsReady first h → MayPoll first h
-            → WorksOn first (P.stands port.new rest) result self.old.flags self.new h }
+        ensures goes_on { (rest : P.Rest) (first : Opening) (h : Journal) → P.stands port.old rest first (port_log h) → Keeps first self.old h → IsReady first h → MayPoll first h
+            → WorksOn first (P.stands port.new rest first) result self.old.flags self.new h }
         ensures going { result ≢ Done }
     {
         match port.byte() {
@@ -298,10 +322,10 @@ impl Controller {
     }
 
     /// Looks how many ticks are done. Where nothing is left to run, and each is done, the cycle is over.
-    fn look<P: BoardPort>(&mut self, port: &mut P)
-        requires stands { (rest : P.Rest) × (first : Opening) × (h : Journal) × P.stands port.old rest (port_log h) × Keeps first self.old h × (begins_in (motion_of first h) ≡ true) }
-        ensures goes_on { (rest : P.Rest) (first : Opening) (h : Journal) → P.stands port.old rest (port_log h) → Keeps first self.old h → begins_in (motion_of first h) ≡ true
-            → (next : Journal) × P.stands port.new rest (port_log next) × Keeps first self.new next × HasLooked first h next }
+    fn look<P: EpochPort>(&mut self, port: &mut P)
+        requires stands { (rest : P.Rest) × (first : Opening) × (h : Journal) × P.stands port.old rest first (port_log h) × Keeps first self.old h × (begins_in (motion_of first h) ≡ true) }
+        ensures goes_on { (rest : P.Rest) (first : Opening) (h : Journal) → P.stands port.old rest first (port_log h) → Keeps first self.old h → begins_in (motion_of first h) ≡ true
+            → (next : Journal) × P.stands port.new rest first (port_log next) × Keeps first self.new next × HasLooked first h next }
         ensures same { self.new ≡ record self.old { machine = self.new.machine } }
     {
         let done = port.done();
@@ -348,12 +372,12 @@ impl Controller {
     /// Begins the line that was taken whole, and tells its first reply where that is what is next. Where it begins with `$`,
     /// queued blocks start before.
     #[inline(never)]
-    fn begin<P: BoardPort>(&mut self, port: &mut P) -> Turn
-        requires stands { (rest : P.Rest) × (first : Opening) × (h : Journal) × P.stands port.old rest (port_log h) × Keeps first self.old h × IsReady first h × IsWholeLine first h }
+    fn begin<P: EpochPort>(&mut self, port: &mut P) -> Turn
+        requires stands { (rest : P.Rest) × (first : Opening) × (h : Journal) × P.stands port.old rest first (port_log h) × Keeps first self.old h × IsReady first h × IsWholeLine first h }
         requires beat { self.old.beat ≡ Beat.Motion }
         requires flags { self.old.flags ≡ Flags.None }
-        ensures goes_on { (rest : P.Rest) (first : Opening) (h : Journal) → P.stands port.old rest (port_log h) → Keeps first self.old h → IsReady first h → IsWholeLine first h
-            → WorksOn first (P.stands port.new rest) result self.old.flags self.new h }
+        ensures goes_on { (rest : P.Rest) (first : Opening) (h : Journal) → P.stands port.old rest first (port_log h) → Keeps first self.old h → IsReady first h → IsWholeLine first h
+            → WorksOn first (P.stands port.new rest first) result self.old.flags self.new h }
         ensures going { result ≢ Done }
     {
         self.look(port);
@@ -366,14 +390,14 @@ impl Controller {
 
     /// What is done where nothing is left of the line before.
     #[inline(always)]
-    fn next_line<P: BoardPort>(&mut self, port: &mut P) -> Turn
-        requires stands { (rest : P.Rest) × (first : Opening) × (h : Journal) × P.stands port.old rest (port_log h) × Keeps first self.old h × IsReady first h × GoesOn first h }
+    fn next_line<P: EpochPort>(&mut self, port: &mut P) -> Turn
+        requires stands { (rest : P.Rest) × (first : Opening) × (h : Journal) × P.stands port.old rest first (port_log h) × Keeps first self.old h × IsReady first h × GoesOn first h }
         requires none { self.old.lines.left ≡ [] }
         requires open { self.old.closing ≡ false }
         requires beat { self.old.beat ≡ Beat.Motion }
         requires flags { self.old.flags ≡ Flags.None }
-        ensures goes_on { (rest : P.Rest) (first : Opening) (h : Journal) → P.stands port.old rest (port_log h) → Keeps first self.old h → IsReady first h → GoesOn first h
-            → WorksOn first (P.stands port.new rest) result self.old.flags self.new h }
+        ensures goes_on { (rest : P.Rest) (first : Opening) (h : Journal) → P.stands port.old rest first (port_log h) → Keeps first self.old h → IsReady first h → GoesOn first h
+            → WorksOn first (P.stands port.new rest first) result self.old.flags self.new h }
         ensures going { result ≢ Done }
     {
         if self.input.whole {
@@ -384,13 +408,13 @@ impl Controller {
 
     /// Does what is next, where that is no rest, nor the end before the machine has stopped.
     #[inline(never)]
-    fn do_next<P: BoardPort>(&mut self, port: &mut P) -> Turn
-        requires stands { (rest : P.Rest) × (first : Opening) × (h : Journal) × P.stands port.old rest (port_log h) × Keeps first self.old h × IsReady first h × GoesOn first h × NeedsNoWait first h }
+    fn do_next<P: EpochPort>(&mut self, port: &mut P) -> Turn
+        requires stands { (rest : P.Rest) × (first : Opening) × (h : Journal) × P.stands port.old rest first (port_log h) × Keeps first self.old h × IsReady first h × GoesOn first h × NeedsNoWait first h }
         requires open { self.old.lines.left ≡ [] → self.old.closing ≡ false }
         requires beat { self.old.beat ≡ Beat.Motion }
         requires flags { self.old.flags ≡ Flags.None }
-        ensures goes_on { (rest : P.Rest) (first : Opening) (h : Journal) → P.stands port.old rest (port_log h) → Keeps first self.old h → IsReady first h → GoesOn first h → NeedsNoWait first h
-            → WorksOn first (P.stands port.new rest) result self.old.flags self.new h }
+        ensures goes_on { (rest : P.Rest) (first : Opening) (h : Journal) → P.stands port.old rest first (port_log h) → Keeps first self.old h → IsReady first h → GoesOn first h → NeedsNoWait first h
+            → WorksOn first (P.stands port.new rest first) result self.old.flags self.new h }
         ensures going { result ≢ Done }
     {
         match self.lines.todo() {
@@ -406,13 +430,13 @@ impl Controller {
 
     /// Does what is next, once the motion has stopped where that is waited for. It is not held up.
     #[inline(always)]
-    fn proceed<P: BoardPort>(&mut self, port: &mut P) -> Turn
-        requires stands { (rest : P.Rest) × (first : Opening) × (h : Journal) × P.stands port.old rest (port_log h) × Keeps first self.old h × IsReady first h × GoesOn first h }
+    fn proceed<P: EpochPort>(&mut self, port: &mut P) -> Turn
+        requires stands { (rest : P.Rest) × (first : Opening) × (h : Journal) × P.stands port.old rest first (port_log h) × Keeps first self.old h × IsReady first h × GoesOn first h }
         requires open { self.old.lines.left ≡ [] → self.old.closing ≡ false }
         requires beat { self.old.beat ≡ Beat.Motion }
         requires flags { self.old.flags ≡ Flags.None }
-        ensures goes_on { (rest : P.Rest) (first : Opening) (h : Journal) → P.stands port.old rest (port_log h) → Keeps first self.old h → IsReady first h → GoesOn first h
-            → WorksOn first (P.stands port.new rest) result self.old.flags self.new h }
+        ensures goes_on { (rest : P.Rest) (first : Opening) (h : Journal) → P.stands port.old rest first (port_log h) → Keeps first self.old h → IsReady first h → GoesOn first h
+            → WorksOn first (P.stands port.new rest first) result self.old.flags self.new h }
         ensures going { result ≢ Done }
     {
         if self.lines.is_done() {
@@ -431,13 +455,13 @@ impl Controller {
     /// Does what is next. Where that is held up, it is waited until it goes on; and where a soft limit stops the machine, or has
     /// stopped it, the run is ended.
     #[inline(always)]
-    fn main<P: BoardPort>(&mut self, port: &mut P) -> Turn
-        requires stands { (rest : P.Rest) × (first : Opening) × (h : Journal) × P.stands port.old rest (port_log h) × Keeps first self.old h × IsReady first h }
+    fn main<P: EpochPort>(&mut self, port: &mut P) -> Turn
+        requires stands { (rest : P.Rest) × (first : Opening) × (h : Journal) × P.stands port.old rest first (port_log h) × Keeps first self.old h × IsReady first h }
         requires open { self.old.lines.left ≡ [] → self.old.closing ≡ false }
         requires beat { self.old.beat ≡ Beat.Motion }
         requires flags { self.old.flags ≡ Flags.None }
-        ensures goes_on { (rest : P.Rest) (first : Opening) (h : Journal) → P.stands port.old rest (port_log h) → Keeps first self.old h → IsReady first h
-            → WorksOn first (P.stands port.new rest) result self.old.flags self.new h }
+        ensures goes_on { (rest : P.Rest) (first : Opening) (h : Journal) → P.stands port.old rest first (port_log h) → Keeps first self.old h → IsReady first h
+            → WorksOn first (P.stands port.new rest first) result self.old.flags self.new h }
         ensures going { result ≢ Done }
     {
         if self.machine.is_halting() && self.is_held_up() {
@@ -463,13 +487,13 @@ impl Controller {
 
     /// Publishes what is in hand or due, and where there is no room for it tells the report that is owed, or does what
     /// is next.
-    fn publish_first<P: BoardPort>(&mut self, port: &mut P) -> Turn
-        requires stands { (rest : P.Rest) × (first : Opening) × (h : Journal) × P.stands port.old rest (port_log h) × GoingFits first self.old h × GoingBetween h × HasPiece first h }
+    fn publish_first<P: EpochPort>(&mut self, port: &mut P) -> Turn
+        requires stands { (rest : P.Rest) × (first : Opening) × (h : Journal) × P.stands port.old rest first (port_log h) × GoingFits first self.old h × GoingBetween h × HasPiece first h }
         requires open { self.old.lines.left ≡ [] → self.old.closing ≡ false }
         requires beat { self.old.beat ≡ Beat.Motion }
         requires flags { takes_no_word self.old.flags ≡ true }
-        ensures goes_on { (rest : P.Rest) (first : Opening) (h : Journal) → P.stands port.old rest (port_log h) → GoingFits first self.old h → GoingBetween h → HasPiece first h
-            → WorksOn first (P.stands port.new rest) result self.old.flags self.new h }
+        ensures goes_on { (rest : P.Rest) (first : Opening) (h : Journal) → P.stands port.old rest first (port_log h) → GoingFits first self.old h → GoingBetween h → HasPiece first h
+            → WorksOn first (P.stands port.new rest first) result self.old.flags self.new h }
         ensures going { result ≢ Done }
     {
         let published = self.publish_next(port);
@@ -487,12 +511,12 @@ impl Controller {
 
     /// Takes no word of flags: publishes a piece, tells a report that is owed, or does what is next.
     #[inline(always)]
-    fn go_on<P: BoardPort>(&mut self, port: &mut P) -> Turn
-        requires stands { (rest : P.Rest) × (first : Opening) × (h : Journal) × P.stands port.old rest (port_log h) × GoingFits first self.old h × GoingBetween h }
+    fn go_on<P: EpochPort>(&mut self, port: &mut P) -> Turn
+        requires stands { (rest : P.Rest) × (first : Opening) × (h : Journal) × P.stands port.old rest first (port_log h) × GoingFits first self.old h × GoingBetween h }
         requires open { self.old.lines.left ≡ [] → self.old.closing ≡ false }
         requires flags { takes_no_word self.old.flags ≡ true }
-        ensures goes_on { (rest : P.Rest) (first : Opening) (h : Journal) → P.stands port.old rest (port_log h) → GoingFits first self.old h → GoingBetween h
-            → WorksOn first (P.stands port.new rest) result self.old.flags self.new h }
+        ensures goes_on { (rest : P.Rest) (first : Opening) (h : Journal) → P.stands port.old rest first (port_log h) → GoingFits first self.old h → GoingBetween h
+            → WorksOn first (P.stands port.new rest first) result self.old.flags self.new h }
         ensures going { result ≢ Done }
     {
         if self.begins_with_piece() {
@@ -507,11 +531,11 @@ impl Controller {
 
     /// Takes a word of flags where one is to be taken, and else goes on.
     #[inline(always)]
-    fn take_or_go_on<P: BoardPort>(&mut self, port: &mut P) -> Turn
-        requires stands { (rest : P.Rest) × (first : Opening) × (h : Journal) × P.stands port.old rest (port_log h) × GoingFits first self.old h × GoingBetween h }
+    fn take_or_go_on<P: EpochPort>(&mut self, port: &mut P) -> Turn
+        requires stands { (rest : P.Rest) × (first : Opening) × (h : Journal) × P.stands port.old rest first (port_log h) × GoingFits first self.old h × GoingBetween h }
         requires open { self.old.lines.left ≡ [] → self.old.closing ≡ false }
-        ensures goes_on { (rest : P.Rest) (first : Opening) (h : Journal) → P.stands port.old rest (port_log h) → GoingFits first self.old h → GoingBetween h
-            → WorksOn first (P.stands port.new rest) result self.old.flags self.new h }
+        ensures goes_on { (rest : P.Rest) (first : Opening) (h : Journal) → P.stands port.old rest first (port_log h) → GoingFits first self.old h → GoingBetween h
+            → WorksOn first (P.stands port.new rest first) result self.old.flags self.new h }
         ensures going { result ≢ Done }
     {
         match self.flags {
@@ -530,12 +554,12 @@ impl Controller {
 
     /// Does what a turn does.
     #[inline(always)]
-    fn work<P: BoardPort>(&mut self, port: &mut P) -> Turn
-        requires stands { (rest : P.Rest) × (first : Opening) × (h : Journal) × P.stands port.old rest (port_log h) × GoingFits first self.old h × GoingBetween h }
-        ensures goes_on { (rest : P.Rest) (first : Opening) (h : Journal) → P.stands port.old rest (port_log h) → GoingFits first self.old h → GoingBetween h
-            → WorksOn first (P.stands port.new rest) result self.old.flags self.new h }
-        ensures done { (result ≡ Done) ↔ BoardRests self.old }
-        ensures still { BoardRests self.old → (self.new ≡ self.old) × (port.new ≡ port.old) }
+    fn work<P: EpochPort>(&mut self, port: &mut P) -> Turn
+        requires stands { (rest : P.Rest) × (first : Opening) × (h : Journal) × P.stands port.old rest first (port_log h) × GoingFits first self.old h × GoingBetween h }
+        ensures goes_on { (rest : P.Rest) (first : Opening) (h : Journal) → P.stands port.old rest first (port_log h) → GoingFits first self.old h → GoingBetween h
+            → WorksOn first (P.stands port.new rest first) result self.old.flags self.new h }
+        ensures done { (result ≡ Done) ↔ BoardIsOver self.old }
+        ensures still { BoardIsOver self.old → (self.new ≡ self.old) × (port.new ≡ port.old) }
     {
         if self.is_over() {
             return Turn::Done;
@@ -543,15 +567,24 @@ impl Controller {
         self.take_or_go_on(port)
     }
 
-    /// Takes a turn of a run that goes on.
+    /// Takes a turn: behind a line feed and behind each wait it takes a word of flags, and does what that asks for;
+    /// else it publishes a piece where one is in hand or a segment is due, and else, or where there was no room for it,
+    /// does the next thing: tells a status report that was asked for, and then does what else its word asks for; tells
+    /// a reply, adds moves, makes a mark or the end, begins a line, or takes a byte. At most one thing is published.
+    /// Where the rules allow nothing, it answers what it waits for: for a machine that is held, its resume. It is done
+    /// once Bye was told; from then on nothing changes. A turn that answers Did and moves nothing lowers the board's
+    /// number, which is less than 64.
+    ///
+    /// The rules of the board are those of its journal since the epoch's opening: whatever it has done before, it goes on
+    /// as they allow.
     #[inline(always)]
-    pub(crate) fn carry_on<P: BoardPort>(&mut self, port: &mut P) -> Turn
-        requires stands { (rest : P.Rest) × (first : Opening) × (h : Journal) × P.stands port.old rest (port_log h) × GoingFits first self.old h × GoingBetween h }
-        ensures goes_on { (rest : P.Rest) (first : Opening) (h : Journal) → P.stands port.old rest (port_log h) → GoingFits first self.old h → GoingBetween h
-            → (next : Journal) × P.stands port.new rest (port_log next) × GoingFits first self.new next × GoingBetween next × GoingTurned first result self.old self.new h next }
-        ensures done { (result ≡ Done) ↔ BoardRests self.old }
-        ensures still { BoardRests self.old → (self.new ≡ self.old) × (port.new ≡ port.old) }
-        ensures few { (first : Opening) (h : Journal) → GoingFits first self.old h → number_of first self.old.flags h < 64 }
+    pub fn turn<P: EpochPort>(&mut self, port: &mut P) -> Turn
+        requires stands { (rest : P.Rest) × (first : Opening) × (h : Journal) × P.stands port.old rest first (port_log h) × GoingFits first self.old h × GoingBetween h }
+        ensures goes_on { (rest : P.Rest) (first : Opening) (h : Journal) → P.stands port.old rest first (port_log h) → GoingFits first self.old h → GoingBetween h
+            → (next : Journal) × P.stands port.new rest first (port_log next) × GoingFits first self.new next × GoingBetween next × GoingTurned first result self.old self.new h next }
+        ensures done { (result ≡ Done) ↔ BoardIsOver self.old }
+        ensures still { BoardIsOver self.old → (self.new ≡ self.old) × (port.new ≡ port.old) }
+        ensures few { (first : Opening) (h : Journal) → GoingFits first self.old h → board_number first self.old h < 64 }
     {
         let turn = self.work(port);
         if let Turn::Wait(_) = turn {

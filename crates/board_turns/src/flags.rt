@@ -7,24 +7,24 @@ ghost use Rattle.feed_hold.specs.declared.Motion.TheVariants.{Held};
 ghost use Rattle.outside.specs.declared.Turn.TheVariants.{Done};
 ghost use Rattle.board_rules.specs.Steps.{Journal, port_log};
 ghost use Rattle.board_rules.specs.Openings.{Opening};
-ghost use Rattle.controller.specs.Boards.{Keeps};
+ghost use Rattle.board_turns.specs.Boards.{Keeps};
 ghost use Rattle.board_rules.specs.Ports.PortStep.{took_exec};
 ghost use Rattle.board_rules.specs.Steps.Step.{at_port};
 ghost use Rattle.board_rules.specs.Turns.{unobeyed_of, owes_report, has_jog_to_start};
-ghost use Rattle.controller.specs.Turning.{HasPiece, IsHeldUp, HasSettled, asked, flags_behind, replanned, WorksOn};
+ghost use Rattle.board_turns.specs.Turning.{HasPiece, IsHeldUp, HasSettled, asked, flags_behind, replanned, WorksOn};
 
-use crate::controller::{Beat, Controller, Flags};
+use crate::board::{Beat, Board, Flags};
 use crate::reports::{asks_report, asks_reset, to_obey};
 use bitflags::Flags as _;
-use board_rules::BoardPort;
+use epoch_ports::EpochPort;
 use outside::{On, Turn};
 
-impl Controller {
+impl Board {
     /// Where the machine has slowed down to a stop, looks how many ticks are done, and does what comes of that where each is.
-    pub(crate) fn settle<P: BoardPort>(&mut self, port: &mut P)
-        requires stands { (rest : P.Rest) × (first : Opening) × (h : Journal) × P.stands port.old rest (port_log h) × Keeps first self.old h }
-        ensures goes_on { (rest : P.Rest) (first : Opening) (h : Journal) → P.stands port.old rest (port_log h) → Keeps first self.old h
-            → (next : Journal) × P.stands port.new rest (port_log next) × Keeps first self.new next × HasSettled first h next }
+    pub(crate) fn settle<P: EpochPort>(&mut self, port: &mut P)
+        requires stands { (rest : P.Rest) × (first : Opening) × (h : Journal) × P.stands port.old rest first (port_log h) × Keeps first self.old h }
+        ensures goes_on { (rest : P.Rest) (first : Opening) (h : Journal) → P.stands port.old rest first (port_log h) → Keeps first self.old h
+            → (next : Journal) × P.stands port.new rest first (port_log next) × Keeps first self.new next × HasSettled first h next }
         ensures same { self.new ≡ record self.old { machine = self.new.machine; flight = self.new.flight; lines = self.new.lines; cut = self.new.cut } }
     {
         if !self.machine.has_slowed_down() {
@@ -41,10 +41,10 @@ impl Controller {
     /// Takes the word of requests, and does what it asks of the motion, unless it asks for a reset; where a report is owed
     /// then, that comes first. What comes of a machine that has stopped comes before.
     #[inline(never)]
-    pub(crate) fn take_requests<P: BoardPort>(&mut self, port: &mut P)
-        requires stands { (rest : P.Rest) × (first : Opening) × (h : Journal) × P.stands port.old rest (port_log h) × Keeps first self.old h × (unobeyed_of h ≡ []) × (has_jog_to_start first h ≡ false) }
-        ensures goes_on { (rest : P.Rest) (first : Opening) (h : Journal) → P.stands port.old rest (port_log h) → Keeps first self.old h → unobeyed_of h ≡ [] → has_jog_to_start first h ≡ false
-            → (word : AnyExec) × (mid : Journal) × HasSettled first h mid × P.stands port.new rest (port_log (asked first word mid)) × Keeps first self.new (asked first word mid)
+    pub(crate) fn take_requests<P: EpochPort>(&mut self, port: &mut P)
+        requires stands { (rest : P.Rest) × (first : Opening) × (h : Journal) × P.stands port.old rest first (port_log h) × Keeps first self.old h × (unobeyed_of h ≡ []) × (has_jog_to_start first h ≡ false) }
+        ensures goes_on { (rest : P.Rest) (first : Opening) (h : Journal) → P.stands port.old rest first (port_log h) → Keeps first self.old h → unobeyed_of h ≡ [] → has_jog_to_start first h ≡ false
+            → (word : AnyExec) × (mid : Journal) × HasSettled first h mid × P.stands port.new rest first (port_log (asked first word mid)) × Keeps first self.new (asked first word mid)
             × (self.new.flags ≡ flags_behind (owes_report (at_port (took_exec word) ∷ mid)) word) }
         ensures same { self.new ≡ record self.old { machine = self.new.machine; flight = self.new.flight; lines = self.new.lines; cut = self.new.cut; flags = self.new.flags; owes = self.new.owes; reset = self.new.reset } }
     {
@@ -62,10 +62,10 @@ impl Controller {
     }
 
     /// Takes the word of changes of overrides, and plans anew where it holds one.
-    pub(crate) fn take_changes<P: BoardPort>(&mut self, port: &mut P)
-        requires stands { (rest : P.Rest) × (first : Opening) × (h : Journal) × P.stands port.old rest (port_log h) × Keeps first self.old h }
-        ensures goes_on { (rest : P.Rest) (first : Opening) (h : Journal) → P.stands port.old rest (port_log h) → Keeps first self.old h
-            → (word : AnyOvr) × P.stands port.new rest (port_log (replanned word h)) × Keeps first self.new (replanned word h) }
+    pub(crate) fn take_changes<P: EpochPort>(&mut self, port: &mut P)
+        requires stands { (rest : P.Rest) × (first : Opening) × (h : Journal) × P.stands port.old rest first (port_log h) × Keeps first self.old h }
+        ensures goes_on { (rest : P.Rest) (first : Opening) (h : Journal) → P.stands port.old rest first (port_log h) → Keeps first self.old h
+            → (word : AnyOvr) × P.stands port.new rest first (port_log (replanned word h)) × Keeps first self.new (replanned word h) }
         ensures same { self.new ≡ record self.old { machine = self.new.machine } }
     {
         let word = port.take_override();
@@ -75,13 +75,13 @@ impl Controller {
     }
 
     /// Waits for a machine that slows down, and does what comes of it once it has stopped.
-    pub(crate) fn await_stop<P: BoardPort>(&mut self, port: &mut P) -> Turn
-        requires stands { (rest : P.Rest) × (first : Opening) × (h : Journal) × P.stands port.old rest (port_log h) × Keeps first self.old h × IsHeldUp first h × (HasPiece first h → ⊥) }
+    pub(crate) fn await_stop<P: EpochPort>(&mut self, port: &mut P) -> Turn
+        requires stands { (rest : P.Rest) × (first : Opening) × (h : Journal) × P.stands port.old rest first (port_log h) × Keeps first self.old h × IsHeldUp first h × (HasPiece first h → ⊥) }
         requires slows { self.old.machine.hold.motion ≢ Held }
         requires beat { self.old.beat ≡ Beat.Motion }
         requires flags { self.old.flags ≡ Flags.None }
-        ensures goes_on { (rest : P.Rest) (first : Opening) (h : Journal) → P.stands port.old rest (port_log h) → Keeps first self.old h → IsHeldUp first h → (HasPiece first h → ⊥)
-            → WorksOn first (P.stands port.new rest) result self.old.flags self.new h }
+        ensures goes_on { (rest : P.Rest) (first : Opening) (h : Journal) → P.stands port.old rest first (port_log h) → Keeps first self.old h → IsHeldUp first h → (HasPiece first h → ⊥)
+            → WorksOn first (P.stands port.new rest first) result self.old.flags self.new h }
         ensures going { result ≢ Done }
     {
         self.settle(port);
@@ -92,13 +92,13 @@ impl Controller {
     }
 
     /// Waits for the resume of a machine that is held, unless a report is asked for.
-    pub(crate) fn await_resume<P: BoardPort>(&mut self, port: &mut P) -> Turn
-        requires stands { (rest : P.Rest) × (first : Opening) × (h : Journal) × P.stands port.old rest (port_log h) × Keeps first self.old h × IsHeldUp first h × (HasPiece first h → ⊥) }
+    pub(crate) fn await_resume<P: EpochPort>(&mut self, port: &mut P) -> Turn
+        requires stands { (rest : P.Rest) × (first : Opening) × (h : Journal) × P.stands port.old rest first (port_log h) × Keeps first self.old h × IsHeldUp first h × (HasPiece first h → ⊥) }
         requires held { self.old.machine.hold.motion ≡ Held }
         requires beat { self.old.beat ≡ Beat.Motion }
         requires flags { self.old.flags ≡ Flags.None }
-        ensures goes_on { (rest : P.Rest) (first : Opening) (h : Journal) → P.stands port.old rest (port_log h) → Keeps first self.old h → IsHeldUp first h → (HasPiece first h → ⊥)
-            → WorksOn first (P.stands port.new rest) result self.old.flags self.new h }
+        ensures goes_on { (rest : P.Rest) (first : Opening) (h : Journal) → P.stands port.old rest first (port_log h) → Keeps first self.old h → IsHeldUp first h → (HasPiece first h → ⊥)
+            → WorksOn first (P.stands port.new rest first) result self.old.flags self.new h }
         ensures going { result ≢ Done }
     {
         self.take_requests(port);
@@ -114,12 +114,12 @@ impl Controller {
     /// What is done where what is next is held up: what is in hand or due is published, and then the stop is waited for,
     /// and the resume.
     #[inline(never)]
-    pub(crate) fn halt<P: BoardPort>(&mut self, port: &mut P) -> Turn
-        requires stands { (rest : P.Rest) × (first : Opening) × (h : Journal) × P.stands port.old rest (port_log h) × Keeps first self.old h × IsHeldUp first h }
+    pub(crate) fn halt<P: EpochPort>(&mut self, port: &mut P) -> Turn
+        requires stands { (rest : P.Rest) × (first : Opening) × (h : Journal) × P.stands port.old rest first (port_log h) × Keeps first self.old h × IsHeldUp first h }
         requires beat { self.old.beat ≡ Beat.Motion }
         requires flags { self.old.flags ≡ Flags.None }
-        ensures goes_on { (rest : P.Rest) (first : Opening) (h : Journal) → P.stands port.old rest (port_log h) → Keeps first self.old h → IsHeldUp first h
-            → WorksOn first (P.stands port.new rest) result self.old.flags self.new h }
+        ensures goes_on { (rest : P.Rest) (first : Opening) (h : Journal) → P.stands port.old rest first (port_log h) → Keeps first self.old h → IsHeldUp first h
+            → WorksOn first (P.stands port.new rest first) result self.old.flags self.new h }
         ensures going { result ≢ Done }
     {
         if self.has_piece() {

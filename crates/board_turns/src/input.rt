@@ -1,7 +1,7 @@
 //! The line that is not begun.
 
 ghost use Rattle.std.specs.Prelude.{◌≡◌, ℕ, Bool, true, false, List, [], ◌∷◌, ◌++◌};
-ghost use Rattle.controller.specs.Boards.{Reads};
+ghost use Rattle.board_turns.specs.Boards.{Reads};
 
 use line_interpreter::KeptLine;
 

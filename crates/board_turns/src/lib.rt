@@ -1,8 +1,7 @@
 //! The board: it takes the bytes of a job, carries out its lines, and answers them.
 #![tactic(auto)]
 
-mod controller;
-mod ending;
+mod board;
 mod flags;
 mod input;
 mod limits;
@@ -10,5 +9,5 @@ mod pieces;
 mod reports;
 mod stops;
 
-pub use board_rules::BoardPort;
-pub use controller::Controller;
+pub use board::Board;
+pub use epoch_ports::EpochPort;

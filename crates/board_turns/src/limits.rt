@@ -7,17 +7,17 @@ ghost use Rattle.board_rules.specs.Openings.{Opening};
 ghost use Rattle.board_rules.specs.Turns.{is_limited};
 ghost use Rattle.board_rules.specs.Conduct.{IsNextTask};
 ghost use Rattle.run_rules.specs.Work.Task.{halt};
-ghost use Rattle.controller.specs.declared.controller.Beat.{Beat};
-ghost use Rattle.controller.specs.declared.controller.Flags.{Flags};
-ghost use Rattle.controller.specs.Boards.{Keeps};
-ghost use Rattle.controller.specs.Turning.{BoardWorked, HasHalted, IsAtLimit, IsInAlarm, IsReady, WorksOn};
+ghost use Rattle.board_turns.specs.declared.board.Beat.{Beat};
+ghost use Rattle.board_turns.specs.declared.board.Flags.{Flags};
+ghost use Rattle.board_turns.specs.Boards.{Keeps};
+ghost use Rattle.board_turns.specs.Turning.{BoardWorked, HasHalted, IsAtLimit, IsInAlarm, IsReady, WorksOn};
 
-use crate::controller::{Beat, Controller, Flags};
-use board_rules::BoardPort;
+use crate::board::{Beat, Board, Flags};
+use epoch_ports::EpochPort;
 use line_interpreter::Todo;
 use outside::{On, Turn};
 
-impl Controller {
+impl Board {
     /// A machine that a soft limit has stopped is in alarm.
     fn lock(&mut self)
         requires { (first : Opening) × (h : Journal) × Keeps first self.old h × IsAtLimit first h }
@@ -42,12 +42,12 @@ impl Controller {
 
     /// Publishes what is in hand or due until the machine has stopped, and waits until each tick is done. Then what is planned is
     /// dropped, and the alarm is told.
-    fn halt_at_limit<P: BoardPort>(&mut self, port: &mut P) -> Turn
-        requires stands { (rest : P.Rest) × (first : Opening) × (h : Journal) × P.stands port.old rest (port_log h) × Keeps first self.old h × IsReady first h × (is_limited (motion_of first h) ≡ true) × IsNextTask first halt h }
+    fn halt_at_limit<P: EpochPort>(&mut self, port: &mut P) -> Turn
+        requires stands { (rest : P.Rest) × (first : Opening) × (h : Journal) × P.stands port.old rest first (port_log h) × Keeps first self.old h × IsReady first h × (is_limited (motion_of first h) ≡ true) × IsNextTask first halt h }
         requires beat { self.old.beat ≡ Beat.Motion }
         requires flags { self.old.flags ≡ Flags.None }
-        ensures goes_on { (rest : P.Rest) (first : Opening) (h : Journal) → P.stands port.old rest (port_log h) → Keeps first self.old h → IsReady first h → is_limited (motion_of first h) ≡ true → IsNextTask first halt h
-            → WorksOn first (P.stands port.new rest) result self.old.flags self.new h }
+        ensures goes_on { (rest : P.Rest) (first : Opening) (h : Journal) → P.stands port.old rest first (port_log h) → Keeps first self.old h → IsReady first h → is_limited (motion_of first h) ≡ true → IsNextTask first halt h
+            → WorksOn first (P.stands port.new rest first) result self.old.flags self.new h }
         ensures going { result ≢ Done }
     {
         if self.has_piece() {
@@ -77,13 +77,13 @@ impl Controller {
 
     /// Does what is next where a soft limit stops the machine, or has stopped it: halts it, tells the alarm, and ends the run.
     #[inline(never)]
-    pub(crate) fn end_limited<P: BoardPort>(&mut self, port: &mut P) -> Turn
-        requires stands { (rest : P.Rest) × (first : Opening) × (h : Journal) × P.stands port.old rest (port_log h) × Keeps first self.old h × IsReady first h × (is_limited (motion_of first h) ≡ true) }
+    pub(crate) fn end_limited<P: EpochPort>(&mut self, port: &mut P) -> Turn
+        requires stands { (rest : P.Rest) × (first : Opening) × (h : Journal) × P.stands port.old rest first (port_log h) × Keeps first self.old h × IsReady first h × (is_limited (motion_of first h) ≡ true) }
         requires open { self.old.lines.left ≡ [] → self.old.closing ≡ false }
         requires beat { self.old.beat ≡ Beat.Motion }
         requires flags { self.old.flags ≡ Flags.None }
-        ensures goes_on { (rest : P.Rest) (first : Opening) (h : Journal) → P.stands port.old rest (port_log h) → Keeps first self.old h → IsReady first h → is_limited (motion_of first h) ≡ true
-            → WorksOn first (P.stands port.new rest) result self.old.flags self.new h }
+        ensures goes_on { (rest : P.Rest) (first : Opening) (h : Journal) → P.stands port.old rest first (port_log h) → Keeps first self.old h → IsReady first h → is_limited (motion_of first h) ≡ true
+            → WorksOn first (P.stands port.new rest first) result self.old.flags self.new h }
         ensures going { result ≢ Done }
     {
         match self.lines.todo() {

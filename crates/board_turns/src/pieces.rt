@@ -12,20 +12,20 @@ ghost use Rattle.board_rules.specs.Steps.{Journal, port_log};
 ghost use Rattle.board_rules.specs.Openings.{Opening};
 ghost use Rattle.board_rules.specs.Turns.{awaits_motion, has_blocks, is_full, owes_report};
 ghost use Rattle.board_rules.specs.Conduct.{IsNextTask, IsTimely};
-ghost use Rattle.controller.specs.Boards.{Keeps};
+ghost use Rattle.board_turns.specs.Boards.{Keeps};
 ghost use Rattle.board_machine.specs.Machines.{marks_cut};
 ghost use Rattle.flight.specs.Flights.{flight_room};
-ghost use Rattle.controller.specs.Turning.{IsNextMove, HasPiece, IsReady, MayRun, MayHaveLooked, MayHaveTold, MayFinish, HasAdded, HasFilled, Tried, HasTried, GoesOn, WorksOn};
+ghost use Rattle.board_turns.specs.Turning.{IsNextMove, HasPiece, IsReady, MayRun, MayHaveLooked, MayHaveTold, MayFinish, HasAdded, HasFilled, Tried, HasTried, GoesOn, WorksOn};
 
-use crate::controller::{Beat, Controller, Flags};
+use crate::board::{Beat, Board, Flags};
 use board_machine::is_cut;
-use board_rules::BoardPort;
+use epoch_ports::EpochPort;
 use line_interpreter::Todo;
 use outside::{On, Turn};
 use status_report::Reply;
 use step_line::{Mark, Piece};
 
-impl Controller {
+impl Board {
     /// Whether a piece is in hand, or a segment is due.
     #[inline]
     pub(crate) fn has_piece(&self) -> bool
@@ -82,11 +82,11 @@ impl Controller {
     }
 
     /// Looks how many ticks are done where the flight has no room for a piece more, and before a cut is published.
-    fn look_before<P: BoardPort>(&mut self, port: &mut P, piece: Piece)
-        requires stands { (rest : P.Rest) × (first : Opening) × (h : Journal) × P.stands port.old rest (port_log h) × Keeps first self.old h }
+    fn look_before<P: EpochPort>(&mut self, port: &mut P, piece: Piece)
+        requires stands { (rest : P.Rest) × (first : Opening) × (h : Journal) × P.stands port.old rest first (port_log h) × Keeps first self.old h }
         requires hand { self.old.machine.hand ≡ Some piece }
-        ensures goes_on { (rest : P.Rest) (first : Opening) (h : Journal) → P.stands port.old rest (port_log h) → Keeps first self.old h
-            → (next : Journal) × P.stands port.new rest (port_log next) × Keeps first self.new next × MayHaveLooked h next × IsTimely piece next }
+        ensures goes_on { (rest : P.Rest) (first : Opening) (h : Journal) → P.stands port.old rest first (port_log h) → Keeps first self.old h
+            → (next : Journal) × P.stands port.new rest first (port_log next) × Keeps first self.new next × MayHaveLooked h next × IsTimely piece next }
         ensures room { length self.new.flight.kept < flight_room }
         ensures same { self.new ≡ record self.old { flight = self.new.flight } }
     {
@@ -97,11 +97,11 @@ impl Controller {
     }
 
     /// Tries to publish the piece in hand. Answers whether it is published.
-    pub(crate) fn publish<P: BoardPort>(&mut self, port: &mut P) -> bool
-        requires stands { (rest : P.Rest) × (first : Opening) × (h : Journal) × P.stands port.old rest (port_log h) × Keeps first self.old h }
+    pub(crate) fn publish<P: EpochPort>(&mut self, port: &mut P) -> bool
+        requires stands { (rest : P.Rest) × (first : Opening) × (h : Journal) × P.stands port.old rest first (port_log h) × Keeps first self.old h }
         requires some { self.old.machine.hand ≢ None }
-        ensures goes_on { (rest : P.Rest) (first : Opening) (h : Journal) → P.stands port.old rest (port_log h) → Keeps first self.old h
-            → (next : Journal) × P.stands port.new rest (port_log next) × Keeps first self.new next × Tried result h next }
+        ensures goes_on { (rest : P.Rest) (first : Opening) (h : Journal) → P.stands port.old rest first (port_log h) → Keeps first self.old h
+            → (next : Journal) × P.stands port.new rest first (port_log next) × Keeps first self.new next × Tried result h next }
         ensures same { self.new ≡ record self.old { machine = self.new.machine; flight = self.new.flight } }
     {
         let Some(piece) = self.machine.hand else {
@@ -118,10 +118,10 @@ impl Controller {
 
     /// Tries to publish the piece in hand, or else the segment that is due, which comes into the hand before. Answers whether
     /// it is published.
-    pub(crate) fn publish_next<P: BoardPort>(&mut self, port: &mut P) -> bool
-        requires stands { (rest : P.Rest) × (first : Opening) × (h : Journal) × P.stands port.old rest (port_log h) × Keeps first self.old h × HasPiece first h }
-        ensures goes_on { (rest : P.Rest) (first : Opening) (h : Journal) → P.stands port.old rest (port_log h) → Keeps first self.old h → HasPiece first h
-            → (next : Journal) × P.stands port.new rest (port_log next) × Keeps first self.new next × HasTried first result h next }
+    pub(crate) fn publish_next<P: EpochPort>(&mut self, port: &mut P) -> bool
+        requires stands { (rest : P.Rest) × (first : Opening) × (h : Journal) × P.stands port.old rest first (port_log h) × Keeps first self.old h × HasPiece first h }
+        ensures goes_on { (rest : P.Rest) (first : Opening) (h : Journal) → P.stands port.old rest first (port_log h) → Keeps first self.old h → HasPiece first h
+            → (next : Journal) × P.stands port.new rest first (port_log next) × Keeps first self.new next × HasTried first result h next }
         ensures same { self.new ≡ record self.old { machine = self.new.machine; flight = self.new.flight } }
     {
         if self.machine.hand.is_some() {
@@ -132,12 +132,12 @@ impl Controller {
     }
 
     /// Tries to publish what is in hand or due, and answers the turn: where there is no room for it, that is waited for.
-    pub(crate) fn run<P: BoardPort>(&mut self, port: &mut P) -> Turn
-        requires stands { (rest : P.Rest) × (first : Opening) × (h : Journal) × P.stands port.old rest (port_log h) × Keeps first self.old h × MayRun first h × HasPiece first h }
+    pub(crate) fn run<P: EpochPort>(&mut self, port: &mut P) -> Turn
+        requires stands { (rest : P.Rest) × (first : Opening) × (h : Journal) × P.stands port.old rest first (port_log h) × Keeps first self.old h × MayRun first h × HasPiece first h }
         requires beat { self.old.beat ≡ Beat.Motion }
         requires flags { self.old.flags ≡ Flags.None }
-        ensures goes_on { (rest : P.Rest) (first : Opening) (h : Journal) → P.stands port.old rest (port_log h) → Keeps first self.old h → MayRun first h → HasPiece first h
-            → WorksOn first (P.stands port.new rest) result self.old.flags self.new h }
+        ensures goes_on { (rest : P.Rest) (first : Opening) (h : Journal) → P.stands port.old rest first (port_log h) → Keeps first self.old h → MayRun first h → HasPiece first h
+            → WorksOn first (P.stands port.new rest first) result self.old.flags self.new h }
         ensures going { result ≢ Done }
     {
         let published = self.publish_next(port);
@@ -160,13 +160,13 @@ impl Controller {
     }
 
     /// Tells the reply that is next.
-    pub(crate) fn tell<P: BoardPort>(&mut self, port: &mut P) -> Turn
-        requires stands { (rest : P.Rest) × (first : Opening) × (h : Journal) × P.stands port.old rest (port_log h) × Keeps first self.old h × IsReady first h }
+    pub(crate) fn tell<P: EpochPort>(&mut self, port: &mut P) -> Turn
+        requires stands { (rest : P.Rest) × (first : Opening) × (h : Journal) × P.stands port.old rest first (port_log h) × Keeps first self.old h × IsReady first h }
         requires next { (reply : AnyReply) × IsNextOf (tell reply) self.old.lines.left }
         requires beat { self.old.beat ≡ Beat.Motion }
         requires flags { self.old.flags ≡ Flags.None }
-        ensures goes_on { (rest : P.Rest) (first : Opening) (h : Journal) → P.stands port.old rest (port_log h) → Keeps first self.old h → IsReady first h
-            → WorksOn first (P.stands port.new rest) result self.old.flags self.new h }
+        ensures goes_on { (rest : P.Rest) (first : Opening) (h : Journal) → P.stands port.old rest first (port_log h) → Keeps first self.old h → IsReady first h
+            → WorksOn first (P.stands port.new rest first) result self.old.flags self.new h }
         ensures going { result ≢ Done }
     {
         let reply = self.lines.reply();
@@ -183,10 +183,10 @@ impl Controller {
 
     /// Tells the first reply of a line that was begun in this turn, where that is what is next, and has room. Else it has a turn
     /// of its own.
-    pub(crate) fn tell_first<P: BoardPort>(&mut self, port: &mut P)
-        requires stands { (rest : P.Rest) × (first : Opening) × (h : Journal) × P.stands port.old rest (port_log h) × Keeps first self.old h × (owes_report h ≡ false) }
-        ensures goes_on { (rest : P.Rest) (first : Opening) (h : Journal) → P.stands port.old rest (port_log h) → Keeps first self.old h → owes_report h ≡ false
-            → (next : Journal) × P.stands port.new rest (port_log next) × Keeps first self.new next × MayHaveTold h next }
+    pub(crate) fn tell_first<P: EpochPort>(&mut self, port: &mut P)
+        requires stands { (rest : P.Rest) × (first : Opening) × (h : Journal) × P.stands port.old rest first (port_log h) × Keeps first self.old h × (owes_report h ≡ false) }
+        ensures goes_on { (rest : P.Rest) (first : Opening) (h : Journal) → P.stands port.old rest first (port_log h) → Keeps first self.old h → owes_report h ≡ false
+            → (next : Journal) × P.stands port.new rest first (port_log next) × Keeps first self.new next × MayHaveTold h next }
         ensures same { self.new ≡ record self.old { lines = self.new.lines } }
     {
         if self.lines.todo() != Todo::Tell {
@@ -203,12 +203,12 @@ impl Controller {
     }
 
     /// Adds the moves that are next, or runs what is planned where they have no room.
-    pub(crate) fn go<P: BoardPort>(&mut self, port: &mut P) -> Turn
-        requires stands { (rest : P.Rest) × (first : Opening) × (h : Journal) × P.stands port.old rest (port_log h) × Keeps first self.old h × IsReady first h × GoesOn first h × IsNextMove first h }
+    pub(crate) fn go<P: EpochPort>(&mut self, port: &mut P) -> Turn
+        requires stands { (rest : P.Rest) × (first : Opening) × (h : Journal) × P.stands port.old rest first (port_log h) × Keeps first self.old h × IsReady first h × GoesOn first h × IsNextMove first h }
         requires beat { self.old.beat ≡ Beat.Motion }
         requires flags { self.old.flags ≡ Flags.None }
-        ensures goes_on { (rest : P.Rest) (first : Opening) (h : Journal) → P.stands port.old rest (port_log h) → Keeps first self.old h → IsReady first h → GoesOn first h → IsNextMove first h
-            → WorksOn first (P.stands port.new rest) result self.old.flags self.new h }
+        ensures goes_on { (rest : P.Rest) (first : Opening) (h : Journal) → P.stands port.old rest first (port_log h) → Keeps first self.old h → IsReady first h → GoesOn first h → IsNextMove first h
+            → WorksOn first (P.stands port.new rest first) result self.old.flags self.new h }
         ensures going { result ≢ Done }
     {
         if self.machine.is_full() {
@@ -219,14 +219,14 @@ impl Controller {
     }
 
     /// Gives the mark that is next to the machine, which stands, and tries to publish it.
-    pub(crate) fn mark<P: BoardPort>(&mut self, port: &mut P, mark: Mark) -> Turn
-        requires stands { (rest : P.Rest) × (first : Opening) × (h : Journal) × P.stands port.old rest (port_log h) × Keeps first self.old h × IsReady first h }
+    pub(crate) fn mark<P: EpochPort>(&mut self, port: &mut P, mark: Mark) -> Turn
+        requires stands { (rest : P.Rest) × (first : Opening) × (h : Journal) × P.stands port.old rest first (port_log h) × Keeps first self.old h × IsReady first h }
         requires next { IsNextOf (ask (a_mark mark)) self.old.lines.left }
         requires mark { IsMark mark }
         requires beat { self.old.beat ≡ Beat.Motion }
         requires flags { self.old.flags ≡ Flags.None }
-        ensures goes_on { (rest : P.Rest) (first : Opening) (h : Journal) → P.stands port.old rest (port_log h) → Keeps first self.old h → IsReady first h
-            → WorksOn first (P.stands port.new rest) result self.old.flags self.new h }
+        ensures goes_on { (rest : P.Rest) (first : Opening) (h : Journal) → P.stands port.old rest first (port_log h) → Keeps first self.old h → IsReady first h
+            → WorksOn first (P.stands port.new rest first) result self.old.flags self.new h }
         ensures going { result ≢ Done }
     {
         if self.machine.hand.is_some() {
@@ -238,12 +238,12 @@ impl Controller {
     }
 
     /// Makes the end, and tries to publish it.
-    pub(crate) fn finish<P: BoardPort>(&mut self, port: &mut P) -> Turn
-        requires stands { (rest : P.Rest) × (first : Opening) × (h : Journal) × P.stands port.old rest (port_log h) × Keeps first self.old h × MayRun first h × MayFinish first h × IsNextTask first finish h }
+    pub(crate) fn finish<P: EpochPort>(&mut self, port: &mut P) -> Turn
+        requires stands { (rest : P.Rest) × (first : Opening) × (h : Journal) × P.stands port.old rest first (port_log h) × Keeps first self.old h × MayRun first h × MayFinish first h × IsNextTask first finish h }
         requires beat { self.old.beat ≡ Beat.Motion }
         requires flags { self.old.flags ≡ Flags.None }
-        ensures goes_on { (rest : P.Rest) (first : Opening) (h : Journal) → P.stands port.old rest (port_log h) → Keeps first self.old h → MayRun first h → MayFinish first h → IsNextTask first finish h
-            → WorksOn first (P.stands port.new rest) result self.old.flags self.new h }
+        ensures goes_on { (rest : P.Rest) (first : Opening) (h : Journal) → P.stands port.old rest first (port_log h) → Keeps first self.old h → MayRun first h → MayFinish first h → IsNextTask first finish h
+            → WorksOn first (P.stands port.new rest first) result self.old.flags self.new h }
         ensures going { result ≢ Done }
     {
         self.machine.put_end();

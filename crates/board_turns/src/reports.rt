@@ -10,16 +10,16 @@ ghost use Rattle.board_rules.specs.Steps.{Journal, port_log, published_of, known
 ghost use Rattle.board_rules.specs.Openings.{Opening};
 ghost use Rattle.board_rules.specs.Turns.{this_turn, moving};
 ghost use Rattle.board_rules.specs.Conduct.{feed_of, shown_as};
-ghost use Rattle.controller.specs.declared.controller.Flags.{Flags as AnyFlags};
-ghost use Rattle.controller.specs.Boards.{Keeps};
-ghost use Rattle.controller.specs.Turning.{BoardWorked, WorksOn, to_obey};
-ghost use Rattle.controller.specs.Reporting.{HasAskedRoom, HasObserved, IsBehind, IsReported, IsTold, IsToReport, LacksRoom, MayObeyNow, obeying};
+ghost use Rattle.board_turns.specs.declared.board.Flags.{Flags as AnyFlags};
+ghost use Rattle.board_turns.specs.Boards.{Keeps};
+ghost use Rattle.board_turns.specs.Turning.{BoardWorked, WorksOn, to_obey};
+ghost use Rattle.board_turns.specs.Reporting.{HasAskedRoom, HasObserved, IsBehind, IsReported, IsTold, IsToReport, LacksRoom, MayObeyNow, obeying};
 
-use crate::controller::{Beat, Controller, Flags};
+use crate::board::{Beat, Board, Flags};
 use bitflags::Flags as _;
 use board_machine::Machine;
-use board_rules::BoardPort;
 use code_table::Exec;
+use epoch_ports::EpochPort;
 use feed_hold::Motion;
 use line_interpreter::Seen;
 use outside::{On, Turn};
@@ -76,13 +76,13 @@ fn feed(machine: &Machine, known: u64) -> u64
     }
 }
 
-impl Controller {
+impl Board {
     /// Looks how many ticks are done. Where each is, what comes of a machine that has stopped comes, and where nothing is
     /// left to run the cycle is over, or the jogs are.
-    fn observe<P: BoardPort>(&mut self, port: &mut P)
-        requires stands { (rest : P.Rest) × (first : Opening) × (h : Journal) × P.stands port.old rest (port_log h) × Keeps first self.old h }
-        ensures goes_on { (rest : P.Rest) (first : Opening) (h : Journal) → P.stands port.old rest (port_log h) → Keeps first self.old h
-            → (next : Journal) × P.stands port.new rest (port_log next) × Keeps first self.new next × HasObserved first h next × Flies first.place self.new.flight (published_of next) (known_of next) }
+    fn observe<P: EpochPort>(&mut self, port: &mut P)
+        requires stands { (rest : P.Rest) × (first : Opening) × (h : Journal) × P.stands port.old rest first (port_log h) × Keeps first self.old h }
+        ensures goes_on { (rest : P.Rest) (first : Opening) (h : Journal) → P.stands port.old rest first (port_log h) → Keeps first self.old h
+            → (next : Journal) × P.stands port.new rest first (port_log next) × Keeps first self.new next × HasObserved first h next × Flies first.place self.new.flight (published_of next) (known_of next) }
         ensures same { self.new ≡ record self.old { machine = self.new.machine; flight = self.new.flight; lines = self.new.lines; cut = self.new.cut } }
     {
         let done = port.done();
@@ -95,10 +95,10 @@ impl Controller {
     }
 
     /// The free blocks of the plan and the free bytes of the link, where the settings ask for them.
-    fn room<P: BoardPort>(&self, port: &mut P) -> Option<(u8, u8)>
-        requires stands { (rest : P.Rest) × (first : Opening) × (h : Journal) × P.stands port.old rest (port_log h) × Keeps first self.now h }
-        ensures goes_on { (rest : P.Rest) (first : Opening) (h : Journal) → P.stands port.old rest (port_log h) → Keeps first self.now h
-            → (next : Journal) × P.stands port.new rest (port_log next) × Keeps first self.now next × HasAskedRoom result h next }
+    fn room<P: EpochPort>(&self, port: &mut P) -> Option<(u8, u8)>
+        requires stands { (rest : P.Rest) × (first : Opening) × (h : Journal) × P.stands port.old rest first (port_log h) × Keeps first self.now h }
+        ensures goes_on { (rest : P.Rest) (first : Opening) (h : Journal) → P.stands port.old rest first (port_log h) → Keeps first self.now h
+            → (next : Journal) × P.stands port.new rest first (port_log next) × Keeps first self.now next × HasAskedRoom result h next }
         ensures shown { has_room result ≡ shows_room self.now.lines.state.settings.report }
     {
         if !self.lines.shows_room() {
@@ -134,10 +134,10 @@ impl Controller {
     }
 
     /// Tries to tell the report that is owed, of what is found in this turn. Answers whether it is told.
-    fn tell_report<P: BoardPort>(&mut self, port: &mut P, word: Option<Exec>) -> bool
-        requires stands { (rest : P.Rest) × (first : Opening) × (h : Journal) × P.stands port.old rest (port_log h) × Keeps first self.old h × IsToReport first word h }
-        ensures goes_on { (rest : P.Rest) (first : Opening) (h : Journal) → P.stands port.old rest (port_log h) → Keeps first self.old h → IsToReport first word h
-            → (next : Journal) × P.stands port.new rest (port_log next) × Keeps first self.new next × IsReported first result word next × IsBehind h next }
+    fn tell_report<P: EpochPort>(&mut self, port: &mut P, word: Option<Exec>) -> bool
+        requires stands { (rest : P.Rest) × (first : Opening) × (h : Journal) × P.stands port.old rest first (port_log h) × Keeps first self.old h × IsToReport first word h }
+        ensures goes_on { (rest : P.Rest) (first : Opening) (h : Journal) → P.stands port.old rest first (port_log h) → Keeps first self.old h → IsToReport first word h
+            → (next : Journal) × P.stands port.new rest first (port_log next) × Keeps first self.new next × IsReported first result word next × IsBehind h next }
         ensures same { self.new ≡ record self.old { machine = self.new.machine; flight = self.new.flight; lines = self.new.lines; cut = self.new.cut; owes = self.new.owes } }
     {
         self.observe(port);
@@ -150,11 +150,11 @@ impl Controller {
 
     /// Goes on where there was no room for a report: what is in hand or due is tried to be published, and else the room
     /// is waited for. The report is still owed.
-    fn go_on_owing<P: BoardPort>(&mut self, port: &mut P) -> Turn
-        requires stands { (rest : P.Rest) × (first : Opening) × (h : Journal) × P.stands port.old rest (port_log h) × Keeps first self.old h × LacksRoom first h }
+    fn go_on_owing<P: EpochPort>(&mut self, port: &mut P) -> Turn
+        requires stands { (rest : P.Rest) × (first : Opening) × (h : Journal) × P.stands port.old rest first (port_log h) × Keeps first self.old h × LacksRoom first h }
         requires beat { self.old.beat ≡ Beat.Motion }
-        ensures goes_on { (rest : P.Rest) (first : Opening) (h : Journal) (was : AnyFlags) → P.stands port.old rest (port_log h) → Keeps first self.old h → LacksRoom first h
-            → (next : Journal) × P.stands port.new rest (port_log next) × BoardWorked first result was self.new h next × (result ≡ Did → list_any moving (this_turn next) ≡ true) }
+        ensures goes_on { (rest : P.Rest) (first : Opening) (h : Journal) (was : AnyFlags) → P.stands port.old rest first (port_log h) → Keeps first self.old h → LacksRoom first h
+            → (next : Journal) × P.stands port.new rest first (port_log next) × BoardWorked first result was self.new h next × (result ≡ Did → list_any moving (this_turn next) ≡ true) }
         ensures going { result ≢ Done }
     {
         self.flags = Flags::Both;
@@ -174,11 +174,11 @@ impl Controller {
     /// Tells the report that is owed, and then does what the word that waits for it asks of the motion. Where there is
     /// no room for the report, it is still owed.
     #[inline(never)]
-    pub(crate) fn report<P: BoardPort>(&mut self, port: &mut P, word: Option<Exec>) -> Turn
-        requires stands { (rest : P.Rest) × (first : Opening) × (h : Journal) × P.stands port.old rest (port_log h) × Keeps first self.old h × IsToReport first word h }
+    pub(crate) fn report<P: EpochPort>(&mut self, port: &mut P, word: Option<Exec>) -> Turn
+        requires stands { (rest : P.Rest) × (first : Opening) × (h : Journal) × P.stands port.old rest first (port_log h) × Keeps first self.old h × IsToReport first word h }
         requires beat { self.old.beat ≡ Beat.Motion }
-        ensures goes_on { (rest : P.Rest) (first : Opening) (h : Journal) (was : AnyFlags) → P.stands port.old rest (port_log h) → Keeps first self.old h → IsToReport first word h
-            → WorksOn first (P.stands port.new rest) result was self.new h }
+        ensures goes_on { (rest : P.Rest) (first : Opening) (h : Journal) (was : AnyFlags) → P.stands port.old rest first (port_log h) → Keeps first self.old h → IsToReport first word h
+            → WorksOn first (P.stands port.new rest first) result was self.new h }
         ensures going { result ≢ Done }
     {
         let told = self.tell_report(port, word);

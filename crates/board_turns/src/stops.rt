@@ -5,14 +5,14 @@ ghost use Rattle.feed_hold.specs.declared.Motion.TheVariants.{Cancelling};
 ghost use Rattle.board_rules.specs.Steps.{Journal, left_of, motion_of, outcomes_of, without_asks};
 ghost use Rattle.board_rules.specs.Openings.{Opening};
 ghost use Rattle.board_rules.specs.Steps.Step.{cut};
-ghost use Rattle.controller.specs.Boards.{Keeps};
-ghost use Rattle.controller.specs.Turning.{ComesOf, IsFoundStopped, IsUncut};
+ghost use Rattle.board_turns.specs.Boards.{Keeps};
+ghost use Rattle.board_turns.specs.Turning.{ComesOf, IsFoundStopped, IsUncut};
 
-use crate::controller::Controller;
+use crate::board::Board;
 use line_interpreter::Todo;
 use step_line::Mark;
 
-impl Controller {
+impl Board {
     /// A move that is next is not asked for any more.
     fn drop_move(&mut self)
         requires { (first : Opening) × (h : Journal) × Keeps first self.old h × (motion_of first h ≡ Cancelling) }

@@ -1,125 +1,83 @@
--- How a reset ends a board's run.
-use Rattle.std.proofs.Common.{◌≡◌, ◌<◌, ◌⊎◌, Bool, true, false, cond, List, [], ◌∷◌, ◌++◌, drop, Some, None, refl, sym, ap, ◌∙◌, subst}
-use Rattle.std.specs.declared.option.Option.{Option}
+-- How a run goes on, and how a reset ends it.
+use Rattle.std.proofs.Common.{◌≡◌, ◌<◌, Bool, true, false, cond, [], ◌∷◌, ◌++◌, refl, sym, ap, ◌∙◌, subst, arith}
 use Rattle.std.specs.List.{count_by, list_any}
-use Rattle.std.specs.Option.{option_to_list}
 use Rattle.outside.specs.declared.On.TheVariants as on
 use Rattle.outside.specs.declared.Turn.{Turn}
 use Rattle.outside.specs.declared.Turn.TheVariants.{Did, Wait, Done}
-use Rattle.run_rules.specs.Work.{Task, closing_work}
-use Rattle.run_rules.specs.Work.Task.{tell, finish}
+use Rattle.run_rules.specs.declared.State.{State}
+use Rattle.run_rules.specs.States.{IsOpening}
 use Rattle.status_report.specs.declared.Reply.{Reply}
 use Rattle.status_report.specs.declared.Reply.TheVariants.{Bye}
 use Rattle.step_line.specs.declared.Piece.{Piece}
 use Rattle.step_line.specs.declared.Piece.TheVariants as pieces
-use Rattle.line_interpreter.specs.Lefts.{IsNextOf, IsTodo}
-use Rattle.line_interpreter.specs.declared.tasks.Todo.{Todo}
-use Rattle.line_interpreter.specs.declared.tasks.Todo.TheVariants as todos
-use Rattle.run_rules.specs.declared.State.{State}
-use Rattle.run_rules.specs.States.{IsOpening}
-use Rattle.board_rules.specs.Openings.{Opening, first_opening}
-use Rattle.controller.proofs.AnyState.{turned_any}
-use Rattle.board_rules.specs.Ports.{BoardLog, LacksPieceRoom}
+use Rattle.board_rules.specs.Openings.{first_opening}
+use Rattle.board_rules.specs.Ports.{BoardLog, LacksPieceRoom, has_reset_in}
 use Rattle.board_rules.specs.Ports.PortStep.{answered, no_reply_room, published, no_piece_room}
-use Rattle.board_rules.specs.Steps.{Journal, port_log, published_of, left_of, closed_tells}
+use Rattle.board_rules.specs.Steps.{Journal, port_log, published_of}
 use Rattle.board_rules.specs.Steps.Step.{at_port, turned}
-use Rattle.board_rules.specs.Turns.{this_turn, publishing, moving}
-use Rattle.board_rules.specs.Conduct.{IsFinished}
+use Rattle.board_rules.specs.Turns.{this_turn, publishing}
 use Rattle.board_rules.specs.Breaking.{Doings, Ending, is_end, ending_of, log_of}
 use Rattle.board_rules.specs.Breaking.Ending.{publishes_end, tells_bye, over}
 use Rattle.board_rules.specs.Breaking.Doings.{goes, broke}
-use Rattle.board_rules.proofs.Breaking.{none_out, all_out, end_held, unsaid}
-use Rattle.board_rules.proofs.Closing.{At, going, to_finish, to_tell, phase_is, not_going}
-use Rattle.board_rules.proofs.Closing as phases
-use Rattle.board_rules.proofs.Tasks.{head_is}
+use Rattle.board_rules.proofs.Breaking.{unsaid}
+use Rattle.board_turns.specs.declared.board.Board.{Board}
+use Rattle.board_turns.specs.Boards.{GoingFits, GoingBetween, GoingTurned, BoardIsOver}
+use Rattle.board_turns.proofs.AnyState.{turned_any, number_any}
+use Rattle.board_turns.proofs.Ends.{turned_by}
+use Rattle.board_turns.proofs.Numbers.{number_few}
+use Rattle.board_turns.proofs.Over.{over_by, over_worked}
 use Rattle.controller.specs.declared.controller.Controller.{Controller}
-use Rattle.controller.specs.Boards.{Keeps, GoingFits, GoingBetween, GoingTurned, BrokenFits, BoardFits, IsBetween, BoardTurned, BoardRests, left_to_end, number_of}
-use Rattle.controller.specs.Breaking.{EndsOn}
-use Rattle.controller.specs.declared.controller.Flags.{Flags}
-use Rattle.controller.proofs.Ends.{turned_by}
-use Rattle.controller.specs.Turning.{BoardWorked}
+use Rattle.controller.specs.declared.controller.Stage.{Stage}
+use Rattle.controller.specs.declared.controller.Stage.TheVariants as stages
+use Rattle.controller.specs.Boards.{BrokenFits, BoardFits, BoardRests, IsBetween, stage_of, rests_at, number_in}
+use Rattle.controller.specs.Breaking.{EndsOn, GoesOn, WentOn}
 
--- ---- whether the run is over
+-- ---- which run it is
 
--- a run that is being closed
-is_closing : (first : Opening) (c : Controller) (h : Journal) → Keeps first c h → closed_tells h ≡ Bye ∷ [] → (t : Bool) → c.closing ≡ t → c.closing ≡ true
-is_closing first c h k closed true e = e
-is_closing first c h k closed false e = not_going (closed_tells h) closed (k.going e)
+-- one that a reset has ended is at no such stage
+not_going : (e : Ending) (s : Stage) → s ≡ stage_of e → s ≡ stages.Goes → ⊥
+not_going publishes_end s is now = absurd (let e = sym is ∙ now in cc)
+not_going tells_bye s is now = absurd (let e = sym is ∙ now in cc)
+not_going over s is now = absurd (let e = sym is ∙ now in cc)
 
-pub rests_by : (first : Opening) (c : Controller) (h : Journal) → Keeps first c h → IsFinished first h → BoardRests c
-rests_by first c h k done = record { closing = is_closing first c h k done.closed c.closing refl; none = k.lines.left_is ∙ done.left }
+-- what is known of a run that goes on
+pub record Goes (was : BoardLog → Type 0) (c : Controller) (d : Doings) : Type 0 where
+  pub journal : Journal
+  pub are : d ≡ goes journal
+  pub state : State
+  pub opening : IsOpening state
+  pub at : was (port_log journal)
+  pub fits : GoingFits (first_opening state) c.board journal
+  pub between : GoingBetween journal
 
--- a turn of a run that is over
-pub over_worked : (first : Opening) (c : Controller) (h : Journal) → GoingFits first c h → GoingBetween h → BoardRests c → BoardWorked first Done c.flags c h h
-over_worked first c h f between rests = record {
-  keeps = f.keeps;
-  rounds = f.rounds;
-  flags = f.flags;
-  still = f.still;
-  beat = λ o e. absurd cc;
-  steps = [];
-  are = refl;
-  may = record { finished = record { left = sym f.keeps.lines.left_is ∙ rests.none; closed = f.keeps.closed rests.closing }; still = between };
-  moves = λ e. absurd cc;
-}
+pub goes_so : (was : BoardLog → Type 0) (c : Controller) (d : Doings) → c.stage ≡ stages.Goes → was (log_of d) → BoardFits c d → IsBetween d → Goes was c d
+goes_so was c (goes h) is at f between = record { journal = h; are = refl; state = f.first; opening = f.opening; at = at; fits = f.fits; between = between }
+goes_so was c (broke since before) is at f between = absurd (not_going (ending_of since before) c.stage f.stage is)
 
--- where the run is not over, and a reset was asked for, a reset has ended it
-pub is_broken : (was : BoardLog → Type 0) (c : Controller) (d : Doings) → c.reset ≡ true → (BoardRests c → ⊥) → was (log_of d) → BoardFits c d → IsBetween d
+-- where no reset has ended it, it goes on
+pub is_broken : (was : BoardLog → Type 0) (c : Controller) (d : Doings) → (c.stage ≡ stages.Goes → ⊥) → was (log_of d) → BoardFits c d → IsBetween d
     → (since before : Journal) × was (log_of (broke since before)) × BrokenFits c since before × IsBetween (broke since before)
-is_broken was c (goes h) reset unrested at f between = absurd (unrested (f.3 reset))
-is_broken was c (broke since before) reset unrested at f between = (since, before, at, f, between)
-
--- ---- whether the end is published
-
-pub end_is_out : (first : Opening) (c : Controller) (h : Journal) (r : Reply) → Keeps first c h → (BoardRests c → ⊥) → c.closing ≡ true → c.machine.hand ≡ None → IsNextOf (tell r) c.lines.left
-    → list_any is_end (published_of h) ≡ true
-end_is_out first c h r k unrested closing none next = by_phase (phase_is first h k.conducted)
-  where
-    by_phase : At first h → list_any is_end (published_of h) ≡ true
-    by_phase (going e is) = not_going (closed_tells h) (k.closed closing) e
-    by_phase (to_finish e l w is) = absurd (let f = head_is (left_of first h) (tell r) finish _ (sym k.lines.left_is ∙ next ∙ ap (λ (ts : List Task). tell r ∷ drop 1 ts) k.lines.left_is) l in cc)
-    by_phase (to_tell e l w p still is d) = all_out first h k.conducted is (sym k.machine.hand_is ∙ ap option_to_list none)
-    by_phase (phases.over e l w p still d is n) = absurd (unrested (record { closing = closing; none = k.lines.left_is ∙ l }))
-
-pub end_is_in : (first : Opening) (c : Controller) (h : Journal) → Keeps first c h → (BoardRests c → ⊥)
-    → (c.closing ≡ true → c.machine.hand ≡ None → IsNextOf (tell Bye) c.lines.left → ⊥) → list_any is_end (published_of h) ≡ false
-end_is_in first c h k unrested other = by_phase (phase_is first h k.conducted)
-  where
-    held : (e : closed_tells h ≡ Bye ∷ []) → left_of first h ≡ tell Bye ∷ [] → (o : Option Piece) → c.machine.hand ≡ o → (published_of h ≡ published_of h)
-        → ((p : Piece) → option_to_list c.machine.hand ≡ p ∷ [] → list_any is_end (published_of h) ≡ false) → list_any is_end (published_of h) ≡ false
-    held e l None none same some = absurd (other (is_closing first c h k e c.closing refl) none (k.lines.left_is ∙ l ∙ ap (λ (ts : List Task). tell Bye ∷ drop 1 ts) (sym (k.lines.left_is ∙ l))))
-    held e l (Some p) hand same some = some p (ap option_to_list hand)
-
-    by_phase : At first h → list_any is_end (published_of h) ≡ false
-    by_phase (going e is) = none_out first h k.conducted is
-    by_phase (to_finish e l w is) = none_out first h k.conducted is
-    by_phase (to_tell e l w p still is d) = held e l c.machine.hand refl refl (λ q hand. end_held first h q k.conducted is (sym k.machine.hand_is ∙ hand))
-    by_phase (phases.over e l w p still d is n) = absurd (unrested (record { closing = is_closing first c h k e c.closing refl; none = k.lines.left_is ∙ l }))
+is_broken was c (goes h) ended at f between = absurd (ended f.stage)
+is_broken was c (broke since before) ended at f between = (since, before, at, f, between)
 
 -- ---- the run is broken off
 
-pub broken_off : (state : State) (c d : Controller) (h : Journal) (out : Bool) → IsOpening state → GoingFits (first_opening state) c h → GoingBetween h → (BoardRests c → ⊥) → c.reset ≡ true → ending_of [] h ≡ cond out tells_bye publishes_end
-    → d.reset ≡ true → d.closing ≡ true → d.lines.left ≡ cond out (drop 1 closing_work) closing_work → BrokenFits d [] h
-broken_off state c d h out opening f between unrested reset ending still closing left = record {
+ending_by_end : (out : Bool) (s : Stage) → s ≡ cond out stages.TellsBye stages.PublishesEnd → s ≡ stage_of (cond out tells_bye publishes_end)
+ending_by_end true s is = is
+ending_by_end false s is = is
+
+pub broken_off : (state : State) (c d : Controller) (h : Journal) (out : Bool) → IsOpening state → GoingFits (first_opening state) c.board h → has_reset_in (port_log h) ≡ true → GoingBetween h → (BoardIsOver c.board → ⊥)
+    → list_any is_end (published_of h) ≡ out → d.stage ≡ cond out stages.TellsBye stages.PublishesEnd → BrokenFits d [] h
+broken_off state c d h out opening f reset between unrested is stage = record {
   first = state;
   opening = opening;
   conducted = (
     f.keeps.conducted,
-    record {
-      reset = sym f.keeps.reset_is ∙ reset;
-      between = between;
-      unsaid = unsaid (first_opening state) h f.keeps.conducted (λ done. unrested (rests_by (first_opening state) c h f.keeps done));
-    },
+    record { reset = reset; between = between; unsaid = unsaid (first_opening state) h f.keeps.conducted (λ done. unrested (over_by (first_opening state) c.board h f.keeps done)) },
     tt,
   );
-  reset = still;
-  closing = closing;
-  left = left ∙ by_out out ∙ ap left_to_end (sym ending);
+  stage = ending_by_end out d.stage stage ∙ ap (λ (t : Bool). stage_of (cond t tells_bye publishes_end)) (sym is);
 }
-  where
-    by_out : (t : Bool) → cond t (drop 1 closing_work) closing_work ≡ left_to_end (cond t tells_bye publishes_end)
-    by_out true = refl
-    by_out false = refl
 
 -- ---- its turns
 
@@ -129,15 +87,13 @@ one_of since none p = ap (λ (h : Journal). count_by publishing (at_port (publis
 one_told : (since : Journal) → this_turn since ≡ [] → (r : Reply) → count_by publishing (this_turn (at_port (answered r) ∷ since)) ≡ 1
 one_told since none r = ap (λ (h : Journal). count_by publishing (at_port (answered r) ∷ h)) none
 
-pub end_published : (c d : Controller) (since before : Journal) → BrokenFits c since before → this_turn since ≡ [] → ending_of since before ≡ publishes_end
-    → d.reset ≡ c.reset → d.closing ≡ c.closing → d.lines.left ≡ drop 1 c.lines.left → BrokenFits d (turned Did ∷ at_port (published pieces.End) ∷ since) before
-end_published c d since before f none e reset closing left = record {
+pub end_published : (c d : Controller) (since before : Journal) → BrokenFits c since before → this_turn since ≡ [] → ending_of since before ≡ publishes_end → d.stage ≡ stages.TellsBye
+    → BrokenFits d (turned Did ∷ at_port (published pieces.End) ∷ since) before
+end_published c d since before f none e stage = record {
   first = f.first;
   opening = f.opening;
   conducted = (f.conducted.0, f.conducted.1, (one_of since none pieces.End, ((e, refl), f.conducted.2)));
-  reset = reset ∙ f.reset;
-  closing = closing ∙ f.closing;
-  left = left ∙ ap (drop 1) (f.left ∙ ap left_to_end e);
+  stage = stage;
 }
 
 pub end_kept : (c : Controller) (done : _) (since before : Journal) → BrokenFits c since before → ending_of since before ≡ publishes_end → LacksPieceRoom done (port_log since ++ port_log before)
@@ -146,20 +102,16 @@ end_kept c done since before f e lacks = record {
   first = f.first;
   opening = f.opening;
   conducted = (f.conducted.0, f.conducted.1, (refl, ((e, lacks), f.conducted.2)));
-  reset = f.reset;
-  closing = f.closing;
-  left = f.left;
+  stage = f.stage;
 }
 
-pub bye_told : (c d : Controller) (since before : Journal) → BrokenFits c since before → this_turn since ≡ [] → ending_of since before ≡ tells_bye
-    → d.reset ≡ c.reset → d.closing ≡ c.closing → d.lines.left ≡ drop 1 c.lines.left → BrokenFits d (turned Did ∷ at_port (answered Bye) ∷ since) before
-bye_told c d since before f none e reset closing left = record {
+pub bye_told : (c d : Controller) (since before : Journal) → BrokenFits c since before → this_turn since ≡ [] → ending_of since before ≡ tells_bye → d.stage ≡ stages.Over
+    → BrokenFits d (turned Did ∷ at_port (answered Bye) ∷ since) before
+bye_told c d since before f none e stage = record {
   first = f.first;
   opening = f.opening;
   conducted = (f.conducted.0, f.conducted.1, (one_told since none Bye, ((e, refl), f.conducted.2)));
-  reset = reset ∙ f.reset;
-  closing = closing ∙ f.closing;
-  left = left ∙ ap (drop 1) (f.left ∙ ap left_to_end e);
+  stage = stage;
 }
 
 pub bye_kept : (c : Controller) (since before : Journal) → BrokenFits c since before → ending_of since before ≡ tells_bye
@@ -168,120 +120,65 @@ bye_kept c since before f e = record {
   first = f.first;
   opening = f.opening;
   conducted = (f.conducted.0, f.conducted.1, (refl, (e, f.conducted.2)));
-  reset = f.reset;
-  closing = f.closing;
-  left = f.left;
+  stage = f.stage;
 }
 
--- a turn of a run that has ended and is over
-pub over_ends : (c : Controller) (since before : Journal) → BrokenFits c since before → this_turn since ≡ [] → BoardRests c → BrokenFits c (turned Done ∷ since) before
-over_ends c since before f none rests = record {
-  first = f.first;
-  opening = f.opening;
-  conducted = (f.conducted.0, f.conducted.1, ((by_left (ending_of since before) refl, none), f.conducted.2));
-  reset = f.reset;
-  closing = f.closing;
-  left = f.left;
-}
-  where
-    by_left : (e : Ending) → ending_of since before ≡ e → ending_of since before ≡ over
-    by_left publishes_end e = absurd (let l = sym rests.none ∙ f.left ∙ ap left_to_end e in cc)
-    by_left tells_bye e = absurd (let l = sym rests.none ∙ f.left ∙ ap left_to_end e in cc)
-    by_left over e = e
+-- what is next of a run that a reset has ended: the end is to be published, or Bye to be told
+pub end_is_next : (e : Ending) (s : Stage) → s ≡ stage_of e → s ≡ stages.PublishesEnd → e ≡ publishes_end
+end_is_next publishes_end s is next = refl
+end_is_next tells_bye s is next = absurd (let e = sym is ∙ next in cc)
+end_is_next over s is next = absurd (let e = sym is ∙ next in cc)
+
+pub bye_is_next : (e : Ending) (c : Controller) → c.stage ≡ stage_of e → (BoardRests c → ⊥) → (c.stage ≡ stages.PublishesEnd → ⊥) → e ≡ tells_bye
+bye_is_next publishes_end c is unrested other = absurd (other is)
+bye_is_next tells_bye c is unrested other = refl
+bye_is_next over c is unrested other = absurd (unrested (subst (λ (s : Stage). rests_at s c.board) (sym is) tt))
 
 -- ---- a turn
 
-tell_is_next : (t : Todo) (left : List Task) → IsTodo t left → IsNextOf (tell Bye) left → t ≡ todos.Tell
-tell_is_next todos.Tell left is next = refl
-tell_is_next todos.Nothing left is next = absurd (let e = sym is ∙ next in cc)
-tell_is_next todos.Rest left is next = absurd (let e = sym is ∙ next in cc)
-tell_is_next (todos.Mark m) left is next = absurd (let e = sym is.0 ∙ next in cc)
-tell_is_next todos.Move left is next = absurd (let e = sym is.1 ∙ next in cc)
-tell_is_next todos.Pause left is next = absurd (let e = sym is ∙ next in cc)
-tell_is_next todos.Normal left is next = absurd (let e = sym is ∙ next in cc)
-tell_is_next todos.Finish left is next = absurd (let e = sym is ∙ next in cc)
-tell_is_next todos.Halt left is next = absurd (let e = sym is ∙ next in cc)
+pub over_at_rest : (c : Controller) (since before : Journal) → BrokenFits c since before → BoardRests c → (e : Ending) → ending_of since before ≡ e → ending_of since before ≡ over
+over_at_rest c since before f rests publishes_end e = absurd (subst (λ (s : Stage). rests_at s c.board) (f.stage ∙ ap stage_of e) rests)
+over_at_rest c since before f rests tells_bye e = absurd (subst (λ (s : Stage). rests_at s c.board) (f.stage ∙ ap stage_of e) rests)
+over_at_rest c since before f rests over e = e
 
--- where anything but a reply is next, Bye is not
-pub no_bye_next : (t : Todo) (left : List Task) → IsTodo t left → (t ≡ todos.Tell → ⊥) → IsNextOf (tell Bye) left → ⊥
-no_bye_next t left is other next = other (tell_is_next t left is next)
-
-pub a_reply_next : (t : Todo) (left : List Task) → IsTodo t left → t ≡ todos.Tell → (r : Reply) × IsNextOf (tell r) left
-a_reply_next todos.Tell left is e = is
-a_reply_next todos.Nothing left is e = absurd cc
-a_reply_next todos.Rest left is e = absurd cc
-a_reply_next (todos.Mark m) left is e = absurd cc
-a_reply_next todos.Move left is e = absurd cc
-a_reply_next todos.Pause left is e = absurd cc
-a_reply_next todos.Normal left is e = absurd cc
-a_reply_next todos.Finish left is e = absurd cc
-a_reply_next todos.Halt left is e = absurd cc
-
-finish_is_next : (t : Todo) (left : List Task) → IsTodo t left → IsNextOf finish left → t ≡ todos.Finish
-finish_is_next todos.Finish left is next = refl
-finish_is_next todos.Nothing left is next = absurd (let e = sym is ∙ next in cc)
-finish_is_next todos.Rest left is next = absurd (let e = sym is ∙ next in cc)
-finish_is_next (todos.Mark m) left is next = absurd (let e = sym is.0 ∙ next in cc)
-finish_is_next todos.Move left is next = absurd (let e = sym is.1 ∙ next in cc)
-finish_is_next todos.Tell left is next = absurd (let e = sym is.1 ∙ next in cc)
-finish_is_next todos.Pause left is next = absurd (let e = sym is ∙ next in cc)
-finish_is_next todos.Normal left is next = absurd (let e = sym is ∙ next in cc)
-finish_is_next todos.Halt left is next = absurd (let e = sym is ∙ next in cc)
-
--- what is next of a run that a reset has ended: the end is to be published, or Bye to be told
-pub end_is_next : (e : Ending) (left : List Task) → left ≡ left_to_end e → IsNextOf finish left → e ≡ publishes_end
-end_is_next publishes_end left is next = refl
-end_is_next tells_bye left is next = absurd (let e = sym is ∙ next in cc)
-end_is_next over left is next = absurd (let e = sym is ∙ next in cc)
-
-pub bye_is_next : (e : Ending) (t : Todo) (left : List Task) → left ≡ left_to_end e → (left ≡ [] → ⊥) → IsTodo t left → (t ≡ todos.Finish → ⊥) → e ≡ tells_bye
-bye_is_next publishes_end t left is some todo other = absurd (other (finish_is_next t left todo (is ∙ ap (λ (ts : List Task). finish ∷ drop 1 ts) (sym is))))
-bye_is_next tells_bye t left is some todo other = refl
-bye_is_next over t left is some todo other = absurd (some is)
-
--- what a turn leaves of a port and a board
-abbrev pub GoesOn : (BoardLog → Type 0) → Turn → Controller → Controller → Doings → Type 0
-GoesOn stands t was is d = (next : Doings) × stands (log_of next) × BoardFits is next × IsBetween next × BoardTurned t was is d next
+-- a turn of a run that has ended and is over
+over_ends : (c : Controller) (since before : Journal) → BrokenFits c since before → this_turn since ≡ [] → BoardRests c → BrokenFits c (turned Done ∷ since) before
+over_ends c since before f none rests = record {
+  first = f.first;
+  opening = f.opening;
+  conducted = (f.conducted.0, f.conducted.1, ((over_at_rest c since before f rests (ending_of since before) refl, none), f.conducted.2));
+  stage = f.stage;
+}
 
 -- a run that is over stays so
 pub over_goes_on : (stands : BoardLog → Type 0) (c : Controller) (d : Doings) → stands (log_of d) → BoardFits c d → IsBetween d → BoardRests c → GoesOn stands Done c c d
 over_goes_on stands c (goes h) at f between rests =
-    let r = turned_by (first_opening f.0) Done c c c.flags h h refl (over_worked (first_opening f.0) c h f.2 between rests) in
-    (goes (turned Done ∷ h), at, (f.0, f.1, r.0, f.3), refl, turned_any Done c c h (turned Done ∷ h) f.0 r.1)
+    let is_over : BoardIsOver c.board = subst (λ (s : Stage). rests_at s c.board) f.stage rests in
+    let r = turned_by (first_opening f.first) Done c.board c.board c.board.flags h h refl (over_worked (first_opening f.first) c.board h f.fits between is_over) in
+    (goes (turned Done ∷ h), at, record { first = f.first; opening = f.opening; stage = f.stage; fits = r.0; rests = f.rests }, refl, turned_any Done c.board c.board h (turned Done ∷ h) f.first r.1)
 over_goes_on stands c (broke since before) at f between rests =
     (broke (turned Done ∷ since) before, at, over_ends c since before f between rests, refl, (refl, record { steps = []; are = refl; moves = λ e. absurd cc }))
 
 -- a run that a reset has ended goes on to its end
-pub ended_goes_on : (was stands : BoardLog → Type 0) (t : Turn) (c is : Controller) (d : Doings) → c.reset ≡ true → (BoardRests c → ⊥) → was (log_of d) → BoardFits c d → IsBetween d
+pub ended_goes_on : (was stands : BoardLog → Type 0) (t : Turn) (c is : Controller) (d : Doings) → (c.stage ≡ stages.Goes → ⊥) → was (log_of d) → BoardFits c d → IsBetween d
     → ((since before : Journal) → was (log_of (broke since before)) → BrokenFits c since before → IsBetween (broke since before) → EndsOn stands t is since before) → GoesOn stands t c is d
-ended_goes_on was stands t c is (goes h) reset unrested at f between ends = absurd (unrested (f.3 reset))
-ended_goes_on was stands t c is (broke since before) reset unrested at f between ends =
+ended_goes_on was stands t c is (goes h) ended at f between ends = absurd (ended f.stage)
+ended_goes_on was stands t c is (broke since before) ended at f between ends =
     let e = ends since before at f between in (broke e.0 before, e.1, e.2, e.3, (refl, e.4))
 
 -- a run that goes on does so, or is ended behind the turn
-pub turned_goes_on : (state : State) (stands : BoardLog → Type 0) (t : Turn) (c is : Controller) (h next : Journal) → IsOpening state → stands (port_log next) → GoingFits (first_opening state) is next → GoingBetween next → GoingTurned (first_opening state) t c is h next
-    → (is.reset ≡ true → BoardRests is) → GoesOn stands t c is (goes h)
-turned_goes_on state stands t c is h next opening at f between was rests = (goes next, at, (state, opening, f, rests), between, turned_any t c is h next state was)
+pub turned_goes_on : (stands : BoardLog → Type 0) (t : Turn) (state : State) (c is : Controller) (h : Journal) → IsOpening state → is.stage ≡ stages.Goes → (w : WentOn stands t state c.board is.board h)
+    → (has_reset_in (port_log w.0) ≡ true → BoardIsOver is.board) → GoesOn stands t c is (goes h)
+turned_goes_on stands t state c is h opening stage w rests =
+    (goes w.0, w.1, record { first = state; opening = opening; stage = stage; fits = w.2; rests = rests }, w.3, turned_any t c.board is.board h w.0 state w.4)
 
-pub broken_goes_on : (first : State) (stands : BoardLog → Type 0) (t : Turn) (c mid is : Controller) (h next : Journal) → stands (port_log next) → GoingTurned (first_opening first) t c mid h next → BrokenFits is [] next → is.flags ≡ mid.flags
+pub broken_goes_on : (stands : BoardLog → Type 0) (t : Turn) (state : State) (c is : Controller) (board : Board) (h : Journal) → (w : WentOn stands t state c.board board h) → BrokenFits is [] w.0 → is.board ≡ board
     → GoesOn stands t c is (goes h)
-broken_goes_on first stands t c mid is h next at was f same = (
-  broke [] next,
-  at,
-  f,
-  refl,
-  (
-    refl,
-    turned_any t c is h next first (record {
-      steps = was.steps;
-      are = was.are;
-      moves = λ e. subst (λ (x : Flags). (list_any moving (this_turn (was.steps ++ h)) ≡ true) ⊎ (number_of (first_opening first) x next < number_of (first_opening first) c.flags h)) (sym same) (was.moves e);
-    }),
-  ),
-)
+broken_goes_on stands t state c is board h w f same =
+    (broke [] w.0, w.1, f, refl, (refl, turned_any t c.board is.board h w.0 state (subst (λ (b : Board). GoingTurned (first_opening state) t c.board b h w.0) (sym same) w.4)))
 
--- a board without a reset goes on
-pub unbroken_goes_on : (was stands : BoardLog → Type 0) (t : Turn) (c is : Controller) (d : Doings) → c.reset ≡ false → was (log_of d) → BoardFits c d → IsBetween d
-    → ((state : State) → IsOpening state → (h : Journal) → was (port_log h) → GoingFits (first_opening state) c h → GoingBetween h → GoesOn stands t c is (goes h)) → GoesOn stands t c is d
-unbroken_goes_on was stands t c is (goes h) none at f between on = on f.0 f.1 h at f.2 between
-unbroken_goes_on was stands t c is (broke since before) none at f between on = absurd (let e = sym none ∙ f.reset in cc)
+-- ---- the number of a board
+
+pub few_in : (state : State) (c : Controller) (d : Doings) → BoardFits c d → number_in state c d < 64
+few_in state c (goes h) f = subst (λ n. n < 64) (number_any f.first state c.board.flags h) (number_few (first_opening f.first) c.board h f.fits)
+few_in state c (broke since before) f = omega arith

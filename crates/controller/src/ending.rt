@@ -1,64 +1,80 @@
-//! How a board's run is ended by a reset.
+//! How a board's run goes on, and how a reset ends it.
 
-ghost use Rattle.std.specs.Prelude.{◌≡◌, ◌≢◌, ◌↔◌, ◌<◌, cond, [], true, false};
+ghost use Rattle.std.specs.Prelude.{◌≡◌, ◌≢◌, ◌↔◌, ◌<◌, [], true, false};
 ghost use Rattle.outside.specs.declared.Turn.TheVariants.{Done};
-ghost use Rattle.board_rules.specs.Steps.{Journal};
 ghost use Rattle.run_rules.specs.declared.State.{State};
 ghost use Rattle.run_rules.specs.States.{IsOpening};
-ghost use Rattle.board_rules.specs.Openings.{Opening, first_opening};
 ghost use Rattle.board_rules.specs.Breaking.{Doings, ending_of, log_of};
-ghost use Rattle.board_rules.specs.Breaking.Doings.{goes, broke};
+ghost use Rattle.board_rules.specs.Breaking.Doings.{broke};
 ghost use Rattle.board_rules.specs.Breaking.Ending.{publishes_end, tells_bye};
-ghost use Rattle.controller.specs.Boards.{BoardFits, BoardRests, BoardTurned, BrokenFits, EndTurned, GoingBetween, GoingFits, IsBetween, number_in};
-ghost use Rattle.controller.specs.Breaking.{EndsOn};
+ghost use Rattle.board_rules.specs.Openings.{Opening, first_opening};
+ghost use Rattle.board_rules.specs.Ports.{has_reset_in};
+ghost use Rattle.board_rules.specs.Steps.{Journal, port_log};
+ghost use Rattle.board_turns.specs.Boards.{BoardIsOver, GoingBetween, GoingFits};
+ghost use Rattle.controller.specs.Boards.{BoardFits, BoardRests, BoardTurned, BrokenFits, IsBetween, number_in};
+ghost use Rattle.controller.specs.Breaking.{EndsOn, GoesOn, WentOn};
 
-use crate::controller::Controller;
+use crate::controller::{Controller, Stage};
 use board_rules::BoardPort;
-use line_interpreter::Todo;
+use epoch_ports::EpochSide;
 use outside::{On, Turn};
 use status_report::Reply;
 use step_line::Piece;
 
 impl Controller {
-    /// Whether the end of the run is published: the run was being closed, and only Bye is left to be told.
-    fn has_published_end(&self) -> bool
-        ensures { (first : Opening) (h : Journal) → GoingFits first self.now h → (BoardRests self.now → ⊥) → ending_of [] h ≡ cond result tells_bye publishes_end }
+    /// Takes a turn of the board, whose one epoch begins with the run.
+    #[inline(always)]
+    fn go_on<P: BoardPort>(&mut self, port: &mut P) -> Turn
+        requires { (rest : P.Rest) × (state : State) × (h : Journal) × P.stands port.old rest (port_log h) × GoingFits (first_opening state) self.old.board h × GoingBetween h }
+        ensures goes_on { (rest : P.Rest) (state : State) (h : Journal) → P.stands port.old rest (port_log h) → GoingFits (first_opening state) self.old.board h → GoingBetween h
+            → WentOn (P.stands port.new rest) result state self.old.board self.new.board h }
+        ensures done { (result ≡ Done) ↔ BoardIsOver self.old.board }
+        ensures same { self.new.stage ≡ self.old.stage }
     {
-        if !self.closing {
-            return false;
-        }
-        if self.machine.hand.is_some() {
-            return false;
-        }
-        matches!(self.lines.todo(), Todo::Tell)
+        let mut side = EpochSide { port, base: 0 };
+        self.board.turn(&mut side)
     }
 
     /// Whether the run is to be ended: a word that asks for a reset was taken, and the run is not over.
     fn breaks_off(&self) -> bool
-        ensures yes { result ≡ true → (self.now.reset ≡ true) × (BoardRests self.now → ⊥) }
-        ensures no { result ≡ false → self.now.reset ≡ true → BoardRests self.now }
+        ensures yes { (first : Opening) (h : Journal) → GoingFits first self.now.board h → result ≡ true → has_reset_in (port_log h) ≡ true }
+        ensures going { result ≡ true → BoardIsOver self.now.board → ⊥ }
+        ensures no { (first : Opening) (h : Journal) → GoingFits first self.now.board h → result ≡ false → has_reset_in (port_log h) ≡ true → BoardIsOver self.now.board }
     {
-        if !self.reset {
+        if !self.board.was_reset() {
             return false;
         }
-        !self.is_over()
+        !self.board.is_over()
     }
 
     /// Ends the run at once, since a reset was asked for: all that is planned, in hand, asked for or to be told is dropped. The
     /// end is to be published, unless it is already, and Bye is told.
     #[inline(never)]
     fn break_off(&mut self)
-        requires reset { self.old.reset ≡ true }
-        requires going { BoardRests self.old → ⊥ }
-        ensures broken { (state : State) (h : Journal) → IsOpening state → GoingFits (first_opening state) self.old h → GoingBetween h → BrokenFits self.new [] h }
-        ensures flags { self.new.flags ≡ self.old.flags }
+        requires going { BoardIsOver self.old.board → ⊥ }
+        ensures broken { (state : State) (h : Journal) → IsOpening state → GoingFits (first_opening state) self.old.board h → has_reset_in (port_log h) ≡ true → GoingBetween h → BrokenFits self.new [] h }
+        ensures same { self.new.board ≡ self.old.board }
     {
-        let published = self.has_published_end();
-        self.closing = true;
-        self.lines.close();
-        if published {
-            self.lines.done();
+        if self.board.has_published_end() {
+            self.stage = Stage::TellsBye;
+        } else {
+            self.stage = Stage::PublishesEnd;
         }
+    }
+
+    /// Takes a turn of a run that no reset has ended. Where a word that asks for one was taken, it is ended behind the turn.
+    #[inline(always)]
+    fn carry_on<P: BoardPort>(&mut self, port: &mut P) -> Turn
+        requires goes { self.old.stage ≡ Stage.Goes }
+        requires stands { (rest : P.Rest) × (d : Doings) × P.stands port.old rest (log_of d) × BoardFits self.old d × IsBetween d }
+        ensures goes_on { (rest : P.Rest) (d : Doings) → P.stands port.old rest (log_of d) → BoardFits self.old d → IsBetween d → GoesOn (P.stands port.new rest) result self.old self.new d }
+        ensures done { (result ≡ Done) ↔ BoardIsOver self.old.board }
+    {
+        let turn = self.go_on(port);
+        if self.breaks_off() {
+            self.break_off();
+        }
+        turn
     }
 
     /// Publishes the end of a run that a reset has ended.
@@ -70,7 +86,7 @@ impl Controller {
     {
         match port.publish(Piece::End) {
             Ok(()) => {
-                self.lines.done();
+                self.stage = Stage::TellsBye;
                 Turn::Did
             }
             Err(_) => Turn::Wait(On::SegmentRoom),
@@ -86,7 +102,7 @@ impl Controller {
     {
         match port.answer(Reply::Bye) {
             Ok(()) => {
-                self.lines.done();
+                self.stage = Stage::Over;
                 Turn::Did
             }
             Err(_) => Turn::Wait(On::ReplyRoom),
@@ -97,13 +113,14 @@ impl Controller {
     #[inline(never)]
     fn end_run<P: BoardPort>(&mut self, port: &mut P) -> Turn
         requires going { BoardRests self.old → ⊥ }
+        requires ended { self.old.stage ≢ Stage.Goes }
         requires stands { (rest : P.Rest) × (since before : Journal) × P.stands port.old rest (log_of (broke since before)) × BrokenFits self.old since before × IsBetween (broke since before) }
         ensures goes_on { (rest : P.Rest) (since before : Journal) → P.stands port.old rest (log_of (broke since before)) → BrokenFits self.old since before → IsBetween (broke since before)
             → EndsOn (P.stands port.new rest) result self.new since before }
         ensures going { result ≢ Done }
     {
-        match self.lines.todo() {
-            Todo::Finish => self.publish_end(port),
+        match self.stage {
+            Stage::PublishesEnd => self.publish_end(port),
             _ => self.tell_bye(port),
         }
     }
@@ -126,18 +143,14 @@ impl Controller {
             → (next : Doings) × P.stands port.new rest (log_of next) × BoardFits self.new next × IsBetween next × BoardTurned result self.old self.new d next }
         ensures done { (result ≡ Done) ↔ BoardRests self.old }
         ensures still { BoardRests self.old → (self.new ≡ self.old) × (port.new ≡ port.old) }
-        ensures few { (state : State) (d : Doings) → BoardFits self.old d → number_in state self.old.flags d < 64 }
+        ensures few { (state : State) (d : Doings) → BoardFits self.old d → number_in state self.old d < 64 }
     {
         if self.is_over() {
             return Turn::Done;
         }
-        if self.reset {
-            return self.end_run(port);
+        match self.stage {
+            Stage::Goes => self.carry_on(port),
+            _ => self.end_run(port),
         }
-        let turn = self.carry_on(port);
-        if self.breaks_off() {
-            self.break_off();
-        }
-        turn
     }
 }

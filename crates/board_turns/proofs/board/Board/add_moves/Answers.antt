@@ -2,10 +2,10 @@ use Rattle.std.proofs.Common.{[], ◌∷◌, ap, sym, ◌∙◌}
 use Rattle.planner_runs.specs.declared.Action.TheVariants.{Add}
 use Rattle.board_rules.specs.Steps.{hand_of, given_of, motion_of, plan_of}
 use Rattle.board_rules.specs.Steps.Step.{did}
-use Rattle.controller.specs.declared.controller.Controller.{Controller}
-use Rattle.controller.proofs.Steps.{in_range, same_overrides, is_next, added_move}
-use Rattle.controller.proofs.Adding.{adds_one, has_added, none_fits_full, none_fits_other, has_room_now}
-use Rattle.controller.proofs.controller.Controller.add_moves.Goals as goal
+use Rattle.board_turns.specs.declared.board.Board.{Board}
+use Rattle.board_turns.proofs.Steps.{in_range, same_overrides, is_next, added_move}
+use Rattle.board_turns.proofs.Adding.{adds_one, has_added, none_fits_full, none_fits_other, has_room_now}
+use Rattle.board_turns.proofs.board.Board.add_moves.Goals as goal
 
 pub returns-then-is_full-clause-added : goal.returns-then-is_full-clause-added
 returns-then-is_full-clause-added c first h k =
@@ -28,7 +28,7 @@ loop-self-preserved c = (
             (c.add.ensures (plan_of n.0) (motion_of first n.0) (hand_of n.0) (given_of n.0) n.1.machine) c.done.ensures,
         adds_one first m h n.0 n.2 next,
       ),
-  ap (λ (x : Controller). record x { machine = c.add.new.self; lines = c.done.new.self }) c.loop-self.invariant.1,
+  ap (λ (x : Board). record x { machine = c.add.new.self; lines = c.done.new.self }) c.loop-self.invariant.1,
 )
 
 pub returns : goal.returns

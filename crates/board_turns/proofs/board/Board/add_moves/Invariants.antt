@@ -1,9 +1,9 @@
 use Rattle.std.proofs.Common.{◌≡◌, length}
 use Rattle.board_rules.specs.Openings.{Opening}
 use Rattle.board_rules.specs.Steps.{Journal}
-use Rattle.controller.specs.Boards.{Keeps}
-use Rattle.controller.proofs.Adding.{Adds}
-use Rattle.controller.proofs.controller.Controller.add_moves.Given as goal
+use Rattle.board_turns.specs.Boards.{Keeps}
+use Rattle.board_turns.proofs.Adding.{Adds}
+use Rattle.board_turns.proofs.board.Board.add_moves.Given as goal
 
 abbrev pub invariant-loop-self : goal.invariant-loop-self
 invariant-loop-self l =

@@ -1,7 +1,7 @@
 use Rattle.std.proofs.Common.{ap, ◌∙◌}
-use Rattle.controller.specs.declared.controller.Controller.{Controller}
-use Rattle.controller.proofs.Begins.{looked_whole, begun_unowed, has_spoken, did_begin_line, port_begun}
-use Rattle.controller.proofs.controller.Controller.begin.Goals as goal
+use Rattle.board_turns.specs.declared.board.Board.{Board}
+use Rattle.board_turns.proofs.Begins.{looked_whole, begun_unowed, has_spoken, did_begin_line, port_begun}
+use Rattle.board_turns.proofs.board.Board.begin.Goals as goal
 
 pub look-requires : goal.look-requires
 look-requires g c = let r = c.requires.stands in let first = r.1 in record { stands = (r.0, first, r.2, r.3, r.4, r.6.goes) }
@@ -40,10 +40,10 @@ returns-clause-goes_on g c = λ rest first h stands k ready whole.
     let same = port_begun first line.0 mid.0 line.1 line.3 ∙ mid.3.port in
     let told = c.tell_first.ensures.goes_on rest first line.1 (rw same seen.1) line.2 (begun_unowed first line.0 mid.0 line.1 mid.2 line.3) in
     let next = c.fill.ensures.filled first told.0 told.2 in
-    let beat = ap (λ (b : Controller). b.beat) c.fill.ensures.same ∙ ap (λ (b : Controller). b.beat) c.tell_first.ensures.same ∙ ap (λ (b : Controller). b.beat) c.judge.ensures.same
-    ∙ ap (λ (b : Controller). b.beat) c.start_before_line.ensures.same ∙ ap (λ (b : Controller). b.beat) c.look.ensures.same ∙ c.requires.beat in
-    let no_word = ap (λ (b : Controller). b.flags) c.fill.ensures.same ∙ ap (λ (b : Controller). b.flags) c.tell_first.ensures.same ∙ ap (λ (b : Controller). b.flags) c.judge.ensures.same
-    ∙ ap (λ (b : Controller). b.flags) c.start_before_line.ensures.same ∙ ap (λ (b : Controller). b.flags) c.look.ensures.same ∙ c.requires.flags in (
+    let beat = ap (λ (b : Board). b.beat) c.fill.ensures.same ∙ ap (λ (b : Board). b.beat) c.tell_first.ensures.same ∙ ap (λ (b : Board). b.beat) c.judge.ensures.same
+    ∙ ap (λ (b : Board). b.beat) c.start_before_line.ensures.same ∙ ap (λ (b : Board). b.beat) c.look.ensures.same ∙ c.requires.beat in
+    let no_word = ap (λ (b : Board). b.flags) c.fill.ensures.same ∙ ap (λ (b : Board). b.flags) c.tell_first.ensures.same ∙ ap (λ (b : Board). b.flags) c.judge.ensures.same
+    ∙ ap (λ (b : Board). b.flags) c.start_before_line.ensures.same ∙ ap (λ (b : Board). b.flags) c.look.ensures.same ∙ c.requires.flags in (
       next.0,
       rw next.2.alone.port told.1,
       did_begin_line first c.args.self.now.flags c.fill.new.self h seen.0 mid.0 told.0 next.0 line.0 ready whole seen.3.passes mid.3 (has_spoken first line.0 mid.0 line.1 told.0 line.3 told.3) next.1 beat no_word next.2,

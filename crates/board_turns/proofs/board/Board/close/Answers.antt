@@ -1,8 +1,8 @@
 use Rattle.std.proofs.Common.{◌∷◌}
 use Rattle.board_rules.specs.Steps.Step.{closing}
-use Rattle.controller.proofs.Steps.{closes}
-use Rattle.controller.proofs.Nexts.{none_waiting, may_close, closes_worked}
-use Rattle.controller.proofs.controller.Controller.close.Goals as goal
+use Rattle.board_turns.proofs.Steps.{closes}
+use Rattle.board_turns.proofs.Nexts.{none_waiting, may_close, closes_worked}
+use Rattle.board_turns.proofs.board.Board.close.Goals as goal
 
 pub returns-clause-goes_on : goal.returns-clause-goes_on
 returns-clause-goes_on g c = λ rest first h stands keeps polled closed.

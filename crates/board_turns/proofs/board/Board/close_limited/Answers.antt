@@ -1,8 +1,8 @@
 use Rattle.std.proofs.Common.{◌∷◌, refl}
 use Rattle.board_rules.specs.Steps.Step.{closing}
-use Rattle.controller.proofs.Limiting.{may_close, closes_limited}
-use Rattle.controller.proofs.Steps.{closes}
-use Rattle.controller.proofs.controller.Controller.close_limited.Goals as goal
+use Rattle.board_turns.proofs.Limiting.{may_close, closes_limited}
+use Rattle.board_turns.proofs.Steps.{closes}
+use Rattle.board_turns.proofs.board.Board.close_limited.Goals as goal
 
 pub returns-clause-goes_on : goal.returns-clause-goes_on
 returns-clause-goes_on c = λ first h k ready is none.

@@ -1,7 +1,7 @@
 use Rattle.std.proofs.Common.{sym, ◌∙◌}
 use Rattle.board_rules.specs.Steps.{hand_of, given_of, plan_of, motion_of}
-use Rattle.controller.proofs.Stopping.{was_holding, was_stopping, comes_held, comes_locked, comes_over, comes_cut, is_uncut}
-use Rattle.controller.proofs.controller.Controller.come_to_rest.Goals as goal
+use Rattle.board_turns.proofs.Stopping.{was_holding, was_stopping, comes_held, comes_locked, comes_over, comes_cut, is_uncut}
+use Rattle.board_turns.proofs.board.Board.come_to_rest.Goals as goal
 
 pub lock-requires : goal.lock-requires
 lock-requires c =

@@ -1,13 +1,13 @@
-use Rattle.controller.proofs.Ends.{may_run}
-use Rattle.controller.proofs.Nexts.{finish_next, some_next}
+use Rattle.board_turns.proofs.Ends.{may_run}
+use Rattle.board_turns.proofs.Nexts.{finish_next, some_next}
 use Rattle.run_rules.specs.Work.Task.{finish, ask, pause}
 use Rattle.step_line.specs.Asking.Asked.{a_move}
 use Rattle.board_rules.specs.Turns.{awaits_motion}
 use Rattle.std.proofs.Common.{ap, sym, subst}
-use Rattle.controller.specs.declared.controller.Flags.{Flags}
-use Rattle.controller.specs.Turning.{BoardWorked}
-use Rattle.controller.proofs.Steps.{is_next}
-use Rattle.controller.proofs.controller.Controller.do_next.Goals as goal
+use Rattle.board_turns.specs.declared.board.Flags.{Flags}
+use Rattle.board_turns.specs.Turning.{BoardWorked}
+use Rattle.board_turns.proofs.Steps.{is_next}
+use Rattle.board_turns.proofs.board.Board.do_next.Goals as goal
 
 pub finish-requires-clause-stands : goal.finish-requires-clause-stands
 finish-requires-clause-stands g c =

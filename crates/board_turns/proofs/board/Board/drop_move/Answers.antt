@@ -1,8 +1,8 @@
 use Rattle.std.proofs.Common.{ap, ◌∙◌, subst}
 use Rattle.line_interpreter.specs.Interpreting.{Interpreting}
 use Rattle.line_interpreter.specs.Lefts.{IsTodo}
-use Rattle.controller.proofs.Stopping.{dropped_next, dropped_none}
-use Rattle.controller.proofs.controller.Controller.drop_move.Goals as goal
+use Rattle.board_turns.proofs.Stopping.{dropped_next, dropped_none}
+use Rattle.board_turns.proofs.board.Board.drop_move.Goals as goal
 
 pub returns-in-Move-clause-left : goal.returns-in-Move-clause-left
 returns-in-Move-clause-left c first h k cancelled =

@@ -1,6 +1,6 @@
 use Rattle.board_rules.specs.Steps.{hand_of, given_of, plan_of, motion_of}
-use Rattle.controller.proofs.Limiting.{halts_now}
-use Rattle.controller.proofs.controller.Controller.drop_plan.Goals as goal
+use Rattle.board_turns.proofs.Limiting.{halts_now}
+use Rattle.board_turns.proofs.board.Board.drop_plan.Goals as goal
 
 pub returns-clause-halted : goal.returns-clause-halted
 returns-clause-halted c = λ first h k at.

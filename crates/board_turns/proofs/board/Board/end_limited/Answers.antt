@@ -1,11 +1,11 @@
 use Rattle.std.proofs.Common.{sym, ◌∙◌}
 use Rattle.run_rules.specs.Work.Task.{finish, halt}
 use Rattle.board_rules.proofs.Stages.{limited_finish}
-use Rattle.controller.proofs.Ends.{may_run}
-use Rattle.controller.proofs.Limiting.{nothing_else}
-use Rattle.controller.proofs.Nexts.{some_next}
-use Rattle.controller.proofs.Steps.{is_next}
-use Rattle.controller.proofs.controller.Controller.end_limited.Goals as goal
+use Rattle.board_turns.proofs.Ends.{may_run}
+use Rattle.board_turns.proofs.Limiting.{nothing_else}
+use Rattle.board_turns.proofs.Nexts.{some_next}
+use Rattle.board_turns.proofs.Steps.{is_next}
+use Rattle.board_turns.proofs.board.Board.end_limited.Goals as goal
 
 pub finish-requires-clause-stands : goal.finish-requires-clause-stands
 finish-requires-clause-stands g c =

@@ -1,9 +1,9 @@
 use Rattle.std.proofs.Common.{sym, ◌∙◌}
 use Rattle.board_rules.specs.Steps.{hand_of, given_of, motion_of, plan_of}
-use Rattle.controller.specs.Turning.{starting}
-use Rattle.controller.proofs.Steps.{started}
-use Rattle.controller.proofs.Adding.{none_waits_now, may_start, filled_added, filled_started}
-use Rattle.controller.proofs.controller.Controller.fill.Goals as goal
+use Rattle.board_turns.specs.Turning.{starting}
+use Rattle.board_turns.proofs.Steps.{started}
+use Rattle.board_turns.proofs.Adding.{none_waits_now, may_start, filled_added, filled_started}
+use Rattle.board_turns.proofs.board.Board.fill.Goals as goal
 
 pub returns-then-needs_start-clause-filled : goal.returns-then-needs_start-clause-filled
 returns-then-needs_start-clause-filled c first h k =

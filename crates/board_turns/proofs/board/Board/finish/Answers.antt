@@ -3,12 +3,12 @@ use Rattle.step_line.specs.declared.Piece.TheVariants as pieces
 use Rattle.board_rules.specs.Steps.{hand_of, plan_of, motion_of, given_of}
 use Rattle.board_rules.specs.Steps.Step.{made_end}
 use Rattle.board_machine.specs.Machines.{Runs}
-use Rattle.controller.proofs.Steps.{ended}
+use Rattle.board_turns.proofs.Steps.{ended}
 use Rattle.board_rules.proofs.Lasts.{closes_at_end}
-use Rattle.controller.proofs.Ends.{works_passed}
+use Rattle.board_turns.proofs.Ends.{works_passed}
 use Rattle.board_rules.proofs.Tries.{passes_end}
-use Rattle.controller.proofs.Nexts.{may_run_ended, none_behind}
-use Rattle.controller.proofs.controller.Controller.finish.Goals as goal
+use Rattle.board_turns.proofs.Nexts.{may_run_ended, none_behind}
+use Rattle.board_turns.proofs.board.Board.finish.Goals as goal
 
 pub run-requires-clause-stands : goal.run-requires-clause-stands
 run-requires-clause-stands g c =
@@ -25,5 +25,5 @@ returns-clause-goes_on g c = λ rest first h stands keeps may stopped next.
     let is = closes_at_end first h keeps.conducted next in
     let runs = c.put_end.ensures (plan_of h) (motion_of first h) (given_of h) (subst (λ hand. Runs s.machine (plan_of h) (motion_of first h) hand (given_of h)) stopped.drained.hand keeps.machine) in
     let now = ended first s _ _ h keeps next stopped.drained stopped.stands is.closes runs c.done.ensures in
-    works_passed first (g.P.BoardPort.stands c.run.new.port rest) c.run.result _ _ h (made_end ∷ h) (passes_end first h)
+    works_passed first (g.P.EpochPort.stands c.run.new.port rest first) c.run.result _ _ h (made_end ∷ h) (passes_end first h)
     (c.run.ensures.goes_on rest first (made_end ∷ h) stands now (may_run_ended first h may stopped next is) (inl (none_behind (hand_of h) pieces.End)))

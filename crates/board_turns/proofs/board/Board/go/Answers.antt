@@ -2,10 +2,10 @@ use Rattle.std.proofs.Common.{[], inl, refl, sym, ap, ◌∙◌, arith}
 use Rattle.run_rules.specs.Work.Task.{ask}
 use Rattle.step_line.specs.Asking.Asked.{a_move}
 use Rattle.board_rules.specs.Turns.{is_full}
-use Rattle.controller.specs.declared.controller.Controller.{Controller}
-use Rattle.controller.proofs.Ends.{did_filled, may_run, takes_none, free_of, free_passed}
-use Rattle.controller.proofs.Nexts.{few_working, full_piece, some_next}
-use Rattle.controller.proofs.controller.Controller.go.Goals as goal
+use Rattle.board_turns.specs.declared.board.Board.{Board}
+use Rattle.board_turns.proofs.Ends.{did_filled, may_run, takes_none, free_of, free_passed}
+use Rattle.board_turns.proofs.Nexts.{few_working, full_piece, some_next}
+use Rattle.board_turns.proofs.board.Board.go.Goals as goal
 
 pub run-requires-clause-stands : goal.run-requires-clause-stands
 run-requires-clause-stands g c =
@@ -32,7 +32,7 @@ returns-clause-goes_on g c = λ rest first h stands keeps ready goes move.
     let few = few_working first h keeps.conducted ready (some_next first h (ask (a_move move.0)) move.1) in
     let quiet = ready.quiet.quiet in
     let room = sym (c.if-is_full.ensures ∙ ap is_full keeps.machine.plan_is) in
-    let beat = ap (λ (b : Controller). b.beat) c.fill.ensures.same ∙ c.requires.beat in
-    let none = ap (λ (b : Controller). b.flags) c.fill.ensures.same ∙ c.requires.flags in
+    let beat = ap (λ (b : Board). b.beat) c.fill.ensures.same ∙ c.requires.beat in
+    let none = ap (λ (b : Board). b.flags) c.fill.ensures.same ∙ c.requires.flags in
     let taken = takes_none c.fill.new.self n.0 none (free_passed first h n.0 n.2.alone.passes (free_of h ready.quiet)) in
     (n.0, rw n.2.alone.port stands, did_filled first _ _ h h n.0 [] refl n.1 beat taken n.2 ready.quiet.worked (omega arith) ready.unpolled few (inl (n.2.moved move room)))

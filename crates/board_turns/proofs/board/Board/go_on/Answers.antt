@@ -1,10 +1,10 @@
 use Rattle.std.proofs.Common.{refl, subst}
-use Rattle.controller.specs.Boards.{TakesFlags}
-use Rattle.controller.specs.declared.controller.Beat.TheVariants.{Motion}
-use Rattle.controller.proofs.Steps.{other_beat}
-use Rattle.controller.proofs.Nexts.{ready_now}
-use Rattle.controller.proofs.Owing.{none_left, owing_now}
-use Rattle.controller.proofs.controller.Controller.go_on.Goals as goal
+use Rattle.board_turns.specs.Boards.{TakesFlags}
+use Rattle.board_turns.specs.declared.board.Beat.TheVariants.{Motion}
+use Rattle.board_turns.proofs.Steps.{other_beat}
+use Rattle.board_turns.proofs.Nexts.{ready_now}
+use Rattle.board_turns.proofs.Owing.{none_left, owing_now}
+use Rattle.board_turns.proofs.board.Board.go_on.Goals as goal
 
 pub publish_first-requires-clause-stands : goal.publish_first-requires-clause-stands
 publish_first-requires-clause-stands g c =

@@ -1,10 +1,10 @@
 use Rattle.std.proofs.Common.{sym, ap, ◌∙◌, subst}
-use Rattle.controller.specs.declared.controller.Controller.{Controller}
-use Rattle.controller.specs.declared.controller.Flags.TheVariants.{Both}
-use Rattle.controller.specs.Turning.{HasTried}
-use Rattle.controller.proofs.Steps.{other_flags}
-use Rattle.controller.proofs.Owed.{waits_idle, waits_handed, sent_owing}
-use Rattle.controller.proofs.controller.Controller.go_on_owing.Goals as goal
+use Rattle.board_turns.specs.declared.board.Board.{Board}
+use Rattle.board_turns.specs.declared.board.Flags.TheVariants.{Both}
+use Rattle.board_turns.specs.Turning.{HasTried}
+use Rattle.board_turns.proofs.Steps.{other_flags}
+use Rattle.board_turns.proofs.Owed.{waits_idle, waits_handed, sent_owing}
+use Rattle.board_turns.proofs.board.Board.go_on_owing.Goals as goal
 
 -- src/reports.rt:108:13
 pub returns-then-not-has_piece-clause-goes_on : goal.returns-then-not-has_piece-clause-goes_on
@@ -36,8 +36,8 @@ returns-then-not-published-clause-goes_on g c rest first h was stands k l =
     let both = other_flags first c.args.self.now Both h k in
     let n = c.publish_next-published.ensures.goes_on rest first h stands both ((c.has_piece.ensures first h both).0 c.if-not-has_piece.false) in
     let f = c.fill.ensures.filled first n.0 n.2 in
-    let beat = ap (λ (b : Controller). b.beat) c.fill.ensures.same ∙ (ap (λ (b : Controller). b.beat) c.publish_next-published.ensures.same ∙ c.requires.beat) in
-    let flags = ap (λ (b : Controller). b.flags) c.fill.ensures.same ∙ ap (λ (b : Controller). b.flags) c.publish_next-published.ensures.same in
+    let beat = ap (λ (b : Board). b.beat) c.fill.ensures.same ∙ (ap (λ (b : Board). b.beat) c.publish_next-published.ensures.same ∙ c.requires.beat) in
+    let flags = ap (λ (b : Board). b.flags) c.fill.ensures.same ∙ ap (λ (b : Board). b.flags) c.publish_next-published.ensures.same in
     let tried = subst (λ b. (HasTried first) b h n.0) c.if-not-published.true n.3 in
     (f.0, rw f.2.alone.port n.1, waits_handed first c.fill.new.self was h n.0 f.0 f.1 l tried f.2 beat flags, λ e. absurd cc)
 

@@ -1,6 +1,6 @@
 use Rattle.std.proofs.Common.{sym, ◌∙◌}
-use Rattle.controller.proofs.Halting.{may_run_halted}
-use Rattle.controller.proofs.controller.Controller.halt.Goals as goal
+use Rattle.board_turns.proofs.Halting.{may_run_halted}
+use Rattle.board_turns.proofs.board.Board.halt.Goals as goal
 
 pub run-requires-clause-stands : goal.run-requires-clause-stands
 run-requires-clause-stands g c =

@@ -6,8 +6,8 @@ use Rattle.feed_hold.specs.Motions.Call.{on_limit}
 use Rattle.board_rules.specs.Steps.{hand_of, given_of, plan_of, motion_of}
 use Rattle.board_rules.specs.Steps.Step.{began, became}
 use Rattle.board_machine.specs.Machines.{limit_motion}
-use Rattle.controller.proofs.Begins.{begun, begun_limited, machine_judged, may_limit}
-use Rattle.controller.proofs.controller.Controller.judge.Goals as goal
+use Rattle.board_turns.proofs.Begins.{begun, begun_limited, machine_judged, may_limit}
+use Rattle.board_turns.proofs.board.Board.judge.Goals as goal
 
 pub limit-requires : goal.limit-requires
 limit-requires c =

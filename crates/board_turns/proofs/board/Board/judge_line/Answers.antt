@@ -10,7 +10,7 @@ use Rattle.board_rules.specs.Steps.{open_of, before_of, motion_of}
 use Rattle.board_rules.specs.Turns.{machine_in}
 use Rattle.board_rules.proofs.Limits.{few_lines}
 use Rattle.board_rules.proofs.Facts.{number_is}
-use Rattle.controller.proofs.controller.Controller.judge_line.Goals as goal
+use Rattle.board_turns.proofs.board.Board.judge_line.Goals as goal
 
 pub judge-accepted-requires : goal.judge-accepted-requires
 judge-accepted-requires c =

@@ -1,8 +1,8 @@
 use Rattle.std.proofs.Common.{◌≡◌, ℕ, Bool, false, nat_eq, arith, subst}
 use Rattle.std.proofs.lemmas.Bool.Decides.{nat_tests}
 use Rattle.board_rules.specs.Steps.{open_of, whole_of}
-use Rattle.controller.specs.Boards.{Reads}
-use Rattle.controller.proofs.controller.Controller.keep.Goals as goal
+use Rattle.board_turns.specs.Boards.{Reads}
+use Rattle.board_turns.proofs.board.Board.keep.Goals as goal
 
 other : (b : ℕ) → (b ≡ 10 → ⊥) → nat_eq b 10 ≡ false
 other b differs = grind (arith, nat_tests, differs)

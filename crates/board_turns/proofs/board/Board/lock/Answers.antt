@@ -1,7 +1,7 @@
 use Rattle.std.proofs.Common.{sym, ◌∙◌}
 use Rattle.board_rules.specs.Steps.{hand_of, given_of, plan_of, motion_of}
-use Rattle.controller.proofs.Limiting.{locked_before, was_slowing, locks_now}
-use Rattle.controller.proofs.controller.Controller.lock.Goals as goal
+use Rattle.board_turns.proofs.Limiting.{locked_before, was_slowing, locks_now}
+use Rattle.board_turns.proofs.board.Board.lock.Goals as goal
 
 pub lock-requires : goal.lock-requires
 lock-requires c =

@@ -1,8 +1,8 @@
 use Rattle.std.proofs.Common.{◌≡◌, true, false, sym, ◌∙◌, ap}
 use Rattle.board_rules.specs.Turns.{is_full, is_halting, needs_motion, is_limited}
-use Rattle.controller.proofs.Nexts.{goes_on, is_halted}
-use Rattle.controller.proofs.controller.Controller.main.Goals.{else-is_halting-via-then-is_halting+else-is_held_up, else-is_halting-via-else-is_halting}
-use Rattle.controller.proofs.controller.Controller.main.Goals as goal
+use Rattle.board_turns.proofs.Nexts.{goes_on, is_halted}
+use Rattle.board_turns.proofs.board.Board.main.Goals.{else-is_halting-via-then-is_halting+else-is_held_up, else-is_halting-via-else-is_halting}
+use Rattle.board_turns.proofs.board.Board.main.Goals as goal
 
 pub proceed-requires-clause-stands : goal.proceed-requires-clause-stands
 proceed-requires-clause-stands g c =

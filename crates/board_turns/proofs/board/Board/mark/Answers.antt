@@ -7,12 +7,12 @@ use Rattle.board_rules.specs.Steps.{hand_of, plan_of, motion_of, given_of}
 use Rattle.board_rules.specs.Steps.Step.{did}
 use Rattle.board_machine.specs.Machines.{Runs}
 use Rattle.board_rules.proofs.Marks.{mark_at_rest}
-use Rattle.controller.proofs.Standing.{hand_none, hand_some}
-use Rattle.controller.proofs.Steps.{is_next, few_ticks, marked}
-use Rattle.controller.proofs.Ends.{may_run, works_passed}
+use Rattle.board_turns.proofs.Standing.{hand_none, hand_some}
+use Rattle.board_turns.proofs.Steps.{is_next, few_ticks, marked}
+use Rattle.board_turns.proofs.Ends.{may_run, works_passed}
 use Rattle.board_rules.proofs.Tries.{passes_did}
-use Rattle.controller.proofs.Nexts.{may_run_marked, none_behind, some_next}
-use Rattle.controller.proofs.controller.Controller.mark.Goals as goal
+use Rattle.board_turns.proofs.Nexts.{may_run_marked, none_behind, some_next}
+use Rattle.board_turns.proofs.board.Board.mark.Goals as goal
 
 pub run-requires-clause-stands : goal.run-requires-clause-stands
 run-requires-clause-stands g c =
@@ -57,5 +57,5 @@ returns-clause-goes_on g c = λ rest first h stands keeps ready.
     let mid = did (Mark m) (pieces.Mark m ∷ []) ∷ h in
     let now = marked first s _ _ m h keeps next c.requires.mark empty (mark_at_rest first h m keeps.conducted next) runs c.done.ensures in
     let may = may_run_marked first h m (pieces.Mark m ∷ []) keeps.conducted ready next in
-    works_passed first (g.P.BoardPort.stands c.run-2.new.port rest) c.run-2.result _ _ h mid (passes_did first (Mark m) (pieces.Mark m ∷ []) h refl)
+    works_passed first (g.P.EpochPort.stands c.run-2.new.port rest first) c.run-2.result _ _ h mid (passes_did first (Mark m) (pieces.Mark m ∷ []) h refl)
     (c.run-2.ensures.goes_on rest first mid stands now may (inl (none_behind (hand_of h) (pieces.Mark m))))

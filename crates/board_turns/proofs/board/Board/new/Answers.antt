@@ -1,7 +1,7 @@
 use Rattle.std.proofs.Common.{sym, ap, refl, arith}
 use Rattle.modal_state.specs.declared.Parser.{Parser}
 use Rattle.board_rules.proofs.Example.{opens}
-use Rattle.controller.proofs.controller.Controller.new.Goals as goal
+use Rattle.board_turns.proofs.board.Board.new.Goals as goal
 
 pub returns : goal.returns
 returns c = (
@@ -39,5 +39,4 @@ returns c = (
     flags = record { flags = refl; obeyed = refl; unowed = refl };
     still = λ e. absurd cc;
   },
-  λ e. absurd cc,
 )

@@ -1,5 +1,5 @@
-use Rattle.controller.proofs.Nexts.{may_poll, whole_line}
-use Rattle.controller.proofs.controller.Controller.next_line.Goals as goal
+use Rattle.board_turns.proofs.Nexts.{may_poll, whole_line}
+use Rattle.board_turns.proofs.board.Board.next_line.Goals as goal
 
 pub poll-requires-clause-stands : goal.poll-requires-clause-stands
 poll-requires-clause-stands g c =

@@ -1,6 +1,6 @@
 use Rattle.board_rules.specs.Steps.{hand_of, given_of, plan_of, motion_of}
-use Rattle.controller.proofs.Telling.{obeys_waiting}
-use Rattle.controller.proofs.controller.Controller.obey_waiting.Goals as goal
+use Rattle.board_turns.proofs.Telling.{obeys_waiting}
+use Rattle.board_turns.proofs.board.Board.obey_waiting.Goals as goal
 
 pub returns-in-Some-clause-goes_on : goal.returns-in-Some-clause-goes_on
 returns-in-Some-clause-goes_on c first h k may =

@@ -1,9 +1,9 @@
 use Rattle.std.proofs.Common.{◌≡◌, true, length}
 use Rattle.board_rules.specs.Openings.{Opening}
 use Rattle.board_rules.specs.Steps.{Journal}
-use Rattle.controller.specs.Boards.{Keeps}
-use Rattle.controller.specs.Turning.{HasStopped, DidAlone}
-use Rattle.controller.proofs.controller.Controller.pass.Given as goal
+use Rattle.board_turns.specs.Boards.{Keeps}
+use Rattle.board_turns.specs.Turning.{HasStopped, DidAlone}
+use Rattle.board_turns.proofs.board.Board.pass.Given as goal
 
 abbrev pub invariant-loop-self : goal.invariant-loop-self
 invariant-loop-self l = record {

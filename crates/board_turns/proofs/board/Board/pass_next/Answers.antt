@@ -2,9 +2,9 @@ use Rattle.std.proofs.Common.{rules, ◌≡◌, subst}
 use Rattle.line_interpreter.specs.Lefts.{IsTodo}
 use Rattle.line_interpreter.specs.declared.tasks.Todo.{Todo}
 use Rattle.line_interpreter.specs.declared.tasks.Todo.TheVariants as todo
-use Rattle.controller.proofs.Resting.{rest_next, passed_even, passed_rest}
-use Rattle.controller.proofs.controller.Controller.pass_next.Goals.{then-eq, else-eq}
-use Rattle.controller.proofs.controller.Controller.pass_next.Goals as goal
+use Rattle.board_turns.proofs.Resting.{rest_next, passed_even, passed_rest}
+use Rattle.board_turns.proofs.board.Board.pass_next.Goals.{then-eq, else-eq}
+use Rattle.board_turns.proofs.board.Board.pass_next.Goals as goal
 
 pub returns-clause-passed : goal.returns-clause-passed
 returns-clause-passed c first h k stopped =

@@ -1,10 +1,10 @@
 use Rattle.std.proofs.Common.{◌∷◌, ap, ◌∙◌}
 use Rattle.board_rules.specs.Steps.{hand_of, given_of, plan_of, motion_of}
 use Rattle.board_rules.specs.Steps.Step.{paused}
-use Rattle.controller.specs.declared.controller.Controller.{Controller}
-use Rattle.controller.proofs.Steps.{held_for_pause}
-use Rattle.controller.proofs.Pausing.{paused_filled}
-use Rattle.controller.proofs.controller.Controller.pause.Goals as goal
+use Rattle.board_turns.specs.declared.board.Board.{Board}
+use Rattle.board_turns.proofs.Steps.{held_for_pause}
+use Rattle.board_turns.proofs.Pausing.{paused_filled}
+use Rattle.board_turns.proofs.board.Board.pause.Goals as goal
 
 pub fill-requires : goal.fill-requires
 fill-requires c =
@@ -21,5 +21,5 @@ returns-clause-goes_on c first h k ready stopped task =
     let n = c.fill.ensures.filled first (paused ∷ h) keeps in (
       n.0,
       n.2.alone.port,
-      paused_filled first _ s h n.0 k ready task n.2 n.1 (ap (λ (b : Controller). b.beat) c.fill.ensures.same ∙ c.requires.beat) (ap (λ (b : Controller). b.flags) c.fill.ensures.same ∙ c.requires.flags),
+      paused_filled first _ s h n.0 k ready task n.2 n.1 (ap (λ (b : Board). b.beat) c.fill.ensures.same ∙ c.requires.beat) (ap (λ (b : Board). b.flags) c.fill.ensures.same ∙ c.requires.flags),
     )

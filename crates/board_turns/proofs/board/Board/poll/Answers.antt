@@ -2,36 +2,36 @@ use Rattle.std.proofs.Common.{[], ◌∷◌, refl, ap, ◌∙◌, arith}
 use Rattle.board_rules.specs.Steps.{port_log}
 use Rattle.board_rules.specs.Steps.Step.{at_port}
 use Rattle.board_rules.specs.Ports.PortStep.{took, found_empty, found_closed}
-use Rattle.controller.specs.declared.controller.Controller.{Controller}
-use Rattle.controller.proofs.Steps.{polled_empty, polled_closed}
-use Rattle.controller.proofs.Ends.{works_on, free_of}
-use Rattle.controller.proofs.Nexts.{took_worked, polled_none, polled_end}
-use Rattle.controller.proofs.controller.Controller.poll.Goals as goal
+use Rattle.board_turns.specs.declared.board.Board.{Board}
+use Rattle.board_turns.proofs.Steps.{polled_empty, polled_closed}
+use Rattle.board_turns.proofs.Ends.{works_on, free_of}
+use Rattle.board_turns.proofs.Nexts.{took_worked, polled_none, polled_end}
+use Rattle.board_turns.proofs.board.Board.poll.Goals as goal
 
 pub without_byte-requires-clause-stands : goal.without_byte-requires-clause-stands
 without_byte-requires-clause-stands g c =
     let r = c.requires.stands in let first = r.1 in
-    (r.0, first, at_port found_empty ∷ r.2, c.byte.ensures.empty c.in-Empty.is r.0 (port_log r.2) r.3, polled_empty first c.args.self.now r.2 r.4 r.6, polled_none first r.2 r.5 r.6)
+    (r.0, first, at_port found_empty ∷ r.2, c.byte.ensures.empty c.in-Empty.is r.0 first (port_log r.2) r.3, polled_empty first c.args.self.now r.2 r.4 r.6, polled_none first r.2 r.5 r.6)
 
 pub close-requires-clause-stands : goal.close-requires-clause-stands
 close-requires-clause-stands g c =
     let r = c.requires.stands in let first = r.1 in
-    (r.0, first, at_port found_closed ∷ r.2, c.byte.ensures.closed c.in-Closed.is r.0 (port_log r.2) r.3, polled_closed first c.args.self.now r.2 r.4 r.6, polled_end first r.2 r.5 r.6, refl)
+    (r.0, first, at_port found_closed ∷ r.2, c.byte.ensures.closed c.in-Closed.is r.0 first (port_log r.2) r.3, polled_closed first c.args.self.now r.2 r.4 r.6, polled_end first r.2 r.5 r.6, refl)
 
 pub returns-in-Byte-clause-goes_on : goal.returns-in-Byte-clause-goes_on
 returns-in-Byte-clause-goes_on g c = λ rest first h stands keeps ready may.
     let b = c.in-Byte.byte in
-    let kept = c.keep.ensures.kept first h keeps (record { polls = may; few = c.byte.ensures.few b c.in-Byte.is rest (port_log h) stands }) in
+    let kept = c.keep.ensures.kept first h keeps (record { polls = may; few = c.byte.ensures.few b c.in-Byte.is rest first (port_log h) stands }) in
     let takes = c.keep.ensures.flags first h (free_of h ready.quiet) in
-    let beat = ap (λ (s : Controller). s.beat) c.keep.ensures.same ∙ c.requires.beat in
-    (at_port (took b) ∷ h, c.byte.ensures.byte b c.in-Byte.is rest (port_log h) stands, took_worked first c.args.self.now.flags _ b h kept takes ready may beat)
+    let beat = ap (λ (s : Board). s.beat) c.keep.ensures.same ∙ c.requires.beat in
+    (at_port (took b) ∷ h, c.byte.ensures.byte b c.in-Byte.is rest first (port_log h) stands, took_worked first c.args.self.now.flags _ b h kept takes ready may beat)
 
 pub returns-in-Empty-clause-goes_on : goal.returns-in-Empty-clause-goes_on
 returns-in-Empty-clause-goes_on g c = λ rest first h stands keeps ready may.
-    works_on first (g.P.BoardPort.stands c.without_byte.new.port rest) c.without_byte.result c.args.self.now.flags _ h (at_port found_empty ∷ h) (at_port found_empty ∷ []) refl (omega arith)
-    (c.without_byte.ensures.goes_on rest first (at_port found_empty ∷ h) (c.byte.ensures.empty c.in-Empty.is rest (port_log h) stands) (polled_empty first c.args.self.now h keeps may) (polled_none first h ready may) refl)
+    works_on first (g.P.EpochPort.stands c.without_byte.new.port rest first) c.without_byte.result c.args.self.now.flags _ h (at_port found_empty ∷ h) (at_port found_empty ∷ []) refl (omega arith)
+    (c.without_byte.ensures.goes_on rest first (at_port found_empty ∷ h) (c.byte.ensures.empty c.in-Empty.is rest first (port_log h) stands) (polled_empty first c.args.self.now h keeps may) (polled_none first h ready may) refl)
 
 pub returns-in-Closed-clause-goes_on : goal.returns-in-Closed-clause-goes_on
 returns-in-Closed-clause-goes_on g c = λ rest first h stands keeps ready may.
-    works_on first (g.P.BoardPort.stands c.close.new.port rest) c.close.result c.args.self.now.flags _ h (at_port found_closed ∷ h) (at_port found_closed ∷ []) refl (omega arith)
-    (c.close.ensures.goes_on rest first (at_port found_closed ∷ h) (c.byte.ensures.closed c.in-Closed.is rest (port_log h) stands) (polled_closed first c.args.self.now h keeps may) (polled_end first h ready may) refl)
+    works_on first (g.P.EpochPort.stands c.close.new.port rest first) c.close.result c.args.self.now.flags _ h (at_port found_closed ∷ h) (at_port found_closed ∷ []) refl (omega arith)
+    (c.close.ensures.goes_on rest first (at_port found_closed ∷ h) (c.byte.ensures.closed c.in-Closed.is rest first (port_log h) stands) (polled_closed first c.args.self.now h keeps may) (polled_end first h ready may) refl)

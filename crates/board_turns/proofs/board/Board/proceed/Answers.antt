@@ -1,11 +1,11 @@
 use Rattle.std.proofs.Common.{◌≡◌, ◌∙◌, true, sym, ap, subst}
 use Rattle.board_rules.specs.Turns.{awaits_motion}
-use Rattle.controller.specs.declared.controller.Controller.{Controller}
-use Rattle.controller.specs.declared.controller.Flags.{Flags}
-use Rattle.controller.specs.Turning.{WorksOn}
-use Rattle.controller.proofs.Ends.{works_passed, goes_on_stopped, ready_stopped, needs_no_wait, still_open}
-use Rattle.controller.proofs.Nexts.{may_await_now}
-use Rattle.controller.proofs.controller.Controller.proceed.Goals as goal
+use Rattle.board_turns.specs.declared.board.Board.{Board}
+use Rattle.board_turns.specs.declared.board.Flags.{Flags}
+use Rattle.board_turns.specs.Turning.{WorksOn}
+use Rattle.board_turns.proofs.Ends.{works_passed, goes_on_stopped, ready_stopped, needs_no_wait, still_open}
+use Rattle.board_turns.proofs.Nexts.{may_await_now}
+use Rattle.board_turns.proofs.board.Board.proceed.Goals as goal
 
 pub await_motion-requires-clause-stands : goal.await_motion-requires-clause-stands
 await_motion-requires-clause-stands g c =
@@ -26,8 +26,8 @@ do_next-requires-2-clause-open g c =
     let r = c.requires.stands in let first = r.1 in
     let awaits = subst (λ ts. awaits_motion ts ≡ true) r.4.lines.left_is (sym c.if-not-awaits_motion.ensures) in
     let n = c.in_default.ensures.over r.0 first r.2 r.3 r.4 (may_await_now first c.args.self.now r.2 r.4 r.5 r.6 awaits) in
-    still_open c.args.self.now c.await_motion.new.self c.pass.new.self (sym c.if-not-awaits_motion.ensures) (ap (λ (b : Controller). b.lines) c.in_default.ensures.same)
-    (ap (λ (b : Controller). b.closing) c.pass.ensures.same) (c.pass.ensures.closing first n.0 n.2)
+    still_open c.args.self.now c.await_motion.new.self c.pass.new.self (sym c.if-not-awaits_motion.ensures) (ap (λ (b : Board). b.lines) c.in_default.ensures.same)
+    (ap (λ (b : Board). b.closing) c.pass.ensures.same) (c.pass.ensures.closing first n.0 n.2)
 
 pub returns-clause-goes_on : goal.returns-clause-goes_on
 returns-clause-goes_on g c = λ rest first h stands keeps ready goes.
@@ -35,8 +35,8 @@ returns-clause-goes_on g c = λ rest first h stands keeps ready goes.
     let n = c.in_default.ensures.over rest first h stands keeps (may_await_now first c.args.self.now h keeps ready goes awaits) in
     let m = c.pass.ensures.passed first n.0 n.2 n.3 in
     let d = c.do_next-2.ensures.goes_on rest first m.0 (rw m.3.port n.1) m.1 (ready_stopped first n.0 m.0 (ready_stopped first h n.0 ready n.4 n.3) m.3.passes m.2) (goes_on_stopped first m.0 m.2) (needs_no_wait first c.pass.new.self m.0 m.1 m.2 m.4 m.5) in
-    let s = g.P.BoardPort.stands c.do_next-2.new.port rest in
-    let same = ap (λ (b : Controller). b.flags) c.pass.ensures.same ∙ ap (λ (b : Controller). b.flags) c.in_default.ensures.same in
+    let s = g.P.EpochPort.stands c.do_next-2.new.port rest first in
+    let same = ap (λ (b : Board). b.flags) c.pass.ensures.same ∙ ap (λ (b : Board). b.flags) c.in_default.ensures.same in
     subst (λ (f : Flags). WorksOn first s c.do_next-2.result f c.do_next-2.new.self h) same
     (works_passed first s c.do_next-2.result c.pass.new.self.flags c.do_next-2.new.self h n.0 n.4 (works_passed first s c.do_next-2.result c.pass.new.self.flags c.do_next-2.new.self n.0 m.0 m.3.passes d))
 

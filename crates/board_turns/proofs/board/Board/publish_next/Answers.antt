@@ -4,9 +4,9 @@ use Rattle.step_line.specs.declared.Piece.TheVariants as pieces
 use Rattle.board_rules.specs.Steps.{motion_of}
 use Rattle.board_rules.specs.Steps.Step.{did}
 use Rattle.board_machine.specs.Machines.{mode_in}
-use Rattle.controller.proofs.Steps.{few_ticks, none_by_test, took_next, one_in_hand, hand_of_one}
+use Rattle.board_turns.proofs.Steps.{few_ticks, none_by_test, took_next, one_in_hand, hand_of_one}
 use Rattle.board_rules.proofs.Tries.{tried, tried_behind}
-use Rattle.controller.proofs.controller.Controller.publish_next.Goals as goal
+use Rattle.board_turns.proofs.board.Board.publish_next.Goals as goal
 
 pub returns-then-is_some-clause-goes_on : goal.returns-then-is_some-clause-goes_on
 returns-then-is_some-clause-goes_on g c rest first h stands k has =

@@ -1,9 +1,9 @@
 use Rattle.std.proofs.Common.{ap, ◌∙◌, subst}
-use Rattle.controller.specs.declared.controller.Controller.{Controller}
-use Rattle.controller.specs.Reporting.{IsReported, obeying}
-use Rattle.controller.proofs.Telling.{may_obey_now}
-use Rattle.controller.proofs.Owed.{lacks_room, stands_behind, behind_word, did_report, went_on}
-use Rattle.controller.proofs.controller.Controller.report.Goals as goal
+use Rattle.board_turns.specs.declared.board.Board.{Board}
+use Rattle.board_turns.specs.Reporting.{IsReported, obeying}
+use Rattle.board_turns.proofs.Telling.{may_obey_now}
+use Rattle.board_turns.proofs.Owed.{lacks_room, stands_behind, behind_word, did_report, went_on}
+use Rattle.board_turns.proofs.board.Board.report.Goals as goal
 
 -- src/reports.rt:132:13
 pub go_on_owing-requires-clause-stands : goal.go_on_owing-requires-clause-stands
@@ -14,7 +14,7 @@ go_on_owing-requires-clause-stands g c =
       r.0,
       first,
       obeying first word t.0,
-      stands_behind first (λ l. g.P.BoardPort.stands c.tell_report-told.new.port r.0 l) word t.0 t.1,
+      stands_behind first (λ l. g.P.EpochPort.stands c.tell_report-told.new.port r.0 first l) word t.0 t.1,
       c.obey_waiting.ensures.goes_on first t.0 t.2 (may_obey_now first c.tell_report-told.new.self c.tell_report-told.result word t.0 t.2 t.3),
       lacks_room first word t.0 (subst (λ b. (IsReported first) b word t.0) c.if-not-told.true t.3),
     )
@@ -25,7 +25,7 @@ returns-then-not-told-clause-goes_on g c rest first h was stands k to =
     let word = c.args.word in
     let t = c.tell_report-told.ensures.goes_on rest first h stands k to in
     let mid = obeying first word t.0 in
-    let n = c.go_on_owing.ensures.goes_on rest first mid was (stands_behind first (λ l. g.P.BoardPort.stands c.tell_report-told.new.port rest l) word t.0 t.1)
+    let n = c.go_on_owing.ensures.goes_on rest first mid was (stands_behind first (λ l. g.P.EpochPort.stands c.tell_report-told.new.port rest first l) word t.0 t.1)
     (c.obey_waiting.ensures.goes_on first t.0 t.2 (may_obey_now first c.tell_report-told.new.self c.tell_report-told.result word t.0 t.2 t.3)) (lacks_room first word t.0 (subst (λ b. (IsReported first) b word t.0) c.if-not-told.true t.3)) in
     (n.0, n.1, went_on first c.go_on_owing.result c.go_on_owing.new.self was h mid n.0 (behind_word first word h t.0 t.4) n.2 n.3)
 
@@ -34,8 +34,8 @@ pub returns-clause-goes_on : goal.returns-clause-goes_on
 returns-clause-goes_on g c rest first h was stands k to =
     let word = c.args.word in
     let t = c.tell_report-told.ensures.goes_on rest first h stands k to in
-    let beat = ap (λ (b : Controller). b.beat) c.obey_waiting.ensures.same ∙ (ap (λ (b : Controller). b.beat) c.tell_report-told.ensures.same ∙ c.requires.beat) in (
+    let beat = ap (λ (b : Board). b.beat) c.obey_waiting.ensures.same ∙ (ap (λ (b : Board). b.beat) c.tell_report-told.ensures.same ∙ c.requires.beat) in (
       obeying first word t.0,
-      stands_behind first (λ l. g.P.BoardPort.stands c.tell_report-told.new.port rest l) word t.0 t.1,
+      stands_behind first (λ l. g.P.EpochPort.stands c.tell_report-told.new.port rest first l) word t.0 t.1,
       did_report first c.obey_waiting.new.self was word h t.0 (c.obey_waiting.ensures.goes_on first t.0 t.2 (may_obey_now first c.tell_report-told.new.self c.tell_report-told.result word t.0 t.2 t.3)) (subst (λ b. (IsReported first) b word t.0) c.if-not-told.false t.3) t.4 beat,
     )

@@ -2,9 +2,9 @@ use Rattle.std.proofs.Common.{◌∷◌}
 use Rattle.board_rules.specs.Ports.PortStep.{found_free}
 use Rattle.board_rules.specs.Steps.{port_log}
 use Rattle.board_rules.specs.Steps.Step.{at_port}
-use Rattle.controller.proofs.Steps.{room_found}
-use Rattle.controller.proofs.Telling.{few_blocks, asked_room}
-use Rattle.controller.proofs.controller.Controller.room.Goals as goal
+use Rattle.board_turns.proofs.Steps.{room_found}
+use Rattle.board_turns.proofs.Telling.{few_blocks, asked_room}
+use Rattle.board_turns.proofs.board.Board.room.Goals as goal
 
 pub free_blocks-requires : goal.free_blocks-requires
 free_blocks-requires g c = let r = c.requires.stands in let first = r.1 in few_blocks first c.args.self.now r.2 r.4
@@ -13,4 +13,4 @@ pub returns-clause-goes_on : goal.returns-clause-goes_on
 returns-clause-goes_on g c rest first h stands k =
     let s = c.args.self.now in
     let bytes = c.free-bytes.result in
-    (at_port (found_free bytes) ∷ h, c.free-bytes.ensures.free rest (port_log h) stands, room_found first s bytes h k, asked_room first s c.free_blocks.result bytes h k c.free_blocks.ensures)
+    (at_port (found_free bytes) ∷ h, c.free-bytes.ensures.free rest first (port_log h) stands, room_found first s bytes h k, asked_room first s c.free_blocks.result bytes h k c.free_blocks.ensures)

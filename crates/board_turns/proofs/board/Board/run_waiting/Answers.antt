@@ -1,10 +1,10 @@
 use Rattle.std.proofs.Common.{sym, ◌∙◌, inr}
 use Rattle.board_rules.specs.Steps.{hand_of, plan_of, motion_of, given_of}
-use Rattle.controller.specs.Turning.{starting}
-use Rattle.controller.proofs.Steps.{started}
-use Rattle.controller.proofs.Ends.{works_passed}
-use Rattle.controller.proofs.Nexts.{may_start_polled, may_run_started, started_passes, started_due}
-use Rattle.controller.proofs.controller.Controller.run_waiting.Goals as goal
+use Rattle.board_turns.specs.Turning.{starting}
+use Rattle.board_turns.proofs.Steps.{started}
+use Rattle.board_turns.proofs.Ends.{works_passed}
+use Rattle.board_turns.proofs.Nexts.{may_start_polled, may_run_started, started_passes, started_due}
+use Rattle.board_turns.proofs.board.Board.run_waiting.Goals as goal
 
 pub run-requires-clause-stands : goal.run-requires-clause-stands
 run-requires-clause-stands g c =
@@ -22,5 +22,5 @@ returns-clause-goes_on g c = λ rest first h stands keeps polled.
     let idle = sym keeps.machine.motion_is ∙ c.requires.idle in
     let runs = c.start.ensures.runs (plan_of h) (motion_of first h) (hand_of h) (given_of h) keeps.machine in
     let mid = starting s.jogged h in
-    works_passed first (g.P.BoardPort.stands c.run.new.port rest) c.run.result s.flags _ h mid (started_passes first s.jogged h)
+    works_passed first (g.P.EpochPort.stands c.run.new.port rest first) c.run.result s.flags _ h mid (started_passes first s.jogged h)
     (c.run.ensures.goes_on rest first mid stands (started first s _ s.jogged h keeps idle may runs) (may_run_started first s.jogged h polled) (inr (started_due first s.jogged h may.blocks)))

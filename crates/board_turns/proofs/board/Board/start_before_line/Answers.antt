@@ -2,15 +2,15 @@ use Rattle.std.proofs.Common.{refl, sym, ap, ◌∙◌}
 use Rattle.feed_hold.specs.Motions.Call.{on_start}
 use Rattle.board_rules.specs.Steps.{hand_of, given_of, plan_of, motion_of}
 use Rattle.board_rules.specs.Turns.{has_blocks}
-use Rattle.controller.proofs.Begins.{may_start, judges_started}
-use Rattle.controller.proofs.Steps.{started}
+use Rattle.board_turns.proofs.Begins.{may_start, judges_started}
+use Rattle.board_turns.proofs.Steps.{started}
 use Rattle.board_machine.specs.Machines.{start_motion}
-use Rattle.controller.specs.Turning.{starting}
-use Rattle.controller.proofs.Starting.{none_left_to_change}
+use Rattle.board_turns.specs.Turning.{starting}
+use Rattle.board_turns.proofs.Starting.{none_left_to_change}
 use Rattle.board_rules.proofs.Tries.{alone_motion}
-use Rattle.controller.proofs.controller.Controller.start_before_line.Goals as goal
+use Rattle.board_turns.proofs.board.Board.start_before_line.Goals as goal
 
--- src/controller.rt:384:5
+-- src/board.rt:384:5
 pub returns-then-is_waiting-clause-started : goal.returns-then-is_waiting-clause-started
 returns-then-is_waiting-clause-started c = λ first h k looked.
     let waiting = c.is_waiting.ensures.yes c.if-is_waiting.true in

@@ -1,11 +1,11 @@
 use Rattle.std.proofs.Common.{rules, ◌≡◌, true, false, sym, subst}
 use Rattle.board_rules.specs.Ports.{has_changes}
 use Rattle.board_rules.specs.Steps.{Journal, port_log, hand_of, given_of, plan_of, motion_of}
-use Rattle.controller.specs.Boards.{Keeps}
-use Rattle.controller.proofs.Steps.{in_range}
-use Rattle.controller.proofs.Requests.{changes, takes_changes}
-use Rattle.controller.proofs.Settling.{replanned_some, replanned_none}
-use Rattle.controller.proofs.controller.Controller.take_changes.Goals as goal
+use Rattle.board_turns.specs.Boards.{Keeps}
+use Rattle.board_turns.proofs.Steps.{in_range}
+use Rattle.board_turns.proofs.Requests.{changes, takes_changes}
+use Rattle.board_turns.proofs.Settling.{replanned_some, replanned_none}
+use Rattle.board_turns.proofs.board.Board.take_changes.Goals as goal
 
 pub change-requires : goal.change-requires
 change-requires g c = let r = c.requires.stands in let first = r.1 in record { range = in_range first c.args.self.now r.2 r.4 }
@@ -17,7 +17,7 @@ returns-then-not-is_empty-clause-goes_on g c rest first h stands k =
     let runs = c.change.ensures.runs (plan_of h) (motion_of first h) (hand_of h) (given_of h) k.machine in
     let e = sym (replanned_some word h some) in (
       word,
-      subst (λ (j : Journal). g.P.BoardPort.stands c.take_override-word.new.self rest (port_log j)) e (c.take_override-word.ensures rest (port_log h) stands),
+      subst (λ (j : Journal). g.P.EpochPort.stands c.take_override-word.new.self rest first (port_log j)) e (c.take_override-word.ensures rest first (port_log h) stands),
       subst (λ (j : Journal). Keeps first (record c.args.self.now { machine = c.change.new.self }) j) e (changes first c.args.self.now c.change.new.self word h k some c.change.ensures.range runs),
     )
 
@@ -27,6 +27,6 @@ returns-else-not-is_empty-clause-goes_on g c rest first h stands k =
     let none : has_changes word ≡ false = search rules in
     let e = sym (replanned_none word h none) in (
       word,
-      subst (λ (j : Journal). g.P.BoardPort.stands c.take_override-word.new.self rest (port_log j)) e (c.take_override-word.ensures rest (port_log h) stands),
+      subst (λ (j : Journal). g.P.EpochPort.stands c.take_override-word.new.self rest first (port_log j)) e (c.take_override-word.ensures rest first (port_log h) stands),
       subst (λ (j : Journal). Keeps first c.args.self.now j) e (takes_changes first c.args.self.now word h k),
     )

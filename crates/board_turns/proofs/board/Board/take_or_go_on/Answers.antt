@@ -1,12 +1,12 @@
 use Rattle.std.proofs.Common.{refl, ap, subst}
-use Rattle.controller.specs.declared.controller.Controller.{Controller}
-use Rattle.controller.specs.declared.controller.Flags.TheVariants as words
-use Rattle.controller.specs.Boards.{TakesFlags}
-use Rattle.controller.specs.Turning.{asked, replanned}
+use Rattle.board_turns.specs.declared.board.Board.{Board}
+use Rattle.board_turns.specs.declared.board.Flags.TheVariants as words
+use Rattle.board_turns.specs.Boards.{TakesFlags}
+use Rattle.board_turns.specs.Turning.{asked, replanned}
 use Rattle.board_rules.proofs.Taking.{no_jog_waits}
-use Rattle.controller.proofs.Steps.{other_flags}
-use Rattle.controller.proofs.Words.{took_changes, took_requests}
-use Rattle.controller.proofs.controller.Controller.take_or_go_on.Goals as goal
+use Rattle.board_turns.proofs.Steps.{other_flags}
+use Rattle.board_turns.proofs.Words.{took_changes, took_requests}
+use Rattle.board_turns.proofs.board.Board.take_or_go_on.Goals as goal
 
 pub returns-in-Both-clause-goes_on : goal.returns-in-Both-clause-goes_on
 returns-in-Both-clause-goes_on g c rest first h stands f between =
@@ -15,7 +15,7 @@ returns-in-Both-clause-goes_on g c rest first h stands f between =
       next,
       n.1,
       took_changes first c.args.self.now (record c.take_changes.new.self { flags = words.Requests }) n.0 h f between c.in-Both.is (other_flags first c.take_changes.new.self words.Requests next n.2)
-          (ap (λ (b : Controller). b.beat) c.take_changes.ensures.same) refl,
+          (ap (λ (b : Board). b.beat) c.take_changes.ensures.same) refl,
     )
 
 pub take_requests-requires : goal.take_requests-requires
@@ -28,7 +28,7 @@ returns-in-Requests-clause-goes_on g c rest first h stands f between =
     let n = c.take_requests.ensures.goes_on rest first h stands f.keeps (subst (λ x. TakesFlags x h) c.in-Requests.is f.flags).obeyed (no_jog_waits first h f.keeps.conducted between) in (
       asked first n.0 n.1,
       n.3,
-      took_requests first c.args.self.now c.take_requests.new.self n.0 h n.1 f between c.in-Requests.is n.2 n.4 (ap (λ (b : Controller). b.beat) c.take_requests.ensures.same) n.5,
+      took_requests first c.args.self.now c.take_requests.new.self n.0 h n.1 f between c.in-Requests.is n.2 n.4 (ap (λ (b : Board). b.beat) c.take_requests.ensures.same) n.5,
     )
 
 pub take_changes-requires : goal.take_changes-requires

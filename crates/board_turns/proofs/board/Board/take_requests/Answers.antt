@@ -3,23 +3,23 @@ use Rattle.board_rules.specs.Ports.{asks_report, asks_reset}
 use Rattle.board_rules.specs.Steps.{Journal, port_log}
 use Rattle.board_rules.specs.Turns.{owes_report}
 use Rattle.board_rules.specs.Conduct.{MayTakeRequests}
-use Rattle.controller.specs.declared.controller.Controller.{Controller}
-use Rattle.controller.specs.declared.controller.Flags.TheVariants as words
-use Rattle.controller.specs.Boards.{Keeps}
-use Rattle.controller.specs.Turning.{flags_behind, obeying}
-use Rattle.controller.specs.Reporting.{MayObeyNow}
-use Rattle.controller.proofs.Steps.{other_flags, halts_by}
-use Rattle.controller.proofs.Requests.{takes_word}
-use Rattle.controller.proofs.Halting.{taken}
-use Rattle.controller.proofs.Words.{asked_owed, asked_free, port_stands, obeys_at_once}
-use Rattle.controller.proofs.controller.Controller.take_requests.Goals as goal
+use Rattle.board_turns.specs.declared.board.Board.{Board}
+use Rattle.board_turns.specs.declared.board.Flags.TheVariants as words
+use Rattle.board_turns.specs.Boards.{Keeps}
+use Rattle.board_turns.specs.Turning.{flags_behind, obeying}
+use Rattle.board_turns.specs.Reporting.{MayObeyNow}
+use Rattle.board_turns.proofs.Steps.{other_flags, halts_by}
+use Rattle.board_turns.proofs.Requests.{takes_word}
+use Rattle.board_turns.proofs.Halting.{taken}
+use Rattle.board_turns.proofs.Words.{asked_owed, asked_free, port_stands, obeys_at_once}
+use Rattle.board_turns.proofs.board.Board.take_requests.Goals as goal
 
 pub returns-then-self-clause-goes_on : goal.returns-then-self-clause-goes_on
 returns-then-self-clause-goes_on g c = λ rest first h stands k none no_jog.
     let n = c.settle.ensures.goes_on rest first h stands k in
     let j = n.0 in
     let word = c.take_exec-word.result in
-    let may : MayTakeRequests word j = record { obeyed = n.3.passes.words ∙ none; few = λ e. c.take_exec-word.ensures.few e rest (port_log j) n.1 } in
+    let may : MayTakeRequests word j = record { obeyed = n.3.passes.words ∙ none; few = λ e. c.take_exec-word.ensures.few e rest first (port_log j) n.1 } in
     let owes_is = ap (λ b. b || c.settle.new.self.owes) c.asks_report.ensures ∙ ap (λ b. asks_report word || b) n.2.owes_is in
     let reset_is = ap (λ b. b || c.settle.new.self.reset) c.asks_reset.ensures ∙ ap (λ b. asks_reset word || b) n.2.reset_is in
     let owed : owes_report (taken word j) ≡ _ = sym owes_is ∙ c.if-self.true in
@@ -28,7 +28,7 @@ returns-then-self-clause-goes_on g c = λ rest first h stands k none no_jog.
       word,
       j,
       n.3,
-      subst (λ (x : Journal). g.P.BoardPort.stands c.take_exec-word.new.self rest (port_log x)) (sym is) (c.take_exec-word.ensures.taken rest (port_log j) n.1),
+      subst (λ (x : Journal). g.P.EpochPort.stands c.take_exec-word.new.self rest first (port_log x)) (sym is) (c.take_exec-word.ensures.taken rest first (port_log j) n.1),
       subst (λ (x : Journal). Keeps first (record board { flags = words.Report c.to_obey-waiting.result }) x) (sym is) (other_flags first board (words.Report c.to_obey-waiting.result) (taken word j) (takes_word first c.settle.new.self (c.asks_report.result || c.settle.new.self.owes) (c.asks_reset.result || c.settle.new.self.reset) word j n.2 may owes_is reset_is)),
       ap (λ w. words.Report w) c.to_obey-waiting.ensures ∙ sym (ap (λ b. flags_behind b word) owed),
     )
@@ -39,7 +39,7 @@ returns-clause-goes_on g c = λ rest first h stands k none no_jog.
     let j = n.0 in
     let word = c.take_exec-word.result in
     let left = n.3.passes.words ∙ none in
-    let takes : MayTakeRequests word j = record { obeyed = left; few = λ e. c.take_exec-word.ensures.few e rest (port_log j) n.1 } in
+    let takes : MayTakeRequests word j = record { obeyed = left; few = λ e. c.take_exec-word.ensures.few e rest first (port_log j) n.1 } in
     let owes_is = ap (λ b. b || c.settle.new.self.owes) c.asks_report.ensures ∙ ap (λ b. asks_report word || b) n.2.owes_is in
     let reset_is = ap (λ b. b || c.settle.new.self.reset) c.asks_reset.ensures ∙ ap (λ b. asks_reset word || b) n.2.reset_is in
     let unowed : owes_report (taken word j) ≡ _ = sym owes_is ∙ c.if-self.false in
@@ -51,7 +51,7 @@ returns-clause-goes_on g c = λ rest first h stands k none no_jog.
       word,
       j,
       n.3,
-      subst (λ (x : Journal). g.P.BoardPort.stands c.take_exec-word.new.self rest (port_log x)) (sym is) (port_stands first (λ l. g.P.BoardPort.stands c.take_exec-word.new.self rest l) word j (c.take_exec-word.ensures.taken rest (port_log j) n.1)),
+      subst (λ (x : Journal). g.P.EpochPort.stands c.take_exec-word.new.self rest first (port_log x)) (sym is) (port_stands first (λ l. g.P.EpochPort.stands c.take_exec-word.new.self rest first l) word j (c.take_exec-word.ensures.taken rest first (port_log j) n.1)),
       subst (λ (x : Journal). Keeps first c.obey_waiting.new.self x) (sym is) obeyed,
-      ap (λ (b : Controller). b.flags) c.obey_waiting.ensures.same ∙ sym (ap (λ b. flags_behind b word) unowed),
+      ap (λ (b : Board). b.flags) c.obey_waiting.ensures.same ∙ sym (ap (λ b. flags_behind b word) unowed),
     )

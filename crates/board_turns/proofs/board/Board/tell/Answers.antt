@@ -4,14 +4,14 @@ use Rattle.board_rules.specs.Steps.{port_log}
 use Rattle.board_rules.specs.Turns.{this_turn}
 use Rattle.board_rules.specs.Steps.Step.{at_port}
 use Rattle.board_rules.specs.Ports.PortStep.{answered, no_reply_room}
-use Rattle.controller.specs.declared.controller.Controller.{Controller}
-use Rattle.controller.proofs.Steps.{is_next, may_answer, told, hand_empty, hand_left}
+use Rattle.board_turns.specs.declared.board.Board.{Board}
+use Rattle.board_turns.proofs.Steps.{is_next, may_answer, told, hand_empty, hand_left}
 use Rattle.board_rules.proofs.Tries.{publishes_one, worked_behind}
-use Rattle.controller.specs.Boards.{IsFree}
-use Rattle.controller.proofs.Known.{said_plain}
-use Rattle.controller.proofs.Ends.{did_filled, may_run, takes_none, free_of, free_passed}
-use Rattle.controller.proofs.Nexts.{few_working, told_later, some_next}
-use Rattle.controller.proofs.controller.Controller.tell.Goals as goal
+use Rattle.board_turns.specs.Boards.{IsFree}
+use Rattle.board_turns.proofs.Known.{said_plain}
+use Rattle.board_turns.proofs.Ends.{did_filled, may_run, takes_none, free_of, free_passed}
+use Rattle.board_turns.proofs.Nexts.{few_working, told_later, some_next}
+use Rattle.board_turns.proofs.board.Board.tell.Goals as goal
 
 pub run-requires-clause-stands : goal.run-requires-clause-stands
 run-requires-clause-stands g c =
@@ -39,14 +39,14 @@ answer-requires g c =
     let r = c.requires.stands in let first = r.1 in
     let s = c.args.self.now in
     let reply = c.reply-reply.result in
-    (r.0, port_log r.2, r.3, may_answer first s r.2 reply r.4 (is_next first s r.2 (tell reply) r.4 c.reply-reply.ensures.next) c.reply-reply.ensures.valid)
+    (r.0, first, r.2, r.3, may_answer first s r.2 reply r.4 (is_next first s r.2 (tell reply) r.4 c.reply-reply.ensures.next) c.reply-reply.ensures.valid)
 
 pub returns-in_default-clause-goes_on : goal.returns-in_default-clause-goes_on
 returns-in_default-clause-goes_on g c = λ rest first h stands keeps ready.
     let s = c.args.self.now in
     let reply = c.reply-reply.result in
-    let back = c.in_default.ensures.full rest (port_log h) stands in
-    (at_port no_reply_room ∷ h, back.0, told_later first _ s h reply keeps ready (is_next first s h (tell reply) keeps c.reply-reply.ensures.next) c.requires.beat c.requires.flags)
+    let back = c.in_default.ensures.full rest first (port_log h) stands in
+    (at_port no_reply_room ∷ h, back, told_later first _ s h reply keeps ready (is_next first s h (tell reply) keeps c.reply-reply.ensures.next) c.requires.beat c.requires.flags)
 
 pub fill-requires : goal.fill-requires
 fill-requires g c =
@@ -64,7 +64,7 @@ returns-clause-goes_on g c = λ rest first h stands keeps ready.
     let mid = at_port (answered r) ∷ h in
     let now = told first s _ r h keeps next c.reply-reply.ensures.plain ready.quiet.unowed (λ bye. (hand_empty first) s h keeps (c.if-holds_back.ensures.no refl bye)) c.done.ensures in
     let said_is = said_plain r c.reply-reply.ensures.plain in
-    let stood = c.in-Ok.ensures.ok rest (port_log h) stands (may_answer first s h r keeps next c.reply-reply.ensures.valid) in
+    let stood = c.in-Ok.ensures.ok rest first h stands (may_answer first s h r keeps next c.reply-reply.ensures.valid) in
     let free = free_of h ready.quiet in
     let freed : IsFree mid = record { flags = free.flags; obeyed = free.obeyed; unowed = free.unowed } in
     let n = c.fill.ensures.filled first mid now in
@@ -72,7 +72,7 @@ returns-clause-goes_on g c = λ rest first h stands keeps ready.
     let one = publishes_one (at_port (answered r)) (this_turn h) refl in
     let quiet = ready.quiet.quiet in
     let worked = worked_behind (at_port (answered r)) h mid refl (record { no_changes = refl; none_planned = refl }) refl refl ready.quiet.worked in
-    let beat = ap (λ (b : Controller). b.beat) c.fill.ensures.same ∙ c.requires.beat in
-    let none = ap (λ (b : Controller). b.flags) c.fill.ensures.same ∙ c.requires.flags in
+    let beat = ap (λ (b : Board). b.beat) c.fill.ensures.same ∙ c.requires.beat in
+    let none = ap (λ (b : Board). b.flags) c.fill.ensures.same ∙ c.requires.flags in
     let taken = takes_none c.fill.new.self n.0 none (free_passed first mid n.0 n.2.alone.passes freed) in
     (n.0, rw (n.2.alone.port, sym said_is) stood, did_filled first _ _ h mid n.0 (at_port (answered r) ∷ []) refl n.1 beat taken n.2 worked (omega (arith, one, quiet)) ready.unpolled few (inl (n.2.alone.passes.moves refl)))

@@ -1,10 +1,10 @@
 use Rattle.std.proofs.Common.{◌∷◌, refl, ap}
 use Rattle.outside.specs.declared.Turn.{Turn}
 use Rattle.board_rules.specs.Steps.Step.{turned}
-use Rattle.controller.specs.declared.controller.Flags.TheVariants as words
-use Rattle.controller.proofs.Ends.{flags_behind, turned_by, no_wait_keeps}
-use Rattle.controller.proofs.Numbers.{number_few}
-use Rattle.controller.proofs.controller.Controller.carry_on.Goals as goal
+use Rattle.board_turns.specs.declared.board.Flags.TheVariants as words
+use Rattle.board_turns.proofs.Ends.{flags_behind, turned_by, no_wait_keeps}
+use Rattle.board_turns.proofs.Numbers.{number_few}
+use Rattle.board_turns.proofs.board.Board.turn.Goals as goal
 
 pub returns-in-Wait-clause-goes_on : goal.returns-in-Wait-clause-goes_on
 returns-in-Wait-clause-goes_on g c = λ rest first h stands f between.

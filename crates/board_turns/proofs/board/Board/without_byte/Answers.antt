@@ -1,5 +1,5 @@
-use Rattle.controller.proofs.Nexts.{none_waiting, waits_for_byte}
-use Rattle.controller.proofs.controller.Controller.without_byte.Goals as goal
+use Rattle.board_turns.proofs.Nexts.{none_waiting, waits_for_byte}
+use Rattle.board_turns.proofs.board.Board.without_byte.Goals as goal
 
 pub returns-then-not-is_waiting-clause-goes_on : goal.returns-then-not-is_waiting-clause-goes_on
 returns-then-not-is_waiting-clause-goes_on g c = λ rest first h stands keeps polled found.

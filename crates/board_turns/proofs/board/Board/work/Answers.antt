@@ -1,5 +1,5 @@
-use Rattle.controller.proofs.Breaking.{over_worked}
-use Rattle.controller.proofs.controller.Controller.work.Goals as goal
+use Rattle.board_turns.proofs.Over.{over_worked}
+use Rattle.board_turns.proofs.board.Board.work.Goals as goal
 
 pub returns-then-is_over-clause-goes_on : goal.returns-then-is_over-clause-goes_on
 returns-then-is_over-clause-goes_on g c = λ rest first h stands f between. (h, stands, over_worked first c.args.self.now h f between (c.is_over.ensures.0 c.if-is_over.true))

@@ -1,13 +1,13 @@
-use Rattle.std.proofs.Common.{◌∷◌, [], ◌++◌, refl, ap}
+use Rattle.std.proofs.Common.{◌∷◌, [], ◌++◌, refl}
 use Rattle.outside.specs.declared.On.TheVariants as on
 use Rattle.outside.specs.declared.Turn.TheVariants.{Did, Wait}
 use Rattle.status_report.specs.declared.Reply.TheVariants.{Bye}
-use Rattle.line_interpreter.specs.Interpreting.{Interpreting}
 use Rattle.board_rules.specs.Openings.{first_opening}
 use Rattle.board_rules.specs.Ports.PortStep.{answered, no_reply_room}
 use Rattle.board_rules.specs.Steps.{port_log}
 use Rattle.board_rules.specs.Steps.Step.{at_port, turned}
 use Rattle.board_rules.proofs.Breaking.{may_tell_bye}
+use Rattle.controller.specs.declared.controller.Stage.TheVariants as stages
 use Rattle.controller.proofs.Breaking.{bye_told, bye_kept}
 use Rattle.controller.proofs.controller.Controller.tell_bye.Goals as goal
 
@@ -18,7 +18,7 @@ pub returns-in-Ok-clause-goes_on : goal.returns-in-Ok-clause-goes_on
 returns-in-Ok-clause-goes_on g c = λ rest since before stands f between e. (
   turned Did ∷ at_port (answered Bye) ∷ since,
   c.in-Ok.ensures.ok rest (port_log since ++ port_log before) stands (may_tell_bye (first_opening f.first) since before f.conducted.0 f.conducted.2 e),
-  bye_told c.args.self.now (record c.args.self.now { lines = c.done.new.self }) since before f between e refl refl (ap (λ (i : Interpreting). i.left) c.done.ensures),
+  bye_told c.args.self.now (record c.args.self.now { stage = stages.Over }) since before f between e refl,
   refl,
   record { steps = at_port (answered Bye) ∷ []; are = refl; moves = λ did. refl },
 )
