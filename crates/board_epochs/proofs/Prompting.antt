@@ -47,7 +47,7 @@ or_right false b none = none
 pub calm : (first : Opening) (h : Journal) → IsEpoch first h → MayReset first h → has_limited h ≡ false
 calm first h is may = or_left (has_limited h) (is_closing h) (undropped first h is.prompt may.asked)
 
-none_told : (h : Journal) → is_closing h ≡ false → closed_tells h ≡ []
+pub none_told : (h : Journal) → is_closing h ≡ false → closed_tells h ≡ []
 none_told [] is = refl
 none_told (closing ∷ h) is = absurd cc
 none_told (_ ∷ h) is = none_told h is

@@ -99,8 +99,8 @@ not_halting todo.Finish ts is other = ap halts_next is
 not_halting todo.Halt ts is other = absurd (other refl)
 
 -- a line is begun that does not halt the machine
-pub begun : (first : Opening) (was now : Board) (t : Todo) (h : Journal) (o : Outcome) → IsJudged first was now h o → IsTodo t now.lines.left → (t ≡ todo.Halt → ⊥) → Keeps first now (began o ∷ h)
-begun first was now t h o j is other =
+pub begun : (first : Opening) (was now : Board) (t : Todo) (h : Journal) (o : Outcome) → IsJudged first was now h o → was.resetting ≡ false → IsTodo t now.lines.left → (t ≡ todo.Halt → ⊥) → Keeps first now (began o ∷ h)
+begun first was now t h o j none is other =
     let k = j.keeps in
     subst (λ (c : Board). Keeps first c (began o ∷ h)) (sym j.same) (record {
       placed = k.placed;
@@ -113,6 +113,9 @@ begun first was now t h o j is other =
       flight = record { known = k.flight.known; found = k.flight.found; flies = k.flight.flies };
       owes_is = k.owes_is;
       reset_is = k.reset_is;
+      resetting_is = k.resetting_is;
+      prompt = (record { further = λ e. absurd (let f = sym e ∙ sym k.resetting_is ∙ none in cc); waits = k.unready }, k.prompt);
+      unready = λ may. absurd (let e = may.between in cc);
       jogged_is = j.jogs ∙ ap (jogged_behind o.kind) k.jogged_is;
       cut_is = k.cut_is;
       going = k.going;
@@ -166,9 +169,9 @@ limits_off motions.Run was none = none
 limits_off m was none = none
 
 -- and is stopped for that at once
-pub begun_limited : (first : Opening) (was now : Board) (m : Machine) (h : Journal) (o : Outcome) → IsJudged first was now h o → IsTodo todo.Halt now.lines.left → Runs m (plan_of h) (limit_motion (motion_of first h)) (hand_of h) (given_of h)
+pub begun_limited : (first : Opening) (was now : Board) (m : Machine) (h : Journal) (o : Outcome) → IsJudged first was now h o → was.resetting ≡ false → IsTodo todo.Halt now.lines.left → Runs m (plan_of h) (limit_motion (motion_of first h)) (hand_of h) (given_of h)
     → Keeps first (record now { machine = m }) (became on_limit (limit_motion (motion_of first h)) ∷ began o ∷ h)
-begun_limited first was now m h o j is runs =
+begun_limited first was now m h o j none is runs =
     let k = j.keeps in
     let next = next_judged first was now h o todo.Halt j is in
     let halts : halts_next o.work ≡ true = ap halts_next next in
@@ -187,6 +190,12 @@ begun_limited first was now m h o j is runs =
       flight = record { known = k.flight.known; found = k.flight.found; flies = k.flight.flies };
       owes_is = k.owes_is;
       reset_is = k.reset_is;
+      resetting_is = k.resetting_is;
+      prompt = (
+        record { further = λ e. refl; waits = λ may. absurd (let e = may.between in cc) },
+        (record { further = λ e. absurd (let f = sym e ∙ sym k.resetting_is ∙ none in cc); waits = k.unready }, k.prompt),
+      );
+      unready = λ may. absurd (let e = may.between in cc);
       jogged_is = j.jogs ∙ ap (jogged_behind o.kind) k.jogged_is;
       cut_is = k.cut_is ∙ limits_off (motion_of first h) (has_cut h) (uncut_else first h k.conducted (λ is. never_cut (motion_of first h) stands is));
       going = k.going;

@@ -50,7 +50,7 @@ use Rattle.board_turns.specs.declared.board.Board.{Board}
 use Rattle.board_turns.specs.declared.board.Flags.{Flags}
 use Rattle.board_turns.specs.declared.board.Flags.TheVariants as words
 use Rattle.board_turns.specs.declared.board.Beat.TheVariants.{Motion, Main}
-use Rattle.board_turns.specs.Boards.{Keeps, Rounds, NoneWaits, GoingBetween, IsFree, TakesFlags, takes_no_word, GoingFits, GoingTurned, has_published, changes_left, number_of}
+use Rattle.board_turns.specs.Boards.{Keeps, Rounds, NoneWaits, GoingBetween, IsFree, TakesFlags, takes_no_word, EpochFits, GoingTurned, has_published, changes_left, number_of}
 use Rattle.board_turns.specs.Turning.{IsNextMove, AreWorked, IsQuiet, IsReady, MayRun, MayAwait, HasStopped, NeedsNoWait, GoesOn, PassesNothing, HasFilled, HasTried, BoardWorked, WorksOn}
 pub use Rattle.board_turns.proofs.Freeing.{free_of, takes_none, no_word_left, free_passed, free_tried, flags_tried, flags_passed, taken_by, obeyed_by}
 use Rattle.board_rules.proofs.Facts.{not_whole, uncounted, uncounted_line, uncounted_owing}
@@ -555,9 +555,9 @@ still_turned first Did was board h next w e = w.still e
 still_turned first (Wait o) was board h next w e = absurd (let s = ap has_published (w.beat o refl) in cc)
 still_turned first Done was board h next w e = w.still e
 
-pub turned_on : (first : Opening) (t : Turn) (was : Flags) (board : Board) (h next : Journal) → BoardWorked first t was board h next → GoingFits first (record board { flags = flags_behind t board.flags }) (turned t ∷ next)
+pub turned_on : (first : Opening) (t : Turn) (was : Flags) (board : Board) (h next : Journal) → BoardWorked first t was board h next → EpochFits first (record board { flags = flags_behind t board.flags }) (turned t ∷ next)
 turned_on first t was board h next w = record {
-  keeps = other_flags first board (flags_behind t board.flags) (turned t ∷ next) (ends first board t next w.keeps w.may);
+  keeps = ends first board (flags_behind t board.flags) t next w.keeps w.may;
   rounds = rounds_turned first t was board h next w;
   flags = flags_turned first t board.flags next w.may w.flags;
   still = still_turned first t was board h next w;
@@ -578,9 +578,9 @@ board_turned first t before board h next w = record {
 
 -- a turn has ended, behind which these words of flags are to be taken
 pub turned_by : (first : Opening) (t : Turn) (before board : Board) (f : Flags) (h next : Journal) → flags_behind t board.flags ≡ f → BoardWorked first t before.flags board h next
-    → GoingFits first (record board { flags = f }) (turned t ∷ next) × GoingTurned first t before (record board { flags = f }) h (turned t ∷ next)
+    → EpochFits first (record board { flags = f }) (turned t ∷ next) × GoingTurned first t before (record board { flags = f }) h (turned t ∷ next)
 turned_by first t before board f h next is w =
-    subst (λ (x : Flags). GoingFits first (record board { flags = x }) (turned t ∷ next) × GoingTurned first t before (record board { flags = x }) h (turned t ∷ next)) is
+    subst (λ (x : Flags). EpochFits first (record board { flags = x }) (turned t ∷ next) × GoingTurned first t before (record board { flags = x }) h (turned t ∷ next)) is
     (turned_on first t before.flags board h next w, board_turned first t before board h next w)
 
 -- where it does not wait the words stay

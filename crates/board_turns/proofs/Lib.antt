@@ -23,3 +23,4 @@ pub mod Nexts
 pub mod Numbers
 pub mod AnyState
 pub mod Over
+pub mod Resetting

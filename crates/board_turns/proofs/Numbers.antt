@@ -17,7 +17,7 @@ use Rattle.board_rules.proofs.Opening.{no_pauses_told}
 use Rattle.board_turns.specs.declared.board.Board.{Board}
 use Rattle.board_turns.specs.declared.board.Flags.{Flags}
 use Rattle.board_turns.specs.declared.board.Flags.TheVariants as words
-use Rattle.board_turns.specs.Boards.{GoingFits, words_left, changes_left, number_of}
+use Rattle.board_turns.specs.Boards.{EpochFits, words_left, changes_left, number_of}
 use Rattle.board_rules.proofs.Tries.{fewer_pauses, pauses_by}
 
 less_too : (a b : ℕ) → a ≤ b → b ≤ 1 → a ≤ 1
@@ -70,7 +70,7 @@ one_at_most : (b : Bool) → one_if b ≤ 1
 one_at_most true = omega arith
 one_at_most false = omega arith
 
-pub number_few : (first : Opening) (board : Board) (h : Journal) → GoingFits first board h → number_of first board.flags h < 64
+pub number_few : (first : Opening) (board : Board) (h : Journal) → EpochFits first board h → number_of first board.flags h < 64
 number_few first board h fits =
     let p = pause_once first h fits.keeps.conducted in
     let w = few_words board.flags in

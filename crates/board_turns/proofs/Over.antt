@@ -21,17 +21,17 @@ use Rattle.board_rules.proofs.Closing.{At, going, to_finish, to_tell, phase_is, 
 use Rattle.board_rules.proofs.Closing as phases
 use Rattle.board_rules.proofs.Tasks.{head_is}
 use Rattle.board_turns.specs.declared.board.Board.{Board}
-use Rattle.board_turns.specs.Boards.{Keeps, GoingFits, GoingBetween, BoardIsOver}
+use Rattle.board_turns.specs.Boards.{KeepsBetween, GoingFits, GoingBetween, BoardIsOver}
 use Rattle.board_turns.specs.Turning.{BoardWorked}
 
 -- ---- whether the run is over
 
 -- a run that is being closed
-is_closing : (first : Opening) (c : Board) (h : Journal) → Keeps first c h → closed_tells h ≡ Bye ∷ [] → (t : Bool) → c.closing ≡ t → c.closing ≡ true
+is_closing : (first : Opening) (c : Board) (h : Journal) → KeepsBetween first c h → closed_tells h ≡ Bye ∷ [] → (t : Bool) → c.closing ≡ t → c.closing ≡ true
 is_closing first c h k closed true e = e
 is_closing first c h k closed false e = not_going (closed_tells h) closed (k.going e)
 
-pub over_by : (first : Opening) (c : Board) (h : Journal) → Keeps first c h → IsFinished first h → BoardIsOver c
+pub over_by : (first : Opening) (c : Board) (h : Journal) → KeepsBetween first c h → IsFinished first h → BoardIsOver c
 over_by first c h k done = record { closing = is_closing first c h k done.closed c.closing refl; none = k.lines.left_is ∙ done.left }
 
 -- a turn of a run that is over
@@ -50,7 +50,7 @@ over_worked first c h f between rests = record {
 
 -- ---- whether the end is published
 
-pub end_is_out : (first : Opening) (c : Board) (h : Journal) (r : Reply) → Keeps first c h → (BoardIsOver c → ⊥) → c.closing ≡ true → c.machine.hand ≡ None → IsNextOf (tell r) c.lines.left
+pub end_is_out : (first : Opening) (c : Board) (h : Journal) (r : Reply) → KeepsBetween first c h → (BoardIsOver c → ⊥) → c.closing ≡ true → c.machine.hand ≡ None → IsNextOf (tell r) c.lines.left
     → list_any is_end (published_of h) ≡ true
 end_is_out first c h r k unrested closing none next = by_phase (phase_is first h k.conducted)
   where
@@ -60,7 +60,7 @@ end_is_out first c h r k unrested closing none next = by_phase (phase_is first h
     by_phase (to_tell e l w p still is d) = all_out first h k.conducted is (sym k.machine.hand_is ∙ ap option_to_list none)
     by_phase (phases.over e l w p still d is n) = absurd (unrested (record { closing = closing; none = k.lines.left_is ∙ l }))
 
-pub end_is_in : (first : Opening) (c : Board) (h : Journal) → Keeps first c h → (BoardIsOver c → ⊥)
+pub end_is_in : (first : Opening) (c : Board) (h : Journal) → KeepsBetween first c h → (BoardIsOver c → ⊥)
     → (c.closing ≡ true → c.machine.hand ≡ None → IsNextOf (tell Bye) c.lines.left → ⊥) → list_any is_end (published_of h) ≡ false
 end_is_in first c h k unrested other = by_phase (phase_is first h k.conducted)
   where

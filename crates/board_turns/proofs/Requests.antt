@@ -13,6 +13,7 @@ use Rattle.board_rules.specs.Steps.{Journal, port_log, given_of, hand_of, plan_o
 use Rattle.board_rules.specs.Steps.Step.{at_port, did, became}
 use Rattle.board_rules.specs.Turns.{owes_report, has_blocks}
 use Rattle.board_rules.specs.Conduct.{MayTakeRequests, MayObey}
+use Rattle.board_epochs.specs.Resets.{has_reset}
 use Rattle.board_turns.specs.declared.board.Board.{Board}
 use Rattle.board_machine.specs.declared.machine.Machine.{Machine}
 use Rattle.board_machine.specs.Machines.{Runs}
@@ -20,9 +21,9 @@ use Rattle.board_turns.specs.Boards.{Keeps}
 use Rattle.board_rules.proofs.Uncut.{cut_obeyed}
 
 -- a word of requests is taken
-pub takes_word : (first : Opening) (c : Board) (owes reset : Bool) (word : Exec) (h : Journal) → Keeps first c h → MayTakeRequests word h → owes ≡ owes_report (at_port (took_exec word) ∷ h)
-    → reset ≡ has_reset_in (port_log (at_port (took_exec word) ∷ h)) → Keeps first (record c { owes = owes; reset = reset }) (at_port (took_exec word) ∷ h)
-takes_word first c owes reset word h k may is resets = record {
+pub takes_word : (first : Opening) (c : Board) (owes reset resetting : Bool) (word : Exec) (h : Journal) → Keeps first c h → MayTakeRequests word h → owes ≡ owes_report (at_port (took_exec word) ∷ h)
+    → reset ≡ has_reset_in (port_log (at_port (took_exec word) ∷ h)) → resetting ≡ has_reset (at_port (took_exec word) ∷ h) → Keeps first (record c { owes = owes; reset = reset; resetting = resetting }) (at_port (took_exec word) ∷ h)
+takes_word first c owes reset resetting word h k may is resets asks = record {
   placed = k.placed;
   free = k.free;
   short = k.short;
@@ -33,6 +34,9 @@ takes_word first c owes reset word h k may is resets = record {
   flight = record { known = k.flight.known; found = k.flight.found; flies = k.flight.flies };
   owes_is = is;
   reset_is = resets;
+  resetting_is = asks;
+  prompt = (record { further = λ e. refl; waits = k.unready }, k.prompt);
+  unready = λ may. absurd (let e = may.between in cc);
   jogged_is = k.jogged_is;
   cut_is = k.cut_is;
   going = k.going;
@@ -56,6 +60,9 @@ obeys first c m word h k may runs = record {
   flight = record { known = k.flight.known; found = k.flight.found; flies = k.flight.flies };
   owes_is = k.owes_is;
   reset_is = k.reset_is;
+  resetting_is = k.resetting_is;
+  prompt = (record { further = λ e. refl; waits = k.unready }, k.prompt);
+  unready = λ may. absurd (let e = may.between in cc);
   jogged_is = k.jogged_is;
   cut_is = k.cut_is ∙ cut_obeyed first word (has_blocks (plan_of h).blocks) h k.conducted;
   going = k.going;
@@ -77,6 +84,9 @@ takes_changes first c word h k = record {
   flight = record { known = k.flight.known; found = k.flight.found; flies = k.flight.flies };
   owes_is = k.owes_is;
   reset_is = k.reset_is;
+  resetting_is = k.resetting_is;
+  prompt = (record { further = λ e. refl; waits = k.unready }, k.prompt);
+  unready = λ may. absurd (let e = may.between in cc);
   jogged_is = k.jogged_is;
   cut_is = k.cut_is;
   going = k.going;
@@ -103,6 +113,9 @@ changes first c m word h k some range runs = record {
   flight = record { known = k.flight.known; found = k.flight.found; flies = k.flight.flies };
   owes_is = k.owes_is;
   reset_is = k.reset_is;
+  resetting_is = k.resetting_is;
+  prompt = (record { further = λ e. refl; waits = λ may. absurd (let e = may.between in cc) }, (record { further = λ e. refl; waits = k.unready }, k.prompt));
+  unready = λ may. absurd (let e = may.between in cc);
   jogged_is = k.jogged_is;
   cut_is = k.cut_is;
   going = k.going;

@@ -67,6 +67,9 @@ sent first c m f p h k is timely runs flies = record {
   flight = record { known = k.flight.known; found = k.flight.found; flies = flies k.flight.known k.flight.flies };
   owes_is = k.owes_is;
   reset_is = k.reset_is;
+  resetting_is = k.resetting_is;
+  prompt = (record { further = λ e. refl; waits = k.unready }, k.prompt);
+  unready = λ may. absurd (let e = may.between in cc);
   jogged_is = k.jogged_is;
   cut_is = k.cut_is;
   going = k.going;
@@ -88,6 +91,9 @@ not_sent first c done h k some full = record {
   flight = record { known = k.flight.known; found = k.flight.found; flies = k.flight.flies };
   owes_is = k.owes_is;
   reset_is = k.reset_is;
+  resetting_is = k.resetting_is;
+  prompt = (record { further = λ e. refl; waits = k.unready }, k.prompt);
+  unready = λ may. absurd (let e = may.between in cc);
   jogged_is = k.jogged_is;
   cut_is = k.cut_is;
   going = k.going;
@@ -109,6 +115,9 @@ looked first c done h k may = record {
   flight = record { known = k.flight.known; found = let a = k.flight.found in let b = may.later in omega (arith, a, b); flies = k.flight.flies };
   owes_is = k.owes_is;
   reset_is = k.reset_is;
+  resetting_is = k.resetting_is;
+  prompt = (record { further = λ e. refl; waits = k.unready }, k.prompt);
+  unready = λ may. absurd (let e = may.between in cc);
   jogged_is = k.jogged_is;
   cut_is = k.cut_is;
   going = k.going;
@@ -158,6 +167,9 @@ told first c i r h k next plain unowed empty is = record {
   flight = record { known = k.flight.known; found = k.flight.found; flies = k.flight.flies };
   owes_is = k.owes_is;
   reset_is = k.reset_is;
+  resetting_is = k.resetting_is;
+  prompt = (record { further = λ e. refl; waits = k.unready }, k.prompt);
+  unready = λ may. absurd (let e = may.between in cc);
   jogged_is = k.jogged_is;
   cut_is = k.cut_is;
   going = k.going;
@@ -179,6 +191,9 @@ not_told first c h k next = record {
   flight = record { known = k.flight.known; found = k.flight.found; flies = k.flight.flies };
   owes_is = k.owes_is;
   reset_is = k.reset_is;
+  resetting_is = k.resetting_is;
+  prompt = (record { further = λ e. refl; waits = k.unready }, k.prompt);
+  unready = λ may. absurd (let e = may.between in cc);
   jogged_is = k.jogged_is;
   cut_is = k.cut_is;
   going = k.going;
@@ -200,6 +215,9 @@ report_told first c r h k may = record {
   flight = record { known = k.flight.known; found = k.flight.found; flies = k.flight.flies };
   owes_is = refl;
   reset_is = k.reset_is;
+  resetting_is = k.resetting_is;
+  prompt = (record { further = λ e. refl; waits = k.unready }, k.prompt);
+  unready = λ may. absurd (let e = may.between in cc);
   jogged_is = k.jogged_is;
   cut_is = k.cut_is;
   going = k.going;
@@ -225,6 +243,9 @@ report_kept first c h k owed = record {
   flight = record { known = k.flight.known; found = k.flight.found; flies = k.flight.flies };
   owes_is = sym owed;
   reset_is = k.reset_is;
+  resetting_is = k.resetting_is;
+  prompt = (record { further = λ e. refl; waits = k.unready }, k.prompt);
+  unready = λ may. absurd (let e = may.between in cc);
   jogged_is = k.jogged_is;
   cut_is = k.cut_is;
   going = k.going;
@@ -246,6 +267,9 @@ polled_empty first c h k may = record {
   flight = record { known = k.flight.known; found = k.flight.found; flies = k.flight.flies };
   owes_is = k.owes_is;
   reset_is = k.reset_is;
+  resetting_is = k.resetting_is;
+  prompt = (record { further = λ e. refl; waits = k.unready }, k.prompt);
+  unready = λ may. absurd (let e = may.between in cc);
   jogged_is = k.jogged_is;
   cut_is = k.cut_is;
   going = k.going;
@@ -267,6 +291,9 @@ polled_closed first c h k may = record {
   flight = record { known = k.flight.known; found = k.flight.found; flies = k.flight.flies };
   owes_is = k.owes_is;
   reset_is = k.reset_is;
+  resetting_is = k.resetting_is;
+  prompt = (record { further = λ e. refl; waits = k.unready }, k.prompt);
+  unready = λ may. absurd (let e = may.between in cc);
   jogged_is = k.jogged_is;
   cut_is = k.cut_is;
   going = k.going;
@@ -291,6 +318,9 @@ added_move first c m i mv h k next planned room runs is = record {
   flight = record { known = k.flight.known; found = k.flight.found; flies = k.flight.flies };
   owes_is = k.owes_is;
   reset_is = k.reset_is;
+  resetting_is = k.resetting_is;
+  prompt = (record { further = λ e. refl; waits = k.unready }, k.prompt);
+  unready = λ may. absurd (let e = may.between in cc);
   jogged_is = k.jogged_is;
   cut_is = k.cut_is;
   going = k.going;
@@ -331,6 +361,9 @@ took_segment first c m s h k moves empty next runs = record {
   flight = record { known = k.flight.known; found = k.flight.found; flies = k.flight.flies };
   owes_is = k.owes_is;
   reset_is = k.reset_is;
+  resetting_is = k.resetting_is;
+  prompt = (record { further = λ e. refl; waits = k.unready }, k.prompt);
+  unready = λ may. absurd (let e = may.between in cc);
   jogged_is = k.jogged_is;
   cut_is = k.cut_is;
   going = k.going;
@@ -365,6 +398,9 @@ marked first c m i mark h k next good empty rest runs is = record {
   flight = record { known = k.flight.known; found = k.flight.found; flies = k.flight.flies };
   owes_is = k.owes_is;
   reset_is = k.reset_is;
+  resetting_is = k.resetting_is;
+  prompt = (record { further = λ e. refl; waits = k.unready }, k.prompt);
+  unready = λ may. absurd (let e = may.between in cc);
   jogged_is = k.jogged_is;
   cut_is = k.cut_is;
   going = k.going;
@@ -387,6 +423,9 @@ rested first c i h k next drained stands is = record {
   flight = record { known = k.flight.known; found = k.flight.found; flies = k.flight.flies };
   owes_is = k.owes_is;
   reset_is = k.reset_is;
+  resetting_is = k.resetting_is;
+  prompt = (record { further = λ e. refl; waits = k.unready }, k.prompt);
+  unready = λ may. absurd (let e = may.between in cc);
   jogged_is = k.jogged_is;
   cut_is = k.cut_is;
   going = k.going;
@@ -410,6 +449,9 @@ evens first c m i h k next drained stands runs is = record {
   flight = record { known = k.flight.known; found = k.flight.found; flies = k.flight.flies };
   owes_is = k.owes_is;
   reset_is = k.reset_is;
+  resetting_is = k.resetting_is;
+  prompt = (record { further = λ e. refl; waits = k.unready }, k.prompt);
+  unready = λ may. absurd (let e = may.between in cc);
   jogged_is = k.jogged_is;
   cut_is = k.cut_is;
   going = k.going;
@@ -432,6 +474,9 @@ held_for_pause first c m i h k next drained stands runs is = record {
   flight = record { known = k.flight.known; found = k.flight.found; flies = k.flight.flies };
   owes_is = k.owes_is;
   reset_is = k.reset_is;
+  resetting_is = k.resetting_is;
+  prompt = (record { further = λ e. refl; waits = k.unready }, k.prompt);
+  unready = λ may. absurd (let e = may.between in cc);
   jogged_is = k.jogged_is;
   cut_is = k.cut_is ∙ uncut_idle first h k.conducted stands;
   going = k.going;
@@ -455,6 +500,9 @@ ended first c m i h k next drained stands closes runs is = record {
   flight = record { known = k.flight.known; found = k.flight.found; flies = k.flight.flies };
   owes_is = k.owes_is;
   reset_is = k.reset_is;
+  resetting_is = k.resetting_is;
+  prompt = (record { further = λ e. refl; waits = k.unready }, k.prompt);
+  unready = λ may. absurd (let e = may.between in cc);
   jogged_is = k.jogged_is;
   cut_is = k.cut_is;
   going = k.going;
@@ -483,6 +531,9 @@ started first c m jog h k stands may runs = record {
   flight = record { known = k.flight.known; found = k.flight.found; flies = k.flight.flies };
   owes_is = k.owes_is;
   reset_is = k.reset_is;
+  resetting_is = k.resetting_is;
+  prompt = (record { further = λ e. refl; waits = k.unready }, k.prompt);
+  unready = λ may. absurd (let e = may.between in cc);
   jogged_is = k.jogged_is;
   cut_is = k.cut_is ∙ uncut_started jog (has_cut h) (uncut_idle first h k.conducted stands);
   going = k.going;
@@ -515,6 +566,9 @@ drained first c m h k was may runs = record {
   flight = record { known = k.flight.known; found = k.flight.found; flies = k.flight.flies };
   owes_is = k.owes_is;
   reset_is = k.reset_is;
+  resetting_is = k.resetting_is;
+  prompt = (record { further = λ e. refl; waits = k.unready }, k.prompt);
+  unready = λ may. absurd (let e = may.between in cc);
   jogged_is = k.jogged_is;
   cut_is = k.cut_is ∙ uncut_else first h k.conducted (not_cancelled (motion_of first h) was);
   going = k.going;

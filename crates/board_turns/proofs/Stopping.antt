@@ -59,6 +59,9 @@ stops first c m h k slows stopped runs = record {
   flight = record { known = k.flight.known; found = k.flight.found; flies = k.flight.flies };
   owes_is = k.owes_is;
   reset_is = k.reset_is;
+  resetting_is = k.resetting_is;
+  prompt = (record { further = λ e. refl; waits = k.unready }, k.prompt);
+  unready = λ may. absurd (let e = may.between in cc);
   jogged_is = k.jogged_is;
   cut_is = k.cut_is ∙ uncut_else first h k.conducted other;
   going = k.going;
@@ -84,6 +87,9 @@ locks first c m h k slows stopped runs = record {
   flight = record { known = k.flight.known; found = k.flight.found; flies = k.flight.flies };
   owes_is = k.owes_is;
   reset_is = k.reset_is;
+  resetting_is = k.resetting_is;
+  prompt = (record { further = λ e. refl; waits = k.unready }, k.prompt);
+  unready = λ may. absurd (let e = may.between in cc);
   jogged_is = k.jogged_is;
   cut_is = k.cut_is ∙ uncut_else first h k.conducted other;
   going = k.going;
@@ -109,6 +115,9 @@ cancel_over first c m h k cancelled was found runs = record {
   flight = record { known = k.flight.known; found = k.flight.found; flies = k.flight.flies };
   owes_is = k.owes_is;
   reset_is = k.reset_is;
+  resetting_is = k.resetting_is;
+  prompt = (record { further = λ e. refl; waits = k.unready }, k.prompt);
+  unready = λ may. absurd (let e = may.between in cc);
   jogged_is = k.jogged_is;
   cut_is = refl;
   going = k.going;
@@ -208,6 +217,9 @@ cut_made first c m i k at h keeps uncut found number place left same state runs 
   flight = record { known = keeps.flight.known; found = keeps.flight.found; flies = keeps.flight.flies };
   owes_is = keeps.owes_is;
   reset_is = keeps.reset_is;
+  resetting_is = keeps.resetting_is;
+  prompt = (record { further = λ e. refl; waits = keeps.unready }, keeps.prompt);
+  unready = λ may. absurd (let e = may.between in cc);
   jogged_is = keeps.jogged_is;
   cut_is = refl;
   going = keeps.going;

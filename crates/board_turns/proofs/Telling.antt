@@ -68,6 +68,9 @@ other_machine first c m h k runs = record {
   flight = record { known = k.flight.known; found = k.flight.found; flies = k.flight.flies };
   owes_is = k.owes_is;
   reset_is = k.reset_is;
+  resetting_is = k.resetting_is;
+  prompt = k.prompt;
+  unready = k.unready;
   jogged_is = k.jogged_is;
   cut_is = k.cut_is;
   going = k.going;

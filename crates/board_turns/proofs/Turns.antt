@@ -1,5 +1,5 @@
 -- The run is closed, turns end, and the room on the link is asked for; what is no part of what a board has done may change.
-use Rattle.std.proofs.Common.{◌≡◌, ℕ, List, [], ◌∷◌, ◌++◌, true, ap, ◌∙◌}
+use Rattle.std.proofs.Common.{◌≡◌, ℕ, List, [], ◌∷◌, ◌++◌, true, false, refl, sym, ap, ◌∙◌}
 use Rattle.outside.specs.declared.Turn.{Turn}
 use Rattle.run_rules.specs.Work.Task.{tell, finish}
 use Rattle.status_report.specs.declared.Reply.{Reply}
@@ -14,14 +14,15 @@ use Rattle.board_rules.specs.Conduct.{MayTurn, MayClose}
 use Rattle.board_turns.specs.declared.board.Board.{Board}
 use Rattle.board_turns.specs.declared.board.Beat.{Beat}
 use Rattle.board_turns.specs.declared.board.Flags.{Flags}
-use Rattle.board_turns.specs.Boards.{Keeps, IsFlown}
+use Rattle.board_epochs.specs.Resets.{MayReset, has_reset}
+use Rattle.board_turns.specs.Boards.{Keeps, KeepsBetween, IsFlown}
 
 -- ---- the run and the turns
 
 -- the run is being closed
-pub closes : (first : Opening) (c : Board) (i : Interpreting) (h : Journal) → Keeps first c h → MayClose first h → i ≡ record c.lines { left = finish ∷ tell Bye ∷ [] }
+pub closes : (first : Opening) (c : Board) (i : Interpreting) (h : Journal) → Keeps first c h → has_reset h ≡ false → MayClose first h → i ≡ record c.lines { left = finish ∷ tell Bye ∷ [] }
     → Keeps first (record c { lines = i; closing = true }) (closing ∷ h)
-closes first c i h k may is = record {
+closes first c i h k unreset may is = record {
   placed = k.placed;
   free = k.free;
   short = k.short;
@@ -36,6 +37,9 @@ closes first c i h k may is = record {
   flight = record { known = k.flight.known; found = k.flight.found; flies = k.flight.flies };
   owes_is = k.owes_is;
   reset_is = k.reset_is;
+  resetting_is = k.resetting_is;
+  prompt = (record { further = λ e. absurd (let f = sym e ∙ unreset in cc); waits = k.unready }, k.prompt);
+  unready = λ may. absurd (let e = may.between in cc);
   jogged_is = k.jogged_is;
   cut_is = k.cut_is;
   going = λ e. absurd (cc);
@@ -45,8 +49,8 @@ closes first c i h k may is = record {
 }
 
 -- a turn ends
-pub ends : (first : Opening) (c : Board) (t : Turn) (h : Journal) → Keeps first c h → MayTurn first t h → Keeps first c (turned t ∷ h)
-ends first c t h k may = record {
+pub ends : (first : Opening) (c : Board) (f : Flags) (t : Turn) (h : Journal) → Keeps first c h → MayTurn first t h → KeepsBetween first (record c { flags = f }) (turned t ∷ h)
+ends first c f t h k may = record {
   placed = k.placed;
   free = k.free;
   short = k.short;
@@ -57,6 +61,32 @@ ends first c t h k may = record {
   flight = record { known = k.flight.known; found = k.flight.found; flies = k.flight.flies };
   owes_is = k.owes_is;
   reset_is = k.reset_is;
+  resetting_is = k.resetting_is;
+  prompt = (record { further = λ e. refl; waits = k.unready }, k.prompt);
+  jogged_is = k.jogged_is;
+  cut_is = k.cut_is;
+  going = k.going;
+  closed = k.closed;
+  limited = k.limited;
+  tries = k.tries;
+}
+
+-- another begins, where no reset may be worked
+pub begins_turn : (first : Opening) (c : Board) (h : Journal) → KeepsBetween first c h → (MayReset first h → ⊥) → Keeps first c h
+begins_turn first c h k unready = record {
+  placed = k.placed;
+  free = k.free;
+  short = k.short;
+  conducted = k.conducted;
+  machine = k.machine;
+  lines = k.lines;
+  input = k.input;
+  flight = record { known = k.flight.known; found = k.flight.found; flies = k.flight.flies };
+  owes_is = k.owes_is;
+  reset_is = k.reset_is;
+  resetting_is = k.resetting_is;
+  prompt = k.prompt;
+  unready = unready;
   jogged_is = k.jogged_is;
   cut_is = k.cut_is;
   going = k.going;
@@ -78,6 +108,9 @@ room_found first c bytes h k = record {
   flight = record { known = k.flight.known; found = k.flight.found; flies = k.flight.flies };
   owes_is = k.owes_is;
   reset_is = k.reset_is;
+  resetting_is = k.resetting_is;
+  prompt = (record { further = λ e. refl; waits = k.unready }, k.prompt);
+  unready = λ may. absurd (let e = may.between in cc);
   jogged_is = k.jogged_is;
   cut_is = k.cut_is;
   going = k.going;
@@ -99,6 +132,9 @@ other_beat first c b h k = record {
   flight = record { known = k.flight.known; found = k.flight.found; flies = k.flight.flies };
   owes_is = k.owes_is;
   reset_is = k.reset_is;
+  resetting_is = k.resetting_is;
+  prompt = k.prompt;
+  unready = k.unready;
   jogged_is = k.jogged_is;
   cut_is = k.cut_is;
   going = k.going;
@@ -119,6 +155,9 @@ other_flags first c f h k = record {
   flight = record { known = k.flight.known; found = k.flight.found; flies = k.flight.flies };
   owes_is = k.owes_is;
   reset_is = k.reset_is;
+  resetting_is = k.resetting_is;
+  prompt = k.prompt;
+  unready = k.unready;
   jogged_is = k.jogged_is;
   cut_is = k.cut_is;
   going = k.going;
@@ -140,6 +179,9 @@ other_flight first c f h k flown = record {
   flight = flown;
   owes_is = k.owes_is;
   reset_is = k.reset_is;
+  resetting_is = k.resetting_is;
+  prompt = k.prompt;
+  unready = k.unready;
   jogged_is = k.jogged_is;
   cut_is = k.cut_is;
   going = k.going;

@@ -23,6 +23,7 @@ use Rattle.board_rules.specs.Turns.{this_turn, unobeyed_of, owes_report, moving,
 use Rattle.board_rules.specs.Conduct.{Conducted, AreWaiting}
 use Rattle.board_rules.specs.Cuts.{has_cut}
 pub use Rattle.board_rules.specs.Within.{changes_left}
+use Rattle.board_epochs.specs.Resets.{IsPrompt, MayReset, has_reset}
 use Rattle.units.specs.Truths.{one_if}
 use Rattle.board_turns.specs.declared.board.Board.{Board}
 use Rattle.board_turns.specs.declared.board.Flags.{Flags}
@@ -54,7 +55,7 @@ pub record IsFlown (first : Opening) (f : Flying) (h : Journal) : Type 0 where
   pub flies : Flies first.place f (published_of h) known
 
 -- What the fields of a board keep of all that it did since an opening, which its rules allow; the machine is not locked there. The motion is stopped
--- for a line that a soft limit stops, and few tries to publish stand behind the last poll there.
+-- for a line that a soft limit stops, and few tries to publish stand behind the last poll there. A reset may not be worked now.
 pub record Keeps (first : Opening) (board : Board) (h : Journal) : Type 0 where
   pub placed : IsPlaced first
   pub free : is_limited first.motion ≡ false
@@ -66,6 +67,30 @@ pub record Keeps (first : Opening) (board : Board) (h : Journal) : Type 0 where
   pub flight : IsFlown first board.flight h
   pub owes_is : board.owes ≡ owes_report h
   pub reset_is : board.reset ≡ has_reset_in (port_log h)
+  pub resetting_is : board.resetting ≡ has_reset h
+  pub prompt : IsPrompt first h
+  pub unready : MayReset first h → ⊥
+  pub jogged_is : board.jogged ≡ has_jogged h
+  pub cut_is : board.cut ≡ has_cut h
+  pub going : board.closing ≡ false → closed_tells h ≡ []
+  pub closed : board.closing ≡ true → closed_tells h ≡ Bye ∷ []
+  pub limited : limit_pending h ≡ false
+  pub tries : has_limited h ≡ true → tries_of first h ≤ 1
+
+-- They keep the same between two turns; a reset may be worked then.
+pub record KeepsBetween (first : Opening) (board : Board) (h : Journal) : Type 0 where
+  pub placed : IsPlaced first
+  pub free : is_limited first.motion ≡ false
+  pub short : first.lines + 2 < 2 ^ 31
+  pub conducted : Conducted first h
+  pub machine : Runs board.machine (plan_of h) (motion_of first h) (hand_of h) (given_of h)
+  pub lines : Works board.lines (left_of first h) (before_of first h)
+  pub input : Reads board.input (open_of h) (whole_of h)
+  pub flight : IsFlown first board.flight h
+  pub owes_is : board.owes ≡ owes_report h
+  pub reset_is : board.reset ≡ has_reset_in (port_log h)
+  pub resetting_is : board.resetting ≡ has_reset h
+  pub prompt : IsPrompt first h
   pub jogged_is : board.jogged ≡ has_jogged h
   pub cut_is : board.cut ≡ has_cut h
   pub going : board.closing ≡ false → closed_tells h ≡ []
@@ -129,6 +154,13 @@ abbrev pub GoingBetween : Journal → Type 0
 GoingBetween h = this_turn h ≡ []
 
 -- What the fields of a board say between two turns. The last one published no piece where words of flags are to be taken.
+pub record EpochFits (first : Opening) (board : Board) (h : Journal) : Type 0 where
+  pub keeps : KeepsBetween first board h
+  pub rounds : Rounds first board.beat h
+  pub flags : TakesFlags board.flags h
+  pub still : has_published board.beat ≡ true → takes_no_word board.flags ≡ true
+
+-- and where a turn begins: no reset may be worked
 pub record GoingFits (first : Opening) (board : Board) (h : Journal) : Type 0 where
   pub keeps : Keeps first board h
   pub rounds : Rounds first board.beat h

@@ -12,14 +12,15 @@ ghost use Rattle.step_line.specs.Asking.Asked.{a_rest};
 ghost use Rattle.board_rules.specs.Ports.PortStep.{took};
 ghost use Rattle.run_rules.specs.declared.State.{State};
 ghost use Rattle.run_rules.specs.States.{IsOpening};
+ghost use Rattle.board_epochs.specs.Resets.{MayReset};
 ghost use Rattle.board_rules.specs.Breaking.{is_end};
 ghost use Rattle.board_rules.specs.Ports.{has_reset_in};
 ghost use Rattle.board_rules.specs.Steps.{Journal, port_log, published_of, left_of, motion_of, has_closed};
 ghost use Rattle.board_rules.specs.Openings.{Opening, first_opening};
 ghost use Rattle.board_rules.specs.Steps.Step.{at_port};
-ghost use Rattle.board_rules.specs.Turns.{this_turn, awaits_motion, begins_in, machine_in, needs_motion, flags_taken, found_nothing, has_blocks, is_full};
+ghost use Rattle.board_rules.specs.Turns.{this_turn, tells_next, awaits_motion, begins_in, machine_in, needs_motion, flags_taken, found_nothing, has_blocks, is_full};
 ghost use Rattle.board_rules.specs.Conduct.{IsNextTask, MayTake, MayPoll};
-ghost use Rattle.board_turns.specs.Boards.{Keeps, GoingFits, GoingTurned, BoardIsOver, GoingBetween, IsFree, TakesFlags, takes_no_word, board_number};
+ghost use Rattle.board_turns.specs.Boards.{Keeps, EpochFits, GoingFits, GoingTurned, BoardIsOver, GoingBetween, IsFree, TakesFlags, takes_no_word, board_number};
 ghost use Rattle.board_turns.specs.Turning.{IsNextMove, HasPiece, IsReady, MayRun, MayAwait, MayJudge, IsLooked, NeedsNoWait, IsWholeLine, HasPolled, HasStopped, PassesNothing, DidAlone, HasLooked, HasAdded, HasFilled, HasBegun, Tried, HasTried, BoardWorked, IsHeldUp, IsJudged, GoesOn, HasSettled, IsPassed, WorksOn};
 
 use crate::input::Input;
@@ -66,6 +67,8 @@ pub struct Board {
     pub(crate) flags: Flags,
     pub(crate) owes: bool,
     pub(crate) reset: bool,
+    /// A word that asks for a reset was taken, and not dropped.
+    pub(crate) resetting: bool,
     pub(crate) beat: Beat,
     pub(crate) closing: bool,
     /// The last that was accepted of G-code and jogs is a jog.
@@ -100,7 +103,7 @@ fn jogs_behind(accepted: Accepted, was: bool) -> bool
 impl Board {
     /// A board that has done nothing. The banner is to be told.
     pub fn new() -> Board
-        ensures { (state : State) × IsOpening state × GoingFits (first_opening state) result [] }
+        ensures { (state : State) × IsOpening state × EpochFits (first_opening state) result [] }
     {
         Board {
             machine: Machine::new(),
@@ -110,6 +113,7 @@ impl Board {
             flags: Flags::None,
             owes: false,
             reset: false,
+            resetting: false,
             beat: Beat::Motion,
             closing: false,
             jogged: false,
@@ -128,14 +132,28 @@ impl Board {
     /// Whether a word that asks for a reset was taken.
     #[inline]
     pub fn was_reset(&self) -> bool
-        ensures { (first : Opening) (h : Journal) → GoingFits first self.now h → result ≡ has_reset_in (port_log h) }
+        ensures { (first : Opening) (h : Journal) → EpochFits first self.now h → result ≡ has_reset_in (port_log h) }
     {
         self.reset
     }
 
+    /// Whether a reset may be worked now, between two turns: it was asked for, and not dropped; no report is owed, and no reply
+    /// is next.
+    pub fn may_reset(&self) -> bool
+        ensures { (first : Opening) (h : Journal) → EpochFits first self.now h → GoingBetween h → (result ≡ true) ↔ MayReset first h }
+    {
+        if !self.resetting {
+            return false;
+        }
+        if self.owes {
+            return false;
+        }
+        !matches!(self.lines.todo(), Todo::Tell)
+    }
+
     /// Whether the end of the run is published. The run isn't over.
     pub fn has_published_end(&self) -> bool
-        ensures { (first : Opening) (h : Journal) → GoingFits first self.now h → (BoardIsOver self.now → ⊥) → list_any is_end (published_of h) ≡ result }
+        ensures { (first : Opening) (h : Journal) → EpochFits first self.now h → (BoardIsOver self.now → ⊥) → list_any is_end (published_of h) ≡ result }
     {
         if !self.closing {
             return false;
@@ -289,6 +307,7 @@ impl Board {
         requires stands { (rest : P.Rest) × (first : Opening) × (h : Journal) × P.stands port.old rest first (port_log h) × Keeps first self.old h × HasPolled first h × (has_closed h ≡ true) }
         requires beat { self.old.beat ≡ Beat.Motion }
         requires flags { self.old.flags ≡ Flags.None }
+        requires unreset { self.old.resetting ≡ false }
         ensures goes_on { (rest : P.Rest) (first : Opening) (h : Journal) → P.stands port.old rest first (port_log h) → Keeps first self.old h → HasPolled first h → has_closed h ≡ true
             → WorksOn first (P.stands port.new rest first) result self.old.flags self.new h }
         ensures going { result ≢ Done }
@@ -307,6 +326,7 @@ impl Board {
         requires stands { (rest : P.Rest) × (first : Opening) × (h : Journal) × P.stands port.old rest first (port_log h) × Keeps first self.old h × IsReady first h × MayPoll first h }
         requires beat { self.old.beat ≡ Beat.Motion }
         requires flags { self.old.flags ≡ Flags.None }
+        requires unreset { self.old.resetting ≡ false }
         ensures goes_on { (rest : P.Rest) (first : Opening) (h : Journal) → P.stands port.old rest first (port_log h) → Keeps first self.old h → IsReady first h → MayPoll first h
             → WorksOn first (P.stands port.new rest first) result self.old.flags self.new h }
         ensures going { result ≢ Done }
@@ -359,7 +379,8 @@ impl Board {
 
     /// Begins the line that was taken whole. Where a soft limit stops it, so is the motion, at once.
     fn judge(&mut self)
-        requires { (first : Opening) × (h : Journal) × Keeps first self.old h × MayJudge first h }
+        requires may { (first : Opening) × (h : Journal) × Keeps first self.old h × MayJudge first h }
+        requires unreset { self.old.resetting ≡ false }
         ensures begun { (first : Opening) (h : Journal) → Keeps first self.old h → MayJudge first h → (o : Outcome) × (next : Journal) × Keeps first self.new next × HasBegun first o h next }
         ensures same { self.new ≡ record self.old { machine = self.new.machine; lines = self.new.lines; input = self.new.input; jogged = self.new.jogged } }
     {
@@ -376,6 +397,7 @@ impl Board {
         requires stands { (rest : P.Rest) × (first : Opening) × (h : Journal) × P.stands port.old rest first (port_log h) × Keeps first self.old h × IsReady first h × IsWholeLine first h }
         requires beat { self.old.beat ≡ Beat.Motion }
         requires flags { self.old.flags ≡ Flags.None }
+        requires unreset { self.old.resetting ≡ false }
         ensures goes_on { (rest : P.Rest) (first : Opening) (h : Journal) → P.stands port.old rest first (port_log h) → Keeps first self.old h → IsReady first h → IsWholeLine first h
             → WorksOn first (P.stands port.new rest first) result self.old.flags self.new h }
         ensures going { result ≢ Done }
@@ -396,6 +418,7 @@ impl Board {
         requires open { self.old.closing ≡ false }
         requires beat { self.old.beat ≡ Beat.Motion }
         requires flags { self.old.flags ≡ Flags.None }
+        requires unreset { self.old.resetting ≡ false }
         ensures goes_on { (rest : P.Rest) (first : Opening) (h : Journal) → P.stands port.old rest first (port_log h) → Keeps first self.old h → IsReady first h → GoesOn first h
             → WorksOn first (P.stands port.new rest first) result self.old.flags self.new h }
         ensures going { result ≢ Done }
@@ -413,6 +436,7 @@ impl Board {
         requires open { self.old.lines.left ≡ [] → self.old.closing ≡ false }
         requires beat { self.old.beat ≡ Beat.Motion }
         requires flags { self.old.flags ≡ Flags.None }
+        requires unreset { tells_next self.old.lines.left ≡ false → self.old.resetting ≡ false }
         ensures goes_on { (rest : P.Rest) (first : Opening) (h : Journal) → P.stands port.old rest first (port_log h) → Keeps first self.old h → IsReady first h → GoesOn first h → NeedsNoWait first h
             → WorksOn first (P.stands port.new rest first) result self.old.flags self.new h }
         ensures going { result ≢ Done }
@@ -435,6 +459,7 @@ impl Board {
         requires open { self.old.lines.left ≡ [] → self.old.closing ≡ false }
         requires beat { self.old.beat ≡ Beat.Motion }
         requires flags { self.old.flags ≡ Flags.None }
+        requires unreset { tells_next self.old.lines.left ≡ false → self.old.resetting ≡ false }
         ensures goes_on { (rest : P.Rest) (first : Opening) (h : Journal) → P.stands port.old rest first (port_log h) → Keeps first self.old h → IsReady first h → GoesOn first h
             → WorksOn first (P.stands port.new rest first) result self.old.flags self.new h }
         ensures going { result ≢ Done }
@@ -460,6 +485,7 @@ impl Board {
         requires open { self.old.lines.left ≡ [] → self.old.closing ≡ false }
         requires beat { self.old.beat ≡ Beat.Motion }
         requires flags { self.old.flags ≡ Flags.None }
+        requires unreset { tells_next self.old.lines.left ≡ false → self.old.resetting ≡ false }
         ensures goes_on { (rest : P.Rest) (first : Opening) (h : Journal) → P.stands port.old rest first (port_log h) → Keeps first self.old h → IsReady first h
             → WorksOn first (P.stands port.new rest first) result self.old.flags self.new h }
         ensures going { result ≢ Done }
@@ -575,16 +601,19 @@ impl Board {
     /// once Bye was told; from then on nothing changes. A turn that answers Did and moves nothing lowers the board's
     /// number, which is less than 64.
     ///
+    /// No reset may be worked now. One that was asked for, and not dropped, lets no line begin, and the run isn't closed, until
+    /// it may be.
+    ///
     /// The rules of the board are those of its journal since the epoch's opening: whatever it has done before, it goes on
     /// as they allow.
     #[inline(always)]
     pub fn turn<P: EpochPort>(&mut self, port: &mut P) -> Turn
-        requires stands { (rest : P.Rest) × (first : Opening) × (h : Journal) × P.stands port.old rest first (port_log h) × GoingFits first self.old h × GoingBetween h }
-        ensures goes_on { (rest : P.Rest) (first : Opening) (h : Journal) → P.stands port.old rest first (port_log h) → GoingFits first self.old h → GoingBetween h
-            → (next : Journal) × P.stands port.new rest first (port_log next) × GoingFits first self.new next × GoingBetween next × GoingTurned first result self.old self.new h next }
+        requires stands { (rest : P.Rest) × (first : Opening) × (h : Journal) × P.stands port.old rest first (port_log h) × EpochFits first self.old h × GoingBetween h × (MayReset first h → ⊥) }
+        ensures goes_on { (rest : P.Rest) (first : Opening) (h : Journal) → P.stands port.old rest first (port_log h) → EpochFits first self.old h → GoingBetween h → (MayReset first h → ⊥)
+            → (next : Journal) × P.stands port.new rest first (port_log next) × EpochFits first self.new next × GoingBetween next × GoingTurned first result self.old self.new h next }
         ensures done { (result ≡ Done) ↔ BoardIsOver self.old }
         ensures still { BoardIsOver self.old → (self.new ≡ self.old) × (port.new ≡ port.old) }
-        ensures few { (first : Opening) (h : Journal) → GoingFits first self.old h → board_number first self.old h < 64 }
+        ensures few { (first : Opening) (h : Journal) → EpochFits first self.old h → board_number first self.old h < 64 }
     {
         let turn = self.work(port);
         if let Turn::Wait(_) = turn {

@@ -7,6 +7,7 @@ ghost use Rattle.feed_hold.specs.declared.Motion.TheVariants.{Held};
 ghost use Rattle.outside.specs.declared.Turn.TheVariants.{Done};
 ghost use Rattle.board_rules.specs.Steps.{Journal, port_log};
 ghost use Rattle.board_rules.specs.Openings.{Opening};
+ghost use Rattle.board_epochs.specs.Resets.{drops_resets, has_reset};
 ghost use Rattle.board_turns.specs.Boards.{Keeps};
 ghost use Rattle.board_rules.specs.Ports.PortStep.{took_exec};
 ghost use Rattle.board_rules.specs.Steps.Step.{at_port};
@@ -16,6 +17,7 @@ ghost use Rattle.board_turns.specs.Turning.{HasPiece, IsHeldUp, HasSettled, aske
 use crate::board::{Beat, Board, Flags};
 use crate::reports::{asks_report, asks_reset, to_obey};
 use bitflags::Flags as _;
+use code_table::Exec;
 use epoch_ports::EpochPort;
 use outside::{On, Turn};
 
@@ -38,6 +40,20 @@ impl Board {
         self.come_to_rest();
     }
 
+    /// Whether a reset that is asked for is dropped: a line has raised the alarm of a soft limit, or the run is being closed.
+    fn drops_resets(&self) -> bool
+        ensures { (first : Opening) (h : Journal) → Keeps first self.now h → result ≡ drops_resets h }
+    {
+        self.closing || self.machine.is_limited()
+    }
+
+    /// Whether a reset is asked for, and not dropped, once this word of requests is taken.
+    fn resets_behind(&self, word: Exec) -> bool
+        ensures { (first : Opening) (h : Journal) → Keeps first self.now h → result ≡ has_reset (at_port (took_exec word) ∷ h) }
+    {
+        (asks_reset(word) && !self.drops_resets()) || self.resetting
+    }
+
     /// Takes the word of requests, and does what it asks of the motion, unless it asks for a reset; where a report is owed
     /// then, that comes first. What comes of a machine that has stopped comes before.
     #[inline(never)]
@@ -46,10 +62,11 @@ impl Board {
         ensures goes_on { (rest : P.Rest) (first : Opening) (h : Journal) → P.stands port.old rest first (port_log h) → Keeps first self.old h → unobeyed_of h ≡ [] → has_jog_to_start first h ≡ false
             → (word : AnyExec) × (mid : Journal) × HasSettled first h mid × P.stands port.new rest first (port_log (asked first word mid)) × Keeps first self.new (asked first word mid)
             × (self.new.flags ≡ flags_behind (owes_report (at_port (took_exec word) ∷ mid)) word) }
-        ensures same { self.new ≡ record self.old { machine = self.new.machine; flight = self.new.flight; lines = self.new.lines; cut = self.new.cut; flags = self.new.flags; owes = self.new.owes; reset = self.new.reset } }
+        ensures same { self.new ≡ record self.old { machine = self.new.machine; flight = self.new.flight; lines = self.new.lines; cut = self.new.cut; flags = self.new.flags; owes = self.new.owes; reset = self.new.reset; resetting = self.new.resetting } }
     {
         self.settle(port);
         let word = port.take_exec();
+        self.resetting = self.resets_behind(word);
         self.reset = asks_reset(word) | self.reset;
         self.owes = asks_report(word) | self.owes;
         let waiting = to_obey(word);

@@ -1,5 +1,5 @@
 -- How a run goes on, and how a reset ends it.
-use Rattle.std.proofs.Common.{◌≡◌, ◌<◌, Bool, true, false, cond, [], ◌∷◌, ◌++◌, refl, sym, ap, ◌∙◌, subst, arith}
+use Rattle.std.proofs.Common.{◌≡◌, ◌<◌, Bool, true, false, ◌&&◌, ◌||◌, not, cond, [], ◌∷◌, ◌++◌, refl, sym, ap, ◌∙◌, subst, arith}
 use Rattle.std.specs.List.{count_by, list_any}
 use Rattle.outside.specs.declared.On.TheVariants as on
 use Rattle.outside.specs.declared.Turn.{Turn}
@@ -10,9 +10,9 @@ use Rattle.status_report.specs.declared.Reply.{Reply}
 use Rattle.status_report.specs.declared.Reply.TheVariants.{Bye}
 use Rattle.step_line.specs.declared.Piece.{Piece}
 use Rattle.step_line.specs.declared.Piece.TheVariants as pieces
-use Rattle.board_rules.specs.Openings.{first_opening}
-use Rattle.board_rules.specs.Ports.{BoardLog, LacksPieceRoom, has_reset_in}
-use Rattle.board_rules.specs.Ports.PortStep.{answered, no_reply_room, published, no_piece_room}
+use Rattle.board_rules.specs.Openings.{Opening, first_opening}
+use Rattle.board_rules.specs.Ports.{BoardLog, LacksPieceRoom, asks_reset, has_reset_in}
+use Rattle.board_rules.specs.Ports.PortStep.{answered, no_reply_room, took_exec, published, no_piece_room}
 use Rattle.board_rules.specs.Steps.{Journal, port_log, published_of}
 use Rattle.board_rules.specs.Steps.Step.{at_port, turned}
 use Rattle.board_rules.specs.Turns.{this_turn, publishing}
@@ -20,16 +20,18 @@ use Rattle.board_rules.specs.Breaking.{Doings, Ending, is_end, ending_of, log_of
 use Rattle.board_rules.specs.Breaking.Ending.{publishes_end, tells_bye, over}
 use Rattle.board_rules.specs.Breaking.Doings.{goes, broke}
 use Rattle.board_rules.proofs.Breaking.{unsaid}
+use Rattle.board_epochs.specs.Resets.{MayReset, has_reset, drops_resets}
 use Rattle.board_turns.specs.declared.board.Board.{Board}
-use Rattle.board_turns.specs.Boards.{GoingFits, GoingBetween, GoingTurned, BoardIsOver}
+use Rattle.board_turns.specs.Boards.{EpochFits, GoingBetween, GoingTurned, BoardIsOver}
 use Rattle.board_turns.proofs.AnyState.{turned_any, number_any}
 use Rattle.board_turns.proofs.Ends.{turned_by}
 use Rattle.board_turns.proofs.Numbers.{number_few}
 use Rattle.board_turns.proofs.Over.{over_by, over_worked}
+use Rattle.board_turns.proofs.Resetting.{begins_going, over_unready}
 use Rattle.controller.specs.declared.controller.Controller.{Controller}
 use Rattle.controller.specs.declared.controller.Stage.{Stage}
 use Rattle.controller.specs.declared.controller.Stage.TheVariants as stages
-use Rattle.controller.specs.Boards.{BrokenFits, BoardFits, BoardRests, IsBetween, stage_of, rests_at, number_in}
+use Rattle.controller.specs.Boards.{GoesFits, BrokenFits, BoardFits, BoardRests, IsBetween, stage_of, rests_at, number_in}
 use Rattle.controller.specs.Breaking.{EndsOn, GoesOn, WentOn}
 
 -- ---- which run it is
@@ -47,12 +49,32 @@ pub record Goes (was : BoardLog → Type 0) (c : Controller) (d : Doings) : Type
   pub state : State
   pub opening : IsOpening state
   pub at : was (port_log journal)
-  pub fits : GoingFits (first_opening state) c.board journal
+  pub fits : EpochFits (first_opening state) c.board journal
   pub between : GoingBetween journal
+  pub unreset : has_reset_in (port_log journal) ≡ false
 
-pub goes_so : (was : BoardLog → Type 0) (c : Controller) (d : Doings) → c.stage ≡ stages.Goes → was (log_of d) → BoardFits c d → IsBetween d → Goes was c d
-goes_so was c (goes h) is at f between = record { journal = h; are = refl; state = f.first; opening = f.opening; at = at; fits = f.fits; between = between }
-goes_so was c (broke since before) is at f between = absurd (not_going (ending_of since before) c.stage f.stage is)
+unasked : (c : Controller) (h : Journal) → GoesFits c h → (BoardIsOver c.board → ⊥) → (b : Bool) → has_reset_in (port_log h) ≡ b → has_reset_in (port_log h) ≡ false
+unasked c h f unrested true is = absurd (unrested (f.rests is))
+unasked c h f unrested false is = is
+
+pub goes_so : (was : BoardLog → Type 0) (c : Controller) (d : Doings) → c.stage ≡ stages.Goes → (BoardIsOver c.board → ⊥) → was (log_of d) → BoardFits c d → IsBetween d → Goes was c d
+goes_so was c (goes h) is unrested at f between =
+    record { journal = h; are = refl; state = f.first; opening = f.opening; at = at; fits = f.fits; between = between; unreset = unasked c h f unrested (has_reset_in (port_log h)) refl }
+goes_so was c (broke since before) is unrested at f between = absurd (not_going (ending_of since before) c.stage f.stage is)
+
+-- where none was asked for, none may be worked
+either : (asks drops was all : Bool) → (asks && not drops || was) ≡ true → (was ≡ true → all ≡ true) → (asks || all) ≡ true
+either true drops was all is before = refl
+either false drops true all is before = before refl
+either false drops false all is before = absurd cc
+
+asked_in : (h : Journal) → has_reset h ≡ true → has_reset_in (port_log h) ≡ true
+asked_in [] is = absurd cc
+asked_in (at_port (took_exec word) ∷ h) is = either (asks_reset word) (drops_resets h) (has_reset h) (has_reset_in (port_log h)) is (asked_in h)
+asked_in (_ ∷ h) is = asked_in h is
+
+pub never_reset : (first : Opening) (h : Journal) → has_reset_in (port_log h) ≡ false → MayReset first h → ⊥
+never_reset first h none may = absurd (let e = sym none ∙ asked_in h may.asked in cc)
 
 -- where no reset has ended it, it goes on
 pub is_broken : (was : BoardLog → Type 0) (c : Controller) (d : Doings) → (c.stage ≡ stages.Goes → ⊥) → was (log_of d) → BoardFits c d → IsBetween d
@@ -66,7 +88,7 @@ ending_by_end : (out : Bool) (s : Stage) → s ≡ cond out stages.TellsBye stag
 ending_by_end true s is = is
 ending_by_end false s is = is
 
-pub broken_off : (state : State) (c d : Controller) (h : Journal) (out : Bool) → IsOpening state → GoingFits (first_opening state) c.board h → has_reset_in (port_log h) ≡ true → GoingBetween h → (BoardIsOver c.board → ⊥)
+pub broken_off : (state : State) (c d : Controller) (h : Journal) (out : Bool) → IsOpening state → EpochFits (first_opening state) c.board h → has_reset_in (port_log h) ≡ true → GoingBetween h → (BoardIsOver c.board → ⊥)
     → list_any is_end (published_of h) ≡ out → d.stage ≡ cond out stages.TellsBye stages.PublishesEnd → BrokenFits d [] h
 broken_off state c d h out opening f reset between unrested is stage = record {
   first = state;
@@ -154,7 +176,8 @@ over_ends c since before f none rests = record {
 pub over_goes_on : (stands : BoardLog → Type 0) (c : Controller) (d : Doings) → stands (log_of d) → BoardFits c d → IsBetween d → BoardRests c → GoesOn stands Done c c d
 over_goes_on stands c (goes h) at f between rests =
     let is_over : BoardIsOver c.board = subst (λ (s : Stage). rests_at s c.board) f.stage rests in
-    let r = turned_by (first_opening f.first) Done c.board c.board c.board.flags h h refl (over_worked (first_opening f.first) c.board h f.fits between is_over) in
+    let start = begins_going (first_opening f.first) c.board h f.fits (over_unready (first_opening f.first) c.board h f.fits.keeps is_over) in
+    let r = turned_by (first_opening f.first) Done c.board c.board c.board.flags h h refl (over_worked (first_opening f.first) c.board h start between is_over) in
     (goes (turned Done ∷ h), at, record { first = f.first; opening = f.opening; stage = f.stage; fits = r.0; rests = f.rests }, refl, turned_any Done c.board c.board h (turned Done ∷ h) f.first r.1)
 over_goes_on stands c (broke since before) at f between rests =
     (broke (turned Done ∷ since) before, at, over_ends c since before f between rests, refl, (refl, record { steps = []; are = refl; moves = λ e. absurd cc }))

@@ -14,7 +14,7 @@ use Rattle.board_rules.specs.Breaking.{Doings, Ending, IsConducted, ending_of, t
 use Rattle.board_rules.specs.Breaking.Doings.{goes, broke}
 use Rattle.board_rules.specs.Breaking.Ending.{publishes_end, tells_bye, over}
 use Rattle.board_turns.specs.declared.board.Board.{Board}
-pub use Rattle.board_turns.specs.Boards.{GoingFits, GoingTurned, BoardIsOver}
+pub use Rattle.board_turns.specs.Boards.{EpochFits, GoingTurned, BoardIsOver}
 use Rattle.board_turns.specs.Boards.{board_number}
 use Rattle.controller.specs.declared.controller.Controller.{Controller}
 use Rattle.controller.specs.declared.controller.Stage.{Stage}
@@ -42,7 +42,7 @@ pub record GoesFits (c : Controller) (h : Journal) : Type 0 where
   pub first : State
   pub opening : IsOpening first
   pub stage : c.stage ≡ stages.Goes
-  pub fits : GoingFits (first_opening first) c.board h
+  pub fits : EpochFits (first_opening first) c.board h
   pub rests : has_reset_in (port_log h) ≡ true → BoardIsOver c.board
 
 -- What they say where a reset has ended it.

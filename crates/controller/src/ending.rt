@@ -10,7 +10,7 @@ ghost use Rattle.board_rules.specs.Breaking.Ending.{publishes_end, tells_bye};
 ghost use Rattle.board_rules.specs.Openings.{Opening, first_opening};
 ghost use Rattle.board_rules.specs.Ports.{has_reset_in};
 ghost use Rattle.board_rules.specs.Steps.{Journal, port_log};
-ghost use Rattle.board_turns.specs.Boards.{BoardIsOver, GoingBetween, GoingFits};
+ghost use Rattle.board_turns.specs.Boards.{BoardIsOver, GoingBetween, EpochFits};
 ghost use Rattle.controller.specs.Boards.{BoardFits, BoardRests, BoardTurned, BrokenFits, IsBetween, number_in};
 ghost use Rattle.controller.specs.Breaking.{EndsOn, GoesOn, WentOn};
 
@@ -22,11 +22,11 @@ use status_report::Reply;
 use step_line::Piece;
 
 impl Controller {
-    /// Takes a turn of the board, whose one epoch begins with the run.
+    /// Takes a turn of the board, whose one epoch begins with the run. No word that asks for a reset was taken.
     #[inline(always)]
     fn go_on<P: BoardPort>(&mut self, port: &mut P) -> Turn
-        requires { (rest : P.Rest) × (state : State) × (h : Journal) × P.stands port.old rest (port_log h) × GoingFits (first_opening state) self.old.board h × GoingBetween h }
-        ensures goes_on { (rest : P.Rest) (state : State) (h : Journal) → P.stands port.old rest (port_log h) → GoingFits (first_opening state) self.old.board h → GoingBetween h
+        requires { (rest : P.Rest) × (state : State) × (h : Journal) × P.stands port.old rest (port_log h) × EpochFits (first_opening state) self.old.board h × GoingBetween h × (has_reset_in (port_log h) ≡ false) }
+        ensures goes_on { (rest : P.Rest) (state : State) (h : Journal) → P.stands port.old rest (port_log h) → EpochFits (first_opening state) self.old.board h → GoingBetween h → has_reset_in (port_log h) ≡ false
             → WentOn (P.stands port.new rest) result state self.old.board self.new.board h }
         ensures done { (result ≡ Done) ↔ BoardIsOver self.old.board }
         ensures same { self.new.stage ≡ self.old.stage }
@@ -37,9 +37,9 @@ impl Controller {
 
     /// Whether the run is to be ended: a word that asks for a reset was taken, and the run is not over.
     fn breaks_off(&self) -> bool
-        ensures yes { (first : Opening) (h : Journal) → GoingFits first self.now.board h → result ≡ true → has_reset_in (port_log h) ≡ true }
+        ensures yes { (first : Opening) (h : Journal) → EpochFits first self.now.board h → result ≡ true → has_reset_in (port_log h) ≡ true }
         ensures going { result ≡ true → BoardIsOver self.now.board → ⊥ }
-        ensures no { (first : Opening) (h : Journal) → GoingFits first self.now.board h → result ≡ false → has_reset_in (port_log h) ≡ true → BoardIsOver self.now.board }
+        ensures no { (first : Opening) (h : Journal) → EpochFits first self.now.board h → result ≡ false → has_reset_in (port_log h) ≡ true → BoardIsOver self.now.board }
     {
         if !self.board.was_reset() {
             return false;
@@ -52,7 +52,7 @@ impl Controller {
     #[inline(never)]
     fn break_off(&mut self)
         requires going { BoardIsOver self.old.board → ⊥ }
-        ensures broken { (state : State) (h : Journal) → IsOpening state → GoingFits (first_opening state) self.old.board h → has_reset_in (port_log h) ≡ true → GoingBetween h → BrokenFits self.new [] h }
+        ensures broken { (state : State) (h : Journal) → IsOpening state → EpochFits (first_opening state) self.old.board h → has_reset_in (port_log h) ≡ true → GoingBetween h → BrokenFits self.new [] h }
         ensures same { self.new.board ≡ self.old.board }
     {
         if self.board.has_published_end() {
@@ -66,6 +66,7 @@ impl Controller {
     #[inline(always)]
     fn carry_on<P: BoardPort>(&mut self, port: &mut P) -> Turn
         requires goes { self.old.stage ≡ Stage.Goes }
+        requires going { BoardIsOver self.old.board → ⊥ }
         requires stands { (rest : P.Rest) × (d : Doings) × P.stands port.old rest (log_of d) × BoardFits self.old d × IsBetween d }
         ensures goes_on { (rest : P.Rest) (d : Doings) → P.stands port.old rest (log_of d) → BoardFits self.old d → IsBetween d → GoesOn (P.stands port.new rest) result self.old self.new d }
         ensures done { (result ≡ Done) ↔ BoardIsOver self.old.board }

@@ -11,7 +11,10 @@ judge-requires g c =
     let r = c.requires.stands in let first = r.1 in
     let seen = c.look.ensures.goes_on r.0 first r.2 r.3 r.4 r.6.goes in
     let mid = c.start_before_line.ensures.started first seen.0 seen.2 (looked_whole first r.2 seen.0 r.5 r.6 seen.3) in
-    (first, mid.0, mid.1, mid.2)
+    record {
+      may = (first, mid.0, mid.1, mid.2);
+      unreset = ap (λ (b : Board). b.resetting) c.start_before_line.ensures.same ∙ ap (λ (b : Board). b.resetting) c.look.ensures.same ∙ c.requires.unreset;
+    }
 
 pub tell_first-requires : goal.tell_first-requires
 tell_first-requires g c =

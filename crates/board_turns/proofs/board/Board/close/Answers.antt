@@ -1,4 +1,4 @@
-use Rattle.std.proofs.Common.{◌∷◌}
+use Rattle.std.proofs.Common.{◌∷◌, sym, ◌∙◌}
 use Rattle.board_rules.specs.Steps.Step.{closing}
 use Rattle.board_turns.proofs.Steps.{closes}
 use Rattle.board_turns.proofs.Nexts.{none_waiting, may_close, closes_worked}
@@ -8,7 +8,7 @@ pub returns-clause-goes_on : goal.returns-clause-goes_on
 returns-clause-goes_on g c = λ rest first h stands keeps polled closed.
     let s = c.args.self.now in
     let none = none_waiting first s h keeps (c.is_waiting.ensures.no c.if-is_waiting.false) in
-    (closing ∷ h, stands, closes_worked first s _ h (closes first s _ h keeps (may_close first h polled closed) c.close.ensures) polled none c.requires.beat c.requires.flags c.requires.flags)
+    (closing ∷ h, stands, closes_worked first s _ h (closes first s _ h keeps (sym keeps.resetting_is ∙ c.requires.unreset) (may_close first h polled closed) c.close.ensures) polled none c.requires.beat c.requires.flags c.requires.flags)
 
 pub run_waiting-requires : goal.run_waiting-requires
 run_waiting-requires g c =

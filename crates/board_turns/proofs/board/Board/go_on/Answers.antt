@@ -4,6 +4,7 @@ use Rattle.board_turns.specs.declared.board.Beat.TheVariants.{Motion}
 use Rattle.board_turns.proofs.Steps.{other_beat}
 use Rattle.board_turns.proofs.Nexts.{ready_now}
 use Rattle.board_turns.proofs.Owing.{none_left, owing_now}
+use Rattle.board_turns.proofs.Resetting.{unreset_between}
 use Rattle.board_turns.proofs.board.Board.go_on.Goals as goal
 
 pub publish_first-requires-clause-stands : goal.publish_first-requires-clause-stands
@@ -37,6 +38,7 @@ main-requires g c =
     record {
       stands = (r.0, first, r.2, r.3, other_beat first s Motion r.2 r.4.keeps, ready_now first s.beat r.2 r.4.rounds r.5 free (c.begins_with_piece.ensures.no first r.2 r.4.keeps c.if-begins_with_piece.false));
       «open» = c.requires.open;
+      unreset = unreset_between first s r.2 r.4.keeps r.5 free.unowed;
       beat = refl;
       flags = none;
     }

@@ -11,7 +11,7 @@ use Rattle.board_turns.proofs.board.Board.judge.Goals as goal
 
 pub limit-requires : goal.limit-requires
 limit-requires c =
-    let r = c.requires in let first = r.0 in
+    let r = c.requires.may in let first = r.0 in
     let o = c.judge_line.ensures.judged first r.1 r.2 r.3 in
     let e : c.todo.result ≡ todo.Halt = search rules in
     may_limit first c.args.self.now c.judge_line.new.self r.1 o.0 o.1 (subst (λ (t : Todo). IsTodo t c.judge_line.new.self.lines.left) e c.todo.ensures)
@@ -25,7 +25,7 @@ returns-then-eq-clause-begun c = λ first h k may.
     let next = subst (λ (t : Todo). IsTodo t d.lines.left) e c.todo.ensures in (
       o.0,
       became on_limit (limit_motion (motion_of first h)) ∷ began o.0 ∷ h,
-      begun_limited first s d c.limit.new.self h o.0 o.1 next (c.limit.ensures (plan_of h) (motion_of first h) (hand_of h) (given_of h) (machine_judged first s d h o.0 o.1)),
+      begun_limited first s d c.limit.new.self h o.0 o.1 c.requires.unreset next (c.limit.ensures (plan_of h) (motion_of first h) (hand_of h) (given_of h) (machine_judged first s d h o.0 o.1)),
       inr refl,
     )
 
@@ -35,4 +35,4 @@ returns-else-eq-clause-begun c = λ first h k may.
     let d = c.judge_line.new.self in
     let o = c.judge_line.ensures.judged first h k may in
     let other : c.todo.result ≡ todo.Halt → ⊥ = search rules in
-    (o.0, began o.0 ∷ h, begun first s d c.todo.result h o.0 o.1 c.todo.ensures other, inl refl)
+    (o.0, began o.0 ∷ h, begun first s d c.todo.result h o.0 o.1 c.requires.unreset c.todo.ensures other, inl refl)

@@ -1,4 +1,4 @@
-use Rattle.std.proofs.Common.{◌≡◌, ℕ, Bool, false, nat_eq, arith, subst}
+use Rattle.std.proofs.Common.{◌≡◌, ℕ, Bool, false, nat_eq, refl, arith, subst}
 use Rattle.std.proofs.lemmas.Bool.Decides.{nat_tests}
 use Rattle.board_rules.specs.Steps.{open_of, whole_of}
 use Rattle.board_turns.specs.Boards.{Reads}
@@ -19,6 +19,9 @@ returns-then-byte-eq10-clause-kept c = λ first h k may. record {
   flight = record { known = k.flight.known; found = k.flight.found; flies = k.flight.flies };
   owes_is = k.owes_is;
   reset_is = k.reset_is;
+  resetting_is = k.resetting_is;
+  prompt = (record { further = λ e. refl; waits = k.unready }, k.prompt);
+  unready = λ may. absurd (let e = may.between in cc);
   jogged_is = k.jogged_is;
   cut_is = k.cut_is;
   going = k.going;
@@ -39,6 +42,9 @@ returns-else-byte-eq10-clause-kept c = λ first h k may. record {
   flight = record { known = k.flight.known; found = k.flight.found; flies = k.flight.flies };
   owes_is = k.owes_is;
   reset_is = k.reset_is;
+  resetting_is = k.resetting_is;
+  prompt = (record { further = λ e. refl; waits = k.unready }, k.prompt);
+  unready = λ may. absurd (let e = may.between in cc);
   jogged_is = k.jogged_is;
   cut_is = k.cut_is;
   going = k.going;

@@ -19,6 +19,8 @@ returns c = (
       flight = record { known = 0; found = omega arith; flies = c.new-2.ensures };
       owes_is = refl;
       reset_is = refl;
+      resetting_is = refl;
+      prompt = tt;
       jogged_is = refl;
       cut_is = refl;
       going = λ e. refl;

@@ -5,6 +5,7 @@ use Rattle.board_turns.specs.declared.board.Flags.{Flags}
 use Rattle.board_turns.specs.Turning.{WorksOn}
 use Rattle.board_turns.proofs.Ends.{works_passed, goes_on_stopped, ready_stopped, needs_no_wait, still_open}
 use Rattle.board_turns.proofs.Nexts.{may_await_now}
+use Rattle.board_turns.proofs.Resetting.{awaits_no_reply}
 use Rattle.board_turns.proofs.board.Board.proceed.Goals as goal
 
 pub await_motion-requires-clause-stands : goal.await_motion-requires-clause-stands
@@ -66,3 +67,8 @@ do_next-requires-clause-stands g c =
 pub returns-then-not-awaits_motion-clause-goes_on : goal.returns-then-not-awaits_motion-clause-goes_on
 returns-then-not-awaits_motion-clause-goes_on g c = λ rest first h stands keeps ready goes.
     c.do_next.ensures.goes_on rest first h stands keeps ready goes (λ awaits. absurd (let e = c.if-not-awaits_motion.ensures ∙ ap awaits_motion keeps.lines.left_is ∙ awaits in cc))
+
+pub do_next-requires-2-clause-unreset : goal.do_next-requires-2-clause-unreset
+do_next-requires-2-clause-unreset g c = λ none.
+    ap (λ (b : Board). b.resetting) c.pass.ensures.same ∙ ap (λ (b : Board). b.resetting) c.in_default.ensures.same
+    ∙ c.requires.unreset (awaits_no_reply c.args.self.now.lines.left (sym c.if-not-awaits_motion.ensures))

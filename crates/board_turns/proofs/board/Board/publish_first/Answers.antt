@@ -3,7 +3,9 @@ use Rattle.board_turns.specs.declared.board.Board.{Board}
 use Rattle.board_turns.specs.Boards.{Rounds, TakesFlags, takes_no_word}
 use Rattle.board_turns.specs.Turning.{HasTried, WorksOn}
 use Rattle.board_turns.proofs.Ends.{works_on, works_passed, number_tried, may_try_first, ready_tried, sent_by, flags_tried, flags_passed}
+use Rattle.board_rules.specs.Turns.{tells_next}
 use Rattle.board_turns.proofs.Owing.{none_left, owing_tried}
+use Rattle.board_turns.proofs.Resetting.{unreset_between}
 use Rattle.board_turns.proofs.board.Board.publish_first.Goals as goal
 
 pub publish_next-published-requires : goal.publish_next-published-requires
@@ -62,6 +64,7 @@ main-requires g c =
     record {
       stands = (r.0, first, n.0, n.1, n.2, ready_tried first r.2 n.0 (subst (λ b. (Rounds first) b r.2) c.requires.beat r.4.rounds) r.5 free tried);
       «open» = subst (λ (b : Board). b.lines.left ≡ [] → b.closing ≡ false) (sym c.publish_next-published.ensures.same) c.requires.open;
+      unreset = subst (λ (b : Board). tells_next b.lines.left ≡ false → b.resetting ≡ false) (sym c.publish_next-published.ensures.same) (unreset_between first c.args.self.now r.2 r.4.keeps r.5 free.unowed);
       beat = ap (λ (b : Board). b.beat) c.publish_next-published.ensures.same ∙ c.requires.beat;
       flags = none;
     }

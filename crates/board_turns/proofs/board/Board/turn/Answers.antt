@@ -4,11 +4,12 @@ use Rattle.board_rules.specs.Steps.Step.{turned}
 use Rattle.board_turns.specs.declared.board.Flags.TheVariants as words
 use Rattle.board_turns.proofs.Ends.{flags_behind, turned_by, no_wait_keeps}
 use Rattle.board_turns.proofs.Numbers.{number_few}
+use Rattle.board_turns.proofs.Resetting.{begins_going}
 use Rattle.board_turns.proofs.board.Board.turn.Goals as goal
 
 pub returns-in-Wait-clause-goes_on : goal.returns-in-Wait-clause-goes_on
-returns-in-Wait-clause-goes_on g c = λ rest first h stands f between.
-    let n = c.work-turn.ensures.goes_on rest first h stands f between in
+returns-in-Wait-clause-goes_on g c = λ rest first h stands f between unready.
+    let n = c.work-turn.ensures.goes_on rest first h stands (begins_going first c.args.self.now h f unready) between in
     let t = c.work-turn.result in
     let board = c.work-turn.new.self in
     let r = turned_by first t c.args.self.now board words.Both h n.0 (ap (λ (x : Turn). flags_behind x board.flags) c.in-Wait.is) n.2 in
@@ -16,8 +17,8 @@ returns-in-Wait-clause-goes_on g c = λ rest first h stands f between.
 
 pub returns-in_default : goal.returns-in_default
 returns-in_default g c = record {
-  goes_on = λ rest first h stands f between.
-      (let n = c.work-turn.ensures.goes_on rest first h stands f between in
+  goes_on = λ rest first h stands f between unready.
+      (let n = c.work-turn.ensures.goes_on rest first h stands (begins_going first c.args.self.now h f unready) between in
       let t = c.work-turn.result in
       let board = c.work-turn.new.self in
       let r = turned_by first t c.args.self.now board board.flags h n.0 (no_wait_keeps t board.flags c.in_default.not-Wait) n.2 in
@@ -29,3 +30,6 @@ returns-in_default g c = record {
 
 pub returns-in-Wait-clause-few : goal.returns-in-Wait-clause-few
 returns-in-Wait-clause-few g c = λ first. number_few first c.args.self.now
+
+pub work-turn-requires : goal.work-turn-requires
+work-turn-requires g c = let r = c.requires.stands in let first = r.1 in record { stands = (r.0, first, r.2, r.3, begins_going first c.args.self.now r.2 r.4 r.6, r.5) }

@@ -1,4 +1,6 @@
-use Rattle.std.proofs.Common.{◌∙◌, sym}
+use Rattle.std.proofs.Common.{◌∙◌, sym, subst}
+use Rattle.controller.specs.declared.controller.Stage.{Stage}
+use Rattle.controller.specs.Boards.{rests_at}
 use Rattle.controller.proofs.Breaking.{over_goes_on, ended_goes_on, is_broken, few_in}
 use Rattle.controller.proofs.controller.Controller.turn.Goals as goal
 
@@ -19,3 +21,10 @@ end_run-requires-clause-stands g c =
 
 pub returns-in-Goes-clause-few : goal.returns-in-Goes-clause-few
 returns-in-Goes-clause-few g c = λ state. few_in state c.args.self.now
+
+pub carry_on-requires : goal.carry_on-requires
+carry_on-requires g c = record {
+  goes = c.in-Goes.is;
+  going = λ over. absurd (let rests = subst (λ (s : Stage). rests_at s c.args.self.now.board) (sym c.in-Goes.is) over in let e = sym c.if-is_over.false ∙ c.is_over.ensures.1 rests in cc);
+  stands = c.requires.stands;
+}
