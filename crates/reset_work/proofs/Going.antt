@@ -1,0 +1,78 @@
+-- How one step at the port, and the answer of its turn, go on with a reset's work.
+use Rattle.std.proofs.Common.{◌≡◌, ◌⊎◌, ◌≤◌, ◌<◌, Bool, true, false, ◌||◌, ◌∷◌, [], refl, sym, ap, subst, ◌∙◌}
+use Rattle.std.specs.List.{count_by, list_any}
+use Rattle.std.proofs.lemmas.List.Sums.{count_by-le-length}
+use Rattle.outside.specs.declared.On.{On}
+use Rattle.outside.specs.declared.Turn.{Turn}
+use Rattle.outside.specs.declared.Turn.TheVariants.{Did, Wait}
+use Rattle.run_rules.specs.declared.State.{State}
+use Rattle.step_line.specs.Logs.{NewestFirst}
+use Rattle.board_rules.specs.Ports.{PortStep, BoardLog}
+use Rattle.board_rules.specs.Steps.{Step, Journal}
+use Rattle.board_rules.specs.Steps.Step.{at_port, turned}
+use Rattle.board_rules.specs.Turns.{this_turn, moving}
+use Rattle.board_epochs.specs.Epochs.{Closed, AreEpochs, IsBounded, closed_log, last_line, log_behind, log_of, opening_behind}
+use Rattle.board_epochs.specs.Epochs.Epochs.{resets}
+use Rattle.board_epochs.specs.Work.{Work, MayWorkAt, MayEndWork, NeedsAt, WorkWaits, stage_of, goes_out, goes_on, requests_dropped, changes_dropped}
+use Rattle.board_epochs.specs.Work.Stage.{over}
+use Rattle.reset_work.specs.declared.reset.ResetWork.{ResetWork}
+use Rattle.reset_work.specs.declared.reset.Words.{Words}
+use Rattle.reset_work.specs.declared.reset.Words.TheVariants.{Both, None}
+use Rattle.reset_work.specs.Working.{IsWorking, WorksOn, AreDropped, number_of}
+
+-- where no word is left to be dropped, both were taken
+pub both_dropped : (words : Words) (w : Work) → words ≡ None → AreDropped words w → (changes_dropped w ≡ true) × (requests_dropped w ≡ true)
+both_dropped words w free dropped = subst (λ (ws : Words). AreDropped ws w) free dropped
+
+-- in a turn of one step one thing goes out at most
+pub one_out : (s : Step) (w : Work) → this_turn w ≡ [] → count_by goes_out (s ∷ this_turn w) ≤ 1
+one_out s w between = subst (λ (x : Work). count_by goes_out (s ∷ x) ≤ 1) (sym between) (count_by-le-length goes_out (s ∷ []))
+
+-- A step that is allowed, and the answer of its turn, go on with the work, which is not over.
+pub stepped : (state : State) (es : NewestFirst Closed) (h : Journal) (w : Work) (e : PortStep) (t : Turn)
+    → AreEpochs state (resets es h w)
+    → (stage_of (log_behind (closed_log es) h) w ≡ over → ⊥)
+    → MayWorkAt (last_line (opening_behind state es) h) (log_of (resets es h w)) e (stage_of (log_behind (closed_log es) h) w)
+    → MayEndWork (log_behind (closed_log es) h) t (at_port e ∷ w)
+    → IsBounded (e ∷ log_of (resets es h w))
+    → AreEpochs state (resets es h (turned t ∷ at_port e ∷ w))
+stepped state es h w e t c going may ends bounded = (
+  c.0,
+  record {
+    epoch = c.1.epoch;
+    may = c.1.may;
+    works = (ends, (λ worked. absurd (let n = worked.between in cc)), (may, (λ worked. going worked.done), c.1.works));
+  },
+  bounded,
+)
+
+-- a turn of one step, behind which the fields keep what was done
+pub turned_by : (is : BoardLog → Type 0) (t : Turn) (was new : ResetWork) (state : State) (es : NewestFirst Closed) (h : Journal) (w : Work) (e : PortStep)
+    → is (e ∷ log_of (resets es h w))
+    → AreEpochs state (resets es h (turned t ∷ at_port e ∷ w))
+    → IsWorking new (last_line (opening_behind state es) h) (log_behind (closed_log es) h) (turned t ∷ at_port e ∷ w)
+    → (t ≡ Did → (list_any moving (at_port e ∷ this_turn w) ≡ true) ⊎ (number_of new < number_of was))
+    → WorksOn is t was new state es h w
+turned_by is t was new state es h w e port epochs working moves = (
+  turned t ∷ at_port e ∷ w,
+  record { port = port; epochs = epochs; working = working; between = refl },
+  record { steps = at_port e ∷ []; are = refl; moves = moves },
+)
+
+-- a turn waits with one step that neither goes out nor goes on, once both words were taken
+pub waits : (before : BoardLog) (w : Work) (e : PortStep) (o : On) → this_turn w ≡ [] → goes_on (at_port e) ≡ false
+    → requests_dropped (at_port e ∷ w) ≡ requests_dropped w → changes_dropped (at_port e ∷ w) ≡ changes_dropped w
+    → (changes_dropped w ≡ true) × (requests_dropped w ≡ true) → NeedsAt o (stage_of before (at_port e ∷ w)) (at_port e ∷ w) → WorkWaits before o (at_port e ∷ w)
+waits before w e o between still requests changes dropped cause = record {
+  once = one_out (at_port e) w between;
+  cause = cause;
+  still = subst (λ (x : Work). list_any goes_on (at_port e ∷ x) ≡ false) (sym between) (ap (λ (b : Bool). b || false) still);
+  requests = requests ∙ dropped.1;
+  changes = changes ∙ dropped.0;
+}
+
+-- a turn that waits does so with both words to be dropped again
+pub waited : (is : BoardLog → Type 0) (t : Turn) (new : ResetWork) (o : On) (it : ResetWork) (state : State) (es : NewestFirst Closed) (h : Journal) (w : Work)
+    → t ≡ Wait o → new ≡ record it { words = Both } → WorksOn is (Wait o) it (record it { words = Both }) state es h w → WorksOn is t it new state es h w
+waited is t new o it state es h w turn words on =
+    subst (λ (u : Turn). WorksOn is u it new state es h w) (sym turn) (subst (λ (n : ResetWork). WorksOn is (Wait o) it n state es h w) (sym words) on)

@@ -1,0 +1,4 @@
+pub mod Going
+pub mod Dropping
+pub mod Waiting
+pub mod Passing
