@@ -2,3 +2,5 @@ pub mod Going
 pub mod Dropping
 pub mod Waiting
 pub mod Passing
+pub mod Halted
+pub mod Parting

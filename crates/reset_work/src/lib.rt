@@ -1,7 +1,9 @@
 //! The work of a reset: what a board does between two epochs.
 #![tactic(auto)]
 
+mod laws;
 mod reset;
 mod stages;
 
+pub use laws::{resets_begin_with_known_numbers, resets_halt_their_epoch, resets_part_epochs};
 pub use reset::ResetWork;

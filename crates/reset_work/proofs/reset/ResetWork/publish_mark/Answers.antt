@@ -2,7 +2,9 @@ use Rattle.std.proofs.Common.{◌∙◌, ap}
 use Rattle.board_epochs.proofs.Asking.{room_for_mark}
 use Rattle.board_epochs.specs.Epochs.{log_of}
 use Rattle.board_epochs.specs.Epochs.Epochs.{resets}
-use Rattle.reset_work.specs.Working.{stage_in}
+use Rattle.outside.specs.declared.On.TheVariants as on
+use Rattle.outside.specs.declared.Turn.TheVariants.{Wait}
+use Rattle.reset_work.specs.Working.{WorksOn, stage_in}
 use Rattle.reset_work.proofs.Passing.{may_publish, publish_mark}
 use Rattle.reset_work.proofs.reset.ResetWork.publish_mark.Goals as goal
 
@@ -21,7 +23,7 @@ returns-in-Ok-clause-goes_on g c rest state es h w b =
 pub returns-in-Err-clause-goes_on : goal.returns-in-Err-clause-goes_on
 returns-in-Err-clause-goes_on g c rest state es h w b =
     let full = c.in-Err.ensures.full rest _ b.port in
-    absurd (room_for_mark state es h w full.0 b.epochs (b.working.stage_is ∙ ap stage_in c.requires.stage) full.2)
+    absurd {A = WorksOn (g.P.BoardPort.stands c.publish.new.self rest) (Wait on.SegmentRoom) c.args.self.now c.args.self.now state es h w} (room_for_mark state es h w full.0 b.epochs (b.working.stage_is ∙ ap stage_in c.requires.stage) full.2)
 
 pub returns-in-Err-clause-answers : goal.returns-in-Err-clause-answers
 returns-in-Err-clause-answers g c =
