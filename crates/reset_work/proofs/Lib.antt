@@ -4,3 +4,5 @@ pub mod Waiting
 pub mod Passing
 pub mod Halted
 pub mod Parting
+pub mod Taped
+pub mod Begun

@@ -7,3 +7,6 @@ mod stages;
 
 pub use laws::{resets_begin_with_known_numbers, resets_halt_their_epoch, resets_part_epochs};
 pub use reset::ResetWork;
+
+#[cfg(test)]
+mod tests;
