@@ -78,6 +78,7 @@ drop_changes_again was is it word state es h w both b port =
       made_are = k.made it.ticks i.made_are;
     })
     (λ did. inr (let f = ap words_left both in omega (arith, f)))
+    (λ ends. absurd (k.going (ap stage_in ends)))
 
 pub drop_requests : (was is : BoardLog → Type 0) (it : ResetWork) (word : Exec) (state : State) (es : NewestFirst Closed) (h : Journal) (w : Work) → it.words ≡ Requests
     → IsBetween was it state es h w → (asks_report word ≡ true → HasFewReports (log_of (resets es h w))) → is (took_exec word ∷ log_of (resets es h w)) → WorksOn is Did it (record it { words = None }) state es h w
@@ -104,3 +105,4 @@ drop_requests was is it word state es h w one b few port =
       made_are = k.made it.ticks i.made_are;
     })
     (λ did. inr (let f = ap words_left one in omega (arith, f)))
+    (λ ends. absurd (k.going (ap stage_in ends)))

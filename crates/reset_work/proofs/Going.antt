@@ -1,5 +1,5 @@
 -- How one step at the port, and the answer of its turn, go on with a reset's work.
-use Rattle.std.proofs.Common.{◌≡◌, ◌⊎◌, ◌≤◌, ◌<◌, Bool, true, false, ◌||◌, ◌∷◌, [], refl, sym, ap, subst, ◌∙◌}
+use Rattle.std.proofs.Common.{◌≡◌, ◌⊎◌, ◌≤◌, ◌<◌, zero, suc, Bool, true, false, ◌||◌, ◌∷◌, [], refl, sym, ap, subst, ◌∙◌}
 use Rattle.std.specs.List.{count_by, list_any}
 use Rattle.std.proofs.lemmas.List.Sums.{count_by-le-length}
 use Rattle.outside.specs.declared.On.{On}
@@ -16,9 +16,11 @@ use Rattle.board_epochs.specs.Epochs.Epochs.{resets}
 use Rattle.board_epochs.specs.Work.{Work, MayWorkAt, MayEndWork, NeedsAt, WorkWaits, stage_of, goes_out, goes_on, requests_dropped, changes_dropped}
 use Rattle.board_epochs.specs.Work.Stage.{over}
 use Rattle.reset_work.specs.declared.reset.ResetWork.{ResetWork}
+use Rattle.reset_work.specs.declared.reset.Stage.{Stage}
+use Rattle.reset_work.specs.declared.reset.Stage.TheVariants.{DropsChanges, AwaitsMark, Stops, AwaitsHalt, Drops, AwaitsDone, Over}
 use Rattle.reset_work.specs.declared.reset.Words.{Words}
 use Rattle.reset_work.specs.declared.reset.Words.TheVariants.{Both, None}
-use Rattle.reset_work.specs.Working.{IsWorking, WorksOn, AreDropped, number_of}
+use Rattle.reset_work.specs.Working.{IsWorking, WorksOn, AreDropped, stage_in, number_left, number_of}
 
 -- where no word is left to be dropped, both were taken
 pub both_dropped : (words : Words) (w : Work) → words ≡ None → AreDropped words w → (changes_dropped w ≡ true) × (requests_dropped w ≡ true)
@@ -46,17 +48,29 @@ stepped state es h w e t c going may ends bounded = (
   bounded,
 )
 
+-- the last stage alone is that of a work that is over
+is_last : (s : Stage) → stage_in s ≡ over → s ≡ Over
+is_last Over e = refl
+is_last DropsChanges e = absurd cc
+is_last AwaitsMark e = absurd cc
+is_last (Stops left) e = absurd cc
+is_last (AwaitsHalt left) e = absurd cc
+is_last (Drops zero) e = absurd cc
+is_last (Drops (suc left)) e = absurd cc
+is_last AwaitsDone e = absurd cc
+
 -- a turn of one step, behind which the fields keep what was done
 pub turned_by : (is : BoardLog → Type 0) (t : Turn) (was new : ResetWork) (state : State) (es : NewestFirst Closed) (h : Journal) (w : Work) (e : PortStep)
     → is (e ∷ log_of (resets es h w))
     → AreEpochs state (resets es h (turned t ∷ at_port e ∷ w))
     → IsWorking new (last_line (opening_behind state es) h) (log_behind (closed_log es) h) (turned t ∷ at_port e ∷ w)
     → (t ≡ Did → (list_any moving (at_port e ∷ this_turn w) ≡ true) ⊎ (number_of new < number_of was))
+    → (new.stage ≡ Over → number_left < number_of was)
     → WorksOn is t was new state es h w
-turned_by is t was new state es h w e port epochs working moves = (
+turned_by is t was new state es h w e port epochs working moves ends = (
   turned t ∷ at_port e ∷ w,
   record { port = port; epochs = epochs; working = working; between = refl },
-  record { steps = at_port e ∷ []; are = refl; moves = moves },
+  record { steps = at_port e ∷ []; are = refl; moves = moves; ends = λ worked. ends (is_last new.stage (sym working.stage_is ∙ worked.done)) },
 )
 
 -- a turn waits with one step that neither goes out nor goes on, once both words were taken

@@ -26,7 +26,7 @@ use Rattle.reset_work.specs.declared.reset.ResetWork.{ResetWork}
 use Rattle.reset_work.specs.declared.reset.Stage.TheVariants.{DropsChanges, AwaitsMark, Stops, AwaitsHalt, Drops, AwaitsDone, Over}
 use Rattle.reset_work.specs.declared.reset.Words.{Words}
 use Rattle.reset_work.specs.declared.reset.Words.TheVariants.{None}
-use Rattle.reset_work.specs.Working.{IsBetween, WorksOn, AreDropped, AreLeft, bytes_left, mark_known, stage_in, turns_left}
+use Rattle.reset_work.specs.Working.{IsBetween, WorksOn, AreDropped, AreLeft, bytes_left, mark_known, stage_in, number_at}
 use Rattle.reset_work.proofs.Going.{both_dropped, one_out, stepped, turned_by}
 use Rattle.reset_work.proofs.Waiting.{published_then}
 
@@ -61,7 +61,8 @@ drop_changes was is it word state es h w at free b port =
       halted_is = i.halted_is;
       made_are = tt;
     })
-    (λ did. inr (let f = ap turns_left at in omega (arith, f)))
+    (λ did. inr (let f = ap number_at at in omega (arith, f)))
+    (λ ends. absurd cc)
 
 -- ---- the host's mark is new
 
@@ -95,7 +96,8 @@ found_new_mark was is it m bytes left state es h w at free fits new left_is b po
       halted_is = i.halted_is;
       made_are = tt;
     })
-    (λ did. inr (let f = ap turns_left at in omega (arith, f)))
+    (λ did. inr (let f = ap number_at at in omega (arith, f)))
+    (λ ends. absurd cc)
 
 -- ---- the pulse is told to stop
 
@@ -124,7 +126,8 @@ stop_pulse was is it left state es h w at free b port =
       halted_is = i.halted_is;
       made_are = tt;
     })
-    (λ did. inr (let f = ap turns_left at in omega (arith, f)))
+    (λ did. inr (let f = ap number_at at in omega (arith, f)))
+    (λ ends. absurd cc)
 
 -- ---- it has halted
 
@@ -153,7 +156,8 @@ found_halted was is it left done state es h w at free may b port =
       halted_is = refl;
       made_are = tt;
     })
-    (λ did. inr (let f = ap turns_left at in omega (arith, f)))
+    (λ did. inr (let f = ap number_at at in omega (arith, f)))
+    (λ ends. absurd cc)
 
 -- ---- bytes before the mark are dropped
 
@@ -212,6 +216,7 @@ drop_byte was is it left rest byte taken dropped_now state es h w at more free t
       made_are = tt;
     })
     (λ did. inl refl)
+    (λ ends. absurd cc)
 
 -- ---- the mark of the reset is published
 
@@ -248,6 +253,7 @@ publish_mark was is it state es h w at free b port =
       made_are = tt;
     })
     (λ did. inl refl)
+    (λ ends. absurd cc)
 
 -- ---- it is done
 
@@ -280,4 +286,5 @@ found_done was is it done state es h w at free may above b port =
       halted_is = i.halted_is;
       made_are = refl;
     })
-    (λ did. inr (let f = ap turns_left at in omega (arith, f)))
+    (λ did. inr (let f = ap number_at at in omega (arith, f)))
+    (λ ends. (let f = ap number_at at in omega (arith, f)))

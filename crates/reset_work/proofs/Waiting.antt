@@ -56,6 +56,7 @@ await_mark was is it m bytes state es h w at free fits old b port =
       made_are = subst (λ (s : Stage). AreMade (e ∷ l) s it.ticks) (sym at) tt;
     })
     (λ did. absurd cc)
+    (λ ends. absurd (let f = sym at ∙ ends in cc))
 
 -- ---- for the halt
 
@@ -86,6 +87,7 @@ await_halt was is it left state es h w at free b port =
       made_are = subst (λ (s : Stage). AreMade (e ∷ l) s it.ticks) (sym at) tt;
     })
     (λ did. absurd cc)
+    (λ ends. absurd (let f = sym at ∙ ends in cc))
 
 -- ---- for the mark of the reset
 
@@ -125,3 +127,4 @@ await_done was is it done state es h w at free may below b port =
       made_are = subst (λ (s : Stage). AreMade (e ∷ l) s it.ticks) (sym at) tt;
     })
     (λ did. absurd cc)
+    (λ ends. absurd (let f = sym at ∙ ends in cc))

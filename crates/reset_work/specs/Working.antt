@@ -1,5 +1,5 @@
 -- What the fields of a reset's work say of what was done, and what a turn of it adds.
-use Rattle.std.specs.Prelude.{◌≡◌, ◌⊎◌, ℕ, ◌+◌, ◌-◌, ◌*◌, ◌<◌, true, List, [], ◌∷◌, ◌++◌, length}
+use Rattle.std.specs.Prelude.{◌≡◌, ◌⊎◌, ℕ, ◌+◌, ◌-◌, ◌<◌, true, List, [], ◌∷◌, ◌++◌, length}
 use Rattle.std.specs.List.{list_any}
 use Rattle.outside.specs.declared.Turn.{Turn}
 use Rattle.outside.specs.declared.Turn.TheVariants.{Did, Wait}
@@ -15,7 +15,7 @@ use Rattle.board_rules.specs.Turns.{this_turn, moving}
 use Rattle.board_epochs.specs.Bounds.{loaded_mark}
 use Rattle.board_epochs.specs.Epochs.{Closed, AreEpochs, closed_log, last_line, log_behind, log_of, opening_behind}
 use Rattle.board_epochs.specs.Epochs.Epochs.{resets}
-use Rattle.board_epochs.specs.Work.{Work, Stage as WorkStage, stage_of, dropping, worked_in, halted_in, requests_dropped, changes_dropped}
+use Rattle.board_epochs.specs.Work.{Work, IsWorked, Stage as WorkStage, stage_of, dropping, worked_in, halted_in, requests_dropped, changes_dropped}
 use Rattle.board_epochs.specs.Work.Stage.{drops_changes, awaits_mark, stops, awaits_halt, awaits_done, over}
 use Rattle.reset_work.specs.declared.reset.ResetWork.{ResetWork}
 use Rattle.reset_work.specs.declared.reset.Stage.{Stage}
@@ -92,14 +92,18 @@ pub record IsBetween (stands : BoardLog → Type 0) (it : ResetWork) (state : St
 
 -- ---- a turn
 
--- how many turns lead at most to the next that moves anything, or to the end, where no word of flags is to be dropped
-abbrev pub turns_left : Stage → ℕ
-turns_left DropsChanges = 4
-turns_left AwaitsMark = 3
-turns_left (Stops left) = 2
-turns_left (AwaitsHalt left) = 1
-turns_left AwaitsDone = 1
-turns_left _ = 0
+-- so much of the work's number is left for what a board counts in the next epoch
+abbrev pub number_left : ℕ
+number_left = 32
+
+-- It falls from stage to stage, but where the last byte is dropped, or the mark is published: then something moves.
+abbrev pub number_at : Stage → ℕ
+number_at DropsChanges = 12
+number_at AwaitsMark = 9
+number_at (Stops left) = 6
+number_at (AwaitsHalt left) = 3
+number_at AwaitsDone = number_left + 1
+number_at _ = 0
 
 -- how many words are to be dropped before the work goes on
 abbrev pub words_left : Words → ℕ
@@ -109,17 +113,19 @@ words_left None = 0
 
 -- It falls in each turn that answers Did and moves nothing.
 abbrev pub number_of : ResetWork → ℕ
-number_of it = 3 * turns_left it.stage + words_left it.words
+number_of it = number_at it.stage + words_left it.words
 
--- A turn adds what was done in it, and its answer; where that is Did, something moves, or the work's number falls.
-pub record WorkTurned (t : Turn) (was is : ResetWork) (w next : Work) : Type 0 where
+-- A turn adds what was done in it, and its answer; where that is Did, something moves, or the work's number falls. Before the last turn
+-- it is above what is left of it.
+pub record WorkTurned (before : BoardLog) (t : Turn) (was is : ResetWork) (w next : Work) : Type 0 where
   pub steps : List Step
   pub are : next ≡ turned t ∷ (steps ++ w)
   pub moves : t ≡ Did → (list_any moving (this_turn (steps ++ w)) ≡ true) ⊎ (number_of is < number_of was)
+  pub ends : IsWorked before next → number_left < number_of was
 
 -- what a turn leaves: a longer work, and the port stands for it
 abbrev pub WorksOn : (stands : BoardLog → Type 0) → Turn → (was is : ResetWork) → State → NewestFirst Closed → Journal → Work → Type 0
-WorksOn stands t was is state es h w = (next : Work) × IsBetween stands is state es h next × WorkTurned t was is w next
+WorksOn stands t was is state es h w = (next : Work) × IsBetween stands is state es h next × WorkTurned (log_behind (closed_log es) h) t was is w next
 
 -- it did something, or waits for this
 abbrev pub IsAnswered : On → Turn → Type 0

@@ -70,6 +70,7 @@ impl ResetWork {
     /// host's mark that was worked last, 0 before the first, and `taken` counts the bytes taken in all epochs.
     pub fn begin(number: u32, worked: u32, taken: u32) -> ResetWork
         ensures begins { (before : BoardLog) → worked ≡ worked_in before → taken ≡ length (taken_in before) → IsWorking result number before [] }
+        ensures few { number_of result < 15 }
     {
         ResetWork {
             stage: Stage::DropsChanges,
