@@ -1,0 +1,206 @@
+-- A reset may keep the last line from its answer: the epoch is a course up to there all the same.
+use Rattle.std.proofs.Common.{◌≡◌, ◌⊎◌, inl, inr, ℕ, Bool, true, false, not, ◌&&◌, ◌||◌, cond, List, [], ◌∷◌, ◌++◌, map, nat_eq, nat_lt, length, refl, sym, ap, ◌∙◌, subst}
+use Rattle.flight.specs.Places.{end_from}
+use Rattle.line_words.proofs.Tests.{or_false}
+use Rattle.run_rules.specs.declared.State.{State}
+use Rattle.run_rules.specs.Locking.{unlocks, BecomesIn}
+use Rattle.run_rules.specs.Outcomes.{Before, Becomes, ByKept, ByDollar, ByCode, either, most_kept, refused}
+use Rattle.run_rules.specs.Work.{Outcome, has_moves}
+use Rattle.run_rules.proofs.Locking.{locked_still}
+use Rattle.run_texts.specs.Courses.{IsCut}
+use Rattle.run_texts.specs.Courses.Passed.{a_broken, a_cut}
+use Rattle.run_texts.specs.Sent.{Sent}
+use Rattle.run_texts.specs.Sent.Sent.{a_text}
+use Rattle.run_texts.specs.SoFar.{LeadsTo}
+use Rattle.status_report.specs.Answering.{is_answer}
+use Rattle.board_rules.specs.Conduct.{Conducted}
+use Rattle.board_rules.specs.Openings.{Opening}
+use Rattle.board_rules.specs.Ports.{PortStep}
+use Rattle.board_rules.specs.Ports.PortStep.{answered}
+use Rattle.board_rules.specs.Steps.{Step, Journal, open_of, lines_of, before_of, left_of, given_of, closed_tells}
+use Rattle.board_rules.specs.Steps.Step.{at_port, began, cut, closing}
+use Rattle.board_rules.specs.Turns.{is_limited, is_locked}
+use Rattle.board_rules.specs.Whole.{has_any_moved, comes_to_rest}
+use Rattle.board_rules.proofs.Alarms.{alarmed_is}
+use Rattle.board_rules.proofs.Causing.{becomes_now}
+use Rattle.board_rules.proofs.Standing.{Calm, Rested, calm_on, rested_is}
+use Rattle.board_rules.proofs.Tasks.{none_closed}
+use Rattle.board_epochs.specs.Epochs.{answered_state, point_of}
+use Rattle.epoch_courses.specs.Course.{unanswered_at, is_unanswered, passed_by, has_line_of, point_behind, point_broken}
+use Rattle.epoch_courses.proofs.Going.{leads_on}
+use Rattle.epoch_courses.proofs.Epoch.{locked_on, one_more, epoch_leads, cut_behind_line, cut_number}
+use Rattle.epoch_courses.proofs.Tells.{tells_alone, alone_told}
+use Rattle.epoch_courses.proofs.Answered.{BeginsNone, alone_on, all_answered}
+
+-- ---- what the line would have become
+
+-- it becomes what it does with no error of the motion, or it only tells something
+idle_dollar : (b : Before) (kept : List ℕ) (o : Outcome) → ByDollar true b kept o → ByDollar false b kept o ⊎ (tells_alone o.work ≡ true)
+idle_dollar b kept o (inl busy) = inr (ap (λ (x : Outcome). tells_alone x.work) busy.outcome)
+idle_dollar b kept o (inr served) = inl (inr served)
+
+idle_code : (b : Before) (kept : List ℕ) (o : Outcome) → ByCode true b kept o → ByCode false b kept o ⊎ (tells_alone o.work ≡ true)
+idle_code b kept o (inl shut) = inr (ap (λ (x : Outcome). tells_alone x.work) shut.outcome)
+idle_code b kept o (inr read) = inl (inr read)
+
+by_first : (t : Bool) (A B C D E : Type 0) → (A → C ⊎ E) → (B → D ⊎ E) → either t A B → either t C D ⊎ E
+by_first true A B C D E f g is = f is
+by_first false A B C D E f g is = g is
+
+idle_kept : (b : Before) (kept : List ℕ) (o : Outcome) → ByKept true b kept o → ByKept false b kept o ⊎ (tells_alone o.work ≡ true)
+idle_kept b [] o is = inl is
+idle_kept b (c ∷ cs) o is = by_first (nat_eq c 36) _ _ _ _ _ (idle_dollar b (c ∷ cs) o) (idle_code b (c ∷ cs) o) is
+
+idle : (b : Before) (kept : List ℕ) (o : Outcome) → Becomes true b kept o → Becomes false b kept o ⊎ (tells_alone o.work ≡ true)
+idle b kept o is = by_first (nat_lt most_kept (length kept)) _ _ _ _ _ (λ (long : o ≡ refused b 11). inl long) (idle_kept b kept o) is
+
+-- the line begun last
+abbrev pub BecomesIdle : Opening → Journal → Type 0
+BecomesIdle first [] = ⊥
+BecomesIdle first (began o ∷ h) = BecomesIn (is_locked first h) false (before_of first h) (open_of h) o
+BecomesIdle first (_ ∷ h) = BecomesIdle first h
+
+-- a reset may keep it from its answer: the motion does not refuse it, and the machine is not locked before it or behind it
+pub record IsBreakable (first : Opening) (h : Journal) : Type 0 where
+  pub becomes : BecomesIdle first h
+  pub locked : (point_broken first h).locked ≡ is_locked first h
+
+begun_breaks : (first : Opening) (h : Journal) (o : Outcome) → Conducted first (began o ∷ h) → IsBreakable first (began o ∷ h) ⊎ (tells_alone o.work ≡ true)
+begun_breaks first h o c = by_lock (is_locked first h) refl
+  where
+    by_idle : is_locked first h ≡ false → Becomes false (before_of first h) (open_of h) o ⊎ (tells_alone o.work ≡ true) → IsBreakable first (began o ∷ h) ⊎ (tells_alone o.work ≡ true)
+    by_idle free (inr told) = inr told
+    by_idle free (inl is) = inl (record {
+      becomes = subst (λ (t : Bool). BecomesIn t false (before_of first h) (open_of h) o) (sym free) is;
+      locked = free ∙ sym (locked_on (is_limited first.motion) (lines_of h) (open_of h) ∙ ap (λ (t : Bool). t && not (unlocks (open_of h))) free);
+    })
+
+    by_lock : (t : Bool) → is_locked first h ≡ t → IsBreakable first (began o ∷ h) ⊎ (tells_alone o.work ≡ true)
+    by_lock true locked =
+        let still = locked_still (before_of first h) (open_of h) o (subst (λ (t : Bool). BecomesIn t true (before_of first h) (open_of h) o) locked (becomes_now first h o c)) in
+        inr (ap tells_alone still.work ∙ alone_told still.said)
+    by_lock false free = by_idle free (idle (before_of first h) (open_of h) o (subst (λ (t : Bool). BecomesIn t true (before_of first h) (open_of h) o) free (becomes_now first h o c)))
+
+breaks_on : (first : Opening) (s : Step) (h : Journal) → BeginsNone s → IsBreakable first h → IsBreakable first (s ∷ h)
+breaks_on first (began o) h none b = absurd none
+breaks_on first _ h none b = record { becomes = b.becomes; locked = b.locked }
+
+either_on : (first : Opening) (s : Step) (h : Journal) → BeginsNone s → closed_tells (s ∷ h) ≡ [] → IsBreakable first h ⊎ (tells_alone (left_of first h) ≡ true) → IsBreakable first (s ∷ h) ⊎ (tells_alone (left_of first (s ∷ h)) ≡ true)
+either_on first s h none going (inl b) = inl (breaks_on first s h none b)
+either_on first s h none going (inr told) = inr (alone_on first s h none going told)
+
+second_is : (a b : Bool) → (not a && b) ≡ true → b ≡ true
+second_is true b is = absurd cc
+second_is false b is = is
+
+-- it was not before either
+pub was_unanswered : (e : PortStep) (was : Bool) → unanswered_at e was ≡ true → was ≡ true
+was_unanswered (answered r) was is = second_is (is_answer r) was is
+was_unanswered _ was is = is
+
+pub breakable_or_told : (first : Opening) (h : Journal) → Conducted first h → closed_tells h ≡ [] → is_unanswered h ≡ true → IsBreakable first h ⊎ (tells_alone (left_of first h) ≡ true)
+breakable_or_told first [] c going one = absurd cc
+breakable_or_told first (began o ∷ h) c going one = begun_breaks first h o c
+breakable_or_told first (at_port e ∷ h) c going one = either_on first (at_port e) h tt going (breakable_or_told first h c.1 going (was_unanswered e (is_unanswered h) one))
+breakable_or_told first (closing ∷ h) c going one = absurd (none_closed (closed_tells h) going)
+breakable_or_told first (s ∷ h) c going one = either_on first s h tt going (breakable_or_told first h c.1 going one)
+
+-- ---- where the course stands
+
+pub broken_free : (first : Opening) (h : Journal) → Conducted first h → is_unanswered h ≡ true → (point_broken first h).before.alarmed ≡ false
+broken_free first [] c one = absurd cc
+broken_free first (began o ∷ h) c one = alarmed_is first h ∙ c.0.calm
+broken_free first (at_port e ∷ h) c one = broken_free first h c.1 (was_unanswered e (is_unanswered h) one)
+broken_free first (_ ∷ h) c one = broken_free first h c.1 one
+
+pub broken_number : (first : Opening) (h : Journal) → Conducted first h → is_unanswered h ≡ true → (point_broken first h).before.number ≡ (before_of first h).number
+broken_number first [] c one = absurd cc
+broken_number first (began o ∷ h) c one = refl
+broken_number first (at_port e ∷ h) c one = broken_number first h c.1 (was_unanswered e (is_unanswered h) one)
+broken_number first (_ ∷ h) c one = broken_number first h c.1 one
+
+broken_line : (first : Opening) (h : Journal) → Conducted first h → is_unanswered h ≡ true → (point_broken first h).has_line ≡ has_line_of h
+broken_line first [] c one = absurd cc
+broken_line first (began o ∷ h) c one = refl
+broken_line first (cut k ∷ h) c one = refl
+broken_line first (at_port e ∷ h) c one = broken_line first h c.1 (was_unanswered e (is_unanswered h) one)
+broken_line first (_ ∷ h) c one = broken_line first h c.1 one
+
+broken_cut : (first : Opening) (h : Journal) (k : ℕ) → Conducted first (cut k ∷ h) → is_unanswered h ≡ true → IsCut (point_broken first h) k
+broken_cut first h k c one = record {
+  free = broken_free first h c.1 one;
+  number = broken_number first h c.1 one ∙ cut_number first h k c;
+  has_line = broken_line first h c.1 one ∙ cut_behind_line first h k c;
+}
+
+-- ---- the course
+
+pub broken_leads : (first : Opening) (h : Journal) (tail : List Sent) → Conducted first h → is_unanswered h ≡ true → BecomesIdle first h
+    → LeadsTo (point_of first) (map a_text (lines_of h) ++ tail) (passed_by true first h) (point_broken first h) tail
+broken_leads first [] tail c one is = absurd is
+broken_leads first (began o ∷ h) tail c one is =
+    subst (λ (ss : List Sent). LeadsTo (point_of first) ss (passed_by false first h ++ a_broken o ∷ []) (point_broken first (began o ∷ h)) tail) (sym (one_more (lines_of h) (open_of h) tail))
+    (leads_on (point_of first) (point_behind first h) (point_broken first (began o ∷ h)) _ (a_text (open_of h) ∷ tail) tail (passed_by false first h) (a_broken o ∷ [])
+    (epoch_leads first h (a_text (open_of h) ∷ tail) c.1)
+    (record { free = alarmed_is first h ∙ c.0.calm; answered = refl; becomes = is }, (refl, refl)))
+broken_leads first (cut k ∷ h) tail c one is =
+    leads_on (point_of first) (point_broken first h) (point_broken first (cut k ∷ h)) _ tail tail (passed_by true first h) (a_cut k (end_from first.place (given_of h)) ∷ [])
+    (broken_leads first h tail c.1 one is) (broken_cut first h k c one, (refl, refl))
+broken_leads first (at_port e ∷ h) tail c one is = broken_leads first h tail c.1 (was_unanswered e (is_unanswered h) one) is
+broken_leads first (_ ∷ h) tail c one is = broken_leads first h tail c.1 one is
+
+-- ---- what the answered lines leave
+
+-- the same settings and offsets
+pub record SameKept (s t : State) : Type 0 where
+  pub settings : s.settings ≡ t.settings
+  pub offsets : s.parser.offsets ≡ t.parser.offsets
+
+pub kept_answered : (first : Opening) (h : Journal) → Conducted first h → is_unanswered h ≡ false → SameKept (before_of first h).state (answered_state first h)
+kept_answered first [] c all = record { settings = refl; offsets = refl }
+kept_answered first (at_port (answered r) ∷ h) c all = by_answer (is_answer r) refl (λ (e : is_unanswered h ≡ false). kept_answered first h c.1 e)
+  where
+    by_answer : (t : Bool) → is_answer r ≡ t → (is_unanswered h ≡ false → SameKept (before_of first h).state (answered_state first h))
+        → SameKept (before_of first h).state (cond (is_answer r) (before_of first h).state (answered_state first h))
+    by_answer true is before = rw is (record { settings = refl; offsets = refl })
+    by_answer false is before = rw is (before (let e : (not false && is_unanswered h) ≡ false = ap (λ (t : Bool). not t && is_unanswered h) (sym is) ∙ all in e))
+kept_answered first (began o ∷ h) c all = absurd cc
+kept_answered first (cut k ∷ h) c all = let s = kept_answered first h c.1 all in record { settings = s.settings; offsets = s.offsets }
+kept_answered first (at_port e ∷ h) c all = kept_answered first h c.1 all
+kept_answered first (_ ∷ h) c all = kept_answered first h c.1 all
+
+pub kept_broken : (first : Opening) (h : Journal) → Conducted first h → is_unanswered h ≡ true → SameKept (point_broken first h).before.state (answered_state first h)
+kept_broken first [] c one = absurd cc
+kept_broken first (at_port (answered r) ∷ h) c one = by_answer (is_answer r) refl (λ (e : is_unanswered h ≡ true). kept_broken first h c.1 e)
+  where
+    by_answer : (t : Bool) → is_answer r ≡ t → (is_unanswered h ≡ true → SameKept (point_broken first h).before.state (answered_state first h))
+        → SameKept (point_broken first h).before.state (cond (is_answer r) (before_of first h).state (answered_state first h))
+    by_answer true is before = absurd (let e : (not true && is_unanswered h) ≡ true = ap (λ (t : Bool). not t && is_unanswered h) (sym is) ∙ one in cc)
+    by_answer false is before = rw is (before (second_is (is_answer r) (is_unanswered h) one))
+kept_broken first (began o ∷ h) c one = kept_answered first h c.1 (all_answered first h c.1 c.0.calm c.0.free)
+kept_broken first (cut k ∷ h) c one = let s = kept_broken first h c.1 one in record { settings = s.settings; offsets = s.offsets }
+kept_broken first (at_port e ∷ h) c one = kept_broken first h c.1 (was_unanswered e (is_unanswered h) one)
+kept_broken first (_ ∷ h) c one = kept_broken first h c.1 one
+
+-- ---- whether anything has moved
+
+calm_there : (first : Opening) (h : Journal) → left_of first h ≡ [] → Rested first h → Calm first h
+calm_there first h free (inl will) = absurd (let e = sym (ap comes_to_rest free) ∙ will in cc)
+calm_there first h free (inr calm) = calm
+
+begun_calm : (first : Opening) (h : Journal) (o : Outcome) → Conducted first (began o ∷ h) → ((has_moves o.work || (before_of first h).moved) || (before_of first h).jog_moved) ≡ false → Calm first (began o ∷ h)
+begun_calm first h o c still =
+    let two = or_false (has_moves o.work || (before_of first h).moved) (before_of first h).jog_moved still in
+    let one = or_false (has_moves o.work) (before_of first h).moved two.0 in
+    let none : has_any_moved (before_of first h) ≡ false = ap (λ (t : Bool). t || (before_of first h).jog_moved) one.1 ∙ two.1 in
+    calm_on first (began o) h c one.0 (calm_there first h c.0.free (rested_is first h c.1 c.0.going none))
+
+-- if the line moves nothing, and nothing has moved before it, the machine stands
+pub broken_calm : (first : Opening) (h : Journal) → Conducted first h → is_unanswered h ≡ true → has_any_moved (point_broken first h).before ≡ false → Calm first h
+broken_calm first [] c one still = absurd cc
+broken_calm first (began o ∷ h) c one still = begun_calm first h o c still
+broken_calm first (at_port e ∷ h) c one still = calm_on first (at_port e) h c tt (broken_calm first h c.1 (was_unanswered e (is_unanswered h) one) still)
+broken_calm first (s ∷ h) c one still = calm_on first s h c tt (broken_calm first h c.1 one still)
+
+pub answered_calm : (first : Opening) (h : Journal) → Conducted first h → closed_tells h ≡ [] → left_of first h ≡ [] → has_any_moved (before_of first h) ≡ false → Calm first h
+answered_calm first h c going free still = calm_there first h free (rested_is first h c going still)

@@ -1,0 +1,104 @@
+-- Epoch by epoch what a board has done is a course.
+use Rattle.std.proofs.Common.{◌≡◌, ℕ, Bool, true, false, cond, List, [], ◌∷◌, ◌++◌, map, refl, sym, ap, ◌∙◌, append_assoc, append-nil, subst}
+use Rattle.run_rules.specs.declared.State.{State}
+use Rattle.run_rules.specs.Lines.{HasNoLf, whole_lines, onto_line}
+use Rattle.run_rules.specs.Outcomes.{either}
+use Rattle.run_texts.specs.Courses.{Passed, Follows, IsLeft}
+use Rattle.run_texts.specs.Courses.Passed.{a_reset}
+use Rattle.run_texts.specs.Points.{Point, opening}
+use Rattle.run_texts.specs.Sent.{Sent, behind_reset}
+use Rattle.run_texts.specs.Sent.Sent.{a_text, a_stop}
+use Rattle.run_texts.specs.SoFar.{LeadsTo}
+use Rattle.run_texts.proofs.SoFar.{goes_on_from}
+use Rattle.step_line.specs.Logs.{NewestFirst}
+use Rattle.board_rules.specs.Conduct.{IsFinished}
+use Rattle.board_rules.specs.Openings.{Opening}
+use Rattle.board_rules.specs.Ports.{taken_in}
+use Rattle.board_rules.specs.Steps.{Journal, port_log, lines_of, open_of}
+use Rattle.board_rules.proofs.Closing.{spent}
+use Rattle.board_rules.proofs.Lines.{bytes_are}
+use Rattle.board_epochs.specs.Epochs.{Closed, Epochs, AreClosed, AreEpochs, IsEpoch, next_opening, opening_behind, point_of, reset_of, ticks_made}
+use Rattle.board_epochs.specs.Epochs.Epochs.{goes, resets}
+use Rattle.board_epochs.specs.Resets.{MayReset}
+use Rattle.board_epochs.specs.Work.{Work}
+use Rattle.epoch_courses.specs.Course.{passed_so_far, passed_at_reset, closed_course, course_of, point_behind, point_at_reset, stands_at}
+use Rattle.epoch_courses.specs.Taken.{texts_in, bytes_with, closed_texts, sent_by, bytes_behind, left_by}
+use Rattle.epoch_courses.proofs.Epoch.{epoch_leads}
+use Rattle.epoch_courses.proofs.Going.{leads_on}
+use Rattle.epoch_courses.proofs.Resets.{comes_there, next_there, is_reset}
+use Rattle.epoch_courses.proofs.Texts.{texts_behind, texts_now, behind_them}
+
+-- what was taken with a reset, line by line
+closed_by_lines : (first : Opening) (h : Journal) (w : Work) (before more : List Sent) → IsEpoch first h
+    → (before ++ (texts_in (bytes_with h w) ++ a_stop ∷ [])) ++ more ≡ before ++ (map a_text (lines_of h) ++ (texts_in (bytes_behind h ++ taken_in (port_log w)) ++ a_stop ∷ more))
+closed_by_lines first h w before more is =
+    let left = texts_in (bytes_behind h ++ taken_in (port_log w)) in
+    append_assoc before (texts_in (bytes_with h w) ++ a_stop ∷ []) more
+    ∙ ap (λ (ss : List Sent). before ++ ss) (append_assoc (texts_in (bytes_with h w)) (a_stop ∷ []) more
+    ∙ ap (λ (ss : List Sent). ss ++ a_stop ∷ more) (texts_behind first h (taken_in (port_log w)) is.conducted)
+    ∙ append_assoc (map a_text (lines_of h)) left (a_stop ∷ more))
+
+-- an epoch that a reset has ended
+closed_one : (base : ℕ) (first : Opening) (h : Journal) (w : Work) (more : List Sent) → IsEpoch first h → MayReset first h
+    → LeadsTo (point_of first) (map a_text (lines_of h) ++ (texts_in (bytes_behind h ++ taken_in (port_log w)) ++ a_stop ∷ more)) (passed_at_reset first h ++ a_reset (reset_of base first h w) ∷ [])
+    (point_of (next_opening base first h w)) more
+closed_one base first h w more is may =
+    let waiting = whole_lines (bytes_behind h ++ taken_in (port_log w)) in
+    let tail : List Sent = map a_text waiting ++ a_stop ∷ more in
+    let there = comes_there first h tail is may in
+    leads_on (point_of first) (point_at_reset first h) (point_of (next_opening base first h w)) _ tail more (passed_at_reset first h) (a_reset (reset_of base first h w) ∷ [])
+    there.leads
+    (is_reset base first h w (point_at_reset first h) more is may there.found, (sym (next_there base first h w (point_at_reset first h) there.found), sym (behind_them waiting more)))
+
+pub closed_lead : (state : State) (es : NewestFirst Closed) (more : List Sent) → AreClosed state es → LeadsTo (opening state) (closed_texts es ++ more) (closed_course state es) (point_of (opening_behind state es)) more
+closed_lead state [] more c = (refl, refl)
+closed_lead state (e ∷ es) more c =
+    let first = opening_behind state es in
+    let is = c.0.resetting.epoch in
+    let tail : List Sent = map a_text (lines_of e.journal) ++ (texts_in (bytes_behind e.journal ++ taken_in (port_log e.work)) ++ a_stop ∷ more) in
+    subst (λ (ss : List Sent). LeadsTo (opening state) ss (closed_course state (e ∷ es)) (point_of (opening_behind state (e ∷ es))) more) (sym (closed_by_lines first e.journal e.work (closed_texts es) more is))
+    (leads_on (opening state) (point_of first) (point_of (opening_behind state (e ∷ es))) _ tail more (closed_course state es) (passed_at_reset first e.journal ++ a_reset (reset_of (ticks_made es) first e.journal e.work) ∷ [])
+    (closed_lead state es tail c.1)
+    (closed_one (ticks_made es) first e.journal e.work more is c.0.resetting.may))
+
+pub epochs_lead : (state : State) (es : Epochs) → AreEpochs state es → LeadsTo (opening state) (sent_by es) (course_of state es) (stands_at state es) (left_by es)
+epochs_lead state (goes es h) c =
+    let first = opening_behind state es in
+    let tail : List Sent = map a_text (lines_of h) ++ texts_in (bytes_behind h) in
+    subst (λ (ss : List Sent). LeadsTo (opening state) (closed_texts es ++ ss) (course_of state (goes es h)) (point_behind first h) (texts_in (bytes_behind h))) (sym (texts_now first h c.1.conducted))
+    (leads_on (opening state) (point_of first) (point_behind first h) _ tail (texts_in (bytes_behind h)) (closed_course state es) (passed_so_far first h)
+    (closed_lead state es tail c.0) (epoch_leads first h (texts_in (bytes_behind h)) c.1.conducted))
+epochs_lead state (resets es h w) c =
+    let first = opening_behind state es in
+    let left = texts_in (bytes_behind h ++ taken_in (port_log w)) in
+    let tail : List Sent = map a_text (lines_of h) ++ left in
+    subst (λ (ss : List Sent). LeadsTo (opening state) (closed_texts es ++ ss) (course_of state (resets es h w)) (point_at_reset first h) left) (sym (texts_behind first h (taken_in (port_log w)) c.1.epoch.conducted))
+    (leads_on (opening state) (point_of first) (point_at_reset first h) _ tail left (closed_course state es) (passed_at_reset first h)
+    (closed_lead state es tail c.0) (comes_there first h left c.1.epoch c.1.may).leads)
+
+-- ---- a run that is closed
+
+no_lines : (xs : List ℕ) → HasNoLf xs → whole_lines xs ≡ []
+no_lines [] none = refl
+no_lines (c ∷ cs) none = rw none.0 (ap (onto_line c) (no_lines cs none.1))
+
+none_left : (first : Opening) (h : Journal) → IsEpoch first h → IsFinished first h → texts_in (bytes_behind h) ≡ []
+none_left first h is over =
+    let done = spent first h is.conducted over in
+    ap (λ (whole : Bool). texts_in (open_of h ++ cond whole (10 ∷ []) [])) done.whole ∙ ap texts_in (append-nil (open_of h)) ∙ ap (λ (ls : List (List ℕ)). map a_text ls) (no_lines (open_of h) (bytes_are first h is.conducted).partial)
+
+nothing_left : (p : Point) → p.unanswered ≡ false → IsLeft p []
+nothing_left p answered = record { answered = answered; rest = go p.before.alarmed }
+  where
+    go : (alarmed : Bool) → either alarmed (behind_reset [] ≡ []) (◌≡◌ {A = List Sent} [] [])
+    go true = refl
+    go false = refl
+
+pub epochs_follow : (state : State) (es : NewestFirst Closed) (h : Journal) → AreEpochs state (goes es h) → IsFinished (opening_behind state es) h
+    → Follows (opening state) (sent_by (goes es h)) (course_of state (goes es h)) (point_behind (opening_behind state es) h)
+epochs_follow state es h c over =
+    let first = opening_behind state es in
+    let leads : LeadsTo (opening state) (sent_by (goes es h)) (course_of state (goes es h)) (point_behind first h) [] =
+    subst (λ (ss : List Sent). LeadsTo (opening state) (sent_by (goes es h)) (course_of state (goes es h)) (point_behind first h) ss) (none_left first h c.1 over) (epochs_lead state (goes es h) c) in
+    subst (λ (ps : List Passed). Follows (opening state) (sent_by (goes es h)) ps (point_behind first h)) (append-nil (course_of state (goes es h)))
+    (goes_on_from (opening state) (point_behind first h) (point_behind first h) (sent_by (goes es h)) [] (course_of state (goes es h)) [] leads (refl, nothing_left (point_behind first h) refl))

@@ -1,0 +1,9 @@
+pub mod Going
+pub mod Texts
+pub mod Epoch
+pub mod Tells
+pub mod Answered
+pub mod Broken
+pub mod Locked
+pub mod Resets
+pub mod Chain

@@ -1,0 +1,8 @@
+use Rattle.epoch_courses.proofs.Chain.{epochs_lead, epochs_follow}
+use Rattle.epoch_courses.proofs.laws.epochs_are_a_course.Goals as goal
+
+pub returns-clause-leads : goal.returns-clause-leads
+returns-clause-leads c = epochs_lead
+
+pub returns-clause-follows : goal.returns-clause-follows
+returns-clause-follows c = epochs_follow

@@ -1,0 +1,6 @@
+//! What a board has done over its epochs is a course of the texts.
+#![tactic(auto)]
+
+mod laws;
+
+pub use laws::epochs_are_a_course;
