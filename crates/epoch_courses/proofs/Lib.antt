@@ -7,3 +7,5 @@ pub mod Broken
 pub mod Locked
 pub mod Resets
 pub mod Chain
+pub mod Telling
+pub mod Told

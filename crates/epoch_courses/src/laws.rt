@@ -1,10 +1,14 @@
 //! Laws of the courses of boards.
 
-ghost use Rattle.std.specs.Prelude.{◌≡◌, []};
+ghost use Rattle.std.specs.Prelude.{◌≡◌, List, [], ◌∷◌, ◌++◌};
 ghost use Rattle.run_rules.specs.declared.State.{State};
 ghost use Rattle.run_texts.specs.Courses.{Follows};
 ghost use Rattle.run_texts.specs.Points.{opening};
+ghost use Rattle.run_texts.specs.Fronts.{BeginsWith};
 ghost use Rattle.run_texts.specs.SoFar.{LeadsTo};
+ghost use Rattle.run_texts.specs.Told.{IsTold, told_in};
+ghost use Rattle.status_report.specs.Answering.{without_reports};
+ghost use Rattle.status_report.specs.declared.Reply.{Reply as AnyReply};
 ghost use Rattle.step_line.specs.Logs.{NewestFirst};
 ghost use Rattle.board_rules.specs.Conduct.{IsFinished};
 ghost use Rattle.board_rules.specs.Steps.{Journal};
@@ -12,6 +16,7 @@ ghost use Rattle.board_epochs.specs.Epochs.{Closed, Epochs, AreEpochs, opening_b
 ghost use Rattle.board_epochs.specs.Epochs.Epochs.{goes, resets};
 ghost use Rattle.epoch_courses.specs.Course.{course_of, stands_at, point_behind};
 ghost use Rattle.epoch_courses.specs.Taken.{sent_by, left_by};
+ghost use Rattle.epoch_courses.specs.Told.{answered_by, without_byes, untold_by, closing_by};
 
 /// What a board has done over its epochs is a course of what it has taken: line by line, cut by cut, reset by reset. It
 /// leads to where the board stands, and what is left is what it has taken and not begun. Once the run is closed and all is
@@ -20,4 +25,16 @@ pub fn epochs_are_a_course()
     ensures leads { (state : State) (es : Epochs) → AreEpochs state es → LeadsTo (opening state) (sent_by es) (course_of state es) (stands_at state es) (left_by es) }
     ensures follows { (state : State) (es : NewestFirst Closed) (h : Journal) → AreEpochs state (goes es h) → IsFinished (opening_behind state es) h →
         Follows (opening state) (sent_by (goes es h)) (course_of state (goes es h)) (point_behind (opening_behind state es) h) }
+{}
+
+/// What a board has answered over its epochs, reports left out, and what it is to tell yet, is the banner, what its course
+/// tells, and Bye once the run is being closed. So what is answered is at any time a front of what the course tells; and once
+/// all is done it is all of it: a console that begins with the banner tells the course.
+pub fn epochs_tell_their_course()
+    ensures told { (state : State) (es : Epochs) → AreEpochs state es → AnyReply.Banner ∷ (told_in (course_of state es) ++ closing_by es) ≡ without_reports (answered_by es) ++ untold_by state es }
+    ensures finished { (state : State) (es : NewestFirst Closed) (h : Journal) → AreEpochs state (goes es h) → IsFinished (opening_behind state es) h →
+        without_reports (answered_by (goes es h)) ≡ AnyReply.Banner ∷ (told_in (course_of state (goes es h)) ++ AnyReply.Bye ∷ []) }
+    ensures so_far { (state : State) (es : Epochs) → AreEpochs state es → BeginsWith (AnyReply.Banner ∷ told_in (course_of state es)) (without_reports (without_byes (answered_by es))) }
+    ensures console { (state : State) (es : NewestFirst Closed) (h : Journal) (behind : List AnyReply) → AreEpochs state (goes es h) → IsFinished (opening_behind state es) h →
+        without_byes (answered_by (goes es h)) ≡ AnyReply.Banner ∷ behind → IsTold (course_of state (goes es h)) (AnyReply.Banner ∷ behind) }
 {}

@@ -3,4 +3,4 @@
 
 mod laws;
 
-pub use laws::epochs_are_a_course;
+pub use laws::{epochs_are_a_course, epochs_tell_their_course};
