@@ -9,3 +9,7 @@ pub mod Resets
 pub mod Chain
 pub mod Telling
 pub mod Told
+pub mod Uncut
+pub mod Heads
+pub mod Drives
+pub mod Asking

@@ -1,3 +1,4 @@
 pub mod Taken
 pub mod Course
 pub mod Told
+pub mod Drives

@@ -1,8 +1,11 @@
 //! Laws of the courses of boards.
 
-ghost use Rattle.std.specs.Prelude.{◌≡◌, List, [], ◌∷◌, ◌++◌};
+ghost use Rattle.std.specs.Prelude.{◌≡◌, true, false, List, [], ◌∷◌, ◌++◌};
+ghost use Rattle.flight.specs.Places.{origin};
+ghost use Rattle.planner_runs.specs.Runs.{fresh_plan};
 ghost use Rattle.run_rules.specs.declared.State.{State};
 ghost use Rattle.run_texts.specs.Courses.{Follows};
+ghost use Rattle.run_texts.specs.Parts.{parts_of};
 ghost use Rattle.run_texts.specs.Points.{opening};
 ghost use Rattle.run_texts.specs.Fronts.{BeginsWith};
 ghost use Rattle.run_texts.specs.SoFar.{LeadsTo};
@@ -15,6 +18,7 @@ ghost use Rattle.board_rules.specs.Steps.{Journal};
 ghost use Rattle.board_epochs.specs.Epochs.{Closed, Epochs, AreEpochs, opening_behind};
 ghost use Rattle.board_epochs.specs.Epochs.Epochs.{goes, resets};
 ghost use Rattle.epoch_courses.specs.Course.{course_of, stands_at, point_behind};
+ghost use Rattle.epoch_courses.specs.Drives.{AreDriven, drives_of};
 ghost use Rattle.epoch_courses.specs.Taken.{sent_by, left_by};
 ghost use Rattle.epoch_courses.specs.Told.{answered_by, without_byes, untold_by, closing_by};
 
@@ -37,4 +41,15 @@ pub fn epochs_tell_their_course()
     ensures so_far { (state : State) (es : Epochs) → AreEpochs state es → BeginsWith (AnyReply.Banner ∷ told_in (course_of state es)) (without_reports (without_byes (answered_by es))) }
     ensures console { (state : State) (es : NewestFirst Closed) (h : Journal) (behind : List AnyReply) → AreEpochs state (goes es h) → IsFinished (opening_behind state es) h →
         without_byes (answered_by (goes es h)) ≡ AnyReply.Banner ∷ behind → IsTold (course_of state (goes es h)) (AnyReply.Banner ∷ behind) }
+{}
+
+/// Part by part, what the lines of the course ask for is what the planner was given, and what was left to ask. Each part is a
+/// planner run from where nothing was left to run: a cut comes where the machine stands, and leaves out ticks of jogs alone;
+/// a reset takes away what is left, at any speed, and whichever first pieces are out their heads are legal up to its mark;
+/// and once all is done, all of the last part was run, or an alarm has stopped the machine. Each part begins with the plan,
+/// and a part behind a cut at the place, that the one before has left.
+pub fn epochs_ask_for_parts()
+    ensures parts { (state : State) (es : Epochs) → AreEpochs state es → AreDriven false origin fresh_plan (parts_of (course_of state es)) (drives_of state es) }
+    ensures finished { (state : State) (es : NewestFirst Closed) (h : Journal) → AreEpochs state (goes es h) → IsFinished (opening_behind state es) h →
+        AreDriven true origin fresh_plan (parts_of (course_of state (goes es h))) (drives_of state (goes es h)) }
 {}
