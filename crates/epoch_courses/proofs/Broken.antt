@@ -1,5 +1,5 @@
 -- A reset may keep the last line from its answer: the epoch is a course up to there all the same.
-use Rattle.std.proofs.Common.{◌≡◌, ◌⊎◌, inl, inr, ℕ, Bool, true, false, not, ◌&&◌, ◌||◌, cond, List, [], ◌∷◌, ◌++◌, map, nat_eq, nat_lt, length, refl, sym, ap, ◌∙◌, subst}
+use Rattle.std.proofs.Common.{◌≡◌, ◌⊎◌, inl, inr, ℕ, ◌+◌, ◌≤◌, Bool, true, false, not, ◌&&◌, ◌||◌, cond, List, [], ◌∷◌, ◌++◌, map, nat_eq, nat_lt, length, refl, sym, ap, ◌∙◌, subst}
 use Rattle.flight.specs.Places.{end_from}
 use Rattle.line_words.proofs.Tests.{or_false}
 use Rattle.run_rules.specs.declared.State.{State}
@@ -7,17 +7,18 @@ use Rattle.run_rules.specs.Locking.{unlocks, BecomesIn}
 use Rattle.run_rules.specs.Outcomes.{Before, Becomes, ByKept, ByDollar, ByCode, either, most_kept, refused}
 use Rattle.run_rules.specs.Work.{Outcome, has_moves}
 use Rattle.run_rules.proofs.Locking.{locked_still}
-use Rattle.run_texts.specs.Courses.{IsCut}
-use Rattle.run_texts.specs.Courses.Passed.{a_broken, a_cut}
+use Rattle.run_texts.specs.Courses.{behind_cut}
+use Rattle.run_texts.specs.Courses.Passed.{a_broken}
+use Rattle.run_texts.specs.Points.{behind_broken}
 use Rattle.run_texts.specs.Sent.{Sent}
 use Rattle.run_texts.specs.Sent.Sent.{a_text}
 use Rattle.run_texts.specs.SoFar.{LeadsTo}
 use Rattle.status_report.specs.Answering.{is_answer}
 use Rattle.board_rules.specs.Conduct.{Conducted}
-use Rattle.board_rules.specs.Openings.{Opening}
+use Rattle.board_rules.specs.Openings.{Opening, before_first}
 use Rattle.board_rules.specs.Ports.{PortStep}
 use Rattle.board_rules.specs.Ports.PortStep.{answered}
-use Rattle.board_rules.specs.Steps.{Step, Journal, open_of, lines_of, before_of, left_of, given_of, closed_tells}
+use Rattle.board_rules.specs.Steps.{known_of, Step, Journal, open_of, lines_of, before_of, left_of, given_of, closed_tells}
 use Rattle.board_rules.specs.Steps.Step.{at_port, began, cut, closing}
 use Rattle.board_rules.specs.Turns.{is_limited, is_locked}
 use Rattle.board_rules.specs.Whole.{has_any_moved, comes_to_rest}
@@ -26,9 +27,10 @@ use Rattle.board_rules.proofs.Causing.{becomes_now}
 use Rattle.board_rules.proofs.Standing.{Calm, Rested, calm_on, rested_is}
 use Rattle.board_rules.proofs.Tasks.{none_closed}
 use Rattle.board_epochs.specs.Epochs.{answered_state, point_of}
-use Rattle.epoch_courses.specs.Course.{unanswered_at, is_unanswered, passed_by, has_line_of, point_behind, point_broken}
+use Rattle.epoch_courses.specs.Course.{unanswered_at, is_unanswered, is_made, passed_by, before_by, point_behind, point_broken}
 use Rattle.epoch_courses.proofs.Going.{leads_on}
-use Rattle.epoch_courses.proofs.Epoch.{locked_on, one_more, epoch_leads, cut_behind_line, cut_number}
+use Rattle.epoch_courses.proofs.Epoch.{SameKept, SameBut, same_but, same_before, locked_on, one_more, epoch_leads, less_known}
+use Rattle.epoch_courses.proofs.Made.{made_before_line}
 use Rattle.epoch_courses.proofs.Tells.{tells_alone, alone_told}
 use Rattle.epoch_courses.proofs.Answered.{BeginsNone, alone_on, all_answered}
 
@@ -63,7 +65,7 @@ BecomesIdle first (_ ∷ h) = BecomesIdle first h
 -- a reset may keep it from its answer: the motion does not refuse it, and the machine is not locked before it or behind it
 pub record IsBreakable (first : Opening) (h : Journal) : Type 0 where
   pub becomes : BecomesIdle first h
-  pub locked : (point_broken first h).locked ≡ is_locked first h
+  pub locked : (made : ℕ) → (point_broken made first h).locked ≡ is_locked first h
 
 begun_breaks : (first : Opening) (h : Journal) (o : Outcome) → Conducted first (began o ∷ h) → IsBreakable first (began o ∷ h) ⊎ (tells_alone o.work ≡ true)
 begun_breaks first h o c = by_lock (is_locked first h) refl
@@ -72,7 +74,7 @@ begun_breaks first h o c = by_lock (is_locked first h) refl
     by_idle free (inr told) = inr told
     by_idle free (inl is) = inl (record {
       becomes = subst (λ (t : Bool). BecomesIn t false (before_of first h) (open_of h) o) (sym free) is;
-      locked = free ∙ sym (locked_on (is_limited first.motion) (lines_of h) (open_of h) ∙ ap (λ (t : Bool). t && not (unlocks (open_of h))) free);
+      locked = λ made. free ∙ sym (locked_on (is_limited first.motion) (lines_of h) (open_of h) ∙ ap (λ (t : Bool). t && not (unlocks (open_of h))) free);
     })
 
     by_lock : (t : Bool) → is_locked first h ≡ t → IsBreakable first (began o ∷ h) ⊎ (tells_alone o.work ≡ true)
@@ -81,8 +83,13 @@ begun_breaks first h o c = by_lock (is_locked first h) refl
         inr (ap tells_alone still.work ∙ alone_told still.said)
     by_lock false free = by_idle free (idle (before_of first h) (open_of h) o (subst (λ (t : Bool). BecomesIn t true (before_of first h) (open_of h) o) free (becomes_now first h o c)))
 
+locked_by : (t : Bool) (made : ℕ) (first : Opening) (h : Journal) → (cond t (behind_cut (end_from first.place (given_of h)) (point_broken made first h)) (point_broken made first h)).locked ≡ (point_broken made first h).locked
+locked_by true made first h = refl
+locked_by false made first h = refl
+
 breaks_on : (first : Opening) (s : Step) (h : Journal) → BeginsNone s → IsBreakable first h → IsBreakable first (s ∷ h)
 breaks_on first (began o) h none b = absurd none
+breaks_on first (cut k) h none b = record { becomes = b.becomes; locked = λ made. locked_by (is_made made h) made first h ∙ b.locked made }
 breaks_on first _ h none b = record { becomes = b.becomes; locked = b.locked }
 
 either_on : (first : Opening) (s : Step) (h : Journal) → BeginsNone s → closed_tells (s ∷ h) ≡ [] → IsBreakable first h ⊎ (tells_alone (left_of first h) ≡ true) → IsBreakable first (s ∷ h) ⊎ (tells_alone (left_of first (s ∷ h)) ≡ true)
@@ -107,80 +114,104 @@ breakable_or_told first (s ∷ h) c going one = either_on first s h tt going (br
 
 -- ---- where the course stands
 
-pub broken_free : (first : Opening) (h : Journal) → Conducted first h → is_unanswered h ≡ true → (point_broken first h).before.alarmed ≡ false
-broken_free first [] c one = absurd cc
-broken_free first (began o ∷ h) c one = alarmed_is first h ∙ c.0.calm
-broken_free first (at_port e ∷ h) c one = broken_free first h c.1 (was_unanswered e (is_unanswered h) one)
-broken_free first (_ ∷ h) c one = broken_free first h c.1 one
+-- a line that is broken leaves what the lines before it have left, and its number
+abbrev left_behind : ℕ → Opening → Journal → Before
+left_behind made first [] = before_first first
+left_behind made first (began o ∷ h) = (behind_broken (point_behind made first h) o).before
+left_behind made first (_ ∷ h) = left_behind made first h
 
-pub broken_number : (first : Opening) (h : Journal) → Conducted first h → is_unanswered h ≡ true → (point_broken first h).before.number ≡ (before_of first h).number
-broken_number first [] c one = absurd cc
-broken_number first (began o ∷ h) c one = refl
-broken_number first (at_port e ∷ h) c one = broken_number first h c.1 (was_unanswered e (is_unanswered h) one)
-broken_number first (_ ∷ h) c one = broken_number first h c.1 one
+broken_so : (made : ℕ) (first : Opening) (h : Journal) → SameBut (point_broken made first h).before (left_behind made first h)
+broken_so made first [] = record { number = refl; kept = record { settings = refl; offsets = refl }; moved = refl; jog_moved = refl; alarmed = refl }
+broken_so made first (began o ∷ h) = record { number = refl; kept = record { settings = refl; offsets = refl }; moved = refl; jog_moved = refl; alarmed = refl }
+broken_so made first (cut k ∷ h) = by_made (is_made made h) (broken_so made first h)
+  where
+    by_made : (t : Bool) → SameBut (point_broken made first h).before (left_behind made first h)
+        → SameBut (cond t (behind_cut (end_from first.place (given_of h)) (point_broken made first h)) (point_broken made first h)).before (left_behind made first h)
+    by_made true s = record { number = s.number; kept = record { settings = s.kept.settings; offsets = s.kept.offsets }; moved = s.moved; jog_moved = s.jog_moved; alarmed = s.alarmed }
+    by_made false s = record { number = s.number; kept = record { settings = s.kept.settings; offsets = s.kept.offsets }; moved = s.moved; jog_moved = s.jog_moved; alarmed = s.alarmed }
+broken_so made first (_ ∷ h) = broken_so made first h
 
-broken_line : (first : Opening) (h : Journal) → Conducted first h → is_unanswered h ≡ true → (point_broken first h).has_line ≡ has_line_of h
-broken_line first [] c one = absurd cc
-broken_line first (began o ∷ h) c one = refl
-broken_line first (cut k ∷ h) c one = refl
-broken_line first (at_port e ∷ h) c one = broken_line first h c.1 (was_unanswered e (is_unanswered h) one)
-broken_line first (_ ∷ h) c one = broken_line first h c.1 one
+left_free : (made : ℕ) (first : Opening) (h : Journal) → Conducted first h → is_unanswered h ≡ true → (left_behind made first h).alarmed ≡ false
+left_free made first [] c one = absurd cc
+left_free made first (began o ∷ h) c one = (same_but made first h).alarmed ∙ alarmed_is first h ∙ c.0.calm
+left_free made first (at_port e ∷ h) c one = left_free made first h c.1 (was_unanswered e (is_unanswered h) one)
+left_free made first (_ ∷ h) c one = left_free made first h c.1 one
 
-broken_cut : (first : Opening) (h : Journal) (k : ℕ) → Conducted first (cut k ∷ h) → is_unanswered h ≡ true → IsCut (point_broken first h) k
-broken_cut first h k c one = record {
-  free = broken_free first h c.1 one;
-  number = broken_number first h c.1 one ∙ cut_number first h k c;
-  has_line = broken_line first h c.1 one ∙ cut_behind_line first h k c;
-}
+pub broken_free : (made : ℕ) (first : Opening) (h : Journal) → Conducted first h → is_unanswered h ≡ true → (point_broken made first h).before.alarmed ≡ false
+broken_free made first h c one = (broken_so made first h).alarmed ∙ left_free made first h c one
+
+left_number : (made : ℕ) (first : Opening) (h : Journal) → Conducted first h → is_unanswered h ≡ true → (left_behind made first h).number ≡ (before_of first h).number
+left_number made first [] c one = absurd cc
+left_number made first (began o ∷ h) c one = ap (λ (n : ℕ). n + 1) (same_but made first h).number
+left_number made first (at_port e ∷ h) c one = left_number made first h c.1 (was_unanswered e (is_unanswered h) one)
+left_number made first (_ ∷ h) c one = left_number made first h c.1 one
+
+pub broken_number : (made : ℕ) (first : Opening) (h : Journal) → Conducted first h → is_unanswered h ≡ true → (point_broken made first h).before.number ≡ (before_of first h).number
+broken_number made first h c one = (broken_so made first h).number ∙ left_number made first h c one
 
 -- ---- the course
 
-pub broken_leads : (first : Opening) (h : Journal) (tail : List Sent) → Conducted first h → is_unanswered h ≡ true → BecomesIdle first h
-    → LeadsTo (point_of first) (map a_text (lines_of h) ++ tail) (passed_by true first h) (point_broken first h) tail
-broken_leads first [] tail c one is = absurd is
-broken_leads first (began o ∷ h) tail c one is =
-    subst (λ (ss : List Sent). LeadsTo (point_of first) ss (passed_by false first h ++ a_broken o ∷ []) (point_broken first (began o ∷ h)) tail) (sym (one_more (lines_of h) (open_of h) tail))
-    (leads_on (point_of first) (point_behind first h) (point_broken first (began o ∷ h)) _ (a_text (open_of h) ∷ tail) tail (passed_by false first h) (a_broken o ∷ [])
-    (epoch_leads first h (a_text (open_of h) ∷ tail) c.1)
-    (record { free = alarmed_is first h ∙ c.0.calm; answered = refl; becomes = is }, (refl, refl)))
-broken_leads first (cut k ∷ h) tail c one is =
-    leads_on (point_of first) (point_broken first h) (point_broken first (cut k ∷ h)) _ tail tail (passed_by true first h) (a_cut k (end_from first.place (given_of h)) ∷ [])
-    (broken_leads first h tail c.1 one is) (broken_cut first h k c one, (refl, refl))
-broken_leads first (at_port e ∷ h) tail c one is = broken_leads first h tail c.1 (was_unanswered e (is_unanswered h) one) is
-broken_leads first (_ ∷ h) tail c one is = broken_leads first h tail c.1 one is
+-- no cut comes behind it
+abbrev pub IsUncut : Journal → Type 0
+IsUncut [] = ⊥
+IsUncut (began o ∷ h) = Unit {0}
+IsUncut (cut k ∷ h) = ⊥
+IsUncut (_ ∷ h) = IsUncut h
+
+pub broken_leads : (made : ℕ) (first : Opening) (h : Journal) (tail : List Sent) → Conducted first h → known_of h ≤ made → is_unanswered h ≡ true → IsUncut h → BecomesIdle first h
+    → LeadsTo (point_of first) (map a_text (lines_of h) ++ tail) (passed_by true made first h) (point_broken made first h) tail
+broken_leads made first [] tail c known one uncut is = absurd is
+broken_leads made first (began o ∷ h) tail c known one uncut is =
+    let same = same_before made first h (made_before_line made first h o c known) in
+    subst (λ (ss : List Sent). LeadsTo (point_of first) ss (passed_by false made first h ++ a_broken o ∷ []) (point_broken made first (began o ∷ h)) tail) (sym (one_more (lines_of h) (open_of h) tail))
+    (leads_on (point_of first) (point_behind made first h) (point_broken made first (began o ∷ h)) _ (a_text (open_of h) ∷ tail) tail (passed_by false made first h) (a_broken o ∷ [])
+    (epoch_leads made first h (a_text (open_of h) ∷ tail) c.1 known) (
+      record {
+        free = (same_but made first h).alarmed ∙ alarmed_is first h ∙ c.0.calm;
+        answered = refl;
+        becomes = subst (λ (b : Before). BecomesIn (is_locked first h) false b (open_of h) o) (sym same) is;
+      },
+      (refl, refl),
+    ))
+broken_leads made first (cut k ∷ h) tail c known one uncut is = absurd uncut
+broken_leads made first (at_port e ∷ h) tail c known one uncut is = broken_leads made first h tail c.1 (less_known first e h made c known) (was_unanswered e (is_unanswered h) one) uncut is
+broken_leads made first (_ ∷ h) tail c known one uncut is = broken_leads made first h tail c.1 known one uncut is
 
 -- ---- what the answered lines leave
 
--- the same settings and offsets
-pub record SameKept (s t : State) : Type 0 where
-  pub settings : s.settings ≡ t.settings
-  pub offsets : s.parser.offsets ≡ t.parser.offsets
+both_kept : (r s t : State) → SameKept r s → SameKept s t → SameKept r t
+both_kept r s t a b = record { settings = a.settings ∙ b.settings; offsets = a.offsets ∙ b.offsets }
 
-pub kept_answered : (first : Opening) (h : Journal) → Conducted first h → is_unanswered h ≡ false → SameKept (before_of first h).state (answered_state first h)
-kept_answered first [] c all = record { settings = refl; offsets = refl }
-kept_answered first (at_port (answered r) ∷ h) c all = by_answer (is_answer r) refl (λ (e : is_unanswered h ≡ false). kept_answered first h c.1 e)
+answered_kept : (first : Opening) (h : Journal) → Conducted first h → is_unanswered h ≡ false → SameKept (before_of first h).state (answered_state first h)
+answered_kept first [] c all = record { settings = refl; offsets = refl }
+answered_kept first (at_port (answered r) ∷ h) c all = by_answer (is_answer r) refl (λ (e : is_unanswered h ≡ false). answered_kept first h c.1 e)
   where
     by_answer : (t : Bool) → is_answer r ≡ t → (is_unanswered h ≡ false → SameKept (before_of first h).state (answered_state first h))
         → SameKept (before_of first h).state (cond (is_answer r) (before_of first h).state (answered_state first h))
     by_answer true is before = rw is (record { settings = refl; offsets = refl })
     by_answer false is before = rw is (before (let e : (not false && is_unanswered h) ≡ false = ap (λ (t : Bool). not t && is_unanswered h) (sym is) ∙ all in e))
-kept_answered first (began o ∷ h) c all = absurd cc
-kept_answered first (cut k ∷ h) c all = let s = kept_answered first h c.1 all in record { settings = s.settings; offsets = s.offsets }
-kept_answered first (at_port e ∷ h) c all = kept_answered first h c.1 all
-kept_answered first (_ ∷ h) c all = kept_answered first h c.1 all
+answered_kept first (began o ∷ h) c all = absurd cc
+answered_kept first (cut k ∷ h) c all = let s = answered_kept first h c.1 all in record { settings = s.settings; offsets = s.offsets }
+answered_kept first (at_port e ∷ h) c all = answered_kept first h c.1 all
+answered_kept first (_ ∷ h) c all = answered_kept first h c.1 all
 
-pub kept_broken : (first : Opening) (h : Journal) → Conducted first h → is_unanswered h ≡ true → SameKept (point_broken first h).before.state (answered_state first h)
-kept_broken first [] c one = absurd cc
-kept_broken first (at_port (answered r) ∷ h) c one = by_answer (is_answer r) refl (λ (e : is_unanswered h ≡ true). kept_broken first h c.1 e)
+pub kept_answered : (made : ℕ) (first : Opening) (h : Journal) → Conducted first h → is_unanswered h ≡ false → SameKept (before_by made first h).state (answered_state first h)
+kept_answered made first h c all = both_kept (before_by made first h).state (before_of first h).state (answered_state first h) (same_but made first h).kept (answered_kept first h c all)
+
+left_kept : (made : ℕ) (first : Opening) (h : Journal) → Conducted first h → is_unanswered h ≡ true → SameKept (left_behind made first h).state (answered_state first h)
+left_kept made first [] c one = absurd cc
+left_kept made first (at_port (answered r) ∷ h) c one = by_answer (is_answer r) refl (λ (e : is_unanswered h ≡ true). left_kept made first h c.1 e)
   where
-    by_answer : (t : Bool) → is_answer r ≡ t → (is_unanswered h ≡ true → SameKept (point_broken first h).before.state (answered_state first h))
-        → SameKept (point_broken first h).before.state (cond (is_answer r) (before_of first h).state (answered_state first h))
+    by_answer : (t : Bool) → is_answer r ≡ t → (is_unanswered h ≡ true → SameKept (left_behind made first h).state (answered_state first h))
+        → SameKept (left_behind made first h).state (cond (is_answer r) (before_of first h).state (answered_state first h))
     by_answer true is before = absurd (let e : (not true && is_unanswered h) ≡ true = ap (λ (t : Bool). not t && is_unanswered h) (sym is) ∙ one in cc)
     by_answer false is before = rw is (before (second_is (is_answer r) (is_unanswered h) one))
-kept_broken first (began o ∷ h) c one = kept_answered first h c.1 (all_answered first h c.1 c.0.calm c.0.free)
-kept_broken first (cut k ∷ h) c one = let s = kept_broken first h c.1 one in record { settings = s.settings; offsets = s.offsets }
-kept_broken first (at_port e ∷ h) c one = kept_broken first h c.1 (was_unanswered e (is_unanswered h) one)
-kept_broken first (_ ∷ h) c one = kept_broken first h c.1 one
+left_kept made first (began o ∷ h) c one = kept_answered made first h c.1 (all_answered first h c.1 c.0.calm c.0.free)
+left_kept made first (at_port e ∷ h) c one = left_kept made first h c.1 (was_unanswered e (is_unanswered h) one)
+left_kept made first (_ ∷ h) c one = left_kept made first h c.1 one
+
+pub kept_broken : (made : ℕ) (first : Opening) (h : Journal) → Conducted first h → is_unanswered h ≡ true → SameKept (point_broken made first h).before.state (answered_state first h)
+kept_broken made first h c one = both_kept (point_broken made first h).before.state (left_behind made first h).state (answered_state first h) (broken_so made first h).kept (left_kept made first h c one)
 
 -- ---- whether anything has moved
 
@@ -188,19 +219,27 @@ calm_there : (first : Opening) (h : Journal) → left_of first h ≡ [] → Rest
 calm_there first h free (inl will) = absurd (let e = sym (ap comes_to_rest free) ∙ will in cc)
 calm_there first h free (inr calm) = calm
 
-begun_calm : (first : Opening) (h : Journal) (o : Outcome) → Conducted first (began o ∷ h) → ((has_moves o.work || (before_of first h).moved) || (before_of first h).jog_moved) ≡ false → Calm first (began o ∷ h)
-begun_calm first h o c still =
-    let two = or_false (has_moves o.work || (before_of first h).moved) (before_of first h).jog_moved still in
-    let one = or_false (has_moves o.work) (before_of first h).moved two.0 in
-    let none : has_any_moved (before_of first h) ≡ false = ap (λ (t : Bool). t || (before_of first h).jog_moved) one.1 ∙ two.1 in
+-- what has moved, where a cut that is not made counts for nothing
+moved_so : (a b : Before) → SameBut a b → has_any_moved a ≡ has_any_moved b
+moved_so a b same = ap (λ (t : Bool). t || a.jog_moved) same.moved ∙ ap (λ (t : Bool). b.moved || t) same.jog_moved
+
+begun_calm : (made : ℕ) (first : Opening) (h : Journal) (o : Outcome) → Conducted first (began o ∷ h) → ((has_moves o.work || (before_by made first h).moved) || (before_by made first h).jog_moved) ≡ false → Calm first (began o ∷ h)
+begun_calm made first h o c still =
+    let b = before_by made first h in
+    let two = or_false (has_moves o.work || b.moved) b.jog_moved still in
+    let one = or_false (has_moves o.work) b.moved two.0 in
+    let none : has_any_moved (before_of first h) ≡ false = sym (moved_so b (before_of first h) (same_but made first h)) ∙ ap (λ (t : Bool). t || b.jog_moved) one.1 ∙ two.1 in
     calm_on first (began o) h c one.0 (calm_there first h c.0.free (rested_is first h c.1 c.0.going none))
 
--- if the line moves nothing, and nothing has moved before it, the machine stands
-pub broken_calm : (first : Opening) (h : Journal) → Conducted first h → is_unanswered h ≡ true → has_any_moved (point_broken first h).before ≡ false → Calm first h
-broken_calm first [] c one still = absurd cc
-broken_calm first (began o ∷ h) c one still = begun_calm first h o c still
-broken_calm first (at_port e ∷ h) c one still = calm_on first (at_port e) h c tt (broken_calm first h c.1 (was_unanswered e (is_unanswered h) one) still)
-broken_calm first (s ∷ h) c one still = calm_on first s h c tt (broken_calm first h c.1 one still)
+left_calm : (made : ℕ) (first : Opening) (h : Journal) → Conducted first h → is_unanswered h ≡ true → has_any_moved (left_behind made first h) ≡ false → Calm first h
+left_calm made first [] c one still = absurd cc
+left_calm made first (began o ∷ h) c one still = begun_calm made first h o c still
+left_calm made first (at_port e ∷ h) c one still = calm_on first (at_port e) h c tt (left_calm made first h c.1 (was_unanswered e (is_unanswered h) one) still)
+left_calm made first (s ∷ h) c one still = calm_on first s h c tt (left_calm made first h c.1 one still)
 
-pub answered_calm : (first : Opening) (h : Journal) → Conducted first h → closed_tells h ≡ [] → left_of first h ≡ [] → has_any_moved (before_of first h) ≡ false → Calm first h
-answered_calm first h c going free still = calm_there first h free (rested_is first h c going still)
+-- if the line moves nothing, and nothing has moved before it, the machine stands
+pub broken_calm : (made : ℕ) (first : Opening) (h : Journal) → Conducted first h → is_unanswered h ≡ true → has_any_moved (point_broken made first h).before ≡ false → Calm first h
+broken_calm made first h c one still = left_calm made first h c one (sym (moved_so (point_broken made first h).before (left_behind made first h) (broken_so made first h)) ∙ still)
+
+pub answered_calm : (made : ℕ) (first : Opening) (h : Journal) → Conducted first h → closed_tells h ≡ [] → left_of first h ≡ [] → has_any_moved (before_by made first h) ≡ false → Calm first h
+answered_calm made first h c going free still = calm_there first h free (rested_is first h c going (sym (moved_so (before_by made first h) (before_of first h) (same_but made first h)) ∙ still))

@@ -1,5 +1,5 @@
 -- Epoch by epoch what a board has done is a course.
-use Rattle.std.proofs.Common.{◌≡◌, ℕ, Bool, true, false, cond, List, [], ◌∷◌, ◌++◌, map, refl, sym, ap, ◌∙◌, append_assoc, append-nil, subst}
+use Rattle.std.proofs.Common.{◌≡◌, ℕ, ◌≤◌, Bool, true, false, cond, List, [], ◌∷◌, ◌++◌, map, refl, sym, ap, ◌∙◌, append_assoc, append-nil, subst}
 use Rattle.run_rules.specs.declared.State.{State}
 use Rattle.run_rules.specs.Lines.{HasNoLf, whole_lines, onto_line}
 use Rattle.run_rules.specs.Outcomes.{either}
@@ -14,17 +14,18 @@ use Rattle.step_line.specs.Logs.{NewestFirst}
 use Rattle.board_rules.specs.Conduct.{IsFinished}
 use Rattle.board_rules.specs.Openings.{Opening}
 use Rattle.board_rules.specs.Ports.{taken_in}
-use Rattle.board_rules.specs.Steps.{Journal, port_log, lines_of, open_of}
+use Rattle.board_rules.specs.Steps.{known_of, Journal, port_log, lines_of, open_of}
 use Rattle.board_rules.proofs.Closing.{spent}
 use Rattle.board_rules.proofs.Lines.{bytes_are}
 use Rattle.board_epochs.specs.Epochs.{Closed, Epochs, AreClosed, AreEpochs, IsEpoch, next_opening, opening_behind, point_of, reset_of, ticks_made}
 use Rattle.board_epochs.specs.Epochs.Epochs.{goes, resets}
 use Rattle.board_epochs.specs.Resets.{MayReset}
 use Rattle.board_epochs.specs.Work.{Work}
-use Rattle.epoch_courses.specs.Course.{passed_so_far, passed_at_reset, closed_course, course_of, point_behind, point_at_reset, stands_at}
+use Rattle.epoch_courses.specs.Course.{made_at_halt, open_journal, passed_so_far, passed_at_reset, closed_course, course_of, point_behind, point_at_reset, stands_at}
 use Rattle.epoch_courses.specs.Taken.{texts_in, bytes_with, closed_texts, sent_by, bytes_behind, left_by}
 use Rattle.epoch_courses.proofs.Epoch.{epoch_leads}
 use Rattle.epoch_courses.proofs.Going.{leads_on}
+use Rattle.epoch_courses.proofs.Halted.{known_made}
 use Rattle.epoch_courses.proofs.Resets.{comes_there, next_there, is_reset}
 use Rattle.epoch_courses.proofs.Texts.{texts_behind, texts_now, behind_them}
 
@@ -39,16 +40,16 @@ closed_by_lines first h w before more is =
     ∙ append_assoc (map a_text (lines_of h)) left (a_stop ∷ more))
 
 -- an epoch that a reset has ended
-closed_one : (base : ℕ) (first : Opening) (h : Journal) (w : Work) (more : List Sent) → IsEpoch first h → MayReset first h
-    → LeadsTo (point_of first) (map a_text (lines_of h) ++ (texts_in (bytes_behind h ++ taken_in (port_log w)) ++ a_stop ∷ more)) (passed_at_reset first h ++ a_reset (reset_of base first h w) ∷ [])
+closed_one : (made base : ℕ) (first : Opening) (h : Journal) (w : Work) (more : List Sent) → IsEpoch first h → MayReset first h → known_of h ≤ made
+    → LeadsTo (point_of first) (map a_text (lines_of h) ++ (texts_in (bytes_behind h ++ taken_in (port_log w)) ++ a_stop ∷ more)) (passed_at_reset made first h ++ a_reset (reset_of base first h w) ∷ [])
     (point_of (next_opening base first h w)) more
-closed_one base first h w more is may =
+closed_one made base first h w more is may known =
     let waiting = whole_lines (bytes_behind h ++ taken_in (port_log w)) in
     let tail : List Sent = map a_text waiting ++ a_stop ∷ more in
-    let there = comes_there first h tail is may in
-    leads_on (point_of first) (point_at_reset first h) (point_of (next_opening base first h w)) _ tail more (passed_at_reset first h) (a_reset (reset_of base first h w) ∷ [])
+    let there = comes_there made first h tail is may known in
+    leads_on (point_of first) (point_at_reset made first h) (point_of (next_opening base first h w)) _ tail more (passed_at_reset made first h) (a_reset (reset_of base first h w) ∷ [])
     there.leads
-    (is_reset base first h w (point_at_reset first h) more is may there.found, (sym (next_there base first h w (point_at_reset first h) there.found), sym (behind_them waiting more)))
+    (is_reset base first h w (point_at_reset made first h) more is may there.found, (sym (next_there base first h w (point_at_reset made first h) there.found), sym (behind_them waiting more)))
 
 pub closed_lead : (state : State) (es : NewestFirst Closed) (more : List Sent) → AreClosed state es → LeadsTo (opening state) (closed_texts es ++ more) (closed_course state es) (point_of (opening_behind state es)) more
 closed_lead state [] more c = (refl, refl)
@@ -57,24 +58,24 @@ closed_lead state (e ∷ es) more c =
     let is = c.0.resetting.epoch in
     let tail : List Sent = map a_text (lines_of e.journal) ++ (texts_in (bytes_behind e.journal ++ taken_in (port_log e.work)) ++ a_stop ∷ more) in
     subst (λ (ss : List Sent). LeadsTo (opening state) ss (closed_course state (e ∷ es)) (point_of (opening_behind state (e ∷ es))) more) (sym (closed_by_lines first e.journal e.work (closed_texts es) more is))
-    (leads_on (opening state) (point_of first) (point_of (opening_behind state (e ∷ es))) _ tail more (closed_course state es) (passed_at_reset first e.journal ++ a_reset (reset_of (ticks_made es) first e.journal e.work) ∷ [])
+    (leads_on (opening state) (point_of first) (point_of (opening_behind state (e ∷ es))) _ tail more (closed_course state es) (passed_at_reset (made_at_halt (ticks_made es) e.work) first e.journal ++ a_reset (reset_of (ticks_made es) first e.journal e.work) ∷ [])
     (closed_lead state es tail c.1)
-    (closed_one (ticks_made es) first e.journal e.work more is c.0.resetting.may))
+    (closed_one (made_at_halt (ticks_made es) e.work) (ticks_made es) first e.journal e.work more is c.0.resetting.may (known_made state e es c)))
 
-pub epochs_lead : (state : State) (es : Epochs) → AreEpochs state es → LeadsTo (opening state) (sent_by es) (course_of state es) (stands_at state es) (left_by es)
-epochs_lead state (goes es h) c =
+pub epochs_lead : (state : State) (made : ℕ) (es : Epochs) → AreEpochs state es → known_of (open_journal es) ≤ made → LeadsTo (opening state) (sent_by es) (course_of state made es) (stands_at state made es) (left_by es)
+epochs_lead state made (goes es h) c known =
     let first = opening_behind state es in
     let tail : List Sent = map a_text (lines_of h) ++ texts_in (bytes_behind h) in
-    subst (λ (ss : List Sent). LeadsTo (opening state) (closed_texts es ++ ss) (course_of state (goes es h)) (point_behind first h) (texts_in (bytes_behind h))) (sym (texts_now first h c.1.conducted))
-    (leads_on (opening state) (point_of first) (point_behind first h) _ tail (texts_in (bytes_behind h)) (closed_course state es) (passed_so_far first h)
-    (closed_lead state es tail c.0) (epoch_leads first h (texts_in (bytes_behind h)) c.1.conducted))
-epochs_lead state (resets es h w) c =
+    subst (λ (ss : List Sent). LeadsTo (opening state) (closed_texts es ++ ss) (course_of state made (goes es h)) (point_behind made first h) (texts_in (bytes_behind h))) (sym (texts_now first h c.1.conducted))
+    (leads_on (opening state) (point_of first) (point_behind made first h) _ tail (texts_in (bytes_behind h)) (closed_course state es) (passed_so_far made first h)
+    (closed_lead state es tail c.0) (epoch_leads made first h (texts_in (bytes_behind h)) c.1.conducted known))
+epochs_lead state made (resets es h w) c known =
     let first = opening_behind state es in
     let left = texts_in (bytes_behind h ++ taken_in (port_log w)) in
     let tail : List Sent = map a_text (lines_of h) ++ left in
-    subst (λ (ss : List Sent). LeadsTo (opening state) (closed_texts es ++ ss) (course_of state (resets es h w)) (point_at_reset first h) left) (sym (texts_behind first h (taken_in (port_log w)) c.1.epoch.conducted))
-    (leads_on (opening state) (point_of first) (point_at_reset first h) _ tail left (closed_course state es) (passed_at_reset first h)
-    (closed_lead state es tail c.0) (comes_there first h left c.1.epoch c.1.may).leads)
+    subst (λ (ss : List Sent). LeadsTo (opening state) (closed_texts es ++ ss) (course_of state made (resets es h w)) (point_at_reset made first h) left) (sym (texts_behind first h (taken_in (port_log w)) c.1.epoch.conducted))
+    (leads_on (opening state) (point_of first) (point_at_reset made first h) _ tail left (closed_course state es) (passed_at_reset made first h)
+    (closed_lead state es tail c.0) (comes_there made first h left c.1.epoch c.1.may known).leads)
 
 -- ---- a run that is closed
 
@@ -94,11 +95,11 @@ nothing_left p answered = record { answered = answered; rest = go p.before.alarm
     go true = refl
     go false = refl
 
-pub epochs_follow : (state : State) (es : NewestFirst Closed) (h : Journal) → AreEpochs state (goes es h) → IsFinished (opening_behind state es) h
-    → Follows (opening state) (sent_by (goes es h)) (course_of state (goes es h)) (point_behind (opening_behind state es) h)
-epochs_follow state es h c over =
+pub epochs_follow : (state : State) (made : ℕ) (es : NewestFirst Closed) (h : Journal) → AreEpochs state (goes es h) → IsFinished (opening_behind state es) h → known_of h ≤ made
+    → Follows (opening state) (sent_by (goes es h)) (course_of state made (goes es h)) (point_behind made (opening_behind state es) h)
+epochs_follow state made es h c over known =
     let first = opening_behind state es in
-    let leads : LeadsTo (opening state) (sent_by (goes es h)) (course_of state (goes es h)) (point_behind first h) [] =
-    subst (λ (ss : List Sent). LeadsTo (opening state) (sent_by (goes es h)) (course_of state (goes es h)) (point_behind first h) ss) (none_left first h c.1 over) (epochs_lead state (goes es h) c) in
-    subst (λ (ps : List Passed). Follows (opening state) (sent_by (goes es h)) ps (point_behind first h)) (append-nil (course_of state (goes es h)))
-    (goes_on_from (opening state) (point_behind first h) (point_behind first h) (sent_by (goes es h)) [] (course_of state (goes es h)) [] leads (refl, nothing_left (point_behind first h) refl))
+    let leads : LeadsTo (opening state) (sent_by (goes es h)) (course_of state made (goes es h)) (point_behind made first h) [] =
+    subst (λ (ss : List Sent). LeadsTo (opening state) (sent_by (goes es h)) (course_of state made (goes es h)) (point_behind made first h) ss) (none_left first h c.1 over) (epochs_lead state made (goes es h) c known) in
+    subst (λ (ps : List Passed). Follows (opening state) (sent_by (goes es h)) ps (point_behind made first h)) (append-nil (course_of state made (goes es h)))
+    (goes_on_from (opening state) (point_behind made first h) (point_behind made first h) (sent_by (goes es h)) [] (course_of state made (goes es h)) [] leads (refl, nothing_left (point_behind made first h) refl))

@@ -1,11 +1,11 @@
 -- Part by part, what the course asks for is what the planner was given.
-use Rattle.std.proofs.Common.{◌≡◌, ℕ, Bool, true, false, ◌||◌, List, [], ◌∷◌, ◌++◌, map, reverse, refl, sym, ap, ◌∙◌, subst, append_assoc, append-nil}
+use Rattle.std.proofs.Common.{◌≡◌, ℕ, Bool, true, false, ◌||◌, List, [], ◌∷◌, ◌++◌, map, reverse, refl, sym, ap, ◌∙◌, subst, append_assoc, append-nil, cond, not, ◌≤◌}
 use Rattle.std.proofs.lemmas.List.{map-append, reverse-append}
 use Rattle.std.proofs.lemmas.List.Folds.{list_any-append}
 use Rattle.std.specs.List.{flat_map, list_any}
 use Rattle.flight.specs.Places.{end_from, moved_by}
 use Rattle.flight.proofs.Places.{moved_both}
-use Rattle.planner_runs.specs.Runs.{IsAtRest, most_blocks, fresh_plan}
+use Rattle.planner_runs.specs.Runs.{Plans, IsStart, IsAtRest, NeverClears, most_blocks, fresh_plan, all_asked, ticks_left}
 use Rattle.planner_runs.proofs.Legal.{heads_are_legal, closed_heads_are_legal}
 use Rattle.planner_runs.proofs.Runs.{keeps_on, grows_by_reset}
 use Rattle.run_rules.specs.Outcomes.{either}
@@ -17,6 +17,7 @@ use Rattle.run_texts.specs.Courses.Passed.{a_line, a_broken, a_cut, a_reset}
 use Rattle.run_texts.specs.Parts.{Ending, Part, parts_of, onto_first, lines_counted}
 use Rattle.run_texts.specs.Parts.Ending.{by_cut, by_reset, by_end}
 use Rattle.run_texts.specs.Recorded.{ticks_for_all}
+use Rattle.step_line.specs.Asking.{ticks_of_all}
 use Rattle.step_line.specs.Pieces.{ticks_of}
 use Rattle.step_line.specs.declared.Mark.TheVariants as marks
 use Rattle.step_line.specs.declared.Piece.{Piece}
@@ -24,10 +25,10 @@ use Rattle.step_line.specs.declared.Piece.TheVariants as pieces
 use Rattle.units.specs.declared.Steps3.{Steps3}
 use Rattle.board_rules.specs.Conduct.{Conducted, IsFinished}
 use Rattle.board_rules.specs.Cuts.{part_outcomes, part_actions, part_given, part_start, part_plan, part_of}
-use Rattle.board_rules.specs.Cuts.{parts_of as cut_parts}
+use Rattle.board_rules.specs.Cuts.{parts_of as board_parts}
 use Rattle.board_rules.specs.Openings.{Opening}
 use Rattle.board_rules.specs.Parts.{Part as CutPart, IsAlarmedPart}
-use Rattle.board_rules.specs.Steps.{Journal, given_of, left_of, has_limited}
+use Rattle.board_rules.specs.Steps.{known_of, Journal, given_of, left_of, has_limited}
 use Rattle.board_rules.specs.Steps.Step.{at_port, began, did, made_end, cut}
 use Rattle.board_rules.proofs.Alarms.{calm_plan, free_halted}
 use Rattle.board_rules.proofs.Closing.{spent}
@@ -35,11 +36,12 @@ use Rattle.board_rules.proofs.Halts.{halted_part}
 use Rattle.board_rules.proofs.Keeping.{never_clears}
 use Rattle.board_rules.proofs.Numbers.{parts_are}
 use Rattle.board_rules.proofs.Parting.{asked_is, open_part, part_ticks, last_part}
-use Rattle.epoch_courses.specs.Course.{is_unanswered, passed_by}
-use Rattle.epoch_courses.specs.Drives.{Driven, AreDriven, IsDrivenBy, EndsBy, IsTakenAway, IsOver, IsRunOut, GoesOn, driven_by_cut, driven_since}
-use Rattle.epoch_courses.proofs.Broken.{was_unanswered}
+use Rattle.epoch_courses.specs.Course.{is_made, is_unanswered, passed_by}
+use Rattle.epoch_courses.specs.Drives.{Driven, AreDriven, IsDrivenBy, EndsBy, IsTakenAway, IsOver, IsRunOut, GoesOn, is_pending, driven_by_cut, driven_since}
+use Rattle.epoch_courses.proofs.Broken.{IsUncut, was_unanswered}
+use Rattle.epoch_courses.proofs.Epoch.{less_known}
 use Rattle.epoch_courses.proofs.Heads.{front_marked}
-use Rattle.epoch_courses.proofs.Uncut.{IsUncut}
+use Rattle.epoch_courses.proofs.Made.{AllMade, made_before_line, made_before_cut}
 
 -- ---- the parts of a course
 
@@ -87,46 +89,53 @@ part_leads first (_ ∷ h) = part_leads first h
 
 -- ---- parts that are driven
 
--- what was done since the last cut drives a part that counts the lines begun since
-pub driven_there : (over : Bool) (first : Opening) (h : Journal) (p : Part) → Conducted first h → lines_counted p ≡ part_outcomes h → EndsBy over (part_place first h) p (driven_since first h) p.ending
-    → IsDrivenBy over (part_place first h) (part_start h) p (driven_since first h)
-driven_there over first h p c counted ends =
-    let run = open_part first h c in
-    record {
-      joined = refl;
-      starts = run.starts;
-      run = run.run;
-      asks = ap asked_in counted ∙ asked_is first h c;
-      ticks = ap ticks_for_all counted ∙ part_ticks first h c;
-      ends = ends;
-    }
+-- What was done of the lines begun since the last cut: a planner run that may go on, or end.
+pub record Runs (h : Journal) (d : Driven) : Type 0 where
+  pub joined : d.start ≡ part_start h
+  pub starts : IsStart d.start
+  pub run : Plans most_blocks d.start d.actions d.given d.plan
+  pub never : NeverClears d.actions
+  pub asks : asked_in (part_outcomes h) ≡ all_asked d.actions ++ d.left
+  pub ticks : ticks_for_all (part_outcomes h) ≡ flat_map ticks_of d.given ++ (ticks_left d.plan ++ ticks_of_all d.left)
 
-pub goes_there : (first : Opening) (h : Journal) → Conducted first h → GoesOn (driven_since first h)
-goes_there first h c =
-    let run = open_part first h c in heads_are_legal most_blocks (part_start h) (part_plan h) (part_actions h) (part_given h) run.starts (never_clears first h c) run.run
-
-pub taken_there : (first : Opening) (h : Journal) (k : ℕ) → Conducted first h → IsTakenAway k (driven_since first h)
-taken_there first h k c =
+pub runs_since : (first : Opening) (h : Journal) → Conducted first h → Runs h (driven_since first h)
+runs_since first h c =
     let run = open_part first h c in
-    let never = never_clears first h c in
-    record {
-      run = grows_by_reset most_blocks (part_start h) (part_plan h) (part_actions h) (part_given h) (keeps_on (part_actions h) never) run.run;
-      heads = λ out begins. front_marked most_blocks (part_start h) (part_plan h) (part_actions h) (part_given h) out k run.starts never run.run begins;
-    }
+    record { joined = refl; starts = run.starts; run = run.run; never = never_clears first h c; asks = asked_is first h c; ticks = part_ticks first h c }
+
+-- and so was what was done before a cut
+pub runs_cut : (first : Opening) (h : Journal) (k : ℕ) → Conducted first (cut k ∷ h) → Runs h (driven_by_cut (part_of first k h))
+runs_cut first h k c =
+    let q = (parts_are first (cut k ∷ h) c).0 in
+    record { joined = refl; starts = q.starts; run = q.run; never = never_clears first h c.1; asks = q.asks; ticks = q.ticks }
+
+-- it drives a part that counts these lines
+pub driven_there : (over : Bool) (place : Steps3) (h : Journal) (d : Driven) (p : Part) → Runs h d → lines_counted p ≡ part_outcomes h → EndsBy over place p d p.ending → IsDrivenBy over place (part_start h) p d
+driven_there over place h d p r counted ends = record {
+  joined = r.joined;
+  starts = r.starts;
+  run = r.run;
+  asks = ap asked_in counted ∙ r.asks;
+  ticks = ap ticks_for_all counted ∙ r.ticks;
+  ends = ends;
+}
+
+pub goes_there : (h : Journal) (d : Driven) → Runs h d → GoesOn d
+goes_there h d r = heads_are_legal most_blocks d.start d.plan d.actions d.given r.starts r.never r.run
+
+pub taken_there : (h : Journal) (d : Driven) (k : ℕ) → Runs h d → IsTakenAway k d
+taken_there h d k r = record {
+  run = grows_by_reset most_blocks d.start d.plan d.actions d.given (keeps_on d.actions r.never) r.run;
+  heads = λ out begins. front_marked most_blocks d.start d.plan d.actions d.given out k r.starts r.never r.run begins;
+}
 
 -- a part that a cut has ended
 cut_there : (over : Bool) (first : Opening) (h : Journal) (k : ℕ) → Conducted first (cut k ∷ h)
     → IsDrivenBy over (part_place first h) (part_start h) (part (part_outcomes h) [] (by_cut k (end_from first.place (given_of h)))) (driven_by_cut (part_of first k h))
 cut_there over first h k c =
     let q = (parts_are first (cut k ∷ h) c).0 in
-    record {
-      joined = refl;
-      starts = q.starts;
-      run = q.run;
-      asks = ap asked_in (append-nil (part_outcomes h)) ∙ q.asks;
-      ticks = ap ticks_for_all (append-nil (part_outcomes h)) ∙ q.ticks;
-      ends = record { stops = q.stops; heads = q.heads; stands = part_leads first h; last = q.last; jogs = q.jogs };
-    }
+    driven_there over (part_place first h) h (driven_by_cut (part_of first k h)) (part (part_outcomes h) [] (by_cut k (end_from first.place (given_of h)))) (runs_cut first h k c) (append-nil (part_outcomes h))
+    (record { stops = q.stops; heads = q.heads; stands = part_leads first h; last = q.last; jogs = q.jogs })
 
 -- ---- the parts of an epoch
 
@@ -136,47 +145,102 @@ with_cut q qs ds =
     ap (λ (all : List CutPart). map driven_by_cut all ++ ds) (reverse-append (q ∷ []) qs) ∙ ap (λ (all : List Driven). all ++ ds) (map-append driven_by_cut (reverse qs) (q ∷ []))
     ∙ append_assoc (map driven_by_cut (reverse qs)) (driven_by_cut q ∷ []) ds
 
+-- all that the board has parted by cuts
+abbrev all_cut : Opening → Journal → List Driven → List Driven
+all_cut first h ds = map driven_by_cut (reverse (board_parts first h)) ++ ds
+
 -- What comes behind the lines begun since the last cut is driven from there on: so all of it is, from the beginning of the epoch on.
-pub epoch_driven : (over : Bool) (first : Opening) (h : Journal) (rest : List Passed) (ds : List Driven) → Conducted first h
+pub epoch_driven : (over : Bool) (made : ℕ) (first : Opening) (h : Journal) (rest : List Passed) (ds : List Driven) → Conducted first h → AllMade made h
     → AreDriven over (part_place first h) (part_start h) (parts_of (map a_line (part_outcomes h) ++ rest)) ds
-    → AreDriven over first.place fresh_plan (parts_of (passed_by false first h ++ rest)) (map driven_by_cut (reverse (cut_parts first h)) ++ ds)
-epoch_driven over first [] rest ds c is = is
-epoch_driven over first (began o ∷ h) rest ds c is =
-    subst (λ (ps : List Passed). AreDriven over first.place fresh_plan (parts_of ps) (map driven_by_cut (reverse (cut_parts first h)) ++ ds)) (sym (append_assoc (passed_by false first h) (a_line o ∷ []) rest))
-    (epoch_driven over first h (a_line o ∷ rest) ds c.1
+    → AreDriven over first.place fresh_plan (parts_of (passed_by false made first h ++ rest)) (all_cut first h ds)
+epoch_driven over made first [] rest ds c all is = is
+epoch_driven over made first (began o ∷ h) rest ds c all is =
+    subst (λ (ps : List Passed). AreDriven over first.place fresh_plan (parts_of ps) (all_cut first h ds)) (sym (append_assoc (passed_by false made first h) (a_line o ∷ []) rest))
+    (epoch_driven over made first h (a_line o ∷ rest) ds c.1 all
     (subst (λ (ps : List Passed). AreDriven over (part_place first h) (part_start h) (parts_of ps) ds)
     (ap (λ (ps : List Passed). ps ++ rest) (map-append a_line (part_outcomes h) (o ∷ [])) ∙ append_assoc (map a_line (part_outcomes h)) (a_line o ∷ []) rest) is))
-epoch_driven over first (cut k ∷ h) rest ds c is =
+epoch_driven over made first (cut k ∷ h) rest ds c all is =
     let at = end_from first.place (given_of h) in
     let q = part_of first k h in
-    subst (λ (all : List Driven). AreDriven over first.place fresh_plan (parts_of ((passed_by false first h ++ a_cut k at ∷ []) ++ rest)) all) (sym (with_cut q (cut_parts first h) ds))
-    (subst (λ (ps : List Passed). AreDriven over first.place fresh_plan (parts_of ps) (map driven_by_cut (reverse (cut_parts first h)) ++ driven_by_cut q ∷ ds)) (sym (append_assoc (passed_by false first h) (a_cut k at ∷ []) rest))
-    (epoch_driven over first h (a_cut k at ∷ rest) (driven_by_cut q ∷ ds) c.1
+    let same : (passed_by false made first h ++ cond (is_made made h) (a_cut k at ∷ []) []) ++ rest ≡ passed_by false made first h ++ a_cut k at ∷ rest =
+    ap (λ (t : Bool). (passed_by false made first h ++ cond t (a_cut k at ∷ []) []) ++ rest) all.0 ∙ append_assoc (passed_by false made first h) (a_cut k at ∷ []) rest in
+    subst (λ (xs : List Driven). AreDriven over first.place fresh_plan (parts_of (passed_by false made first (cut k ∷ h) ++ rest)) xs) (sym (with_cut q (board_parts first h) ds))
+    (subst (λ (ps : List Passed). AreDriven over first.place fresh_plan (parts_of ps) (all_cut first h (driven_by_cut q ∷ ds))) (sym same)
+    (epoch_driven over made first h (a_cut k at ∷ rest) (driven_by_cut q ∷ ds) c.1 all.1
     (subst (λ (ps : List Part). AreDriven over (part_place first h) (part_start h) ps (driven_by_cut q ∷ ds)) (sym (parts_cut (part_outcomes h) k at rest)) (cut_there over first h k c, is))))
-epoch_driven over first (_ ∷ h) rest ds c is = epoch_driven over first h rest ds c.1 is
+epoch_driven over made first (_ ∷ h) rest ds c all is = epoch_driven over made first h rest ds c.1 all is
 
 -- The same with a last line that a reset keeps from its answer.
-pub record BrokenLast (first : Opening) (h : Journal) : Type 0 where
+pub record BrokenLast (made : ℕ) (first : Opening) (h : Journal) : Type 0 where
   pub early : List Outcome
   pub o : Outcome
   pub outcomes : early ++ o ∷ [] ≡ part_outcomes h
   pub driven : (over : Bool) (rest : List Passed) (ds : List Driven) → AreDriven over (part_place first h) (part_start h) (parts_of (map a_line early ++ a_broken o ∷ rest)) ds
-      → AreDriven over first.place fresh_plan (parts_of (passed_by true first h ++ rest)) (map driven_by_cut (reverse (cut_parts first h)) ++ ds)
+      → AreDriven over first.place fresh_plan (parts_of (passed_by true made first h ++ rest)) (all_cut first h ds)
 
-broken_driven : (first : Opening) (h : Journal) (o : Outcome) → Conducted first (began o ∷ h) → (over : Bool) (rest : List Passed) (ds : List Driven)
+broken_driven : (made : ℕ) (first : Opening) (h : Journal) (o : Outcome) → Conducted first (began o ∷ h) → AllMade made h → (over : Bool) (rest : List Passed) (ds : List Driven)
     → AreDriven over (part_place first h) (part_start h) (parts_of (map a_line (part_outcomes h) ++ a_broken o ∷ rest)) ds
-    → AreDriven over first.place fresh_plan (parts_of ((passed_by false first h ++ a_broken o ∷ []) ++ rest)) (map driven_by_cut (reverse (cut_parts first h)) ++ ds)
-broken_driven first h o c over rest ds is =
-    subst (λ (ps : List Passed). AreDriven over first.place fresh_plan (parts_of ps) (map driven_by_cut (reverse (cut_parts first h)) ++ ds)) (sym (append_assoc (passed_by false first h) (a_broken o ∷ []) rest))
-    (epoch_driven over first h (a_broken o ∷ rest) ds c.1 is)
+    → AreDriven over first.place fresh_plan (parts_of ((passed_by false made first h ++ a_broken o ∷ []) ++ rest)) (all_cut first h ds)
+broken_driven made first h o c all over rest ds is =
+    subst (λ (ps : List Passed). AreDriven over first.place fresh_plan (parts_of ps) (all_cut first h ds)) (sym (append_assoc (passed_by false made first h) (a_broken o ∷ []) rest))
+    (epoch_driven over made first h (a_broken o ∷ rest) ds c.1 all is)
 
-pub broken_last : (first : Opening) (h : Journal) → Conducted first h → is_unanswered h ≡ true → IsUncut h → BrokenLast first h
-broken_last first [] c one uncut = absurd uncut
-broken_last first (began o ∷ h) c one uncut = record { early = part_outcomes h; o = o; outcomes = refl; driven = broken_driven first h o c }
-broken_last first (cut k ∷ h) c one uncut = absurd uncut
-broken_last first (at_port e ∷ h) c one uncut =
-    let b = broken_last first h c.1 (was_unanswered e (is_unanswered h) one) uncut in record { early = b.early; o = b.o; outcomes = b.outcomes; driven = b.driven }
-broken_last first (_ ∷ h) c one uncut = let b = broken_last first h c.1 one uncut in record { early = b.early; o = b.o; outcomes = b.outcomes; driven = b.driven }
+pub broken_last : (made : ℕ) (first : Opening) (h : Journal) → Conducted first h → is_unanswered h ≡ true → IsUncut h → AllMade made h → BrokenLast made first h
+broken_last made first [] c one uncut all = absurd uncut
+broken_last made first (began o ∷ h) c one uncut all = record { early = part_outcomes h; o = o; outcomes = refl; driven = broken_driven made first h o c all }
+broken_last made first (cut k ∷ h) c one uncut all = absurd uncut
+broken_last made first (at_port e ∷ h) c one uncut all =
+    let b = broken_last made first h c.1 (was_unanswered e (is_unanswered h) one) uncut all in record { early = b.early; o = b.o; outcomes = b.outcomes; driven = b.driven }
+broken_last made first (_ ∷ h) c one uncut all = let b = broken_last made first h c.1 one uncut all in record { early = b.early; o = b.o; outcomes = b.outcomes; driven = b.driven }
+
+-- ---- a last cut that is not made
+
+pub uncut_made : (made : ℕ) (h : Journal) → IsUncut h → is_pending made h ≡ false
+uncut_made made [] uncut = absurd uncut
+uncut_made made (began o ∷ h) uncut = refl
+uncut_made made (cut k ∷ h) uncut = absurd uncut
+uncut_made made (_ ∷ h) uncut = uncut_made made h uncut
+
+no_not : (t : Bool) → not t ≡ false → t ≡ true
+no_not true none = refl
+no_not false none = absurd cc
+
+no_true : (t : Bool) → not t ≡ true → t ≡ false
+no_true true is = absurd cc
+no_true false is = refl
+
+-- all are made but for that
+pub others_made : (made : ℕ) (first : Opening) (h : Journal) → Conducted first h → known_of h ≤ made → is_pending made h ≡ false → AllMade made h
+others_made made first [] c known none = tt
+others_made made first (began o ∷ h) c known none = made_before_line made first h o c known
+others_made made first (cut k ∷ h) c known none = (no_not (is_made made h) none, made_before_cut made first h k c known)
+others_made made first (at_port e ∷ h) c known none = others_made made first h c.1 (less_known first e h made c known) none
+others_made made first (_ ∷ h) c known none = others_made made first h c.1 known none
+
+-- a cut that is not made comes behind all lines and all other cuts
+pub record Pends (made : ℕ) (first : Opening) (h : Journal) : Type 0 where
+  pub before : Journal
+  pub k : ℕ
+  pub conducted : Conducted first (cut k ∷ before)
+  pub all : AllMade made before
+  pub passed : passed_by false made first h ≡ passed_by false made first before
+  pub parts : board_parts first h ≡ part_of first k before ∷ board_parts first before
+
+pub pends_there : (made : ℕ) (first : Opening) (h : Journal) → Conducted first h → known_of h ≤ made → is_pending made h ≡ true → Pends made first h
+pends_there made first [] c known one = absurd cc
+pends_there made first (began o ∷ h) c known one = absurd cc
+pends_there made first (cut k ∷ h) c known one = record {
+  before = h;
+  k = k;
+  conducted = c;
+  all = made_before_cut made first h k c known;
+  passed = ap (λ (t : Bool). passed_by false made first h ++ cond t (a_cut k (end_from first.place (given_of h)) ∷ []) []) (no_true (is_made made h) one) ∙ append-nil (passed_by false made first h);
+  parts = refl;
+}
+pends_there made first (at_port e ∷ h) c known one =
+    let p = pends_there made first h c.1 (less_known first e h made c known) one in record { before = p.before; k = p.k; conducted = p.conducted; all = p.all; passed = p.passed; parts = p.parts }
+pends_there made first (_ ∷ h) c known one =
+    let p = pends_there made first h c.1 known one in record { before = p.before; k = p.k; conducted = p.conducted; all = p.all; passed = p.passed; parts = p.parts }
 
 -- ---- the last part of a run that is done
 

@@ -1,5 +1,5 @@
 -- Where a reset finds a course, and what it leaves.
-use Rattle.std.proofs.Common.{◌≡◌, ◌⊎◌, inl, inr, ℕ, ◌+◌, Bool, true, false, ◌||◌, cond, List, [], ◌∷◌, ◌++◌, map, length, refl, sym, ap, ◌∙◌, subst}
+use Rattle.std.proofs.Common.{◌≡◌, ◌⊎◌, inl, inr, ℕ, ◌+◌, ◌≤◌, Bool, true, false, ◌||◌, cond, List, [], ◌∷◌, ◌++◌, map, length, refl, sym, ap, ◌∙◌, subst}
 use Rattle.feed_hold.specs.declared.Motion.{Motion}
 use Rattle.feed_hold.specs.declared.Motion.TheVariants as motions
 use Rattle.feed_hold.specs.Motions.{is_moving}
@@ -17,7 +17,7 @@ use Rattle.run_texts.specs.SoFar.{LeadsTo}
 use Rattle.units.specs.declared.Steps3.{Steps3}
 use Rattle.board_rules.specs.Openings.{Opening}
 use Rattle.board_rules.specs.Ports.{taken_in}
-use Rattle.board_rules.specs.Steps.{Journal, port_log, lines_of, before_of, left_of, motion_of}
+use Rattle.board_rules.specs.Steps.{known_of, Journal, port_log, lines_of, before_of, left_of, motion_of}
 use Rattle.board_rules.specs.Turns.{is_locked}
 use Rattle.board_rules.specs.Whole.{has_any_moved}
 use Rattle.board_rules.proofs.Alarms.{alarmed_is}
@@ -28,11 +28,12 @@ use Rattle.board_epochs.specs.Resets.{MayReset}
 use Rattle.board_epochs.specs.Work.{Work}
 use Rattle.board_epochs.proofs.Prompting.{calm, going}
 use Rattle.board_epochs.proofs.Texts.{point_there, number_is_last}
-use Rattle.epoch_courses.specs.Course.{is_unanswered, passed_by, passed_at_reset, point_behind, point_broken, point_at_reset}
+use Rattle.epoch_courses.specs.Course.{before_by, is_unanswered, passed_by, passed_at_reset, point_behind, point_broken, point_at_reset}
 use Rattle.epoch_courses.specs.Taken.{bytes_behind}
 use Rattle.epoch_courses.proofs.Answered.{only_told, ends_there}
-use Rattle.epoch_courses.proofs.Broken.{IsBreakable, SameKept, breakable_or_told, broken_free, broken_number, broken_leads, broken_calm, answered_calm, kept_answered, kept_broken}
-use Rattle.epoch_courses.proofs.Epoch.{epoch_leads}
+use Rattle.epoch_courses.proofs.Broken.{IsBreakable, breakable_or_told, broken_free, broken_number, broken_leads, broken_calm, answered_calm, kept_answered, kept_broken}
+use Rattle.epoch_courses.proofs.Epoch.{SameKept, same_but, epoch_leads}
+use Rattle.epoch_courses.proofs.Uncut.{uncut_there}
 use Rattle.epoch_courses.proofs.Locked.{alarm_is}
 use Rattle.epoch_courses.proofs.Tells.{tells_alone, none_left}
 use Rattle.epoch_courses.proofs.Texts.{dropped_counted, waiting_are, reset_comes}
@@ -64,44 +65,49 @@ by_calm m true still moves = refl
 by_calm m false still moves = absurd (stands_or_moves m (still refl) moves)
 
 -- all lines are answered, and nothing is left to do
-answered_there : (first : Opening) (h : Journal) (tail : List Sent) → IsEpoch first h → MayReset first h → is_unanswered h ≡ false → ComesThere first h tail (passed_by false first h) (point_behind first h)
-answered_there first h tail is may all =
+answered_there : (made : ℕ) (first : Opening) (h : Journal) (tail : List Sent) → IsEpoch first h → MayReset first h → known_of h ≤ made → is_unanswered h ≡ false → ComesThere first h tail (passed_by false made first h) (point_behind made first h)
+answered_there made first h tail is may known all =
     let c = is.conducted in
+    let same = same_but made first h in
     let free : left_of first h ≡ [] = none_left (left_of first h) (only_told first h c (going first h is may) all) may.told in
     record {
-      leads = epoch_leads first h tail c;
+      leads = epoch_leads made first h tail c known;
       found = record {
-        free = alarmed_is first h ∙ calm first h is may;
-        number = refl;
+        free = same.alarmed ∙ alarmed_is first h ∙ calm first h is may;
+        number = same.number;
         locked = refl;
-        kept = kept_answered first h c all;
-        moved = by_calm (motion_of first h) (has_any_moved (before_of first h)) (λ (still : has_any_moved (before_of first h) ≡ false). (answered_calm first h c (going first h is may) free still).still);
+        kept = kept_answered made first h c all;
+        moved = by_calm (motion_of first h) (has_any_moved (before_by made first h))
+            (λ (still : has_any_moved (before_by made first h) ≡ false). (answered_calm made first h c (going first h is may) free still).still);
       };
     }
 
 -- the last line has told nothing
-broken_there : (first : Opening) (h : Journal) (tail : List Sent) → IsEpoch first h → MayReset first h → is_unanswered h ≡ true → ComesThere first h tail (passed_by true first h) (point_broken first h)
-broken_there first h tail is may one = by_line (breakable_or_told first h is.conducted (going first h is may) one)
+broken_there : (made : ℕ) (first : Opening) (h : Journal) (tail : List Sent) → IsEpoch first h → MayReset first h → known_of h ≤ made → is_unanswered h ≡ true → ComesThere first h tail (passed_by true made first h) (point_broken made first h)
+broken_there made first h tail is may known one = by_line (breakable_or_told first h is.conducted (going first h is may) one)
   where
-    by_line : IsBreakable first h ⊎ (tells_alone (left_of first h) ≡ true) → ComesThere first h tail (passed_by true first h) (point_broken first h)
+    by_line : IsBreakable first h ⊎ (tells_alone (left_of first h) ≡ true) → ComesThere first h tail (passed_by true made first h) (point_broken made first h)
     by_line (inr told) = absurd (subst Ends (none_left (left_of first h) told may.told) (ends_there first h is.conducted (calm first h is may) one))
     by_line (inl breaks) = let c = is.conducted in record {
-      leads = broken_leads first h tail c one breaks.becomes;
+      leads = broken_leads made first h tail c known one (uncut_there first h is may one) breaks.becomes;
       found = record {
-        free = broken_free first h c one;
-        number = broken_number first h c one;
-        locked = breaks.locked;
-        kept = kept_broken first h c one;
-        moved = by_calm (motion_of first h) (has_any_moved (point_broken first h).before) (λ (still : has_any_moved (point_broken first h).before ≡ false). (broken_calm first h c one still).still);
+        free = broken_free made first h c one;
+        number = broken_number made first h c one;
+        locked = breaks.locked made;
+        kept = kept_broken made first h c one;
+        moved = by_calm (motion_of first h) (has_any_moved (point_broken made first h).before)
+            (λ (still : has_any_moved (point_broken made first h).before ≡ false). (broken_calm made first h c one still).still);
       };
     }
 
-pub comes_there : (first : Opening) (h : Journal) (tail : List Sent) → IsEpoch first h → MayReset first h → ComesThere first h tail (passed_at_reset first h) (point_at_reset first h)
-comes_there first h tail is may = by_one (is_unanswered h) refl
+pub comes_there : (made : ℕ) (first : Opening) (h : Journal) (tail : List Sent) → IsEpoch first h → MayReset first h → known_of h ≤ made → ComesThere first h tail (passed_at_reset made first h) (point_at_reset made first h)
+comes_there made first h tail is may known = by_one (is_unanswered h) refl
   where
-    by_one : (t : Bool) → is_unanswered h ≡ t → ComesThere first h tail (passed_by (is_unanswered h) first h) (cond (is_unanswered h) (point_broken first h) (point_behind first h))
-    by_one true one = subst (λ (t : Bool). ComesThere first h tail (passed_by t first h) (cond t (point_broken first h) (point_behind first h))) (sym one) (broken_there first h tail is may one)
-    by_one false all = subst (λ (t : Bool). ComesThere first h tail (passed_by t first h) (cond t (point_broken first h) (point_behind first h))) (sym all) (answered_there first h tail is may all)
+    by_one : (t : Bool) → is_unanswered h ≡ t → ComesThere first h tail (passed_by (is_unanswered h) made first h) (cond (is_unanswered h) (point_broken made first h) (point_behind made first h))
+    by_one true one =
+        subst (λ (t : Bool). ComesThere first h tail (passed_by t made first h) (cond t (point_broken made first h) (point_behind made first h))) (sym one) (broken_there made first h tail is may known one)
+    by_one false all =
+        subst (λ (t : Bool). ComesThere first h tail (passed_by t made first h) (cond t (point_broken made first h) (point_behind made first h))) (sym all) (answered_there made first h tail is may known all)
 
 -- ---- what it leaves
 

@@ -1,5 +1,5 @@
 -- What an epoch answers, reports left out, is what greets and what its course tells.
-use Rattle.std.proofs.Common.{◌≡◌, ◌⊎◌, inl, inr, Bool, true, false, List, [], ◌∷◌, ◌++◌, drop, refl, sym, ap, ◌∙◌, subst, append_assoc, append-nil}
+use Rattle.std.proofs.Common.{◌≡◌, ◌⊎◌, inl, inr, ℕ, Bool, true, false, cond, List, [], ◌∷◌, ◌++◌, drop, refl, sym, ap, ◌∙◌, subst, append_assoc, append-nil}
 use Rattle.std.proofs.lemmas.Grind.{flat_map-append}
 use Rattle.std.proofs.lemmas.List.{append_cancel_right}
 use Rattle.std.specs.List.{flat_map}
@@ -14,6 +14,7 @@ use Rattle.run_texts.specs.Told.{told_of, told_in}
 use Rattle.status_report.specs.Answering.{without_reports}
 use Rattle.status_report.specs.declared.Reply.{Reply}
 use Rattle.step_line.specs.Asking.Asked.{a_move, a_mark, a_rest}
+use Rattle.units.specs.declared.Steps3.{Steps3}
 use Rattle.board_rules.specs.Conduct.{Conducted, MayDo}
 use Rattle.board_rules.specs.Openings.{Opening}
 use Rattle.board_rules.specs.Ports.PortStep.{answered}
@@ -26,7 +27,7 @@ use Rattle.board_rules.proofs.Tasks.{none_closed}
 use Rattle.board_epochs.specs.Epochs.{IsEpoch}
 use Rattle.board_epochs.specs.Resets.{MayReset}
 use Rattle.board_epochs.proofs.Prompting.{calm, going}
-use Rattle.epoch_courses.specs.Course.{is_unanswered, passed_by, passed_at_reset}
+use Rattle.epoch_courses.specs.Course.{is_made, is_unanswered, passed_by, passed_at_reset}
 use Rattle.epoch_courses.proofs.Answered.{BeginsNone, alone_on, only_told, ends_there}
 use Rattle.epoch_courses.proofs.Broken.{was_unanswered}
 use Rattle.epoch_courses.proofs.Tells.{tells_alone, tells_last, last_tail, last_kept, none_left, begun_last}
@@ -39,12 +40,17 @@ all_told outcomes = flat_map (λ (o : Outcome). tells o.work) outcomes
 told_on : (ps qs : List Passed) → told_in (ps ++ qs) ≡ told_in ps ++ told_in qs
 told_on ps qs = flat_map-append told_of ps qs
 
-pub told_lines : (first : Opening) (h : Journal) → told_in (passed_by false first h) ≡ all_told (outcomes_of h)
-told_lines first [] = refl
-told_lines first (began o ∷ h) =
-    told_on (passed_by false first h) (a_line o ∷ []) ∙ ap (λ (rs : List Reply). rs ++ (tells o.work ++ [])) (told_lines first h) ∙ sym (flat_map-append (λ (x : Outcome). tells x.work) (outcomes_of h) (o ∷ []))
-told_lines first (cut k ∷ h) = told_on (passed_by false first h) (a_cut k (end_from first.place (given_of h)) ∷ []) ∙ append-nil (told_in (passed_by false first h)) ∙ told_lines first h
-told_lines first (_ ∷ h) = told_lines first h
+-- a cut tells nothing
+pub cut_tells : (t : Bool) (k : ℕ) (at : Steps3) → told_in (cond t (a_cut k at ∷ []) []) ≡ []
+cut_tells true k at = refl
+cut_tells false k at = refl
+
+pub told_lines : (made : ℕ) (first : Opening) (h : Journal) → told_in (passed_by false made first h) ≡ all_told (outcomes_of h)
+told_lines made first [] = refl
+told_lines made first (began o ∷ h) =
+    told_on (passed_by false made first h) (a_line o ∷ []) ∙ ap (λ (rs : List Reply). rs ++ (tells o.work ++ [])) (told_lines made first h) ∙ sym (flat_map-append (λ (x : Outcome). tells x.work) (outcomes_of h) (o ∷ []))
+told_lines made first (cut k ∷ h) = told_on (passed_by false made first h) (cond (is_made made h) (a_cut k (end_from first.place (given_of h)) ∷ []) []) ∙ ap (λ (rs : List Reply). told_in (passed_by false made first h) ++ rs) (cut_tells (is_made made h) k (end_from first.place (given_of h))) ∙ append-nil (told_in (passed_by false made first h)) ∙ told_lines made first h
+told_lines made first (_ ∷ h) = told_lines made first h
 
 -- what there was to do of the line begun last
 abbrev begun_work : Journal → List Task
@@ -52,15 +58,15 @@ begun_work [] = []
 begun_work (began o ∷ h) = o.work
 begun_work (_ ∷ h) = begun_work h
 
-told_broken : (first : Opening) (h : Journal) → is_unanswered h ≡ true → told_in (passed_by true first h) ++ tells (begun_work h) ≡ all_told (outcomes_of h)
-told_broken first [] one = absurd cc
-told_broken first (began o ∷ h) one =
-    ap (λ (rs : List Reply). rs ++ tells o.work) (told_on (passed_by false first h) (a_broken o ∷ []) ∙ append-nil (told_in (passed_by false first h)) ∙ told_lines first h)
+told_broken : (made : ℕ) (first : Opening) (h : Journal) → is_unanswered h ≡ true → told_in (passed_by true made first h) ++ tells (begun_work h) ≡ all_told (outcomes_of h)
+told_broken made first [] one = absurd cc
+told_broken made first (began o ∷ h) one =
+    ap (λ (rs : List Reply). rs ++ tells o.work) (told_on (passed_by false made first h) (a_broken o ∷ []) ∙ append-nil (told_in (passed_by false made first h)) ∙ told_lines made first h)
     ∙ ap (λ (rs : List Reply). all_told (outcomes_of h) ++ rs) (sym (append-nil (tells o.work))) ∙ sym (flat_map-append (λ (x : Outcome). tells x.work) (outcomes_of h) (o ∷ []))
-told_broken first (cut k ∷ h) one =
-    ap (λ (rs : List Reply). rs ++ tells (begun_work h)) (told_on (passed_by true first h) (a_cut k (end_from first.place (given_of h)) ∷ []) ∙ append-nil (told_in (passed_by true first h))) ∙ told_broken first h one
-told_broken first (at_port e ∷ h) one = told_broken first h (was_unanswered e (is_unanswered h) one)
-told_broken first (_ ∷ h) one = told_broken first h one
+told_broken made first (cut k ∷ h) one =
+    ap (λ (rs : List Reply). rs ++ tells (begun_work h)) (told_on (passed_by true made first h) (cond (is_made made h) (a_cut k (end_from first.place (given_of h)) ∷ []) []) ∙ ap (λ (rs : List Reply). told_in (passed_by true made first h) ++ rs) (cut_tells (is_made made h) k (end_from first.place (given_of h))) ∙ append-nil (told_in (passed_by true made first h))) ∙ told_broken made first h one
+told_broken made first (at_port e ∷ h) one = told_broken made first h (was_unanswered e (is_unanswered h) one)
+told_broken made first (_ ∷ h) one = told_broken made first h one
 
 -- ---- what is left of a line that is not answered
 
@@ -115,24 +121,24 @@ both_told : (first : Opening) (h : Journal) → IsEpoch first h → MayReset fir
 both_told first h is may =
     sym (append-nil (first.tells ++ all_told (outcomes_of h))) ∙ ap (λ (rs : List Reply). (first.tells ++ all_told (outcomes_of h)) ++ rs) (sym (going first h is may)) ∙ told_is first h is.conducted
 
-answered_told : (first : Opening) (h : Journal) → IsEpoch first h → MayReset first h → is_unanswered h ≡ false → without_reports (answered_of h) ≡ first.tells ++ told_in (passed_by false first h)
-answered_told first h is may all =
+answered_told : (made : ℕ) (first : Opening) (h : Journal) → IsEpoch first h → MayReset first h → is_unanswered h ≡ false → without_reports (answered_of h) ≡ first.tells ++ told_in (passed_by false made first h)
+answered_told made first h is may all =
     let free : left_of first h ≡ [] = none_left (left_of first h) (only_told first h is.conducted (going first h is may) all) may.told in
     sym (append-nil (without_reports (answered_of h))) ∙ ap (λ (ts : List Task). without_reports (answered_of h) ++ tells ts) (sym free) ∙ sym (both_told first h is may)
-    ∙ ap (λ (rs : List Reply). first.tells ++ rs) (sym (told_lines first h))
+    ∙ ap (λ (rs : List Reply). first.tells ++ rs) (sym (told_lines made first h))
 
-broken_told : (first : Opening) (h : Journal) → IsEpoch first h → MayReset first h → is_unanswered h ≡ true → without_reports (answered_of h) ≡ first.tells ++ told_in (passed_by true first h)
-broken_told first h is may one = by_left (untold first h is.conducted (going first h is may) one)
+broken_told : (made : ℕ) (first : Opening) (h : Journal) → IsEpoch first h → MayReset first h → is_unanswered h ≡ true → without_reports (answered_of h) ≡ first.tells ++ told_in (passed_by true made first h)
+broken_told made first h is may one = by_left (untold first h is.conducted (going first h is may) one)
   where
-    by_left : UntoldOrAlone first h → without_reports (answered_of h) ≡ first.tells ++ told_in (passed_by true first h)
+    by_left : UntoldOrAlone first h → without_reports (answered_of h) ≡ first.tells ++ told_in (passed_by true made first h)
     by_left (inr alone) = absurd (subst Ends (none_left (left_of first h) alone may.told) (ends_there first h is.conducted (calm first h is may) one))
-    by_left (inl none) = append_cancel_right (without_reports (answered_of h)) (first.tells ++ told_in (passed_by true first h)) (tells (begun_work h))
+    by_left (inl none) = append_cancel_right (without_reports (answered_of h)) (first.tells ++ told_in (passed_by true made first h)) (tells (begun_work h))
         (ap (λ (rs : List Reply). without_reports (answered_of h) ++ rs) (sym none.0) ∙ sym (both_told first h is may)
-        ∙ ap (λ (rs : List Reply). first.tells ++ rs) (sym (told_broken first h one)) ∙ sym (append_assoc first.tells (told_in (passed_by true first h)) (tells (begun_work h))))
+        ∙ ap (λ (rs : List Reply). first.tells ++ rs) (sym (told_broken made first h one)) ∙ sym (append_assoc first.tells (told_in (passed_by true made first h)) (tells (begun_work h))))
 
-pub told_at_end : (first : Opening) (h : Journal) → IsEpoch first h → MayReset first h → without_reports (answered_of h) ≡ first.tells ++ told_in (passed_at_reset first h)
-told_at_end first h is may = by_one (is_unanswered h) refl
+pub told_at_end : (made : ℕ) (first : Opening) (h : Journal) → IsEpoch first h → MayReset first h → without_reports (answered_of h) ≡ first.tells ++ told_in (passed_at_reset made first h)
+told_at_end made first h is may = by_one (is_unanswered h) refl
   where
-    by_one : (t : Bool) → is_unanswered h ≡ t → without_reports (answered_of h) ≡ first.tells ++ told_in (passed_by (is_unanswered h) first h)
-    by_one true one = broken_told first h is may one ∙ ap (λ (t : Bool). first.tells ++ told_in (passed_by t first h)) (sym one)
-    by_one false all = answered_told first h is may all ∙ ap (λ (t : Bool). first.tells ++ told_in (passed_by t first h)) (sym all)
+    by_one : (t : Bool) → is_unanswered h ≡ t → without_reports (answered_of h) ≡ first.tells ++ told_in (passed_by (is_unanswered h) made first h)
+    by_one true one = broken_told made first h is may one ∙ ap (λ (t : Bool). first.tells ++ told_in (passed_by t made first h)) (sym one)
+    by_one false all = answered_told made first h is may all ∙ ap (λ (t : Bool). first.tells ++ told_in (passed_by t made first h)) (sym all)

@@ -27,9 +27,9 @@ use Rattle.board_epochs.specs.Epochs.Epochs.{goes, resets}
 use Rattle.board_epochs.specs.Work.{Work, Works, stage_of}
 use Rattle.board_epochs.proofs.Onto.{answered_on}
 use Rattle.board_epochs.proofs.Working.{all_of, never}
-use Rattle.epoch_courses.specs.Course.{passed_by, passed_so_far, passed_at_reset, closed_course, course_of}
+use Rattle.epoch_courses.specs.Course.{is_made, made_at_halt, passed_by, passed_so_far, passed_at_reset, closed_course, course_of}
 use Rattle.epoch_courses.specs.Told.{answered_by, without_byes, untold_by, closing_by}
-use Rattle.epoch_courses.proofs.Telling.{told_lines, told_at_end}
+use Rattle.epoch_courses.proofs.Telling.{cut_tells, told_lines, told_at_end}
 
 -- the work of a reset answers nothing
 none_answered : (number : ℕ) (before : BoardLog) (w : Work) → Works number before w → answered_in (port_log w ++ before) ≡ answered_in before
@@ -68,53 +68,53 @@ closed_told state [] c = refl
 closed_told state (e ∷ es) c =
     let first = opening_behind state es in
     let r = reset_of (ticks_made es) first e.journal e.work in
-    let passed = passed_at_reset first e.journal in
+    let passed = passed_at_reset (made_at_halt (ticks_made es) e.work) first e.journal in
     ap (λ (rs : List Reply). rs ++ told_at_reset r) (plain_closed state e es c
-    ∙ ap (λ (rs : List Reply). without_reports (answered_in (closed_log es)) ++ rs) (told_at_end first e.journal c.0.resetting.epoch c.0.resetting.may))
+    ∙ ap (λ (rs : List Reply). without_reports (answered_in (closed_log es)) ++ rs) (told_at_end (made_at_halt (ticks_made es) e.work) first e.journal c.0.resetting.epoch c.0.resetting.may))
     ∙ joined (without_reports (answered_in (closed_log es))) first.tells (told_in passed) (told_at_reset r) (told_in (closed_course state es)) (closed_told state es c.1)
     ∙ ap (λ (rs : List Reply). replies.Banner ∷ (told_in (closed_course state es) ++ rs)) (sym (told_by_reset passed r))
     ∙ ap (λ (rs : List Reply). replies.Banner ∷ rs) (sym (told_on (closed_course state es) (passed ++ a_reset r ∷ [])))
 
 -- ---- all epochs
 
-open_told : (state : State) (es : NewestFirst Closed) (h : Journal) → AreClosed state es → Conducted (opening_behind state es) h
-    → replies.Banner ∷ (told_in (course_of state (goes es h)) ++ closed_tells h) ≡ without_reports (answered_by (goes es h)) ++ tells (left_of (opening_behind state es) h)
-open_told state es h c is =
+open_told : (state : State) (made : ℕ) (es : NewestFirst Closed) (h : Journal) → AreClosed state es → Conducted (opening_behind state es) h
+    → replies.Banner ∷ (told_in (course_of state made (goes es h)) ++ closed_tells h) ≡ without_reports (answered_by (goes es h)) ++ tells (left_of (opening_behind state es) h)
+open_told state made es h c is =
     let first = opening_behind state es in
     let was = without_reports (answered_in (closed_log es)) in
-    let told = told_in (passed_so_far first h) in
+    let told = told_in (passed_so_far made first h) in
     let closed = told_in (closed_course state es) in
-    ap (λ (rs : List Reply). replies.Banner ∷ (rs ++ closed_tells h)) (told_on (closed_course state es) (passed_so_far first h))
+    ap (λ (rs : List Reply). replies.Banner ∷ (rs ++ closed_tells h)) (told_on (closed_course state es) (passed_so_far made first h))
     ∙ ap (λ (rs : List Reply). replies.Banner ∷ rs) (append_assoc closed told (closed_tells h))
     ∙ sym (joined was first.tells told (closed_tells h) closed (closed_told state es c))
     ∙ append_assoc was (first.tells ++ told) (closed_tells h)
-    ∙ ap (λ (rs : List Reply). was ++ ((first.tells ++ rs) ++ closed_tells h)) (told_lines first h)
+    ∙ ap (λ (rs : List Reply). was ++ ((first.tells ++ rs) ++ closed_tells h)) (told_lines made first h)
     ∙ ap (λ (rs : List Reply). was ++ rs) (told_is first h is)
     ∙ sym (append_assoc was (without_reports (answered_of h)) (tells (left_of first h)))
     ∙ ap (λ (rs : List Reply). rs ++ tells (left_of first h)) (sym (plain_behind (closed_log es) h))
 
-reset_told : (state : State) (es : NewestFirst Closed) (h : Journal) (w : Work) → AreEpochs state (resets es h w)
-    → replies.Banner ∷ (told_in (course_of state (resets es h w)) ++ []) ≡ without_reports (answered_by (resets es h w)) ++ []
-reset_told state es h w c =
+reset_told : (state : State) (made : ℕ) (es : NewestFirst Closed) (h : Journal) (w : Work) → AreEpochs state (resets es h w)
+    → replies.Banner ∷ (told_in (course_of state made (resets es h w)) ++ []) ≡ without_reports (answered_by (resets es h w)) ++ []
+reset_told state made es h w c =
     let first = opening_behind state es in
     let was = without_reports (answered_in (closed_log es)) in
-    let told = told_in (passed_at_reset first h) in
+    let told = told_in (passed_at_reset made first h) in
     let closed = told_in (closed_course state es) in
-    ap (λ (rs : List Reply). replies.Banner ∷ (rs ++ [])) (told_on (closed_course state es) (passed_at_reset first h))
+    ap (λ (rs : List Reply). replies.Banner ∷ (rs ++ [])) (told_on (closed_course state es) (passed_at_reset made first h))
     ∙ ap (λ (rs : List Reply). replies.Banner ∷ rs) (append_assoc closed told [])
     ∙ sym (joined was first.tells told [] closed (closed_told state es c.0))
-    ∙ ap (λ (rs : List Reply). (was ++ rs) ++ []) (sym (told_at_end first h c.1.epoch c.1.may))
+    ∙ ap (λ (rs : List Reply). (was ++ rs) ++ []) (sym (told_at_end made first h c.1.epoch c.1.may))
     ∙ ap (λ (rs : List Reply). rs ++ []) (sym (ap without_reports (none_answered (last_line first h) (log_behind (closed_log es) h) w c.1.works) ∙ plain_behind (closed_log es) h))
 
-pub epochs_tell : (state : State) (es : Epochs) → AreEpochs state es → replies.Banner ∷ (told_in (course_of state es) ++ closing_by es) ≡ without_reports (answered_by es) ++ untold_by state es
-epochs_tell state (goes es h) c = open_told state es h c.0 c.1.conducted
-epochs_tell state (resets es h w) c = reset_told state es h w c
+pub epochs_tell : (state : State) (made : ℕ) (es : Epochs) → AreEpochs state es → replies.Banner ∷ (told_in (course_of state made es) ++ closing_by es) ≡ without_reports (answered_by es) ++ untold_by state es
+epochs_tell state made (goes es h) c = open_told state made es h c.0 c.1.conducted
+epochs_tell state made (resets es h w) c = reset_told state made es h w c
 
-pub finished_tell : (state : State) (es : NewestFirst Closed) (h : Journal) → AreEpochs state (goes es h) → IsFinished (opening_behind state es) h
-    → without_reports (answered_by (goes es h)) ≡ replies.Banner ∷ (told_in (course_of state (goes es h)) ++ replies.Bye ∷ [])
-finished_tell state es h c over =
-    sym (append-nil (without_reports (answered_by (goes es h)))) ∙ ap (λ ts. without_reports (answered_by (goes es h)) ++ tells ts) (sym over.left) ∙ sym (epochs_tell state (goes es h) c)
-    ∙ ap (λ (rs : List Reply). replies.Banner ∷ (told_in (course_of state (goes es h)) ++ rs)) over.closed
+pub finished_tell : (state : State) (made : ℕ) (es : NewestFirst Closed) (h : Journal) → AreEpochs state (goes es h) → IsFinished (opening_behind state es) h
+    → without_reports (answered_by (goes es h)) ≡ replies.Banner ∷ (told_in (course_of state made (goes es h)) ++ replies.Bye ∷ [])
+finished_tell state made es h c over =
+    sym (append-nil (without_reports (answered_by (goes es h)))) ∙ ap (λ ts. without_reports (answered_by (goes es h)) ++ tells ts) (sym over.left) ∙ sym (epochs_tell state made (goes es h) c)
+    ∙ ap (λ (rs : List Reply). replies.Banner ∷ (told_in (course_of state made (goes es h)) ++ rs)) over.closed
 
 -- ---- without Bye
 
@@ -137,14 +137,15 @@ item_no_byes : (broken : Bool) (o : Outcome) → NoByes (tells o.work) → NoBye
 item_no_byes true o none = tt
 item_no_byes false o none = subst NoByes (sym (append-nil (tells o.work))) none
 
-passed_no_byes : (broken : Bool) (first : Opening) (h : Journal) → Conducted first h → NoByes (told_in (passed_by broken first h))
-passed_no_byes broken first [] c = tt
-passed_no_byes broken first (began o ∷ h) c =
-    subst NoByes (sym (told_on (passed_by false first h) (cond broken (a_broken o) (a_line o) ∷ [])))
-    (no_byes_on (told_in (passed_by false first h)) (told_in (cond broken (a_broken o) (a_line o) ∷ [])) (passed_no_byes false first h c.1) (item_no_byes broken o (line_no_byes first h o c.0)))
-passed_no_byes broken first (cut k ∷ h) c =
-    subst NoByes (sym (told_on (passed_by broken first h) (a_cut k (end_from first.place (given_of h)) ∷ []) ∙ append-nil (told_in (passed_by broken first h)))) (passed_no_byes broken first h c.1)
-passed_no_byes broken first (_ ∷ h) c = passed_no_byes broken first h c.1
+passed_no_byes : (broken : Bool) (made : ℕ) (first : Opening) (h : Journal) → Conducted first h → NoByes (told_in (passed_by broken made first h))
+passed_no_byes broken made first [] c = tt
+passed_no_byes broken made first (began o ∷ h) c =
+    subst NoByes (sym (told_on (passed_by false made first h) (cond broken (a_broken o) (a_line o) ∷ [])))
+    (no_byes_on (told_in (passed_by false made first h)) (told_in (cond broken (a_broken o) (a_line o) ∷ [])) (passed_no_byes false made first h c.1) (item_no_byes broken o (line_no_byes first h o c.0)))
+passed_no_byes broken made first (cut k ∷ h) c =
+    subst NoByes (sym (told_on (passed_by broken made first h) (cond (is_made made h) (a_cut k (end_from first.place (given_of h)) ∷ []) [])
+    ∙ ap (λ (rs : List Reply). told_in (passed_by broken made first h) ++ rs) (cut_tells (is_made made h) k (end_from first.place (given_of h))) ∙ append-nil (told_in (passed_by broken made first h)))) (passed_no_byes broken made first h c.1)
+passed_no_byes broken made first (_ ∷ h) c = passed_no_byes broken made first h c.1
 
 greeting_no_byes : (alarm locked : Bool) (r : Reset) → r.alarm ≡ alarm → r.locked ≡ locked → NoByes (told_at_reset r)
 greeting_no_byes true true r a l = rw (a, l) ((λ e. absurd cc), ((λ e. absurd cc), ((λ e. absurd cc), tt)))
@@ -157,19 +158,19 @@ closed_no_byes state [] c = tt
 closed_no_byes state (e ∷ es) c =
     let first = opening_behind state es in
     let r = reset_of (ticks_made es) first e.journal e.work in
-    let passed = passed_at_reset first e.journal in
+    let passed = passed_at_reset (made_at_halt (ticks_made es) e.work) first e.journal in
     subst NoByes (sym (told_on (closed_course state es) (passed ++ a_reset r ∷ []) ∙ ap (λ (rs : List Reply). told_in (closed_course state es) ++ rs) (told_by_reset passed r)))
     (no_byes_on (told_in (closed_course state es)) (told_in passed ++ told_at_reset r) (closed_no_byes state es c.1)
-    (no_byes_on (told_in passed) (told_at_reset r) (passed_no_byes _ first e.journal c.0.resetting.epoch.conducted) (greeting_no_byes r.alarm r.locked r refl refl)))
+    (no_byes_on (told_in passed) (told_at_reset r) (passed_no_byes _ _ first e.journal c.0.resetting.epoch.conducted) (greeting_no_byes r.alarm r.locked r refl refl)))
 
-course_no_byes : (state : State) (es : Epochs) → AreEpochs state es → NoByes (told_in (course_of state es))
-course_no_byes state (goes es h) c =
+course_no_byes : (state : State) (made : ℕ) (es : Epochs) → AreEpochs state es → NoByes (told_in (course_of state made es))
+course_no_byes state made (goes es h) c =
     let first = opening_behind state es in
-    subst NoByes (sym (told_on (closed_course state es) (passed_so_far first h))) (no_byes_on (told_in (closed_course state es)) (told_in (passed_so_far first h)) (closed_no_byes state es c.0) (passed_no_byes false first h c.1.conducted))
-course_no_byes state (resets es h w) c =
+    subst NoByes (sym (told_on (closed_course state es) (passed_so_far made first h))) (no_byes_on (told_in (closed_course state es)) (told_in (passed_so_far made first h)) (closed_no_byes state es c.0) (passed_no_byes false made first h c.1.conducted))
+course_no_byes state made (resets es h w) c =
     let first = opening_behind state es in
-    subst NoByes (sym (told_on (closed_course state es) (passed_at_reset first h)))
-    (no_byes_on (told_in (closed_course state es)) (told_in (passed_at_reset first h)) (closed_no_byes state es c.0) (passed_no_byes _ first h c.1.epoch.conducted))
+    subst NoByes (sym (told_on (closed_course state es) (passed_at_reset made first h)))
+    (no_byes_on (told_in (closed_course state es)) (told_in (passed_at_reset made first h)) (closed_no_byes state es c.0) (passed_no_byes _ _ first h c.1.epoch.conducted))
 
 only_byes : (h : Journal) → without_byes (closed_tells h) ≡ []
 only_byes [] = refl
@@ -187,23 +188,23 @@ both_out (replies.Bye ∷ rs) = both_out rs
 both_out (replies.Report r ∷ rs) = both_out rs
 both_out (r ∷ rs) = ap (λ (ss : List Reply). r ∷ ss) (both_out rs)
 
-told_without : (state : State) (es : Epochs) → AreEpochs state es → replies.Banner ∷ told_in (course_of state es) ≡ without_reports (without_byes (answered_by es)) ++ without_byes (untold_by state es)
-told_without state es c =
-    let told = replies.Banner ∷ told_in (course_of state es) in
+told_without : (state : State) (made : ℕ) (es : Epochs) → AreEpochs state es → replies.Banner ∷ told_in (course_of state made es) ≡ without_reports (without_byes (answered_by es)) ++ without_byes (untold_by state es)
+told_without state made es c =
+    let told = replies.Banner ∷ told_in (course_of state made es) in
     sym (byes_on told (closing_by es) ∙ ap (λ (rs : List Reply). without_byes told ++ rs) (closing_byes es) ∙ append-nil (without_byes told)
-    ∙ ap (λ (rs : List Reply). replies.Banner ∷ rs) (none_dropped (told_in (course_of state es)) (course_no_byes state es c)))
-    ∙ ap without_byes (epochs_tell state es c)
+    ∙ ap (λ (rs : List Reply). replies.Banner ∷ rs) (none_dropped (told_in (course_of state made es)) (course_no_byes state made es c)))
+    ∙ ap without_byes (epochs_tell state made es c)
     ∙ byes_on (without_reports (answered_by es)) (untold_by state es)
     ∙ ap (λ (rs : List Reply). rs ++ without_byes (untold_by state es)) (sym (both_out (answered_by es)))
 
 -- what is answered is a front of what the course tells
-pub told_so_far : (state : State) (es : Epochs) → AreEpochs state es → BeginsWith (replies.Banner ∷ told_in (course_of state es)) (without_reports (without_byes (answered_by es)))
-told_so_far state es c = record { rest = without_byes (untold_by state es); is = told_without state es c }
+pub told_so_far : (state : State) (made : ℕ) (es : Epochs) → AreEpochs state es → BeginsWith (replies.Banner ∷ told_in (course_of state made es)) (without_reports (without_byes (answered_by es)))
+told_so_far state made es c = record { rest = without_byes (untold_by state es); is = told_without state made es c }
 
 -- a console that begins with the banner tells it
-pub console_tells : (state : State) (es : NewestFirst Closed) (h : Journal) (behind : List Reply) → AreEpochs state (goes es h) → IsFinished (opening_behind state es) h
-    → without_byes (answered_by (goes es h)) ≡ replies.Banner ∷ behind → IsTold (course_of state (goes es h)) (replies.Banner ∷ behind)
-console_tells state es h behind c over is =
-    let all : replies.Banner ∷ told_in (course_of state (goes es h)) ≡ replies.Banner ∷ without_reports behind =
-    told_without state (goes es h) c ∙ ap (λ ts. without_reports (without_byes (answered_by (goes es h))) ++ without_byes (tells ts)) over.left ∙ append-nil (without_reports (without_byes (answered_by (goes es h)))) ∙ ap without_reports is in
-    record { behind = behind; begins = refl; told = (let e : told_in (course_of state (goes es h)) ≡ without_reports behind = cc in sym e) }
+pub console_tells : (state : State) (made : ℕ) (es : NewestFirst Closed) (h : Journal) (behind : List Reply) → AreEpochs state (goes es h) → IsFinished (opening_behind state es) h
+    → without_byes (answered_by (goes es h)) ≡ replies.Banner ∷ behind → IsTold (course_of state made (goes es h)) (replies.Banner ∷ behind)
+console_tells state made es h behind c over is =
+    let all : replies.Banner ∷ told_in (course_of state made (goes es h)) ≡ replies.Banner ∷ without_reports behind =
+    told_without state made (goes es h) c ∙ ap (λ ts. without_reports (without_byes (answered_by (goes es h))) ++ without_byes (tells ts)) over.left ∙ append-nil (without_reports (without_byes (answered_by (goes es h)))) ∙ ap without_reports is in
+    record { behind = behind; begins = refl; told = (let e : told_in (course_of state made (goes es h)) ≡ without_reports behind = cc in sym e) }

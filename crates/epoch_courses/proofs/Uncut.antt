@@ -1,5 +1,5 @@
 -- No cut comes behind a line that a reset keeps from its answer: behind a cut nothing but replies is left.
-use Rattle.std.proofs.Common.{◌≡◌, ◌⊎◌, inl, inr, ℕ, Bool, true, false, List, [], ◌∷◌, ◌++◌, drop, refl, sym, ap, ◌∙◌}
+use Rattle.std.proofs.Common.{◌≡◌, ◌⊎◌, inl, inr, ℕ, Bool, true, false, List, [], ◌∷◌, ◌++◌, drop, refl, sym, ap, ◌∙◌, subst}
 use Rattle.planner_runs.specs.declared.Action.{Action}
 use Rattle.planner_runs.specs.declared.Action.TheVariants.{Add, Mark, Rest}
 use Rattle.run_rules.specs.Asks.{move_asked, planned}
@@ -21,10 +21,14 @@ use Rattle.board_rules.proofs.Alarms.{opposite}
 use Rattle.board_rules.proofs.Beginning.{caused, of_begun}
 use Rattle.board_rules.proofs.Jogging.{cancel_is_jog}
 use Rattle.board_rules.proofs.Tasks.{none_closed}
+use Rattle.board_rules.proofs.Phases.{Ends}
+use Rattle.board_epochs.specs.Epochs.{IsEpoch}
+use Rattle.board_epochs.specs.Resets.{MayReset}
+use Rattle.board_epochs.proofs.Prompting.{calm, going}
 use Rattle.epoch_courses.specs.Course.{is_unanswered}
-use Rattle.epoch_courses.proofs.Answered.{BeginsNone, alone_on}
-use Rattle.epoch_courses.proofs.Broken.{was_unanswered}
-use Rattle.epoch_courses.proofs.Tells.{tells_alone, alone_told, alone_kept}
+use Rattle.epoch_courses.proofs.Answered.{BeginsNone, alone_on, ends_there}
+use Rattle.epoch_courses.proofs.Broken.{IsUncut, was_unanswered}
+use Rattle.epoch_courses.proofs.Tells.{tells_alone, alone_told, alone_kept, none_left}
 
 -- ---- what is left of a jog
 
@@ -94,20 +98,22 @@ cut_alone first h k c going = jog_left first h c.1 c.0.calm going (cancel_is_jog
 
 -- ---- behind the line begun last
 
-abbrev pub IsUncut : Journal → Type 0
-IsUncut [] = ⊥
-IsUncut (began o ∷ h) = Unit {0}
-IsUncut (cut k ∷ h) = ⊥
-IsUncut (_ ∷ h) = IsUncut h
-
 uncut_on : (first : Opening) (s : Step) (h : Journal) → BeginsNone s → closed_tells (s ∷ h) ≡ [] → (IsUncut h → IsUncut (s ∷ h)) → IsUncut h ⊎ (tells_alone (left_of first h) ≡ true) → IsUncut (s ∷ h) ⊎ (tells_alone (left_of first (s ∷ h)) ≡ true)
 uncut_on first s h none going keeps (inl uncut) = inl (keeps uncut)
 uncut_on first s h none going keeps (inr alone) = inr (alone_on first s h none going alone)
 
-pub uncut_or_told : (first : Opening) (h : Journal) → Conducted first h → closed_tells h ≡ [] → is_unanswered h ≡ true → IsUncut h ⊎ (tells_alone (left_of first h) ≡ true)
+uncut_or_told : (first : Opening) (h : Journal) → Conducted first h → closed_tells h ≡ [] → is_unanswered h ≡ true → IsUncut h ⊎ (tells_alone (left_of first h) ≡ true)
 uncut_or_told first [] c going one = absurd cc
 uncut_or_told first (began o ∷ h) c going one = inl tt
 uncut_or_told first (cut k ∷ h) c going one = inr (cut_alone first h k c going)
 uncut_or_told first (closing ∷ h) c going one = absurd (none_closed (closed_tells h) going)
 uncut_or_told first (at_port e ∷ h) c going one = uncut_on first (at_port e) h tt going (λ u. u) (uncut_or_told first h c.1 going (was_unanswered e (is_unanswered h) one))
 uncut_or_told first (s ∷ h) c going one = uncut_on first s h tt going (λ u. u) (uncut_or_told first h c.1 going one)
+
+-- at a reset a last line that is not answered comes behind the last cut
+pub uncut_there : (first : Opening) (h : Journal) → IsEpoch first h → MayReset first h → is_unanswered h ≡ true → IsUncut h
+uncut_there first h is may one = by_left (uncut_or_told first h is.conducted (going first h is may) one)
+  where
+    by_left : IsUncut h ⊎ (tells_alone (left_of first h) ≡ true) → IsUncut h
+    by_left (inl uncut) = uncut
+    by_left (inr told) = absurd (subst Ends (none_left (left_of first h) told may.told) (ends_there first h is.conducted (calm first h is may) one))

@@ -1,5 +1,5 @@
 -- What the planner was given of a course, part by part.
-use Rattle.std.specs.Prelude.{◌≡◌, ℕ, Bool, List, [], ◌∷◌, ◌++◌, map, reverse}
+use Rattle.std.specs.Prelude.{◌≡◌, ℕ, Bool, true, false, not, cond, List, [], ◌∷◌, ◌++◌, map, reverse, drop}
 use Rattle.std.specs.List.{flat_map, list_any}
 use Rattle.flight.specs.Places.{end_from}
 use Rattle.legal_heads.specs.Speeds.{HasLegalHeads}
@@ -30,8 +30,10 @@ use Rattle.board_rules.specs.Cuts.{part_actions, part_given, part_start, part_pl
 use Rattle.board_rules.specs.Openings.{Opening}
 use Rattle.board_rules.specs.Parts.{Part as CutPart, DropsLast, IsAlarmedPart}
 use Rattle.board_rules.specs.Steps.{Journal, left_of}
-use Rattle.board_epochs.specs.Epochs.{Closed, Epochs, opening_behind}
+use Rattle.board_rules.specs.Steps.Step.{began, cut}
+use Rattle.board_epochs.specs.Epochs.{Closed, Epochs, opening_behind, ticks_made}
 use Rattle.board_epochs.specs.Epochs.Epochs.{goes, resets}
+use Rattle.epoch_courses.specs.Course.{is_made, made_at_halt}
 
 -- A part as the planner has run it: the plan with which it began, what was done to that, the pieces that it gave, the plan that was
 -- left, and what was left to ask.
@@ -112,14 +114,31 @@ driven_by_cut q = record { start = q.start; actions = q.actions; given = q.given
 abbrev pub driven_since : Opening → Journal → Driven
 driven_since first h = record { start = part_start h; actions = part_actions h; given = part_given h; plan = part_plan h; left = asks (left_of first h) }
 
+-- the last cut is not made, with so many ticks of the epoch made
+abbrev pub is_pending : (made : ℕ) → Journal → Bool
+is_pending made [] = false
+is_pending made (began o ∷ h) = false
+is_pending made (cut k ∷ h) = not (is_made made h)
+is_pending made (_ ∷ h) = is_pending made h
+
+-- the parts that cuts have ended which are made, the latest first
+abbrev pub cut_parts : (made : ℕ) → Opening → Journal → NewestFirst CutPart
+cut_parts made first h = drop (cond (is_pending made h) 1 0) (parts_of first h)
+
+-- The last part: what was done since the last cut, or, where that is not made, what was done before it.
+abbrev pub last_of : (pending : Bool) → NewestFirst CutPart → Driven → Driven
+last_of true (q ∷ qs) d = driven_by_cut q
+last_of true [] d = d
+last_of false qs d = d
+
 -- the parts of an epoch, in order
-abbrev pub drives_in : Opening → Journal → List Driven
-drives_in first h = map driven_by_cut (reverse (parts_of first h)) ++ driven_since first h ∷ []
+abbrev pub drives_in : (made : ℕ) → Opening → Journal → List Driven
+drives_in made first h = map driven_by_cut (reverse (cut_parts made first h)) ++ last_of (is_pending made h) (parts_of first h) (driven_since first h) ∷ []
 
 abbrev pub closed_drives : State → NewestFirst Closed → List Driven
 closed_drives state [] = []
-closed_drives state (e ∷ es) = closed_drives state es ++ drives_in (opening_behind state es) e.journal
+closed_drives state (e ∷ es) = closed_drives state es ++ drives_in (made_at_halt (ticks_made es) e.work) (opening_behind state es) e.journal
 
-abbrev pub drives_of : State → Epochs → List Driven
-drives_of state (goes es h) = closed_drives state es ++ drives_in (opening_behind state es) h
-drives_of state (resets es h w) = closed_drives state es ++ drives_in (opening_behind state es) h
+abbrev pub drives_of : State → (made : ℕ) → Epochs → List Driven
+drives_of state made (goes es h) = closed_drives state es ++ drives_in made (opening_behind state es) h
+drives_of state made (resets es h w) = closed_drives state es ++ drives_in made (opening_behind state es) h

@@ -1,6 +1,6 @@
 //! Laws of the courses of boards.
 
-ghost use Rattle.std.specs.Prelude.{◌≡◌, true, false, List, [], ◌∷◌, ◌++◌};
+ghost use Rattle.std.specs.Prelude.{◌≡◌, ℕ, ◌≤◌, true, false, List, [], ◌∷◌, ◌++◌};
 ghost use Rattle.flight.specs.Places.{origin};
 ghost use Rattle.planner_runs.specs.Runs.{fresh_plan};
 ghost use Rattle.run_rules.specs.declared.State.{State};
@@ -14,33 +14,36 @@ ghost use Rattle.status_report.specs.Answering.{without_reports};
 ghost use Rattle.status_report.specs.declared.Reply.{Reply as AnyReply};
 ghost use Rattle.step_line.specs.Logs.{NewestFirst};
 ghost use Rattle.board_rules.specs.Conduct.{IsFinished};
-ghost use Rattle.board_rules.specs.Steps.{Journal};
-ghost use Rattle.board_epochs.specs.Epochs.{Closed, Epochs, AreEpochs, opening_behind};
+ghost use Rattle.board_rules.specs.Steps.{Journal, known_of};
+ghost use Rattle.board_epochs.specs.Epochs.{Closed, Epochs, AreClosed, AreEpochs, opening_behind, ticks_made};
 ghost use Rattle.board_epochs.specs.Epochs.Epochs.{goes, resets};
-ghost use Rattle.epoch_courses.specs.Course.{course_of, stands_at, point_behind};
+ghost use Rattle.epoch_courses.specs.Course.{course_of, made_at_halt, open_journal, stands_at, point_behind};
 ghost use Rattle.epoch_courses.specs.Drives.{AreDriven, drives_of};
 ghost use Rattle.epoch_courses.specs.Taken.{sent_by, left_by};
 ghost use Rattle.epoch_courses.specs.Told.{answered_by, without_byes, untold_by, closing_by};
 
 /// What a board has done over its epochs is a course of what it has taken: line by line, cut by cut, reset by reset. It
 /// leads to where the board stands, and what is left is what it has taken and not begun. Once the run is closed and all is
-/// done, nothing is left.
+/// done, nothing is left. So many ticks of the open epoch are made, at least those that the board knows of; a cut is passed
+/// once its mark is made, since nothing is begun behind it before.
 pub fn epochs_are_a_course()
-    ensures leads { (state : State) (es : Epochs) → AreEpochs state es → LeadsTo (opening state) (sent_by es) (course_of state es) (stands_at state es) (left_by es) }
-    ensures follows { (state : State) (es : NewestFirst Closed) (h : Journal) → AreEpochs state (goes es h) → IsFinished (opening_behind state es) h →
-        Follows (opening state) (sent_by (goes es h)) (course_of state (goes es h)) (point_behind (opening_behind state es) h) }
+    ensures leads { (state : State) (made : ℕ) (es : Epochs) → AreEpochs state es → known_of (open_journal es) ≤ made →
+        LeadsTo (opening state) (sent_by es) (course_of state made es) (stands_at state made es) (left_by es) }
+    ensures follows { (state : State) (made : ℕ) (es : NewestFirst Closed) (h : Journal) → AreEpochs state (goes es h) → IsFinished (opening_behind state es) h → known_of h ≤ made →
+        Follows (opening state) (sent_by (goes es h)) (course_of state made (goes es h)) (point_behind made (opening_behind state es) h) }
+    ensures halted { (state : State) (e : Closed) (es : NewestFirst Closed) → AreClosed state (e ∷ es) → known_of e.journal ≤ made_at_halt (ticks_made es) e.work }
 {}
 
 /// What a board has answered over its epochs, reports left out, and what it is to tell yet, is the banner, what its course
 /// tells, and Bye once the run is being closed. So what is answered is at any time a front of what the course tells; and once
 /// all is done it is all of it: a console that begins with the banner tells the course.
 pub fn epochs_tell_their_course()
-    ensures told { (state : State) (es : Epochs) → AreEpochs state es → AnyReply.Banner ∷ (told_in (course_of state es) ++ closing_by es) ≡ without_reports (answered_by es) ++ untold_by state es }
-    ensures finished { (state : State) (es : NewestFirst Closed) (h : Journal) → AreEpochs state (goes es h) → IsFinished (opening_behind state es) h →
-        without_reports (answered_by (goes es h)) ≡ AnyReply.Banner ∷ (told_in (course_of state (goes es h)) ++ AnyReply.Bye ∷ []) }
-    ensures so_far { (state : State) (es : Epochs) → AreEpochs state es → BeginsWith (AnyReply.Banner ∷ told_in (course_of state es)) (without_reports (without_byes (answered_by es))) }
-    ensures console { (state : State) (es : NewestFirst Closed) (h : Journal) (behind : List AnyReply) → AreEpochs state (goes es h) → IsFinished (opening_behind state es) h →
-        without_byes (answered_by (goes es h)) ≡ AnyReply.Banner ∷ behind → IsTold (course_of state (goes es h)) (AnyReply.Banner ∷ behind) }
+    ensures told { (state : State) (made : ℕ) (es : Epochs) → AreEpochs state es → AnyReply.Banner ∷ (told_in (course_of state made es) ++ closing_by es) ≡ without_reports (answered_by es) ++ untold_by state es }
+    ensures finished { (state : State) (made : ℕ) (es : NewestFirst Closed) (h : Journal) → AreEpochs state (goes es h) → IsFinished (opening_behind state es) h →
+        without_reports (answered_by (goes es h)) ≡ AnyReply.Banner ∷ (told_in (course_of state made (goes es h)) ++ AnyReply.Bye ∷ []) }
+    ensures so_far { (state : State) (made : ℕ) (es : Epochs) → AreEpochs state es → BeginsWith (AnyReply.Banner ∷ told_in (course_of state made es)) (without_reports (without_byes (answered_by es))) }
+    ensures console { (state : State) (made : ℕ) (es : NewestFirst Closed) (h : Journal) (behind : List AnyReply) → AreEpochs state (goes es h) → IsFinished (opening_behind state es) h →
+        without_byes (answered_by (goes es h)) ≡ AnyReply.Banner ∷ behind → IsTold (course_of state made (goes es h)) (AnyReply.Banner ∷ behind) }
 {}
 
 /// Part by part, what the lines of the course ask for is what the planner was given, and what was left to ask. Each part is a
@@ -49,7 +52,8 @@ pub fn epochs_tell_their_course()
 /// and once all is done, all of the last part was run, or an alarm has stopped the machine. Each part begins with the plan,
 /// and a part behind a cut at the place, that the one before has left.
 pub fn epochs_ask_for_parts()
-    ensures parts { (state : State) (es : Epochs) → AreEpochs state es → AreDriven false origin fresh_plan (parts_of (course_of state es)) (drives_of state es) }
-    ensures finished { (state : State) (es : NewestFirst Closed) (h : Journal) → AreEpochs state (goes es h) → IsFinished (opening_behind state es) h →
-        AreDriven true origin fresh_plan (parts_of (course_of state (goes es h))) (drives_of state (goes es h)) }
+    ensures parts { (state : State) (made : ℕ) (es : Epochs) → AreEpochs state es → known_of (open_journal es) ≤ made →
+        AreDriven false origin fresh_plan (parts_of (course_of state made es)) (drives_of state made es) }
+    ensures finished { (state : State) (made : ℕ) (es : NewestFirst Closed) (h : Journal) → AreEpochs state (goes es h) → IsFinished (opening_behind state es) h → known_of h ≤ made →
+        AreDriven true origin fresh_plan (parts_of (course_of state made (goes es h))) (drives_of state made (goes es h)) }
 {}

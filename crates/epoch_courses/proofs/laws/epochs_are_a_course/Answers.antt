@@ -1,4 +1,5 @@
 use Rattle.epoch_courses.proofs.Chain.{epochs_lead, epochs_follow}
+use Rattle.epoch_courses.proofs.Halted.{known_made}
 use Rattle.epoch_courses.proofs.laws.epochs_are_a_course.Goals as goal
 
 pub returns-clause-leads : goal.returns-clause-leads
@@ -6,3 +7,6 @@ returns-clause-leads c = epochs_lead
 
 pub returns-clause-follows : goal.returns-clause-follows
 returns-clause-follows c = epochs_follow
+
+pub returns-clause-halted : goal.returns-clause-halted
+returns-clause-halted c = known_made
