@@ -35,7 +35,7 @@ use Rattle.run_texts.proofs.Joining.{join_on, line_leads}
 
 -- ---- where ticks lead
 
-heads_stay : (rs : List Record) (p : Steps3) → moved_by p (ticks_among rs) ≡ moved_by p rs
+pub heads_stay : (rs : List Record) (p : Steps3) → moved_by p (ticks_among rs) ≡ moved_by p rs
 heads_stay [] p = refl
 heads_stay (kinds.Head h ∷ rs) p = heads_stay rs p
 heads_stay (kinds.Event b ∷ rs) p = heads_stay rs (stepped p b)
