@@ -1,0 +1,11 @@
+//! What the pulse puts of pieces, epoch by epoch, and that it is what texts say.
+#![tactic(auto)]
+
+mod laws;
+mod rows;
+
+pub use laws::{
+    epochs_are_recorded, lines_ask_for_no_ending, machines_stand_where_records_lead,
+    parts_are_recorded,
+};
+pub use rows::{other_records_are_not_put, worked_epochs_are_put};
