@@ -112,7 +112,12 @@ pub fits_halted : (p q : Pulsing) (h : PieceLog) (k : RecordLog) (dropped : List
     → PulseFits p h k → PulseFits q (halted dropped ∷ h) k
 fits_halted p q h k dropped o v w o' v' f = record {
   turns = tt;
-  records = (p.waiting, f.waits, recorded_as h _ _ (ap (λ rs. rs ++ p.waiting) (sym (ap (λ rs. records_put k ++ rs) w ∙ append-nil (records_put k)))) f.records);
+  records = (
+    p.waiting,
+    f.waits,
+    recorded_as h _ _ (ap (λ rs. rs ++ p.waiting) (sym (ap (λ rs. records_put k ++ rs) w ∙ append-nil (records_put k)))) f.records,
+    omega (arith, f.ticks, ap one_if o, ap ticks_in (ap (λ rs. records_put k ++ rs) w ∙ append-nil (records_put k))),
+  );
   waits = w;
   ticks = f.ticks ∙ ap (λ b. counted h + one_if b) (o ∙ sym o');
   left = omega (arith, ap ticks_in w, ap one_if o');

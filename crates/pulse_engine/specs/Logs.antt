@@ -85,20 +85,25 @@ HasTick h = 0 < uncounted h
 abbrev pub SawStop : PieceLog → Type 0
 SawStop h = saw_stop h ≡ true
 
+-- how many of some records are ticks
+abbrev pub ticks_in : List Record → ℕ
+ticks_in [] = 0
+ticks_in (r ∷ rs) = one_if (is_tick r) + ticks_in rs
+
 -- what is left of the records of the last of some pieces
 abbrev pub IsEndOf : NewestFirst Piece → List Record → Type 0
 IsEndOf [] end = end ≡ []
 IsEndOf (p ∷ before) end = (front : List Record) × (records_of p ≡ front ++ end)
 
 -- What is recorded of the pieces got: the records of each, in order. A halt cuts the records of the piece that was got last: what
--- is left of them is lost, and all before it stands.
+-- is left of them is lost, and all before it stands, which has the ticks that were counted by then.
 abbrev pub IsRecorded : PieceLog → List Record → Type 0
 IsRecorded [] rs = rs ≡ []
 IsRecorded (asked b ∷ h) rs = IsRecorded h rs
 IsRecorded (got p ∷ h) rs = (before : List Record) × IsRecorded h before × (rs ≡ before ++ records_of p)
 IsRecorded (none ∷ h) rs = IsRecorded h rs
 IsRecorded (ticked ∷ h) rs = IsRecorded h rs
-IsRecorded (halted ps ∷ h) rs = (lost : List Record) × IsEndOf (got_since h) lost × IsRecorded h (rs ++ lost)
+IsRecorded (halted ps ∷ h) rs = (lost : List Record) × IsEndOf (got_since h) lost × IsRecorded h (rs ++ lost) × (ticks_in rs ≡ counted h)
 
 -- a record was put; there was no room for it
 pub data RecordEvent : Type 0 where
@@ -113,11 +118,6 @@ abbrev pub records_put : RecordLog → List Record
 records_put [] = []
 records_put (put r ∷ k) = records_put k ++ r ∷ []
 records_put (full r ∷ k) = records_put k
-
--- how many of some records are ticks
-abbrev pub ticks_in : List Record → ℕ
-ticks_in [] = 0
-ticks_in (r ∷ rs) = one_if (is_tick r) + ticks_in rs
 
 -- whether the last record put is the end
 abbrev pub end_is_put : RecordLog → Bool
