@@ -5,3 +5,5 @@ pub mod Ending
 pub mod Over
 pub mod Asking
 pub mod Worked
+pub mod Pulsing
+pub mod Epochs

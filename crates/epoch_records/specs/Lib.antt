@@ -1,3 +1,4 @@
 pub mod Epochs
 pub mod Runs
+pub mod Stretches
 pub mod Rows

@@ -1,8 +1,12 @@
 //! Laws of epochs and their records.
 
-ghost use Rattle.std.specs.Prelude.{◌≡◌, ℕ, ◌+◌, Bool, List, [], ◌∷◌, ◌++◌};
+ghost use Rattle.std.specs.Prelude.{◌≡◌, ℕ, ◌+◌, Bool, true, List, [], ◌∷◌, ◌++◌, reverse};
+ghost use Rattle.flight.specs.Halts.{Stretch};
 ghost use Rattle.flight.specs.Places.{moved_by, machine_from, end_from};
 ghost use Rattle.planner_runs.specs.Runs.{all_records};
+ghost use Rattle.pulse_engine.specs.Logs.{PieceLog, RecordLog, pieces_of, halts_of, records_put, end_is_put, IsRecorded as IsRecordedBy};
+ghost use Rattle.pulse_engine.specs.Steps.{Pulsing};
+ghost use Rattle.pulse_engine.specs.Turns.{PulseFits};
 ghost use Rattle.run_rules.specs.Work.{Outcome};
 ghost use Rattle.run_texts.specs.Courses.{Reset};
 ghost use Rattle.run_texts.specs.Making.{IsFinished};
@@ -11,12 +15,14 @@ ghost use Rattle.run_texts.specs.Parts.Ending.{by_cut, by_reset, by_end};
 ghost use Rattle.run_texts.specs.Points.{Point, BecomesAt};
 ghost use Rattle.run_texts.specs.Recorded.{IsRecorded, AreRecorded};
 ghost use Rattle.step_line.specs.Finishing.{ticks_together};
+ghost use Rattle.step_line.specs.Logs.{NewestFirst};
 ghost use Rattle.step_line.specs.declared.Mark.{Mark as AnyMark};
 ghost use Rattle.step_line.specs.declared.Piece.{Piece as AnyPiece};
 ghost use Rattle.step_line.specs.declared.Record.{Record as AnyRecord};
 ghost use Rattle.units.specs.declared.Steps3.{Steps3};
 ghost use Rattle.epoch_records.specs.Epochs.{Epoch, IsPut, ArePut};
 ghost use Rattle.epoch_records.specs.Runs.{AskForNoEnding, IsBrokenOff, IsCutOff, IsRunOut, AreRun};
+ghost use Rattle.epoch_records.specs.Stretches.{stretches_in, pieces_since, pieces_of_all, EndStretches, ArePutOver, AreEpochsOf};
 
 /// What is put of a planner run that a reset has broken off, by a halt amid a piece, are records of its part: the first ticks that its
 /// lines ask for, at least those up to the last answered line that settles, and legal heads, the last of which may miss
@@ -49,4 +55,33 @@ pub fn machines_stand_where_records_lead()
 /// No line asks for the mark of a cut or a reset.
 pub fn lines_ask_for_no_ending()
     ensures { (runs : Bool) (p : Point) (kept : List ℕ) (o : Outcome) → BecomesAt runs p kept o → AskForNoEnding (o ∷ []) }
+{}
+
+/// What a pulse has put is, halt by halt, the first of the records of the pieces that it got or dropped since the halt before, up to
+/// the ticks that it counted; and behind the last halt all records of the pieces that it got. These stretches have all its pieces, and end at
+/// its halts.
+pub fn pulses_put_stretches()
+    ensures recorded { (h : PieceLog) (records : List AnyRecord) → IsRecordedBy h records → ArePutOver (stretches_in h) (pieces_since h) records }
+    ensures done { (p : Pulsing) (h : PieceLog) (k : RecordLog) → PulseFits p h k → end_is_put k ≡ true → ArePutOver (stretches_in h) (pieces_since h) (records_put k) }
+    ensures pieces { (h : PieceLog) → pieces_of_all (stretches_in h) ++ pieces_since h ≡ reverse (pieces_of h) }
+    ensures halts { (h : PieceLog) → EndStretches (halts_of h) (stretches_in h) }
+{}
+
+/// Where stretches are epochs, what is put of them is put of the epochs, each with the mark or the end that closes it.
+pub fn stretches_are_epochs()
+    ensures { (epochs : List Epoch) (stretches : List Stretch) (last : List AnyPiece) (records : List AnyRecord) → AreEpochsOf [] epochs stretches last →
+        ArePutOver stretches last records → ArePut epochs records }
+{}
+
+/// Pieces are parted by halts in one way: who has the same pieces and the same halts has the same stretches.
+pub fn halts_part_pieces_in_one_way()
+    ensures { (halts : NewestFirst (ℕ × ℕ)) (stretches others : List Stretch) (last rest : List AnyPiece) → EndStretches halts stretches → EndStretches halts others →
+        pieces_of_all stretches ++ last ≡ pieces_of_all others ++ rest → (stretches ≡ others) × (last ≡ rest) }
+{}
+
+/// So where the pieces that a pulse got or dropped, halt by halt, are those of epochs that were run for the parts of texts, what it has
+/// put are the records of these parts.
+pub fn pulses_record_parts()
+    ensures { (parts : List Part) (place : Steps3) (epochs : List Epoch) (p : Pulsing) (h : PieceLog) (k : RecordLog) → AreRun parts place epochs →
+        AreEpochsOf [] epochs (stretches_in h) (pieces_since h) → PulseFits p h k → end_is_put k ≡ true → AreRecorded place parts (records_put k) }
 {}
