@@ -7,3 +7,5 @@ pub mod Asking
 pub mod Worked
 pub mod Pulsing
 pub mod Epochs
+pub mod Publishing
+pub mod SoFar

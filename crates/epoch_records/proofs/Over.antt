@@ -30,7 +30,7 @@ use Rattle.epoch_records.proofs.Halting.{reset_recorded}
 -- ---- an epoch behind a cut
 
 -- what is put of an epoch, at a cut whose mark is done
-record PutOver (k : ℕ) (given : List Piece) (rest : Epoch) (mine : List Record) : Type 0 where
+pub record PutOver (k : ℕ) (given : List Piece) (rest : Epoch) (mine : List Record) : Type 0 where
   pub later : List Record
   pub parted : mine ≡ all_records given ++ kinds.Mark (marks.Cut k) ∷ later
   pub put : IsPut rest later
@@ -79,7 +79,7 @@ by_reach e k given rest mine lost on put (beyond (r ∷ later) parted behind) =
     let tails : all_records rest.pieces ≡ later ++ lost = cc in
     mark_put e k given rest mine later on put (parted ∙ ap (λ (x : Record). all_records given ++ x ∷ later) (sym same)) (record { rest = lost; is = tails })
 
-put_over : (e : Epoch) (k : ℕ) (given : List Piece) (rest : Epoch) (mine : List Record) → GoesOnBehind e k given rest → IsPut e mine → PutOver k given rest mine
+pub put_over : (e : Epoch) (k : ℕ) (given : List Piece) (rest : Epoch) (mine : List Record) → GoesOnBehind e k given rest → IsPut e mine → PutOver k given rest mine
 put_over e k given rest mine on put =
     by_reach e k given rest mine put.first.rest on put
     (reaches (all_records given) (kinds.Mark (marks.Cut k) ∷ all_records rest.pieces) mine put.first.rest (sym (parted_records e k given rest on) ∙ put.first.is))

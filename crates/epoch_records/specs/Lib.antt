@@ -1,4 +1,6 @@
 pub mod Epochs
 pub mod Runs
 pub mod Stretches
+pub mod Publishing
+pub mod SoFar
 pub mod Rows

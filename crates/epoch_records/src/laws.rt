@@ -14,6 +14,7 @@ ghost use Rattle.run_texts.specs.Parts.{Part};
 ghost use Rattle.run_texts.specs.Parts.Ending.{by_cut, by_reset, by_end};
 ghost use Rattle.run_texts.specs.Points.{Point, BecomesAt};
 ghost use Rattle.run_texts.specs.Recorded.{IsRecorded, AreRecorded};
+ghost use Rattle.run_texts.specs.SoFar.{AreMadeSoFar};
 ghost use Rattle.step_line.specs.Finishing.{ticks_together};
 ghost use Rattle.step_line.specs.Logs.{NewestFirst};
 ghost use Rattle.step_line.specs.declared.Mark.{Mark as AnyMark};
@@ -21,7 +22,9 @@ ghost use Rattle.step_line.specs.declared.Piece.{Piece as AnyPiece};
 ghost use Rattle.step_line.specs.declared.Record.{Record as AnyRecord};
 ghost use Rattle.units.specs.declared.Steps3.{Steps3};
 ghost use Rattle.epoch_records.specs.Epochs.{Epoch, IsPut, ArePut};
+ghost use Rattle.epoch_records.specs.Publishing.{published_in, halts_in, but_none, AreOver};
 ghost use Rattle.epoch_records.specs.Runs.{AskForNoEnding, IsBrokenOff, IsCutOff, IsRunOut, AreRun};
+ghost use Rattle.epoch_records.specs.SoFar.{AreRunSoFar, ArePutSoFar};
 ghost use Rattle.epoch_records.specs.Stretches.{stretches_in, pieces_since, pieces_of_all, EndStretches, ArePutOver, AreEpochsOf};
 
 /// What is put of a planner run that a reset has broken off, by a halt amid a piece, are records of its part: the first ticks that its
@@ -79,9 +82,31 @@ pub fn halts_part_pieces_in_one_way()
         pieces_of_all stretches ++ last ≡ pieces_of_all others ++ rest → (stretches ≡ others) × (last ≡ rest) }
 {}
 
+/// Where a pulse got or dropped the pieces that were published of epochs, and halted where they halt, its stretches are these epochs
+/// (`all`); also where it stored no halt at no pieces (`some`).
+pub fn published_pieces_are_epochs()
+    ensures all { (epochs : List Epoch) (h : PieceLog) → AreOver epochs → reverse (pieces_of h) ≡ published_in epochs → halts_of h ≡ reverse (halts_in 0 0 epochs) →
+        AreEpochsOf [] epochs (stretches_in h) (pieces_since h) }
+    ensures some { (epochs : List Epoch) (h : PieceLog) → AreOver epochs → reverse (pieces_of h) ≡ published_in epochs → halts_of h ≡ reverse (but_none (halts_in 0 0 epochs)) →
+        AreEpochsOf [] epochs (stretches_in h) (pieces_since h) }
+{}
+
 /// So where the pieces that a pulse got or dropped, halt by halt, are those of epochs that were run for the parts of texts, what it has
-/// put are the records of these parts.
+/// put are the records of these parts (`stretches`): as where they are all that was published, and the halts are those of the epochs
+/// (`all`), or those but for one at no pieces (`some`).
 pub fn pulses_record_parts()
-    ensures { (parts : List Part) (place : Steps3) (epochs : List Epoch) (p : Pulsing) (h : PieceLog) (k : RecordLog) → AreRun parts place epochs →
+    ensures stretches { (parts : List Part) (place : Steps3) (epochs : List Epoch) (p : Pulsing) (h : PieceLog) (k : RecordLog) → AreRun parts place epochs →
         AreEpochsOf [] epochs (stretches_in h) (pieces_since h) → PulseFits p h k → end_is_put k ≡ true → AreRecorded place parts (records_put k) }
+    ensures all { (parts : List Part) (place : Steps3) (epochs : List Epoch) (p : Pulsing) (h : PieceLog) (k : RecordLog) → AreRun parts place epochs →
+        AreOver epochs → reverse (pieces_of h) ≡ published_in epochs → halts_of h ≡ reverse (halts_in 0 0 epochs) →
+        PulseFits p h k → end_is_put k ≡ true → AreRecorded place parts (records_put k) }
+    ensures some { (parts : List Part) (place : Steps3) (epochs : List Epoch) (p : Pulsing) (h : PieceLog) (k : RecordLog) → AreRun parts place epochs →
+        AreOver epochs → reverse (pieces_of h) ≡ published_in epochs → halts_of h ≡ reverse (but_none (halts_in 0 0 epochs)) →
+        PulseFits p h k → end_is_put k ≡ true → AreRecorded place parts (records_put k) }
+{}
+
+/// A run that goes on: what is put so far of its epochs is what is made of its parts, of which the last is not ended.
+pub fn epochs_are_made_so_far()
+    ensures { (parts : List Part) (place : Steps3) (epochs : List Epoch) (records : List AnyRecord) → AreRunSoFar parts place epochs → ArePutSoFar epochs records →
+        AreMadeSoFar place parts records }
 {}

@@ -1,10 +1,11 @@
-use Rattle.pulse_engine.specs.Logs.{records_put}
-use Rattle.epoch_records.proofs.Epochs.{stretches_put}
-use Rattle.epoch_records.proofs.Over.{are_recorded}
-use Rattle.epoch_records.proofs.Pulsing.{done_over}
-use Rattle.epoch_records.specs.Stretches.{stretches_in, pieces_since}
+use Rattle.epoch_records.proofs.Publishing.{parts_of_stretches, parts_of_all, parts_of_some}
 use Rattle.epoch_records.proofs.laws.pulses_record_parts.Goals as goal
 
-pub returns : goal.returns
-returns c = λ parts place epochs p h k run are fits end.
-    are_recorded parts place epochs (records_put k) run (stretches_put epochs (stretches_in h) (pieces_since h) (records_put k) are (done_over p h k fits end))
+pub returns-clause-stretches : goal.returns-clause-stretches
+returns-clause-stretches c = parts_of_stretches
+
+pub returns-clause-all : goal.returns-clause-all
+returns-clause-all c = parts_of_all
+
+pub returns-clause-some : goal.returns-clause-some
+returns-clause-some c = parts_of_some
