@@ -2,7 +2,7 @@
 use Rattle.std.proofs.Common.{◌≡◌, ◌≢◌, ℕ, suc, ◌+◌, arith, List, [], ◌∷◌, ◌++◌, length, take, false, sym, refl, ap, ◌∙◌, subst, append_assoc}
 use Rattle.std.specs.List.{flat_map, AllByRecursion}
 use Rattle.std.proofs.lemmas.Grind.{flat_map-append}
-use Rattle.std.proofs.lemmas.List.{take_at}
+use Rattle.std.proofs.lemmas.List.{take_at, length-append}
 use Rattle.std.proofs.lemmas.List.Elements.{filter-append, All-head, All-tail}
 use Rattle.units.specs.declared.Steps3.{Steps3}
 use Rattle.flight.specs.Places.{moved_by, machine_from, end_from}
@@ -32,6 +32,9 @@ use Rattle.epoch_records.specs.Runs.{IsRunFor}
 
 pub ticks_both : (xs ys : List Record) → ticks_among (xs ++ ys) ≡ ticks_among xs ++ ticks_among ys
 ticks_both xs ys = filter-append is_tick xs ys
+
+pub both_lengths : (xs ys : List Record) → length (ticks_among (xs ++ ys)) ≡ length (ticks_among xs) + length (ticks_among ys)
+both_lengths xs ys = ap length (ticks_both xs ys) ∙ length-append (ticks_among xs) (ticks_among ys)
 
 -- the ticks of a front, and the others
 pub front_ticks : (ps : List Piece) (mine : List Record) (b : BeginsWith (all_records ps) mine) → flat_map ticks_of ps ≡ ticks_among mine ++ ticks_among b.rest

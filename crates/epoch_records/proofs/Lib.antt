@@ -9,3 +9,4 @@ pub mod Pulsing
 pub mod Epochs
 pub mod Publishing
 pub mod SoFar
+pub mod Cutting

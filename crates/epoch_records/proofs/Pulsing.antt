@@ -1,7 +1,7 @@
 -- What a pulse has put, halt by halt.
 use Rattle.std.proofs.Common.{◌≡◌, ◌+◌, List, [], ◌∷◌, ◌++◌, length, reverse, true, sym, refl, ap, ◌∙◌, subst, append-nil, append_assoc, arith}
 use Rattle.std.proofs.lemmas.Grind.{flat_map-append}
-use Rattle.std.proofs.lemmas.List.{append_cancel_right, length-append, length-reverse, reverse-append}
+use Rattle.std.proofs.lemmas.List.{append_cancel_right, length-reverse, reverse-append}
 use Rattle.flight.specs.Halts.{Stretch, count_made}
 use Rattle.planner_runs.specs.Runs.{all_records}
 use Rattle.pulse_engine.specs.Logs.{PieceLog, RecordLog, pieces_of, got_since, counted, halts_of, records_put, ticks_in, end_is_put, IsEndOf, IsRecorded}
@@ -15,7 +15,7 @@ use Rattle.step_line.specs.declared.Piece.{Piece}
 use Rattle.step_line.specs.declared.Record.{Record}
 use Rattle.step_line.specs.declared.Record.TheVariants as kinds
 use Rattle.epoch_records.specs.Stretches.{counted_since, stretch_of, stretches_in, pieces_since, pieces_of_all, EndStretches, IsPutOf, ArePutOf, ArePutOver}
-use Rattle.epoch_records.proofs.Driving.{ticks_both}
+use Rattle.epoch_records.proofs.Driving.{both_lengths}
 
 -- ---- counts
 
@@ -25,9 +25,6 @@ ticks_length (kinds.Head h ∷ rs) = let more = ticks_length rs in omega (arith,
 ticks_length (kinds.Event b ∷ rs) = let more = ticks_length rs in omega (arith, more)
 ticks_length (kinds.Mark m ∷ rs) = let more = ticks_length rs in omega (arith, more)
 ticks_length (kinds.End ∷ rs) = let more = ticks_length rs in omega (arith, more)
-
-both_lengths : (xs ys : List Record) → length (ticks_among (xs ++ ys)) ≡ length (ticks_among xs) + length (ticks_among ys)
-both_lengths xs ys = ap length (ticks_both xs ys) ∙ length-append (ticks_among xs) (ticks_among ys)
 
 pub made_on : (ss : List Stretch) (s : Stretch) → count_made (ss ++ s ∷ []) ≡ count_made ss + s.done
 made_on [] s = omega arith

@@ -1,26 +1,31 @@
 //! Laws of epochs and their records.
 
-ghost use Rattle.std.specs.Prelude.{◌≡◌, ℕ, ◌+◌, Bool, true, List, [], ◌∷◌, ◌++◌, reverse};
+ghost use Rattle.std.specs.Prelude.{◌≡◌, ℕ, ◌+◌, Bool, true, List, [], ◌∷◌, ◌++◌, length, reverse};
 ghost use Rattle.flight.specs.Halts.{Stretch};
 ghost use Rattle.flight.specs.Places.{moved_by, machine_from, end_from};
-ghost use Rattle.planner_runs.specs.Runs.{all_records};
+ghost use Rattle.plan_rules.specs.Plans.{Planned};
+ghost use Rattle.planner_runs.specs.Runs.{Plans, IsStart, all_records};
+ghost use Rattle.planner_runs.specs.declared.Action.{Action as AnyAction};
 ghost use Rattle.pulse_engine.specs.Logs.{PieceLog, RecordLog, pieces_of, halts_of, records_put, end_is_put, IsRecorded as IsRecordedBy};
 ghost use Rattle.pulse_engine.specs.Steps.{Pulsing};
 ghost use Rattle.pulse_engine.specs.Turns.{PulseFits};
 ghost use Rattle.run_rules.specs.Work.{Outcome};
 ghost use Rattle.run_texts.specs.Courses.{Reset};
+ghost use Rattle.run_texts.specs.Fronts.{BeginsWith};
 ghost use Rattle.run_texts.specs.Making.{IsFinished};
 ghost use Rattle.run_texts.specs.Parts.{Part};
 ghost use Rattle.run_texts.specs.Parts.Ending.{by_cut, by_reset, by_end};
 ghost use Rattle.run_texts.specs.Points.{Point, BecomesAt};
 ghost use Rattle.run_texts.specs.Recorded.{IsRecorded, AreRecorded};
 ghost use Rattle.run_texts.specs.SoFar.{AreMadeSoFar};
+ghost use Rattle.step_line.specs.Asking.{ticks_among};
 ghost use Rattle.step_line.specs.Finishing.{ticks_together};
 ghost use Rattle.step_line.specs.Logs.{NewestFirst};
 ghost use Rattle.step_line.specs.declared.Mark.{Mark as AnyMark};
 ghost use Rattle.step_line.specs.declared.Piece.{Piece as AnyPiece};
 ghost use Rattle.step_line.specs.declared.Record.{Record as AnyRecord};
 ghost use Rattle.units.specs.declared.Steps3.{Steps3};
+ghost use Rattle.epoch_records.specs.Cutting.{HaveTicks, IsCutAmong};
 ghost use Rattle.epoch_records.specs.Epochs.{Epoch, IsPut, ArePut};
 ghost use Rattle.epoch_records.specs.Publishing.{published_in, halts_in, but_none, AreOver};
 ghost use Rattle.epoch_records.specs.Runs.{AskForNoEnding, IsBrokenOff, IsCutOff, IsRunOut, AreRun};
@@ -39,6 +44,15 @@ pub fn parts_are_recorded()
     ensures cut { (place : Steps3) (p : Part) (k : ℕ) (at : Steps3) (given : List AnyPiece) → p.ending ≡ by_cut k at →
         IsCutOff place p at given → IsRecorded place p (all_records given) }
     ensures end { (place : Steps3) (p : Part) (given : List AnyPiece) → p.ending ≡ by_end → IsRunOut p given → IsRecorded place p (all_records given) }
+{}
+
+/// Of an epoch's pieces, each with a tick of its own, the first are put whole, one is cut behind its first ticks, and of the others
+/// nothing is put: that is what is put, no more and no less (`cut`, `first`, `ticks`). The pieces of a planner run have ticks.
+pub fn halts_cut_one_piece()
+    ensures cut { (e : Epoch) (mine : List AnyRecord) → HaveTicks e.pieces → IsPut e mine → IsCutAmong e.pieces e.done mine }
+    ensures first { (pieces : List AnyPiece) (done : ℕ) (mine : List AnyRecord) → IsCutAmong pieces done mine → BeginsWith (all_records pieces) mine }
+    ensures ticks { (pieces : List AnyPiece) (done : ℕ) (mine : List AnyRecord) → IsCutAmong pieces done mine → length (ticks_among mine) ≡ done }
+    ensures runs { (most : ℕ) (start last : Planned) (actions : List AnyAction) (given : List AnyPiece) → IsStart start → Plans most start actions given last → HaveTicks given }
 {}
 
 /// Part by part, what is put of the epochs of a run is what its texts say.
