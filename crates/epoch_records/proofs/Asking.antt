@@ -21,7 +21,7 @@ use Rattle.epoch_records.proofs.Driving.{Inside}
 abbrev AsksInside : List Task → Type 0
 AsksInside ts = Inside (ticks_of_all (asks ts))
 
-events_inside : (bs : List Bits) (rs : List Record) → Inside rs → Inside (map kinds.Event bs ++ rs)
+pub events_inside : (bs : List Bits) (rs : List Record) → Inside rs → Inside (map kinds.Event bs ++ rs)
 events_inside [] rs all = all
 events_inside (b ∷ bs) rs all = (refl, events_inside bs rs all)
 

@@ -10,3 +10,4 @@ pub mod Epochs
 pub mod Publishing
 pub mod SoFar
 pub mod Cutting
+pub mod WorkedParts

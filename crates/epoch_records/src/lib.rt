@@ -9,4 +9,4 @@ pub use laws::{
     lines_ask_for_no_ending, machines_stand_where_records_lead, parts_are_recorded,
     published_pieces_are_epochs, pulses_put_stretches, pulses_record_parts, stretches_are_epochs,
 };
-pub use rows::{other_records_are_not_put, worked_epochs_are_put};
+pub use rows::{other_records_are_not_put, worked_epochs_are_put, worked_parts_are_run};
