@@ -68,6 +68,13 @@ of_given given behind done mine undone count b =
     by_reach given behind done mine b.rest undone count
     (reaches (all_records given) (all_records behind) mine b.rest (sym (flat_map-append records_of given behind) ∙ b.is))
 
+-- what is put of the pieces published is put of those given, of which one may be in hand
+with_hand : (published hand : List Piece) (mine : List Record) → BeginsWith (all_records published) mine → BeginsWith (all_records (published ++ hand)) mine
+with_hand published hand mine b = record {
+  rest = b.rest ++ all_records hand;
+  is = flat_map-append records_of published hand ∙ ap (λ (rs : List Record). rs ++ all_records hand) b.is ∙ append_assoc mine b.rest (all_records hand);
+}
+
 -- ---- heads
 
 all_are_ticks : (bs : List Bits) → ticks_among (map kinds.Event bs) ≡ map kinds.Event bs
@@ -122,7 +129,7 @@ halted_heads p r given last mine e run b =
 
 pub reset_recorded : (place : Steps3) (p : Part) (r : Reset) (e : Epoch) (mine : List Record) → p.ending ≡ by_reset r → IsBrokenOff place p r.at e.pieces e.done → IsPut e mine → IsRecorded place p mine
 reset_recorded place p r e mine ends is put =
-    let b = of_given is.given is.behind e.done mine is.undone put.ticks (subst (λ (ps : List Piece). BeginsWith (all_records ps) mine) is.both put.first) in
+    let b = of_given is.given is.behind e.done mine is.undone put.ticks (subst (λ (ps : List Piece). BeginsWith (all_records ps) mine) is.both (with_hand e.pieces is.hand mine put.first)) in
     record {
       inside = inside_first mine b.rest (subst Inside b.is (inside_given (lines_counted p) is.given is.last is.run));
       ticks = subst (λ (x : Ending). HasTicks p x (ticks_among mine)) (sym ends)

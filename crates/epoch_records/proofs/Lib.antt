@@ -11,3 +11,4 @@ pub mod Publishing
 pub mod SoFar
 pub mod Cutting
 pub mod WorkedParts
+pub mod Settling

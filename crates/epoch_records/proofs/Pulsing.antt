@@ -14,7 +14,7 @@ use Rattle.step_line.specs.Pieces.{records_of}
 use Rattle.step_line.specs.declared.Piece.{Piece}
 use Rattle.step_line.specs.declared.Record.{Record}
 use Rattle.step_line.specs.declared.Record.TheVariants as kinds
-use Rattle.epoch_records.specs.Stretches.{counted_since, stretch_of, stretches_in, pieces_since, pieces_of_all, EndStretches, IsPutOf, ArePutOf, ArePutOver}
+use Rattle.epoch_records.specs.Stretches.{counted_since, stretch_of, stretches_in, pieces_since, pieces_of_all, EndStretches, IsPutOf, ArePutOf, ArePutOver, ArePutSince}
 use Rattle.epoch_records.proofs.Driving.{both_lengths}
 
 -- ---- counts
@@ -112,6 +112,20 @@ recorded_over (halted ps ∷ h) rs is = over_halt h ps rs is.0 (recorded_over h 
 
 pub done_over : (p : Pulsing) (h : PieceLog) (k : RecordLog) → PulseFits p h k → end_is_put k ≡ true → ArePutOver (stretches_in h) (pieces_since h) (records_put k)
 done_over p h k fits end = recorded_over h (records_put k) (done_put p h k fits end).0
+
+-- at any moment
+put_since : (h : PieceLog) (rs lost : List Record) → ArePutOver (stretches_in h) (pieces_since h) (rs ++ lost) → Ends (got_since h) lost → ArePutSince (stretches_in h) (pieces_since h) rs
+put_since h rs lost over ends = record {
+  halted = over.halted;
+  mine = ends.mine;
+  split = append_cancel_right rs (over.halted ++ ends.mine) lost
+      (over.split ∙ ap (λ (xs : List Record). over.halted ++ xs) ends.is ∙ sym (append_assoc over.halted ends.mine lost));
+  are = over.are;
+  first = record { rest = lost; is = ends.is };
+}
+
+pub since_over : (p : Pulsing) (h : PieceLog) (k : RecordLog) → PulseFits p h k → ArePutSince (stretches_in h) (pieces_since h) (records_put k)
+since_over p h k fits = put_since h (records_put k) p.waiting (recorded_over h (records_put k ++ p.waiting) fits.records) (ends_of (got_since h) p.waiting fits.waits)
 
 -- ---- pieces and halts
 

@@ -50,7 +50,7 @@ under_way_made place p e mine is put =
     let at = machine_from place e.pieces e.done in
     let q = as_broken p at in
     let recorded = reset_recorded place q (reset_here at) (broken e) mine refl
-    (record { given = is.given; behind = is.behind; both = is.both; undone = is.undone; last = is.last; run = is.run; settled = none_low e.done; stands = refl }) (put_broken e mine put) in
+    (record { hand = is.hand; given = is.given; behind = is.behind; both = is.both; undone = is.undone; last = is.last; run = is.run; settled = none_low e.done; stands = refl }) (put_broken e mine put) in
     let done = finished place q mine recorded in
     (done.making, done.is)
 

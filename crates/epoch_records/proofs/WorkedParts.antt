@@ -50,6 +50,7 @@ three_parts_are_run s m = (
   (
     refl,
     record {
+      hand = [];
       given = pieces.Mark (marks.Dwell 0) ∷ [];
       behind = [];
       both = refl;

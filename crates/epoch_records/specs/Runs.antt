@@ -47,7 +47,7 @@ pub record IsCutOff (place : Steps3) (p : Part) (at : Steps3) (given : List Piec
   pub jogs : LosesJogsAlone (ticks_together given) (lines_counted p)
   pub stands : at ≡ end_from place given
 
--- Behind the pieces that were given for a part nothing was published, or the mark of a cut and more, of which no tick was made.
+-- Behind the pieces that were given for a part nothing was given, or the mark of a cut and more, of which no tick was made.
 abbrev pub IsUndone : ℕ → List Piece → List Piece → Type 0
 IsUndone done given [] = Unit {0}
 IsUndone done given (pieces.Segment s ∷ more) = ⊥
@@ -55,11 +55,12 @@ IsUndone done given (pieces.Mark m ∷ more) = done ≤ ticks_together given
 IsUndone done given (pieces.End ∷ more) = ⊥
 
 -- A reset has ended a part: so many ticks were made of the pieces that were published, at least those up to the last answered line
--- that settles. It stands where they lead.
+-- that settles; a piece that was given may be in hand, and is not published. It stands where the ticks lead.
 pub record IsBrokenOff (place : Steps3) (p : Part) (at : Steps3) (published : List Piece) (done : ℕ) : Type 0 where
+  pub hand : List Piece
   pub given : List Piece
   pub behind : List Piece
-  pub both : published ≡ given ++ behind
+  pub both : published ++ hand ≡ given ++ behind
   pub undone : IsUndone done given behind
   pub last : Planned
   pub run : IsRunFor (lines_counted p) given last

@@ -12,9 +12,10 @@ use Rattle.epoch_records.specs.Stretches.{IsPutOf}
 
 -- A part that is not ended, while so many ticks are made of what was published.
 pub record IsUnderWay (p : Part) (published : List Piece) (done : ℕ) : Type 0 where
+  pub hand : List Piece
   pub given : List Piece
   pub behind : List Piece
-  pub both : published ≡ given ++ behind
+  pub both : published ++ hand ≡ given ++ behind
   pub undone : IsUndone done given behind
   pub last : Planned
   pub run : IsRunFor (lines_counted p) given last

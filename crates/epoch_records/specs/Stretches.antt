@@ -71,6 +71,14 @@ pub record ArePutOver (ss : List Stretch) (last : List Piece) (records : List Re
   pub split : records ≡ halted ++ all_records last
   pub are : ArePutOf ss halted
 
+-- of stretches that halts have ended, and the first of the records of the pieces behind the last halt
+pub record ArePutSince (ss : List Stretch) (last : List Piece) (records : List Record) : Type 0 where
+  pub halted : List Record
+  pub mine : List Record
+  pub split : records ≡ halted ++ mine
+  pub are : ArePutOf ss halted
+  pub first : BeginsWith (all_records last) mine
+
 -- ---- epochs
 
 -- what is published first of an epoch but the first: the mark that ends the one before

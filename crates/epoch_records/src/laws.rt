@@ -1,6 +1,7 @@
 //! Laws of epochs and their records.
 
-ghost use Rattle.std.specs.Prelude.{◌≡◌, ℕ, ◌+◌, Bool, true, List, [], ◌∷◌, ◌++◌, length, reverse};
+ghost use Rattle.std.specs.Prelude.{◌≡◌, ℕ, ◌+◌, ◌≤◌, Bool, true, List, [], ◌∷◌, ◌++◌, length, reverse};
+ghost use Rattle.std.specs.List.{sum};
 ghost use Rattle.flight.specs.Halts.{Stretch};
 ghost use Rattle.flight.specs.Places.{moved_by, machine_from, end_from};
 ghost use Rattle.plan_rules.specs.Plans.{Planned};
@@ -9,6 +10,8 @@ ghost use Rattle.planner_runs.specs.declared.Action.{Action as AnyAction};
 ghost use Rattle.pulse_engine.specs.Logs.{PieceLog, RecordLog, pieces_of, halts_of, records_put, end_is_put, IsRecorded as IsRecordedBy};
 ghost use Rattle.pulse_engine.specs.Steps.{Pulsing};
 ghost use Rattle.pulse_engine.specs.Turns.{PulseFits};
+ghost use Rattle.run_rules.specs.Cuts.{counts_asked};
+ghost use Rattle.run_rules.specs.Reports.{fewest};
 ghost use Rattle.run_rules.specs.Work.{Outcome};
 ghost use Rattle.run_texts.specs.Courses.{Reset};
 ghost use Rattle.run_texts.specs.Fronts.{BeginsWith};
@@ -16,7 +19,7 @@ ghost use Rattle.run_texts.specs.Making.{IsFinished};
 ghost use Rattle.run_texts.specs.Parts.{Part};
 ghost use Rattle.run_texts.specs.Parts.Ending.{by_cut, by_reset, by_end};
 ghost use Rattle.run_texts.specs.Points.{Point, BecomesAt};
-ghost use Rattle.run_texts.specs.Recorded.{IsRecorded, AreRecorded};
+ghost use Rattle.run_texts.specs.Recorded.{IsRecorded, AreRecorded, settled_ticks};
 ghost use Rattle.run_texts.specs.SoFar.{AreMadeSoFar};
 ghost use Rattle.step_line.specs.Asking.{ticks_among};
 ghost use Rattle.step_line.specs.Finishing.{ticks_together};
@@ -30,7 +33,7 @@ ghost use Rattle.epoch_records.specs.Epochs.{Epoch, IsPut, ArePut};
 ghost use Rattle.epoch_records.specs.Publishing.{published_in, halts_in, but_none, AreOver};
 ghost use Rattle.epoch_records.specs.Runs.{AskForNoEnding, IsBrokenOff, IsCutOff, IsRunOut, AreRun};
 ghost use Rattle.epoch_records.specs.SoFar.{AreRunSoFar, ArePutSoFar};
-ghost use Rattle.epoch_records.specs.Stretches.{stretches_in, pieces_since, pieces_of_all, EndStretches, ArePutOver, AreEpochsOf};
+ghost use Rattle.epoch_records.specs.Stretches.{stretches_in, pieces_since, pieces_of_all, EndStretches, ArePutOver, ArePutSince, AreEpochsOf};
 
 /// What is put of a planner run that a reset has broken off, by a halt amid a piece, are records of its part: the first ticks that its
 /// lines ask for, at least those up to the last answered line that settles, and legal heads, the last of which may miss
@@ -69,17 +72,26 @@ pub fn machines_stand_where_records_lead()
         machine_from place (given ++ AnyPiece.Mark m ∷ more) (ticks_together given + 1 + done) ≡ machine_from (end_from place given) more done }
 {}
 
+/// Where so many ticks count of each line before a part, and of the part's lines all that they ask for, and those are done that are done
+/// at least once the part's lines are answered (`fewest`), then of the part's ticks those up to its last answered line that settles are
+/// done. So a reset may break it off.
+pub fn answered_lines_are_done()
+    ensures { (early lines begun : List Outcome) (counts : List ℕ) (done : ℕ) → length counts ≡ length early →
+        fewest (length early + length lines) (early ++ (lines ++ begun)) (counts ++ counts_asked (lines ++ begun)) ≤ sum counts + done → settled_ticks lines ≤ done }
+{}
+
 /// No line asks for the mark of a cut or a reset.
 pub fn lines_ask_for_no_ending()
     ensures { (runs : Bool) (p : Point) (kept : List ℕ) (o : Outcome) → BecomesAt runs p kept o → AskForNoEnding (o ∷ []) }
 {}
 
 /// What a pulse has put is, halt by halt, the first of the records of the pieces that it got or dropped since the halt before, up to
-/// the ticks that it counted; and behind the last halt all records of the pieces that it got. These stretches have all its pieces, and end at
+/// the ticks that it counted; and behind the last halt the first of the records of the pieces that it got, once the end is put all of them. These stretches have all its pieces, and end at
 /// its halts.
 pub fn pulses_put_stretches()
     ensures recorded { (h : PieceLog) (records : List AnyRecord) → IsRecordedBy h records → ArePutOver (stretches_in h) (pieces_since h) records }
     ensures done { (p : Pulsing) (h : PieceLog) (k : RecordLog) → PulseFits p h k → end_is_put k ≡ true → ArePutOver (stretches_in h) (pieces_since h) (records_put k) }
+    ensures so_far { (p : Pulsing) (h : PieceLog) (k : RecordLog) → PulseFits p h k → ArePutSince (stretches_in h) (pieces_since h) (records_put k) }
     ensures pieces { (h : PieceLog) → pieces_of_all (stretches_in h) ++ pieces_since h ≡ reverse (pieces_of h) }
     ensures halts { (h : PieceLog) → EndStretches (halts_of h) (stretches_in h) }
 {}

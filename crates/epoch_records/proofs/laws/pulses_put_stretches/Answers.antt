@@ -1,4 +1,4 @@
-use Rattle.epoch_records.proofs.Pulsing.{recorded_over, done_over, all_pieces, halts_end}
+use Rattle.epoch_records.proofs.Pulsing.{recorded_over, done_over, since_over, all_pieces, halts_end}
 use Rattle.epoch_records.proofs.laws.pulses_put_stretches.Goals as goal
 
 pub returns-clause-recorded : goal.returns-clause-recorded
@@ -12,3 +12,6 @@ returns-clause-pieces c = all_pieces
 
 pub returns-clause-halts : goal.returns-clause-halts
 returns-clause-halts c = halts_end
+
+pub returns-clause-so_far : goal.returns-clause-so_far
+returns-clause-so_far c = since_over
