@@ -58,7 +58,7 @@ answered_none number before (_ ∷ w) c = absurd c.0
 abbrev pub Marked : BoardLog → ℕ → Type 0
 Marked l resets = ((resets ≡ 0) × (l ≡ [])) ⊎ AreMarked l resets
 
-worked_then : (first : Opening) (h : Journal) (before : BoardLog) → Conducted first h → MayReset first h → last_of (greeted_in (link_steps (log_behind before h))) ≡ next_mark (link_steps before)
+pub worked_then : (first : Opening) (h : Journal) (before : BoardLog) → Conducted first h → MayReset first h → last_of (greeted_in (link_steps (log_behind before h))) ≡ next_mark (link_steps before)
 worked_then first h before c may =
     ap (λ (ss : List LinkStep). last_of (greeted_in ss)) (steps_on (known_in before) (port_log h) before) ∙ (greeted_with first h (link_steps before) c (was_greeted first h c may)).0
 

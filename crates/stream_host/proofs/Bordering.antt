@@ -42,10 +42,10 @@ at_more n raw b =
 -- ---- those that are stored
 
 -- all that were scanned are, but for that of the reset that is due
-abbrev AllMarked : ℕ → ℕ → ℕ → List ℕ → List ℕ → Type 0
+abbrev pub AllMarked : ℕ → ℕ → ℕ → List ℕ → List ℕ → Type 0
 AllMarked marks resets place due left = ((left ≡ []) × ((list_any is_reset due ≡ false) ⊎ (marks ≡ resets + 1))) ⊎ ((left ≡ place ∷ []) × (due ≡ 0x18 ∷ []) × (marks ≡ resets))
 
-record IsStored (marks : List ℕ) (resets : ℕ) (lines : List (List ℕ)) (raw due : List ℕ) : Type 0 where
+pub record IsStored (marks : List ℕ) (resets : ℕ) (lines : List (List ℕ)) (raw due : List ℕ) : Type 0 where
   pub left : List ℕ
   pub are : reverse marks ++ left ≡ marks_behind 0 lines ++ marks_at (length (on_link lines)) raw
   pub all : AllMarked (length marks) resets (length (on_link lines)) due left
@@ -63,7 +63,7 @@ raised_on b h c may false e u f place left (inr all) =
     let same : b ≡ 0x18 = (let g = sym next ∙ all.1 in cc) in
     absurd (let m = may.behind_mark (ap is_reset same) in let n = all.2 in omega arith)
 
-left_none : (marks resets place : ℕ) (due left : List ℕ) → due ≡ [] → AllMarked marks resets place due left → left ≡ []
+pub left_none : (marks resets place : ℕ) (due left : List ℕ) → due ≡ [] → AllMarked marks resets place due left → left ≡ []
 left_none marks resets place due left none (inl all) = all.0
 left_none marks resets place due left none (inr all) = absurd (let e = sym none ∙ all.1 in cc)
 
@@ -131,7 +131,7 @@ mark_marks h c was = by_all was.all
           all = inl (refl, inr (let n = all.2 in omega arith));
         }
 
-stored_marks : (h : Journal) → Conducted h → IsStored (marks_of h) (resets_of h) (cut_of h) (raw_of h) (due_of h)
+pub stored_marks : (h : Journal) → Conducted h → IsStored (marks_of h) (resets_of h) (cut_of h) (raw_of h) (due_of h)
 stored_marks [] c = record { left = []; are = sym (none_at 0); all = inl (refl, inl refl) }
 stored_marks (at_port (stored b) ∷ h) c = stored_marks h c.1
 stored_marks (at_port (dropped b) ∷ h) c = absurd c.0
