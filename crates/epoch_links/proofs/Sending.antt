@@ -1,0 +1,143 @@
+-- What a host stores and marks is a front of its lines and resets.
+use Rattle.std.proofs.Common.{◌≡◌, inl, inr, ℕ, zero, suc, ◌+◌, ◌≤◌, Bool, true, false, cond, List, [], ◌∷◌, ◌++◌, length, map, replicate, reverse, length-append, append-nil, append_assoc, refl, sym, ap, ◌∙◌, subst, arith}
+use Rattle.std.specs.List.{count_by, filter, flat_map, list_any}
+use Rattle.std.proofs.lemmas.Bool.Decides.{nat_tests}
+use Rattle.std.proofs.lemmas.List.Sums.{sum_by-cons}
+use Rattle.gcode_words.specs.Comments.{cut}
+use Rattle.gcode_words.specs.Stripping.{is_plain, is_realtime, capital}
+use Rattle.run_rules.specs.Lines.{HasNoLf}
+use Rattle.run_texts.specs.Sent.{Sent, behind_resets, kept_of, resets_of, sent_by, sent_of}
+use Rattle.run_texts.specs.Sent.Sent.{a_text, a_stop}
+use Rattle.stream_host.specs.Jobs.{is_reset, behind_last, sent_text, marks_at, marks_behind}
+use Rattle.stream_host.specs.Links.{on_link}
+use Rattle.stream_host.specs.Steps.{Journal, stored_of, is_shut, has_limit, marks_of, resets_of as raised_resets, raw_of, cut_of, to_store, due_of}
+use Rattle.stream_host.specs.Conduct.{Conducted}
+use Rattle.stream_host.proofs.Bordering.{AllMarked, stored_marks, left_none}
+use Rattle.stream_host.proofs.Keeping.{stored_is, shut_is}
+use Rattle.stream_host.proofs.Links.{sent_no_lf}
+use Rattle.stream_host.proofs.Raising.{none_due_shut}
+use Rattle.epoch_links.specs.Pieces.{bytes_of, stops_behind, HoldNoLf, BeginsPast, IsFrontOf, IsAllOf}
+
+-- ---- what is kept of a line is what is sent of it
+
+behind_same : (bytes : List ℕ) → behind_resets bytes ≡ behind_last is_reset bytes
+behind_same [] = refl
+behind_same (b ∷ bs) = ap (λ (xs : List ℕ). cond (list_any is_reset bs) xs (cond (is_reset b) bs (b ∷ bs))) (behind_same bs)
+
+pub kept_sent : (line : List ℕ) → kept_of line ≡ sent_text line
+kept_sent line = ap (λ (bytes : List ℕ). map capital (filter is_plain bytes)) (behind_same (cut line).outside)
+
+-- ---- their bytes
+
+bytes_append : (s t : List Sent) → bytes_of (s ++ t) ≡ bytes_of s ++ bytes_of t
+bytes_append [] t = refl
+bytes_append (a_text line ∷ s) t = ap (λ (bytes : List ℕ). (line ++ 10 ∷ []) ++ bytes) (bytes_append s t) ∙ sym (append_assoc (line ++ 10 ∷ []) (bytes_of s) (bytes_of t))
+bytes_append (a_stop ∷ s) t = bytes_append s t
+
+stops_no_bytes : (n : ℕ) (s : List Sent) → bytes_of (replicate n a_stop ++ s) ≡ bytes_of s
+stops_no_bytes zero s = refl
+stops_no_bytes (suc n) s = stops_no_bytes n s
+
+no_bytes : (n : ℕ) → bytes_of (replicate n a_stop) ≡ []
+no_bytes zero = refl
+no_bytes (suc n) = no_bytes n
+
+-- those behind the first line
+behind_line : (line : List ℕ) (lines : List (List ℕ)) (rest : List ℕ) → sent_of (line ∷ lines) rest ≡ replicate (resets_of line) a_stop ++ a_text (kept_of line) ∷ sent_of lines rest
+behind_line line lines rest =
+    append_assoc (sent_by line) (flat_map sent_by lines) (replicate (resets_of rest) a_stop)
+    ∙ append_assoc (replicate (resets_of line) a_stop) (a_text (kept_of line) ∷ []) (sent_of lines rest)
+
+pub bytes_sent : (lines : List (List ℕ)) (rest : List ℕ) → bytes_of (sent_of lines rest) ≡ on_link lines
+bytes_sent [] rest = no_bytes (resets_of rest)
+bytes_sent (line ∷ lines) rest =
+    ap bytes_of (behind_line line lines rest) ∙ stops_no_bytes (resets_of line) (a_text (kept_of line) ∷ sent_of lines rest)
+    ∙ ap (λ (text : List ℕ). (text ++ 10 ∷ []) ++ bytes_of (sent_of lines rest)) (kept_sent line) ∙ ap (λ (bytes : List ℕ). (sent_text line ++ 10 ∷ []) ++ bytes) (bytes_sent lines rest)
+
+none_hold_stops : (n : ℕ) (s : List Sent) → HoldNoLf s → HoldNoLf (replicate n a_stop ++ s)
+none_hold_stops zero s h = h
+none_hold_stops (suc n) s h = none_hold_stops n s h
+
+no_lf : (lines : List (List ℕ)) (rest : List ℕ) → HoldNoLf (sent_of lines rest)
+no_lf [] rest = subst HoldNoLf (append-nil (replicate (resets_of rest) a_stop)) (none_hold_stops (resets_of rest) [] tt)
+no_lf (line ∷ lines) rest =
+    subst HoldNoLf (sym (behind_line line lines rest))
+    (none_hold_stops (resets_of line) (a_text (kept_of line) ∷ sent_of lines rest) (subst HasNoLf (sym (kept_sent line)) (sent_no_lf line), no_lf lines rest))
+
+-- ---- their marks
+
+stops_first : (k n : ℕ) (s : List Sent) → stops_behind n (replicate k a_stop ++ s) ≡ replicate k n ++ stops_behind n s
+stops_first zero n s = refl
+stops_first (suc k) n s = ap (λ (ms : List ℕ). n ∷ ms) (stops_first k n s)
+
+seen_reset : (b : ℕ) → is_reset b ≡ true → is_realtime b ≡ true
+seen_reset b is = let same : b ≡ 24 = grind (arith, nat_tests) in ap is_realtime same
+
+same_marks : (n : ℕ) (bytes : List ℕ) → map (λ (b : ℕ). n) (filter is_reset (filter is_realtime bytes)) ≡ replicate (count_by is_reset bytes) n
+same_marks n [] = refl
+same_marks n (b ∷ bs) =
+    by_reset (is_reset b) refl (is_realtime b) refl (same_marks n bs)
+    ∙ ap (λ (k : ℕ). replicate k n) (sym (sum_by-cons (λ (x : ℕ). cond {A = ℕ} (is_reset x) 1 0) b bs))
+  where
+    one_more : (k : ℕ) → n ∷ replicate k n ≡ replicate (1 + k) n
+    one_more k = let e : suc k ≡ 1 + k = omega arith in ap (λ (j : ℕ). replicate j n) e
+
+    none_more : (k : ℕ) → replicate k n ≡ replicate (0 + k) n
+    none_more k = let e : k ≡ 0 + k = omega arith in ap (λ (j : ℕ). replicate j n) e
+
+    by_reset : (t : Bool) → is_reset b ≡ t → (u : Bool) → is_realtime b ≡ u → map (λ (x : ℕ). n) (filter is_reset (filter is_realtime bs)) ≡ replicate (count_by is_reset bs) n
+        → map (λ (x : ℕ). n) (filter is_reset (cond u (b ∷ filter is_realtime bs) (filter is_realtime bs))) ≡ replicate (cond {A = ℕ} t 1 0 + count_by is_reset bs) n
+    by_reset true is true seen i = rw is (ap (λ (ms : List ℕ). n ∷ ms) i ∙ one_more (count_by is_reset bs))
+    by_reset true is false seen i = absurd (let e = sym seen ∙ seen_reset b is in cc)
+    by_reset false is true seen i = rw is (i ∙ none_more (count_by is_reset bs))
+    by_reset false is false seen i = i ∙ none_more (count_by is_reset bs)
+
+marks_in_line : (n : ℕ) (line : List ℕ) → replicate (resets_of line) n ≡ marks_at n line
+marks_in_line n line = sym (same_marks n (cut line).outside)
+
+pub stops_sent : (n : ℕ) (lines : List (List ℕ)) (rest : List ℕ) → stops_behind n (sent_of lines rest) ≡ marks_behind n lines ++ marks_at (n + length (on_link lines)) rest
+stops_sent n [] rest =
+    ap (stops_behind n) (sym (append-nil (replicate (resets_of rest) a_stop))) ∙ stops_first (resets_of rest) n [] ∙ append-nil (replicate (resets_of rest) n) ∙ marks_in_line n rest
+    ∙ ap (λ (k : ℕ). marks_at k rest) (let e : n ≡ n + 0 = omega arith in e)
+stops_sent n (line ∷ lines) rest =
+    let text : length (kept_of line) ≡ length (sent_text line) = ap length (kept_sent line) in
+    let at : n + (length (sent_text line) + 1) + length (on_link lines) ≡ n + length (on_link (line ∷ lines)) =
+    (let a = length-append (sent_text line ++ 10 ∷ []) (on_link lines) in let b = length-append (sent_text line) (10 ∷ []) in omega arith) in
+    ap (stops_behind n) (behind_line line lines rest) ∙ stops_first (resets_of line) n (a_text (kept_of line) ∷ sent_of lines rest)
+    ∙ ap (λ (ms : List ℕ). ms ++ stops_behind (n + (length (kept_of line) + 1)) (sent_of lines rest)) (marks_in_line n line)
+    ∙ ap (λ (k : ℕ). marks_at n line ++ stops_behind (n + (k + 1)) (sent_of lines rest)) text
+    ∙ ap (λ (ms : List ℕ). marks_at n line ++ ms) (stops_sent (n + (length (sent_text line) + 1)) lines rest ∙ ap (λ (k : ℕ). marks_behind (n + (length (sent_text line) + 1)) lines ++ marks_at k rest) at)
+    ∙ sym (append_assoc (marks_at n line) (marks_behind (n + (length (sent_text line) + 1)) lines) (marks_at (n + length (on_link (line ∷ lines))) rest))
+
+-- ---- of a host
+
+marks_sent : (h : Journal) (left : List ℕ) → reverse (marks_of h) ++ left ≡ marks_behind 0 (cut_of h) ++ marks_at (length (on_link (cut_of h))) (raw_of h)
+    → stops_behind 0 (sent_of (cut_of h) (raw_of h)) ≡ reverse (marks_of h) ++ left
+marks_sent h left are =
+    stops_sent 0 (cut_of h) (raw_of h) ∙ ap (λ (k : ℕ). marks_behind 0 (cut_of h) ++ marks_at k (raw_of h)) (let e : 0 + length (on_link (cut_of h)) ≡ length (on_link (cut_of h)) = omega arith in e) ∙ sym are
+
+pub sends_front : (h : Journal) → Conducted h → IsFrontOf (sent_of (cut_of h) (raw_of h)) (stored_of h) (marks_of h)
+sends_front h c = let s = stored_marks h c in record {
+  lines = no_lf (cut_of h) (raw_of h);
+  more = to_store h;
+  bytes_are = bytes_sent (cut_of h) (raw_of h) ∙ sym (stored_is h c);
+  unmarked = s.left;
+  marks_are = marks_sent h s.left s.are;
+  waits = by_all s.left s.all;
+}
+  where
+    few : length (stored_of h) ≤ length (on_link (cut_of h))
+    few = let e = ap length (stored_is h c) in let a = length-append (stored_of h) (to_store h) in omega arith
+
+    by_all : (left : List ℕ) → AllMarked (length (marks_of h)) (raised_resets h) (length (on_link (cut_of h))) (due_of h) left → BeginsPast (length (stored_of h)) left
+    by_all left (inl all) = subst (BeginsPast (length (stored_of h))) (sym all.0) tt
+    by_all left (inr all) = subst (BeginsPast (length (stored_of h))) (sym all.0) few
+
+pub sends_all : (h : Journal) → Conducted h → is_shut h ≡ true → has_limit h ≡ false → IsAllOf (sent_of (cut_of h) (raw_of h)) (stored_of h) (marks_of h)
+sends_all h c shut calm =
+    let s = stored_marks h c in
+    let none = left_none (length (marks_of h)) (raised_resets h) (length (on_link (cut_of h))) (due_of h) s.left (none_due_shut h c shut calm) s.all in
+    record {
+      bytes_are = bytes_sent (cut_of h) (raw_of h) ∙ sym (stored_is h c) ∙ ap (λ (t : List ℕ). stored_of h ++ t) (shut_is h c shut calm).free ∙ append-nil (stored_of h);
+      marks_are = marks_sent h s.left s.are ∙ ap (λ (t : List ℕ). reverse (marks_of h) ++ t) none ∙ append-nil (reverse (marks_of h));
+    }

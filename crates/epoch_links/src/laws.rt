@@ -1,0 +1,62 @@
+//! Laws of a link over epochs.
+
+ghost use Rattle.std.specs.Prelude.{◌≡◌, ℕ, ◌≤◌, Bool, true, false, List, length};
+ghost use Rattle.run_rules.specs.declared.State.{State};
+ghost use Rattle.run_texts.specs.Fronts.{BeginsWith};
+ghost use Rattle.run_texts.specs.Sent.{Sent, sent_of};
+ghost use Rattle.serial_ring.specs.Logs.{marked_in};
+ghost use Rattle.serial_ring.specs.Marks.{Mark as LinkMark};
+ghost use Rattle.stream_host.specs.Conduct.{Conducted as HostConducted};
+ghost use Rattle.stream_host.specs.Steps.{Journal as HostJournal, port_log, stored_of, marks_of, is_shut, has_limit, cut_of, raw_of, resets_of};
+ghost use Rattle.board_rules.specs.Ports.{taken_in, link_steps, has_closed_in};
+ghost use Rattle.board_epochs.specs.Epochs.{Epochs, AreEpochs, log_of};
+ghost use Rattle.epoch_links.specs.Links.{AreLinked, AreLinkedOver, AwaitsBanners, HasBanners, EndsEpochs, EndAtMarks, stored_at_banners, taken_at_banners};
+ghost use Rattle.epoch_links.specs.Pieces.{Pieces, joined, ends_behind, items_in, IsFrontOf, IsAllOf};
+ghost use Rattle.epoch_links.specs.Taken.{taken_by};
+
+/// A host stores and marks a front of its lines and the resets among them: the lines that it has cut, and the resets of what is
+/// scanned of the next. It awaits a Banner of each mark. If it has closed its link, and no alarm of a limit was got, it has stored and
+/// marked all of them, and has got a Banner of each mark.
+pub fn hosts_await_a_banner_of_each_mark()
+    ensures awaits { (h : HostJournal) → HostConducted h → AwaitsBanners (stored_of h) (marks_of h) (stored_at_banners (port_log h)) }
+    ensures front { (h : HostJournal) → HostConducted h → IsFrontOf (sent_of (cut_of h) (raw_of h)) (stored_of h) (marks_of h) }
+    ensures got { (h : HostJournal) → HostConducted h → is_shut h ≡ true → has_limit h ≡ false → HasBanners (marks_of h) (stored_at_banners (port_log h)) }
+    ensures whole { (h : HostJournal) → HostConducted h → is_shut h ≡ true → has_limit h ≡ false → IsAllOf (sent_of (cut_of h) (raw_of h)) (stored_of h) (marks_of h) }
+{}
+
+/// A board ends each epoch for a mark that is new behind that of the one before, behind no fewer bytes than the mark has, and answers the
+/// Banner of the next before it takes a byte more.
+pub fn boards_end_epochs_for_marks()
+    ensures { (state : State) (r : Epochs) → AreEpochs state r → EndsEpochs (taken_by r) (taken_in (log_of r)) (marked_in (link_steps (log_of r))) (taken_at_banners (link_steps (log_of r))) }
+{}
+
+/// Where a host awaits a Banner of each mark, and a board ends an epoch for each Banner but the first, what is taken is cut at the
+/// places where what is stored was marked; as often as there are marks, if a Banner of each was got. These places determine the
+/// pieces.
+pub fn links_are_cut_at_the_same_places()
+    ensures cut { (stored marks at_got taken at_answers : List ℕ) (loaded : List LinkMark) (shut closed : Bool) (p : Pieces) →
+        AreLinked stored marks at_got shut taken loaded at_answers closed → AwaitsBanners stored marks at_got → EndsEpochs p taken loaded at_answers →
+        EndAtMarks stored marks p }
+    ensures each { (stored marks at_got taken at_answers : List ℕ) (loaded : List LinkMark) (shut closed : Bool) (p : Pieces) →
+        AreLinked stored marks at_got shut taken loaded at_answers closed → AwaitsBanners stored marks at_got → EndsEpochs p taken loaded at_answers →
+        HasBanners marks at_got → length p.closed ≡ length marks }
+    ensures same { (p q : Pieces) → joined p ≡ joined q → ends_behind 0 p.closed ≡ ends_behind 0 q.closed → p ≡ q }
+    ensures run { (host : HostJournal) (state : State) (r : Epochs) → HostConducted host → AreEpochs state r → AreLinkedOver host r → EndAtMarks (stored_of host) (marks_of host) (taken_by r) }
+{}
+
+/// So the lines that a board has taken, epoch by epoch, with a reset behind each that is closed, are a front of the lines and resets that
+/// came of the job; and all of them, if all was stored and marked, the link was found closed, and as many epochs were ended as
+/// there are marks.
+pub fn links_carry_lines_and_resets()
+    ensures front { (sent : List Sent) (stored marks at_got taken at_answers : List ℕ) (loaded : List LinkMark) (shut closed : Bool) (p : Pieces) →
+        IsFrontOf sent stored marks → AreLinked stored marks at_got shut taken loaded at_answers closed → EndsEpochs p taken loaded at_answers → EndAtMarks stored marks p →
+        BeginsWith sent (items_in p) }
+    ensures whole { (sent : List Sent) (stored marks at_got taken at_answers : List ℕ) (loaded : List LinkMark) (shut closed : Bool) (p : Pieces) →
+        IsFrontOf sent stored marks → IsAllOf sent stored marks → AreLinked stored marks at_got shut taken loaded at_answers closed → EndsEpochs p taken loaded at_answers → EndAtMarks stored marks p →
+        closed ≡ true → length marks ≤ length p.closed → sent ≡ items_in p }
+    ensures run { (host : HostJournal) (state : State) (r : Epochs) → HostConducted host → AreEpochs state r → AreLinkedOver host r →
+        BeginsWith (sent_of (cut_of host) (raw_of host)) (items_in (taken_by r)) }
+    ensures finished { (host : HostJournal) (state : State) (r : Epochs) → HostConducted host → AreEpochs state r → AreLinkedOver host r →
+        has_limit host ≡ false → has_closed_in (log_of r) ≡ true →
+        (sent_of (cut_of host) (raw_of host) ≡ items_in (taken_by r)) × (length (taken_by r).closed ≡ resets_of host) }
+{}
