@@ -2,5 +2,12 @@ pub mod Cutting
 pub mod Carrying
 pub mod Sending
 pub mod Awaiting
+pub mod Steps
+pub mod Moments
 pub mod Ending
 pub mod Joining
+pub mod Answers
+pub mod Dropping
+pub mod Forgetting
+pub mod Meeting
+pub mod Asking

@@ -1,3 +1,4 @@
 pub mod Pieces
 pub mod Taken
 pub mod Links
+pub mod Drops

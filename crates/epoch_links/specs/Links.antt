@@ -15,12 +15,16 @@ use Rattle.epoch_links.specs.Pieces.{Pieces, joined, ends_behind}
 
 -- ---- the moments of the Banners
 
--- how many bytes were taken when each Banner was answered, the latest first
+-- a count of what a board has done at a link, as it was when each Banner was answered, the latest first
+abbrev pub at_banners : (List LinkStep → ℕ) → List LinkStep → List ℕ
+at_banners count [] = []
+at_banners count (Took b ∷ l) = at_banners count l
+at_banners count (Marked n bytes ∷ l) = at_banners count l
+at_banners count (Answered r ∷ l) = cond (is_banner r) (count l ∷ at_banners count l) (at_banners count l)
+
+-- how many bytes were taken then
 abbrev pub taken_at_banners : List LinkStep → List ℕ
-taken_at_banners [] = []
-taken_at_banners (Took b ∷ l) = taken_at_banners l
-taken_at_banners (Marked n bytes ∷ l) = taken_at_banners l
-taken_at_banners (Answered r ∷ l) = cond (is_banner r) (length (taken_in l) ∷ taken_at_banners l) (taken_at_banners l)
+taken_at_banners l = at_banners (λ before. length (taken_in before)) l
 
 -- how many bytes were stored when each Banner was got, the latest first
 abbrev pub stored_at_banners : HostLog → List ℕ

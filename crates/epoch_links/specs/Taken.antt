@@ -1,7 +1,8 @@
 -- The bytes that a board took, epoch by epoch.
-use Rattle.std.specs.Prelude.{ℕ, List, [], ◌∷◌, ◌++◌}
+use Rattle.std.specs.Prelude.{ℕ, ◌+◌, cond, List, [], ◌∷◌, ◌++◌}
 use Rattle.step_line.specs.Logs.{NewestFirst}
-use Rattle.board_rules.specs.Ports.{taken_in}
+use Rattle.board_rules.specs.Ports.{PortStep, BoardLog, taken_in, asks_reset}
+use Rattle.board_rules.specs.Ports.PortStep.{took_exec}
 use Rattle.board_rules.specs.Steps.{port_log, taken_of}
 use Rattle.board_epochs.specs.Epochs.{Closed, Epochs}
 use Rattle.board_epochs.specs.Epochs.Epochs.{goes, resets}
@@ -20,3 +21,14 @@ taken_before (e ∷ es) = taken_before es ++ taken_closed e ∷ []
 abbrev pub taken_by : Epochs → Pieces
 taken_by (goes es h) = record { closed = taken_before es; last = taken_of h }
 taken_by (resets es h w) = record { closed = taken_before es; last = taken_of h ++ taken_in (port_log w) }
+
+-- ---- what asks for resets
+
+abbrev pub asks_at : PortStep → ℕ → ℕ
+asks_at (took_exec word) n = cond (asks_reset word) (n + 1) n
+asks_at e n = n
+
+-- how many words that ask for a reset were taken
+abbrev pub resets_asked : BoardLog → ℕ
+resets_asked [] = 0
+resets_asked (e ∷ l) = asks_at e (resets_asked l)

@@ -6,13 +6,15 @@ ghost use Rattle.run_texts.specs.Fronts.{BeginsWith};
 ghost use Rattle.run_texts.specs.Sent.{Sent, sent_of};
 ghost use Rattle.serial_ring.specs.Logs.{marked_in};
 ghost use Rattle.serial_ring.specs.Marks.{Mark as LinkMark};
+ghost use Rattle.step_line.specs.Logs.{NewestFirst};
 ghost use Rattle.stream_host.specs.Conduct.{Conducted as HostConducted};
 ghost use Rattle.stream_host.specs.Steps.{Journal as HostJournal, port_log, stored_of, marks_of, is_shut, has_limit, cut_of, raw_of, resets_of};
 ghost use Rattle.board_rules.specs.Ports.{taken_in, link_steps, has_closed_in};
-ghost use Rattle.board_epochs.specs.Epochs.{Epochs, AreEpochs, log_of};
+ghost use Rattle.board_epochs.specs.Epochs.{Closed, Epochs, AreClosed, AreEpochs, closed_log, log_of};
 ghost use Rattle.epoch_links.specs.Links.{AreLinked, AreLinkedOver, AwaitsBanners, HasBanners, EndsEpochs, EndAtMarks, stored_at_banners, taken_at_banners};
 ghost use Rattle.epoch_links.specs.Pieces.{Pieces, joined, ends_behind, items_in, IsFrontOf, IsAllOf};
-ghost use Rattle.epoch_links.specs.Taken.{taken_by};
+ghost use Rattle.epoch_links.specs.Taken.{taken_by, resets_asked};
+ghost use Rattle.epoch_links.specs.Drops.{AreAnsweredOver, DropFew, closed_of};
 
 /// A host stores and marks a front of its lines and the resets among them: the lines that it has cut, and the resets of what is
 /// scanned of the next. It awaits a Banner of each mark. If it has closed its link, and no alarm of a limit was got, it has stored and
@@ -25,9 +27,10 @@ pub fn hosts_await_a_banner_of_each_mark()
 {}
 
 /// A board ends each epoch for a mark that is new behind that of the one before, behind no fewer bytes than the mark has, and answers the
-/// Banner of the next before it takes a byte more.
+/// Banner of the next before it takes a byte more. For each it has taken a word of requests that asks for a reset.
 pub fn boards_end_epochs_for_marks()
-    ensures { (state : State) (r : Epochs) → AreEpochs state r → EndsEpochs (taken_by r) (taken_in (log_of r)) (marked_in (link_steps (log_of r))) (taken_at_banners (link_steps (log_of r))) }
+    ensures asked { (state : State) (es : NewestFirst Closed) → AreClosed state es → length es ≤ resets_asked (closed_log es) }
+    ensures ends { (state : State) (r : Epochs) → AreEpochs state r → EndsEpochs (taken_by r) (taken_in (log_of r)) (marked_in (link_steps (log_of r))) (taken_at_banners (link_steps (log_of r))) }
 {}
 
 /// Where a host awaits a Banner of each mark, and a board ends an epoch for each Banner but the first, what is taken is cut at the
@@ -59,4 +62,10 @@ pub fn links_carry_lines_and_resets()
     ensures finished { (host : HostJournal) (state : State) (r : Epochs) → HostConducted host → AreEpochs state r → AreLinkedOver host r →
         has_limit host ≡ false → has_closed_in (log_of r) ≡ true →
         (sent_of (cut_of host) (raw_of host) ≡ items_in (taken_by r)) × (length (taken_by r).closed ≡ resets_of host) }
+{}
+
+/// The lines that one reset of a board drops, each with its LF, take 128 bytes at most: those of a closed epoch that have no answer.
+/// They are those that the host forgets at the Banner, or that it will forget there but for some that are answered.
+pub fn resets_drop_few_lines()
+    ensures { (host : HostJournal) (state : State) (r : Epochs) → HostConducted host → AreEpochs state r → AreLinkedOver host r → AreAnsweredOver host r → DropFew (closed_of r) }
 {}

@@ -5,5 +5,5 @@ mod laws;
 
 pub use laws::{
     boards_end_epochs_for_marks, hosts_await_a_banner_of_each_mark,
-    links_are_cut_at_the_same_places, links_carry_lines_and_resets,
+    links_are_cut_at_the_same_places, links_carry_lines_and_resets, resets_drop_few_lines,
 };
