@@ -1,0 +1,41 @@
+-- What is answered if no fault rose.
+use Rattle.std.proofs.Common.{◌≡◌, ◌↔◌, ℕ, ◌-◌, ◌<◌, ◌^◌, true, List, refl, subst, arith, Some}
+use Rattle.std.specs.declared.option.Option.{Option}
+use Rattle.outside.specs.Causes.{Rose, SourceState, SinkState}
+use Rattle.audit_rules.specs.Findings.{Finds, FitsWith, HasForeign, IsTooLong, exit_of}
+use Rattle.audit_rules.specs.declared.Audit.{Audit}
+use Rattle.audit_rules.specs.declared.Audit.TheVariants.{Fits, Misfit, Usage, JobFault, ConsoleFault, StepsFault, OutFault, BadReplies, Foreign, TooLong}
+use Rattle.audit_rules.proofs.Finding.{fits_exactly}
+use Rattle.run_audit.specs.Auditing.{IsAudited, FoundOf, is_found}
+
+not_risen : {A : Type 0} (before now : ℕ) → now ≡ before → before < 2 ^ 64 - 1 → Rose before now → A
+not_risen before now same few rose = absurd (grind (arith, same, few, rose))
+
+found_some : (a : Audit) → (a ≡ Usage → ⊥) → (a ≡ JobFault → ⊥) → (a ≡ ConsoleFault → ⊥) → (a ≡ StepsFault → ⊥) → (a ≡ OutFault → ⊥) → is_found a ≡ true
+found_some (Fits n) u j c s o = refl
+found_some (Misfit n) u j c s o = refl
+found_some Usage u j c s o = absurd (u refl)
+found_some JobFault u j c s o = absurd (j refl)
+found_some ConsoleFault u j c s o = absurd (c refl)
+found_some StepsFault u j c s o = absurd (s refl)
+found_some OutFault u j c s o = absurd (o refl)
+found_some (BadReplies n) u j c s o = refl
+found_some (Foreign n) u j c s o = refl
+found_some TooLong u j c s o = refl
+
+found_of : (job console steps : List ℕ) (l m n : Option (List ℕ)) (a : Audit) → l ≡ Some job → m ≡ Some console → n ≡ Some steps → FoundOf l m n a → is_found a ≡ true → Finds job console steps a
+found_of job console steps l m n a e f g found is =
+    subst (λ (o : Option (List ℕ)). FoundOf (Some job) (Some console) o a) g
+    (subst (λ (o : Option (List ℕ)). FoundOf (Some job) o n a) f (subst (λ (o : Option (List ℕ)). FoundOf o m n a) e found)) is
+
+pub tells : (job_text console_text steps_text : List ℕ) (job job_behind console console_behind steps steps_behind : SourceState) (out out_behind : SinkState) (a : Audit)
+    → IsAudited 3 job job_behind console console_behind steps steps_behind out out_behind a
+    → job.left ≡ Some job_text → console.left ≡ Some console_text → steps.left ≡ Some steps_text
+    → job_behind.faults ≡ job.faults → console_behind.faults ≡ console.faults → steps_behind.faults ≡ steps.faults → out_behind.faults ≡ out.faults
+    → job.faults < 2 ^ 64 - 1 → console.faults < 2 ^ 64 - 1 → steps.faults < 2 ^ 64 - 1 → out.faults < 2 ^ 64 - 1
+    → (IsTooLong console_text steps_text → ⊥) → (HasForeign job_text console_text steps_text → ⊥)
+    → (exit_of a ≡ 0) ↔ ((events : ℕ) × FitsWith job_text console_text steps_text events)
+tells job_text console_text steps_text job job_behind console console_behind steps steps_behind out out_behind a is l m n j c s o fj fc fs fo short audited =
+    let some = found_some a (λ e. is.usage.0 e refl) (λ e. not_risen job.faults job_behind.faults j fj (is.job_fault e)) (λ e. not_risen console.faults console_behind.faults c fc (is.console_fault e))
+    (λ e. not_risen steps.faults steps_behind.faults s fs (is.steps_fault e)) (λ e. not_risen out.faults out_behind.faults o fo (is.out_fault e)) in
+    fits_exactly job_text console_text steps_text a (found_of job_text console_text steps_text job.left console.left steps.left a l m n is.found some) short audited

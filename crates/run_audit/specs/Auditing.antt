@@ -1,0 +1,49 @@
+-- What an audit of three texts answers and prints.
+use Rattle.std.specs.Prelude.{◌≡◌, ◌≢◌, ◌↔◌, ℕ, Bool, true, false, List, ◌++◌, Some, None}
+use Rattle.std.specs.declared.option.Option.{Option}
+use Rattle.std.specs.Io.KnownBytes.{Appends}
+use Rattle.outside.specs.Causes.{Rose, SourceState, SinkState}
+use Rattle.audit_rules.specs.Findings.{Finds, audit_text}
+use Rattle.audit_rules.specs.declared.Audit.{Audit}
+use Rattle.audit_rules.specs.declared.Audit.TheVariants.{Fits, Misfit, Usage, JobFault, ConsoleFault, StepsFault, OutFault, BadReplies, Foreign, TooLong}
+
+-- the answer speaks of the texts
+abbrev pub is_found : Audit → Bool
+is_found (Fits events) = true
+is_found (Misfit at) = true
+is_found Usage = false
+is_found JobFault = false
+is_found ConsoleFault = false
+is_found StepsFault = false
+is_found OutFault = false
+is_found (BadReplies line) = true
+is_found (Foreign line) = true
+is_found TooLong = true
+
+-- It speaks of what the sources had left, if they tell it.
+abbrev pub FoundOf : Option (List ℕ) → Option (List ℕ) → Option (List ℕ) → Audit → Type 0
+FoundOf (Some job) (Some console) (Some steps) a = is_found a ≡ true → Finds job console steps a
+FoundOf (Some job) (Some console) None a = Unit {0}
+FoundOf (Some job) None steps a = Unit {0}
+FoundOf None console steps a = Unit {0}
+
+-- a front of some answer's line was printed
+pub record PrintsFront (before now : SinkState) : Type 0 where
+  pub of : Audit
+  pub front : List ℕ
+  pub back : List ℕ
+  pub whole : audit_text of ≡ front ++ back
+  pub held : Appends before.held now.held front
+
+-- The answer to so many words, by what the three sources and the output were before and are after it. Not three words are
+-- wrong usage; a fault is answered only if the count of its object rose; and what is found is found of the texts. The
+-- line of the answer is printed, or a front of a line if the output failed.
+pub record IsAudited (words : ℕ) (job job_behind console console_behind steps steps_behind : SourceState) (out out_behind : SinkState) (a : Audit) : Type 0 where
+  pub usage : (a ≡ Usage) ↔ (words ≢ 3)
+  pub job_fault : a ≡ JobFault → Rose job.faults job_behind.faults
+  pub console_fault : a ≡ ConsoleFault → Rose console.faults console_behind.faults
+  pub steps_fault : a ≡ StepsFault → Rose steps.faults steps_behind.faults
+  pub out_fault : a ≡ OutFault → Rose out.faults out_behind.faults
+  pub found : FoundOf job.left console.left steps.left a
+  pub printed : out_behind.faults ≡ out.faults → Appends out.held out_behind.held (audit_text a)
+  pub front : PrintsFront out out_behind
