@@ -35,9 +35,11 @@ use Rattle.audit_rules.specs.Findings.{IsTooLong}
 use Rattle.audit_rules.specs.Rows.{one_step, refused, banner, head, OtherAnswer}
 use Rattle.audit_rules.specs.Scanned.{sent_in}
 use Rattle.audit_rules.specs.Standing.{MayWait, Stand, StandTo}
-use Rattle.audit_rules.specs.StepTexts.{StepLine, IsLineOf, line_text, records_of}
-use Rattle.audit_rules.specs.StepTexts.Form.{one}
-use Rattle.audit_rules.specs.StepTexts.StepLine.{a_record}
+use Rattle.audit_rules.specs.StepTexts.{IsLineOf, records_of}
+use Rattle.step_record.specs.declared.forms.Line.{Line}
+use Rattle.step_record.specs.Forms.{line_text}
+use Rattle.step_record.specs.declared.forms.Form.TheVariants.{One}
+use Rattle.step_record.specs.declared.forms.Line.TheVariants as line_kinds
 use Rattle.audit_rules.specs.Telling.{StandsUpTo, StandsNoFurther, ConsoleStands, RebasesNothing, IsAwaited}
 use Rattle.audit_rules.specs.Telling.HasBadReply.{behind as bad_behind}
 use Rattle.audit_rules.specs.Telling.IsLineAtFault.{at_line as fault_here}
@@ -153,10 +155,10 @@ nothing_stands = record {
   };
   furthest = λ line more is are stand. head_first line more are.each.0 is stand;
 } where
-  head_first : (line : StepLine) (more : List ℕ) → IsLineOf one line → steps ≡ line_text line ++ more → Stand (sent_in one_step) refused (records_of (line ∷ [])) → ⊥
+  head_first : (line : Line) (more : List ℕ) → IsLineOf One line → steps ≡ line_text line ++ more → Stand (sent_in one_step) refused (records_of (line ∷ [])) → ⊥
   head_first line more is e stand =
-      let same = one_line_here one (a_record (kinds.Head (head_of 1 1))) line (codes "X+\nE\n") more head_right is e in
-      head_stands_not (subst (λ (l : StepLine). Stand (sent_in one_step) refused (records_of (l ∷ []))) (sym same.line) stand)
+      let same = one_line_here One (line_kinds.One (kinds.Head (head_of 1 1))) line (codes "X+\nE\n") more head_right is e in
+      head_stands_not (subst (λ (l : Line). Stand (sent_in one_step) refused (records_of (l ∷ []))) (sym same.line) stand)
 
 -- ---- nothing more is told
 
@@ -221,7 +223,7 @@ stands_not : ConsoleStands (sent_in one_step) refused steps → ⊥
 unfolding nothing_stands
 stands_not c =
     let same = one_place (sent_in one_step) refused steps c.steps_stand nothing_stands in
-    let e : [] ≡ wrong = only_wrong c.point c.left [] (subst (λ (ls : List StepLine). StandsUpTo (sent_in one_step) refused (records_of ls) c.point c.left []) same.done c.stands) in
+    let e : [] ≡ wrong = only_wrong c.point c.left [] (subst (λ (ls : List Line). StandsUpTo (sent_in one_step) refused (records_of ls) c.point c.left []) same.done c.stands) in
     absurd cc
 
 stands_here : StandsUpTo (sent_in one_step) refused [] (opening first) (sent_in one_step) wrong

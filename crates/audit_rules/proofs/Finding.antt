@@ -13,8 +13,9 @@ use Rattle.audit_rules.specs.Findings.{Finds, FitsWith, BreaksAt, MayEnd, IsFore
 use Rattle.audit_rules.specs.Findings.BreaksAt.{at_line, behind_end}
 use Rattle.audit_rules.specs.Scanned.{sent_in}
 use Rattle.audit_rules.specs.Standing.{StandTo, place_behind}
-use Rattle.audit_rules.specs.StepTexts.{StepLine, records_of}
-use Rattle.audit_rules.specs.StepTexts.StepLine.{a_record}
+use Rattle.audit_rules.specs.StepTexts.{records_of}
+use Rattle.step_record.specs.declared.forms.Line.{Line}
+use Rattle.step_record.specs.declared.forms.Line.TheVariants as line_kinds
 use Rattle.audit_rules.specs.Telling.{ConsoleStands, HasBadReply}
 use Rattle.audit_rules.specs.Telling.HasBadReply.{at_once, behind}
 use Rattle.audit_rules.proofs.Fitted.{fitted}
@@ -30,7 +31,7 @@ no_bad_reply job console steps line c (behind b) = absurd (b.bad c)
 -- ---- steps that fit break nowhere
 
 same_end : (job console steps : List ℕ) (x y : StandTo (sent_in job) console steps) → MayEnd job console x.done → MayEnd job console y.done
-same_end job console steps x y may = subst (λ (ls : List StepLine). MayEnd job console ls) (one_place (sent_in job) console steps x y).done may
+same_end job console steps x y may = subst (λ (ls : List Line). MayEnd job console ls) (one_place (sent_in job) console steps x y).done may
 
 pub no_break : {A : Type 0} (job console steps : List ℕ) (events at : ℕ) → FitsWith job console steps events → BreaksAt job console steps at → A
 no_break job console steps events at f (at_line z bad is) =
@@ -51,7 +52,7 @@ one_break job console steps at other (at_line x bad is) (behind_end y more text 
 one_break job console steps at other (behind_end x more text may some is) (at_line y bad this) =
     absurd (bad more ((one_place (sent_in job) console steps y x).rest ∙ text) (same_end job console steps x y may))
 one_break job console steps at other (behind_end x more text may some is) (behind_end y more_too text_too may_too some_too this) =
-    is ∙ ap (λ (ls : List StepLine). place_behind steps ls + length (record_text kinds.End)) (one_place (sent_in job) console steps x y).done ∙ sym this
+    is ∙ ap (λ (ls : List Line). place_behind steps ls + length (record_text kinds.End)) (one_place (sent_in job) console steps x y).done ∙ sym this
 
 -- ---- the events of texts that fit
 
@@ -60,8 +61,8 @@ one_count job console steps n m f g =
     let x = fitted job console steps n f in
     let y = fitted job console steps m g in
     let same = one_place (sent_in job) console steps x.steps_stand y.steps_stand in
-    let lines : f.lines ≡ g.lines = x.lines_are ∙ ap (λ (ls : List StepLine). ls ++ a_record kinds.End ∷ []) same.done ∙ sym y.lines_are in
-    f.count ∙ ap (λ (ls : List StepLine). length (events_among (records_of ls))) lines ∙ sym g.count
+    let lines : f.lines ≡ g.lines = x.lines_are ∙ ap (λ (ls : List Line). ls ++ line_kinds.One kinds.End ∷ []) same.done ∙ sym y.lines_are in
+    f.count ∙ ap (λ (ls : List Line). length (events_among (records_of ls))) lines ∙ sym g.count
 
 -- ---- the first line that is not audited
 

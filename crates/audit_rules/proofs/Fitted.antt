@@ -19,8 +19,11 @@ use Rattle.audit_rules.specs.Consoles.{Tells}
 use Rattle.audit_rules.specs.Findings.{TextsFit, FitsWith, MayEnd}
 use Rattle.audit_rules.specs.Scanned.{sent_in}
 use Rattle.audit_rules.specs.Standing.{Stand, StandTo}
-use Rattle.audit_rules.specs.StepTexts.{StepLine, AreLinesOf, line_text, lines_text, records_by, records_of, form_of, body_of}
-use Rattle.audit_rules.specs.StepTexts.StepLine.{a_record}
+use Rattle.audit_rules.specs.StepTexts.{AreLinesOf, lines_text, records_of, form_of, body_of}
+use Rattle.step_record.specs.declared.forms.Line.{Line}
+use Rattle.step_record.specs.Forms.{line_text}
+use Rattle.step_record.specs.Forms.{records_of as records_by}
+use Rattle.step_record.specs.declared.forms.Line.TheVariants as line_kinds
 use Rattle.audit_rules.specs.Telling.{StandsUpTo, ConsoleStands, IsOver}
 use Rattle.audit_rules.proofs.Fitting.{leads_on, ends_records, ends_lines, no_end, both, over_by}
 use Rattle.audit_rules.proofs.Lines.{one_line_here, lines_first}
@@ -88,22 +91,22 @@ whole_by job console done all f is =
     record { point = f.fits.last; left = w.left; stands = stands; over = w.over }
 
 -- texts that fit stand up to the line of the end, which ends them
-pub record Fitted (job console steps : List ℕ) (lines : List StepLine) : Type 0 where
+pub record Fitted (job console steps : List ℕ) (lines : List Line) : Type 0 where
   pub steps_stand : StandTo (sent_in job) console steps
-  pub rest : steps_stand.rest ≡ line_text (a_record kinds.End)
-  pub lines_are : lines ≡ steps_stand.done ++ a_record kinds.End ∷ []
+  pub rest : steps_stand.rest ≡ line_text (line_kinds.One kinds.End)
+  pub lines_are : lines ≡ steps_stand.done ++ line_kinds.One kinds.End ∷ []
   pub may_end : MayEnd job console steps_stand.done
   pub console_stands : ConsoleStands (sent_in job) console steps
 
-records_end : (done : List StepLine) → records_of (done ++ a_record kinds.End ∷ []) ≡ records_of done ++ kinds.End ∷ []
-records_end done = flat_map-append records_by done (a_record kinds.End ∷ [])
+records_end : (done : List Line) → records_of (done ++ line_kinds.One kinds.End ∷ []) ≡ records_of done ++ kinds.End ∷ []
+records_end done = flat_map-append records_by done (line_kinds.One kinds.End ∷ [])
 
-not_behind : (job console steps : List ℕ) (done : List StepLine) (line : StepLine) (more : List ℕ) → line_text (a_record kinds.End) ≡ line_text line ++ more
+not_behind : (job console steps : List ℕ) (done : List Line) (line : Line) (more : List ℕ) → line_text (line_kinds.One kinds.End) ≡ line_text line ++ more
     → AreLinesOf (form_of steps) (done ++ line ∷ []) → Stand (sent_in job) console (records_of (done ++ line ∷ [])) → ⊥
 not_behind job console steps done line more text are stand =
     let is_line = (all_second _ done (line ∷ []) are.each).0 in
-    let same = one_line_here (form_of steps) (a_record kinds.End) line [] more tt is_line (append-nil (line_text (a_record kinds.End)) ∙ text) in
-    let records : records_of (done ++ line ∷ []) ≡ records_of done ++ kinds.End ∷ [] = ap (λ (l : StepLine). records_of (done ++ l ∷ [])) (sym same.line) ∙ records_end done in
+    let same = one_line_here (form_of steps) (line_kinds.One kinds.End) line [] more tt is_line (append-nil (line_text (line_kinds.One kinds.End)) ∙ text) in
+    let records : records_of (done ++ line ∷ []) ≡ records_of done ++ kinds.End ∷ [] = ap (λ (l : Line). records_of (done ++ l ∷ [])) (sym same.line) ∙ records_end done in
     no_end (sent_in job) console (records_of done) (subst (λ (rs : List Record). Stand (sent_in job) console rs) records stand)
 
 pub fitted : (job console steps : List ℕ) (events : ℕ) (f : FitsWith job console steps events) → Fitted job console steps f.lines
@@ -111,13 +114,13 @@ fitted job console steps events f =
     let ends = ends_records (parts_of f.fit.fits.course) origin (records_of f.lines) (parts_end f.fit.fits.course) f.fit.fits.recorded in
     let e = ends_lines (form_of steps) f.lines ends.front f.steps_are.are.each ends.is in
     let records : records_of f.lines ≡ records_of e.done ++ kinds.End ∷ [] = ap records_of e.is ∙ records_end e.done in
-    let text : body_of steps ≡ lines_text e.done ++ line_text (a_record kinds.End) =
-    f.steps_are.body ∙ ap lines_text e.is ∙ flat_map-append line_text e.done (a_record kinds.End ∷ []) ∙ ap (λ (bytes : List ℕ). lines_text e.done ++ bytes) (append-nil (line_text (a_record kinds.End))) in
+    let text : body_of steps ≡ lines_text e.done ++ line_text (line_kinds.One kinds.End) =
+    f.steps_are.body ∙ ap lines_text e.is ∙ flat_map-append line_text e.done (line_kinds.One kinds.End ∷ []) ∙ ap (λ (bytes : List ℕ). lines_text e.done ++ bytes) (append-nil (line_text (line_kinds.One kinds.End))) in
     let z : StandTo (sent_in job) console steps = record {
       done = e.done;
-      rest = line_text (a_record kinds.End);
+      rest = line_text (line_kinds.One kinds.End);
       text = text;
-      are = lines_first (form_of steps) e.done (a_record kinds.End ∷ []) (subst (λ (ls : List StepLine). AreLinesOf (form_of steps) ls) e.is f.steps_are.are);
+      are = lines_first (form_of steps) e.done (line_kinds.One kinds.End ∷ []) (subst (λ (ls : List Line). AreLinesOf (form_of steps) ls) e.is f.steps_are.are);
       stand = stand_by job console (records_of e.done) (records_of f.lines) f.fit records;
       furthest = λ line more is are stand. not_behind job console steps e.done line more is are stand;
     } in

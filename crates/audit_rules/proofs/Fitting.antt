@@ -1,11 +1,10 @@
 -- Texts that fit stand.
-use Rattle.std.proofs.Common.{◌≡◌, ℕ, zero, suc, List, [], ◌∷◌, ◌++◌, append_assoc, append-nil, length, map, replicate, true, false, Bool, sym, refl, ap, ◌∙◌, subst, arith}
+use Rattle.std.proofs.Common.{◌≡◌, ℕ, zero, suc, List, [], ◌∷◌, ◌++◌, append_assoc, append-nil, length, replicate, true, false, Bool, sym, refl, ap, ◌∙◌, subst, arith}
 use Rattle.std.specs.List.{AllByRecursion}
 use Rattle.std.proofs.lemmas.List.{same_from_push}
 use Rattle.std.proofs.lemmas.List.Concat.{flat_map-append}
 use Rattle.units.specs.declared.Steps3.{Steps3}
 use Rattle.flight.specs.Places.{moved_by, origin}
-use Rattle.step_line.specs.declared.Bits.{Bits}
 use Rattle.step_line.specs.declared.Record.{Record}
 use Rattle.step_line.specs.declared.Record.TheVariants as kinds
 use Rattle.run_rules.specs.Outcomes.{either}
@@ -24,8 +23,12 @@ use Rattle.run_texts.proofs.Leading.{onto_none, onto_more, onto_begun}
 use Rattle.run_texts.proofs.OneMaking.{split_last}
 use Rattle.run_texts.proofs.SoFar.{EndAtEnd}
 use Rattle.audit_rules.specs.Standing.{Stand}
-use Rattle.audit_rules.specs.StepTexts.{Form, StepLine, IsLineOf, records_by, records_of}
-use Rattle.audit_rules.specs.StepTexts.StepLine.{a_record, a_run}
+use Rattle.audit_rules.specs.StepTexts.{IsLineOf, records_of}
+use Rattle.step_record.specs.declared.forms.Form.{Form}
+use Rattle.step_record.specs.declared.forms.Form.TheVariants.{One, Two}
+use Rattle.step_record.specs.declared.forms.Line.{Line}
+use Rattle.step_record.specs.Forms.{records_of as records_by}
+use Rattle.step_record.specs.declared.forms.Line.TheVariants as line_kinds
 use Rattle.audit_rules.proofs.Fronts.{closed, some_part}
 use Rattle.audit_rules.proofs.Replies.{all_second}
 
@@ -84,45 +87,46 @@ ends_records (p ∷ q ∷ ps) place records ends all =
 
 -- ---- lines that are ended
 
-pub record EndsLines (lines : List StepLine) (front : List Record) : Type 0 where
-  pub done : List StepLine
-  pub is : lines ≡ done ++ a_record kinds.End ∷ []
+pub record EndsLines (lines : List Line) (front : List Record) : Type 0 where
+  pub done : List Line
+  pub is : lines ≡ done ++ line_kinds.One kinds.End ∷ []
   pub records : records_of done ≡ front
 
-record LastLine (lines : List StepLine) : Type 0 where
-  pub front : List StepLine
-  pub last : StepLine
+record LastLine (lines : List Line) : Type 0 where
+  pub front : List Line
+  pub last : Line
   pub is : lines ≡ front ++ last ∷ []
 
-last_line : (l : StepLine) (ls : List StepLine) → LastLine (l ∷ ls)
+last_line : (l : Line) (ls : List Line) → LastLine (l ∷ ls)
 last_line l [] = record { front = []; last = l; is = refl }
-last_line l (m ∷ ms) = let r = last_line m ms in record { front = l ∷ r.front; last = r.last; is = ap (λ (ks : List StepLine). l ∷ ks) r.is }
+last_line l (m ∷ ms) = let r = last_line m ms in record { front = l ∷ r.front; last = r.last; is = ap (λ (ks : List Line). l ∷ ks) r.is }
 
-replicate_push : (n : ℕ) (b : Bits) → map kinds.Event (replicate (suc n) b) ≡ map kinds.Event (replicate n b) ++ kinds.Event b ∷ []
-replicate_push zero b = refl
-replicate_push (suc n) b = ap (λ (rs : List Record). kinds.Event b ∷ rs) (replicate_push n b)
+replicate_push : (n : ℕ) (r : Record) → replicate (suc n) r ≡ replicate n r ++ r ∷ []
+replicate_push zero r = refl
+replicate_push (suc n) r = ap (λ (rs : List Record). r ∷ rs) (replicate_push n r)
 
-by_last : (form : Form) (ls : List StepLine) (l : StepLine) (front : List Record) → IsLineOf form l → records_of ls ++ records_by l ≡ front ++ kinds.End ∷ [] → EndsLines (ls ++ l ∷ []) front
-by_last form ls (a_record r) front is e =
+by_last : (form : Form) (ls : List Line) (l : Line) (front : List Record) → IsLineOf form l → records_of ls ++ records_by l ≡ front ++ kinds.End ∷ [] → EndsLines (ls ++ l ∷ []) front
+by_last form ls (line_kinds.One r) front is e =
     let same = same_from_push (records_of ls) front r kinds.End e in
-    record { done = ls; is = ap (λ (s : Record). ls ++ a_record s ∷ []) same.1; records = same.0 }
-by_last Form.one ls (a_run n b) front is e = absurd is
-by_last Form.two ls (a_run zero b) front is e = absurd (omega (arith, is.1))
-by_last Form.two ls (a_run (suc n) b) front is e =
-    let f : (records_of ls ++ map kinds.Event (replicate n b)) ++ kinds.Event b ∷ [] ≡ front ++ kinds.End ∷ [] =
-    append_assoc (records_of ls) (map kinds.Event (replicate n b)) (kinds.Event b ∷ []) ∙ ap (λ (rs : List Record). records_of ls ++ rs) (sym (replicate_push n b)) ∙ e in
-    let same = same_from_push (records_of ls ++ map kinds.Event (replicate n b)) front (kinds.Event b) kinds.End f in
+    record { done = ls; is = ap (λ (s : Record). ls ++ line_kinds.One s ∷ []) same.1; records = same.0 }
+by_last One ls (line_kinds.Run n b) front is e = absurd is
+by_last Two ls (line_kinds.Run zero b) front is e = absurd (omega (arith, is.0))
+by_last Two ls (line_kinds.Run (suc n) b) front is e =
+    let f : (records_of ls ++ replicate n (kinds.Event b)) ++ kinds.Event b ∷ [] ≡ front ++ kinds.End ∷ [] =
+    append_assoc (records_of ls) (replicate n (kinds.Event b)) (kinds.Event b ∷ []) ∙ ap (λ (rs : List Record). records_of ls ++ rs) (sym (replicate_push n (kinds.Event b))) ∙ e in
+    let same = same_from_push (records_of ls ++ replicate n (kinds.Event b)) front (kinds.Event b) kinds.End f in
     absurd (let g = same.1 in cc)
+by_last form ls line_kinds.Version front is e = absurd is
 
-pub ends_lines : (form : Form) (lines : List StepLine) (front : List Record) → AllByRecursion (IsLineOf form) lines → records_of lines ≡ front ++ kinds.End ∷ [] → EndsLines lines front
+pub ends_lines : (form : Form) (lines : List Line) (front : List Record) → AllByRecursion (IsLineOf form) lines → records_of lines ≡ front ++ kinds.End ∷ [] → EndsLines lines front
 ends_lines form [] [] each e = absurd cc
 ends_lines form [] (r ∷ front) each e = absurd cc
 ends_lines form (l ∷ ls) front each e =
     let r = last_line l ls in
-    let is_last = all_second (IsLineOf form) r.front (r.last ∷ []) (subst (λ (ks : List StepLine). AllByRecursion (IsLineOf form) ks) r.is each) in
+    let is_last = all_second (IsLineOf form) r.front (r.last ∷ []) (subst (λ (ks : List Line). AllByRecursion (IsLineOf form) ks) r.is each) in
     let records : records_of r.front ++ records_by r.last ≡ front ++ kinds.End ∷ [] =
     ap (λ (rs : List Record). records_of r.front ++ rs) (sym (append-nil (records_by r.last))) ∙ sym (flat_map-append records_by r.front (r.last ∷ [])) ∙ sym (ap records_of r.is) ∙ e in
-    subst (λ (ks : List StepLine). EndsLines ks front) (sym r.is) (by_last form r.front r.last front is_last.0 records)
+    subst (λ (ks : List Line). EndsLines ks front) (sym r.is) (by_last form r.front r.last front is_last.0 records)
 
 -- ---- a longer job
 

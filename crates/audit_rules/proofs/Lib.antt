@@ -7,5 +7,6 @@ pub mod Fitting
 pub mod Fitted
 pub mod Finding
 pub mod Worked
+pub mod Written
 pub mod Refuted
 pub mod BadAnswer

@@ -43,9 +43,11 @@ use Rattle.run_texts.proofs.Worked.{first, opens, coded, one_step_fits}
 use Rattle.audit_rules.specs.Rows.{one_step, accepted}
 use Rattle.audit_rules.specs.Scanned.{sent_in}
 use Rattle.audit_rules.specs.Standing.{MayWait, Stand, StandTo}
-use Rattle.audit_rules.specs.StepTexts.{StepLine, IsLineOf, line_text, records_of}
-use Rattle.audit_rules.specs.StepTexts.Form.{one}
-use Rattle.audit_rules.specs.StepTexts.StepLine.{a_record}
+use Rattle.audit_rules.specs.StepTexts.{IsLineOf, records_of}
+use Rattle.step_record.specs.declared.forms.Line.{Line}
+use Rattle.step_record.specs.Forms.{line_text}
+use Rattle.step_record.specs.declared.forms.Form.TheVariants.{One}
+use Rattle.step_record.specs.declared.forms.Line.TheVariants as line_kinds
 use Rattle.audit_rules.specs.Rows.{head, OtherStep}
 use Rattle.audit_rules.proofs.Lines.{one_line_here}
 use Rattle.audit_rules.proofs.Stands.{stand_front}
@@ -149,11 +151,11 @@ other_stands_not console s =
       by_line : (o : Outcome) → o ≡ step_made → AreMadeSoFar origin (parts_of (a_line o ∷ [])) other_records → ⊥
       by_line o same made = not_of_step made.0 (subst (λ (x : Outcome). IsMade (x ∷ []) other_records made.0) same made.1)
 
-left_line : IsLineOf one (a_record (kinds.Event left))
+left_line : IsLineOf One (line_kinds.One (kinds.Event left))
 left_line = record { x = omega arith; y = omega arith; z = omega arith; some = omega arith }
 
-abbrev pub head_line : List StepLine
-head_line = a_record (kinds.Head (head_of 1 1)) ∷ []
+abbrev pub head_line : List Line
+head_line = line_kinds.One (kinds.Head (head_of 1 1)) ∷ []
 
 other_stands : StandTo (sent_in one_step) accepted (head ++ codes "X-\nE\n")
 unfolding head_text event_text digits
@@ -163,12 +165,12 @@ other_stands = record {
   text = refl;
   are = record { each = (head_right, tt); apart = tt };
   stand = stand_front (sent_in one_step) accepted (records_of head_line) (kinds.Event right ∷ []) stand_done;
-  furthest = λ line more is are stand. behind line more (all_second (IsLineOf one) head_line (line ∷ []) are.each).0 is stand;
+  furthest = λ line more is are stand. behind line more (all_second (IsLineOf One) head_line (line ∷ []) are.each).0 is stand;
 } where
-  behind : (line : StepLine) (more : List ℕ) → IsLineOf one line → codes "X-\nE\n" ≡ line_text line ++ more → Stand (sent_in one_step) accepted (records_of (head_line ++ line ∷ [])) → ⊥
+  behind : (line : Line) (more : List ℕ) → IsLineOf One line → codes "X-\nE\n" ≡ line_text line ++ more → Stand (sent_in one_step) accepted (records_of (head_line ++ line ∷ [])) → ⊥
   behind line more is e stand =
-      let same = one_line_here one (a_record (kinds.Event left)) line (codes "E\n") more left_line is e in
-      other_stands_not accepted (subst (λ (l : StepLine). Stand (sent_in one_step) accepted (records_of (head_line ++ l ∷ []))) (sym same.line) stand)
+      let same = one_line_here One (line_kinds.One (kinds.Event left)) line (codes "E\n") more left_line is e in
+      other_stands_not accepted (subst (λ (l : Line). Stand (sent_in one_step) accepted (records_of (head_line ++ l ∷ []))) (sym same.line) stand)
 
 -- the console stands with the head alone
 abbrev pub course_of_step : List Passed

@@ -28,8 +28,10 @@ use Rattle.run_texts.proofs.Worked.{one_step_fits, first, opens}
 use Rattle.audit_rules.specs.Findings.{TextsFit, FitsWith, HasForeign, is_foreign, IsTooLong}
 use Rattle.audit_rules.specs.Rows.{accepted, banner, one_step, head, OneStepFits, CompactFits, NoEnd, MoreBehindEnd, NothingFits, HomingIsForeign}
 use Rattle.audit_rules.specs.Scanned.{scanned, sent_in}
-use Rattle.audit_rules.specs.StepTexts.{StepLine, IsLineOf, records_of, line_text, lines_text}
-use Rattle.audit_rules.specs.StepTexts.Form.{one}
+use Rattle.audit_rules.specs.StepTexts.{IsLineOf, records_of, lines_text}
+use Rattle.step_record.specs.declared.forms.Line.{Line}
+use Rattle.step_record.specs.Forms.{line_text}
+use Rattle.step_record.specs.declared.forms.Form.TheVariants.{One}
 use Rattle.audit_rules.specs.Standing.{Stand, StandTo}
 use Rattle.audit_rules.proofs.Fitted.{StandsWhole, whole_by, stand_by}
 use Rattle.audit_rules.specs.Findings.BreaksAt.{at_line, behind_end}
@@ -41,13 +43,13 @@ use Rattle.run_texts.specs.Courses.{Passed, behind_cut, behind_the_reset}
 use Rattle.run_texts.specs.Courses.Passed.{a_line, a_broken, a_cut, a_reset}
 use Rattle.run_texts.specs.Points.{Point, opening, behind_line, behind_broken}
 use Rattle.run_texts.specs.SoFar.{LeadsTo}
-use Rattle.audit_rules.specs.StepTexts.StepLine.{a_record}
+use Rattle.step_record.specs.declared.forms.Line.TheVariants as line_kinds
 
-abbrev pub done : List StepLine
-done = a_record (kinds.Head (head_of 1 1)) ∷ a_record (kinds.Event right) ∷ []
+abbrev pub done : List Line
+done = line_kinds.One (kinds.Head (head_of 1 1)) ∷ line_kinds.One (kinds.Event right) ∷ []
 
-abbrev pub step_lines : List StepLine
-step_lines = done ++ a_record kinds.End ∷ []
+abbrev pub step_lines : List Line
+step_lines = done ++ line_kinds.One kinds.End ∷ []
 
 pub head_is : head_text (head_of 1 1) ≡ head
 unfolding head_text digits
@@ -76,7 +78,7 @@ step_fits = record {
   over = refl;
 }
 
-step_text : (heading : List ℕ) → heading ++ (line_text (a_record (kinds.Head (head_of 1 1))) ++ (line_text (a_record (kinds.Event right)) ++ (line_text (a_record kinds.End) ++ []))) ≡ heading ++ (head ++ codes "X+\nE\n")
+step_text : (heading : List ℕ) → heading ++ (line_text (line_kinds.One (kinds.Head (head_of 1 1))) ++ (line_text (line_kinds.One (kinds.Event right)) ++ (line_text (line_kinds.One kinds.End) ++ []))) ≡ heading ++ (head ++ codes "X+\nE\n")
 step_text heading = ap (λ (t : List ℕ). heading ++ (t ++ (event_text right ++ codes "E\n"))) head_is ∙ ap (λ (t : List ℕ). heading ++ (head ++ (t ++ codes "E\n"))) right_is
 
 -- ---- which lines are not audited
@@ -140,10 +142,10 @@ no_end_stands = record {
   text = sym (ap (λ (t : List ℕ). t ++ (event_text right ++ [])) head_is ∙ ap (λ (t : List ℕ). head ++ (t ++ [])) right_is) ∙ sym (append-nil (lines_text done));
   are = record { each = (head_right, (event_right, tt)); apart = (tt, tt) };
   stand = stand_done;
-  furthest = λ line more is are stand. nothing line more (all_second (IsLineOf one) done (line ∷ []) are.each).0 is;
+  furthest = λ line more is are stand. nothing line more (all_second (IsLineOf One) done (line ∷ []) are.each).0 is;
 } where
-  nothing : (line : StepLine) (more : List ℕ) → IsLineOf one line → ◌≡◌ {A = List ℕ} [] (line_text line ++ more) → ⊥
-  nothing line more is e = line_is_some one line more is e
+  nothing : (line : Line) (more : List ℕ) → IsLineOf One line → ◌≡◌ {A = List ℕ} [] (line_text line ++ more) → ⊥
+  nothing line more is e = line_is_some One line more is e
 
 whole : StandsWhole one_step accepted (records_of done)
 whole = whole_by one_step accepted (records_of done) (records_of step_lines) step_fits refl
@@ -170,12 +172,12 @@ more_stands = record {
   text = refl;
   are = record { each = (head_right, (event_right, tt)); apart = (tt, tt) };
   stand = stand_done;
-  furthest = λ line more is are stand. ends line more (all_second (IsLineOf one) done (line ∷ []) are.each).0 is stand;
+  furthest = λ line more is are stand. ends line more (all_second (IsLineOf One) done (line ∷ []) are.each).0 is stand;
 } where
-  ends : (line : StepLine) (more : List ℕ) → IsLineOf one line → codes "E\nE\n" ≡ line_text line ++ more → Stand (sent_in one_step) accepted (records_of (done ++ line ∷ [])) → ⊥
+  ends : (line : Line) (more : List ℕ) → IsLineOf One line → codes "E\nE\n" ≡ line_text line ++ more → Stand (sent_in one_step) accepted (records_of (done ++ line ∷ [])) → ⊥
   ends line more is e stand =
-      let same = one_line_here one (a_record kinds.End) line (codes "E\n") more tt is e in
-      no_end (sent_in one_step) accepted (records_of done) (subst (λ (l : StepLine). Stand (sent_in one_step) accepted (records_of (done ++ l ∷ []))) (sym same.line) stand)
+      let same = one_line_here One (line_kinds.One kinds.End) line (codes "E\n") more tt is e in
+      no_end (sent_in one_step) accepted (records_of done) (subst (λ (l : Line). Stand (sent_in one_step) accepted (records_of (done ++ l ∷ []))) (sym same.line) stand)
 
 some_more : codes "E\n" ≢ []
 some_more e = absurd cc
@@ -287,7 +289,7 @@ nothing_found = (
   not_either,
   nothing_foreign,
   record {
-    lines = a_record kinds.End ∷ [];
+    lines = line_kinds.One kinds.End ∷ [];
     steps_are = record { are = record { each = (tt, tt); apart = tt }; body = refl };
     fit = nothing_fits;
     count = refl;

@@ -22,7 +22,8 @@ use Rattle.audit_rules.specs.declared.Audit.TheVariants.{Fits, Misfit, Usage, Jo
 use Rattle.audit_rules.specs.Consoles.{IsOnConsole}
 use Rattle.audit_rules.specs.Scanned.{scanned, sent_in, most_cuts}
 use Rattle.audit_rules.specs.Standing.{StandTo, place_behind}
-use Rattle.audit_rules.specs.StepTexts.{StepLine, IsStepText, records_of}
+use Rattle.audit_rules.specs.StepTexts.{IsStepText, records_of}
+use Rattle.step_record.specs.declared.forms.Line.{Line}
 use Rattle.audit_rules.specs.Telling.{ConsoleStands, HasBadReply, HasAlarm}
 
 -- ---- texts that fit
@@ -43,7 +44,7 @@ pub record TextsFit (job console : List ℕ) (records : List Record) : Type 0 wh
 
 -- the steps have these lines, which fit, and so many events
 pub record FitsWith (job console steps : List ℕ) (events : ℕ) : Type 0 where
-  pub lines : List StepLine
+  pub lines : List Line
   pub steps_are : IsStepText steps lines
   pub fit : TextsFit job console (records_of lines)
   pub count : events ≡ length (events_among (records_of lines))
@@ -51,7 +52,7 @@ pub record FitsWith (job console steps : List ℕ) (events : ℕ) : Type 0 where
 -- ---- steps that break a rule
 
 -- the end may stand behind these lines
-abbrev pub MayEnd : List ℕ → List ℕ → List StepLine → Type 0
+abbrev pub MayEnd : List ℕ → List ℕ → List Line → Type 0
 MayEnd job console done = TextsFit job console (records_of done ++ kinds.End ∷ [])
 
 -- At this byte the first record stands that breaks a rule, or that which is no record's line, or the text ends without an

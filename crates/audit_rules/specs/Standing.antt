@@ -11,7 +11,9 @@ use Rattle.run_texts.specs.Sent.{Sent, has_reset}
 use Rattle.run_texts.specs.SoFar.{LeadsTo, AreMadeSoFar}
 use Rattle.run_texts.specs.Told.{told_in}
 use Rattle.audit_rules.specs.Consoles.{Tells, GoesOnAnew}
-use Rattle.audit_rules.specs.StepTexts.{StepLine, AreLinesOf, line_text, lines_text, records_of, heading, form_of, body_of}
+use Rattle.audit_rules.specs.StepTexts.{AreLinesOf, lines_text, records_of, heading, form_of, body_of}
+use Rattle.step_record.specs.declared.forms.Line.{Line}
+use Rattle.step_record.specs.Forms.{line_text}
 
 -- A line may be left unanswered where a reset of the job comes, and is what the console tells next.
 abbrev pub MayWait : Point → List Sent → List ℕ → Type 0
@@ -35,14 +37,14 @@ pub record Stand (sent : List Sent) (console : List ℕ) (records : List Record)
 -- The lines of a step text up to the first that breaks a rule, or ends the steps: they stand, and with the next line, if
 -- one stands there, they do not. The end is no record of a part.
 pub record StandTo (sent : List Sent) (console steps : List ℕ) : Type 0 where
-  pub done : List StepLine
+  pub done : List Line
   pub rest : List ℕ
   pub text : body_of steps ≡ lines_text done ++ rest
   pub are : AreLinesOf (form_of steps) done
   pub stand : Stand sent console (records_of done)
-  pub furthest : (line : StepLine) (more : List ℕ) → rest ≡ line_text line ++ more → AreLinesOf (form_of steps) (done ++ line ∷ []) →
+  pub furthest : (line : Line) (more : List ℕ) → rest ≡ line_text line ++ more → AreLinesOf (form_of steps) (done ++ line ∷ []) →
       Stand sent console (records_of (done ++ line ∷ [])) → ⊥
 
 -- where the first line behind them begins
-abbrev pub place_behind : List ℕ → List StepLine → ℕ
+abbrev pub place_behind : List ℕ → List Line → ℕ
 place_behind steps done = length (heading (form_of steps)) + length (lines_text done)

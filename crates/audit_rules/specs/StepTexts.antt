@@ -1,5 +1,5 @@
 -- Steps as a text of form 1 or 2.
-use Rattle.std.specs.Prelude.{◌≡◌, ◌≤◌, ℕ, Bool, true, false, cond, nat_eq, List, [], ◌∷◌, ◌++◌, length, take, drop, map, replicate, codes, decimal, Some, None}
+use Rattle.std.specs.Prelude.{◌≡◌, ◌≤◌, ℕ, Bool, true, false, cond, nat_eq, List, [], ◌∷◌, length, take, drop, Some, None}
 use Rattle.std.specs.declared.option.Option.{Option}
 use Rattle.std.specs.List.{flat_map, AllByRecursion}
 use Rattle.std.specs.Str.{bytes_eq}
@@ -8,79 +8,65 @@ use Rattle.step_line.specs.Records.{IsRecord}
 use Rattle.step_line.specs.declared.Bits.{Bits}
 use Rattle.step_line.specs.declared.Record.{Record}
 use Rattle.step_line.specs.declared.Record.TheVariants as kinds
-use Rattle.step_record.specs.Texts.{event_text, record_text}
+use Rattle.step_record.specs.Forms.{full_run, line_text, records_of as records_by}
+use Rattle.step_record.specs.declared.forms.Form.{Form}
+use Rattle.step_record.specs.declared.forms.Form.TheVariants.{One, Two}
+use Rattle.step_record.specs.declared.forms.Line.{Line}
+use Rattle.step_record.specs.declared.forms.Line.TheVariants as line_kinds
 
-pub data Form : Type 0 where
-  one : Form
-  two : Form
-
--- a line: a record, or so many equal events that stand together
-pub data StepLine : Type 0 where
-  a_record : Record → StepLine
-  a_run : ℕ → Bits → StepLine
-
-abbrev pub line_text : StepLine → List ℕ
-line_text (a_record r) = record_text r
-line_text (a_run n b) = codes "R " ++ decimal n ++ codes " " ++ event_text b
-
-abbrev pub records_by : StepLine → List Record
-records_by (a_record r) = r ∷ []
-records_by (a_run n b) = map kinds.Event (replicate n b)
-
--- a longer run is written as full ones and a rest
-abbrev pub most_in_run : ℕ
-most_in_run = 4294967295
-
--- form 1 has no runs
-abbrev pub IsLineOf : Form → StepLine → Type 0
-IsLineOf form (a_record r) = IsRecord r
-IsLineOf one (a_run n b) = ⊥
-IsLineOf two (a_run n b) = IsEvent b × (2 ≤ n) × (n ≤ most_in_run)
+-- A line that may stand behind the heading: that of a record, or, in form 2, of equal events that stand together.
+abbrev pub IsLineOf : Form → Line → Type 0
+IsLineOf form (line_kinds.One r) = IsRecord r
+IsLineOf One (line_kinds.Run n b) = ⊥
+IsLineOf Two (line_kinds.Run n b) = (2 ≤ n) × (n ≤ full_run) × IsEvent b
+IsLineOf form line_kinds.Version = ⊥
 
 -- the event that a line has once or more
-abbrev pub event_in : StepLine → Option Bits
-event_in (a_record (kinds.Event b)) = Some b
-event_in (a_record _) = None
-event_in (a_run n b) = Some b
+abbrev pub event_in : Line → Option Bits
+event_in (line_kinds.One (kinds.Event b)) = Some b
+event_in (line_kinds.One _) = None
+event_in (line_kinds.Run n b) = Some b
+event_in line_kinds.Version = None
 
-abbrev pub is_full : StepLine → Bool
-is_full (a_record r) = false
-is_full (a_run n b) = nat_eq n most_in_run
+abbrev pub is_full : Line → Bool
+is_full (line_kinds.One r) = false
+is_full (line_kinds.Run n b) = nat_eq n full_run
+is_full line_kinds.Version = false
 
 -- in form 2 a line with the event of the line before it comes only behind a full run
-abbrev pub MayFollow : Form → StepLine → StepLine → Type 0
-MayFollow one line next = Unit {0}
-MayFollow two line next = (b : Bits) → event_in line ≡ Some b → event_in next ≡ Some b → is_full line ≡ true
+abbrev pub MayFollow : Form → Line → Line → Type 0
+MayFollow One line next = Unit {0}
+MayFollow Two line next = (b : Bits) → event_in line ≡ Some b → event_in next ≡ Some b → is_full line ≡ true
 
-abbrev pub AreApart : Form → List StepLine → Type 0
+abbrev pub AreApart : Form → List Line → Type 0
 AreApart form [] = Unit {0}
 AreApart form (line ∷ []) = Unit {0}
-AreApart form (line ∷ next ∷ lines) = MayFollow form line next × AreApart form (next ∷ lines)
+AreApart form (line ∷ next ∷ more) = MayFollow form line next × AreApart form (next ∷ more)
 
-pub record AreLinesOf (form : Form) (lines : List StepLine) : Type 0 where
-  pub each : AllByRecursion (IsLineOf form) lines
-  pub apart : AreApart form lines
+pub record AreLinesOf (form : Form) (all : List Line) : Type 0 where
+  pub each : AllByRecursion (IsLineOf form) all
+  pub apart : AreApart form all
 
-abbrev pub lines_text : List StepLine → List ℕ
-lines_text lines = flat_map line_text lines
+abbrev pub lines_text : List Line → List ℕ
+lines_text all = flat_map line_text all
 
-abbrev pub records_of : List StepLine → List Record
-records_of lines = flat_map records_by lines
+abbrev pub records_of : List Line → List Record
+records_of all = flat_map records_by all
 
 -- form 2 begins with a line of its own
 abbrev pub heading : Form → List ℕ
-heading one = []
-heading two = codes "V 2\n"
+heading One = []
+heading Two = line_text line_kinds.Version
 
 -- a text that begins with that line is of form 2, and any other of form 1
 abbrev pub form_of : List ℕ → Form
-form_of text = cond (bytes_eq (take (length (heading two)) text) (heading two)) two one
+form_of text = cond (bytes_eq (take (length (heading Two)) text) (heading Two)) Two One
 
 -- the text behind it
 abbrev pub body_of : List ℕ → List ℕ
 body_of text = drop (length (heading (form_of text))) text
 
 -- a text is these lines
-pub record IsStepText (text : List ℕ) (lines : List StepLine) : Type 0 where
-  pub are : AreLinesOf (form_of text) lines
-  pub body : body_of text ≡ lines_text lines
+pub record IsStepText (text : List ℕ) (all : List Line) : Type 0 where
+  pub are : AreLinesOf (form_of text) all
+  pub body : body_of text ≡ lines_text all

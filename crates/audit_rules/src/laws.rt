@@ -1,18 +1,29 @@
 //! Laws of audits.
 
-ghost use Rattle.std.specs.Prelude.{◌≡◌, ◌↔◌, ℕ, List, [], ◌∷◌, ◌++◌};
+ghost use Rattle.std.specs.Prelude.{◌≡◌, ◌↔◌, ℕ, List, [], ◌∷◌, ◌++◌, All};
 ghost use Rattle.run_texts.specs.Sent.{Sent};
 ghost use Rattle.step_line.specs.declared.Record.{Record as AnyRecord};
 ghost use Rattle.audit_rules.specs.declared.Audit.{Audit as AnyAudit};
 ghost use Rattle.audit_rules.specs.Findings.{Finds, FitsWith, BreaksAt, IsForeign, HasForeign, IsTooLong, exit_of};
 ghost use Rattle.audit_rules.specs.Scanned.{sent_in};
 ghost use Rattle.audit_rules.specs.Standing.{Stand, StandTo};
-ghost use Rattle.audit_rules.specs.StepTexts.{StepLine, IsStepText};
+ghost use Rattle.audit_rules.specs.StepTexts.{IsStepText, form_of, records_of};
+ghost use Rattle.step_line.specs.Records.{IsRecord};
+ghost use Rattle.step_record.specs.Forms.{text_in};
+ghost use Rattle.step_record.specs.declared.forms.Form.{Form};
+ghost use Rattle.step_record.specs.declared.forms.Line.{Line};
 ghost use Rattle.audit_rules.specs.Telling.{ConsoleStands, HasBadReply};
 
 /// A text of steps is the lines of one list at most.
 pub fn step_texts_have_one_list()
-    ensures { (text : List ℕ) (lines others : List StepLine) → IsStepText text lines → IsStepText text others → lines ≡ others }
+    ensures { (text : List ℕ) (lines others : List Line) → IsStepText text lines → IsStepText text others → lines ≡ others }
+{}
+
+/// What a recorder writes of records is a step text, in each form, and the lines of that stand for these records. And a step
+/// text is what a recorder writes of its records in its form.
+pub fn written_texts_are_step_texts()
+    ensures written { (form : Form) (records : List AnyRecord) → All IsRecord records → (all : List Line) × IsStepText (text_in form records) all × (records_of all ≡ records) }
+    ensures read { (text : List ℕ) (all : List Line) → IsStepText text all → text ≡ text_in (form_of text) (records_of all) }
 {}
 
 /// Records that stand have stood before the last of them. So there is one place up to which the lines of a step text stand.

@@ -6,7 +6,7 @@ mod rows;
 
 pub use laws::{
     one_thing_is_found, records_stand_from_the_left, step_texts_have_one_list,
-    texts_are_found_to_fit_if_they_do, texts_that_fit_stand,
+    texts_are_found_to_fit_if_they_do, texts_that_fit_stand, written_texts_are_step_texts,
 };
 pub use rows::worked_findings;
 
