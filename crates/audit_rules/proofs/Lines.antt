@@ -1,5 +1,5 @@
 -- A text is the lines of one list at most.
-use Rattle.std.proofs.Common.{◌≡◌, ℕ, ◌⊎◌, inl, inr, List, [], ◌∷◌, ◌++◌, append_assoc, append-nil, length, length-append, sym, refl, ap, ◌∙◌, subst, arith}
+use Rattle.std.proofs.Common.{◌≡◌, ◌↔◌, ℕ, ◌⊎◌, inl, inr, List, [], ◌∷◌, ◌++◌, append_assoc, append-nil, length, length-append, sym, refl, ap, ◌∙◌, subst, arith}
 use Rattle.std.specs.List.{AllByRecursion}
 use Rattle.step_record.specs.Forms.{IsLine, line_text}
 use Rattle.step_record.specs.declared.forms.Form.{Form}
@@ -7,8 +7,8 @@ use Rattle.step_record.specs.declared.forms.Form.TheVariants.{One, Two}
 use Rattle.step_record.specs.declared.forms.Line.{Line}
 use Rattle.step_record.specs.declared.forms.Line.TheVariants as line_kinds
 use Rattle.step_record.proofs.Placed.{first_line, line_some}
-use Rattle.audit_rules.specs.StepTexts.{IsLineOf, AreApart, AreLinesOf, IsStepText, form_of, lines_text}
-use Rattle.audit_rules.proofs.Replies.{all_first, all_second}
+use Rattle.audit_rules.specs.StepTexts.{IsLineOf, AreApart, FollowsLast, AreLinesOf, IsStepText, last_of, form_of, lines_text}
+use Rattle.audit_rules.proofs.Replies.{all_first, all_second, all_joined}
 
 -- ---- one line
 
@@ -58,6 +58,22 @@ apart_first form (x ∷ z ∷ xs) ys a = (a.0, apart_first form (z ∷ xs) ys a.
 
 pub lines_first : (form : Form) (xs ys : List Line) → AreLinesOf form (xs ++ ys) → AreLinesOf form xs
 lines_first form xs ys a = record { each = all_first (IsLineOf form) xs ys a.each; apart = apart_first form xs ys a.apart }
+
+last_may : (form : Form) (done : List Line) (line : Line) → AreApart form (done ++ line ∷ []) → FollowsLast form (last_of done) line
+last_may form [] line a = tt
+last_may form (x ∷ []) line a = a.0
+last_may form (x ∷ y ∷ more) line a = last_may form (y ∷ more) line a.1
+
+apart_more : (form : Form) (done : List Line) (line : Line) → AreApart form done → FollowsLast form (last_of done) line → AreApart form (done ++ line ∷ [])
+apart_more form [] line a may = tt
+apart_more form (x ∷ []) line a may = (may, tt)
+apart_more form (x ∷ y ∷ more) line a may = (a.0, apart_more form (y ∷ more) line a.1 may)
+
+pub go_on : (form : Form) (done : List Line) (line : Line) → AreLinesOf form (done ++ line ∷ []) ↔ (AreLinesOf form done × IsLineOf form line × FollowsLast form (last_of done) line)
+go_on form done line = (
+  λ a. (lines_first form done (line ∷ []) a, (all_second (IsLineOf form) done (line ∷ []) a.each).0, last_may form done line a.apart),
+  λ p. record { each = all_joined (IsLineOf form) done (line ∷ []) p.0.each (p.1, tt); apart = apart_more form done line p.0.apart p.2 },
+)
 
 -- ---- a whole text
 

@@ -302,7 +302,7 @@ form_two : (t : List ℕ) → form_of (codes "V 2\n" ++ t) ≡ Two
 form_two t = refl
 
 -- a text that begins with the version is of form 2
-begins_version : (text : List ℕ) → bytes_eq (take 4 text) (codes "V 2\n") ≡ true → text ≡ codes "V 2\n" ++ drop 4 text
+pub begins_version : (text : List ℕ) → bytes_eq (take 4 text) (codes "V 2\n") ≡ true → text ≡ codes "V 2\n" ++ drop 4 text
 begins_version text e = after_takes (codes "V 2\n") text (drop 4 text) (ap (λ (t : Bool). cond t (Some (drop 4 text)) None) e)
 
 form_one : (rs : List Record) → AllByRecursion IsRecord rs → form_of (text_in One rs) ≡ One

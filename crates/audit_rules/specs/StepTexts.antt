@@ -43,6 +43,16 @@ AreApart form [] = Unit {0}
 AreApart form (line ∷ []) = Unit {0}
 AreApart form (line ∷ next ∷ more) = MayFollow form line next × AreApart form (next ∷ more)
 
+-- a line may come behind the last of some, if there is one
+abbrev pub FollowsLast : Form → Option Line → Line → Type 0
+FollowsLast form None next = Unit {0}
+FollowsLast form (Some line) next = MayFollow form line next
+
+abbrev pub last_of : List Line → Option Line
+last_of [] = None
+last_of (line ∷ []) = Some line
+last_of (line ∷ next ∷ more) = last_of (next ∷ more)
+
 pub record AreLinesOf (form : Form) (all : List Line) : Type 0 where
   pub each : AllByRecursion (IsLineOf form) all
   pub apart : AreApart form all

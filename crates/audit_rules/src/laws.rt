@@ -7,7 +7,7 @@ ghost use Rattle.audit_rules.specs.declared.Audit.{Audit as AnyAudit};
 ghost use Rattle.audit_rules.specs.Findings.{Finds, FitsWith, BreaksAt, IsForeign, HasForeign, IsTooLong, exit_of};
 ghost use Rattle.audit_rules.specs.Scanned.{sent_in};
 ghost use Rattle.audit_rules.specs.Standing.{Stand, StandTo};
-ghost use Rattle.audit_rules.specs.StepTexts.{IsStepText, form_of, records_of};
+ghost use Rattle.audit_rules.specs.StepTexts.{IsLineOf, FollowsLast, AreLinesOf, IsStepText, last_of, form_of, records_of};
 ghost use Rattle.step_line.specs.Records.{IsRecord};
 ghost use Rattle.step_record.specs.Forms.{text_in};
 ghost use Rattle.step_record.specs.declared.forms.Form.{Form};
@@ -24,6 +24,11 @@ pub fn step_texts_have_one_list()
 pub fn written_texts_are_step_texts()
     ensures written { (form : Form) (records : List AnyRecord) → All IsRecord records → (all : List Line) × IsStepText (text_in form records) all × (records_of all ≡ records) }
     ensures read { (text : List ℕ) (all : List Line) → IsStepText text all → text ≡ text_in (form_of text) (records_of all) }
+{}
+
+/// Lines of a step text are those before the last, and a last one that is a line and may follow.
+pub fn step_texts_go_on_line_by_line()
+    ensures { (form : Form) (done : List Line) (line : Line) → AreLinesOf form (done ++ line ∷ []) ↔ (AreLinesOf form done × IsLineOf form line × FollowsLast form (last_of done) line) }
 {}
 
 /// Records that stand have stood before the last of them. So there is one place up to which the lines of a step text stand.
