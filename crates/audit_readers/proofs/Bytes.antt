@@ -1,5 +1,5 @@
 -- One byte more of a line.
-use Rattle.std.proofs.Common.{◌≡◌, ◌≢◌, ℕ, ◌+◌, ◌≤◌, ◌<◌, Bool, true, false, cond, ◌||◌, List, [], ◌∷◌, ◌++◌, length, map, nat_eq, nat_le, refl, sym, ◌∙◌, ap, subst, arith, append-nil, append_assoc}
+use Rattle.std.proofs.Common.{◌≡◌, ◌≢◌, ℕ, ◌+◌, Bool, true, false, cond, ◌||◌, List, [], ◌∷◌, ◌++◌, length, map, nat_eq, nat_le, refl, sym, ◌∙◌, ap, subst, arith, append-nil}
 use Rattle.std.specs.List.{filter, list_any, count_by}
 use Rattle.std.proofs.lemmas.List.{append_cancel_left, map-append}
 use Rattle.std.proofs.lemmas.List.Elements.{filter-append}
@@ -9,10 +9,10 @@ use Rattle.gcode_words.specs.Stripping.{is_plain, is_realtime, capital, plain, r
 use Rattle.gcode_words.specs.declared.stripping.Comment.{Comment}
 use Rattle.gcode_words.specs.declared.stripping.Comment.TheVariants.{Outside, Paren, Semicolon}
 use Rattle.gcode_words.specs.declared.stripping.Stripped.{Stripped}
-use Rattle.gcode_words.specs.declared.stripping.Stripped.TheVariants.{Nothing, Keep, Realtime, LineEnd}
+use Rattle.gcode_words.specs.declared.stripping.Stripped.TheVariants.{Nothing, Keep, Realtime}
 use Rattle.gcode_words.proofs.Scanning.{seen, after, shown, scan, cut_scan, shown-append}
 use Rattle.run_texts.specs.Sent.{is_reset, behind_resets, kept_of, resets_of}
-use Rattle.audit_rules.specs.Scanned.{cuts_by, holds_by, may_cut, is_hold}
+use Rattle.audit_rules.specs.Scanned.{may_cut, is_hold}
 use Rattle.audit_readers.specs.JobLines.{SeenLine, HasCome}
 
 cut_is : (line : List ℕ) → cut line ≡ scan Outside line

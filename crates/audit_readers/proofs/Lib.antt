@@ -1,2 +1,4 @@
 pub mod Bytes
 pub mod Printed
+pub mod Filling
+pub mod Stepping

@@ -1,2 +1,3 @@
 pub mod JobLines
 pub mod Windows
+pub mod Steps

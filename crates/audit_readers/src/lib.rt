@@ -3,10 +3,12 @@
 
 mod findings;
 mod job_line;
+mod steps;
 mod texts;
 mod window;
 
 pub use findings::{exit_of, put_audit};
 pub use job_line::JobLine;
+pub use steps::StepReader;
 pub use texts::{behind_reply, is_foreign};
 pub use window::Window;

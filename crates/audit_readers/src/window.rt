@@ -1,7 +1,7 @@
 //! A window on a source: what was read of it and is not taken yet.
 
 ghost use Rattle.std.specs.Prelude.{◌≡◌, ◌≤◌, length, drop, []};
-ghost use Rattle.audit_readers.specs.Windows.{Fills, FillsNot};
+ghost use Rattle.audit_readers.specs.Windows.{Fills, FillsNot, FillsUp, FailsToFill, KnowsEnd};
 
 use arrayvec::ArrayVec;
 use outside::{Failed, Source};
@@ -29,7 +29,7 @@ impl Model for Window {
 
 impl Window {
     ghost use Rattle.std.specs.Prelude.{◌≡◌, ◌≤◌, length, drop, [], OnOk, OnErr, false};
-    ghost use Rattle.audit_readers.specs.Windows.{Fills, FillsNot};
+    ghost use Rattle.audit_readers.specs.Windows.{Fills, FillsNot, FillsUp, FailsToFill, KnowsEnd};
 
     /// Nothing is read.
     pub fn new() -> Window
@@ -80,6 +80,18 @@ impl Window {
         self.held = held;
         self.place = 0;
         self.ended = count == 0;
+        Ok(())
+    }
+
+    /// Reads until 192 bytes wait, or the source's end was read. After a failed read it may be called again.
+    pub fn fill_up<S: Source>(&mut self, source: &mut S) -> Result<(), Failed>
+        requires known { KnowsEnd self.old (S.state source.old) }
+        ensures filled { OnOk result (FillsUp self.old self.new (S.state source.old) (S.state source.new)) }
+        ensures failed { OnErr result (FailsToFill self.old self.new (S.state source.old) (S.state source.new)) }
+    {
+        while self.waiting().len() < 192 && !self.ended {
+            self.fill(source)?;
+        }
         Ok(())
     }
 }

@@ -1,4 +1,4 @@
-use Rattle.std.proofs.Common.{◌≡◌, ℕ, List, [], ◌∷◌, ◌++◌, refl, sym, subst}
+use Rattle.std.proofs.Common.{ℕ, List, [], ◌∷◌, ◌++◌, refl, sym, subst}
 use Rattle.gcode_words.specs.Stripping.{Feeds}
 use Rattle.gcode_words.specs.declared.stripping.Comment.{Comment}
 use Rattle.audit_readers.specs.JobLines.{SeenLine, HasCome}
