@@ -18,6 +18,7 @@ use Rattle.run_rules.specs.Work.{Outcome, is_limit}
 use Rattle.run_rules.specs.Outcomes.{Before, Becomes, ByKept, ByDollar, ByCode, Passed, Follows, start, after, refused, at_place, has_cause, either, most_kept, became_of}
 use Rattle.run_rules.specs.Outcomes.Passed.{a_line, a_cut}
 use Rattle.run_rules.proofs.Going.{as_many}
+use Rattle.step_record.specs.declared.forms.Form.{Form}
 use Rattle.run_law.specs.Drives.{all_outcomes, all_passed}
 use Rattle.run_law.proofs.Driving.{became_all}
 use Rattle.run_rules.specs.Told.{is_error, errors_in, limits_in}
@@ -239,9 +240,9 @@ sent_front r bytes read lines later begins all sent =
     begins_on (lines_of bytes) (lines_read r read) lines (read_lines r bytes read begins all)
     (begins_on (lines_read r read) (take_while is_sent (lines_read r read)) lines (while_front is_sent (lines_read r read)) (record { rest = later; is = sent }))
 
-pub complete : (job_was job_is : SourceState) (was is : Sinks) (end : RunEnd) (run : IsRun job_was job_is was is end) (job : IsAcceptedJob job_was)
+pub complete : (form : Form) (job_was job_is : SourceState) (was is : Sinks) (end : RunEnd) (run : IsRun form job_was job_is was is end) (job : IsAcceptedJob job_was)
     → end.source_failed ≡ false → IsComplete job.bytes run.read run.lines job.outcomes (all_outcomes run.drive) end
-complete job_was job_is was is end run job well =
+complete form job_was job_is was is end run job well =
     let front = read_front job_was.left job_is.left job.bytes run.read job.told run.sending.taken in
     let few : length run.read ≤ largest_job =
     (let e = ap length front.0.is in let a = length-append run.read front.0.rest in let f = job.few in omega arith) in

@@ -20,6 +20,7 @@ use Rattle.stream_host.specs.Steps as hosts
 use Rattle.stream_host.specs.Conduct.{Conducted}
 use Rattle.stream_host.specs.Ran.{HostEnd, HostRan}
 use Rattle.stream_host.proofs.Running.{has_run}
+use Rattle.step_record.specs.declared.forms.Form.TheVariants.{One}
 use Rattle.run_law.specs.Runs.{Sinks, run_end, IsRun}
 use Rattle.run_law.specs.Ran.{BoardRan, PulseRan, RecorderRan}
 use Rattle.run_law.proofs.Law.{runs}
@@ -168,7 +169,7 @@ board_ran first opening = record {
 pulse_ran : PulseRan (pieces.End ∷ []) 0 (kinds.End ∷ [])
 pulse_ran = record { turns = (record { going = refl; follows = tt }, tt); before = []; ends = refl; records = refl; ticks = refl }
 
-recorder_ran : RecorderRan silent silent (kinds.End ∷ []) false
+recorder_ran : RecorderRan One silent silent (kinds.End ∷ []) false
 recorder_ran = record {
   ended = record { front = []; last = refl; once = All-nil _ };
   steps = record { front = codes "E\n"; back = []; whole = refl; held = tt; all = λ e. refl; same = λ e. refl; later = omega arith; cause = λ e. absurd cc };
@@ -176,8 +177,8 @@ recorder_ran = record {
 
 -- ---- the run
 
-pub a_run : (first : State) → IsOpening first → IsRun one_line nothing sinks sinks (run_end ended_so false)
+pub a_run : (first : State) → IsOpening first → IsRun One one_line nothing sinks sinks (run_end ended_so false)
 a_run first opening =
-    (runs one_line nothing sinks sinks ended_so false (10 ∷ []) [] (10 ∷ []) true true false false false false 0 0 0 []
+    (runs One one_line nothing sinks sinks ended_so false (10 ∷ []) [] (10 ∷ []) true true false false false false 0 0 0 []
     (replies.Banner ∷ replies.Ok ∷ replies.Bye ∷ []) (replies.Banner ∷ replies.Ok ∷ replies.Bye ∷ []) (pieces.End ∷ []) (pieces.End ∷ []) 0 (kinds.End ∷ []) (kinds.End ∷ []) [] []
     host_ran (board_ran first opening) pulse_ran recorder_ran (record { rest = []; front = refl; closes = λ e. refl; all = λ e. refl; loads = tt }) (record { held_by = λ e. absurd cc; slowed_by = λ e. absurd cc; changed_by = λ e. absurd cc; cancels_by = omega arith; reset_by = λ e. absurd cc; asked_by = omega arith }) (omega arith) (λ word among. absurd among) refl refl refl).0

@@ -25,6 +25,7 @@ use Rattle.status_report.specs.Answering.{is_bye, without_reports}
 use Rattle.serial_ring.specs.Marks.{Mark as LinkMark}
 use Rattle.stream_host.specs.Ran.{HostEnd, HostRan}
 use Rattle.code_table.specs.declared.flags.Ovr.{Ovr}
+use Rattle.step_record.specs.declared.forms.Form.{Form}
 use Rattle.run_law.specs.Changes.{AreAskedIn}
 use Rattle.run_law.specs.Flags.{AreTaken}
 use Rattle.run_law.specs.Runs.{Sinks, run_end, IsRun}
@@ -134,13 +135,13 @@ front_none x whole front b none = first_none x front b.rest (subst (Others x) b.
 
 -- ---- the run
 
-pub ends : (job_was job_is : SourceState) (was is : Sinks) (end : HostEnd) (steps_failed : Bool)
+pub ends : (form : Form) (job_was job_is : SourceState) (was is : Sinks) (end : HostEnd) (steps_failed : Bool)
     (stored raised taken : List ℕ) (shut closed held slowed changed reset : Bool) (asked cancels known : ℕ) (words : List Ovr) (got answered : List Reply) (got_pieces published : List Piece) (ticks : ℕ) (got_records put : List Record) (marks : List ℕ) (loaded : List LinkMark)
     → (host : HostRan job_was job_is was.console is.console stored marks shut raised got end) → BoardRan taken closed held slowed changed reset asked cancels known words answered published → PulseRan got_pieces ticks put
-    → RecorderRan was.steps is.steps got_records steps_failed
+    → RecorderRan form was.steps is.steps got_records steps_failed
     → IsLinked stored shut taken closed marks loaded → AreTaken raised held slowed changed reset asked cancels → known ≤ ticks → AreAskedIn raised words → BeginsWith answered got → BeginsWith published got_pieces → BeginsWith put got_records
-    → (run : IsRun job_was job_is was is (run_end end steps_failed)) × (run.scanned ≡ host.scanned) × (run.replies ≡ got)
-ends job_was job_is was is end steps_failed stored raised taken shut closed held slowed changed reset asked cancels known words got answered got_pieces published ticks got_records put marks loaded host board pulse recorder link flags found all_asked some_replies some_pieces some_records =
+    → (run : IsRun form job_was job_is was is (run_end end steps_failed)) × (run.scanned ≡ host.scanned) × (run.replies ≡ got)
+ends form job_was job_is was is end steps_failed stored raised taken shut closed held slowed changed reset asked cancels known words got answered got_pieces published ticks got_records put marks loaded host board pulse recorder link flags found all_asked some_replies some_pieces some_records =
     let none = front_none replies.Bye (replies_in (all_outcomes board.drive)) board.said board.front
     (subst (λ (os : List Outcome). NoByes (replies_in os)) (became_all board.drive) (none_is_bye true (start board.first) board.lines (all_passed board.drive) board.last board.follows)) in
     let same_replies = replies_whole (without_reports answered) (without_reports got) board.said board.told none (bye_without got host.bye) (plain_front answered got some_replies) in
@@ -151,5 +152,5 @@ ends job_was job_is was is end steps_failed stored raised taken shut closed held
       last = pulse.records ∙ ap (flat_map records_of) (same_pieces ∙ board.gave) ∙ ended_records board.made;
       once = records_end (all_given board.drive) board.made board.kept (run_has_no_end most_blocks fresh_plan board.drive.plan (all_actions board.drive) (all_given board.drive) board.drives.run);
     } in
-    runs_by job_was job_is was is end steps_failed stored raised taken shut closed held slowed changed reset asked cancels known words got answered got_pieces published ticks got_records put marks loaded host board pulse recorder link flags found all_asked
+    runs_by form job_was job_is was is end steps_failed stored raised taken shut closed held slowed changed reset asked cancels known words got answered got_pieces published ticks got_records put marks loaded host board pulse recorder link flags found all_asked
     same_replies some_replies same_pieces (records_whole put got_records run_end recorder.ended some_records)

@@ -9,7 +9,7 @@ use Rattle.pulse_engine.specs.Steps.{Pulsing}
 use Rattle.pulse_engine.specs.Turns.{PulseFits}
 use Rattle.pulse_engine.proofs.Whole.{recorded_each, never_halted, all_since, done_put}
 use Rattle.step_record.specs.Taking.{Log, records}
-use Rattle.step_record.specs.declared.forms.Form.TheVariants.{One}
+use Rattle.step_record.specs.declared.forms.Form.{Form}
 use Rattle.step_record.specs.Recording.{Recording, RecorderFits, Rests, waits}
 use Rattle.step_record.proofs.Turns.{has_wrote, has_took}
 use Rattle.run_law.specs.Ran.{PulseRan, RecorderRan}
@@ -40,12 +40,12 @@ pulse_runs p h k f unhalted = record {
 
 -- ---- the recorder
 
-pub recorder_ran : (v : Recording) (log : Log) (was is : SinkState) → RecorderFits One v log was is → Rests v → RecorderRan was is (records log) v.writer.failed
-recorder_ran v log was is f rests = record { ended = f.over (first_true v.writer.asked _ rests); steps = has_took One v log was is f rests }
+pub recorder_ran : (form : Form) (v : Recording) (log : Log) (was is : SinkState) → RecorderFits form v log was is → Rests v → RecorderRan form was is (records log) v.writer.failed
+recorder_ran form v log was is f rests = record { ended = f.over (first_true v.writer.asked _ rests); steps = has_took form v log was is f rests }
   where
     first_true : (b c : Bool) → (b && c) ≡ true → b ≡ true
     first_true true c e = refl
     first_true false c e = absurd cc
 
-pub recorder_runs : (v : Recording) (log : Log) (was is : SinkState) → RecorderFits One v log was is → RecorderRuns was is (records log)
-recorder_runs v log was is f = record { failed = v.writer.failed; waiting = waits v; steps = has_wrote One v log was is f }
+pub recorder_runs : (form : Form) (v : Recording) (log : Log) (was is : SinkState) → RecorderFits form v log was is → RecorderRuns form was is (records log)
+recorder_runs form v log was is f = record { failed = v.writer.failed; waiting = waits v; steps = has_wrote form v log was is f }

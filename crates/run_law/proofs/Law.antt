@@ -18,7 +18,7 @@ use Rattle.run_rules.specs.Lines.{whole_lines}
 use Rattle.run_rules.specs.declared.State.{State}
 use Rattle.run_rules.specs.Reports.{AreReported, fewest}
 use Rattle.run_rules.specs.Outcomes.{Before, Follows, start, became_of}
-use Rattle.run_rules.specs.Told.{replies_in, records_text, errors_among, errors_in}
+use Rattle.run_rules.specs.Told.{replies_in, errors_among, errors_in}
 use Rattle.run_rules.specs.Work.{is_limit}
 use Rattle.status_report.specs.Answering.{answers_in, without_reports, reports_among}
 use Rattle.board_rules.proofs.Growing.{reported_still}
@@ -28,6 +28,8 @@ use Rattle.stream_host.specs.Jobs.{is_reset, served_in}
 use Rattle.stream_host.specs.Ran.{AreRaised, HostEnd, HostRan}
 use Rattle.step_line.specs.Asking.{ticks_among}
 use Rattle.code_table.specs.declared.flags.Ovr.{Ovr}
+use Rattle.step_record.specs.declared.forms.Form.{Form}
+use Rattle.step_record.specs.Forms.{text_in}
 use Rattle.run_law.specs.Flags.{AreTaken}
 use Rattle.run_law.specs.Changes.{IsAskedIn, IsAmong, AreAskedIn}
 use Rattle.run_law.proofs.Changing.{changes_more, words_were_scanned}
@@ -101,13 +103,13 @@ all_answered first drive lines last got follows told =
     omega (arith, plain, same, each, one)
 
 -- where a front of what was answered is got, which has all but reports
-once_by : (job_was job_is : SourceState) (was is : Sinks) (end : HostEnd) (steps_failed : Bool)
+once_by : (form : Form) (job_was job_is : SourceState) (was is : Sinks) (end : HostEnd) (steps_failed : Bool)
     (stored raised taken : List ℕ) (shut closed held slowed changed reset : Bool) (asked cancels known : ℕ) (words : List Ovr) (got answered : List Reply) (got_pieces published : List Piece) (ticks : ℕ) (got_records put : List Record) (marks : List ℕ) (loaded : List Mark)
     → (host : RanOnce job_was job_is was.console is.console stored shut raised got end) → BoardRan taken closed held slowed changed reset asked cancels known words answered published → PulseRan got_pieces ticks put
-    → RecorderRan was.steps is.steps got_records steps_failed
+    → RecorderRan form was.steps is.steps got_records steps_failed
     → IsLinked stored shut taken closed marks loaded → AreTaken raised held slowed changed reset asked cancels → known ≤ ticks → AreAskedIn raised words → without_reports got ≡ without_reports answered → BeginsWith answered got → got_pieces ≡ published → got_records ≡ put
-    → (run : IsRun job_was job_is was is (run_end end steps_failed)) × (run.scanned ≡ host.scanned) × (run.replies ≡ got)
-once_by job_was job_is was is end steps_failed stored raised taken shut closed held slowed changed reset asked cancels known words got answered got_pieces published ticks got_records put marks loaded host board pulse recorder link flags found all_asked same_replies begins same_pieces same_records =
+    → (run : IsRun form job_was job_is was is (run_end end steps_failed)) × (run.scanned ≡ host.scanned) × (run.replies ≡ got)
+once_by form job_was job_is was is end steps_failed stored raised taken shut closed held slowed changed reset asked cancels known words got answered got_pieces published ticks got_records put marks loaded host board pulse recorder link flags found all_asked same_replies begins same_pieces same_records =
     let raises = host.raises_so_far in
     let on_the_link : BeginsWith (on_link host.lines) taken =
     begins_on (on_link host.lines) stored taken (record { rest = host.left; is = sym host.front }) (record { rest = link.rest; is = link.front }) in
@@ -175,7 +177,7 @@ once_by job_was job_is was is end steps_failed stored raised taken shut closed h
               let as_many = ap (λ (n : ℕ). fewest n (all_outcomes board.drive) (all_counts board.drive)) answered in
               let least = board.least in
               omega (arith, as_many, least, within));
-          steps = subst (λ (rs : List Record). Took was.steps is.steps steps_failed (records_text rs)) same_records recorder.steps;
+          steps = subst (λ (rs : List Record). Took was.steps is.steps steps_failed (text_in form rs)) same_records recorder.steps;
         };
         reports = reports_are board.first board.drive host.scanned raised host.due host.resumes held slowed changed reset asked cancels known host.lines (ticks_among put) answered got raises flags board.reported board.reports begins
             made_front within host.reported;
@@ -213,26 +215,26 @@ once_by job_was job_is was is end steps_failed stored raised taken shut closed h
       refl,
     )
 
-pub runs_by : (job_was job_is : SourceState) (was is : Sinks) (end : HostEnd) (steps_failed : Bool)
+pub runs_by : (form : Form) (job_was job_is : SourceState) (was is : Sinks) (end : HostEnd) (steps_failed : Bool)
     (stored raised taken : List ℕ) (shut closed held slowed changed reset : Bool) (asked cancels known : ℕ) (words : List Ovr) (got answered : List Reply) (got_pieces published : List Piece) (ticks : ℕ) (got_records put : List Record) (marks : List ℕ) (loaded : List Mark)
     → (host : HostRan job_was job_is was.console is.console stored marks shut raised got end) → BoardRan taken closed held slowed changed reset asked cancels known words answered published → PulseRan got_pieces ticks put
-    → RecorderRan was.steps is.steps got_records steps_failed
+    → RecorderRan form was.steps is.steps got_records steps_failed
     → IsLinked stored shut taken closed marks loaded → AreTaken raised held slowed changed reset asked cancels → known ≤ ticks → AreAskedIn raised words → without_reports got ≡ without_reports answered → BeginsWith answered got → got_pieces ≡ published → got_records ≡ put
-    → (run : IsRun job_was job_is was is (run_end end steps_failed)) × (run.scanned ≡ host.scanned) × (run.replies ≡ got)
-runs_by job_was job_is was is end steps_failed stored raised taken shut closed held slowed changed reset asked cancels known words got answered got_pieces published ticks got_records put marks loaded host board pulse recorder link flags found all_asked same_replies begins same_pieces same_records =
+    → (run : IsRun form job_was job_is was is (run_end end steps_failed)) × (run.scanned ≡ host.scanned) × (run.replies ≡ got)
+runs_by form job_was job_is was is end steps_failed stored raised taken shut closed held slowed changed reset asked cancels known words got answered got_pieces published ticks got_records put marks loaded host board pulse recorder link flags found all_asked same_replies begins same_pieces same_records =
     let told : BeginsWith (board.said ++ replies.Bye ∷ []) (without_reports answered) = record { rest = []; is = sym board.told ∙ sym (append-nil (without_reports answered)) } in
     let one = one_banner board.first board.lines board.drive board.last board.said answered got board.follows board.front told begins in
     let ran = once job_was job_is was.console is.console stored marks shut raised got end host one in
-    let run = once_by job_was job_is was is end steps_failed stored raised taken shut closed held slowed changed reset asked cancels known words got answered got_pieces published ticks got_records put marks loaded
+    let run = once_by form job_was job_is was is end steps_failed stored raised taken shut closed held slowed changed reset asked cancels known words got answered got_pieces published ticks got_records put marks loaded
     ran.0 board pulse recorder link flags found all_asked same_replies begins same_pieces same_records in
     (run.0, run.1 ∙ ran.1, run.2)
 
-pub runs : (job_was job_is : SourceState) (was is : Sinks) (end : HostEnd) (steps_failed : Bool)
+pub runs : (form : Form) (job_was job_is : SourceState) (was is : Sinks) (end : HostEnd) (steps_failed : Bool)
     (stored raised taken : List ℕ) (shut closed held slowed changed reset : Bool) (asked cancels known : ℕ) (words : List Ovr) (got answered : List Reply) (got_pieces published : List Piece) (ticks : ℕ) (got_records put : List Record) (marks : List ℕ) (loaded : List Mark)
     → (host : HostRan job_was job_is was.console is.console stored marks shut raised got end) → BoardRan taken closed held slowed changed reset asked cancels known words answered published → PulseRan got_pieces ticks put
-    → RecorderRan was.steps is.steps got_records steps_failed
+    → RecorderRan form was.steps is.steps got_records steps_failed
     → IsLinked stored shut taken closed marks loaded → AreTaken raised held slowed changed reset asked cancels → known ≤ ticks → AreAskedIn raised words → got ≡ answered → got_pieces ≡ published → got_records ≡ put
-    → (run : IsRun job_was job_is was is (run_end end steps_failed)) × (run.scanned ≡ host.scanned) × (run.replies ≡ got)
-runs job_was job_is was is end steps_failed stored raised taken shut closed held slowed changed reset asked cancels known words got answered got_pieces published ticks got_records put marks loaded host board pulse recorder link flags found all_asked same_replies same_pieces same_records =
-    runs_by job_was job_is was is end steps_failed stored raised taken shut closed held slowed changed reset asked cancels known words got answered got_pieces published ticks got_records put marks loaded host board pulse recorder link flags found all_asked
+    → (run : IsRun form job_was job_is was is (run_end end steps_failed)) × (run.scanned ≡ host.scanned) × (run.replies ≡ got)
+runs form job_was job_is was is end steps_failed stored raised taken shut closed held slowed changed reset asked cancels known words got answered got_pieces published ticks got_records put marks loaded host board pulse recorder link flags found all_asked same_replies same_pieces same_records =
+    runs_by form job_was job_is was is end steps_failed stored raised taken shut closed held slowed changed reset asked cancels known words got answered got_pieces published ticks got_records put marks loaded host board pulse recorder link flags found all_asked
     (ap without_reports same_replies) (record { rest = []; is = sym same_replies ∙ sym (append-nil got) }) same_pieces same_records

@@ -15,6 +15,7 @@ use Rattle.planner_runs.specs.Runs.{all_records, normal_overrides}
 use Rattle.run_rules.specs.Lines.{whole_lines}
 use Rattle.stream_host.specs.Ran.{HostRuns}
 use Rattle.code_table.specs.declared.flags.Ovr.{Ovr}
+use Rattle.step_record.specs.declared.forms.Form.{Form}
 use Rattle.run_law.specs.Flags.{AreTaken}
 use Rattle.run_law.specs.Changes.{IsAskedIn, IsAmong, AreAskedIn}
 use Rattle.run_law.proofs.Changing.{changes_more, words_were_scanned}
@@ -36,11 +37,11 @@ use Rattle.run_law.proofs.Banners.{one_banner}
 
 -- ---- the run
 
-pub runs_so_far : (job_was job_is : SourceState) (was is : Sinks) (stored marks raised taken : List ℕ) (held slowed changed reset : Bool) (asked cancels known : ℕ) (words : List Ovr) (got answered : List Reply) (got_pieces published : List Piece) (counted : ℕ) (got_records put : List Record)
-    → HostRuns job_was job_is was.console is.console stored marks raised got → BoardRuns taken held slowed changed reset asked cancels known words answered published → PulseRuns got_pieces counted put → RecorderRuns was.steps is.steps got_records
+pub runs_so_far : (form : Form) (job_was job_is : SourceState) (was is : Sinks) (stored marks raised taken : List ℕ) (held slowed changed reset : Bool) (asked cancels known : ℕ) (words : List Ovr) (got answered : List Reply) (got_pieces published : List Piece) (counted : ℕ) (got_records put : List Record)
+    → HostRuns job_was job_is was.console is.console stored marks raised got → BoardRuns taken held slowed changed reset asked cancels known words answered published → PulseRuns got_pieces counted put → RecorderRuns form was.steps is.steps got_records
     → BeginsWith stored taken → AreTaken raised held slowed changed reset asked cancels → known ≤ counted → AreAskedIn raised words → BeginsWith answered got → BeginsWith published got_pieces → BeginsWith put got_records
-    → IsSoFar job_was job_is was is
-runs_so_far job_was job_is was is stored marks raised taken held slowed changed reset asked cancels known words got answered got_pieces published counted got_records put ran board pulse recorder bytes flags found all_asked some_replies some_pieces some_records =
+    → IsSoFar form job_was job_is was is
+runs_so_far form job_was job_is was is stored marks raised taken held slowed changed reset asked cancels known words got answered got_pieces published counted got_records put ran board pulse recorder bytes flags found all_asked some_replies some_pieces some_records =
     let host = runs_once job_was job_is was.console is.console stored marks raised got ran (one_banner board.first board.lines board.drive board.last board.said answered got board.follows board.front board.told some_replies) in
     let on_the_link : BeginsWith (on_link host.lines) taken = begins_on (on_link host.lines) stored taken (record { rest = host.left; is = sym host.link }) bytes in
     let lines : BeginsWith (map plain host.lines) (whole_lines taken) =

@@ -1,6 +1,6 @@
 -- What the board, the pulse and the recorder have done in a whole run, on plain lists, and how the bytes of the link go
 -- together.
-use Rattle.std.specs.Prelude.{◌≡◌, ℕ, ◌+◌, ◌≤◌, Bool, true, false, List, [], ◌∷◌, ◌++◌, ◌||◌, length, reverse}
+use Rattle.std.specs.Prelude.{◌≡◌, ℕ, ◌+◌, ◌≤◌, Bool, true, false, List, [], ◌∷◌, ◌++◌, length, reverse}
 use Rattle.std.specs.List.{flat_map}
 use Rattle.outside.specs.Causes.{SinkState}
 use Rattle.outside.specs.Writing.{Took}
@@ -19,7 +19,9 @@ use Rattle.run_rules.specs.Lines.{whole_lines}
 use Rattle.run_rules.specs.States.{IsOpening}
 use Rattle.run_rules.specs.Outcomes.{Before, Follows, start}
 use Rattle.run_rules.specs.Reports.{Reported, fewest}
-use Rattle.run_rules.specs.Told.{replies_in, asked_in, records_text}
+use Rattle.step_record.specs.declared.forms.Form.{Form}
+use Rattle.step_record.specs.Forms.{text_in}
+use Rattle.run_rules.specs.Told.{replies_in, asked_in}
 use Rattle.status_report.specs.Answering.{answers_in, without_reports, reports_among}
 use Rattle.serial_ring.specs.Marks.{Mark, AreMarks}
 use Rattle.board_rules.specs.Parts.{IsAlarmedPart, plan_behind}
@@ -92,10 +94,10 @@ pub record PulseRan (got : List Piece) (counted : ℕ) (put : List Record) : Typ
   pub records : put ≡ flat_map records_of got
   pub ticks : ticks_in put ≡ counted
 
--- A recorder has run: it took records, the end at last, and wrote their lines, or its sink failed.
-pub record RecorderRan (was is : SinkState) (taken : List Record) (failed : Bool) : Type 0 where
+-- A recorder has run: it took records, the end at last, and wrote their text in its form, or its sink failed.
+pub record RecorderRan (form : Form) (was is : SinkState) (taken : List Record) (failed : Bool) : Type 0 where
   pub ended : IsEnded taken
-  pub steps : Took was is failed (records_text taken)
+  pub steps : Took was is failed (text_in form taken)
 
 -- The bytes of a link: those taken are a front of those stored. If it was found closed, it is closed, and all are taken. Each mark
 -- that was loaded is one that was stored, or the start.

@@ -1,5 +1,5 @@
 -- What a run of a job is, and how it ends, and not who has done it.
-use Rattle.std.specs.Prelude.{◌≡◌, ℕ, ◌+◌, ◌≤◌, Bool, true, false, List, [], ◌∷◌, ◌++◌, ◌||◌, length, map, drop, reverse}
+use Rattle.std.specs.Prelude.{◌≡◌, ℕ, ◌+◌, ◌≤◌, Bool, true, false, List, [], ◌∷◌, ◌++◌, length, map, drop, reverse}
 use Rattle.std.specs.List.{count_by, list_any, flat_map}
 use Rattle.std.specs.Io.KnownBytes.{Consumes, IsAtEnd}
 use Rattle.outside.specs.Causes.{Rose, SourceState, SinkState}
@@ -11,16 +11,18 @@ use Rattle.step_line.specs.declared.Record.{Record}
 use Rattle.flight.specs.Places.{origin}
 use Rattle.run_rules.specs.declared.State.{State}
 use Rattle.run_rules.specs.States.{IsOpening}
-use Rattle.run_rules.specs.Work.{Outcome, is_limit}
+use Rattle.run_rules.specs.Work.{is_limit}
 use Rattle.run_rules.specs.Outcomes.{Before, Follows, start}
 use Rattle.run_rules.specs.Reports.{Course, Reported, AreReported, fewest, is_query}
 use Rattle.status_report.specs.Answering.{receive_room, answers_in, without_reports, reports_among}
 use Rattle.step_line.specs.Asking.{ticks_among}
-use Rattle.run_rules.specs.Told.{replies_in, replies_text, records_text, errors_in, errors_among}
+use Rattle.run_rules.specs.Told.{replies_in, replies_text, errors_in, errors_among}
 use Rattle.planner_runs.specs.Runs.{all_records, normal_overrides}
 use Rattle.step_line.specs.declared.Piece.{Piece}
 use Rattle.step_line.specs.Pieces.{ticks_of}
 use Rattle.step_line.specs.declared.Record.TheVariants as kinds
+use Rattle.step_record.specs.declared.forms.Form.{Form}
+use Rattle.step_record.specs.Forms.{text_in}
 use Rattle.stream_host.specs.declared.Reading.{Reading}
 use Rattle.stream_host.specs.declared.Reading.TheVariants.{Ended}
 use Rattle.stream_host.specs.Jobs.{is_reset, served_in}
@@ -151,15 +153,15 @@ pub record IsToldAndAnswered (was is : Sinks) (end : RunEnd) (scanned : List ℕ
 -- one that settles are there: of each line those that count, all that it asks for but for what a cut or a halt dropped.
 -- Holds, resumes and overrides change no event. A segment slows down only if a `!` or a 0x85 was scanned, or a line raised
 -- an alarm. Overrides begin at 100 percent, and each change sets them to that, or is by a word of flags all of which bytes that
--- were scanned raise. The text is whole if no write failed.
-pub record IsRecorded (was is : Sinks) (end : RunEnd) (scanned : List ℕ) (drive : Drive) (last : Before) (made : List Piece) (records : List Record) : Type 0 where
+-- were scanned raise. The text, in the form of the run, is whole if no write failed.
+pub record IsRecorded (form : Form) (was is : Sinks) (end : RunEnd) (scanned : List ℕ) (drive : Drive) (last : Before) (made : List Piece) (records : List Record) : Type 0 where
   pub drives : IsDrive (asks_slow scanned) last.alarmed (asks_change scanned) (slows_in scanned) drive
   pub changes : AreChanges (IsAskedIn (served_in scanned)) normal_overrides (all_actions drive)
   pub kept : BeginsWith (all_given drive) made
   pub recorded : records ≡ all_records made ++ kinds.End ∷ []
   pub ticks : BeginsWith (ticks_due drive) (ticks_among records)
   pub least : fewest end.answered (all_outcomes drive) (all_counts drive) ≤ length (ticks_among records)
-  pub steps : Took was.steps is.steps end.steps_failed (records_text records)
+  pub steps : Took was.steps is.steps end.steps_failed (text_in form records)
 
 -- How the run ended. Why no more was sent is what the job says, or else an alarm, at the first line that has no answer.
 -- Unless a reset was scanned, all of it was carried out, or a line raised an alarm: then nothing is begun after that line,
@@ -173,9 +175,9 @@ pub record HasEnded (job_was job_is : SourceState) (end : RunEnd) (reading : Rea
   pub source : end.source_failed ≡ true → Rose job_was.faults job_is.faults
   pub source_same : end.source_failed ≡ false → job_is.faults ≡ job_was.faults
 
--- A run of a job, whatever failed: what was read, scanned and sent of it; what was begun and driven of its lines; the
--- replies, and what they tell but for reports; the pieces and records that were made; and that these fit.
-pub record IsRun (job_was job_is : SourceState) (was is : Sinks) (end : RunEnd) : Type 0 where
+-- A run of a job whose steps have a form, whatever failed: what was read, scanned and sent of it; what was begun and driven
+-- of its lines; the replies, and what they tell but for reports; the pieces and records that were made; and that these fit.
+pub record IsRun (form : Form) (job_was job_is : SourceState) (was is : Sinks) (end : RunEnd) : Type 0 where
   pub read : List ℕ
   pub reading : Reading
   pub scanned : List ℕ
@@ -190,6 +192,6 @@ pub record IsRun (job_was job_is : SourceState) (was is : Sinks) (end : RunEnd) 
   pub records : List Record
   pub sending : IsScannedAndSent job_was job_is end read reading scanned lines replies
   pub telling : IsToldAndAnswered was is end scanned lines begun first drive last replies said
-  pub recording : IsRecorded was is end scanned drive last made records
+  pub recording : IsRecorded form was is end scanned drive last made records
   pub reports : AreReports first drive (ticks_among records) lines scanned replies
   pub ending : HasEnded job_was job_is end reading scanned lines begun drive last replies said records

@@ -19,7 +19,9 @@ use Rattle.run_rules.specs.declared.State.{State}
 use Rattle.run_rules.specs.Lines.{whole_lines}
 use Rattle.run_rules.specs.States.{IsOpening}
 use Rattle.run_rules.specs.Outcomes.{Before, Follows, start}
-use Rattle.run_rules.specs.Told.{replies_in, replies_text, records_text}
+use Rattle.step_record.specs.declared.forms.Form.{Form}
+use Rattle.step_record.specs.Forms.{text_in}
+use Rattle.run_rules.specs.Told.{replies_in, replies_text}
 use Rattle.stream_host.specs.declared.Reading.{Reading}
 use Rattle.stream_host.specs.declared.Stop.{Stop}
 use Rattle.stream_host.specs.Jobs.{served_in}
@@ -69,18 +71,18 @@ pub record PulseRuns (got : List Piece) (counted : ℕ) (put : List Record) : Ty
   pub records : BeginsWith (flat_map records_of got) put
   pub ticks : counted ≤ ticks_in put
 
--- a recorder runs: its sink has a front of the lines of the records that it took
-pub record RecorderRuns (was is : SinkState) (taken : List Record) : Type 0 where
+-- a recorder runs: its sink has a front of the text of the records that it took, in its form
+pub record RecorderRuns (form : Form) (was is : SinkState) (taken : List Record) : Type 0 where
   pub failed : Bool
   pub waiting : List ℕ
-  pub steps : Wrote was is failed waiting (records_text taken)
+  pub steps : Wrote was is failed waiting (text_in form taken)
 
 -- A run so far. A front of the lines that are sent was begun, and each became what the rules say; one at most was begun
 -- and not answered. A front of what they tell was answered, and a front of that was got, and status reports among that, and a front of its text is on the console. A front of what they ask for
 -- was driven, part by part, a front of what is recorded of its pieces was made, and a front of that was taken: its ticks
 -- begin the ticks that are due. Reports are judged by the ticks that were made, and hold all of the lines up to the last
 -- answered one that settles. It is disturbed by no more than a hold, a cancel, a change of overrides and an alarm, as in a whole run.
-pub record IsSoFar (job_was job_is : SourceState) (was is : Sinks) : Type 0 where
+pub record IsSoFar (form : Form) (job_was job_is : SourceState) (was is : Sinks) : Type 0 where
   pub read : List ℕ
   pub reading : Reading
   pub scanned : List ℕ
@@ -119,4 +121,4 @@ pub record IsSoFar (job_was job_is : SourceState) (was is : Sinks) : Type 0 wher
   pub reports : AreReports first drive (ticks_among put) lines scanned got
   pub steps_failed : Bool
   pub lines_left : List ℕ
-  pub steps : Wrote was.steps is.steps steps_failed lines_left (records_text records)
+  pub steps : Wrote was.steps is.steps steps_failed lines_left (text_in form records)

@@ -11,7 +11,7 @@ ghost use Rattle.pulse_engine.specs.Logs.{PieceLog, RecordLog, pieces_of, halts_
 ghost use Rattle.pulse_engine.specs.Steps.{Pulsing};
 ghost use Rattle.pulse_engine.specs.Turns.{PulseFits};
 ghost use Rattle.step_record.specs.Taking.{Log, records};
-ghost use Rattle.step_record.specs.declared.forms.Form.TheVariants.{One};
+ghost use Rattle.step_record.specs.declared.forms.Form.{Form};
 ghost use Rattle.step_record.specs.Recording.{Recording, RecorderFits, Rests};
 ghost use Rattle.run_rules.specs.declared.State.{State};
 ghost use Rattle.run_rules.specs.States.{IsOpening};
@@ -54,37 +54,37 @@ pub struct RunEnd {
 /// steps take the records of a drive of what they ask for. What was scanned is what the host has scanned, and the replies
 /// are those that it got.
 pub fn actors_make_a_run()
-    ensures { (job_was job_is : SourceState) (was is : Sinks) (end : HostEnd) (steps_failed : Bool)
+    ensures { (form : Form) (job_was job_is : SourceState) (was is : Sinks) (end : HostEnd) (steps_failed : Bool)
         (stored raised taken : List ℕ) (shut closed held slowed changed reset : Bool) (asked cancels known : ℕ) (words : List Ovr) (got answered : List Reply) (got_pieces published : List Piece) (ticks : ℕ) (got_records put : List Record) (marks : List ℕ) (loaded : List Mark) →
         (host : HostRan job_was job_is was.console is.console stored marks shut raised got end) → BoardRan taken closed held slowed changed reset asked cancels known words answered published → PulseRan got_pieces ticks put →
-        RecorderRan was.steps is.steps got_records steps_failed →
+        RecorderRan form was.steps is.steps got_records steps_failed →
         IsLinked stored shut taken closed marks loaded → AreTaken raised held slowed changed reset asked cancels → known ≤ ticks → AreAskedIn raised words → got ≡ answered → got_pieces ≡ published → got_records ≡ put →
-        (run : IsRun job_was job_is was is (run_end end steps_failed)) × (run.scanned ≡ host.scanned) × (run.replies ≡ got) }
+        (run : IsRun form job_was job_is was is (run_end end steps_failed)) × (run.scanned ≡ host.scanned) × (run.replies ≡ got) }
 {}
 
 /// For four actors that ran to their ends to make a run it is enough that each has got a front of what the other gave:
 /// nothing waits after Bye, nor after the end.
 pub fn actors_that_end_make_a_run()
-    ensures { (job_was job_is : SourceState) (was is : Sinks) (end : HostEnd) (steps_failed : Bool)
+    ensures { (form : Form) (job_was job_is : SourceState) (was is : Sinks) (end : HostEnd) (steps_failed : Bool)
         (stored raised taken : List ℕ) (shut closed held slowed changed reset : Bool) (asked cancels known : ℕ) (words : List Ovr) (got answered : List Reply) (got_pieces published : List Piece) (ticks : ℕ) (got_records put : List Record) (marks : List ℕ) (loaded : List Mark) →
         (host : HostRan job_was job_is was.console is.console stored marks shut raised got end) → BoardRan taken closed held slowed changed reset asked cancels known words answered published → PulseRan got_pieces ticks put →
-        RecorderRan was.steps is.steps got_records steps_failed →
+        RecorderRan form was.steps is.steps got_records steps_failed →
         IsLinked stored shut taken closed marks loaded → AreTaken raised held slowed changed reset asked cancels → known ≤ ticks → AreAskedIn raised words → BeginsWith answered got → BeginsWith published got_pieces → BeginsWith put got_records →
-        (run : IsRun job_was job_is was is (run_end end steps_failed)) × (run.scanned ≡ host.scanned) × (run.replies ≡ got) }
+        (run : IsRun form job_was job_is was is (run_end end steps_failed)) × (run.scanned ≡ host.scanned) × (run.replies ≡ got) }
 {}
 
 /// Four actors that still run have done a run so far, if each has got a front of what the other gave.
 pub fn actors_make_a_run_so_far()
-    ensures { (job_was job_is : SourceState) (was is : Sinks) (stored marks raised taken : List ℕ) (held slowed changed reset : Bool) (asked cancels known : ℕ) (words : List Ovr) (got answered : List Reply) (got_pieces published : List Piece) (ticks : ℕ) (got_records put : List Record) →
-        HostRuns job_was job_is was.console is.console stored marks raised got → BoardRuns taken held slowed changed reset asked cancels known words answered published → PulseRuns got_pieces ticks put → RecorderRuns was.steps is.steps got_records →
+    ensures { (form : Form) (job_was job_is : SourceState) (was is : Sinks) (stored marks raised taken : List ℕ) (held slowed changed reset : Bool) (asked cancels known : ℕ) (words : List Ovr) (got answered : List Reply) (got_pieces published : List Piece) (ticks : ℕ) (got_records put : List Record) →
+        HostRuns job_was job_is was.console is.console stored marks raised got → BoardRuns taken held slowed changed reset asked cancels known words answered published → PulseRuns got_pieces ticks put → RecorderRuns form was.steps is.steps got_records →
         BeginsWith stored taken → AreTaken raised held slowed changed reset asked cancels → known ≤ ticks → AreAskedIn raised words → BeginsWith answered got → BeginsWith published got_pieces → BeginsWith put got_records →
-        IsSoFar job_was job_is was is }
+        IsSoFar form job_was job_is was is }
 {}
 
 /// A run of a job whose lines are all accepted ends with no error, unless a read failed: all of the job is read and
 /// sent, and its lines become what they do if the machine is never found running.
 pub fn accepted_jobs_are_complete()
-    ensures { (job_was job_is : SourceState) (was is : Sinks) (end : RunEnd) (run : IsRun job_was job_is was is end) (job : IsAcceptedJob job_was) →
+    ensures { (form : Form) (job_was job_is : SourceState) (was is : Sinks) (end : RunEnd) (run : IsRun form job_was job_is was is end) (job : IsAcceptedJob job_was) →
         end.source_failed ≡ false → IsComplete job.bytes run.read run.lines job.outcomes (all_outcomes run.drive) end }
 {}
 
@@ -118,7 +118,7 @@ pub fn pulses_have_run()
 
 /// A recorder that is done has run, and every recorder runs.
 pub fn recorders_have_run()
-    ensures whole { (recorder : Recording) (log : Log) (was is : SinkState) → RecorderFits One recorder log was is → Rests recorder →
-        RecorderRan was is (records log) recorder.writer.failed }
-    ensures so_far { (recorder : Recording) (log : Log) (was is : SinkState) → RecorderFits One recorder log was is → RecorderRuns was is (records log) }
+    ensures whole { (form : Form) (recorder : Recording) (log : Log) (was is : SinkState) → RecorderFits form recorder log was is → Rests recorder →
+        RecorderRan form was is (records log) recorder.writer.failed }
+    ensures so_far { (form : Form) (recorder : Recording) (log : Log) (was is : SinkState) → RecorderFits form recorder log was is → RecorderRuns form was is (records log) }
 {}
