@@ -1,6 +1,8 @@
 -- The generated job is accepted, and so it is carried out whole.
 use Rattle.std.proofs.Common.{◌≡◌, ℕ, ◌+◌, ◌≤◌, ◌||◌, Bool, true, false, List, [], ◌∷◌, ◌++◌, length, map, refl, sym, ap, ◌∙◌, subst, arith}
 use Rattle.std.specs.List.{AllByRecursion, count_by, flat_map, list_any}
+use Rattle.step_record.specs.declared.forms.Form.{Form}
+use Rattle.step_record.specs.declared.forms.Form.TheVariants.{One}
 use Rattle.outside.specs.Causes.{SourceState}
 use Rattle.gcode_words.specs.Stripping.{plain}
 use Rattle.run_rules.specs.Lines.{lines_of}
@@ -59,7 +61,7 @@ no_part [] most few none = refl
 no_part (p ∷ ps) most few none = absurd (omega (arith, few, none))
 
 -- what a run of the generated job is
-pub record RunsWhole (n : ℕ) (job_was job_is : SourceState) (was is : Sinks) (end : RunEnd) (run : IsRun job_was job_is was is end) : Type 0 where
+pub record RunsWhole (n : ℕ) (form : Form) (job_was job_is : SourceState) (was is : Sinks) (end : RunEnd) (run : IsRun form job_was job_is was is end) : Type 0 where
   pub stop : end.stop ≡ stops.End
   pub errors : end.errors ≡ 0
   pub answered : end.answered ≡ n + 3
@@ -73,8 +75,8 @@ never_failed : (t : Bool) → (t ≡ true → 1 ≤ 0) → t ≡ false
 never_failed false rose = refl
 never_failed true rose = absurd (let low = rose refl in omega arith)
 
-pub runs_whole : (n : ℕ) (left : List ℕ) (was is : Sinks) (end : RunEnd) → 1 ≤ n → n ≤ 100000 → (run : IsRun (generated (job_text n)) (generated left) was is end)
-    → RunsWhole n (generated (job_text n)) (generated left) was is end run
+pub runs_whole : (n : ℕ) (left : List ℕ) (was is : Sinks) (end : RunEnd) → 1 ≤ n → n ≤ 100000 → (run : IsRun One (generated (job_text n)) (generated left) was is end)
+    → RunsWhole n One (generated (job_text n)) (generated left) was is end run
 runs_whole n left was is end some most run =
     let of = accepted n run.first some most run.telling.opening in
     let follows = subst (λ ls. Follows false (start run.first) (map plain ls) (map a_line of.outcomes) of.last) (sym of.cut) of.follows in
@@ -95,9 +97,9 @@ runs_whole n left was is end some most run =
       calm = of.within;
     } in
     let read : end.source_failed ≡ false = never_failed end.source_failed run.ending.source in
-    let done = complete (generated (job_text n)) (generated left) was is end run job read in
+    let done = complete One (generated (job_text n)) (generated left) was is end run job read in
     let sent : run.lines ≡ job_lines n = done.sent ∙ of.cut in
-    let all = sent_all (generated (job_text n)) (generated left) was is end run read done.stop in
+    let all = sent_all One (generated (job_text n)) (generated left) was is end run read done.stop in
     let lines : lines_of run.scanned ≡ job_lines n = ap lines_of (sym all.all ∙ done.all) ∙ of.cut in
     let none : slows_in run.scanned ≡ 0 = subst NoneSlows (sym lines) (none_slows (job_lines n) of.calm) in
     record {

@@ -2,11 +2,11 @@
 use Rattle.std.proofs.Common.{◌≡◌, ◌≢◌, ℕ, zero, suc, ◌≤◌, Bool, true, false, cond, ◌||◌, List, [], ◌∷◌, ◌++◌, length, map, refl, sym, ap, ◌∙◌, subst, append-nil}
 use Rattle.std.specs.List.{AllByRecursion, list_any}
 use Rattle.std.proofs.lemmas.List.{take_all}
+use Rattle.step_record.specs.declared.forms.Form.{Form}
 use Rattle.outside.specs.Causes.{SourceState}
 use Rattle.gcode_words.specs.Stripping.{plain}
 use Rattle.status_report.specs.declared.Reply.{Reply}
 use Rattle.status_report.specs.declared.Reply.TheVariants.{Bye}
-use Rattle.step_line.specs.declared.Record.{Record}
 use Rattle.step_line.specs.Asking.{ticks_among}
 use Rattle.run_rules.specs.Lines.{lines_of}
 use Rattle.run_rules.specs.Readings.{largest_job, job_of}
@@ -22,7 +22,7 @@ use Rattle.stream_host.specs.Ran.{is_failed}
 use Rattle.stream_host.proofs.Pieces.{neither}
 use Rattle.run_law.proofs.Unreset.{all_are_sent}
 use Rattle.run_law.specs.declared.RunEnd.{RunEnd}
-use Rattle.run_law.specs.Drives.{all_outcomes, all_passed, all_actions, IsDrive, IsWholeDrive}
+use Rattle.run_law.specs.Drives.{all_passed, all_actions, IsDrive, IsWholeDrive}
 use Rattle.run_law.specs.Changes.{IsAskedIn, AreChanges}
 use Rattle.planner_runs.specs.Runs.{normal_overrides}
 use Rattle.run_law.specs.Runs.{Sinks, AreReports, asks_slow, slows_in, asks_change, asks_reset, IsRun}
@@ -51,16 +51,16 @@ read_to_end Large text left well small leaves = absurd (small refl)
 read_to_end Stopped text left well small leaves = absurd leaves
 
 -- all of it was read, and each of its lines sent
-pub record SentAll (job_was job_is : SourceState) (was is : Sinks) (end : RunEnd) (run : IsRun job_was job_is was is end) : Type 0 where
+pub record SentAll (form : Form) (job_was job_is : SourceState) (was is : Sinks) (end : RunEnd) (run : IsRun form job_was job_is was is end) : Type 0 where
   pub over : run.reading ≡ Ended
   pub few : length run.read ≤ largest_job
   pub lines : run.lines ≡ lines_of run.read
   pub all : run.read ≡ run.scanned
 
-pub sent_all : (job_was job_is : SourceState) (was is : Sinks) (end : RunEnd) (run : IsRun job_was job_is was is end) → end.source_failed ≡ false → end.stop ≡ stops.End
-    → SentAll job_was job_is was is end run
-sent_all job_was job_is was is end run well stop =
-    let by = by_end job_was job_is was is end run stop in
+pub sent_all : (form : Form) (job_was job_is : SourceState) (was is : Sinks) (end : RunEnd) (run : IsRun form job_was job_is was is end) → end.source_failed ≡ false → end.stop ≡ stops.End
+    → SentAll form job_was job_is was is end run
+sent_all form job_was job_is was is end run well stop =
+    let by = by_end form job_was job_is was is end run stop in
     let sent = run.sending.sent by.none in
     let why = end_means run.reading run.scanned by.end in
     let none_over = none_ends (lines_of run.scanned) why.short.0 why.short.1 in
@@ -90,10 +90,10 @@ errors_have_run zero = tt
 errors_have_run (suc n) = tt
 
 -- by what failed, and why no more of the job was sent
-by_cases : (job_was job_is : SourceState) (was is : Sinks) (end : RunEnd) (run : IsRun job_was job_is was is end) (steps_failed console_failed source_failed : Bool) (stop : Stop)
+by_cases : (form : Form) (job_was job_is : SourceState) (was is : Sinks) (end : RunEnd) (run : IsRun form job_was job_is was is end) (steps_failed console_failed source_failed : Bool) (stop : Stop)
     → end.steps_failed ≡ steps_failed → end.console_failed ≡ console_failed → end.source_failed ≡ source_failed → end.stop ≡ stop
-    → HasCauses job_was job_is was is (cond steps_failed StepsFault (cond console_failed ConsoleFault (cond source_failed SourceFault (by_stop stop end.errors))))
-by_cases job_was job_is was is end run true cf nf stop es ec en et = record {
+    → HasCauses form job_was job_is was is (cond steps_failed StepsFault (cond console_failed ConsoleFault (cond source_failed SourceFault (by_stop stop end.errors))))
+by_cases form job_was job_is was is end run true cf nf stop es ec en et = record {
   has_run = tt;
   source = λ e. absurd cc;
   console = λ e. absurd cc;
@@ -106,7 +106,7 @@ by_cases job_was job_is was is end run true cf nf stop es ec en et = record {
   faultless = λ w. absurd w;
   complete = λ job source console steps. absurd (steps (run.recording.steps.cause es));
 }
-by_cases job_was job_is was is end run false true nf stop es ec en et = record {
+by_cases form job_was job_is was is end run false true nf stop es ec en et = record {
   has_run = tt;
   source = λ e. absurd cc;
   console = λ e. run.telling.console.cause ec;
@@ -119,7 +119,7 @@ by_cases job_was job_is was is end run false true nf stop es ec en et = record {
   faultless = λ w. absurd w;
   complete = λ job source console steps. absurd (console (run.telling.console.cause ec));
 }
-by_cases job_was job_is was is end run false false true stop es ec en et = record {
+by_cases form job_was job_is was is end run false false true stop es ec en et = record {
   has_run = tt;
   source = λ e. run.ending.source en;
   console = λ e. absurd cc;
@@ -132,7 +132,7 @@ by_cases job_was job_is was is end run false false true stop es ec en et = recor
   faultless = λ w. absurd w;
   complete = λ job source console steps. absurd (source (run.ending.source en));
 }
-by_cases job_was job_is was is end run false false false stops.TooLarge es ec en et = record {
+by_cases form job_was job_is was is end run false false false stops.TooLarge es ec en et = record {
   has_run = tt;
   source = λ e. absurd cc;
   console = λ e. absurd cc;
@@ -140,23 +140,23 @@ by_cases job_was job_is was is end run false false false stops.TooLarge es ec en
   large = λ e. record {
     read = run.read;
     taken = run.sending.taken;
-    more = subst (λ r. MayHaveRead r (length run.read)) (large_means run.reading run.scanned (by_job job_was job_is was is end run stops.TooLarge (λ e. cc) (λ j e. cc) et)) run.sending.so_far.fits;
+    more = subst (λ r. MayHaveRead r (length run.read)) (large_means run.reading run.scanned (by_job form job_was job_is was is end run stops.TooLarge (λ e. cc) (λ j e. cc) et)) run.sending.so_far.fits;
   };
   long = λ k e. absurd cc;
   reset = λ e. absurd cc;
   alarm = λ k e. absurd cc;
   whole = λ w. absurd w;
   faultless = λ w. absurd w;
-  complete = λ job source console steps. absurd (let e = sym (complete job_was job_is was is end run job en).stop ∙ et in cc);
+  complete = λ job source console steps. absurd (let e = sym (complete form job_was job_is was is end run job en).stop ∙ et in cc);
 }
-by_cases job_was job_is was is end run false false false (stops.LongLine k) es ec en et = record {
+by_cases form job_was job_is was is end run false false false (stops.LongLine k) es ec en et = record {
   has_run = tt;
   source = λ e. absurd cc;
   console = λ e. absurd cc;
   steps = λ e. absurd cc;
   large = λ e. absurd cc;
   long = λ j e.
-      let by = scanned_to_long job_was job_is was is end run k et in let why = long_means k run.reading run.scanned (sym et ∙ by.cause) in let same : j ≡ k = cc in record {
+      let by = scanned_to_long form job_was job_is was is end run k et in let why = long_means k run.reading run.scanned (sym et ∙ by.cause) in let same : j ≡ k = cc in record {
         read = run.read;
         reading = run.reading;
         scanned = run.scanned;
@@ -169,9 +169,9 @@ by_cases job_was job_is was is end run false false false (stops.LongLine k) es e
   alarm = λ k e. absurd cc;
   whole = λ w. absurd w;
   faultless = λ w. absurd w;
-  complete = λ job source console steps. absurd (let e = sym (complete job_was job_is was is end run job en).stop ∙ et in cc);
+  complete = λ job source console steps. absurd (let e = sym (complete form job_was job_is was is end run job en).stop ∙ et in cc);
 }
-by_cases job_was job_is was is end run false false false stops.Reset es ec en et = record {
+by_cases form job_was job_is was is end run false false false stops.Reset es ec en et = record {
   has_run = tt;
   source = λ e. absurd cc;
   console = λ e. absurd cc;
@@ -179,7 +179,7 @@ by_cases job_was job_is was is end run false false false stops.Reset es ec en et
   large = λ e. absurd cc;
   long = λ k e. absurd cc;
   reset = λ e.
-      let by = scanned_to_reset job_was job_is was is end run et in let why = reset_means run.reading run.scanned (sym et ∙ by.cause) in record {
+      let by = scanned_to_reset form job_was job_is was is end run et in let why = reset_means run.reading run.scanned (sym et ∙ by.cause) in record {
         read = run.read;
         reading = run.reading;
         scanned = run.scanned;
@@ -191,9 +191,9 @@ by_cases job_was job_is was is end run false false false stops.Reset es ec en et
   alarm = λ k e. absurd cc;
   whole = λ w. absurd w;
   faultless = λ w. absurd w;
-  complete = λ job source console steps. absurd (let e = sym (complete job_was job_is was is end run job en).stop ∙ et in cc);
+  complete = λ job source console steps. absurd (let e = sym (complete form job_was job_is was is end run job en).stop ∙ et in cc);
 }
-by_cases job_was job_is was is end run false false false (stops.Alarm k) es ec en et = record {
+by_cases form job_was job_is was is end run false false false (stops.Alarm k) es ec en et = record {
   has_run = tt;
   source = λ e. absurd cc;
   console = λ e. absurd cc;
@@ -201,13 +201,13 @@ by_cases job_was job_is was is end run false false false (stops.Alarm k) es ec e
   large = λ e. absurd cc;
   long = λ j e. absurd cc;
   reset = λ e. absurd cc;
-  alarm = λ j e. let same : k ≡ j = cc in subst (IsAlarmedRun job_was job_is was is) same (halted_run job_was job_is was is end run k es ec et);
+  alarm = λ j e. let same : k ≡ j = cc in subst (IsAlarmedRun form job_was job_is was is) same (halted_run form job_was job_is was is end run k es ec et);
   whole = λ w. absurd w;
   faultless = λ w. absurd w;
-  complete = λ job source console steps. absurd (let e = sym (complete job_was job_is was is end run job en).stop ∙ et in cc);
+  complete = λ job source console steps. absurd (let e = sym (complete form job_was job_is was is end run job en).stop ∙ et in cc);
 }
-by_cases job_was job_is was is end run false false false stops.End es ec en et =
-    let none = by_errors_not end.errors in let all = sent_all job_was job_is was is end run en et in let by = by_end job_was job_is was is end run et in
+by_cases form job_was job_is was is end run false false false stops.End es ec en et =
+    let none = by_errors_not end.errors in let all = sent_all form job_was job_is was is end run en et in let by = by_end form job_was job_is was is end run et in
     let going : asks_reset run.scanned ≡ false = not_reset run.reading run.scanned by.end in let calm : run.last.alarmed ≡ false = sym (run.telling.alarm going) ∙ by.none in
     let carried = run.ending.whole going calm in record {
       has_run = errors_have_run end.errors;
@@ -244,9 +244,9 @@ by_cases job_was job_is was is end run false false false stops.End es ec en et =
         status_is = ap by_errors carried.errors;
       };
       faultless = λ w. record { source = run.ending.source_same en; console = run.telling.console.same ec; steps = run.recording.steps.same es };
-      complete = λ job source console steps. ap by_errors (complete job_was job_is was is end run job en).errors;
+      complete = λ job source console steps. ap by_errors (complete form job_was job_is was is end run job en).errors;
     }
 
-pub has_causes : (job_was job_is : SourceState) (was is : Sinks) (status : Status) → EndsWith job_was job_is was is status → HasCauses job_was job_is was is status
-has_causes job_was job_is was is status ends =
-    rw ends.status_is (by_cases job_was job_is was is ends.end ends.run ends.end.steps_failed ends.end.console_failed ends.end.source_failed ends.end.stop refl refl refl refl)
+pub has_causes : (form : Form) (job_was job_is : SourceState) (was is : Sinks) (status : Status) → EndsWith form job_was job_is was is status → HasCauses form job_was job_is was is status
+has_causes form job_was job_is was is status ends =
+    rw ends.status_is (by_cases form job_was job_is was is ends.end ends.run ends.end.steps_failed ends.end.console_failed ends.end.source_failed ends.end.stop refl refl refl refl)

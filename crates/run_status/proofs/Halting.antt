@@ -1,7 +1,9 @@
 -- A run that an alarm ended: the last line that was begun is beyond a soft limit.
-use Rattle.std.proofs.Common.{◌≡◌, ℕ, ◌+◌, Bool, true, false, ◌||◌, List, [], ◌∷◌, ◌++◌, length, map, append-nil, append_assoc, length-append, refl, sym, ap, ◌∙◌, subst}
+use Rattle.std.proofs.Common.{◌≡◌, ℕ, ◌+◌, Bool, true, false, List, [], ◌∷◌, ◌++◌, length, map, append-nil, append_assoc, length-append, refl, sym, ap, ◌∙◌, subst}
 use Rattle.std.specs.Io.KnownBytes.{Appends}
 use Rattle.std.proofs.lemmas.Grind.{flat_map-append}
+use Rattle.step_record.specs.declared.forms.Form.{Form}
+use Rattle.step_record.specs.Forms.{text_in}
 use Rattle.outside.specs.Causes.{SourceState, SinkState}
 use Rattle.outside.specs.Writing.{Took}
 use Rattle.gcode_words.specs.Stripping.{plain}
@@ -9,13 +11,12 @@ use Rattle.status_report.specs.declared.Message.TheVariants.{ResetToContinue}
 use Rattle.status_report.specs.declared.Reply.{Reply}
 use Rattle.status_report.specs.declared.Reply.TheVariants.{Banner, Bye}
 use Rattle.status_report.specs.declared.Reply.TheVariants as answers
-use Rattle.step_line.specs.declared.Record.{Record}
 use Rattle.units.specs.declared.Steps3.{Steps3}
 use Rattle.run_rules.specs.Work.{Outcome, is_limit, soft_limit, tells}
 use Rattle.run_rules.specs.Outcomes.{Before, IsBegun, IsCut, Passed, Follows, start, after, at_place, limited, became_of}
 use Rattle.run_rules.specs.Outcomes.Passed.{a_line, a_cut}
 use Rattle.run_rules.specs.Limits.{IsBeyond}
-use Rattle.run_rules.specs.Told.{replies_in, replies_text, records_text}
+use Rattle.run_rules.specs.Told.{replies_in, replies_text}
 use Rattle.run_rules.proofs.Alarms.{beyond, none_behind}
 use Rattle.run_rules.proofs.Answering.{halts}
 use Rattle.run_rules.proofs.Going.{became_on}
@@ -24,7 +25,7 @@ use Rattle.run_law.specs.Sending.{IsSentSoFar}
 use Rattle.run_law.specs.declared.RunEnd.{RunEnd}
 use Rattle.run_law.specs.Fronts.{BeginsWith}
 use Rattle.run_law.specs.Drives.{all_outcomes, all_passed, IsDrive}
-use Rattle.run_law.specs.Runs.{Sinks, AreReports, asks_slow, slows_in, asks_change, asks_reset, IsRun}
+use Rattle.run_law.specs.Runs.{Sinks, asks_slow, slows_in, asks_change, asks_reset, IsRun}
 use Rattle.run_law.proofs.Driving.{became_all}
 use Rattle.run_status.specs.Ends.{IsAlarmedRun}
 use Rattle.run_status.proofs.Stops.{by_alarm, not_reset}
@@ -115,10 +116,10 @@ told_last outcomes b =
     let apart = flat_map-append (λ (o : Outcome). tells o.work) outcomes (limited b ∷ []) in
     ap (λ (rs : List Reply). (Banner ∷ rs) ++ Bye ∷ []) apart ∙ append_assoc (replies_in outcomes) (answers.Alarm soft_limit ∷ answers.Message ResetToContinue ∷ []) (Bye ∷ [])
 
-pub halted_run : (job_was job_is : SourceState) (was is : Sinks) (end : RunEnd) (run : IsRun job_was job_is was is end) (k : ℕ)
-    → end.steps_failed ≡ false → end.console_failed ≡ false → end.stop ≡ stops.Alarm k → IsAlarmedRun job_was job_is was is k
-halted_run job_was job_is was is end run k es ec et =
-    let why = by_alarm job_was job_is was is end run k et in
+pub halted_run : (form : Form) (job_was job_is : SourceState) (was is : Sinks) (end : RunEnd) (run : IsRun form job_was job_is was is end) (k : ℕ)
+    → end.steps_failed ≡ false → end.console_failed ≡ false → end.stop ≡ stops.Alarm k → IsAlarmedRun form job_was job_is was is k
+halted_run form job_was job_is was is end run k es ec et =
+    let why = by_alarm form job_was job_is was is end run k et in
     let going : asks_reset run.scanned ≡ false = not_reset run.reading run.scanned why.end in
     let alarmed : run.last.alarmed ≡ true = sym (run.telling.alarm going) ∙ why.got in
     let carried = run.ending.halted going alarmed in
@@ -158,5 +159,5 @@ halted_run job_was job_is was is end run k es ec et =
       part = carried.part;
       recorded = carried.recorded;
       ticks = run.recording.ticks;
-      steps = whole_text was.steps is.steps end.steps_failed (records_text run.records) es run.recording.steps;
+      steps = whole_text was.steps is.steps end.steps_failed (text_in form run.records) es run.recording.steps;
     }

@@ -2,6 +2,7 @@
 use Rattle.std.specs.Prelude.{◌≡◌, ℕ, Bool, false, cond, List, [], Some, None}
 use Rattle.outside.specs.Causes.{SourceState, SinkState}
 use Rattle.outside.specs.Writing.{Took}
+use Rattle.step_record.specs.declared.forms.Form.TheVariants.{One}
 use Rattle.run_rules.specs.Told.{asked_in}
 use Rattle.run_law.specs.declared.RunEnd.{RunEnd}
 use Rattle.run_law.specs.Drives.{all_outcomes}
@@ -21,13 +22,13 @@ generated left = record { left = Some left; faults = 0 }
 
 -- A run of the generated job of n moves, whose console keeps nothing. All its lines are sent and answered `ok`, and ask for
 -- its moves, of which none is cut, and no byte of it changes overrides, so that they are 100 percent throughout: the steps are
--- those of these moves. Then the console takes the line on the run: its lines, all of them `ok`, the
+-- those of these moves, in form 1. Then the console takes the line on the run: its lines, all of them `ok`, the
 -- events of its moves, and where the last of them goes; a front of that line where the console fails. The demo is done,
 -- unless a write of the steps failed, or of the console.
 pub record IsDemo (n : ℕ) (console_was console_is steps_was steps_is : SinkState) (status : Status) : Type 0 where
   pub end : RunEnd
   pub left : List ℕ
-  pub run : IsRun (generated (job_text n)) (generated left)
+  pub run : IsRun One (generated (job_text n)) (generated left)
       (record { console = keeps_nothing; steps = steps_was }) (record { console = keeps_nothing; steps = steps_is }) end
   pub sent : run.lines ≡ job_lines n
   pub accepted : end.errors ≡ 0

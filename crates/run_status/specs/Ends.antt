@@ -1,7 +1,9 @@
 -- How a run ends.
-use Rattle.std.specs.Prelude.{◌≡◌, ℕ, zero, suc, ◌+◌, ◌≤◌, cond, false, true, ◌||◌, List, [], ◌∷◌, ◌++◌, length, map}
+use Rattle.std.specs.Prelude.{◌≡◌, ℕ, zero, suc, ◌+◌, ◌≤◌, cond, false, true, List, [], ◌∷◌, ◌++◌, length, map}
 use Rattle.std.specs.List.{list_any, take_while}
 use Rattle.std.specs.Io.KnownBytes.{Appends, Consumes, IsAtEnd}
+use Rattle.step_record.specs.declared.forms.Form.{Form}
+use Rattle.step_record.specs.Forms.{text_in}
 use Rattle.outside.specs.Causes.{Rose, SourceState}
 use Rattle.gcode_words.specs.Stripping.{plain}
 use Rattle.status_report.specs.declared.Reply.{Reply}
@@ -18,7 +20,7 @@ use Rattle.run_rules.specs.Work.{soft_limit}
 use Rattle.run_rules.specs.Outcomes.{Before, Passed, Follows, start, limited, became_of}
 use Rattle.run_rules.specs.Outcomes.Passed.{a_line}
 use Rattle.run_rules.specs.Limits.{IsBeyond}
-use Rattle.run_rules.specs.Told.{replies_in, replies_text, records_text, errors_in}
+use Rattle.run_rules.specs.Told.{replies_in, replies_text, errors_in}
 use Rattle.step_line.specs.declared.Record.{Record}
 use Rattle.step_line.specs.declared.Record.TheVariants as kinds
 use Rattle.planner_runs.specs.Runs.{all_records, normal_overrides}
@@ -58,9 +60,9 @@ status_of end =
     cond end.steps_failed StepsFault (cond end.console_failed ConsoleFault (cond end.source_failed SourceFault (by_stop end.stop end.errors)))
 
 -- A run of the job, whatever failed, and its status.
-pub record EndsWith (job_was job_is : SourceState) (was is : Sinks) (status : Status) : Type 0 where
+pub record EndsWith (form : Form) (job_was job_is : SourceState) (was is : Sinks) (status : Status) : Type 0 where
   pub end : RunEnd
-  pub run : IsRun job_was job_is was is end
+  pub run : IsRun form job_was job_is was is end
   pub status_is : status ≡ status_of end
 
 abbrev pub IsWhole : Status → Type 0
@@ -74,7 +76,7 @@ IsWhole _ = ⊥
 -- 0x85 stand in the job, the drive is one of parts: of a part that a cut ended the events of jogs alone are lost, behind the
 -- first ones. Nothing else disturbs the drive than a hold or a cancel, where a `!` or 0x85 stands in the job, and a change of
 -- overrides, where bytes that ask for its flags do: without such a byte they are 100 percent throughout.
-pub record IsWholeRun (job_was job_is : SourceState) (was is : Sinks) (status : Status) : Type 0 where
+pub record IsWholeRun (form : Form) (job_was job_is : SourceState) (was is : Sinks) (status : Status) : Type 0 where
   pub job : List ℕ
   pub first : State
   pub drive : Drive
@@ -93,7 +95,7 @@ pub record IsWholeRun (job_was job_is : SourceState) (was is : Sinks) (status : 
   pub drives : IsDrive (asks_slow job) false (asks_change job) (slows_in job) drive
   pub changes : AreChanges (IsAskedIn (served_in job)) normal_overrides (all_actions drive)
   pub driven : IsWholeDrive (asks_slow job) (asks_change job) drive records
-  pub steps : Appends was.steps.held is.steps.held (records_text records)
+  pub steps : Appends was.steps.held is.steps.held (text_in form records)
   pub status_is : status ≡ by_errors (errors_in (all_outcomes drive))
 
 -- A run that an alarm ended. Of the job, as far as it was read and scanned, nothing else ends the sending, and these lines of
@@ -103,7 +105,7 @@ pub record IsWholeRun (job_was job_is : SourceState) (was is : Sinks) (status : 
 -- drive of these lines, and the end: behind the last cut the motion came to a stop, and what was left of the plan was dropped,
 -- so that their ticks are the first of those that are due, and hold all of the lines up to the last that settles. Jogs are cut,
 -- and the drive is disturbed, as in a run that goes to its end, and the alarm slows it down.
-pub record IsAlarmedRun (job_was job_is : SourceState) (was is : Sinks) (k : ℕ) : Type 0 where
+pub record IsAlarmedRun (form : Form) (job_was job_is : SourceState) (was is : Sinks) (k : ℕ) : Type 0 where
   pub read : List ℕ
   pub reading : Reading
   pub scanned : List ℕ
@@ -134,7 +136,7 @@ pub record IsAlarmedRun (job_was job_is : SourceState) (was is : Sinks) (k : ℕ
   pub part : IsAlarmedPart drive.since (plan_behind drive.parts) drive.actions drive.given drive.plan
   pub recorded : records ≡ all_records (all_given drive) ++ kinds.End ∷ []
   pub ticks : BeginsWith (ticks_due drive) (ticks_among records)
-  pub steps : Appends was.steps.held is.steps.held (records_text records)
+  pub steps : Appends was.steps.held is.steps.held (text_in form records)
 
 -- more bytes were read than a job may have, and no more than the rest of the piece that has the first of them
 pub record TookMore (job_was job_is : SourceState) : Type 0 where
@@ -181,7 +183,7 @@ pub record IsFaultless (job_was job_is : SourceState) (was is : Sinks) : Type 0 
   pub steps : is.steps.faults ≡ was.steps.faults
 
 -- a status and its cause, what a run to the end has done, and which runs end with `Done`
-pub record HasCauses (job_was job_is : SourceState) (was is : Sinks) (status : Status) : Type 0 where
+pub record HasCauses (form : Form) (job_was job_is : SourceState) (was is : Sinks) (status : Status) : Type 0 where
   pub has_run : JobWasRun status
   pub source : status ≡ SourceFault → Rose job_was.faults job_is.faults
   pub console : status ≡ ConsoleFault → Rose was.console.faults is.console.faults
@@ -189,8 +191,8 @@ pub record HasCauses (job_was job_is : SourceState) (was is : Sinks) (status : S
   pub large : status ≡ TooLarge → TookMore job_was job_is
   pub long : (k : ℕ) → status ≡ LongLine k → HasLongLine job_was job_is k
   pub reset : status ≡ Reset → HasReset job_was job_is
-  pub alarm : (k : ℕ) → status ≡ Alarm k → IsAlarmedRun job_was job_is was is k
-  pub whole : IsWhole status → IsWholeRun job_was job_is was is status
+  pub alarm : (k : ℕ) → status ≡ Alarm k → IsAlarmedRun form job_was job_is was is k
+  pub whole : IsWhole status → IsWholeRun form job_was job_is was is status
   pub faultless : IsWhole status → IsFaultless job_was job_is was is
   pub complete : IsAcceptedJob job_was → ¬ Rose job_was.faults job_is.faults
       → ¬ Rose was.console.faults is.console.faults → ¬ Rose was.steps.faults is.steps.faults → status ≡ Done
