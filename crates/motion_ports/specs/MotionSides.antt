@@ -6,7 +6,6 @@ use Rattle.motion_ring.specs.Ends.{ring_of_in}
 use Rattle.pulse_engine.specs.Logs.{PieceLog, RecordLog}
 use Rattle.pulse_engine.specs.Turns.{PulseFits}
 use Rattle.step_record.specs.Taking.{Log}
-use Rattle.step_record.specs.declared.forms.Form.TheVariants.{One}
 use Rattle.step_record.specs.Recording.{RecorderFits, Rests}
 use Rattle.motion_ports.specs.Ports.{HasGot, HasPut, HasTaken}
 use Rattle.motion_ports.specs.declared.threads.PulseSide.{PulseSide}
@@ -20,7 +19,7 @@ pub record PulseIsNew (side : PulseSide) : Type 0 where
 
 pub record RecorderIsNew (side : RecorderSide) : Type 0 where
   pub taken : received side.records.end ≡ []
-  pub fits : (now : SinkState) → RecorderFits One side.recorder [] now now
+  pub fits : (now : SinkState) → RecorderFits side.recorder.form side.recorder [] now now
 
 -- The pulse has: of the pieces that its end got it put the records, and counted the ticks.
 pub record PulseRunsAt (was is : PulseSide) : Type 0 where
@@ -30,11 +29,11 @@ pub record PulseRunsAt (was is : PulseSide) : Type 0 where
   pub records : HasPut is.records.end was.records.end put
   pub fits : PulseFits is.pulse got put
 
--- The recorder has: the steps took the text of the records that its end took, as far as it does not wait.
+-- The recorder has: the steps took the text of the records that its end took, in its form, as far as it does not wait.
 pub record RecorderRunsAt (steps_was steps_is : SinkState) (was is : RecorderSide) : Type 0 where
   pub log : Log
   pub records : HasTaken is.records.end was.records.end log
-  pub fits : RecorderFits One is.recorder log steps_was steps_is
+  pub fits : RecorderFits was.recorder.form is.recorder log steps_was steps_is
 
 -- they have, and the actor is done
 pub record PulseRanAt (was is : PulseSide) : Type 0 where
