@@ -18,7 +18,6 @@ use Rattle.pulse_engine.specs.Logs.{PieceLog, RecordLog}
 use Rattle.pulse_engine.specs.Steps.{Pulsing}
 use Rattle.pulse_engine.specs.Turns.{PulseFits, PulseTurned}
 use Rattle.step_record.specs.Taking.{Log}
-use Rattle.step_record.specs.declared.forms.Form.TheVariants.{One}
 use Rattle.step_record.specs.Recording.{Recording, RecorderFitsOn, RecorderTurned}
 use Rattle.list_ports.specs.Passing.{HandsOn}
 use Rattle.list_ports.specs.Joining.{Listed, Joined}
@@ -38,13 +37,13 @@ holds_on actor t before after w w' m has = let n = m.on has.0 has.1 in (n.0, n.1
 
 pub turns_on : (actor : Actor) (t : Turn) (before after : Devices) (w w' : Seen) → Moves actor t before after w w' → TurnsOn actor t before after w w'
 turns_on actor t before after w w' m = record {
-  on = λ was hist st. let n = m.on hist st.holds in (
+  on = λ form was hist st. let n = m.on hist st.holds in (
     n.0,
     record {
       holds = n.1;
       job = n.2.host.job was.job st.job;
       console = n.2.host.console was.console st.console;
-      wrote = n.2.recorder.on One was.steps st.wrote;
+      wrote = n.2.recorder.on form was.steps st.wrote;
     },
     n.3,
   );

@@ -7,11 +7,11 @@ use Rattle.controller.specs.Boards.{BoardFits}
 use Rattle.pulse_engine.specs.Turns.{PulseFits}
 use Rattle.list_ports.specs.Joining.{Joined}
 use Rattle.actor_turns.specs.Worlds.{Seen, Devices, Holds, Stands, no_history}
-use Rattle.step_record.specs.declared.forms.Form.TheVariants.{One}
+use Rattle.step_record.specs.declared.forms.Form.{Form}
 use Rattle.step_record.specs.Recording.{RecorderFits}
 
 pub holds_nothing : (w : Seen) → Joined w.lists [] [] [] → w.waiting ≡ [] → HostFits w.host [] → BoardFits w.board (goes []) → PulseFits w.pulse [] [] → Holds w no_history
 holds_nothing w joined none host board pulse = record { joined = joined; passed = sym none; host = host; host_between = refl; board = board; board_between = refl; pulse = pulse }
 
-pub begins : (w : Seen) (now : Devices) → Holds w no_history → RecorderFits One w.recorder [] now.steps now.steps → Stands now now w no_history
-begins w now h r = record { holds = h; job = tells_nothing now.job; console = new_shows_nothing w.host now.console h.host; wrote = r }
+pub begins : (form : Form) (w : Seen) (now : Devices) → Holds w no_history → RecorderFits form w.recorder [] now.steps now.steps → Stands form now now w no_history
+begins form w now h r = record { holds = h; job = tells_nothing now.job; console = new_shows_nothing w.host now.console h.host; wrote = r }

@@ -47,16 +47,16 @@ paced_one_more (a ∷ schedule) actor t between p q w mid w' hist done next turn
 
 -- no turn
 pub paced_nothing : (now : Devices) (w : Seen) → IsPaced first_pace now now w w
-paced_nothing now w = record { schedule = []; on = λ was hist st. (hist, st, (refl, refl, refl)) }
+paced_nothing now w = record { schedule = []; on = λ form was hist st. (hist, st, (refl, refl, refl)) }
 
 -- the turn of the actor that is next
 pub paced_more : (p next_pace : Pace) (t : Turn) (between : Bool) (before now after : Devices) (w mid w' : Seen) → IsPaced p before now w mid → TurnsOn p.next t now after mid w'
     → ((between ≡ true) ↔ AwaitsPiece w'.pulse) → next_pace ≡ pace_after t between p → IsPaced next_pace before after w w'
 paced_more p next_pace t between before now after w mid w' so turns awaits is = record {
   schedule = so.schedule ++ p.next ∷ [];
-  on = λ was hist st.
-      let a = so.on was hist st in
-      let n = turns.on was a.0 a.1 in
+  on = λ form was hist st.
+      let a = so.on form was hist st in
+      let n = turns.on form was a.0 a.1 in
       let taken = paced_one_more so.schedule p.next t between first_pace p w mid w' hist a.0 n.0 a.2 refl n.2 n.1.holds awaits in
       (n.0, n.1, subst (λ (q : Pace). PacedTurns (so.schedule ++ p.next ∷ []) first_pace q w w' hist n.0) (sym is) taken);
 }
@@ -73,7 +73,7 @@ paced_has_run before after w w' runs =
     let paced = runs.paced in
     record {
       schedule = paced.schedule;
-      runs = record { on = λ was hist st. let n = paced.on was hist st in (n.0, n.1, are_turns paced.schedule first_pace runs.pace w w' hist n.0 n.2) };
+      runs = record { on = λ form was hist st. let n = paced.on form was hist st in (n.0, n.1, are_turns paced.schedule first_pace runs.pace w w' hist n.0 n.2) };
     }
 
 -- ---- what is known where it is an actor's turn

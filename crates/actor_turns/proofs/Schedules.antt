@@ -17,15 +17,15 @@ one_more (a ∷ schedule) actor t w mid w' hist between next turns adds =
 
 -- no turn
 pub runs_nothing : (now : Devices) (w : Seen) → RunsOn [] now now w w
-runs_nothing now w = record { on = λ was hist st. (hist, st, (refl, refl)) }
+runs_nothing now w = record { on = λ form was hist st. (hist, st, (refl, refl)) }
 
 -- the turns of a schedule, and one more
 pub runs_more : (schedule : List Actor) (actor : Actor) (t : Turn) (before now after : Devices) (w mid w' : Seen) → RunsOn schedule before now w mid → TurnsOn actor t now after mid w'
     → RunsOn (schedule ++ actor ∷ []) before after w w'
 runs_more schedule actor t before now after w mid w' runs turns = record {
-  on = λ was hist st.
-      let a = runs.on was hist st in
-      let n = turns.on was a.0 a.1 in
+  on = λ form was hist st.
+      let a = runs.on form was hist st in
+      let n = turns.on form was a.0 a.1 in
       (n.0, n.1, one_more schedule actor t w mid w' hist a.0 n.0 a.2 n.2);
 }
 

@@ -12,6 +12,7 @@ use Rattle.board_rules.specs.Steps.Step.{turned as board_turned}
 use Rattle.board_rules.specs.Breaking.{Doings as BoardJournal}
 use Rattle.board_rules.specs.Breaking.Doings.{goes, broke}
 use Rattle.pulse_engine.specs.Steps.{AwaitsPiece}
+use Rattle.step_record.specs.declared.forms.Form.{Form}
 use Rattle.actor_turns.specs.Worlds.{Seen, History, Devices, Holds, Stands, Adds}
 use Rattle.actor_turns.specs.declared.pacing.Pace.{Pace}
 
@@ -83,7 +84,7 @@ PacedTurns (actor ∷ schedule) p p' w w' hist next =
 -- so far, up to this pace: whatever was done before, and since whatever moment, there is what was done after the turns
 pub record IsPaced (pace : Pace) (before after : Devices) (w w' : Seen) : Type 0 where
   pub schedule : List Actor
-  pub on : (was : Devices) (hist : History) → Stands was before w hist → (next : History) × Stands was after w' next × PacedTurns schedule first_pace pace w w' hist next
+  pub on : (form : Form) (was : Devices) (hist : History) → Stands form was before w hist → (next : History) × Stands form was after w' next × PacedTurns schedule first_pace pace w w' hist next
 
 -- paced turns, as many as there were
 pub record RunsPaced (before after : Devices) (w w' : Seen) : Type 0 where

@@ -20,7 +20,7 @@ use Rattle.pulse_engine.specs.Logs.{PieceLog, RecordLog, pieces_of, counted, rec
 use Rattle.pulse_engine.specs.Steps.{Pulsing, AwaitsPiece}
 use Rattle.pulse_engine.specs.Turns.{PulseFits, PulseTurned}
 use Rattle.step_record.specs.Taking.{Log, records}
-use Rattle.step_record.specs.declared.forms.Form.TheVariants.{One}
+use Rattle.step_record.specs.declared.forms.Form.{Form}
 use Rattle.step_record.specs.Recording.{Recording, RecorderFits, RecorderTurned, Rests, Takes}
 use Rattle.run_law.specs.declared.RunEnd.{RunEnd}
 use Rattle.run_law.specs.Runs.{run_end}
@@ -75,11 +75,11 @@ abbrev pub HasHistory : Seen → Type 0
 HasHistory w = (hist : History) × Holds w hist
 
 -- a world that has done this since a moment
-pub record Stands (was now : Devices) (w : Seen) (hist : History) : Type 0 where
+pub record Stands (form : Form) (was now : Devices) (w : Seen) (hist : History) : Type 0 where
   pub holds : Holds w hist
   pub job : TellsJob hist.host was.job now.job
   pub console : TellsText w.host.text hist.host was.console now.console
-  pub wrote : RecorderFits One w.recorder hist.takes was.steps now.steps
+  pub wrote : RecorderFits form w.recorder hist.takes was.steps now.steps
 
 -- ---- what is on its way
 
@@ -117,7 +117,7 @@ Adds actors.Record t w w' hist next = (next ≡ record hist { takes = next.takes
 
 -- one turn of an actor: whatever was done before, and since whatever moment, there is what was done after it
 pub record TurnsOn (actor : Actor) (t : Turn) (before after : Devices) (w w' : Seen) : Type 0 where
-  pub on : (was : Devices) (hist : History) → Stands was before w hist → (next : History) × Stands was after w' next × Adds actor t w w' hist next
+  pub on : (form : Form) (was : Devices) (hist : History) → Stands form was before w hist → (next : History) × Stands form was after w' next × Adds actor t w w' hist next
 
 -- the other actors, and the lists that are not its ports, are as before
 abbrev pub ActsAlone : Actor → Seen → Seen → Type 0
@@ -162,7 +162,7 @@ Turns (actor ∷ schedule) w w' hist next = (t : Turn) × (mid : Seen) × (betwe
 
 -- the turns of a schedule: whatever was done before, and since whatever moment, there is what was done after them
 pub record RunsOn (schedule : List Actor) (before after : Devices) (w w' : Seen) : Type 0 where
-  pub on : (was : Devices) (hist : History) → Stands was before w hist → (next : History) × Stands was after w' next × Turns schedule w w' hist next
+  pub on : (form : Form) (was : Devices) (hist : History) → Stands form was before w hist → (next : History) × Stands form was after w' next × Turns schedule w w' hist next
 
 -- the turns of some schedule
 pub record HasRunOn (before after : Devices) (w w' : Seen) : Type 0 where
@@ -177,8 +177,8 @@ end_after w hist = run_end (end_of hist.host) w.recorder.writer.failed
 
 -- A whole run of the job on one thread: each line that was scanned has at most as many reports among the replies as it has `?`,
 -- by the lists of that run.
-pub record HasRunAlone (was now : Devices) (end : RunEnd) : Type 0 where
-  pub run : HasRun was now end
+pub record HasRunAlone (form : Form) (was now : Devices) (end : RunEnd) : Type 0 where
+  pub run : HasRun form was now end
   pub reports : ReportsPerLine (lines_of run.scanned) run.replies
 
 -- ---- its reports, line by line

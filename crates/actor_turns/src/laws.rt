@@ -3,6 +3,7 @@
 ghost use Rattle.run_rules.specs.Lines.{lines_of};
 ghost use Rattle.stream_host.specs.Steps.{scanned_of, got_of};
 ghost use Rattle.list_ports.specs.PerLine.{ReportsPerLine};
+ghost use Rattle.step_record.specs.declared.forms.Form.{Form};
 ghost use Rattle.actor_turns.specs.Worlds.{Devices, History, Seen, Holds, Stands, AreDone, end_after, RunsSoFar, HasRun, HasRunAlone, CountsReports};
 
 use run_law::{
@@ -14,9 +15,9 @@ use stream_host::{hosts_have_run, hosts_send_their_lines};
 /// What a world has done since it was new is a run of the job so far. Where all four actors are done, it is a whole run, each of
 /// whose lines has at most as many reports as it has `?`.
 pub fn worlds_run()
-    ensures so_far { (was now : Devices) (w : Seen) (hist : History) → Stands was now w hist → RunsSoFar was now }
-    ensures whole { (was now : Devices) (w : Seen) (hist : History) → Stands was now w hist → AreDone w → HasRun was now (end_after w hist) }
-    ensures alone { (was now : Devices) (w : Seen) (hist : History) → Stands was now w hist → AreDone w → HasRunAlone was now (end_after w hist) }
+    ensures so_far { (form : Form) (was now : Devices) (w : Seen) (hist : History) → Stands form was now w hist → RunsSoFar form was now }
+    ensures whole { (form : Form) (was now : Devices) (w : Seen) (hist : History) → Stands form was now w hist → AreDone w → HasRun form was now (end_after w hist) }
+    ensures alone { (form : Form) (was now : Devices) (w : Seen) (hist : History) → Stands form was now w hist → AreDone w → HasRunAlone form was now (end_after w hist) }
 {
     hosts_have_run();
     boards_have_run();
@@ -31,7 +32,7 @@ pub fn worlds_run()
 /// console.
 pub fn worlds_count_reports()
     ensures each { (w : Seen) (hist : History) → Holds w hist → ReportsPerLine (lines_of (scanned_of hist.host)) (got_of hist.host) }
-    ensures told { (was now : Devices) (w : Seen) (hist : History) → Stands was now w hist → CountsReports was now }
+    ensures told { (form : Form) (was now : Devices) (w : Seen) (hist : History) → Stands form was now w hist → CountsReports was now }
 {
     hosts_send_their_lines();
     boards_have_run();

@@ -5,6 +5,7 @@ ghost use Rattle.outside.specs.Causes.{SourceState, SinkState};
 ghost use Rattle.stream_host.specs.Hosts.{HostRests};
 ghost use Rattle.controller.specs.Boards.{BoardRests};
 ghost use Rattle.step_record.specs.Recording.{Rests};
+ghost use Rattle.step_record.specs.declared.forms.Form.{Form};
 ghost use Rattle.pulse_engine.specs.Steps.{AwaitsPiece};
 ghost use Rattle.actor_turns.specs.Worlds.{Devices, devices, History, no_history, Holds, Stands, LinkIsKept, FlagsAreKept, MotionIsKept, TurnsOn, ActsAlone, IsDone, AreDone, OffersNothing, MotionRests, end_after, HasRun, HasRunAlone};
 ghost use Rattle.actor_turns.specs.Lockstep.{number_of};
@@ -42,15 +43,15 @@ impl Model for World {
 }
 
 impl World {
-    /// A world in which nothing was done. All room is taken here.
-    pub fn new(alloc: Global) -> Result<World, OutOfMemory>
-        ensures { IfOk result (λ world. (now : Devices) → Stands now now world no_history) }
+    /// A world in which nothing was done, whose recorder has a form. All room is taken here.
+    pub fn new(alloc: Global, form: Form) -> Result<World, OutOfMemory>
+        ensures { IfOk result (λ world. (now : Devices) → Stands form now now world no_history) }
     {
         Ok(World {
             host: Host::new(),
             board: Controller::new(),
             pulse: Pulse::new(),
-            recorder: Recorder::new(Form::One),
+            recorder: Recorder::new(form),
             lists: Lists::new(alloc)?,
             waiting: Records::new(alloc)?,
         })
@@ -183,8 +184,8 @@ impl World {
     /// reports as it has `?`.
     pub fn end(&self) -> RunEnd
         ensures tells { (hist : History) → Holds self.now hist → result ≡ end_after self.now hist }
-        ensures whole { (was now : Devices) (hist : History) → Stands was now self.now hist → AreDone self.now → HasRun was now result }
-        ensures alone { (was now : Devices) (hist : History) → Stands was now self.now hist → AreDone self.now → HasRunAlone was now result }
+        ensures whole { (form : Form) (was now : Devices) (hist : History) → Stands form was now self.now hist → AreDone self.now → HasRun form was now result }
+        ensures alone { (form : Form) (was now : Devices) (hist : History) → Stands form was now self.now hist → AreDone self.now → HasRunAlone form was now result }
     {
         worlds_run();
         RunEnd {

@@ -15,4 +15,5 @@ pub use actor_turns::{
 };
 pub use list_ports::{Lists, Records};
 pub use run_law::RunEnd;
+pub use step_record::Form;
 pub use thread_rig::{Rig, rigs_run, run_in_threads, run_threads};

@@ -2,7 +2,7 @@
 
 use crate::runs::{Left, ROOM, in_lockstep, in_threads};
 use outside::{Actor, Failed, Gate, MemSink, OutOfMemory, Source};
-use run_core::{Rig, run_threads};
+use run_core::{Form, Rig, run_threads};
 use std::alloc::Global;
 use std::process::Abort;
 use std::sync::Wait;
@@ -131,7 +131,7 @@ fn gate_two_at_once(rt: HostRuntime) -> Result<(), Fail> {
     };
     let mut console = MemSink::new(rt.alloc(), 400, &[])?;
     let mut steps = MemSink::new(rt.alloc(), 400, &[])?;
-    let mut rig = Rig::new(rt.alloc())?;
+    let mut rig = Rig::new(rt.alloc(), Form::One)?;
     let end = run_threads(&rt, &mut rig, &mut job, &mut console, &mut steps, &passes);
     rig.join();
     assert!(rt; !job.missed);
@@ -141,7 +141,7 @@ fn gate_two_at_once(rt: HostRuntime) -> Result<(), Fail> {
 
 #[test]
 fn refused_memory_is_told(rt: HostRuntime) {
-    match Rig::new(rt.alloc()) {
+    match Rig::new(rt.alloc(), Form::One) {
         Ok(rig) => rig.join(),
         Err(OutOfMemory) => {}
     }

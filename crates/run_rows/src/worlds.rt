@@ -2,7 +2,7 @@
 
 use crate::runs::{Left, in_lockstep, in_order, in_rounds};
 use outside::{Actor, MemSink, MemSource, On, Turn};
-use run_core::{RunEnd, World, run_schedule};
+use run_core::{Form, RunEnd, World, run_schedule};
 use std::process::Abort;
 use std::test::Fail;
 use stream_host::Stop;
@@ -177,7 +177,7 @@ fn host_alone_sends_ten_of_forty_lines(rt: HostRuntime) -> Result<(), Fail> {
     let mut job = MemSource::new(text.as_slice(), 4096, &[]);
     let mut console = MemSink::new(rt.alloc(), 400, &[])?;
     let mut steps = MemSink::new(rt.alloc(), 400, &[])?;
-    let mut world = World::new(rt.alloc())?;
+    let mut world = World::new(rt.alloc(), Form::One)?;
     let hosts = [Actor::Host; 2_400];
     run_schedule(&mut world, &hosts, &mut job, &mut console, &mut steps);
     let last = world.turn(Actor::Host, &mut job, &mut console, &mut steps);

@@ -11,10 +11,10 @@ use run_law::{
 };
 use stream_host::hosts_have_run;
 
-/// A rig whose actors ran until each was done, and whose ends agree, has done a whole run, whatever the order in which the
-/// steps of its threads came.
+/// A rig whose actors ran until each was done, and whose ends agree, has done a whole run, in the form of its recorder,
+/// whatever the order in which the steps of its threads came.
 pub fn rigs_run()
-    ensures { (before after : Devices) (was is : Rig) (end : RunEnd) → RigRan before after was is end → EndsAgree is → HasRun before after end }
+    ensures { (before after : Devices) (was is : Rig) (end : RunEnd) → RigRan before after was is end → EndsAgree is → HasRun was.recorder.side.recorder.form before after end }
 {
     hosts_have_run();
     boards_have_run();

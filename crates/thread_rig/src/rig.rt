@@ -39,9 +39,10 @@ pub struct Rig {
 }
 
 impl Rig {
-    /// A rig with which no turn was made. All room is taken here.
-    pub fn new(alloc: Global) -> Result<Rig, OutOfMemory>
-        ensures { IfOk result (λ rig. IsNew rig) }
+    /// A rig with which no turn was made, whose recorder has a form. All room is taken here.
+    pub fn new(alloc: Global, form: Form) -> Result<Rig, OutOfMemory>
+        ensures fresh { IfOk result (λ rig. IsNew rig) }
+        ensures form { IfOk result (λ rig. rig.recorder.side.recorder.form ≡ form) }
     {
         let (host_end, board_end) = link::<128>(alloc)?;
         let (raiser, taker) = flag_table(alloc)?;
@@ -69,7 +70,7 @@ impl Rig {
                 records: records_out,
             }),
             recorder: Apart::new(RecorderSide {
-                recorder: Recorder::new(Form::One),
+                recorder: Recorder::new(form),
                 records: records_in,
             }),
         })

@@ -9,9 +9,10 @@ use run_law::RunEnd;
 use std::alloc::Global;
 use std::sync::Wait;
 use std::thread::Threads;
+use step_record::Form;
 
-/// Runs a job in four threads, one for each actor, and answers how the run ends. Each turn is taken once the gate is passed. All
-/// room is taken before the first turn; where there is none, no device is touched.
+/// Runs a job in four threads, one for each actor, with steps of a form, and answers how the run ends. Each turn is taken
+/// once the gate is passed. All room is taken before the first turn; where there is none, no device is touched.
 pub fn run_in_threads<
     R: Threads + Wait + Sync,
     So: Source + Send,
@@ -21,15 +22,16 @@ pub fn run_in_threads<
 >(
     rt: &R,
     alloc: Global,
+    form: Form,
     job: &mut So,
     console: &mut Co,
     steps: &mut St,
     gate: &G,
 ) -> Result<RunEnd, OutOfMemory>
-    ensures run { IfOk result (λ end. HasRun (devices (So.state job.old) (Co.state console.old) (St.state steps.old)) (devices (So.state job.new) (Co.state console.new) (St.state steps.new)) end) }
+    ensures run { IfOk result (λ end. HasRun form (devices (So.state job.old) (Co.state console.old) (St.state steps.old)) (devices (So.state job.new) (Co.state console.new) (St.state steps.new)) end) }
     ensures untouched { OnErr result ((job.new ≡ job.old) × (console.new ≡ console.old) × (steps.new ≡ steps.old)) }
 {
-    let mut rig = Rig::new(alloc)?;
+    let mut rig = Rig::new(alloc, form)?;
     let end = run_threads(rt, &mut rig, job, console, steps, gate);
     rig.join();
     rigs_run();

@@ -13,7 +13,7 @@ returns-clause-each c w hist h =
     world_reports w hist h (c.boards_have_run.ensures.so_far kept.first hist.board kept.opening kept.conducted)
 
 pub returns-clause-told : goal.returns-clause-told
-returns-clause-told c was now w hist st =
+returns-clause-told c form was now w hist st =
     let h = st.holds in
     let kept = kept_by w.board hist.board h.board in
     let board = c.boards_have_run.ensures.so_far kept.first hist.board kept.opening kept.conducted in

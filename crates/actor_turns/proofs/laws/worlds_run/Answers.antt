@@ -13,29 +13,29 @@ use Rattle.actor_turns.proofs.Running.{bytes_front, replies_front, pieces_front,
 use Rattle.actor_turns.proofs.laws.worlds_run.Goals as goal
 
 pub returns-clause-so_far : goal.returns-clause-so_far
-returns-clause-so_far c was now w hist st =
+returns-clause-so_far c form was now w hist st =
     let h = st.holds in
     let host = c.hosts_have_run.ensures in
     let kept = kept_by w.board hist.board h.board in
-    c.actors_make_a_run_so_far.ensures was.job now.job (sinks was) (sinks now) _ _ _ _ _ _ _ _ _ _ _ _ _ _ _ _ _ _ _
+    c.actors_make_a_run_so_far.ensures form was.job now.job (sinks was) (sinks now) _ _ _ _ _ _ _ _ _ _ _ _ _ _ _ _ _ _ _
     (host.so_far hist.host was.job now.job was.console now.console h.host.conducted st.job (host.console w.host hist.host was.console now.console h.host st.console))
     (c.boards_have_run.ensures.so_far kept.first hist.board kept.opening kept.conducted)
     (c.pulses_have_run.ensures.so_far w.pulse hist.pulse hist.puts h.pulse (never_halts _ _ _ _ h.joined (boards_never_stop kept.first hist.board kept.conducted)))
-    (c.recorders_have_run.ensures.so_far w.recorder hist.takes was.steps now.steps st.wrote)
+    (c.recorders_have_run.ensures.so_far form w.recorder hist.takes was.steps now.steps st.wrote)
     (bytes_front w hist h) (flags_taken w hist h) (found_done w hist h) (words_asked w hist h) (replies_front w hist h) (pieces_front w hist h) (records_front w hist h)
 
 pub returns-clause-alone : goal.returns-clause-alone
-returns-clause-alone c was now w hist st done =
+returns-clause-alone c form was now w hist st done =
     let h = st.holds in
     let host = c.hosts_have_run.ensures in
     let kept = kept_by w.board hist.board h.board in
     let ran = host.whole hist.host was.job now.job was.console now.console h.host.conducted (host.finished w.host hist.host h.host done.host) st.job
     (host.console w.host hist.host was.console now.console h.host st.console) in
-    let run = c.actors_that_end_make_a_run.ensures was.job now.job (sinks was) (sinks now) (end_of hist.host) w.recorder.writer.failed _ _ _ _ _ _ _ _ _ _ _ _ _ _ _ _ _ _ _ _ _ _
+    let run = c.actors_that_end_make_a_run.ensures form was.job now.job (sinks was) (sinks now) (end_of hist.host) w.recorder.writer.failed _ _ _ _ _ _ _ _ _ _ _ _ _ _ _ _ _ _ _ _ _ _
     ran.0
     (c.boards_have_run.ensures.whole kept.first hist.board kept.opening kept.conducted (kept.ended done.board))
     (c.pulses_have_run.ensures.whole w.pulse hist.pulse hist.puts h.pulse (never_halts _ _ _ _ h.joined (boards_never_stop kept.first hist.board kept.conducted)) (sym h.pulse.end ∙ done.pulse))
-    (c.recorders_have_run.ensures.whole w.recorder hist.takes was.steps now.steps st.wrote done.recorder)
+    (c.recorders_have_run.ensures.whole form w.recorder hist.takes was.steps now.steps st.wrote done.recorder)
     (link w hist h) (flags_taken w hist h) (found_done w hist h) (words_asked w hist h) (replies_front w hist h) (pieces_front w hist h) (records_front w hist h) in
     record {
       run = run.0;
@@ -44,4 +44,4 @@ returns-clause-alone c was now w hist st done =
     }
 
 pub returns-clause-whole : goal.returns-clause-whole
-returns-clause-whole c was now w hist st done = (returns-clause-alone c was now w hist st done).run
+returns-clause-whole c form was now w hist st done = (returns-clause-alone c form was now w hist st done).run

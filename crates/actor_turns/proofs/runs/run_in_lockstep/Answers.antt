@@ -5,8 +5,8 @@ pub returns-clause-run : goal.returns-clause-run
 returns-clause-run g c =
     let was = devices (g.So.Source.state c.args.job.now) (g.Co.Sink.state c.args.console.now) (g.St.Sink.state c.args.steps.now) in
     let now = devices (g.So.Source.state c.run_lockstep.new.job) (g.Co.Sink.state c.run_lockstep.new.console) (g.St.Sink.state c.run_lockstep.new.steps) in
-    let n = c.run_lockstep.ensures.goes_on.runs.on was no_history (c.in_ok-world.ensures was) in
-    c.end_of.ensures.whole was now n.0 n.1 c.run_lockstep.ensures.done
+    let n = c.run_lockstep.ensures.goes_on.runs.on c.args.form was no_history (c.in_ok-world.ensures was) in
+    c.end_of.ensures.whole c.args.form was now n.0 n.1 c.run_lockstep.ensures.done
 
 pub returns-clause-order : goal.returns-clause-order
 returns-clause-order g c = record {
@@ -19,6 +19,6 @@ returns-clause-order g c = record {
   run =
       let was = devices (g.So.Source.state c.args.job.now) (g.Co.Sink.state c.args.console.now) (g.St.Sink.state c.args.steps.now) in
       let now = devices (g.So.Source.state c.run_lockstep.new.job) (g.Co.Sink.state c.run_lockstep.new.console) (g.St.Sink.state c.run_lockstep.new.steps) in
-      let n = c.run_lockstep.ensures.goes_on.runs.on was no_history (c.in_ok-world.ensures was) in
-      c.end_of.ensures.alone was now n.0 n.1 c.run_lockstep.ensures.done;
+      let n = c.run_lockstep.ensures.goes_on.runs.on c.args.form was no_history (c.in_ok-world.ensures was) in
+      c.end_of.ensures.alone c.args.form was now n.0 n.1 c.run_lockstep.ensures.done;
 }

@@ -6,4 +6,4 @@ pub invariant_of-result : goal.invariant_of-result
 invariant_of-result c = (no_history, holds_nothing _ c.in_ok-new.ensures c.in_ok-new-2.ensures c.new.ensures c.new-2.ensures c.new-3.ensures)
 
 pub returns : goal.returns
-returns c now = begins _ now (holds_nothing _ c.in_ok-new.ensures c.in_ok-new-2.ensures c.new.ensures c.new-2.ensures c.new-3.ensures) (c.new-4.ensures.fits now.steps)
+returns c now = begins c.args.form _ now (holds_nothing _ c.in_ok-new.ensures c.in_ok-new-2.ensures c.new.ensures c.new-2.ensures c.new-3.ensures) (c.new-4.ensures.fits now.steps)

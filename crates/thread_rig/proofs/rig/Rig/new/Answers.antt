@@ -9,13 +9,14 @@ use Rattle.motion_ports.specs.declared.threads.PulseSide.{PulseSide}
 use Rattle.motion_ports.specs.declared.threads.RecorderSide.{RecorderSide}
 use Rattle.link_ports.specs.HostSides.{HostIsNew}
 use Rattle.motion_ports.specs.MotionSides.{PulseIsNew, RecorderIsNew}
+use Rattle.step_record.specs.Recording.{Recording, RecorderFits}
 use Rattle.motion_ports.proofs.Fresh.{nothing_got}
 use Rattle.stream_host.specs.Ports.{AreGreeted}
 use Rattle.thread_rig.specs.BoardSides.{BoardIsNew}
 use Rattle.thread_rig.proofs.rig.Rig.new.Goals as goal
 
-pub returns : goal.returns
-returns c =
+pub returns-clause-fresh : goal.returns-clause-fresh
+returns-clause-fresh c =
     let host = c.new-2.ensures in
     let board = c.new-4.ensures in
     let pulse = c.new-6.ensures in
@@ -56,5 +57,8 @@ returns c =
         fits = c.new-3.ensures;
       });
       pulse = subst PulseIsNew (sym pulse) (record { got = nothing_got _ pieces.idle.0 pieces.idle.1 pieces.idle.2 pieces.idle.3; put = records.fresh.0; fits = c.new-5.ensures });
-      recorder = subst RecorderIsNew (sym recorder) (record { taken = records.fresh.1; fits = c.new-7.ensures.fits });
+      recorder = subst RecorderIsNew (sym recorder) (record { taken = records.fresh.1; fits = λ now. subst (λ f. RecorderFits f c.new-7.result [] now now) (sym (ap (λ (v : Recording). v.form) c.new-7.ensures.fresh)) (c.new-7.ensures.fits now) });
     }
+
+pub returns-clause-form : goal.returns-clause-form
+returns-clause-form c = ap (λ (s : RecorderSide). s.recorder.form) c.new-8.ensures ∙ ap (λ (v : Recording). v.form) c.new-7.ensures.fresh
