@@ -1,25 +1,26 @@
 -- What the words ask for.
-use Rattle.std.proofs.Common.{◌≡◌, ◌≢◌, ◌∙◌, ◌||◌, ◌&&◌, ◌==◌, ◌≤◌, ℕ, Bool, true, false, cond, List, [], ◌∷◌, length, Option, Some, None, refl, sym, ap, ap₂, subst, inl, inr, map, codes, get_or, Bor, arith}
+use Rattle.std.proofs.Common.{◌≡◌, ◌≢◌, ◌∙◌, ◌||◌, ◌==◌, ◌≤◌, ℕ, Bool, true, false, cond, List, [], ◌∷◌, length, Option, Some, None, refl, sym, ap, subst, inl, inr, map, codes, get_or, Bor, arith}
 use Rattle.std.specs.Prelude.{Box, slice_get, find, option_map, IsSomeAnd}
 use Rattle.std.specs.Str.{bytes_eq, chars}
 use Rattle.std.specs.Box.{box_value}
 use Rattle.std.specs.Option.{option_map_or}
 use Rattle.std.specs.Cmp.Lexicographic.{same_text}
 use Rattle.clap.specs.Lexer.{long_of, short_of}
-use Rattle.clap.specs.Walk.{Held, Names, Row, Rule, Step, Text, Walk, arg_by_long, arg_by_short, bundle, bundle_met, long_or_other, after_flag, bundle_step, nothing_held, short_or_plain, short_word, subcommand_or_other, walk, walk_from, walked}
+use Rattle.clap.specs.Walk.{Held, Names, Row, Rule, Step, Text, Walk, arg_by_long, arg_by_short, bundle, bundle_met, long_or_other, after_flag, bundle_step, nothing_held, short_or_plain, short_word, subcommand_or_other, rows_after, walk, walk_from, walked}
 use Rattle.clap.specs.Walk.Outcome.{plain}
 use Rattle.clap.specs.Walk.Waiting.{idle}
 use Rattle.clap.specs.Walk.Step.{trailing, value}
 use Rattle.clap.specs.Simple.{App, Shape, built, entered, names_of, subcommand_of}
 use Rattle.clap.specs.Kinds.{Kinds, or_else}
 use Rattle.clap.specs.ValueTests.{accepts}
-use Rattle.clap.specs.Faults.{bundle_fault, entered_fault, fault_of, flag_word_fault, flags_fault, bundle_step_fault, long_fault, other_fault, short_fault, step_fault, turn_fault, walk_fault}
+use Rattle.clap.specs.Faults.{bundle_fault, entered_fault, fault_of, flag_word_fault, flags_fault, bundle_step_fault, level_fault, long_fault, other_fault, short_fault, step_fault, turn_fault, walk_fault}
 use Rattle.clap.proofs.OnLiterals.{clap_on_literals}
 use Rattle.clap.proofs.WalkLemmas.{walk_stopped}
 use Rattle.clap.specs.declared.builder.value_parser.ValueParser.{ValueParser}
 use Rattle.clap.specs.declared.builder.value_parser.ValueParser.TheVariants.{Signed, Unsigned}
-use Rattle.command_line.specs.Command.{Refuses, IsNamed, command_line, is_paced}
-use Rattle.command_line.proofs.Levels.{none_first, none_second, stray, IsGood, finds, finds_one, given}
+use Rattle.command_line.specs.Command.{Refuses, IsNamed, command_line}
+use Rattle.command_line.proofs.Levels.{Each, KeptByDefault, KeptByUse, none_first, none_second, stray, checks, finds}
+use Rattle.command_line.proofs.Given.{IsGood, argument, by_default, by_use, flag, flag_by_default, flag_by_use, given, help, help_by_default, help_by_use, row_at, was_given}
 
 -- the command line as clap builds it: the top, with the flag `--help`, and the three subcommands
 abbrev whole : App
@@ -163,16 +164,61 @@ top_words (word ∷ rest) h = go word (first_word word (none_first _ _ h)) (none
     go _ demo_word more = to_demo rest
     go _ a_dash more = subst TopWords (ap (λ (ws : List Text). codes "--" ∷ ws) (sym (after_dashes whole.top names rest more))) dashes
 
+-- ---- what is found of them
+
 abbrev pub found_seed : List Row → Type 0
 found_seed rows = IsGood (codes "seed") (Some (codes "lockstep")) None seeds false rows
+
+-- the arguments of `stream`, as clap builds them
+abbrev stream_rules : List Rule
+stream_rules = argument (codes "seed") (Some (codes "lockstep")) None seeds false ∷ flag (codes "paced") ∷ flag (codes "compact") ∷ help ∷ []
 
 abbrev pub given_moves : Text → Row
 given_moves v = given (codes "moves") None (Some 1) numbers true v
 
+abbrev pub found_moves : Text → List Row → Type 0
+found_moves v rows = (accepts false numbers v ≡ true) × (row_at (codes "moves") rows ≡ Some (given_moves v))
+
+abbrev demo_rules : List Rule
+demo_rules = argument (codes "moves") None (Some 1) numbers true ∷ help ∷ []
+
 -- what accepted words name: `stream`, with a seed or none, or `demo`, with a number
 pub data Entered : List Text → Type 0 where
   a_stream : {words : List Text} (rows : List Row) → subcommand_of command_line words ≡ Some (codes "stream", rows) → found_seed rows → Entered words
-  a_demo : {words : List Text} (v : Text) → subcommand_of command_line words ≡ Some (codes "demo", given_moves v ∷ []) → accepts false numbers v ≡ true → Entered words
+  a_demo : {words : List Text} (v : Text) (rows : List Row) → subcommand_of command_line words ≡ Some (codes "demo", rows) → found_moves v rows → Entered words
+
+seed_found : (s : Shape) (words : List Text) → level_fault (record s { rules = stream_rules; args_override_self = false }) [] nothing_held words false [] ≡ []
+    → found_seed (rows_after stream_rules [] words)
+seed_found s words whole_level = finds found_seed stream_rules (
+  by_use (codes "seed") (Some (codes "lockstep")) None seeds false,
+  (
+    flag_by_use (codes "seed") (Some (codes "lockstep")) None seeds false (codes "paced") refl,
+    (
+      flag_by_use (codes "seed") (Some (codes "lockstep")) None seeds false (codes "compact") refl,
+      (help_by_use (codes "seed") (Some (codes "lockstep")) None seeds false, tt),
+    ),
+  ),
+) (
+  by_default (codes "seed") (Some (codes "lockstep")) None seeds false,
+  (
+    flag_by_default (codes "seed") (Some (codes "lockstep")) None seeds false (codes "paced") refl,
+    (
+      flag_by_default (codes "seed") (Some (codes "lockstep")) None seeds false (codes "compact") refl,
+      (help_by_default (codes "seed") (Some (codes "lockstep")) None seeds false, tt),
+    ),
+  ),
+) tt s words whole_level
+
+moves_found : (s : Shape) (words : List Text) → level_fault (record s { rules = demo_rules; args_override_self = false }) [] nothing_held words false [] ≡ []
+    → (v : Text) × found_moves v (rows_after demo_rules [] words)
+moves_found s words whole_level =
+    let uses : Each (KeptByUse (IsGood (codes "moves") None (Some 1) numbers true)) demo_rules =
+    (by_use (codes "moves") None (Some 1) numbers true, (help_by_use (codes "moves") None (Some 1) numbers true, tt)) in
+    let defaults : Each (KeptByDefault (IsGood (codes "moves") None (Some 1) numbers true)) demo_rules =
+    (by_default (codes "moves") None (Some 1) numbers true, (help_by_default (codes "moves") None (Some 1) numbers true, tt)) in
+    let good = finds (IsGood (codes "moves") None (Some 1) numbers true) demo_rules uses defaults tt s words whole_level in
+    let found = was_given (codes "moves") None (Some 1) numbers true s (rows_after demo_rules [] words) refl good (checks (IsGood (codes "moves") None (Some 1) numbers true) demo_rules uses s words whole_level) in
+    (found.0, (found.1, found.2))
 
 streams : (rest : List Text) → fault_of command_line (codes "stream" ∷ rest) ≡ [] → Entered (codes "stream" ∷ rest)
 unfolding clap_on_literals
@@ -181,7 +227,7 @@ streams rest h =
     ap (λ (w : Walk). w.stopped) (walk_stopped rules names start (codes "stream") [] rest) in
     let under = none_first _ _ (none_second _ _ h) in
     let its_level = subst (λ (o : Option (Text × List Text)). entered_fault whole o ≡ []) (sym stop) under in
-    a_stream _ (ap (entered whole) (sym stop)) (finds (codes "seed") (Some (codes "lockstep")) None seeds false (get_or whole.subs 0 whole.top) rest its_level)
+    a_stream _ (ap (entered whole) (sym stop)) (seed_found (get_or whole.subs 0 whole.top) rest its_level)
 
 demos : (rest : List Text) → fault_of command_line (codes "demo" ∷ rest) ≡ [] → Entered (codes "demo" ∷ rest)
 unfolding clap_on_literals
@@ -190,8 +236,8 @@ demos rest h =
     ap (λ (w : Walk). w.stopped) (walk_stopped rules names start (codes "demo") [] rest) in
     let under = none_first _ _ (none_second _ _ h) in
     let its_level = subst (λ (o : Option (Text × List Text)). entered_fault whole o ≡ []) (sym stop) under in
-    let one = finds_one (codes "moves") None (Some 1) numbers true (get_or whole.subs 1 whole.top) rest refl its_level in
-    a_demo one.0 (ap (entered whole) (sym stop) ∙ ap (λ (rows : List Row). Some (codes "demo", rows)) one.2) one.1
+    let found = moves_found (get_or whole.subs 1 whole.top) rest its_level in
+    a_demo found.0 _ (ap (entered whole) (sym stop)) found.1
 
 -- accepted words enter one of the two
 pub enters : (words : List Text) → fault_of command_line words ≡ [] → Entered words
@@ -210,38 +256,22 @@ named_words _ dashes e = absurd (dashes_fail e)
 named_words _ (to_stream rest) e = (rest, inl refl)
 named_words _ (to_demo rest) e = (rest, inr refl)
 
--- ---- the words of a paced run
+-- ---- accepted words
 
-both_are : (a b : Bool) → (a && b) ≡ true → (a ≡ true) × (b ≡ true)
-both_are true b h = (refl, h)
-both_are false b h = absurd (cc)
-
-pub paced_words : (words : List Text) → is_paced words ≡ true → words ≡ codes "stream" ∷ codes "--paced" ∷ []
-paced_words [] h = absurd (cc)
-paced_words (first ∷ []) h = absurd (cc)
-paced_words (first ∷ second ∷ []) h =
-    let are = both_are (bytes_eq first (codes "stream")) (bytes_eq second (codes "--paced")) h in
-    ap₂ (λ (a b : Text). a ∷ b ∷ []) (same_text first (codes "stream") (sym are.0)) (same_text second (codes "--paced") (sym are.1))
-paced_words (first ∷ second ∷ third ∷ rest) h = absurd (cc)
-
--- accepted words that are not paced have no fault
-pub has_none : (words : List Text) → is_paced words ≡ false → ¬ Refuses words → fault_of command_line words ≡ []
-has_none words unpaced h = not_refused (fault_of command_line words) (λ fault. h (unpaced, fault))
+-- accepted words have no fault
+pub has_none : (words : List Text) → ¬ Refuses words → fault_of command_line words ≡ []
+has_none words h = not_refused (fault_of command_line words) (λ fault. h (inl fault))
 
 named_by_clap : (words : List Text) → fault_of command_line words ≡ [] → IsNamed words
 unfolding clap_on_literals
 named_by_clap words none_found = named_words words (top_words words (none_first _ _ none_found)) none_found
 
 pub begins : (words : List Text) → ¬ Refuses words → IsNamed words
-begins words h = go (is_paced words) refl
-  where
-    go : (b : Bool) → is_paced words ≡ b → IsNamed words
-    go true paced = (codes "--paced" ∷ [], inl (paced_words words paced))
-    go false unpaced = named_by_clap words (has_none words unpaced h)
+begins words h = named_by_clap words (has_none words h)
 
 -- words that name no command are refused
-pub refused_words : (words : List Text) → is_paced words ≡ false → ¬ IsNamed words → Refuses words
-refused_words words unpaced unnamed = (unpaced, λ none. unnamed (named_by_clap words none))
+pub refused_words : (words : List Text) → ¬ IsNamed words → Refuses words
+refused_words words unnamed = inl (λ none. unnamed (named_by_clap words none))
 
 -- ---- the first word
 

@@ -1,3 +1,4 @@
+pub mod Given
 pub mod Levels
 pub mod CommandLine
 pub mod Numbers

@@ -1,12 +1,18 @@
 -- The numbers that the words give.
-use Rattle.std.proofs.Common.{◌≡◌, ◌∙◌, ◌⊎◌, ◌≤◌, ◌==◌, cond, ℕ, Bool, true, false, List, [], ◌∷◌, Option, Some, None, refl, sym, ap, subst, inl, inr, arith, codes}
+use Rattle.std.proofs.Common.{◌≡◌, ◌∙◌, ◌⊎◌, ◌≤◌, ◌==◌, cond, ℕ, Bool, true, false, List, [], ◌∷◌, Option, Some, None, refl, sym, ap, ap₂, subst, inl, inr, arith, codes}
 use Rattle.std.proofs.lemmas.Int.{ints}
-use Rattle.std.specs.Prelude.{Ok, Err, Result, drop, option_map, unwrap_or, IsSomeAnd}
+use Rattle.std.specs.Prelude.{Ok, Err, Result, drop, find, option_map, option_and_then, unwrap_or, IfSome, IsSomeAnd}
 use Rattle.std.specs.Option.{option_map_or}
 use Rattle.std.specs.Str.Parse.{ParsesUnsigned, starts_with_minus}
 use Rattle.clap.specs.Lexer.{without_minus}
-use Rattle.clap.specs.Walk.{Row, Text, one_of}
-use Rattle.clap.specs.Matches.{ReadsOne, subcommand_name_of}
+use Rattle.clap.specs.Walk.{Row, Text, one_of, row_of, row_text, rows_of}
+use Rattle.clap.specs.Facts.{Entry}
+use Rattle.clap.specs.declared.parser.matches.Found.{Found}
+use Rattle.clap.specs.declared.parser.matches.MatchedArg.{MatchedArg}
+use Rattle.clap.specs.declared.parser.matches.ValueSource.{ValueSource}
+use Rattle.clap.proofs.WalkLemmas.{find_row}
+use Rattle.std.specs.Str.{bytes_eq}
+use Rattle.clap.specs.Matches.{ReadsOne, matched_of, subcommand_name_of}
 use Rattle.clap.specs.Simple.{App, HasMatchesOf, subcommand_of, subcommand_rows, subcommand_rows_of}
 use Rattle.clap.specs.ValueTests.{accepts}
 use Rattle.clap.specs.Faults.{fault_of, is_simple_and_free}
@@ -17,13 +23,13 @@ use Rattle.clap.proofs.ValueTestLemmas.{accepts-Accepts}
 use Rattle.clap.proofs.CallerReads.{signed_reads}
 use Rattle.std.specs.Box.{box_value}
 use Rattle.std.specs.Prelude.{Box}
-use Rattle.command_line.specs.Command.{Asks, Refuses, command_line, is_paced, number_of, order_by}
+use Rattle.command_line.specs.Command.{Asks, Refuses, command_line, form_by, is_of_words, has_flag, number_of, order_in}
 use Rattle.command_line.specs.declared.Order.{Order}
-use Rattle.command_line.specs.declared.Order.TheVariants.{Paced}
+use Rattle.step_record.specs.declared.forms.Form.{Form}
 use Rattle.command_line.specs.declared.Task.{Task}
 use Rattle.command_line.specs.declared.Task.TheVariants.{Stream, Demo}
-use Rattle.command_line.proofs.CommandLine.{Entered, enters, found_seed, given_moves, has_none, numbers, paced_words, seeds}
-use Rattle.clap.proofs.OnLiterals.{clap_on_literals}
+use Rattle.command_line.proofs.CommandLine.{Entered, enters, found_moves, found_seed, has_none, numbers, seeds}
+use Rattle.command_line.proofs.Given.{IsGiven, row_at}
 
 module _ (E : Type 0) (G : List ℕ → Result ℕ E → Type 0) where
   -- a seed that passed is read
@@ -37,11 +43,15 @@ module _ (E : Type 0) (G : List ℕ → Result ℕ E → Type 0) where
   pub seed_read : ((u : List ℕ) (x : Result ℕ E) → G u x → ParsesUnsigned 64 10 u x) → (rows : List Row) → found_seed rows → (r : Option ℕ)
       → (one_of (codes "seed") rows ≡ None → r ≡ None) → ((t : Text) → one_of (codes "seed") rows ≡ Some t → ReadsOne G t r)
       → r ≡ option_map number_of (one_of (codes "seed") rows)
-  seed_read only rows (inl empty) r none some =
-      none (ap (one_of (codes "seed")) empty) ∙ ap (λ (rs : List Row). option_map number_of (one_of (codes "seed") rs)) (sym empty)
-  seed_read only rows (inr one) r none some =
-      let is : one_of (codes "seed") rows ≡ Some one.0 = ap (one_of (codes "seed")) one.2 in
-      seed_value only one.0 one.1 r (some one.0 is) ∙ ap (option_map number_of) (sym is)
+  seed_read only rows good r none some = go (row_at (codes "seed") rows) refl good
+    where
+      go : (o : Option Row) → o ≡ row_at (codes "seed") rows → IfSome o (IsGiven (codes "seed") (Some (codes "lockstep")) None seeds false) → r ≡ option_map number_of (one_of (codes "seed") rows)
+      go None is h =
+          let empty : one_of (codes "seed") rows ≡ None = ap (option_and_then row_text) (sym is) in
+          none empty ∙ ap (option_map number_of) (sym empty)
+      go (Some row) is one =
+          let found : one_of (codes "seed") rows ≡ Some one.0 = ap (option_and_then row_text) (sym is) ∙ ap row_text one.2 in
+          seed_value only one.0 one.1 r (some one.0 found) ∙ ap (option_map number_of) (sym found)
 
   -- a number of moves that passed is read, and lies in its range
   pub moves_read : ((u : List ℕ) (x : Result ℕ E) → G u x → ParsesUnsigned 32 10 u x) → (v : Text) → accepts false numbers v ≡ true → (r : Option ℕ) → ReadsOne G (without_minus v) r
@@ -51,6 +61,19 @@ module _ (E : Type 0) (G : List ℕ → Result ℕ E → Type 0) where
       let got = signed_reads E G 32 1 100000 v r h only (omega arith) passed in
       let is = only (without_minus v) (Ok got.0) (subst (ReadsOne G (without_minus v)) got.1 h) in
       (got.0, got.1, got.2, got.3, is.1)
+
+-- ---- the flags
+
+-- where the value of a flag came from
+source_rows : (f : Found) (name : Text) → option_and_then (λ a. a.source) (matched_of f name) ≡ option_and_then (λ r. r.source) (row_at name (rows_of f))
+source_rows f name = go (find (λ e. bytes_eq e.0.now name) f.entries.items) ∙ ap (option_and_then (λ (r : Row). r.source)) (sym (find_row f.entries.items name))
+  where
+    go : (o : Option Entry) → option_and_then (λ (a : MatchedArg). a.source) (option_map (λ e. e.1) o) ≡ option_and_then (λ (r : Row). r.source) (option_map row_of o)
+    go None = refl
+    go (Some e) = refl
+
+pub flag_read : (f : Found) (name : Text) (source : Option ValueSource) → source ≡ option_and_then (λ a. a.source) (matched_of f name) → is_of_words source ≡ has_flag name (rows_of f)
+flag_read f name source is = ap is_of_words (is ∙ source_rows f name)
 
 -- ---- the matches
 
@@ -83,35 +106,47 @@ pair_parts a d b e h = (ap (λ (o : Option (Text × List Row)). option_map_or (�
 
 -- what the words name is `stream` or `demo`
 pub some_task : (words : List Text) (name : Text) (rows : List Row) → Entered words → subcommand_of command_line words ≡ Some (name, rows)
-    → ((name ≡ codes "stream") × found_seed rows) ⊎ ((name ≡ codes "demo") × (v : Text) × (accepts false numbers v ≡ true) × (rows ≡ given_moves v ∷ []))
+    → ((name ≡ codes "stream") × found_seed rows) ⊎ ((name ≡ codes "demo") × (v : Text) × found_moves v rows)
 some_task words name rows (Entered.a_stream found is good) e =
     let parts = pair_parts (codes "stream") name found rows (sym is ∙ e) in
     inl (sym parts.0, subst found_seed parts.1 good)
-some_task words name rows (Entered.a_demo v is ok) e =
-    let parts = pair_parts (codes "demo") name (given_moves v ∷ []) rows (sym is ∙ e) in
-    inr (sym parts.0, v, ok, sym parts.1)
+some_task words name rows (Entered.a_demo v found is ok) e =
+    let parts = pair_parts (codes "demo") name found rows (sym is ∙ e) in
+    inr (sym parts.0, v, subst (found_moves v) parts.1 ok)
+
+-- accepted words enter a subcommand
+pub has_entered : (words : List Text) → Entered words → None ≡ option_map (λ (p : Text × List Row). p.1) (subcommand_of command_line words) → ⊥
+has_entered words (Entered.a_stream rows is good) none = let e : None ≡ Some rows = none ∙ ap (option_map (λ (p : Text × List Row). p.1)) is in cc
+has_entered words (Entered.a_demo v rows is ok) none = let e : None ≡ Some rows = none ∙ ap (option_map (λ (p : Text × List Row). p.1)) is in cc
+
+-- the text of a number of moves that was found
+pub moves_text : (v : Text) (rows : List Row) → found_moves v rows → one_of (codes "moves") rows ≡ Some (without_minus v)
+moves_text v rows found = ap (option_and_then row_text) found.1
 
 -- ---- words ask for one task at most
 
-one_stream : (order other : Order) (b : Bool) (o : Option (Text × List Row)) → IsSomeAnd o (λ s. (s.0 ≡ codes "stream") × (order ≡ order_by b (option_map number_of (one_of (codes "seed") s.1))))
-    → IsSomeAnd o (λ s. (s.0 ≡ codes "stream") × (other ≡ order_by b (option_map number_of (one_of (codes "seed") s.1)))) → order ≡ other
-one_stream order other b None h k = absurd h
-one_stream order other b (Some s) h k = h.1 ∙ sym k.1
+-- what is asked of `stream`
+abbrev AsksStream : Order → Form → Option (Text × List Row) → Type 0
+AsksStream order form o = IsSomeAnd o (λ s. (s.0 ≡ codes "stream") × (Some order ≡ order_in s.1) × (form ≡ form_by (has_flag (codes "compact") s.1)))
+
+one_stream : (order other : Order) (form another : Form) (o : Option (Text × List Row)) → AsksStream order form o → AsksStream other another o → (order ≡ other) × (form ≡ another)
+one_stream order other form another None h k = absurd h
+one_stream order other form another (Some s) h k = (ap (λ (o : Option Order). unwrap_or o order) (h.1 ∙ sym k.1), h.2 ∙ sym k.2)
 
 one_demo : (moves other : ℕ) (o : Option (Text × List Row)) → IsSomeAnd o (λ s. (s.0 ≡ codes "demo") × (Some moves ≡ option_map number_of (one_of (codes "moves") s.1)) × (1 ≤ moves) × (moves ≤ 100000))
     → IsSomeAnd o (λ s. (s.0 ≡ codes "demo") × (Some other ≡ option_map number_of (one_of (codes "moves") s.1)) × (1 ≤ other) × (other ≤ 100000)) → moves ≡ other
 one_demo moves other None h k = absurd h
 one_demo moves other (Some s) h k = ap (λ (o : Option ℕ). unwrap_or o moves) (h.1 ∙ sym k.1)
 
-not_both : (order : Order) (b : Bool) (moves : ℕ) (o : Option (Text × List Row)) → IsSomeAnd o (λ s. (s.0 ≡ codes "stream") × (order ≡ order_by b (option_map number_of (one_of (codes "seed") s.1))))
+not_both : (order : Order) (form : Form) (moves : ℕ) (o : Option (Text × List Row)) → AsksStream order form o
     → IsSomeAnd o (λ s. (s.0 ≡ codes "demo") × (Some moves ≡ option_map number_of (one_of (codes "moves") s.1)) × (1 ≤ moves) × (moves ≤ 100000)) → ⊥
-not_both order b moves None h k = absurd h
-not_both order b moves (Some s) h k = let e : codes "stream" ≡ codes "demo" = sym h.0 ∙ k.0 in cc
+not_both order form moves None h k = absurd h
+not_both order form moves (Some s) h k = let e : codes "stream" ≡ codes "demo" = sym h.0 ∙ k.0 in cc
 
 pub one_task : (words : List Text) (a b : Task) → Asks a words → Asks b words → a ≡ b
-one_task words (Stream s) (Stream t) h k = ap (λ (o : Order). Stream o) (one_stream s t (is_paced words) (subcommand_of command_line words) h k)
-one_task words (Stream s) (Demo n) h k = absurd (not_both s (is_paced words) n (subcommand_of command_line words) h k)
-one_task words (Demo m) (Stream s) h k = absurd (not_both s (is_paced words) m (subcommand_of command_line words) k h)
+one_task words (Stream s f) (Stream t g) h k = let are = one_stream s t f g (subcommand_of command_line words) h k in ap₂ (λ (o : Order) (form : Form). Stream o form) are.0 are.1
+one_task words (Stream s f) (Demo n) h k = absurd (not_both s f n (subcommand_of command_line words) h k)
+one_task words (Demo m) (Stream s f) h k = absurd (not_both s f m (subcommand_of command_line words) k h)
 one_task words (Demo m) (Demo n) h k = ap (λ (i : ℕ). Demo i) (one_demo m n (subcommand_of command_line words) h k)
 
 -- ---- words that are not refused ask for one
@@ -140,28 +175,22 @@ moves_lie v ok = go (starts_with_minus v) refl
         let same : without_minus v ≡ v = without_minus-cond v ∙ ap (λ (b : Bool). cond b (drop 1 v) v) minus in
         rw same (omega (arith, ints), omega (arith, ints))
 
-pub paced_asks : (words : List Text) → is_paced words ≡ true → Asks (Stream Paced) words
-unfolding clap_on_literals
-paced_asks words paced = subst (Asks (Stream Paced)) (sym (paced_words words paced)) (refl, refl)
+by_clap : (words : List Text) → ¬ Refuses words → Entered words → (task : Task) × Asks task words
+by_clap words h (Entered.a_stream rows is good) = go (order_in rows) refl
+  where
+    form : Form
+    form = form_by (has_flag (codes "compact") rows)
 
-by_clap : (words : List Text) → is_paced words ≡ false → Entered words → (task : Task) × Asks task words
-by_clap words unpaced (Entered.a_stream rows is good) =
-    let seed = option_map number_of (one_of (codes "seed") rows) in (
-      Stream (order_by false seed),
-      subst (λ (o : Option (Text × List Row)). IsSomeAnd o (λ s. (s.0 ≡ codes "stream") × (order_by false seed ≡ order_by (is_paced words) (option_map number_of (one_of (codes "seed") s.1))))) (sym is)
-          (refl, ap (λ (b : Bool). order_by b seed) (sym unpaced)),
-    )
-by_clap words unpaced (Entered.a_demo v is ok) =
+    go : (o : Option Order) → o ≡ order_in rows → (task : Task) × Asks task words
+    go None none = absurd (h (inr (subst (λ (found : Option (Text × List Row)). IsSomeAnd found (λ s. (s.0 ≡ codes "stream") × (order_in s.1 ≡ None))) (sym is) (refl, sym none))))
+    go (Some order) one = (Stream order form, subst (AsksStream order form) (sym is) (refl, one, refl))
+by_clap words h (Entered.a_demo v rows is ok) =
     let n = number_of (without_minus v) in
-    let lies = moves_lie v ok in (
+    let lies = moves_lie v ok.0 in (
       Demo n,
       subst (λ (o : Option (Text × List Row)). IsSomeAnd o (λ s. (s.0 ≡ codes "demo") × (Some n ≡ option_map number_of (one_of (codes "moves") s.1)) × (1 ≤ n) × (n ≤ 100000))) (sym is)
-          (refl, refl, lies.0, lies.1),
+          (refl, ap (option_map number_of) (sym (moves_text v rows ok)), lies.0, lies.1),
     )
 
 pub some_asked : (words : List Text) → ¬ Refuses words → (task : Task) × Asks task words
-some_asked words h = go (is_paced words) refl
-  where
-    go : (b : Bool) → is_paced words ≡ b → (task : Task) × Asks task words
-    go true paced = (Stream Paced, paced_asks words paced)
-    go false unpaced = by_clap words unpaced (enters words (has_none words unpaced h))
+some_asked words h = by_clap words h (enters words (has_none words h))

@@ -1,9 +1,14 @@
 -- The command line of the program, in the words of clap, which reads it.
-use Rattle.std.specs.Prelude.{◌≡◌, ◌≢◌, ◌≤◌, ◌⊎◌, ◌&&◌, ℕ, Bool, List, [], ◌∷◌, true, false, codes, IsSomeAnd, Option, Some, None, option_map, pos}
+use Rattle.std.specs.Prelude.{◌≡◌, ◌≢◌, ◌≤◌, ◌⊎◌, ℕ, Bool, List, [], ◌∷◌, true, false, codes, IsSomeAnd, Option, Some, None, option_map, option_and_then, find, pos}
 use Rattle.std.specs.Str.{bytes_eq}
 use Rattle.std.specs.Str.Parse.{digits_value, without_leading_plus}
 use Rattle.clap.specs.Simple.{App, new_app, new_rule, on_top, subcommand_of, with_rule, with_subcommand}
-use Rattle.clap.specs.Walk.{Text, one_of}
+use Rattle.clap.specs.Walk.{Row, Rule, Text, one_of}
+use Rattle.clap.specs.declared.parser.matches.ValueSource.{ValueSource}
+use Rattle.clap.specs.declared.parser.matches.ValueSource.TheVariants.{CommandLine}
+use Rattle.clap.specs.declared.builder.action.ArgAction.TheVariants.{SetTrue}
+use Rattle.step_record.specs.declared.forms.Form.{Form}
+use Rattle.step_record.specs.declared.forms.Form.TheVariants.{One, Two}
 use Rattle.clap.specs.declared.builder.value_parser.ValueParser.TheVariants.{Signed, Unsigned}
 use Rattle.clap.specs.Faults.{fault_of}
 use Rattle.clap.specs.declared.error.kind.ErrorKind.{ErrorKind}
@@ -19,12 +24,16 @@ use Rattle.command_line.specs.declared.WordsFault.TheVariants.{Refused, OutOfMem
 abbrev pub grbl : App
 grbl = on_top (λ s. record s { no_binary_name = true; subcommand_required = true }) (new_app (codes "grbl"))
 
--- `stream` may be given `--lockstep` with a number below 2^64
+-- a flag
+abbrev pub flag_rule : Text → Rule
+flag_rule name = record (new_rule name) { long = Some name; action = Some SetTrue }
+
+-- `stream` may be given `--lockstep` with a number below 2^64, `--paced` and `--compact`
 abbrev pub stream_command : App
-stream_command = with_rule (new_app (codes "stream")) (record (new_rule (codes "seed")) {
+stream_command = with_rule (with_rule (with_rule (new_app (codes "stream")) (record (new_rule (codes "seed")) {
   long = Some (codes "lockstep");
   parser = Some (Unsigned 0 18446744073709551615);
-})
+})) (flag_rule (codes "paced"))) (flag_rule (codes "compact"))
 
 -- `demo` takes a whole number from 1 to 100,000
 abbrev pub demo_command : App
@@ -36,15 +45,6 @@ demo_command = with_rule (new_app (codes "demo")) (record (new_rule (codes "move
 abbrev pub command_line : App
 command_line = with_subcommand (with_subcommand grbl stream_command.top) demo_command.top
 
--- the words are `stream` and `--paced`, with which nothing else goes; clap's definition does not have them
-abbrev pub is_paced : List Text → Bool
-is_paced (first ∷ second ∷ []) = bytes_eq first (codes "stream") && bytes_eq second (codes "--paced")
-is_paced _ = false
-
--- The command line refuses the words: they are not those of a paced run, and clap has a fault for them. A request for help is one.
-abbrev pub Refuses : List Text → Type 0
-Refuses words = (is_paced words ≡ false) × (fault_of command_line words ≢ [])
-
 -- the first word names one of the two
 abbrev pub IsNamed : List Text → Type 0
 IsNamed words = (rest : List Text) × ((words ≡ codes "stream" ∷ rest) ⊎ (words ≡ codes "demo" ∷ rest))
@@ -53,16 +53,43 @@ IsNamed words = (rest : List Text) × ((words ≡ codes "stream" ∷ rest) ⊎ (
 abbrev pub number_of : Text → ℕ
 number_of text = digits_value 10 (without_leading_plus text)
 
--- the order of the turns of `stream`, by whether it is paced, and by the seed that is given
-abbrev pub order_by : Bool → Option ℕ → Order
-order_by true seed = Paced
-order_by false (Some seed) = Lockstep seed
-order_by false None = Threads
+-- the order of the turns of `stream`, by whether it is paced, and by the seed that is given: there is none that is both
+abbrev pub order_by : Bool → Option ℕ → Option Order
+order_by true (Some seed) = None
+order_by true None = Some Paced
+order_by false (Some seed) = Some (Lockstep seed)
+order_by false None = Some Threads
 
--- the words enter the subcommand that stands for a task, and give it the order or the number of the task
+-- a value is of the words
+abbrev pub is_of_words : Option ValueSource → Bool
+is_of_words (Some CommandLine) = true
+is_of_words _ = false
+
+-- the words gave the flag
+abbrev pub has_flag : Text → List Row → Bool
+has_flag name found = is_of_words (option_and_then (λ r. r.source) (find (λ r. bytes_eq r.id name) found))
+
+-- the order that was found for `stream`
+abbrev pub order_in : List Row → Option Order
+order_in found = order_by (has_flag (codes "paced") found) (option_map number_of (one_of (codes "seed") found))
+
+-- the form of the steps, by whether they are compact
+abbrev pub form_by : Bool → Form
+form_by true = Two
+form_by false = One
+
+-- the words enter `stream`, and give it two orders of turns
+abbrev pub AsksTwoOrders : List Text → Type 0
+AsksTwoOrders words = IsSomeAnd (subcommand_of command_line words) (λ s. (s.0 ≡ codes "stream") × (order_in s.1 ≡ None))
+
+-- The command line refuses the words: clap has a fault for them, or they ask for two orders of turns. A request for help is a fault.
+abbrev pub Refuses : List Text → Type 0
+Refuses words = (fault_of command_line words ≢ []) ⊎ AsksTwoOrders words
+
+-- the words enter the subcommand that stands for a task, and give it the order and the form, or the number, of the task
 abbrev pub Asks : Task → List Text → Type 0
-Asks (Stream order) words = IsSomeAnd (subcommand_of command_line words)
-    (λ s. (s.0 ≡ codes "stream") × (order ≡ order_by (is_paced words) (option_map number_of (one_of (codes "seed") s.1))))
+Asks (Stream order form) words = IsSomeAnd (subcommand_of command_line words)
+    (λ s. (s.0 ≡ codes "stream") × (Some order ≡ order_in s.1) × (form ≡ form_by (has_flag (codes "compact") s.1)))
 Asks (Demo moves) words = IsSomeAnd (subcommand_of command_line words)
     (λ s. (s.0 ≡ codes "demo") × (Some moves ≡ option_map number_of (one_of (codes "moves") s.1)) × (1 ≤ moves) × (moves ≤ 100000))
 

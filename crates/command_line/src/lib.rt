@@ -1,17 +1,20 @@
 //! The command line: what the words ask for.
 #![tactic(auto)]
 
-ghost use Rattle.std.specs.Prelude.{◌≡◌, ◌↔◌, true, false, List, [], ◌∷◌, map, codes, IsOk, IfOk};
-ghost use Rattle.clap.specs.Walk.{Text};
+ghost use Rattle.std.specs.Prelude.{◌≡◌, ◌≢◌, ◌↔◌, true, false, List, [], ◌∷◌, map, codes, IsOk, IfOk};
+ghost use Rattle.clap.specs.Walk.{Text, rows_of, rule_of};
+ghost use Rattle.clap.specs.Matches.{found_of};
 ghost use Rattle.clap.specs.Faults.{fault_of};
-ghost use Rattle.clap.specs.Simple.{app_of};
+ghost use Rattle.clap.specs.Simple.{app_of, subcommand_of, subcommand_rows_of};
 ghost use Rattle.clap.specs.declared.builder.command.Command.TheViews.{out-Command};
 ghost use Rattle.clap.specs.Values.{kind_of};
-ghost use Rattle.command_line.specs.Command.{command_line, stream_command, demo_command, is_paced, order_by, Refuses, IsNamed, Asks, fault_by_kind};
+ghost use Rattle.command_line.specs.Command.{command_line, stream_command, demo_command, flag_rule, is_of_words, has_flag, order_by, form_by, Refuses, IsNamed, Asks, fault_by_kind};
 
 use clap::error::ErrorKind;
-use clap::{Arg, Command, Error, value_parser};
+use clap::parser::ValueSource;
+use clap::{Arg, ArgAction, ArgMatches, Command, Error, value_parser};
 use std::alloc::{AllocError, Global};
+use step_record::Form;
 
 /// In what order the four actors of a stream take their turns.
 #[derive(Clone, Copy, Debug, PartialEq, Eq)]
@@ -27,8 +30,8 @@ pub enum Order {
 /// What the words ask for.
 #[derive(Clone, Copy, Debug, PartialEq, Eq)]
 pub enum Task {
-    /// A job is streamed, in this order of turns.
-    Stream(Order),
+    /// A job is streamed, in this order of turns, with steps of this form.
+    Stream(Order, Form),
     /// The generated job of so many moves is run.
     Demo(u32),
 }
@@ -63,7 +66,15 @@ impl From<Error> for WordsFault {
     }
 }
 
-/// `stream`, as clap takes it: the seed is any number that 64 bits hold.
+/// A flag, as clap takes it, by its name.
+fn flag<'a>(alloc: Global, name: &'a str) -> Arg<'a>
+    ensures shape { rule_of result ≡ flag_rule name.entry.now }
+    ensures local { result.global ≡ false }
+{
+    Arg::new(alloc, name).long(name).action(ArgAction::SetTrue)
+}
+
+/// `stream`, as clap takes it: the seed is any number that 64 bits hold; `--paced` and `--compact` are flags.
 fn stream_command<'a>(alloc: Global) -> Result<Command<'a>, AllocError>
     ensures shape { IfOk result (λ c. app_of c ≡ stream_command) }
     ensures local { IfOk result (λ c. (out-Command c).has_globals ≡ false) }
@@ -71,7 +82,10 @@ fn stream_command<'a>(alloc: Global) -> Result<Command<'a>, AllocError>
     let seed = Arg::new(alloc, "seed")
         .long("lockstep")
         .value_parser(value_parser!(u64));
-    Command::new(alloc, "stream").arg(seed)
+    Command::new(alloc, "stream")
+        .arg(seed)?
+        .arg(flag(alloc, "paced"))?
+        .arg(flag(alloc, "compact"))
 }
 
 /// `demo`, as clap takes it: a number of moves from 1 to 100,000 is required.
@@ -96,16 +110,6 @@ fn command_line<'a>(alloc: Global) -> Result<Command<'a>, AllocError>
         .subcommand(demo_command(alloc)?)
 }
 
-/// Whether the words are those of a paced run, which clap's definition does not have.
-fn is_paced(words: &[&str]) -> bool
-    ensures { result ≡ is_paced (map (λ w. w.now) words.now) }
-{
-    match words {
-        [first, second] => *first == "stream" && *second == "--paced",
-        _ => false,
-    }
-}
-
 /// Whether the first word names a command.
 fn is_named(words: &[&str]) -> bool
     ensures { (result ≡ true) ↔ IsNamed (map (λ w. w.now) words.now) }
@@ -116,29 +120,65 @@ fn is_named(words: &[&str]) -> bool
     }
 }
 
-/// The order of turns that a seed stands for.
-fn order_of(seed: Option<u64>) -> Order
-    ensures { result ≡ order_by false seed }
+/// Whether a value is of the words, and no default.
+fn is_of_words(source: Option<ValueSource>) -> bool
+    ensures { result ≡ is_of_words source }
 {
-    match seed {
-        Some(seed) => Order::Lockstep(seed),
-        None => Order::Threads,
+    match source {
+        Some(ValueSource::CommandLine) => true,
+        _ => false,
     }
 }
 
-/// Reads words of which clap's definition knows.
+/// Whether the words gave a flag.
+fn has_flag(given: &ArgMatches<'_>, name: &str) -> bool
+    ensures { result ≡ has_flag name.now (rows_of (found_of given.now)) }
+{
+    is_of_words(given.value_source(name))
+}
+
+/// The order of turns that a pace and a seed stand for: together for none.
+fn order_of(is_paced: bool, seed: Option<u64>) -> Option<Order>
+    ensures { result ≡ order_by is_paced seed }
+{
+    match (is_paced, seed) {
+        (true, Some(_)) => None,
+        (true, None) => Some(Order::Paced),
+        (false, Some(seed)) => Some(Order::Lockstep(seed)),
+        (false, None) => Some(Order::Threads),
+    }
+}
+
+/// The form of steps that a flag stands for.
+fn form_of(is_compact: bool) -> Form
+    ensures { result ≡ form_by is_compact }
+{
+    if is_compact { Form::Two } else { Form::One }
+}
+
+/// What clap finds in words. They are refused only if its definition has a fault for them.
+fn matches_of<'a>(alloc: Global, words: &'a [&'a str]) -> Result<ArgMatches<'a>, WordsFault>
+    ensures faulty { result ≡ Err WordsFault.Refused → fault_of command_line (map (λ w. w.now) words.now) ≢ [] }
+    ensures sound { IfOk result (λ m. (fault_of command_line (map (λ w. w.now) words.now) ≡ []) × (subcommand_rows_of m ≡ subcommand_of command_line (map (λ w. w.now) words.now))) }
+{
+    Ok(command_line(alloc)?.try_get_matches_from(words)?)
+}
+
+/// Reads words by clap's definition.
 fn read_by_clap(alloc: Global, words: &[&str]) -> Result<Task, WordsFault>
-    requires unpaced { is_paced (map (λ w. w.now) words.now) ≡ false }
     ensures refused { result ≡ Err WordsFault.Refused → Refuses (map (λ w. w.now) words.now) }
     ensures accepted { IsOk result → ¬ Refuses (map (λ w. w.now) words.now) }
     ensures asked { IfOk result (λ task. Asks task (map (λ w. w.now) words.now)) }
 {
-    let matches = command_line(alloc)?.try_get_matches_from(words)?;
+    let matches = matches_of(alloc, words)?;
     let Some((name, given)) = matches.subcommand() else {
         unreachable!()
     };
     if name == "stream" {
-        return Ok(Task::Stream(order_of(given.get_one("seed"))));
+        let Some(order) = order_of(has_flag(given, "paced"), given.get_one("seed")) else {
+            return Err(WordsFault::Refused);
+        };
+        return Ok(Task::Stream(order, form_of(has_flag(given, "compact"))));
     }
     match given.get_one("moves") {
         Some(moves) => Ok(Task::Demo(moves)),
@@ -147,18 +187,14 @@ fn read_by_clap(alloc: Global, words: &[&str]) -> Result<Task, WordsFault>
 }
 
 /// Reads the words of the command line, which do not hold the program's own name. They are refused only if the definition of
-/// the command line has a fault for them, and accepted only if it has none. Lack of memory is reported in place of either,
-/// but never of words that name no command, and never of those of a paced run: these are told without memory.
+/// the command line has a fault for them, or they name two orders of turns, and accepted only if neither is so. Lack of memory
+/// is reported in place of either, but never of words that name no command: these are told without memory.
 pub fn read_words(alloc: Global, words: &[&str]) -> Result<Task, WordsFault>
     ensures refused { result ≡ Err WordsFault.Refused → Refuses (map (λ w. w.now) words.now) }
     ensures accepted { IsOk result → ¬ Refuses (map (λ w. w.now) words.now) }
     ensures asked { IfOk result (λ task. Asks task (map (λ w. w.now) words.now)) }
     ensures unnamed { ¬ IsNamed (map (λ w. w.now) words.now) → result ≡ Err WordsFault.Refused }
-    ensures paced { is_paced (map (λ w. w.now) words.now) ≡ true → result ≡ Ok (Task.Stream Order.Paced) }
 {
-    if is_paced(words) {
-        return Ok(Task::Stream(Order::Paced));
-    }
     if !is_named(words) {
         return Err(WordsFault::Refused);
     }
@@ -166,24 +202,36 @@ pub fn read_words(alloc: Global, words: &[&str]) -> Result<Task, WordsFault>
 }
 
 /// What the definition of the command line means. Accepted words begin with `stream` or `demo`, and ask for a task; words ask
-/// for one at most. `--paced` stands alone behind `stream`. A seed is any number that 64 bits hold, after `--lockstep` or `--lockstep=`, and is given once at
-/// most. A number of moves is given, once, and is at least 1 and at most 100,000. A request for help is a fault as
-/// well.
+/// for one at most. A seed is any number that 64 bits hold, after `--lockstep` or `--lockstep=`, and is given once at most, and
+/// not with `--paced`. `--paced` and `--compact` are given once at most, before or after other options. A number of moves is
+/// given, once, and is at least 1 and at most 100,000. A request for help is a fault as well.
 pub fn accepted_words()
     ensures begins { (words : List Text) → ¬ Refuses words → IsNamed words }
     ensures one { (words : List Text) (a b : Task) → Asks a words → Asks b words → a ≡ b }
     ensures some { (words : List Text) → ¬ Refuses words → (task : Task) × Asks task words }
-    ensures stream { Asks (Task.Stream Order.Threads) (codes "stream" ∷ []) × (fault_of command_line (codes "stream" ∷ []) ≡ []) }
+    ensures stream { Asks (Task.Stream Order.Threads Form.One) (codes "stream" ∷ []) × (¬ Refuses (codes "stream" ∷ [])) }
     ensures no_more { fault_of command_line (codes "stream" ∷ codes "--" ∷ []) ≡ [] }
-    ensures seed { Asks (Task.Stream (Order.Lockstep 7)) (codes "stream" ∷ codes "--lockstep" ∷ codes "7" ∷ [])
-        × (fault_of command_line (codes "stream" ∷ codes "--lockstep" ∷ codes "7" ∷ []) ≡ []) }
-    ensures largest_seed { Asks (Task.Stream (Order.Lockstep 18446744073709551615)) (codes "stream" ∷ codes "--lockstep=18446744073709551615" ∷ [])
-        × (fault_of command_line (codes "stream" ∷ codes "--lockstep=18446744073709551615" ∷ []) ≡ []) }
-    ensures paced { Asks (Task.Stream Order.Paced) (codes "stream" ∷ codes "--paced" ∷ []) × (¬ Refuses (codes "stream" ∷ codes "--paced" ∷ [])) }
+    ensures seed { Asks (Task.Stream (Order.Lockstep 7) Form.One) (codes "stream" ∷ codes "--lockstep" ∷ codes "7" ∷ [])
+        × (¬ Refuses (codes "stream" ∷ codes "--lockstep" ∷ codes "7" ∷ [])) }
+    ensures largest_seed { Asks (Task.Stream (Order.Lockstep 18446744073709551615) Form.One) (codes "stream" ∷ codes "--lockstep=18446744073709551615" ∷ [])
+        × (¬ Refuses (codes "stream" ∷ codes "--lockstep=18446744073709551615" ∷ [])) }
+    ensures paced { Asks (Task.Stream Order.Paced Form.One) (codes "stream" ∷ codes "--paced" ∷ []) × (¬ Refuses (codes "stream" ∷ codes "--paced" ∷ [])) }
+    ensures compact { Asks (Task.Stream Order.Threads Form.Two) (codes "stream" ∷ codes "--compact" ∷ []) × (¬ Refuses (codes "stream" ∷ codes "--compact" ∷ [])) }
+    ensures compact_by_seed { Asks (Task.Stream (Order.Lockstep 7) Form.Two) (codes "stream" ∷ codes "--compact" ∷ codes "--lockstep" ∷ codes "7" ∷ [])
+        × (¬ Refuses (codes "stream" ∷ codes "--compact" ∷ codes "--lockstep" ∷ codes "7" ∷ [])) }
+    ensures seed_and_compact { Asks (Task.Stream (Order.Lockstep 7) Form.Two) (codes "stream" ∷ codes "--lockstep=7" ∷ codes "--compact" ∷ [])
+        × (¬ Refuses (codes "stream" ∷ codes "--lockstep=7" ∷ codes "--compact" ∷ [])) }
+    ensures compact_and_paced { Asks (Task.Stream Order.Paced Form.Two) (codes "stream" ∷ codes "--compact" ∷ codes "--paced" ∷ [])
+        × (¬ Refuses (codes "stream" ∷ codes "--compact" ∷ codes "--paced" ∷ [])) }
     ensures paced_by_seed { Refuses (codes "stream" ∷ codes "--paced" ∷ codes "--lockstep=7" ∷ []) }
     ensures seed_and_paced { Refuses (codes "stream" ∷ codes "--lockstep=7" ∷ codes "--paced" ∷ []) }
     ensures seed_too_large { fault_of command_line (codes "stream" ∷ codes "--lockstep" ∷ codes "18446744073709551616" ∷ []) ≡ ErrorKind.ValueValidation ∷ [] }
     ensures no_seed { fault_of command_line (codes "stream" ∷ codes "--lockstep" ∷ []) ≡ ErrorKind.InvalidValue ∷ [] }
+    ensures two_paces { fault_of command_line (codes "stream" ∷ codes "--paced" ∷ codes "--paced" ∷ []) ≡ ErrorKind.ArgumentConflict ∷ [] }
+    ensures twice_compact { fault_of command_line (codes "stream" ∷ codes "--compact" ∷ codes "--compact" ∷ []) ≡ ErrorKind.ArgumentConflict ∷ [] }
+    ensures compact_is_no_seed { fault_of command_line (codes "stream" ∷ codes "--lockstep" ∷ codes "--compact" ∷ []) ≡ ErrorKind.InvalidValue ∷ [] }
+    ensures compact_has_no_value { fault_of command_line (codes "stream" ∷ codes "--compact=2" ∷ []) ≡ ErrorKind.TooManyValues ∷ [] }
+    ensures compact_demo { fault_of command_line (codes "demo" ∷ codes "3" ∷ codes "--compact" ∷ []) ≡ ErrorKind.UnknownArgument ∷ [] }
     ensures two_seeds { fault_of command_line (codes "stream" ∷ codes "--lockstep=1" ∷ codes "--lockstep=2" ∷ []) ≡ ErrorKind.ArgumentConflict ∷ [] }
     ensures moves { Asks (Task.Demo 3) (codes "demo" ∷ codes "3" ∷ []) × (fault_of command_line (codes "demo" ∷ codes "3" ∷ []) ≡ []) }
     ensures most_moves { Asks (Task.Demo 100000) (codes "demo" ∷ codes "100000" ∷ []) × (fault_of command_line (codes "demo" ∷ codes "100000" ∷ []) ≡ []) }

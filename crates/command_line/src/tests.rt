@@ -1,12 +1,16 @@
 //! Words, and what they ask for.
 
 use super::{Order, Task, WordsFault, read_words};
+use step_record::Form;
 
 #[test]
 fn words_ask_for_a_task_or_are_refused(rt: HostRuntime) {
-    let stream = Ok(Task::Stream(Order::Threads));
+    let stream = Ok(Task::Stream(Order::Threads, Form::One));
+    let paced = Ok(Task::Stream(Order::Paced, Form::One));
+    let compact = Ok(Task::Stream(Order::Threads, Form::Two));
+    let seven = Ok(Task::Stream(Order::Lockstep(7), Form::Two));
     let refused = Err(WordsFault::Refused);
-    let rows: [(&[&str], Result<Task, WordsFault>); 37] = [
+    let rows: [(&[&str], Result<Task, WordsFault>); 52] = [
         (&[], refused),
         (&["stream"], stream),
         (&["stream", "--"], stream),
@@ -15,15 +19,15 @@ fn words_ask_for_a_task_or_are_refused(rt: HostRuntime) {
         (&["stream", "--help"], refused),
         (
             &["stream", "--lockstep", "0"],
-            Ok(Task::Stream(Order::Lockstep(0))),
+            Ok(Task::Stream(Order::Lockstep(0), Form::One)),
         ),
         (
             &["stream", "--lockstep=+7"],
-            Ok(Task::Stream(Order::Lockstep(7))),
+            Ok(Task::Stream(Order::Lockstep(7), Form::One)),
         ),
         (
             &["stream", "--lockstep", "18446744073709551615", "--"],
-            Ok(Task::Stream(Order::Lockstep(u64::MAX))),
+            Ok(Task::Stream(Order::Lockstep(u64::MAX), Form::One)),
         ),
         (&["stream", "--lockstep", "18446744073709551616"], refused),
         (&["stream", "--lockstep", "-1"], refused),
@@ -32,13 +36,34 @@ fn words_ask_for_a_task_or_are_refused(rt: HostRuntime) {
         (&["stream", "--lockstep"], refused),
         (&["stream", "--lockstep=1", "--lockstep=1"], refused),
         (&["--lockstep", "1", "stream"], refused),
-        (&["stream", "--paced"], Ok(Task::Stream(Order::Paced))),
-        (&["stream", "--paced", "--"], refused),
+        (&["stream", "--paced"], paced),
+        (&["stream", "--paced", "--"], paced),
         (&["stream", "--paced", "--paced"], refused),
         (&["stream", "--paced", "--lockstep", "1"], refused),
         (&["stream", "--lockstep=1", "--paced"], refused),
         (&["--paced"], refused),
         (&["demo", "--paced"], refused),
+        (&["stream", "--compact"], compact),
+        (&["stream", "--compact", "--"], compact),
+        (&["stream", "--", "--compact"], refused),
+        (&["stream", "--compact", "--compact"], refused),
+        (&["stream", "--compact=2"], refused),
+        (&["stream", "--compac"], refused),
+        (&["stream", "--compact", "2"], refused),
+        (&["stream", "--compact", "--lockstep", "7"], seven),
+        (&["stream", "--lockstep=7", "--compact"], seven),
+        (&["stream", "--lockstep", "--compact", "7"], refused),
+        (
+            &["stream", "--paced", "--compact"],
+            Ok(Task::Stream(Order::Paced, Form::Two)),
+        ),
+        (
+            &["stream", "--compact", "--paced"],
+            Ok(Task::Stream(Order::Paced, Form::Two)),
+        ),
+        (&["stream", "--compact", "--paced", "--lockstep=7"], refused),
+        (&["--compact", "stream"], refused),
+        (&["demo", "3", "--compact"], refused),
         (&["demo", "1"], Ok(Task::Demo(1))),
         (&["demo", "--", "100000"], Ok(Task::Demo(100_000))),
         (&["demo", "0"], refused),

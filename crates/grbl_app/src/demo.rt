@@ -11,6 +11,7 @@ use run_law::RunEnd;
 use run_status::{Status, status_of};
 use std::alloc::Global;
 use std::sync::Wait;
+use step_record::Form;
 
 /// Runs the generated job of so many moves in lockstep, with that number as the seed. What its lines are answered is not shown:
 /// the console takes one line on the run. The steps take those of the job. Where there is no room, neither is touched.
@@ -27,7 +28,15 @@ pub(crate) fn run_demo<R: Wait, Co: Sink, St: Sink>(
     ensures untouched { OnErr result ((console.new ≡ console.old) × (steps.new ≡ steps.old)) }
 {
     let mut job = DemoJob::new(moves);
-    let end = run_in_lockstep(rt, alloc, moves as u64, &mut job, &mut NoConsole, steps)?;
+    let end = run_in_lockstep(
+        rt,
+        alloc,
+        Form::One,
+        moves as u64,
+        &mut job,
+        &mut NoConsole,
+        steps,
+    )?;
     let answers = Answers {
         ok: end.answered.saturating_sub(end.errors),
         error: end.errors,

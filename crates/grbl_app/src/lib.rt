@@ -26,9 +26,10 @@ use runs::run_job;
 use std::alloc::Global;
 use std::sync::Wait;
 use std::thread::Threads;
+use step_record::Form;
 
-/// Streams a job: in lockstep where a seed gives the order of the turns, at a pace, or in four threads. Where there is no room, no
-/// device is touched.
+/// Streams a job, with steps of a form: in lockstep where a seed gives the order of the turns, at a pace, or in four threads. Where
+/// there is no room, no device is touched.
 fn stream<
     R: Threads + Wait + Sync,
     So: Source + Send,
@@ -39,24 +40,25 @@ fn stream<
     rt: &R,
     alloc: Global,
     order: Order,
+    form: Form,
     job: &mut So,
     console: &mut Co,
     steps: &mut St,
     gate: &G,
 ) -> Result<Status, OutOfMemory>
-    ensures run { IfOk result (λ status. EndsWith (So.state job.old) (So.state job.new)
+    ensures run { IfOk result (λ status. EndsWith form (So.state job.old) (So.state job.new)
         (record { console = Co.state console.old; steps = St.state steps.old })
         (record { console = Co.state console.new; steps = St.state steps.new }) status) }
-    ensures causes { IfOk result (λ status. HasCauses (So.state job.old) (So.state job.new)
+    ensures causes { IfOk result (λ status. HasCauses form (So.state job.old) (So.state job.new)
         (record { console = Co.state console.old; steps = St.state steps.old })
         (record { console = Co.state console.new; steps = St.state steps.new }) status) }
-    ensures its_cause { IfOk result (λ status. HasItsCause (So.state job.old) (So.state job.new)
+    ensures its_cause { IfOk result (λ status. HasItsCause form (So.state job.old) (So.state job.new)
         (record { console = Co.state console.old; steps = St.state steps.old })
         (record { console = Co.state console.new; steps = St.state steps.new }) status) }
-    ensures order { IfOk result (λ status. EndsInOrder order (devices (So.state job.old) (Co.state console.old) (St.state steps.old)) (devices (So.state job.new) (Co.state console.new) (St.state steps.new)) status) }
+    ensures order { IfOk result (λ status. EndsInOrder form order (devices (So.state job.old) (Co.state console.old) (St.state steps.old)) (devices (So.state job.new) (Co.state console.new) (St.state steps.new)) status) }
     ensures untouched { OnErr result ((job.new ≡ job.old) × (console.new ≡ console.old) × (steps.new ≡ steps.old)) }
 {
-    let end = run_job(rt, alloc, order, job, console, steps, gate)?;
+    let end = run_job(rt, alloc, order, form, job, console, steps, gate)?;
     Ok(status_of(&end))
 }
 
@@ -69,7 +71,8 @@ fn stream<
 /// to its end. Each of the four actors has a thread of its own, and passes the gate before each turn. Where a thread can't be
 /// started, its actor goes before or behind another one, and such a run may wait for ever. With `--lockstep SEED` the four
 /// take turns on this thread, in an order that the seed gives, and pass no gate. With `--paced` they do so too, the host and the
-/// board first, and the motion where these two wait, so that its plan is kept full.
+/// board first, and the motion where these two wait, so that its plan is kept full. With `--compact` the steps are in form 2, in
+/// which equal events that stand together are one line; else, as for `demo`, each record has its line.
 ///
 /// `demo N`: the generated job of N moves is run in lockstep, with N as the seed. The console takes one line on the run, and the
 /// job is left as it is.
@@ -98,27 +101,27 @@ pub fn run_grbl<
 
     // A fault comes only where its device's count of faults rose, and the job is cut only where it is too large, a line is
     // too long, or a reset stands in it.
-    ensures source_fault { (seed : _) → Asks (tasks.Stream seed) (map (λ w. w.now) words.now) → result ≡ Status.SourceFault → Rose (So.state job.old).faults (So.state job.new).faults }
+    ensures source_fault { (order : _) (form : _) → Asks (tasks.Stream order form) (map (λ w. w.now) words.now) → result ≡ Status.SourceFault → Rose (So.state job.old).faults (So.state job.new).faults }
     ensures console_fault { result ≡ Status.ConsoleFault → Rose (Co.state console.old).faults (Co.state console.new).faults }
     ensures steps_fault { result ≡ Status.StepsFault → Rose (St.state steps.old).faults (St.state steps.new).faults }
-    ensures too_large { (seed : _) → Asks (tasks.Stream seed) (map (λ w. w.now) words.now) → result ≡ Status.TooLarge → TookMore (So.state job.old) (So.state job.new) }
-    ensures reset { (seed : _) → Asks (tasks.Stream seed) (map (λ w. w.now) words.now) → result ≡ Status.Reset → HasReset (So.state job.old) (So.state job.new) }
-    ensures long_line { (seed : _) (k : ℕ) → Asks (tasks.Stream seed) (map (λ w. w.now) words.now) → result ≡ Status.LongLine k → HasLongLine (So.state job.old) (So.state job.new) k }
+    ensures too_large { (order : _) (form : _) → Asks (tasks.Stream order form) (map (λ w. w.now) words.now) → result ≡ Status.TooLarge → TookMore (So.state job.old) (So.state job.new) }
+    ensures reset { (order : _) (form : _) → Asks (tasks.Stream order form) (map (λ w. w.now) words.now) → result ≡ Status.Reset → HasReset (So.state job.old) (So.state job.new) }
+    ensures long_line { (order : _) (form : _) (k : ℕ) → Asks (tasks.Stream order form) (map (λ w. w.now) words.now) → result ≡ Status.LongLine k → HasLongLine (So.state job.old) (So.state job.new) k }
 
     // An alarm comes only of a line beyond a soft limit. What the lines before it tell, and the alarm, is on the console, and the
     // first of their events are recorded, in order and each once.
-    ensures alarm { (seed : _) (k : ℕ) → Asks (tasks.Stream seed) (map (λ w. w.now) words.now) → result ≡ Status.Alarm k → IsAlarmedRun (So.state job.old) (So.state job.new)
+    ensures alarm { (order : _) (form : _) (k : ℕ) → Asks (tasks.Stream order form) (map (λ w. w.now) words.now) → result ≡ Status.Alarm k → IsAlarmedRun form (So.state job.old) (So.state job.new)
         (record { console = Co.state console.old; steps = St.state steps.old })
         (record { console = Co.state console.new; steps = St.state steps.new }) k }
 
     // A run ends with the first status of the table whose cause there is, and with no other. Words that are refused end with
     // Usage, or, as any words may, with OutOfMemory.
-    ensures its_cause { (seed : _) → Asks (tasks.Stream seed) (map (λ w. w.now) words.now) → JobWasRun result → HasItsCause (So.state job.old) (So.state job.new)
+    ensures its_cause { (order : _) (form : _) → Asks (tasks.Stream order form) (map (λ w. w.now) words.now) → JobWasRun result → HasItsCause form (So.state job.old) (So.state job.new)
         (record { console = Co.state console.old; steps = St.state steps.old })
         (record { console = Co.state console.new; steps = St.state steps.new }) result }
-    ensures no_other { (seed : _) (bytes : List ℕ) (status : Status) → Asks (tasks.Stream seed) (map (λ w. w.now) words.now) → JobWasRun result → (So.state job.old).left ≡ Some bytes →
+    ensures no_other { (order : _) (form : _) (bytes : List ℕ) (status : Status) → Asks (tasks.Stream order form) (map (λ w. w.now) words.now) → JobWasRun result → (So.state job.old).left ≡ Some bytes →
         CanFail (So.state job.old) (record { console = Co.state console.old; steps = St.state steps.old }) →
-        HasItsCause (So.state job.old) (So.state job.new)
+        HasItsCause form (So.state job.old) (So.state job.new)
         (record { console = Co.state console.old; steps = St.state steps.old })
         (record { console = Co.state console.new; steps = St.state steps.new }) status → AreOne result status }
     ensures first_fault { JobWasRun result → CanFail (So.state job.old) (record { console = Co.state console.old; steps = St.state steps.old }) →
@@ -129,12 +132,12 @@ pub fn run_grbl<
     // For every job and every interleaving of the threads' atomic steps, the recorded step events are, in order and each once,
     // a prefix of the Bresenham events of the lines answered `ok`, and all of them where no reset, alarm or record fault occurs;
     // a jog cancel keeps a prefix of the jogs and later moves start there; holds, resumes and overrides change no event.
-    ensures run { (seed : _) → Asks (tasks.Stream seed) (map (λ w. w.now) words.now) → JobWasRun result → EndsWith (So.state job.old) (So.state job.new)
+    ensures run { (order : _) (form : _) → Asks (tasks.Stream order form) (map (λ w. w.now) words.now) → JobWasRun result → EndsWith form (So.state job.old) (So.state job.new)
         (record { console = Co.state console.old; steps = St.state steps.old })
         (record { console = Co.state console.new; steps = St.state steps.new }) result }
 
     // The recorded events are, in order and each once, those of the lines answered `ok`.
-    ensures whole_run { (seed : _) → Asks (tasks.Stream seed) (map (λ w. w.now) words.now) → IsWhole result → IsWholeRun (So.state job.old) (So.state job.new)
+    ensures whole_run { (order : _) (form : _) → Asks (tasks.Stream order form) (map (λ w. w.now) words.now) → IsWhole result → IsWholeRun form (So.state job.old) (So.state job.new)
         (record { console = Co.state console.old; steps = St.state steps.old })
         (record { console = Co.state console.new; steps = St.state steps.new }) result }
 
@@ -144,15 +147,15 @@ pub fn run_grbl<
         (record { console = Co.state console.new; steps = St.state steps.new }) }
 
     // A job whose lines are all accepted is done, where no device fails.
-    ensures complete { (seed : _) → Asks (tasks.Stream seed) (map (λ w. w.now) words.now) → ¬ Refuses (map (λ w. w.now) words.now) → IsAcceptedJob (So.state job.old) →
+    ensures complete { (order : _) (form : _) → Asks (tasks.Stream order form) (map (λ w. w.now) words.now) → ¬ Refuses (map (λ w. w.now) words.now) → IsAcceptedJob (So.state job.old) →
         ¬ Rose (So.state job.old).faults (So.state job.new).faults →
         ¬ Rose (Co.state console.old).faults (Co.state console.new).faults →
         ¬ Rose (St.state steps.old).faults (St.state steps.new).faults →
         (result ≡ Status.Done) ⊎ (result ≡ Status.OutOfMemory) }
 
-    // The turns are those of the order that the words name: of the seed, or at a pace.
-    ensures order { (order : _) → Asks (tasks.Stream order) (map (λ w. w.now) words.now) → JobWasRun result →
-        EndsInOrder order (devices (So.state job.old) (Co.state console.old) (St.state steps.old)) (devices (So.state job.new) (Co.state console.new) (St.state steps.new)) result }
+    // The turns are those of the order that the words name, of the seed or at a pace, and the steps are of their form.
+    ensures order { (order : _) (form : _) → Asks (tasks.Stream order form) (map (λ w. w.now) words.now) → JobWasRun result →
+        EndsInOrder form order (devices (So.state job.old) (Co.state console.old) (St.state steps.old)) (devices (So.state job.new) (Co.state console.new) (St.state steps.new)) result }
 
     // The demo runs the generated job, all of whose lines are accepted, in the order of its number, and leaves the source as it
     // is.
@@ -167,10 +170,12 @@ pub fn run_grbl<
         Err(WordsFault::OutOfMemory) => return Status::OutOfMemory,
     };
     match task {
-        Task::Stream(order) => match stream(rt, alloc, order, job, console, steps, gate) {
-            Ok(status) => status,
-            Err(OutOfMemory) => Status::OutOfMemory,
-        },
+        Task::Stream(order, form) => {
+            match stream(rt, alloc, order, form, job, console, steps, gate) {
+                Ok(status) => status,
+                Err(OutOfMemory) => Status::OutOfMemory,
+            }
+        }
         Task::Demo(moves) => match run_demo(rt, alloc, moves, console, steps) {
             Ok(status) => status,
             Err(OutOfMemory) => Status::OutOfMemory,

@@ -111,7 +111,10 @@ pub fn put_fault(s: &Status, out: &mut Text)
     match s {
         Status::Done => {}
         Status::LineErrors(count) => put_numbered(b"", *count, b" lines refused\n", out),
-        Status::Usage => append(b"usage: grbl stream [--lockstep SEED] | grbl demo N\n", out),
+        Status::Usage => append(
+            b"usage: grbl stream [--lockstep SEED | --paced] [--compact] | grbl demo N\n",
+            out,
+        ),
         Status::SourceFault => append(b"fault: the job could not be read\n", out),
         Status::ConsoleFault => append(b"fault: the console could not be written\n", out),
         Status::StepsFault => append(b"fault: the steps could not be written\n", out),

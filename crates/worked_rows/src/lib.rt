@@ -4,6 +4,8 @@
 #[cfg(test)]
 mod cancels;
 #[cfg(test)]
+mod compact;
+#[cfg(test)]
 mod demos;
 #[cfg(test)]
 mod dialect;

@@ -1,4 +1,4 @@
-use Rattle.std.proofs.Common.{refl, arith}
+use Rattle.std.proofs.Common.{refl, arith, inl, inr}
 use Rattle.clap.proofs.OnLiterals.{clap_on_literals}
 use Rattle.command_line.proofs.CommandLine.{begins}
 use Rattle.command_line.proofs.Numbers.{one_task, some_asked}
@@ -15,19 +15,55 @@ returns-clause-some c = some_asked
 
 pub returns-clause-paced : goal.returns-clause-paced
 unfolding clap_on_literals
-returns-clause-paced c = ((refl, refl), λ refused. absurd (cc))
+returns-clause-paced c = ((refl, refl, refl), λ refused. elim refused [ inl fault ↦ fault refl | inr two ↦ cc ])
+
+pub returns-clause-compact : goal.returns-clause-compact
+unfolding clap_on_literals
+returns-clause-compact c = ((refl, refl, refl), λ refused. elim refused [ inl fault ↦ fault refl | inr two ↦ cc ])
+
+pub returns-clause-compact_by_seed : goal.returns-clause-compact_by_seed
+unfolding clap_on_literals
+returns-clause-compact_by_seed c = ((refl, refl, refl), λ refused. elim refused [ inl fault ↦ fault refl | inr two ↦ cc ])
+
+pub returns-clause-seed_and_compact : goal.returns-clause-seed_and_compact
+unfolding clap_on_literals
+returns-clause-seed_and_compact c = ((refl, refl, refl), λ refused. elim refused [ inl fault ↦ fault refl | inr two ↦ cc ])
+
+pub returns-clause-compact_and_paced : goal.returns-clause-compact_and_paced
+unfolding clap_on_literals
+returns-clause-compact_and_paced c = ((refl, refl, refl), λ refused. elim refused [ inl fault ↦ fault refl | inr two ↦ cc ])
 
 pub returns-clause-paced_by_seed : goal.returns-clause-paced_by_seed
 unfolding clap_on_literals
-returns-clause-paced_by_seed c = (refl, λ none. cc)
+returns-clause-paced_by_seed c = inr (refl, refl)
 
 pub returns-clause-seed_and_paced : goal.returns-clause-seed_and_paced
 unfolding clap_on_literals
-returns-clause-seed_and_paced c = (refl, λ none. cc)
+returns-clause-seed_and_paced c = inr (refl, refl)
+
+pub returns-clause-two_paces : goal.returns-clause-two_paces
+unfolding clap_on_literals
+returns-clause-two_paces c = refl
+
+pub returns-clause-twice_compact : goal.returns-clause-twice_compact
+unfolding clap_on_literals
+returns-clause-twice_compact c = refl
+
+pub returns-clause-compact_is_no_seed : goal.returns-clause-compact_is_no_seed
+unfolding clap_on_literals
+returns-clause-compact_is_no_seed c = refl
+
+pub returns-clause-compact_has_no_value : goal.returns-clause-compact_has_no_value
+unfolding clap_on_literals
+returns-clause-compact_has_no_value c = refl
+
+pub returns-clause-compact_demo : goal.returns-clause-compact_demo
+unfolding clap_on_literals
+returns-clause-compact_demo c = refl
 
 pub returns-clause-stream : goal.returns-clause-stream
 unfolding clap_on_literals
-returns-clause-stream c = ((refl, refl), refl)
+returns-clause-stream c = ((refl, refl, refl), λ refused. elim refused [ inl fault ↦ fault refl | inr two ↦ cc ])
 
 pub returns-clause-no_more : goal.returns-clause-no_more
 unfolding clap_on_literals
@@ -35,11 +71,11 @@ returns-clause-no_more c = refl
 
 pub returns-clause-seed : goal.returns-clause-seed
 unfolding clap_on_literals
-returns-clause-seed c = ((refl, refl), refl)
+returns-clause-seed c = ((refl, refl, refl), λ refused. elim refused [ inl fault ↦ fault refl | inr two ↦ cc ])
 
 pub returns-clause-largest_seed : goal.returns-clause-largest_seed
 unfolding clap_on_literals
-returns-clause-largest_seed c = ((refl, refl), refl)
+returns-clause-largest_seed c = ((refl, refl, refl), λ refused. elim refused [ inl fault ↦ fault refl | inr two ↦ cc ])
 
 pub returns-clause-seed_too_large : goal.returns-clause-seed_too_large
 unfolding clap_on_literals

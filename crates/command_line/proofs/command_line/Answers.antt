@@ -1,7 +1,7 @@
-use Rattle.std.proofs.Common.{rules, ◌≡◌, ◌∙◌, ap, ap₂, refl}
+use Rattle.std.proofs.Common.{rules, ◌≡◌, ◌∙◌, ap, ap₂}
 use Rattle.std.proofs.lemmas.Result.{IfOk-weaker}
 use Rattle.clap.specs.Simple.{App, app_of, with_subcommand}
-use Rattle.command_line.specs.Command.{command_line, stream_command, demo_command, grbl}
+use Rattle.command_line.specs.Command.{stream_command, demo_command, grbl}
 use Rattle.command_line.proofs.command_line.Goals as goal
 
 pub returns : goal.returns

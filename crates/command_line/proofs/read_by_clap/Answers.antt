@@ -1,4 +1,4 @@
-use Rattle.std.proofs.Common.{◌≡◌, ◌∙◌, ◌≤◌, ℕ, Bool, true, false, List, Option, Some, None, sym, ap, subst, inl, inr, map, codes}
+use Rattle.std.proofs.Common.{rules, Err, ◌≡◌, ◌∙◌, ◌≤◌, ℕ, Bool, true, false, List, Option, Some, None, sym, ap, ap₂, subst, inl, inr, map, codes}
 use Rattle.std.specs.Prelude.{option_map, unwrap_or, IsSomeAnd}
 use Rattle.std.specs.Str.Parse.{ParsesUnsigned, ExplainsUnsignedError, HasUnsignedDigitsIfOk}
 use Rattle.std.specs.Str.{bytes_eq}
@@ -6,9 +6,10 @@ use Rattle.clap.specs.Lexer.{without_minus}
 use Rattle.clap.specs.Matches.{found_of}
 use Rattle.clap.specs.Walk.{Row, Text, one_of, rows_of}
 use Rattle.clap.proofs.WalkLemmas.{one_text-rows}
-use Rattle.command_line.specs.Command.{is_paced, number_of, order_by}
+use Rattle.command_line.specs.declared.WordsFault.TheVariants.{Refused}
+use Rattle.command_line.specs.Command.{form_by, has_flag, number_of, order_by, order_in}
 use Rattle.command_line.proofs.CommandLine.{enters}
-use Rattle.command_line.proofs.Numbers.{moves_read, named_rows, parsed, seed_read, some_task}
+use Rattle.command_line.proofs.Numbers.{has_entered, moves_read, moves_text, named_rows, seed_read, some_task}
 use Rattle.command_line.proofs.read_by_clap.Goals as goal
 
 not_named : (name : Text) (r : Bool) → r ≡ bytes_eq name (codes "stream") → r ≡ false → name ≡ codes "stream" → ⊥
@@ -21,16 +22,22 @@ is_named name r is found e =
     let differs : bytes_eq name (codes "stream") ≡ false = ap (λ (t : Text). bytes_eq t (codes "stream")) e in
     let both : true ≡ false = sym found ∙ is ∙ differs in cc
 
-pub returns-then-eq-clause-accepted : goal.returns-then-eq-clause-accepted
-returns-then-eq-clause-accepted c = λ ok refused. refused.1 (parsed _ _ c.in_ok-matches.matches c.in_ok-command_line.ensures c.in_ok-matches.ensures.kinds c.in_ok-matches.ensures.matches).0
+pub returns-in_err-matches-clause-refused : goal.returns-in_err-matches-clause-refused
+returns-in_err-matches-clause-refused c = λ e.
+    let faulted : c.matches_of.result ≡ Err Refused = search rules in
+    inl (c.matches_of.ensures.faulty faulted)
 
-pub returns-clause-accepted : goal.returns-clause-accepted
-returns-clause-accepted c = λ ok refused. refused.1 (parsed _ _ c.in_ok-matches.matches c.in_ok-command_line.ensures c.in_ok-matches.ensures.kinds c.in_ok-matches.ensures.matches).0
-
-pub returns-then-eq-clause-asked : goal.returns-then-eq-clause-asked
-returns-then-eq-clause-asked c =
+pub unreachable-requires : goal.unreachable-requires
+unreachable-requires c =
     let words = map (λ w. w.now) c.args.words.now in
-    let accepted = parsed _ words c.in_ok-matches.matches c.in_ok-command_line.ensures c.in_ok-matches.ensures.kinds c.in_ok-matches.ensures.matches in
+    let accepted = c.in_ok-matches.ensures.sound in
+    has_entered words (enters words accepted.0)
+    (ap (option_map (λ p. rows_of (found_of p.1.now))) (sym c.in_default.is) ∙ c.subcommand.ensures.rows ∙ ap (option_map (λ (p : Text × List Row). p.1)) accepted.1)
+
+pub returns-in_default-order_of-clause-refused : goal.returns-in_default-order_of-clause-refused
+returns-in_default-order_of-clause-refused c = λ e.
+    let words = map (λ w. w.now) c.args.words.now in
+    let accepted = c.in_ok-matches.ensures.sound in
     let rows = rows_of (found_of c.in-Some.given.now) in
     let is = named_rows words c.in_ok-matches.matches c.in-Some.name.now rows accepted.1
     (ap (option_map (λ p. p.0.now)) (sym c.in-Some.is) ∙ c.subcommand.ensures.name)
@@ -40,27 +47,87 @@ returns-then-eq-clause-asked c =
       | inl stream ↦
           let seed = seed_read _ (λ bs r. ParsesUnsigned 64 10 bs r × ExplainsUnsignedError 10 bs r × HasUnsignedDigitsIfOk bs r) (λ u x g. g.0) rows stream.1 c.get_one.result
           (λ none. c.get_one.ensures.none (seed_text ∙ none)) (λ t one. c.get_one.ensures.value t (seed_text ∙ one)) in
-          let order : c.order_of.result ≡ order_by (is_paced words) (option_map number_of (one_of (codes "seed") rows)) =
-          c.order_of.ensures ∙ ap (order_by false) seed ∙ ap (λ (b : Bool). order_by b (option_map number_of (one_of (codes "seed") rows))) (sym c.requires.unpaced) in
-          subst (λ (o : Option (Text × List Row)). IsSomeAnd o (λ s. (s.0 ≡ codes "stream") × (c.order_of.result ≡ order_by (is_paced words) (option_map number_of (one_of (codes "seed") s.1))))) (sym is) (stream.0, order)
+          let order : c.order_of.result ≡ order_in rows =
+          c.order_of.ensures ∙ ap₂ order_by c.has_flag.ensures seed in
+          inr (subst (λ (o : Option (Text × List Row)). IsSomeAnd o (λ s. (s.0 ≡ codes "stream") × (order_in s.1 ≡ None))) (sym is) (stream.0, sym order ∙ c.in_default-order_of.is))
       | inr demo ↦ absurd (is_named c.in-Some.name.now c.eq.result c.eq.ensures c.if-eq.true demo.0)
+    ]
+
+pub returns-then-eq-clause-accepted : goal.returns-then-eq-clause-accepted
+returns-then-eq-clause-accepted c = λ ok refused.
+    let words = map (λ w. w.now) c.args.words.now in
+    let accepted = c.in_ok-matches.ensures.sound in
+    let rows = rows_of (found_of c.in-Some.given.now) in
+    let is = named_rows words c.in_ok-matches.matches c.in-Some.name.now rows accepted.1
+    (ap (option_map (λ p. p.0.now)) (sym c.in-Some.is) ∙ c.subcommand.ensures.name)
+    (ap (option_map (λ p. rows_of (found_of p.1.now))) (sym c.in-Some.is) ∙ c.subcommand.ensures.rows) in
+    let seed_text = one_text-rows (found_of c.in-Some.given.now) (codes "seed") in
+    elim (some_task words c.in-Some.name.now rows (enters words accepted.0) is) [
+      | inl stream ↦
+          let seed = seed_read _ (λ bs r. ParsesUnsigned 64 10 bs r × ExplainsUnsignedError 10 bs r × HasUnsignedDigitsIfOk bs r) (λ u x g. g.0) rows stream.1 c.get_one.result
+          (λ none. c.get_one.ensures.none (seed_text ∙ none)) (λ t one. c.get_one.ensures.value t (seed_text ∙ one)) in
+          let order : c.order_of.result ≡ order_in rows =
+          c.order_of.ensures ∙ ap₂ order_by c.has_flag.ensures seed in
+          elim refused [
+            | inl fault ↦ fault accepted.0
+            | inr two ↦
+                let both = subst (λ (o : Option (Text × List Row)). IsSomeAnd o (λ s. (s.0 ≡ codes "stream") × (order_in s.1 ≡ None))) is two in
+                let one = sym both.1 ∙ sym order ∙ c.in-Some-order_of.is in cc
+          ]
+      | inr demo ↦ absurd (is_named c.in-Some.name.now c.eq.result c.eq.ensures c.if-eq.true demo.0)
+    ]
+
+pub returns-then-eq-clause-asked : goal.returns-then-eq-clause-asked
+returns-then-eq-clause-asked c =
+    let words = map (λ w. w.now) c.args.words.now in
+    let accepted = c.in_ok-matches.ensures.sound in
+    let rows = rows_of (found_of c.in-Some.given.now) in
+    let is = named_rows words c.in_ok-matches.matches c.in-Some.name.now rows accepted.1
+    (ap (option_map (λ p. p.0.now)) (sym c.in-Some.is) ∙ c.subcommand.ensures.name)
+    (ap (option_map (λ p. rows_of (found_of p.1.now))) (sym c.in-Some.is) ∙ c.subcommand.ensures.rows) in
+    let seed_text = one_text-rows (found_of c.in-Some.given.now) (codes "seed") in
+    elim (some_task words c.in-Some.name.now rows (enters words accepted.0) is) [
+      | inl stream ↦
+          let seed = seed_read _ (λ bs r. ParsesUnsigned 64 10 bs r × ExplainsUnsignedError 10 bs r × HasUnsignedDigitsIfOk bs r) (λ u x g. g.0) rows stream.1 c.get_one.result
+          (λ none. c.get_one.ensures.none (seed_text ∙ none)) (λ t one. c.get_one.ensures.value t (seed_text ∙ one)) in
+          let order : c.order_of.result ≡ order_in rows =
+          c.order_of.ensures ∙ ap₂ order_by c.has_flag.ensures seed in
+          let form : c.form_of.result ≡ form_by (has_flag (codes "compact") rows) = c.form_of.ensures ∙ ap form_by c.has_flag-then-eq.ensures in
+          subst (λ (o : Option (Text × List Row)). IsSomeAnd o (λ s. (s.0 ≡ codes "stream") × (Some c.in-Some-order_of.order ≡ order_in s.1) × (c.form_of.result ≡ form_by (has_flag (codes "compact") s.1)))) (sym is)
+          (stream.0, sym c.in-Some-order_of.is ∙ order, form)
+      | inr demo ↦ absurd (is_named c.in-Some.name.now c.eq.result c.eq.ensures c.if-eq.true demo.0)
+    ]
+
+pub returns-clause-accepted : goal.returns-clause-accepted
+returns-clause-accepted c = λ ok refused.
+    let words = map (λ w. w.now) c.args.words.now in
+    let accepted = c.in_ok-matches.ensures.sound in
+    let rows = rows_of (found_of c.in-Some.given.now) in
+    let is = named_rows words c.in_ok-matches.matches c.in-Some.name.now rows accepted.1
+    (ap (option_map (λ p. p.0.now)) (sym c.in-Some.is) ∙ c.subcommand.ensures.name)
+    (ap (option_map (λ p. rows_of (found_of p.1.now))) (sym c.in-Some.is) ∙ c.subcommand.ensures.rows) in
+    elim refused [
+      | inl fault ↦ fault accepted.0
+      | inr two ↦
+          let both = subst (λ (o : Option (Text × List Row)). IsSomeAnd o (λ s. (s.0 ≡ codes "stream") × (order_in s.1 ≡ None))) is two in
+          not_named c.in-Some.name.now c.eq.result c.eq.ensures c.if-eq.false both.0
     ]
 
 pub returns-clause-asked : goal.returns-clause-asked
 returns-clause-asked c =
     let words = map (λ w. w.now) c.args.words.now in
-    let accepted = parsed _ words c.in_ok-matches.matches c.in_ok-command_line.ensures c.in_ok-matches.ensures.kinds c.in_ok-matches.ensures.matches in
+    let accepted = c.in_ok-matches.ensures.sound in
     let rows = rows_of (found_of c.in-Some.given.now) in
     let is = named_rows words c.in_ok-matches.matches c.in-Some.name.now rows accepted.1
     (ap (option_map (λ p. p.0.now)) (sym c.in-Some.is) ∙ c.subcommand.ensures.name)
     (ap (option_map (λ p. rows_of (found_of p.1.now))) (sym c.in-Some.is) ∙ c.subcommand.ensures.rows) in
-    let moves_text = one_text-rows (found_of c.in-Some.given.now) (codes "moves") in
+    let read_text = one_text-rows (found_of c.in-Some.given.now) (codes "moves") in
     elim (some_task words c.in-Some.name.now rows (enters words accepted.0) is) [
       | inl stream ↦ absurd (not_named c.in-Some.name.now c.eq.result c.eq.ensures c.if-eq.false stream.0)
       | inr demo ↦
-          let one : one_of (codes "moves") rows ≡ Some (without_minus demo.1) = ap (one_of (codes "moves")) demo.3 in
+          let one : one_of (codes "moves") rows ≡ Some (without_minus demo.1) = moves_text demo.1 rows demo.2 in
           let got = moves_read _ (λ bs r. ParsesUnsigned 32 10 bs r × ExplainsUnsignedError 10 bs r × HasUnsignedDigitsIfOk bs r) (λ u x g. g.0)
-          demo.1 demo.2 c.get_one-2.result (c.get_one-2.ensures.value (without_minus demo.1) (moves_text ∙ one)) in
+          demo.1 demo.2.0 c.get_one-2.result (c.get_one-2.ensures.value (without_minus demo.1) (read_text ∙ one)) in
           let same : Some got.0 ≡ Some c.in-Some-get_one.moves = sym got.1 ∙ c.in-Some-get_one.is in
           let number : got.0 ≡ c.in-Some-get_one.moves = ap (λ (o : Option ℕ). unwrap_or o 0) same in
           let moves : Some c.in-Some-get_one.moves ≡ option_map number_of (one_of (codes "moves") rows) =
@@ -72,18 +139,18 @@ returns-clause-asked c =
 pub unreachable-requires-in-None : goal.unreachable-requires-in-None
 unreachable-requires-in-None c =
     let words = map (λ w. w.now) c.args.words.now in
-    let accepted = parsed _ words c.in_ok-matches.matches c.in_ok-command_line.ensures c.in_ok-matches.ensures.kinds c.in_ok-matches.ensures.matches in
+    let accepted = c.in_ok-matches.ensures.sound in
     let rows = rows_of (found_of c.in-Some.given.now) in
     let is = named_rows words c.in_ok-matches.matches c.in-Some.name.now rows accepted.1
     (ap (option_map (λ p. p.0.now)) (sym c.in-Some.is) ∙ c.subcommand.ensures.name)
     (ap (option_map (λ p. rows_of (found_of p.1.now))) (sym c.in-Some.is) ∙ c.subcommand.ensures.rows) in
-    let moves_text = one_text-rows (found_of c.in-Some.given.now) (codes "moves") in
+    let read_text = one_text-rows (found_of c.in-Some.given.now) (codes "moves") in
     elim (some_task words c.in-Some.name.now rows (enters words accepted.0) is) [
       | inl stream ↦ absurd (not_named c.in-Some.name.now c.eq.result c.eq.ensures c.if-eq.false stream.0)
       | inr demo ↦
-          let one : one_of (codes "moves") rows ≡ Some (without_minus demo.1) = ap (one_of (codes "moves")) demo.3 in
+          let one : one_of (codes "moves") rows ≡ Some (without_minus demo.1) = moves_text demo.1 rows demo.2 in
           let got = moves_read _ (λ bs r. ParsesUnsigned 32 10 bs r × ExplainsUnsignedError 10 bs r × HasUnsignedDigitsIfOk bs r) (λ u x g. g.0)
-          demo.1 demo.2 c.get_one-2.result (c.get_one-2.ensures.value (without_minus demo.1) (moves_text ∙ one)) in
+          demo.1 demo.2.0 c.get_one-2.result (c.get_one-2.ensures.value (without_minus demo.1) (read_text ∙ one)) in
           let same : Some got.0 ≡ None = sym got.1 ∙ c.in-None.is in
           absurd (cc)
     ]
