@@ -18,11 +18,13 @@ from model.alike import alike_of, events_of
 from model.machine import LARGEST_JOB, Run, run_of
 from model.motion import TooLong, Wrong, heads_of
 from model.reports import Way, fault_in, fault_in_front, part
+from texts.steps import BadText, in_form_one, in_form_two
 
 PROGRAM = Path(__file__).resolve().parent.parent.parent / "crates/grbl/out/grbl"
 SECONDS = 10  # of processor time, on one thread
 ONE_THREAD = {"--lockstep", "--paced"}  # the words of such runs
 PACED_EVERY = 4  # each job of such a number by this is paced too
+COMPACT_IN = 4  # one job in so many is run with compact steps
 THREAD_SECONDS = 120  # the same of four threads, which take it while they wait too
 STACK_KILOBYTES = 1024  # of each of the four threads
 KILOBYTES = 14 * 1024  # less than the largest job has, for the code, the stacks and all else
@@ -90,9 +92,17 @@ def run_program(start_it, words, job, folder):
         return f"the program was ended by {signal.Signals(-status).name}"
     if not steps.exists():
         return f"the program ended with {status} and made no steps.out"
-    console, made, errors = ((folder / name).read_bytes().decode("latin-1") for name in ("console", "steps.out", "errors"))
-    console, reports = part(console)
-    return Run(status, console, made, errors, reports)
+    console, made, errors = ((folder / name).read_bytes() for name in ("console", "steps.out", "errors"))
+    if "--compact" in words:
+        try:
+            plain = in_form_one(made)
+        except BadText as fault:
+            return f"the compact steps can't be read: {fault}"
+        if in_form_two(plain) != made:
+            return "the compact steps are not those of their records"
+        made = plain
+    console, reports = part(console.decode("latin-1"))
+    return Run(status, console, made.decode("latin-1"), errors.decode("latin-1"), reports)
 
 
 # ---- comparing
@@ -149,7 +159,7 @@ def what_is_unlike(told, first):
 class Tally:
     """What was tried: jobs, and the lines, heads, reports and cuts of their runs; how many runs a reset ended, and how many of these
     were broken off before all was carried out; how many a soft limit ended, and in how many of these moves were dropped; how
-    many jobs were tried by more seeds; and the jobs that are left out, since the model would take too long."""
+    many jobs were tried by more seeds, and how many were run with compact steps; and the jobs that are left out, since the model would take too long."""
 
     jobs: int = 0
     lines: int = 0
@@ -161,6 +171,7 @@ class Tally:
     alarms: int = 0
     stopped: int = 0
     alike: int = 0
+    compact: int = 0
     left_out: int = 0
 
     def add(self, other):
@@ -169,7 +180,7 @@ class Tally:
 
     def __str__(self):
         rest = f"; {self.left_out} are left out, since they have too many steps" if self.left_out else ""
-        return (f"{self.jobs} jobs, each as a stream and in lockstep, one in {PACED_EVERY} paced too, {self.alike} of them by {SEEDS} more seeds, in all "
+        return (f"{self.jobs} jobs, each as a stream and in lockstep, one in {PACED_EVERY} paced too, {self.compact} of them with compact steps, {self.alike} by {SEEDS} more seeds, in all "
                 f"{self.lines} lines with {self.heads} heads and {self.reports} reports, {self.cuts} cuts of jogs, {self.resets} "
                 f"runs that a reset ended, {self.broken_off} of them early, and {self.alarms} that a soft limit ended, {self.stopped} of them before all was done{rest}")
 
@@ -202,9 +213,13 @@ class Trial:
         lockstep = ["--lockstep", str(chance.choice((number, chance.getrandbits(64))))]
         is_piped = len(job) < LARGEST_JOB // 2 and chance.random() < 0.5
         first = start_on_pipe if is_piped else start_on_file
+        is_compact = chance.randrange(COMPACT_IN) == 0
+        tally.compact += int(is_compact)
         tries = [(first, ["stream"]), (start_on_file, ["stream", *lockstep])]
         if number % PACED_EVERY == 0:
             tries.append((first, ["stream", "--paced"]))
+        if is_compact:
+            tries = [(start_it, chance.choice((["stream", "--compact", *words[1:]], [*words, "--compact"]))) for start_it, words in tries]
         for start_it, words in tries:
             told = run_program(start_it, words, job, folder)
             if isinstance(told, str):
