@@ -35,6 +35,7 @@ takes_word first c owes reset resetting word h k may is resets asks = record {
   owes_is = is;
   reset_is = resets;
   resetting_is = asks;
+  taken_is = k.taken_is;
   prompt = (record { further = λ e. refl; waits = k.unready }, k.prompt);
   unready = λ may. absurd (let e = may.between in cc);
   jogged_is = k.jogged_is;
@@ -61,6 +62,7 @@ obeys first c m word h k may runs = record {
   owes_is = k.owes_is;
   reset_is = k.reset_is;
   resetting_is = k.resetting_is;
+  taken_is = k.taken_is;
   prompt = (record { further = λ e. refl; waits = k.unready }, k.prompt);
   unready = λ may. absurd (let e = may.between in cc);
   jogged_is = k.jogged_is;
@@ -85,6 +87,7 @@ takes_changes first c word h k = record {
   owes_is = k.owes_is;
   reset_is = k.reset_is;
   resetting_is = k.resetting_is;
+  taken_is = k.taken_is;
   prompt = (record { further = λ e. refl; waits = k.unready }, k.prompt);
   unready = λ may. absurd (let e = may.between in cc);
   jogged_is = k.jogged_is;
@@ -114,6 +117,7 @@ changes first c m word h k some range runs = record {
   owes_is = k.owes_is;
   reset_is = k.reset_is;
   resetting_is = k.resetting_is;
+  taken_is = k.taken_is;
   prompt = (record { further = λ e. refl; waits = λ may. absurd (let e = may.between in cc) }, (record { further = λ e. refl; waits = k.unready }, k.prompt));
   unready = λ may. absurd (let e = may.between in cc);
   jogged_is = k.jogged_is;

@@ -68,6 +68,7 @@ sent first c m f p h k is timely runs flies = record {
   owes_is = k.owes_is;
   reset_is = k.reset_is;
   resetting_is = k.resetting_is;
+  taken_is = k.taken_is;
   prompt = (record { further = λ e. refl; waits = k.unready }, k.prompt);
   unready = λ may. absurd (let e = may.between in cc);
   jogged_is = k.jogged_is;
@@ -92,6 +93,7 @@ not_sent first c done h k some full = record {
   owes_is = k.owes_is;
   reset_is = k.reset_is;
   resetting_is = k.resetting_is;
+  taken_is = k.taken_is;
   prompt = (record { further = λ e. refl; waits = k.unready }, k.prompt);
   unready = λ may. absurd (let e = may.between in cc);
   jogged_is = k.jogged_is;
@@ -116,6 +118,7 @@ looked first c done h k may = record {
   owes_is = k.owes_is;
   reset_is = k.reset_is;
   resetting_is = k.resetting_is;
+  taken_is = k.taken_is;
   prompt = (record { further = λ e. refl; waits = k.unready }, k.prompt);
   unready = λ may. absurd (let e = may.between in cc);
   jogged_is = k.jogged_is;
@@ -168,6 +171,7 @@ told first c i r h k next plain unowed empty is = record {
   owes_is = k.owes_is;
   reset_is = k.reset_is;
   resetting_is = k.resetting_is;
+  taken_is = k.taken_is;
   prompt = (record { further = λ e. refl; waits = k.unready }, k.prompt);
   unready = λ may. absurd (let e = may.between in cc);
   jogged_is = k.jogged_is;
@@ -192,6 +196,7 @@ not_told first c h k next = record {
   owes_is = k.owes_is;
   reset_is = k.reset_is;
   resetting_is = k.resetting_is;
+  taken_is = k.taken_is;
   prompt = (record { further = λ e. refl; waits = k.unready }, k.prompt);
   unready = λ may. absurd (let e = may.between in cc);
   jogged_is = k.jogged_is;
@@ -216,6 +221,7 @@ report_told first c r h k may = record {
   owes_is = refl;
   reset_is = k.reset_is;
   resetting_is = k.resetting_is;
+  taken_is = k.taken_is;
   prompt = (record { further = λ e. refl; waits = k.unready }, k.prompt);
   unready = λ may. absurd (let e = may.between in cc);
   jogged_is = k.jogged_is;
@@ -244,6 +250,7 @@ report_kept first c h k owed = record {
   owes_is = sym owed;
   reset_is = k.reset_is;
   resetting_is = k.resetting_is;
+  taken_is = k.taken_is;
   prompt = (record { further = λ e. refl; waits = k.unready }, k.prompt);
   unready = λ may. absurd (let e = may.between in cc);
   jogged_is = k.jogged_is;
@@ -268,6 +275,7 @@ polled_empty first c h k may = record {
   owes_is = k.owes_is;
   reset_is = k.reset_is;
   resetting_is = k.resetting_is;
+  taken_is = k.taken_is;
   prompt = (record { further = λ e. refl; waits = k.unready }, k.prompt);
   unready = λ may. absurd (let e = may.between in cc);
   jogged_is = k.jogged_is;
@@ -292,6 +300,7 @@ polled_closed first c h k may = record {
   owes_is = k.owes_is;
   reset_is = k.reset_is;
   resetting_is = k.resetting_is;
+  taken_is = k.taken_is;
   prompt = (record { further = λ e. refl; waits = k.unready }, k.prompt);
   unready = λ may. absurd (let e = may.between in cc);
   jogged_is = k.jogged_is;
@@ -319,6 +328,7 @@ added_move first c m i mv h k next planned room runs is = record {
   owes_is = k.owes_is;
   reset_is = k.reset_is;
   resetting_is = k.resetting_is;
+  taken_is = k.taken_is;
   prompt = (record { further = λ e. refl; waits = k.unready }, k.prompt);
   unready = λ may. absurd (let e = may.between in cc);
   jogged_is = k.jogged_is;
@@ -362,6 +372,7 @@ took_segment first c m s h k moves empty next runs = record {
   owes_is = k.owes_is;
   reset_is = k.reset_is;
   resetting_is = k.resetting_is;
+  taken_is = k.taken_is;
   prompt = (record { further = λ e. refl; waits = k.unready }, k.prompt);
   unready = λ may. absurd (let e = may.between in cc);
   jogged_is = k.jogged_is;
@@ -399,6 +410,7 @@ marked first c m i mark h k next good empty rest runs is = record {
   owes_is = k.owes_is;
   reset_is = k.reset_is;
   resetting_is = k.resetting_is;
+  taken_is = k.taken_is;
   prompt = (record { further = λ e. refl; waits = k.unready }, k.prompt);
   unready = λ may. absurd (let e = may.between in cc);
   jogged_is = k.jogged_is;
@@ -424,6 +436,7 @@ rested first c i h k next drained stands is = record {
   owes_is = k.owes_is;
   reset_is = k.reset_is;
   resetting_is = k.resetting_is;
+  taken_is = k.taken_is;
   prompt = (record { further = λ e. refl; waits = k.unready }, k.prompt);
   unready = λ may. absurd (let e = may.between in cc);
   jogged_is = k.jogged_is;
@@ -450,6 +463,7 @@ evens first c m i h k next drained stands runs is = record {
   owes_is = k.owes_is;
   reset_is = k.reset_is;
   resetting_is = k.resetting_is;
+  taken_is = k.taken_is;
   prompt = (record { further = λ e. refl; waits = k.unready }, k.prompt);
   unready = λ may. absurd (let e = may.between in cc);
   jogged_is = k.jogged_is;
@@ -475,6 +489,7 @@ held_for_pause first c m i h k next drained stands runs is = record {
   owes_is = k.owes_is;
   reset_is = k.reset_is;
   resetting_is = k.resetting_is;
+  taken_is = k.taken_is;
   prompt = (record { further = λ e. refl; waits = k.unready }, k.prompt);
   unready = λ may. absurd (let e = may.between in cc);
   jogged_is = k.jogged_is;
@@ -501,6 +516,7 @@ ended first c m i h k next drained stands closes runs is = record {
   owes_is = k.owes_is;
   reset_is = k.reset_is;
   resetting_is = k.resetting_is;
+  taken_is = k.taken_is;
   prompt = (record { further = λ e. refl; waits = k.unready }, k.prompt);
   unready = λ may. absurd (let e = may.between in cc);
   jogged_is = k.jogged_is;
@@ -532,6 +548,7 @@ started first c m jog h k stands may runs = record {
   owes_is = k.owes_is;
   reset_is = k.reset_is;
   resetting_is = k.resetting_is;
+  taken_is = k.taken_is;
   prompt = (record { further = λ e. refl; waits = k.unready }, k.prompt);
   unready = λ may. absurd (let e = may.between in cc);
   jogged_is = k.jogged_is;
@@ -567,6 +584,7 @@ drained first c m h k was may runs = record {
   owes_is = k.owes_is;
   reset_is = k.reset_is;
   resetting_is = k.resetting_is;
+  taken_is = k.taken_is;
   prompt = (record { further = λ e. refl; waits = k.unready }, k.prompt);
   unready = λ may. absurd (let e = may.between in cc);
   jogged_is = k.jogged_is;

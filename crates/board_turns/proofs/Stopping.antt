@@ -60,6 +60,7 @@ stops first c m h k slows stopped runs = record {
   owes_is = k.owes_is;
   reset_is = k.reset_is;
   resetting_is = k.resetting_is;
+  taken_is = k.taken_is;
   prompt = (record { further = λ e. refl; waits = k.unready }, k.prompt);
   unready = λ may. absurd (let e = may.between in cc);
   jogged_is = k.jogged_is;
@@ -88,6 +89,7 @@ locks first c m h k slows stopped runs = record {
   owes_is = k.owes_is;
   reset_is = k.reset_is;
   resetting_is = k.resetting_is;
+  taken_is = k.taken_is;
   prompt = (record { further = λ e. refl; waits = k.unready }, k.prompt);
   unready = λ may. absurd (let e = may.between in cc);
   jogged_is = k.jogged_is;
@@ -116,6 +118,7 @@ cancel_over first c m h k cancelled was found runs = record {
   owes_is = k.owes_is;
   reset_is = k.reset_is;
   resetting_is = k.resetting_is;
+  taken_is = k.taken_is;
   prompt = (record { further = λ e. refl; waits = k.unready }, k.prompt);
   unready = λ may. absurd (let e = may.between in cc);
   jogged_is = k.jogged_is;
@@ -218,6 +221,7 @@ cut_made first c m i k at h keeps uncut found number place left same state runs 
   owes_is = keeps.owes_is;
   reset_is = keeps.reset_is;
   resetting_is = keeps.resetting_is;
+  taken_is = keeps.taken_is;
   prompt = (record { further = λ e. refl; waits = keeps.unready }, keeps.prompt);
   unready = λ may. absurd (let e = may.between in cc);
   jogged_is = keeps.jogged_is;

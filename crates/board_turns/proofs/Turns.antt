@@ -38,6 +38,7 @@ closes first c i h k unreset may is = record {
   owes_is = k.owes_is;
   reset_is = k.reset_is;
   resetting_is = k.resetting_is;
+  taken_is = k.taken_is;
   prompt = (record { further = λ e. absurd (let f = sym e ∙ unreset in cc); waits = k.unready }, k.prompt);
   unready = λ may. absurd (let e = may.between in cc);
   jogged_is = k.jogged_is;
@@ -62,6 +63,7 @@ ends first c f t h k may = record {
   owes_is = k.owes_is;
   reset_is = k.reset_is;
   resetting_is = k.resetting_is;
+  taken_is = k.taken_is;
   prompt = (record { further = λ e. refl; waits = k.unready }, k.prompt);
   jogged_is = k.jogged_is;
   cut_is = k.cut_is;
@@ -85,6 +87,7 @@ begins_turn first c h k unready = record {
   owes_is = k.owes_is;
   reset_is = k.reset_is;
   resetting_is = k.resetting_is;
+  taken_is = k.taken_is;
   prompt = k.prompt;
   unready = unready;
   jogged_is = k.jogged_is;
@@ -109,6 +112,7 @@ room_found first c bytes h k = record {
   owes_is = k.owes_is;
   reset_is = k.reset_is;
   resetting_is = k.resetting_is;
+  taken_is = k.taken_is;
   prompt = (record { further = λ e. refl; waits = k.unready }, k.prompt);
   unready = λ may. absurd (let e = may.between in cc);
   jogged_is = k.jogged_is;
@@ -133,6 +137,7 @@ other_beat first c b h k = record {
   owes_is = k.owes_is;
   reset_is = k.reset_is;
   resetting_is = k.resetting_is;
+  taken_is = k.taken_is;
   prompt = k.prompt;
   unready = k.unready;
   jogged_is = k.jogged_is;
@@ -156,6 +161,7 @@ other_flags first c f h k = record {
   owes_is = k.owes_is;
   reset_is = k.reset_is;
   resetting_is = k.resetting_is;
+  taken_is = k.taken_is;
   prompt = k.prompt;
   unready = k.unready;
   jogged_is = k.jogged_is;
@@ -180,6 +186,7 @@ other_flight first c f h k flown = record {
   owes_is = k.owes_is;
   reset_is = k.reset_is;
   resetting_is = k.resetting_is;
+  taken_is = k.taken_is;
   prompt = k.prompt;
   unready = k.unready;
   jogged_is = k.jogged_is;

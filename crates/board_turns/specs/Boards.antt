@@ -17,7 +17,7 @@ use Rattle.std.specs.Option.{option_to_list}
 use Rattle.std.specs.declared.option.Option.{Option}
 use Rattle.board_rules.specs.Openings.{Opening, IsPlaced, first_opening}
 use Rattle.board_rules.specs.Ports.{has_reset_in}
-use Rattle.board_rules.specs.Steps.{Step, Journal, port_log, has_limited, published_of, known_of, open_of, whole_of, before_of, left_of, closed_tells, given_of, hand_of, plan_of, motion_of}
+use Rattle.board_rules.specs.Steps.{Step, Journal, port_log, taken_of, has_limited, published_of, known_of, open_of, whole_of, before_of, left_of, closed_tells, given_of, hand_of, plan_of, motion_of}
 use Rattle.board_rules.specs.Steps.Step.{turned}
 use Rattle.board_rules.specs.Turns.{this_turn, unobeyed_of, owes_report, moving, is_full, is_halting, is_limited, awaits_motion, has_jogged, changes_taken, flags_taken, tries_of, missed_of, waits_of}
 use Rattle.board_rules.specs.Conduct.{Conducted, AreWaiting}
@@ -68,6 +68,7 @@ pub record Keeps (first : Opening) (board : Board) (h : Journal) : Type 0 where
   pub owes_is : board.owes ≡ owes_report h
   pub reset_is : board.reset ≡ has_reset_in (port_log h)
   pub resetting_is : board.resetting ≡ has_reset h
+  pub taken_is : board.taken ≡ length (taken_of h)
   pub prompt : IsPrompt first h
   pub unready : MayReset first h → ⊥
   pub jogged_is : board.jogged ≡ has_jogged h
@@ -90,6 +91,7 @@ pub record KeepsBetween (first : Opening) (board : Board) (h : Journal) : Type 0
   pub owes_is : board.owes ≡ owes_report h
   pub reset_is : board.reset ≡ has_reset_in (port_log h)
   pub resetting_is : board.resetting ≡ has_reset h
+  pub taken_is : board.taken ≡ length (taken_of h)
   pub prompt : IsPrompt first h
   pub jogged_is : board.jogged ≡ has_jogged h
   pub cut_is : board.cut ≡ has_cut h

@@ -1,6 +1,6 @@
 //! The board.
 
-ghost use Rattle.std.specs.Prelude.{◌≡◌, ◌≢◌, ◌↔◌, ◌<◌, [], ◌∷◌, length, ◌||◌, true, false, None, IfSome, IfNone};
+ghost use Rattle.std.specs.Prelude.{◌^◌, ◌≡◌, ◌≢◌, ◌↔◌, ◌<◌, [], ◌∷◌, length, ◌||◌, true, false, None, IfSome, IfNone};
 ghost use Rattle.std.specs.List.{list_any};
 ghost use Rattle.feed_hold.specs.declared.Motion.TheVariants.{Idle};
 ghost use Rattle.outside.specs.declared.Turn.TheVariants.{Done};
@@ -13,9 +13,7 @@ ghost use Rattle.board_rules.specs.Ports.PortStep.{took};
 ghost use Rattle.run_rules.specs.declared.State.{State};
 ghost use Rattle.run_rules.specs.States.{IsOpening};
 ghost use Rattle.board_epochs.specs.Resets.{MayReset};
-ghost use Rattle.board_rules.specs.Breaking.{is_end};
-ghost use Rattle.board_rules.specs.Ports.{has_reset_in};
-ghost use Rattle.board_rules.specs.Steps.{Journal, port_log, published_of, left_of, motion_of, has_closed};
+ghost use Rattle.board_rules.specs.Steps.{Journal, port_log, left_of, motion_of, has_closed};
 ghost use Rattle.board_rules.specs.Openings.{Opening, first_opening};
 ghost use Rattle.board_rules.specs.Steps.Step.{at_port};
 ghost use Rattle.board_rules.specs.Turns.{this_turn, tells_next, awaits_motion, begins_in, machine_in, needs_motion, flags_taken, found_nothing, has_blocks, is_full};
@@ -69,6 +67,8 @@ pub struct Board {
     pub(crate) reset: bool,
     /// A word that asks for a reset was taken, and not dropped.
     pub(crate) resetting: bool,
+    /// How many bytes were taken.
+    pub(crate) taken: u32,
     pub(crate) beat: Beat,
     pub(crate) closing: bool,
     /// The last that was accepted of G-code and jogs is a jog.
@@ -114,6 +114,7 @@ impl Board {
             owes: false,
             reset: false,
             resetting: false,
+            taken: 0,
             beat: Beat::Motion,
             closing: false,
             jogged: false,
@@ -127,41 +128,6 @@ impl Board {
         ensures { (result ≡ true) ↔ BoardIsOver self.now }
     {
         self.closing && self.lines.is_done()
-    }
-
-    /// Whether a word that asks for a reset was taken.
-    #[inline]
-    pub fn was_reset(&self) -> bool
-        ensures { (first : Opening) (h : Journal) → EpochFits first self.now h → result ≡ has_reset_in (port_log h) }
-    {
-        self.reset
-    }
-
-    /// Whether a reset may be worked now, between two turns: it was asked for, and not dropped; no report is owed, and no reply
-    /// is next.
-    pub fn may_reset(&self) -> bool
-        ensures { (first : Opening) (h : Journal) → EpochFits first self.now h → GoingBetween h → (result ≡ true) ↔ MayReset first h }
-    {
-        if !self.resetting {
-            return false;
-        }
-        if self.owes {
-            return false;
-        }
-        !matches!(self.lines.todo(), Todo::Tell)
-    }
-
-    /// Whether the end of the run is published. The run isn't over.
-    pub fn has_published_end(&self) -> bool
-        ensures { (first : Opening) (h : Journal) → EpochFits first self.now h → (BoardIsOver self.now → ⊥) → list_any is_end (published_of h) ≡ result }
-    {
-        if !self.closing {
-            return false;
-        }
-        if self.machine.hand.is_some() {
-            return false;
-        }
-        matches!(self.lines.todo(), Todo::Tell)
     }
 
     /// Whether what is next waits for the motion.
@@ -258,10 +224,12 @@ impl Board {
     #[inline(always)]
     fn keep(&mut self, byte: u8)
         requires flags { self.old.flags ≡ Flags.None }
+        requires few { self.old.taken < 2 ^ 31 }
         ensures kept { (first : Opening) (h : Journal) → Keeps first self.old h → MayTake first h → Keeps first self.new (at_port (took byte) ∷ h) }
         ensures flags { (first : Opening) (h : Journal) → IsFree h → TakesFlags self.new.flags (at_port (took byte) ∷ h) }
-        ensures same { self.new ≡ record self.old { input = self.new.input; flags = self.new.flags } }
+        ensures same { self.new ≡ record self.old { input = self.new.input; flags = self.new.flags; taken = self.new.taken } }
     {
+        self.taken += 1;
         if byte == b'\n' {
             self.input.finish();
             self.flags = Flags::Both;
@@ -593,19 +561,13 @@ impl Board {
         self.take_or_go_on(port)
     }
 
-    /// Takes a turn: behind a line feed and behind each wait it takes a word of flags, and does what that asks for;
-    /// else it publishes a piece where one is in hand or a segment is due, and else, or where there was no room for it,
-    /// does the next thing: tells a status report that was asked for, and then does what else its word asks for; tells
-    /// a reply, adds moves, makes a mark or the end, begins a line, or takes a byte. At most one thing is published.
-    /// Where the rules allow nothing, it answers what it waits for: for a machine that is held, its resume. It is done
-    /// once Bye was told; from then on nothing changes. A turn that answers Did and moves nothing lowers the board's
-    /// number, which is less than 64.
+    /// Takes a turn: takes a word of flags behind a line feed and behind each wait, and does what that asks for; else publishes
+    /// a piece; else, or where there was no room for it, does the next thing. At most one thing is published. It answers what it
+    /// waits for where the rules allow nothing, and is done once Bye was told. A turn that answers Did and moves nothing lowers
+    /// the board's number, which is less than 64.
     ///
     /// No reset may be worked now. One that was asked for, and not dropped, lets no line begin, and the run isn't closed, until
     /// it may be.
-    ///
-    /// The rules of the board are those of its journal since the epoch's opening: whatever it has done before, it goes on
-    /// as they allow.
     #[inline(always)]
     pub fn turn<P: EpochPort>(&mut self, port: &mut P) -> Turn
         requires stands { (rest : P.Rest) × (first : Opening) × (h : Journal) × P.stands port.old rest first (port_log h) × EpochFits first self.old h × GoingBetween h × (MayReset first h → ⊥) }

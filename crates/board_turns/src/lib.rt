@@ -7,6 +7,7 @@ mod input;
 mod limits;
 mod pieces;
 mod reports;
+mod resets;
 mod stops;
 
 pub use board::Board;

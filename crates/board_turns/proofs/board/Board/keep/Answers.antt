@@ -1,8 +1,13 @@
-use Rattle.std.proofs.Common.{◌≡◌, ℕ, Bool, false, nat_eq, refl, arith, subst}
+use Rattle.std.proofs.Common.{[], ◌∷◌, ◌+◌, length, length-append, ◌≡◌, ℕ, Bool, false, nat_eq, refl, arith, subst}
 use Rattle.std.proofs.lemmas.Bool.Decides.{nat_tests}
-use Rattle.board_rules.specs.Steps.{open_of, whole_of}
+use Rattle.board_rules.specs.Ports.PortStep.{took}
+use Rattle.board_rules.specs.Steps.{Journal, taken_of, open_of, whole_of}
+use Rattle.board_rules.specs.Steps.Step.{at_port}
 use Rattle.board_turns.specs.Boards.{Reads}
 use Rattle.board_turns.proofs.board.Board.keep.Goals as goal
+
+taken_more : (b : ℕ) (h : Journal) (n : ℕ) → n ≡ length (taken_of h) → n + 1 ≡ length (taken_of (at_port (took b) ∷ h))
+taken_more b h n e = let a = length-append (taken_of h) (b ∷ []) in omega (arith, a, e)
 
 other : (b : ℕ) → (b ≡ 10 → ⊥) → nat_eq b 10 ≡ false
 other b differs = grind (arith, nat_tests, differs)
@@ -20,6 +25,7 @@ returns-then-byte-eq10-clause-kept c = λ first h k may. record {
   owes_is = k.owes_is;
   reset_is = k.reset_is;
   resetting_is = k.resetting_is;
+  taken_is = taken_more c.args.byte h c.args.self.now.taken k.taken_is;
   prompt = (record { further = λ e. refl; waits = k.unready }, k.prompt);
   unready = λ may. absurd (let e = may.between in cc);
   jogged_is = k.jogged_is;
@@ -43,6 +49,7 @@ returns-else-byte-eq10-clause-kept c = λ first h k may. record {
   owes_is = k.owes_is;
   reset_is = k.reset_is;
   resetting_is = k.resetting_is;
+  taken_is = taken_more c.args.byte h c.args.self.now.taken k.taken_is;
   prompt = (record { further = λ e. refl; waits = k.unready }, k.prompt);
   unready = λ may. absurd (let e = may.between in cc);
   jogged_is = k.jogged_is;

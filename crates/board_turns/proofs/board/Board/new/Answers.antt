@@ -20,6 +20,7 @@ returns c = (
       owes_is = refl;
       reset_is = refl;
       resetting_is = refl;
+      taken_is = refl;
       prompt = tt;
       jogged_is = refl;
       cut_is = refl;

@@ -35,3 +35,10 @@ pub returns-in-Closed-clause-goes_on : goal.returns-in-Closed-clause-goes_on
 returns-in-Closed-clause-goes_on g c = λ rest first h stands keeps ready may.
     works_on first (g.P.EpochPort.stands c.close.new.port rest first) c.close.result c.args.self.now.flags _ h (at_port found_closed ∷ h) (at_port found_closed ∷ []) refl (omega arith)
     (c.close.ensures.goes_on rest first (at_port found_closed ∷ h) (c.byte.ensures.closed c.in-Closed.is rest first (port_log h) stands) (polled_closed first c.args.self.now h keeps may) (polled_end first h ready may) refl)
+
+pub keep-requires : goal.keep-requires
+keep-requires g c =
+    let r = c.requires.stands in let first = r.1 in
+    let few = c.byte.ensures.few c.in-Byte.byte c.in-Byte.is r.0 first (port_log r.2) r.3 in
+    let taken = r.4.taken_is in
+    record { flags = c.requires.flags; few = omega (arith, few, taken) }
