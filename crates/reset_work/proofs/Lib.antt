@@ -3,6 +3,7 @@ pub mod Dropping
 pub mod Waiting
 pub mod Passing
 pub mod Halted
+pub mod Dropped
 pub mod Parting
 pub mod Taped
 pub mod Begun

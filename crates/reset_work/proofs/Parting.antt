@@ -1,11 +1,11 @@
 -- A reset parts a run into epochs.
-use Rattle.std.proofs.Common.{◌≡◌, inl, inr, ◌<◌, ◌+◌, ◌^◌, ℕ, Bool, cond, List, ◌∷◌, [], length, refl, sym, ap, subst, ◌∙◌, arith}
+use Rattle.std.proofs.Common.{◌≡◌, inl, inr, ◌<◌, ◌+◌, ◌-◌, ◌^◌, max, ℕ, Bool, cond, List, ◌∷◌, [], length, refl, sym, ap, subst, ◌∙◌, arith}
 use Rattle.run_rules.specs.declared.State.{State}
 use Rattle.serial_ring.specs.Logs.{greeted_in, next_mark}
 use Rattle.serial_ring.specs.Marks.{Mark as LinkMark, last_of, start}
 use Rattle.serial_ring.specs.declared.view.LinkStep.{LinkStep}
 use Rattle.step_line.specs.Logs.{NewestFirst}
-use Rattle.board_rules.specs.Ports.{BoardLog, MayBeDone, known_in, link_steps}
+use Rattle.board_rules.specs.Ports.{BoardLog, MayBeDone, known_in, link_steps, taken_in}
 use Rattle.board_rules.specs.Steps.{Journal, port_log}
 use Rattle.board_epochs.specs.Bounds.{loaded_mark}
 use Rattle.board_epochs.specs.Epochs.{Closed, AreEpochs, closed_log, last_line, log_behind, log_of, opening_behind, ticks_made}
@@ -16,9 +16,11 @@ use Rattle.board_epochs.proofs.Asking.{number_there}
 use Rattle.board_epochs.proofs.Bounding.{Marked, marked_behind}
 use Rattle.board_epochs.proofs.Chaining.{done_there}
 use Rattle.board_epochs.proofs.Greeted.{was_greeted, greeted_with}
+use Rattle.board_epochs.proofs.Marking.{loaded_there}
 use Rattle.board_epochs.proofs.Onto.{steps_on}
 use Rattle.board_epochs.proofs.Opening.{opens}
 use Rattle.board_epochs.proofs.Working.{all_of, works_end}
+use Rattle.reset_work.proofs.Dropped.{HasDropped, Drops, drops_all}
 use Rattle.reset_work.proofs.Halted.{HasHalted, has_halted}
 
 -- ---- its begin and its end
@@ -71,3 +73,20 @@ halted_there state es h w c worked =
 
 pub made_there : (state : State) (es : NewestFirst Closed) (h : Journal) (w : Work) → AreEpochs state (resets es h w) → IsWorked (log_behind (closed_log es) h) w → ticks_made (closed_by h w ∷ es) ≡ halted_in w + 1
 made_there state es h w c worked = (works_end (last_line (opening_behind state es) h) (log_behind (closed_log es) h) w c.1.works worked.done).1
+
+-- ---- its mark
+
+pub dropped_there : (state : State) (es : NewestFirst Closed) (h : Journal) (w : Work) → AreEpochs state (resets es h w) → IsWorked (log_behind (closed_log es) h) w
+    → length (taken_in (log_of (resets es h w))) ≡ max (length (taken_in (log_of (goes es h)))) (loaded_mark (log_of (resets es h w))).1
+dropped_there state es h w c worked =
+    let before = log_behind (closed_log es) h in
+    let l = log_of (resets es h w) in
+    let d : HasDropped before l 0 = subst (Drops before l) worked.done (drops_all (last_line (opening_behind state es) h) before w c.1.works) in
+    more_of (length (taken_in l)) (length (taken_in before)) (loaded_mark l).1 d
+  where
+    more_of : (n taken bytes : ℕ) → n + 0 ≡ taken + (bytes - taken) → n ≡ max taken bytes
+    more_of n taken bytes d = omega (arith, d)
+
+pub newer_there : (state : State) (es : NewestFirst Closed) (h : Journal) (w : Work) → AreEpochs state (resets es h w) → IsWorked (log_behind (closed_log es) h) w
+    → worked_in (log_of (goes es h)) < (loaded_mark (log_of (resets es h w))).0
+newer_there state es h w c worked = (loaded_there (last_line (opening_behind state es) h) (log_behind (closed_log es) h) w c.1.works worked.done).1.later

@@ -1,6 +1,6 @@
 //! Laws of resets between epochs.
 
-ghost use Rattle.std.specs.Prelude.{◌≡◌, ℕ, ◌+◌, ◌^◌, ◌<◌, [], ◌∷◌, length};
+ghost use Rattle.std.specs.Prelude.{◌≡◌, ℕ, ◌+◌, ◌^◌, ◌<◌, [], ◌∷◌, length, max};
 ghost use Rattle.run_rules.specs.declared.State.{State};
 ghost use Rattle.step_line.specs.Logs.{NewestFirst};
 ghost use Rattle.board_rules.specs.Ports.{taken_in, MayBeDone};
@@ -36,4 +36,13 @@ pub fn resets_halt_their_epoch()
         (n : ℕ) × (halted_in w ≡ ticks_made es + n) × MayBeDone n (port_log h) }
     ensures made { (state : State) (es : NewestFirst Closed) (h : Journal) (w : Work) → AreEpochs state (resets es h w) → IsWorked (log_behind (closed_log es) h) w →
         ticks_made (record { journal = h; work = w } ∷ es) ≡ halted_in w + 1 }
+{}
+
+/// Behind a reset the bytes before the host's mark are taken, and no others behind those that were taken before it: what the host
+/// stored behind the mark belongs to the next epoch. The mark is new: its number is above that of the mark that was worked last.
+pub fn resets_drop_what_is_before_their_mark()
+    ensures bytes { (state : State) (es : NewestFirst Closed) (h : Journal) (w : Work) → AreEpochs state (resets es h w) → IsWorked (log_behind (closed_log es) h) w →
+        length (taken_in (log_of (resets es h w))) ≡ max (length (taken_in (log_of (goes es h)))) (loaded_mark (log_of (resets es h w))).1 }
+    ensures marks { (state : State) (es : NewestFirst Closed) (h : Journal) (w : Work) → AreEpochs state (resets es h w) → IsWorked (log_behind (closed_log es) h) w →
+        worked_in (log_of (goes es h)) < (loaded_mark (log_of (resets es h w))).0 }
 {}

@@ -5,7 +5,10 @@ mod laws;
 mod reset;
 mod stages;
 
-pub use laws::{resets_begin_with_known_numbers, resets_halt_their_epoch, resets_part_epochs};
+pub use laws::{
+    resets_begin_with_known_numbers, resets_drop_what_is_before_their_mark,
+    resets_halt_their_epoch, resets_part_epochs,
+};
 pub use reset::ResetWork;
 
 #[cfg(test)]
