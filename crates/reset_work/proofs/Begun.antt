@@ -44,10 +44,10 @@ prompt state = (
   ),
 )
 
-may : (state : State) → MayReset (first_opening state) asked
+pub may : (state : State) → MayReset (first_opening state) asked
 may state = record { asked = refl; between = refl; unowed = refl; told = refl }
 
-epochs : (state : State) → AreEpochs state (goes [] asked)
+pub epochs : (state : State) → AreEpochs state (goes [] asked)
 epochs state = (tt, record { conducted = conducted state; prompt = prompt state }, record { bytes = omega arith; reports = omega arith })
 
 pub begins : (state : State) (it : ResetWork) → IsWorking it 0 (log_of (goes [] asked)) [] → IsWorkedOn 3 0 0 it

@@ -5,5 +5,6 @@ pub mod Passing
 pub mod Halted
 pub mod Dropped
 pub mod Parting
+pub mod Counted
 pub mod Taped
 pub mod Begun

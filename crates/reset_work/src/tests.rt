@@ -4,7 +4,7 @@ ghost use Rattle.std.specs.Prelude.{◌≡◌};
 ghost use Rattle.step_line.specs.Finishing.{tick_count};
 ghost use Rattle.reset_work.specs.Tapes.{IsTape, IsWorkedOn};
 
-use crate::ResetWork;
+use crate::{Counts, ResetWork};
 use bitflags::Flags as _;
 use board_rules::BoardPort;
 use code_table::{Exec, Ovr};
@@ -123,7 +123,7 @@ fn begun() -> (Tape, ResetWork)
         done: 0,
         late: true,
     };
-    (tape, ResetWork::begin(0, 0, 0))
+    (tape, Counts::new().reset(0, 0))
 }
 
 /// Whether the work is not over, and its next turn answers this.
@@ -176,4 +176,13 @@ fn a_reset_is_worked_turn_by_turn(rt: HostRuntime) {
     assert_eq!(rt; work.dropped(), 1);
     assert_eq!(rt; work.halted(), 0);
     assert_eq!(rt; work.ticks(), 1);
+    assert_eq!(rt;
+        Counts::behind(&work),
+        Counts {
+            ticks: 1,
+            bytes: 3,
+            mark: 1
+        }
+    );
+    assert_eq!(rt; Counts::behind(&work).ticks(), 1);
 }

@@ -1,8 +1,9 @@
 use Rattle.std.proofs.Common.{[], refl}
-use Rattle.board_epochs.specs.Epochs.{log_of}
-use Rattle.board_epochs.specs.Epochs.Epochs.{goes}
-use Rattle.reset_work.proofs.Begun.{asked, begins}
+use Rattle.reset_work.proofs.Begun.{asked, begins, epochs, may}
 use Rattle.reset_work.proofs.tests.begun.Goals as goal
 
+pub reset-requires : goal.reset-requires
+reset-requires c = let state = c.opening-state.result in (state, [], asked, epochs state, c.new.ensures, refl)
+
 pub returns : goal.returns
-returns c = begins c.opening-state.result c.begin.result (c.begin.ensures.begins (log_of (goes [] asked)) refl refl)
+returns c = let state = c.opening-state.result in begins state c.reset.result (c.reset.ensures.begins state [] asked (epochs state) (may state) c.new.ensures refl refl).1
