@@ -8,6 +8,7 @@ use Rattle.flight.proofs.Places.{moved_both}
 use Rattle.planner_runs.specs.Runs.{Plans, IsStart, IsAtRest, NeverClears, most_blocks, fresh_plan, all_asked, ticks_left}
 use Rattle.planner_runs.proofs.Legal.{heads_are_legal, closed_heads_are_legal}
 use Rattle.planner_runs.proofs.Runs.{keeps_on, grows_by_reset}
+use Rattle.run_rules.specs.Cuts.{LosesJogsAlone}
 use Rattle.run_rules.specs.Outcomes.{either}
 use Rattle.run_rules.specs.Reports.{raises_alarm}
 use Rattle.run_rules.specs.Told.{asked_in}
@@ -18,6 +19,7 @@ use Rattle.run_texts.specs.Parts.{Ending, Part, parts_of, onto_first, lines_coun
 use Rattle.run_texts.specs.Parts.Ending.{by_cut, by_reset, by_end}
 use Rattle.run_texts.specs.Recorded.{ticks_for_all}
 use Rattle.step_line.specs.Asking.{ticks_of_all}
+use Rattle.step_line.specs.Finishing.{ticks_together}
 use Rattle.step_line.specs.Pieces.{ticks_of}
 use Rattle.step_line.specs.declared.Mark.TheVariants as marks
 use Rattle.step_line.specs.declared.Piece.{Piece}
@@ -27,7 +29,7 @@ use Rattle.board_rules.specs.Conduct.{Conducted, IsFinished}
 use Rattle.board_rules.specs.Cuts.{part_outcomes, part_actions, part_given, part_start, part_plan, part_of}
 use Rattle.board_rules.specs.Cuts.{parts_of as board_parts}
 use Rattle.board_rules.specs.Openings.{Opening}
-use Rattle.board_rules.specs.Parts.{Part as CutPart, IsAlarmedPart}
+use Rattle.board_rules.specs.Parts.{Part as CutPart, DropsLast, IsAlarmedPart}
 use Rattle.board_rules.specs.Steps.{known_of, Journal, given_of, left_of, has_limited}
 use Rattle.board_rules.specs.Steps.Step.{at_port, began, did, made_end, cut}
 use Rattle.board_rules.proofs.Alarms.{calm_plan, free_halted}
@@ -48,7 +50,7 @@ use Rattle.epoch_courses.proofs.Made.{AllMade, made_before_line, made_before_cut
 abbrev pub part : List Outcome → List Outcome → Ending → Part
 part lines begun ending = record { lines = lines; begun = begun; ending = ending }
 
-parts_cut : (os : List Outcome) (k : ℕ) (at : Steps3) (rest : List Passed) → parts_of (map a_line os ++ a_cut k at ∷ rest) ≡ part os [] (by_cut k at) ∷ parts_of rest
+pub parts_cut : (os : List Outcome) (k : ℕ) (at : Steps3) (rest : List Passed) → parts_of (map a_line os ++ a_cut k at ∷ rest) ≡ part os [] (by_cut k at) ∷ parts_of rest
 parts_cut [] k at rest = refl
 parts_cut (o ∷ os) k at rest = ap (onto_first o) (parts_cut os k at rest)
 
@@ -115,6 +117,7 @@ driven_there over place h d p r counted ends = record {
   joined = r.joined;
   starts = r.starts;
   run = r.run;
+  never = r.never;
   asks = ap asked_in counted ∙ r.asks;
   ticks = ap ticks_for_all counted ∙ r.ticks;
   ends = ends;
@@ -135,7 +138,13 @@ cut_there : (over : Bool) (first : Opening) (h : Journal) (k : ℕ) → Conducte
 cut_there over first h k c =
     let q = (parts_are first (cut k ∷ h) c).0 in
     driven_there over (part_place first h) h (driven_by_cut (part_of first k h)) (part (part_outcomes h) [] (by_cut k (end_from first.place (given_of h)))) (runs_cut first h k c) (append-nil (part_outcomes h))
-    (record { stops = q.stops; heads = q.heads; stands = part_leads first h; last = q.last; jogs = q.jogs })
+    (record {
+      stops = q.stops;
+      heads = q.heads;
+      stands = part_leads first h;
+      last = subst (λ (os : List Outcome). DropsLast (asks (left_of first h)) os) (sym (append-nil (part_outcomes h))) q.last;
+      jogs = subst (λ (os : List Outcome). LosesJogsAlone (ticks_together (part_given h)) os) (sym (append-nil (part_outcomes h))) q.jogs;
+    })
 
 -- ---- the parts of an epoch
 

@@ -1,17 +1,20 @@
 -- A pulse that halts has made all ticks that were known to be done.
 use Rattle.std.proofs.Common.{◌≡◌, ℕ, ◌-◌, ◌≤◌, Bool, true, false, [], ◌∷◌, ◌++◌, nat_lt, length, refl, sym, ap, ◌∙◌, arith}
 use Rattle.run_rules.specs.declared.State.{State}
+use Rattle.motion_ring.specs.Sides as ring
+use Rattle.motion_ring.specs.declared.lists.Sent.{Sent}
 use Rattle.step_line.specs.Logs.{NewestFirst}
-use Rattle.board_rules.specs.Ports.{PortStep, BoardLog, taken_in, known_in}
+use Rattle.board_rules.specs.Ports.{PortStep, BoardLog, taken_in, known_in, sent_in, MayBeDone}
 use Rattle.board_rules.specs.Ports.PortStep.{found_mark, took_ovr, loaded, stored_stop, found_halt}
 use Rattle.board_rules.specs.Steps.{port_log, known_of}
 use Rattle.board_rules.specs.Steps.Step.{at_port, turned}
-use Rattle.board_rules.proofs.Unstopped.{journals_never_stop}
+use Rattle.board_rules.proofs.Unstopped.{done_within}
 use Rattle.board_epochs.specs.Epochs.{Closed, AreClosed, closed_log, ticks_made, log_behind, opening_behind, last_line}
 use Rattle.board_epochs.specs.Work.{Work, Stage, Works, MayWorkAt, stage_of, stage_at, worked_in, by_mark, halted_in}
 use Rattle.board_epochs.specs.Work.Stage.{awaits_mark, drops_changes, stops, awaits_halt, drops, publishes, awaits_done, over}
-use Rattle.board_epochs.proofs.Onto.{known_on}
-use Rattle.epoch_courses.specs.Course.{made_at_halt}
+use Rattle.board_epochs.proofs.Chaining.{done_there}
+use Rattle.board_epochs.proofs.Working.{Holds, holds}
+use Rattle.epoch_courses.specs.Course.{IsMadeAtHalt, made_at_halt}
 
 -- the pulse was not found halted
 abbrev unhalted : Work → Bool
@@ -75,13 +78,22 @@ known_later number before (at_port e ∷ w) c = known_later number before w c.2
 known_later number before (turned t ∷ w) c = known_later number before w c.2
 known_later number before (_ ∷ w) c = absurd c.0
 
-halted_later : (number : ℕ) (before : BoardLog) (w : Work) → Works number before w → unhalted w ≡ false → known_in before ≤ halted_in w
-halted_later number before [] c was = absurd cc
-halted_later number before (at_port (found_halt done) ∷ w) c was =
-    let low = known_later number before w c.2 in let more = may_halt number (port_log w ++ before) done (stage_of before w) c.0 in omega (arith, low, more)
-halted_later number before (at_port e ∷ w) c was = halted_later number before w c.2 was
-halted_later number before (turned t ∷ w) c was = halted_later number before w c.2 was
-halted_later number before (_ ∷ w) c was = absurd c.0
+-- a halt is looked for behind all that was published before, which may be done
+halt_before : (number : ℕ) (before l : BoardLog) (halted done : ℕ) (stage : Stage) → MayWorkAt number l (found_halt done) stage → Holds number before l halted stage → known_in before ≤ known_in l → MayBeDone done before
+halt_before number before l halted done (awaits_halt n) may holds low = record {
+  later = (let more = may.later in omega (arith, low, more));
+  below = (let same : ring.ticks_published (sent_in l) ≡ ring.ticks_published (sent_in before) = ap ring.ticks_published holds in let below = may.below in omega (arith, same, below));
+  few = (let same : ring.unfinished_in (sent_in l) done ≡ ring.unfinished_in (sent_in before) done = ap (λ (s : Sent). ring.unfinished_in s done) holds in let few = may.few in omega (arith, same, few));
+}
+halt_before number before l halted done over may holds low = absurd may
+halt_before number before l halted done _ may holds low = absurd may
+
+halt_done : (number : ℕ) (before : BoardLog) (w : Work) → Works number before w → unhalted w ≡ false → MayBeDone (halted_in w) before
+halt_done number before [] c was = absurd cc
+halt_done number before (at_port (found_halt done) ∷ w) c was = halt_before number before (port_log w ++ before) (halted_in w) done (stage_of before w) c.0 (holds number before w c.2) (known_later number before w c.2)
+halt_done number before (at_port e ∷ w) c was = halt_done number before w c.2 was
+halt_done number before (turned t ∷ w) c was = halt_done number before w c.2 was
+halt_done number before (_ ∷ w) c was = absurd c.0
 
 was_halted : (before : BoardLog) (w : Work) → stage_of before w ≡ over → unhalted w ≡ false
 was_halted before w is = by_one (unhalted w) refl
@@ -90,12 +102,17 @@ was_halted before w is = by_one (unhalted w) refl
     by_one false e = e
     by_one true e = absurd (let f = sym (ap before_halt is) ∙ before_end before w e in cc)
 
--- so of an epoch at least those were made that its journal knows
-pub known_made : (state : State) (e : Closed) (es : NewestFirst Closed) → AreClosed state (e ∷ es) → known_of e.journal ≤ made_at_halt (ticks_made es) e.work
-known_made state e es c =
+-- so of an epoch at least those were made that its journal knows, and no more than were published
+pub made_there : (state : State) (e : Closed) (es : NewestFirst Closed) → AreClosed state (e ∷ es) → IsMadeAtHalt e.journal (made_at_halt (ticks_made es) e.work)
+made_there state e es c =
     let first = opening_behind state es in
     let is = c.0.resetting in
-    let before = log_behind (closed_log es) e.journal in
-    let low = halted_later (last_line first e.journal) before e.work is.works (was_halted before e.work c.0.worked.done) in
-    let both = known_on (port_log e.journal) (closed_log es) (journals_never_stop first e.journal is.epoch.conducted) in
-    omega (arith, low, both)
+    let may = halt_done (last_line first e.journal) (log_behind (closed_log es) e.journal) e.work is.works (was_halted (log_behind (closed_log es) e.journal) e.work c.0.worked.done) in
+    let there = done_there state es e.journal (halted_in e.work) c.1 is.epoch may in
+    let later = there.2.later in
+    let below = done_within first e.journal there.0 is.epoch.conducted there.2 in
+    let n = there.1 in
+    record { known = omega (arith, later, n); published = omega (arith, below, n) }
+
+pub known_made : (state : State) (e : Closed) (es : NewestFirst Closed) → AreClosed state (e ∷ es) → known_of e.journal ≤ made_at_halt (ticks_made es) e.work
+known_made state e es c = (made_there state e es c).known

@@ -1,5 +1,5 @@
 -- The course that a board has taken over its epochs, and where it stands.
-use Rattle.std.specs.Prelude.{ℕ, ◌-◌, Bool, true, false, not, ◌&&◌, cond, nat_lt, List, [], ◌∷◌, ◌++◌}
+use Rattle.std.specs.Prelude.{ℕ, ◌-◌, ◌≤◌, Bool, true, false, not, ◌&&◌, cond, nat_lt, List, [], ◌∷◌, ◌++◌}
 use Rattle.flight.specs.Places.{end_from}
 use Rattle.run_rules.specs.declared.State.{State}
 use Rattle.run_rules.specs.Outcomes.{Before, after, at_place}
@@ -8,11 +8,11 @@ use Rattle.run_texts.specs.Courses.Passed.{a_line, a_broken, a_cut, a_reset}
 use Rattle.run_texts.specs.Points.{Point, behind_broken}
 use Rattle.status_report.specs.Answering.{is_answer}
 use Rattle.step_line.specs.Logs.{NewestFirst}
-use Rattle.board_rules.specs.Conduct.{ticks_given}
+use Rattle.board_rules.specs.Conduct.{ticks_given, ticks_published}
 use Rattle.board_rules.specs.Openings.{Opening, before_first}
 use Rattle.board_rules.specs.Ports.{PortStep}
 use Rattle.board_rules.specs.Ports.PortStep.{answered}
-use Rattle.board_rules.specs.Steps.{Journal, given_of}
+use Rattle.board_rules.specs.Steps.{Journal, given_of, known_of}
 use Rattle.board_rules.specs.Steps.Step.{at_port, began, cut}
 use Rattle.board_rules.specs.Turns.{is_locked}
 use Rattle.board_epochs.specs.Epochs.{Closed, Epochs, opening_behind, point_of, reset_of, ticks_made}
@@ -57,6 +57,11 @@ passed_at_reset made first h = passed_by (is_unanswered h) made first h
 -- how many ticks of an epoch were made when the pulse halted, with so many made before it
 abbrev pub made_at_halt : (base : ℕ) → Work → ℕ
 made_at_halt base w = halted_in w - base
+
+-- no fewer than the journal knows of, and no more than those of the pieces published
+pub record IsMadeAtHalt (h : Journal) (made : ℕ) : Type 0 where
+  pub known : known_of h ≤ made
+  pub published : made ≤ ticks_published h
 
 abbrev pub closed_course : State → NewestFirst Closed → List Passed
 closed_course state [] = []

@@ -6,7 +6,7 @@ use Rattle.legal_heads.specs.Speeds.{HasLegalHeads}
 use Rattle.plan_rules.specs.Plans.{Planned}
 use Rattle.planner_runs.specs.declared.Action.{Action}
 use Rattle.planner_runs.specs.declared.Action.TheVariants.{Reset as Resets}
-use Rattle.planner_runs.specs.Runs.{Plans, IsStart, IsAtRest, most_blocks, fresh_plan, cleared, all_asked, moves_added, ticks_left, all_records}
+use Rattle.planner_runs.specs.Runs.{Plans, IsStart, IsAtRest, NeverClears, most_blocks, fresh_plan, cleared, all_asked, moves_added, ticks_left, all_records}
 use Rattle.run_rules.specs.declared.State.{State}
 use Rattle.run_rules.specs.Cuts.{LosesJogsAlone}
 use Rattle.run_rules.specs.Outcomes.{either}
@@ -52,8 +52,8 @@ pub record IsCutOff (k : ℕ) (place at : Steps3) (p : Part) (d : Driven) : Type
   pub stops : d.plan.speed ≡ 0
   pub heads : HasLegalHeads (moves_added d.actions) (all_records d.given ++ kinds.Mark (marks.Cut k) ∷ [])
   pub stands : at ≡ end_from place d.given
-  pub last : DropsLast d.left p.lines
-  pub jogs : LosesJogsAlone (ticks_together d.given) p.lines
+  pub last : DropsLast d.left (lines_counted p)
+  pub jogs : LosesJogsAlone (ticks_together d.given) (lines_counted p)
 
 -- A reset takes away what is left, at any speed. Whichever first pieces are out by then, their heads are legal up to its mark.
 pub record IsTakenAway (k : ℕ) (d : Driven) : Type 0 where
@@ -88,12 +88,13 @@ plan_behind by_end d = d.plan
 
 -- ---- all parts
 
--- A part that begins at a place with a plan is a planner run from where nothing was left to run. What its lines ask for was done, or is
--- left to ask; so the ticks of its pieces are the first of those that the lines ask for, and the others are left in the plan, or to ask.
+-- A part that begins at a place with a plan is a planner run from where nothing was left to run, and of which nothing was taken away
+-- before its end. What its lines ask for was done, or is left to ask; so the ticks of its pieces are the first of those that the lines ask for, and the others are left in the plan, or to ask.
 pub record IsDrivenBy (over : Bool) (place : Steps3) (plan : Planned) (p : Part) (d : Driven) : Type 0 where
   pub joined : d.start ≡ plan
   pub starts : IsStart d.start
   pub run : Plans most_blocks d.start d.actions d.given d.plan
+  pub never : NeverClears d.actions
   pub asks : asked_in (lines_counted p) ≡ all_asked d.actions ++ d.left
   pub ticks : ticks_for_all (lines_counted p) ≡ flat_map ticks_of d.given ++ (ticks_left d.plan ++ ticks_of_all d.left)
   pub ends : EndsBy over place p d p.ending

@@ -17,7 +17,7 @@ ghost use Rattle.board_rules.specs.Conduct.{IsFinished};
 ghost use Rattle.board_rules.specs.Steps.{Journal, known_of};
 ghost use Rattle.board_epochs.specs.Epochs.{Closed, Epochs, AreClosed, AreEpochs, opening_behind, ticks_made};
 ghost use Rattle.board_epochs.specs.Epochs.Epochs.{goes, resets};
-ghost use Rattle.epoch_courses.specs.Course.{course_of, made_at_halt, open_journal, stands_at, point_behind};
+ghost use Rattle.epoch_courses.specs.Course.{IsMadeAtHalt, course_of, made_at_halt, open_journal, stands_at, point_behind};
 ghost use Rattle.epoch_courses.specs.Drives.{AreDriven, drives_of};
 ghost use Rattle.epoch_courses.specs.Taken.{sent_by, left_by};
 ghost use Rattle.epoch_courses.specs.Told.{answered_by, without_byes, untold_by, closing_by};
@@ -31,7 +31,7 @@ pub fn epochs_are_a_course()
         LeadsTo (opening state) (sent_by es) (course_of state made es) (stands_at state made es) (left_by es) }
     ensures follows { (state : State) (made : ℕ) (es : NewestFirst Closed) (h : Journal) → AreEpochs state (goes es h) → IsFinished (opening_behind state es) h → known_of h ≤ made →
         Follows (opening state) (sent_by (goes es h)) (course_of state made (goes es h)) (point_behind made (opening_behind state es) h) }
-    ensures halted { (state : State) (e : Closed) (es : NewestFirst Closed) → AreClosed state (e ∷ es) → known_of e.journal ≤ made_at_halt (ticks_made es) e.work }
+    ensures halted { (state : State) (e : Closed) (es : NewestFirst Closed) → AreClosed state (e ∷ es) → IsMadeAtHalt e.journal (made_at_halt (ticks_made es) e.work) }
 {}
 
 /// What a board has answered over its epochs, reports left out, and what it is to tell yet, is the banner, what its course

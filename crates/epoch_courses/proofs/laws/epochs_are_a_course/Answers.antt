@@ -1,5 +1,5 @@
 use Rattle.epoch_courses.proofs.Chain.{epochs_lead, epochs_follow}
-use Rattle.epoch_courses.proofs.Halted.{known_made}
+use Rattle.epoch_courses.proofs.Halted.{made_there}
 use Rattle.epoch_courses.proofs.laws.epochs_are_a_course.Goals as goal
 
 pub returns-clause-leads : goal.returns-clause-leads
@@ -9,4 +9,4 @@ pub returns-clause-follows : goal.returns-clause-follows
 returns-clause-follows c = epochs_follow
 
 pub returns-clause-halted : goal.returns-clause-halted
-returns-clause-halted c = known_made
+returns-clause-halted c = made_there
