@@ -66,7 +66,7 @@ only_told first (s ∷ h) c going all = alone_on first s h tt going (only_told f
 -- ---- a line that is not
 
 -- the lines answered, and the one that is not, are those begun
-counted : (first : Opening) (h : Journal) → Conducted first h → length (done_of h) + cond (is_unanswered h) 1 0 ≡ length (outcomes_of h)
+pub counted : (first : Opening) (h : Journal) → Conducted first h → length (done_of h) + cond (is_unanswered h) 1 0 ≡ length (outcomes_of h)
 counted first [] c = refl
 counted first (at_port (answered r) ∷ h) c = by_answer (is_answer r) refl (counted first h c.1)
   where

@@ -82,7 +82,7 @@ pieces_on : (place from : Steps3) (given part ps : List Piece) → end_from plac
 pieces_on place from given part ps same = moved_both place given ps ∙ ap (λ (at : Steps3). moved_by at (flat_map ticks_of ps)) same ∙ sym (moved_both from part ps)
 
 -- what was given since leads from there to where all pieces lead
-part_leads : (first : Opening) (h : Journal) → end_from first.place (given_of h) ≡ end_from (part_place first h) (part_given h)
+pub part_leads : (first : Opening) (h : Journal) → end_from first.place (given_of h) ≡ end_from (part_place first h) (part_given h)
 part_leads first [] = refl
 part_leads first (did a ps ∷ h) = pieces_on first.place (part_place first h) (given_of h) (part_given h) ps (part_leads first h)
 part_leads first (made_end ∷ h) = moved_both first.place (given_of h) (pieces.End ∷ []) ∙ part_leads first h
@@ -232,6 +232,8 @@ pub record Pends (made : ℕ) (first : Opening) (h : Journal) : Type 0 where
   pub k : ℕ
   pub conducted : Conducted first (cut k ∷ before)
   pub all : AllMade made before
+  pub unmade : is_made made before ≡ false
+  pub known : known_of before ≤ made
   pub passed : passed_by false made first h ≡ passed_by false made first before
   pub parts : board_parts first h ≡ part_of first k before ∷ board_parts first before
 
@@ -243,13 +245,15 @@ pends_there made first (cut k ∷ h) c known one = record {
   k = k;
   conducted = c;
   all = made_before_cut made first h k c known;
+  unmade = no_true (is_made made h) one;
+  known = known;
   passed = ap (λ (t : Bool). passed_by false made first h ++ cond t (a_cut k (end_from first.place (given_of h)) ∷ []) []) (no_true (is_made made h) one) ∙ append-nil (passed_by false made first h);
   parts = refl;
 }
 pends_there made first (at_port e ∷ h) c known one =
-    let p = pends_there made first h c.1 (less_known first e h made c known) one in record { before = p.before; k = p.k; conducted = p.conducted; all = p.all; passed = p.passed; parts = p.parts }
+    let p = pends_there made first h c.1 (less_known first e h made c known) one in record { before = p.before; k = p.k; conducted = p.conducted; all = p.all; unmade = p.unmade; known = p.known; passed = p.passed; parts = p.parts }
 pends_there made first (_ ∷ h) c known one =
-    let p = pends_there made first h c.1 known one in record { before = p.before; k = p.k; conducted = p.conducted; all = p.all; passed = p.passed; parts = p.parts }
+    let p = pends_there made first h c.1 known one in record { before = p.before; k = p.k; conducted = p.conducted; all = p.all; unmade = p.unmade; known = p.known; passed = p.passed; parts = p.parts }
 
 -- ---- the last part of a run that is done
 

@@ -15,3 +15,5 @@ pub mod Told
 pub mod Heads
 pub mod Drives
 pub mod Asking
+pub mod Cuts
+pub mod Fits

@@ -1,21 +1,26 @@
 //! Laws of the courses of boards.
 
-ghost use Rattle.std.specs.Prelude.{◌≡◌, ℕ, ◌≤◌, true, false, List, [], ◌∷◌, ◌++◌};
+ghost use Rattle.std.specs.Prelude.{◌≡◌, ℕ, ◌≤◌, ◌⊎◌, true, false, List, [], ◌∷◌, ◌++◌};
 ghost use Rattle.flight.specs.Places.{origin};
 ghost use Rattle.planner_runs.specs.Runs.{fresh_plan};
 ghost use Rattle.run_rules.specs.declared.State.{State};
 ghost use Rattle.run_texts.specs.Courses.{Follows};
 ghost use Rattle.run_texts.specs.Parts.{parts_of};
 ghost use Rattle.run_texts.specs.Points.{opening};
+ghost use Rattle.run_rules.specs.States.{IsOpening};
+ghost use Rattle.run_texts.specs.Fits.{FitsTexts};
 ghost use Rattle.run_texts.specs.Fronts.{BeginsWith};
-ghost use Rattle.run_texts.specs.SoFar.{LeadsTo};
+ghost use Rattle.run_texts.specs.Recorded.{AreRecorded};
+ghost use Rattle.run_texts.specs.SoFar.{LeadsTo, AreMadeSoFar, FitsSoFar};
 ghost use Rattle.run_texts.specs.Told.{IsTold, told_in};
 ghost use Rattle.status_report.specs.Answering.{without_reports};
 ghost use Rattle.status_report.specs.declared.Reply.{Reply as AnyReply};
 ghost use Rattle.step_line.specs.Logs.{NewestFirst};
+ghost use Rattle.step_line.specs.declared.Record.{Record as AnyRecord};
 ghost use Rattle.board_rules.specs.Conduct.{IsFinished};
+ghost use Rattle.board_rules.specs.Cuts.{cancel_words_in};
 ghost use Rattle.board_rules.specs.Steps.{Journal, known_of};
-ghost use Rattle.board_epochs.specs.Epochs.{Closed, Epochs, AreClosed, AreEpochs, opening_behind, ticks_made};
+ghost use Rattle.board_epochs.specs.Epochs.{Closed, Epochs, AreClosed, AreEpochs, log_of, opening_behind, ticks_made};
 ghost use Rattle.board_epochs.specs.Epochs.Epochs.{goes, resets};
 ghost use Rattle.epoch_courses.specs.Course.{IsMadeAtHalt, course_of, made_at_halt, open_journal, stands_at, point_behind};
 ghost use Rattle.epoch_courses.specs.Drives.{AreDriven, drives_of};
@@ -56,4 +61,15 @@ pub fn epochs_ask_for_parts()
         AreDriven false origin fresh_plan (parts_of (course_of state made es)) (drives_of state made es) }
     ensures finished { (state : State) (made : ℕ) (es : NewestFirst Closed) (h : Journal) → AreEpochs state (goes es h) → IsFinished (opening_behind state es) h → known_of h ≤ made →
         AreDriven true origin fresh_plan (parts_of (course_of state made (goes es h))) (drives_of state made (goes es h)) }
+{}
+
+/// What a board has done over its epochs fits the texts: what it has taken, with the words that may cut jogs, what it has
+/// answered, if that begins with the banner, and what is recorded of the parts of its course. So it does so far.
+pub fn epochs_fit_the_texts()
+    ensures fits { (state : State) (made : ℕ) (es : NewestFirst Closed) (h : Journal) (behind : List AnyReply) (records : List AnyRecord) → IsOpening state → AreEpochs state (goes es h) → IsFinished (opening_behind state es) h → known_of h ≤ made →
+        without_byes (answered_by (goes es h)) ≡ AnyReply.Banner ∷ behind → AreRecorded origin (parts_of (course_of state made (goes es h))) records →
+        FitsTexts (sent_by (goes es h)) (cancel_words_in (log_of (goes es h))) (AnyReply.Banner ∷ behind) records }
+    ensures so_far { (state : State) (made : ℕ) (es : Epochs) (records : List AnyRecord) → IsOpening state → AreEpochs state es → known_of (open_journal es) ≤ made →
+        (without_byes (answered_by es) ≡ []) ⊎ ((behind : List AnyReply) × (without_byes (answered_by es) ≡ AnyReply.Banner ∷ behind)) → AreMadeSoFar origin (parts_of (course_of state made es)) records →
+        FitsSoFar (sent_by es) (cancel_words_in (log_of es)) (without_byes (answered_by es)) records }
 {}

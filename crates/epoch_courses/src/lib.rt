@@ -3,4 +3,6 @@
 
 mod laws;
 
-pub use laws::{epochs_are_a_course, epochs_ask_for_parts, epochs_tell_their_course};
+pub use laws::{
+    epochs_are_a_course, epochs_ask_for_parts, epochs_fit_the_texts, epochs_tell_their_course,
+};

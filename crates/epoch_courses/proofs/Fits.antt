@@ -1,0 +1,53 @@
+-- What a board has done fits the texts, where its parts are recorded.
+use Rattle.std.proofs.Common.{◌≡◌, ◌⊎◌, ℕ, ◌≤◌, List, [], ◌∷◌}
+use Rattle.flight.specs.Places.{origin}
+use Rattle.run_rules.specs.declared.State.{State}
+use Rattle.run_rules.specs.States.{IsOpening}
+use Rattle.run_texts.specs.Fits.{FitsTexts}
+use Rattle.run_texts.specs.Parts.{parts_of}
+use Rattle.run_texts.specs.Recorded.{AreRecorded}
+use Rattle.run_texts.specs.SoFar.{AreMadeSoFar, FitsSoFar}
+use Rattle.status_report.specs.declared.Reply.{Reply}
+use Rattle.status_report.specs.declared.Reply.TheVariants.{Banner}
+use Rattle.step_line.specs.Logs.{NewestFirst}
+use Rattle.step_line.specs.declared.Record.{Record}
+use Rattle.board_rules.specs.Conduct.{IsFinished}
+use Rattle.board_rules.specs.Cuts.{cancel_words_in}
+use Rattle.board_rules.specs.Steps.{Journal, known_of}
+use Rattle.board_epochs.specs.Epochs.{Closed, Epochs, AreEpochs, log_of, opening_behind}
+use Rattle.board_epochs.specs.Epochs.Epochs.{goes}
+use Rattle.epoch_courses.specs.Course.{course_of, open_journal, stands_at, point_behind}
+use Rattle.epoch_courses.specs.Taken.{sent_by, left_by}
+use Rattle.epoch_courses.specs.Told.{answered_by, without_byes}
+use Rattle.epoch_courses.proofs.Chain.{epochs_lead, epochs_follow}
+use Rattle.epoch_courses.proofs.Cuts.{course_cuts}
+use Rattle.epoch_courses.proofs.Told.{console_tells, told_so_far}
+
+pub finished_fits : (state : State) (made : ℕ) (es : NewestFirst Closed) (h : Journal) (behind : List Reply) (records : List Record) → IsOpening state → AreEpochs state (goes es h) → IsFinished (opening_behind state es) h → known_of h ≤ made
+    → without_byes (answered_by (goes es h)) ≡ Banner ∷ behind → AreRecorded origin (parts_of (course_of state made (goes es h))) records → FitsTexts (sent_by (goes es h)) (cancel_words_in (log_of (goes es h))) (Banner ∷ behind) records
+finished_fits state made es h behind records opens c over known said recorded = record {
+  first = state;
+  opens = opens;
+  course = course_of state made (goes es h);
+  last = point_behind made (opening_behind state es) h;
+  follows = epochs_follow state made es h c over known;
+  told = console_tells state made es h behind c over said;
+  recorded = recorded;
+  few = course_cuts state made (goes es h) c;
+}
+
+pub so_far_fits : (state : State) (made : ℕ) (es : Epochs) (records : List Record) → IsOpening state → AreEpochs state es → known_of (open_journal es) ≤ made
+    → (without_byes (answered_by es) ≡ []) ⊎ ((behind : List Reply) × (without_byes (answered_by es) ≡ Banner ∷ behind)) → AreMadeSoFar origin (parts_of (course_of state made es)) records
+    → FitsSoFar (sent_by es) (cancel_words_in (log_of es)) (without_byes (answered_by es)) records
+so_far_fits state made es records opens c known said recorded = record {
+  first = state;
+  opens = opens;
+  course = course_of state made es;
+  point = stands_at state made es;
+  left = left_by es;
+  leads = epochs_lead state made es c known;
+  begins = said;
+  told = told_so_far state made es c;
+  made = recorded;
+  few = course_cuts state made es c;
+}
