@@ -1,0 +1,5 @@
+pub mod Pieces
+pub mod Parts
+pub mod Settled
+pub mod Ends
+pub mod Runs
