@@ -116,3 +116,12 @@ made_there state e es c =
 
 pub known_made : (state : State) (e : Closed) (es : NewestFirst Closed) → AreClosed state (e ∷ es) → known_of e.journal ≤ made_at_halt (ticks_made es) e.work
 known_made state e es c = (made_there state e es c).known
+
+-- the ticks made before an epoch are made at its halt
+pub halted_behind : (state : State) (e : Closed) (es : NewestFirst Closed) → AreClosed state (e ∷ es) → ticks_made es ≤ halted_in e.work
+halted_behind state e es c =
+    let first = opening_behind state es in
+    let is = c.0.resetting in
+    let may = halt_done (last_line first e.journal) (log_behind (closed_log es) e.journal) e.work is.works (was_halted (log_behind (closed_log es) e.journal) e.work c.0.worked.done) in
+    let there = done_there state es e.journal (halted_in e.work) c.1 is.epoch may in
+    let n = there.1 in omega (arith, n)
