@@ -3,3 +3,4 @@ pub mod Parts
 pub mod Settled
 pub mod Ends
 pub mod Runs
+pub mod Sent

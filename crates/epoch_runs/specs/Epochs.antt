@@ -1,9 +1,12 @@
 -- The epochs of a board, as the pulse has them.
-use Rattle.std.specs.Prelude.{ℕ, ◌+◌, List, [], ◌∷◌, ◌++◌}
+use Rattle.std.specs.Prelude.{ℕ, List, [], ◌∷◌, ◌++◌, map, reverse}
+use Rattle.motion_ring.specs.Sides as ring
+use Rattle.motion_ring.specs.declared.lists.Sent.{Sent}
 use Rattle.run_rules.specs.declared.State.{State}
 use Rattle.step_line.specs.Finishing.{ticks_together}
 use Rattle.step_line.specs.Logs.{NewestFirst}
 use Rattle.step_line.specs.declared.Mark.TheVariants as marks
+use Rattle.step_line.specs.declared.Piece.{Piece}
 use Rattle.step_line.specs.declared.Piece.TheVariants as pieces
 use Rattle.board_rules.specs.Openings.{Opening}
 use Rattle.board_rules.specs.Steps.{Journal, published_of, planned_of}
@@ -27,3 +30,13 @@ closed_epochs state (e ∷ es) = closed_epochs state es ++ reset_epoch (ticks_ma
 
 abbrev pub epochs_of : State → NewestFirst Closed → Journal → List Epoch
 epochs_of state es h = closed_epochs state es ++ last_epoch h ∷ []
+
+-- ---- as the ring has them
+
+-- the halts that were seen, the latest first: of each how many pieces were published up to it, and how many ticks were done
+abbrev pub halts_seen : Sent → NewestFirst (ℕ × ℕ)
+halts_seen s = map (λ halt. (halt.pieces, halt.done)) s.halts
+
+-- the pieces published, the oldest first
+abbrev pub pieces_sent : Sent → List Piece
+pieces_sent s = reverse (ring.published_in s)

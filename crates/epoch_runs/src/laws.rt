@@ -1,21 +1,32 @@
 //! Laws of the epochs of a board, as the pulse has them.
 
-ghost use Rattle.std.specs.Prelude.{ℕ, ◌≤◌};
+ghost use Rattle.std.specs.Prelude.{◌≡◌, ℕ, ◌≤◌, reverse};
 ghost use Rattle.flight.specs.Places.{origin};
 ghost use Rattle.run_rules.specs.declared.State.{State};
 ghost use Rattle.run_texts.specs.Parts.{parts_of};
 ghost use Rattle.step_line.specs.Logs.{NewestFirst};
 ghost use Rattle.board_rules.specs.Conduct.{IsFinished};
+ghost use Rattle.board_rules.specs.Ports.{sent_in};
 ghost use Rattle.board_rules.specs.Steps.{Journal, known_of};
-ghost use Rattle.board_epochs.specs.Epochs.{Closed, AreEpochs, opening_behind};
+ghost use Rattle.board_epochs.specs.Epochs.{Closed, AreEpochs, log_of, opening_behind};
 ghost use Rattle.board_epochs.specs.Epochs.Epochs.{goes};
 ghost use Rattle.epoch_courses.specs.Course.{course_of};
+ghost use Rattle.epoch_records.specs.Publishing.{published_in, halts_in, AreOver};
 ghost use Rattle.epoch_records.specs.Runs.{AreRun};
-ghost use Rattle.epoch_runs.specs.Epochs.{epochs_of};
+ghost use Rattle.epoch_runs.specs.Epochs.{epochs_of, halts_seen, pieces_sent};
 
 /// The epochs of a board that is done, as the pulse has them by their pieces and the ticks made of these, were run for the
 /// parts of its course: so what the pulse puts of them are the records of these parts.
 pub fn epochs_are_run_for_their_course()
     ensures { (state : State) (made : ℕ) (es : NewestFirst Closed) (h : Journal) → AreEpochs state (goes es h) → IsFinished (opening_behind state es) h → known_of h ≤ made →
         AreRun (parts_of (course_of state made (goes es h))) origin (epochs_of state es h) }
+{}
+
+/// These epochs are those of the board's port: their pieces, with the marks of the resets between them and the end behind
+/// them, are those that it has published, and their halts are those that it has seen. Each but the last is ended by a mark,
+/// and no more of its ticks are made than were published; and all of the last one.
+pub fn epochs_are_those_of_the_port()
+    ensures over { (state : State) (es : NewestFirst Closed) (h : Journal) → AreEpochs state (goes es h) → AreOver (epochs_of state es h) }
+    ensures pieces { (state : State) (es : NewestFirst Closed) (h : Journal) → AreEpochs state (goes es h) → IsFinished (opening_behind state es) h → pieces_sent (sent_in (log_of (goes es h))) ≡ published_in (epochs_of state es h) }
+    ensures halts { (state : State) (es : NewestFirst Closed) (h : Journal) → AreEpochs state (goes es h) → halts_seen (sent_in (log_of (goes es h))) ≡ reverse (halts_in 0 0 (epochs_of state es h)) }
 {}

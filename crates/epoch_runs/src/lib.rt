@@ -3,4 +3,4 @@
 
 mod laws;
 
-pub use laws::epochs_are_run_for_their_course;
+pub use laws::{epochs_are_run_for_their_course, epochs_are_those_of_the_port};

@@ -1,0 +1,11 @@
+use Rattle.epoch_runs.proofs.Sent.{epochs_over, epochs_sent, epochs_halted}
+use Rattle.epoch_runs.proofs.laws.epochs_are_those_of_the_port.Goals as goal
+
+pub returns-clause-over : goal.returns-clause-over
+returns-clause-over c = λ state es h are. epochs_over state es h are.0
+
+pub returns-clause-pieces : goal.returns-clause-pieces
+returns-clause-pieces c = epochs_sent
+
+pub returns-clause-halts : goal.returns-clause-halts
+returns-clause-halts c = epochs_halted
