@@ -27,6 +27,7 @@ joined_none l host board h j = record {
   bytes = j.bytes;
   replies = j.replies;
   marks = j.marks;
+  in_time = j.in_time;
   flags = j.flags;
   pieces = j.pieces;
   stops = λ shown. absurd cc;

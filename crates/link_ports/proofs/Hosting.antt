@@ -8,7 +8,7 @@ use Rattle.std.proofs.lemmas.List.Sums.{sum_by-cons}
 use Rattle.shared_rings.proofs.Placed.{by_bool}
 use Rattle.status_report.specs.Answering.{lfs_in, is_banner}
 use Rattle.serial_ring.specs.Marks.{Mark, Follows, last_of}
-use Rattle.serial_ring.specs.Lists.{answers_behind_mark, with_greeting, AnswersStored}
+use Rattle.serial_ring.specs.Lists.{answers_behind_mark, with_greeting, with_moment, AnswersStored}
 use Rattle.serial_ring.specs.Lists as link
 use Rattle.stream_host.specs.Links as host
 use Rattle.stream_host.specs.Links.{banners_in, AreGreetings}
@@ -35,7 +35,7 @@ more_marked bytes marks (m ∷ before ∷ earlier) are = ((are.0.0, inr are.0.1)
 banners_first : (r : Reply) (rs : List Reply) → banners_in (r ∷ rs) ≡ cond (is_banner r) 1 0 + banners_in rs
 banners_first r rs = sum_by-cons (λ (s : Reply). cond (is_banner s) 1 0) r rs
 
-module _ (bytes bytes' marks marks' : List ℕ) (closed closed' : Bool) (replies replies' : List Reply) (greeted greeted' : List Mark) (raises raises' : List Raise) (h : HostLog) (d : HostDid bytes marks closed replies greeted raises h) where
+module _ (bytes bytes' marks marks' : List ℕ) (closed closed' : Bool) (replies replies' : List Reply) (greeted greeted' : List Mark) (raises raises' : List Raise) (moments moments' : List ℕ) (h : HostLog) (d : HostDid bytes marks closed replies greeted raises moments h) where
   count : length (stored_in h) ≡ length bytes
   count = ap length d.bytes_are ∙ length-reverse bytes
 
@@ -46,8 +46,8 @@ module _ (bytes bytes' marks marks' : List ℕ) (closed closed' : Bool) (replies
     stored = subst (λ (z : List ℕ × List Mark). AreGreetings z.0 z.1) (λ i. (sym m i, sym e i)) d.greeted_are.stored;
   }
 
-  pub byte_stored : (b : ℕ) → bytes' ≡ b ∷ bytes → marks' ≡ marks → closed' ≡ closed → (replies' ≡ replies) × (greeted' ≡ greeted) → raises' ≡ raises → HostDid bytes' marks' closed' replies' greeted' raises' (stored b ∷ h)
-  byte_stored b e m c g r = record {
+  pub byte_stored : (b : ℕ) → bytes' ≡ b ∷ bytes → marks' ≡ marks → closed' ≡ closed → (replies' ≡ replies) × (greeted' ≡ greeted) → raises' ≡ raises → moments' ≡ moments → HostDid bytes' marks' closed' replies' greeted' raises' moments' (stored b ∷ h)
+  byte_stored b e m c g r w = record {
     bytes_are = ap (λ l. l ++ b ∷ []) d.bytes_are ∙ (sym (reverse_on b bytes) ∙ sym (ap reverse e));
     marks_are = d.marks_are ∙ sym m;
     shut_is = d.shut_is ∙ sym c;
@@ -55,10 +55,11 @@ module _ (bytes bytes' marks marks' : List ℕ) (closed closed' : Bool) (replies
     latest_are = d.latest_are ∙ sym g.0;
     greeted_are = same_greeted (stored b ∷ h) refl refl g.1;
     raises_are = d.raises_are ∙ sym r;
+    moments_are = d.moments_are ∙ sym w;
   }
 
-  pub byte_dropped : (b : ℕ) → bytes' ≡ bytes → marks' ≡ marks → closed' ≡ closed → (replies' ≡ replies) × (greeted' ≡ greeted) → raises' ≡ raises → HostDid bytes' marks' closed' replies' greeted' raises' (dropped b ∷ h)
-  byte_dropped b e m c g r = record {
+  pub byte_dropped : (b : ℕ) → bytes' ≡ bytes → marks' ≡ marks → closed' ≡ closed → (replies' ≡ replies) × (greeted' ≡ greeted) → raises' ≡ raises → moments' ≡ moments → HostDid bytes' marks' closed' replies' greeted' raises' moments' (dropped b ∷ h)
+  byte_dropped b e m c g r w = record {
     bytes_are = d.bytes_are ∙ sym (ap reverse e);
     marks_are = d.marks_are ∙ sym m;
     shut_is = d.shut_is ∙ sym c;
@@ -66,10 +67,11 @@ module _ (bytes bytes' marks marks' : List ℕ) (closed closed' : Bool) (replies
     latest_are = d.latest_are ∙ sym g.0;
     greeted_are = same_greeted (dropped b ∷ h) refl refl g.1;
     raises_are = d.raises_are ∙ sym r;
+    moments_are = d.moments_are ∙ sym w;
   }
 
-  pub mark_stored : bytes' ≡ bytes → marks' ≡ length bytes ∷ marks → closed' ≡ closed → (replies' ≡ replies) × (greeted' ≡ greeted) → raises' ≡ raises → HostDid bytes' marks' closed' replies' greeted' raises' (marked ∷ h)
-  mark_stored e m c g r = record {
+  pub mark_stored : bytes' ≡ bytes → marks' ≡ length bytes ∷ marks → closed' ≡ closed → (replies' ≡ replies) × (greeted' ≡ greeted) → raises' ≡ raises → moments' ≡ moments → HostDid bytes' marks' closed' replies' greeted' raises' moments' (marked ∷ h)
+  mark_stored e m c g r w = record {
     bytes_are = d.bytes_are ∙ sym (ap reverse e);
     marks_are = (λ i. count i ∷ d.marks_are i) ∙ sym m;
     shut_is = d.shut_is ∙ sym c;
@@ -77,10 +79,11 @@ module _ (bytes bytes' marks marks' : List ℕ) (closed closed' : Bool) (replies
     latest_are = d.latest_are ∙ sym g.0;
     greeted_are = record { each = ap length g.1 ∙ d.greeted_are.each; stored = subst (λ (z : List Mark). AreGreetings (length (stored_in h) ∷ marks_in h) z) (sym g.1) (more_marked (length (stored_in h)) (marks_in h) greeted d.greeted_are.stored) };
     raises_are = d.raises_are ∙ sym r;
+    moments_are = d.moments_are ∙ sym w;
   }
 
-  pub none_found : bytes' ≡ bytes → marks' ≡ marks → closed' ≡ closed → (replies' ≡ replies) × (greeted' ≡ greeted) → raises' ≡ raises → HostDid bytes' marks' closed' replies' greeted' raises' (no_reply ∷ h)
-  none_found e m c g r = record {
+  pub none_found : bytes' ≡ bytes → marks' ≡ marks → closed' ≡ closed → (replies' ≡ replies) × (greeted' ≡ greeted) → raises' ≡ raises → moments' ≡ moments → HostDid bytes' marks' closed' replies' greeted' raises' moments' (no_reply ∷ h)
+  none_found e m c g r w = record {
     bytes_are = d.bytes_are ∙ sym (ap reverse e);
     marks_are = d.marks_are ∙ sym m;
     shut_is = d.shut_is ∙ sym c;
@@ -88,10 +91,11 @@ module _ (bytes bytes' marks marks' : List ℕ) (closed closed' : Bool) (replies
     latest_are = d.latest_are ∙ sym g.0;
     greeted_are = same_greeted (no_reply ∷ h) refl refl g.1;
     raises_are = d.raises_are ∙ sym r;
+    moments_are = d.moments_are ∙ sym w;
   }
 
-  pub link_shut : bytes' ≡ bytes → marks' ≡ marks → closed' ≡ true → (replies' ≡ replies) × (greeted' ≡ greeted) → raises' ≡ raises → HostDid bytes' marks' closed' replies' greeted' raises' (shut ∷ h)
-  link_shut e m c g r = record {
+  pub link_shut : bytes' ≡ bytes → marks' ≡ marks → closed' ≡ true → (replies' ≡ replies) × (greeted' ≡ greeted) → raises' ≡ raises → moments' ≡ moments → HostDid bytes' marks' closed' replies' greeted' raises' moments' (shut ∷ h)
+  link_shut e m c g r w = record {
     bytes_are = d.bytes_are ∙ sym (ap reverse e);
     marks_are = d.marks_are ∙ sym m;
     shut_is = sym c;
@@ -99,6 +103,7 @@ module _ (bytes bytes' marks marks' : List ℕ) (closed closed' : Bool) (replies
     latest_are = d.latest_are ∙ sym g.0;
     greeted_are = same_greeted (shut ∷ h) refl refl g.1;
     raises_are = d.raises_are ∙ sym r;
+    moments_are = d.moments_are ∙ sym w;
   }
 
   -- a reply more, with its mark, if it is a Banner
@@ -114,8 +119,8 @@ module _ (bytes bytes' marks marks' : List ℕ) (closed closed' : Bool) (replies
           stored = subst (λ (z : List Mark). AreGreetings (marks_in h) z) (sym e) d.greeted_are.stored;
         })
 
-    pub reply_got : bytes' ≡ bytes → marks' ≡ marks → closed' ≡ closed → replies' ≡ x ∷ replies → raises' ≡ raises → HostDid bytes' marks' closed' replies' greeted' raises' (got x ∷ h)
-    reply_got e m c g r = record {
+    pub reply_got : bytes' ≡ bytes → marks' ≡ marks → closed' ≡ closed → replies' ≡ x ∷ replies → raises' ≡ raises → moments' ≡ with_moment x (length bytes) moments → HostDid bytes' marks' closed' replies' greeted' raises' moments' (got x ∷ h)
+    reply_got e m c g r w = record {
       bytes_are = d.bytes_are ∙ sym (ap reverse e);
       marks_are = d.marks_are ∙ sym m;
       shut_is = d.shut_is ∙ sym c;
@@ -123,6 +128,7 @@ module _ (bytes bytes' marks marks' : List ℕ) (closed closed' : Bool) (replies
       latest_are = ap (λ (l : List Reply). x ∷ l) d.latest_are ∙ sym g;
       greeted_are = greeted_more;
       raises_are = d.raises_are ∙ sym r;
+      moments_are = (λ i. with_moment x (count i) (d.moments_are i)) ∙ sym w;
     }
 
     pub answers_lines : replies' ≡ x ∷ replies → AnswersStored bytes replies' greeted' → AnswersLines (got x ∷ h)
@@ -164,8 +170,8 @@ module _ (bytes bytes' marks marks' : List ℕ) (closed closed' : Bool) (replies
     looks_and_drops b before none = (k, s, looks, record { before = count ∙ before; look = anew before; none = count ∙ none })
 
 -- the ends of fresh tables
-pub fresh_host : (bytes marks : List ℕ) (closed : Bool) (replies : List Reply) (greeted : List Mark) (raises : List Raise) → bytes ≡ [] → marks ≡ [] → closed ≡ false → replies ≡ [] → greeted ≡ [] → raises ≡ [] → HostDid bytes marks closed replies greeted raises []
-fresh_host bytes marks closed replies greeted raises b m c r g f = record {
+pub fresh_host : (bytes marks : List ℕ) (closed : Bool) (replies : List Reply) (greeted : List Mark) (raises : List Raise) (moments : List ℕ) → bytes ≡ [] → marks ≡ [] → closed ≡ false → replies ≡ [] → greeted ≡ [] → raises ≡ [] → moments ≡ [] → HostDid bytes marks closed replies greeted raises moments []
+fresh_host bytes marks closed replies greeted raises moments b m c r g f w = record {
   bytes_are = ap reverse (sym b);
   marks_are = sym m;
   shut_is = sym c;
@@ -173,4 +179,5 @@ fresh_host bytes marks closed replies greeted raises b m c r g f = record {
   latest_are = sym r;
   greeted_are = record { each = ap length g; stored = subst (λ (z : List Mark). AreGreetings [] z) (sym g) tt };
   raises_are = sym f;
+  moments_are = sym w;
 }

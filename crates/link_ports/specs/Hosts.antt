@@ -5,14 +5,14 @@ use Rattle.realtime_flags.specs.declared.words.Raise.{Raise}
 use Rattle.serial_ring.specs.declared.ends.HostEnd.{HostEnd}
 use Rattle.serial_ring.specs.Ends.{stored_by, tail_shown, tail_loads_of, got_by, replies_shown, reply_loads_of}
 use Rattle.link_ports.specs.Loads.{StoredByte, FoundNoRoom}
-use Rattle.stream_host.specs.Steps.{HostLog, stored_in, got_in, latest_got, marks_in, is_shut_in}
+use Rattle.stream_host.specs.Steps.{HostLog, stored_in, stored_at_banners, got_in, latest_got, marks_in, is_shut_in}
 use Rattle.stream_host.specs.Ports.{AreGreeted}
 use Rattle.stream_host.specs.Raises.{raises_in}
 use Rattle.serial_ring.specs.Marks.{Mark}
 use Rattle.stream_host.specs.Steps.PortStep.{stored, dropped, marked, raised, got, no_reply, shut}
 
 -- what the ends stored, marked, got and raised, the latest first, is what the log says, and these are marks of the Banners got
-pub record HostDid (bytes marks : List ℕ) (closed : Bool) (replies : List Reply) (greeted : List Mark) (raises : List Raise) (h : HostLog) : Type 0 where
+pub record HostDid (bytes marks : List ℕ) (closed : Bool) (replies : List Reply) (greeted : List Mark) (raises : List Raise) (moments : List ℕ) (h : HostLog) : Type 0 where
   pub bytes_are : stored_in h ≡ reverse bytes
   pub marks_are : marks_in h ≡ marks
   pub shut_is : is_shut_in h ≡ closed
@@ -20,6 +20,8 @@ pub record HostDid (bytes marks : List ℕ) (closed : Bool) (replies : List Repl
   pub latest_are : latest_got h ≡ replies
   pub greeted_are : AreGreeted h greeted
   pub raises_are : raises_in h ≡ raises
+  -- how many bytes were stored as each of these Banners was got
+  pub moments_are : stored_at_banners h ≡ moments
 
 -- How often the tail of the bytes was loaded, and how many bytes it showed taken at last: a call that stores a byte, or drops it,
 -- loads it if it had shown no room for one.

@@ -2,7 +2,7 @@
 use Rattle.std.specs.Prelude.{◌≡◌, ℕ, ◌+◌, ◌≤◌, false, [], length}
 use Rattle.serial_ring.specs.Logs.{answers_since, lfs_since}
 use Rattle.step_line.specs.Ordering.{has_ended}
-use Rattle.serial_ring.specs.Ends.{stored_by, closed_by, marks_by, got_by, greeted_by, log_by, found_closed}
+use Rattle.serial_ring.specs.Ends.{stored_by, closed_by, marks_by, got_by, greeted_by, moments_by, log_by, found_closed}
 use Rattle.realtime_flags.specs.Ends.{raises_by, takes_by}
 use Rattle.motion_ring.specs.Ends.{sent_by, known_by}
 use Rattle.motion_ring.specs.Sides.{published_in, ticks_published}
@@ -16,7 +16,7 @@ use Rattle.link_ports.specs.Boards.{BoardDid, BoardLooked}
 
 -- what a host's port did
 abbrev pub HostLogs : {room : ℕ} → HostLink room → host.HostLog → Type 0
-HostLogs port h = HostDid (stored_by port.end) (marks_by port.end) (closed_by port.end) (got_by port.end) (greeted_by port.end) (raises_by port.flags) h
+HostLogs port h = HostDid (stored_by port.end) (marks_by port.end) (closed_by port.end) (got_by port.end) (greeted_by port.end) (raises_by port.flags) (moments_by port.end) h
 
 -- how often it looked, and what it saw
 abbrev pub HostSees : {room : ℕ} → HostLink room → host.HostLog → Type 0

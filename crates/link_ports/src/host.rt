@@ -19,13 +19,13 @@ pub struct HostLink<const RX: usize> {
 impl<const RX: usize> HostPort for HostLink<RX> {
     ghost use Rattle.std.specs.Prelude.{◌≡◌};
     ghost use Rattle.atomic_table.specs.Seated.{TableId};
-    ghost use Rattle.serial_ring.specs.Ends.{link_of_host, stored_by, closed_by, marks_by, got_by, greeted_by};
+    ghost use Rattle.serial_ring.specs.Ends.{link_of_host, stored_by, closed_by, marks_by, got_by, greeted_by, moments_by};
     ghost use Rattle.realtime_flags.specs.Ends.{raised_in, raises_by};
     ghost use Rattle.link_ports.specs.Hosts.{HostDid, HostLooked};
 
     ghost Rest = { TableId × TableId };
 
-    ghost stands = { λ port tables log. (link_of_host port.end ≡ tables.0) × (raised_in port.flags ≡ tables.1) × HostDid (stored_by port.end) (marks_by port.end) (closed_by port.end) (got_by port.end) (greeted_by port.end) (raises_by port.flags) log
+    ghost stands = { λ port tables log. (link_of_host port.end ≡ tables.0) × (raised_in port.flags ≡ tables.1) × HostDid (stored_by port.end) (marks_by port.end) (closed_by port.end) (got_by port.end) (greeted_by port.end) (raises_by port.flags) (moments_by port.end) log
         × HostLooked port.end log };
 
     #[inline]

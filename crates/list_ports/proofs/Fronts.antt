@@ -32,6 +32,11 @@ pub handed_back : {T E B : Type 0} (r : Result T E) (x : E) (new old : B) (n cap
 handed_back (Ok t) x new old n cap bad room err = absurd cc
 handed_back (Err y) x new old n cap bad room err = (err.1, at_least n cap (λ lt. let e : false ≡ true = room lt in cc) (dec_le cap n))
 
+-- a push that keeps its item puts it behind the others
+pub put_behind : {T E B : Type 0} (r : Result T E) (new v : B) → is_ok r ≡ true → OnOk r (new ≡ v) → new ≡ v
+put_behind (Ok t) new v good ok = ok
+put_behind (Err y) new v good ok = absurd cc
+
 -- what holds of all items, and of the one that is pushed, holds of all behind it; the room stays
 pub all_pushed : {X : Type 0} (P : X → Type 0) (r : Result (Unit {0}) X) (x : X) (new old : Buffer X) → All P old.items → P x
     → OnOk r (new ≡ buffer (old.items ++ x ∷ []) old.capacity) → IfErr r (λ y. (y ≡ x) × (new ≡ old)) → (new.capacity ≡ old.capacity) × All P new.items

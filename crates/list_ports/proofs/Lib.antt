@@ -1,4 +1,5 @@
 pub mod Marking
+pub mod Moments
 pub mod Fronts
 pub mod Links
 pub mod Pieces

@@ -1,5 +1,5 @@
 -- What calls of a port make of the lists and the logs, where a search does not find it.
-use Rattle.std.proofs.Common.{◌≡◌, ℕ, ◌+◌, ◌-◌, ◌<◌, ◌≤◌, ◌^◌, ◌⊎◌, inl, Bool, true, false, not, nat_eq, List, [], ◌∷◌, ◌++◌, length, map, reverse, refl, sym, ap, ◌∙◌, subst, arith, append_assoc, Some}
+use Rattle.std.proofs.Common.{◌≡◌, ℕ, ◌+◌, ◌-◌, ◌<◌, ◌≤◌, ◌^◌, ◌⊎◌, inl, Bool, true, false, not, nat_eq, List, [], ◌∷◌, ◌++◌, length, map, reverse, refl, sym, ap, ◌∙◌, subst, arith, append_assoc, length-append, Some}
 use Rattle.std.proofs.lemmas.Bool.Decides.{nat_tests}
 use Rattle.std.proofs.lemmas.List.{reverse-append, reverse-reverse}
 use Rattle.std.specs.declared.option.Option.{Option}
@@ -22,11 +22,14 @@ use Rattle.pulse_engine.specs.Logs.PieceEvent.{got as piece_came}
 use Rattle.status_report.specs.declared.Reply.{Reply}
 use Rattle.status_report.specs.declared.Reply.TheVariants as replies
 use Rattle.status_report.specs.Answering.{receive_room, answers_in, lfs_in}
-use Rattle.stream_host.specs.Ports.{TakesRaise, SeemsFull, AnswersLines}
+use Rattle.stream_host.specs.Ports.{TakesByte, TakesRaise, SeemsFull, AnswersLines}
 use Rattle.code_table.specs.Tables.{query}
-use Rattle.stream_host.specs.Steps.{stored_in, got_in, marks_in, is_shut_in}
+use Rattle.stream_host.specs.Steps.{stored_in, stored_at_banners, got_in, marks_in, is_shut_in}
+use Rattle.serial_ring.specs.Logs as link
+use Rattle.serial_ring.specs.Logs.{taken_at_banners}
+use Rattle.board_rules.proofs.LinkSteps.{same_taken}
 use Rattle.stream_host.specs.Steps.{HostLog}
-use Rattle.stream_host.specs.Steps.PortStep.{dropped, marked, raised, got}
+use Rattle.stream_host.specs.Steps.PortStep.{stored, dropped, marked, raised, got}
 use Rattle.list_ports.specs.Asked.{AsksBetween, LooksFirst, AsksPass, report_is_up, raised_behind, words_behind, has_looked}
 use Rattle.pulse_engine.proofs.Whole.{all_since}
 use Rattle.list_ports.specs.Joining.{Listed, FlagsPass, IsGoing, Joined, with_flag, numbers_of, one_if_some}
@@ -35,6 +38,7 @@ use Rattle.board_rules.specs.Takes.{takes_in}
 use Rattle.list_ports.proofs.Asks as reports
 use Rattle.list_ports.proofs.Links as links
 use Rattle.list_ports.proofs.Marking as marks
+use Rattle.list_ports.proofs.Moments as moments
 use Rattle.list_ports.proofs.Pieces as pieces
 use Rattle.list_ports.proofs.Raising as words
 
@@ -43,17 +47,48 @@ module _ (l : Listed) (host : HostLog) (board : BoardLog) (pulse : PieceLog) (j 
 
   pub byte_dropped : (b : ℕ) → receive_room ≤ length l.bytes → Joined l (dropped b ∷ host) board pulse × SeemsFull host
   byte_dropped b many = (
-    record { bytes = j.bytes; replies = j.replies; marks = j.marks; flags = j.flags; pieces = j.pieces; stops = j.stops; asks = j.asks },
+    record { bytes = j.bytes; replies = j.replies; marks = j.marks; in_time = j.in_time; flags = j.flags; pieces = j.pieces; stops = j.stops; asks = j.asks },
     marks.seems_full l.bytes l.closed (is_shut_in host) (has_closed_in board) l.replies l.stored l.mark host board j.bytes j.replies j.marks many,
   )
 
+  pub byte_stored : (b : ℕ) → TakesByte host → Joined (record l { bytes = l.bytes ++ b ∷ []; stored = l.stored + 1 }) (stored b ∷ host) board pulse
+  byte_stored b takes = record {
+    bytes = record {
+      fifo = ap (λ (z : List ℕ). z ++ b ∷ []) j.bytes.fifo ∙ append_assoc (taken_in board) l.bytes (b ∷ []);
+      short = (let f = takes.few in let a = length-append (stored_in host) (b ∷ []) in omega (arith, f, a));
+      shut_is = j.bytes.shut_is;
+      all = λ over. absurd (let o = (j.bytes.all over).0 in let s = j.bytes.shut_is in let g = takes.going in cc);
+    };
+    replies = j.replies;
+    marks = marks.byte_stored l.stored l.mark (stored_in host) (marks_in host) (link_steps board) j.marks b;
+    in_time = j.in_time;
+    flags = j.flags;
+    pieces = j.pieces;
+    stops = j.stops;
+    asks = j.asks;
+  }
+
   pub mark_stored : Joined (record l { mark = (l.mark.0 + 1, l.stored) }) (marked ∷ host) board pulse
-  mark_stored = record { bytes = j.bytes; replies = j.replies; marks = marks.mark_stored l.stored l.mark (stored_in host) (marks_in host) (link_steps board) j.marks; flags = j.flags; pieces = j.pieces; stops = j.stops; asks = j.asks }
+  mark_stored = record { bytes = j.bytes; replies = j.replies; marks = marks.mark_stored l.stored l.mark (stored_in host) (marks_in host) (link_steps board) j.marks; in_time = j.in_time; flags = j.flags; pieces = j.pieces; stops = j.stops; asks = j.asks }
 
   -- each line that the next reply answers was stored
   pub lines_answered : (r : Reply) (ws : List Reply) → l.replies ≡ r ∷ ws → AnswersLines (got r ∷ host)
   lines_answered r ws e = marks.answers_lines l.bytes l.closed (is_shut_in host) (has_closed_in board) ws l.stored l.mark (got r ∷ host) board j.bytes
       (record { fifo = j.replies.fifo ∙ (ap (λ (z : List Reply). got_in host ++ z) e ∙ sym (append_assoc (got_in host) (r ∷ []) ws)); fewer = j.replies.fewer }) j.marks
+
+  -- it comes
+  pub reply_came : (r : Reply) (ws : List Reply) → l.replies ≡ r ∷ ws → Joined (record l { replies = ws }) (got r ∷ host) board pulse
+  reply_came r ws e = record {
+    bytes = j.bytes;
+    replies = record { fifo = j.replies.fifo ∙ (ap (λ (z : List Reply). got_in host ++ z) e ∙ sym (append_assoc (got_in host) (r ∷ []) ws)); fewer = j.replies.fewer };
+    marks = j.marks;
+    in_time = moments.reply_got r ws host board (j.replies.fifo ∙ ap (λ (z : List Reply). got_in host ++ z) e)
+        (let f = ap length j.bytes.fifo in let a = length-append (taken_in board) l.bytes in let s = same_taken board in omega (arith, f, a, s)) j.in_time;
+    flags = j.flags;
+    pieces = j.pieces;
+    stops = j.stops;
+    asks = j.asks;
+  }
 
   queries_few : (b : ℕ) (f : Flag) → flag_of_byte b ≡ Some f → TakesRaise b host → is_flag report_flag f ≡ true → raises_of report_flag (raises_in host) < 2 ^ 31
   queries_few b f is may asked =
@@ -83,6 +118,7 @@ module _ (l : Listed) (host : HostLog) (board : BoardLog) (pulse : PieceLog) (j 
       bytes = j.bytes;
       replies = j.replies;
       marks = j.marks;
+      in_time = j.in_time;
       flags = raises_of_byte b (Some (flags.Exec place)) _ _ _ is (words.exec_raised l.exec l.override place (raises_in host) (takes_in board) named j.flags (queries_few b (flags.Exec place) is may));
       pieces = j.pieces;
       stops = j.stops;
@@ -95,6 +131,7 @@ module _ (l : Listed) (host : HostLog) (board : BoardLog) (pulse : PieceLog) (j 
       bytes = j.bytes;
       replies = j.replies;
       marks = j.marks;
+      in_time = j.in_time;
       flags = raises_of_byte b (Some (flags.Override place)) _ _ _ is (words.override_raised l.exec l.override place (raises_in host) (takes_in board) named j.flags);
       pieces = j.pieces;
       stops = j.stops;
@@ -119,6 +156,7 @@ module _ (l : Listed) (host : HostLog) (board : BoardLog) (pulse : PieceLog) (j 
     bytes = j.bytes;
     replies = links.reply_told l.replies (answered_in board) (got_in host) (taken_in board) (replies.Report r) (λ e. absurd cc) j.replies;
     marks = marks.reply_answered l.stored l.mark (stored_in host) (marks_in host) (link_steps board) j.marks (replies.Report r) may;
+    in_time = j.in_time;
     flags = j.flags;
     pieces = j.pieces;
     stops = j.stops;
@@ -128,6 +166,7 @@ module _ (l : Listed) (host : HostLog) (board : BoardLog) (pulse : PieceLog) (j 
     bytes = j.bytes;
     replies = links.reply_told l.replies (answered_in board) (got_in host) (taken_in board) r (marks.may_line board r j.marks.well may) j.replies;
     marks = marks.reply_answered l.stored l.mark (stored_in host) (marks_in host) (link_steps board) j.marks r may;
+    in_time = moments.reply_answered r (length (link.taken_in (link_steps board))) (taken_at_banners (link_steps board)) (stored_at_banners host) j.in_time;
     flags = j.flags;
     pieces = j.pieces;
     stops = j.stops;
@@ -139,6 +178,7 @@ module _ (l : Listed) (host : HostLog) (board : BoardLog) (pulse : PieceLog) (j 
     bytes = j.bytes;
     replies = j.replies;
     marks = j.marks;
+    in_time = j.in_time;
     flags = j.flags;
     pieces = pieces.piece_published l.pieces l.left l.done l.stop (sent_in board) (known_in board) (pieces_of pulse) (got_since pulse) (counted pulse) (uncounted pulse) (halts_of pulse) j.pieces p may room;
     stops = j.stops;
@@ -153,7 +193,7 @@ module _ (l : Listed) (host : HostLog) (board : BoardLog) (pulse : PieceLog) (j 
 
   pub piece_handed_back : unfinished l.pieces 0 ≡ length l.pieces → most_unfinished ≤ length l.pieces + one_if_some l.left → Joined l host (no_piece_room l.done ∷ board) pulse × LacksPieceRoom l.done board
   piece_handed_back all many = (
-    record { bytes = j.bytes; replies = j.replies; marks = j.marks; flags = j.flags; pieces = j.pieces; stops = j.stops; asks = j.asks },
+    record { bytes = j.bytes; replies = j.replies; marks = j.marks; in_time = j.in_time; flags = j.flags; pieces = j.pieces; stops = j.stops; asks = j.asks },
     record {
       later = j.pieces.known_is;
       full = pieces.five_unfinished l.pieces l.left l.done l.stop (sent_in board) (got_since pulse) (halts_of pulse)
@@ -170,6 +210,7 @@ module _ (l : Listed) (host : HostLog) (board : BoardLog) (pulse : PieceLog) (j 
       bytes = j.bytes;
       replies = j.replies;
       marks = j.marks;
+      in_time = j.in_time;
       flags = j.flags;
       pieces = pieces.done_loaded l.pieces l.left l.done l.stop (sent_in board) (known_in board) (pieces_of pulse) (got_since pulse) (counted pulse) (uncounted pulse) (halts_of pulse) j.pieces;
       stops = j.stops;
@@ -184,6 +225,7 @@ module _ (l : Listed) (host : HostLog) (board : BoardLog) (pulse : PieceLog) (j 
     bytes = j.bytes;
     replies = j.replies;
     marks = j.marks;
+    in_time = j.in_time;
     flags = j.flags;
     pieces = pieces.stop_stored l.pieces l.left l.done l.stop (sent_in board) (known_in board) (pieces_of pulse) (got_since pulse) (counted pulse) (uncounted pulse) (halts_of pulse) j.pieces may.running;
     stops = λ shown. refl;
@@ -196,6 +238,7 @@ module _ (l : Listed) (host : HostLog) (board : BoardLog) (pulse : PieceLog) (j 
       bytes = j.bytes;
       replies = j.replies;
       marks = j.marks;
+      in_time = j.in_time;
       flags = j.flags;
       pieces = pieces.halt_found l.pieces l.left l.done l.stop (sent_in board) (known_in board) (pieces_of pulse) (got_since pulse) (counted pulse) (uncounted pulse) (halts_of pulse) j.pieces waits none;
       stops = j.stops;
@@ -212,6 +255,7 @@ module _ (l : Listed) (host : HostLog) (board : BoardLog) (pulse : PieceLog) (j 
     bytes = j.bytes;
     replies = j.replies;
     marks = j.marks;
+    in_time = j.in_time;
     flags = j.flags;
     pieces = j.pieces;
     stops = λ shown. sym is ∙ shown;
@@ -224,6 +268,7 @@ module _ (l : Listed) (host : HostLog) (board : BoardLog) (pulse : PieceLog) (j 
     bytes = j.bytes;
     replies = j.replies;
     marks = j.marks;
+    in_time = j.in_time;
     flags = j.flags;
     pieces = pieces.pieces_dropped l.pieces l.left l.done l.stop (sent_in board) (known_in board) (pieces_of pulse) (got_since pulse) (counted pulse) (uncounted pulse) (halts_of pulse) j.pieces (j.stops saw);
     stops = λ shown. absurd cc;
@@ -237,6 +282,7 @@ module _ (l : Listed) (host : HostLog) (board : BoardLog) (pulse : PieceLog) (j 
           bytes = j.bytes;
           replies = j.replies;
           marks = j.marks;
+          in_time = j.in_time;
           flags = j.flags;
           pieces = pieces.piece_got p ws l.left l.done l.stop (sent_in board) (known_in board) (pieces_of pulse) (got_since pulse) (counted pulse) (uncounted pulse) (halts_of pulse) q all;
           stops = j.stops;
@@ -250,6 +296,7 @@ module _ (l : Listed) (host : HostLog) (board : BoardLog) (pulse : PieceLog) (j 
     bytes = j.bytes;
     replies = j.replies;
     marks = j.marks;
+    in_time = j.in_time;
     flags = j.flags;
     pieces = pieces.tick_counted l.pieces l.left l.done l.stop (sent_in board) (known_in board) (pieces_of pulse) (got_since pulse) (counted pulse) (uncounted pulse) (halts_of pulse) j.pieces more;
     stops = j.stops;

@@ -1,5 +1,5 @@
 -- The lists between a host, a board and a pulse, and what the three have done with them.
-use Rattle.std.specs.Prelude.{◌≡◌, ℕ, ◌+◌, ◌^◌, ◌<◌, ◌≤◌, ◌⊎◌, Bool, true, false, cond, nat_lt, List, [], ◌∷◌, ◌++◌, length, map, drop, reverse}
+use Rattle.std.specs.Prelude.{◌≡◌, ℕ, ◌+◌, ◌-◌, ◌^◌, ◌<◌, ◌≤◌, ◌⊎◌, Bool, true, false, cond, nat_lt, List, [], ◌∷◌, ◌++◌, length, map, drop, reverse}
 use Rattle.std.specs.List.{All}
 use Rattle.std.specs.Int.Bits.{bit_or}
 use Rattle.status_report.specs.declared.Reply.{Reply}
@@ -26,8 +26,9 @@ use Rattle.board_rules.specs.Ports.{BoardLog}
 use Rattle.pulse_engine.specs.Logs.{PieceLog, pieces_of, got_since, counted, uncounted, saw_stop, halts_of}
 use Rattle.serial_ring.specs.declared.view.LinkStep.{LinkStep}
 use Rattle.serial_ring.specs.Marks.{Mark, AreMarks, AreRising, latest}
-use Rattle.serial_ring.specs.Logs.{marked_in, AnswersWell}
-use Rattle.stream_host.specs.Steps.{stored_in, got_in, marks_in, is_shut_in}
+use Rattle.serial_ring.specs.Lists.{AreAtMost}
+use Rattle.serial_ring.specs.Logs.{marked_in, taken_at_banners, AnswersWell}
+use Rattle.stream_host.specs.Steps.{stored_in, stored_at_banners, got_in, marks_in, is_shut_in}
 use Rattle.stream_host.specs.Steps.{HostLog}
 use Rattle.list_ports.specs.Asked.{AsksBetween, LooksFirst, AsksPass, report_is_up, raised_behind, words_behind, has_looked}
 
@@ -88,6 +89,11 @@ pub record MarksPass (stored_count : ℕ) (mark : Mark) (stored_bytes marks : Li
   pub loads : AreMarks marks (marked_in steps)
   pub well : AnswersWell steps
 
+-- No byte is taken before it is stored: of each Banner that was got, the first of those that were answered, no more bytes were taken
+-- when it was answered than were stored when it was got. Both have the latest first.
+abbrev pub IsInTime : (at_answers at_got : List ℕ) → Type 0
+IsInTime at_answers at_got = AreAtMost (drop (length at_answers - length at_got) at_answers) at_got
+
 -- flags that were raised and not taken
 pub record FlagsPass (exec override : ℕ) (raises : List Raise) (takes : List Take) : Type 0 where
   pub balance : IsBalanced (exec ∷ override ∷ []) raises takes
@@ -140,6 +146,7 @@ pub record Joined (l : Listed) (host : HostLog) (board : BoardLog) (pulse : Piec
   pub bytes : BytesPass l.bytes l.closed (stored_in host) (is_shut_in host) (taken_in board) (has_closed_in board)
   pub replies : RepliesPass l.replies (answered_in board) (got_in host) (taken_in board)
   pub marks : MarksPass l.stored l.mark (stored_in host) (marks_in host) (link_steps board)
+  pub in_time : IsInTime (taken_at_banners (link_steps board)) (stored_at_banners host)
   pub flags : FlagsPass l.exec l.override (raises_in host) (takes_in board)
   pub pieces : PiecesPass l.pieces l.left l.done l.stop (sent_in board) (known_in board) (pieces_of pulse) (got_since pulse) (counted pulse) (uncounted pulse) (halts_of pulse)
   pub stops : saw_stop pulse ≡ true → l.stop ≡ true

@@ -64,10 +64,10 @@ sees_head room slots id v c mine s k size at small = go (ℕ_discrete (get_or s.
     few : n % 2 ^ 63 ≤ 2 ^ 31
     few = let z = word.0 in let f = k.bytes.short in omega arith
 
-    kept : (w : LinkSight) → Boards k.stored k.closed k.log k.filling w → w.may_store ≡ v.may_store → w.stored ≡ v.stored → w.marks ≡ v.marks → w.closed ≡ v.closed → w.tail ≡ v.tail → w.cell ≡ v.cell → w.got ≡ v.got → w.greeted ≡ v.greeted → w.emptying ≡ v.emptying
+    kept : (w : LinkSight) → Boards k.stored k.closed k.log k.filling w → w.may_store ≡ v.may_store → w.stored ≡ v.stored → w.marks ≡ v.marks → w.closed ≡ v.closed → w.tail ≡ v.tail → w.cell ≡ v.cell → w.got ≡ v.got → w.greeted ≡ v.greeted → w.moments ≡ v.moments → w.emptying ≡ v.emptying
         → Kept room (after (set s.words head_word n) s.homes s.views id w)
-    kept w knows same p x q r o a g f = loads room s head_word s.homes id w (board_steps room s k id v w s.words s.homes k.log k.later k.filling at mine k.wide k.bytes k.marked k.replies k.parts k.loads k.well knows
-        (λ m. let h = k.hosting id v at (sym same ∙ m) in (h.0, same_host room s.words k.stored k.marks (taken_in k.log) k.closed k.seen k.emptying v w p x q r o a g f h.1)) (λ u h. h))
+    kept w knows same p x q r o a g t f = loads room s head_word s.homes id w (board_steps room s k id v w s.words s.homes k.log k.later k.filling at mine k.wide k.bytes k.marked k.replies k.parts k.loads k.well knows
+        (λ m. let h = k.hosting id v at (sym same ∙ m) in (h.0, same_host room s.words k.stored k.marks (taken_in k.log) k.closed k.seen k.emptying v w p x q r o a g t f h.1)) (λ u h. h))
 
     -- the bytes of marks are stored
     past : (m : ℕ) → MarkedPast m (marked_in v.log) → m < n % 2 ^ 63
@@ -85,7 +85,7 @@ sees_head room slots id v c mine s k size at small = go (ℕ_discrete (get_or s.
           keeps,
           tt,
           kept (with_over v (n % 2 ^ 63)) (record { log_is = b.1.log_is; head_is = (let z = word.0 in omega arith); read_is = b.1.read_is; over_is = λ q. (o.0, whole); filling_is = b.1.filling_is })
-              refl refl refl refl refl refl refl refl refl,
+              refl refl refl refl refl refl refl refl refl refl,
           (low, high, few, word.1, (λ q. refl), (λ q. absurd (q d)), past),
         )
     go (no d) = (
@@ -93,7 +93,7 @@ sees_head room slots id v c mine s k size at small = go (ℕ_discrete (get_or s.
       keeps,
       tt,
       kept (with_head v (n % 2 ^ 63)) (record { log_is = b.1.log_is; head_is = (let z = word.0 in omega arith); read_is = b.1.read_is; over_is = b.1.over_is; filling_is = b.1.filling_is })
-          refl refl refl refl refl refl refl refl refl,
+          refl refl refl refl refl refl refl refl refl refl,
       (low, high, few, word.1, (λ q. absurd (d q)), (λ q. (refl, by_bool v.over (λ o. absurd (let z = b.1.over_is o in d (closed_word k.closed z.0 (ap length z.1) refl))) (λ o. o))), past),
     )
 
@@ -119,7 +119,7 @@ looks room slots id i v c mine place more s k size at small =
             over_is = b.1.over_is;
             filling_is = b.1.filling_is;
           })
-          (λ m. let h = k.hosting id v at m in (h.0, same_host room s.words k.stored k.marks (taken_in k.log) k.closed k.seen k.emptying v w refl refl refl refl refl refl refl refl h.1)) (λ u h. h)),
+          (λ m. let h = k.hosting id v at m in (h.0, same_host room s.words k.stored k.marks (taken_in k.log) k.closed k.seen k.emptying v w refl refl refl refl refl refl refl refl refl h.1)) (λ u h. h)),
       (refl, omega arith),
     )
 
@@ -146,7 +146,7 @@ takes_byte room slots id x new v c mine read count s k size at small =
             over_is = λ q. absurd (let o = b.1.over_is q in let l = ap length o.1 in omega arith);
             filling_is = b.1.filling_is;
           })
-          (λ m. let h = k.hosting id v at m in (h.0, host_later room s.words k.stored k.marks (taken_in k.log) x k.closed k.seen k.emptying new w (same_host room s.words k.stored k.marks (taken_in k.log) k.closed k.seen k.emptying v w refl refl refl refl refl refl refl refl h.1)))
+          (λ m. let h = k.hosting id v at m in (h.0, host_later room s.words k.stored k.marks (taken_in k.log) x k.closed k.seen k.emptying new w (same_host room s.words k.stored k.marks (taken_in k.log) k.closed k.seen k.emptying v w refl refl refl refl refl refl refl refl refl h.1)))
           (λ u h. host_later room s.words k.stored k.marks (taken_in k.log) x k.closed k.seen k.emptying new u h),
       λ z q. let xz : x ≡ z = cc in ap (λ n. (with_taken v n, c)) xz,
     )
@@ -176,7 +176,7 @@ sees_mark room slots id v c mine s k size at small =
             over_is = b.1.over_is;
             filling_is = b.1.filling_is;
           })
-          (λ m. let h = k.hosting id v at m in (h.0, same_host room s.words k.stored k.marks (taken_in k.log) k.closed k.seen k.emptying v w refl refl refl refl refl refl refl refl h.1)) (λ u h. h)),
+          (λ m. let h = k.hosting id v at m in (h.0, same_host room s.words k.stored k.marks (taken_in k.log) k.closed k.seen k.emptying v w refl refl refl refl refl refl refl refl refl h.1)) (λ u h. h)),
       (refl, last, (λ e. bytes ∙ none_yet k.marks (sym number ∙ e))),
     )
 
@@ -208,7 +208,7 @@ reaches room slots id v c mine idle s k size at small = go (dec_le (get_or s.wor
       tt,
       loads room s reply_tail_word s.homes id w (board_steps room s k id v w s.words s.homes k.log k.later k.filling at mine k.wide k.bytes k.marked k.replies k.parts k.loads k.well
           (same_board k.stored k.closed k.log k.filling v w refl refl refl refl refl b.1)
-          (λ m. let h = k.hosting id v at m in (h.0, same_host room s.words k.stored k.marks (taken_in k.log) k.closed k.seen k.emptying v w refl refl refl refl refl refl refl refl h.1)) (λ u h. h)),
+          (λ m. let h = k.hosting id v at m in (h.0, same_host room s.words k.stored k.marks (taken_in k.log) k.closed k.seen k.emptying v w refl refl refl refl refl refl refl refl refl h.1)) (λ u h. h)),
       (within, few, (λ lt. absurd (omega arith)), (λ le. refl)),
     )
     go (no d) =
@@ -227,7 +227,7 @@ reaches room slots id v c mine idle s k size at small = go (dec_le (get_or s.wor
           at_slot,
           loads room s reply_tail_word (set s.homes i none) id w (board_steps room s k id v w s.words (set s.homes i none) k.log k.later true at mine k.wide k.bytes k.marked moved k.parts k.loads k.well
               (record { log_is = b.1.log_is; head_is = b.1.head_is; read_is = b.1.read_is; over_is = b.1.over_is; filling_is = refl })
-              (λ m. let h = k.hosting id v at m in (h.0, same_host room s.words k.stored k.marks (taken_in k.log) k.closed k.seen k.emptying v w refl refl refl refl refl refl refl refl h.1)) (λ u h. h)),
+              (λ m. let h = k.hosting id v at m in (h.0, same_host room s.words k.stored k.marks (taken_in k.log) k.closed k.seen k.emptying v w refl refl refl refl refl refl refl refl refl h.1)) (λ u h. h)),
           (within, few, (λ q. refl), (λ q. absurd (omega arith))),
         )
 
@@ -250,7 +250,7 @@ answers room slots id new i v r mine busy place may count s k size at small =
           (marks_stay s.words k.stored k.marks k.marked reply_head_word new (below mark_word reply_head_word (omega arith))) moved
           (ap (λ (z : List LinkStep). Answered r ∷ z) k.parts) k.loads (subst (λ (l : List LinkStep). MayAnswer l r) b.1.log_is may, k.well)
           (record { log_is = ap (λ (l : List LinkStep). Answered r ∷ l) b.1.log_is; head_is = b.1.head_is; read_is = b.1.read_is; over_is = b.1.over_is; filling_is = refl })
-          (λ m. let h = k.hosting id v at m in (h.0, host_words room s.words k.stored k.marks (taken_in k.log) (taken_in k.log) k.closed k.seen k.emptying reply_head_word new w (omega arith) (omega arith) (same_host room s.words k.stored k.marks (taken_in k.log) k.closed k.seen k.emptying v w refl refl refl refl refl refl refl refl h.1)))
+          (λ m. let h = k.hosting id v at m in (h.0, host_words room s.words k.stored k.marks (taken_in k.log) (taken_in k.log) k.closed k.seen k.emptying reply_head_word new w (omega arith) (omega arith) (same_host room s.words k.stored k.marks (taken_in k.log) k.closed k.seen k.emptying v w refl refl refl refl refl refl refl refl refl h.1)))
           (λ u h. host_words room s.words k.stored k.marks (taken_in k.log) (taken_in k.log) k.closed k.seen k.emptying reply_head_word new u (omega arith) (omega arith) h),
       λ m q z. let pair : (i, Some r) ≡ (m, Some q) = cc in let both : Some r ≡ Some q = ap (λ (x : ℕ × Option Reply). x.1) pair in let rq : r ≡ q = cc in ap (λ (x : Reply). (with_answered v x, [])) rq,
     )

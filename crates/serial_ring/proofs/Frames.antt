@@ -11,7 +11,8 @@ use Rattle.status_report.specs.declared.Reply.{Reply}
 use Rattle.serial_ring.specs.declared.view.LinkSight.{LinkSight}
 use Rattle.serial_ring.specs.declared.view.LinkStep.{LinkStep}
 use Rattle.serial_ring.specs.Marks.{AreMarks}
-use Rattle.serial_ring.specs.Logs.{AnswersWell, taken_in, marked_in, answered_in}
+use Rattle.serial_ring.specs.Lists.{AreAtMost}
+use Rattle.serial_ring.specs.Logs.{AnswersWell, taken_in, marked_in, answered_in, taken_at_banners}
 use Rattle.serial_ring.specs.Rule.{Kept, Bytes, Marks, Replies, Hosts, Boards, first_cell, all_words, cell_of}
 use Rattle.serial_ring.proofs.Bytes.{cell_apart}
 use Rattle.serial_ring.proofs.Replies.{Homes}
@@ -108,9 +109,9 @@ same_board stored closed log filling v w p q r o f b = record {
   filling_is = f ∙ b.filling_is;
 }
 
-pub same_host : (room : ℕ) (words stored marks taken : List ℕ) (closed : Bool) (seen : List LinkStep) (emptying : Bool) (v w : LinkSight) → w.stored ≡ v.stored → w.marks ≡ v.marks → w.closed ≡ v.closed → w.tail ≡ v.tail → w.cell ≡ v.cell → w.got ≡ v.got → w.greeted ≡ v.greeted → w.emptying ≡ v.emptying
+pub same_host : (room : ℕ) (words stored marks taken : List ℕ) (closed : Bool) (seen : List LinkStep) (emptying : Bool) (v w : LinkSight) → w.stored ≡ v.stored → w.marks ≡ v.marks → w.closed ≡ v.closed → w.tail ≡ v.tail → w.cell ≡ v.cell → w.got ≡ v.got → w.greeted ≡ v.greeted → w.moments ≡ v.moments → w.emptying ≡ v.emptying
     → Hosts room words stored marks taken closed seen emptying v → Hosts room words stored marks taken closed seen emptying w
-same_host room words stored marks taken closed seen emptying v w p m q r o a g f h = record {
+same_host room words stored marks taken closed seen emptying v w p m q r o a g t f h = record {
   stored_are = p ∙ h.stored_are;
   marks_are = m ∙ h.marks_are;
   closed_is = q ∙ h.closed_is;
@@ -118,6 +119,7 @@ same_host room words stored marks taken closed seen emptying v w p m q r o a g f
   cell_is = λ z e. h.cell_is z (sym o ∙ e);
   got_are = a ∙ h.got_are;
   greeted_are = g ∙ h.greeted_are;
+  in_time = subst (AreAtMost (taken_at_banners seen)) (sym t) h.in_time;
   emptying_is = f ∙ h.emptying_is;
 }
 
@@ -132,6 +134,7 @@ host_words room words stored marks taken later closed seen emptying i x u low mo
   cell_is = λ z e. let c = h.cell_is z e in (get_or-set_other words i (cell_of room (length stored)) x 0 (cell_apart i (length stored % room) low) ∙ c.0, c.1);
   got_are = h.got_are;
   greeted_are = h.greeted_are;
+  in_time = h.in_time;
   emptying_is = h.emptying_is;
 }
 

@@ -1,5 +1,5 @@
 -- Each step of the host keeps the rule.
-use Rattle.std.proofs.Common.{◌≡◌, ℕ, ◌+◌, ◌-◌, ◌%◌, ◌^◌, ◌<◌, ◌≤◌, true, false, List, [], ◌∷◌, ◌++◌, length, get_or, set, Some, None, sym, refl, ap, ◌∙◌, subst, arith, lt_of_not-le, length-set}
+use Rattle.std.proofs.Common.{◌≡◌, ℕ, ◌+◌, ◌-◌, ◌%◌, ◌^◌, ◌<◌, ◌≤◌, true, false, List, [], ◌∷◌, ◌++◌, length, get_or, set, Some, None, sym, refl, ap, ◌∙◌, subst, arith, lt_of_not-le, length-set, length-append}
 use Rattle.std.proofs.lemmas.List.{get_or-set_same, get_or-set_other}
 use mathlib.Core.Option.{none, some}
 use native.Mathlib.Decide.{dec_le}
@@ -15,12 +15,12 @@ use Rattle.serial_ring.specs.declared.view.LinkStep.{LinkStep}
 use Rattle.serial_ring.specs.declared.view.LinkStep.TheVariants.{Answered}
 use Rattle.serial_ring.specs.Marks.{Mark, Follows, AreMarks, packed}
 use Rattle.status_report.specs.Answering.{is_banner}
-use Rattle.serial_ring.specs.Lists.{AreReplies, AnswersStored, maybe_unread, with_greeting}
-use Rattle.serial_ring.specs.Logs.{AnswersWell, taken_in, marked_in, answered_in, greeted_in, next_mark}
+use Rattle.serial_ring.specs.Lists.{AreReplies, AnswersStored, AreAtMost, maybe_unread, with_greeting, with_moment}
+use Rattle.serial_ring.specs.Logs.{AnswersWell, taken_in, marked_in, answered_in, greeted_in, taken_at_banners, next_mark}
 use Rattle.serial_ring.specs.Rule.{Kept, Bytes, Replies, Hosts, Boards, head_word, mark_word, tail_word, reply_head_word, reply_tail_word, all_words, cell_of, with_tail, with_cell, with_stored, with_closed, with_mark, with_reply_head, with_got, with_back, saw_tail, wrote, stored_byte, shut, set_mark, grasped, gave_back}
 use Rattle.serial_ring.proofs.Lists.{text_of}
 use Rattle.serial_ring.proofs.Marking.{more_marks, marks_stay, marks_stored, marks_set}
-use Rattle.serial_ring.proofs.Logs.{marks_on, well_on, next_answer, next_follows, unread_by_replies, answers_stored}
+use Rattle.serial_ring.proofs.Logs.{marks_on, well_on, in_time_on, taken_on, next_answer, next_follows, unread_by_replies, answers_stored}
 use Rattle.serial_ring.proofs.Bytes.{below, above, cell_apart, apart_from_cell, long, bytes_stay, bytes_written, bytes_stored, bytes_closed}
 use Rattle.serial_ring.proofs.Replies.{replies_stay, next_reply, replies_grasped, replies_back}
 use Rattle.serial_ring.proofs.Frames.{Hand, Way, loads, host_steps, same_board, same_host, host_words, board_stored, board_closed}
@@ -41,7 +41,7 @@ sees_tail room slots id v c mine s k size at small =
       keeps,
       tt,
       loads room s tail_word s.homes id (with_tail v n) (host_steps room s k id v (with_tail v n) s.words s.homes k.stored k.marks k.closed k.later k.seen k.given k.emptying at mine k.wide k.bytes k.marked k.replies k.parts k.loads
-          (record { stored_are = h.1.stored_are; marks_are = h.1.marks_are; closed_is = h.1.closed_is; tail_is = omega arith; cell_is = h.1.cell_is; got_are = h.1.got_are; greeted_are = h.1.greeted_are; emptying_is = h.1.emptying_is })
+          (record { stored_are = h.1.stored_are; marks_are = h.1.marks_are; closed_is = h.1.closed_is; tail_is = omega arith; cell_is = h.1.cell_is; got_are = h.1.got_are; greeted_are = h.1.greeted_are; in_time = h.1.in_time; emptying_is = h.1.emptying_is })
           (λ m. let b = k.boarding id v at m in (b.0, same_board k.stored k.closed k.log k.filling v (with_tail v n) refl refl refl refl refl b.1)) (λ u b. b)),
       (refl, omega arith, omega arith, omega arith),
     )
@@ -73,6 +73,7 @@ writes room slots id i x v c mine place fits byte s k size at small =
             cell_is = λ z q. let xz : x ≡ z = cc in (ap (λ n. get_or (set s.words i x) n 0) (sym here) ∙ (get_or-set_same s.words i x 0 (omega arith) ∙ xz), subst (λ y. y < 256) xz byte);
             got_are = h.1.got_are;
             greeted_are = h.1.greeted_are;
+            in_time = h.1.in_time;
             emptying_is = h.1.emptying_is;
           })
           (λ m. let b = k.boarding id v at m in (b.0, same_board k.stored k.closed k.log k.filling v (with_cell v x) refl refl refl refl refl b.1)) (λ u b. b),
@@ -106,6 +107,7 @@ stores room slots id x new v c mine still cell fits short count s k size at smal
             cell_is = λ z q. absurd cc;
             got_are = h.1.got_are;
             greeted_are = h.1.greeted_are;
+            in_time = h.1.in_time;
             emptying_is = h.1.emptying_is;
           })
           (λ m. let b = k.boarding id v at m in (
@@ -141,6 +143,7 @@ shuts room slots id new v c mine still count s k size at small =
             cell_is = λ z q. let cell = h.1.cell_is z q in (get_or-set_other s.words head_word (cell_of room (length k.stored)) new 0 (cell_apart head_word (length k.stored % room) (omega arith)) ∙ cell.0, cell.1);
             got_are = h.1.got_are;
             greeted_are = h.1.greeted_are;
+            in_time = h.1.in_time;
             emptying_is = h.1.emptying_is;
           })
           (λ m. let b = k.boarding id v at m in (
@@ -175,6 +178,7 @@ sets_mark room slots id new v c mine few is s k size at small =
             cell_is = o.cell_is;
             got_are = o.got_are;
             greeted_are = o.greeted_are;
+            in_time = o.in_time;
             emptying_is = o.emptying_is;
           })
           (λ m. let b = k.boarding id v at m in (b.0, same_board k.stored k.closed k.log k.filling v w refl refl refl refl refl b.1)) (λ u b. b),
@@ -205,7 +209,7 @@ grasps room slots id v c mine idle s k size at small = go (dec_le (get_or s.word
       keeps,
       tt,
       loads room s reply_head_word s.homes id w (host_steps room s k id v w s.words s.homes k.stored k.marks k.closed k.later k.seen k.given k.emptying at mine k.wide k.bytes k.marked k.replies k.parts k.loads
-          (same_host room s.words k.stored k.marks (taken_in k.log) k.closed k.seen k.emptying v w refl refl refl refl refl refl refl refl h.1)
+          (same_host room s.words k.stored k.marks (taken_in k.log) k.closed k.seen k.emptying v w refl refl refl refl refl refl refl refl refl h.1)
           (λ m. let b = k.boarding id v at m in (b.0, same_board k.stored k.closed k.log k.filling v w refl refl refl refl refl b.1)) (λ u b. b)),
       (within, short, (λ lt. absurd (omega arith)), (λ le. refl)),
     )
@@ -232,6 +236,10 @@ grasps room slots id v c mine idle s k size at small = go (dec_le (get_or s.word
         let greeted : v.greeted ≡ greeted_in spot.before = h.1.greeted_are ∙ sym spot.greeted in
         let greeted_now : with_greeting r mark v.greeted ≡ greeted_in now = ap (with_greeting r mark) greeted in
         let whole : k.stored ≡ k.bytes.rest ++ taken_in (spot.later ++ now) = k.bytes.fifo ∙ ap (λ (z : List LinkStep). k.bytes.rest ++ taken_in z) parts in
+        let few_then : length (taken_in spot.before) ≤ length v.stored =
+        (let a = ap length (h.1.stored_are ∙ whole) in let b = length-append k.bytes.rest (taken_in (spot.later ++ now)) in let d = ap length (taken_on spot.later now) in let f = length-append (taken_in spot.later) (taken_in now) in omega arith) in
+        let in_time_now : AreAtMost (taken_at_banners now) (with_moment r (length v.stored) v.moments) =
+        in_time_on r (length (taken_in spot.before)) (length v.stored) (taken_at_banners spot.before) v.moments few_then (subst (λ (z : List ℕ). AreAtMost z v.moments) (sym spot.moments) h.1.in_time) in
         let few : AnswersStored v.stored (r ∷ v.got) (with_greeting r mark v.greeted) =
         subst (λ (z : List ℕ × List Reply × List Mark). AnswersStored z.0 z.1 z.2) (λ j. (sym (h.1.stored_are ∙ whole) j, sym got_now j, sym greeted_now j)) (answers_stored spot.later now k.bytes.rest well) in
         let follows : is_banner r ≡ true → Follows v.marks v.greeted mark = λ q.
@@ -241,7 +249,7 @@ grasps room slots id v c mine idle s k size at small = go (dec_le (get_or s.word
           takes i (Some r),
           at_slot,
           loads room s reply_head_word (set s.homes i none) id w (host_steps room s k id v w s.words (set s.homes i none) k.stored k.marks k.closed spot.later now k.given true at mine k.wide k.bytes k.marked moved parts k.loads
-              (record { stored_are = h.1.stored_are; marks_are = h.1.marks_are; closed_is = h.1.closed_is; tail_is = h.1.tail_is; cell_is = h.1.cell_is; got_are = got_now; greeted_are = greeted_now; emptying_is = refl })
+              (record { stored_are = h.1.stored_are; marks_are = h.1.marks_are; closed_is = h.1.closed_is; tail_is = h.1.tail_is; cell_is = h.1.cell_is; got_are = got_now; greeted_are = greeted_now; in_time = in_time_now; emptying_is = refl })
               (λ m. let b = k.boarding id v at m in (b.0, same_board k.stored k.closed k.log k.filling v w refl refl refl refl refl b.1)) (λ u b. b)),
           (
             within,
@@ -271,7 +279,7 @@ gives_back room slots id new i v mine busy place count s k size at small =
           (bytes_stay room s.words k.stored (taken_in k.log) k.closed k.bytes reply_tail_word new (omega arith) (below head_word reply_tail_word (omega arith)) (above tail_word reply_tail_word (omega arith)))
           (marks_stay s.words k.stored k.marks k.marked reply_tail_word new (above mark_word reply_tail_word (omega arith))) moved k.parts k.loads
           (let o = host_words room s.words k.stored k.marks (taken_in k.log) (taken_in k.log) k.closed k.seen k.emptying reply_tail_word new v (omega arith) (omega arith) h.1 in
-          record { stored_are = o.stored_are; marks_are = o.marks_are; closed_is = o.closed_is; tail_is = o.tail_is; cell_is = o.cell_is; got_are = o.got_are; greeted_are = o.greeted_are; emptying_is = refl })
+          record { stored_are = o.stored_are; marks_are = o.marks_are; closed_is = o.closed_is; tail_is = o.tail_is; cell_is = o.cell_is; got_are = o.got_are; greeted_are = o.greeted_are; in_time = o.in_time; emptying_is = refl })
           (λ m. let b = k.boarding id v at m in (b.0, same_board k.stored k.closed k.log k.filling v w refl refl refl refl refl b.1)) (λ u b. b),
       refl,
     )

@@ -8,8 +8,8 @@ use Rattle.status_report.proofs.Answered.{lfs_first}
 use Rattle.serial_ring.specs.declared.view.LinkStep.{LinkStep}
 use Rattle.serial_ring.specs.declared.view.LinkStep.TheVariants.{Took, Marked, Answered}
 use Rattle.serial_ring.specs.Marks.{Mark, AreMarks, last_of, Follows}
-use Rattle.serial_ring.specs.Lists.{since, answers_behind_mark, behind_mark, since_lf, maybe_unread, AnswersStored, with_greeting}
-use Rattle.serial_ring.specs.Logs.{taken_in, marked_in, answered_in, has_greeted, next_mark, greeted_in, answers_since, lfs_since, MayAnswer, AnswersWell}
+use Rattle.serial_ring.specs.Lists.{since, answers_behind_mark, behind_mark, since_lf, maybe_unread, AnswersStored, AreAtMost, with_greeting, with_moment}
+use Rattle.serial_ring.specs.Logs.{taken_in, marked_in, answered_in, has_greeted, next_mark, greeted_in, taken_at_banners, answers_since, lfs_since, MayAnswer, AnswersWell}
 use Rattle.serial_ring.proofs.Lists.{stands, since_on, unread_behind, more_lfs}
 use Rattle.serial_ring.proofs.Marking.{last_is}
 
@@ -57,6 +57,30 @@ same_greeted (Took b ∷ l) seen e = same_greeted l seen e
 same_greeted (Marked n bytes ∷ l) seen e = same_greeted l seen e
 same_greeted (Answered r ∷ l) seen e = absurd (let n = ap length e in let m = ap length (answered_on l seen) in let k = length-append (answered_in l) (answered_in seen) in omega arith)
 
+-- ---- the moments of Banners
+
+moment_step : (r : Reply) (n : ℕ) (more rest earlier : List ℕ) → more ≡ rest ++ earlier → (new : List ℕ) × (cond (is_banner r) (n ∷ more) more ≡ new ++ earlier)
+moment_step r n more rest earlier e = by_bool (is_banner r)
+    (λ b. (n ∷ rest, rw b (ap (λ (z : List ℕ). n ∷ z) e)))
+    (λ b. (rest, rw b e))
+
+pub moments_on : (later seen : List LinkStep) → (new : List ℕ) × (taken_at_banners (later ++ seen) ≡ new ++ taken_at_banners seen)
+moments_on [] seen = ([], refl)
+moments_on (Took b ∷ l) seen = moments_on l seen
+moments_on (Marked n bytes ∷ l) seen = moments_on l seen
+moments_on (Answered r ∷ l) seen = let i = moments_on l seen in moment_step r (length (taken_in (l ++ seen))) (taken_at_banners (l ++ seen)) i.0 (taken_at_banners seen) i.1
+
+-- no reply was answered since
+same_moments : (later seen : List LinkStep) → answered_in (later ++ seen) ≡ answered_in seen → taken_at_banners (later ++ seen) ≡ taken_at_banners seen
+same_moments [] seen e = refl
+same_moments (Took b ∷ l) seen e = same_moments l seen e
+same_moments (Marked n bytes ∷ l) seen e = same_moments l seen e
+same_moments (Answered r ∷ l) seen e = absurd (let n = ap length e in let m = ap length (answered_on l seen) in let k = length-append (answered_in l) (answered_in seen) in omega arith)
+
+-- a reply is got, when no fewer bytes are stored than were taken as it was answered
+pub in_time_on : (r : Reply) (taken stored : ℕ) (before moments : List ℕ) → taken ≤ stored → AreAtMost before moments → AreAtMost (cond (is_banner r) (taken ∷ before) before) (with_moment r stored moments)
+in_time_on r taken stored before moments le are = by_bool (is_banner r) (λ b. rw b (le, are)) (λ b. rw b are)
+
 -- the reply after those that are got
 pub record IsNext (log : List LinkStep) (seen : List LinkStep) (r : Reply) : Type 0 where
   pub later : List LinkStep
@@ -64,16 +88,17 @@ pub record IsNext (log : List LinkStep) (seen : List LinkStep) (r : Reply) : Typ
   pub parts : log ≡ later ++ Answered r ∷ before
   pub answered : answered_in before ≡ answered_in seen
   pub greeted : greeted_in before ≡ greeted_in seen
+  pub moments : taken_at_banners before ≡ taken_at_banners seen
 
 next_behind : (e : LinkStep) (log seen : List LinkStep) (r : Reply) → IsNext log seen r → IsNext (e ∷ log) seen r
-next_behind e log seen r n = record { later = e ∷ n.later; before = n.before; parts = ap (λ (z : List LinkStep). e ∷ z) n.parts; answered = n.answered; greeted = n.greeted }
+next_behind e log seen r n = record { later = e ∷ n.later; before = n.before; parts = ap (λ (z : List LinkStep). e ∷ z) n.parts; answered = n.answered; greeted = n.greeted; moments = n.moments }
 
 next_here : (rest : List Reply) (x r : Reply) (l seen : List LinkStep) → x ∷ answered_in (l ++ seen) ≡ rest ++ r ∷ answered_in seen
     → ((others : List Reply) → answered_in (l ++ seen) ≡ others ++ r ∷ answered_in seen → IsNext (l ++ seen) seen r) → IsNext (Answered x ∷ (l ++ seen)) seen r
 next_here [] x r l seen e on =
     let xr : x ≡ r = cc in
     let same : answered_in (l ++ seen) ≡ answered_in seen = cc in
-    record { later = []; before = l ++ seen; parts = ap (λ (z : Reply). Answered z ∷ (l ++ seen)) xr; answered = same; greeted = same_greeted l seen same }
+    record { later = []; before = l ++ seen; parts = ap (λ (z : Reply). Answered z ∷ (l ++ seen)) xr; answered = same; greeted = same_greeted l seen same; moments = same_moments l seen same }
 next_here (y ∷ rest) x r l seen e on =
     let same : answered_in (l ++ seen) ≡ rest ++ r ∷ answered_in seen = cc in
     next_behind (Answered x) (l ++ seen) seen r (on rest same)

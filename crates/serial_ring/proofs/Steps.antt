@@ -14,9 +14,9 @@ use Rattle.serial_ring.specs.declared.view.LinkSight.{LinkSight}
 use Rattle.serial_ring.specs.declared.view.LinkStep.{LinkStep}
 use Rattle.serial_ring.specs.Marks.{Mark, AreMarks, AreRising, latest}
 use Rattle.serial_ring.specs.Lists.{IsRoom}
-use Rattle.serial_ring.specs.Logs.{AnswersWell, taken_in, marked_in, answered_in, greeted_in}
+use Rattle.serial_ring.specs.Logs.{AnswersWell, taken_in, marked_in, answered_in, greeted_in, taken_at_banners}
 use Rattle.serial_ring.specs.Rule.{Kept, head_word, beginning, without_taking, without_storing, both_of, spent, tied}
-use Rattle.serial_ring.proofs.Logs.{counts, greeted_on}
+use Rattle.serial_ring.proofs.Logs.{counts, greeted_on, moments_on}
 use Rattle.serial_ring.proofs.Frames.{Hand, may_store, may_take, loads, host_steps, same_board, same_host}
 
 pub ties : (room slots id : ℕ) (v : LinkSight) (c : Hand) → v.may_store ≡ true → v.may_take ≡ true → Allows (Kept room) slots id (v, c) head_word (λ n. n) (tied room (step slots head_word 0 0 none) (v, c))
@@ -25,6 +25,7 @@ ties room slots id v c storing taking s k size at small =
     let b = k.boarding id v at taking in
     let r = k.replies.held in
     let seen = greeted_on k.later k.seen in
+    let moments = moments_on k.later k.seen in
     let x = k.replies.shelf.few in
     let y = ap length k.replies.fifo ∙ length-append k.replies.rest (answered_in k.seen) in (
       v,
@@ -47,6 +48,10 @@ ties room slots id v c storing taking s k size at small =
           loads = subst (λ (z : List ℕ × List LinkStep). AreMarks z.0 (marked_in z.1)) (λ i. (sym h.1.marks_are i, sym b.1.log_is i)) k.loads;
           ungreeted = seen.0;
           banners = ap greeted_in (b.1.log_is ∙ k.parts) ∙ (seen.1 ∙ ap (λ (z : List Mark). seen.0 ++ z) (sym h.1.greeted_are));
+          later = moments.0;
+          of_got = taken_at_banners k.seen;
+          taken_then = ap taken_at_banners (b.1.log_is ∙ k.parts) ∙ moments.1;
+          in_time = h.1.in_time;
           well = subst AnswersWell (sym b.1.log_is) k.well;
           fewer = (counts v.log (subst AnswersWell (sym b.1.log_is) k.well)).fewer;
         },
@@ -77,7 +82,7 @@ starts room sized = record {
   parts = refl;
   loads = tt;
   well = tt;
-  hosting = rights.starts may_store _ beginning (record { stored_are = refl; marks_are = refl; closed_is = refl; tail_is = omega arith; cell_is = λ z e. absurd cc; got_are = refl; greeted_are = refl; emptying_is = refl });
+  hosting = rights.starts may_store _ beginning (record { stored_are = refl; marks_are = refl; closed_is = refl; tail_is = omega arith; cell_is = λ z e. absurd cc; got_are = refl; greeted_are = refl; in_time = tt; emptying_is = refl });
   boarding = rights.starts may_take _ beginning (record { log_is = refl; head_is = omega arith; read_is = λ z e. absurd cc; over_is = λ e. absurd cc; filling_is = refl });
 }
 
@@ -105,7 +110,7 @@ splits room id v storing taking s k at =
       loads = k.loads;
       well = k.well;
       hosting = rights.splits_left may_store s.views k.host _ id (without_taking v) (without_storing v) k.hosting h.0
-          (same_host room s.words k.stored k.marks (taken_in k.log) k.closed k.seen k.emptying v (without_taking v) refl refl refl refl refl refl refl refl h.1) refl;
+          (same_host room s.words k.stored k.marks (taken_in k.log) k.closed k.seen k.emptying v (without_taking v) refl refl refl refl refl refl refl refl refl h.1) refl;
       boarding = rights.splits_right may_take s.views k.board _ id (without_taking v) (without_storing v) k.boarding b.0 refl
           (same_board k.stored k.closed k.log k.filling v (without_storing v) refl refl refl refl refl b.1);
     }
@@ -135,7 +140,7 @@ joins room id other v w storing taking s k at apart at_other =
       loads = k.loads;
       well = k.well;
       hosting = rights.joins_left may_store s.views k.host _ id other (both_of v w) spent k.hosting h.0
-          (same_host room s.words k.stored k.marks (taken_in k.log) k.closed k.seen k.emptying v (both_of v w) refl refl refl refl refl refl refl refl h.1) refl;
+          (same_host room s.words k.stored k.marks (taken_in k.log) k.closed k.seen k.emptying v (both_of v w) refl refl refl refl refl refl refl refl refl h.1) refl;
       boarding = rights.joins_right may_take s.views k.board _ id other (both_of v w) spent k.boarding b.0
           (same_board k.stored k.closed k.log k.filling w (both_of v w) refl refl refl refl refl b.1) refl;
     }

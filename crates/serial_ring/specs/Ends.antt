@@ -44,6 +44,10 @@ module _ {room : ℕ} (h : HostEnd room) where
   abbrev pub greeted_by : List Mark
   greeted_by = h.seat.me.0.greeted
 
+  -- how many bytes were stored when each of these Banners was got
+  abbrev pub moments_by : List ℕ
+  moments_by = h.seat.me.0.moments
+
   -- the bytes that may be unread, by the replies got
   abbrev pub maybe_unread_by : List ℕ
   maybe_unread_by = lists.maybe_unread stored_by got_by greeted_by

@@ -1,5 +1,6 @@
 -- Bytes and replies of a link, as plain lists, the latest first.
 use Rattle.std.specs.Prelude.{ℕ, ◌+◌, ◌≤◌, Bool, true, false, ◌||◌, ◌&&◌, cond, nat_le, List, [], ◌∷◌, length}
+use Rattle.std.specs.List.{AllZip}
 use Rattle.status_report.specs.declared.Reply.{Reply}
 use Rattle.status_report.specs.Answering.{lfs_in, is_answer, is_banner}
 use Rattle.status_report.specs.Replies.{IsReply}
@@ -48,3 +49,11 @@ AnswersStored stored got greeted = answers_behind_mark got ≤ lfs_in (behind_ma
 -- the marks of the Banners, with a reply behind them: of a Banner it is this one
 abbrev pub with_greeting : Reply → Mark → List Mark → List Mark
 with_greeting r m greeted = cond (is_banner r) (m ∷ greeted) greeted
+
+-- the moments at which they were got, by how many bytes were stored then, with a reply behind them
+abbrev pub with_moment : Reply → ℕ → List ℕ → List ℕ
+with_moment r bytes moments = cond (is_banner r) (bytes ∷ moments) moments
+
+-- each number is at most its one of as many others
+abbrev pub AreAtMost : List ℕ → List ℕ → Type 0
+AreAtMost ns ms = AllZip (λ n m. n ≤ m) ns ms

@@ -45,6 +45,17 @@ greeted_in (Took b ∷ l) = greeted_in l
 greeted_in (Marked n bytes ∷ l) = greeted_in l
 greeted_in (Answered r ∷ l) = cond (is_banner r) (next_mark l ∷ greeted_in l) (greeted_in l)
 
+-- a count of what was done, as it was when each Banner was answered
+abbrev pub at_banners : (List LinkStep → ℕ) → List LinkStep → List ℕ
+at_banners count [] = []
+at_banners count (Took b ∷ l) = at_banners count l
+at_banners count (Marked n bytes ∷ l) = at_banners count l
+at_banners count (Answered r ∷ l) = cond (is_banner r) (count l ∷ at_banners count l) (at_banners count l)
+
+-- how many bytes were taken then
+abbrev pub taken_at_banners : List LinkStep → List ℕ
+taken_at_banners l = at_banners (λ before. length (taken_in before)) l
+
 -- how many lines were answered since the last Banner, or the start; and how many had their end taken since
 abbrev pub answers_since : List LinkStep → ℕ
 answers_since [] = 0

@@ -15,8 +15,8 @@ use Rattle.serial_ring.specs.declared.view.LinkSight.{LinkSight}
 use Rattle.serial_ring.specs.declared.view.LinkStep.{LinkStep}
 use Rattle.serial_ring.specs.declared.view.LinkStep.TheVariants.{Took, Marked, Answered}
 use Rattle.serial_ring.specs.Marks.{Mark, Follows, MarkedPast, AreMarks, AreRising, latest, last_of, packed, number_in, bytes_in}
-use Rattle.serial_ring.specs.Lists.{IsRoom, AreReplies, AnswersStored, maybe_unread, with_greeting}
-use Rattle.serial_ring.specs.Logs.{AnswersWell, taken_in, marked_in, answered_in, greeted_in, answers_since, lfs_since}
+use Rattle.serial_ring.specs.Lists.{IsRoom, AreReplies, AnswersStored, AreAtMost, maybe_unread, with_greeting, with_moment}
+use Rattle.serial_ring.specs.Logs.{AnswersWell, taken_in, marked_in, answered_in, greeted_in, taken_at_banners, answers_since, lfs_since}
 use Rattle.status_report.specs.Answering.{reply_room, is_banner}
 
 -- the words that the host writes, and 256 bytes after them those that the board writes; each 128 bytes from the next
@@ -87,6 +87,8 @@ pub record Hosts (room : ℕ) (words : List ℕ) (stored marks taken : List ℕ)
   pub cell_is : (b : ℕ) → v.cell ≡ Some b → (slice_index words (cell_of room (length stored)) ≡ b) × (b < 256)
   pub got_are : v.got ≡ answered_in seen
   pub greeted_are : v.greeted ≡ greeted_in seen
+  -- no byte is taken before it is stored: no more were taken as a Banner was answered than were stored as it was got
+  pub in_time : AreAtMost (taken_at_banners seen) v.moments
   pub emptying_is : v.emptying ≡ emptying
 
 -- what the seat of the board knows
@@ -134,6 +136,7 @@ beginning = record {
   cell = None;
   got = [];
   greeted = [];
+  moments = [];
   reply_head = 0;
   reply_head_loads = 0;
   emptying = false;
@@ -166,6 +169,7 @@ both_of v w = record {
   cell = v.cell;
   got = v.got;
   greeted = v.greeted;
+  moments = v.moments;
   reply_head = v.reply_head;
   reply_head_loads = v.reply_head_loads;
   emptying = v.emptying;
@@ -203,7 +207,7 @@ with_reply_head v n = record v { reply_head = n; reply_head_loads = v.reply_head
 
 -- a reply is got; if it is a Banner, it has this mark
 abbrev pub with_got : LinkSight → ℕ → Reply → Mark → LinkSight
-with_got v n r m = record v { reply_head = n; reply_head_loads = v.reply_head_loads + 1; got = r ∷ v.got; greeted = with_greeting r m v.greeted; emptying = true }
+with_got v n r m = record v { reply_head = n; reply_head_loads = v.reply_head_loads + 1; got = r ∷ v.got; greeted = with_greeting r m v.greeted; moments = with_moment r (length v.stored) v.moments; emptying = true }
 
 abbrev pub with_back : LinkSight → LinkSight
 with_back v = record v { emptying = false }
@@ -293,7 +297,7 @@ gave st m n m' = (k : ℕ) (r : Reply) → m.1 ≡ (k, Some r) ∷ [] → m' ≡
 
 -- How the lists of the two ends agree: the bytes and marks stored, what the board has done, and the replies got with the marks of
 -- their Banners.
-pub record AreTied (room : ℕ) (stored marks : List ℕ) (closed : Bool) (log : List LinkStep) (over : Bool) (got : List Reply) (greeted : List Mark) : Type 0 where
+pub record AreTied (room : ℕ) (stored marks : List ℕ) (closed : Bool) (log : List LinkStep) (over : Bool) (got : List Reply) (greeted : List Mark) (moments : List ℕ) : Type 0 where
   -- the bytes taken are the first of those stored, and at most so many fewer
   pub unread : List ℕ
   pub bytes : stored ≡ unread ++ taken_in log
@@ -313,10 +317,15 @@ pub record AreTied (room : ℕ) (stored marks : List ℕ) (closed : Bool) (log :
   -- the marks of the Banners got are those of the first Banners
   pub ungreeted : List Mark
   pub banners : greeted_in log ≡ ungreeted ++ greeted
+  -- and no more bytes were taken as they were answered than were stored as they were got
+  pub later : List ℕ
+  pub of_got : List ℕ
+  pub taken_then : taken_at_banners log ≡ later ++ of_got
+  pub in_time : AreAtMost of_got moments
   -- each reply was answered where it might be: a Banner behind another for a new mark
   pub well : AnswersWell log
   -- since the last Banner no more lines were answered than had their end taken
   pub fewer : answers_since log ≤ lfs_since log
 
 abbrev pub tied : ℕ → At → Sat → ℕ → Sat → Type 0
-tied room st m n m' = (m' ≡ m) × AreTied room m.0.stored m.0.marks m.0.closed m.0.log m.0.over m.0.got m.0.greeted
+tied room st m n m' = (m' ≡ m) × AreTied room m.0.stored m.0.marks m.0.closed m.0.log m.0.over m.0.got m.0.greeted m.0.moments

@@ -2,9 +2,9 @@
 ghost use Rattle.std.specs.Prelude.{◌≡◌, ◌+◌, ◌^◌, ◌<◌, ◌≤◌, true, false, ◌∷◌, length, IfSome, IfNone};
 ghost use Rattle.status_report.specs.Replies.{IsReply};
 ghost use Rattle.status_report.specs.Answering.{is_banner};
-ghost use Rattle.serial_ring.specs.Lists.{AnswersStored, with_greeting};
+ghost use Rattle.serial_ring.specs.Lists.{AnswersStored, with_greeting, with_moment};
 ghost use Rattle.serial_ring.specs.Marks.{Mark, Follows};
-ghost use Rattle.serial_ring.specs.Ends.{link_of_host, stored_by, closed_by, marks_by, tail_shown, tail_loads_of, IsFull, got_by, greeted_by, maybe_unread_by, replies_shown, reply_loads_of};
+ghost use Rattle.serial_ring.specs.Ends.{link_of_host, stored_by, closed_by, marks_by, tail_shown, tail_loads_of, IsFull, got_by, greeted_by, moments_by, maybe_unread_by, replies_shown, reply_loads_of};
 
 use crate::ends::HostEnd;
 use crate::joined::{CLOSED, FIRST_CELL, HEAD, MARK, REPLY_HEAD, REPLY_ROOM, REPLY_TAIL, TAIL};
@@ -22,6 +22,7 @@ impl<const RX: usize> HostEnd<RX> {
         ensures unread { length (stored_by self.old) ≤ tail_shown self.new + length (maybe_unread_by self.old) }
         ensures stored { (stored_by self.new ≡ stored_by self.old) × (closed_by self.new ≡ closed_by self.old) × (marks_by self.new ≡ marks_by self.old) }
         ensures got { (got_by self.new ≡ got_by self.old) × (greeted_by self.new ≡ greeted_by self.old) }
+        ensures moments { moments_by self.new ≡ moments_by self.old }
         ensures polls { reply_loads_of self.new ≡ reply_loads_of self.old }
         ensures link { link_of_host self.new ≡ link_of_host self.old }
     {
@@ -44,6 +45,7 @@ impl<const RX: usize> HostEnd<RX> {
         ensures open { closed_by self.new ≡ false }
         ensures marks { marks_by self.new ≡ marks_by self.old }
         ensures got { (got_by self.new ≡ got_by self.old) × (greeted_by self.new ≡ greeted_by self.old) }
+        ensures moments { moments_by self.new ≡ moments_by self.old }
         ensures polls { reply_loads_of self.new ≡ reply_loads_of self.old }
         ensures link { link_of_host self.new ≡ link_of_host self.old }
     {
@@ -67,6 +69,7 @@ impl<const RX: usize> HostEnd<RX> {
         ensures closed { closed_by self.new ≡ true }
         ensures stored { (stored_by self.new ≡ stored_by self.old) × (marks_by self.new ≡ marks_by self.old) }
         ensures got { (got_by self.new ≡ got_by self.old) × (greeted_by self.new ≡ greeted_by self.old) }
+        ensures moments { moments_by self.new ≡ moments_by self.old }
         ensures loads { (tail_loads_of self.new ≡ tail_loads_of self.old) × (tail_shown self.new ≡ tail_shown self.old) × (reply_loads_of self.new ≡ reply_loads_of self.old) }
         ensures link { link_of_host self.new ≡ link_of_host self.old }
     {
@@ -82,6 +85,7 @@ impl<const RX: usize> HostEnd<RX> {
         ensures mark { marks_by self.new ≡ length (stored_by self.old) ∷ marks_by self.old }
         ensures stored { (stored_by self.new ≡ stored_by self.old) × (closed_by self.new ≡ closed_by self.old) }
         ensures got { (got_by self.new ≡ got_by self.old) × (greeted_by self.new ≡ greeted_by self.old) }
+        ensures moments { moments_by self.new ≡ moments_by self.old }
         ensures loads { (tail_loads_of self.new ≡ tail_loads_of self.old) × (tail_shown self.new ≡ tail_shown self.old) × (reply_loads_of self.new ≡ reply_loads_of self.old) }
         ensures link { link_of_host self.new ≡ link_of_host self.old }
     {
@@ -103,6 +107,8 @@ impl<const RX: usize> HostEnd<RX> {
         ensures text { IfSome result IsReply }
         ensures fewer { IfSome result (λ r. AnswersStored (stored_by self.old) (got_by self.new) (greeted_by self.new)) }
         ensures greeted { IfSome result (λ r. (m : Mark) × (greeted_by self.new ≡ with_greeting r m (greeted_by self.old)) × (is_banner r ≡ true → Follows (marks_by self.old) (greeted_by self.old) m)) }
+        ensures moment { IfSome result (λ r. moments_by self.new ≡ with_moment r (length (stored_by self.old)) (moments_by self.old)) }
+        ensures moments { IfNone result (moments_by self.new ≡ moments_by self.old) }
         ensures none { IfNone result ((got_by self.new ≡ got_by self.old) × (greeted_by self.new ≡ greeted_by self.old) × (replies_shown self.new ≡ length (got_by self.old))) }
         ensures stored { (stored_by self.new ≡ stored_by self.old) × (closed_by self.new ≡ closed_by self.old) × (marks_by self.new ≡ marks_by self.old) }
         ensures tail { (tail_loads_of self.new ≡ tail_loads_of self.old) × (tail_shown self.new ≡ tail_shown self.old) }

@@ -2,7 +2,7 @@
 ghost use Rattle.std.specs.Prelude.{◌≡◌, false, [], IfOk};
 ghost use Rattle.serial_ring.specs.Lists.{IsRoom};
 ghost use Rattle.serial_ring.specs.Rule.{AreTied};
-ghost use Rattle.serial_ring.specs.Ends.{link_of_host, link_of_board, stored_by, closed_by, marks_by, tail_loads_of, tail_shown, got_by, greeted_by, reply_loads_of, log_by, found_closed, head_loads_of, bytes_shown, room_loads_of};
+ghost use Rattle.serial_ring.specs.Ends.{link_of_host, link_of_board, stored_by, closed_by, marks_by, tail_loads_of, tail_shown, got_by, greeted_by, moments_by, reply_loads_of, log_by, found_closed, head_loads_of, bytes_shown, room_loads_of};
 
 use crate::ends::{BoardEnd, HostEnd};
 use crate::plays::{Sides, Tie};
@@ -38,6 +38,7 @@ pub fn link<const RX: usize>(alloc: Global) -> Result<(HostEnd<RX>, BoardEnd<RX>
     requires { IsRoom RX }
     ensures link { IfOk result (λ r. link_of_host r.0 ≡ link_of_board r.1) }
     ensures fresh_host { IfOk result (λ r. (stored_by r.0 ≡ []) × (closed_by r.0 ≡ false) × (marks_by r.0 ≡ []) × (got_by r.0 ≡ []) × (greeted_by r.0 ≡ [])) }
+    ensures fresh_moments { IfOk result (λ r. moments_by r.0 ≡ []) }
     ensures idle_host { IfOk result (λ r. (tail_loads_of r.0 ≡ 0) × (tail_shown r.0 ≡ 0) × (reply_loads_of r.0 ≡ 0)) }
     ensures fresh_board { IfOk result (λ r. (log_by r.1 ≡ []) × (found_closed r.1 ≡ false)) }
     ensures idle_board { IfOk result (λ r. (head_loads_of r.1 ≡ 0) × (bytes_shown r.1 ≡ 0) × (room_loads_of r.1 ≡ 0)) }
@@ -76,11 +77,12 @@ pub fn link<const RX: usize>(alloc: Global) -> Result<(HostEnd<RX>, BoardEnd<RX>
 
 /// Ends the link of these two ends. The bytes taken are the first of those stored, at most the link's room fewer, and
 /// all of them if the board found the link closed, as it then is; the replies got are the first of those answered, at
-/// most 16 fewer, and so are the marks of their Banners; each mark that was loaded was stored, but for the number 0; and each
+/// most 16 fewer, and so are the marks of their Banners, at each of which no more bytes were taken as it was answered than were
+/// stored as it was got; each mark that was loaded was stored, but for the number 0; and each
 /// reply was answered where it might be.
 pub fn join_link<const RX: usize>(host: HostEnd<RX>, board: BoardEnd<RX>)
     requires { link_of_host host ≡ link_of_board board }
-    ensures { AreTied RX (stored_by host.entry) (marks_by host.entry) (closed_by host.entry) (log_by board.entry) (found_closed board.entry) (got_by host.entry) (greeted_by host.entry) }
+    ensures { AreTied RX (stored_by host.entry) (marks_by host.entry) (closed_by host.entry) (log_by board.entry) (found_closed board.entry) (got_by host.entry) (greeted_by host.entry) (moments_by host.entry) }
 {
     let HostEnd {
         table,

@@ -47,6 +47,8 @@ pub struct LinkSight {
     pub got: LinkedList<Reply>,
     /// The marks of the Banners among them.
     pub greeted: LinkedList<(u32, u32)>,
+    /// How many bytes were stored when each of these was got.
+    pub moments: LinkedList<u64>,
     /// How many replies are answered, as it was loaded last, and how many times it was.
     pub reply_head: u64,
     pub reply_head_loads: u64,

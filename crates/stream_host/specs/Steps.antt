@@ -94,6 +94,12 @@ marks_in [] = []
 marks_in (marked ∷ h) = length (stored_in h) ∷ marks_in h
 marks_in (_ ∷ h) = marks_in h
 
+-- how many bytes were stored when each Banner was got, the latest first
+abbrev pub stored_at_banners : HostLog → List ℕ
+stored_at_banners [] = []
+stored_at_banners (got r ∷ h) = cond (is_banner r) (length (stored_in h) ∷ stored_at_banners h) (stored_at_banners h)
+stored_at_banners (_ ∷ h) = stored_at_banners h
+
 -- how many resets were raised
 abbrev pub resets_in : HostLog → ℕ
 resets_in [] = 0

@@ -36,11 +36,11 @@ none_before : {A : Type 0} (xs ys : List A) → ys ≡ xs ++ ys → xs ≡ []
 none_before [] ys e = refl
 none_before (x ∷ xs) ys e = absurd (let n = ap length e ∙ length-append (x ∷ xs) ys in omega arith)
 
-pub are_linked : (places bytes bytes_taken : List ℕ) (is_shut is_over : Bool) (stored_by marks : List ℕ) (closed_by : Bool) (log : List LinkStep) (over : Bool) (got_by : List Reply) (greeted : List Mark) (room : ℕ)
-    → AreTied room stored_by marks closed_by log over got_by greeted
+pub are_linked : (places bytes bytes_taken : List ℕ) (is_shut is_over : Bool) (stored_by marks : List ℕ) (closed_by : Bool) (log : List LinkStep) (over : Bool) (got_by : List Reply) (greeted : List Mark) (moments : List ℕ) (room : ℕ)
+    → AreTied room stored_by marks closed_by log over got_by greeted moments
     → bytes ≡ reverse stored_by → bytes_taken ≡ reverse (taken_in log) → is_shut ≡ closed_by → (is_over ≡ true → over ≡ true) → places ≡ marks
     → IsLinked bytes is_shut bytes_taken is_over places (marked_in log)
-are_linked places bytes bytes_taken is_shut is_over stored_by marks closed_by log over got_by greeted room t s k closed known same = record {
+are_linked places bytes bytes_taken is_shut is_over stored_by marks closed_by log over got_by greeted moments room t s k closed known same = record {
   rest = reverse t.unread;
   front = goes_on bytes bytes_taken stored_by (taken_in log) t.unread s k t.bytes;
   closes = λ o. closed ∙ t.closes (known o);

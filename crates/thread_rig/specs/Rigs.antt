@@ -2,7 +2,7 @@
 use Rattle.std.specs.Prelude.{◌≡◌, ℕ, List, ◌++◌}
 use Rattle.rtrb.specs.Ring.{sent, received, IsPair}
 use Rattle.step_line.specs.declared.Record.{Record as AnyRecord}
-use Rattle.serial_ring.specs.Ends.{link_of_host, link_of_board, stored_by, marks_by, closed_by, got_by, greeted_by, log_by, found_closed}
+use Rattle.serial_ring.specs.Ends.{link_of_host, link_of_board, stored_by, marks_by, closed_by, got_by, greeted_by, moments_by, log_by, found_closed}
 use Rattle.serial_ring.specs.Rule.{AreTied}
 use Rattle.realtime_flags.specs.Ends.{raised_in, taken_in, raises_by, takes_by}
 use Rattle.realtime_flags.specs.Bits.{IsBalanced}
@@ -49,7 +49,7 @@ pub record RigRan (before after : Devices) (was is : Rig) (end : RunEnd) : Type 
 -- taken once or is up. (The lists of bytes, marks, replies, flags and pieces have the latest first.)
 pub record EndsAgree (rig : Rig) : Type 0 where
   pub link : AreTied receive_room (stored_by rig.host.side.link.end) (marks_by rig.host.side.link.end) (closed_by rig.host.side.link.end) (log_by rig.board.side.link.end)
-      (found_closed rig.board.side.link.end) (got_by rig.host.side.link.end) (greeted_by rig.host.side.link.end)
+      (found_closed rig.board.side.link.end) (got_by rig.host.side.link.end) (greeted_by rig.host.side.link.end) (moments_by rig.host.side.link.end)
   pub words : List ℕ
   pub flags : IsBalanced words (raises_by rig.host.side.link.flags) (takes_by rig.board.side.link.flags)
   pub pieces : PiecesAreTied (sent_by rig.board.side.link.pieces) (known_by rig.board.side.link.pieces) (pieces_taken_by rig.pulse.side.pieces.end)

@@ -37,7 +37,7 @@ returns c before after was is end ran agree =
     (c.pulses_have_run.ensures.whole is.pulse.side.pulse pulse.got pulse.put pulse.fits
     (never_halted log pulse.got _ _ _ _ board.did.pieces_are pulse.pieces agree.pieces (boards_never_stop kept.first board.journal kept.conducted)) (sym pulse.fits.end ∙ ran.pulse.done))
     (c.recorders_have_run.ensures.whole form is.recorder.side.recorder recorder.log before.steps after.steps recorder.fits ran.recorder.done)
-    (are_linked _ _ _ _ _ _ _ _ _ _ _ _ receive_room link host.did.bytes_are (bytes_back log _ board.did.steps_are) host.did.shut_is board.did.over_is host.did.marks_are)
+    (are_linked _ _ _ _ _ _ _ _ _ _ _ _ _ receive_room link host.did.bytes_are (bytes_back log _ board.did.steps_are) host.did.shut_is board.did.over_is host.did.marks_are)
     (c.flags_that_are_taken_were_raised.ensures.taken agree.words (host_log host.journal) log balance)
     found
     (c.flags_that_are_taken_were_raised.ensures.changes agree.words (host_log host.journal) log balance)

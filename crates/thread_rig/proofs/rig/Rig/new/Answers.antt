@@ -41,6 +41,7 @@ returns-clause-fresh c =
           latest_are = sym link.fresh_host.3;
           greeted_are = subst (λ g. AreGreeted [] g) (sym link.fresh_host.4) (record { each = refl; stored = tt });
           raises_are = sym flags.fresh.0;
+          moments_are = sym link.fresh_moments;
         };
         sees = record { room_looks = (link.idle_host.0, link.idle_host.1); reply_looks = link.idle_host.2; saw = tt };
         fits = c.new.ensures;
