@@ -18,7 +18,7 @@ use Rattle.stream_host.specs.Steps.Step.{at_port}
 use Rattle.stream_host.proofs.Cutting.{epochs_are}
 use Rattle.board_rules.specs.Ports.{BoardLog, answered_in, link_steps}
 use Rattle.board_rules.proofs.LinkSteps.{answered_back}
-use Rattle.epoch_links.specs.Links.{at_banners}
+use Rattle.serial_ring.specs.Logs.{at_banners}
 use Rattle.epoch_links.proofs.Moments.{answers_given}
 
 -- of replies, the latest first

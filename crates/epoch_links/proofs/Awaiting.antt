@@ -5,14 +5,14 @@ use Rattle.serial_ring.specs.Marks.{latest}
 use Rattle.status_report.specs.Answering.{is_banner}
 use Rattle.status_report.specs.declared.Reply.{Reply}
 use Rattle.stream_host.specs.Links.{banners_in}
-use Rattle.stream_host.specs.Steps.{HostLog, Journal, port_log, stored_in, latest_got, stored_of, marks_of, banners_of, to_store, is_shut, has_limit}
+use Rattle.stream_host.specs.Steps.{HostLog, Journal, port_log, stored_in, stored_at_banners, latest_got, stored_of, marks_of, banners_of, to_store, is_shut, has_limit}
 use Rattle.stream_host.specs.Steps.PortStep.{marked, got}
 use Rattle.stream_host.specs.Steps.Step.{at_port}
 use Rattle.stream_host.specs.Conduct.{Conducted}
 use Rattle.stream_host.proofs.Epochs.{IsSteady, Stands, epoch_is, begins_at, none_banner, pending_busy}
 use Rattle.stream_host.proofs.Raised.{banners_first, rising_is, calm_shut}
 use Rattle.stream_host.proofs.Raising.{none_due_shut}
-use Rattle.epoch_links.specs.Links.{stored_at_banners, AwaitsBanners, HasBanners}
+use Rattle.epoch_links.specs.Links.{AwaitsBanners, HasBanners}
 use Rattle.epoch_links.proofs.Cutting.{none_by_length}
 
 one_banner : (r : Reply) (n : ℕ) (ns : List ℕ) (rs : List Reply) → length ns ≡ banners_in rs → length (cond (is_banner r) (n ∷ ns) ns) ≡ banners_in (r ∷ rs)

@@ -6,7 +6,8 @@ use Rattle.std.proofs.lemmas.Bool.{cases_lt}
 use Rattle.serial_ring.specs.Marks.{Mark, AreMarks, AreRising, IsMark, latest, last_of}
 use Rattle.serial_ring.proofs.Marking.{mark_within}
 use Rattle.epoch_links.specs.Pieces.{Pieces, joined, ends_behind}
-use Rattle.epoch_links.specs.Links.{AreAtMost, AreLinked, AwaitsBanners, AreEnded, IsLoaded, EndsEpochs, EndAtMarks, HasBanners}
+use Rattle.serial_ring.specs.Lists.{AreAtMost}
+use Rattle.epoch_links.specs.Links.{AreLinked, AwaitsBanners, AreEnded, IsLoaded, EndsEpochs, EndAtMarks, HasBanners}
 
 -- ---- lists of numbers
 

@@ -23,7 +23,8 @@ use Rattle.epoch_links.proofs.Moments.Greets.{greeted, ungreeted}
 use Rattle.epoch_links.proofs.Steps.{closed_bytes, all_bytes, concat_push, steps_more, closed_steps}
 use Rattle.epoch_links.specs.Pieces.{ends_behind}
 use Rattle.epoch_links.specs.Taken.{taken_closed, taken_before, taken_by}
-use Rattle.epoch_links.specs.Links.{taken_at_banners, IsLoaded, AreEnded, EndsEpochs}
+use Rattle.serial_ring.specs.Logs.{taken_at_banners}
+use Rattle.epoch_links.specs.Links.{IsLoaded, AreEnded, EndsEpochs}
 
 -- ---- where they end
 

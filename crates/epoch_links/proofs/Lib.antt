@@ -11,3 +11,4 @@ pub mod Dropping
 pub mod Forgetting
 pub mod Meeting
 pub mod Asking
+pub mod Tying

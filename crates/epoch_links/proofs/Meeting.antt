@@ -20,7 +20,8 @@ use Rattle.board_epochs.specs.Epochs.{Closed, Epochs, AreClosed, AreEpochs, clos
 use Rattle.board_epochs.specs.Epochs.Epochs.{goes, resets}
 use Rattle.board_epochs.proofs.Onto.{steps_on, taken_on}
 use Rattle.epoch_links.specs.Drops.{AreAnsweredOver, DropFew, closed_of}
-use Rattle.epoch_links.specs.Links.{AreLinkedOver, EndAtMarks, at_banners}
+use Rattle.serial_ring.specs.Logs.{at_banners}
+use Rattle.epoch_links.specs.Links.{AreLinkedOver, EndAtMarks}
 use Rattle.epoch_links.specs.Taken.{taken_before}
 use Rattle.epoch_links.proofs.Answers.{GoOn, answers_before, answers_got, before_banners, first_got, go_on, totals_are}
 use Rattle.epoch_links.proofs.Dropping.{no_answers}

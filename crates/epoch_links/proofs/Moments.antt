@@ -23,7 +23,7 @@ use Rattle.board_epochs.specs.Work.{Work, Works, stage_of}
 use Rattle.board_epochs.proofs.Greeted.{was_greeted}
 use Rattle.board_epochs.proofs.Onto.{steps_on}
 use Rattle.board_epochs.proofs.Working.{all_of, never}
-use Rattle.epoch_links.specs.Links.{at_banners}
+use Rattle.serial_ring.specs.Logs.{at_banners}
 use Rattle.epoch_links.proofs.Steps.{closed_steps}
 
 -- a count of what was done: a journal that has told no Banner leaves it, and nothing was done at the start

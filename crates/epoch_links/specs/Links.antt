@@ -1,40 +1,15 @@
 -- What the two ends of a link know of its marks, and how their lists go together.
-use Rattle.std.specs.Prelude.{◌≡◌, ◌⊎◌, ℕ, ◌+◌, ◌≤◌, ◌<◌, Bool, true, cond, List, [], ◌∷◌, ◌++◌, length, drop, reverse}
-use Rattle.std.specs.List.{AllZip}
-use Rattle.status_report.specs.Answering.{is_banner}
+use Rattle.std.specs.Prelude.{◌≡◌, ◌⊎◌, ℕ, ◌+◌, ◌≤◌, ◌<◌, Bool, true, List, [], ◌∷◌, ◌++◌, length, drop, reverse}
 use Rattle.serial_ring.specs.declared.view.LinkStep.{LinkStep}
-use Rattle.serial_ring.specs.declared.view.LinkStep.TheVariants.{Took, Marked, Answered}
-use Rattle.serial_ring.specs.Logs.{taken_in, marked_in}
+use Rattle.serial_ring.specs.Lists.{AreAtMost}
+use Rattle.status_report.specs.declared.Reply.{Reply}
+use Rattle.serial_ring.specs.Logs.{marked_in, taken_at_banners}
 use Rattle.serial_ring.specs.Marks.{Mark, AreMarks, AreRising, last_of}
-use Rattle.stream_host.specs.Steps.{HostLog, stored_in}
-use Rattle.stream_host.specs.Steps.PortStep.{got}
+use Rattle.stream_host.specs.Steps.{stored_at_banners}
 use Rattle.stream_host.specs.Steps as hosts
 use Rattle.board_rules.specs.Ports as ports
 use Rattle.board_epochs.specs.Epochs.{Epochs, log_of}
 use Rattle.epoch_links.specs.Pieces.{Pieces, joined, ends_behind}
-
--- ---- the moments of the Banners
-
--- a count of what a board has done at a link, as it was when each Banner was answered, the latest first
-abbrev pub at_banners : (List LinkStep → ℕ) → List LinkStep → List ℕ
-at_banners count [] = []
-at_banners count (Took b ∷ l) = at_banners count l
-at_banners count (Marked n bytes ∷ l) = at_banners count l
-at_banners count (Answered r ∷ l) = cond (is_banner r) (count l ∷ at_banners count l) (at_banners count l)
-
--- how many bytes were taken then
-abbrev pub taken_at_banners : List LinkStep → List ℕ
-taken_at_banners l = at_banners (λ before. length (taken_in before)) l
-
--- how many bytes were stored when each Banner was got, the latest first
-abbrev pub stored_at_banners : HostLog → List ℕ
-stored_at_banners [] = []
-stored_at_banners (got r ∷ h) = cond (is_banner r) (length (stored_in h) ∷ stored_at_banners h) (stored_at_banners h)
-stored_at_banners (_ ∷ h) = stored_at_banners h
-
--- each number is at most its one of as many others
-abbrev pub AreAtMost : List ℕ → List ℕ → Type 0
-AreAtMost ns ms = AllZip (λ n m. n ≤ m) ns ms
 
 -- ---- the link
 
@@ -57,6 +32,16 @@ abbrev pub AreLinkedOver : hosts.Journal → Epochs → Type 0
 AreLinkedOver host r =
     AreLinked (hosts.stored_of host) (hosts.marks_of host) (stored_at_banners (hosts.port_log host)) (hosts.is_shut host)
     (ports.taken_in (log_of r)) (marked_in (ports.link_steps (log_of r))) (taken_at_banners (ports.link_steps (log_of r))) (ports.has_closed_in (log_of r))
+
+-- what the two ends of a link have done, each with the latest first, is what a host's journal and a board's epochs say
+pub record EndsHave (stored marks : List ℕ) (closed : Bool) (log : List LinkStep) (over : Bool) (got : List Reply) (moments : List ℕ) (host : hosts.Journal) (r : Epochs) : Type 0 where
+  pub stored_are : hosts.stored_of host ≡ reverse stored
+  pub marks_are : hosts.marks_of host ≡ marks
+  pub shut_is : hosts.is_shut host ≡ closed
+  pub got_are : hosts.got_of host ≡ reverse got
+  pub moments_are : stored_at_banners (hosts.port_log host) ≡ moments
+  pub steps_are : ports.link_steps (log_of r) ≡ log
+  pub over_is : ports.has_closed_in (log_of r) ≡ true → over ≡ true
 
 -- ---- the host
 

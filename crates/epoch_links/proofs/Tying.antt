@@ -1,0 +1,45 @@
+-- Two ends of one link that are brought together.
+use Rattle.std.proofs.Common.{◌≡◌, ℕ, ◌+◌, Bool, List, [], ◌∷◌, ◌++◌, length, reverse, length-append, refl, sym, ap, ◌∙◌, subst, arith}
+use Rattle.std.proofs.lemmas.List.{reverse-append}
+use Rattle.serial_ring.specs.declared.view.LinkStep.{LinkStep}
+use Rattle.serial_ring.specs.Logs as link
+use Rattle.serial_ring.specs.Logs.{marked_in, taken_at_banners}
+use Rattle.serial_ring.specs.Lists.{AreAtMost}
+use Rattle.serial_ring.specs.Marks.{Mark, AreMarks}
+use Rattle.serial_ring.specs.Rule.{AreTied}
+use Rattle.status_report.specs.declared.Reply.{Reply}
+use Rattle.stream_host.specs.Steps as hosts
+use Rattle.board_rules.specs.Ports as ports
+use Rattle.board_rules.proofs.LinkSteps.{taken_back, answered_back}
+use Rattle.board_epochs.specs.Epochs.{Epochs, log_of}
+use Rattle.epoch_links.specs.Drops.{AreAnsweredOver}
+use Rattle.epoch_links.specs.Links.{AreLinkedOver, EndsHave}
+
+none_before : (xs ys : List ℕ) → ys ≡ xs ++ ys → xs ≡ []
+none_before [] ys e = refl
+none_before (x ∷ xs) ys e = absurd (let n = ap length e ∙ length-append (x ∷ xs) ys in omega arith)
+
+module _ (room : ℕ) (stored marks : List ℕ) (closed : Bool) (log : List LinkStep) (over : Bool) (got : List Reply) (greeted : List Mark) (moments : List ℕ) (host : hosts.Journal) (r : Epochs)
+    (t : AreTied room stored marks closed log over got greeted moments) (e : EndsHave stored marks closed log over got moments host r) where
+  pub ends_linked : AreLinkedOver host r
+  ends_linked = record {
+    rest = reverse t.unread;
+    front =
+        e.stored_are ∙ ap (λ (bytes : List ℕ). reverse bytes) t.bytes ∙ reverse-append t.unread (link.taken_in log)
+        ∙ ap (λ (steps : List LinkStep). reverse (link.taken_in steps) ++ reverse t.unread) (sym e.steps_are) ∙ ap (λ (bytes : List ℕ). bytes ++ reverse t.unread) (sym (taken_back (log_of r)));
+    closes = λ found. e.shut_is ∙ t.closes (e.over_is found);
+    all = λ found. ap (λ (bytes : List ℕ). reverse bytes) (none_before t.unread (link.taken_in log) (sym (t.all_bytes (e.over_is found)) ∙ t.bytes));
+    loads = subst (λ (z : List ℕ × List LinkStep). AreMarks z.0 (marked_in z.1)) (λ i. (sym e.marks_are i, sym e.steps_are i)) t.loads;
+    ungot = t.later;
+    of_got = t.of_got;
+    banners = ap taken_at_banners e.steps_are ∙ t.taken_then;
+    in_time = subst (AreAtMost t.of_got) (sym e.moments_are) t.in_time;
+  }
+
+  pub ends_answered : AreAnsweredOver host r
+  ends_answered = record {
+    rest = reverse t.untaken;
+    is =
+        answered_back (log_of r) ∙ ap (λ (steps : List LinkStep). reverse (link.answered_in steps)) e.steps_are ∙ ap (λ (rs : List Reply). reverse rs) t.replies
+        ∙ reverse-append t.untaken got ∙ ap (λ (rs : List Reply). rs ++ reverse t.untaken) (sym e.got_are);
+  }

@@ -1,0 +1,8 @@
+use Rattle.epoch_links.proofs.Tying.{ends_linked, ends_answered}
+use Rattle.epoch_links.proofs.laws.ends_of_a_link_are_linked.Goals as goal
+
+pub returns-clause-linked : goal.returns-clause-linked
+returns-clause-linked c = ends_linked
+
+pub returns-clause-answered : goal.returns-clause-answered
+returns-clause-answered c = ends_answered
