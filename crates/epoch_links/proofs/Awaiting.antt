@@ -5,7 +5,7 @@ use Rattle.serial_ring.specs.Marks.{latest}
 use Rattle.status_report.specs.Answering.{is_banner}
 use Rattle.status_report.specs.declared.Reply.{Reply}
 use Rattle.stream_host.specs.Links.{banners_in}
-use Rattle.stream_host.specs.Steps.{HostLog, Journal, port_log, stored_in, stored_at_banners, latest_got, stored_of, marks_of, banners_of, to_store, is_shut, has_limit}
+use Rattle.stream_host.specs.Steps.{HostLog, Journal, port_log, stored_in, stored_at_banners, latest_got, stored_of, marks_of, banners_of, to_store, is_shut, has_limit, cut_of, raw_of}
 use Rattle.stream_host.specs.Steps.PortStep.{marked, got}
 use Rattle.stream_host.specs.Steps.Step.{at_port}
 use Rattle.stream_host.specs.Conduct.{Conducted}
@@ -13,7 +13,10 @@ use Rattle.stream_host.proofs.Epochs.{IsSteady, Stands, epoch_is, begins_at, non
 use Rattle.stream_host.proofs.Raised.{banners_first, rising_is, calm_shut}
 use Rattle.stream_host.proofs.Raising.{none_due_shut}
 use Rattle.epoch_links.specs.Links.{AwaitsBanners, HasBanners}
+use Rattle.run_texts.specs.Sent.{sent_of}
+use Rattle.epoch_links.specs.Pieces.{IsAllOf}
 use Rattle.epoch_links.proofs.Cutting.{none_by_length}
+use Rattle.epoch_links.proofs.Sending.{pending_all}
 
 one_banner : (r : Reply) (n : ℕ) (ns : List ℕ) (rs : List Reply) → length ns ≡ banners_in rs → length (cond (is_banner r) (n ∷ ns) ns) ≡ banners_in (r ∷ rs)
 one_banner r n ns rs e = by_banner (is_banner r) (banners_first r rs)
@@ -142,11 +145,23 @@ awaits h c = by_shown (shown_is h c)
           got = inr (s.first, s.got_are);
         }
 
+-- where no mark lacks its Banner, each has one
+steady_got : (h : Journal) → IsSteady (marks_of h) (banners_of h) → HasBanners (marks_of h) (stored_at_banners (port_log h))
+steady_got h (inl none) = λ some. absurd (omega arith)
+steady_got h (inr all) = λ some. let o = one_each (port_log h) in omega arith
+
 -- a host that has closed its link, and got no alarm of a limit, has got all
 pub all_got : (h : Journal) → Conducted h → is_shut h ≡ true → has_limit h ≡ false → HasBanners (marks_of h) (stored_at_banners (port_log h))
 all_got h c closed calm = by_stands (epoch_is h c).stands
   where
     by_stands : Stands (marks_of h) (banners_of h) (to_store h) (stored_of h) (epoch_is h c).from → HasBanners (marks_of h) (stored_at_banners (port_log h))
-    by_stands (inl (inl none, from)) = λ some. absurd (omega arith)
-    by_stands (inl (inr all, from)) = λ some. let o = one_each (port_log h) in omega arith
+    by_stands (inl s) = steady_got h s.0
     by_stands (inr p) = pending_busy h c (calm_shut h c closed calm) (none_due_shut h c closed calm) p.0
+
+-- a host has got all, or it awaits one, and has stored and marked all that came of what it has scanned
+pub got_or_all : (h : Journal) → Conducted h → HasBanners (marks_of h) (stored_at_banners (port_log h)) ⊎ IsAllOf (sent_of (cut_of h) (raw_of h)) (stored_of h) (marks_of h)
+got_or_all h c = by_stands (epoch_is h c).stands
+  where
+    by_stands : Stands (marks_of h) (banners_of h) (to_store h) (stored_of h) (epoch_is h c).from → HasBanners (marks_of h) (stored_at_banners (port_log h)) ⊎ IsAllOf (sent_of (cut_of h) (raw_of h)) (stored_of h) (marks_of h)
+    by_stands (inl s) = inl (steady_got h s.0)
+    by_stands (inr p) = inr (pending_all h c p.0)

@@ -8,7 +8,7 @@ use Rattle.run_texts.specs.Sent.{Sent}
 use Rattle.run_texts.specs.Sent.Sent.{a_text, a_stop}
 use Rattle.stream_host.proofs.Links.{all_push}
 use Rattle.stream_host.proofs.Pieces.{wholes_on}
-use Rattle.epoch_links.specs.Pieces.{Pieces, joined, ends_behind, texts_in, items_closed, bytes_of, stops_behind, HoldNoLf, BeginsPast}
+use Rattle.epoch_links.specs.Pieces.{Pieces, joined, ends_behind, texts_in, items_closed, bytes_of, stops_behind, HoldNoLf}
 
 -- ---- fronts of bytes
 
@@ -73,6 +73,11 @@ wholes lines all = ap whole_lines (sym (append-nil (ended lines))) ∙ wholes_on
 
 pub ended_push : (lines : List (List ℕ)) (line : List ℕ) → ended (lines ++ line ∷ []) ≡ ended lines ++ (line ++ 10 ∷ [])
 ended_push lines line = flat_map-append (λ (l : List ℕ). l ++ 10 ∷ []) lines (line ∷ []) ∙ ap (λ (t : List ℕ). ended lines ++ t) (append-nil (line ++ 10 ∷ []))
+
+-- no number of a list comes first, or one that is not below this
+abbrev pub BeginsPast : ℕ → List ℕ → Type 0
+BeginsPast n [] = Unit {0}
+BeginsPast n (m ∷ ms) = n ≤ m
 
 -- ---- what was sent begins with what the pieces hold, and is all of it if no byte and no reset is left
 pub record Carries (rest more : List ℕ) (whole front : List Sent) : Type 0 where

@@ -11,14 +11,19 @@ use Rattle.stream_host.proofs.Raised.{IsMarked, marks_are}
 use Rattle.stream_host.proofs.Raising.{none_due_shut}
 use Rattle.board_rules.specs.Ports.{has_closed_in}
 use Rattle.board_epochs.specs.Epochs.{Epochs, AreEpochs, log_of}
-use Rattle.epoch_links.specs.Pieces.{Pieces, joined, ends_behind, items_in, BeginsPast, IsFrontOf, IsAllOf}
+use Rattle.epoch_links.specs.Pieces.{Pieces, joined, ends_behind, items_in, bytes_of, IsFrontOf, IsAllOf}
 use Rattle.epoch_links.specs.Taken.{taken_by}
 use Rattle.epoch_links.specs.Links.{AreLinked, AreLinkedOver, EndsEpochs, EndAtMarks}
 use Rattle.epoch_links.proofs.Awaiting.{awaits, all_got}
-use Rattle.epoch_links.proofs.Carrying.{Carries, carried}
+use Rattle.epoch_links.proofs.Carrying.{BeginsPast, Carries, carried}
 use Rattle.epoch_links.proofs.Cutting.{none_by_length, cut_at_marks, one_of_each, length-ends}
 use Rattle.epoch_links.proofs.Ending.{ends_epochs}
 use Rattle.epoch_links.proofs.Sending.{sends_front, sends_all}
+
+-- a reset that has no mark stands behind all bytes
+unmarked_past : (bytes all : ℕ) (unmarked : List ℕ) → bytes ≤ all → (unmarked ≡ []) ⊎ (unmarked ≡ all ∷ []) → BeginsPast bytes unmarked
+unmarked_past bytes all unmarked few (inl none) = subst (BeginsPast bytes) (sym none) tt
+unmarked_past bytes all unmarked few (inr one) = subst (BeginsPast bytes) (sym one) few
 
 -- what comes behind the pieces of a front
 past_all : (bytes stored : ℕ) (left more : List ℕ) → bytes ≤ stored → (left ≡ []) ⊎ (left ≡ stored ∷ []) → BeginsPast stored more → BeginsPast bytes (left ++ more)
@@ -33,7 +38,7 @@ carries sent stored marks at_got taken at_answers loaded shut closed p f k b e =
     carried sent [] 0 p.closed p.last (k.rest ++ f.more) (e.left ++ f.unmarked) tt f.lines
     (sym (append_assoc (joined p) k.rest f.more) ∙ ap (λ (bytes : List ℕ). (bytes ++ k.rest) ++ f.more) (sym b.whole) ∙ ap (λ (bytes : List ℕ). bytes ++ f.more) (sym k.front) ∙ sym f.bytes_are)
     (f.marks_are ∙ ap (λ (ns : List ℕ). ns ++ f.unmarked) e.are ∙ append_assoc (ends_behind 0 p.closed) e.left f.unmarked)
-    (past_all (0 + length (joined p)) (length stored) e.left f.unmarked few e.few f.waits)
+    (past_all (0 + length (joined p)) (length stored) e.left f.unmarked few e.few (unmarked_past (length stored) (length (bytes_of sent)) f.unmarked (let a = ap length f.bytes_are ∙ length-append stored f.more in omega (arith, a)) f.waits))
   where
     few : 0 + length (joined p) ≤ length stored
     few = let a = ap length k.front ∙ length-append taken k.rest in let c = ap length b.whole in omega (arith, a, c)

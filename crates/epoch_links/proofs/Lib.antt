@@ -6,6 +6,7 @@ pub mod Steps
 pub mod Moments
 pub mod Ending
 pub mod Joining
+pub mod Leaving
 pub mod Answers
 pub mod Dropping
 pub mod Forgetting

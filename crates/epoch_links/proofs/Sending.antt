@@ -1,5 +1,5 @@
 -- What a host stores and marks is a front of its lines and resets.
-use Rattle.std.proofs.Common.{◌≡◌, inl, inr, ℕ, zero, suc, ◌+◌, ◌≤◌, Bool, true, false, cond, List, [], ◌∷◌, ◌++◌, length, map, replicate, reverse, length-append, append-nil, append_assoc, refl, sym, ap, ◌∙◌, subst, arith}
+use Rattle.std.proofs.Common.{◌≡◌, ◌⊎◌, nat_lt, nat_le, inl, inr, ℕ, zero, suc, ◌+◌, ◌&&◌, Bool, true, false, cond, List, [], ◌∷◌, ◌++◌, length, map, replicate, reverse, length-append, append-nil, append_assoc, refl, sym, ap, ◌∙◌, subst, arith}
 use Rattle.std.specs.List.{count_by, filter, flat_map, list_any}
 use Rattle.std.proofs.lemmas.Bool.Decides.{nat_tests}
 use Rattle.std.proofs.lemmas.List.Sums.{sum_by-cons}
@@ -10,13 +10,15 @@ use Rattle.run_texts.specs.Sent.{Sent, behind_resets, kept_of, resets_of, sent_b
 use Rattle.run_texts.specs.Sent.Sent.{a_text, a_stop}
 use Rattle.stream_host.specs.Jobs.{is_reset, behind_last, sent_text, marks_at, marks_behind}
 use Rattle.stream_host.specs.Links.{on_link}
-use Rattle.stream_host.specs.Steps.{Journal, stored_of, is_shut, has_limit, marks_of, resets_of as raised_resets, raw_of, cut_of, to_store, due_of}
+use Rattle.stream_host.specs.Steps.{Journal, stored_of, is_shut, has_limit, marks_of, resets_of as raised_resets, raw_of, cut_of, to_store, due_of, banners_of, awaits_banner}
 use Rattle.stream_host.specs.Conduct.{Conducted}
 use Rattle.stream_host.proofs.Bordering.{AllMarked, stored_marks, left_none}
 use Rattle.stream_host.proofs.Keeping.{stored_is, shut_is}
 use Rattle.stream_host.proofs.Links.{sent_no_lf}
+use Rattle.stream_host.proofs.Epochs.{IsPending, whole_by}
+use Rattle.stream_host.proofs.Raised.{waiting_is}
 use Rattle.stream_host.proofs.Raising.{none_due_shut}
-use Rattle.epoch_links.specs.Pieces.{bytes_of, stops_behind, HoldNoLf, BeginsPast, IsFrontOf, IsAllOf}
+use Rattle.epoch_links.specs.Pieces.{bytes_of, stops_behind, HoldNoLf, IsFrontOf, IsAllOf}
 
 -- ---- what is kept of a line is what is sent of it
 
@@ -29,7 +31,7 @@ kept_sent line = ap (λ (bytes : List ℕ). map capital (filter is_plain bytes))
 
 -- ---- their bytes
 
-bytes_append : (s t : List Sent) → bytes_of (s ++ t) ≡ bytes_of s ++ bytes_of t
+pub bytes_append : (s t : List Sent) → bytes_of (s ++ t) ≡ bytes_of s ++ bytes_of t
 bytes_append [] t = refl
 bytes_append (a_text line ∷ s) t = ap (λ (bytes : List ℕ). (line ++ 10 ∷ []) ++ bytes) (bytes_append s t) ∙ sym (append_assoc (line ++ 10 ∷ []) (bytes_of s) (bytes_of t))
 bytes_append (a_stop ∷ s) t = bytes_append s t
@@ -126,18 +128,43 @@ sends_front h c = let s = stored_marks h c in record {
   waits = by_all s.left s.all;
 }
   where
-    few : length (stored_of h) ≤ length (on_link (cut_of h))
-    few = let e = ap length (stored_is h c) in let a = length-append (stored_of h) (to_store h) in omega arith
+    by_all : (left : List ℕ) → AllMarked (length (marks_of h)) (raised_resets h) (length (on_link (cut_of h))) (due_of h) left → (left ≡ []) ⊎ (left ≡ length (bytes_of (sent_of (cut_of h) (raw_of h))) ∷ [])
+    by_all left (inl all) = inl all.0
+    by_all left (inr all) = inr (all.0 ∙ ap (λ (bytes : List ℕ). length bytes ∷ []) (sym (bytes_sent (cut_of h) (raw_of h))))
 
-    by_all : (left : List ℕ) → AllMarked (length (marks_of h)) (raised_resets h) (length (on_link (cut_of h))) (due_of h) left → BeginsPast (length (stored_of h)) left
-    by_all left (inl all) = subst (BeginsPast (length (stored_of h))) (sym all.0) tt
-    by_all left (inr all) = subst (BeginsPast (length (stored_of h))) (sym all.0) few
-
-pub sends_all : (h : Journal) → Conducted h → is_shut h ≡ true → has_limit h ≡ false → IsAllOf (sent_of (cut_of h) (raw_of h)) (stored_of h) (marks_of h)
-sends_all h c shut calm =
+-- where all is stored, and nothing is to be raised
+sends_whole : (h : Journal) → Conducted h → to_store h ≡ [] → due_of h ≡ [] → IsAllOf (sent_of (cut_of h) (raw_of h)) (stored_of h) (marks_of h)
+sends_whole h c free calm =
     let s = stored_marks h c in
-    let none = left_none (length (marks_of h)) (raised_resets h) (length (on_link (cut_of h))) (due_of h) s.left (none_due_shut h c shut calm) s.all in
+    let none = left_none (length (marks_of h)) (raised_resets h) (length (on_link (cut_of h))) (due_of h) s.left calm s.all in
     record {
-      bytes_are = bytes_sent (cut_of h) (raw_of h) ∙ sym (stored_is h c) ∙ ap (λ (t : List ℕ). stored_of h ++ t) (shut_is h c shut calm).free ∙ append-nil (stored_of h);
+      bytes_are = bytes_sent (cut_of h) (raw_of h) ∙ sym (stored_is h c) ∙ ap (λ (t : List ℕ). stored_of h ++ t) free ∙ append-nil (stored_of h);
       marks_are = marks_sent h s.left s.are ∙ ap (λ (t : List ℕ). reverse (marks_of h) ++ t) none ∙ append-nil (reverse (marks_of h));
     }
+
+pub sends_all : (h : Journal) → Conducted h → is_shut h ≡ true → has_limit h ≡ false → IsAllOf (sent_of (cut_of h) (raw_of h)) (stored_of h) (marks_of h)
+sends_all h c closed calm = sends_whole h c (shut_is h c closed calm).free (none_due_shut h c closed calm)
+
+-- where the latest mark has no Banner yet, all is stored, and nothing else is to be marked
+pub pending_all : (h : Journal) → Conducted h → IsPending (marks_of h) (banners_of h) (to_store h) (stored_of h) → IsAllOf (sent_of (cut_of h) (raw_of h)) (stored_of h) (marks_of h)
+pending_all h c p = let s = stored_marks h c in by_all s.left s.are s.all
+  where
+    all : (left : List ℕ) → reverse (marks_of h) ++ left ≡ marks_behind 0 (cut_of h) ++ marks_at (length (on_link (cut_of h))) (raw_of h) → left ≡ [] → IsAllOf (sent_of (cut_of h) (raw_of h)) (stored_of h) (marks_of h)
+    all left are none = record {
+      bytes_are = bytes_sent (cut_of h) (raw_of h) ∙ sym (whole_by h c p.free);
+      marks_are = marks_sent h left are ∙ ap (λ (t : List ℕ). reverse (marks_of h) ++ t) none ∙ append-nil (reverse (marks_of h));
+    }
+
+    -- a Banner is awaited then, and nothing is due
+    awaits : length (marks_of h) ≡ raised_resets h → awaits_banner h ≡ true
+    awaits same = let s = p.some in let l = p.late in by_tests (nat_lt 0 (raised_resets h)) (nat_le (banners_of h) (raised_resets h)) refl refl
+      where
+        by_tests : (t u : Bool) → nat_lt 0 (raised_resets h) ≡ t → nat_le (banners_of h) (raised_resets h) ≡ u → (t && u) ≡ true
+        by_tests true true e f = refl
+        by_tests true false e f = absurd (let l = p.late in grind (arith, nat_tests))
+        by_tests false u e f = absurd (let l = p.some in grind (arith, nat_tests))
+
+    by_all : (left : List ℕ) → reverse (marks_of h) ++ left ≡ marks_behind 0 (cut_of h) ++ marks_at (length (on_link (cut_of h))) (raw_of h)
+        → AllMarked (length (marks_of h)) (raised_resets h) (length (on_link (cut_of h))) (due_of h) left → IsAllOf (sent_of (cut_of h) (raw_of h)) (stored_of h) (marks_of h)
+    by_all left are (inl none) = all left are none.0
+    by_all left are (inr one) = absurd (let w = (waiting_is h c (awaits one.2)).none_due in let e = sym w ∙ one.1 in cc)

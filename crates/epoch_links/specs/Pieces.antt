@@ -1,5 +1,5 @@
 -- Bytes in pieces, of which each but the last ends at a reset, and the lines and resets that they hold.
-use Rattle.std.specs.Prelude.{◌≡◌, ◌≤◌, ℕ, ◌+◌, List, [], ◌∷◌, ◌++◌, length, map, reverse}
+use Rattle.std.specs.Prelude.{◌≡◌, ◌⊎◌, ℕ, ◌+◌, List, [], ◌∷◌, ◌++◌, length, map, reverse}
 use Rattle.std.specs.List.{concat}
 use Rattle.run_rules.specs.Lines.{HasNoLf, whole_lines}
 use Rattle.run_texts.specs.Sent.{Sent}
@@ -53,20 +53,15 @@ HoldNoLf [] = Unit {0}
 HoldNoLf (a_text line ∷ sent) = HasNoLf line × HoldNoLf sent
 HoldNoLf (a_stop ∷ sent) = HoldNoLf sent
 
--- no number of a list comes first, or one that is not below this
-abbrev pub BeginsPast : ℕ → List ℕ → Type 0
-BeginsPast n [] = Unit {0}
-BeginsPast n (m ∷ ms) = n ≤ m
-
--- These bytes and marks, the latest first, are a front of those of some lines and resets, each reset with a mark: no byte stands behind
--- a reset that has none yet.
+-- These bytes and marks, the latest first, are a front of those of some lines and resets, each reset with a mark. One reset at most has
+-- none yet, behind which no line comes.
 pub record IsFrontOf (sent : List Sent) (bytes marks : List ℕ) : Type 0 where
   pub lines : HoldNoLf sent
   pub more : List ℕ
   pub bytes_are : bytes_of sent ≡ bytes ++ more
   pub unmarked : List ℕ
   pub marks_are : stops_behind 0 sent ≡ reverse marks ++ unmarked
-  pub waits : BeginsPast (length bytes) unmarked
+  pub waits : (unmarked ≡ []) ⊎ (unmarked ≡ length (bytes_of sent) ∷ [])
 
 -- they are all of them
 pub record IsAllOf (sent : List Sent) (bytes marks : List ℕ) : Type 0 where

@@ -1,9 +1,9 @@
 //! Laws of a link over epochs.
 
-ghost use Rattle.std.specs.Prelude.{◌≡◌, ℕ, ◌≤◌, Bool, true, false, List, length};
+ghost use Rattle.std.specs.Prelude.{◌≡◌, ◌⊎◌, ℕ, ◌≤◌, Bool, true, false, List, [], length};
 ghost use Rattle.run_rules.specs.declared.State.{State};
 ghost use Rattle.run_texts.specs.Fronts.{BeginsWith};
-ghost use Rattle.run_texts.specs.Sent.{Sent, sent_of};
+ghost use Rattle.run_texts.specs.Sent.{Sent, behind_reset, sent_of};
 ghost use Rattle.serial_ring.specs.Logs.{marked_in, taken_at_banners};
 ghost use Rattle.serial_ring.specs.declared.view.LinkStep.{LinkStep as AnyStep};
 ghost use Rattle.serial_ring.specs.Marks.{Mark as LinkMark};
@@ -21,12 +21,13 @@ ghost use Rattle.epoch_links.specs.Drops.{AreAnsweredOver, DropFew, closed_of};
 
 /// A host stores and marks a front of its lines and the resets among them: the lines that it has cut, and the resets of what is
 /// scanned of the next. It awaits a Banner of each mark. If it has closed its link, and no alarm of a limit was got, it has stored and
-/// marked all of them, and has got a Banner of each mark.
+/// marked all of them, and has got a Banner of each mark; and so it has stored and marked all while it awaits a Banner.
 pub fn hosts_await_a_banner_of_each_mark()
     ensures awaits { (h : HostJournal) → HostConducted h → AwaitsBanners (stored_of h) (marks_of h) (stored_at_banners (port_log h)) }
     ensures front { (h : HostJournal) → HostConducted h → IsFrontOf (sent_of (cut_of h) (raw_of h)) (stored_of h) (marks_of h) }
     ensures got { (h : HostJournal) → HostConducted h → is_shut h ≡ true → has_limit h ≡ false → HasBanners (marks_of h) (stored_at_banners (port_log h)) }
     ensures whole { (h : HostJournal) → HostConducted h → is_shut h ≡ true → has_limit h ≡ false → IsAllOf (sent_of (cut_of h) (raw_of h)) (stored_of h) (marks_of h) }
+    ensures waits { (h : HostJournal) → HostConducted h → HasBanners (marks_of h) (stored_at_banners (port_log h)) ⊎ IsAllOf (sent_of (cut_of h) (raw_of h)) (stored_of h) (marks_of h) }
 {}
 
 /// A board ends each epoch for a mark that is new behind that of the one before, behind no fewer bytes than the mark has, and answers the
@@ -60,17 +61,22 @@ pub fn ends_of_a_link_are_linked()
 {}
 
 /// So the lines that a board has taken, epoch by epoch, with a reset behind each that is closed, are a front of the lines and resets that
-/// came of the job; and all of them, if all was stored and marked, the link was found closed, and as many epochs were ended as
+/// came of the job. What is left of these has one reset at most, and nothing behind it. They are all of them, if all was stored and marked, the link was found closed, and as many epochs were ended as
 /// there are marks.
 pub fn links_carry_lines_and_resets()
     ensures front { (sent : List Sent) (stored marks at_got taken at_answers : List ℕ) (loaded : List LinkMark) (shut closed : Bool) (p : Pieces) →
         IsFrontOf sent stored marks → AreLinked stored marks at_got shut taken loaded at_answers closed → EndsEpochs p taken loaded at_answers → EndAtMarks stored marks p →
         BeginsWith sent (items_in p) }
+    ensures left { (sent : List Sent) (stored marks at_got taken at_answers : List ℕ) (loaded : List LinkMark) (shut closed : Bool) (p : Pieces) →
+        IsFrontOf sent stored marks → AreLinked stored marks at_got shut taken loaded at_answers closed → AwaitsBanners stored marks at_got → EndsEpochs p taken loaded at_answers →
+        HasBanners marks at_got ⊎ IsAllOf sent stored marks → (b : BeginsWith sent (items_in p)) → behind_reset b.rest ≡ [] }
     ensures whole { (sent : List Sent) (stored marks at_got taken at_answers : List ℕ) (loaded : List LinkMark) (shut closed : Bool) (p : Pieces) →
         IsFrontOf sent stored marks → IsAllOf sent stored marks → AreLinked stored marks at_got shut taken loaded at_answers closed → EndsEpochs p taken loaded at_answers → EndAtMarks stored marks p →
         closed ≡ true → length marks ≤ length p.closed → sent ≡ items_in p }
     ensures run { (host : HostJournal) (state : State) (r : Epochs) → HostConducted host → AreEpochs state r → AreLinkedOver host r →
         BeginsWith (sent_of (cut_of host) (raw_of host)) (items_in (taken_by r)) }
+    ensures rest { (host : HostJournal) (state : State) (r : Epochs) → HostConducted host → AreEpochs state r → AreLinkedOver host r →
+        (b : BeginsWith (sent_of (cut_of host) (raw_of host)) (items_in (taken_by r))) → behind_reset b.rest ≡ [] }
     ensures finished { (host : HostJournal) (state : State) (r : Epochs) → HostConducted host → AreEpochs state r → AreLinkedOver host r →
         has_limit host ≡ false → has_closed_in (log_of r) ≡ true →
         (sent_of (cut_of host) (raw_of host) ≡ items_in (taken_by r)) × (length (taken_by r).closed ≡ resets_of host) }

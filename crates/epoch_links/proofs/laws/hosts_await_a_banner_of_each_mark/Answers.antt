@@ -1,4 +1,4 @@
-use Rattle.epoch_links.proofs.Awaiting.{awaits, all_got}
+use Rattle.epoch_links.proofs.Awaiting.{awaits, all_got, got_or_all}
 use Rattle.epoch_links.proofs.Sending.{sends_front, sends_all}
 use Rattle.epoch_links.proofs.laws.hosts_await_a_banner_of_each_mark.Goals as goal
 
@@ -13,3 +13,6 @@ returns-clause-got c = all_got
 
 pub returns-clause-whole : goal.returns-clause-whole
 returns-clause-whole c = sends_all
+
+pub returns-clause-waits : goal.returns-clause-waits
+returns-clause-waits c = got_or_all

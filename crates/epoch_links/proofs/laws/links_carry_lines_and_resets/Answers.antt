@@ -1,4 +1,5 @@
 use Rattle.epoch_links.proofs.Joining.{fronts, wholes, front_over, whole_over}
+use Rattle.epoch_links.proofs.Leaving.{left_behind, left_over}
 use Rattle.epoch_links.proofs.laws.links_carry_lines_and_resets.Goals as goal
 
 pub returns-clause-front : goal.returns-clause-front
@@ -12,3 +13,9 @@ returns-clause-run c = front_over
 
 pub returns-clause-finished : goal.returns-clause-finished
 returns-clause-finished c = whole_over
+
+pub returns-clause-left : goal.returns-clause-left
+returns-clause-left c = left_behind
+
+pub returns-clause-rest : goal.returns-clause-rest
+returns-clause-rest c = left_over
