@@ -8,6 +8,9 @@ use Rattle.run_texts.specs.Sent.{Sent}
 use Rattle.run_texts.specs.Sent.Sent.{a_text, a_stop}
 use Rattle.stream_host.proofs.Links.{all_push}
 use Rattle.stream_host.proofs.Pieces.{wholes_on}
+use Rattle.step_line.specs.Logs.{NewestFirst}
+use Rattle.board_epochs.specs.Epochs.{Closed}
+use Rattle.epoch_links.specs.Taken.{taken_closed, taken_before}
 use Rattle.epoch_links.specs.Pieces.{Pieces, joined, ends_behind, texts_in, items_closed, bytes_of, stops_behind, HoldNoLf}
 
 -- ---- fronts of bytes
@@ -150,3 +153,12 @@ carried (a_stop ∷ sent) lines n (q ∷ qs) last rest more all holds bytes stop
           ∙ ap (λ (s : List Sent). s ++ i.left) (sym (append_assoc (texts_in q) (a_stop ∷ items_closed qs) (texts_in last)));
       all = i.all;
     }
+
+-- ---- one epoch more
+
+items_push : (ps : List (List ℕ)) (p : List ℕ) → items_closed (ps ++ p ∷ []) ≡ items_closed ps ++ (texts_in p ++ a_stop ∷ [])
+items_push [] p = refl
+items_push (q ∷ qs) p = ap (λ (s : List Sent). texts_in q ++ a_stop ∷ s) (items_push qs p) ∙ sym (append_assoc (texts_in q) (a_stop ∷ items_closed qs) (texts_in p ++ a_stop ∷ []))
+
+pub items_more : (e : Closed) (es : NewestFirst Closed) → items_closed (taken_before (e ∷ es)) ≡ items_closed (taken_before es) ++ (texts_in (taken_closed e) ++ a_stop ∷ [])
+items_more e es = items_push (taken_before es) (taken_closed e)

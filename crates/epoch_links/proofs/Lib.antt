@@ -13,3 +13,4 @@ pub mod Forgetting
 pub mod Meeting
 pub mod Asking
 pub mod Tying
+pub mod Courses

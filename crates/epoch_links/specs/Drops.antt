@@ -1,7 +1,9 @@
 -- What the resets of a board drop.
-use Rattle.std.specs.Prelude.{ℕ, ◌≤◌, List, length, drop}
+use Rattle.std.specs.Prelude.{◌≡◌, ℕ, ◌≤◌, List, [], ◌∷◌, length, drop}
 use Rattle.std.specs.List.{AllByRecursion}
 use Rattle.run_rules.specs.Lines.{ended, whole_lines}
+use Rattle.run_texts.specs.Courses.{Passed}
+use Rattle.run_texts.specs.Courses.Passed.{a_line, a_broken, a_cut, a_reset}
 use Rattle.run_texts.specs.Fronts.{BeginsWith}
 use Rattle.status_report.specs.Answering.{receive_room, answers_in}
 use Rattle.step_line.specs.Logs.{NewestFirst}
@@ -28,3 +30,21 @@ DropFew es = AllByRecursion (λ e. length (ended (dropped_by e)) ≤ receive_roo
 -- the replies that a host has got are the first of those that a board has answered
 abbrev pub AreAnsweredOver : hosts.Journal → Epochs → Type 0
 AreAnsweredOver host r = BeginsWith (answered_in (log_of r)) (hosts.got_of host)
+
+-- ---- by a course of the texts
+
+abbrev pub AreCuts : List Passed → Type 0
+AreCuts [] = Unit {0}
+AreCuts (a_cut k at ∷ ps) = AreCuts ps
+AreCuts (_ ∷ ps) = ⊥
+
+-- What is passed of an epoch up to its reset answers the first of its lines, and leaves these to be dropped; the first of these may
+-- be begun.
+abbrev pub PassesLines : (lines : List (List ℕ)) → List Passed → (dropped : List (List ℕ)) → Type 0
+PassesLines lines [] dropped = dropped ≡ lines
+PassesLines lines (a_cut k at ∷ ps) dropped = PassesLines lines ps dropped
+PassesLines lines (a_reset r ∷ ps) dropped = ⊥
+PassesLines (l ∷ lines) (a_line o ∷ ps) dropped = PassesLines lines ps dropped
+PassesLines (l ∷ lines) (a_broken o ∷ ps) dropped = (dropped ≡ l ∷ lines) × AreCuts ps
+PassesLines [] (a_line o ∷ ps) dropped = ⊥
+PassesLines [] (a_broken o ∷ ps) dropped = ⊥

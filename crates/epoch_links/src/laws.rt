@@ -1,9 +1,14 @@
 //! Laws of a link over epochs.
 
-ghost use Rattle.std.specs.Prelude.{◌≡◌, ◌⊎◌, ℕ, ◌≤◌, Bool, true, false, List, [], length};
+ghost use Rattle.std.specs.Prelude.{◌≡◌, ◌⊎◌, ℕ, ◌≤◌, Bool, true, false, List, [], ◌∷◌, ◌++◌, length, map};
 ghost use Rattle.run_rules.specs.declared.State.{State};
+ghost use Rattle.run_rules.specs.Lines.{ended};
+ghost use Rattle.run_texts.specs.Besides.{DropsAreFew};
+ghost use Rattle.run_texts.specs.Courses.{Passed, Reset};
+ghost use Rattle.run_texts.specs.Courses.Passed.{a_reset};
 ghost use Rattle.run_texts.specs.Fronts.{BeginsWith};
 ghost use Rattle.run_texts.specs.Sent.{Sent, behind_reset, sent_of};
+ghost use Rattle.run_texts.specs.Sent.Sent.{a_text, a_stop};
 ghost use Rattle.serial_ring.specs.Logs.{marked_in, taken_at_banners};
 ghost use Rattle.serial_ring.specs.declared.view.LinkStep.{LinkStep as AnyStep};
 ghost use Rattle.serial_ring.specs.Marks.{Mark as LinkMark};
@@ -15,9 +20,9 @@ ghost use Rattle.stream_host.specs.Steps.{Journal as HostJournal, port_log, stor
 ghost use Rattle.board_rules.specs.Ports.{taken_in, link_steps, has_closed_in};
 ghost use Rattle.board_epochs.specs.Epochs.{Closed, Epochs, AreClosed, AreEpochs, closed_log, log_of};
 ghost use Rattle.epoch_links.specs.Links.{AreLinked, AreLinkedOver, AwaitsBanners, HasBanners, EndsEpochs, EndAtMarks, EndsHave};
-ghost use Rattle.epoch_links.specs.Pieces.{Pieces, joined, ends_behind, items_in, IsFrontOf, IsAllOf};
-ghost use Rattle.epoch_links.specs.Taken.{taken_by, resets_asked};
-ghost use Rattle.epoch_links.specs.Drops.{AreAnsweredOver, DropFew, closed_of};
+ghost use Rattle.epoch_links.specs.Pieces.{Pieces, joined, ends_behind, texts_in, items_closed, items_in, IsFrontOf, IsAllOf};
+ghost use Rattle.epoch_links.specs.Taken.{taken_closed, taken_before, taken_by, resets_asked};
+ghost use Rattle.epoch_links.specs.Drops.{AreAnsweredOver, DropFew, PassesLines, closed_of};
 
 /// A host stores and marks a front of its lines and the resets among them: the lines that it has cut, and the resets of what is
 /// scanned of the next. It awaits a Banner of each mark. If it has closed its link, and no alarm of a limit was got, it has stored and
@@ -61,9 +66,10 @@ pub fn ends_of_a_link_are_linked()
 {}
 
 /// So the lines that a board has taken, epoch by epoch, with a reset behind each that is closed, are a front of the lines and resets that
-/// came of the job. What is left of these has one reset at most, and nothing behind it. They are all of them, if all was stored and marked, the link was found closed, and as many epochs were ended as
+/// came of the job: those of one epoch more come behind those before. What is left of these has one reset at most, and nothing behind it. They are all of them, if all was stored and marked, the link was found closed, and as many epochs were ended as
 /// there are marks.
 pub fn links_carry_lines_and_resets()
+    ensures epoch { (e : Closed) (es : NewestFirst Closed) → items_closed (taken_before (e ∷ es)) ≡ items_closed (taken_before es) ++ (texts_in (taken_closed e) ++ a_stop ∷ []) }
     ensures front { (sent : List Sent) (stored marks at_got taken at_answers : List ℕ) (loaded : List LinkMark) (shut closed : Bool) (p : Pieces) →
         IsFrontOf sent stored marks → AreLinked stored marks at_got shut taken loaded at_answers closed → EndsEpochs p taken loaded at_answers → EndAtMarks stored marks p →
         BeginsWith sent (items_in p) }
@@ -83,7 +89,11 @@ pub fn links_carry_lines_and_resets()
 {}
 
 /// The lines that one reset of a board drops, each with its LF, take 128 bytes at most: those of a closed epoch that have no answer.
-/// They are those that the host forgets at the Banner, or that it will forget there but for some that are answered.
+/// They are those that the host forgets at the Banner, or that it will forget there but for some that are answered. So the resets of a
+/// course drop few lines, epoch by epoch.
 pub fn resets_drop_few_lines()
-    ensures { (host : HostJournal) (state : State) (r : Epochs) → HostConducted host → AreEpochs state r → AreLinkedOver host r → AreAnsweredOver host r → DropFew (closed_of r) }
+    ensures course { (room : ℕ) (lines dropped : List (List ℕ)) (passed : List Passed) (r : Reset) (sent : List Sent) (course : List Passed) →
+        PassesLines lines passed dropped → length (ended dropped) ≤ room → DropsAreFew room 0 sent course →
+        DropsAreFew room 0 (map a_text lines ++ a_stop ∷ sent) (passed ++ a_reset r ∷ course) }
+    ensures run { (host : HostJournal) (state : State) (r : Epochs) → HostConducted host → AreEpochs state r → AreLinkedOver host r → AreAnsweredOver host r → DropFew (closed_of r) }
 {}

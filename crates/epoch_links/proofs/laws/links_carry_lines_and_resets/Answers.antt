@@ -1,3 +1,4 @@
+use Rattle.epoch_links.proofs.Carrying.{items_more}
 use Rattle.epoch_links.proofs.Joining.{fronts, wholes, front_over, whole_over}
 use Rattle.epoch_links.proofs.Leaving.{left_behind, left_over}
 use Rattle.epoch_links.proofs.laws.links_carry_lines_and_resets.Goals as goal
@@ -19,3 +20,6 @@ returns-clause-left c = left_behind
 
 pub returns-clause-rest : goal.returns-clause-rest
 returns-clause-rest c = left_over
+
+pub returns-clause-epoch : goal.returns-clause-epoch
+returns-clause-epoch c = items_more
