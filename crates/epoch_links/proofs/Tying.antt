@@ -1,6 +1,6 @@
 -- Two ends of one link that are brought together.
-use Rattle.std.proofs.Common.{◌≡◌, ℕ, ◌+◌, Bool, List, [], ◌∷◌, ◌++◌, length, reverse, length-append, refl, sym, ap, ◌∙◌, subst, arith}
-use Rattle.std.proofs.lemmas.List.{reverse-append}
+use Rattle.std.proofs.Common.{◌≡◌, ℕ, ◌+◌, ◌-◌, take, drop, Bool, true, List, [], ◌∷◌, ◌++◌, length, reverse, length-append, refl, sym, ap, ◌∙◌, subst, arith}
+use Rattle.std.proofs.lemmas.List.{reverse-append, take-append-drop}
 use Rattle.serial_ring.specs.declared.view.LinkStep.{LinkStep}
 use Rattle.serial_ring.specs.Logs as link
 use Rattle.serial_ring.specs.Logs.{marked_in, taken_at_banners}
@@ -13,7 +13,7 @@ use Rattle.board_rules.specs.Ports as ports
 use Rattle.board_rules.proofs.LinkSteps.{taken_back, answered_back}
 use Rattle.board_epochs.specs.Epochs.{Epochs, log_of}
 use Rattle.epoch_links.specs.Drops.{AreAnsweredOver}
-use Rattle.epoch_links.specs.Links.{AreLinkedOver, EndsHave}
+use Rattle.epoch_links.specs.Links.{AreLastAtMost, AreLinkedOver, EndsHave}
 
 none_before : (xs ys : List ℕ) → ys ≡ xs ++ ys → xs ≡ []
 none_before [] ys e = refl
@@ -43,3 +43,22 @@ module _ (room : ℕ) (stored marks : List ℕ) (closed : Bool) (log : List Link
         answered_back (log_of r) ∙ ap (λ (steps : List LinkStep). reverse (link.answered_in steps)) e.steps_are ∙ ap (λ (rs : List Reply). reverse rs) t.replies
         ∙ reverse-append t.untaken got ∙ ap (λ (rs : List Reply). rs ++ reverse t.untaken) (sym e.got_are);
   }
+
+-- ---- a link that is plain lists
+
+pub lists_linked : (host : hosts.Journal) (r : Epochs) (waiting : List ℕ) → hosts.stored_of host ≡ ports.taken_in (log_of r) ++ waiting → (ports.has_closed_in (log_of r) ≡ true → (hosts.is_shut host ≡ true) × (waiting ≡ []))
+    → AreMarks (hosts.marks_of host) (marked_in (ports.link_steps (log_of r))) → AreLastAtMost (taken_at_banners (ports.link_steps (log_of r))) (hosts.stored_at_banners (hosts.port_log host)) → AreLinkedOver host r
+lists_linked host r waiting front found loads in_time =
+    let moments = taken_at_banners (ports.link_steps (log_of r)) in
+    let n = length moments - length (hosts.stored_at_banners (hosts.port_log host)) in
+    record {
+      rest = waiting;
+      front = front;
+      closes = λ over. (found over).0;
+      all = λ over. (found over).1;
+      loads = loads;
+      ungot = take n moments;
+      of_got = drop n moments;
+      banners = sym (take-append-drop n moments);
+      in_time = in_time;
+    }

@@ -1,5 +1,5 @@
 -- What the two ends of a link know of its marks, and how their lists go together.
-use Rattle.std.specs.Prelude.{◌≡◌, ◌⊎◌, ℕ, ◌+◌, ◌≤◌, ◌<◌, Bool, true, List, [], ◌∷◌, ◌++◌, length, drop, reverse}
+use Rattle.std.specs.Prelude.{◌≡◌, ◌⊎◌, ℕ, ◌+◌, ◌-◌, ◌≤◌, ◌<◌, Bool, true, List, [], ◌∷◌, ◌++◌, length, drop, reverse}
 use Rattle.serial_ring.specs.declared.view.LinkStep.{LinkStep}
 use Rattle.serial_ring.specs.Lists.{AreAtMost}
 use Rattle.status_report.specs.declared.Reply.{Reply}
@@ -42,6 +42,10 @@ pub record EndsHave (stored marks : List ℕ) (closed : Bool) (log : List LinkSt
   pub moments_are : stored_at_banners (hosts.port_log host) ≡ moments
   pub steps_are : ports.link_steps (log_of r) ≡ log
   pub over_is : ports.has_closed_in (log_of r) ≡ true → over ≡ true
+
+-- each of some numbers is at most its one of others, which may be more: these are the last of them
+abbrev pub AreLastAtMost : (more few : List ℕ) → Type 0
+AreLastAtMost more few = AreAtMost (drop (length more - length few) more) few
 
 -- ---- the host
 

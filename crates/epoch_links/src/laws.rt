@@ -11,7 +11,7 @@ ghost use Rattle.run_texts.specs.Sent.{Sent, behind_reset, sent_of};
 ghost use Rattle.run_texts.specs.Sent.Sent.{a_text, a_stop};
 ghost use Rattle.serial_ring.specs.Logs.{marked_in, taken_at_banners};
 ghost use Rattle.serial_ring.specs.declared.view.LinkStep.{LinkStep as AnyStep};
-ghost use Rattle.serial_ring.specs.Marks.{Mark as LinkMark};
+ghost use Rattle.serial_ring.specs.Marks.{AreMarks, Mark as LinkMark};
 ghost use Rattle.serial_ring.specs.Rule.{AreTied};
 ghost use Rattle.status_report.specs.declared.Reply.{Reply as AnyReply};
 ghost use Rattle.step_line.specs.Logs.{NewestFirst};
@@ -19,7 +19,7 @@ ghost use Rattle.stream_host.specs.Conduct.{Conducted as HostConducted};
 ghost use Rattle.stream_host.specs.Steps.{Journal as HostJournal, port_log, stored_of, stored_at_banners, marks_of, is_shut, has_limit, cut_of, raw_of, resets_of};
 ghost use Rattle.board_rules.specs.Ports.{taken_in, link_steps, has_closed_in};
 ghost use Rattle.board_epochs.specs.Epochs.{Closed, Epochs, AreClosed, AreEpochs, closed_log, log_of};
-ghost use Rattle.epoch_links.specs.Links.{AreLinked, AreLinkedOver, AwaitsBanners, HasBanners, EndsEpochs, EndAtMarks, EndsHave};
+ghost use Rattle.epoch_links.specs.Links.{AreLinked, AreLinkedOver, AwaitsBanners, HasBanners, EndsEpochs, EndAtMarks, EndsHave, AreLastAtMost};
 ghost use Rattle.epoch_links.specs.Pieces.{Pieces, joined, ends_behind, texts_in, items_closed, items_in, IsFrontOf, IsAllOf};
 ghost use Rattle.epoch_links.specs.Taken.{taken_closed, taken_before, taken_by, resets_asked};
 ghost use Rattle.epoch_links.specs.Drops.{AreAnsweredOver, DropFew, PassesLines, closed_of};
@@ -57,12 +57,15 @@ pub fn links_are_cut_at_the_same_places()
 {}
 
 /// The lists of the two ends of one link, which are brought together, go together so: a front of the bytes is taken, each mark that was
-/// loaded was stored, no byte was taken before it was stored, and the replies got are the first of those answered.
+/// loaded was stored, no byte was taken before it was stored, and the replies got are the first of those answered. Those of a link that is
+/// plain lists do, where what was stored is what was taken and what waits.
 pub fn ends_of_a_link_are_linked()
     ensures linked { (room : ℕ) (stored marks : List ℕ) (closed : Bool) (log : List AnyStep) (over : Bool) (got : List AnyReply) (greeted : List LinkMark) (moments : List ℕ) (host : HostJournal) (r : Epochs) →
         AreTied room stored marks closed log over got greeted moments → EndsHave stored marks closed log over got moments host r → AreLinkedOver host r }
     ensures answered { (room : ℕ) (stored marks : List ℕ) (closed : Bool) (log : List AnyStep) (over : Bool) (got : List AnyReply) (greeted : List LinkMark) (moments : List ℕ) (host : HostJournal) (r : Epochs) →
         AreTied room stored marks closed log over got greeted moments → EndsHave stored marks closed log over got moments host r → AreAnsweredOver host r }
+    ensures lists { (host : HostJournal) (r : Epochs) (waiting : List ℕ) → stored_of host ≡ taken_in (log_of r) ++ waiting → (has_closed_in (log_of r) ≡ true → (is_shut host ≡ true) × (waiting ≡ [])) →
+        AreMarks (marks_of host) (marked_in (link_steps (log_of r))) → AreLastAtMost (taken_at_banners (link_steps (log_of r))) (stored_at_banners (port_log host)) → AreLinkedOver host r }
 {}
 
 /// So the lines that a board has taken, epoch by epoch, with a reset behind each that is closed, are a front of the lines and resets that

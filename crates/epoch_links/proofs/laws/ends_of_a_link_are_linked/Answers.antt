@@ -1,4 +1,4 @@
-use Rattle.epoch_links.proofs.Tying.{ends_linked, ends_answered}
+use Rattle.epoch_links.proofs.Tying.{ends_linked, ends_answered, lists_linked}
 use Rattle.epoch_links.proofs.laws.ends_of_a_link_are_linked.Goals as goal
 
 pub returns-clause-linked : goal.returns-clause-linked
@@ -6,3 +6,6 @@ returns-clause-linked c = ends_linked
 
 pub returns-clause-answered : goal.returns-clause-answered
 returns-clause-answered c = ends_answered
+
+pub returns-clause-lists : goal.returns-clause-lists
+returns-clause-lists c = lists_linked
