@@ -69,8 +69,9 @@ pub fn ends_of_a_link_are_linked()
 {}
 
 /// So the lines that a board has taken, epoch by epoch, with a reset behind each that is closed, are a front of the lines and resets that
-/// came of the job: those of one epoch more come behind those before. What is left of these has one reset at most, and nothing behind it. They are all of them, if all was stored and marked, the link was found closed, and as many epochs were ended as
-/// there are marks.
+/// came of the job: those of one epoch more come behind those before. What is left of what came has one reset at most, and nothing
+/// behind it. They are all that came, if all was stored and marked, the link was found closed, and as many epochs were ended as there
+/// are marks.
 pub fn links_carry_lines_and_resets()
     ensures epoch { (e : Closed) (es : NewestFirst Closed) → items_closed (taken_before (e ∷ es)) ≡ items_closed (taken_before es) ++ (texts_in (taken_closed e) ++ a_stop ∷ []) }
     ensures front { (sent : List Sent) (stored marks at_got taken at_answers : List ℕ) (loaded : List LinkMark) (shut closed : Bool) (p : Pieces) →
