@@ -3,3 +3,4 @@ pub mod Keeping
 pub mod Judging
 pub mod Views
 pub mod Nearness
+pub mod Greeting

@@ -26,10 +26,10 @@ use Rattle.run_rules.specs.Asks.{item_work, planned, move_asked}
 use Rattle.run_rules.proofs.Items.{PassesTasks, holds_of_work}
 use Rattle.line_interpreter.specs.declared.tasks.Line.{Line}
 use Rattle.line_interpreter.specs.declared.tasks.Body.{Body}
-use Rattle.line_interpreter.specs.declared.tasks.Body.TheVariants.{Opening, Closing, Accepted, Unlocks, Refused, Settings as TheSettings, Modes, Offsets as TheOffsets, Limited, Items}
+use Rattle.line_interpreter.specs.declared.tasks.Body.TheVariants.{Opening, Greets, Closing, Accepted, Unlocks, Refused, Settings as TheSettings, Modes, Offsets as TheOffsets, Limited, Items}
 use Rattle.line_interpreter.specs.declared.tasks.Todo.{Todo}
 use Rattle.line_interpreter.specs.declared.tasks.Todo.TheVariants as todo
-use Rattle.line_interpreter.specs.Lefts.{IsTodo, IsNextOf, IsSettled, part, part_of, part_left, later, work_left}
+use Rattle.line_interpreter.specs.Lefts.{greeting, IsTodo, IsNextOf, IsSettled, part, part_of, part_left, later, work_left}
 
 pub row_is : (rs : List Reply) (more : List Reply) (k : ℕ) (r : Reply) → slice_get rs k ≡ Some r → IsNextOf (tell r) (drop k (telling (rs ++ more)))
 row_is [] more k r e = absurd cc
@@ -226,6 +226,7 @@ items_move line s spindle flood (item ∷ all) (suc place) k m e =
 part_moves : (body : Body) (line : ℕ) (s : State) (spindle : SpindleMode) (flood : Bool) (all : List Item) (place k : ℕ) (m : PlannedMove)
     → IsNextOf (ask (a_move m)) (drop k (part body line s spindle flood (drop place all))) → IsMoveAt line s.settings all place m
 part_moves Opening line s spindle flood all place k m e = absurd (no_move m _ k tt e)
+part_moves (Greets alarm locked) line s spindle flood all place k m e = absurd (no_move m _ k (told_no_moves (greeting alarm locked)) e)
 part_moves Closing line s spindle flood all place k m e = absurd (no_move m _ k tt e)
 part_moves Accepted line s spindle flood all place k m e = absurd (no_move m _ k tt e)
 part_moves Unlocks line s spindle flood all place k m e = absurd (no_move m _ k tt e)
@@ -364,8 +365,15 @@ offsets_few : (o : Offsets) → length (telling (offset_replies o ++ replies.Ok 
 unfolding offset_replies
 offsets_few o = refl
 
+greeting_few : (alarm locked : Bool) → length (telling (greeting alarm locked)) ≤ 20
+greeting_few true true = omega arith
+greeting_few true false = omega arith
+greeting_few false true = omega arith
+greeting_few false false = omega arith
+
 part_few : (body : Body) (line : ℕ) (s : State) (spindle : SpindleMode) (flood : Bool) (all : List Item) → length (part body line s spindle flood all) ≤ 20
 part_few Opening line s spindle flood all = omega arith
+part_few (Greets alarm locked) line s spindle flood all = greeting_few alarm locked
 part_few Closing line s spindle flood all = omega arith
 part_few Accepted line s spindle flood all = omega arith
 part_few Unlocks line s spindle flood all = omega arith

@@ -1,6 +1,6 @@
 -- What is left to do of a line.
-use Rattle.std.specs.Prelude.{◌≡◌, ℕ, ◌≤◌, Bool, List, [], ◌∷◌, ◌++◌, drop, All}
-use Rattle.status_report.specs.declared.Message.TheVariants.{Unlocked}
+use Rattle.std.specs.Prelude.{◌≡◌, ℕ, ◌≤◌, Bool, cond, List, [], ◌∷◌, ◌++◌, drop, All}
+use Rattle.status_report.specs.declared.Message.TheVariants.{Locked, Unlocked}
 use Rattle.status_report.specs.declared.Reply.TheVariants as replies
 use Rattle.status_report.specs.declared.Reply.{Reply}
 use Rattle.status_report.specs.Lists.{setting_replies, modes_replies, offset_replies}
@@ -16,13 +16,18 @@ use Rattle.run_rules.specs.Work.Task.{ask, tell, pause, normal, finish, halt}
 use Rattle.run_rules.specs.Asks.{spindle_after, flood_after, item_work, work_of}
 use Rattle.line_interpreter.specs.declared.tasks.Line.{Line}
 use Rattle.line_interpreter.specs.declared.tasks.Body.{Body}
-use Rattle.line_interpreter.specs.declared.tasks.Body.TheVariants.{Opening, Closing, Accepted, Unlocks, Refused, Settings as TheSettings, Modes, Offsets, Limited, Items}
+use Rattle.line_interpreter.specs.declared.tasks.Body.TheVariants.{Opening, Greets, Closing, Accepted, Unlocks, Refused, Settings as TheSettings, Modes, Offsets, Limited, Items}
 use Rattle.line_interpreter.specs.declared.tasks.Todo.{Todo}
 use Rattle.line_interpreter.specs.declared.tasks.Todo.TheVariants as todo
+
+-- What greets behind a reset: its alarm, if there is one, the banner, and that the machine is locked, if it is.
+abbrev pub greeting : (alarm locked : Bool) → List Reply
+greeting alarm locked = cond alarm (replies.Alarm 3 ∷ []) [] ++ replies.Banner ∷ cond locked (replies.Message Locked ∷ []) []
 
 -- the tasks of the present item, or of the whole where there are no items
 abbrev pub part : Body → ℕ → State → SpindleMode → Bool → List Item → List Task
 part Opening line s spindle flood items = tell replies.Banner ∷ []
+part (Greets alarm locked) line s spindle flood items = telling (greeting alarm locked)
 part Closing line s spindle flood items = closing_work
 part Accepted line s spindle flood items = tell replies.Ok ∷ []
 part Unlocks line s spindle flood items = telling (replies.Message Unlocked ∷ replies.Ok ∷ [])
@@ -37,6 +42,7 @@ part Items line s spindle flood (item ∷ items) = item_work line s.settings spi
 -- the tasks of what comes behind it
 abbrev pub behind_part : Body → ℕ → State → SpindleMode → Bool → List Item → List Task
 behind_part Opening line s spindle flood items = []
+behind_part (Greets alarm locked) line s spindle flood items = []
 behind_part Closing line s spindle flood items = []
 behind_part Accepted line s spindle flood items = []
 behind_part Unlocks line s spindle flood items = []

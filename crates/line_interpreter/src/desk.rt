@@ -14,7 +14,7 @@ ghost use Rattle.run_rules.specs.Outcomes.{refused, limited, fault_number, BySet
 ghost use Rattle.run_rules.specs.Finding.{ByDollarFound, ByCodeFound, ByKeptFound, Found};
 ghost use Rattle.line_interpreter.specs.Since.{Since};
 ghost use Rattle.line_interpreter.specs.Keeping.{IsKept};
-ghost use Rattle.line_interpreter.specs.Lefts.{IsSound, IsSettled, IsTodo, IsNextOf, work_left};
+ghost use Rattle.line_interpreter.specs.Lefts.{greeting, IsSound, IsSettled, IsTodo, IsNextOf, work_left};
 ghost use Rattle.run_rules.specs.Work.Task.{ask, tell};
 ghost use Rattle.status_report.specs.Replies.{IsReply};
 ghost use Rattle.status_report.specs.Answering.{is_report};
@@ -339,6 +339,21 @@ impl Desk {
         ensures settled { IsSettled self.new.line self.new.state }
     {
         self.begin(Body::Closing);
+    }
+
+    /// Lines are judged from this state on, behind so many more lines; what greets behind a reset is to be told.
+    pub(crate) fn open_behind(&mut self, state: State, dropped: u32, alarm: bool, locked: bool)
+        requires ready { IsReady self.old }
+        requires state { IsState state }
+        requires few { self.old.number + dropped < 2 ^ 32 }
+        ensures same { self.new ≡ record self.old { state = state; number = self.old.number + dropped; line = self.new.line } }
+        ensures left { work_left self.new.line self.new.state ≡ telling (greeting alarm locked) }
+        ensures ready { IsReady self.new }
+        ensures settled { IsSettled self.new.line self.new.state }
+    {
+        self.begin(Body::Greets(alarm, locked));
+        self.state = state;
+        self.number += dropped;
     }
 
     /// What there is to do next.

@@ -8,7 +8,7 @@ ghost use Rattle.run_rules.specs.Outcomes.{Before, Becomes};
 ghost use Rattle.line_interpreter.specs.Keeping.{IsKept};
 ghost use Rattle.run_rules.specs.Finding.{Found};
 ghost use Rattle.line_interpreter.specs.Since.{Since};
-ghost use Rattle.line_interpreter.specs.Lefts.{IsTodo, IsNextOf};
+ghost use Rattle.line_interpreter.specs.Lefts.{greeting, IsTodo, IsNextOf};
 ghost use Rattle.run_rules.specs.Work.Task.{ask, tell};
 ghost use Rattle.status_report.specs.Replies.{IsReply};
 ghost use Rattle.status_report.specs.Answering.{is_report};
@@ -26,7 +26,7 @@ use crate::desk::{Accepted, Desk};
 use crate::kept::KeptLine;
 use crate::reporting::{Seen, report, shows_room};
 use crate::tasks::Todo;
-use run_rules::Machine;
+use run_rules::{Machine, State};
 use status_report::{Reply, Report};
 use std::marker::Model;
 use step_line::PlannedMove;
@@ -85,6 +85,16 @@ impl Interpreter {
         self.desk.close();
     }
 
+    /// A reset is worked: lines are judged from this state on, behind so many more lines. Its alarm is told, where there is
+    /// one, and the banner, and that the machine is locked, where it is. What was left to do is dropped.
+    pub fn open_behind(&mut self, state: State, dropped: u32, alarm: bool, locked: bool)
+        requires state { IsState state }
+        requires few { self.old.number + dropped < 2 ^ 32 }
+        ensures { self.new ≡ record { state = state; number = self.old.number + dropped; left = telling (greeting alarm locked) } }
+    {
+        self.desk.open_behind(state, dropped, alarm, locked);
+    }
+
     /// What there is to do next; nothing exactly where nothing is left.
     #[inline]
     pub fn todo(&self) -> Todo
@@ -141,6 +151,14 @@ impl Interpreter {
         ensures valid { IsReply (replies.Report result) }
     {
         report(&self.desk.state, seen)
+    }
+
+    /// The state behind the lines that were begun.
+    #[inline]
+    pub fn state(&self) -> State
+        ensures { result ≡ self.now.state }
+    {
+        self.desk.state
     }
 
     /// The number of the next line.

@@ -5,6 +5,7 @@
 #![tactic(auto)]
 
 mod desk;
+mod greetings;
 mod interpreter;
 mod kept;
 mod reporting;

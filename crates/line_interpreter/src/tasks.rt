@@ -25,6 +25,7 @@ ghost use Rattle.units.specs.declared.Move.{Move as AnyWay};
 ghost use Rattle.units.specs.declared.Rate.{Rate as AnyRate};
 ghost use Rattle.line_interpreter.specs.Lefts.{IsTodo, IsNextOf, IsSound, part_left, work_left, IsSettled};
 
+use crate::greetings::{greeting_count, greeting_told};
 use gcode_check::{Item, Items};
 use modal_state::{Modal, Offsets, Parser, SpindleMode};
 use run_rules::{State, spindle_mark};
@@ -66,6 +67,8 @@ pub enum Todo {
 pub(crate) enum Body {
     /// The banner, before the first line.
     Opening,
+    /// Behind a reset: its alarm, where there is one, the banner, and that the machine is locked, where it is.
+    Greets(bool, bool),
     /// The end, behind the last line.
     Closing,
     /// `ok` alone.
@@ -419,6 +422,7 @@ impl Line {
     {
         match self.body {
             Body::Opening => told_todo(1, self.stage),
+            Body::Greets(alarm, locked) => told_todo(greeting_count(alarm, locked), self.stage),
             Body::Accepted => told_todo(1, self.stage),
             Body::Refused(_) => told_todo(1, self.stage),
             Body::Closing => closing_todo(self.stage),
@@ -467,6 +471,7 @@ impl Line {
     {
         match self.body {
             Body::Opening => Reply::Banner,
+            Body::Greets(alarm, _) => greeting_told(alarm, self.stage),
             Body::Closing => Reply::Bye,
             Body::Refused(number) => Reply::Error(number),
             Body::Settings => setting_told(&state.settings, self.stage),

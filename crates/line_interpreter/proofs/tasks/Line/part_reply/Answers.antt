@@ -11,6 +11,13 @@ returns-in-Opening-clause-next c = λ reply is.
     let l = c.args.self.now in
     only_told replies.Banner reply (tell replies.Banner ∷ []) l.stage (refl, tt) (part_by l c.args.state.now bodies.Opening (tell reply) c.in-Opening.is is)
 
+pub returns-in-Greets : goal.returns-in-Greets
+returns-in-Greets c = record {
+  next = λ reply is. c.greeting_told.ensures.next c.in-Greets.field-1 reply (part_by c.args.self.now c.args.state.now (bodies.Greets c.in-Greets.alarm c.in-Greets.field-1) (tell reply) c.in-Greets.is is);
+  valid = c.greeting_told.ensures.valid;
+  plain = c.greeting_told.ensures.plain;
+}
+
 pub returns-in-Closing-clause-next : goal.returns-in-Closing-clause-next
 returns-in-Closing-clause-next c = λ reply is.
     let l = c.args.self.now in

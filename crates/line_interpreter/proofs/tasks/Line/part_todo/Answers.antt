@@ -1,13 +1,19 @@
-use Rattle.std.proofs.Common.{[], ◌∷◌, ◌++◌, refl}
+use Rattle.std.proofs.Common.{[], ◌∷◌, ◌++◌, refl, sym}
 use Rattle.status_report.specs.Lists.{setting_replies, modes_replies, offset_replies}
 use Rattle.status_report.specs.declared.Message.TheVariants.{Unlocked}
 use Rattle.status_report.specs.declared.Reply.TheVariants as replies
-use Rattle.line_interpreter.specs.declared.tasks.Body.TheVariants.{Opening, Accepted, Unlocks, Refused, Settings, Modes, Offsets}
+use Rattle.line_interpreter.specs.declared.tasks.Body.TheVariants.{Opening, Greets, Accepted, Unlocks, Refused, Settings, Modes, Offsets}
+use Rattle.line_interpreter.specs.Lefts.{greeting}
 use Rattle.line_interpreter.proofs.Parts.{todo_by_body, settings_many, offsets_many}
 use Rattle.line_interpreter.proofs.tasks.Line.part_todo.Goals as goal
 
 pub returns-in-Opening : goal.returns-in-Opening
 returns-in-Opening c = record { next = λ s. todo_by_body c.told_todo.result c.args.self.now s Opening c.in-Opening.is (c.told_todo.ensures.next (replies.Banner ∷ []) refl) }
+
+pub returns-in-Greets : goal.returns-in-Greets
+returns-in-Greets c = record {
+  next = λ s. todo_by_body c.told_todo-in-Greets.result c.args.self.now s (Greets c.in-Greets.alarm c.in-Greets.locked) c.in-Greets.is (c.told_todo-in-Greets.ensures.next (greeting c.in-Greets.alarm c.in-Greets.locked) (sym c.greeting_count.ensures));
+}
 
 pub returns-in-Accepted : goal.returns-in-Accepted
 returns-in-Accepted c = record { next = λ s. todo_by_body c.told_todo-in-Accepted.result c.args.self.now s Accepted c.in-Accepted.is (c.told_todo-in-Accepted.ensures.next (replies.Ok ∷ []) refl) }
