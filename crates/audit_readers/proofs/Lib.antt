@@ -2,3 +2,4 @@ pub mod Bytes
 pub mod Printed
 pub mod Filling
 pub mod Stepping
+pub mod Reporting

@@ -1,3 +1,4 @@
 pub mod JobLines
 pub mod Windows
 pub mod Steps
+pub mod Reports

@@ -3,12 +3,14 @@
 
 mod findings;
 mod job_line;
+mod reports;
 mod steps;
 mod texts;
 mod window;
 
 pub use findings::{exit_of, put_audit};
 pub use job_line::JobLine;
+pub use reports::report_in;
 pub use steps::StepReader;
 pub use texts::{behind_reply, is_foreign};
 pub use window::Window;

@@ -26,6 +26,7 @@ mod writing;
 
 pub use forms::{Form, Line};
 pub use laws::{longest_lines, one_reading, one_reading_in_form_two, recorded, worked_text};
+pub use numbers::number_at;
 pub use reading::{next_line, next_record};
 pub use recorder::{RecordIn, Recorder};
 pub use records::has_line;

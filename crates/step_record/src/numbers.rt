@@ -55,9 +55,10 @@ fn value_of(digits: &[u8]) -> Option<u64>
     Some(value)
 }
 
-/// A number that a byte ends, and what follows.
+/// A number in decimal that a byte ends, with no zero in front of other digits, and what follows that byte. `None` where none
+/// begins the text, or a `u64` has no room for it.
 #[tactic(auto, unfolding(crate::specs::Reading::number_at))]
-pub(crate) fn number_at(text: &[u8], end: u8) -> Option<(u64, &[u8])>
+pub fn number_at(text: &[u8], end: u8) -> Option<(u64, &[u8])>
     ensures { seen result ≡ number_at text.now end }
 {
     let (digits, rest) = split_digits(text);
