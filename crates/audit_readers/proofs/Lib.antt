@@ -3,3 +3,5 @@ pub mod Printed
 pub mod Filling
 pub mod Stepping
 pub mod Reporting
+pub mod Skipping
+pub mod Going

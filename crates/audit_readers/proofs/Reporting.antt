@@ -1,7 +1,9 @@
 -- A status report that a board can give is read from its text.
 use Rattle.std.specs.Prelude.{codes, decimal, if◌then◌else◌}
-use Rattle.std.proofs.Common.{◌≡◌, ◌↔◌, ℕ, suc, length, drop, option_copied, ◌+◌, ◌-◌, ◌*◌, ◌/◌, ◌%◌, ◌^◌, ◌<◌, ◌≤◌, Bool, true, false, nat_eq, nat_le, ℤ, pos, negsuc, ◌-ℤ◌, ◌+ℤ◌, nat_abs, List, [], ◌∷◌, ◌++◌, append_assoc, Some, None, refl, sym, ap, ◌∙◌, arith, rules}
+use Rattle.std.proofs.Common.{◌≡◌, ◌↔◌, ℕ, suc, length, drop, option_copied, ◌+◌, ◌-◌, ◌*◌, ◌/◌, ◌%◌, ◌^◌, ◌<◌, ◌≤◌, Bool, true, false, nat_eq, nat_le, ℤ, pos, negsuc, ◌-ℤ◌, ◌+ℤ◌, nat_abs, List, [], ◌∷◌, ◌++◌, append_assoc, append-nil, length-append, Some, None, refl, sym, ap, ◌∙◌, arith, rules}
+use Rattle.std.proofs.lemmas.Fmt.{length-decimal-le}
 use Rattle.std.proofs.lemmas.Int.{ints}
+use Rattle.status_report.proofs.Short.{fixed_short}
 use Rattle.std.specs.declared.option.Option.{Option}
 use Rattle.std.specs.Char.{is_ascii_digit}
 use Rattle.std.proofs.lemmas.Bool.{lt-ltb}
@@ -263,3 +265,46 @@ pub read_same : (text : List ℕ) (o : Option (Report × Bor (List ℕ))) (q : R
 read_same text o q s e f r rest is widths begins =
     let both : Some (q, s.now) ≡ Some (r, 13 ∷ 10 ∷ rest) = sym (ap seen f) ∙ e ∙ ap report_at begins ∙ report_again r rest is widths in
     (some_pair_parts q r s.now (13 ∷ 10 ∷ rest) both).0
+
+-- ---- how long a report is
+
+small_short : (n : ℕ) → n < 2 ^ 8 → length (decimal n) ≤ 3
+small_short n small = length-decimal-le 3 n (omega arith) (omega arith) (omega (arith, small))
+
+large_short : (n : ℕ) → n < 2 ^ 64 → length (decimal n) ≤ 20
+large_short n small = length-decimal-le 20 n (omega arith) (omega arith) (omega (arith, small))
+
+name_short : (s : State) → length (state_name s) ≤ 6
+name_short Idle = omega arith
+name_short Run = omega arith
+name_short Hold0 = omega arith
+name_short Hold1 = omega arith
+name_short Jog = omega arith
+name_short Alarm = omega arith
+
+position_short : (m : Bool) → length (position_name m) ≤ 5
+position_short true = omega arith
+position_short false = omega arith
+
+buffer_short : (b : Option (ℕ × ℕ)) (rest : List ℕ) → HasBytes b → length (buffer_text b rest) ≤ 11 + length rest
+unfolding buffer_text
+buffer_short None rest bytes = omega arith
+buffer_short (Some free) rest bytes = simp length-append (omega (arith, small_short free.0 bytes.0, small_short free.1 bytes.1))
+
+ends_short : (r : Report) (rest : List ℕ) → IsReport r → HasWidths r → length (speeds_text r.f r.s (offset_text r.wco (overrides_text r.ov rest))) ≤ 112 + length rest
+unfolding speeds_text offset_text overrides_text
+ends_short r rest is widths =
+    let far = near_far r.wco is.wco in
+    simp length-append
+    (omega (arith, large_short r.f widths.f, large_short r.s widths.s, fixed_short r.wco.x far.x, fixed_short r.wco.y far.y, fixed_short r.wco.z far.z, small_short r.ov.feed widths.feed, small_short r.ov.rapid widths.rapid, small_short r.ov.spindle widths.spindle))
+
+pub report_short : (r : Report) → IsReport r → HasWidths r → length (reply_text (Reporting r)) ≤ 192
+unfolding whole_text
+report_short r is widths =
+    let ends = speeds_text r.f r.s (offset_text r.wco (overrides_text r.ov (13 ∷ 10 ∷ []))) in
+    let shown = position_shown r in
+    let far = shown_far r.machine r.at r.wco is.at is.wco in
+    let whole : length (reply_text (Reporting r)) ≡ length (whole_text r (13 ∷ 10 ∷ [])) = ap length (sym (append-nil (reply_text (Reporting r))) ∙ text_is r []) in
+    let sum : length (whole_text r (13 ∷ 10 ∷ [])) ≤ 1 + 6 + 1 + 5 + 47 + 1 + (11 + (112 + 2)) = simp length-append
+    (omega (arith, name_short r.state, position_short r.machine, fixed_short shown.x far.x, fixed_short shown.y far.y, fixed_short shown.z far.z, buffer_short r.buffer ends widths.buffer, ends_short r (13 ∷ 10 ∷ []) is widths)) in
+    omega (arith, whole, sum)

@@ -34,7 +34,7 @@ pub record Seen (w : Window) (text : List ℕ) : Type 0 where
   pub is : text ≡ w.waiting ++ behind
   pub enough : (look_ahead ≤ length w.waiting) ⊎ (behind ≡ [])
 
-seen_by : (w : Window) (left : Option (List ℕ)) (text : List ℕ) → (look_ahead ≤ length w.waiting) ⊎ IsAtEnd left → prepend_known w.waiting left ≡ Some text → Seen w text
+pub seen_by : (w : Window) (left : Option (List ℕ)) (text : List ℕ) → (look_ahead ≤ length w.waiting) ⊎ IsAtEnd left → prepend_known w.waiting left ≡ Some text → Seen w text
 seen_by w None text enough e = absurd cc
 seen_by w (Some ys) text (inl many) e = record { behind = ys; is = let f : w.waiting ++ ys ≡ text = cc in sym f; enough = inl many }
 seen_by w (Some ys) text (inr over) e = record { behind = ys; is = let f : w.waiting ++ ys ≡ text = cc in sym f; enough = inr over }

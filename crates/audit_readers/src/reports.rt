@@ -10,7 +10,7 @@ ghost use Rattle.status_report.specs.Replies.{reply_text};
 ghost use Rattle.step_record.specs.Reading.{seen};
 ghost use Rattle.audit_readers.specs.Reports.{byte_at, fraction_at, magnitude_at, negative_at, fixed_at, place_at, named_at, state_at, machine_at, free_at, buffer_at, speeds_at, offset_at, overrides_at, machine_place, report_at};
 
-use crate::behind_reply;
+use crate::texts::begins_with;
 use overrides::Overrides;
 use status_report::{Reply, Report, State};
 use step_record::number_at;
@@ -273,13 +273,12 @@ fn meant(text: &[u8]) -> Option<Report>
     None
 }
 
-/// Whether the text of a report begins a text.
-fn begins_with(report: Report, text: &[u8]) -> bool
-    requires { IsReport report }
+/// A report's numbers are as wide as their types.
+fn known_widths(report: Report) -> Report
+    ensures same { result ≡ report }
     ensures widths { HasWidths report }
-    ensures begins { IsTrue result ↔ (text.now ≡ reply_text (replies.Report report) ++ drop (length (reply_text (replies.Report report))) text.now) }
 {
-    behind_reply(&Reply::Report(report), text).is_some()
+    report
 }
 
 /// The report whose text begins a text, if one that a board can give does.
@@ -290,7 +289,8 @@ pub fn report_in(text: &[u8]) -> Option<Report>
     let Some(report) = meant(text) else {
         return None;
     };
-    if begins_with(report, text) {
+    let report = known_widths(report);
+    if begins_with(&Reply::Report(report), text) {
         return Some(report);
     }
     None

@@ -1,6 +1,6 @@
 //! What stands at the front of a text.
 
-ghost use Rattle.std.specs.Prelude.{◌≡◌, ◌≤◌, length, option_copied};
+ghost use Rattle.std.specs.Prelude.{◌≡◌, ◌↔◌, ◌≤◌, ◌++◌, IsTrue, length, drop, option_copied};
 ghost use Rattle.audit_rules.specs.Findings.{is_foreign, has_probe};
 ghost use Rattle.gcode_words.specs.Words.{words_of};
 ghost use Rattle.line_words.specs.Codes.{has_g, is_code, key_of};
@@ -19,6 +19,14 @@ pub fn behind_reply<'a>(reply: &Reply, text: &'a [u8]) -> Option<&'a [u8]>
     let mut own = Text::new();
     put_reply(reply, &mut own);
     text.strip_prefix(own.as_slice())
+}
+
+/// Whether the text of a reply begins a text.
+pub(crate) fn begins_with(reply: &Reply, text: &[u8]) -> bool
+    requires { IsReply reply.now }
+    ensures { IsTrue result ↔ (text.now ≡ reply_text reply.now ++ drop (length (reply_text reply.now)) text.now) }
+{
+    behind_reply(reply, text).is_some()
 }
 
 /// Ten times a number, which is the key of a code.
