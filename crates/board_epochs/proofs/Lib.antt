@@ -10,3 +10,4 @@ pub mod Bounding
 pub mod Asking
 pub mod Telling
 pub mod Texts
+pub mod Locked

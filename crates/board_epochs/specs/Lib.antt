@@ -2,3 +2,4 @@ pub mod Resets
 pub mod Work
 pub mod Bounds
 pub mod Epochs
+pub mod Reports

@@ -1,6 +1,6 @@
 //! Laws of epochs.
 
-ghost use Rattle.std.specs.Prelude.{◌≡◌, ℕ, ◌+◌, ◌^◌, ◌≤◌, ◌<◌, ◌⊎◌, ◌||◌, true, false, [], length};
+ghost use Rattle.std.specs.Prelude.{◌≡◌, ℕ, ◌+◌, ◌^◌, ◌≤◌, ◌<◌, ◌⊎◌, ◌||◌, true, false, [], length, reverse};
 ghost use Rattle.feed_hold.specs.declared.Motion.TheVariants.{Stopping};
 ghost use Rattle.feed_hold.specs.Motions.{behind_reset};
 ghost use Rattle.motion_ring.specs.Sides.{ticks_published};
@@ -20,10 +20,11 @@ ghost use Rattle.step_line.specs.Logs.{NewestFirst};
 ghost use Rattle.board_rules.specs.Conduct.{Conducted, MayOpen, IsInHand, IsNextTask};
 ghost use Rattle.board_rules.specs.Openings.{Opening, IsPlaced, first_opening};
 ghost use Rattle.board_rules.specs.Ports.{taken_in, known_in, sent_in, MayAnswer, MayPublish, MayStop, MayAskHalt, MayBeDone, LacksPieceRoom, HasTakenFew, HasFewReports};
-ghost use Rattle.board_rules.specs.Steps.{Journal, port_log, has_limited, known_of, given_of, planned_of, plan_of, before_of, closed_tells, motion_of};
-ghost use Rattle.board_rules.specs.Turns.{is_alarm};
+ghost use Rattle.board_rules.specs.Steps.{Journal, port_log, has_limited, known_of, given_of, planned_of, plan_of, before_of, closed_tells, motion_of, lines_of, outcomes_of, answered_of};
+ghost use Rattle.board_rules.specs.Turns.{is_alarm, is_limited};
 ghost use Rattle.planner_runs.specs.Runs.{fresh_plan};
 ghost use Rattle.board_epochs.specs.Bounds.{IsFew, AreMarked};
+ghost use Rattle.board_epochs.specs.Reports.{TellLock};
 ghost use Rattle.board_epochs.specs.Resets.{MayReset};
 ghost use Rattle.board_epochs.specs.Work.{Work, stage_of};
 ghost use Rattle.board_epochs.specs.Work.Stage.{stops, awaits_halt, publishes};
@@ -112,4 +113,12 @@ pub fn resets_are_those_of_the_texts()
     ensures begins { (state : State) → opening state ≡ point_of (first_opening state) }
     ensures number { (base : ℕ) (first : Opening) (h : Journal) (w : Work) → Conducted first h → (reset_of base first h w).number + 1 ≡ (before_of first h).number }
     ensures locks { (base : ℕ) (first : Opening) (h : Journal) (w : Work) → (reset_of base first h w).locked ≡ ((reset_of base first h w).alarm || is_alarm (motion_of first h)) }
+{}
+
+/// A machine that is locked as an epoch begins is told in alarm until a line is begun that unlocks it; and once that line is
+/// answered, only for an alarm that a line raises. An epoch begins locked exactly where the reset behind which it opens leaves
+/// the machine so.
+pub fn reports_tell_the_lock()
+    ensures told { (first : Opening) (h : Journal) → Conducted first h → is_limited first.motion ≡ true → TellLock (lines_of h) (outcomes_of h) (reverse (answered_of h)) }
+    ensures locked { (base : ℕ) (first : Opening) (h : Journal) (w : Work) → is_limited (next_opening base first h w).motion ≡ (reset_of base first h w).locked }
 {}

@@ -5,5 +5,6 @@ mod laws;
 
 pub use laws::{
     boards_ask_their_port_over_epochs, closed_epochs_are_bounded, epochs_open_where_they_stand,
-    ports_count_on_over_epochs, resets_are_those_of_the_texts, resets_come_in_calm_epochs,
+    ports_count_on_over_epochs, reports_tell_the_lock, resets_are_those_of_the_texts,
+    resets_come_in_calm_epochs,
 };
