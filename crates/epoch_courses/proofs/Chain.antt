@@ -17,15 +17,15 @@ use Rattle.board_rules.specs.Ports.{taken_in}
 use Rattle.board_rules.specs.Steps.{known_of, Journal, port_log, lines_of, open_of}
 use Rattle.board_rules.proofs.Closing.{spent}
 use Rattle.board_rules.proofs.Lines.{bytes_are}
-use Rattle.board_epochs.specs.Epochs.{Closed, Epochs, AreClosed, AreEpochs, IsEpoch, next_opening, opening_behind, point_of, reset_of, ticks_made}
+use Rattle.board_epochs.specs.Epochs.{closed_log, log_behind, Closed, Epochs, AreClosed, AreEpochs, IsEpoch, next_opening, opening_behind, point_of, reset_of, ticks_made}
 use Rattle.board_epochs.specs.Epochs.Epochs.{goes, resets}
 use Rattle.board_epochs.specs.Resets.{MayReset}
-use Rattle.board_epochs.specs.Work.{Work}
-use Rattle.epoch_courses.specs.Course.{made_at_halt, open_journal, passed_so_far, passed_at_reset, closed_course, course_of, point_behind, point_at_reset, stands_at}
+use Rattle.board_epochs.specs.Work.{Work, stage_of}
+use Rattle.epoch_courses.specs.Course.{is_marked, with_reset, made_at_halt, open_journal, passed_so_far, passed_at_reset, closed_course, course_of, point_behind, point_at_reset, stands_at}
 use Rattle.epoch_courses.specs.Taken.{texts_in, bytes_with, closed_texts, sent_by, bytes_behind, left_by}
 use Rattle.epoch_courses.proofs.Epoch.{epoch_leads}
 use Rattle.epoch_courses.proofs.Going.{leads_on}
-use Rattle.epoch_courses.proofs.Halted.{known_made}
+use Rattle.epoch_courses.proofs.Halted.{known_made, marked_there}
 use Rattle.epoch_courses.proofs.Resets.{comes_there, next_there, is_reset}
 use Rattle.epoch_courses.proofs.Texts.{texts_behind, texts_now, behind_them}
 
@@ -51,16 +51,29 @@ closed_one made base first h w more is may known =
     there.leads
     (is_reset base first h w (point_at_reset made first h) more is may there.found, (sym (next_there base first h w (point_at_reset made first h) there.found), sym (behind_them waiting more)))
 
-pub closed_lead : (state : State) (es : NewestFirst Closed) (more : List Sent) → AreClosed state es → LeadsTo (opening state) (closed_texts es ++ more) (closed_course state es) (point_of (opening_behind state es)) more
-closed_lead state [] more c = (refl, refl)
-closed_lead state (e ∷ es) more c =
+-- behind others, which lead so
+one_more : (state : State) (e : Closed) (es : NewestFirst Closed) (more : List Sent) → ((tail : List Sent) → LeadsTo (opening state) (closed_texts es ++ tail) (closed_course state es) (point_of (opening_behind state es)) tail)
+    → IsEpoch (opening_behind state es) e.journal → MayReset (opening_behind state es) e.journal → known_of e.journal ≤ made_at_halt (ticks_made es) e.work
+    → LeadsTo (opening state) (closed_texts (e ∷ es) ++ more) (closed_course state (e ∷ es)) (point_of (opening_behind state (e ∷ es))) more
+one_more state e es more before is may known =
     let first = opening_behind state es in
-    let is = c.0.resetting.epoch in
     let tail : List Sent = map a_text (lines_of e.journal) ++ (texts_in (bytes_behind e.journal ++ taken_in (port_log e.work)) ++ a_stop ∷ more) in
     subst (λ (ss : List Sent). LeadsTo (opening state) ss (closed_course state (e ∷ es)) (point_of (opening_behind state (e ∷ es))) more) (sym (closed_by_lines first e.journal e.work (closed_texts es) more is))
     (leads_on (opening state) (point_of first) (point_of (opening_behind state (e ∷ es))) _ tail more (closed_course state es) (passed_at_reset (made_at_halt (ticks_made es) e.work) first e.journal ++ a_reset (reset_of (ticks_made es) first e.journal e.work) ∷ [])
-    (closed_lead state es tail c.1)
-    (closed_one (made_at_halt (ticks_made es) e.work) (ticks_made es) first e.journal e.work more is c.0.resetting.may (known_made state e es c)))
+    (before tail)
+    (closed_one (made_at_halt (ticks_made es) e.work) (ticks_made es) first e.journal e.work more is may known))
+
+pub closed_lead : (state : State) (es : NewestFirst Closed) (more : List Sent) → AreClosed state es → LeadsTo (opening state) (closed_texts es ++ more) (closed_course state es) (point_of (opening_behind state es)) more
+closed_lead state [] more c = (refl, refl)
+closed_lead state (e ∷ es) more c = one_more state e es more (λ (tail : List Sent). closed_lead state es tail c.1) c.0.resetting.epoch c.0.resetting.may (known_made state e es c)
+
+-- with a reset whose mark is published
+pub marked_leads : (state : State) (es : NewestFirst Closed) (h : Journal) (w : Work) → AreEpochs state (resets es h w) → is_marked (stage_of (log_behind (closed_log es) h) w) ≡ true
+    → LeadsTo (opening state) (closed_texts (with_reset es h w)) (closed_course state (with_reset es h w)) (point_of (opening_behind state (with_reset es h w))) []
+marked_leads state es h w c marked =
+    let e : Closed = record { journal = h; work = w } in
+    subst (λ (ss : List Sent). LeadsTo (opening state) ss (closed_course state (with_reset es h w)) (point_of (opening_behind state (with_reset es h w))) []) (append-nil (closed_texts (with_reset es h w)))
+    (one_more state e es [] (λ (tail : List Sent). closed_lead state es tail c.0) c.1.epoch c.1.may (marked_there state es h w c.0 c.1 marked).made.known)
 
 pub epochs_lead : (state : State) (made : ℕ) (es : Epochs) → AreEpochs state es → known_of (open_journal es) ≤ made → LeadsTo (opening state) (sent_by es) (course_of state made es) (stands_at state made es) (left_by es)
 epochs_lead state made (goes es h) c known =

@@ -17,7 +17,8 @@ use Rattle.board_rules.specs.Steps.Step.{began, cut}
 use Rattle.board_rules.proofs.Cancels.{few_cuts}
 use Rattle.board_epochs.specs.Epochs.{Closed, Epochs, AreClosed, AreEpochs, closed_log, log_on, log_behind, log_of, opening_behind, reset_of, ticks_made}
 use Rattle.board_epochs.specs.Epochs.Epochs.{goes, resets}
-use Rattle.epoch_courses.specs.Course.{is_made, is_unanswered, passed_by, passed_so_far, passed_at_reset, made_at_halt, closed_course, course_of}
+use Rattle.board_epochs.specs.Work.{Work}
+use Rattle.epoch_courses.specs.Course.{is_made, with_reset, is_unanswered, passed_by, passed_so_far, passed_at_reset, made_at_halt, closed_course, course_of}
 
 cuts_on : (ps qs : List Passed) → cuts_in (ps ++ qs) ≡ cuts_in ps + cuts_in qs
 cuts_on [] qs = omega arith
@@ -71,19 +72,25 @@ epoch_cuts : (broken : Bool) (made : ℕ) (first : Opening) (h : Journal) (befor
 epoch_cuts broken made first h before was c low =
     let few = passed_cuts broken made first h in let cuts = few_cuts first h c in let words = words_on (known_in before) (port_log h) before in omega (arith, low, few, cuts, words)
 
-closed_cuts : (state : State) (es : NewestFirst Closed) → AreClosed state es → cuts_in (closed_course state es) ≤ cancel_words_in (closed_log es)
-closed_cuts state [] c = omega arith
-closed_cuts state (e ∷ es) c =
+one_more : (state : State) (e : Closed) (es : NewestFirst Closed) → Conducted (opening_behind state es) e.journal → cuts_in (closed_course state es) ≤ cancel_words_in (closed_log es) → cuts_in (closed_course state (e ∷ es)) ≤ cancel_words_in (closed_log (e ∷ es))
+one_more state e es c was =
     let first = opening_behind state es in
     let made = made_at_halt (ticks_made es) e.work in
     let passed = passed_at_reset made first e.journal in
     let reset : List Passed = a_reset (reset_of (ticks_made es) first e.journal e.work) ∷ [] in
     let before = log_behind (closed_log es) e.journal in
-    let low = epoch_cuts (is_unanswered e.journal) made first e.journal (closed_log es) (cuts_in (closed_course state es)) c.0.resetting.epoch.conducted (closed_cuts state es c.1) in
+    let low = epoch_cuts (is_unanswered e.journal) made first e.journal (closed_log es) (cuts_in (closed_course state es)) c was in
     let more = words_more (port_log e.work) before in
     let all = cuts_on (closed_course state es) (passed ++ reset) in
     let both = cuts_on passed reset in
     omega (arith, low, more, all, both)
+
+closed_cuts : (state : State) (es : NewestFirst Closed) → AreClosed state es → cuts_in (closed_course state es) ≤ cancel_words_in (closed_log es)
+closed_cuts state [] c = omega arith
+closed_cuts state (e ∷ es) c = one_more state e es c.0.resetting.epoch.conducted (closed_cuts state es c.1)
+
+pub marked_cuts : (state : State) (es : NewestFirst Closed) (h : Journal) (w : Work) → AreEpochs state (resets es h w) → cuts_in (closed_course state (with_reset es h w)) ≤ cancel_words_in (log_of (resets es h w))
+marked_cuts state es h w c = one_more state (record { journal = h; work = w }) es c.1.epoch.conducted (closed_cuts state es c.0)
 
 pub course_cuts : (state : State) (made : ℕ) (es : Epochs) → AreEpochs state es → cuts_in (course_of state made es) ≤ cancel_words_in (log_of es)
 course_cuts state made (goes es h) c =

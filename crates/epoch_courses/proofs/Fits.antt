@@ -1,5 +1,5 @@
 -- What a board has done fits the texts, where its parts are recorded.
-use Rattle.std.proofs.Common.{◌≡◌, ◌⊎◌, ℕ, ◌≤◌, List, [], ◌∷◌}
+use Rattle.std.proofs.Common.{◌≡◌, ◌⊎◌, ℕ, ◌≤◌, true, List, [], ◌∷◌}
 use Rattle.flight.specs.Places.{origin}
 use Rattle.run_rules.specs.declared.State.{State}
 use Rattle.run_rules.specs.States.{IsOpening}
@@ -14,14 +14,15 @@ use Rattle.step_line.specs.declared.Record.{Record}
 use Rattle.board_rules.specs.Conduct.{IsFinished}
 use Rattle.board_rules.specs.Cuts.{cancel_words_in}
 use Rattle.board_rules.specs.Steps.{Journal, known_of}
-use Rattle.board_epochs.specs.Epochs.{Closed, Epochs, AreEpochs, log_of, opening_behind}
-use Rattle.board_epochs.specs.Epochs.Epochs.{goes}
-use Rattle.epoch_courses.specs.Course.{course_of, open_journal, stands_at, point_behind}
-use Rattle.epoch_courses.specs.Taken.{sent_by, left_by}
+use Rattle.board_epochs.specs.Epochs.{Closed, Epochs, AreEpochs, closed_log, log_behind, log_of, opening_behind, point_of}
+use Rattle.board_epochs.specs.Epochs.Epochs.{goes, resets}
+use Rattle.board_epochs.specs.Work.{Work, stage_of}
+use Rattle.epoch_courses.specs.Course.{is_marked, with_reset, closed_course, course_of, open_journal, stands_at, point_behind}
+use Rattle.epoch_courses.specs.Taken.{closed_texts, sent_by, left_by}
 use Rattle.epoch_courses.specs.Told.{answered_by, without_byes}
-use Rattle.epoch_courses.proofs.Chain.{epochs_lead, epochs_follow}
-use Rattle.epoch_courses.proofs.Cuts.{course_cuts}
-use Rattle.epoch_courses.proofs.Told.{console_tells, told_so_far}
+use Rattle.epoch_courses.proofs.Chain.{marked_leads, epochs_lead, epochs_follow}
+use Rattle.epoch_courses.proofs.Cuts.{course_cuts, marked_cuts}
+use Rattle.epoch_courses.proofs.Told.{console_tells, marked_told, told_so_far}
 
 pub finished_fits : (state : State) (made : ℕ) (es : NewestFirst Closed) (h : Journal) (behind : List Reply) (records : List Record) → IsOpening state → AreEpochs state (goes es h) → IsFinished (opening_behind state es) h → known_of h ≤ made
     → without_byes (answered_by (goes es h)) ≡ Banner ∷ behind → AreRecorded origin (parts_of (course_of state made (goes es h))) records → FitsTexts (sent_by (goes es h)) (cancel_words_in (log_of (goes es h))) (Banner ∷ behind) records
@@ -50,4 +51,20 @@ so_far_fits state made es records opens c known said recorded = record {
   told = told_so_far state made es c;
   made = recorded;
   few = course_cuts state made es c;
+}
+
+pub marked_fits : (state : State) (es : NewestFirst Closed) (h : Journal) (w : Work) (records : List Record) → IsOpening state → AreEpochs state (resets es h w) → is_marked (stage_of (log_behind (closed_log es) h) w) ≡ true
+    → (without_byes (answered_by (resets es h w)) ≡ []) ⊎ ((behind : List Reply) × (without_byes (answered_by (resets es h w)) ≡ Banner ∷ behind)) → AreMadeSoFar origin (parts_of (closed_course state (with_reset es h w))) records
+    → FitsSoFar (closed_texts (with_reset es h w)) (cancel_words_in (log_of (resets es h w))) (without_byes (answered_by (resets es h w))) records
+marked_fits state es h w records opens c marked said recorded = record {
+  first = state;
+  opens = opens;
+  course = closed_course state (with_reset es h w);
+  point = point_of (opening_behind state (with_reset es h w));
+  left = [];
+  leads = marked_leads state es h w c marked;
+  begins = said;
+  told = marked_told state es h w c;
+  made = recorded;
+  few = marked_cuts state es h w c;
 }

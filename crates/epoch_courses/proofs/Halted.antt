@@ -6,15 +6,15 @@ use Rattle.motion_ring.specs.declared.lists.Sent.{Sent}
 use Rattle.step_line.specs.Logs.{NewestFirst}
 use Rattle.board_rules.specs.Ports.{PortStep, BoardLog, taken_in, known_in, sent_in, MayBeDone}
 use Rattle.board_rules.specs.Ports.PortStep.{found_mark, took_ovr, loaded, stored_stop, found_halt}
-use Rattle.board_rules.specs.Steps.{port_log, known_of}
+use Rattle.board_rules.specs.Steps.{Journal, port_log, known_of}
 use Rattle.board_rules.specs.Steps.Step.{at_port, turned}
 use Rattle.board_rules.proofs.Unstopped.{done_within}
-use Rattle.board_epochs.specs.Epochs.{Closed, AreClosed, closed_log, ticks_made, log_behind, opening_behind, last_line}
+use Rattle.board_epochs.specs.Epochs.{Closed, AreClosed, IsResetting, closed_log, ticks_made, log_behind, opening_behind, last_line}
 use Rattle.board_epochs.specs.Work.{Work, Stage, Works, MayWorkAt, stage_of, stage_at, worked_in, by_mark, halted_in}
 use Rattle.board_epochs.specs.Work.Stage.{awaits_mark, drops_changes, stops, awaits_halt, drops, publishes, awaits_done, over}
 use Rattle.board_epochs.proofs.Chaining.{done_there}
 use Rattle.board_epochs.proofs.Working.{Holds, holds}
-use Rattle.epoch_courses.specs.Course.{IsMadeAtHalt, made_at_halt}
+use Rattle.epoch_courses.specs.Course.{IsMadeAtHalt, is_marked, made_at_halt}
 
 -- the pulse was not found halted
 abbrev unhalted : Work → Bool
@@ -95,33 +95,44 @@ halt_done number before (at_port e ∷ w) c was = halt_done number before w c.2 
 halt_done number before (turned t ∷ w) c was = halt_done number before w c.2 was
 halt_done number before (_ ∷ w) c was = absurd c.0
 
-was_halted : (before : BoardLog) (w : Work) → stage_of before w ≡ over → unhalted w ≡ false
+was_halted : (before : BoardLog) (w : Work) → before_halt (stage_of before w) ≡ false → unhalted w ≡ false
 was_halted before w is = by_one (unhalted w) refl
   where
     by_one : (t : Bool) → unhalted w ≡ t → unhalted w ≡ false
     by_one false e = e
-    by_one true e = absurd (let f = sym (ap before_halt is) ∙ before_end before w e in cc)
+    by_one true e = absurd (let f = sym (before_end before w e) ∙ is in cc)
 
--- so of an epoch at least those were made that its journal knows, and no more than were published
-pub made_there : (state : State) (e : Closed) (es : NewestFirst Closed) → AreClosed state (e ∷ es) → IsMadeAtHalt e.journal (made_at_halt (ticks_made es) e.work)
-made_there state e es c =
+behind_halt : (stage : Stage) → is_marked stage ≡ true → before_halt stage ≡ false
+behind_halt awaits_done is = refl
+behind_halt over is = refl
+behind_halt stage is = absurd cc
+
+-- so of an epoch at least those were made that its journal knows, and no more than were published; and those made before it are
+-- made at its halt
+pub record HaltedThere (h : Journal) (base : ℕ) (w : Work) : Type 0 where
+  pub made : IsMadeAtHalt h (made_at_halt base w)
+  pub base_is : base ≤ halted_in w
+
+pub marked_there : (state : State) (es : NewestFirst Closed) (h : Journal) (w : Work) → AreClosed state es → IsResetting (opening_behind state es) (closed_log es) h w → is_marked (stage_of (log_behind (closed_log es) h) w) ≡ true
+    → HaltedThere h (ticks_made es) w
+marked_there state es h w c is marked =
     let first = opening_behind state es in
-    let is = c.0.resetting in
-    let may = halt_done (last_line first e.journal) (log_behind (closed_log es) e.journal) e.work is.works (was_halted (log_behind (closed_log es) e.journal) e.work c.0.worked.done) in
-    let there = done_there state es e.journal (halted_in e.work) c.1 is.epoch may in
+    let before = log_behind (closed_log es) h in
+    let may = halt_done (last_line first h) before w is.works (was_halted before w (behind_halt (stage_of before w) marked)) in
+    let there = done_there state es h (halted_in w) c is.epoch may in
     let later = there.2.later in
-    let below = done_within first e.journal there.0 is.epoch.conducted there.2 in
+    let below = done_within first h there.0 is.epoch.conducted there.2 in
     let n = there.1 in
-    record { known = omega (arith, later, n); published = omega (arith, below, n) }
+    record { made = record { known = omega (arith, later, n); published = omega (arith, below, n) }; base_is = omega (arith, n) }
+
+closed_there : (state : State) (e : Closed) (es : NewestFirst Closed) → AreClosed state (e ∷ es) → HaltedThere e.journal (ticks_made es) e.work
+closed_there state e es c = marked_there state es e.journal e.work c.1 c.0.resetting (ap is_marked c.0.worked.done)
+
+pub made_there : (state : State) (e : Closed) (es : NewestFirst Closed) → AreClosed state (e ∷ es) → IsMadeAtHalt e.journal (made_at_halt (ticks_made es) e.work)
+made_there state e es c = (closed_there state e es c).made
 
 pub known_made : (state : State) (e : Closed) (es : NewestFirst Closed) → AreClosed state (e ∷ es) → known_of e.journal ≤ made_at_halt (ticks_made es) e.work
 known_made state e es c = (made_there state e es c).known
 
--- the ticks made before an epoch are made at its halt
 pub halted_behind : (state : State) (e : Closed) (es : NewestFirst Closed) → AreClosed state (e ∷ es) → ticks_made es ≤ halted_in e.work
-halted_behind state e es c =
-    let first = opening_behind state es in
-    let is = c.0.resetting in
-    let may = halt_done (last_line first e.journal) (log_behind (closed_log es) e.journal) e.work is.works (was_halted (log_behind (closed_log es) e.journal) e.work c.0.worked.done) in
-    let there = done_there state es e.journal (halted_in e.work) c.1 is.epoch may in
-    let n = there.1 in omega (arith, n)
+halted_behind state e es c = (closed_there state e es c).base_is

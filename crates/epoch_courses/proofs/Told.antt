@@ -27,7 +27,7 @@ use Rattle.board_epochs.specs.Epochs.Epochs.{goes, resets}
 use Rattle.board_epochs.specs.Work.{Work, Works, stage_of}
 use Rattle.board_epochs.proofs.Onto.{answered_on}
 use Rattle.board_epochs.proofs.Working.{all_of, never}
-use Rattle.epoch_courses.specs.Course.{is_made, made_at_halt, passed_by, passed_so_far, passed_at_reset, closed_course, course_of}
+use Rattle.epoch_courses.specs.Course.{is_made, with_reset, made_at_halt, passed_by, passed_so_far, passed_at_reset, closed_course, course_of}
 use Rattle.epoch_courses.specs.Told.{answered_by, without_byes, untold_by, closing_by}
 use Rattle.epoch_courses.proofs.Telling.{cut_tells, told_lines, told_at_end}
 
@@ -208,3 +208,19 @@ console_tells state made es h behind c over is =
     let all : replies.Banner ∷ told_in (course_of state made (goes es h)) ≡ replies.Banner ∷ without_reports behind =
     told_without state made (goes es h) c ∙ ap (λ ts. without_reports (without_byes (answered_by (goes es h))) ++ without_byes (tells ts)) over.left ∙ append-nil (without_reports (without_byes (answered_by (goes es h)))) ∙ ap without_reports is in
     record { behind = behind; begins = refl; told = (let e : told_in (course_of state made (goes es h)) ≡ without_reports behind = cc in sym e) }
+
+-- with a reset whose mark is published, which is told later
+pub marked_told : (state : State) (es : NewestFirst Closed) (h : Journal) (w : Work) → AreEpochs state (resets es h w)
+    → BeginsWith (replies.Banner ∷ told_in (closed_course state (with_reset es h w))) (without_reports (without_byes (answered_by (resets es h w))))
+marked_told state es h w c =
+    let first = opening_behind state es in
+    let made = made_at_halt (ticks_made es) w in
+    let r = reset_of (ticks_made es) first h w in
+    let before = course_of state made (resets es h w) in
+    let said = without_reports (without_byes (answered_by (resets es h w))) in
+    let front = told_so_far state made (resets es h w) c in
+    record {
+      rest = front.rest ++ told_at_reset r;
+      is = ap (λ (ps : List Passed). replies.Banner ∷ told_in ps) (sym (append_assoc (closed_course state es) (passed_at_reset made first h) (a_reset r ∷ [])))
+          ∙ ap (λ (rs : List Reply). replies.Banner ∷ rs) (told_by_reset before r) ∙ ap (λ (rs : List Reply). rs ++ told_at_reset r) front.is ∙ append_assoc said front.rest (told_at_reset r);
+    }

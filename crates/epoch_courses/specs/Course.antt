@@ -17,7 +17,8 @@ use Rattle.board_rules.specs.Steps.Step.{at_port, began, cut}
 use Rattle.board_rules.specs.Turns.{is_locked}
 use Rattle.board_epochs.specs.Epochs.{Closed, Epochs, opening_behind, point_of, reset_of, ticks_made}
 use Rattle.board_epochs.specs.Epochs.Epochs.{goes, resets}
-use Rattle.board_epochs.specs.Work.{Work, halted_in}
+use Rattle.board_epochs.specs.Work.{Work, Stage, halted_in}
+use Rattle.board_epochs.specs.Work.Stage.{awaits_done, over}
 
 -- ---- of one epoch
 
@@ -73,6 +74,16 @@ closed_course state (e ∷ es) =
 abbrev pub course_of : State → (made : ℕ) → Epochs → List Passed
 course_of state made (goes es h) = closed_course state es ++ passed_so_far made (opening_behind state es) h
 course_of state made (resets es h w) = closed_course state es ++ passed_at_reset made (opening_behind state es) h
+
+-- The mark of a reset is published: it may be made, and recorded, before the work of the reset is done.
+abbrev pub is_marked : Stage → Bool
+is_marked awaits_done = true
+is_marked over = true
+is_marked stage = false
+
+-- closed epochs, and one whose reset is being worked, as it is once that is done
+abbrev pub with_reset : NewestFirst Closed → Journal → Work → NewestFirst Closed
+with_reset es h w = record { journal = h; work = w } ∷ es
 
 -- the journal of the open epoch
 abbrev pub open_journal : Epochs → Journal

@@ -20,22 +20,26 @@ ghost use Rattle.step_line.specs.declared.Record.{Record as AnyRecord};
 ghost use Rattle.board_rules.specs.Conduct.{IsFinished};
 ghost use Rattle.board_rules.specs.Cuts.{cancel_words_in};
 ghost use Rattle.board_rules.specs.Steps.{Journal, known_of};
-ghost use Rattle.board_epochs.specs.Epochs.{Closed, Epochs, AreClosed, AreEpochs, log_of, opening_behind, ticks_made};
+ghost use Rattle.board_epochs.specs.Epochs.{Closed, Epochs, AreClosed, AreEpochs, closed_log, log_behind, log_of, opening_behind, point_of, ticks_made};
 ghost use Rattle.board_epochs.specs.Epochs.Epochs.{goes, resets};
-ghost use Rattle.epoch_courses.specs.Course.{IsMadeAtHalt, course_of, made_at_halt, open_journal, stands_at, point_behind};
+ghost use Rattle.board_epochs.specs.Work.{Work, stage_of};
+ghost use Rattle.epoch_courses.specs.Course.{IsMadeAtHalt, is_marked, with_reset, closed_course, course_of, made_at_halt, open_journal, stands_at, point_behind};
 ghost use Rattle.epoch_courses.specs.Drives.{AreDriven, drives_of};
-ghost use Rattle.epoch_courses.specs.Taken.{sent_by, left_by};
+ghost use Rattle.epoch_courses.specs.Taken.{closed_texts, sent_by, left_by};
 ghost use Rattle.epoch_courses.specs.Told.{answered_by, without_byes, untold_by, closing_by};
 
 /// What a board has done over its epochs is a course of what it has taken: line by line, cut by cut, reset by reset. It
 /// leads to where the board stands, and what is left is what it has taken and not begun. Once the run is closed and all is
 /// done, nothing is left. So many ticks of the open epoch are made, at least those that the board knows of; a cut is passed
-/// once its mark is made, since nothing is begun behind it before.
+/// once its mark is made, since nothing is begun behind it before. Once the mark of a reset is published, the course may go
+/// on behind it (`marked`), since it may be recorded then.
 pub fn epochs_are_a_course()
     ensures leads { (state : State) (made : ℕ) (es : Epochs) → AreEpochs state es → known_of (open_journal es) ≤ made →
         LeadsTo (opening state) (sent_by es) (course_of state made es) (stands_at state made es) (left_by es) }
     ensures follows { (state : State) (made : ℕ) (es : NewestFirst Closed) (h : Journal) → AreEpochs state (goes es h) → IsFinished (opening_behind state es) h → known_of h ≤ made →
         Follows (opening state) (sent_by (goes es h)) (course_of state made (goes es h)) (point_behind made (opening_behind state es) h) }
+    ensures marked { (state : State) (es : NewestFirst Closed) (h : Journal) (w : Work) → AreEpochs state (resets es h w) → is_marked (stage_of (log_behind (closed_log es) h) w) ≡ true →
+        LeadsTo (opening state) (closed_texts (with_reset es h w)) (closed_course state (with_reset es h w)) (point_of (opening_behind state (with_reset es h w))) [] }
     ensures halted { (state : State) (e : Closed) (es : NewestFirst Closed) → AreClosed state (e ∷ es) → IsMadeAtHalt e.journal (made_at_halt (ticks_made es) e.work) }
 {}
 
@@ -47,6 +51,8 @@ pub fn epochs_tell_their_course()
     ensures finished { (state : State) (made : ℕ) (es : NewestFirst Closed) (h : Journal) → AreEpochs state (goes es h) → IsFinished (opening_behind state es) h →
         without_reports (answered_by (goes es h)) ≡ AnyReply.Banner ∷ (told_in (course_of state made (goes es h)) ++ AnyReply.Bye ∷ []) }
     ensures so_far { (state : State) (made : ℕ) (es : Epochs) → AreEpochs state es → BeginsWith (AnyReply.Banner ∷ told_in (course_of state made es)) (without_reports (without_byes (answered_by es))) }
+    ensures marked { (state : State) (es : NewestFirst Closed) (h : Journal) (w : Work) → AreEpochs state (resets es h w) →
+        BeginsWith (AnyReply.Banner ∷ told_in (closed_course state (with_reset es h w))) (without_reports (without_byes (answered_by (resets es h w)))) }
     ensures console { (state : State) (made : ℕ) (es : NewestFirst Closed) (h : Journal) (behind : List AnyReply) → AreEpochs state (goes es h) → IsFinished (opening_behind state es) h →
         without_byes (answered_by (goes es h)) ≡ AnyReply.Banner ∷ behind → IsTold (course_of state made (goes es h)) (AnyReply.Banner ∷ behind) }
 {}
@@ -72,4 +78,7 @@ pub fn epochs_fit_the_texts()
     ensures so_far { (state : State) (made : ℕ) (es : Epochs) (records : List AnyRecord) → IsOpening state → AreEpochs state es → known_of (open_journal es) ≤ made →
         (without_byes (answered_by es) ≡ []) ⊎ ((behind : List AnyReply) × (without_byes (answered_by es) ≡ AnyReply.Banner ∷ behind)) → AreMadeSoFar origin (parts_of (course_of state made es)) records →
         FitsSoFar (sent_by es) (cancel_words_in (log_of es)) (without_byes (answered_by es)) records }
+    ensures marked { (state : State) (es : NewestFirst Closed) (h : Journal) (w : Work) (records : List AnyRecord) → IsOpening state → AreEpochs state (resets es h w) → is_marked (stage_of (log_behind (closed_log es) h) w) ≡ true →
+        (without_byes (answered_by (resets es h w)) ≡ []) ⊎ ((behind : List AnyReply) × (without_byes (answered_by (resets es h w)) ≡ AnyReply.Banner ∷ behind)) → AreMadeSoFar origin (parts_of (closed_course state (with_reset es h w))) records →
+        FitsSoFar (closed_texts (with_reset es h w)) (cancel_words_in (log_of (resets es h w))) (without_byes (answered_by (resets es h w))) records }
 {}

@@ -1,4 +1,4 @@
-use Rattle.epoch_courses.proofs.Told.{epochs_tell, finished_tell, told_so_far, console_tells}
+use Rattle.epoch_courses.proofs.Told.{epochs_tell, finished_tell, told_so_far, console_tells, marked_told}
 use Rattle.epoch_courses.proofs.laws.epochs_tell_their_course.Goals as goal
 
 pub returns-clause-told : goal.returns-clause-told
@@ -12,3 +12,6 @@ returns-clause-so_far c = told_so_far
 
 pub returns-clause-console : goal.returns-clause-console
 returns-clause-console c = console_tells
+
+pub returns-clause-marked : goal.returns-clause-marked
+returns-clause-marked c = marked_told
