@@ -4,3 +4,4 @@ pub mod Settled
 pub mod Ends
 pub mod Runs
 pub mod Sent
+pub mod SoFar

@@ -47,7 +47,7 @@ use Rattle.epoch_records.specs.Epochs.{Epoch}
 use Rattle.epoch_records.specs.Runs.{AreRun, IsBrokenOff, IsRunFor, IsRunOut, IsCarriedOut}
 use Rattle.epoch_runs.specs.Epochs.{reset_epoch, last_epoch, closed_epochs, epochs_of}
 use Rattle.epoch_runs.proofs.Ends.{out_there, out_pending, ticks_behind, since_broken, pending_broken}
-use Rattle.epoch_runs.proofs.Parts.{cuts_run, epoch_with, parts_made, run_for, same_epoch}
+use Rattle.epoch_runs.proofs.Parts.{SaysByParts, all_by_parts, parts_some, cuts_run, epoch_with, parts_made, run_for, same_epoch}
 use Rattle.epoch_runs.proofs.Pieces.{behind_parts}
 use Rattle.epoch_runs.proofs.Settled.{all_settled, broken_settled, jog_settled}
 
@@ -56,64 +56,18 @@ use Rattle.epoch_runs.proofs.Settled.{all_settled, broken_settled, jog_settled}
 abbrev mark_of : Reset → Piece
 mark_of r = pieces.Mark (marks.Reset r.number)
 
--- the course up to the reset, of the pieces that were published
-abbrev EpochRuns : ℕ → Opening → Journal → Reset → List Passed → List Passed → List Epoch → Type 0
-EpochRuns made first h r passed rest es = AreRun (parts_of (passed ++ a_reset r ∷ rest)) first.place (epoch_with (published_of h) made (mark_of r) ∷ es)
-
--- with the pieces behind the cuts that are made
-from_cuts : (made : ℕ) (first : Opening) (h b : Journal) (r : Reset) (passed rest : List Passed) (es : List Epoch) (since : List Piece) → published_of h ≡ pieces_in (board_parts first b) ++ since → ticks_together (pieces_in (board_parts first b)) ≤ made
-    → AreRun (parts_of (passed ++ a_reset r ∷ rest)) first.place (epoch_with (pieces_in (board_parts first b) ++ since) (ticks_together (pieces_in (board_parts first b)) + (made - ticks_together (pieces_in (board_parts first b)))) (mark_of r) ∷ es)
-    → EpochRuns made first h r passed rest es
-from_cuts made first h b r passed rest es since is few run =
-    same_epoch (parts_of (passed ++ a_reset r ∷ rest)) first.place (pieces_in (board_parts first b) ++ since) (published_of h) _ made (mark_of r) es (sym is) (sym (ticks_behind (board_parts first b) made few)) run
-
--- all lines are answered, and all cuts made
-answered_runs : (made : ℕ) (first : Opening) (h : Journal) (r : Reset) (rest : List Passed) (es : List Epoch) → IsEpoch first h → MayReset first h → IsMadeAtHalt h made → r.at ≡ machine_from first.place (published_of h) made
-    → is_unanswered h ≡ false → AllMade made h → AreRun (parts_of rest) r.at es → EpochRuns made first h r (passed_by false made first h) rest es
-answered_runs made first h r rest es is may there at all cuts run =
-    let c = is.conducted in
-    let qs = board_parts first h in
-    let os = part_outcomes h in
-    let p : Part = part os [] (by_reset r) in
-    let few = parts_made made first h c cuts in
-    let n : ℕ = made - ticks_together (pieces_in qs) in
-    let behind = behind_parts qs (published_of h) (hand_of h) (part_given h) (out_there first h is may) (let pub_few = there.published in omega (arith, few, pub_few)) in
-    let broken = since_broken made first h p r.at is may there cuts (append-nil os) at (all_settled made n first h os c (calm first h is may) there.known (ticks_behind qs made few) all refl) behind in
-    from_cuts made first h h r (passed_by false made first h) rest es behind.since behind.is few
-    (cuts_run made first h (a_reset r ∷ rest) behind.since n (mark_of r) es c cuts
-    (subst (λ (ps : List Part). AreRun ps (part_place first h) (epoch_with behind.since n (mark_of r) ∷ es)) (sym (parts_reset os r rest)) (refl, broken, run)))
-
--- the last cut is not made
-pending_runs : (made : ℕ) (first : Opening) (h : Journal) (r : Reset) (rest : List Passed) (es : List Epoch) → IsEpoch first h → MayReset first h → IsMadeAtHalt h made → r.at ≡ machine_from first.place (published_of h) made
-    → (x : Pends made first h) → known_of x.before ≤ made → AreRun (parts_of rest) r.at es → EpochRuns made first h r (passed_by false made first h) rest es
-pending_runs made first h r rest es is may there at x known run =
-    let b = x.before in
-    let c = x.conducted.1 in
-    let qs = board_parts first b in
-    let os = part_outcomes b in
-    let p : Part = part os [] (by_reset r) in
-    let few = parts_made made first b c x.all in
-    let n : ℕ = made - ticks_together (pieces_in qs) in
-    let behind = behind_parts qs (published_of h) (hand_of h) (part_given b ++ pieces.Mark (marks.Cut x.k) ∷ part_given h) (out_pending made first h x is may) (let pub_few = there.published in omega (arith, few, pub_few)) in
-    let jogs = cancel_is_jog first b c x.conducted.0.cancelled in
-    let broken = pending_broken made first h x p r.at x.unmade (append-nil os) at (jog_settled made n first b os c x.conducted.0.calm known (ticks_behind qs made few) jogs refl) behind in
-    subst (λ (ps : List Passed). EpochRuns made first h r ps rest es) (sym x.passed)
-    (from_cuts made first h b r (passed_by false made first b) rest es behind.since behind.is few
-    (cuts_run made first b (a_reset r ∷ rest) behind.since n (mark_of r) es c x.all
-    (subst (λ (ps : List Part). AreRun ps (part_place first b) (epoch_with behind.since n (mark_of r) ∷ es)) (sym (parts_reset os r rest)) (refl, broken, run))))
-
 -- a last line is broken, behind all cuts
-record BrokenSo (made : ℕ) (first : Opening) (h : Journal) : Type 0 where
-  before : Journal
-  o : Outcome
-  conducted : Conducted first (began o ∷ before)
-  all : AllMade made before
-  passed : passed_by true made first h ≡ passed_by false made first before ++ a_broken o ∷ []
-  parts : board_parts first h ≡ board_parts first before
-  place : part_place first h ≡ part_place first before
-  outcomes : part_outcomes before ++ o ∷ [] ≡ part_outcomes h
+pub record BrokenSo (made : ℕ) (first : Opening) (h : Journal) : Type 0 where
+  pub before : Journal
+  pub o : Outcome
+  pub conducted : Conducted first (began o ∷ before)
+  pub all : AllMade made before
+  pub passed : passed_by true made first h ≡ passed_by false made first before ++ a_broken o ∷ []
+  pub parts : board_parts first h ≡ board_parts first before
+  pub place : part_place first h ≡ part_place first before
+  pub outcomes : part_outcomes before ++ o ∷ [] ≡ part_outcomes h
 
-broken_so : (made : ℕ) (first : Opening) (h : Journal) → Conducted first h → is_unanswered h ≡ true → IsUncut h → AllMade made h → BrokenSo made first h
+pub broken_so : (made : ℕ) (first : Opening) (h : Journal) → Conducted first h → is_unanswered h ≡ true → IsUncut h → AllMade made h → BrokenSo made first h
 broken_so made first [] c one uncut all = absurd uncut
 broken_so made first (began o ∷ h) c one uncut all = record { before = h; o = o; conducted = c; all = all; passed = refl; parts = refl; place = refl; outcomes = refl }
 broken_so made first (cut k ∷ h) c one uncut all = absurd uncut
@@ -124,59 +78,106 @@ broken_so made first (_ ∷ h) c one uncut all =
     let x = broken_so made first h c.1 one uncut all in
     record { before = x.before; o = x.o; conducted = x.conducted; all = x.all; passed = x.passed; parts = x.parts; place = x.place; outcomes = x.outcomes }
 
-broken_runs : (made : ℕ) (first : Opening) (h : Journal) (r : Reset) (rest : List Passed) (es : List Epoch) → IsEpoch first h → MayReset first h → IsMadeAtHalt h made → r.at ≡ machine_from first.place (published_of h) made
-    → is_unanswered h ≡ true → AllMade made h → BrokenSo made first h → AreRun (parts_of rest) r.at es → EpochRuns made first h r (passed_by true made first h) rest es
-broken_runs made first h r rest es is may there at one cuts x run =
-    let c = is.conducted in
-    let qs = board_parts first h in
-    let b = x.before in
-    let os = part_outcomes b in
-    let p : Part = part os (x.o ∷ []) (by_reset r) in
-    let few = parts_made made first h c cuts in
-    let n : ℕ = made - ticks_together (pieces_in qs) in
-    let behind = behind_parts qs (published_of h) (hand_of h) (part_given h) (out_there first h is may) (let pub_few = there.published in omega (arith, few, pub_few)) in
-    let broken = since_broken made first h p r.at is may there cuts x.outcomes at (broken_settled made n first h os x.o c (calm first h is may) there.known (ticks_behind qs made few) one x.outcomes) behind in
-    let here : AreRun (parts_of (map a_line os ++ a_broken x.o ∷ a_reset r ∷ rest)) (part_place first b) (epoch_with behind.since n (mark_of r) ∷ es) =
-    subst (λ (ps : List Part). AreRun ps (part_place first b) (epoch_with behind.since n (mark_of r) ∷ es)) (sym (parts_broken os x.o r rest))
-    (refl, subst (λ (place : Steps3). IsBrokenOff place p r.at behind.since n) x.place broken, run) in
-    let whole = cuts_run made first b (a_broken x.o ∷ a_reset r ∷ rest) behind.since n (mark_of r) es x.conducted.1 x.all here in
-    from_cuts made first h h r (passed_by true made first h) rest es behind.since behind.is few
-    (subst (λ (ps : List Passed). AreRun (parts_of (ps ++ a_reset r ∷ rest)) first.place (epoch_with (pieces_in qs ++ behind.since) (ticks_together (pieces_in qs) + n) (mark_of r) ∷ es)) (sym x.passed)
-    (subst (λ (ps : List Passed). AreRun (parts_of ps) first.place (epoch_with (pieces_in qs ++ behind.since) (ticks_together (pieces_in qs) + n) (mark_of r) ∷ es)) (sym (append_assoc (passed_by false made first b) (a_broken x.o ∷ []) (a_reset r ∷ rest)))
-    (subst (λ (xs : List CutPart). AreRun (parts_of (passed_by false made first b ++ a_broken x.o ∷ a_reset r ∷ rest)) first.place (epoch_with (pieces_in xs ++ behind.since) (ticks_together (pieces_in xs) + n) (mark_of r) ∷ es)) (sym x.parts) whole)))
+module _ (R : List Part → Steps3 → List Epoch → Type 0) (cons : SaysByParts R) where
+  -- the course up to the reset, of the pieces that were published
+  abbrev EpochRuns : ℕ → Opening → Journal → Reset → List Passed → List Passed → List Epoch → Type 0
+  EpochRuns made first h r passed rest es = R (parts_of (passed ++ a_reset r ∷ rest)) first.place (epoch_with (published_of h) made (mark_of r) ∷ es)
 
-epoch_runs : (made : ℕ) (first : Opening) (h : Journal) (r : Reset) (rest : List Passed) (es : List Epoch) → IsEpoch first h → MayReset first h → IsMadeAtHalt h made → r.at ≡ machine_from first.place (published_of h) made
-    → AreRun (parts_of rest) r.at es → EpochRuns made first h r (passed_at_reset made first h) rest es
-epoch_runs made first h r rest es is may there at run = by_one (is_unanswered h) refl
-  where
-    by_pending : is_unanswered h ≡ false → (t : Bool) → is_pending made h ≡ t → EpochRuns made first h r (passed_by false made first h) rest es
-    by_pending all true pends =
-        let x = pends_there made first h is.conducted there.known pends in pending_runs made first h r rest es is may there at x x.known run
-    by_pending all false none = answered_runs made first h r rest es is may there at all (others_made made first h is.conducted there.known none) run
+  -- with the pieces behind the cuts that are made
+  from_cuts : (made : ℕ) (first : Opening) (h b : Journal) (r : Reset) (passed rest : List Passed) (es : List Epoch) (since : List Piece) → published_of h ≡ pieces_in (board_parts first b) ++ since → ticks_together (pieces_in (board_parts first b)) ≤ made
+      → R (parts_of (passed ++ a_reset r ∷ rest)) first.place (epoch_with (pieces_in (board_parts first b) ++ since) (ticks_together (pieces_in (board_parts first b)) + (made - ticks_together (pieces_in (board_parts first b)))) (mark_of r) ∷ es)
+      → EpochRuns made first h r passed rest es
+  from_cuts made first h b r passed rest es since is few run =
+      same_epoch R cons (parts_of (passed ++ a_reset r ∷ rest)) first.place (pieces_in (board_parts first b) ++ since) (published_of h) _ made (mark_of r) es (sym is) (sym (ticks_behind (board_parts first b) made few)) run
 
-    by_one : (t : Bool) → is_unanswered h ≡ t → EpochRuns made first h r (passed_by (is_unanswered h) made first h) rest es
-    by_one true one =
-        let uncut = uncut_there first h is may one in
-        let cuts = others_made made first h is.conducted there.known (uncut_made made h uncut) in
-        subst (λ (t : Bool). EpochRuns made first h r (passed_by t made first h) rest es) (sym one) (broken_runs made first h r rest es is may there at one cuts (broken_so made first h is.conducted one uncut cuts) run)
-    by_one false all = subst (λ (t : Bool). EpochRuns made first h r (passed_by t made first h) rest es) (sym all) (by_pending all (is_pending made h) refl)
+  -- all lines are answered, and all cuts made
+  answered_runs : (made : ℕ) (first : Opening) (h : Journal) (r : Reset) (rest : List Passed) (es : List Epoch) → IsEpoch first h → MayReset first h → IsMadeAtHalt h made → r.at ≡ machine_from first.place (published_of h) made
+      → is_unanswered h ≡ false → AllMade made h → R (parts_of rest) r.at es → EpochRuns made first h r (passed_by false made first h) rest es
+  answered_runs made first h r rest es is may there at all cuts run =
+      let c = is.conducted in
+      let qs = board_parts first h in
+      let os = part_outcomes h in
+      let p : Part = part os [] (by_reset r) in
+      let few = parts_made made first h c cuts in
+      let n : ℕ = made - ticks_together (pieces_in qs) in
+      let behind = behind_parts qs (published_of h) (hand_of h) (part_given h) (out_there first h is may) (let pub_few = there.published in omega (arith, few, pub_few)) in
+      let broken = since_broken made first h p r.at is may there cuts (append-nil os) at (all_settled made n first h os c (calm first h is may) there.known (ticks_behind qs made few) all refl) behind in
+      from_cuts made first h h r (passed_by false made first h) rest es behind.since behind.is few
+      (cuts_run R cons made first h (a_reset r ∷ rest) behind.since n (mark_of r) es c cuts
+      (subst (λ (ps : List Part). R ps (part_place first h) (epoch_with behind.since n (mark_of r) ∷ es)) (sym (parts_reset os r rest)) (cons p (parts_of rest) _ _ (parts_some rest) (refl, broken, run))))
 
--- ---- closed epochs
+  -- the last cut is not made
+  pending_runs : (made : ℕ) (first : Opening) (h : Journal) (r : Reset) (rest : List Passed) (es : List Epoch) → IsEpoch first h → MayReset first h → IsMadeAtHalt h made → r.at ≡ machine_from first.place (published_of h) made
+      → (x : Pends made first h) → known_of x.before ≤ made → R (parts_of rest) r.at es → EpochRuns made first h r (passed_by false made first h) rest es
+  pending_runs made first h r rest es is may there at x known run =
+      let b = x.before in
+      let c = x.conducted.1 in
+      let qs = board_parts first b in
+      let os = part_outcomes b in
+      let p : Part = part os [] (by_reset r) in
+      let few = parts_made made first b c x.all in
+      let n : ℕ = made - ticks_together (pieces_in qs) in
+      let behind = behind_parts qs (published_of h) (hand_of h) (part_given b ++ pieces.Mark (marks.Cut x.k) ∷ part_given h) (out_pending made first h x is may) (let pub_few = there.published in omega (arith, few, pub_few)) in
+      let jogs = cancel_is_jog first b c x.conducted.0.cancelled in
+      let broken = pending_broken made first h x p r.at x.unmade (append-nil os) at (jog_settled made n first b os c x.conducted.0.calm known (ticks_behind qs made few) jogs refl) behind in
+      subst (λ (ps : List Passed). EpochRuns made first h r ps rest es) (sym x.passed)
+      (from_cuts made first h b r (passed_by false made first b) rest es behind.since behind.is few
+      (cuts_run R cons made first b (a_reset r ∷ rest) behind.since n (mark_of r) es c x.all
+      (subst (λ (ps : List Part). R ps (part_place first b) (epoch_with behind.since n (mark_of r) ∷ es)) (sym (parts_reset os r rest)) (cons p (parts_of rest) _ _ (parts_some rest) (refl, broken, run)))))
 
-closed_run : (state : State) (es : NewestFirst Closed) (rest : List Passed) (epochs : List Epoch) → AreClosed state es → AreRun (parts_of rest) (opening_behind state es).place epochs
-    → AreRun (parts_of (closed_course state es ++ rest)) origin (closed_epochs state es ++ epochs)
-closed_run state [] rest epochs c run = run
-closed_run state (e ∷ es) rest epochs c run =
-    let first = opening_behind state es in
-    let made = made_at_halt (ticks_made es) e.work in
-    let r = reset_of (ticks_made es) first e.journal e.work in
-    let passed = passed_at_reset made first e.journal in
-    let here = epoch_runs made first e.journal r rest epochs c.0.resetting.epoch c.0.resetting.may (made_there state e es c) refl run in
-    let all = closed_run state es (passed ++ a_reset r ∷ rest) (reset_epoch (ticks_made es) first e.journal e.work ∷ epochs) c.1 here in
-    subst (λ (ps : List Passed). AreRun (parts_of ps) origin (closed_epochs state (e ∷ es) ++ epochs))
-    (sym (append_assoc (closed_course state es) (passed ++ a_reset r ∷ []) rest ∙ ap (λ (ps : List Passed). closed_course state es ++ ps) (append_assoc passed (a_reset r ∷ []) rest)))
-    (subst (λ (xs : List Epoch). AreRun (parts_of (closed_course state es ++ (passed ++ a_reset r ∷ rest))) origin xs)
-    (sym (append_assoc (closed_epochs state es) (reset_epoch (ticks_made es) first e.journal e.work ∷ []) epochs)) all)
+  broken_runs : (made : ℕ) (first : Opening) (h : Journal) (r : Reset) (rest : List Passed) (es : List Epoch) → IsEpoch first h → MayReset first h → IsMadeAtHalt h made → r.at ≡ machine_from first.place (published_of h) made
+      → is_unanswered h ≡ true → AllMade made h → BrokenSo made first h → R (parts_of rest) r.at es → EpochRuns made first h r (passed_by true made first h) rest es
+  broken_runs made first h r rest es is may there at one cuts x run =
+      let c = is.conducted in
+      let qs = board_parts first h in
+      let b = x.before in
+      let os = part_outcomes b in
+      let p : Part = part os (x.o ∷ []) (by_reset r) in
+      let few = parts_made made first h c cuts in
+      let n : ℕ = made - ticks_together (pieces_in qs) in
+      let behind = behind_parts qs (published_of h) (hand_of h) (part_given h) (out_there first h is may) (let pub_few = there.published in omega (arith, few, pub_few)) in
+      let broken = since_broken made first h p r.at is may there cuts x.outcomes at (broken_settled made n first h os x.o c (calm first h is may) there.known (ticks_behind qs made few) one x.outcomes) behind in
+      let here : R (parts_of (map a_line os ++ a_broken x.o ∷ a_reset r ∷ rest)) (part_place first b) (epoch_with behind.since n (mark_of r) ∷ es) =
+      subst (λ (ps : List Part). R ps (part_place first b) (epoch_with behind.since n (mark_of r) ∷ es)) (sym (parts_broken os x.o r rest))
+      (cons p (parts_of rest) _ _ (parts_some rest) (refl, subst (λ (place : Steps3). IsBrokenOff place p r.at behind.since n) x.place broken, run)) in
+      let whole = cuts_run R cons made first b (a_broken x.o ∷ a_reset r ∷ rest) behind.since n (mark_of r) es x.conducted.1 x.all here in
+      from_cuts made first h h r (passed_by true made first h) rest es behind.since behind.is few
+      (subst (λ (ps : List Passed). R (parts_of (ps ++ a_reset r ∷ rest)) first.place (epoch_with (pieces_in qs ++ behind.since) (ticks_together (pieces_in qs) + n) (mark_of r) ∷ es)) (sym x.passed)
+      (subst (λ (ps : List Passed). R (parts_of ps) first.place (epoch_with (pieces_in qs ++ behind.since) (ticks_together (pieces_in qs) + n) (mark_of r) ∷ es)) (sym (append_assoc (passed_by false made first b) (a_broken x.o ∷ []) (a_reset r ∷ rest)))
+      (subst (λ (xs : List CutPart). R (parts_of (passed_by false made first b ++ a_broken x.o ∷ a_reset r ∷ rest)) first.place (epoch_with (pieces_in xs ++ behind.since) (ticks_together (pieces_in xs) + n) (mark_of r) ∷ es)) (sym x.parts) whole)))
+
+  epoch_runs : (made : ℕ) (first : Opening) (h : Journal) (r : Reset) (rest : List Passed) (es : List Epoch) → IsEpoch first h → MayReset first h → IsMadeAtHalt h made → r.at ≡ machine_from first.place (published_of h) made
+      → R (parts_of rest) r.at es → EpochRuns made first h r (passed_at_reset made first h) rest es
+  epoch_runs made first h r rest es is may there at run = by_one (is_unanswered h) refl
+    where
+      by_pending : is_unanswered h ≡ false → (t : Bool) → is_pending made h ≡ t → EpochRuns made first h r (passed_by false made first h) rest es
+      by_pending all true pends =
+          let x = pends_there made first h is.conducted there.known pends in pending_runs made first h r rest es is may there at x x.known run
+      by_pending all false none = answered_runs made first h r rest es is may there at all (others_made made first h is.conducted there.known none) run
+
+      by_one : (t : Bool) → is_unanswered h ≡ t → EpochRuns made first h r (passed_by (is_unanswered h) made first h) rest es
+      by_one true one =
+          let uncut = uncut_there first h is may one in
+          let cuts = others_made made first h is.conducted there.known (uncut_made made h uncut) in
+          subst (λ (t : Bool). EpochRuns made first h r (passed_by t made first h) rest es) (sym one) (broken_runs made first h r rest es is may there at one cuts (broken_so made first h is.conducted one uncut cuts) run)
+      by_one false all = subst (λ (t : Bool). EpochRuns made first h r (passed_by t made first h) rest es) (sym all) (by_pending all (is_pending made h) refl)
+
+  -- ---- closed epochs
+
+  pub closed_run : (state : State) (es : NewestFirst Closed) (rest : List Passed) (epochs : List Epoch) → AreClosed state es → R (parts_of rest) (opening_behind state es).place epochs
+      → R (parts_of (closed_course state es ++ rest)) origin (closed_epochs state es ++ epochs)
+  closed_run state [] rest epochs c run = run
+  closed_run state (e ∷ es) rest epochs c run =
+      let first = opening_behind state es in
+      let made = made_at_halt (ticks_made es) e.work in
+      let r = reset_of (ticks_made es) first e.journal e.work in
+      let passed = passed_at_reset made first e.journal in
+      let here = epoch_runs made first e.journal r rest epochs c.0.resetting.epoch c.0.resetting.may (made_there state e es c) refl run in
+      let all = closed_run state es (passed ++ a_reset r ∷ rest) (reset_epoch (ticks_made es) first e.journal e.work ∷ epochs) c.1 here in
+      subst (λ (ps : List Passed). R (parts_of ps) origin (closed_epochs state (e ∷ es) ++ epochs))
+      (sym (append_assoc (closed_course state es) (passed ++ a_reset r ∷ []) rest ∙ ap (λ (ps : List Passed). closed_course state es ++ ps) (append_assoc passed (a_reset r ∷ []) rest)))
+      (subst (λ (xs : List Epoch). R (parts_of (closed_course state es ++ (passed ++ a_reset r ∷ rest))) origin xs)
+      (sym (append_assoc (closed_epochs state es) (reset_epoch (ticks_made es) first e.journal e.work ∷ []) epochs)) all)
 
 -- ---- the last epoch
 
@@ -212,12 +213,12 @@ last_run made first h c over known =
     let cuts = all_given_made made h (omega (arith, done, known)) in
     let out = run_out first h p c (append-nil os) refl (over_there first h p c over refl (append-nil os)) in
     let n = ticks_together (part_given h) in
-    let here = cuts_run made first h [] (part_given h) n pieces.End [] c cuts
+    let here = cuts_run AreRun all_by_parts made first h [] (part_given h) n pieces.End [] c cuts
     (subst (λ (ps : List Part). AreRun ps (part_place first h) (epoch_with (part_given h) n pieces.End ∷ [])) (sym (parts_end os)) (refl, out, refl)) in
     let all = pieces_are first h c in
     let count : ticks_together (pieces_in qs) + n ≡ ticks_together (planned_of h) = sym (ap ticks_together all ∙ together_both (pieces_in qs) (part_given h)) in
     subst (λ (ps : List Passed). AreRun (parts_of ps) first.place (last_epoch h ∷ [])) (append-nil (passed_so_far made first h))
-    (same_epoch (parts_of (passed_by false made first h ++ [])) first.place (pieces_in qs ++ part_given h) (planned_of h) (ticks_together (pieces_in qs) + n) (ticks_together (planned_of h)) pieces.End [] (sym all) count here)
+    (same_epoch AreRun all_by_parts (parts_of (passed_by false made first h ++ [])) first.place (pieces_in qs ++ part_given h) (planned_of h) (ticks_together (pieces_in qs) + n) (ticks_together (planned_of h)) pieces.End [] (sym all) count here)
 
 -- ---- all of it
 
@@ -225,4 +226,4 @@ pub epochs_run : (state : State) (made : ℕ) (es : NewestFirst Closed) (h : Jou
     → AreRun (parts_of (course_of state made (goes es h))) origin (epochs_of state es h)
 epochs_run state made es h c over known =
     let first = opening_behind state es in
-    closed_run state es (passed_so_far made first h) (last_epoch h ∷ []) c.0 (last_run made first h c.1.conducted over known)
+    closed_run AreRun all_by_parts state es (passed_so_far made first h) (last_epoch h ∷ []) c.0 (last_run made first h c.1.conducted over known)

@@ -4,22 +4,27 @@ ghost use Rattle.std.specs.Prelude.{◌≡◌, ℕ, ◌≤◌, reverse};
 ghost use Rattle.flight.specs.Places.{origin};
 ghost use Rattle.run_rules.specs.declared.State.{State};
 ghost use Rattle.run_texts.specs.Parts.{parts_of};
+ghost use Rattle.step_line.specs.Finishing.{ticks_together};
 ghost use Rattle.step_line.specs.Logs.{NewestFirst};
 ghost use Rattle.board_rules.specs.Conduct.{IsFinished};
 ghost use Rattle.board_rules.specs.Ports.{sent_in};
-ghost use Rattle.board_rules.specs.Steps.{Journal, known_of};
-ghost use Rattle.board_epochs.specs.Epochs.{Closed, AreEpochs, log_of, opening_behind};
+ghost use Rattle.board_rules.specs.Steps.{Journal, known_of, published_of};
+ghost use Rattle.board_epochs.specs.Epochs.{Closed, Epochs, AreEpochs, log_of, opening_behind};
 ghost use Rattle.board_epochs.specs.Epochs.Epochs.{goes};
-ghost use Rattle.epoch_courses.specs.Course.{course_of};
+ghost use Rattle.epoch_courses.specs.Course.{course_of, open_journal};
 ghost use Rattle.epoch_records.specs.Publishing.{published_in, halts_in, AreOver};
 ghost use Rattle.epoch_records.specs.Runs.{AreRun};
-ghost use Rattle.epoch_runs.specs.Epochs.{epochs_of, halts_seen, pieces_sent};
+ghost use Rattle.epoch_records.specs.SoFar.{AreRunSoFar};
+ghost use Rattle.epoch_runs.specs.Epochs.{epochs_of, epochs_so_far, without_end, halts_seen, pieces_sent};
 
 /// The epochs of a board that is done, as the pulse has them by their pieces and the ticks made of these, were run for the
-/// parts of its course: so what the pulse puts of them are the records of these parts.
+/// parts of its course: so what the pulse puts of them are the records of these parts. So were its epochs so far, while so
+/// many ticks of the open one are made, at least those that the board knows of, and no more than were published.
 pub fn epochs_are_run_for_their_course()
-    ensures { (state : State) (made : ℕ) (es : NewestFirst Closed) (h : Journal) → AreEpochs state (goes es h) → IsFinished (opening_behind state es) h → known_of h ≤ made →
+    ensures run { (state : State) (made : ℕ) (es : NewestFirst Closed) (h : Journal) → AreEpochs state (goes es h) → IsFinished (opening_behind state es) h → known_of h ≤ made →
         AreRun (parts_of (course_of state made (goes es h))) origin (epochs_of state es h) }
+    ensures so_far { (state : State) (made : ℕ) (es : Epochs) → AreEpochs state es → known_of (open_journal es) ≤ made → made ≤ ticks_together (without_end (published_of (open_journal es))) →
+        AreRunSoFar (parts_of (course_of state made es)) origin (epochs_so_far state made es) }
 {}
 
 /// These epochs are those of the board's port: their pieces, with the marks of the resets between them and the end behind
