@@ -1,9 +1,13 @@
 //! What the judge's answers say of the records of a part.
 
-ghost use Rattle.std.specs.Prelude.{◌≡◌, List, [], ◌∷◌, ◌++◌, None, Some};
+ghost use Rattle.std.specs.Prelude.{◌≡◌, ◌↔◌, ◌⊎◌, ◌≤◌, List, [], ◌∷◌, ◌++◌, length, true, false, None, Some};
 ghost use Rattle.step_line.specs.declared.Record.{Record as AnyRecord};
 ghost use Rattle.step_line.specs.declared.planned_move.PlannedMove.{PlannedMove as AnyMove};
-ghost use Rattle.run_rules.specs.Work.{Outcome};
+ghost use Rattle.step_line.specs.Asking.{ticks_among};
+ghost use Rattle.run_rules.specs.Cuts.{LosesJogsAlone};
+ghost use Rattle.run_rules.specs.Reports.{settles};
+ghost use Rattle.run_rules.specs.Work.{Outcome, accepted_jog};
+ghost use Rattle.run_texts.specs.Recorded.{ticks_for_all, settled_ticks};
 ghost use Rattle.run_texts.specs.Making.{Making, IsMade, nothing_yet};
 ghost use Rattle.part_making.specs.declared.Item.{Item as AnyItem};
 ghost use Rattle.part_making.specs.Judging.{Known, Goes, Refuses, nothing_known, making, item_ticks, item_moves};
@@ -18,4 +22,18 @@ pub fn refused_records_are_never_made()
         IsMade since made (making k ticks moves) → Goes k r now → IsMade since (made ++ r ∷ []) (making now ticks moves) }
     ensures refused { (since more : List Outcome) (made : List AnyRecord) (k : Known) (ticks : List AnyRecord) (moves : List AnyMove) (r : AnyRecord) (n : Making) →
         IsMade since made (making k ticks moves) → Refuses k r → IsMade (since ++ more) (made ++ r ∷ []) n → ⊥ }
+{}
+
+/// Where a line is entered only when nothing is owed of those before it, a part may end by what is owed of its last line: a cut
+/// loses jogs alone exactly if that line is an accepted jog or nothing is owed, and no tick of a line up to the last that
+/// settles is left out exactly if that line does not settle or nothing is owed.
+pub fn parts_end_by_their_last_line()
+    ensures entered { (since : List Outcome) (made : List AnyRecord) (m : Making) → IsMade since made m → m.owed ≡ [] → length (ticks_for_all since) ≤ length (ticks_among made) }
+    ensures cut { (before : List Outcome) (o : Outcome) (made : List AnyRecord) (m : Making) → IsMade (before ++ o ∷ []) made m →
+        length (ticks_for_all before) ≤ length (ticks_among made) →
+        LosesJogsAlone (length (ticks_among made)) (before ++ o ∷ []) ↔ ((accepted_jog o.kind ≡ true) ⊎ (m.owed ≡ [])) }
+    ensures settled { (before : List Outcome) (o : Outcome) (made : List AnyRecord) (m : Making) → IsMade (before ++ o ∷ []) made m →
+        length (ticks_for_all before) ≤ length (ticks_among made) →
+        (settled_ticks (before ++ o ∷ []) ≤ length (ticks_among made)) ↔ ((settles o ≡ false) ⊎ (m.owed ≡ [])) }
+    ensures made { (lines : List Outcome) (made : List AnyRecord) → length (ticks_for_all lines) ≤ length (ticks_among made) → settled_ticks lines ≤ length (ticks_among made) }
 {}

@@ -8,7 +8,7 @@ mod laws;
 mod traced;
 
 pub use judge::PartJudge;
-pub use laws::refused_records_are_never_made;
+pub use laws::{parts_end_by_their_last_line, refused_records_are_never_made};
 use step_line::{Mark, PlannedMove};
 
 /// What a line asks for: a move, or a mark that ends no part.
