@@ -1,14 +1,14 @@
 -- A run's first epoch, behind which nothing was closed: its port serves it as it stands.
-use Rattle.std.proofs.Common.{◌≡◌, ℕ, ◌+◌, ◌^◌, ◌≤◌, ◌<◌, List, [], ◌∷◌, ◌++◌, length, length-append, refl, sym, ap, ◌∙◌, subst, arith}
+use Rattle.std.proofs.Common.{◌≡◌, ℕ, ◌+◌, ◌^◌, ◌≤◌, ◌<◌, [], ◌∷◌, length, length-append, refl, sym, ap, ◌∙◌, subst, arith}
 use Rattle.run_rules.specs.declared.State.{State}
 use Rattle.board_rules.specs.Conduct.{Conducted}
 use Rattle.board_rules.specs.Openings.{Opening, first_opening}
-use Rattle.board_rules.specs.Ports.{PortStep, BoardLog}
+use Rattle.board_rules.specs.Ports.{BoardLog}
 use Rattle.board_rules.specs.Ports.PortStep.{took, no_piece_room, loaded}
 use Rattle.board_rules.specs.Steps.{Journal, port_log, taken_of}
 use Rattle.board_rules.specs.Steps.Step.{at_port}
 use Rattle.board_rules.proofs.Owing.{few_asked}
-use Rattle.board_epochs.specs.Epochs.{IsBounded, log_on}
+use Rattle.board_epochs.specs.Epochs.{IsBounded}
 use Rattle.epoch_ports.specs.Serving.{Since, Serves, all_since}
 
 -- what was done since is all

@@ -1,5 +1,5 @@
 -- What the fields of a controller tell of all that it did: it kept to the rules, and it has ended where it rests.
-use Rattle.std.proofs.Common.{◌≡◌, refl, sym, ◌∙◌, subst}
+use Rattle.std.proofs.Common.{refl, sym, ◌∙◌, subst}
 use Rattle.run_rules.specs.declared.State.{State}
 use Rattle.run_rules.specs.States.{IsOpening}
 use Rattle.board_rules.specs.Breaking.{Doings, HasEnded, IsConducted, ending_of}

@@ -1,5 +1,5 @@
 -- What an epoch does at its port is what the port, which counts on, may be asked for; and what the port promises holds of the epoch.
-use Rattle.std.proofs.Common.{◌≡◌, ◌⊎◌, inl, inr, ℕ, ◌+◌, ◌-◌, true, ◌∷◌, refl, sym, ap, ◌∙◌, subst, arith}
+use Rattle.std.proofs.Common.{◌≡◌, ◌⊎◌, inl, inr, ℕ, ◌+◌, true, ◌∷◌, sym, ap, ◌∙◌, subst}
 use Rattle.run_rules.specs.Work.Task.{tell}
 use Rattle.status_report.specs.Answering.{is_report}
 use Rattle.status_report.specs.Replies.{IsReply}

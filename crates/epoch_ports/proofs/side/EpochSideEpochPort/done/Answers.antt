@@ -1,4 +1,4 @@
-use Rattle.std.proofs.Common.{◌≡◌, ◌≤◌, ◌+◌, ◌-◌, arith, subst}
+use Rattle.std.proofs.Common.{◌-◌, arith, subst}
 use Rattle.board_rules.specs.Ports.{MayBeDone}
 use Rattle.board_rules.specs.Steps.{port_log}
 use Rattle.epoch_ports.specs.Serving.{all_since}
