@@ -54,7 +54,7 @@ use Rattle.board_turns.specs.Boards.{Keeps, Rounds, NoneWaits, GoingBetween, IsF
 use Rattle.board_turns.specs.Turning.{IsNextMove, AreWorked, IsQuiet, IsReady, MayRun, MayAwait, HasStopped, NeedsNoWait, GoesOn, PassesNothing, HasFilled, HasTried, BoardWorked, WorksOn}
 pub use Rattle.board_turns.proofs.Freeing.{free_of, takes_none, no_word_left, free_passed, free_tried, flags_tried, flags_passed, taken_by, obeyed_by}
 use Rattle.board_rules.proofs.Facts.{not_whole, uncounted, uncounted_line, uncounted_owing}
-use Rattle.board_turns.proofs.Steps.{other_beat, other_flags, ends, halts_by, none_halts}
+use Rattle.board_turns.proofs.Steps.{other_beat, ends, halts_by, none_halts}
 
 -- ---- what follows
 

@@ -2,14 +2,13 @@
 use Rattle.std.proofs.Common.{◌≡◌, Bool, true, false, ◌||◌, List, [], ◌∷◌, ◌++◌, refl, sym, ap, ◌∙◌}
 use Rattle.run_rules.specs.Work.{Task}
 use Rattle.run_rules.specs.Work.Task.{ask, tell, pause, normal, finish, halt}
-use Rattle.step_line.specs.Asking.Asked.{a_rest}
 use Rattle.status_report.specs.declared.Reply.{Reply}
 use Rattle.status_report.specs.declared.Reply.TheVariants.{Bye}
 use Rattle.line_interpreter.specs.Lefts.{IsTodo}
 use Rattle.line_interpreter.specs.declared.tasks.Todo.{Todo}
 use Rattle.line_interpreter.specs.declared.tasks.Todo.TheVariants as todos
 use Rattle.board_rules.specs.Openings.{Opening}
-use Rattle.board_rules.specs.Steps.{Journal, closed_tells, has_limited, motion_of, left_of}
+use Rattle.board_rules.specs.Steps.{Journal, closed_tells, has_limited, motion_of}
 use Rattle.board_rules.specs.Steps.Step.{closing}
 use Rattle.board_rules.specs.Turns.{awaits_motion, is_limited, owes_report, tells_next}
 use Rattle.board_rules.proofs.Stages.{unalarmed, limit_alarms}

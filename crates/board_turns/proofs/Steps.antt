@@ -1,11 +1,9 @@
 -- One lemma a step: a board keeps on what its fields say of what it has done.
 use Rattle.std.proofs.Common.{◌≡◌, ℕ, ◌⊎◌, inl, inr, List, [], ◌∷◌, ◌++◌, drop, Bool, true, false, not, ◌&&◌, ◌||◌, Some, None, sym, refl, ap, ◌∙◌, subst, arith, append-nil}
-use Rattle.code_table.specs.declared.flags.Exec.{Exec}
-use Rattle.code_table.specs.declared.flags.Ovr.{Ovr}
 use Rattle.feed_hold.specs.declared.Motion.{Motion}
 use Rattle.feed_hold.specs.declared.Motion.TheVariants as motions
-use Rattle.feed_hold.specs.Motions.{after, after_word, is_limited, is_stopping}
-use Rattle.feed_hold.specs.Motions.Call.{on_exec, on_start, on_pause, on_drained}
+use Rattle.feed_hold.specs.Motions.{after, is_limited, is_stopping}
+use Rattle.feed_hold.specs.Motions.Call.{on_start, on_pause, on_drained}
 use Rattle.board_rules.specs.Openings.{Opening}
 use Rattle.run_rules.specs.Work.{Task}
 use Rattle.run_rules.specs.Work.Task.{ask, tell, pause, normal, finish}
@@ -22,23 +20,22 @@ use Rattle.step_line.specs.declared.planned_move.PlannedMove.{PlannedMove}
 use Rattle.step_line.specs.Records.{IsMark}
 use Rattle.step_line.specs.Asking.{IsPlannedMove}
 use Rattle.step_line.specs.Asking.Asked.{a_move, a_mark, a_rest}
-use Rattle.overrides.specs.Percents.{IsOverrides, taken}
 use Rattle.plan_rules.specs.Plans.{Planned}
 use Rattle.plan_rules.specs.Segments.{advanced}
 use Rattle.plan_rules.specs.Taking.{IsNext}
 use Rattle.plan_rules.specs.declared.Mode.{Mode}
 use Rattle.plan_rules.specs.declared.Mode.TheVariants.{Go, Hold}
-use Rattle.planner_runs.specs.declared.Action.TheVariants.{Add, Take, Override, Mark, Rest}
+use Rattle.planner_runs.specs.declared.Action.TheVariants.{Add, Take, Mark, Rest}
 use Rattle.planner_runs.specs.Runs.{IsAtRest, with_move, normal_overrides}
 use Rattle.planner_runs.proofs.Runs.{fresh_starts}
 use Rattle.line_interpreter.specs.Interpreting.{Interpreting}
-use Rattle.board_rules.specs.Ports.{MayBeDone, LacksPieceRoom, has_changes, has_reset_in}
-use Rattle.board_rules.specs.Ports.PortStep.{found_empty, found_closed, answered, reported, no_reply_room, took_exec, took_ovr, published, no_piece_room, loaded}
+use Rattle.board_rules.specs.Ports.{MayBeDone, LacksPieceRoom}
+use Rattle.board_rules.specs.Ports.PortStep.{found_empty, found_closed, answered, reported, no_reply_room, published, no_piece_room, loaded}
 use Rattle.board_rules.specs.Steps.{Journal, has_limited, port_log, published_of, before_of, left_of, closed_tells, given_of, hand_of, plan_of, motion_of}
 use Rattle.board_rules.specs.Steps.Step.{at_port, did, made_end, evened, paused, became}
 use Rattle.board_rules.specs.Cuts.{has_cut}
-use Rattle.board_rules.specs.Turns.{owes_report, tells_next, is_full, is_due, is_going, has_blocks, stands_still, is_alarm, is_locked, awaits_unlock}
-use Rattle.board_rules.specs.Conduct.{Conducted, MayDo, IsNextTask, IsDrained, IsTimely, MayPoll, MayStart, MayTakeRequests, MayObey, IsReportAt}
+use Rattle.board_rules.specs.Turns.{owes_report, tells_next, is_full, is_due, is_going, stands_still, is_alarm, is_locked, awaits_unlock}
+use Rattle.board_rules.specs.Conduct.{Conducted, MayDo, IsNextTask, IsDrained, IsTimely, MayPoll, MayStart, IsReportAt}
 pub use Rattle.board_machine.proofs.Machining.{has_room}
 use Rattle.board_turns.specs.declared.board.Board.{Board}
 use Rattle.board_machine.specs.declared.machine.Machine.{Machine}
@@ -46,7 +43,7 @@ use Rattle.board_machine.specs.Machines.{Runs, StandsOrGoes, mode_in, start_moti
 use Rattle.board_turns.specs.Boards.{Keeps, Works}
 use Rattle.board_turns.specs.Turning.{HasPiece, starting}
 use Rattle.board_rules.proofs.Stages.{limit_alarms}
-use Rattle.board_rules.proofs.Uncut.{uncut_else, uncut_idle, cut_obeyed}
+use Rattle.board_rules.proofs.Uncut.{uncut_else, uncut_idle}
 use Rattle.board_turns.proofs.Starting.{uncut_started}
 pub use Rattle.board_turns.proofs.Turns.{closes, ends, other_beat, other_flags, other_flight, room_found}
 pub use Rattle.board_turns.proofs.Known.{is_next, hand_empty, none_by_test, in_hand, some_in_hand, hand_left, one_in_hand, hand_of_one, due_moves, due_now, at_rest, few_ticks, in_range, same_overrides, may_publish, may_publish_now, may_answer, few_tried, begins_unlimited, begins_by, halts_by, none_halts, calm_now}

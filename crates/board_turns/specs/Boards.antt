@@ -3,10 +3,7 @@ use Rattle.std.specs.Prelude.{◌≡◌, ◌⊎◌, ℕ, ◌+◌, ◌*◌, ◌�
 use Rattle.std.specs.List.{list_any}
 use Rattle.outside.specs.declared.Turn.{Turn}
 use Rattle.outside.specs.declared.Turn.TheVariants.{Did}
-use Rattle.run_rules.specs.declared.State.{State}
-use Rattle.run_rules.specs.States.{IsOpening}
-use Rattle.run_rules.specs.Work.{Task, pauses, closing_work}
-use Rattle.run_rules.specs.Work.Task.{tell}
+use Rattle.run_rules.specs.Work.{Task, pauses}
 use Rattle.run_rules.specs.Outcomes.{Before, begins_with_dollar}
 use Rattle.status_report.specs.declared.Reply.TheVariants.{Bye}
 use Rattle.line_interpreter.specs.Keeping.{IsKept}
@@ -15,7 +12,7 @@ use Rattle.flight.specs.Flights.{Flying, Flies}
 use Rattle.code_table.specs.declared.flags.Exec.{Exec}
 use Rattle.std.specs.Option.{option_to_list}
 use Rattle.std.specs.declared.option.Option.{Option}
-use Rattle.board_rules.specs.Openings.{Opening, IsPlaced, first_opening}
+use Rattle.board_rules.specs.Openings.{Opening, IsPlaced}
 use Rattle.board_rules.specs.Ports.{has_reset_in}
 use Rattle.board_rules.specs.Steps.{Step, Journal, port_log, taken_of, has_limited, published_of, known_of, open_of, whole_of, before_of, left_of, closed_tells, given_of, hand_of, plan_of, motion_of}
 use Rattle.board_rules.specs.Steps.Step.{turned}

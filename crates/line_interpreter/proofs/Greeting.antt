@@ -1,5 +1,5 @@
 -- What is next of the replies that greet behind a reset.
-use Rattle.std.proofs.Common.{◌≡◌, ℕ, zero, suc, Bool, true, false, cond, List, [], ◌∷◌, ◌++◌, drop, refl, ap}
+use Rattle.std.proofs.Common.{◌≡◌, ℕ, zero, suc, Bool, true, false, cond, List, [], ◌∷◌, drop, refl, ap}
 use Rattle.run_rules.specs.Work.{Task, telling}
 use Rattle.run_rules.specs.Work.Task.{tell}
 use Rattle.status_report.specs.declared.Message.TheVariants.{Locked}

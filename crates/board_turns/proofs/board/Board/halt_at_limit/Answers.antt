@@ -1,6 +1,5 @@
 use Rattle.std.proofs.Common.{◌∷◌, ap, sym, ◌∙◌, refl, subst}
 use Rattle.board_rules.specs.Ports.PortStep.{loaded}
-use Rattle.board_rules.specs.Steps.{port_log}
 use Rattle.board_rules.specs.Steps.Step.{at_port}
 use Rattle.run_rules.specs.Work.Task.{halt}
 use Rattle.board_turns.specs.declared.board.Board.{Board}

@@ -1,5 +1,4 @@
-use Rattle.std.proofs.Common.{◌+◌, ◌-◌, length, sym, arith}
-use Rattle.board_rules.specs.Steps.{outcomes_of}
+use Rattle.std.proofs.Common.{arith}
 use Rattle.board_rules.proofs.Facts.{number_is}
 use Rattle.board_turns.proofs.board.Board.last_line.Goals as goal
 

@@ -1,6 +1,5 @@
 use Rattle.std.proofs.Common.{◌∷◌, inl, inr, refl}
 use Rattle.board_rules.specs.Ports.PortStep.{loaded}
-use Rattle.board_rules.specs.Steps.{port_log}
 use Rattle.board_rules.specs.Steps.Step.{at_port}
 use Rattle.board_turns.proofs.Known.{in_hand}
 use Rattle.board_turns.proofs.Flying.{room_learned}

@@ -1,5 +1,5 @@
 use Rattle.std.proofs.Common.{◌∷◌, refl, ap, ◌∙◌, subst}
-use Rattle.board_rules.specs.Steps.{port_log, published_of, plan_of, motion_of, given_of}
+use Rattle.board_rules.specs.Steps.{published_of, plan_of, motion_of, given_of}
 use Rattle.board_rules.specs.Ports.PortStep.{published, no_piece_room}
 use Rattle.board_rules.specs.Steps.Step.{at_port}
 use Rattle.board_machine.specs.Machines.{Runs}

@@ -1,6 +1,5 @@
 use Rattle.std.proofs.Common.{◌∷◌, sym, ◌∙◌, subst}
 use Rattle.board_rules.specs.Ports.PortStep.{loaded}
-use Rattle.board_rules.specs.Steps.{port_log}
 use Rattle.board_rules.specs.Steps.Step.{at_port}
 use Rattle.board_turns.proofs.Settling.{slowed_now, slowed_is, found_stopped, looked_learned, came_of, port_came, settled_later, settled_none}
 use Rattle.board_turns.proofs.board.Board.settle.Goals as goal

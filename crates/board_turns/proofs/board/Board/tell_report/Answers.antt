@@ -1,5 +1,4 @@
 use Rattle.std.proofs.Common.{sym, subst}
-use Rattle.board_rules.specs.Steps.{port_log}
 use Rattle.board_turns.proofs.Owed.{flies_asked, room_known, may_tell, Reports, reports}
 use Rattle.board_turns.proofs.board.Board.tell_report.Goals as goal
 
