@@ -23,17 +23,19 @@ ghost use Rattle.step_line.specs.Asking.{IsPlannedMove};
 ghost use Rattle.step_line.specs.Asking.Asked.{a_move};
 ghost use Rattle.step_line.specs.declared.planned_move.PlannedMove.{PlannedMove as AnyMove};
 ghost use Rattle.line_interpreter.specs.Desks.{IsReady, standing, Begun};
+ghost use Rattle.line_interpreter.specs.Resets.{parser_anew};
 
 use crate::kept::KeptLine;
 use crate::tasks::{Body, Line, Todo};
 use gcode_check::{Item, Refusal, take_line};
 use gcode_words::{WordFault, Words, read_words};
 use jog::{JogMove, check_jog};
+use modal_state::Parser;
 use run_rules::{Machine, State};
 use status_report::Reply;
 use step_line::PlannedMove;
 use system_lines::{Command, Kind, apply_setting, jog_words, read_command};
-use units::{Decimal, Steps3};
+use units::{Decimal, Nm3, Steps3};
 
 /// The state that the lines begun so far leave, the number of the next line, the line in execution, and a list into
 /// which the words of each line are read.
@@ -412,6 +414,27 @@ impl Desk {
         self.state
             .parser
             .rebase(at, &self.state.settings.limits.per_mm);
+    }
+
+    /// A reset leaves the offsets but that of G92, and the settings; all else of the parser begins anew, at the place. The banner
+    /// is to be told.
+    pub(crate) fn reset(&mut self, at: Steps3, number: u32)
+        requires place { IsPlace at }
+        requires number { 1 ≤ number }
+        requires ready { IsReady self.old }
+        ensures state { self.new.state ≡ record { parser = parser_anew at self.old.state.parser self.old.state.settings.limits.per_mm; settings = self.old.state.settings } }
+        ensures number { self.new.number ≡ number }
+        ensures left { work_left self.new.line self.new.state ≡ telling (Reply.Banner ∷ []) }
+        ensures ready { IsReady self.new }
+        ensures settled { IsSettled self.new.line self.new.state }
+    {
+        let mut parser = Parser::opening();
+        parser.offsets = self.state.parser.offsets;
+        parser.offsets.g92 = Nm3 { x: 0, y: 0, z: 0 };
+        parser.rebase(at, &self.state.settings.limits.per_mm);
+        self.state.parser = parser;
+        self.number = number;
+        self.line = Line::opening();
     }
 
     /// What there was to do next is done.

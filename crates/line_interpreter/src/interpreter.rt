@@ -1,6 +1,6 @@
 //! The interpreter.
 
-ghost use Rattle.std.specs.Prelude.{◌≡◌, ◌≢◌, ◌↔◌, ◌+◌, ◌<◌, ◌^◌, ℕ, Bool, List, [], ◌∷◌, drop, not, ◌||◌, true, false};
+ghost use Rattle.std.specs.Prelude.{◌≡◌, ◌≢◌, ◌↔◌, ◌+◌, ◌<◌, ◌≤◌, ◌^◌, ℕ, Bool, List, [], ◌∷◌, drop, not, ◌||◌, true, false};
 ghost use Rattle.status_report.specs.declared.Reply.TheVariants as replies;
 ghost use Rattle.run_rules.specs.States.{IsState, IsOpening};
 ghost use Rattle.run_rules.specs.Work.{Outcome, telling, closing_work};
@@ -21,6 +21,7 @@ ghost use Rattle.step_line.specs.Asking.Asked.{a_move};
 ghost use Rattle.step_line.specs.declared.planned_move.PlannedMove.{PlannedMove as AnyMove};
 ghost use Rattle.line_interpreter.specs.Interpreting.{stands_before};
 ghost use Rattle.line_interpreter.specs.Desks.{kind_told};
+ghost use Rattle.line_interpreter.specs.Resets.{parser_anew};
 
 use crate::desk::{Accepted, Desk};
 use crate::kept::KeptLine;
@@ -176,6 +177,20 @@ impl Interpreter {
         ensures { self.new ≡ record self.old { state = record self.old.state { parser = rebased self.old.state.parser at self.old.state.settings.limits.per_mm } } }
     {
         self.desk.rebase(at);
+    }
+
+    /// A reset comes: the parser begins anew at this place, in steps from the machine's zero, with its offsets but that of G92; the
+    /// settings stay. The next line has this number, and the banner is to be told. What was left to do is not done.
+    pub fn reset(&mut self, at: Steps3, number: u32)
+        requires place { IsPlace at }
+        requires number { 1 ≤ number }
+        ensures { self.new ≡ record {
+          state = record { parser = parser_anew at self.old.state.parser self.old.state.settings.limits.per_mm; settings = self.old.state.settings };
+          number = number;
+          left = telling (replies.Banner ∷ []);
+        } }
+    {
+        self.desk.reset(at, number);
     }
 
     /// What there was to do next is done.

@@ -1,0 +1,9 @@
+-- What a reset leaves of a parser.
+use Rattle.units.specs.declared.Per3.{Per3}
+use Rattle.units.specs.declared.Steps3.{Steps3}
+use Rattle.modal_state.specs.Modes.{opening_parser, rebased, origin_nm}
+use Rattle.modal_state.specs.declared.Parser.{Parser}
+
+-- the opening modes, feed, speed and tool, and a zero G92 offset; the other offsets stay, and the position is a place
+abbrev pub parser_anew : Steps3 → Parser → Per3 → Parser
+parser_anew at p per_mm = rebased (record opening_parser { offsets = record p.offsets { g92 = origin_nm } }) at per_mm
