@@ -17,7 +17,8 @@ use Rattle.status_report.specs.declared.reports.Report.{Report}
 use Rattle.run_rules.specs.Told.{replies_text}
 use Rattle.audit_rules.specs.Consoles.{IsOnConsole, GoesOnWith}
 use Rattle.audit_readers.specs.Windows.{Window, ahead, look_ahead}
-use Rattle.audit_readers.specs.Console.{ConsoleRead, LooksAhead, Skips, too_long}
+use Rattle.audit_readers.specs.Console.{ConsoleRead, LooksAhead, Skips}
+use Rattle.audit_readers.specs.Windows.{too_long}
 use Rattle.audit_readers.specs.Reports.{report_at}
 use Rattle.audit_readers.proofs.Reporting.{report_again, report_short}
 use Rattle.audit_readers.proofs.Stepping.{Seen, seen_by, front_waits}

@@ -5,3 +5,4 @@ pub mod Stepping
 pub mod Reporting
 pub mod Skipping
 pub mod Going
+pub mod Taking

@@ -14,25 +14,26 @@ use Rattle.run_rules.specs.Told.{replies_text}
 use Rattle.audit_rules.specs.Consoles.{IsOnConsole}
 use Rattle.audit_rules.proofs.Replies.{all_joined}
 use Rattle.audit_readers.specs.Windows.{ahead, KnowsEnd, FillsUp, FailsToFill, Stays}
-use Rattle.audit_readers.specs.Console.{ConsoleRead, LooksAhead, TakesReport, SkipsSome, Skips, FailsToSkip, too_long}
+use Rattle.audit_readers.specs.Console.{ConsoleRead, LooksAhead, TakesReport, SkipsSome, Skips, FailsToSkip}
+use Rattle.audit_readers.specs.Windows.{too_long}
 
 pub rest_is : (name text rest : List ℕ) → text ≡ name ++ rest → text ≡ name ++ drop (length name) text
 rest_is name text rest e = e ∙ ap (λ (t : List ℕ). name ++ t) (sym (ap (drop (length name)) e ∙ drop_at name rest (length name) refl))
 
 -- ---- known bytes
 
-none_consumed : (o p : Option (List ℕ)) → Keeps o p → Consumes o p []
+pub none_consumed : (o p : Option (List ℕ)) → Keeps o p → Consumes o p []
 none_consumed None p k = tt
 none_consumed (Some xs) None k = absurd k
 none_consumed (Some xs) (Some ys) k = sym k
 
-consumed_on : (o p q : Option (List ℕ)) (xs ys : List ℕ) → Consumes o p xs → Consumes p q ys → Consumes o q (xs ++ ys)
+pub consumed_on : (o p q : Option (List ℕ)) (xs ys : List ℕ) → Consumes o p xs → Consumes p q ys → Consumes o q (xs ++ ys)
 consumed_on None p q xs ys a b = tt
 consumed_on (Some us) None q xs ys a b = absurd a
 consumed_on (Some us) (Some vs) None xs ys a b = absurd b
 consumed_on (Some us) (Some vs) (Some ws) xs ys a b = a ∙ ap (λ (t : List ℕ). xs ++ t) b ∙ sym (append_assoc xs ys ws)
 
-taken_ahead : (name waiting rest : List ℕ) (left : Option (List ℕ)) → waiting ≡ name ++ rest → Consumes (prepend_known waiting left) (prepend_known rest left) name
+pub taken_ahead : (name waiting rest : List ℕ) (left : Option (List ℕ)) → waiting ≡ name ++ rest → Consumes (prepend_known waiting left) (prepend_known rest left) name
 taken_ahead name waiting rest None e = tt
 taken_ahead name waiting rest (Some ys) e = ap (λ (t : List ℕ). t ++ ys) e ∙ append_assoc name rest ys
 
@@ -88,7 +89,7 @@ report_more a b c d s t u h one stays place =
 pub one_skipped : (a b c d : ConsoleRead) (s t u : SourceState) → HasSkipped a b s t → TakesReport b c → FillsUp c.window d.window t u → d.place ≡ c.place → HasSkipped a d s u
 one_skipped a b c d s t u h one f place = record { some = report_more a b c d s t u h.some one f.stays place; looks = f.enough; same = f.same ∙ h.same }
 
-rose_from : (a b c : ℕ) → b ≡ a → Rose b c → Rose a c
+pub rose_from : (a b c : ℕ) → b ≡ a → Rose b c → Rose a c
 rose_from a b c e r = subst (λ (k : ℕ). Rose k c) e r
 
 pub skipping_failed : (a b c d : ConsoleRead) (s t u : SourceState) → HasSkipped a b s t → TakesReport b c → FailsToFill c.window d.window t u → d.place ≡ c.place → FailsToSkip a d s u

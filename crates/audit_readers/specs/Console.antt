@@ -1,5 +1,5 @@
 -- A console, read reply by reply.
-use Rattle.std.specs.Prelude.{◌≡◌, ◌<◌, ◌≤◌, ◌^◌, ◌⊎◌, ℕ, ◌+◌, true, List, ◌++◌, length}
+use Rattle.std.specs.Prelude.{◌≡◌, ◌<◌, ◌≤◌, ◌⊎◌, ℕ, ◌+◌, true, List, ◌++◌, length}
 use Rattle.std.specs.List.{AllByRecursion}
 use Rattle.std.specs.Io.KnownBytes.{Consumes}
 use Rattle.outside.specs.Causes.{Rose, SourceState}
@@ -11,16 +11,12 @@ use Rattle.status_report.specs.declared.Reply.TheVariants.{Report as Reporting}
 use Rattle.status_report.specs.declared.reports.Report.{Report}
 use Rattle.run_rules.specs.Told.{replies_text}
 use Rattle.audit_rules.specs.Consoles.{IsOnConsole}
-use Rattle.audit_readers.specs.Windows.{Window, ahead, look_ahead, KnowsEnd}
+use Rattle.audit_readers.specs.Windows.{Window, ahead, look_ahead, too_long, KnowsEnd}
 
 -- the window on it, and the place behind what was taken
 pub record ConsoleRead : Type 0 where
   pub window : Window
   pub place : ℕ
-
--- so many bytes are too many
-abbrev pub too_long : ℕ
-too_long = 2 ^ 63
 
 -- so much waits that what begins it begins the text, and the other way round
 abbrev pub LooksAhead : Window → Type 0

@@ -1,5 +1,5 @@
 -- A window on a source.
-use Rattle.std.specs.Prelude.{◌≡◌, ◌<◌, ◌≤◌, ◌⊎◌, ℕ, Bool, true, false, List, ◌++◌, length}
+use Rattle.std.specs.Prelude.{◌≡◌, ◌<◌, ◌≤◌, ◌+◌, ◌^◌, ◌⊎◌, ℕ, Bool, true, false, List, [], ◌++◌, length}
 use Rattle.std.specs.declared.option.Option.{Option}
 use Rattle.std.specs.Io.KnownBytes.{Consumes, IsAtEnd, Keeps, prepend_known}
 use Rattle.outside.specs.Causes.{Rose, SourceState}
@@ -52,4 +52,30 @@ pub record FillsUp (old now : Window) (before after : SourceState) : Type 0 wher
 -- some bytes were read, perhaps, and then a read failed
 pub record FailsToFill (old now : Window) (before after : SourceState) : Type 0 where
   pub stays : Stays old now before after
+  pub rose : Rose before.faults after.faults
+
+-- ---- a text to its end
+
+-- so many bytes are too many
+abbrev pub too_long : ℕ
+too_long = 2 ^ 63
+
+-- Bytes were taken, so many in all by now.
+pub record TakesSome (old now : Window) (before after : SourceState) (place place_now : ℕ) : Type 0 where
+  pub bytes : List ℕ
+  pub text : Consumes (ahead old before) (ahead now after) bytes
+  pub count : place_now ≡ place + length bytes
+  pub known : KnowsEnd now after
+
+-- all bytes were taken that follow, or as many as are too many
+pub record TakesRest (old now : Window) (before after : SourceState) (place place_now : ℕ) : Type 0 where
+  pub some : TakesSome old now before after place place_now
+  pub over : (too_long ≤ place_now) ⊎ ((now.waiting ≡ []) × (now.ended ≡ true))
+  pub same : after.faults ≡ before.faults
+
+-- a read failed, behind some bytes
+pub record FailsToTake (old now : Window) (before after : SourceState) : Type 0 where
+  pub bytes : List ℕ
+  pub text : Consumes (ahead old before) (ahead now after) bytes
+  pub known : KnowsEnd now after
   pub rose : Rose before.faults after.faults

@@ -56,11 +56,11 @@ impl Model for ConsoleReader {
 impl ConsoleReader {
     ghost use Rattle.std.specs.Prelude.{◌≡◌, ◌<◌, ◌≤◌, ◌^◌, ◌+◌, ◌++◌, ℕ, List, [], length, drop, false, MatchResult, OnOk, OnErr, IsTrue};
     ghost use Rattle.status_report.specs.Replies.{IsReply, reply_text};
-    ghost use Rattle.audit_readers.specs.Console.{Skips, FailsToSkip, TakesReport, too_long};
+    ghost use Rattle.audit_readers.specs.Console.{Skips, FailsToSkip, TakesReport};
     ghost use Rattle.status_report.specs.declared.reports.Report.{Report as AnyReport};
     ghost use Rattle.status_report.specs.declared.Reply.TheVariants as replies;
     ghost use Rattle.status_report.specs.Reports.{IsReport, HasWidths};
-    ghost use Rattle.audit_readers.specs.Windows.{KnowsEnd, FillsUp, FailsToFill};
+    ghost use Rattle.audit_readers.specs.Windows.{KnowsEnd, FillsUp, FailsToFill, TakesRest, FailsToTake, too_long};
 
     /// Nothing is read.
     pub fn new() -> ConsoleReader
@@ -149,6 +149,16 @@ impl ConsoleReader {
             }
             self.look(source)?;
         }
+        Ok(())
+    }
+
+    /// Takes all bytes that follow, or as many as are too many.
+    pub fn take_rest<S: Source>(&mut self, source: &mut S) -> Result<(), Failed>
+        requires known { KnowsEnd self.old.window (S.state source.old) }
+        requires short { self.old.place < too_long }
+        ensures { MatchResult result (λ e. TakesRest self.old.window self.new.window (S.state source.old) (S.state source.new) self.old.place self.new.place) (λ e. FailsToTake self.old.window self.new.window (S.state source.old) (S.state source.new)) }
+    {
+        self.place = self.window.take_rest(source, self.place)?;
         Ok(())
     }
 }

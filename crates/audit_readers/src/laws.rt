@@ -7,7 +7,8 @@ ghost use Rattle.status_report.specs.Replies.{reply_text};
 ghost use Rattle.status_report.specs.declared.Reply.{Reply as AnyReply};
 ghost use Rattle.audit_rules.specs.Consoles.{GoesOnWith};
 ghost use Rattle.audit_readers.specs.Windows.{ahead};
-ghost use Rattle.audit_readers.specs.Console.{ConsoleRead, Skips, too_long};
+ghost use Rattle.audit_readers.specs.Console.{ConsoleRead, Skips};
+ghost use Rattle.audit_readers.specs.Windows.{too_long};
 
 /// Behind its reports a console goes on with a reply exactly if the text of that begins what waits, and so exactly if the
 /// reply can be taken.

@@ -123,7 +123,7 @@ impl StepReader {
     ghost use Rattle.std.specs.Prelude.{◌≡◌, ◌<◌, ◌^◌, ◌↔◌, [], MatchResult, MatchOption, Some, OnOk, OnErr, IfOk, IsTrue, ℕ, List};
     ghost use Rattle.outside.specs.Causes.{Rose};
     ghost use Rattle.audit_readers.specs.Steps.{Opens, Reads, FailsToRead, IsWhereItWas};
-    ghost use Rattle.audit_readers.specs.Windows.{KnowsEnd, ahead};
+    ghost use Rattle.audit_readers.specs.Windows.{KnowsEnd, TakesRest, FailsToTake, too_long, ahead};
 
     /// Reads the form of a text.
     pub fn open<S: Source>(source: &mut S) -> Result<StepReader, Failed>
@@ -174,5 +174,15 @@ impl StepReader {
     {
         self.window.fill_up(source)?;
         Ok(self.window.waiting().is_empty())
+    }
+
+    /// Takes all bytes that follow, or as many as are too many. No line is read any more.
+    pub fn take_rest<S: Source>(&mut self, source: &mut S) -> Result<(), Failed>
+        requires known { KnowsEnd self.old.window (S.state source.old) }
+        requires short { self.old.place < too_long }
+        ensures { MatchResult result (λ e. TakesRest self.old.window self.new.window (S.state source.old) (S.state source.new) self.old.place self.new.place) (λ e. FailsToTake self.old.window self.new.window (S.state source.old) (S.state source.new)) }
+    {
+        self.place = self.window.take_rest(source, self.place)?;
+        Ok(())
     }
 }

@@ -1,7 +1,7 @@
 //! A window on a source: what was read of it and is not taken yet.
 
 ghost use Rattle.std.specs.Prelude.{◌≡◌, ◌≤◌, length, drop, []};
-ghost use Rattle.audit_readers.specs.Windows.{Fills, FillsNot, FillsUp, FailsToFill, KnowsEnd};
+ghost use Rattle.audit_readers.specs.Windows.{Fills, FillsNot, FillsUp, FailsToFill, TakesRest, FailsToTake, too_long, KnowsEnd};
 
 use arrayvec::ArrayVec;
 use outside::{Failed, Source};
@@ -28,8 +28,8 @@ impl Model for Window {
 }
 
 impl Window {
-    ghost use Rattle.std.specs.Prelude.{◌≡◌, ◌≤◌, length, drop, [], OnOk, OnErr, false};
-    ghost use Rattle.audit_readers.specs.Windows.{Fills, FillsNot, FillsUp, FailsToFill, KnowsEnd};
+    ghost use Rattle.std.specs.Prelude.{◌≡◌, ◌<◌, ◌≤◌, length, drop, [], OnOk, OnErr, MatchResult, false};
+    ghost use Rattle.audit_readers.specs.Windows.{Fills, FillsNot, FillsUp, FailsToFill, TakesRest, FailsToTake, too_long, KnowsEnd};
 
     /// Nothing is read.
     pub fn new() -> Window
@@ -93,5 +93,24 @@ impl Window {
             self.fill(source)?;
         }
         Ok(())
+    }
+
+    /// Takes all bytes that follow, or as many as are too many, and answers how many were taken in all, so many before.
+    pub fn take_rest<S: Source>(&mut self, source: &mut S, before: u64) -> Result<u64, Failed>
+        requires known { KnowsEnd self.old (S.state source.old) }
+        requires short { before < too_long }
+        ensures { MatchResult result (λ now. TakesRest self.old self.new (S.state source.old) (S.state source.new) before now) (λ e. FailsToTake self.old self.new (S.state source.old) (S.state source.new)) }
+    {
+        let mut place = before;
+        while place < 9_223_372_036_854_775_808 {
+            self.fill_up(source)?;
+            let count = self.waiting().len();
+            if count == 0 {
+                return Ok(place);
+            }
+            self.take(count);
+            place += count as u64;
+        }
+        Ok(place)
     }
 }

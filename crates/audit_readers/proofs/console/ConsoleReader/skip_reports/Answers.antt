@@ -1,5 +1,5 @@
 use Rattle.std.proofs.Common.{◌<◌, rules}
-use Rattle.audit_readers.specs.Console.{too_long}
+use Rattle.audit_readers.specs.Windows.{too_long}
 use Rattle.std.proofs.lemmas.Result.{err_from_is_err_and}
 use Rattle.audit_readers.proofs.Skipping.{one_skipped, skipping_failed, less_left}
 use Rattle.audit_readers.proofs.console.ConsoleReader.skip_reports.Goals as goal

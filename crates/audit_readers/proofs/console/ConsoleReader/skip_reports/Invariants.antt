@@ -1,5 +1,5 @@
 use Rattle.std.proofs.Common.{◌-◌}
-use Rattle.audit_readers.specs.Console.{too_long}
+use Rattle.audit_readers.specs.Windows.{too_long}
 use Rattle.audit_readers.proofs.Skipping.{HasSkipped}
 use Rattle.audit_readers.proofs.console.ConsoleReader.skip_reports.Given as goal
 
