@@ -10,3 +10,4 @@ pub mod Worked
 pub mod Written
 pub mod Refuted
 pub mod BadAnswer
+pub mod BadReplies

@@ -12,7 +12,7 @@ ghost use Rattle.step_line.specs.Records.{IsRecord};
 ghost use Rattle.step_record.specs.Forms.{text_in};
 ghost use Rattle.step_record.specs.declared.forms.Form.{Form};
 ghost use Rattle.step_record.specs.declared.forms.Line.{Line};
-ghost use Rattle.audit_rules.specs.Telling.{ConsoleStands, HasBadReply};
+ghost use Rattle.audit_rules.specs.Telling.{ConsoleStands, StandsNoFurther, HasNoBanner, HasBadReply};
 
 /// A text of steps is the lines of one list at most.
 pub fn step_texts_have_one_list()
@@ -42,6 +42,13 @@ pub fn texts_that_fit_stand()
     ensures console { (job console steps : List ℕ) (events : ℕ) → FitsWith job console steps events → ConsoleStands (sent_in job) console steps }
     ensures replies { (job console steps : List ℕ) (events line : ℕ) → FitsWith job console steps events → HasBadReply (sent_in job) console steps line → ⊥ }
     ensures records { (job console steps : List ℕ) (events at : ℕ) → FitsWith job console steps events → BreaksAt job console steps at → ⊥ }
+{}
+
+/// A bad reply stands at one place of a console: without the banner it is that to line 1, and else what is left of the console,
+/// where it stands no further, is one text.
+pub fn bad_replies_stand_at_one_place()
+    ensures no_banner { (sent : List Sent) (console steps : List ℕ) (line : ℕ) → HasNoBanner console → HasBadReply sent console steps line → line ≡ 1 }
+    ensures rest { (sent : List Sent) (console steps : List ℕ) (line other : ℕ) (x : StandsNoFurther sent console steps line) (y : StandsNoFurther sent console steps other) → x.rest ≡ y.rest }
 {}
 
 /// Two things that are found of the same texts have one status; and texts that fit have one number of events, steps break a
