@@ -31,16 +31,17 @@ use Rattle.board_rules.specs.Steps.Step.{at_port, began, cut}
 use Rattle.board_rules.proofs.Closing.{spent}
 use Rattle.board_rules.proofs.Jogging.{cancel_is_jog}
 use Rattle.board_rules.proofs.Numbers.{pieces_are}
-use Rattle.board_epochs.specs.Epochs.{Closed, AreClosed, AreEpochs, IsEpoch, opening_behind, reset_of, ticks_made}
-use Rattle.board_epochs.specs.Epochs.Epochs.{goes}
+use Rattle.board_epochs.specs.Epochs.{Closed, AreClosed, AreEpochs, IsEpoch, IsResetting, closed_log, log_behind, opening_behind, reset_of, ticks_made}
+use Rattle.board_epochs.specs.Epochs.Epochs.{goes, resets}
+use Rattle.board_epochs.specs.Work.{Work, stage_of}
 use Rattle.board_epochs.specs.Resets.{MayReset}
 use Rattle.board_epochs.proofs.Prompting.{calm}
-use Rattle.epoch_courses.specs.Course.{IsMadeAtHalt, is_unanswered, passed_by, passed_so_far, passed_at_reset, made_at_halt, closed_course, course_of}
+use Rattle.epoch_courses.specs.Course.{IsMadeAtHalt, is_marked, with_reset, is_unanswered, passed_by, passed_so_far, passed_at_reset, made_at_halt, closed_course, course_of}
 use Rattle.epoch_courses.specs.Drives.{IsOver, is_pending, driven_since}
 use Rattle.epoch_courses.specs.Drives.{IsRunOut as AllIsRun}
 use Rattle.epoch_courses.proofs.Broken.{IsUncut, was_unanswered}
 use Rattle.epoch_courses.proofs.Drives.{Pends, part, part_place, parts_reset, parts_end, parts_broken, over_there, others_made, pends_there, uncut_made, runs_since}
-use Rattle.epoch_courses.proofs.Halted.{made_there}
+use Rattle.epoch_courses.proofs.Halted.{made_there, marked_there}
 use Rattle.epoch_courses.proofs.Made.{AllMade, all_given_made}
 use Rattle.epoch_courses.proofs.Uncut.{uncut_there}
 use Rattle.epoch_records.specs.Epochs.{Epoch}
@@ -164,20 +165,46 @@ module _ (R : List Part → Steps3 → List Epoch → Type 0) (cons : SaysByPart
 
   -- ---- closed epochs
 
-  pub closed_run : (state : State) (es : NewestFirst Closed) (rest : List Passed) (epochs : List Epoch) → AreClosed state es → R (parts_of rest) (opening_behind state es).place epochs
-      → R (parts_of (closed_course state es ++ rest)) origin (closed_epochs state es ++ epochs)
+  abbrev ClosedRuns : State → NewestFirst Closed → List Passed → List Epoch → Type 0
+  ClosedRuns state es rest epochs = R (parts_of (closed_course state es ++ rest)) origin (closed_epochs state es ++ epochs)
+
+  -- one more, behind those that are closed
+  one_more : (state : State) (es : NewestFirst Closed) (h : Journal) (w : Work) (rest : List Passed) (epochs : List Epoch)
+      → ClosedRuns state es (passed_at_reset (made_at_halt (ticks_made es) w) (opening_behind state es) h ++ a_reset (reset_of (ticks_made es) (opening_behind state es) h w) ∷ rest) (reset_epoch (ticks_made es) (opening_behind state es) h w ∷ epochs)
+      → ClosedRuns state (with_reset es h w) rest epochs
+  one_more state es h w rest epochs all =
+      let first = opening_behind state es in
+      let r = reset_of (ticks_made es) first h w in
+      let passed = passed_at_reset (made_at_halt (ticks_made es) w) first h in
+      subst (λ (ps : List Passed). R (parts_of ps) origin (closed_epochs state (with_reset es h w) ++ epochs))
+      (sym (append_assoc (closed_course state es) (passed ++ a_reset r ∷ []) rest ∙ ap (λ (ps : List Passed). closed_course state es ++ ps) (append_assoc passed (a_reset r ∷ []) rest)))
+      (subst (λ (xs : List Epoch). R (parts_of (closed_course state es ++ (passed ++ a_reset r ∷ rest))) origin xs)
+      (sym (append_assoc (closed_epochs state es) (reset_epoch (ticks_made es) first h w ∷ []) epochs)) all)
+
+  -- one whose reset is being worked
+  one_run : (state : State) (es : NewestFirst Closed) (h : Journal) (w : Work) (rest : List Passed) (epochs : List Epoch) → IsResetting (opening_behind state es) (closed_log es) h w → IsMadeAtHalt h (made_at_halt (ticks_made es) w)
+      → R (parts_of rest) (opening_behind state (with_reset es h w)).place epochs → EpochRuns (made_at_halt (ticks_made es) w) (opening_behind state es) h (reset_of (ticks_made es) (opening_behind state es) h w) (passed_at_reset (made_at_halt (ticks_made es) w) (opening_behind state es) h) rest epochs
+  one_run state es h w rest epochs is there run =
+      let first = opening_behind state es in epoch_runs (made_at_halt (ticks_made es) w) first h (reset_of (ticks_made es) first h w) rest epochs is.epoch is.may there refl run
+
+  pub closed_run : (state : State) (es : NewestFirst Closed) (rest : List Passed) (epochs : List Epoch) → AreClosed state es → R (parts_of rest) (opening_behind state es).place epochs → ClosedRuns state es rest epochs
   closed_run state [] rest epochs c run = run
   closed_run state (e ∷ es) rest epochs c run =
       let first = opening_behind state es in
       let made = made_at_halt (ticks_made es) e.work in
-      let r = reset_of (ticks_made es) first e.journal e.work in
-      let passed = passed_at_reset made first e.journal in
-      let here = epoch_runs made first e.journal r rest epochs c.0.resetting.epoch c.0.resetting.may (made_there state e es c) refl run in
-      let all = closed_run state es (passed ++ a_reset r ∷ rest) (reset_epoch (ticks_made es) first e.journal e.work ∷ epochs) c.1 here in
-      subst (λ (ps : List Passed). R (parts_of ps) origin (closed_epochs state (e ∷ es) ++ epochs))
-      (sym (append_assoc (closed_course state es) (passed ++ a_reset r ∷ []) rest ∙ ap (λ (ps : List Passed). closed_course state es ++ ps) (append_assoc passed (a_reset r ∷ []) rest)))
-      (subst (λ (xs : List Epoch). R (parts_of (closed_course state es ++ (passed ++ a_reset r ∷ rest))) origin xs)
-      (sym (append_assoc (closed_epochs state es) (reset_epoch (ticks_made es) first e.journal e.work ∷ []) epochs)) all)
+      let here = one_run state es e.journal e.work rest epochs c.0.resetting (made_there state e es c) run in
+      one_more state es e.journal e.work rest epochs
+      (closed_run state es (passed_at_reset made first e.journal ++ a_reset (reset_of (ticks_made es) first e.journal e.work) ∷ rest) (reset_epoch (ticks_made es) first e.journal e.work ∷ epochs) c.1 here)
+
+  -- and one whose reset's mark is published
+  pub marked_run : (state : State) (es : NewestFirst Closed) (h : Journal) (w : Work) (rest : List Passed) (epochs : List Epoch) → AreEpochs state (resets es h w) → is_marked (stage_of (log_behind (closed_log es) h) w) ≡ true
+      → R (parts_of rest) (opening_behind state (with_reset es h w)).place epochs → ClosedRuns state (with_reset es h w) rest epochs
+  marked_run state es h w rest epochs c marked run =
+      let first = opening_behind state es in
+      let made = made_at_halt (ticks_made es) w in
+      let here = one_run state es h w rest epochs c.1 (marked_there state es h w c.0 c.1 marked).made run in
+      one_more state es h w rest epochs
+      (closed_run state es (passed_at_reset made first h ++ a_reset (reset_of (ticks_made es) first h w) ∷ rest) (reset_epoch (ticks_made es) first h w ∷ epochs) c.0 here)
 
 -- ---- the last epoch
 

@@ -9,6 +9,7 @@ use Rattle.run_texts.specs.Courses.Passed.{a_line, a_broken}
 use Rattle.run_texts.specs.Parts.{Part, parts_of, lines_counted}
 use Rattle.run_texts.specs.Parts.Ending.{by_end}
 use Rattle.step_line.specs.Finishing.{ticks_together}
+use Rattle.step_line.specs.Logs.{NewestFirst}
 use Rattle.step_line.specs.declared.Mark.TheVariants as marks
 use Rattle.step_line.specs.declared.Piece.{Piece}
 use Rattle.step_line.specs.declared.Piece.TheVariants as pieces
@@ -25,20 +26,22 @@ use Rattle.board_rules.proofs.Counting.{given_sum}
 use Rattle.board_rules.proofs.Ending.{NoEnds}
 use Rattle.board_rules.proofs.Keeping.{hand_is}
 use Rattle.board_rules.proofs.Numbers.{pieces_are}
-use Rattle.board_epochs.specs.Epochs.{Epochs, AreEpochs, IsEpoch, opening_behind}
+use Rattle.board_epochs.specs.Epochs.{Closed, Epochs, AreEpochs, IsEpoch, closed_log, log_behind, opening_behind}
 use Rattle.board_epochs.specs.Epochs.Epochs.{goes, resets}
 use Rattle.board_epochs.specs.Resets.{MayReset}
-use Rattle.epoch_courses.specs.Course.{is_unanswered, open_journal, passed_by, passed_so_far, passed_at_reset, course_of}
+use Rattle.board_epochs.specs.Work.{Work, stage_of}
+use Rattle.board_epochs.proofs.Opening.{opens}
+use Rattle.epoch_courses.specs.Course.{is_marked, with_reset, is_unanswered, closed_course, open_journal, passed_by, passed_so_far, passed_at_reset, course_of}
 use Rattle.epoch_courses.specs.Drives.{driven_by_cut, driven_since, is_pending}
 use Rattle.epoch_courses.proofs.Drives.{Pends, part, part_place, parts_end, parts_broken_end, others_made, pends_there, uncut_made, runs_cut, runs_since}
 use Rattle.epoch_courses.proofs.Made.{AllMade}
 use Rattle.epoch_courses.proofs.Uncut.{uncut_there}
 use Rattle.epoch_records.specs.SoFar.{AreRunSoFar, IsUnderWay}
-use Rattle.epoch_runs.specs.Epochs.{epochs_so_far, open_epoch, without_end}
+use Rattle.epoch_runs.specs.Epochs.{closed_epochs, epochs_so_far, open_epoch, without_end}
 use Rattle.epoch_runs.proofs.Ends.{ticks_behind}
 use Rattle.epoch_runs.proofs.Parts.{so_far_by_parts, cuts_run, epoch_with, parts_made, run_for, same_epoch}
 use Rattle.epoch_runs.proofs.Pieces.{IsBehind, behind_parts}
-use Rattle.epoch_runs.proofs.Runs.{BrokenSo, broken_so, closed_run}
+use Rattle.epoch_runs.proofs.Runs.{BrokenSo, broken_so, closed_run, marked_run}
 
 -- ---- what was published, but for the end
 
@@ -183,3 +186,11 @@ epochs_run_so_far state made (resets es h w) c known few =
     let here = at_reset_so_far made first h c.1.epoch c.1.may known few in
     closed_run AreRunSoFar so_far_by_parts state es (passed_at_reset made first h) (open_epoch made h ∷ []) c.0
     (subst (λ (ps : List Passed). AreRunSoFar (parts_of ps) first.place (open_epoch made h ∷ [])) (append-nil (passed_at_reset made first h)) here)
+
+-- Behind a reset whose mark is published, where nothing was done yet.
+pub marked_run_so_far : (state : State) (es : NewestFirst Closed) (h : Journal) (w : Work) → AreEpochs state (resets es h w) → is_marked (stage_of (log_behind (closed_log es) h) w) ≡ true
+    → AreRunSoFar (parts_of (closed_course state (with_reset es h w))) origin (epochs_so_far state 0 (goes (with_reset es h w) []))
+marked_run_so_far state es h w c marked =
+    let first = opening_behind state (with_reset es h w) in
+    subst (λ (ps : List Passed). AreRunSoFar (parts_of ps) origin (closed_epochs state (with_reset es h w) ++ open_epoch 0 [] ∷ [])) (append-nil (closed_course state (with_reset es h w)))
+    (marked_run AreRunSoFar so_far_by_parts state es h w [] (open_epoch 0 [] ∷ []) c marked (answered_so_far 0 first [] (opens state (with_reset es h w)) (omega (arith)) (omega (arith))))

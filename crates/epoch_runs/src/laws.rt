@@ -1,6 +1,6 @@
 //! Laws of the epochs of a board, as the pulse has them.
 
-ghost use Rattle.std.specs.Prelude.{◌≡◌, ℕ, ◌≤◌, reverse};
+ghost use Rattle.std.specs.Prelude.{◌≡◌, ℕ, ◌≤◌, true, [], reverse};
 ghost use Rattle.flight.specs.Places.{origin};
 ghost use Rattle.run_rules.specs.declared.State.{State};
 ghost use Rattle.run_texts.specs.Parts.{parts_of};
@@ -9,9 +9,10 @@ ghost use Rattle.step_line.specs.Logs.{NewestFirst};
 ghost use Rattle.board_rules.specs.Conduct.{IsFinished};
 ghost use Rattle.board_rules.specs.Ports.{sent_in};
 ghost use Rattle.board_rules.specs.Steps.{Journal, known_of, published_of};
-ghost use Rattle.board_epochs.specs.Epochs.{Closed, Epochs, AreEpochs, log_of, opening_behind};
-ghost use Rattle.board_epochs.specs.Epochs.Epochs.{goes};
-ghost use Rattle.epoch_courses.specs.Course.{course_of, open_journal};
+ghost use Rattle.board_epochs.specs.Epochs.{Closed, Epochs, AreEpochs, closed_log, log_behind, log_of, opening_behind};
+ghost use Rattle.board_epochs.specs.Epochs.Epochs.{goes, resets};
+ghost use Rattle.board_epochs.specs.Work.{Work, stage_of};
+ghost use Rattle.epoch_courses.specs.Course.{is_marked, with_reset, closed_course, course_of, open_journal};
 ghost use Rattle.epoch_records.specs.Publishing.{published_in, halts_in, AreOver};
 ghost use Rattle.epoch_records.specs.Runs.{AreRun};
 ghost use Rattle.epoch_records.specs.SoFar.{AreRunSoFar};
@@ -19,12 +20,15 @@ ghost use Rattle.epoch_runs.specs.Epochs.{epochs_of, epochs_so_far, without_end,
 
 /// The epochs of a board that is done, as the pulse has them by their pieces and the ticks made of these, were run for the
 /// parts of its course: so what the pulse puts of them are the records of these parts. So were its epochs so far, while so
-/// many ticks of the open one are made, at least those that the board knows of, and no more than were published.
+/// many ticks of the open one are made, at least those that the board knows of, and no more than were published. And once
+/// the mark of a reset is published, so were the epochs with the one that it ends, and one behind it in which nothing is done.
 pub fn epochs_are_run_for_their_course()
     ensures run { (state : State) (made : ℕ) (es : NewestFirst Closed) (h : Journal) → AreEpochs state (goes es h) → IsFinished (opening_behind state es) h → known_of h ≤ made →
         AreRun (parts_of (course_of state made (goes es h))) origin (epochs_of state es h) }
     ensures so_far { (state : State) (made : ℕ) (es : Epochs) → AreEpochs state es → known_of (open_journal es) ≤ made → made ≤ ticks_together (without_end (published_of (open_journal es))) →
         AreRunSoFar (parts_of (course_of state made es)) origin (epochs_so_far state made es) }
+    ensures marked { (state : State) (es : NewestFirst Closed) (h : Journal) (w : Work) → AreEpochs state (resets es h w) → is_marked (stage_of (log_behind (closed_log es) h) w) ≡ true →
+        AreRunSoFar (parts_of (closed_course state (with_reset es h w))) origin (epochs_so_far state 0 (goes (with_reset es h w) [])) }
 {}
 
 /// These epochs are those of the board's port: their pieces, with the marks of the resets between them and the end behind
