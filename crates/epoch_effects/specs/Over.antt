@@ -1,0 +1,33 @@
+-- What was taken of the words of flags in the epochs of a board, and what they have done.
+use Rattle.std.specs.Prelude.{ℕ, List, [], ◌∷◌, ◌++◌}
+use Rattle.run_rules.specs.declared.State.{State}
+use Rattle.run_texts.specs.Courses.{Passed}
+use Rattle.step_line.specs.Logs.{NewestFirst}
+use Rattle.board_rules.specs.Openings.{Opening}
+use Rattle.board_rules.specs.Steps.{Journal, port_log}
+use Rattle.board_epochs.specs.Epochs.{Closed, Epochs, opening_behind, ticks_made}
+use Rattle.board_epochs.specs.Epochs.Epochs.{goes, resets}
+use Rattle.epoch_courses.specs.Course.{passed_so_far, passed_at_reset, made_at_halt}
+use Rattle.epoch_courses.specs.Drives.{drives_in}
+use Rattle.epoch_effects.specs.Effects.{EpochEffects}
+use Rattle.epoch_effects.specs.Words.{words_taken}
+
+-- of an epoch of which so many ticks are made
+abbrev pub effects_with : List Passed → (made : ℕ) → Opening → Journal → EpochEffects
+effects_with passed made first h = record { passed = passed; drives = drives_in made first h; taken = words_taken (port_log h) }
+
+-- one that goes on; and one that a reset ends
+abbrev pub effects_so_far : (made : ℕ) → Opening → Journal → EpochEffects
+effects_so_far made first h = effects_with (passed_so_far made first h) made first h
+
+abbrev pub effects_at_reset : (made : ℕ) → Opening → Journal → EpochEffects
+effects_at_reset made first h = effects_with (passed_at_reset made first h) made first h
+
+abbrev pub closed_effects : State → NewestFirst Closed → List EpochEffects
+closed_effects state [] = []
+closed_effects state (e ∷ es) = closed_effects state es ++ effects_at_reset (made_at_halt (ticks_made es) e.work) (opening_behind state es) e.journal ∷ []
+
+-- epoch by epoch, of whose open one so many ticks are made
+abbrev pub effects_of : State → (made : ℕ) → Epochs → List EpochEffects
+effects_of state made (goes es h) = closed_effects state es ++ effects_so_far made (opening_behind state es) h ∷ []
+effects_of state made (resets es h w) = closed_effects state es ++ effects_at_reset made (opening_behind state es) h ∷ []

@@ -1,0 +1,33 @@
+//! Laws of what words of flags do.
+
+ghost use Rattle.std.specs.Prelude.{◌≡◌, ℕ, ◌≤◌, map};
+ghost use Rattle.run_rules.specs.declared.State.{State};
+ghost use Rattle.run_texts.specs.Besides.{CutsHaveCauses};
+ghost use Rattle.run_texts.specs.Points.{opening};
+ghost use Rattle.board_rules.specs.Steps.{known_of};
+ghost use Rattle.board_epochs.specs.Epochs.{Epochs, AreEpochs, log_of};
+ghost use Rattle.epoch_courses.specs.Course.{course_of, open_journal};
+ghost use Rattle.epoch_courses.specs.Drives.{drives_of};
+ghost use Rattle.epoch_courses.specs.Taken.{sent_by};
+ghost use Rattle.epoch_effects.specs.Effects.{AreEffects};
+ghost use Rattle.epoch_effects.specs.Over.{effects_of};
+ghost use Rattle.epoch_effects.specs.Words.{AreTakenIn, words_taken};
+
+/// Epoch by epoch, overrides begin at 100 percent, and each change sets them to that or is by a word that was taken in the
+/// epoch; nothing slows the machine down but a hold, a cancel or a change of overrides for which a word was taken in it, and
+/// an alarm behind the line that raised it; and jogs are cut as often at most as words for a hold or a cancel were taken.
+pub fn words_do_what_they_ask()
+    ensures { (state : State) (made : ℕ) (es : Epochs) → AreEpochs state es → known_of (open_journal es) ≤ made →
+        AreEffects (course_of state made es) (drives_of state made es) (effects_of state made es) }
+{}
+
+/// What was taken in an epoch was taken at the port, and no word counts for two epochs.
+pub fn words_are_taken_once()
+    ensures { (state : State) (made : ℕ) (es : Epochs) → AreTakenIn (words_taken (log_of es)) (map (λ e. e.taken) (effects_of state made es)) }
+{}
+
+/// Each cut has a cause: the last that was accepted of G-code and jogs in its epoch is a jog.
+pub fn cuts_have_causes()
+    ensures { (state : State) (made : ℕ) (es : Epochs) → AreEpochs state es → known_of (open_journal es) ≤ made →
+        CutsHaveCauses (opening state) (sent_by es) (course_of state made es) }
+{}
