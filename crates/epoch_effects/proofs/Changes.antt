@@ -108,8 +108,8 @@ changed_is first (_ ∷ h) c = let was = changed_is first h c.1 in record { are 
 -- ---- part by part
 
 -- parts that cuts have ended, with one more
-pub with_cut : (q : CutPart) (qs : List CutPart) (ds : List Driven) → map driven_by_cut (reverse (q ∷ qs)) ++ ds ≡ map driven_by_cut (reverse qs) ++ driven_by_cut q ∷ ds
-with_cut q qs ds =
+pub with_one_cut : (q : CutPart) (qs : List CutPart) (ds : List Driven) → map driven_by_cut (reverse (q ∷ qs)) ++ ds ≡ map driven_by_cut (reverse qs) ++ driven_by_cut q ∷ ds
+with_one_cut q qs ds =
     ap (λ (all : List CutPart). map driven_by_cut all ++ ds) (reverse-append (q ∷ []) qs) ∙ ap (λ (all : List Driven). all ++ ds) (map-append driven_by_cut (reverse qs) (q ∷ []))
     ∙ append_assoc (map driven_by_cut (reverse qs)) (driven_by_cut q ∷ []) ds
 
@@ -131,7 +131,7 @@ parts_did first (evened ∷ h) =
 parts_did first (cut k ∷ h) =
     let q = part_of first k h in
     append-nil (actions_in (all_cut first (cut k ∷ h)))
-    ∙ ap actions_in (sym (append-nil (all_cut first (cut k ∷ h))) ∙ with_cut q (parts_of first h) [])
+    ∙ ap actions_in (sym (append-nil (all_cut first (cut k ∷ h))) ∙ with_one_cut q (parts_of first h) [])
     ∙ actions_both (all_cut first h) (driven_by_cut q ∷ [])
     ∙ ap (λ (xs : List Action). actions_in (all_cut first h) ++ xs) (append-nil (part_actions h))
     ∙ parts_did first h

@@ -3,4 +3,8 @@ pub mod Changes
 pub mod Parts
 pub mod Passed
 pub mod Causes
+pub mod Counts
+pub mod Reporting
+pub mod Opened
+pub mod Telling
 pub mod Chain

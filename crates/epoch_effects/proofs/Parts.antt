@@ -17,7 +17,7 @@ use Rattle.run_law.specs.Changes.{IsAmong, AreChanges, words_in}
 use Rattle.epoch_courses.specs.Drives.{Driven, is_pending, last_of, driven_by_cut, driven_since, drives_in}
 use Rattle.epoch_courses.proofs.Drives.{pends_there}
 use Rattle.epoch_effects.specs.Effects.{actions_in, asked_of_part, AreSlowedOnlyBy}
-use Rattle.epoch_effects.proofs.Changes.{with_cut, all_drives, actions_both, changes_front, changes_are}
+use Rattle.epoch_effects.proofs.Changes.{with_one_cut, all_drives, actions_both, changes_front, changes_are}
 
 -- ---- parts that cuts have ended
 
@@ -26,7 +26,7 @@ cut_then : (slowed alarmed changed : Bool) (qs : List CutPart) (d : Driven) (ds 
     → AreSlowedOnlyBy slowed alarmed changed (map driven_by_cut (reverse qs) ++ d ∷ ds)
 cut_then slowed alarmed changed [] d ds is then = then
 cut_then slowed alarmed changed (q ∷ qs) d ds is then =
-    subst (λ (xs : List Driven). AreSlowedOnlyBy slowed alarmed changed xs) (sym (with_cut q qs (d ∷ ds))) (cut_then slowed alarmed changed qs (driven_by_cut q) (d ∷ ds) is.1 (is.0, then))
+    subst (λ (xs : List Driven). AreSlowedOnlyBy slowed alarmed changed xs) (sym (with_one_cut q qs (d ∷ ds))) (cut_then slowed alarmed changed qs (driven_by_cut q) (d ∷ ds) is.1 (is.0, then))
 
 -- one that nothing else has disturbed is slowed down by words alone
 by_words : (slowed changed : Bool) (asked : List Asked) (actions : List Action) → DisturbedOnlyBy slowed changed actions → IsSlowedOnlyBy slowed false changed asked actions
@@ -49,6 +49,12 @@ record Unmade (first : Opening) (h : Journal) (drives : List Driven) : Type 0 wh
   parts : parts_of first h ≡ q ∷ qs
   are : drives ≡ map driven_by_cut (reverse qs) ++ driven_by_cut q ∷ []
 
+-- where the board's parts are these
+pub unmade_drives : (made : ℕ) (first : Opening) (h : Journal) → is_pending made h ≡ true → (q : CutPart) (qs : List CutPart) → parts_of first h ≡ q ∷ qs → drives_in made first h ≡ map driven_by_cut (reverse qs) ++ driven_by_cut q ∷ []
+unmade_drives made first h is q qs parts =
+    ap (λ (t : Bool). map driven_by_cut (reverse (drop (cond t 1 0) (parts_of first h))) ++ last_of t (parts_of first h) (driven_since first h) ∷ []) is
+    ∙ ap (λ (all : List CutPart). map driven_by_cut (reverse (drop 1 all)) ++ last_of true all (driven_since first h) ∷ []) parts
+
 unmade : (made : ℕ) (first : Opening) (h : Journal) → Conducted first h → known_of h ≤ made → is_pending made h ≡ true → Unmade first h (drives_in made first h)
 unmade made first h c known is =
     let p = pends_there made first h c known is in
@@ -58,11 +64,10 @@ unmade made first h c known is =
       q = q;
       qs = qs;
       parts = p.parts;
-      are = ap (λ (t : Bool). map driven_by_cut (reverse (drop (cond t 1 0) (parts_of first h))) ++ last_of t (parts_of first h) (driven_since first h) ∷ []) is
-          ∙ ap (λ (all : List CutPart). map driven_by_cut (reverse (drop 1 all)) ++ last_of true all (driven_since first h) ∷ []) p.parts;
+      are = unmade_drives made first h is q qs p.parts;
     }
 
-all_made : (made : ℕ) (first : Opening) (h : Journal) → is_pending made h ≡ false → drives_in made first h ≡ all_drives first h
+pub all_made : (made : ℕ) (first : Opening) (h : Journal) → is_pending made h ≡ false → drives_in made first h ≡ all_drives first h
 all_made made first h is = ap (λ (t : Bool). map driven_by_cut (reverse (drop (cond t 1 0) (parts_of first h))) ++ last_of t (parts_of first h) (driven_since first h) ∷ []) is
 
 -- ---- overrides
@@ -73,7 +78,7 @@ unmade_changes first h drives u all =
     let May = IsAmong (words_in (port_log h)) in
     let front = map driven_by_cut (reverse (u.q ∷ u.qs)) in
     let same : all_drives first h ≡ front ++ driven_since first h ∷ [] = ap (λ (ps : List CutPart). map driven_by_cut (reverse ps) ++ driven_since first h ∷ []) u.parts in
-    let is : drives ≡ front = u.are ∙ sym (with_cut u.q u.qs []) ∙ append-nil front in
+    let is : drives ≡ front = u.are ∙ sym (with_one_cut u.q u.qs []) ∙ append-nil front in
     subst (λ (ds : List Driven). AreChanges May normal_overrides (actions_in ds)) (sym is)
     (changes_front May normal_overrides (actions_in front) (actions_in (driven_since first h ∷ []))
     (subst (λ (xs : List Action). AreChanges May normal_overrides xs) (ap actions_in same ∙ actions_both front (driven_since first h ∷ [])) all))

@@ -17,7 +17,7 @@ use Rattle.epoch_effects.specs.Effects.{onto_epoch, epochs_in, is_alarmed}
 
 -- ---- resets part epochs
 
-abbrev HasNoReset : List Passed → Type 0
+abbrev pub HasNoReset : List Passed → Type 0
 HasNoReset [] = Unit {0}
 HasNoReset (a_reset r ∷ ps) = ⊥
 HasNoReset (_ ∷ ps) = HasNoReset ps
@@ -37,7 +37,7 @@ cut_if : (t : Bool) (p : Passed) → HasNoReset (p ∷ []) → HasNoReset (cond 
 cut_if true p is = is
 cut_if false p is = tt
 
-none_passed : (broken : Bool) (made : ℕ) (first : Opening) (h : Journal) → HasNoReset (passed_by broken made first h)
+pub none_passed : (broken : Bool) (made : ℕ) (first : Opening) (h : Journal) → HasNoReset (passed_by broken made first h)
 none_passed broken made first [] = tt
 none_passed broken made first (began o ∷ h) = none_both (passed_by false made first h) (cond broken (a_broken o) (a_line o) ∷ []) (none_passed false made first h) (one_begun broken o)
 none_passed broken made first (cut k ∷ h) =
@@ -67,14 +67,14 @@ epoch_goes broken made first h = alone (passed_by broken made first h) (none_pas
 
 -- ---- its cuts
 
-cuts_both : (ps qs : List Passed) → cuts_in (ps ++ qs) ≡ cuts_in ps + cuts_in qs
+pub cuts_both : (ps qs : List Passed) → cuts_in (ps ++ qs) ≡ cuts_in ps + cuts_in qs
 cuts_both [] qs = omega arith
 cuts_both (a_cut k at ∷ ps) qs = let was = cuts_both ps qs in omega (arith, was)
 cuts_both (a_line o ∷ ps) qs = cuts_both ps qs
 cuts_both (a_broken o ∷ ps) qs = cuts_both ps qs
 cuts_both (a_reset r ∷ ps) qs = cuts_both ps qs
 
-begun_uncut : (broken : Bool) (o : Outcome) → cuts_in (cond broken (a_broken o) (a_line o) ∷ []) ≡ 0
+pub begun_uncut : (broken : Bool) (o : Outcome) → cuts_in (cond broken (a_broken o) (a_line o) ∷ []) ≡ 0
 begun_uncut true o = refl
 begun_uncut false o = refl
 
@@ -94,7 +94,7 @@ cuts_passed broken made first (_ ∷ h) = cuts_passed broken made first h
 
 -- ---- its lines
 
-lines_both : (ps qs : List Passed) → lines_in (ps ++ qs) ≡ lines_in ps ++ lines_in qs
+pub lines_both : (ps qs : List Passed) → lines_in (ps ++ qs) ≡ lines_in ps ++ lines_in qs
 lines_both [] qs = refl
 lines_both (a_line o ∷ ps) qs = ap (λ (os : List Outcome). o ∷ os) (lines_both ps qs)
 lines_both (a_broken o ∷ ps) qs = lines_both ps qs

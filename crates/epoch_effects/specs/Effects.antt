@@ -1,12 +1,16 @@
 -- What words of flags have done to a run, epoch by epoch: to its overrides, its speed and its jogs.
-use Rattle.std.specs.Prelude.{◌≡◌, ◌≤◌, Bool, List, [], ◌∷◌, ◌++◌, map}
+use Rattle.std.specs.Prelude.{◌≡◌, ℕ, ◌≤◌, Bool, List, [], ◌∷◌, ◌++◌, map}
 use Rattle.std.specs.List.{AllByRecursion, flat_map, list_any}
 use Rattle.planner_runs.specs.declared.Action.{Action}
 use Rattle.planner_runs.specs.Runs.{DisturbedOnlyBy, all_asked, normal_overrides}
+use Rattle.run_rules.specs.declared.State.{State}
 use Rattle.run_rules.specs.Reports.{raises_alarm}
 use Rattle.run_texts.specs.Courses.{Passed, cuts_in, lines_in}
 use Rattle.run_texts.specs.Courses.Passed.{a_line, a_broken, a_cut, a_reset}
+use Rattle.status_report.specs.declared.Reply.{Reply}
 use Rattle.step_line.specs.Asking.{Asked}
+use Rattle.step_line.specs.declared.Piece.{Piece}
+use Rattle.units.specs.declared.Steps3.{Steps3}
 use Rattle.board_rules.specs.Parts.{IsSlowedOnlyBy}
 use Rattle.run_law.specs.Changes.{IsAmong, AreChanges}
 use Rattle.epoch_courses.specs.Drives.{Driven}
@@ -28,11 +32,28 @@ epochs_in (a_reset r ∷ ps) = [] ∷ epochs_in ps
 
 -- ---- one epoch
 
--- what was passed in it, its parts as the planner has run them, and what was taken of the words of flags
+-- How its last part goes on: all that its lines ask for counts; or it was halted, for an alarm; or the mark of a cut was given behind
+-- it, and is not made. What a halt or a cut drops does not count.
+pub data Stop : Type 0 where
+  runs_on : Stop
+  is_halted : Stop
+  is_cut : Stop
+
+-- What was passed in it, its parts as the planner has run them, and what was taken of the words of flags. How it opened: the state, and
+-- where the machine stood, and whether it was locked. How its last part goes on; the pieces that were published in it, how many of their
+-- ticks were made, and how many were found done; and the replies that were answered, with reports.
 pub record EpochEffects : Type 0 where
   pub passed : List Passed
   pub drives : List Driven
   pub taken : WordsTaken
+  pub first : State
+  pub place : Steps3
+  pub locked : Bool
+  pub stop : Stop
+  pub pieces : List Piece
+  pub made : ℕ
+  pub known : ℕ
+  pub answered : List Reply
 
 -- what was done to the plan in these parts, in order
 abbrev pub actions_in : List Driven → List Action

@@ -1,3 +1,4 @@
 pub mod Words
 pub mod Effects
+pub mod Reports
 pub mod Over

@@ -1,20 +1,39 @@
 -- What was taken of the words of flags in the epochs of a board, and what they have done.
-use Rattle.std.specs.Prelude.{ℕ, List, [], ◌∷◌, ◌++◌}
+use Rattle.std.specs.Prelude.{ℕ, cond, List, [], ◌∷◌, ◌++◌}
 use Rattle.run_rules.specs.declared.State.{State}
 use Rattle.run_texts.specs.Courses.{Passed}
 use Rattle.step_line.specs.Logs.{NewestFirst}
+use Rattle.board_rules.specs.Cuts.{has_halted}
 use Rattle.board_rules.specs.Openings.{Opening}
-use Rattle.board_rules.specs.Steps.{Journal, port_log}
+use Rattle.board_rules.specs.Steps.{Journal, port_log, published_of, known_of, answered_of}
+use Rattle.board_rules.specs.Turns.{is_limited}
 use Rattle.board_epochs.specs.Epochs.{Closed, Epochs, opening_behind, ticks_made}
 use Rattle.board_epochs.specs.Epochs.Epochs.{goes, resets}
 use Rattle.epoch_courses.specs.Course.{passed_so_far, passed_at_reset, made_at_halt}
-use Rattle.epoch_courses.specs.Drives.{drives_in}
-use Rattle.epoch_effects.specs.Effects.{EpochEffects}
+use Rattle.epoch_courses.specs.Drives.{is_pending, drives_in}
+use Rattle.epoch_effects.specs.Effects.{EpochEffects, Stop}
+use Rattle.epoch_effects.specs.Effects.Stop.{runs_on, is_halted, is_cut}
 use Rattle.epoch_effects.specs.Words.{words_taken}
+
+-- how the last part of an epoch goes on
+abbrev pub stop_at : (made : ℕ) → Journal → Stop
+stop_at made h = cond (is_pending made h) is_cut (cond (has_halted h) is_halted runs_on)
 
 -- of an epoch of which so many ticks are made
 abbrev pub effects_with : List Passed → (made : ℕ) → Opening → Journal → EpochEffects
-effects_with passed made first h = record { passed = passed; drives = drives_in made first h; taken = words_taken (port_log h) }
+effects_with passed made first h = record {
+  passed = passed;
+  drives = drives_in made first h;
+  taken = words_taken (port_log h);
+  first = first.state;
+  place = first.place;
+  locked = is_limited first.motion;
+  stop = stop_at made h;
+  pieces = published_of h;
+  made = made;
+  known = known_of h;
+  answered = answered_of h;
+}
 
 -- one that goes on; and one that a reset ends
 abbrev pub effects_so_far : (made : ℕ) → Opening → Journal → EpochEffects

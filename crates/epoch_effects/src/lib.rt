@@ -3,4 +3,6 @@
 
 mod laws;
 
-pub use laws::{cuts_have_causes, words_are_taken_once, words_do_what_they_ask};
+pub use laws::{
+    cuts_have_causes, reports_fit_their_epochs, words_are_taken_once, words_do_what_they_ask,
+};

@@ -1,0 +1,100 @@
+-- Epoch by epoch, what is answered fits.
+use Rattle.std.proofs.Common.{◌≡◌, ℕ, ◌≤◌, Bool, true, false, List, [], ◌∷◌, ◌++◌, refl, sym, ap, ◌∙◌, subst, append-nil}
+use Rattle.std.proofs.lemmas.Grind.{flat_map-append}
+use Rattle.std.specs.List.{AllByRecursion, flat_map}
+use Rattle.run_rules.specs.declared.State.{State}
+use Rattle.status_report.specs.declared.Reply.{Reply}
+use Rattle.step_line.specs.Logs.{NewestFirst}
+use Rattle.board_rules.specs.Conduct.{Conducted}
+use Rattle.board_rules.specs.Openings.{Opening}
+use Rattle.board_rules.specs.Ports.{BoardLog, answered_in}
+use Rattle.board_rules.specs.Ports.PortStep.{answered, reported}
+use Rattle.board_rules.specs.Steps.{Journal, port_log, known_of}
+use Rattle.board_rules.specs.Steps.Step.{at_port, turned}
+use Rattle.board_epochs.specs.Epochs.{Closed, Epochs, AreClosed, AreEpochs, IsEpoch, opening_behind, ticks_made, closed_log, log_behind, last_line}
+use Rattle.board_epochs.specs.Epochs.Epochs.{goes, resets}
+use Rattle.board_epochs.specs.Resets.{MayReset}
+use Rattle.board_epochs.specs.Work.{Work, Works, stage_of}
+use Rattle.board_epochs.proofs.Onto.{answered_on}
+use Rattle.board_epochs.proofs.Prompting.{calm}
+use Rattle.board_epochs.proofs.Working.{all_of, never}
+use Rattle.epoch_courses.specs.Course.{is_unanswered, made_at_halt, open_journal}
+use Rattle.epoch_courses.specs.Told.{answered_by}
+use Rattle.epoch_courses.proofs.Halted.{known_made}
+use Rattle.epoch_courses.proofs.Uncut.{uncut_there}
+use Rattle.epoch_effects.specs.Effects.{EpochEffects}
+use Rattle.epoch_effects.specs.Over.{effects_so_far, effects_at_reset, closed_effects, effects_of}
+use Rattle.epoch_effects.specs.Reports.{HasReported}
+use Rattle.epoch_effects.proofs.Counts.{Counted, counted_so_far, counted_broken}
+use Rattle.epoch_effects.proofs.Passed.{alarmed_passed, calm_passed}
+use Rattle.epoch_effects.proofs.Reporting.{has_reported}
+
+-- ---- one epoch
+
+so_far : (made : ℕ) (first : Opening) (h : Journal) → Conducted first h → known_of h ≤ made → HasReported (effects_so_far made first h)
+so_far made first h c known = has_reported false made first h c known (counted_so_far made first h c known) (sym (alarmed_passed made first h c))
+
+counted_at_reset : (made : ℕ) (first : Opening) (h : Journal) → IsEpoch first h → MayReset first h → known_of h ≤ made → Counted (is_unanswered h) made first h
+counted_at_reset made first h is may known = by_one (is_unanswered h) refl
+  where
+    by_one : (t : Bool) → is_unanswered h ≡ t → Counted (is_unanswered h) made first h
+    by_one true one = subst (λ (t : Bool). Counted t made first h) (sym one) (counted_broken made first h is.conducted known (uncut_there first h is may one))
+    by_one false all = subst (λ (t : Bool). Counted t made first h) (sym all) (counted_so_far made first h is.conducted known)
+
+at_reset : (made : ℕ) (first : Opening) (h : Journal) → IsEpoch first h → MayReset first h → known_of h ≤ made → HasReported (effects_at_reset made first h)
+at_reset made first h is may known =
+    let none = calm first h is may in
+    has_reported (is_unanswered h) made first h is.conducted known (counted_at_reset made first h is may known) (none ∙ sym (calm_passed (is_unanswered h) made first h is.conducted none))
+
+-- ---- all of them
+
+all_both : (xs ys : List EpochEffects) → AllByRecursion HasReported xs → AllByRecursion HasReported ys → AllByRecursion HasReported (xs ++ ys)
+all_both [] ys f g = g
+all_both (x ∷ xs) ys f g = (f.0, all_both xs ys f.1 g)
+
+closed_report : (state : State) (es : NewestFirst Closed) → AreClosed state es → AllByRecursion HasReported (closed_effects state es)
+closed_report state [] c = tt
+closed_report state (e ∷ es) c =
+    let first = opening_behind state es in
+    let made = made_at_halt (ticks_made es) e.work in
+    all_both (closed_effects state es) (effects_at_reset made first e.journal ∷ []) (closed_report state es c.1)
+    (at_reset made first e.journal c.0.resetting.epoch c.0.resetting.may (known_made state e es c), tt)
+
+pub epochs_report : (state : State) (made : ℕ) (es : Epochs) → AreEpochs state es → known_of (open_journal es) ≤ made → AllByRecursion HasReported (effects_of state made es)
+epochs_report state made (goes es h) c known =
+    let first = opening_behind state es in
+    all_both (closed_effects state es) (effects_so_far made first h ∷ []) (closed_report state es c.0) (so_far made first h c.1.conducted known, tt)
+epochs_report state made (resets es h w) c known =
+    let first = opening_behind state es in
+    all_both (closed_effects state es) (effects_at_reset made first h ∷ []) (closed_report state es c.0) (at_reset made first h c.1.epoch c.1.may known, tt)
+
+-- ---- what was answered
+
+-- the work of a reset answers nothing
+none_answered : (number : ℕ) (before : BoardLog) (w : Work) → Works number before w → answered_in (port_log w ++ before) ≡ answered_in before
+none_answered number before [] c = refl
+none_answered number before (at_port (answered r) ∷ w) c = absurd (never number (all_of before w) (stage_of before w) (answered r) tt c.0)
+none_answered number before (at_port (reported r) ∷ w) c = absurd (never number (all_of before w) (stage_of before w) (reported r) tt c.0)
+none_answered number before (at_port e ∷ w) c = none_answered number before w c.2
+none_answered number before (turned t ∷ w) c = none_answered number before w c.2
+none_answered number before (_ ∷ w) c = absurd c.0
+
+abbrev replies_of : List EpochEffects → List Reply
+replies_of es = flat_map (λ (e : EpochEffects). e.answered) es
+
+with_one : (before : List Reply) (es : List EpochEffects) (e : EpochEffects) → before ≡ replies_of es → before ++ e.answered ≡ replies_of (es ++ e ∷ [])
+with_one before es e is =
+    ap (λ (rs : List Reply). rs ++ e.answered) is ∙ ap (λ (rs : List Reply). replies_of es ++ rs) (sym (append-nil e.answered)) ∙ sym (flat_map-append (λ (x : EpochEffects). x.answered) es (e ∷ []))
+
+closed_answered : (state : State) (es : NewestFirst Closed) → AreClosed state es → answered_in (closed_log es) ≡ replies_of (closed_effects state es)
+closed_answered state [] c = refl
+closed_answered state (e ∷ es) c =
+    none_answered (last_line (opening_behind state es) e.journal) (log_behind (closed_log es) e.journal) e.work c.0.resetting.works ∙ answered_on (ticks_made es) (port_log e.journal) (closed_log es)
+    ∙ with_one (answered_in (closed_log es)) (closed_effects state es) (effects_at_reset (made_at_halt (ticks_made es) e.work) (opening_behind state es) e.journal) (closed_answered state es c.1)
+
+pub all_answered : (state : State) (made : ℕ) (es : Epochs) → AreEpochs state es → answered_by es ≡ replies_of (effects_of state made es)
+all_answered state made (goes es h) c =
+    answered_on (ticks_made es) (port_log h) (closed_log es) ∙ with_one (answered_in (closed_log es)) (closed_effects state es) (effects_so_far made (opening_behind state es) h) (closed_answered state es c.0)
+all_answered state made (resets es h w) c =
+    none_answered (last_line (opening_behind state es) h) (log_behind (closed_log es) h) w c.1.works ∙ answered_on (ticks_made es) (port_log h) (closed_log es)
+    ∙ with_one (answered_in (closed_log es)) (closed_effects state es) (effects_at_reset made (opening_behind state es) h) (closed_answered state es c.0)

@@ -1,0 +1,12 @@
+use Rattle.epoch_effects.proofs.Opened.{opened}
+use Rattle.epoch_effects.proofs.Telling.{epochs_report, all_answered}
+use Rattle.epoch_effects.proofs.laws.reports_fit_their_epochs.Goals as goal
+
+pub returns-clause-fit : goal.returns-clause-fit
+returns-clause-fit c = epochs_report
+
+pub returns-clause-answered : goal.returns-clause-answered
+returns-clause-answered c = all_answered
+
+pub returns-clause-opened : goal.returns-clause-opened
+returns-clause-opened c = opened
