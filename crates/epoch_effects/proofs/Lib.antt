@@ -8,3 +8,4 @@ pub mod Reporting
 pub mod Opened
 pub mod Telling
 pub mod Chain
+pub mod Once

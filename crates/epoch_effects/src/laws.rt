@@ -1,17 +1,26 @@
 //! Laws of what words of flags do.
 
-ghost use Rattle.std.specs.Prelude.{◌≡◌, ℕ, ◌≤◌, false, map};
+ghost use Rattle.std.specs.Prelude.{◌≡◌, ℕ, ◌+◌, ◌≤◌, false, List, length, map};
 ghost use Rattle.std.specs.List.{AllByRecursion, flat_map};
 ghost use Rattle.flight.specs.Places.{origin};
 ghost use Rattle.run_rules.specs.declared.State.{State};
 ghost use Rattle.run_texts.specs.Besides.{CutsHaveCauses};
-ghost use Rattle.run_texts.specs.Points.{opening};
-ghost use Rattle.board_rules.specs.Steps.{known_of};
-ghost use Rattle.board_epochs.specs.Epochs.{Epochs, AreEpochs, log_of};
+ghost use Rattle.run_rules.specs.Told.{errors_among, errors_in, limits_in};
+ghost use Rattle.run_texts.specs.Courses.{Passed, lines_in};
+ghost use Rattle.run_texts.specs.Points.{Point, opening};
+ghost use Rattle.run_texts.specs.Sent.{Sent};
+ghost use Rattle.run_texts.specs.SoFar.{LeadsTo};
+ghost use Rattle.run_texts.specs.Told.{told_in};
+ghost use Rattle.status_report.specs.Answering.{answers_in};
+ghost use Rattle.step_line.specs.Logs.{NewestFirst};
+ghost use Rattle.board_rules.specs.Conduct.{IsFinished};
+ghost use Rattle.board_rules.specs.Steps.{Journal, known_of};
+ghost use Rattle.board_epochs.specs.Epochs.{Closed, Epochs, AreEpochs, log_of, opening_behind};
+ghost use Rattle.board_epochs.specs.Epochs.Epochs.{goes};
 ghost use Rattle.epoch_courses.specs.Course.{course_of, open_journal};
 ghost use Rattle.epoch_courses.specs.Drives.{drives_of};
 ghost use Rattle.epoch_courses.specs.Taken.{sent_by};
-ghost use Rattle.epoch_courses.specs.Told.{answered_by};
+ghost use Rattle.epoch_courses.specs.Told.{answered_by, untold_by};
 ghost use Rattle.epoch_effects.specs.Effects.{AreEffects};
 ghost use Rattle.epoch_effects.specs.Over.{effects_of};
 ghost use Rattle.epoch_effects.specs.Reports.{HasReported, AreOpened, resets_of};
@@ -45,4 +54,17 @@ pub fn reports_fit_their_epochs()
     ensures fit { (state : State) (made : ℕ) (es : Epochs) → AreEpochs state es → known_of (open_journal es) ≤ made → AllByRecursion HasReported (effects_of state made es) }
     ensures answered { (state : State) (made : ℕ) (es : Epochs) → AreEpochs state es → answered_by es ≡ flat_map (λ e. e.answered) (effects_of state made es) }
     ensures opened { (state : State) (made : ℕ) (es : Epochs) → AreEpochs state es → AreOpened state origin false (resets_of (course_of state made es)) (effects_of state made es) }
+{}
+
+/// Over all epochs each line that is passed has one answer, but for one that raises an alarm, and the errors are those of the
+/// lines. A line that a reset keeps from its answer has none. So it is of a course; of a board what it has answered, and what
+/// it is to tell yet; and of one that is done what it has answered.
+pub fn lines_are_answered_once()
+    ensures course { (p last : Point) (sent rest : List Sent) (course : List Passed) → LeadsTo p sent course last rest →
+        (answers_in (told_in course) + limits_in (lines_in course) ≡ length (lines_in course)) × (errors_among (told_in course) ≡ errors_in (lines_in course)) }
+    ensures so_far { (state : State) (made : ℕ) (es : Epochs) → AreEpochs state es → known_of (open_journal es) ≤ made → let lines = lines_in (course_of state made es) in
+        (answers_in (answered_by es) + answers_in (untold_by state es) + limits_in lines ≡ length lines) × (errors_among (answered_by es) + errors_among (untold_by state es) ≡ errors_in lines) }
+    ensures finished { (state : State) (made : ℕ) (es : NewestFirst Closed) (h : Journal) → AreEpochs state (goes es h) → IsFinished (opening_behind state es) h → known_of h ≤ made →
+        let lines = lines_in (course_of state made (goes es h)) in
+        (answers_in (answered_by (goes es h)) + limits_in lines ≡ length lines) × (errors_among (answered_by (goes es h)) ≡ errors_in lines) }
 {}
