@@ -168,6 +168,20 @@ pub record LastUnmade (made : ℕ) (first : Opening) (h : Journal) : Type 0 wher
   pub parts : board_parts first h ≡ q ∷ board_parts first before
   pub are : drives_in made first h ≡ all_cut first before (driven_by_cut q ∷ [])
 
+pub last_unmade : (made : ℕ) (first : Opening) (h : Journal) → Conducted first h → known_of h ≤ made → is_pending made h ≡ true → LastUnmade made first h
+last_unmade made first h c known one =
+    let p = pends_there made first h c known one in
+    let q = part_of first p.k p.before in
+    record {
+      before = p.before;
+      q = q;
+      all = p.all;
+      lines = refl;
+      passed = p.passed;
+      parts = p.parts;
+      are = unmade_drives made first h one q (board_parts first p.before) p.parts;
+    }
+
 counts_unmade : (made : ℕ) (first : Opening) (h : Journal) → is_pending made h ≡ true → (u : LastUnmade made first h) → CountsSo false made first h
 counts_unmade made first h one u =
     ap (λ (s : Bool). counts_over (cond s is_cut (cond (has_halted h) is_halted runs_on)) (parts_of (passed_by false made first h)) (drives_in made first h)) one
@@ -254,19 +268,7 @@ pub counted_so_far : (made : ℕ) (first : Opening) (h : Journal) → Conducted 
 counted_so_far made first h c known = by_pending (is_pending made h) refl
   where
     by_pending : (t : Bool) → is_pending made h ≡ t → Counted false made first h
-    by_pending true one =
-        let p = pends_there made first h c known one in
-        let q = part_of first p.k p.before in
-        let u : LastUnmade made first h = record {
-          before = p.before;
-          q = q;
-          all = p.all;
-          lines = refl;
-          passed = p.passed;
-          parts = p.parts;
-          are = unmade_drives made first h one q (board_parts first p.before) p.parts;
-        } in
-        record { counts = counts_unmade made first h one u; given = given_unmade made first h c one u }
+    by_pending true one = let u = last_unmade made first h c known one in record { counts = counts_unmade made first h one u; given = given_unmade made first h c one u }
     by_pending false none =
         let all = others_made made first h c known none in
         record {

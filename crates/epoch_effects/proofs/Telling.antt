@@ -18,15 +18,17 @@ use Rattle.board_epochs.specs.Work.{Work, Works, stage_of}
 use Rattle.board_epochs.proofs.Onto.{answered_on}
 use Rattle.board_epochs.proofs.Prompting.{calm}
 use Rattle.board_epochs.proofs.Working.{all_of, never}
-use Rattle.epoch_courses.specs.Course.{is_unanswered, made_at_halt, open_journal}
+use Rattle.epoch_courses.specs.Course.{is_unanswered, passed_by, made_at_halt, open_journal}
 use Rattle.epoch_courses.specs.Told.{answered_by}
 use Rattle.epoch_courses.proofs.Halted.{known_made}
 use Rattle.epoch_courses.proofs.Uncut.{uncut_there}
 use Rattle.epoch_effects.specs.Effects.{EpochEffects}
-use Rattle.epoch_effects.specs.Over.{effects_so_far, effects_at_reset, closed_effects, effects_of}
+use Rattle.epoch_effects.specs.Over.{effects_with, effects_so_far, effects_at_reset, closed_effects, effects_of}
+use Rattle.epoch_effects.specs.Pieces.{ArePublished}
 use Rattle.epoch_effects.specs.Reports.{HasReported}
 use Rattle.epoch_effects.proofs.Counts.{Counted, counted_so_far, counted_broken}
 use Rattle.epoch_effects.proofs.Passed.{alarmed_passed, calm_passed}
+use Rattle.epoch_effects.proofs.Publishing.{published_so_far, published_broken}
 use Rattle.epoch_effects.proofs.Reporting.{has_reported}
 
 -- ---- one epoch
@@ -67,6 +69,35 @@ epochs_report state made (goes es h) c known =
 epochs_report state made (resets es h w) c known =
     let first = opening_behind state es in
     all_both (closed_effects state es) (effects_at_reset made first h ∷ []) (closed_report state es c.0) (at_reset made first h c.1.epoch c.1.may known, tt)
+
+-- ---- what was published
+
+published_at_reset : (made : ℕ) (first : Opening) (h : Journal) → IsEpoch first h → MayReset first h → known_of h ≤ made → ArePublished (effects_at_reset made first h)
+published_at_reset made first h is may known = by_one (is_unanswered h) refl
+  where
+    by_one : (t : Bool) → is_unanswered h ≡ t → ArePublished (effects_with (passed_by (is_unanswered h) made first h) made first h)
+    by_one true one = subst (λ (t : Bool). ArePublished (effects_with (passed_by t made first h) made first h)) (sym one) (published_broken made first h is.conducted known (uncut_there first h is may one))
+    by_one false all = subst (λ (t : Bool). ArePublished (effects_with (passed_by t made first h) made first h)) (sym all) (published_so_far made first h is.conducted known)
+
+both_published : (xs ys : List EpochEffects) → AllByRecursion ArePublished xs → AllByRecursion ArePublished ys → AllByRecursion ArePublished (xs ++ ys)
+both_published [] ys f g = g
+both_published (x ∷ xs) ys f g = (f.0, both_published xs ys f.1 g)
+
+closed_published : (state : State) (es : NewestFirst Closed) → AreClosed state es → AllByRecursion ArePublished (closed_effects state es)
+closed_published state [] c = tt
+closed_published state (e ∷ es) c =
+    let first = opening_behind state es in
+    let made = made_at_halt (ticks_made es) e.work in
+    both_published (closed_effects state es) (effects_at_reset made first e.journal ∷ []) (closed_published state es c.1)
+    (published_at_reset made first e.journal c.0.resetting.epoch c.0.resetting.may (known_made state e es c), tt)
+
+pub epochs_publish : (state : State) (made : ℕ) (es : Epochs) → AreEpochs state es → known_of (open_journal es) ≤ made → AllByRecursion ArePublished (effects_of state made es)
+epochs_publish state made (goes es h) c known =
+    let first = opening_behind state es in
+    both_published (closed_effects state es) (effects_so_far made first h ∷ []) (closed_published state es c.0) (published_so_far made first h c.1.conducted known, tt)
+epochs_publish state made (resets es h w) c known =
+    let first = opening_behind state es in
+    both_published (closed_effects state es) (effects_at_reset made first h ∷ []) (closed_published state es c.0) (published_at_reset made first h c.1.epoch c.1.may known, tt)
 
 -- ---- what was answered
 

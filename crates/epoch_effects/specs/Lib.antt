@@ -1,4 +1,5 @@
 pub mod Words
 pub mod Effects
 pub mod Reports
+pub mod Pieces
 pub mod Over
