@@ -5,6 +5,7 @@ pub mod Passed
 pub mod Causes
 pub mod Counts
 pub mod Reporting
+pub mod Locks
 pub mod Publishing
 pub mod Opened
 pub mod Telling

@@ -1,16 +1,18 @@
 -- Epoch by epoch, what is answered fits.
-use Rattle.std.proofs.Common.{◌≡◌, ℕ, ◌≤◌, Bool, true, false, List, [], ◌∷◌, ◌++◌, refl, sym, ap, ◌∙◌, subst, append-nil}
+use Rattle.std.proofs.Common.{◌≡◌, ℕ, ◌≤◌, Bool, true, false, List, [], ◌∷◌, ◌++◌, reverse, refl, sym, ap, ◌∙◌, subst, append-nil}
 use Rattle.std.proofs.lemmas.Grind.{flat_map-append}
 use Rattle.std.specs.List.{AllByRecursion, flat_map}
 use Rattle.run_rules.specs.declared.State.{State}
+use Rattle.run_rules.specs.Work.{Outcome}
 use Rattle.status_report.specs.declared.Reply.{Reply}
 use Rattle.step_line.specs.Logs.{NewestFirst}
 use Rattle.board_rules.specs.Conduct.{Conducted}
 use Rattle.board_rules.specs.Openings.{Opening}
 use Rattle.board_rules.specs.Ports.{BoardLog, answered_in}
 use Rattle.board_rules.specs.Ports.PortStep.{answered, reported}
-use Rattle.board_rules.specs.Steps.{Journal, port_log, known_of}
+use Rattle.board_rules.specs.Steps.{Journal, port_log, known_of, answered_of}
 use Rattle.board_rules.specs.Steps.Step.{at_port, turned}
+use Rattle.board_rules.specs.Turns.{is_limited}
 use Rattle.board_epochs.specs.Epochs.{Closed, Epochs, AreClosed, AreEpochs, IsEpoch, opening_behind, ticks_made, closed_log, log_behind, last_line}
 use Rattle.board_epochs.specs.Epochs.Epochs.{goes, resets}
 use Rattle.board_epochs.specs.Resets.{MayReset}
@@ -25,8 +27,10 @@ use Rattle.epoch_courses.proofs.Uncut.{uncut_there}
 use Rattle.epoch_effects.specs.Effects.{EpochEffects}
 use Rattle.epoch_effects.specs.Over.{effects_with, effects_so_far, effects_at_reset, closed_effects, effects_of}
 use Rattle.epoch_effects.specs.Pieces.{ArePublished}
-use Rattle.epoch_effects.specs.Reports.{HasReported}
-use Rattle.epoch_effects.proofs.Counts.{Counted, counted_so_far, counted_broken}
+use Rattle.epoch_effects.specs.Locks.{ShowLocks}
+use Rattle.epoch_effects.specs.Reports.{HasReported, TellsLock, begun_in}
+use Rattle.epoch_effects.proofs.Counts.{Counted, counted_so_far, counted_broken, lines_begun}
+use Rattle.epoch_effects.proofs.Locks.{locks_shown}
 use Rattle.epoch_effects.proofs.Passed.{alarmed_passed, calm_passed}
 use Rattle.epoch_effects.proofs.Publishing.{published_so_far, published_broken}
 use Rattle.epoch_effects.proofs.Reporting.{has_reported}
@@ -69,6 +73,30 @@ epochs_report state made (goes es h) c known =
 epochs_report state made (resets es h w) c known =
     let first = opening_behind state es in
     all_both (closed_effects state es) (effects_at_reset made first h ∷ []) (closed_report state es c.0) (at_reset made first h c.1.epoch c.1.may known, tt)
+
+-- ---- how they tell of a lock
+
+locks_so : (broken : Bool) (made : ℕ) (first : Opening) (h : Journal) → Conducted first h → ShowLocks (is_limited first.motion) (begun_in (passed_by broken made first h)) (reverse (answered_of h))
+locks_so broken made first h c = subst (λ (os : List Outcome). ShowLocks (is_limited first.motion) os (reverse (answered_of h))) (sym (lines_begun broken made first h)) (locks_shown first h c)
+
+both_locks : (xs ys : List EpochEffects) → AllByRecursion TellsLock xs → AllByRecursion TellsLock ys → AllByRecursion TellsLock (xs ++ ys)
+both_locks [] ys f g = g
+both_locks (x ∷ xs) ys f g = (f.0, both_locks xs ys f.1 g)
+
+closed_locks : (state : State) (es : NewestFirst Closed) → AreClosed state es → AllByRecursion TellsLock (closed_effects state es)
+closed_locks state [] c = tt
+closed_locks state (e ∷ es) c =
+    let first = opening_behind state es in
+    let made = made_at_halt (ticks_made es) e.work in
+    both_locks (closed_effects state es) (effects_at_reset made first e.journal ∷ []) (closed_locks state es c.1) (locks_so (is_unanswered e.journal) made first e.journal c.0.resetting.epoch.conducted, tt)
+
+pub epochs_lock : (state : State) (made : ℕ) (es : Epochs) → AreEpochs state es → AllByRecursion TellsLock (effects_of state made es)
+epochs_lock state made (goes es h) c =
+    let first = opening_behind state es in
+    both_locks (closed_effects state es) (effects_so_far made first h ∷ []) (closed_locks state es c.0) (locks_so false made first h c.1.conducted, tt)
+epochs_lock state made (resets es h w) c =
+    let first = opening_behind state es in
+    both_locks (closed_effects state es) (effects_at_reset made first h ∷ []) (closed_locks state es c.0) (locks_so (is_unanswered h) made first h c.1.epoch.conducted, tt)
 
 -- ---- what was published
 

@@ -2,4 +2,5 @@ pub mod Words
 pub mod Effects
 pub mod Reports
 pub mod Pieces
+pub mod Locks
 pub mod Over

@@ -14,6 +14,7 @@ use Rattle.step_line.specs.Finishing.{ticks_together}
 use Rattle.step_line.specs.Pieces.{ticks_of}
 use Rattle.units.specs.declared.Steps3.{Steps3}
 use Rattle.epoch_courses.specs.Drives.{Driven}
+use Rattle.epoch_effects.specs.Locks.{ShowLocks}
 use Rattle.epoch_effects.specs.Effects.{EpochEffects, Stop, is_alarmed}
 use Rattle.epoch_effects.specs.Effects.Stop.{runs_on, is_halted, is_cut}
 
@@ -81,6 +82,10 @@ pub record HasReported (e : EpochEffects) : Type 0 where
   pub one : length (begun_in e.passed) ≤ answers_in e.answered + 1
   pub least : fewest (answers_in e.answered) (begun_in e.passed) (counts_in e) ≤ e.known
   pub halts : e.stop ≡ is_halted → is_alarmed e.passed ≡ true
+
+-- Its reports tell of an alarm while it is locked, and behind the line that unlocks it only of one that a line has raised.
+abbrev pub TellsLock : EpochEffects → Type 0
+TellsLock e = ShowLocks e.locked (begun_in e.passed) (reverse e.answered)
 
 -- ---- how epochs open
 

@@ -24,7 +24,7 @@ ghost use Rattle.epoch_courses.specs.Told.{answered_by, untold_by};
 ghost use Rattle.epoch_effects.specs.Effects.{AreEffects};
 ghost use Rattle.epoch_effects.specs.Over.{effects_of};
 ghost use Rattle.epoch_effects.specs.Pieces.{ArePublished};
-ghost use Rattle.epoch_effects.specs.Reports.{HasReported, AreOpened, resets_of};
+ghost use Rattle.epoch_effects.specs.Reports.{HasReported, TellsLock, AreOpened, resets_of};
 ghost use Rattle.epoch_effects.specs.Words.{AreTakenIn, words_taken};
 
 /// Epoch by epoch, overrides begin at 100 percent, and each change sets them to that or is by a word that was taken in the
@@ -49,10 +49,12 @@ pub fn cuts_have_causes()
 /// Each report fits the lines of its epoch, as its opening and the ticks that were made in it have them: of an epoch that is
 /// closed those made at its halt. It shows no more ticks than were found done, and there are as many reports at most as words
 /// that asked for one. All lines that were begun in an epoch but the last are answered, and the ticks of those up to the last
-/// answered one that settles were found done. The pieces whose ticks these are were given for the parts of the epoch. What was
+/// answered one that settles were found done. While an epoch is locked its reports tell of an alarm, and behind the line that
+/// unlocks it only of one that a line has raised. The pieces whose ticks these are were given for the parts of the epoch. What was
 /// answered in the epochs is all that was answered; and each epoch opens as the reset before it says, the first as a run begins.
 pub fn reports_fit_their_epochs()
     ensures fit { (state : State) (made : ℕ) (es : Epochs) → AreEpochs state es → known_of (open_journal es) ≤ made → AllByRecursion HasReported (effects_of state made es) }
+    ensures locks { (state : State) (made : ℕ) (es : Epochs) → AreEpochs state es → AllByRecursion TellsLock (effects_of state made es) }
     ensures published { (state : State) (made : ℕ) (es : Epochs) → AreEpochs state es → known_of (open_journal es) ≤ made → AllByRecursion ArePublished (effects_of state made es) }
     ensures answered { (state : State) (made : ℕ) (es : Epochs) → AreEpochs state es → answered_by es ≡ flat_map (λ e. e.answered) (effects_of state made es) }
     ensures opened { (state : State) (made : ℕ) (es : Epochs) → AreEpochs state es → AreOpened state origin false (resets_of (course_of state made es)) (effects_of state made es) }

@@ -1,5 +1,5 @@
 use Rattle.epoch_effects.proofs.Opened.{opened}
-use Rattle.epoch_effects.proofs.Telling.{epochs_report, epochs_publish, all_answered}
+use Rattle.epoch_effects.proofs.Telling.{epochs_report, epochs_lock, epochs_publish, all_answered}
 use Rattle.epoch_effects.proofs.laws.reports_fit_their_epochs.Goals as goal
 
 pub returns-clause-fit : goal.returns-clause-fit
@@ -13,3 +13,6 @@ returns-clause-opened c = opened
 
 pub returns-clause-published : goal.returns-clause-published
 returns-clause-published c = epochs_publish
+
+pub returns-clause-locks : goal.returns-clause-locks
+returns-clause-locks c = epochs_lock
