@@ -68,7 +68,7 @@ lines_begun broken made first (_ ∷ h) = lines_begun broken made first h
 
 -- ---- their ticks, part by part
 
-parts_cut : (os : List Outcome) (k : ℕ) (at : Steps3) (rest : List Passed) → parts_of (map a_line os ++ a_cut k at ∷ rest) ≡ part os [] (by_cut k at) ∷ parts_of rest
+pub parts_cut : (os : List Outcome) (k : ℕ) (at : Steps3) (rest : List Passed) → parts_of (map a_line os ++ a_cut k at ∷ rest) ≡ part os [] (by_cut k at) ∷ parts_of rest
 parts_cut [] k at rest = refl
 parts_cut (o ∷ os) k at rest = ap (onto_first o) (parts_cut os k at rest)
 

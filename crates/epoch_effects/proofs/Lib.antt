@@ -4,6 +4,7 @@ pub mod Parts
 pub mod Passed
 pub mod Causes
 pub mod Counts
+pub mod Asking
 pub mod Reporting
 pub mod Locks
 pub mod Publishing

@@ -1,5 +1,6 @@
 pub mod Words
 pub mod Effects
+pub mod Asking
 pub mod Reports
 pub mod Pieces
 pub mod Locks

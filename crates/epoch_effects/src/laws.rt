@@ -21,6 +21,7 @@ ghost use Rattle.epoch_courses.specs.Course.{course_of, open_journal};
 ghost use Rattle.epoch_courses.specs.Drives.{drives_of};
 ghost use Rattle.epoch_courses.specs.Taken.{sent_by};
 ghost use Rattle.epoch_courses.specs.Told.{answered_by, untold_by};
+ghost use Rattle.epoch_effects.specs.Asking.{AsksInTurn};
 ghost use Rattle.epoch_effects.specs.Effects.{AreEffects};
 ghost use Rattle.epoch_effects.specs.Over.{effects_of};
 ghost use Rattle.epoch_effects.specs.Pieces.{ArePublished};
@@ -71,4 +72,10 @@ pub fn lines_are_answered_once()
     ensures finished { (state : State) (made : ℕ) (es : NewestFirst Closed) (h : Journal) → AreEpochs state (goes es h) → IsFinished (opening_behind state es) h → known_of h ≤ made →
         let lines = lines_in (course_of state made (goes es h)) in
         (answers_in (answered_by (goes es h)) + limits_in lines ≡ length lines) × (errors_among (answered_by (goes es h)) ≡ errors_in lines) }
+{}
+
+/// Of each part of an epoch all was asked of its plan that its lines but the last ask for. So nothing of a line waits while a
+/// later one is begun.
+pub fn lines_are_asked_in_turn()
+    ensures { (state : State) (made : ℕ) (es : Epochs) → AreEpochs state es → known_of (open_journal es) ≤ made → AllByRecursion AsksInTurn (effects_of state made es) }
 {}

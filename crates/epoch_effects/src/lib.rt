@@ -4,6 +4,6 @@
 mod laws;
 
 pub use laws::{
-    cuts_have_causes, lines_are_answered_once, reports_fit_their_epochs, words_are_taken_once,
-    words_do_what_they_ask,
+    cuts_have_causes, lines_are_answered_once, lines_are_asked_in_turn, reports_fit_their_epochs,
+    words_are_taken_once, words_do_what_they_ask,
 };
