@@ -140,6 +140,7 @@ opened_closed state (e ∷ es) rest xs c is =
     let x = effects_at_reset made first h in
     let here : OpenedBehind state es (r ∷ resets_of rest) (x ∷ xs) = (
       record { state = refl; stands = refl; locks = refl },
+      refl,
       subst (λ (s : State). AreOpened s r.at r.locked (resets_of rest) xs) (sym (same_reset r.at (state_told first passed) (answered_state first h) (answered_told made first h c.0.resetting.epoch.conducted)))
           (subst (λ (t : Bool). AreOpened (reset_state r.at (answered_state first h)) r.at t (resets_of rest) xs) (locked_so r.locked) is),
     ) in

@@ -1,6 +1,7 @@
 -- What reports show in each epoch, and which lines are answered there.
 use Rattle.std.specs.Prelude.{◌≡◌, ℕ, ◌+◌, ◌≤◌, Bool, true, List, [], ◌∷◌, ◌++◌, length, reverse, take}
 use Rattle.std.specs.List.{flat_map}
+use Rattle.flight.specs.Places.{machine_from}
 use Rattle.run_rules.specs.declared.State.{State}
 use Rattle.run_rules.specs.Cuts.{counts_asked, cut_to, with_cut}
 use Rattle.run_rules.specs.Reports.{Course, Reported, fewest, state_behind}
@@ -102,9 +103,9 @@ pub record OpensAt (first : State) (place : Steps3) (locked : Bool) (e : EpochEf
   pub stands : e.place ≡ place
   pub locks : e.locked ≡ locked
 
--- The first opens so; and each other one where the reset before it stands, locked if that says so, with the state that the answered
--- lines before it have left.
+-- The first opens so; and each other one where the reset before it stands, to which the ticks made before it lead, locked if that says
+-- so, with the state that the answered lines before it have left.
 abbrev pub AreOpened : State → Steps3 → Bool → List Reset → List EpochEffects → Type 0
 AreOpened first place locked rs [] = ⊥
 AreOpened first place locked [] (e ∷ es) = OpensAt first place locked e × (es ≡ [])
-AreOpened first place locked (r ∷ rs) (e ∷ es) = OpensAt first place locked e × AreOpened (reset_state r.at (state_behind e.first (lines_in e.passed))) r.at r.locked rs es
+AreOpened first place locked (r ∷ rs) (e ∷ es) = OpensAt first place locked e × (r.at ≡ machine_from e.place e.pieces e.made) × AreOpened (reset_state r.at (state_behind e.first (lines_in e.passed))) r.at r.locked rs es
