@@ -86,22 +86,21 @@ halts_are es opens published done over pieces ticks =
     subst (λ (hs : List (ℕ × ℕ)). EndStretches hs (stretches_for opens es)) (append-nil (reverse (halts_in published done es)))
     (halts_behind es opens [] [] published done over refl (omega (arith, pieces)) (omega (arith, ticks)))
 
--- ---- a pulse
+-- ---- stretches with the same pieces and halts
 
--- its stretches are those of the epochs
-same_stretches : (h : PieceLog) (e : Epoch) (es : List Epoch) (opens : List Piece) → AreOver (e ∷ es) → reverse (pieces_of h) ≡ opens ++ published_in (e ∷ es) → EndStretches (halts_of h) (stretches_for opens (e ∷ es))
-    → AreEpochsOf opens (e ∷ es) (stretches_in h) (pieces_since h)
-same_stretches h e es opens over pieces halts =
-    let same = one_parting (halts_of h) (stretches_for opens (e ∷ es)) (stretches_in h) (last_for opens (e ∷ es)) (pieces_since h) halts (halts_end h)
-    (all_published e es opens ∙ sym pieces ∙ sym (all_pieces h)) in
-    subst (λ (last : List Piece). AreEpochsOf opens (e ∷ es) (stretches_in h) last) same.1
-    (subst (λ (ss : List Stretch). AreEpochsOf opens (e ∷ es) ss (last_for opens (e ∷ es))) same.0 (are_epochs (e ∷ es) opens over))
+-- they are those of the epochs
+same_stretches : (halts : NewestFirst (ℕ × ℕ)) (ss : List Stretch) (last : List Piece) (e : Epoch) (es : List Epoch) (opens : List Piece) → AreOver (e ∷ es) → pieces_of_all ss ++ last ≡ opens ++ published_in (e ∷ es)
+    → EndStretches halts ss → EndStretches halts (stretches_for opens (e ∷ es)) → AreEpochsOf opens (e ∷ es) ss last
+same_stretches halts ss last e es opens over pieces end halted =
+    let same = one_parting halts (stretches_for opens (e ∷ es)) ss (last_for opens (e ∷ es)) last halted end (all_published e es opens ∙ sym pieces) in
+    subst (λ (ps : List Piece). AreEpochsOf opens (e ∷ es) ss ps) same.1
+    (subst (λ (xs : List Stretch). AreEpochsOf opens (e ∷ es) xs (last_for opens (e ∷ es))) same.0 (are_epochs (e ∷ es) opens over))
 
-pub epochs_of_pulse : (es : List Epoch) (h : PieceLog) → AreOver es → reverse (pieces_of h) ≡ published_in es → halts_of h ≡ reverse (halts_in 0 0 es)
-    → AreEpochsOf [] es (stretches_in h) (pieces_since h)
-epochs_of_pulse [] h over pieces halts = absurd over
-epochs_of_pulse (e ∷ es) h over pieces halts =
-    same_stretches h e es [] over pieces (subst (λ (hs : List (ℕ × ℕ)). EndStretches hs (stretches_for [] (e ∷ es))) (sym halts) (halts_are (e ∷ es) [] 0 0 over refl refl))
+pub epochs_of_stretches : (es : List Epoch) (halts : NewestFirst (ℕ × ℕ)) (ss : List Stretch) (last : List Piece) → AreOver es → pieces_of_all ss ++ last ≡ published_in es → EndStretches halts ss → halts ≡ reverse (halts_in 0 0 es)
+    → AreEpochsOf [] es ss last
+epochs_of_stretches [] halts ss last over pieces end are = absurd over
+epochs_of_stretches (e ∷ es) halts ss last over pieces end are =
+    same_stretches halts ss last e es [] over pieces end (subst (λ (hs : List (ℕ × ℕ)). EndStretches hs (stretches_for [] (e ∷ es))) (sym are) (halts_are (e ∷ es) [] 0 0 over refl refl))
 
 -- ---- where no halt is stored at no pieces
 
@@ -119,16 +118,16 @@ none_dropped (e ∷ (f ∷ es)) published m done some =
     ∙ ap (λ (hs : List (ℕ × ℕ)). (published + length e.pieces, done + e.done) ∷ hs) rest
 
 -- the first epoch has a piece, or none
-by_first : (e f : Epoch) (es : List Epoch) (h : PieceLog) (ps : List Piece) → e.pieces ≡ ps → AreOver (e ∷ (f ∷ es)) → reverse (pieces_of h) ≡ published_in (e ∷ (f ∷ es)) → halts_of h ≡ reverse (but_none (halts_in 0 0 (e ∷ (f ∷ es))))
-    → AreEpochsOf [] (e ∷ (f ∷ es)) (stretches_in h) (pieces_since h)
-by_first e f es h (p ∷ ps) some over pieces halts =
+by_first : (e f : Epoch) (es : List Epoch) (halts : NewestFirst (ℕ × ℕ)) (ss : List Stretch) (last : List Piece) (ps : List Piece) → e.pieces ≡ ps → AreOver (e ∷ (f ∷ es)) → pieces_of_all ss ++ last ≡ published_in (e ∷ (f ∷ es)) → EndStretches halts ss
+    → halts ≡ reverse (but_none (halts_in 0 0 (e ∷ (f ∷ es)))) → AreEpochsOf [] (e ∷ (f ∷ es)) ss last
+by_first e f es halts ss last (p ∷ ps) some over pieces end are =
     let later = halts_in (0 + length e.pieces + 1) (0 + e.done + 1) (f ∷ es) in
     let test = some_pieces (0 + length e.pieces) (length ps) (omega (arith, ap length some)) in
     let rest = none_dropped (f ∷ es) (0 + length e.pieces + 1) (length e.pieces) (0 + e.done + 1) (omega arith) in
     let same : but_none (halts_in 0 0 (e ∷ (f ∷ es))) ≡ halts_in 0 0 (e ∷ (f ∷ es)) =
     ap (λ t. cond t (but_none later) ((0 + length e.pieces, 0 + e.done) ∷ but_none later)) test ∙ ap (λ (hs : List (ℕ × ℕ)). (0 + length e.pieces, 0 + e.done) ∷ hs) rest in
-    epochs_of_pulse (e ∷ (f ∷ es)) h over pieces (halts ∙ ap reverse same)
-by_first e f es h [] none over pieces halts =
+    epochs_of_stretches (e ∷ (f ∷ es)) halts ss last over pieces end (are ∙ ap reverse same)
+by_first e f es halts ss last [] none over pieces end are =
     let later = halts_in (0 + length e.pieces + 1) (0 + e.done + 1) (f ∷ es) in
     let few = over.1 in
     let no_ticks : ticks_together e.pieces ≡ 0 = ap ticks_together none in
@@ -139,15 +138,25 @@ by_first e f es h [] none over pieces halts =
     let same : but_none (halts_in 0 0 (e ∷ (f ∷ es))) ≡ later = ap (λ t. cond t (but_none later) ((0 + length e.pieces, 0 + e.done) ∷ but_none later)) test ∙ rest in
     let tick = one_tick e.closing over.0 in
     let ends = halts_are (f ∷ es) (e.closing ∷ []) (0 + length e.pieces + 1) (0 + e.done + 1) over.2 (omega (arith, no_length)) (omega (arith, no_done, tick)) in
-    let behind = same_stretches h f es (e.closing ∷ []) over.2 (pieces ∙ ap (λ (qs : List Piece). qs ++ e.closing ∷ published_in (f ∷ es)) none)
-    (subst (λ (hs : List (ℕ × ℕ)). EndStretches hs (stretches_for (e.closing ∷ []) (f ∷ es))) (sym (halts ∙ ap reverse same)) ends) in
+    let behind = same_stretches halts ss last f es (e.closing ∷ []) over.2 (pieces ∙ ap (λ (qs : List Piece). qs ++ e.closing ∷ published_in (f ∷ es)) none) end
+    (subst (λ (hs : List (ℕ × ℕ)). EndStretches hs (stretches_for (e.closing ∷ []) (f ∷ es))) (sym (are ∙ ap reverse same)) ends) in
     (over.0, inl (record { nothing = none; done = no_done }, behind))
+
+pub some_epochs_of_stretches : (es : List Epoch) (halts : NewestFirst (ℕ × ℕ)) (ss : List Stretch) (last : List Piece) → AreOver es → pieces_of_all ss ++ last ≡ published_in es → EndStretches halts ss → halts ≡ reverse (but_none (halts_in 0 0 es))
+    → AreEpochsOf [] es ss last
+some_epochs_of_stretches [] halts ss last over pieces end are = absurd over
+some_epochs_of_stretches (e ∷ []) halts ss last over pieces end are = epochs_of_stretches (e ∷ []) halts ss last over pieces end are
+some_epochs_of_stretches (e ∷ (f ∷ es)) halts ss last over pieces end are = by_first e f es halts ss last e.pieces refl over pieces end are
+
+-- ---- a pulse
+
+pub epochs_of_pulse : (es : List Epoch) (h : PieceLog) → AreOver es → reverse (pieces_of h) ≡ published_in es → halts_of h ≡ reverse (halts_in 0 0 es)
+    → AreEpochsOf [] es (stretches_in h) (pieces_since h)
+epochs_of_pulse es h over pieces halts = epochs_of_stretches es (halts_of h) (stretches_in h) (pieces_since h) over (all_pieces h ∙ pieces) (halts_end h) halts
 
 pub some_epochs_of_pulse : (es : List Epoch) (h : PieceLog) → AreOver es → reverse (pieces_of h) ≡ published_in es → halts_of h ≡ reverse (but_none (halts_in 0 0 es))
     → AreEpochsOf [] es (stretches_in h) (pieces_since h)
-some_epochs_of_pulse [] h over pieces halts = absurd over
-some_epochs_of_pulse (e ∷ []) h over pieces halts = epochs_of_pulse (e ∷ []) h over pieces halts
-some_epochs_of_pulse (e ∷ (f ∷ es)) h over pieces halts = by_first e f es h e.pieces refl over pieces halts
+some_epochs_of_pulse es h over pieces halts = some_epochs_of_stretches es (halts_of h) (stretches_in h) (pieces_since h) over (all_pieces h ∙ pieces) (halts_end h) halts
 
 -- ---- the records of parts
 
