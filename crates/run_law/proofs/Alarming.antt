@@ -1,7 +1,10 @@
 -- An alarm is told exactly where a line has raised one.
 use Rattle.std.proofs.Common.{◌≡◌, ℕ, List, [], ◌∷◌, ◌++◌, map, true, false, Bool, ◌||◌, sym, refl, ap, ◌∙◌}
 use Rattle.std.specs.List.{flat_map, enumerate_from, list_any}
+use Rattle.std.specs.declared.result.Result.{Result}
 use Rattle.std.proofs.lemmas.List.Folds.{list_any-append}
+use Rattle.code_table.specs.declared.Code.{Code}
+use Rattle.system_lines.specs.declared.Command.{Command}
 use Rattle.units.specs.declared.Nm3.{Nm3}
 use Rattle.modal_state.specs.declared.Offsets.{Offsets}
 use Rattle.settings.specs.declared.Settings.{Settings}
@@ -11,25 +14,25 @@ use Rattle.status_report.specs.Lists.{setting_replies, offset_replies, row_place
 use Rattle.status_report.specs.declared.Reply.{Reply}
 use Rattle.status_report.specs.declared.Reply.TheVariants as replies
 use Rattle.run_rules.specs.declared.State.{State}
-use Rattle.run_rules.specs.Outcomes.{Before, Becomes, Passed, Follows, start, after, at_place, became_of, told}
+use Rattle.run_rules.specs.Outcomes.{Before, Becomes, ByCommand, Passed, Follows, start, after, at_place, became_of, told}
 use Rattle.run_rules.specs.Outcomes.Passed.{a_line, a_cut}
 use Rattle.run_rules.specs.Asks.{planned}
 use Rattle.run_rules.specs.Told.{replies_in}
 use Rattle.run_rules.specs.Work.{Task, Outcome, is_limit, tells}
 use Rattle.run_rules.specs.Work.Task.{tell}
 use Rattle.run_rules.proofs.Answering.{telling_tells}
-use Rattle.run_rules.proofs.Each.{HoldsOfEach, holds_of_bodies, holds_of_each}
+use Rattle.run_rules.proofs.Each.{HoldsOfEach, holds_of_bodies, holds_of_each, holds_of_commands}
 use Rattle.run_rules.proofs.Items.{PassesTasks, holds_of_move, holds_of_work}
 
 -- ---- lists without an alarm
 
-abbrev NoAlarms : List Reply → Type 0
+abbrev pub NoAlarms : List Reply → Type 0
 NoAlarms rs = list_any is_limit rs ≡ false
 
-any_on : (xs ys : List Reply) → list_any is_limit (xs ++ ys) ≡ (list_any is_limit xs || list_any is_limit ys)
+pub any_on : (xs ys : List Reply) → list_any is_limit (xs ++ ys) ≡ (list_any is_limit xs || list_any is_limit ys)
 any_on xs ys = list_any-append is_limit xs ys
 
-none_on : (xs ys : List Reply) → NoAlarms xs → NoAlarms ys → NoAlarms (xs ++ ys)
+pub none_on : (xs ys : List Reply) → NoAlarms xs → NoAlarms ys → NoAlarms (xs ++ ys)
 none_on xs ys a b = any_on xs ys ∙ ap (λ t. t || list_any is_limit ys) a ∙ b
 
 abbrev Calm : List Task → Type 0
@@ -56,13 +59,13 @@ offsets_told offsets = offsets_calm (enumerate_from 0 (row_places offsets))
 
 -- ---- of a line an alarm is told exactly where it raises one
 
-abbrev TellsSo : Outcome → Type 0
+abbrev pub TellsSo : Outcome → Type 0
 TellsSo o = list_any is_limit (tells o.work) ≡ is_limit o.answer
 
-told_so : (next : State) (body : List Reply) → NoAlarms body → TellsSo (told next body)
+pub told_so : (next : State) (body : List Reply) → NoAlarms body → TellsSo (told next body)
 told_so next body none = ap (list_any is_limit) (telling_tells (body ++ replies.Ok ∷ [])) ∙ none_on body (replies.Ok ∷ []) none refl
 
-tells_so : (runs : Bool) (b : Before) (kept : List ℕ) (o : Outcome) → Becomes runs b kept o → TellsSo o
+pub tells_so : (runs : Bool) (b : Before) (kept : List ℕ) (o : Outcome) → Becomes runs b kept o → TellsSo o
 tells_so runs b kept o is =
     let modal = b.state.parser.modal in
     let each : HoldsOfEach b TellsSo = record {
@@ -73,6 +76,12 @@ tells_so runs b kept o is =
       limits = refl;
     } in
     holds_of_each runs b TellsSo each kept o is
+
+-- of a line that begins with `$` and is no jog
+pub command_so : (b : Before) (r : Result Command Code) (o : Outcome) → ByCommand b r o → TellsSo o
+command_so b r o is =
+    holds_of_commands b TellsSo r o (λ code e. refl) (λ n value code e. refl)
+    (λ next body same kind. told_so next body (holds_of_bodies NoAlarms refl settings_told (λ p. refl) offsets_told body kind)) is
 
 -- ---- of a run
 
@@ -95,7 +104,7 @@ lines_tell runs b (l ∷ ls) (a_line o ∷ ps) last f =
     ∙ lines_tell runs (after b o) ls ps last f.1
 
 -- a report is no alarm
-plain_alarms : (rs : List Reply) → list_any is_limit (without_reports rs) ≡ list_any is_limit rs
+pub plain_alarms : (rs : List Reply) → list_any is_limit (without_reports rs) ≡ list_any is_limit rs
 plain_alarms [] = refl
 plain_alarms (replies.Report r ∷ rs) = plain_alarms rs
 plain_alarms (r ∷ rs) = ap (λ t. is_limit r || t) (plain_alarms rs)
