@@ -1,0 +1,107 @@
+-- What host, board and pulse have done fits the texts.
+use Rattle.std.proofs.Common.{◌≡◌, ◌⊎◌, inl, inr, ℕ, ◌+◌, ◌≤◌, Bool, true, false, not, ◌&&◌, List, [], ◌∷◌, ◌++◌, length, reverse, refl, sym, ap, ◌∙◌, subst, append-nil, arith, ◌||◌}
+use Rattle.std.specs.List.{list_any}
+use Rattle.std.proofs.lemmas.List.{append_cancel_left}
+use Rattle.flight.specs.Places.{origin}
+use Rattle.outside.specs.Causes.{SourceState, SinkState}
+use Rattle.run_law.specs.Runs.{slows_in}
+use Rattle.run_law.proofs.Alarming.{any_on, plain_alarms}
+use Rattle.run_rules.specs.Work.{is_limit}
+use Rattle.run_texts.specs.Courses.{Follows}
+use Rattle.run_texts.specs.Fits.{FitsTexts}
+use Rattle.run_texts.specs.Fronts.{BeginsWith}
+use Rattle.run_texts.specs.Parts.{parts_of}
+use Rattle.run_texts.specs.Points.{opening}
+use Rattle.run_texts.specs.Recorded.{AreRecorded}
+use Rattle.run_texts.specs.Sent.{Sent, behind_reset, sent_of}
+use Rattle.run_texts.specs.SoFar.{LeadsTo}
+use Rattle.run_texts.specs.Told.{IsTold, told_in, has_alarm}
+use Rattle.status_report.specs.declared.Reply.{Reply}
+use Rattle.status_report.specs.declared.Reply.TheVariants.{Banner, Bye}
+use Rattle.stream_host.specs.Ran.{HostEnd, is_sent_out}
+use Rattle.epoch_courses.specs.Told.{without_byes}
+use Rattle.epoch_links.specs.Links.{AwaitsBanners, HasBanners, EndAtMarks}
+use Rattle.epoch_links.specs.Pieces.{joined, items_in, IsFrontOf, IsAllOf}
+use Rattle.epoch_links.proofs.Cutting.{cut_at_marks, one_of_each}
+use Rattle.epoch_links.proofs.Joining.{fronts, wholes}
+use Rattle.epoch_links.proofs.Leaving.{left_behind}
+use Rattle.epoch_records.specs.Publishing.{halts_in, but_none}
+use Rattle.epoch_records.proofs.Epochs.{stretches_put}
+use Rattle.epoch_records.proofs.Over.{are_recorded}
+use Rattle.epoch_records.proofs.Publishing.{some_epochs_of_stretches}
+use Rattle.epoch_law.specs.Joined.{AreConnected, ArePassed}
+use Rattle.epoch_law.specs.Ran.{HostDid, HasSent, BoardDid, BoardRan, PulseDid, PulseRan}
+use Rattle.epoch_law.proofs.Alarms.{course_so}
+use Rattle.epoch_law.proofs.Halts.{none_reversed}
+use Rattle.epoch_law.proofs.Leading.{leads_with_more, follows_to_end, left_of_all}
+use Rattle.epoch_law.proofs.Sending.{cancels_scanned}
+
+-- ---- the records
+
+-- what a pulse puts are the records of the parts of the course
+pub put_recorded : (b : BoardDid) (p : PulseDid) (board : BoardRan b) → PulseRan p → ArePassed b p → AreRecorded origin (parts_of board.course) p.put
+put_recorded b p board pulse passed =
+    are_recorded (parts_of board.course) origin board.epochs p.put board.run
+    (stretches_put board.epochs pulse.stretches pulse.last p.put
+    (some_epochs_of_stretches board.epochs p.halts pulse.stretches pulse.last board.over (pulse.pieces ∙ passed.pieces ∙ board.published_are) pulse.halted
+    (passed.halts ∙ ap but_none board.halts_are ∙ none_reversed (halts_in 0 0 board.epochs))) pulse.put)
+
+-- ---- the replies
+
+-- an alarm was got exactly where a line has raised one
+pub alarm_got : (b : BoardDid) (board : BoardRan b) (got : List Reply) → got ≡ b.answered → has_alarm got ≡ board.last.before.alarmed
+alarm_got b board got same =
+    ap has_alarm same ∙ sym (plain_alarms b.answered) ∙ ap has_alarm board.told ∙ any_on (told_in board.course) (Bye ∷ []) ∙ by_test (has_alarm (told_in board.course))
+    ∙ course_so (opening board.first) board.last (items_in b.taken) [] board.course board.leads
+  where
+    by_test : (t : Bool) → (t || false) ≡ t
+    by_test true = refl
+    by_test false = refl
+
+-- ---- the job
+
+module _ (h : HostDid) (b : BoardDid) (sent : List Sent) (board : BoardRan b) (connected : AreConnected h b) (same : h.got ≡ b.answered) (front : IsFrontOf sent h.stored h.marks) (awaits : AwaitsBanners h.stored h.marks h.at_got)
+    (waits : HasBanners h.marks h.at_got ⊎ IsAllOf sent h.stored h.marks) (greeted : is_sent_out h.shut h.got ≡ true → HasBanners h.marks h.at_got) (whole : is_sent_out h.shut h.got ≡ true → IsAllOf sent h.stored h.marks) where
+  cut : EndAtMarks h.stored h.marks b.taken
+  cut = cut_at_marks h.stored h.marks h.at_got (joined b.taken) b.at_answers b.loaded h.shut b.closed b.taken connected.link awaits board.ends
+
+  begins : BeginsWith sent (items_in b.taken)
+  begins = fronts sent h.stored h.marks h.at_got (joined b.taken) b.at_answers b.loaded h.shut b.closed b.taken front connected.link board.ends cut
+
+  one_reset : behind_reset begins.rest ≡ []
+  one_reset = left_behind sent h.stored h.marks h.at_got (joined b.taken) b.at_answers b.loaded h.shut b.closed b.taken front connected.link awaits board.ends waits begins
+
+  out : board.last.before.alarmed ≡ false → is_sent_out h.shut h.got ≡ true
+  out calm = ap (λ t. t && not (has_alarm h.got)) (connected.link.closes (board.closes calm)) ∙ ap not (alarm_got b board h.got same ∙ calm)
+
+  all_taken : board.last.before.alarmed ≡ false → sent ≡ items_in b.taken
+  all_taken calm =
+      let each = one_of_each h.stored h.marks h.at_got (joined b.taken) b.at_answers b.loaded h.shut b.closed b.taken connected.link awaits board.ends (greeted (out calm)) in
+      wholes sent h.stored h.marks h.at_got (joined b.taken) b.at_answers b.loaded h.shut b.closed b.taken front (whole (out calm)) connected.link board.ends cut (board.closes calm) (omega (arith, each))
+
+  none_left : board.last.before.alarmed ≡ false → begins.rest ≡ []
+  none_left calm = append_cancel_left (items_in b.taken) begins.rest [] (sym begins.is ∙ all_taken calm ∙ sym (append-nil (items_in b.taken)))
+
+  pub job_follows : Follows (opening board.first) sent board.course board.last
+  job_follows =
+      follows_to_end (opening board.first) board.last sent begins.rest board.course
+      (subst (λ (ss : List Sent). LeadsTo (opening board.first) ss board.course board.last begins.rest) (sym begins.is) (leads_with_more (opening board.first) board.last (items_in b.taken) [] begins.rest board.course board.leads))
+      (left_of_all board.last begins.rest board.complete (λ alarm. one_reset) none_left)
+
+-- ---- all of it
+
+pub texts_fit : (job_was job_is : SourceState) (console_was console_is : SinkState) (end : HostEnd) (h : HostDid) (b : BoardDid) (p : PulseDid)
+    → (host : HasSent job_was job_is console_was console_is h end) → BoardRan b → PulseRan p → AreConnected h b → ArePassed b p → h.got ≡ b.answered
+    → FitsTexts (sent_of host.ran.lines host.rest) (slows_in host.ran.scanned) (without_byes h.got) p.put
+texts_fit job_was job_is console_was console_is end h b p host board pulse connected passed same = record {
+  first = board.first;
+  opens = board.opens;
+  course = board.course;
+  last = board.last;
+  follows = job_follows h b (sent_of host.ran.lines host.rest) board connected same host.sends.front host.sends.awaits host.sends.waits host.sends.greeted host.sends.whole;
+  told = subst (λ (rs : List Reply). IsTold board.course (without_byes rs)) (sym same) board.console;
+  recorded = put_recorded b p board pulse passed;
+  few = (let a = board.few in
+      let c = cancels_scanned host.ran.scanned h.raised host.ran.due host.ran.resumes b.words.held b.words.slowed b.words.changed b.words.reset b.words.asked b.words.cancels host.ran.raises_so_far connected.flags.taken in
+      omega (arith, a, c));
+}

@@ -1,0 +1,5 @@
+pub mod Leading
+pub mod Alarms
+pub mod Halts
+pub mod Sending
+pub mod Fitting

@@ -1,0 +1,20 @@
+//! Laws of runs over epochs.
+
+ghost use Rattle.std.specs.Prelude.{◌≡◌};
+ghost use Rattle.outside.specs.Causes.{SourceState, SinkState};
+ghost use Rattle.run_law.specs.Runs.{slows_in};
+ghost use Rattle.run_texts.specs.Fits.{FitsTexts};
+ghost use Rattle.run_texts.specs.Sent.{sent_of};
+ghost use Rattle.stream_host.specs.Ran.{HostEnd};
+ghost use Rattle.epoch_courses.specs.Told.{without_byes};
+ghost use Rattle.epoch_law.specs.Joined.{AreConnected, ArePassed};
+ghost use Rattle.epoch_law.specs.Ran.{HostDid, HasSent, BoardDid, BoardRan, PulseDid, PulseRan};
+
+/// Where a host, a board and a pulse have run over epochs, the board has taken what the host has stored, the host has got what the board
+/// has answered, and the pulse has got or dropped what the board has published, the texts fit: the lines and resets that came of the job,
+/// the replies got, without Bye, and the records put. The bytes scanned that may cut jogs are `!` and 0x85 outside comments.
+pub fn actors_make_texts_that_fit()
+    ensures { (job_was job_is : SourceState) (console_was console_is : SinkState) (end : HostEnd) (h : HostDid) (b : BoardDid) (p : PulseDid) →
+        (host : HasSent job_was job_is console_was console_is h end) → BoardRan b → PulseRan p → AreConnected h b → ArePassed b p → h.got ≡ b.answered →
+        FitsTexts (sent_of host.ran.lines host.rest) (slows_in host.ran.scanned) (without_byes h.got) p.put }
+{}
