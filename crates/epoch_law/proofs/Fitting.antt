@@ -25,6 +25,7 @@ use Rattle.epoch_links.specs.Pieces.{joined, items_in, IsFrontOf, IsAllOf}
 use Rattle.epoch_links.proofs.Cutting.{cut_at_marks, one_of_each}
 use Rattle.epoch_links.proofs.Joining.{fronts, wholes}
 use Rattle.epoch_links.proofs.Leaving.{left_behind}
+use Rattle.epoch_records.specs.Epochs.{ArePut}
 use Rattle.epoch_records.specs.Publishing.{halts_in, but_none}
 use Rattle.epoch_records.proofs.Epochs.{stretches_put}
 use Rattle.epoch_records.proofs.Over.{are_recorded}
@@ -38,13 +39,17 @@ use Rattle.epoch_law.proofs.Sending.{cancels_scanned}
 
 -- ---- the records
 
--- what a pulse puts are the records of the parts of the course
+-- what a pulse puts is put of the epochs that were published
+pub put_of_epochs : (b : BoardDid) (p : PulseDid) (board : BoardRan b) → PulseRan p → ArePassed b p → ArePut board.epochs p.put
+put_of_epochs b p board pulse passed =
+    stretches_put board.epochs pulse.stretches pulse.last p.put
+    (some_epochs_of_stretches board.epochs p.halts pulse.stretches pulse.last board.over (pulse.pieces ∙ passed.pieces ∙ board.published_are) pulse.halted
+    (passed.halts ∙ ap but_none board.halts_are ∙ none_reversed (halts_in 0 0 board.epochs))) pulse.put
+
+-- and these are the records of the parts of the course
 pub put_recorded : (b : BoardDid) (p : PulseDid) (board : BoardRan b) → PulseRan p → ArePassed b p → AreRecorded origin (parts_of board.course) p.put
 put_recorded b p board pulse passed =
-    are_recorded (parts_of board.course) origin board.epochs p.put board.run
-    (stretches_put board.epochs pulse.stretches pulse.last p.put
-    (some_epochs_of_stretches board.epochs p.halts pulse.stretches pulse.last board.over (pulse.pieces ∙ passed.pieces ∙ board.published_are) pulse.halted
-    (passed.halts ∙ ap but_none board.halts_are ∙ none_reversed (halts_in 0 0 board.epochs))) pulse.put)
+    are_recorded (parts_of board.course) origin board.epochs p.put board.run (put_of_epochs b p board pulse passed)
 
 -- ---- the replies
 
@@ -82,6 +87,13 @@ module _ (h : HostDid) (b : BoardDid) (sent : List Sent) (board : BoardRan b) (c
   none_left : board.last.before.alarmed ≡ false → begins.rest ≡ []
   none_left calm = append_cancel_left (items_in b.taken) begins.rest [] (sym begins.is ∙ all_taken calm ∙ sym (append-nil (items_in b.taken)))
 
+  -- what more came of the job than was taken
+  pub more_comes : BeginsWith sent (items_in b.taken)
+  more_comes = begins
+
+  pub is_out : board.last.before.alarmed ≡ false → is_sent_out h.shut h.got ≡ true
+  is_out = out
+
   pub job_follows : Follows (opening board.first) sent board.course board.last
   job_follows =
       follows_to_end (opening board.first) board.last sent begins.rest board.course
@@ -90,7 +102,7 @@ module _ (h : HostDid) (b : BoardDid) (sent : List Sent) (board : BoardRan b) (c
 
 -- ---- all of it
 
-pub texts_fit : (job_was job_is : SourceState) (console_was console_is : SinkState) (end : HostEnd) (h : HostDid) (b : BoardDid) (p : PulseDid)
+abbrev pub texts_fit : (job_was job_is : SourceState) (console_was console_is : SinkState) (end : HostEnd) (h : HostDid) (b : BoardDid) (p : PulseDid)
     → (host : HasSent job_was job_is console_was console_is h end) → BoardRan b → PulseRan p → AreConnected h b → ArePassed b p → h.got ≡ b.answered
     → FitsTexts (sent_of host.ran.lines host.rest) (slows_in host.ran.scanned) (without_byes h.got) p.put
 texts_fit job_was job_is console_was console_is end h b p host board pulse connected passed same = record {
@@ -102,6 +114,6 @@ texts_fit job_was job_is console_was console_is end h b p host board pulse conne
   told = subst (λ (rs : List Reply). IsTold board.course (without_byes rs)) (sym same) board.console;
   recorded = put_recorded b p board pulse passed;
   few = (let a = board.few in
-      let c = cancels_scanned host.ran.scanned h.raised host.ran.due host.ran.resumes b.words.held b.words.slowed b.words.changed b.words.reset b.words.asked b.words.cancels host.ran.raises_so_far connected.flags.taken in
+      let c = cancels_scanned host.ran.scanned h.raised host.ran.due host.ran.resumes host.ran.raises_so_far b.words connected.flags in
       omega (arith, a, c));
 }

@@ -16,7 +16,7 @@ comes_still [] more e = absurd cc
 comes_still (a_text line ∷ sent) more e = comes_still sent more e
 comes_still (a_stop ∷ sent) more e = refl
 
-waiting_still : (sent more : List Sent) → has_reset sent ≡ true → waiting_in (sent ++ more) ≡ waiting_in sent
+pub waiting_still : (sent more : List Sent) → has_reset sent ≡ true → waiting_in (sent ++ more) ≡ waiting_in sent
 waiting_still [] more e = absurd cc
 waiting_still (a_text line ∷ sent) more e = ap (λ (ls : List (List ℕ)). line ∷ ls) (waiting_still sent more e)
 waiting_still (a_stop ∷ sent) more e = refl

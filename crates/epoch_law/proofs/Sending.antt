@@ -1,9 +1,49 @@
--- What is scanned that may cut jogs is raised.
-use Rattle.std.proofs.Common.{◌≡◌, ℕ, ◌≤◌, Bool, List, arith}
-use Rattle.stream_host.specs.Ran.{AreRaised}
-use Rattle.run_law.specs.Flags.{is_slow, AreTaken}
+-- What was taken of words of flags was scanned.
+use Rattle.std.proofs.Common.{◌≡◌, ℕ, ◌+◌, ◌≤◌, Bool, true, List, [], ◌∷◌, map, sum, sym, refl, ap, ◌∙◌, arith}
+use Rattle.std.specs.List.{AllByRecursion, count_by}
+use Rattle.code_table.specs.declared.flags.Ovr.{Ovr}
+use Rattle.run_law.specs.Changes.{IsAskedIn, IsAmong}
+use Rattle.run_law.specs.Flags.{is_hold, is_slow, is_change, AreTaken}
 use Rattle.run_law.specs.Runs.{slows_in}
+use Rattle.run_law.proofs.Changing.{words_were_scanned}
+use Rattle.run_law.proofs.Flagging.{scanned_where_raised}
+use Rattle.run_rules.specs.Reports.{is_query}
+use Rattle.stream_host.specs.Jobs.{served_in}
+use Rattle.stream_host.specs.Ran.{AreRaised}
+use Rattle.epoch_effects.specs.Effects.{EpochEffects}
+use Rattle.epoch_effects.specs.Words.{WordsTaken, IsTakenIn, AreTakenIn}
+use Rattle.epoch_law.specs.Joined.{AreRaisedFor}
+use Rattle.epoch_law.specs.Runs.{IsScannedFor}
 
--- no more words for a hold or a cancel were taken than bytes for one were scanned
-pub cancels_scanned : (scanned raised due : List ℕ) (resumes : ℕ) (held slowed changed reset : Bool) (asked cancels : ℕ) → AreRaised scanned raised due resumes → AreTaken raised held slowed changed reset asked cancels → cancels ≤ slows_in scanned
-cancels_scanned scanned raised due resumes held slowed changed reset asked cancels are taken = let b = taken.cancels_by in let c = are is_slow in omega (arith, b, c)
+module _ (scanned raised due : List ℕ) (resumes : ℕ) (are : AreRaised scanned raised due resumes) (all : WordsTaken) (taken : AreRaisedFor raised all) where
+  -- no more words for a hold or a cancel were taken than bytes for one were scanned
+  pub cancels_scanned : all.cancels ≤ slows_in scanned
+  cancels_scanned = let b = taken.taken.cancels_by in let c = are is_slow in omega (arith, b, c)
+
+  -- nor more that ask for a report
+  pub reports_scanned : all.asked ≤ count_by is_query (served_in scanned)
+  reports_scanned = let b = taken.taken.asked_by in let c = are is_query in omega (arith, b, c)
+
+  pub epoch_scanned : (one : WordsTaken) → IsTakenIn all one → IsScannedFor scanned one
+  epoch_scanned one is = record {
+    held = λ e. scanned_where_raised is_hold scanned raised due resumes refl are (taken.taken.held_by (is.held e));
+    slowed = λ e. scanned_where_raised is_slow scanned raised due resumes refl are (taken.taken.slowed_by (is.slowed e));
+    changed = λ e. scanned_where_raised is_change scanned raised due resumes refl are (taken.taken.changed_by (is.changed e));
+    changes = λ word among. words_were_scanned scanned raised due resumes word are (taken.changes word (is.changes word among));
+  }
+
+  pub epochs_scanned : (es : List EpochEffects) → AllByRecursion (IsTakenIn all) (map (λ e. e.taken) es) → AllByRecursion (λ e. IsScannedFor scanned e.taken) es
+  epochs_scanned [] each = tt
+  epochs_scanned (e ∷ es) each = (epoch_scanned e.taken each.0, epochs_scanned es each.1)
+
+-- ---- of all epochs
+
+maps : (f : WordsTaken → ℕ) (es : List EpochEffects) → map (λ e. f e.taken) es ≡ map f (map (λ e. e.taken) es)
+maps f [] = refl
+maps f (e ∷ es) = ap (λ (ns : List ℕ). f e.taken ∷ ns) (maps f es)
+
+pub all_cancels : (es : List EpochEffects) → sum (map (λ e. e.taken.cancels) es) ≡ sum (map (λ w. w.cancels) (map (λ e. e.taken) es))
+all_cancels es = ap sum (maps (λ w. w.cancels) es)
+
+pub all_asked : (es : List EpochEffects) → sum (map (λ e. e.taken.asked) es) ≡ sum (map (λ w. w.asked) (map (λ e. e.taken) es))
+all_asked es = ap sum (maps (λ w. w.asked) es)

@@ -1,16 +1,20 @@
 -- How what the actors have done goes together.
-use Rattle.std.specs.Prelude.{◌≡◌, ℕ, ◌≤◌, List}
-use Rattle.step_line.specs.Logs.{NewestFirst}
+use Rattle.std.specs.Prelude.{◌≡◌, ℕ, ◌≤◌, Bool, List, length}
+use Rattle.std.specs.List.{AllByRecursion}
+use Rattle.run_rules.specs.Lines.{ended}
+use Rattle.status_report.specs.Answering.{receive_room}
 use Rattle.epoch_links.specs.Links.{AreLinked}
 use Rattle.epoch_links.specs.Pieces.{joined}
 use Rattle.epoch_records.specs.Publishing.{but_none}
 use Rattle.run_law.specs.Changes.{AreAskedIn}
 use Rattle.run_law.specs.Flags.{AreTaken}
-use Rattle.epoch_law.specs.Ran.{HostDid, WordsTaken, BoardDid, PulseDid}
+use Rattle.epoch_effects.specs.Words.{WordsTaken}
+use Rattle.epoch_law.specs.Ran.{HostDid, BoardDid, PulseDid}
 
 -- what was taken of words of flags was raised
 pub record AreRaisedFor (raised : List ℕ) (w : WordsTaken) : Type 0 where
-  pub taken : AreTaken raised w.held w.slowed w.changed w.reset w.asked w.cancels
+  pub reset : Bool
+  pub taken : AreTaken raised w.held w.slowed w.changed reset w.asked w.cancels
   pub changes : AreAskedIn raised w.changes
 
 -- The pieces of a ring: those published are those that the pulse got or dropped; the halts that it stored are those that were seen, but for
@@ -20,7 +24,9 @@ pub record ArePassed (b : BoardDid) (p : PulseDid) : Type 0 where
   pub halts : p.halts ≡ but_none b.halts
   pub known : b.known ≤ p.counted
 
--- host and board by their link and the flags
+-- Host and board by their link and the flags: what goes over the link goes together; what was taken of flags was raised; and the lines that
+-- each reset leaves without an answer take 128 bytes at most, each with its LF.
 pub record AreConnected (h : HostDid) (b : BoardDid) : Type 0 where
   pub link : AreLinked h.stored h.marks h.at_got h.shut (joined b.taken) b.loaded b.at_answers b.closed
   pub flags : AreRaisedFor h.raised b.words
+  pub few : AllByRecursion (λ ls. length (ended ls) ≤ receive_room) b.dropped

@@ -1,13 +1,15 @@
 -- What the host, the board and the pulse have done in a whole run over epochs, as plain lists.
-use Rattle.std.specs.Prelude.{◌≡◌, ◌⊎◌, ℕ, ◌≤◌, Bool, true, false, List, [], ◌∷◌, ◌++◌, length, reverse}
-use Rattle.code_table.specs.declared.flags.Ovr.{Ovr}
+use Rattle.std.specs.Prelude.{◌≡◌, ◌⊎◌, ℕ, ◌≤◌, Bool, true, false, List, [], ◌∷◌, ◌++◌, length, map, reverse, take}
+use Rattle.std.specs.List.{AllByRecursion, flat_map}
 use Rattle.flight.specs.Halts.{Stretch}
 use Rattle.flight.specs.Places.{origin}
 use Rattle.outside.specs.Causes.{SourceState, SinkState}
+use Rattle.planner_runs.specs.Runs.{fresh_plan}
 use Rattle.pulse_engine.specs.Logs.{ticks_in}
-use Rattle.run_rules.specs.Lines.{CutsInto, lines_of}
+use Rattle.run_rules.specs.Lines.{CutsInto, ended, lines_of}
 use Rattle.run_rules.specs.States.{IsOpening}
 use Rattle.run_rules.specs.declared.State.{State}
+use Rattle.run_texts.specs.Besides.{CutsHaveCauses, DropsAreFew}
 use Rattle.run_texts.specs.Courses.{Passed, cuts_in}
 use Rattle.run_texts.specs.Parts.{parts_of}
 use Rattle.run_texts.specs.Points.{Point, opening}
@@ -23,7 +25,13 @@ use Rattle.step_line.specs.Logs.{NewestFirst}
 use Rattle.step_line.specs.declared.Piece.{Piece}
 use Rattle.step_line.specs.declared.Record.{Record}
 use Rattle.stream_host.specs.Ran.{HostEnd, HostRan, is_sent_out}
+use Rattle.step_line.specs.Pieces.{ticks_of}
+use Rattle.epoch_courses.specs.Drives.{Driven, AreDriven}
 use Rattle.epoch_courses.specs.Told.{without_byes}
+use Rattle.epoch_effects.specs.Effects.{EpochEffects, AreEffects}
+use Rattle.epoch_effects.specs.Pieces.{ArePublished}
+use Rattle.epoch_effects.specs.Reports.{HasReported, AreOpened, resets_of}
+use Rattle.epoch_effects.specs.Words.{WordsTaken, AreTakenIn}
 use Rattle.epoch_links.specs.Links.{AwaitsBanners, HasBanners, EndsEpochs}
 use Rattle.epoch_links.specs.Pieces.{Pieces, joined, items_in, IsFrontOf, IsAllOf}
 use Rattle.epoch_records.specs.Epochs.{Epoch}
@@ -65,20 +73,10 @@ pub record HasSent (job_was job_is : SourceState) (console_was console_is : Sink
 
 -- ---- the board
 
--- What a board took of words of flags: whether one for a hold was among them, one for a hold or a jog's cancel, one that changes
--- overrides, and one for a reset; how many asked for a report, and how many for a hold or a cancel; and the words that change overrides.
-pub record WordsTaken : Type 0 where
-  pub held : Bool
-  pub slowed : Bool
-  pub changed : Bool
-  pub reset : Bool
-  pub asked : ℕ
-  pub cancels : ℕ
-  pub changes : List Ovr
-
 -- What a board has done at its port: the bytes that it took, epoch by epoch; the marks that it loaded; how many bytes were taken when each
 -- Banner was answered, the latest first; whether it found the link closed; the words of flags that it took; the replies that it answered;
--- the pieces that it published; the halts that it has seen, the latest first; and how many ticks it found done.
+-- the pieces that it published; the halts that it has seen, the latest first; how many ticks it found done; and of each epoch that it has
+-- ended the lines that it took and has not answered.
 pub record BoardDid : Type 0 where
   pub taken : Pieces
   pub loaded : List Mark
@@ -89,11 +87,20 @@ pub record BoardDid : Type 0 where
   pub published : List Piece
   pub halts : NewestFirst (ℕ × ℕ)
   pub known : ℕ
+  pub dropped : List (List (List ℕ))
+
+-- the ticks that reports are judged by were recorded: they are those that were made in the epoch
+abbrev pub AreMade : List EpochEffects → List Epoch → Type 0
+AreMade [] [] = Unit {0}
+AreMade (e ∷ es) (d ∷ ds) = (take e.made (flat_map ticks_of e.pieces) ≡ take d.done (flat_map ticks_of d.pieces)) × AreMade es ds
+AreMade [] (d ∷ ds) = ⊥
+AreMade (e ∷ es) [] = ⊥
 
 -- A board has run over epochs. What it took has taken a course to its end: each line was begun that it took, and each but one that a reset
--- has broken off is answered. It has answered what the course tells, the banner first and Bye last, with reports among that. Epochs were
--- run for the parts of the course, and these were published, the last with the end. It has ended an epoch for each reset; and jogs were
--- cut as often at most as words for a hold or a cancel were taken. Unless a line has raised an alarm, it found the link closed.
+-- has broken off is answered; each reset drops the lines of its epoch that have no answer, and each cut has a jog as its cause. It has
+-- answered what the course tells, the banner first and Bye last, with reports among that. For each part of the course the planner was given
+-- what its lines ask for; epochs were run for the parts, and these were published, the last with the end. It has ended an epoch for each
+-- reset. What words of flags have done in each epoch is as they were taken. Unless a line has raised an alarm, it found the link closed.
 pub record BoardRan (d : BoardDid) : Type 0 where
   pub first : State
   pub opens : IsOpening first
@@ -103,14 +110,26 @@ pub record BoardRan (d : BoardDid) : Type 0 where
   pub complete : last.unanswered ≡ false
   pub closes : last.before.alarmed ≡ false → d.closed ≡ true
   pub ends : EndsEpochs d.taken (joined d.taken) d.loaded d.at_answers
+  pub causes : CutsHaveCauses (opening first) (items_in d.taken) course
+  pub drops : (room : ℕ) → AllByRecursion (λ ls. length (ended ls) ≤ room) d.dropped → DropsAreFew room 0 (items_in d.taken) course
   pub console : IsTold course (without_byes d.answered)
   pub told : without_reports d.answered ≡ Banner ∷ (told_in course ++ Bye ∷ [])
+  pub drives : List Driven
+  pub driven : AreDriven true origin fresh_plan (parts_of course) drives
   pub epochs : List Epoch
   pub run : AreRun (parts_of course) origin epochs
   pub over : AreOver epochs
   pub published_are : d.published ≡ published_in epochs
   pub halts_are : d.halts ≡ reverse (halts_in 0 0 epochs)
   pub few : cuts_in course ≤ d.words.cancels
+  pub effects : List EpochEffects
+  pub doing : AreEffects course drives effects
+  pub opened : AreOpened first origin false (resets_of course) effects
+  pub reports : AllByRecursion HasReported effects
+  pub answered_are : d.answered ≡ flat_map (λ e. e.answered) effects
+  pub pieces : AllByRecursion ArePublished effects
+  pub made : AreMade effects epochs
+  pub taken_are : AreTakenIn d.words (map (λ e. e.taken) effects)
 
 -- ---- the pulse
 

@@ -1,0 +1,64 @@
+-- Once all is sent out, each reset that was scanned has its Banner.
+use Rattle.std.proofs.Common.{◌≡◌, ℕ, ◌+◌, ◌-◌, ◌≤◌, ◌<◌, Bool, true, false, cond, ◌&&◌, List, [], ◌∷◌, ◌++◌, length, map, reverse, nat_lt, nat_le, sym, refl, ap, ◌∙◌, arith}
+use Rattle.std.specs.List.{count_by, filter, flat_map}
+use Rattle.std.proofs.lemmas.Bool.Decides.{nat_tests}
+use Rattle.std.proofs.lemmas.List.{length-append, length-map, length-reverse}
+use Rattle.std.proofs.lemmas.List.Sums.{sum_by-cons, sum_by-append}
+use Rattle.outside.specs.Causes.{SourceState, SinkState}
+use Rattle.run_rules.specs.Lines.{lines_of}
+use Rattle.stream_host.specs.Epochs.{Epoch, AreEnds}
+use Rattle.stream_host.specs.Jobs.{is_reset, served, served_in, marks_at, marks_behind, sent_text, resets_scanned, lacks_banner}
+use Rattle.stream_host.specs.Links.{banners_in}
+use Rattle.stream_host.specs.Ran.{HostEnd, HostRan, is_sent_out}
+use Rattle.epoch_law.specs.Ran.{HostDid}
+
+-- ---- the marks are as many as the resets
+
+filter_count : (p : ℕ → Bool) (xs : List ℕ) → length (filter p xs) ≡ count_by p xs
+filter_count p [] = refl
+filter_count p (x ∷ xs) = by_test (p x) (filter_count p xs) ∙ sym (sum_by-cons (λ y. cond {A = ℕ} (p y) 1 0) x xs)
+  where
+    by_test : (t : Bool) → length (filter p xs) ≡ count_by p xs → length (cond t (x ∷ filter p xs) (filter p xs)) ≡ cond t 1 0 + count_by p xs
+    by_test true e = omega (arith, e)
+    by_test false e = omega (arith, e)
+
+pub marks_count : (bytes : ℕ) (lines : List (List ℕ)) → length (marks_behind bytes lines) ≡ count_by is_reset (flat_map served lines)
+marks_count bytes [] = refl
+marks_count bytes (line ∷ lines) =
+    let more = bytes + (length (sent_text line) + 1) in
+    let a = length-append (marks_at bytes line) (marks_behind more lines) in
+    let b = length-map (filter is_reset (served line)) (λ (x : ℕ). bytes) in
+    let c = filter_count is_reset (served line) in
+    let i = marks_count more lines in
+    let s = sum_by-append (λ x. cond (is_reset x) 1 0) (served line) (flat_map served lines) in
+    omega (arith, a, b, c, i, s)
+
+ends_count : (marks : List ℕ) (ended : List Epoch) → AreEnds marks ended → length marks ≡ length ended
+ends_count [] [] are = refl
+ends_count [] (e ∷ es) are = absurd are
+ends_count (m ∷ ms) [] are = absurd are
+ends_count (m ∷ ms) (e ∷ es) are = let i = ends_count ms es are.1 in omega (arith, i)
+
+one_more : (resets banners : ℕ) → resets ≡ banners - 1 → lacks_banner resets banners ≡ false
+one_more resets banners e = by_cases (nat_lt 0 resets) refl
+  where
+    by_cases : (t : Bool) → nat_lt 0 resets ≡ t → (t && nat_le banners resets) ≡ false
+    by_cases false is = refl
+    by_cases true is = not_below
+      where
+        some : 0 < resets
+        some = grind (arith, nat_tests, is)
+
+        not_below : nat_le banners resets ≡ false
+        not_below = grind (arith, nat_tests, some, e)
+
+-- so no Banner is lacking
+pub none_lacks : (job_was job_is : SourceState) (console_was console_is : SinkState) (h : HostDid) (end : HostEnd) (ran : HostRan job_was job_is console_was console_is h.stored h.marks h.shut h.raised h.got end)
+    → is_sent_out h.shut h.got ≡ true → lacks_banner (resets_scanned ran.scanned) (banners_in h.got) ≡ false
+none_lacks job_was job_is console_was console_is h end ran out =
+    let ends = ends_count h.marks ran.ended (ran.all_ended out) in
+    let marks = ap length (ran.all_marked out) in
+    let long = length-reverse h.marks in
+    let count = marks_count 0 (lines_of ran.scanned) in
+    let begun = ran.epochs.begun in
+    one_more (resets_scanned ran.scanned) (banners_in h.got) (omega (arith, ends, marks, long, count, begun))
