@@ -96,7 +96,7 @@ no_lines : (xs : List ℕ) → HasNoLf xs → whole_lines xs ≡ []
 no_lines [] none = refl
 no_lines (c ∷ cs) none = rw none.0 (ap (onto_line c) (no_lines cs none.1))
 
-none_left : (first : Opening) (h : Journal) → IsEpoch first h → IsFinished first h → texts_in (bytes_behind h) ≡ []
+pub none_left : (first : Opening) (h : Journal) → IsEpoch first h → IsFinished first h → texts_in (bytes_behind h) ≡ []
 none_left first h is over =
     let done = spent first h is.conducted over in
     ap (λ (whole : Bool). texts_in (open_of h ++ cond whole (10 ∷ []) [])) done.whole ∙ ap texts_in (append-nil (open_of h)) ∙ ap (λ (ls : List (List ℕ)). map a_text ls) (no_lines (open_of h) (bytes_are first h is.conducted).partial)

@@ -182,7 +182,7 @@ closing_byes (goes es h) = only_byes h
 closing_byes (resets es h w) = refl
 
 -- reports and Bye are left out in either order
-both_out : (rs : List Reply) → without_reports (without_byes rs) ≡ without_byes (without_reports rs)
+pub both_out : (rs : List Reply) → without_reports (without_byes rs) ≡ without_byes (without_reports rs)
 both_out [] = refl
 both_out (replies.Bye ∷ rs) = both_out rs
 both_out (replies.Report r ∷ rs) = both_out rs
