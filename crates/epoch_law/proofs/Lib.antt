@@ -4,5 +4,9 @@ pub mod Halts
 pub mod Sending
 pub mod Marking
 pub mod Causing
+pub mod Ending
 pub mod Fitting
 pub mod Making
+pub mod Dropping
+pub mod Having
+pub mod Boarding

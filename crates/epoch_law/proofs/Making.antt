@@ -3,6 +3,7 @@ use Rattle.std.proofs.Common.{◌≡◌, ℕ, ◌+◌, ◌≤◌, Bool, true, fa
 use Rattle.std.specs.List.{count_by, flat_map}
 use Rattle.std.proofs.lemmas.List.Sums.{sum_by-append}
 use Rattle.board_rules.proofs.Plain.{answers_without}
+use Rattle.flight.specs.Places.{origin}
 use Rattle.outside.specs.Causes.{SourceState, SinkState}
 use Rattle.outside.specs.Writing.{Took}
 use Rattle.run_law.specs.Ran.{RecorderRan}
@@ -12,6 +13,7 @@ use Rattle.run_rules.specs.Told.{errors_among, errors_in, limits_in, is_error}
 use Rattle.run_rules.specs.Reports.{is_query}
 use Rattle.run_texts.specs.Besides.{CutsHaveCauses, DropsAreFew}
 use Rattle.run_texts.specs.Courses.{lines_in}
+use Rattle.run_texts.specs.Parts.{parts_of}
 use Rattle.run_texts.specs.Points.{opening}
 use Rattle.run_texts.specs.Sent.{Sent, sent_of}
 use Rattle.run_texts.specs.Told.{told_in, has_alarm}
@@ -30,7 +32,8 @@ use Rattle.epoch_law.specs.Joined.{AreConnected, ArePassed}
 use Rattle.epoch_law.specs.Ran.{HostDid, HasSent, BoardDid, BoardRan, PulseDid, PulseRan}
 use Rattle.epoch_law.specs.Runs.{IsToldAndAnswered, IsRunAndRecorded, HasEffects, HasCauses, HasEnded, IsScannedAndSent, IsRun}
 use Rattle.epoch_law.proofs.Causing.{causes_with_more, drops_with_more}
-use Rattle.epoch_law.proofs.Fitting.{texts_fit, put_of_epochs, alarm_got, more_comes, is_out}
+use Rattle.epoch_law.proofs.Ending.{all_ended, one_end}
+use Rattle.epoch_law.proofs.Fitting.{texts_fit, put_of_epochs, put_recorded, alarm_got, more_comes, is_out}
 use Rattle.epoch_law.proofs.Marking.{none_lacks}
 use Rattle.epoch_law.proofs.Sending.{cancels_scanned, reports_scanned, epochs_scanned, all_cancels, all_asked}
 
@@ -97,7 +100,7 @@ module _ (form : Form) (job_was job_is : SourceState) (was is : Sinks) (end : Ho
     driven = board.driven;
     run = board.run;
     put = put_of_epochs b p board pulse passed;
-    ended = pulse.ended;
+    ended = all_ended (parts_of board.course) origin p.put (one_end board.course) (put_recorded b p board pulse passed);
     steps = subst (λ (rs : List Record). Took was.steps is.steps steps_failed (text_in form rs)) same_records recorder.steps;
   }
 

@@ -1,3 +1,4 @@
 pub mod Ran
 pub mod Joined
 pub mod Runs
+pub mod Journals

@@ -20,9 +20,9 @@ use Rattle.serial_ring.specs.Marks.{Mark}
 use Rattle.status_report.specs.Answering.{without_reports}
 use Rattle.status_report.specs.declared.Reply.{Reply}
 use Rattle.status_report.specs.declared.Reply.TheVariants.{Banner, Bye}
-use Rattle.step_line.specs.Ending.{IsEnded}
 use Rattle.step_line.specs.Logs.{NewestFirst}
 use Rattle.step_line.specs.declared.Piece.{Piece}
+use Rattle.step_line.specs.declared.Piece.TheVariants as pieces_as
 use Rattle.step_line.specs.declared.Record.{Record}
 use Rattle.stream_host.specs.Ran.{HostEnd, HostRan, is_sent_out}
 use Rattle.step_line.specs.Pieces.{ticks_of}
@@ -142,12 +142,13 @@ pub record PulseDid : Type 0 where
   pub put : List Record
 
 -- A pulse has run. Halts part what it got or dropped into stretches; of each it put the first records, up to the ticks that it counted,
--- and all records of what it got behind the last halt, the end at last.
+-- and all records of what it got behind the last halt, of which the last is the end. It has counted each tick that it put.
 pub record PulseRan (d : PulseDid) : Type 0 where
   pub stretches : List Stretch
   pub last : List Piece
   pub pieces : pieces_of_all stretches ++ last ≡ d.got
   pub halted : EndStretches d.halts stretches
   pub put : ArePutOver stretches last d.put
-  pub ended : IsEnded d.put
+  pub before : List Piece
+  pub ends : last ≡ before ++ pieces_as.End ∷ []
   pub ticks : ticks_in d.put ≡ d.counted

@@ -1,16 +1,31 @@
 //! Laws of runs over epochs.
 
-ghost use Rattle.std.specs.Prelude.{◌≡◌, Bool, List};
+ghost use Rattle.std.specs.Prelude.{◌≡◌, Bool, true, List, ◌∷◌};
 ghost use Rattle.outside.specs.Causes.{SourceState, SinkState};
+ghost use Rattle.pulse_engine.specs.Logs.{PieceLog, RecordLog, end_is_put};
+ghost use Rattle.pulse_engine.specs.Steps.{Pulsing};
+ghost use Rattle.pulse_engine.specs.Turns.{PulseFits};
 ghost use Rattle.run_law.specs.Ran.{RecorderRan};
 ghost use Rattle.run_law.specs.Runs.{Sinks, run_end, slows_in};
+ghost use Rattle.run_rules.specs.States.{IsOpening};
+ghost use Rattle.run_rules.specs.declared.State.{State};
 ghost use Rattle.run_texts.specs.Fits.{FitsTexts};
 ghost use Rattle.run_texts.specs.Sent.{sent_of};
+ghost use Rattle.status_report.specs.declared.Reply.{Reply as AnyReply};
+ghost use Rattle.step_line.specs.Logs.{NewestFirst};
 ghost use Rattle.step_line.specs.declared.Record.{Record as AnyRecord};
 ghost use Rattle.step_record.specs.declared.forms.Form.{Form};
-ghost use Rattle.stream_host.specs.Ran.{HostEnd};
-ghost use Rattle.epoch_courses.specs.Told.{without_byes};
+ghost use Rattle.stream_host.specs.Conduct.{Conducted as HostConducted};
+ghost use Rattle.stream_host.specs.Hosts.{TellsJob};
+ghost use Rattle.stream_host.specs.Ran.{HostEnd, HasFinished, TellsConsole, end_of};
+ghost use Rattle.stream_host.specs.Steps.{Journal as HostJournal, scanned_of};
+ghost use Rattle.board_rules.specs.Conduct.{IsFinished};
+ghost use Rattle.board_rules.specs.Steps.{Journal};
+ghost use Rattle.board_epochs.specs.Epochs.{Closed, AreEpochs, opening_behind};
+ghost use Rattle.board_epochs.specs.Epochs.Epochs.{goes};
+ghost use Rattle.epoch_courses.specs.Told.{answered_by, without_byes};
 ghost use Rattle.epoch_law.specs.Joined.{AreConnected, ArePassed};
+ghost use Rattle.epoch_law.specs.Journals.{host_did, board_did, pulse_did};
 ghost use Rattle.epoch_law.specs.Ran.{HostDid, HasSent, BoardDid, BoardRan, PulseDid, PulseRan};
 ghost use Rattle.epoch_law.specs.Runs.{IsRun};
 
@@ -30,4 +45,22 @@ pub fn actors_make_a_run()
         (host : HasSent job_was job_is was.console is.console h end) → BoardRan b → PulseRan p → RecorderRan form was.steps is.steps records steps_failed →
         AreConnected h b → ArePassed b p → h.got ≡ b.answered → records ≡ p.put →
         (run : IsRun form job_was job_is was is (run_end end steps_failed)) × (run.scanned ≡ host.ran.scanned) × (run.replies ≡ h.got) }
+{}
+
+/// A board that keeps to its rules over epochs, has closed its run and has nothing left to do, has run, if what it has answered begins with
+/// the banner: its rules alone let a report come before.
+pub fn boards_have_run()
+    ensures { (state : State) (es : NewestFirst Closed) (h : Journal) (behind : List AnyReply) → IsOpening state → AreEpochs state (goes es h) → IsFinished (opening_behind state es) h →
+        without_byes (answered_by (goes es h)) ≡ AnyReply.Banner ∷ behind → BoardRan (board_did (goes es h)) }
+{}
+
+/// A pulse that has put the end has run, whatever it halted.
+pub fn pulses_have_run()
+    ensures { (p : Pulsing) (h : PieceLog) (k : RecordLog) → PulseFits p h k → end_is_put k ≡ true → PulseRan (pulse_did h k) }
+{}
+
+/// A host that keeps to its rules, has got Bye, and has written all or met a write that failed, has run over epochs.
+pub fn hosts_have_sent()
+    ensures { (h : HostJournal) (job_was job_is : SourceState) (console_was console_is : SinkState) → HostConducted h → HasFinished h → TellsJob h job_was job_is → TellsConsole h console_was console_is →
+        (sent : HasSent job_was job_is console_was console_is (host_did h) (end_of h)) × (sent.ran.scanned ≡ scanned_of h) }
 {}

@@ -1,0 +1,71 @@
+-- A pulse and a host that have done their work have run.
+use Rattle.std.proofs.Common.{◌≡◌, ℕ, inl, inr, Bool, true, false, ◌&&◌, not, List, [], ◌∷◌, ◌++◌, reverse, refl, sym, ap, ◌∙◌, subst}
+use Rattle.std.proofs.lemmas.List.{reverse-append}
+use Rattle.outside.specs.Causes.{SourceState, SinkState}
+use Rattle.pulse_engine.specs.Logs.{PieceLog, RecordLog, end_is_put}
+use Rattle.pulse_engine.specs.Steps.{Pulsing}
+use Rattle.pulse_engine.specs.Turns.{PulseFits}
+use Rattle.pulse_engine.proofs.Whole.{done_put}
+use Rattle.step_line.specs.declared.Piece.TheVariants as pieces
+use Rattle.stream_host.specs.Conduct.{Conducted}
+use Rattle.stream_host.specs.Ran.{HasFinished, TellsConsole, end_of, is_sent_out}
+use Rattle.stream_host.specs.Hosts.{TellsJob}
+use Rattle.stream_host.specs.Steps.{Journal, is_shut, got_of, has_limit, scanned_of, cut_of, raw_of}
+use Rattle.stream_host.proofs.Keeping.{IsCut, cut_is}
+use Rattle.stream_host.proofs.Running.{has_run_of, ran_lines}
+use Rattle.epoch_links.proofs.Awaiting.{awaits, all_got, got_or_all}
+use Rattle.epoch_links.proofs.Sending.{sends_front, sends_all}
+use Rattle.epoch_records.specs.Stretches.{stretches_in, pieces_since}
+use Rattle.epoch_records.proofs.Pulsing.{all_pieces, halts_end, done_over}
+use Rattle.epoch_law.specs.Journals.{host_did, pulse_did}
+use Rattle.epoch_law.specs.Ran.{HasSent, IsRest, Sends, PulseRan}
+
+pub pulse_ran : (p : Pulsing) (h : PieceLog) (k : RecordLog) → PulseFits p h k → end_is_put k ≡ true → PulseRan (pulse_did h k)
+pulse_ran p h k fits end =
+    let d = done_put p h k fits end in
+    record {
+      stretches = stretches_in h;
+      last = pieces_since h;
+      pieces = all_pieces h;
+      halted = halts_end h;
+      put = done_over p h k fits end;
+      before = reverse d.1.0;
+      ends = ap reverse d.1.1 ∙ reverse-append (pieces.End ∷ []) d.1.0;
+      ticks = d.3;
+    }
+
+-- ---- the host
+
+-- the rest that was scanned is that of its lines
+rest_is : (h : Journal) → Conducted h → IsRest (scanned_of h) (cut_of h) (raw_of h)
+rest_is h c = by_cut (cut_is h c)
+  where
+    by_cut : IsCut h → IsRest (scanned_of h) (cut_of h) (raw_of h)
+    by_cut (inl is) = inl is
+    by_cut (inr over) = inr (over.whole, over.none)
+
+-- all is sent out where the link is closed and no alarm was got
+sent_shut : (shut limit : Bool) → (shut && not limit) ≡ true → (shut ≡ true) × (limit ≡ false)
+sent_shut true false e = (refl, refl)
+sent_shut true true e = absurd cc
+sent_shut false limit e = absurd cc
+
+pub host_sent : (h : Journal) (job_was job_is : SourceState) (console_was console_is : SinkState) → Conducted h → HasFinished h → TellsJob h job_was job_is → TellsConsole h console_was console_is
+    → (sent : HasSent job_was job_is console_was console_is (host_did h) (end_of h)) × (sent.ran.scanned ≡ scanned_of h)
+host_sent h job_was job_is console_was console_is c finished job console =
+    let ran = has_run_of h job_was job_is console_was console_is c finished job console in
+    let lines : ran.0.lines ≡ cut_of h = ran_lines h job_was job_is console_was console_is c finished job console in (
+      record {
+        ran = ran.0;
+        rest = raw_of h;
+        is_rest = subst (λ (s : List ℕ). IsRest s ran.0.lines (raw_of h)) (sym ran.1) (subst (λ (ls : List (List ℕ)). IsRest (scanned_of h) ls (raw_of h)) (sym lines) (rest_is h c));
+        sends = subst (λ (ls : List (List ℕ)). Sends ls (raw_of h) (host_did h)) (sym lines) (record {
+          front = sends_front h c;
+          awaits = awaits h c;
+          waits = got_or_all h c;
+          greeted = λ out. let s = sent_shut (is_shut h) (has_limit h) out in all_got h c s.0 s.1;
+          whole = λ out. let s = sent_shut (is_shut h) (has_limit h) out in sends_all h c s.0 s.1;
+        });
+      },
+      ran.1,
+    )
