@@ -1,16 +1,13 @@
 -- The alarm of a soft limit is told exactly where a line has raised it.
 use Rattle.std.proofs.Common.{◌≡◌, ℕ, Bool, true, false, ◌||◌, List, [], ◌∷◌, ◌++◌, refl, sym, ap, ◌∙◌, subst}
-use Rattle.std.specs.List.{list_any}
-use Rattle.std.specs.declared.result.Result.{Result}
 use Rattle.system_lines.specs.Commands.{kind_of, command_of}
 use Rattle.system_lines.specs.declared.Kind.{Kind as DollarKind}
 use Rattle.system_lines.specs.declared.Kind.TheVariants as kinds
 use Rattle.status_report.specs.declared.Message.TheVariants as messages
-use Rattle.status_report.specs.declared.Reply.{Reply}
 use Rattle.status_report.specs.declared.Reply.TheVariants as replies
 use Rattle.run_rules.specs.Locking.{ByLockedDollar, ByLockedKept, BecomesLocked}
-use Rattle.run_rules.specs.Outcomes.{Before, Becomes, either, refused}
-use Rattle.run_rules.specs.Work.{Outcome, tells, is_limit}
+use Rattle.run_rules.specs.Outcomes.{Before, either, refused}
+use Rattle.run_rules.specs.Work.{Outcome, tells}
 use Rattle.run_texts.specs.Courses.{Passed, Reset, behind_cut, behind_the_reset}
 use Rattle.run_texts.specs.Courses.Passed.{a_line, a_broken, a_cut, a_reset}
 use Rattle.run_texts.specs.Points.{Point, BecomesAt, behind_line, behind_broken}
@@ -18,7 +15,7 @@ use Rattle.run_texts.specs.Sent.{Sent, behind_reset}
 use Rattle.run_texts.specs.Sent.Sent.{a_text, a_stop}
 use Rattle.run_texts.specs.SoFar.{LeadsTo}
 use Rattle.run_texts.specs.Told.{told_in, told_at_reset, has_alarm}
-use Rattle.run_law.proofs.Alarming.{TellsSo, any_on, none_on, told_so, command_so, tells_so}
+use Rattle.run_law.proofs.Alarming.{TellsSo, any_on, told_so, command_so, tells_so}
 
 -- ---- of a line, also while the machine is locked
 

@@ -1,5 +1,5 @@
 -- A board that keeps to its rules over epochs, and is done, has run.
-use Rattle.std.proofs.Common.{◌≡◌, ◌⊎◌, inl, inr, ℕ, ◌+◌, ◌≤◌, Bool, true, false, List, [], ◌∷◌, ◌++◌, length, map, take, refl, sym, ap, ◌∙◌, subst, append-nil, append_assoc, arith}
+use Rattle.std.proofs.Common.{◌≡◌, ◌⊎◌, inl, inr, ℕ, ◌≤◌, true, false, List, [], ◌∷◌, ◌++◌, length, map, take, refl, sym, ap, ◌∙◌, subst, append-nil, arith}
 use Rattle.std.specs.List.{AllByRecursion, flat_map}
 use Rattle.std.proofs.lemmas.Grind.{flat_map-append}
 use Rattle.run_rules.specs.declared.State.{State}
@@ -8,7 +8,7 @@ use Rattle.run_rules.specs.Lines.{ended}
 use Rattle.run_texts.specs.Besides.{CutsHaveCauses, DropsAreFew}
 use Rattle.run_texts.specs.Points.{opening}
 use Rattle.run_texts.specs.Sent.{Sent}
-use Rattle.run_texts.specs.Sent.Sent.{a_text, a_stop}
+use Rattle.run_texts.specs.Sent.Sent.{a_stop}
 use Rattle.run_texts.specs.SoFar.{LeadsTo}
 use Rattle.run_texts.specs.Told.{IsTold}
 use Rattle.status_report.specs.declared.Reply.{Reply}
@@ -21,15 +21,15 @@ use Rattle.step_line.specs.declared.Piece.TheVariants as pieces
 use Rattle.step_line.specs.declared.Record.{Record}
 use Rattle.board_rules.specs.Conduct.{Conducted, IsFinished}
 use Rattle.board_rules.specs.Openings.{Opening}
-use Rattle.board_rules.specs.Ports.{BoardLog, has_closed_in, taken_in}
+use Rattle.board_rules.specs.Ports.{BoardLog, has_closed_in}
 use Rattle.board_rules.specs.Ports.PortStep.{found_closed}
-use Rattle.board_rules.specs.Steps.{Journal, port_log, has_closed, has_limited, known_of, lines_of, planned_of, published_of, taken_of}
+use Rattle.board_rules.specs.Steps.{Journal, port_log, has_closed, has_limited, known_of, planned_of, published_of, taken_of}
 use Rattle.board_rules.proofs.Alarms.{alarmed_is, opposite}
 use Rattle.board_rules.proofs.Closing.{no_more_ticks, spent}
 use Rattle.board_rules.proofs.Keeping.{hand_is}
-use Rattle.board_epochs.specs.Epochs.{Closed, AreClosed, AreEpochs, IsEpoch, log_of, log_on, opening_behind, point_of}
+use Rattle.board_epochs.specs.Epochs.{Closed, AreEpochs, log_of, log_on, opening_behind, point_of}
 use Rattle.board_epochs.specs.Epochs.Epochs.{goes}
-use Rattle.epoch_courses.specs.Course.{closed_course, course_of, passed_so_far, point_behind}
+use Rattle.epoch_courses.specs.Course.{course_of, passed_so_far, point_behind}
 use Rattle.epoch_courses.specs.Drives.{drives_of}
 use Rattle.epoch_courses.specs.Taken.{texts_in, bytes_with, bytes_behind, closed_texts, sent_by}
 use Rattle.epoch_courses.specs.Told.{answered_by, without_byes}
@@ -52,11 +52,13 @@ use Rattle.epoch_links.specs.Taken.{taken_before, taken_by}
 use Rattle.epoch_links.proofs.Carrying.{items_more}
 use Rattle.epoch_links.proofs.Ending.{ends_epochs}
 use Rattle.epoch_records.specs.Epochs.{Epoch}
+use Rattle.epoch_records.specs.Publishing.{published_in}
 use Rattle.epoch_runs.specs.Epochs.{epochs_of, closed_epochs}
 use Rattle.epoch_runs.proofs.Runs.{epochs_run}
 use Rattle.epoch_runs.proofs.Sent.{epochs_over, epochs_sent, epochs_halted}
 use Rattle.epoch_law.specs.Journals.{board_did}
 use Rattle.epoch_law.specs.Ran.{BoardRan, AreMade}
+use Rattle.epoch_law.proofs.Published.{before_all, none_before}
 use Rattle.epoch_law.proofs.Dropping.{drops_closed, none_dropped, none_passed}
 
 -- ---- what was taken
@@ -149,6 +151,9 @@ module _ (state : State) (es : NewestFirst Closed) (h : Journal) (c : AreEpochs 
     run = epochs_run state made es h c over known;
     over = epochs_over state es h c.0;
     published_are = epochs_sent state es h c over;
+    before_end = published_in (closed_epochs state es) ++ planned_of h;
+    ends_with = epochs_sent state es h c over ∙ before_all state es h;
+    once = none_before state es h c.0 c.1.conducted;
     halts_are = epochs_halted state es h c;
     few = course_cuts state made (goes es h) c;
     effects = effects_of state made (goes es h);

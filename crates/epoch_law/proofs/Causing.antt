@@ -1,5 +1,5 @@
 -- What causes cuts, and what resets drop, where more comes of the job.
-use Rattle.std.proofs.Common.{◌≡◌, ℕ, ◌+◌, ◌≤◌, List, [], ◌∷◌, ◌++◌, length, ap, subst, sym, arith}
+use Rattle.std.proofs.Common.{ℕ, ◌+◌, List, [], ◌∷◌, ◌++◌, length, ap, subst, sym, arith}
 use Rattle.run_rules.specs.Lines.{ended}
 use Rattle.run_texts.specs.Besides.{CutsHaveCauses, DropsAreFew}
 use Rattle.run_texts.specs.Courses.{Passed, behind_cut, behind_the_reset}

@@ -1,5 +1,5 @@
 -- The resets of a board's course drop the lines of their epochs that have no answer.
-use Rattle.std.proofs.Common.{◌≡◌, ℕ, zero, suc, ◌+◌, ◌≤◌, Bool, true, false, cond, List, [], ◌∷◌, ◌++◌, length, map, drop, refl, sym, ap, ◌∙◌, subst, append-nil, append_assoc, arith}
+use Rattle.std.proofs.Common.{◌≡◌, ℕ, ◌+◌, ◌≤◌, Bool, true, false, cond, List, [], ◌∷◌, ◌++◌, length, map, drop, refl, sym, ap, ◌∙◌, subst, append_assoc, arith}
 use Rattle.std.specs.List.{AllByRecursion}
 use Rattle.std.proofs.lemmas.List.Sums.{sum_by-cons}
 use Rattle.flight.specs.Places.{end_from}
@@ -20,14 +20,13 @@ use Rattle.status_report.proofs.Answered.{answers_on}
 use Rattle.step_line.specs.Logs.{NewestFirst}
 use Rattle.board_rules.specs.Openings.{Opening}
 use Rattle.board_rules.specs.Ports.{taken_in}
-use Rattle.board_rules.specs.Steps.{Journal, port_log, answered_of, given_of, known_of, lines_of, taken_of}
-use Rattle.board_rules.specs.Steps.Step.{at_port, began, cut}
+use Rattle.board_rules.specs.Steps.{Journal, port_log, answered_of, given_of, known_of, lines_of}
+use Rattle.board_rules.specs.Steps.Step.{began, cut}
 use Rattle.board_rules.proofs.Opening.{greets_unanswered, opened}
 use Rattle.board_rules.proofs.Plain.{answers_without}
 use Rattle.board_epochs.specs.Epochs.{Closed, AreClosed, IsEpoch, opening_behind, point_of, reset_of, ticks_made}
 use Rattle.board_epochs.specs.Resets.{MayReset}
-use Rattle.board_epochs.specs.Work.{Work}
-use Rattle.epoch_courses.specs.Course.{is_made, made_at_halt, passed_by, passed_so_far, passed_at_reset, closed_course, is_unanswered, point_at_reset}
+use Rattle.epoch_courses.specs.Course.{is_made, made_at_halt, passed_by, passed_at_reset, closed_course, is_unanswered, point_at_reset}
 use Rattle.epoch_courses.specs.Taken.{texts_in, bytes_with, bytes_behind, closed_texts}
 use Rattle.epoch_courses.proofs.Halted.{known_made}
 use Rattle.epoch_courses.proofs.Resets.{comes_there}

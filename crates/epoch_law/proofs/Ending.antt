@@ -1,5 +1,5 @@
 -- The records of a course end with the end, which comes once.
-use Rattle.std.proofs.Common.{◌≡◌, Bool, true, false, List, [], ◌∷◌, ◌++◌, refl, sym, ap, ◌∙◌, append_assoc}
+use Rattle.std.proofs.Common.{◌≡◌, true, false, List, [], ◌∷◌, ◌++◌, refl, sym, ap, ◌∙◌, append_assoc}
 use Rattle.std.specs.List.{AllByRecursion}
 use Rattle.std.proofs.lemmas.List.Elements.{All-from_recursion, recursion_from_All}
 use Rattle.units.specs.declared.Steps3.{Steps3}
@@ -10,7 +10,7 @@ use Rattle.run_texts.specs.Courses.Passed.{a_line, a_broken, a_cut, a_reset}
 use Rattle.run_texts.specs.Parts.{Ending, Part, parts_of, ends_here, onto_first, begun_first, ending_record, is_ending}
 use Rattle.run_texts.specs.Parts.Ending.{by_cut, by_reset, by_end}
 use Rattle.run_texts.specs.Recorded.{AreRecorded}
-use Rattle.step_line.specs.Ending.{HasNoEnd, IsEnded}
+use Rattle.step_line.specs.Ending.{IsEnded}
 use Rattle.step_line.specs.declared.Record.{Record}
 use Rattle.step_line.specs.declared.Record.TheVariants as kinds
 

@@ -1,13 +1,12 @@
 -- What host, board and pulse have done fits the texts.
-use Rattle.std.proofs.Common.{◌≡◌, ◌⊎◌, inl, inr, ℕ, ◌+◌, ◌≤◌, Bool, true, false, not, ◌&&◌, List, [], ◌∷◌, ◌++◌, length, reverse, refl, sym, ap, ◌∙◌, subst, append-nil, arith, ◌||◌}
-use Rattle.std.specs.List.{list_any}
+use Rattle.std.proofs.Common.{◌≡◌, ◌⊎◌, Bool, true, false, not, ◌&&◌, List, [], ◌∷◌, ◌++◌, drop, refl, sym, ap, ◌∙◌, subst, append-nil, arith, ◌||◌}
 use Rattle.std.proofs.lemmas.List.{append_cancel_left}
+use Rattle.std.proofs.lemmas.List.Elements.{filter-append}
 use Rattle.flight.specs.Places.{origin}
 use Rattle.outside.specs.Causes.{SourceState, SinkState}
 use Rattle.run_law.specs.Runs.{slows_in}
 use Rattle.run_law.proofs.Alarming.{any_on, plain_alarms}
-use Rattle.run_rules.specs.Work.{is_limit}
-use Rattle.run_texts.specs.Courses.{Follows}
+use Rattle.run_texts.specs.Courses.{Passed, Follows}
 use Rattle.run_texts.specs.Fits.{FitsTexts}
 use Rattle.run_texts.specs.Fronts.{BeginsWith}
 use Rattle.run_texts.specs.Parts.{parts_of}
@@ -16,10 +15,12 @@ use Rattle.run_texts.specs.Recorded.{AreRecorded}
 use Rattle.run_texts.specs.Sent.{Sent, behind_reset, sent_of}
 use Rattle.run_texts.specs.SoFar.{LeadsTo}
 use Rattle.run_texts.specs.Told.{IsTold, told_in, has_alarm}
+use Rattle.status_report.specs.Answering.{is_bye, without_reports}
 use Rattle.status_report.specs.declared.Reply.{Reply}
 use Rattle.status_report.specs.declared.Reply.TheVariants.{Banner, Bye}
 use Rattle.stream_host.specs.Ran.{HostEnd, is_sent_out}
 use Rattle.epoch_courses.specs.Told.{without_byes}
+use Rattle.epoch_courses.proofs.Told.{both_out}
 use Rattle.epoch_links.specs.Links.{AwaitsBanners, HasBanners, EndAtMarks}
 use Rattle.epoch_links.specs.Pieces.{joined, items_in, IsFrontOf, IsAllOf}
 use Rattle.epoch_links.proofs.Cutting.{cut_at_marks, one_of_each}
@@ -53,10 +54,25 @@ put_recorded b p board pulse passed =
 
 -- ---- the replies
 
+-- of a front of some replies that has all but reports
+begun_by : (xs ys behind ts : List Reply) → xs ++ ys ≡ Banner ∷ behind → without_reports xs ≡ Banner ∷ ts → (later : List Reply) × (xs ≡ Banner ∷ later) × (without_reports later ≡ ts)
+begun_by [] ys behind ts e plain = absurd cc
+begun_by (x ∷ xs) ys behind ts e plain =
+    let first : x ≡ Banner = cc in
+    (xs, ap (λ (r : Reply). r ∷ xs) first, ap (drop 1) (ap (λ (r : Reply). without_reports (r ∷ xs)) (sym first) ∙ plain))
+
+pub told_front : (course : List Passed) (answered got : List Reply) → BeginsWith answered got → without_reports got ≡ without_reports answered → IsTold course (without_byes answered) → IsTold course (without_byes got)
+told_front course answered got front same told =
+    let plain : without_reports (without_byes got) ≡ Banner ∷ told_in course =
+    both_out got ∙ ap without_byes same ∙ sym (both_out answered) ∙ ap without_reports told.begins ∙ ap (λ (rs : List Reply). Banner ∷ rs) told.told in
+    let b = begun_by (without_byes got) (without_byes front.rest) told.behind (told_in course)
+    (sym (filter-append (λ r. not (is_bye r)) got front.rest) ∙ ap without_byes (sym front.is) ∙ told.begins) plain in
+    record { behind = b.0; begins = b.1; told = b.2 }
+
 -- an alarm was got exactly where a line has raised one
-pub alarm_got : (b : BoardDid) (board : BoardRan b) (got : List Reply) → got ≡ b.answered → has_alarm got ≡ board.last.before.alarmed
+pub alarm_got : (b : BoardDid) (board : BoardRan b) (got : List Reply) → without_reports got ≡ without_reports b.answered → has_alarm got ≡ board.last.before.alarmed
 alarm_got b board got same =
-    ap has_alarm same ∙ sym (plain_alarms b.answered) ∙ ap has_alarm board.told ∙ any_on (told_in board.course) (Bye ∷ []) ∙ by_test (has_alarm (told_in board.course))
+    sym (plain_alarms got) ∙ ap has_alarm (same ∙ board.told) ∙ any_on (told_in board.course) (Bye ∷ []) ∙ by_test (has_alarm (told_in board.course))
     ∙ course_so (opening board.first) board.last (items_in b.taken) [] board.course board.leads
   where
     by_test : (t : Bool) → (t || false) ≡ t
@@ -65,7 +81,7 @@ alarm_got b board got same =
 
 -- ---- the job
 
-module _ (h : HostDid) (b : BoardDid) (sent : List Sent) (board : BoardRan b) (connected : AreConnected h b) (same : h.got ≡ b.answered) (front : IsFrontOf sent h.stored h.marks) (awaits : AwaitsBanners h.stored h.marks h.at_got)
+module _ (h : HostDid) (b : BoardDid) (sent : List Sent) (board : BoardRan b) (connected : AreConnected h b) (same : without_reports h.got ≡ without_reports b.answered) (front : IsFrontOf sent h.stored h.marks) (awaits : AwaitsBanners h.stored h.marks h.at_got)
     (waits : HasBanners h.marks h.at_got ⊎ IsAllOf sent h.stored h.marks) (greeted : is_sent_out h.shut h.got ≡ true → HasBanners h.marks h.at_got) (whole : is_sent_out h.shut h.got ≡ true → IsAllOf sent h.stored h.marks) where
   cut : EndAtMarks h.stored h.marks b.taken
   cut = cut_at_marks h.stored h.marks h.at_got (joined b.taken) b.at_answers b.loaded h.shut b.closed b.taken connected.link awaits board.ends
@@ -103,15 +119,15 @@ module _ (h : HostDid) (b : BoardDid) (sent : List Sent) (board : BoardRan b) (c
 -- ---- all of it
 
 abbrev pub texts_fit : (job_was job_is : SourceState) (console_was console_is : SinkState) (end : HostEnd) (h : HostDid) (b : BoardDid) (p : PulseDid)
-    → (host : HasSent job_was job_is console_was console_is h end) → BoardRan b → PulseRan p → AreConnected h b → ArePassed b p → h.got ≡ b.answered
+    → (host : HasSent job_was job_is console_was console_is h end) → BoardRan b → PulseRan p → AreConnected h b → ArePassed b p → BeginsWith b.answered h.got → without_reports h.got ≡ without_reports b.answered
     → FitsTexts (sent_of host.ran.lines host.rest) (slows_in host.ran.scanned) (without_byes h.got) p.put
-texts_fit job_was job_is console_was console_is end h b p host board pulse connected passed same = record {
+texts_fit job_was job_is console_was console_is end h b p host board pulse connected passed begins same = record {
   first = board.first;
   opens = board.opens;
   course = board.course;
   last = board.last;
   follows = job_follows h b (sent_of host.ran.lines host.rest) board connected same host.sends.front host.sends.awaits host.sends.waits host.sends.greeted host.sends.whole;
-  told = subst (λ (rs : List Reply). IsTold board.course (without_byes rs)) (sym same) board.console;
+  told = told_front board.course b.answered h.got begins same board.console;
   recorded = put_recorded b p board pulse passed;
   few = (let a = board.few in
       let c = cancels_scanned host.ran.scanned h.raised host.ran.due host.ran.resumes host.ran.raises_so_far b.words connected.flags in

@@ -1,5 +1,5 @@
 -- A pulse and a host that have done their work have run.
-use Rattle.std.proofs.Common.{◌≡◌, ℕ, inl, inr, Bool, true, false, ◌&&◌, not, List, [], ◌∷◌, ◌++◌, reverse, refl, sym, ap, ◌∙◌, subst}
+use Rattle.std.proofs.Common.{◌≡◌, ℕ, inl, inr, Bool, true, false, ◌&&◌, not, List, [], ◌∷◌, reverse, refl, sym, ap, ◌∙◌, subst}
 use Rattle.std.proofs.lemmas.List.{reverse-append}
 use Rattle.outside.specs.Causes.{SourceState, SinkState}
 use Rattle.pulse_engine.specs.Logs.{PieceLog, RecordLog, end_is_put}
@@ -8,9 +8,9 @@ use Rattle.pulse_engine.specs.Turns.{PulseFits}
 use Rattle.pulse_engine.proofs.Whole.{done_put}
 use Rattle.step_line.specs.declared.Piece.TheVariants as pieces
 use Rattle.stream_host.specs.Conduct.{Conducted}
-use Rattle.stream_host.specs.Ran.{HasFinished, TellsConsole, end_of, is_sent_out}
+use Rattle.stream_host.specs.Ran.{HasFinished, TellsConsole, end_of}
 use Rattle.stream_host.specs.Hosts.{TellsJob}
-use Rattle.stream_host.specs.Steps.{Journal, is_shut, got_of, has_limit, scanned_of, cut_of, raw_of}
+use Rattle.stream_host.specs.Steps.{Journal, is_shut, has_limit, scanned_of, cut_of, raw_of}
 use Rattle.stream_host.proofs.Keeping.{IsCut, cut_is}
 use Rattle.stream_host.proofs.Running.{has_run_of, ran_lines}
 use Rattle.epoch_links.proofs.Awaiting.{awaits, all_got, got_or_all}

@@ -9,4 +9,7 @@ pub mod Fitting
 pub mod Making
 pub mod Dropping
 pub mod Having
+pub mod Published
 pub mod Boarding
+pub mod Fronts
+pub mod Connecting

@@ -1,18 +1,16 @@
 -- Four actors make a run.
-use Rattle.std.proofs.Common.{◌≡◌, ℕ, ◌+◌, ◌≤◌, Bool, true, false, cond, List, [], ◌∷◌, ◌++◌, length, map, sum, refl, sym, ap, ◌∙◌, subst, arith}
-use Rattle.std.specs.List.{count_by, flat_map}
+use Rattle.std.proofs.Common.{◌≡◌, ◌+◌, Bool, true, false, cond, List, [], ◌∷◌, ◌++◌, refl, sym, ap, ◌∙◌, subst, arith}
 use Rattle.std.proofs.lemmas.List.Sums.{sum_by-append}
 use Rattle.board_rules.proofs.Plain.{answers_without}
 use Rattle.flight.specs.Places.{origin}
-use Rattle.outside.specs.Causes.{SourceState, SinkState}
+use Rattle.outside.specs.Causes.{SourceState}
 use Rattle.outside.specs.Writing.{Took}
 use Rattle.run_law.specs.Ran.{RecorderRan}
-use Rattle.run_law.specs.Runs.{Sinks, run_end, slows_in}
+use Rattle.run_law.specs.Runs.{Sinks, run_end}
 use Rattle.run_law.proofs.Reporting.{errors_without}
-use Rattle.run_rules.specs.Told.{errors_among, errors_in, limits_in, is_error}
-use Rattle.run_rules.specs.Reports.{is_query}
+use Rattle.run_rules.specs.Told.{errors_among, is_error}
 use Rattle.run_texts.specs.Besides.{CutsHaveCauses, DropsAreFew}
-use Rattle.run_texts.specs.Courses.{lines_in}
+use Rattle.run_texts.specs.Fronts.{BeginsWith}
 use Rattle.run_texts.specs.Parts.{parts_of}
 use Rattle.run_texts.specs.Points.{opening}
 use Rattle.run_texts.specs.Sent.{Sent, sent_of}
@@ -24,7 +22,6 @@ use Rattle.status_report.proofs.Answered.{answers_on}
 use Rattle.step_line.specs.declared.Record.{Record}
 use Rattle.step_record.specs.declared.forms.Form.{Form}
 use Rattle.step_record.specs.Forms.{text_in}
-use Rattle.stream_host.specs.Jobs.{served_in}
 use Rattle.stream_host.specs.Ran.{HostEnd, is_sent_out}
 use Rattle.epoch_effects.proofs.Once.{course_answers}
 use Rattle.epoch_links.specs.Pieces.{items_in}
@@ -42,7 +39,7 @@ errors_on rs ss = sum_by-append (λ s. cond (is_error s) 1 0) rs ss
 
 module _ (form : Form) (job_was job_is : SourceState) (was is : Sinks) (end : HostEnd) (steps_failed : Bool) (h : HostDid) (b : BoardDid) (p : PulseDid) (records : List Record)
     (host : HasSent job_was job_is was.console is.console h end) (board : BoardRan b) (pulse : PulseRan p) (recorder : RecorderRan form was.steps is.steps records steps_failed)
-    (connected : AreConnected h b) (passed : ArePassed b p) (same_replies : h.got ≡ b.answered) (same_records : records ≡ p.put) where
+    (connected : AreConnected h b) (passed : ArePassed b p) (begins : BeginsWith b.answered h.got) (same_replies : without_reports h.got ≡ without_reports b.answered) (same_records : records ≡ p.put) where
   abbrev sent : List Sent
   sent = sent_of host.ran.lines host.rest
 
@@ -59,7 +56,7 @@ module _ (form : Form) (job_was job_is : SourceState) (was is : Sinks) (end : Ho
   sent_out calm = is_out h b sent board connected same_replies host.sends.front host.sends.awaits host.sends.waits host.sends.greeted host.sends.whole (sym alarm ∙ calm)
 
   told : without_reports h.got ≡ Banner ∷ (told_in board.course ++ Bye ∷ [])
-  told = ap without_reports same_replies ∙ board.told
+  told = same_replies ∙ board.told
 
   answers : answers_in h.got ≡ answers_in (told_in board.course)
   answers = let a = answers_without h.got in let t = ap answers_in told in let o = answers_on (told_in board.course) (Bye ∷ []) in omega (arith, a, t, o)
@@ -109,7 +106,7 @@ module _ (form : Form) (job_was job_is : SourceState) (was is : Sinks) (end : Ho
     as_taken = board.doing;
     opened = board.opened;
     reports = board.reports;
-    answered = same_replies ∙ board.answered_are;
+    answered = subst (λ (rs : List Reply). BeginsWith rs h.got) board.answered_are begins;
     published = board.pieces;
     made = board.made;
     each = epochs_scanned host.ran.scanned h.raised host.ran.due host.ran.resumes host.ran.raises_so_far b.words connected.flags board.effects board.taken_are.each;
@@ -150,7 +147,7 @@ module _ (form : Form) (job_was job_is : SourceState) (was is : Sinks) (end : Ho
       epochs = board.epochs;
       effects = board.effects;
       sending = sending;
-      fits = texts_fit job_was job_is was.console is.console end h b p host board pulse connected passed same_replies;
+      fits = texts_fit job_was job_is was.console is.console end h b p host board pulse connected passed begins same_replies;
       telling = telling;
       recording = recording;
       doing = doing;

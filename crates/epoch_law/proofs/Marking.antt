@@ -1,5 +1,5 @@
 -- Once all is sent out, each reset that was scanned has its Banner.
-use Rattle.std.proofs.Common.{◌≡◌, ℕ, ◌+◌, ◌-◌, ◌≤◌, ◌<◌, Bool, true, false, cond, ◌&&◌, List, [], ◌∷◌, ◌++◌, length, map, reverse, nat_lt, nat_le, sym, refl, ap, ◌∙◌, arith}
+use Rattle.std.proofs.Common.{◌≡◌, ℕ, ◌+◌, ◌-◌, ◌<◌, Bool, true, false, cond, ◌&&◌, List, [], ◌∷◌, length, nat_lt, nat_le, sym, refl, ap, ◌∙◌, arith}
 use Rattle.std.specs.List.{count_by, filter, flat_map}
 use Rattle.std.proofs.lemmas.Bool.Decides.{nat_tests}
 use Rattle.std.proofs.lemmas.List.{length-append, length-map, length-reverse}
@@ -7,7 +7,7 @@ use Rattle.std.proofs.lemmas.List.Sums.{sum_by-cons, sum_by-append}
 use Rattle.outside.specs.Causes.{SourceState, SinkState}
 use Rattle.run_rules.specs.Lines.{lines_of}
 use Rattle.stream_host.specs.Epochs.{Epoch, AreEnds}
-use Rattle.stream_host.specs.Jobs.{is_reset, served, served_in, marks_at, marks_behind, sent_text, resets_scanned, lacks_banner}
+use Rattle.stream_host.specs.Jobs.{is_reset, served, marks_at, marks_behind, sent_text, resets_scanned, lacks_banner}
 use Rattle.stream_host.specs.Links.{banners_in}
 use Rattle.stream_host.specs.Ran.{HostEnd, HostRan, is_sent_out}
 use Rattle.epoch_law.specs.Ran.{HostDid}

@@ -1,9 +1,7 @@
 -- What was taken of words of flags was scanned.
-use Rattle.std.proofs.Common.{◌≡◌, ℕ, ◌+◌, ◌≤◌, Bool, true, List, [], ◌∷◌, map, sum, sym, refl, ap, ◌∙◌, arith}
+use Rattle.std.proofs.Common.{◌≡◌, ℕ, ◌≤◌, List, [], ◌∷◌, map, sum, refl, ap, arith}
 use Rattle.std.specs.List.{AllByRecursion, count_by}
-use Rattle.code_table.specs.declared.flags.Ovr.{Ovr}
-use Rattle.run_law.specs.Changes.{IsAskedIn, IsAmong}
-use Rattle.run_law.specs.Flags.{is_hold, is_slow, is_change, AreTaken}
+use Rattle.run_law.specs.Flags.{is_hold, is_slow, is_change}
 use Rattle.run_law.specs.Runs.{slows_in}
 use Rattle.run_law.proofs.Changing.{words_were_scanned}
 use Rattle.run_law.proofs.Flagging.{scanned_where_raised}
@@ -11,7 +9,7 @@ use Rattle.run_rules.specs.Reports.{is_query}
 use Rattle.stream_host.specs.Jobs.{served_in}
 use Rattle.stream_host.specs.Ran.{AreRaised}
 use Rattle.epoch_effects.specs.Effects.{EpochEffects}
-use Rattle.epoch_effects.specs.Words.{WordsTaken, IsTakenIn, AreTakenIn}
+use Rattle.epoch_effects.specs.Words.{WordsTaken, IsTakenIn}
 use Rattle.epoch_law.specs.Joined.{AreRaisedFor}
 use Rattle.epoch_law.specs.Runs.{IsScannedFor}
 

@@ -9,6 +9,7 @@ use Rattle.epoch_records.specs.Publishing.{but_none}
 use Rattle.run_law.specs.Changes.{AreAskedIn}
 use Rattle.run_law.specs.Flags.{AreTaken}
 use Rattle.epoch_effects.specs.Words.{WordsTaken}
+use Rattle.run_texts.specs.Fronts.{BeginsWith}
 use Rattle.epoch_law.specs.Ran.{HostDid, BoardDid, PulseDid}
 
 -- what was taken of words of flags was raised
@@ -30,3 +31,9 @@ pub record AreConnected (h : HostDid) (b : BoardDid) : Type 0 where
   pub link : AreLinked h.stored h.marks h.at_got h.shut (joined b.taken) b.loaded b.at_answers b.closed
   pub flags : AreRaisedFor h.raised b.words
   pub few : AllByRecursion (λ ls. length (ended ls) ≤ receive_room) b.dropped
+
+-- The pieces of a ring, where some may not have come to the pulse: it got or dropped the first of those published.
+pub record ArePassedSome (b : BoardDid) (p : PulseDid) : Type 0 where
+  pub pieces : BeginsWith b.published p.got
+  pub halts : p.halts ≡ but_none b.halts
+  pub known : b.known ≤ p.counted

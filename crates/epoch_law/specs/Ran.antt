@@ -120,6 +120,9 @@ pub record BoardRan (d : BoardDid) : Type 0 where
   pub run : AreRun (parts_of course) origin epochs
   pub over : AreOver epochs
   pub published_are : d.published ≡ published_in epochs
+  pub before_end : List Piece
+  pub ends_with : d.published ≡ before_end ++ pieces_as.End ∷ []
+  pub once : AllByRecursion (λ q. q ≡ pieces_as.End → ⊥) before_end
   pub halts_are : d.halts ≡ reverse (halts_in 0 0 epochs)
   pub few : cuts_in course ≤ d.words.cancels
   pub effects : List EpochEffects

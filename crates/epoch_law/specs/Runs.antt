@@ -1,7 +1,7 @@
 -- What a run of a job is over epochs, and how it ends, and not who has done it.
-use Rattle.std.specs.Prelude.{◌≡◌, ℕ, ◌+◌, ◌≤◌, Bool, true, false, List, [], ◌∷◌, ◌++◌, length, map, sum, take}
+use Rattle.std.specs.Prelude.{◌≡◌, ℕ, ◌+◌, ◌≤◌, true, false, List, [], ◌∷◌, ◌++◌, length, map, sum}
 use Rattle.std.specs.Io.KnownBytes.{Consumes, IsAtEnd}
-use Rattle.std.specs.List.{AllByRecursion, count_by, flat_map, list_any}
+use Rattle.std.specs.List.{AllByRecursion, count_by, flat_map}
 use Rattle.flight.specs.Places.{origin}
 use Rattle.outside.specs.Causes.{Rose, SourceState}
 use Rattle.outside.specs.Writing.{Took}
@@ -15,6 +15,7 @@ use Rattle.run_rules.specs.declared.State.{State}
 use Rattle.run_texts.specs.Besides.{CutsHaveCauses, DropsAreFew}
 use Rattle.run_texts.specs.Courses.{Passed, lines_in}
 use Rattle.run_texts.specs.Fits.{FitsTexts}
+use Rattle.run_texts.specs.Fronts.{BeginsWith}
 use Rattle.run_texts.specs.Parts.{parts_of}
 use Rattle.run_texts.specs.Points.{Point, opening}
 use Rattle.run_texts.specs.Sent.{Sent, sent_of}
@@ -97,13 +98,13 @@ pub record IsScannedFor (scanned : List ℕ) (w : WordsTaken) : Type 0 where
 
 -- Epoch by epoch, overrides begin at 100 percent, and each change sets them to that or is asked for; nothing slows the machine down but a
 -- hold, a cancel or a change of overrides for which a word was taken, and an alarm. Reports fit the lines of their epoch, the opening that
--- the reset before it has left, and the ticks that were made in it. All of these words were scanned; so were as many `?` as there are
+-- the reset before it has left, and the ticks that were made in it; reports may be answered behind Bye that are not got. All of these words were scanned; so were as many `?` as there are
 -- words that asked for reports, and as many `!` and 0x85 as words for a hold or a cancel.
 pub record HasEffects (scanned : List ℕ) (first : State) (course : List Passed) (drives : List Driven) (epochs : List Epoch) (replies : List Reply) (effects : List EpochEffects) : Type 0 where
   pub as_taken : AreEffects course drives effects
   pub opened : AreOpened first origin false (resets_of course) effects
   pub reports : AllByRecursion HasReported effects
-  pub answered : replies ≡ flat_map (λ e. e.answered) effects
+  pub answered : BeginsWith (flat_map (λ e. e.answered) effects) replies
   pub published : AllByRecursion ArePublished effects
   pub made : AreMade effects epochs
   pub each : AllByRecursion (λ e. IsScannedFor scanned e.taken) effects

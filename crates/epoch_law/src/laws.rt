@@ -10,6 +10,7 @@ ghost use Rattle.run_law.specs.Runs.{Sinks, run_end, slows_in};
 ghost use Rattle.run_rules.specs.States.{IsOpening};
 ghost use Rattle.run_rules.specs.declared.State.{State};
 ghost use Rattle.run_texts.specs.Fits.{FitsTexts};
+ghost use Rattle.run_texts.specs.Fronts.{BeginsWith};
 ghost use Rattle.run_texts.specs.Sent.{sent_of};
 ghost use Rattle.status_report.specs.declared.Reply.{Reply as AnyReply};
 ghost use Rattle.step_line.specs.Logs.{NewestFirst};
@@ -18,13 +19,16 @@ ghost use Rattle.step_record.specs.declared.forms.Form.{Form};
 ghost use Rattle.stream_host.specs.Conduct.{Conducted as HostConducted};
 ghost use Rattle.stream_host.specs.Hosts.{TellsJob};
 ghost use Rattle.stream_host.specs.Ran.{HostEnd, HasFinished, TellsConsole, end_of};
-ghost use Rattle.stream_host.specs.Steps.{Journal as HostJournal, scanned_of};
+ghost use Rattle.stream_host.specs.Steps.{Journal as HostJournal, scanned_of, raises_of};
 ghost use Rattle.board_rules.specs.Conduct.{IsFinished};
 ghost use Rattle.board_rules.specs.Steps.{Journal};
-ghost use Rattle.board_epochs.specs.Epochs.{Closed, AreEpochs, opening_behind};
+ghost use Rattle.board_epochs.specs.Epochs.{Closed, Epochs, AreEpochs, log_of, opening_behind};
 ghost use Rattle.board_epochs.specs.Epochs.Epochs.{goes};
 ghost use Rattle.epoch_courses.specs.Told.{answered_by, without_byes};
-ghost use Rattle.epoch_law.specs.Joined.{AreConnected, ArePassed};
+ghost use Rattle.epoch_effects.specs.Words.{words_taken};
+ghost use Rattle.epoch_links.specs.Drops.{AreAnsweredOver};
+ghost use Rattle.epoch_links.specs.Links.{AreLinkedOver};
+ghost use Rattle.epoch_law.specs.Joined.{AreConnected, ArePassed, ArePassedSome, AreRaisedFor};
 ghost use Rattle.epoch_law.specs.Journals.{host_did, board_did, pulse_did};
 ghost use Rattle.epoch_law.specs.Ran.{HostDid, HasSent, BoardDid, BoardRan, PulseDid, PulseRan};
 ghost use Rattle.epoch_law.specs.Runs.{IsRun};
@@ -45,6 +49,20 @@ pub fn actors_make_a_run()
         (host : HasSent job_was job_is was.console is.console h end) → BoardRan b → PulseRan p → RecorderRan form was.steps is.steps records steps_failed →
         AreConnected h b → ArePassed b p → h.got ≡ b.answered → records ≡ p.put →
         (run : IsRun form job_was job_is was is (run_end end steps_failed)) × (run.scanned ≡ host.ran.scanned) × (run.replies ≡ h.got) }
+{}
+
+/// For that it is enough that each has got a front of what the other gave: nothing waits behind Bye but reports, nor behind the end.
+pub fn actors_that_end_make_a_run()
+    ensures { (form : Form) (job_was job_is : SourceState) (was is : Sinks) (end : HostEnd) (steps_failed : Bool) (h : HostDid) (b : BoardDid) (p : PulseDid) (records : List AnyRecord) →
+        (host : HasSent job_was job_is was.console is.console h end) → BoardRan b → PulseRan p → RecorderRan form was.steps is.steps records steps_failed →
+        AreConnected h b → ArePassedSome b p → BeginsWith b.answered h.got → BeginsWith p.put records →
+        (run : IsRun form job_was job_is was is (run_end end steps_failed)) × (run.scanned ≡ host.ran.scanned) × (run.replies ≡ h.got) }
+{}
+
+/// The two ends of a link that are linked are connected, if what was taken of words of flags was raised: what each reset drops is few.
+pub fn linked_ends_are_connected()
+    ensures { (host : HostJournal) (state : State) (r : Epochs) → HostConducted host → AreEpochs state r → AreLinkedOver host r → AreAnsweredOver host r →
+        AreRaisedFor (raises_of host) (words_taken (log_of r)) → AreConnected (host_did host) (board_did r) }
 {}
 
 /// A board that keeps to its rules over epochs, has closed its run and has nothing left to do, has run, if what it has answered begins with

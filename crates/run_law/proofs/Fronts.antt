@@ -39,7 +39,7 @@ use Rattle.run_law.specs.Drives.{all_outcomes, all_passed, all_actions, all_give
 use Rattle.run_rules.specs.Work.{Outcome}
 use Rattle.run_law.proofs.Law.{runs_by}
 
-abbrev Others : {X : Type 0} → X → List X → Type 0
+abbrev pub Others : {X : Type 0} → X → List X → Type 0
 Others {X} x ys = AllByRecursion (λ (y : X). y ≡ x → ⊥) ys
 
 -- nothing stands behind the last of its kind
@@ -51,21 +51,21 @@ none_behind x (z ∷ (w ∷ ws)) rest [] others e = absurd cc
 none_behind x (z ∷ zs) rest (y ∷ ys) others e = let f : (zs ++ x ∷ []) ++ rest ≡ ys ++ x ∷ [] = cc in none_behind x zs rest ys others.1 f
 
 -- a front that ends so is the whole
-whole_front : {X : Type 0} (x : X) (whole front all some : List X) → Others x all → whole ≡ all ++ x ∷ [] → front ≡ some ++ x ∷ [] → BeginsWith whole front → front ≡ whole
+pub whole_front : {X : Type 0} (x : X) (whole front all some : List X) → Others x all → whole ≡ all ++ x ∷ [] → front ≡ some ++ x ∷ [] → BeginsWith whole front → front ≡ whole
 whole_front x whole front all some others last first more =
     let e : (some ++ x ∷ []) ++ more.rest ≡ all ++ x ∷ [] = ap (λ ys. ys ++ more.rest) (sym first) ∙ sym more.is ∙ last in
     sym (more.is ∙ ap (λ ys. front ++ ys) (none_behind x some more.rest all others e) ∙ append-nil front)
 
 -- ---- records
 
-records_whole : (put got : List Record) → IsEnded put → IsEnded got → BeginsWith put got → got ≡ put
+pub records_whole : (put got : List Record) → IsEnded put → IsEnded got → BeginsWith put got → got ≡ put
 records_whole put got all some more =
     whole_front kinds.End put got all.front some.front (recursion_from_All (λ (r : Record). r ≡ kinds.End → ⊥) all.front all.once) all.last some.last more
 
 -- ---- pieces
 
 -- no piece of a planner run is the end
-no_ends : (most : ℕ) (p last : Planned) (actions : List Action) (given : List Piece) → Plans most p actions given last → Others pieces.End given
+pub no_ends : (most : ℕ) (p last : Planned) (actions : List Action) (given : List Piece) → Plans most p actions given last → Others pieces.End given
 no_ends most p last [] [] run = tt
 no_ends most p last (Add m ∷ rest) ps run = no_ends most (with_move p m) last rest ps run.1
 no_ends most p last (Override o ∷ rest) ps run = no_ends most (record p { overrides = o }) last rest ps run.1
@@ -104,7 +104,7 @@ last_part : (xs ys : List Reply) → xs ++ ys ≡ [] → ys ≡ []
 last_part [] ys e = e
 last_part (x ∷ xs) ys e = absurd cc
 
-replies_whole : (answered got front : List Reply) → answered ≡ front ++ replies.Bye ∷ [] → NoByes front → list_any is_bye got ≡ true → BeginsWith answered got → got ≡ answered
+pub replies_whole : (answered got front : List Reply) → answered ≡ front ++ replies.Bye ∷ [] → NoByes front → list_any is_bye got ≡ true → BeginsWith answered got → got ≡ answered
 replies_whole answered got front is none some more =
     let b = bye_at got some in
     let e : (b.before ++ replies.Bye ∷ []) ++ (b.behind ++ more.rest) ≡ front ++ replies.Bye ∷ [] =
@@ -126,7 +126,7 @@ records_end given made b none =
     All-from_recursion NotEnd (all_records made)
     (first_ones NotEnd (all_records made) (all_records b.rest) (recursion_from_All NotEnd (all_records made ++ all_records b.rest) (subst HasNoEnd (ap all_records b.is ∙ flat_map-append records_of made b.rest) none)))
 
-front_none : {X : Type 0} (x : X) (whole front : List X) → BeginsWith whole front → Others x whole → Others x front
+pub front_none : {X : Type 0} (x : X) (whole front : List X) → BeginsWith whole front → Others x whole → Others x front
 front_none x whole front b none = first_none x front b.rest (subst (Others x) b.is none)
   where
     first_none : {X : Type 0} (x : X) (ys zs : List X) → Others x (ys ++ zs) → Others x ys

@@ -1,0 +1,28 @@
+-- Two ends of a link are connected.
+use Rattle.std.proofs.Common.{ℕ, ◌≤◌, List, [], ◌∷◌, length, map, subst}
+use Rattle.std.specs.List.{AllByRecursion}
+use Rattle.run_rules.specs.declared.State.{State}
+use Rattle.run_rules.specs.Lines.{ended}
+use Rattle.status_report.specs.Answering.{receive_room}
+use Rattle.step_line.specs.Logs.{NewestFirst}
+use Rattle.stream_host.specs.Conduct.{Conducted}
+use Rattle.stream_host.specs.Steps as hosts
+use Rattle.board_epochs.specs.Epochs.{Closed, Epochs, AreEpochs, log_of}
+use Rattle.epoch_effects.specs.Words.{words_taken}
+use Rattle.epoch_links.specs.Drops.{AreAnsweredOver, DropFew, closed_of, dropped_by}
+use Rattle.epoch_links.specs.Links.{AreLinked, AreLinkedOver}
+use Rattle.epoch_links.proofs.Ending.{ends_epochs}
+use Rattle.epoch_links.proofs.Meeting.{drops_few}
+use Rattle.epoch_law.specs.Joined.{AreConnected, AreRaisedFor}
+use Rattle.epoch_law.specs.Journals.{host_did, board_did}
+
+each_few : (es : NewestFirst Closed) → DropFew es → AllByRecursion (λ ls. length (ended ls) ≤ receive_room) (map dropped_by es)
+each_few [] few = tt
+each_few (e ∷ es) few = (few.0, each_few es few.1)
+
+pub connected : (host : hosts.Journal) (state : State) (r : Epochs) → Conducted host → AreEpochs state r → AreLinkedOver host r → AreAnsweredOver host r → AreRaisedFor (hosts.raises_of host) (words_taken (log_of r)) → AreConnected (host_did host) (board_did r)
+connected host state r c are linked answered raised = record {
+  link = subst (λ (bytes : List ℕ). AreLinked (host_did host).stored (host_did host).marks (host_did host).at_got (host_did host).shut bytes (board_did r).loaded (board_did r).at_answers (board_did r).closed) (ends_epochs state r are).whole linked;
+  flags = raised;
+  few = each_few (closed_of r) (drops_few host state r c are linked answered);
+}
